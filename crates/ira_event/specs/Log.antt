@@ -1,0 +1,21 @@
+use Rattle.std.specs.Prelude.{◌≡◌, ℕ, ◌<◌, ◌≤◌, Bool, true, List, length}
+use Rattle.std.specs.List.{list_all}
+use Rattle.ira_event.specs.declared.limits.TheConstants.{MAX_RECORDS}
+use Rattle.ira_event.specs.declared.event.Event.{Event}
+use Rattle.ira_event.specs.Event.{is_event}
+use Rattle.ira_event.specs.RingSize.{IsRingSize}
+
+-- what one node wrote down: its ring's size, its place on the ring, whether it is an initiator, and
+-- its events in their order
+pub record Log : Type 0 where
+  pub nodes : ℕ
+  pub place : ℕ
+  pub initiator : Bool
+  pub events : List Event
+
+-- the places of a ring are counted from 0, and a log keeps the limits on records and their numbers
+pub record IsLog (log : Log) : Type 0 where
+  pub size : IsRingSize log.nodes
+  pub place : log.place < log.nodes
+  pub count : length log.events ≤ MAX_RECORDS
+  pub numbers : list_all is_event log.events ≡ true

@@ -1,0 +1,20 @@
+//! Records of an election, one log per node, the text of a log, and sinks that texts are written to.
+#![tactic(auto)]
+
+mod event;
+mod events;
+mod limits;
+mod listed;
+mod msg;
+mod node_log;
+mod out_of_memory;
+mod ring_size;
+
+pub use event::Event;
+pub use events::Events;
+pub use limits::{MAX_NUMBER, MAX_RECORDS, MAX_TEXT};
+pub use listed::Listed;
+pub use msg::Msg;
+pub use node_log::NodeLog;
+pub use out_of_memory::OutOfMemory;
+pub use ring_size::RingSize;

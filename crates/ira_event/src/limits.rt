@@ -1,0 +1,18 @@
+ghost use Rattle.std.specs.Prelude.{◌≡◌};
+ghost use Rattle.ira_event.specs.Event.{is_number as number_test};
+
+/// The largest round, ID, hop and draw that a record holds; the smallest is 1.
+pub const MAX_NUMBER: u32 = 1_000_000;
+
+/// The most records that a log has.
+pub const MAX_RECORDS: usize = 100_000;
+
+/// The most bytes that a text has.
+pub const MAX_TEXT: usize = 67_108_864;
+
+/// Whether a record may hold the number.
+pub(crate) fn is_number(n: u32) -> bool
+    ensures { result ≡ number_test n }
+{
+    (1..=MAX_NUMBER).contains(&n)
+}

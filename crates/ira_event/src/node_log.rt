@@ -1,0 +1,105 @@
+ghost use Rattle.std.specs.Prelude.{◌≡◌, ◌≤◌, ◌-◌, ◌↔◌, ℕ, Some, length, IsSome, IfSome, slice_get};
+ghost use Rattle.std.specs.List.{list_all};
+ghost use Rattle.ira_event.specs.Event.{is_event};
+ghost use Rattle.ira_event.specs.Log.{Log, IsLog};
+
+use crate::event::Event;
+use crate::events::Events;
+use crate::limits::MAX_RECORDS;
+use crate::ring_size::RingSize;
+use std::alloc::Allocator;
+use std::marker::Model;
+
+/// What one node of a ring wrote down: the ring's size, the node's place, whether it is an initiator,
+/// and its events in their order, at most `MAX_RECORDS` of them.
+#[derive(Drop)]
+pub struct NodeLog<A: Allocator> {
+    nodes: RingSize,
+    place: u8,
+    initiator: bool,
+    events: Vec<Event, A>,
+}
+
+impl<A: Allocator> Model for NodeLog<A> {
+    ghost use Rattle.ira_event.specs.Log.{Log, IsLog};
+
+    ghost Value = { Log };
+
+    ghost view = { λ a. record { nodes = a.nodes; place = a.place; initiator = a.initiator; events = a.events.items } };
+
+    ghost invariant = { λ a. IsLog (record { nodes = a.nodes; place = a.place; initiator = a.initiator; events = a.events.items }) };
+}
+
+fn are_in_range(events: &[Event]) -> bool
+    ensures { result ≡ list_all is_event events.now }
+{
+    events.iter().all(Event::is_in_range)
+}
+
+impl<A: Allocator> NodeLog<A> {
+    /// The log of these events, or `None` where the place is outside the ring, there are too many
+    /// events, or a number is outside `1..=MAX_NUMBER`.
+    pub fn new(
+        nodes: RingSize,
+        place: u8,
+        initiator: bool,
+        events: Vec<Event, A>,
+    ) -> Option<NodeLog<A>>
+        ensures some { IsSome result ↔ IsLog (record { nodes = nodes; place = place; initiator = initiator; events = events.items }) }
+        ensures value { IfSome result (λ log. log ≡ record { nodes = nodes; place = place; initiator = initiator; events = events.items }) }
+    {
+        if place >= nodes.get() || events.len() > MAX_RECORDS || !are_in_range(&events) {
+            return None;
+        }
+        Some(NodeLog {
+            nodes,
+            place,
+            initiator,
+            events,
+        })
+    }
+
+    pub fn nodes(&self) -> RingSize
+        ensures { result ≡ self.now.nodes }
+    {
+        self.nodes
+    }
+
+    /// The node's place on the ring, from 0.
+    pub fn place(&self) -> u8
+        ensures value { result ≡ self.now.place }
+        ensures valid { IsLog self.now }
+    {
+        self.place
+    }
+
+    pub fn initiator(&self) -> bool
+        ensures { result ≡ self.now.initiator }
+    {
+        self.initiator
+    }
+
+    /// How many events there are.
+    pub fn len(&self) -> usize
+        ensures value { result ≡ length self.now.events }
+        ensures valid { IsLog self.now }
+    {
+        self.events.len()
+    }
+
+    /// Event number `k`, counted from 1.
+    pub fn event(&self, k: u32) -> Event
+        requires { (1 ≤ k) × (k ≤ length self.now.events) }
+        ensures { slice_get self.now.events (k - 1) ≡ Some result }
+    {
+        self.events[k as usize - 1]
+    }
+
+    /// The events from the first to the last.
+    pub fn events(&self) -> Events<'_>
+        ensures list { result ≡ self.now.events }
+        ensures valid { IsLog self.now }
+    {
+        Events::new(&self.events)
+    }
+}
