@@ -1,3 +1,7 @@
 pub mod Event
 pub mod Log
+pub mod LogText
+pub mod LogTextFault
+pub mod Numeral
 pub mod RingSize
+pub mod Sink

@@ -1,0 +1,62 @@
+-- The text of a log, as relations between a value and its spelling.
+use Rattle.std.specs.Prelude.{◌≡◌, ℕ, Bool, true, false, List, [], ◌∷◌, ◌++◌, length, codes}
+use Rattle.ira_event.specs.declared.msg.Msg.{Msg}
+use Rattle.ira_event.specs.declared.event.Event.{Event}
+use Rattle.ira_event.specs.declared.event.Event.TheVariants.{Draw, Sent, Got}
+use Rattle.ira_event.specs.Log.{Log, IsLog}
+use Rattle.ira_event.specs.Numeral.{IsNumeral}
+
+-- the word for a message's bit
+abbrev pub bit_word : Bool → List ℕ
+bit_word false = codes "clean"
+bit_word true = codes "dirty"
+
+-- the word for a start kind
+abbrev pub start_word : Bool → List ℕ
+start_word true = codes "initiator"
+start_word false = codes "passive"
+
+-- the spelling of a message: round, ID, hop and bit, parted by one space each
+pub record IsMessage (text : List ℕ) (m : Msg) : Type 0 where
+  pub round : List ℕ
+  pub id : List ℕ
+  pub hop : List ℕ
+  pub round_is : IsNumeral round m.round
+  pub id_is : IsNumeral id m.id
+  pub hop_is : IsNumeral hop m.hop
+  pub parts : text ≡ round ++ codes " " ++ id ++ codes " " ++ hop ++ codes " " ++ bit_word m.dirty
+
+-- the spelling of a record, without its line feed
+abbrev pub IsRecord : List ℕ → Event → Type 0
+IsRecord line (Draw d) = (text : List ℕ) × (line ≡ codes "draw " ++ text) × IsNumeral text d
+IsRecord line (Sent m) = (text : List ℕ) × (line ≡ codes "send " ++ text) × IsMessage text m
+IsRecord line (Got m) = (text : List ℕ) × (line ≡ codes "recv " ++ text) × IsMessage text m
+
+-- the lines of these records, each with its line feed
+abbrev pub AreRecords : List ℕ → List Event → Type 0
+AreRecords text [] = text ≡ []
+AreRecords text (e ∷ es) =
+    (line : List ℕ) × (rest : List ℕ) × (text ≡ line ++ codes "\n" ++ rest) × IsRecord line e × AreRecords rest es
+
+-- the spelling of the end line of so many records, without its line feed
+abbrev pub IsEnd : List ℕ → ℕ → Type 0
+IsEnd line n = (text : List ℕ) × (line ≡ codes "end " ++ text) × IsNumeral text n
+
+-- the first four lines: version, ring size, place and start kind
+pub record IsHead (text : List ℕ) (nodes place : ℕ) (initiator : Bool) : Type 0 where
+  pub nodes_text : List ℕ
+  pub place_text : List ℕ
+  pub nodes_is : IsNumeral nodes_text nodes
+  pub place_is : IsNumeral place_text place
+  pub parts : text ≡ codes "irlog 1\nnodes " ++ nodes_text ++ codes "\nplace " ++ place_text ++ codes "\nstart " ++ start_word initiator ++ codes "\n"
+
+-- the text of a log: its head, the lines of its events, and the end line with their number
+pub record IsLogText (text : List ℕ) (log : Log) : Type 0 where
+  pub head : List ℕ
+  pub records : List ℕ
+  pub end : List ℕ
+  pub head_is : IsHead head log.nodes log.place log.initiator
+  pub records_are : AreRecords records log.events
+  pub end_is : IsEnd end (length log.events)
+  pub parts : text ≡ head ++ records ++ end ++ codes "\n"
+  pub valid : IsLog log

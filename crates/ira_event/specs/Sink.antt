@@ -1,0 +1,35 @@
+use Rattle.std.specs.Prelude.{◌≡◌, ℕ, ◌+◌, ◌-◌, ◌^◌, List, ◌++◌, length, min, Option, Result, Ok, Err, if◌then◌else◌, nat_eq, nat_lt, ◌&&◌}
+use Rattle.std.specs.Io.KnownBytes.{Appends}
+
+-- what a sink in memory has taken, and how often it has failed
+pub record Memory : Type 0 where
+  pub bytes : List ℕ
+  pub failures : ℕ
+
+-- one failure more; the count stops at the last u64
+abbrev pub one_more : ℕ → ℕ
+one_more n = min (n + 1) (2 ^ 64 - 1)
+
+-- how often a sink has failed after a push of these bytes
+abbrev pub failures_after : {E : Type 0} → Result ℕ E → List ℕ → ℕ → ℕ
+failures_after (Ok n) bytes failures = if nat_eq n 0 && nat_lt 0 (length bytes) then one_more failures else failures
+failures_after (Err e) bytes failures = one_more failures
+
+-- the sink took the whole text, and didn't fail
+pub record Takes (text : List ℕ) (taken : Option (List ℕ)) (failures : ℕ) (taken' : Option (List ℕ)) (failures' : ℕ) : Type 0 where
+  pub took : Appends taken taken' text
+  pub same : failures' ≡ failures
+
+-- the sink took a first part of the text, and then failed once
+pub record StopsIn (text : List ℕ) (taken : Option (List ℕ)) (failures : ℕ) (taken' : Option (List ℕ)) (failures' : ℕ) : Type 0 where
+  pub front : List ℕ
+  pub back : List ℕ
+  pub parts : front ++ back ≡ text
+  pub took : Appends taken taken' front
+  pub failed : failures' ≡ one_more failures
+
+-- what a writer of the text does: Ok means that the sink took exactly the text, Err comes only where
+-- the sink failed, and then it took a first part of the text
+abbrev pub Wrote : {T E : Type 0} → Result T E → List ℕ → Option (List ℕ) → ℕ → Option (List ℕ) → ℕ → Type 0
+Wrote (Ok _) text taken failures taken' failures' = Takes text taken failures taken' failures'
+Wrote (Err _) text taken failures taken' failures' = StopsIn text taken failures taken' failures'
