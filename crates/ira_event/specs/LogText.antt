@@ -1,8 +1,9 @@
 -- The text of a log, as relations between a value and its spelling.
-use Rattle.std.specs.Prelude.{◌≡◌, ℕ, Bool, true, false, List, [], ◌∷◌, ◌++◌, length, codes}
+use Rattle.std.specs.Prelude.{◌≡◌, ℕ, Bool, true, false, List, [], ◌∷◌, ◌++◌, length, codes, decimal}
 use Rattle.ira_event.specs.declared.msg.Msg.{Msg}
 use Rattle.ira_event.specs.declared.event.Event.{Event}
 use Rattle.ira_event.specs.declared.event.Event.TheVariants.{Draw, Sent, Got}
+use Rattle.std.specs.List.{flat_map}
 use Rattle.ira_event.specs.Log.{Log, IsLog}
 use Rattle.ira_event.specs.Numeral.{IsNumeral}
 
@@ -60,3 +61,21 @@ pub record IsLogText (text : List ℕ) (log : Log) : Type 0 where
   pub end_is : IsEnd end (length log.events)
   pub parts : text ≡ head ++ records ++ end ++ codes "\n"
   pub valid : IsLog log
+
+-- the text that a log has, written out: numbers are plain decimal
+abbrev pub message_text : Msg → List ℕ
+message_text m = decimal m.round ++ codes " " ++ decimal m.id ++ codes " " ++ decimal m.hop ++ codes " " ++ bit_word m.dirty
+
+abbrev pub record_text : Event → List ℕ
+record_text (Draw d) = codes "draw " ++ decimal d ++ codes "\n"
+record_text (Sent m) = codes "send " ++ message_text m ++ codes "\n"
+record_text (Got m) = codes "recv " ++ message_text m ++ codes "\n"
+
+abbrev pub head_text : ℕ → ℕ → Bool → List ℕ
+head_text nodes place initiator = codes "irlog 1\nnodes " ++ decimal nodes ++ codes "\nplace " ++ decimal place ++ codes "\nstart " ++ start_word initiator ++ codes "\n"
+
+abbrev pub end_text : ℕ → List ℕ
+end_text n = codes "end " ++ decimal n ++ codes "\n"
+
+abbrev pub log_text : Log → List ℕ
+log_text log = head_text log.nodes log.place log.initiator ++ flat_map record_text log.events ++ end_text (length log.events)
