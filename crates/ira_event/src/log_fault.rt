@@ -1,4 +1,4 @@
-use std::alloc::AllocFailed;
+use std::alloc::{AllocError, AllocFailed};
 use thiserror::Error;
 
 /// What is wrong with a text that should be a log's. Lines count from 1 in the whole text.
@@ -41,6 +41,17 @@ impl<T: Drop> From<AllocFailed<T>> for LogFault {
     ghost from_gives = { λ _ f. f ≡ OutOfMemory };
 
     fn from(_refused: AllocFailed<T>) -> LogFault {
+        LogFault::OutOfMemory
+    }
+}
+
+impl From<AllocError> for LogFault {
+    ghost use Rattle.std.specs.Prelude.{◌≡◌};
+    ghost use Rattle.ira_event.specs.declared.log_fault.LogFault.TheVariants.{OutOfMemory};
+
+    ghost from_gives = { λ _ f. f ≡ OutOfMemory };
+
+    fn from(_refused: AllocError) -> LogFault {
         LogFault::OutOfMemory
     }
 }

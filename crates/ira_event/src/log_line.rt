@@ -15,7 +15,7 @@ pub enum LogLine {
 
 /// The line that the text begins with, and what follows its line feed. Its numbers are as spelled,
 /// in range or not.
-#[inline]
+#[inline(always)]
 #[tactic(auto, unfolding(crate::specs::LogScan::line_at))]
 pub fn take_line(text: &[u8]) -> Option<(LogLine, &[u8])>
     ensures { Gives (λ found. (found.0, found.1.now)) result (line_at text.now) }
@@ -37,7 +37,7 @@ pub fn take_line(text: &[u8]) -> Option<(LogLine, &[u8])>
     Some((LogLine::End(count), rest))
 }
 
-#[inline]
+#[inline(always)]
 #[tactic(auto, unfolding(crate::specs::LogScan::message_at))]
 fn take_message_line(text: &[u8]) -> Option<(Msg, &[u8])>
     ensures { Gives (λ found. (found.0, found.1.now)) result (message_at text.now) }
@@ -57,7 +57,7 @@ fn take_message_line(text: &[u8]) -> Option<(Msg, &[u8])>
     Some((message, rest))
 }
 
-#[inline]
+#[inline(always)]
 fn take_bit(text: &[u8]) -> Option<(bool, &[u8])>
     ensures { Gives (λ found. (found.0, found.1.now)) result (bit_at text.now) }
 {
@@ -68,7 +68,7 @@ fn take_bit(text: &[u8]) -> Option<(bool, &[u8])>
     Some((true, rest))
 }
 
-#[inline]
+#[inline(always)]
 fn take_number_line(text: &[u8]) -> Option<(u32, &[u8])>
     ensures { Gives (λ found. (found.0, found.1.now)) result (number_line text.now) }
 {

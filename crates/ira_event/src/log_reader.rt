@@ -34,7 +34,8 @@ pub fn read_log<A: Allocator>(alloc: A, text: &[u8]) -> Result<NodeLog<A>, LogFa
 fn read_records<A: Allocator>(alloc: A, text: &[u8]) -> Result<Vec<Event, A>, LogFault>
     ensures { RecordsRead (λ events. events.items) result text.now }
 {
-    let mut events = Vec::new(alloc);
+    // Most lines are longer, and a page that no event touches costs nothing.
+    let mut events = Vec::with_capacity(alloc, (text.len() / 16).min(MAX_RECORDS))?;
     let mut rest = text;
     'lines: loop {
         let Some((line, after)) = take_line(rest) else {

@@ -1,8 +1,8 @@
-ghost use Rattle.std.specs.Prelude.{◌≡◌};
+ghost use Rattle.std.specs.Prelude.{◌≡◌, ◌≤◌, ◌+◌, ◌*◌, ℕ};
 ghost use Rattle.ira_event.specs.Scan.{digits_from, kept, kept_at, after_word, Gives};
 
 /// What follows the word that the text begins with.
-#[inline]
+#[inline(always)]
 pub fn skip_word<'a>(text: &'a [u8], word: &[u8]) -> Option<&'a [u8]>
     ensures { Gives (λ rest. rest.now) result (after_word word.now text.now) }
 {
@@ -11,7 +11,7 @@ pub fn skip_word<'a>(text: &'a [u8], word: &[u8]) -> Option<&'a [u8]>
 
 /// The number that the text begins with, and what follows it. A number is `0`, or a digit 1 to 9 and
 /// then any digits; `u32::MAX` stands for itself and for everything above.
-#[inline]
+#[inline(always)]
 pub fn take_number(text: &[u8]) -> Option<(u32, &[u8])>
     ensures { Gives (λ found. (found.0, found.1.now)) result (kept_at text.now) }
 {
@@ -23,7 +23,7 @@ pub fn take_number(text: &[u8]) -> Option<(u32, &[u8])>
 }
 
 /// What the digits at the front go on to, after the number so far, and what follows them.
-#[inline]
+#[inline(always)]
 fn take_digits(first: u32, text: &[u8]) -> (u32, &[u8])
     ensures value { result.0 ≡ kept (digits_from first text.now).0 }
     ensures rest { result.1.now ≡ (digits_from first text.now).1 }
@@ -34,10 +34,21 @@ fn take_digits(first: u32, text: &[u8]) -> (u32, &[u8])
         if !digit.is_ascii_digit() {
             break;
         }
-        value = value
-            .saturating_mul(10)
-            .saturating_add(u32::from(*digit - b'0'));
+        value = with_digit(value, u32::from(*digit - b'0'));
         rest = after;
     }
     (value, rest)
+}
+
+/// The number that one more digit makes of it.
+#[inline(always)]
+fn with_digit(n: u32, digit: u32) -> u32
+    requires { digit ≤ 9 }
+    ensures { result ≡ kept (10 * n + digit) }
+{
+    // No number within the limits is as large.
+    if n >= 100_000_000 {
+        return n.saturating_mul(10).saturating_add(digit);
+    }
+    10 * n + digit
 }
