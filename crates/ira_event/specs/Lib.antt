@@ -2,6 +2,7 @@ pub mod Event
 pub mod Log
 pub mod LogText
 pub mod LogTextFault
+pub mod Logs
 pub mod Numeral
 pub mod Result
 pub mod RingSize

@@ -3,10 +3,14 @@
 
 mod event;
 mod events;
+mod head_fault;
 mod limits;
+mod line;
 mod listed;
 mod log_fault;
 mod log_reader;
+mod log_writer;
+mod logs;
 mod memory_sink;
 mod msg;
 mod node_log;
@@ -18,10 +22,14 @@ mod write;
 
 pub use event::Event;
 pub use events::Events;
+pub use head_fault::HeadFault;
 pub use limits::{MAX_NUMBER, MAX_RECORDS, MAX_TEXT};
+pub use line::Line;
 pub use listed::Listed;
 pub use log_fault::LogFault;
 pub use log_reader::read_log;
+pub use log_writer::write_log;
+pub use logs::Logs;
 pub use memory_sink::MemorySink;
 pub use msg::Msg;
 pub use node_log::NodeLog;
