@@ -19,6 +19,8 @@ mod ring_size;
 mod sink;
 mod to_writer;
 mod write;
+#[cfg(test)]
+mod writing_tests;
 
 pub use event::Event;
 pub use events::Events;
@@ -29,7 +31,7 @@ pub use listed::Listed;
 pub use log_fault::LogFault;
 pub use log_reader::read_log;
 pub use log_writer::write_log;
-pub use logs::Logs;
+pub use logs::{Logs, head_fault_is_one};
 pub use memory_sink::MemorySink;
 pub use msg::Msg;
 pub use node_log::NodeLog;

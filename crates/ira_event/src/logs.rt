@@ -103,3 +103,10 @@ impl<A: Allocator, B: Allocator> Logs<A, B> {
         &self.logs[usize::from(i)]
     }
 }
+
+/// A list of logs has at most one fault, and none where it is the logs of one ring.
+pub fn head_fault_is_one()
+    ensures one { (logs : List Log) (f g : HeadFault) → HeadFaultOf logs f → HeadFaultOf logs g → f ≡ g }
+    ensures none { (logs : List Log) (f : HeadFault) → AreLogs logs → ¬ (HeadFaultOf logs f) }
+{
+}
