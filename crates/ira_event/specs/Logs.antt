@@ -1,5 +1,5 @@
 -- The logs of one ring, in the order of its places.
-use Rattle.std.specs.Prelude.{◌≡◌, ◌≢◌, ℕ, ◌<◌, List, length, Some, slice_get}
+use Rattle.std.specs.Prelude.{◌≡◌, ℕ, ◌<◌, List, length, Some, slice_get}
 use Rattle.ira_event.specs.declared.head_fault.HeadFault.{HeadFault}
 use Rattle.ira_event.specs.declared.head_fault.HeadFault.TheVariants.{Number, Size, Place}
 use Rattle.ira_event.specs.Log.{Log, IsLog}

@@ -26,7 +26,7 @@ pub use event::Event;
 pub use events::Events;
 pub use head_fault::HeadFault;
 pub use limits::{MAX_NUMBER, MAX_RECORDS, MAX_TEXT};
-pub use line::Line;
+pub use line::{Line, MAX_LINE};
 pub use listed::Listed;
 pub use log_fault::LogFault;
 pub use log_reader::read_log;

@@ -1,4 +1,4 @@
-use Rattle.std.proofs.Common.{◌≡◌, ℕ, refl, arith, length}
+use Rattle.std.proofs.Common.{◌≡◌, refl, arith, length}
 use Rattle.std.proofs.lemmas.Option.{slice_get_read, slice_get_within}
 use Rattle.ira_event.proofs.Gathering.{below-more}
 use Rattle.ira_event.specs.Log.{IsLog}

@@ -1,7 +1,7 @@
-use Rattle.std.proofs.Common.{◌≡◌, ℕ, List, Ok, Err, refl, sym, ◌∙◌, ap, subst}
+use Rattle.std.proofs.Common.{◌≡◌, ℕ, List, Ok, sym, ◌∙◌, ap, subst}
 use Rattle.std.proofs.lemmas.Result.{err_from_is_err_and}
 use Rattle.ira_event.specs.Log.{Log, IsLog}
-use Rattle.ira_event.specs.Logs.{AreLogs, EachLog, HasNumber, IsFirstOther, HeadFaultOf, wrong_number, wrong_size, wrong_place}
+use Rattle.ira_event.specs.Logs.{AreLogs, EachLog, HasNumber, IsFirstOther, wrong_number, wrong_size, wrong_place}
 use Rattle.ira_event.proofs.Gathering.{answers-fault, answers-no-logs, logs-built}
 use Rattle.ira_event.proofs.logs.Logs.gather.Goals as goal
 
