@@ -10,15 +10,14 @@ use crate::ring_size::RingSize;
 use std::alloc::Allocator;
 use std::marker::Model;
 
-/// The logs of all nodes of one ring, in the order of their places. `A` holds the events, `B` the
-/// list of the logs.
+/// The logs of all nodes of one ring, in the order of their places.
 #[derive(Drop)]
-pub struct Logs<A: Allocator, B: Allocator> {
+pub struct Logs<A: Allocator> {
     size: RingSize,
-    logs: Vec<NodeLog<A>, B>,
+    logs: Vec<NodeLog<A>, A>,
 }
 
-impl<A: Allocator, B: Allocator> Model for Logs<A, B> {
+impl<A: Allocator> Model for Logs<A> {
     ghost use Rattle.std.specs.Prelude.{◌≡◌, List, length};
     ghost use Rattle.ira_event.specs.Log.{Log};
     ghost use Rattle.ira_event.specs.Logs.{AreLogs};
@@ -73,10 +72,10 @@ fn check_places<A: Allocator>(logs: &[NodeLog<A>], size: RingSize) -> Result<(),
     Ok(())
 }
 
-impl<A: Allocator, B: Allocator> Logs<A, B> {
+impl<A: Allocator> Logs<A> {
     /// The logs as those of one ring, or their first fault: their number, then a ring size, then a
     /// place. It takes no memory.
-    pub fn gather(logs: Vec<NodeLog<A>, B>) -> Result<Logs<A, B>, HeadFault>
+    pub fn gather(logs: Vec<NodeLog<A>, A>) -> Result<Logs<A>, HeadFault>
         ensures ok { (gathered : List Log) → (result ≡ Ok gathered) ↔ ((gathered ≡ logs.items) × AreLogs gathered) }
         ensures err { (f : HeadFault) → (result ≡ Err f) ↔ HeadFaultOf logs.items f }
     {
