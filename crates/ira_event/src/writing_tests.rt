@@ -191,13 +191,14 @@ fn gather(rt: &impl Abort, alloc: Global, heads: &[(u8, u8)]) -> Result<u8, Head
 
 #[test]
 fn heads_out_of_place(rt: HostRuntime) {
-    let rows: [(&[(u8, u8)], Result<u8, HeadFault>); 10] = [
+    let rows: [(&[(u8, u8)], Result<u8, HeadFault>); 11] = [
         (&[(2, 0), (2, 1)], Ok(2)),
         (&[(3, 0), (3, 1), (3, 2)], Ok(3)),
         (&[(2, 0)], Err(HeadFault::Number)),
         (&[(2, 1), (2, 0)], Err(HeadFault::Place(0))),
         (&[(2, 0), (3, 1)], Err(HeadFault::Size(1))),
         (&[], Err(HeadFault::Number)),
+        (&[(2, 0), (2, 1), (2, 0)], Err(HeadFault::Number)),
         (&[(3, 0), (2, 1)], Err(HeadFault::Number)),
         (&[(2, 1), (3, 1)], Err(HeadFault::Size(1))),
         (&[(3, 0), (3, 1), (3, 1)], Err(HeadFault::Place(2))),
