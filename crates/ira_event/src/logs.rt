@@ -107,5 +107,4 @@ impl<A: Allocator> Logs<A> {
 pub fn head_fault_is_one()
     ensures one { (logs : List Log) (f g : HeadFault) → HeadFaultOf logs f → HeadFaultOf logs g → f ≡ g }
     ensures none { (logs : List Log) (f : HeadFault) → AreLogs logs → ¬ (HeadFaultOf logs f) }
-{
-}
+{}

@@ -91,9 +91,11 @@ fn two_node_log(rt: &impl Abort, alloc: Global, place: u8) -> NodeLog<Global> {
     }
 }
 
-const NODE_0: &[u8] = b"irlog 1\nnodes 2\nplace 0\nstart initiator\ndraw 2\nsend 1 2 1 clean\nrecv 1 1 1 clean\nrecv 1 2 2 clean\nend 4\n";
+const NODE_0: &[u8] =
+    b"irlog 1\nnodes 2\nplace 0\nstart initiator\ndraw 2\nsend 1 2 1 clean\nrecv 1 1 1 clean\nrecv 1 2 2 clean\nend 4\n";
 
-const NODE_1: &[u8] = b"irlog 1\nnodes 2\nplace 1\nstart initiator\ndraw 1\nsend 1 1 1 clean\nrecv 1 2 1 clean\nsend 1 2 2 clean\nend 4\n";
+const NODE_1: &[u8] =
+    b"irlog 1\nnodes 2\nplace 1\nstart initiator\ndraw 1\nsend 1 1 1 clean\nrecv 1 2 1 clean\nsend 1 2 2 clean\nend 4\n";
 
 #[test]
 fn two_node_election(rt: HostRuntime) {
@@ -101,7 +103,10 @@ fn two_node_election(rt: HostRuntime) {
     for (place, text) in [(0, NODE_0), (1, NODE_1)] {
         let mut sink = MemorySink::new(rt.alloc());
         assert_eq!(rt; sink.bytes(), b"".as_slice());
-        assert_eq!(rt; write_log(&two_node_log(&rt, rt.alloc(), place), &mut sink), Ok(()));
+        assert_eq!(rt;
+            write_log(&two_node_log(&rt, rt.alloc(), place), &mut sink),
+            Ok(())
+        );
         assert_eq!(rt; sink.bytes(), text, "node {place}");
     }
 }
@@ -118,7 +123,8 @@ fn largest_numbers_and_dirty(rt: HostRuntime) {
     let log = log_of(&rt, rt.alloc(), 64, 63, false, &events);
     let mut sink = MemorySink::new(rt.alloc());
     assert_eq!(rt; write_log(&log, &mut sink), Ok(()));
-    let text = b"irlog 1\nnodes 64\nplace 63\nstart passive\nrecv 1000000 999999 10 dirty\ndraw 1000000\nsend 1000000 999999 10 dirty\nend 3\n";
+    let text =
+        b"irlog 1\nnodes 64\nplace 63\nstart passive\nrecv 1000000 999999 10 dirty\ndraw 1000000\nsend 1000000 999999 10 dirty\nend 3\n";
     assert_eq!(rt; sink.bytes(), text.as_slice());
 }
 
@@ -145,7 +151,11 @@ fn sink_fails_once_at_each_byte(rt: HostRuntime) {
             left: k,
             failures: 0,
         };
-        assert_eq!(rt; write_log(&log, &mut sink), Err(WriteFault), "after {k} bytes");
+        assert_eq!(rt;
+            write_log(&log, &mut sink),
+            Err(WriteFault),
+            "after {k} bytes"
+        );
         assert_eq!(rt; sink.kept.as_slice(), &NODE_0[..k], "after {k} bytes");
         assert_eq!(rt; sink.failures, 1, "after {k} bytes");
     }
@@ -166,11 +176,18 @@ fn to_a_writer(rt: HostRuntime) -> Result<(), Fail> {
 fn full_writer(rt: HostRuntime) -> Result<(), Fail> {
     let log = two_node_log(&rt, rt.alloc(), 1);
     let mut room = [0; 10];
-    assert_eq!(rt; write_log(&log, &mut ToWriter::new(room.as_mut_slice())), Err(WriteFault));
+    assert_eq!(rt;
+        write_log(&log, &mut ToWriter::new(room.as_mut_slice())),
+        Err(WriteFault)
+    );
     assert_eq!(rt; room.as_slice(), b"irlog 1\nno".as_slice());
     let mut room = [0; 10];
     let mut sink = ToWriter::new(BufWriter::new(rt.alloc(), room.as_mut_slice())?);
-    assert_eq!(rt; write_log(&log, &mut sink), Ok(()), "all fits in the buffer");
+    assert_eq!(rt;
+        write_log(&log, &mut sink),
+        Ok(()),
+        "all fits in the buffer"
+    );
     assert_eq!(rt; sink.flush(), Err(WriteFault));
     Ok(())
 }
