@@ -1,4 +1,5 @@
 pub mod Digits
+pub mod Gathering
 pub mod Heads
 pub mod LogAnswers
 pub mod LogReading

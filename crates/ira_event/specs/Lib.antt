@@ -4,6 +4,7 @@ pub mod LogLaws
 pub mod LogScan
 pub mod LogText
 pub mod LogTextFault
+pub mod Logs
 pub mod Numeral
 pub mod Result
 pub mod RingSize

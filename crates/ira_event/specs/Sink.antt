@@ -6,6 +6,11 @@ pub record Memory : Type 0 where
   pub bytes : List ℕ
   pub failures : ℕ
 
+-- the writer that a sink hands on to, and how often it has failed
+pub record Passing (W : Type 0) : Type 0 where
+  pub writer : W
+  pub failures : ℕ
+
 -- one failure more; the count stops at the last u64
 abbrev pub one_more : ℕ → ℕ
 one_more n = min (n + 1) (2 ^ 64 - 1)

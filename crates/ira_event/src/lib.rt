@@ -3,13 +3,17 @@
 
 mod event;
 mod events;
+mod head_fault;
 mod laws;
 mod limits;
+mod line;
 mod listed;
 mod log_fault;
 mod log_head;
 mod log_line;
 mod log_reader;
+mod log_writer;
+mod logs;
 mod memory_sink;
 mod msg;
 mod node_log;
@@ -21,14 +25,20 @@ mod sink;
 mod tests;
 mod to_writer;
 mod write;
+#[cfg(test)]
+mod writing_tests;
 
 pub use event::Event;
 pub use events::Events;
+pub use head_fault::HeadFault;
 pub use laws::{a_text_has_one_answer, each_log_has_one_text, no_text_is_two_logs};
 pub use limits::{MAX_NUMBER, MAX_RECORDS, MAX_TEXT};
+pub use line::{Line, MAX_LINE};
 pub use listed::Listed;
 pub use log_fault::LogFault;
 pub use log_reader::read_log;
+pub use log_writer::write_log;
+pub use logs::{Logs, head_fault_is_one};
 pub use memory_sink::MemorySink;
 pub use msg::Msg;
 pub use node_log::NodeLog;

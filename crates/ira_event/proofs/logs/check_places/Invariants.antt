@@ -1,0 +1,9 @@
+use Rattle.std.proofs.Common.{◌≡◌, ℕ, ◌<◌, Some, slice_get}
+use Rattle.ira_event.specs.Log.{Log, IsLog}
+use Rattle.ira_event.proofs.logs.check_places.Given as goal
+
+abbrev pub invariant-loop-i : goal.invariant-loop-i
+invariant-loop-i g l = record {
+  places : (j : ℕ) (before : Log) → j < l.i → slice_get l.logs j ≡ Some before → before.place ≡ j;
+  valid : (j : ℕ) (before : Log) → j < l.i → slice_get l.logs j ≡ Some before → IsLog before;
+}

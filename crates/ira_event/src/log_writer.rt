@@ -1,0 +1,94 @@
+ghost use Rattle.std.specs.Prelude.{◌≡◌, ◌≤◌, ◌++◌, length};
+ghost use Rattle.std.specs.List.{flat_map};
+ghost use Rattle.ira_event.specs.Log.{Log};
+ghost use Rattle.ira_event.specs.LogText.{bit_word, start_word, message_text, record_text, head_text, end_text, log_text};
+ghost use Rattle.ira_event.specs.Sink.{Wrote};
+
+use crate::event::Event;
+use crate::line::Line;
+use crate::msg::Msg;
+use crate::node_log::NodeLog;
+use crate::ring_size::RingSize;
+use crate::sink::Sink;
+use crate::write::WriteFault;
+use std::alloc::Allocator;
+
+fn add_message(line: &mut Line, m: &Msg)
+    requires { length line.old ≤ 5 }
+    ensures text { line.new ≡ line.old ++ message_text m.now }
+    ensures short { length line.new ≤ 50 }
+{
+    line.add_number(m.round);
+    line.add(b" ");
+    line.add_number(m.id);
+    line.add(b" ");
+    line.add_number(m.hop);
+    line.add(b" ");
+    line.add(if m.dirty { b"dirty" } else { b"clean" });
+}
+
+fn record_line(event: &Event) -> Line
+    ensures { result ≡ record_text event.now }
+{
+    let mut line = Line::new();
+    match event {
+        Event::Draw(id) => {
+            line.add(b"draw ");
+            line.add_number(*id);
+        }
+        Event::Sent(message) => {
+            line.add(b"send ");
+            add_message(&mut line, message);
+        }
+        Event::Got(message) => {
+            line.add(b"recv ");
+            add_message(&mut line, message);
+        }
+    }
+    line.add(b"\n");
+    line
+}
+
+fn head(nodes: RingSize, place: u8, initiator: bool) -> Line
+    ensures { result ≡ head_text nodes place initiator }
+{
+    let mut line = Line::new();
+    line.add(b"irlog 1\nnodes ");
+    line.add_number(u32::from(nodes.get()));
+    line.add(b"\nplace ");
+    line.add_number(u32::from(place));
+    line.add(b"\nstart ");
+    line.add(if initiator { b"initiator" } else { b"passive" });
+    line.add(b"\n");
+    line
+}
+
+fn end_line(count: u32) -> Line
+    ensures { result ≡ end_text count }
+{
+    let mut line = Line::new();
+    line.add(b"end ");
+    line.add_number(count);
+    line.add(b"\n");
+    line
+}
+
+fn write_records_and_end<A: Allocator, W: Sink>(
+    log: &NodeLog<A>,
+    sink: &mut W,
+) -> Result<(), WriteFault>
+    ensures { Wrote result (flat_map record_text log.now.events ++ end_text (length log.now.events)) (W.taken sink.old) (W.failures sink.old) (W.taken sink.new) (W.failures sink.new) }
+{
+    for event in log.events() {
+        record_line(&event).write(sink)?;
+    }
+    end_line(log.len() as u32).write(sink)
+}
+
+/// Writes the text of the log.
+pub fn write_log<A: Allocator, W: Sink>(log: &NodeLog<A>, sink: &mut W) -> Result<(), WriteFault>
+    ensures { Wrote result (log_text log.now) (W.taken sink.old) (W.failures sink.old) (W.taken sink.new) (W.failures sink.new) }
+{
+    head(log.nodes(), log.place(), log.initiator()).write(sink)?;
+    write_records_and_end(log, sink)
+}

@@ -1,0 +1,110 @@
+ghost use Rattle.std.specs.Prelude.{◌≡◌, ℕ, ◌<◌, ◌↔◌, List, Ok, Err, Some, MatchResult, OnOk, IfErr, length, slice_get};
+ghost use Rattle.ira_event.specs.Log.{Log, IsLog};
+ghost use Rattle.ira_event.specs.Logs.{AreLogs, EachLog, HasNumber, IsFirstOther, HeadFaultOf};
+ghost use Rattle.ira_event.specs.RingSize.{IsRingSize};
+ghost use Rattle.ira_event.specs.declared.head_fault.HeadFault.{HeadFault};
+
+use crate::head_fault::HeadFault;
+use crate::node_log::NodeLog;
+use crate::ring_size::RingSize;
+use std::alloc::Allocator;
+use std::marker::Model;
+
+/// The logs of all nodes of one ring, in the order of their places.
+#[derive(Drop)]
+pub struct Logs<A: Allocator> {
+    size: RingSize,
+    logs: Vec<NodeLog<A>, A>,
+}
+
+impl<A: Allocator> Model for Logs<A> {
+    ghost use Rattle.std.specs.Prelude.{◌≡◌, List, length};
+    ghost use Rattle.ira_event.specs.Log.{Log};
+    ghost use Rattle.ira_event.specs.Logs.{AreLogs};
+
+    ghost Value = { List Log };
+
+    ghost view = { λ a. a.logs.items };
+
+    ghost invariant = { λ a. (a.size ≡ length a.logs.items) × AreLogs a.logs.items };
+}
+
+/// The ring size that the first log names, where there are so many logs.
+fn common_size<A: Allocator>(logs: &[NodeLog<A>]) -> Result<RingSize, HeadFault>
+    ensures { MatchResult result (λ size. IsRingSize size × HasNumber logs.now size) (λ f. (f ≡ HeadFault.Number) × ((nodes : ℕ) → ¬ (HasNumber logs.now nodes))) }
+{
+    let Some(first) = logs.first() else {
+        return Err(HeadFault::Number);
+    };
+    let size = first.nodes();
+    if logs.len() != usize::from(size.get()) {
+        return Err(HeadFault::Number);
+    }
+    Ok(size)
+}
+
+/// Whether each log names this ring size.
+fn check_sizes<A: Allocator>(logs: &[NodeLog<A>], size: RingSize) -> Result<(), HeadFault>
+    requires { length logs.now ≡ size }
+    ensures ok { OnOk result (EachLog logs.now (λ _ log. log.nodes ≡ size)) }
+    ensures err { IfErr result (λ f. (i : ℕ) × (f ≡ HeadFault.Size i) × IsFirstOther logs.now (λ _ log. log.nodes ≡ size) i) }
+{
+    for i in 0..size.get() {
+        if logs[usize::from(i)].nodes() != size {
+            return Err(HeadFault::Size(i));
+        }
+    }
+    Ok(())
+}
+
+/// Whether each log names its own place.
+fn check_places<A: Allocator>(logs: &[NodeLog<A>], size: RingSize) -> Result<(), HeadFault>
+    requires { length logs.now ≡ size }
+    ensures ok { OnOk result (EachLog logs.now (λ i log. log.place ≡ i)) }
+    ensures valid { OnOk result (EachLog logs.now (λ _ log. IsLog log)) }
+    ensures err { IfErr result (λ f. (i : ℕ) × (f ≡ HeadFault.Place i) × IsFirstOther logs.now (λ j log. log.place ≡ j) i) }
+{
+    for i in 0..size.get() {
+        if logs[usize::from(i)].place() != i {
+            return Err(HeadFault::Place(i));
+        }
+    }
+    Ok(())
+}
+
+impl<A: Allocator> Logs<A> {
+    /// The logs as those of one ring, or their first fault: their number, then a ring size, then a
+    /// place. It takes no memory.
+    pub fn gather(logs: Vec<NodeLog<A>, A>) -> Result<Logs<A>, HeadFault>
+        ensures ok { (gathered : List Log) → (result ≡ Ok gathered) ↔ ((gathered ≡ logs.items) × AreLogs gathered) }
+        ensures err { (f : HeadFault) → (result ≡ Err f) ↔ HeadFaultOf logs.items f }
+    {
+        let size = common_size(&logs)?;
+        check_sizes(&logs, size)?;
+        check_places(&logs, size)?;
+        Ok(Logs { size, logs })
+    }
+
+    /// How many nodes the ring has, and so how many logs there are.
+    pub fn size(&self) -> RingSize
+        ensures value { result ≡ length self.now }
+        ensures valid { AreLogs self.now }
+    {
+        self.size
+    }
+
+    /// The log of the node at place `i`.
+    pub fn log(&self, i: u8) -> &NodeLog<A>
+        requires { i < length self.now }
+        ensures value { slice_get self.now i ≡ Some result.now }
+        ensures valid { AreLogs self.now }
+    {
+        &self.logs[usize::from(i)]
+    }
+}
+
+/// A list of logs has at most one fault, and none where it is the logs of one ring.
+pub fn head_fault_is_one()
+    ensures one { (logs : List Log) (f g : HeadFault) → HeadFaultOf logs f → HeadFaultOf logs g → f ≡ g }
+    ensures none { (logs : List Log) (f : HeadFault) → AreLogs logs → ¬ (HeadFaultOf logs f) }
+{}
