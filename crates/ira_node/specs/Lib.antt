@@ -1,0 +1,7 @@
+pub mod Laws
+pub mod Msg
+pub mod NodeState
+pub mod NodeStep
+pub mod NodeStepFault
+pub mod StepAnswer
+pub mod Wanted
