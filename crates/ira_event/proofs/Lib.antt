@@ -1,1 +1,10 @@
+pub mod Digits
+pub mod Heads
+pub mod LogAnswers
+pub mod LogReading
+pub mod LogTexts
+pub mod Numerals
+pub mod Pieces
+pub mod RecordLines
+pub mod Spelled
 pub mod Writing

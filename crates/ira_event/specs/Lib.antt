@@ -1,8 +1,11 @@
 pub mod Event
 pub mod Log
+pub mod LogLaws
+pub mod LogScan
 pub mod LogText
 pub mod LogTextFault
 pub mod Numeral
 pub mod Result
 pub mod RingSize
+pub mod Scan
 pub mod Sink

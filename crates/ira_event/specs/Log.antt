@@ -13,7 +13,7 @@ pub record Log : Type 0 where
   pub initiator : Bool
   pub events : List Event
 
--- the places of a ring are counted from 0, and a log keeps the limits on records and their numbers
+-- a ring size, a place on that ring (from 0), and events within the limits
 pub record IsLog (log : Log) : Type 0 where
   pub size : IsRingSize log.nodes
   pub place : log.place < log.nodes

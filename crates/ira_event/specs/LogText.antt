@@ -49,9 +49,12 @@ pub record IsHead (text : List ℕ) (nodes place : ℕ) (initiator : Bool) : Typ
   pub place_text : List ℕ
   pub nodes_is : IsNumeral nodes_text nodes
   pub place_is : IsNumeral place_text place
-  pub parts : text ≡ codes "irlog 1\nnodes " ++ nodes_text ++ codes "\nplace " ++ place_text ++ codes "\nstart " ++ start_word initiator ++ codes "\n"
+  pub parts :
+      text ≡ codes "irlog 1\n" ++ codes "nodes " ++ nodes_text ++ codes "\nplace " ++ place_text
+      ++ codes "\nstart " ++ start_word initiator ++ codes "\n"
 
--- the text of a log: its head, the lines of its events, and the end line with their number
+-- the text of a log: its head, the lines of its events, and the end line with their number, all
+-- within the limits
 pub record IsLogText (text : List ℕ) (log : Log) : Type 0 where
   pub head : List ℕ
   pub records : List ℕ
@@ -62,20 +65,29 @@ pub record IsLogText (text : List ℕ) (log : Log) : Type 0 where
   pub parts : text ≡ head ++ records ++ end ++ codes "\n"
   pub valid : IsLog log
 
--- the text that a log has, written out: numbers are plain decimal
+-- The same written out: numbers are plain decimal.
+
+-- a message
 abbrev pub message_text : Msg → List ℕ
 message_text m = decimal m.round ++ codes " " ++ decimal m.id ++ codes " " ++ decimal m.hop ++ codes " " ++ bit_word m.dirty
 
+-- a record's line
 abbrev pub record_text : Event → List ℕ
 record_text (Draw d) = codes "draw " ++ decimal d ++ codes "\n"
 record_text (Sent m) = codes "send " ++ message_text m ++ codes "\n"
 record_text (Got m) = codes "recv " ++ message_text m ++ codes "\n"
 
+-- a head
 abbrev pub head_text : ℕ → ℕ → Bool → List ℕ
-head_text nodes place initiator = codes "irlog 1\nnodes " ++ decimal nodes ++ codes "\nplace " ++ decimal place ++ codes "\nstart " ++ start_word initiator ++ codes "\n"
+head_text nodes place initiator =
+    codes "irlog 1\n" ++ codes "nodes " ++ decimal nodes ++ codes "\nplace " ++ decimal place
+    ++ codes "\nstart " ++ start_word initiator ++ codes "\n"
 
+-- the end line of so many records
 abbrev pub end_text : ℕ → List ℕ
 end_text n = codes "end " ++ decimal n ++ codes "\n"
 
+-- the text of a log
 abbrev pub log_text : Log → List ℕ
-log_text log = head_text log.nodes log.place log.initiator ++ flat_map record_text log.events ++ end_text (length log.events)
+log_text log =
+    head_text log.nodes log.place log.initiator ++ flat_map record_text log.events ++ end_text (length log.events)

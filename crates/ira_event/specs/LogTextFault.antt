@@ -1,56 +1,94 @@
--- The one fault of a text that is no log's: found line by line, the first one.
-use Rattle.std.specs.Prelude.{◌≡◌, ◌≢◌, ℕ, ◌+◌, ◌<◌, ◌≤◌, ◌⊎◌, Bool, true, false, List, [], ◌++◌, length, codes, Contains}
-use Rattle.std.specs.List.{list_all}
+-- The fault of a text that is no log's: the first one, line by line.
+use Rattle.std.specs.Prelude.{◌≡◌, ◌≢◌, ℕ, ◌+◌, ◌<◌, ◌≤◌, ◌⊎◌, Bool, true, false, List, [], ◌++◌, ◌==◌, length, codes, Result, Ok, Err}
+use Rattle.std.specs.List.{list_all, list_any}
 use Rattle.ira_event.specs.declared.limits.TheConstants.{MAX_RECORDS, MAX_TEXT}
 use Rattle.ira_event.specs.declared.event.Event.{Event}
 use Rattle.ira_event.specs.declared.log_fault.LogFault.{LogFault}
-use Rattle.ira_event.specs.declared.log_fault.LogFault.TheVariants.{TooLong, Head, Line, Range, TooMany, Cut, Count, Trailing}
+use Rattle.ira_event.specs.declared.log_fault.LogFault.TheVariants.{TooLong, Head, Line, Range, TooMany, Cut, Count, Trailing, OutOfMemory}
 use Rattle.ira_event.specs.Event.{is_event}
 use Rattle.ira_event.specs.LogText.{IsHead, IsRecord, AreRecords, IsEnd}
 use Rattle.ira_event.specs.RingSize.{IsRingSize}
 
--- no line feed stands in the text: it is one line, or a piece of one
-abbrev pub IsOneLine : List ℕ → Type 0
-IsOneLine text = ¬ (Contains text 10)
+-- no byte is a line feed
+abbrev pub HasNoLineFeed : List ℕ → Type 0
+HasNoLineFeed text = list_any (λ c. c == 10) text ≡ false
 
--- the text begins with a head of the grammar whose numbers are in range
-pub record BeginsWithHead (text rest : List ℕ) : Type 0 where
+-- the text begins with a head of the grammar whose numbers are in range, and goes on with the rest
+pub record BeginsWithHead (text : List ℕ) (nodes place : ℕ) (initiator : Bool) (rest : List ℕ) : Type 0 where
   pub head : List ℕ
-  pub nodes : ℕ
-  pub place : ℕ
-  pub initiator : Bool
-  pub is : IsHead head nodes place initiator
+  pub head_is : IsHead head nodes place initiator
   pub size : IsRingSize nodes
-  pub place_in_ring : place < nodes
+  pub in_ring : place < nodes
   pub parts : text ≡ head ++ rest
 
--- the text begins with a head and with the lines of these events, all within the limits; what
--- follows them begins on line `length events + 5`
-pub record BeginsWithEvents (text : List ℕ) (events : List Event) (rest : List ℕ) : Type 0 where
-  pub behind_head : List ℕ
+-- the text begins with the lines of these events, all within the limits, and goes on with the rest
+pub record BeginsWithRecords (text : List ℕ) (events : List Event) (rest : List ℕ) : Type 0 where
   pub records : List ℕ
-  pub head : BeginsWithHead text behind_head
   pub records_are : AreRecords records events
-  pub parts : behind_head ≡ records ++ rest
   pub count : length events ≤ MAX_RECORDS
   pub numbers : list_all is_event events ≡ true
+  pub parts : text ≡ records ++ rest
 
 -- the line begins as a record does
 abbrev pub BeginsAsRecord : List ℕ → Type 0
-BeginsAsRecord line = (rest : List ℕ) × ((line ≡ codes "draw " ++ rest) ⊎ (line ≡ codes "send " ++ rest) ⊎ (line ≡ codes "recv " ++ rest))
+BeginsAsRecord line =
+    ((rest : List ℕ) × (line ≡ codes "draw " ++ rest))
+    ⊎ ((rest : List ℕ) × (line ≡ codes "send " ++ rest))
+    ⊎ ((rest : List ℕ) × (line ≡ codes "recv " ++ rest))
 
--- the fault of the complete line behind these events, in front of the rest of the text
-pub data LineFault (events : List Event) (line more : List ℕ) (f : LogFault) : Type 0 where
-  too_many : length events ≡ MAX_RECORDS → BeginsAsRecord line → f ≡ TooMany → LineFault events line more f
-  no_line : (length events ≡ MAX_RECORDS → ¬ (BeginsAsRecord line)) → ((e : Event) → ¬ (IsRecord line e)) → ((n : ℕ) → ¬ (IsEnd line n)) → f ≡ Line (length events + 5) → LineFault events line more f
-  out_of_range : (e : Event) → length events < MAX_RECORDS → IsRecord line e → is_event e ≡ false → f ≡ Range (length events + 5) → LineFault events line more f
-  other_count : (n : ℕ) → IsEnd line n → n ≢ length events → f ≡ Count → LineFault events line more f
-  trailing : IsEnd line (length events) → more ≢ [] → f ≡ Trailing → LineFault events line more f
+-- the fault of a complete line behind the head and k records, with `more` behind its line feed; it
+-- is line k + 5 of the text
+pub data LineFault (k : ℕ) (line more : List ℕ) (f : LogFault) : Type 0 where
+  -- it begins as a record does, behind the last record allowed
+  too_many : k ≡ MAX_RECORDS → BeginsAsRecord line → f ≡ TooMany → LineFault k line more f
+  -- it is neither a record nor an end line
+  no_line :
+      (k ≡ MAX_RECORDS → ¬ (BeginsAsRecord line)) → ((e : Event) → ¬ (IsRecord line e)) → ((n : ℕ) → ¬ (IsEnd line n))
+      → f ≡ Line (k + 5) → LineFault k line more f
+  -- it is a record with a number out of range
+  out_of_range : (e : Event) → k ≢ MAX_RECORDS → IsRecord line e → is_event e ≡ false → f ≡ Range (k + 5) → LineFault k line more f
+  -- it is an end line of another number of records
+  other_count : (n : ℕ) → IsEnd line n → n ≢ k → f ≡ Count → LineFault k line more f
+  -- it is the end line, and something follows it
+  trailing : IsEnd line k → more ≢ [] → f ≡ Trailing → LineFault k line more f
 
--- the fault of a text: it is too long; or it has no head; or behind the records within the limits
--- that it begins with stands a piece of a line, or the first line with a fault
-pub data LogTextFault (text : List ℕ) (f : LogFault) : Type 0 where
-  too_long : MAX_TEXT < length text → f ≡ TooLong → LogTextFault text f
-  no_head : length text ≤ MAX_TEXT → ((rest : List ℕ) → ¬ (BeginsWithHead text rest)) → f ≡ Head → LogTextFault text f
-  cut : (events : List Event) (piece : List ℕ) → length text ≤ MAX_TEXT → BeginsWithEvents text events piece → IsOneLine piece → f ≡ Cut → LogTextFault text f
-  at_line : (events : List Event) (line more : List ℕ) → length text ≤ MAX_TEXT → BeginsWithEvents text events (line ++ codes "\n" ++ more) → IsOneLine line → LineFault events line more f → LogTextFault text f
+-- the fault of what stands behind the head and k records
+pub data RestFault (k : ℕ) (rest : List ℕ) (f : LogFault) : Type 0 where
+  -- a piece of a line, or nothing
+  cut : HasNoLineFeed rest → f ≡ Cut → RestFault k rest f
+  -- a complete line with a fault
+  at_line : (line more : List ℕ) → rest ≡ line ++ codes "\n" ++ more → HasNoLineFeed line → LineFault k line more f → RestFault k rest f
+
+-- the fault of what stands behind the head: behind records within the limits comes something with a fault
+pub record RecordsFault (text : List ℕ) (f : LogFault) : Type 0 where
+  pub events : List Event
+  pub rest : List ℕ
+  pub begins : BeginsWithRecords text events rest
+  pub fault : RestFault (length events) rest f
+
+-- the fault of a text that isn't too long
+pub data LinesFault (text : List ℕ) (f : LogFault) : Type 0 where
+  -- it begins with no head
+  no_head :
+      ((nodes place : ℕ) (initiator : Bool) (rest : List ℕ) → ¬ (BeginsWithHead text nodes place initiator rest))
+      → f ≡ Head → LinesFault text f
+  -- what stands behind its head has a fault
+  behind_head :
+      (nodes place : ℕ) (initiator : Bool) (rest : List ℕ) → BeginsWithHead text nodes place initiator rest → RecordsFault rest f
+      → LinesFault text f
+
+-- the fault of a text
+abbrev pub LogTextFault : List ℕ → LogFault → Type 0
+LogTextFault text f =
+    ((MAX_TEXT < length text) × (f ≡ TooLong)) ⊎ ((length text ≤ MAX_TEXT) × LinesFault text f)
+
+-- the text is the lines of these events, all within the limits, and their end line
+pub record AreAllRecords (text : List ℕ) (events : List Event) : Type 0 where
+  pub end : List ℕ
+  pub end_is : IsEnd end (length events)
+  pub begins : BeginsWithRecords text events (end ++ codes "\n")
+
+-- a reader of what stands behind a head answered its events, its fault, or want of memory
+abbrev pub RecordsRead : {X : Type 0} → (X → List Event) → Result X LogFault → List ℕ → Type 0
+RecordsRead view (Ok v) text = AreAllRecords text (view v)
+RecordsRead view (Err f) text = (f ≡ OutOfMemory) ⊎ RecordsFault text f

@@ -1,7 +1,7 @@
 use Rattle.std.specs.Prelude.{◌≡◌, ℕ, ◌+◌, ◌*◌, ◌-◌, ◌≤◌, true, List, [], ◌∷◌, ◌⊎◌}
 use Rattle.std.specs.Str.{all_ascii_digits}
 
--- the number that digits spell, behind those that spell the first number
+-- the number that the digits spell when they follow digits that spell n
 abbrev pub value_from : ℕ → List ℕ → ℕ
 value_from n [] = n
 value_from n (c ∷ cs) = value_from (10 * n + (c - 48)) cs

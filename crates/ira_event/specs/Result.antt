@@ -1,5 +1,5 @@
 use Rattle.std.specs.Prelude.{◌≡◌, ◌⊎◌, Result, Err}
 
--- the result is this error, or else the fact holds
+-- the result is this error, or the fact holds
 abbrev pub UnlessErr : {T E : Type 0} → Result T E → E → Type 0 → Type 0
 UnlessErr r e P = (r ≡ Err e) ⊎ P

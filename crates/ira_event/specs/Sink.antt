@@ -1,7 +1,7 @@
 use Rattle.std.specs.Prelude.{◌≡◌, ℕ, ◌+◌, ◌-◌, ◌^◌, List, ◌++◌, length, min, Option, Result, Ok, Err, if◌then◌else◌, nat_eq, nat_lt, ◌&&◌}
 use Rattle.std.specs.Io.KnownBytes.{Appends}
 
--- what a sink in memory has taken, and how often it has failed
+-- what a sink in memory has taken, and how often it has failed, up to the last u64
 pub record Memory : Type 0 where
   pub bytes : List ℕ
   pub failures : ℕ
@@ -15,12 +15,12 @@ abbrev pub failures_after : {E : Type 0} → Result ℕ E → List ℕ → ℕ �
 failures_after (Ok n) bytes failures = if nat_eq n 0 && nat_lt 0 (length bytes) then one_more failures else failures
 failures_after (Err e) bytes failures = one_more failures
 
--- the sink took the whole text, and didn't fail
+-- the sink took the whole text, and its count of failures stayed
 pub record Takes (text : List ℕ) (taken : Option (List ℕ)) (failures : ℕ) (taken' : Option (List ℕ)) (failures' : ℕ) : Type 0 where
   pub took : Appends taken taken' text
   pub same : failures' ≡ failures
 
--- the sink took a first part of the text, and then failed once
+-- the sink took a first part of the text, and its count shows one failure more
 pub record StopsIn (text : List ℕ) (taken : Option (List ℕ)) (failures : ℕ) (taken' : Option (List ℕ)) (failures' : ℕ) : Type 0 where
   pub front : List ℕ
   pub back : List ℕ

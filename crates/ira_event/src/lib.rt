@@ -3,21 +3,28 @@
 
 mod event;
 mod events;
+mod laws;
 mod limits;
 mod listed;
 mod log_fault;
+mod log_head;
+mod log_line;
 mod log_reader;
 mod memory_sink;
 mod msg;
 mod node_log;
 mod out_of_memory;
 mod ring_size;
+mod scan;
 mod sink;
+#[cfg(test)]
+mod tests;
 mod to_writer;
 mod write;
 
 pub use event::Event;
 pub use events::Events;
+pub use laws::{a_text_has_one_answer, each_log_has_one_text, no_text_is_two_logs};
 pub use limits::{MAX_NUMBER, MAX_RECORDS, MAX_TEXT};
 pub use listed::Listed;
 pub use log_fault::LogFault;
@@ -27,6 +34,7 @@ pub use msg::Msg;
 pub use node_log::NodeLog;
 pub use out_of_memory::OutOfMemory;
 pub use ring_size::RingSize;
+pub use scan::{skip_word, take_number};
 pub use sink::{Sink, SinkFault};
 pub use to_writer::ToWriter;
 pub use write::{WriteFault, write_bytes, write_number};

@@ -7,7 +7,8 @@ pub enum LogFault {
     /// The text has more than `MAX_TEXT` bytes.
     #[error("too long")]
     TooLong,
-    /// The first four lines aren't version, ring size, place and start kind.
+    /// The first four lines aren't version, ring size, place and start kind, or a number there is
+    /// out of range.
     #[error("head")]
     Head,
     /// A line is neither a record nor the end line.
@@ -16,7 +17,7 @@ pub enum LogFault {
     /// A record has a number outside `1..=MAX_NUMBER`.
     #[error("range {0}")]
     Range(u32),
-    /// A record follows `MAX_RECORDS` others.
+    /// A line that begins as a record does follows `MAX_RECORDS` records.
     #[error("too many records")]
     TooMany,
     /// The text ends before a complete end line.

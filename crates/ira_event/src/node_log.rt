@@ -59,6 +59,24 @@ impl<A: Allocator> NodeLog<A> {
         })
     }
 
+    /// The log of these parts, which are known to be in range.
+    pub(crate) fn of_parts(
+        nodes: RingSize,
+        place: u8,
+        initiator: bool,
+        events: Vec<Event, A>,
+    ) -> NodeLog<A>
+        requires { IsLog (record { nodes = nodes; place = place; initiator = initiator; events = events.items }) }
+        ensures { result ≡ record { nodes = nodes; place = place; initiator = initiator; events = events.items } }
+    {
+        NodeLog {
+            nodes,
+            place,
+            initiator,
+            events,
+        }
+    }
+
     pub fn nodes(&self) -> RingSize
         ensures { result ≡ self.now.nodes }
     {

@@ -1,0 +1,177 @@
+-- What the reader of a log text found, line by line.
+use Rattle.std.proofs.Common.{◌≡◌, ◌≢◌, ◌≤◌, ◌<◌, ℕ, ◌+◌, ◌&&◌, Bool, true, false, cond, List, [], ◌∷◌, ◌++◌, length, take, drop, suc, get_or, Some, None, refl, sym, ap, subst, ◌∙◌, arith, inl, inr, nat_eq, nat_lt, nat_le, append_assoc, length-append}
+use Rattle.std.specs.Prelude.{codes, position}
+use Rattle.std.specs.List.{list_all, position_or_len}
+use Rattle.std.proofs.Math.Seq.{split_at}
+use Rattle.std.proofs.lemmas.Bool.{cases_lt}
+use Rattle.std.proofs.lemmas.Bool.Decides.{nat_tests}
+use Rattle.std.proofs.lemmas.List.{append-nil, get_or-take, length-take}
+use Rattle.std.proofs.lemmas.List.Folds.{list_any_none, list_all-append}
+use Rattle.std.proofs.lemmas.List.Quantifiers.{position-Some}
+use Rattle.std.proofs.lemmas.List.Sums.{fails_before_first}
+use Rattle.ira_event.specs.declared.limits.TheConstants.{MAX_NUMBER, MAX_RECORDS}
+use Rattle.ira_event.specs.declared.event.Event.{Event}
+use Rattle.ira_event.specs.declared.event.Event.TheVariants.{Draw, Sent, Got}
+use Rattle.ira_event.specs.declared.msg.Msg.{Msg}
+use Rattle.ira_event.specs.declared.log_line.LogLine.{LogLine}
+use Rattle.ira_event.specs.declared.log_line.LogLine.TheVariants.{Record, End}
+use Rattle.ira_event.specs.declared.log_fault.LogFault.TheVariants as fault
+use Rattle.ira_event.specs.Event.{is_number, is_msg, is_event}
+use Rattle.ira_event.specs.LogScan.{line_at}
+use Rattle.ira_event.specs.LogText.{IsRecord, AreRecords, IsEnd}
+use Rattle.ira_event.specs.LogTextFault.{HasNoLineFeed, BeginsAsRecord, BeginsWithRecords, too_many, no_line, out_of_range, other_count, trailing, RestFault, at_line, AreAllRecords}
+use Rattle.ira_event.specs.Scan.{kept}
+use Rattle.ira_event.proofs.Numerals.{and_parts}
+use Rattle.ira_event.proofs.RecordLines.{kept_message, kept_event, line-takes, record-again, end-again, record_begins}
+
+-- ---- numbers as they are kept
+
+and_false : (b : Bool) → (b && false) ≡ false
+and_false true = refl
+and_false false = refl
+
+number_kept : (n : ℕ) → is_number (kept n) ≡ is_number n
+number_kept n = elim (cases_lt n 4294967295) [
+  | inl lt ↦ let e : kept n ≡ n = omega arith in ap is_number e
+  | inr le ↦ let e : kept n ≡ 4294967295 = omega arith in
+      let over : nat_le n MAX_NUMBER ≡ false = grind (arith, nat_tests) in
+      ap is_number e ∙ sym (rw over (and_false (nat_le 1 n)))
+]
+
+number_same : (n : ℕ) → is_number n ≡ true → kept n ≡ n
+number_same n h = let p = and_parts (nat_le 1 n) (nat_le n MAX_NUMBER) h in let le : n ≤ 1000000 = grind (arith, nat_tests, p.1) in omega arith
+
+event_kept : (e : Event) → is_event (kept_event e) ≡ is_event e
+event_kept (Draw d) = number_kept d
+event_kept (Sent m) = rw (number_kept m.round, number_kept m.id, number_kept m.hop) refl
+event_kept (Got m) = rw (number_kept m.round, number_kept m.id, number_kept m.hop) refl
+
+message_kept_same : (m : Msg) → is_msg m ≡ true → kept_message m ≡ m
+message_kept_same m h =
+    let p = and_parts (is_number m.round && is_number m.id) (is_number m.hop) h in
+    let q = and_parts (is_number m.round) (is_number m.id) p.0 in
+    rw (number_same m.round q.0, number_same m.id q.1, number_same m.hop p.1) refl
+
+event_kept_same : (e : Event) → is_event e ≡ true → kept_event e ≡ e
+event_kept_same (Draw d) h = ap Draw (number_same d h)
+event_kept_same (Sent m) h = ap Sent (message_kept_same m h)
+event_kept_same (Got m) h = ap Got (message_kept_same m h)
+
+-- ---- records in front
+
+pub AreRecords-push : (records line : List ℕ) (es : List Event) (e : Event) → AreRecords records es → IsRecord line e → AreRecords (records ++ line ++ codes "\n") (es ++ e ∷ [])
+AreRecords-push records line [] e h is = (line, [], ap (λ w. w ++ line ++ codes "\n") h ∙ sym (append-nil (line ++ codes "\n")), is, refl)
+AreRecords-push records line (x ∷ xs) e h is =
+    (h.0, h.1 ++ line ++ codes "\n", ap (λ w. w ++ line ++ codes "\n") h.2 ∙ simp append_assoc, h.3, AreRecords-push h.1 line xs e h.4 is)
+
+pub begins_nothing : (text : List ℕ) → BeginsWithRecords text [] text
+begins_nothing text = record { records = []; records_are = refl; count = omega arith; numbers = refl; parts = refl }
+
+all_pushed : (es : List Event) (e : Event) → list_all is_event es ≡ true → is_event e ≡ true → list_all is_event (es ++ e ∷ []) ≡ true
+all_pushed es e h k = list_all-append is_event es (e ∷ []) ∙ rw (h, k) refl
+
+begins_pushed : (text bs line after : List ℕ) (es : List Event) (e : Event) → BeginsWithRecords text es bs → bs ≡ line ++ codes "\n" ++ after → IsRecord line e → length es ≢ MAX_RECORDS → is_event e ≡ true → BeginsWithRecords text (es ++ e ∷ []) after
+begins_pushed text bs line after es e h parts is few good = record {
+  records = h.records ++ line ++ codes "\n";
+  records_are = AreRecords-push h.records line es e h.records_are is;
+  count = omega (arith, length-append es (e ∷ []), h.count);
+  numbers = all_pushed es e h.numbers good;
+  parts = h.parts ∙ ap (λ w. h.records ++ w) parts ∙ simp append_assoc;
+}
+
+-- ---- at a line that was read
+
+module _ (bs after : List ℕ) where
+  pub begins_more : (text : List ℕ) (es items : List Event) (e : Event) → line_at bs ≡ Some (Record e, after) → BeginsWithRecords text es bs → length es ≢ MAX_RECORDS → is_event e ≡ true → items ≡ es ++ e ∷ [] → BeginsWithRecords text items after
+  begins_more text es items e read h few good pushed =
+      let f = line-takes bs (Record e, after) read in
+      let e' = f.says.0 in
+      let good' : is_event e' ≡ true = sym (event_kept e') ∙ ap is_event (sym f.says.2) ∙ good in
+      let same : e ≡ e' = f.says.2 ∙ event_kept_same e' good' in
+      subst (λ xs. BeginsWithRecords text xs after) (sym pushed) (subst (λ x. BeginsWithRecords text (es ++ x ∷ []) after) (sym same) (begins_pushed text bs f.text after es e' h f.parts f.says.1 few good'))
+
+  pub fault_too_many : (k : ℕ) (e : Event) → line_at bs ≡ Some (Record e, after) → k ≡ MAX_RECORDS → RestFault k bs fault.TooMany
+  fault_too_many k e read many =
+      let f = line-takes bs (Record e, after) read in
+      at_line f.text after f.parts f.whole (too_many many (record_begins f.text f.says.0 f.says.1) refl)
+
+  pub fault_range : (k : ℕ) (e : Event) → line_at bs ≡ Some (Record e, after) → k ≢ MAX_RECORDS → is_event e ≡ false → RestFault k bs (fault.Range (k + 5))
+  fault_range k e read few bad =
+      let f = line-takes bs (Record e, after) read in
+      at_line f.text after f.parts f.whole (out_of_range f.says.0 few f.says.1 (sym (event_kept f.says.0) ∙ ap is_event (sym f.says.2) ∙ bad) refl)
+
+  pub fault_count : (k n : ℕ) → line_at bs ≡ Some (End n, after) → k ≤ MAX_RECORDS → n ≢ k → RestFault k bs fault.Count
+  fault_count k n read few other =
+      let f = line-takes bs (End n, after) read in
+      let differs : f.says.0 ≢ k = λ q. other (f.says.2 ∙ ap kept q ∙ omega (arith, few)) in
+      at_line f.text after f.parts f.whole (other_count f.says.0 f.says.1 differs refl)
+
+  counted : (k n m : ℕ) → k ≤ MAX_RECORDS → n ≡ k → n ≡ kept m → m ≡ k
+  counted k n m few q p = omega arith
+
+  pub fault_trailing : (k n : ℕ) → line_at bs ≡ Some (End n, after) → k ≤ MAX_RECORDS → n ≡ k → after ≢ [] → RestFault k bs fault.Trailing
+  fault_trailing k n read few same more =
+      let f = line-takes bs (End n, after) read in
+      at_line f.text after f.parts f.whole (trailing (subst (IsEnd f.text) (counted k n f.says.0 few same f.says.2) f.says.1) more refl)
+
+  pub all_read : (text : List ℕ) (es : List Event) (n : ℕ) → line_at bs ≡ Some (End n, after) → BeginsWithRecords text es bs → n ≡ length es → after ≡ [] → AreAllRecords text es
+  all_read text es n read h same none =
+      let f = line-takes bs (End n, after) read in record {
+        end = f.text;
+        end_is = subst (IsEnd f.text) (counted (length es) n f.says.0 h.count same f.says.2) f.says.1;
+        begins = subst (BeginsWithRecords text es) (f.parts ∙ ap (λ w. f.text ++ codes "\n" ++ w) none ∙ append-nil (f.text ++ codes "\n")) h;
+      }
+
+  pub line_shorter : (l : LogLine) → line_at bs ≡ Some (l, after) → suc (length after) ≤ length bs
+  line_shorter l read =
+      let f = line-takes bs (l, after) read in
+      omega (arith, ap length f.parts, length-append (f.text ++ codes "\n") after, length-append f.text (codes "\n"))
+
+-- ---- where no line was read
+
+position-cases : (b : Bool) (i : ℕ) → cond b (Some i) None ≡ None → b ≡ false
+position-cases true i e = absurd cc
+position-cases false i e = refl
+
+pub no_line_end : (text : List ℕ) → position (λ c. nat_eq c 10) text ≡ None → HasNoLineFeed text
+no_line_end text e =
+    let test : nat_lt (position_or_len (λ c. nat_eq c 10) text) (length text) ≡ false = position-cases _ _ e in
+    list_any_none (λ c. nat_eq c 10) text (λ k d lt. fails_before_first (λ c. nat_eq c 10) text k d (grind (arith, nat_tests)))
+
+-- the line up to the first line feed
+pub record FirstFeed (text line : List ℕ) : Type 0 where
+  pub more : List ℕ
+  pub parts : text ≡ line ++ codes "\n" ++ more
+  pub whole : HasNoLineFeed line
+
+feed_is : (c : ℕ) → nat_eq c 10 ≡ true → c ≡ 10
+feed_is c h = grind (arith, nat_tests)
+
+pub line_end_at : (text : List ℕ) (i : ℕ) → position (λ c. nat_eq c 10) text ≡ Some i → FirstFeed text (take i text)
+line_end_at text i e =
+    let p = position-Some (λ c. nat_eq c 10) text i 0 e in
+    record {
+      more = drop (suc i) text;
+      parts = split_at text i 0 p.0 ∙ ap (λ c. take i text ++ (c ∷ drop (suc i) text)) (feed_is (get_or text i 0) p.1) ∙ sym (append_assoc (take i text) (codes "\n") (drop (suc i) text));
+      whole = list_any_none (λ c. nat_eq c 10) (take i text) (λ k d lt.
+          let below : k < i = omega (arith, length-take i text) in
+          let before = position-Some (λ c. nat_eq c 10) text i d e in
+          rw (get_or-take i text k d below) (before.2 k below));
+    }
+
+module _ (k : ℕ) (bs : List ℕ) (unread : line_at bs ≡ None) where
+  pub fault_unread_too_many : (line : List ℕ) → FirstFeed bs line → k ≡ MAX_RECORDS → BeginsAsRecord line → RestFault k bs fault.TooMany
+  fault_unread_too_many line f many begins = at_line line f.more f.parts f.whole (too_many many begins refl)
+
+  pub fault_line : (line : List ℕ) → FirstFeed bs line → (k ≡ MAX_RECORDS → ¬ (BeginsAsRecord line)) → RestFault k bs (fault.Line (k + 5))
+  fault_line line f few = at_line line f.more f.parts f.whole (no_line few
+      (λ e h. let x = record-again line e f.more h in let y = ap line_at f.parts in cc)
+      (λ n h. let x = end-again line n f.more h in let y = ap line_at f.parts in cc) refl)
+
+pub empty_is : (xs : List ℕ) → nat_eq (length xs) 0 ≡ true → xs ≡ []
+empty_is [] h = refl
+empty_is (x ∷ xs) h = absurd (grind (arith, nat_tests))
+
+pub not_empty : (xs : List ℕ) → nat_eq (length xs) 0 ≡ false → xs ≢ []
+not_empty [] h q = absurd cc
+not_empty (x ∷ xs) h q = absurd cc

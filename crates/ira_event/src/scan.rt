@@ -1,0 +1,43 @@
+ghost use Rattle.std.specs.Prelude.{◌≡◌};
+ghost use Rattle.ira_event.specs.Scan.{digits_from, kept, kept_at, after_word, Gives};
+
+/// What follows the word that the text begins with.
+#[inline]
+pub fn skip_word<'a>(text: &'a [u8], word: &[u8]) -> Option<&'a [u8]>
+    ensures { Gives (λ rest. rest.now) result (after_word word.now text.now) }
+{
+    text.strip_prefix(word)
+}
+
+/// The number that the text begins with, and what follows it. A number is `0`, or a digit 1 to 9 and
+/// then any digits; `u32::MAX` stands for itself and for everything above.
+#[inline]
+pub fn take_number(text: &[u8]) -> Option<(u32, &[u8])>
+    ensures { Gives (λ found. (found.0, found.1.now)) result (kept_at text.now) }
+{
+    match text {
+        [b'0', rest @ ..] => Some((0, rest)),
+        [first @ b'1'..=b'9', rest @ ..] => Some(take_digits(u32::from(*first - b'0'), rest)),
+        _ => None,
+    }
+}
+
+/// What the digits at the front go on to, after the number so far, and what follows them.
+#[inline]
+fn take_digits(first: u32, text: &[u8]) -> (u32, &[u8])
+    ensures value { result.0 ≡ kept (digits_from first text.now).0 }
+    ensures rest { result.1.now ≡ (digits_from first text.now).1 }
+{
+    let mut value = first;
+    let mut rest = text;
+    while let Some((digit, after)) = rest.split_first() {
+        if !digit.is_ascii_digit() {
+            break;
+        }
+        value = value
+            .saturating_mul(10)
+            .saturating_add(u32::from(*digit - b'0'));
+        rest = after;
+    }
+    (value, rest)
+}
