@@ -4,6 +4,7 @@ use crate::sink::{Sink, SinkFault};
 use std::io::Write;
 
 /// Hands on to a writer what it takes. It tells its bytes where the writer does.
+#[derive(Drop)]
 pub struct ToWriter<W: Write> {
     writer: W,
     failures: u64,
