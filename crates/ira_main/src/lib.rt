@@ -21,3 +21,6 @@ pub use report::write_report;
 pub use file_shelf::FileShelf;
 pub use program::serve;
 pub use shelf::{Shelf, ShelfFault};
+
+#[cfg(test)]
+mod tests;
