@@ -1,0 +1,4 @@
+pub mod Laws
+pub mod LocalRun
+pub mod StatesLeft
+pub mod StatesOfLog

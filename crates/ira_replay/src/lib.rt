@@ -1,0 +1,15 @@
+//! The states of one node along its log.
+#![tactic(auto)]
+
+mod laws;
+mod replay_fault;
+mod replay_log;
+mod states;
+
+pub use laws::{one_list_of_states, states_are_reached};
+pub use replay_fault::ReplayFault;
+pub use replay_log::replay;
+pub use states::States;
+
+#[cfg(test)]
+mod tests;
