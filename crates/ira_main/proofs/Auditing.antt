@@ -1,4 +1,4 @@
-use Rattle.std.proofs.Common.{◌≡◌, ◌≢◌, ◌↔◌, ◌⊎◌, inl, inr, ℕ, List, Result, Ok, Err, refl, sym, ap, ◌∙◌, subst}
+use Rattle.std.proofs.Common.{◌≡◌, ◌≢◌, ◌↔◌, ℕ, List, Result, Ok, Err, refl, sym, subst}
 use Rattle.ira_event.specs.Log.{Log}
 use Rattle.ira_event.specs.LogText.{IsLogText}
 use Rattle.ira_event.specs.LogTextFault.{LogTextFault}
@@ -8,8 +8,8 @@ use Rattle.ira_event.specs.declared.log_fault.LogFault.TheVariants as fault
 use Rattle.ira_node.specs.declared.node_state.NodeState.{NodeState}
 use Rattle.ira_node.specs.NodeState.{first_state}
 use Rattle.ira_replay.specs.declared.replay_fault.ReplayFault.{ReplayFault}
-use Rattle.ira_replay.specs.LocalRun.{LeadsTo, StopsAt}
-use Rattle.ira_main.specs.Answer.{IsAnswer, IsLogAnswer, IsLocalRun, IsFirstFault}
+use Rattle.ira_replay.specs.LocalRun.{LeadsTo}
+use Rattle.ira_main.specs.Answer.{IsAnswer, IsLogAnswer, IsFirstFault}
 use Rattle.ira_main.specs.Report.{IsReportable}
 use Rattle.ira_main.specs.declared.answer.Reason.TheVariants as reason
 use Rattle.ira_main.specs.declared.answer.Answer.{Answer}
@@ -33,15 +33,15 @@ pub log_no : (log : Log) (s : ReplayFault)
 log_no log s ok err Yes = (λ e. absurd (cc), λ h. let e = (ok h.0).1 h.1 in absurd (cc))
 log_no log s ok err (No (reason.Log n f)) = (λ e. absurd (cc), λ h. absurd h)
 log_no log s ok err (No (reason.Replay p k f)) = (
-    λ e.
-        let at : log.place ≡ p = cc in
-        let position : s.position ≡ k = cc in
-        let why : s.fault ≡ f = cc in
-        (sym at, rw (← position, ← why) ((err s).0 refl)),
-    λ h.
-        let same = err_same _ _ ((err (record { position = k; fault = f })).1 h.1) in
-        let at = h.0 in
-        rw (same, at) refl,
+  λ e.
+      let at : log.place ≡ p = cc in
+      let position : s.position ≡ k = cc in
+      let why : s.fault ≡ f = cc in
+      (sym at, rw (← position, ← why) ((err s).0 refl)),
+  λ h.
+      let same = err_same _ _ ((err (record { position = k; fault = f })).1 h.1) in
+      let at = h.0 in
+      rw (same, at) refl,
 )
 
 -- a text that was read
@@ -51,20 +51,20 @@ pub answer_read : (text : List ℕ) (log : Log) (answer : Answer)
     → ((a : Answer) → (answer ≡ a) ↔ IsLogAnswer log a)
     → (a : Answer) → (answer ≡ a) ↔ IsAnswer text a
 answer_read text log answer ok err judged Yes = (
-    λ e. (log, (unless_ok log _ _ (ok log)).0 refl, (judged Yes).0 e),
-    λ h.
-        let same = ok_same _ _ ((unless_ok log _ _ (ok h.0)).1 h.1) in
-        (judged Yes).1 (subst (λ l. IsLogAnswer l Yes) (sym same) h.2),
+  λ e. (log, (unless_ok log _ _ (ok log)).0 refl, (judged Yes).0 e),
+  λ h.
+      let same = ok_same _ _ ((unless_ok log _ _ (ok h.0)).1 h.1) in
+      (judged Yes).1 (subst (λ l. IsLogAnswer l Yes) (sym same) h.2),
 )
 answer_read text log answer ok err judged (No (reason.Log n f)) = (
-    λ e. absurd ((judged (No (reason.Log n f))).0 e),
-    λ h. let e = (unless_ok log _ _ (err f)).1 h.1 in absurd (cc),
+  λ e. absurd ((judged (No (reason.Log n f))).0 e),
+  λ h. let e = (unless_ok log _ _ (err f)).1 h.1 in absurd (cc),
 )
 answer_read text log answer ok err judged (No (reason.Replay p k f)) = (
-    λ e. (log, (unless_ok log _ _ (ok log)).0 refl, (judged (No (reason.Replay p k f))).0 e),
-    λ h.
-        let same = ok_same _ _ ((unless_ok log _ _ (ok h.0)).1 h.1) in
-        (judged (No (reason.Replay p k f))).1 (subst (λ l. IsLogAnswer l (No (reason.Replay p k f))) (sym same) h.2),
+  λ e. (log, (unless_ok log _ _ (ok log)).0 refl, (judged (No (reason.Replay p k f))).0 e),
+  λ h.
+      let same = ok_same _ _ ((unless_ok log _ _ (ok h.0)).1 h.1) in
+      (judged (No (reason.Replay p k f))).1 (subst (λ l. IsLogAnswer l (No (reason.Replay p k f))) (sym same) h.2),
 )
 
 -- a text that is no log's
@@ -73,22 +73,22 @@ pub answer_refused : (text : List ℕ) (s : LogFault) → s ≢ fault.OutOfMemor
     → ((f : LogFault) → UnlessErr {T = Log} {E = LogFault} (Err s) fault.OutOfMemory (◌≡◌ {A = Result Log LogFault} (Err s) (Err f) ↔ LogTextFault text f))
     → (a : Answer) → (No (reason.Log 0 s) ≡ a) ↔ IsAnswer text a
 answer_refused text s other ok err Yes = (
-    λ e. absurd (cc),
-    λ h. let e = (unless_err s _ _ other (ok h.0)).1 h.1 in absurd (cc),
+  λ e. absurd (cc),
+  λ h. let e = (unless_err s _ _ other (ok h.0)).1 h.1 in absurd (cc),
 )
 answer_refused text s other ok err (No (reason.Log n f)) = (
-    λ e.
-        let number : 0 ≡ n = cc in
-        let same : s ≡ f = cc in
-        (sym number, subst (LogTextFault text) same ((unless_err s _ _ other (err s)).0 refl)),
-    λ h.
-        let same = err_same _ _ ((unless_err s _ _ other (err f)).1 h.1) in
-        let number = h.0 in
-        rw (same, number) refl,
+  λ e.
+      let number : 0 ≡ n = cc in
+      let same : s ≡ f = cc in
+      (sym number, subst (LogTextFault text) same ((unless_err s _ _ other (err s)).0 refl)),
+  λ h.
+      let same = err_same _ _ ((unless_err s _ _ other (err f)).1 h.1) in
+      let number = h.0 in
+      rw (same, number) refl,
 )
 answer_refused text s other ok err (No (reason.Replay p k f)) = (
-    λ e. absurd (cc),
-    λ h. let e = (unless_err s _ _ other (ok h.0)).1 h.1 in absurd (cc),
+  λ e. absurd (cc),
+  λ h. let e = (unless_err s _ _ other (ok h.0)).1 h.1 in absurd (cc),
 )
 
 -- the answer of a log is no want of memory

@@ -1,4 +1,4 @@
-use Rattle.std.proofs.Common.{◌≡◌, ◌≢◌, ◌⊎◌, inl, inr, Result, Ok, Err, ap}
+use Rattle.std.proofs.Common.{◌≡◌, ◌≢◌, inl, inr, Result, Ok, Err, ap}
 use Rattle.ira_event.specs.Result.{UnlessErr}
 
 ok_or_else : {T E : Type 0} → T → Result T E → T

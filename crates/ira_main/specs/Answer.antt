@@ -7,7 +7,6 @@ use Rattle.ira_node.specs.declared.node_state.NodeState.{NodeState}
 use Rattle.ira_node.specs.NodeState.{first_state}
 use Rattle.ira_replay.specs.declared.replay_fault.ReplayFault.{ReplayFault}
 use Rattle.ira_replay.specs.LocalRun.{LeadsTo, StopsAt}
-use Rattle.ira_main.specs.declared.answer.Reason.{Reason}
 use Rattle.ira_main.specs.declared.answer.Reason.TheVariants as reason
 use Rattle.ira_main.specs.declared.answer.Answer.{Answer}
 use Rattle.ira_main.specs.declared.answer.Answer.TheVariants.{Yes, No}

@@ -1,5 +1,5 @@
 -- The line that is written of an answer.
-use Rattle.std.specs.Prelude.{◌≡◌, ◌≢◌, ℕ, List, [], ◌++◌, codes, decimal, ⊤}
+use Rattle.std.specs.Prelude.{◌≢◌, ℕ, List, [], ◌++◌, codes, decimal, ⊤}
 use Rattle.ira_event.specs.declared.log_fault.LogFault.{LogFault}
 use Rattle.ira_event.specs.declared.log_fault.LogFault.TheVariants.{TooLong, Head, Line, Range, TooMany, Cut, Count, Trailing, OutOfMemory}
 use Rattle.ira_node.specs.declared.step_fault.StepFault.{StepFault}

@@ -12,7 +12,10 @@ pub enum Answer {
 #[derive(Clone, Copy, Debug, PartialEq, Eq)]
 pub enum Reason {
     /// A text is no log's. `number` is the text's place in the list of texts, from 0.
-    Log { number: u32, fault: LogFault },
+    Log {
+        number: u32,
+        fault: LogFault,
+    },
     /// An event of a node has no step. `place` is the node's, and events count from 1.
     Replay {
         place: u8,

@@ -10,16 +10,15 @@ mod file_shelf;
 mod program;
 mod read_text;
 mod report;
-
 mod shelf;
 mod status;
 
 pub use answer::{Answer, Reason};
 pub use audit::audit_one;
 pub use counted::Counted;
-pub use report::write_report;
 pub use file_shelf::FileShelf;
 pub use program::serve;
+pub use report::write_report;
 pub use shelf::{Shelf, ShelfFault};
 
 #[cfg(test)]

@@ -71,7 +71,15 @@ fn assert_served<I: Read>(
     let mut shelf = EmptyShelf { alloc: rt.alloc() };
     let mut on_out = MemorySink::new(rt.alloc());
     let mut on_err = MemorySink::new(rt.alloc());
-    let found = serve(rt, rt.alloc(), words, input, &mut shelf, &mut on_out, &mut on_err);
+    let found = serve(
+        rt,
+        rt.alloc(),
+        words,
+        input,
+        &mut shelf,
+        &mut on_out,
+        &mut on_err,
+    );
     assert_eq!(rt; on_out.bytes(), out.as_bytes());
     assert_eq!(rt; on_err.bytes(), err.as_bytes());
     assert_eq!(rt; found, status);
@@ -153,13 +161,29 @@ fn failing_sinks(rt: HostRuntime) {
     let mut full = FullSink { failures: 0 };
     let mut kept = MemorySink::new(rt.alloc());
     let mut input = Counted::new(text);
-    let status = serve(&rt, rt.alloc(), &[], &mut input, &mut shelf, &mut full, &mut kept);
+    let status = serve(
+        &rt,
+        rt.alloc(),
+        &[],
+        &mut input,
+        &mut shelf,
+        &mut full,
+        &mut kept,
+    );
     assert_eq!(rt; status, 2);
     assert_eq!(rt; kept.bytes(), b"ira: cannot write the answer\n".as_slice());
     let mut input = Counted::new(text);
     let mut out = MemorySink::new(rt.alloc());
     let words = ["audit"];
-    let status = serve(&rt, rt.alloc(), &words, &mut input, &mut shelf, &mut out, &mut full);
+    let status = serve(
+        &rt,
+        rt.alloc(),
+        &words,
+        &mut input,
+        &mut shelf,
+        &mut out,
+        &mut full,
+    );
     assert_eq!(rt; status, 2);
     assert!(rt; out.bytes().is_empty());
 }

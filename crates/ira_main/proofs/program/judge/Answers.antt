@@ -1,5 +1,4 @@
 use Rattle.std.proofs.Common.{refl}
-use Rattle.ira_main.specs.Serve.{Judges}
 use Rattle.ira_main.specs.Serve.Judges.{judged}
 use Rattle.ira_main.proofs.Unless.{unless_ok}
 use Rattle.ira_main.proofs.program.judge.Goals as goal

@@ -1,4 +1,4 @@
-use Rattle.std.proofs.Common.{◌≡◌, ◌+◌, ◌≤◌, ◌<◌, ℕ, true, false, cond, [], drop, length, ap, ◌∙◌, sym, rules, arith, subst}
+use Rattle.std.proofs.Common.{◌≡◌, ◌≤◌, ◌<◌, false, length, ap, ◌∙◌, sym, rules, arith, subst}
 use Rattle.ira_main.proofs.Reading.{filled_more, length-taken, reads_left}
 use Rattle.ira_main.proofs.read_text.read_text.Goals as goal
 
