@@ -1,0 +1,59 @@
+-- The line that is written of an answer.
+use Rattle.std.specs.Prelude.{◌≢◌, ℕ, List, [], ◌++◌, codes, decimal, ⊤}
+use Rattle.ira_event.specs.declared.log_fault.LogFault.{LogFault}
+use Rattle.ira_event.specs.declared.log_fault.LogFault.TheVariants.{TooLong, Head, Line, Range, TooMany, Cut, Count, Trailing, OutOfMemory}
+use Rattle.ira_node.specs.declared.step_fault.StepFault.{StepFault}
+use Rattle.ira_node.specs.declared.step_fault.StepFault.TheVariants.{Owes, NotOwed, NotChoosing, DrawRange, MustDraw, Ended, HopPast, RoundLimit, HopLimit}
+use Rattle.ira_main.specs.declared.answer.Reason.{Reason}
+use Rattle.ira_main.specs.declared.answer.Reason.TheVariants.{Log, Replay}
+use Rattle.ira_main.specs.declared.answer.Answer.{Answer}
+use Rattle.ira_main.specs.declared.answer.Answer.TheVariants.{Yes, No}
+
+-- the words, and a number behind them
+abbrev pub numbered : List ℕ → ℕ → List ℕ
+numbered words n = words ++ decimal n
+
+-- what is wrong with a text, in words; want of memory has none
+abbrev pub log_fault_words : LogFault → List ℕ
+log_fault_words TooLong = codes "too long"
+log_fault_words Head = codes "head"
+log_fault_words (Line k) = numbered (codes "line ") k
+log_fault_words (Range k) = numbered (codes "range ") k
+log_fault_words TooMany = codes "too many records"
+log_fault_words Cut = codes "cut"
+log_fault_words Count = codes "count"
+log_fault_words Trailing = codes "trailing"
+log_fault_words OutOfMemory = []
+
+-- why an event has no step, in words
+abbrev pub step_fault_words : StepFault → List ℕ
+step_fault_words Owes = codes "owes"
+step_fault_words NotOwed = codes "not owed"
+step_fault_words NotChoosing = codes "not choosing"
+step_fault_words DrawRange = codes "draw range"
+step_fault_words MustDraw = codes "must draw"
+step_fault_words Ended = codes "ended"
+step_fault_words HopPast = codes "hop past"
+step_fault_words RoundLimit = codes "round limit"
+step_fault_words HopLimit = codes "hop limit"
+
+-- the reason in words
+abbrev pub reason_words : Reason → List ℕ
+reason_words (Log number fault) = numbered (codes "no: log ") number ++ codes ": " ++ log_fault_words fault
+reason_words (Replay place position fault) =
+    numbered (codes "no: node ") place ++ numbered (codes ": event ") position ++ codes ": " ++ step_fault_words fault
+
+-- the line of an answer
+abbrev pub report_line : Answer → List ℕ
+report_line Yes = codes "yes\n"
+report_line (No reason) = reason_words reason ++ codes "\n"
+
+-- the reason isn't want of memory
+abbrev pub IsReportableReason : Reason → Type 0
+IsReportableReason (Log number fault) = fault ≢ OutOfMemory
+IsReportableReason (Replay place position fault) = ⊤
+
+-- the answer isn't want of memory
+abbrev pub IsReportable : Answer → Type 0
+IsReportable Yes = ⊤
+IsReportable (No reason) = IsReportableReason reason

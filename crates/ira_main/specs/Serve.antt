@@ -1,0 +1,35 @@
+-- What the program does.
+use Rattle.std.specs.Prelude.{◌≡◌, ◌⊎◌, ℕ, ◌+◌, List, Option}
+use Rattle.ira_event.specs.declared.limits.TheConstants.{MAX_TEXT}
+use Rattle.ira_event.specs.Sink.{Takes, StopsIn}
+use Rattle.ira_main.specs.Answer.{IsAnswer}
+use Rattle.ira_main.specs.Counted.{Reads}
+use Rattle.ira_main.specs.ReadText.{IsReadTo}
+use Rattle.ira_main.specs.Report.{report_line}
+use Rattle.ira_main.specs.Status.{status_number, answer_status}
+use Rattle.ira_main.specs.declared.answer.Answer.{Answer}
+
+-- nothing was written, and nothing failed
+pub record IsUntouched (taken : Option (List ℕ)) (failures : ℕ) (taken' : Option (List ℕ)) (failures' : ℕ) : Type 0 where
+  pub same_bytes : taken' ≡ taken
+  pub same_failures : failures' ≡ failures
+
+-- the answer was written whole, and the status is the answer's; or the write failed, and the status
+-- is 2
+abbrev pub Reports : Answer → Option (List ℕ) → ℕ → Option (List ℕ) → ℕ → ℕ → Type 0
+Reports answer taken failures taken' failures' status =
+    (Takes (report_line answer) taken failures taken' failures' × (status ≡ status_number (answer_status answer)))
+    ⊎ (StopsIn (report_line answer) taken failures taken' failures' × (status ≡ 2))
+
+-- without words: the text that the input had left was judged, and its answer reported; or the input
+-- couldn't be read, or there was no memory, and nothing was written
+pub data Judges (old new : Reads) (taken : Option (List ℕ)) (failures : ℕ) (taken' : Option (List ℕ)) (failures' : ℕ) (status : ℕ) : Type 0 where
+  judged : (text : List ℕ) (answer : Answer) → IsReadTo (MAX_TEXT + 1) old new text → IsAnswer text answer → Reports answer taken failures taken' failures' status → Judges old new taken failures taken' failures' status
+  unread : IsUntouched taken failures taken' failures' → status ≡ 2 → Judges old new taken failures taken' failures' status
+  no_memory : IsUntouched taken failures taken' failures' → status ≡ 3 → Judges old new taken failures taken' failures' status
+
+-- with words: they were refused, and neither was the input read nor the answer's sink written to
+pub record Refuses (old new : Reads) (taken : Option (List ℕ)) (failures : ℕ) (taken' : Option (List ℕ)) (failures' : ℕ) (status : ℕ) : Type 0 where
+  pub refused : (status ≡ 2) ⊎ (status ≡ 3)
+  pub unread : new ≡ old
+  pub unwritten : IsUntouched taken failures taken' failures'

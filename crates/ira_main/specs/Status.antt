@@ -1,0 +1,17 @@
+use Rattle.std.specs.Prelude.{ℕ}
+use Rattle.ira_main.specs.declared.answer.Answer.{Answer}
+use Rattle.ira_main.specs.declared.answer.Answer.TheVariants as answer
+use Rattle.ira_main.specs.declared.status.Status.{Status}
+use Rattle.ira_main.specs.declared.status.Status.TheVariants.{Yes, No, Refused, OutOfMemory}
+
+-- the number that the program ends with
+abbrev pub status_number : Status → ℕ
+status_number Yes = 0
+status_number No = 1
+status_number Refused = 2
+status_number OutOfMemory = 3
+
+-- the status of an answer
+abbrev pub answer_status : Answer → Status
+answer_status answer.Yes = Yes
+answer_status (answer.No reason) = No
