@@ -24,4 +24,5 @@ pub record IsInOrder (queue : List Frame) (views : List Known) : Type 0 where
   pub parts : put ≡ taken ++ queue
   pub numbers : AllPass is_frame put
   pub count : length put ≤ MAX_FRAMES
-  pub passes : (pass : ℕ) (v : Known) → get_elem? views pass ≡ some v → Knows writer reader put taken pass v
+  pub passes : (pass : ℕ) (v : Known) → get_elem? views pass ≡ some v
+      → Knows writer reader put taken pass v

@@ -43,7 +43,8 @@ pub fn link<A: Allocator + Clone>(
 pub fn settle<A: Allocator>(output: LinkOut<A>, input: LinkIn<A>) -> Settled
     requires { output.link ≡ input.link }
     ensures prefix { IsPrefix input.frames output.frames }
-    ensures numbers { (result.puts ≡ length output.frames) × (result.takes ≡ length input.frames) }
+    ensures puts { result.puts ≡ length output.frames }
+    ensures takes { result.takes ≡ length input.frames }
 {
     let LinkOut {
         sender,

@@ -1,4 +1,4 @@
-ghost use Rattle.std.specs.Prelude.{◌≡◌, ◌∷◌, ◌++◌, [], true, IfOk, MatchResult};
+ghost use Rattle.std.specs.Prelude.{◌≡◌, ◌∷◌, ◌++◌, [], true, IfOk, OnErr};
 ghost use Rattle.ira_links.specs.Frame.{is_frame};
 
 use crate::closed::Closed;
@@ -18,18 +18,16 @@ pub struct LinkIn<A: Allocator> {
 }
 
 impl<A: Allocator> Model for LinkIn<A> {
-    ghost use Rattle.std.specs.Prelude.{◌≡◌, ◌≤◌, length};
     ghost use Rattle.crossbeam_channel.specs.Claims.{view as view_of, IsSeatAt};
     ghost use Rattle.crossbeam_channel.specs.Ends.{receives_on};
-    ghost use Rattle.ira_links.specs.declared.limits.TheConstants.{MAX_FRAMES};
-    ghost use Rattle.ira_links.specs.Known.{reader};
+    ghost use Rattle.ira_links.specs.Known.{IsReader};
     ghost use Rattle.ira_links.specs.LinkEnd.{LinkEnd, name_of};
 
     ghost Value = { LinkEnd };
 
     ghost view = { λ e. record { link = name_of e.pass; frames = (view_of e.pass).taken } };
 
-    ghost invariant = { λ e. IsSeatAt (receives_on e.receiver) e.pass × (view_of e.pass ≡ reader (view_of e.pass).taken) × (e.takes ≡ length (view_of e.pass).taken) × (e.takes ≤ MAX_FRAMES) };
+    ghost invariant = { λ e. IsSeatAt (receives_on e.receiver) e.pass × IsReader e.pass e.takes };
 }
 
 impl<A: Allocator> LinkIn<A> {
@@ -37,8 +35,9 @@ impl<A: Allocator> LinkIn<A> {
     /// is still in use.
     pub fn take<R: Wait>(&mut self, rt: &R) -> Result<Frame, Closed>
         ensures link { self.new.link ≡ self.old.link }
-        ensures frames { MatchResult result (λ frame. self.new.frames ≡ self.old.frames ++ frame ∷ []) (λ _. self.new.frames ≡ self.old.frames) }
+        ensures taken { IfOk result (λ frame. self.new.frames ≡ self.old.frames ++ frame ∷ []) }
         ensures numbers { IfOk result (λ frame. is_frame frame ≡ true) }
+        ensures refused { OnErr result (self.new.frames ≡ self.old.frames) }
     {
         let Ok(frame) = self.receiver.recv_as::<Takes, R>(rt, &mut self.pass) else {
             return Err(Closed);

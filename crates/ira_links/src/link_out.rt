@@ -1,4 +1,4 @@
-ghost use Rattle.std.specs.Prelude.{◌≡◌, ◌∷◌, ◌++◌, ◌<◌, [], true, length, IfOk, MatchResult};
+ghost use Rattle.std.specs.Prelude.{◌≡◌, ◌∷◌, ◌++◌, ◌<◌, [], true, length, IfErr, OnOk, OnErr};
 ghost use Rattle.ira_links.specs.declared.limits.TheConstants.{MAX_FRAMES};
 ghost use Rattle.ira_links.specs.Frame.{is_frame};
 
@@ -19,18 +19,16 @@ pub struct LinkOut<A: Allocator> {
 }
 
 impl<A: Allocator> Model for LinkOut<A> {
-    ghost use Rattle.std.specs.Prelude.{◌≡◌, ◌≤◌, length};
     ghost use Rattle.crossbeam_channel.specs.Claims.{view as view_of, IsSeatAt};
     ghost use Rattle.crossbeam_channel.specs.Ends.{sends_on};
-    ghost use Rattle.ira_links.specs.declared.limits.TheConstants.{MAX_FRAMES};
-    ghost use Rattle.ira_links.specs.Known.{writer};
+    ghost use Rattle.ira_links.specs.Known.{IsWriter};
     ghost use Rattle.ira_links.specs.LinkEnd.{LinkEnd, name_of};
 
     ghost Value = { LinkEnd };
 
     ghost view = { λ e. record { link = name_of e.pass; frames = (view_of e.pass).put } };
 
-    ghost invariant = { λ e. IsSeatAt (sends_on e.sender) e.pass × (view_of e.pass ≡ writer (view_of e.pass).put) × (e.puts ≡ length (view_of e.pass).put) × (e.puts ≤ MAX_FRAMES) };
+    ghost invariant = { λ e. IsSeatAt (sends_on e.sender) e.pass × IsWriter e.pass e.puts };
 }
 
 impl<A: Allocator> LinkOut<A> {
@@ -39,8 +37,10 @@ impl<A: Allocator> LinkOut<A> {
     pub fn put<R: Wait>(&mut self, rt: &R, frame: Frame) -> Result<(), Frame>
         requires { is_frame frame ≡ true }
         ensures link { self.new.link ≡ self.old.link }
-        ensures frames { MatchResult result (λ _. self.new.frames ≡ self.old.frames ++ frame ∷ []) (λ back. (back ≡ frame) × (self.new.frames ≡ self.old.frames)) }
-        ensures most { IfOk result (λ _. length self.old.frames < MAX_FRAMES) }
+        ensures put { OnOk result (self.new.frames ≡ self.old.frames ++ frame ∷ []) }
+        ensures most { OnOk result (length self.old.frames < MAX_FRAMES) }
+        ensures refused { OnErr result (self.new.frames ≡ self.old.frames) }
+        ensures back { IfErr result (λ back. back ≡ frame) }
     {
         if self.puts >= MAX_FRAMES {
             return Err(frame);

@@ -68,7 +68,8 @@ impl Outcome<Frame, Known> for Takes {
     ghost use Rattle.ira_links.specs.declared.limits.TheConstants.{MAX_FRAMES};
     ghost use Rattle.ira_links.specs.Frame.{is_frame};
 
-    ghost then = { λ v x w. (w ≡ record v { taken = v.taken ++ x ∷ [] }) × (is_frame x ≡ true) × (length v.taken < MAX_FRAMES) };
+    ghost then = { λ v x w. (w ≡ record v { taken = v.taken ++ x ∷ [] })
+        × (is_frame x ≡ true) × (length v.taken < MAX_FRAMES) };
 }
 
 impl Lesson<Frame, Known> for Takes {

@@ -3,10 +3,14 @@ ghost use Rattle.ira_event.specs.Event.{is_msg};
 
 use super::*;
 use ira_event::Msg;
+use std::alloc::Global;
 use std::sync::Wait;
 use std::test::*;
 use std::thread::{self, join};
 use std::time::{Clock, Duration};
+
+// In milliseconds.
+const A_WHILE: u64 = 200;
 
 fn message(id: u32) -> Msg
     requires { (1 ≤ id) × (id ≤ 1000000) }
@@ -44,16 +48,48 @@ fn link_order_and_exhaustion(rt: HostRuntime) -> Result<(), Fail> {
     Ok(())
 }
 
+// Puts three frames at once, and a Stop a while after.
+fn put_four<R: Wait + Clock>(rt: &R, mut output: LinkOut<Global>) -> bool {
+    let mut are_accepted = true;
+    for id in 1..=3 {
+        are_accepted = are_accepted && output.put(rt, Frame::Msg(message(id))) == Ok(());
+    }
+    thread::sleep(rt, Duration::from_millis(A_WHILE));
+    are_accepted && output.put(rt, Frame::Stop) == Ok(())
+}
+
+// Takes what `put_four` puts, and begins a while after it.
+fn take_four<R: Wait + Clock>(rt: &R, mut input: LinkIn<Global>) -> bool {
+    let mut are_equal = true;
+    thread::sleep(rt, Duration::from_millis(A_WHILE));
+    for id in 1..=3 {
+        are_equal = are_equal && input.take(rt) == Ok(Frame::Msg(message(id)));
+    }
+    are_equal && input.take(rt) == Ok(Frame::Stop)
+}
+
+#[test]
+fn ends_wait_for_each_other(rt: HostRuntime) -> Result<(), Fail> {
+    let host = &rt;
+    let (output, input) = link(rt.alloc(), 1)?;
+    let both = join(
+        host,
+        move || put_four(host, output),
+        move || take_four(host, input),
+    );
+    assert_eq!(rt; both, (true, true));
+    Ok(())
+}
+
 #[test]
 fn dropped_end_wakes_the_other(rt: HostRuntime) -> Result<(), Fail> {
     let host = &rt;
-    let while_it_waits = Duration::from_millis(200);
     let (output, mut input) = link(rt.alloc(), 1)?;
     let (taken, ()) = join(
         host,
         move || input.take(host),
         move || {
-            thread::sleep(host, while_it_waits);
+            thread::sleep(host, Duration::from_millis(A_WHILE));
             drop(output);
         },
     );
@@ -66,7 +102,7 @@ fn dropped_end_wakes_the_other(rt: HostRuntime) -> Result<(), Fail> {
         host,
         move || output.put(host, frame),
         move || {
-            thread::sleep(host, while_it_waits);
+            thread::sleep(host, Duration::from_millis(A_WHILE));
             drop(input);
         },
     );

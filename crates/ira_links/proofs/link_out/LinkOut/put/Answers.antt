@@ -5,6 +5,6 @@ use Rattle.ira_links.proofs.link_out.LinkOut.put.Goals as goal
 
 pub send_as-requires-clause-rule : goal.send_as-requires-clause-rule
 send_as-requires-clause-rule g c = (
-  puts _ _ _ _ (ap (λ (v : Known). v.puts) c.self.invariant.1) (omega arith) c.requires,
+  puts _ _ _ _ (ap (λ (v : Known). v.puts) c.self.invariant.1.knows) (omega arith) c.requires,
   λ items views rule at. tt,
 )
