@@ -1,0 +1,5 @@
+pub mod Counts
+pub mod Frame
+pub mod Known
+pub mod LinkEnd
+pub mod Rule
