@@ -9,7 +9,8 @@ use Rattle.ira_node.specs.declared.node_state.NodeState.{NodeState}
 use Rattle.ira_node.specs.NodeState.{first_state}
 use Rattle.ira_replay.specs.declared.replay_fault.ReplayFault.{ReplayFault}
 use Rattle.ira_replay.specs.LocalRun.{LeadsTo}
-use Rattle.ira_main.specs.Answer.{IsAnswer, IsLogAnswer, IsFirstFault}
+use Rattle.ira_main.specs.Answer.{IsAnswer, IsLogAnswer}
+use Rattle.ira_replay.specs.LocalRun.{IsFirstFault}
 use Rattle.ira_main.specs.Report.{IsReportable}
 use Rattle.ira_main.specs.declared.answer.Reason.TheVariants as reason
 use Rattle.ira_main.specs.declared.answer.Answer.{Answer}

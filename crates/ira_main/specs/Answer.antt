@@ -3,21 +3,11 @@ use Rattle.std.specs.Prelude.{◌≡◌, ℕ, List}
 use Rattle.ira_event.specs.Log.{Log}
 use Rattle.ira_event.specs.LogText.{IsLogText}
 use Rattle.ira_event.specs.LogTextFault.{LogTextFault}
-use Rattle.ira_node.specs.declared.node_state.NodeState.{NodeState}
-use Rattle.ira_node.specs.NodeState.{first_state}
 use Rattle.ira_replay.specs.declared.replay_fault.ReplayFault.{ReplayFault}
-use Rattle.ira_replay.specs.LocalRun.{LeadsTo, StopsAt}
+use Rattle.ira_replay.specs.LocalRun.{IsLocalRun, IsFirstFault}
 use Rattle.ira_main.specs.declared.answer.Reason.TheVariants as reason
 use Rattle.ira_main.specs.declared.answer.Answer.{Answer}
 use Rattle.ira_main.specs.declared.answer.Answer.TheVariants.{Yes, No}
-
--- all events of the log have steps
-abbrev pub IsLocalRun : Log → Type 0
-IsLocalRun log = (t : NodeState) × LeadsTo log.nodes (first_state log.initiator) log.events t
-
--- the log's first event without a step, and why it has none
-abbrev pub IsFirstFault : Log → ReplayFault → Type 0
-IsFirstFault log f = StopsAt log.nodes (first_state log.initiator) log.events f
 
 -- the answer of a log
 abbrev pub IsLogAnswer : Log → Answer → Type 0

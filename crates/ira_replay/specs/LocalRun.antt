@@ -1,7 +1,9 @@
 -- Local runs: logs all of whose events have steps.
 use Rattle.std.specs.Prelude.{◌≡◌, ℕ, ◌+◌, List, [], ◌∷◌, ◌++◌, length}
 use Rattle.ira_event.specs.declared.event.Event.{Event}
+use Rattle.ira_event.specs.Log.{Log}
 use Rattle.ira_node.specs.declared.node_state.NodeState.{NodeState}
+use Rattle.ira_node.specs.NodeState.{first_state}
 use Rattle.ira_node.specs.NodeStep.{NodeStep}
 use Rattle.ira_node.specs.NodeStepFault.{NodeStepFault}
 use Rattle.ira_replay.specs.declared.replay_fault.ReplayFault.{ReplayFault}
@@ -22,3 +24,11 @@ pub record StopsAt (n : ℕ) (s : NodeState) (es : List Event) (f : ReplayFault)
   pub leads : LeadsTo n s before state
   pub position : f.position ≡ length before + 1
   pub fault : NodeStepFault n state event f.fault
+
+-- all events of the log have steps
+abbrev pub IsLocalRun : Log → Type 0
+IsLocalRun log = (t : NodeState) × LeadsTo log.nodes (first_state log.initiator) log.events t
+
+-- the log's first event without a step, and why it has none
+abbrev pub IsFirstFault : Log → ReplayFault → Type 0
+IsFirstFault log f = StopsAt log.nodes (first_state log.initiator) log.events f

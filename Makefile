@@ -1,0 +1,24 @@
+# What a newcomer types. `rt` is the command of the Rattle kit.
+
+PROGRAM = crates/ira/out/ira
+
+.PHONY: test run ira clean
+
+# The merge gate: every proof from nothing, the edits that the prover must refuse, all tests, and
+# the program as two compilers build it.
+test:
+	rt ci
+
+# Builds the program, and judges a good and a bad log.
+run: ira
+	bin/ira < examples/two_node_election/0.log
+	bin/ira < examples/two_node_election/0_draw_out_of_range.log || true
+
+# Leaves the program at bin/ira. Only a proved crate is built.
+ira:
+	cd crates/ira && rt run < /dev/null > out/build.log 2>&1 || test -x out/ira
+	mkdir -p bin
+	cp $(PROGRAM) bin/ira
+
+clean:
+	rm -rf bin crates/*/out
