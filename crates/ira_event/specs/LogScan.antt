@@ -1,4 +1,4 @@
--- How the lines of a log text are scanned: what the contracts of the reader's functions cite.
+-- Helpers, no definitions: how the lines of a log text are scanned, as the reader's contracts say.
 use Rattle.std.specs.Option.{option_map}
 use Rattle.std.specs.Prelude.{ℕ, Bool, true, false, List, Option, Some, None, codes}
 use Rattle.ira_event.specs.Scan.{kept_at, after_word, ◌>>=◌, or, behind}

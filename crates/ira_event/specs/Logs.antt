@@ -35,3 +35,11 @@ pub data HeadFaultOf (logs : List Log) (f : HeadFault) : Type 0 where
   wrong_number : ((nodes : ℕ) → ¬ (HasNumber logs nodes)) → f ≡ Number → HeadFaultOf logs f
   wrong_size : (nodes i : ℕ) → HasNumber logs nodes → IsFirstOther logs (λ _ log. log.nodes ≡ nodes) i → f ≡ Size i → HeadFaultOf logs f
   wrong_place : (nodes i : ℕ) → HasNumber logs nodes → EachLog logs (λ _ log. log.nodes ≡ nodes) → IsFirstOther logs (λ j log. log.place ≡ j) i → f ≡ Place i → HeadFaultOf logs f
+
+-- no list of logs has two head faults
+abbrev pub NoLogsHaveTwoHeadFaults : Type 0
+NoLogsHaveTwoHeadFaults = (logs : List Log) (f g : HeadFault) → HeadFaultOf logs f → HeadFaultOf logs g → f ≡ g
+
+-- the logs of a ring have no head fault
+abbrev pub NoRingHasHeadFaults : Type 0
+NoRingHasHeadFaults = (logs : List Log) (f : HeadFault) → AreLogs logs → ¬ (HeadFaultOf logs f)

@@ -1,6 +1,6 @@
 ghost use Rattle.std.specs.Prelude.{◌≡◌, ℕ, ◌<◌, ◌↔◌, List, Ok, Err, Some, MatchResult, OnOk, IfErr, length, slice_get};
 ghost use Rattle.ira_event.specs.Log.{Log, IsLog};
-ghost use Rattle.ira_event.specs.Logs.{AreLogs, EachLog, HasNumber, IsFirstOther, HeadFaultOf};
+ghost use Rattle.ira_event.specs.Logs.{AreLogs, EachLog, HasNumber, IsFirstOther, HeadFaultOf, NoLogsHaveTwoHeadFaults, NoRingHasHeadFaults};
 ghost use Rattle.ira_event.specs.RingSize.{IsRingSize};
 ghost use Rattle.ira_event.specs.declared.head_fault.HeadFault.{HeadFault};
 
@@ -105,6 +105,6 @@ impl<A: Allocator> Logs<A> {
 
 /// A list of logs has at most one fault, and none where it is the logs of one ring.
 pub fn head_fault_is_one()
-    ensures one { (logs : List Log) (f g : HeadFault) → HeadFaultOf logs f → HeadFaultOf logs g → f ≡ g }
-    ensures none { (logs : List Log) (f : HeadFault) → AreLogs logs → ¬ (HeadFaultOf logs f) }
+    ensures one { NoLogsHaveTwoHeadFaults }
+    ensures none { NoRingHasHeadFaults }
 {}

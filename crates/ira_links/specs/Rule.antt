@@ -9,12 +9,13 @@ use Rattle.ira_links.specs.declared.rule.Known.{Known}
 use Rattle.ira_links.specs.Frame.{is_frame}
 
 -- a pass that may put is the writer's and knows what was put; one that may take is the reader's and
--- knows what was taken; a spent pass may do neither
+-- knows what was taken; a spent pass may do neither. One pass may be both: before the ends are parted,
+-- and after they are joined
 pub record Knows (writer reader : ℕ) (put taken : List Frame) (pass : ℕ) (v : Known) : Type 0 where
   pub puts : v.puts ≡ true → (pass ≡ writer) × (v.put ≡ put)
   pub takes : v.takes ≡ true → (pass ≡ reader) × (v.taken ≡ taken)
 
--- what was put is what was taken and then what the queue holds; the frames are within the limits;
+-- what was put is what was taken and then what the queue holds; the frames' numbers are within the limits;
 -- and the passes know what was put and taken
 pub record IsInOrder (queue : List Frame) (views : List Known) : Type 0 where
   pub writer : ℕ

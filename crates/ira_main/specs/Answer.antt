@@ -3,7 +3,6 @@ use Rattle.std.specs.Prelude.{◌≡◌, ℕ, List}
 use Rattle.ira_event.specs.Log.{Log}
 use Rattle.ira_event.specs.LogText.{IsLogText}
 use Rattle.ira_event.specs.LogTextFault.{LogTextFault}
-use Rattle.ira_replay.specs.declared.replay_fault.ReplayFault.{ReplayFault}
 use Rattle.ira_replay.specs.LocalRun.{IsLocalRun, IsFirstFault}
 use Rattle.ira_main.specs.declared.answer.Reason.TheVariants as reason
 use Rattle.ira_main.specs.declared.answer.Answer.{Answer}

@@ -48,12 +48,12 @@ abbrev pub report_line : Answer → List ℕ
 report_line Yes = codes "yes\n"
 report_line (No reason) = reason_words reason ++ codes "\n"
 
--- the reason isn't want of memory
+-- the reason holds no want of memory
 abbrev pub IsReportableReason : Reason → Type 0
 IsReportableReason (Log number fault) = fault ≢ OutOfMemory
 IsReportableReason (Replay place position fault) = ⊤
 
--- the answer isn't want of memory
+-- the answer holds no want of memory
 abbrev pub IsReportable : Answer → Type 0
 IsReportable Yes = ⊤
 IsReportable (No reason) = IsReportableReason reason

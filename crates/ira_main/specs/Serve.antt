@@ -1,5 +1,5 @@
 -- What the program does.
-use Rattle.std.specs.Prelude.{◌≡◌, ◌⊎◌, ℕ, ◌+◌, List, Option}
+use Rattle.std.specs.Prelude.{◌≡◌, ◌⊎◌, ℕ, ◌+◌, true, List, Option}
 use Rattle.ira_event.specs.declared.limits.TheConstants.{MAX_TEXT}
 use Rattle.ira_event.specs.Sink.{Takes, StopsIn}
 use Rattle.ira_main.specs.Answer.{IsAnswer}
@@ -21,11 +21,11 @@ Reports answer taken failures taken' failures' status =
     (Takes (report_line answer) taken failures taken' failures' × (status ≡ status_number (answer_status answer)))
     ⊎ (StopsIn (report_line answer) taken failures taken' failures' × (status ≡ 2))
 
--- without words: the text that the input had left was judged, and its answer reported; or the input
--- couldn't be read, or there was no memory, and nothing was written
+-- without words: the text that the input had left was judged, and its answer reported; or a read
+-- failed, or there was no memory, and nothing was written
 pub data Judges (old new : Reads) (taken : Option (List ℕ)) (failures : ℕ) (taken' : Option (List ℕ)) (failures' : ℕ) (status : ℕ) : Type 0 where
   judged : (text : List ℕ) (answer : Answer) → IsReadTo (MAX_TEXT + 1) old new text → IsAnswer text answer → Reports answer taken failures taken' failures' status → Judges old new taken failures taken' failures' status
-  unread : IsUntouched taken failures taken' failures' → status ≡ 2 → Judges old new taken failures taken' failures' status
+  unread : new.is_over ≡ true → IsUntouched taken failures taken' failures' → status ≡ 2 → Judges old new taken failures taken' failures' status
   no_memory : IsUntouched taken failures taken' failures' → status ≡ 3 → Judges old new taken failures taken' failures' status
 
 -- with words: they were refused, and neither was the input read nor the answer's sink written to

@@ -11,7 +11,7 @@ pub enum Answer {
 /// Why the answer is no: the first reason that holds, in this order.
 #[derive(Clone, Copy, Debug, PartialEq, Eq)]
 pub enum Reason {
-    /// A text is no log's. `number` is the text's place in the list of texts, from 0.
+    /// A text is no log's. `number` is the text's number in the list of texts, from 0.
     Log {
         number: u32,
         fault: LogFault,

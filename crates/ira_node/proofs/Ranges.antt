@@ -1,7 +1,6 @@
 -- A node keeps to the numbers that a record may hold.
-use Rattle.std.proofs.Common.{◌≡◌, ℕ, ◌+◌, ◌<◌, ◌≤◌, Bool, ◌&&◌, true, refl, subst, arith}
+use Rattle.std.proofs.Common.{◌≡◌, ℕ, ◌+◌, ◌<◌, Bool, ◌&&◌, true, refl, subst, arith}
 use Rattle.std.proofs.lemmas.Bool.Decides.{nat_tests}
-use Rattle.ira_event.specs.RingSize.{IsRingSize}
 use Rattle.ira_event.specs.Event.{is_number, is_msg, is_event}
 use Rattle.ira_event.specs.declared.limits.TheConstants.{MAX_NUMBER}
 use Rattle.ira_event.specs.declared.msg.Msg.{Msg}
@@ -19,8 +18,8 @@ raised_stays m h low = grind (arith, nat_tests)
 dirtied_stays : (m : Msg) → is_msg m ≡ true → m.hop < MAX_NUMBER → is_msg (dirtied m) ≡ true
 dirtied_stays m h low = grind (arith, nat_tests)
 
-opening_stays : (n round id : ℕ) → IsRingSize n → is_number round ≡ true → 1 ≤ id → id ≤ n → is_state (owing (Active round id) (opening round id)) ≡ true
-opening_stays n round id size h low high = grind (arith, nat_tests)
+opening_stays : (round id : ℕ) → is_number round ≡ true → is_number id ≡ true → is_state (owing (Active round id) (opening round id)) ≡ true
+opening_stays round id h k = rw (h, k) refl
 
 next_round_stays : (round : ℕ) → round < MAX_NUMBER → is_number (round + 1) ≡ true
 next_round_stays round h = grind (arith, nat_tests)
@@ -34,17 +33,17 @@ first_of_both a b h = grind (arith, nat_tests)
 second_of_both : (a b : Bool) → (a && b) ≡ true → b ≡ true
 second_of_both a b h = grind (arith, nat_tests)
 
-pub stays : (n : ℕ) (s : NodeState) (e : Event) (t : NodeState) → IsRingSize n → is_state s ≡ true → is_event e ≡ true → NodeStep n s e t → is_state t ≡ true
-stays n s e t size h k (sends m runs o ee et) = rw et (both _ _ (first_of_both _ _ h) refl)
-stays n s e t size h k (draws round id es ee lo hi et) =
-    rw et (opening_stays n round id size (first_of_both _ _ (subst (λ x. is_state x ≡ true) es h)) lo hi)
-stays n s e t size h k (passes m es ee low et) = rw et (raised_stays m (subst (λ x. is_event x ≡ true) ee k) low)
-stays n s e t size h k (gives_in round id m es ee g low et) = rw et (raised_stays m (subst (λ x. is_event x ≡ true) ee k) low)
-stays n s e t size h k (purges round id m es ee g et) = rw et h
-stays n s e t size h k (meets round id m es ee g short low et) =
+pub stays : (n : ℕ) (s : NodeState) (e : Event) (t : NodeState) → is_state s ≡ true → is_event e ≡ true → NodeStep n s e t → is_state t ≡ true
+stays n s e t h k (sends m runs o ee et) = rw et (both _ _ (first_of_both _ _ h) refl)
+stays n s e t h k (draws round id es ee lo hi et) =
+    rw et (opening_stays round id (first_of_both _ _ (subst (λ x. is_state x ≡ true) es h)) (subst (λ x. is_event x ≡ true) ee k))
+stays n s e t h k (passes m es ee low et) = rw et (raised_stays m (subst (λ x. is_event x ≡ true) ee k) low)
+stays n s e t h k (gives_in round id m es ee g low et) = rw et (raised_stays m (subst (λ x. is_event x ≡ true) ee k) low)
+stays n s e t h k (purges round id m es ee g et) = rw et h
+stays n s e t h k (meets round id m es ee g short low et) =
     rw et (both _ _ (first_of_both _ _ (subst (λ x. is_state x ≡ true) es h)) (dirtied_stays m (subst (λ x. is_event x ≡ true) ee k) low))
-stays n s e t size h k (ties round id m es ee g whole d low et) = rw et (both _ _ (next_round_stays round low) refl)
-stays n s e t size h k (wins round id m es ee g whole d et) = rw et (subst (λ x. is_state x ≡ true) es h)
+stays n s e t h k (ties round id m es ee g whole d low et) = rw et (both _ _ (next_round_stays round low) refl)
+stays n s e t h k (wins round id m es ee g whole d et) = rw et (subst (λ x. is_state x ≡ true) es h)
 
 pub sendings : (n : ℕ) (s : NodeState) (m : Msg) (t : NodeState) → is_state s ≡ true → NodeStep n s (Sent m) t → is_msg m ≡ true
 sendings n s m t h (sends k runs o ee et) =

@@ -1,7 +1,7 @@
--- The node step: in a ring of n nodes the event leads a node from state s to state t. One rule for
--- each rule of the algorithm of Itai and Rodeh, in the form with round numbers (Symmetry breaking in
--- distributed networks, Information and Computation 88, 1990). Rounds and hops stay within the
--- limit on the numbers of a record.
+-- The node step: in a ring of n nodes the event leads a node from state s to state t. One constructor
+-- for each kind of step of the algorithm of Itai and Rodeh, in the form with round numbers (Symmetry
+-- breaking in distributed networks, Information and Computation 88, 1990). What a node does with its
+-- own pair is this project's telling of it, and so is the limit on rounds and hops.
 use Rattle.std.specs.Prelude.{◌≡◌, ℕ, ◌+◌, ◌<◌, ◌≤◌, true, false, Some}
 use Rattle.ira_event.specs.declared.limits.TheConstants.{MAX_NUMBER}
 use Rattle.ira_event.specs.declared.msg.Msg.{Msg}

@@ -5,7 +5,7 @@ pub fn one_next_state()
     ensures { OneNextState }
 {}
 
-/// A law: an event has at most one fault, so the order in which faults are looked for is open.
+/// A law: an event has at most one fault, so code may look for them in any order.
 pub fn one_fault()
     ensures { OneFault }
 {}

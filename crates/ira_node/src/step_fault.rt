@@ -1,7 +1,7 @@
 use thiserror::Error;
 
-/// Why an event has no step. A leader's reason comes before that of a debt, and both before those of
-/// the event's numbers, so that an event has one reason at most.
+/// Why an event has no step. A leader's reason comes before that of a debt, and both before all
+/// others, so that an event has one reason at most.
 #[derive(Clone, Copy, Debug, PartialEq, Eq, Error)]
 pub enum StepFault {
     /// The node owes a message, and the event is no sending.
