@@ -12,12 +12,12 @@ test:
 # Builds the program, and judges a good and a bad log.
 run: ira
 	bin/ira < examples/two_node_election/0.log
-	bin/ira < examples/two_node_election/0_draw_out_of_range.log || true
+	bin/ira < examples/two_node_election/0_draw_out_of_range.log || test $$? -eq 1
 
 # Leaves the program at bin/ira. Only a proved crate is built.
 ira:
-	cd crates/ira && rt run < /dev/null > out/build.log 2>&1 || test -x out/ira
 	mkdir -p bin
+	cd crates/ira && rt run < ../../examples/two_node_election/0.log > ../../bin/build.log 2>&1 || { tail -20 ../../bin/build.log; exit 1; }
 	cp $(PROGRAM) bin/ira
 
 clean:
