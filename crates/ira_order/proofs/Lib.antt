@@ -1,2 +1,10 @@
+pub mod Bridge
+pub mod Cuts
 pub mod Faults
+pub mod Orders
 pub mod Pairing
+pub mod Places
+pub mod Ranks
+pub mod Rounds
+pub mod Scanning
+pub mod Stuck

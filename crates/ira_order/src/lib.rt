@@ -1,10 +1,15 @@
 //! The logs of a ring judged together: whether receipts match sendings, and an order of all events.
 #![tactic(auto)]
 
+mod find_order;
 mod links;
 mod match_fault;
 mod order_fault;
+mod ordered;
+mod scan;
 
-pub use match_fault::MatchFault;
+pub use find_order::order;
 pub use links::match_links;
+pub use match_fault::MatchFault;
 pub use order_fault::OrderFault;
+pub use ordered::Ordered;
