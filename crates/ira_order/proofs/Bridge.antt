@@ -143,3 +143,9 @@ order_schedule logs order two matches o = record {
   schedule = record { places = o.places; within = λ i l. omega (arith, o.whole i l); kept = order_kept logs order two matches o };
   whole = o.whole;
 }
+
+-- events that happened before one another are of nodes of the ring
+pub before_places : (logs : List Log) (i a j b : ℕ) → Before logs i a j b → (i < length logs) × (j < length logs)
+before_places logs i a j b (own e l one lower upper) = rw (← e) (l, l)
+before_places logs i a j b (message e pair) = rw (← e) (pair.link, next_below (length logs) i pair.link)
+before_places logs i a j b (onward f g) = (let x = before_places logs _ _ _ _ f in let y = before_places logs _ _ _ _ g in (x.0, y.1))

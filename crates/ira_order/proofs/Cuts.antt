@@ -8,18 +8,18 @@ use Rattle.ira_order.specs.Ring.{log_of, next}
 use Rattle.ira_order.specs.Matching.{sending, receipt, Matches}
 use Rattle.ira_order.specs.Order.{standings, IsOrder}
 use Rattle.ira_order.specs.Counts.{IsKept, Covers, IsWholeSchedule}
-use Rattle.ira_order.specs.Cut.{HoldsAllBefore, IsCut}
-use Rattle.ira_order.proofs.Ranks.{lt_cases, eq_cases, rank_mono, next_below}
-use Rattle.ira_order.proofs.Bridge.{consistent_covers, order_schedule, kept_order}
+use Rattle.ira_order.specs.Cut.{HoldsAllBefore, IsCut, IsConsistentCut}
+use Rattle.ira_order.proofs.Ranks.{lt_cases, eq_cases, rank_mono, next_below, standings-take-le}
+use Rattle.ira_order.proofs.Bridge.{consistent_covers, covers_consistent, order_schedule, order_kept, kept_order, before_places}
 use Rattle.std.proofs.lemmas.List.{take-append-le, take_at}
 use Rattle.std.proofs.lemmas.List.Elements.{All-cons, All-head, All-tail, All-append}
 use Rattle.std.proofs.lemmas.List.Sums.{sum_by-cons, sum_by-append}
 use Rattle.std.proofs.lemmas.Bool.{ne_eqb, eq-eqb}
 
-cons_same : (i j : ℕ) (s : List ℕ) → i ≡ j → standings (i ∷ s) j ≡ 1 + standings s j
+pub cons_same : (i j : ℕ) (s : List ℕ) → i ≡ j → standings (i ∷ s) j ≡ 1 + standings s j
 cons_same i j s e = sum_by-cons _ i s ∙ rw (eq-eqb i j e) refl
 
-cons_other : (i j : ℕ) (s : List ℕ) → i ≢ j → standings (i ∷ s) j ≡ standings s j
+pub cons_other : (i j : ℕ) (s : List ℕ) → i ≢ j → standings (i ∷ s) j ≡ standings s j
 cons_other i j s e = sum_by-cons _ i s ∙ rw (ne_eqb i j e) (omega arith)
 
 pub standings-append : (a b : List ℕ) (i : ℕ) → standings (a ++ b) i ≡ standings a i + standings b i
@@ -191,3 +191,13 @@ cut_moment logs s cut two matches order is consistent =
       omega (arith, length-append (inside c s) (outside c s)),
       λ i l. ap (λ (x : List ℕ). standings x i) (take_at (inside c s) (outside c s) (length (inside c s)) refl) ∙ inside_count c s i ∙ omega (arith, within i l),
     )
+
+-- the numbers of the places in a beginning of an order are a consistent cut
+pub moment_cut : (logs : List Log) (order cut : List ℕ) (t : ℕ) → 2 ≤ length logs → Matches logs → IsOrder logs order → t ≤ length order → length cut ≡ length logs → ((i : ℕ) → i < length logs → slice_index cut i ≡ standings (take t order) i) → IsConsistentCut logs cut
+moment_cut logs order cut t two matches o lt long are = (
+  record { places = long; within = λ i l. omega (arith, are i l, standings-take-le order t i, o.whole i l) },
+  λ i a j b before held.
+      let p = before_places logs i a j b before in
+      let h : b ≤ standings (take t order) j = omega (arith, held, are j p.1) in
+      omega (arith, are i p.0, covers_consistent logs (standings (take t order)) (order_kept logs order two matches o t lt) i a j b before h),
+)

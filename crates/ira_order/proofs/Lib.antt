@@ -1,4 +1,5 @@
 pub mod Bridge
+pub mod Converse
 pub mod Cuts
 pub mod Faults
 pub mod Orders
@@ -6,5 +7,7 @@ pub mod Pairing
 pub mod Places
 pub mod Ranks
 pub mod Rounds
+pub mod Runs
+pub mod RunsOfLogs
 pub mod Scanning
 pub mod Stuck

@@ -42,6 +42,11 @@ paired_below from to begin gots sents g s k h m p =
     let below : numbered begin k ≡ Some m = sym (numbered-append begin gots k h) ∙ sym (ap (λ (x : List Msg). numbered x k) g) ∙ p in
     ap (λ (x : List Msg). numbered x k) s ∙ numbered-append begin sents k h ∙ below
 
+-- where what was received begins what was sent, each receipt is paired
+pub all_begun : (writer reader : List Event) (rest : List Msg) → got reader ++ rest ≡ sent writer → (k : ℕ) → IsPaired writer reader k
+all_begun writer reader rest s k m p =
+    paired_below writer reader (got reader) [] rest (sym (append-nil (got reader))) (sym s) k (numbered-within (got reader) k m p) m p
+
 pub no_sending : (from to : List Event) (begin gots : List Msg) (m : Msg) → got to ≡ begin ++ (m ∷ gots) → sent from ≡ begin → HasNoSending from to (suc (length begin))
 no_sending from to begin gots m g s = (
   m,

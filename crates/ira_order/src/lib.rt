@@ -2,6 +2,7 @@
 #![tactic(auto)]
 
 mod find_order;
+mod laws;
 mod links;
 mod match_fault;
 mod order_fault;
@@ -9,6 +10,9 @@ mod ordered;
 mod scan;
 
 pub use find_order::order;
+pub use laws::{
+    cuts_are_moments, moments_are_cuts, orders_are_runs, orders_mean_events, runs_are_orders,
+};
 pub use links::match_links;
 pub use match_fault::MatchFault;
 pub use order_fault::OrderFault;
