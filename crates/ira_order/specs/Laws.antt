@@ -1,9 +1,15 @@
 -- Laws of orders, cuts and runs.
-use Rattle.std.specs.Prelude.{◌≡◌, ◌≤◌, ◌<◌, ℕ, List, length, slice_index, take, map}
+use Rattle.std.specs.Prelude.{◌≡◌, ◌≤◌, ◌<◌, ℕ, List, length, slice_index, take, map, slice_get, Some}
 use Rattle.ira_event.specs.declared.event.Event.{Event}
 use Rattle.ira_event.specs.Log.{Log}
 use Rattle.ira_event.specs.Logs.{AreLogs}
+use Rattle.ira_node.specs.NodeState.{first_state}
+use Rattle.ira_replay.specs.declared.replay_fault.ReplayFault.{ReplayFault}
+use Rattle.ira_replay.specs.LocalRun.{StopsAt}
+use Rattle.ira_order.specs.declared.match_fault.MatchFault.{MatchFault}
 use Rattle.ira_order.specs.Matching.{Matches}
+use Rattle.ira_order.specs.MatchFault.{IsMatchFault}
+use Rattle.ira_order.specs.Circle.{HasCircle}
 use Rattle.ira_order.specs.Order.{IsOrder, standings}
 use Rattle.ira_order.specs.Cut.{IsConsistentCut}
 use Rattle.ira_order.specs.Run.{IsRingRun, IsRunOfLogs, AreLocalRuns}
@@ -29,6 +35,23 @@ abbrev pub RunsAreOrders : Type 0
 RunsAreOrders =
     (logs : List Log) (run : List (ℕ × Event)) → AreLogs logs → IsRingRun logs run → IsRunOfLogs logs run
     → Matches logs × AreLocalRuns logs × IsOrder logs (places_of run)
+
+-- logs with a fault of matching are the logs of no run of the ring
+abbrev pub UnmatchedLogsHaveNoRun : Type 0
+UnmatchedLogsHaveNoRun =
+    (logs : List Log) (f : MatchFault) (run : List (ℕ × Event)) → AreLogs logs → IsMatchFault logs f → IsRingRun logs run
+    → ¬ (IsRunOfLogs logs run)
+
+-- logs that match and have no order are the logs of no run of the ring
+abbrev pub CircledLogsHaveNoRun : Type 0
+CircledLogsHaveNoRun =
+    (logs : List Log) (run : List (ℕ × Event)) → AreLogs logs → HasCircle logs → IsRingRun logs run → ¬ (IsRunOfLogs logs run)
+
+-- logs one of which has an event without a node step are the logs of no run of the ring
+abbrev pub FaultyLogsHaveNoRun : Type 0
+FaultyLogsHaveNoRun =
+    (logs : List Log) (i : ℕ) (log : Log) (f : ReplayFault) (run : List (ℕ × Event)) → AreLogs logs → slice_get logs i ≡ Some log
+    → StopsAt log.nodes (first_state log.initiator) log.events f → IsRingRun logs run → ¬ (IsRunOfLogs logs run)
 
 -- the numbers of the places in a beginning of an order are a consistent cut
 abbrev pub MomentsAreCuts : Type 0

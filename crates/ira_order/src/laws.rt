@@ -1,4 +1,4 @@
-ghost use Rattle.ira_order.specs.Laws.{OrdersMeanEvents, OrdersAreRuns, RunsAreOrders, MomentsAreCuts, CutsAreMoments};
+ghost use Rattle.ira_order.specs.Laws.{OrdersMeanEvents, OrdersAreRuns, RunsAreOrders, UnmatchedLogsHaveNoRun, CircledLogsHaveNoRun, FaultyLogsHaveNoRun, MomentsAreCuts, CutsAreMoments};
 
 /// A law: an order means a list of events.
 pub fn orders_mean_events()
@@ -11,10 +11,17 @@ pub fn orders_are_runs()
 {}
 
 /// A law: the logs of a run of the ring match, all their events have node steps, and the run's places
-/// are an order of them. So logs that don't match, have a circle, or have an event without a node
-/// step are the logs of no run.
+/// are an order of them.
 pub fn runs_are_orders()
     ensures { RunsAreOrders }
+{}
+
+/// A law: logs that don't match, that have a circle, or that have an event without a node step are
+/// the logs of no run of the ring.
+pub fn refused_logs_have_no_run()
+    ensures unmatched { UnmatchedLogsHaveNoRun }
+    ensures circled { CircledLogsHaveNoRun }
+    ensures faulty { FaultyLogsHaveNoRun }
 {}
 
 /// A law: a beginning of an order is a consistent cut (Mattern, Virtual Time and Global States of

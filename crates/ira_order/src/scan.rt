@@ -105,8 +105,9 @@ impl<A: Allocator> Scan<A> {
         Ok(())
     }
 
-    /// Runs each node in turn. Links lead from a node to the next, so in each round but the first and
-    /// the last every node gets on, and a round costs no more than the events that it adds.
+    /// Runs each node in turn. After the first round a node can get on only behind the one before it,
+    /// and node 0 only behind the last one; so every node gets on in each round but the first and the
+    /// last two, and the rounds cost no more than the events and a few times the nodes.
     fn round(&mut self, logs: &Logs<A>) -> Result<(), AllocError>
         requires scan { IsScan logs.now self.old.done.items self.old.sent.items self.old.got.items self.old.places.items }
         ensures scan { OnOk result (IsScan logs.now self.new.done.items self.new.sent.items self.new.got.items self.new.places.items) }
