@@ -1,7 +1,6 @@
 -- A run of the ring: its places are an order, and its links match.
-use Rattle.std.proofs.Common.{◌≡◌, ◌≢◌, ℕ, zero, suc, ◌+◌, ◌-◌, ◌<◌, ◌≤◌, ◌⊎◌, inl, inr, List, [], ◌∷◌, ◌++◌, length, refl, sym, ◌∙◌, ap, arith, get_or, take, drop, Option, Some, None, add-one, append-nil, append_assoc, length-append, subst}
+use Rattle.std.proofs.Common.{◌≡◌, ◌≢◌, ℕ, ◌+◌, ◌<◌, ◌≤◌, inl, inr, List, [], ◌∷◌, ◌++◌, length, refl, sym, ◌∙◌, ap, arith, get_or, take, drop, Some, append-nil, append_assoc, length-append, subst}
 use Rattle.std.specs.Prelude.{slice_get}
-use Rattle.std.specs.List.{filter_map, cons_option}
 use Rattle.ira_event.specs.declared.event.Event.{Event}
 use Rattle.ira_event.specs.declared.msg.Msg.{Msg}
 use Rattle.ira_event.specs.Log.{Log}
@@ -10,9 +9,9 @@ use Rattle.ira_order.specs.Ring.{log_of, next, prev}
 use Rattle.ira_order.specs.Matching.{sent, got, sending, receipt, Matches}
 use Rattle.ira_order.specs.Order.{standings}
 use Rattle.ira_order.specs.Counts.{IsWhole, IsKept}
-use Rattle.ira_order.specs.Run.{Configuration, LinkStep, RingStep, Chains, opening}
-use Rattle.ira_order.proofs.Ranks.{lt_cases, eq_cases, next_other, next_below, standings_same, standings_other}
-use Rattle.ira_order.proofs.Runs.{next_prev, prev_next, prev_below, Means}
+use Rattle.ira_order.specs.Run.{Configuration, LinkStep, Chains, opening}
+use Rattle.ira_order.proofs.Ranks.{eq_cases, next_below, standings_same, standings_other}
+use Rattle.ira_order.proofs.Runs.{next_prev, prev_next, Means}
 use Rattle.ira_order.proofs.Pairing.{all_begun}
 use Rattle.std.proofs.lemmas.List.Elements.{filter_map-append}
 use Rattle.std.proofs.lemmas.Option.{slice_get-get_or, get_or_from_slice_get, slice_get_within}

@@ -1,13 +1,12 @@
 -- Logs have at most one fault of matching, and none where they match.
-use Rattle.std.proofs.Common.{◌≡◌, ℕ, ◌<◌, ◌≤◌, ◌⊎◌, ◌↔◌, List, inl, inr, length, refl, sym, ◌∙◌, ap, arith, subst, Some, None, Ok, Err, Result}
+use Rattle.std.proofs.Common.{◌≡◌, ℕ, ◌<◌, ◌≤◌, ◌⊎◌, ◌↔◌, List, inl, inr, length, sym, ◌∙◌, ap, arith, subst, Some, None, Ok, Err, Result}
 use Rattle.std.specs.Prelude.{IsOk, slice_get}
-use Rattle.ira_event.specs.declared.msg.Msg.{Msg}
 use Rattle.ira_event.specs.declared.event.Event.{Event}
 use Rattle.ira_event.specs.Log.{Log}
 use Rattle.ira_order.specs.declared.match_fault.MatchFault.{MatchFault}
 use Rattle.ira_order.specs.declared.match_fault.MatchFault.TheVariants.{NoSending, Differs}
 use Rattle.ira_order.specs.Ring.{numbered, log_of, next, events_of}
-use Rattle.ira_order.specs.Matching.{sent, got, IsPaired, LinkMatches, Matches}
+use Rattle.ira_order.specs.Matching.{sent, IsPaired, LinkMatches, Matches}
 use Rattle.ira_order.specs.MatchFault.{HasNoSending, HasOther, IsLinkFault, IsMatchFault}
 
 module _ (writer reader : List Event) where

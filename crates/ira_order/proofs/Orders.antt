@@ -1,8 +1,7 @@
 -- What the search for an order answers.
-use Rattle.std.proofs.Common.{◌≡◌, ◌≢◌, ℕ, ◌<◌, ◌≤◌, ◌↔◌, List, length, get_or, refl, sym, ◌∙◌, ap, subst, Ok, Err, Result}
+use Rattle.std.proofs.Common.{◌≡◌, ◌≢◌, ℕ, ◌<◌, ◌≤◌, ◌↔◌, List, length, get_or, refl, ◌∙◌, ap, subst, Ok, Err, Result}
 use Rattle.std.specs.Prelude.{IsOk}
 use Rattle.ira_event.specs.Log.{Log}
-use Rattle.ira_event.specs.Logs.{AreLogs}
 use Rattle.ira_order.specs.declared.match_fault.MatchFault.{MatchFault}
 use Rattle.ira_order.specs.declared.order_fault.OrderFault.{OrderFault}
 use Rattle.ira_order.specs.declared.order_fault.OrderFault.TheVariants.{Match, Circle, OutOfMemory}
@@ -11,7 +10,7 @@ use Rattle.ira_order.specs.Matching.{Matches}
 use Rattle.ira_order.specs.MatchFault.{IsMatchFault}
 use Rattle.ira_order.specs.Order.{standings, IsOrder}
 use Rattle.ira_order.specs.Circle.{HasCircle}
-use Rattle.ira_order.specs.Ordered.{Ordered, IsOrdered}
+use Rattle.ira_order.specs.Ordered.{IsOrdered}
 use Rattle.ira_order.specs.Scan.{IsScan, IsStuckAt}
 use Rattle.ira_order.proofs.Faults.{one_fault, unmatched}
 use Rattle.ira_order.proofs.Rounds.{no_order, whole_order}

@@ -1,16 +1,14 @@
 -- Receipts and sendings, as lists of messages.
-use Rattle.std.proofs.Common.{◌≡◌, ◌≢◌, ℕ, zero, suc, ◌+◌, ◌<◌, ◌≤◌, inl, inr, List, [], ◌∷◌, ◌++◌, length, refl, sym, ◌∙◌, ap, arith, Option, Some, None, append-nil, append_assoc, length-append, subst, Bool, true, false, not, ◌&&◌, nat_eq}
+use Rattle.std.proofs.Common.{◌≡◌, ◌≢◌, ℕ, zero, suc, ◌+◌, ◌<◌, ◌≤◌, List, [], ◌∷◌, ◌++◌, length, refl, sym, ◌∙◌, ap, arith, Some, None, append-nil, append_assoc, length-append, subst, Bool, true, false, not, ◌&&◌, nat_eq}
 use Rattle.std.proofs.lemmas.Bool.Decides.{nat_tests}
 use mathlib.Core.Bool.{beq}
 use Rattle.ira_event.specs.declared.msg.Msg.{Msg}
 use Rattle.ira_event.specs.declared.event.Event.{Event}
 use Rattle.ira_event.specs.declared.event.Event.TheVariants.{Draw, Sent, Got}
-use Rattle.ira_event.specs.Log.{Log}
-use Rattle.ira_order.specs.declared.match_fault.MatchFault.{MatchFault}
 use Rattle.ira_order.specs.declared.match_fault.MatchFault.TheVariants.{NoSending, Differs}
-use Rattle.ira_order.specs.Ring.{numbered, log_of, next}
-use Rattle.ira_order.specs.Matching.{sent, got, receipt, IsPaired, LinkMatches, Matches}
-use Rattle.ira_order.specs.MatchFault.{HasNoSending, HasOther, IsLinkFault, IsMatchFault}
+use Rattle.ira_order.specs.Ring.{numbered}
+use Rattle.ira_order.specs.Matching.{sent, got, IsPaired}
+use Rattle.ira_order.specs.MatchFault.{HasNoSending, HasOther, IsLinkFault}
 
 -- a member of a beginning is that member of the whole
 pub numbered-append : (xs ys : List Msg) (k : ℕ) → k ≤ length xs → numbered (xs ++ ys) k ≡ numbered xs k
@@ -62,7 +60,6 @@ has_other from to begin gots sents m n g s d = (
   ap (λ (x : List Msg). numbered x (suc (length begin))) s ∙ numbered-after begin sents n,
   d,
 )
-
 
 -- the test of two messages, and what it finds
 abbrev same_msg : Msg → Msg → Bool

@@ -4,7 +4,6 @@ use Rattle.ira_order.specs.Ring.{next}
 use Rattle.ira_order.specs.Order.{standings}
 use Rattle.ira_event.specs.declared.event.Event.{Event}
 use Rattle.ira_event.specs.declared.msg.Msg.{Msg}
-use Rattle.ira_event.specs.Log.{Log}
 use Rattle.std.specs.List.{filter_map, cons_option}
 use Rattle.std.proofs.lemmas.Bool.{ne_eqb}
 use Rattle.std.proofs.lemmas.Bool.Decides.{eqb_tells, nat_tests}

@@ -1,5 +1,5 @@
 -- Runs of logs: what an order means, and what the places of a run are.
-use Rattle.std.proofs.Common.{◌≡◌, ◌≢◌, ℕ, zero, suc, ◌+◌, ◌<◌, ◌≤◌, ◌⊎◌, inl, inr, List, [], ◌∷◌, length, refl, sym, ◌∙◌, ap, arith, get_or, take, drop, Bool, true, false, Option, Some, None, add-one, cond, ◌==◌, subst, map, slice_get}
+use Rattle.std.proofs.Common.{◌≡◌, ◌≢◌, ℕ, zero, suc, ◌+◌, ◌<◌, ◌≤◌, inl, inr, List, [], ◌∷◌, length, refl, sym, ◌∙◌, ap, arith, get_or, take, drop, false, Option, Some, None, cond, ◌==◌, subst, slice_get}
 use Rattle.std.specs.List.{filter_map, cons_option}
 use Rattle.std.specs.Prelude.{All}
 use Rattle.ira_event.specs.declared.event.Event.{Event}
@@ -14,7 +14,7 @@ use Rattle.ira_order.specs.Ring.{log_of, events_of}
 use Rattle.ira_order.specs.Matching.{Matches}
 use Rattle.ira_order.specs.Order.{standings, IsOrder}
 use Rattle.ira_order.specs.Counts.{IsWhole, IsWholeSchedule}
-use Rattle.ira_order.specs.Run.{Configuration, RingStep, Chains, opening, is_initiator, event_of, IsRingRun, IsRunOfLogs, AreLocalRuns}
+use Rattle.ira_order.specs.Run.{Configuration, Chains, opening, is_initiator, event_of, IsRingRun, IsRunOfLogs, AreLocalRuns}
 use Rattle.ira_order.specs.Laws.{places_of}
 use Rattle.ira_order.proofs.Ranks.{eq_cases}
 use Rattle.ira_order.proofs.Cuts.{cons_same, cons_other}
@@ -25,7 +25,7 @@ use Rattle.std.proofs.lemmas.Bool.{ne_eqb, eq-eqb}
 use Rattle.std.proofs.lemmas.List.{take_all, drop_more, length-map}
 use Rattle.std.specs.Option.{option_map}
 use Rattle.std.proofs.lemmas.List.Elements.{All-nil, All-cons}
-use Rattle.std.proofs.lemmas.Option.{slice_get-get_or, get_or_from_slice_get, slice_get_within, slice_get-map}
+use Rattle.std.proofs.lemmas.Option.{get_or_from_slice_get, slice_get_within, slice_get-map}
 
 -- ---- the events of one node
 

@@ -1,7 +1,5 @@
 -- Where no place can go on and one is not at its end, there is no order.
 use Rattle.std.proofs.Common.{◌≡◌, ◌≢◌, ℕ, zero, suc, ◌+◌, ◌<◌, ◌≤◌, inl, inr, List, length, sym, ◌∙◌, arith, get_or, take, add-one}
-use Rattle.ira_event.specs.declared.event.Event.{Event}
-use Rattle.ira_event.specs.declared.msg.Msg.{Msg}
 use Rattle.ira_event.specs.Log.{Log}
 use Rattle.std.specs.Prelude.{All}
 use Rattle.ira_order.specs.Ring.{log_of, next}

@@ -1,6 +1,6 @@
 -- Runs of a ring of nodes that follow the algorithm of Itai and Rodeh (Symmetry breaking in
 -- distributed networks, Information and Computation 88, 1990).
-use Rattle.std.specs.Prelude.{◌≡◌, ◌≢◌, ℕ, ◌<◌, ◌==◌, List, [], ◌∷◌, ◌++◌, Bool, true, false, Option, Some, None, length, slice_get, cond}
+use Rattle.std.specs.Prelude.{◌≡◌, ◌≢◌, ℕ, ◌<◌, ◌==◌, List, [], ◌∷◌, ◌++◌, Bool, false, Option, Some, None, length, slice_get, cond}
 use Rattle.std.specs.List.{filter_map}
 use Rattle.ira_event.specs.declared.msg.Msg.{Msg}
 use Rattle.ira_event.specs.declared.event.Event.{Event}

@@ -1,6 +1,5 @@
-use Rattle.std.proofs.Common.{◌≡◌, ℕ, ◌<◌, ◌≤◌, Ok, Err, length, get_or, refl, rules}
+use Rattle.std.proofs.Common.{◌≡◌, Ok, Err, refl, rules}
 use Rattle.ira_order.specs.declared.order_fault.OrderFault.TheVariants.{Match, Circle, OutOfMemory}
-use Rattle.ira_order.specs.Ring.{log_of}
 use Rattle.ira_order.specs.Matching.{Matches}
 use Rattle.ira_order.specs.Circle.{HasCircle}
 use Rattle.ira_order.specs.MatchFault.{IsMatchFault}

@@ -1,4 +1,4 @@
-use Rattle.std.proofs.Common.{◌≡◌, Ok, Err, refl}
+use Rattle.std.proofs.Common.{Ok, refl}
 use Rattle.ira_node.specs.NodeState.{first_state}
 use Rattle.ira_replay.specs.StatesLeft.{replayed}
 use Rattle.ira_replay.proofs.Along.{leads_exactly, stops_exactly}

@@ -1,6 +1,6 @@
 use Rattle.std.proofs.Common.{◌≡◌, ◌≢◌, [], ◌∷◌, rules}
 use Rattle.ira_event.specs.declared.event.Event.TheVariants.{Got}
-use Rattle.ira_order.proofs.Pairing.{PairedSoFar, same_means, differ_means, paired_more, paired_all, missing_at, other_at}
+use Rattle.ira_order.proofs.Pairing.{PairedSoFar, same_means, differ_means, paired_more, paired_all, other_at}
 use Rattle.ira_order.proofs.links.match_link.Goals as goal
 
 pub returns-then-ne : goal.returns-then-ne

@@ -1,4 +1,4 @@
-use Rattle.std.proofs.Common.{◌≡◌, ◌≤◌, Some, length, get_or, slice_get, arith, rules}
+use Rattle.std.proofs.Common.{◌≡◌, Some, get_or, slice_get, arith, rules}
 use Rattle.ira_order.proofs.Scanning.{scan_step_read, got_within, sent_within, at_within, few_events, got_by_le, sent_by_le}
 use Rattle.ira_order.proofs.scan.Scan.advance.Goals as goal
 

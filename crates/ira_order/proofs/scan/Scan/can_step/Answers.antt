@@ -1,4 +1,4 @@
-use Rattle.std.proofs.Common.{◌≡◌, ◌≤◌, Some, length, get_or, slice_get, arith, rules}
+use Rattle.std.proofs.Common.{◌≡◌, Some, length, get_or, slice_get, arith, rules}
 use Rattle.ira_order.proofs.Scanning.{can_step_read, cannot_step, got_within, at_within, few_events, got_by_le}
 use Rattle.ira_order.proofs.scan.Scan.can_step.Goals as goal
 use Rattle.ira_order.proofs.scan.Scan.can_step.Goals.{then-i-eq0, else-i-eq0}
