@@ -1,0 +1,13 @@
+pub mod Bridge
+pub mod Converse
+pub mod Cuts
+pub mod Faults
+pub mod Orders
+pub mod Pairing
+pub mod Places
+pub mod Ranks
+pub mod Rounds
+pub mod Runs
+pub mod RunsOfLogs
+pub mod Scanning
+pub mod Stuck

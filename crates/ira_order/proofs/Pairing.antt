@@ -1,0 +1,129 @@
+-- Receipts and sendings, as lists of messages.
+use Rattle.std.proofs.Common.{◌≡◌, ◌≢◌, ℕ, zero, suc, ◌+◌, ◌<◌, ◌≤◌, List, [], ◌∷◌, ◌++◌, length, refl, sym, ◌∙◌, ap, arith, Some, None, append-nil, append_assoc, length-append, subst, Bool, true, false, not, ◌&&◌, nat_eq}
+use Rattle.std.proofs.lemmas.Bool.Decides.{nat_tests}
+use mathlib.Core.Bool.{beq}
+use Rattle.ira_event.specs.declared.msg.Msg.{Msg}
+use Rattle.ira_event.specs.declared.event.Event.{Event}
+use Rattle.ira_event.specs.declared.event.Event.TheVariants.{Draw, Sent, Got}
+use Rattle.ira_order.specs.declared.match_fault.MatchFault.TheVariants.{NoSending, Differs}
+use Rattle.ira_order.specs.Ring.{numbered}
+use Rattle.ira_order.specs.Matching.{sent, got, IsPaired}
+use Rattle.ira_order.specs.MatchFault.{HasNoSending, HasOther, IsLinkFault}
+
+-- a member of a beginning is that member of the whole
+pub numbered-append : (xs ys : List Msg) (k : ℕ) → k ≤ length xs → numbered (xs ++ ys) k ≡ numbered xs k
+numbered-append xs ys zero h = refl
+numbered-append [] ys (suc k) h = absurd (omega arith)
+numbered-append (x ∷ xs) ys (suc zero) h = refl
+numbered-append (x ∷ xs) ys (suc (suc k)) h = numbered-append xs ys (suc k) (omega arith)
+
+-- the member after a beginning
+pub numbered-after : (xs ys : List Msg) (y : Msg) → numbered (xs ++ (y ∷ ys)) (suc (length xs)) ≡ Some y
+numbered-after [] ys y = refl
+numbered-after (x ∷ xs) ys y = numbered-after xs ys y
+
+pub numbered-past : (xs : List Msg) (k : ℕ) → length xs < k → numbered xs k ≡ None
+numbered-past xs zero h = refl
+numbered-past [] (suc k) h = refl
+numbered-past (x ∷ xs) (suc zero) h = absurd (omega arith)
+numbered-past (x ∷ xs) (suc (suc k)) h = numbered-past xs (suc k) (omega arith)
+
+pub numbered-within : (xs : List Msg) (k : ℕ) (m : Msg) → numbered xs k ≡ Some m → k ≤ length xs
+numbered-within xs zero m h = omega arith
+numbered-within [] (suc k) m h = cc
+numbered-within (x ∷ xs) (suc zero) m h = omega arith
+numbered-within (x ∷ xs) (suc (suc k)) m h = omega (arith, numbered-within xs (suc k) m h)
+
+-- receipts and sendings that begin alike are paired
+pub paired_below : (from to : List Event) (begin gots sents : List Msg) → got to ≡ begin ++ gots → sent from ≡ begin ++ sents → (k : ℕ) → k ≤ length begin → IsPaired from to k
+paired_below from to begin gots sents g s k h m p =
+    let below : numbered begin k ≡ Some m = sym (numbered-append begin gots k h) ∙ sym (ap (λ (x : List Msg). numbered x k) g) ∙ p in
+    ap (λ (x : List Msg). numbered x k) s ∙ numbered-append begin sents k h ∙ below
+
+-- where what was received begins what was sent, each receipt is paired
+pub all_begun : (writer reader : List Event) (rest : List Msg) → got reader ++ rest ≡ sent writer → (k : ℕ) → IsPaired writer reader k
+all_begun writer reader rest s k m p =
+    paired_below writer reader (got reader) [] rest (sym (append-nil (got reader))) (sym s) k (numbered-within (got reader) k m p) m p
+
+pub no_sending : (from to : List Event) (begin gots : List Msg) (m : Msg) → got to ≡ begin ++ (m ∷ gots) → sent from ≡ begin → HasNoSending from to (suc (length begin))
+no_sending from to begin gots m g s = (
+  m,
+  ap (λ (x : List Msg). numbered x (suc (length begin))) g ∙ numbered-after begin gots m,
+  ap (λ (x : List Msg). numbered x (suc (length begin))) s ∙ numbered-past begin (suc (length begin)) (omega arith),
+)
+
+pub has_other : (from to : List Event) (begin gots sents : List Msg) (m n : Msg) → got to ≡ begin ++ (m ∷ gots) → sent from ≡ begin ++ (n ∷ sents) → m ≢ n → HasOther from to (suc (length begin))
+has_other from to begin gots sents m n g s d = (
+  m,
+  n,
+  ap (λ (x : List Msg). numbered x (suc (length begin))) g ∙ numbered-after begin gots m,
+  ap (λ (x : List Msg). numbered x (suc (length begin))) s ∙ numbered-after begin sents n,
+  d,
+)
+
+-- the test of two messages, and what it finds
+abbrev same_msg : Msg → Msg → Bool
+same_msg n m = nat_eq n.round m.round && (nat_eq n.id m.id && (nat_eq n.hop m.hop && beq n.dirty m.dirty))
+
+same_itself : (m : Msg) → same_msg m m ≡ true
+same_itself m = grind (arith, nat_tests)
+
+pub same_means : (n m : Msg) → false ≡ not (same_msg n m) → n ≡ m
+same_means n m h = grind (arith, nat_tests)
+
+pub differ_means : (n m : Msg) → true ≡ not (same_msg n m) → n ≢ m
+differ_means n m h e =
+    let P : Msg → Type 0 = λ x. same_msg x m ≡ true in
+    let same : same_msg n m ≡ true = subst P (sym e) (same_itself m) in
+    cc
+
+-- the receipts so far have their sendings, and what is left of the two logs begins behind them
+pub record PairedSoFar (writer reader ahead left : List Event) (k : ℕ) : Type 0 where
+  pub messages : List Msg
+  pub receipts : got reader ≡ messages ++ got left
+  pub sendings : sent writer ≡ messages ++ sent ahead
+  pub count : k ≡ length messages
+
+pub paired_at_first : (writer reader : List Event) → PairedSoFar writer reader writer reader 0
+paired_at_first writer reader = record { messages = []; receipts = refl; sendings = refl; count = refl }
+
+-- an event that is no receipt
+pub paired_over : (writer reader ahead left : List Event) (e : Event) (k : ℕ) → ((m : Msg) → e ≡ Got m → ⊥) → PairedSoFar writer reader ahead (e ∷ left) k → PairedSoFar writer reader ahead left k
+paired_over writer reader ahead left (Draw id) k never p = record { messages = p.messages; receipts = p.receipts; sendings = p.sendings; count = p.count }
+paired_over writer reader ahead left (Sent m) k never p = record { messages = p.messages; receipts = p.receipts; sendings = p.sendings; count = p.count }
+paired_over writer reader ahead left (Got m) k never p = absurd (never m refl)
+
+-- a receipt and its sending
+pub paired_more : (writer reader ahead ahead' left : List Event) (m n : Msg) (k : ℕ) → PairedSoFar writer reader ahead (Got m ∷ left) k → sent ahead ≡ n ∷ sent ahead' → n ≡ m → PairedSoFar writer reader ahead' left (k + 1)
+paired_more writer reader ahead ahead' left m n k p found same = record {
+  messages = p.messages ++ m ∷ [];
+  receipts = p.receipts ∙ sym (append_assoc p.messages (m ∷ []) (got left));
+  sendings = p.sendings ∙ ap (λ (x : List Msg). p.messages ++ x) (found ∙ ap (λ (x : Msg). x ∷ sent ahead') same) ∙ sym (append_assoc p.messages (m ∷ []) (sent ahead'));
+  count = omega (arith, p.count, length-append p.messages (m ∷ []));
+}
+
+-- every receipt was looked at
+pub paired_all : (writer reader ahead : List Event) (k : ℕ) → PairedSoFar writer reader ahead [] k → (h : ℕ) → IsPaired writer reader h
+paired_all writer reader ahead k p h m is =
+    let all : got reader ≡ p.messages = p.receipts ∙ append-nil p.messages in
+    paired_below writer reader p.messages [] (sent ahead) p.receipts p.sendings h (rw all at (numbered-within (got reader) h m is)) m is
+
+-- the first fault of a link: no sending
+pub missing_at : (link : ℕ) (writer reader ahead left : List Event) (m : Msg) (k : ℕ) → PairedSoFar writer reader ahead (Got m ∷ left) k → sent ahead ≡ [] → IsLinkFault link writer reader (NoSending link (k + 1))
+missing_at link writer reader ahead left m k p none =
+    let s : sent writer ≡ p.messages = p.sendings ∙ ap (λ (x : List Msg). p.messages ++ x) none ∙ append-nil p.messages in
+    let number : suc (length p.messages) ≡ k + 1 = omega (arith, p.count) in (
+      refl,
+      λ h b. paired_below writer reader p.messages _ (sent ahead) p.receipts p.sendings h (omega (arith, p.count)),
+      (let P : ℕ → Type 0 = HasNoSending writer reader in subst P number (no_sending writer reader p.messages (got left) m p.receipts s)),
+    )
+
+-- the first fault of a link: another message
+pub other_at : (link : ℕ) (writer reader ahead ahead' left : List Event) (m n : Msg) (k : ℕ) → PairedSoFar writer reader ahead (Got m ∷ left) k → sent ahead ≡ n ∷ sent ahead' → n ≢ m → IsLinkFault link writer reader (Differs link (k + 1))
+other_at link writer reader ahead ahead' left m n k p found differ =
+    let s : sent writer ≡ p.messages ++ (n ∷ sent ahead') = p.sendings ∙ ap (λ (x : List Msg). p.messages ++ x) found in
+    let number : suc (length p.messages) ≡ k + 1 = omega (arith, p.count) in (
+      refl,
+      λ h b. paired_below writer reader p.messages _ (sent ahead) p.receipts p.sendings h (omega (arith, p.count)),
+      (let P : ℕ → Type 0 = HasOther writer reader in subst P number (has_other writer reader p.messages (got left) (sent ahead') m n p.receipts s (λ q. differ (sym q)))),
+    )

@@ -1,0 +1,212 @@
+-- One step of a scan.
+use Rattle.std.proofs.Common.{◌≡◌, ◌≢◌, ℕ, zero, suc, ◌+◌, ◌-◌, ◌<◌, ◌≤◌, inl, inr, ◌↔◌, List, [], ◌∷◌, ◌++◌, length, refl, sym, ◌∙◌, ap, arith, get_or, set, take, IsTrue, Option, Some, None, length-append, get_or-set_same, get_or-set_other, length-set, leb}
+use Rattle.ira_event.specs.declared.event.Event.{Event}
+use Rattle.ira_event.specs.declared.msg.Msg.{Msg}
+use Rattle.ira_event.specs.Log.{Log}
+use Rattle.ira_event.specs.declared.event.Event.TheVariants.{Sent, Got, Draw}
+use Rattle.std.specs.List.{filter_map, cons_option}
+use Rattle.ira_order.specs.Ring.{log_of, next, events_of}
+use Rattle.ira_order.specs.Matching.{sent, got, sending, receipt}
+use Rattle.ira_order.specs.Order.{standings}
+use Rattle.ira_order.specs.Counts.{CanStep, Covers, IsSchedule}
+use Rattle.ira_order.specs.Scan.{IsScan, sent_by, got_by}
+use Rattle.ira_order.proofs.Ranks.{filter_map_more, lt_cases, eq_cases, rank_mono, next_other}
+use Rattle.ira_event.specs.declared.limits.TheConstants.{MAX_RECORDS}
+use Rattle.std.specs.Prelude.{slice_get}
+use Rattle.std.proofs.lemmas.Option.{get_or_from_slice_get, slice_get_within}
+use Rattle.std.proofs.lemmas.List.{take_all, take-append-le, length_push, get_or_read}
+use Rattle.std.proofs.lemmas.List.Elements.{All-push}
+use Rattle.std.proofs.lemmas.List.Sums.{sum_by_push, sum_by-set}
+use Rattle.std.proofs.lemmas.Bool.{leb-true, le-leb, ne_eqb, eq-eqb}
+use Rattle.std.proofs.lemmas.Bool.Decides.{nat_tests}
+
+pub rank_le : (h : Event → Option Msg) (es : List Event) (n : ℕ) → length (filter_map h (take n es)) ≤ n
+rank_le h es zero = omega arith
+rank_le h [] (suc n) = omega arith
+rank_le h (e ∷ es) (suc n) = by_case (h e) (filter_map h (take n es)) (rank_le h es n)
+  where
+    by_case : (o : Option Msg) (xs : List Msg) → length xs ≤ n → length (cons_option o xs) ≤ suc n
+    by_case None xs l = omega arith
+    by_case (Some x) xs l = omega arith
+
+-- an event more, counted
+pub rank_more : (h : Event → Option Msg) (es : List Event) (i : ℕ) (d : Event) → i < length es → length (filter_map h (take (i + 1) es)) ≡ length (filter_map h (take i es)) + length (cons_option (h (get_or es i d)) [])
+rank_more h es i d l = ap length (filter_map_more h es i d l) ∙ length-append (filter_map h (take i es)) (cons_option (h (get_or es i d)) [])
+
+-- the one link that leads to a node
+pub only_link : (n i j : ℕ) → i < n → j < n → next n j ≡ i → (i ≡ 0 → j ≡ n - 1) × (i ≢ 0 → j ≡ i - 1)
+only_link n i j li lj e = (λ z. grind (arith, nat_tests), λ z. grind (arith, nat_tests))
+
+pub link_into : (n i : ℕ) → i < n → (i ≡ 0 → next n (n - 1) ≡ i) × (i ≢ 0 → next n (i - 1) ≡ i)
+link_into n i l = (λ z. grind (arith, nat_tests), λ z. grind (arith, nat_tests))
+
+standings_push_same : (places : List ℕ) (i : ℕ) → standings (places ++ i ∷ []) i ≡ standings places i + 1
+standings_push_same places i = sum_by_push _ places i ∙ rw (eq-eqb i i refl)
+
+standings_push_other : (places : List ℕ) (i j : ℕ) → i ≢ j → standings (places ++ i ∷ []) j ≡ standings places j
+standings_push_other places i j ne = sum_by_push _ places i ∙ rw (ne_eqb i j ne) (omega arith)
+
+module _ (logs : List Log) (places : List ℕ) (i : ℕ)
+    (two : 2 ≤ length logs)
+    (here : i < length logs)
+    (so_far : IsSchedule logs places)
+    (free : CanStep logs (standings places) i) where
+  covers_push : Covers logs (standings (places ++ i ∷ []))
+  covers_push k lk =
+      let n : ℕ = length logs in
+      let j : ℕ = next (length logs) k in
+      elim (eq_cases i (next (length logs) k)) [
+        | inl same ↦
+            let ne : i ≢ k = λ q. next_other (length logs) k two lk (sym same ∙ q) in
+            let c : length (got (take (standings places i + 1) (log_of logs i))) ≤ length (sent (take (standings places k) (log_of logs k))) = free.1 k lk (sym same) in
+            let at_i = standings_push_same places i in
+            let at_k = standings_push_other places i k ne in
+            rw (← same, at_i, at_k) c
+        | inr other ↦
+            let at_j = standings_push_other places i (next (length logs) k) other in
+            let before : length (got (take (standings places (next (length logs) k)) (log_of logs (next (length logs) k)))) ≤ length (sent (take (standings places k) (log_of logs k))) =
+            let whole : take (length places) places ≡ places = take_all (length places) places (omega arith) in
+            rw whole at (so_far.kept (length places) (omega arith) k lk) in
+            let up : standings places k ≤ standings (places ++ i ∷ []) k = elim (eq_cases i k) [
+              | inl e ↦ rw (← e) (omega (arith, standings_push_same places i))
+              | inr ne ↦ omega (arith, standings_push_other places i k ne)
+            ] in
+            rw at_j (omega (arith, before, rank_mono sending (log_of logs k) (standings places k) (standings (places ++ i ∷ []) k) up))
+      ]
+
+  pub schedule_push : IsSchedule logs (places ++ i ∷ [])
+  schedule_push = record {
+    places = All-push (λ p. p < length logs) places i so_far.places here;
+    within = λ j lj. elim (eq_cases i j) [
+      | inl e ↦ rw (← e) (omega (arith, standings_push_same places i, free.0))
+      | inr ne ↦ omega (arith, standings_push_other places i j ne, so_far.within j lj)
+    ];
+    kept = λ t lt. elim (lt_cases (length places) t) [
+      | inl past ↦
+          let whole : take t (places ++ i ∷ []) ≡ places ++ i ∷ [] = take_all t (places ++ i ∷ []) (omega (arith, length_push places i)) in
+          rw whole covers_push
+      | inr within ↦ rw (take-append-le t places (i ∷ []) within) (so_far.kept t within)
+    ];
+  }
+
+-- a list of counters after one of them was raised
+pub raised : (xs : List ℕ) (count : ℕ → ℕ) (count' : ℕ → ℕ) (n i by : ℕ) → length xs ≡ n → i < n → ((j : ℕ) → j < n → get_or xs j 0 ≡ count j) → count' i ≡ count i + by → ((j : ℕ) → i ≢ j → count' j ≡ count j) → (j : ℕ) → j < n → get_or (set xs i (get_or xs i 0 + by)) j 0 ≡ count' j
+raised xs count count' n i by long here is same other j lj = elim (eq_cases i j) [
+  | inl e ↦
+      let fits : i < length xs = omega arith in
+      rw (← e, get_or-set_same xs i (get_or xs i 0 + by) 0 fits) (ap (λ (x : ℕ). x + by) (is i here) ∙ sym same)
+  | inr ne ↦
+      let ne' : j ≢ i = λ q. ne (sym q) in
+      rw (get_or-set_other xs i j (get_or xs i 0 + by) 0 ne') (is j lj ∙ sym (other j ne))
+]
+
+pub scan_step : (logs : List Log) (done sents gots places : List ℕ) (i : ℕ) (e : Event) → IsScan logs done sents gots places → 2 ≤ length logs → i < length logs → CanStep logs (standings places) i → e ≡ get_or (log_of logs i) (standings places i) e → IsScan logs (set done i (get_or done i 0 + 1)) (set sents i (get_or sents i 0 + sent_by e)) (set gots i (get_or gots i 0 + got_by e)) (places ++ i ∷ [])
+scan_step logs done sents gots places i e scan two here free is =
+    let at_i = standings_push_same places i in
+    let n : ℕ = length logs in
+    let at_e : get_or (log_of logs i) (standings places i) e ≡ e = sym is in
+    record {
+      logs_are = scan.logs_are;
+      all_done = length-set done i _ ∙ scan.all_done;
+      all_sents = length-set sents i _ ∙ scan.all_sents;
+      all_gots = length-set gots i _ ∙ scan.all_gots;
+      done_is = raised done (standings places) (standings (places ++ i ∷ [])) (length logs) i 1 scan.all_done here scan.done_is at_i (λ j ne. standings_push_other places i j ne);
+      sents_is = raised sents (λ j. length (sent (take (standings places j) (log_of logs j)))) (λ j. length (sent (take (standings (places ++ i ∷ []) j) (log_of logs j)))) (length logs) i (sent_by e) scan.all_sents here scan.sents_is
+          (rw at_i (rank_more sending (log_of logs i) (standings places i) e free.0 ∙ ap (λ (x : Event). length (sent (take (standings places i) (log_of logs i))) + sent_by x) at_e))
+          (λ j ne. ap (λ (x : ℕ). length (sent (take x (log_of logs j)))) (standings_push_other places i j ne));
+      gots_is = raised gots (λ j. length (got (take (standings places j) (log_of logs j)))) (λ j. length (got (take (standings (places ++ i ∷ []) j) (log_of logs j)))) (length logs) i (got_by e) scan.all_gots here scan.gots_is
+          (rw at_i (rank_more receipt (log_of logs i) (standings places i) e free.0 ∙ ap (λ (x : Event). length (got (take (standings places i) (log_of logs i))) + got_by x) at_e))
+          (λ j ne. ap (λ (x : ℕ). length (got (take x (log_of logs j)))) (standings_push_other places i j ne));
+      total = omega (arith, sum_by-set (λ (x : ℕ). x) done i (get_or done i 0 + 1) 0 (omega (arith, scan.all_done)), scan.total, length_push places i);
+      schedule = schedule_push logs places i two here scan.schedule free;
+    }
+
+-- what the test of a place finds
+pub can_step_iff : (logs : List Log) (done sents gots places : List ℕ) (i from g s : ℕ) (e : Event) → IsScan logs done sents gots places → i < length logs → standings places i < length (log_of logs i) → e ≡ get_or (log_of logs i) (standings places i) e → (i ≡ 0 → from ≡ length logs - 1) × (i ≢ 0 → from ≡ i - 1) → g ≡ get_or gots i 0 → s ≡ get_or sents from 0 → IsTrue (leb (g + got_by e) s) ↔ CanStep logs (standings places) i
+can_step_iff logs done sents gots places i from g s e scan here more is source g_is s_is =
+    let there : from < length logs = elim (eq_cases i 0) [ inl z ↦ omega (arith, source.0 z) | inr z ↦ omega (arith, source.1 z) ] in
+    let into : next (length logs) from ≡ i = elim (eq_cases i 0) [
+      | inl z ↦ ap (next (length logs)) (source.0 z) ∙ (link_into (length logs) i here).0 z
+      | inr z ↦ ap (next (length logs)) (source.1 z) ∙ (link_into (length logs) i here).1 z
+    ] in
+    let at_e : get_or (log_of logs i) (standings places i) e ≡ e = sym is in
+    let gots_then : length (got (take (standings places i + 1) (log_of logs i))) ≡ g + got_by e =
+    rank_more receipt (log_of logs i) (standings places i) e more
+    ∙ ap (λ (x : Event). length (got (take (standings places i) (log_of logs i))) + got_by x) at_e
+    ∙ ap (λ (x : ℕ). x + got_by e) (sym (scan.gots_is i here) ∙ sym g_is) in
+    let sents_now : length (sent (take (standings places from) (log_of logs from))) ≡ s = sym (scan.sents_is from there) ∙ sym s_is in (
+      λ t. (
+        more,
+        λ j lj e'.
+            let same : j ≡ from = elim (eq_cases i 0) [
+              | inl z ↦ (only_link (length logs) i j here lj e').0 z ∙ sym (source.0 z)
+              | inr z ↦ (only_link (length logs) i j here lj e').1 z ∙ sym (source.1 z)
+            ] in
+            rw (same, sents_now, gots_then) (leb-true _ _ t),
+      ),
+      λ can. le-leb _ _ (rw (gots_then, sents_now) at (can.1 from there into)),
+    )
+
+-- the same of what the code reads
+module _ (logs : List Log) (done sents gots places : List ℕ) (i at : ℕ) (log : Log)
+    (scan : IsScan logs done sents gots places)
+    (here : i < length logs)
+    (at_is : at ≡ get_or done i at)
+    (log_is : slice_get logs i ≡ Some log) where
+  at_standings : at ≡ standings places i
+  at_standings = get_or_read done i at (omega (arith, scan.all_done)) at_is 0 ∙ scan.done_is i here
+
+  events_are : log_of logs i ≡ log.events
+  events_are = ap events_of log_is
+
+  e_here : (e : Event) → slice_get log.events at ≡ Some e → e ≡ get_or (log_of logs i) (standings places i) e
+  e_here e e_is = rw (← at_standings, events_are) (sym (get_or_from_slice_get log.events at e e e_is))
+
+  pub few_events : length log.events ≤ MAX_RECORDS
+  few_events = (scan.logs_are.valid i log log_is).count
+
+  pub at_within : at ≤ length log.events
+  at_within = omega (arith, at_standings, ap length events_are, scan.schedule.within i here)
+
+  pub at_below : CanStep logs (standings places) i → at < length log.events
+  at_below free = omega (arith, at_standings, ap length events_are, free.0)
+
+  pub got_within : (g : ℕ) → g ≡ get_or gots i g → g ≤ at
+  got_within g g_is =
+      omega (arith, get_or_read gots i g (omega (arith, scan.all_gots)) g_is 0, scan.gots_is i here, rank_le receipt (log_of logs i) (standings places i), at_standings)
+
+  pub sent_within : (s : ℕ) → s ≡ get_or sents i s → s ≤ at
+  sent_within s s_is =
+      omega (arith, get_or_read sents i s (omega (arith, scan.all_sents)) s_is 0, scan.sents_is i here, rank_le sending (log_of logs i) (standings places i), at_standings)
+
+  -- no event is left
+  pub cannot_step : at ≡ length log.events → CanStep logs (standings places) i → ⊥
+  cannot_step e free = omega (arith, e, at_below free)
+
+  pub can_step_read : (from g s r : ℕ) (e : Event) → slice_get log.events at ≡ Some e → (i ≡ 0 → from ≡ length logs - 1) × (i ≢ 0 → from ≡ i - 1) → g ≡ get_or gots i g → s ≡ get_or sents from s → r ≡ got_by e → IsTrue (leb (g + r) s) ↔ CanStep logs (standings places) i
+  can_step_read from g s r e e_is source g_is s_is r_is =
+      let there : from < length logs = elim (eq_cases i 0) [ inl z ↦ omega (arith, source.0 z) | inr z ↦ omega (arith, source.1 z) ] in
+      let room : at < length log.events = slice_get_within log.events at e e_is in
+      rw r_is
+      (can_step_iff logs done sents gots places i from g s e scan here
+      (omega (arith, at_standings, ap length events_are, room))
+      (e_here e e_is) source
+      (get_or_read gots i g (omega (arith, scan.all_gots)) g_is 0)
+      (get_or_read sents from s (omega (arith, scan.all_sents)) s_is 0))
+
+  pub scan_step_read : (g s r t : ℕ) (e : Event) → slice_get log.events at ≡ Some e → 2 ≤ length logs → CanStep logs (standings places) i → g ≡ get_or gots i g → s ≡ get_or sents i s → r ≡ got_by e → t ≡ sent_by e → IsScan logs (set done i (at + 1)) (set sents i (s + t)) (set gots i (g + r)) (places ++ i ∷ [])
+  scan_step_read g s r t e e_is two free g_is s_is r_is t_is =
+      let a : at ≡ get_or done i 0 = get_or_read done i at (omega (arith, scan.all_done)) at_is 0 in
+      let b : s ≡ get_or sents i 0 = get_or_read sents i s (omega (arith, scan.all_sents)) s_is 0 in
+      let d : g ≡ get_or gots i 0 = get_or_read gots i g (omega (arith, scan.all_gots)) g_is 0 in
+      rw (a, b, d, r_is, t_is) (scan_step logs done sents gots places i e scan two here free (e_here e e_is))
+
+pub got_by_le : (e : Event) → got_by e ≤ 1
+got_by_le (Sent m) = omega arith
+got_by_le (Got m) = omega arith
+got_by_le (Draw m) = omega arith
+
+pub sent_by_le : (e : Event) → sent_by e ≤ 1
+sent_by_le (Sent m) = omega arith
+sent_by_le (Got m) = omega arith
+sent_by_le (Draw m) = omega arith

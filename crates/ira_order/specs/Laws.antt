@@ -1,0 +1,68 @@
+-- Laws of orders, cuts and runs.
+use Rattle.std.specs.Prelude.{◌≡◌, ◌≤◌, ◌<◌, ℕ, List, length, slice_index, take, map, slice_get, Some}
+use Rattle.ira_event.specs.declared.event.Event.{Event}
+use Rattle.ira_event.specs.Log.{Log}
+use Rattle.ira_event.specs.Logs.{AreLogs}
+use Rattle.ira_node.specs.NodeState.{first_state}
+use Rattle.ira_replay.specs.declared.replay_fault.ReplayFault.{ReplayFault}
+use Rattle.ira_replay.specs.LocalRun.{StopsAt}
+use Rattle.ira_order.specs.declared.match_fault.MatchFault.{MatchFault}
+use Rattle.ira_order.specs.Matching.{Matches}
+use Rattle.ira_order.specs.MatchFault.{IsMatchFault}
+use Rattle.ira_order.specs.Circle.{HasCircle}
+use Rattle.ira_order.specs.Order.{IsOrder, standings}
+use Rattle.ira_order.specs.Cut.{IsConsistentCut}
+use Rattle.ira_order.specs.Run.{IsRingRun, IsRunOfLogs, AreLocalRuns}
+
+-- the places of a run
+abbrev pub places_of : List (ℕ × Event) → List ℕ
+places_of run = map (λ x. x.0) run
+
+-- an order means events, one for each standing of a place: there is a list of them whose places are
+-- the order and whose events of each node are its log
+abbrev pub OrdersMeanEvents : Type 0
+OrdersMeanEvents =
+    (logs : List Log) (order : List ℕ) → IsOrder logs order → (run : List (ℕ × Event)) × (places_of run ≡ order) × IsRunOfLogs logs run
+
+-- each order of matched logs that are local runs is a run of the ring: the events that it means are
+abbrev pub OrdersAreRuns : Type 0
+OrdersAreRuns =
+    (logs : List Log) (run : List (ℕ × Event)) → AreLogs logs → Matches logs → AreLocalRuns logs
+    → IsOrder logs (places_of run) → IsRunOfLogs logs run → IsRingRun logs run
+
+-- logs of which a run of the ring is a run match, are local runs, and have its places as an order
+abbrev pub RunsAreOrders : Type 0
+RunsAreOrders =
+    (logs : List Log) (run : List (ℕ × Event)) → AreLogs logs → IsRingRun logs run → IsRunOfLogs logs run
+    → Matches logs × AreLocalRuns logs × IsOrder logs (places_of run)
+
+-- logs with a fault of matching are the logs of no run of the ring
+abbrev pub UnmatchedLogsHaveNoRun : Type 0
+UnmatchedLogsHaveNoRun =
+    (logs : List Log) (f : MatchFault) (run : List (ℕ × Event)) → AreLogs logs → IsMatchFault logs f → IsRingRun logs run
+    → ¬ (IsRunOfLogs logs run)
+
+-- logs that match and have no order are the logs of no run of the ring
+abbrev pub CircledLogsHaveNoRun : Type 0
+CircledLogsHaveNoRun =
+    (logs : List Log) (run : List (ℕ × Event)) → AreLogs logs → HasCircle logs → IsRingRun logs run → ¬ (IsRunOfLogs logs run)
+
+-- logs one of which has an event without a node step are the logs of no run of the ring
+abbrev pub FaultyLogsHaveNoRun : Type 0
+FaultyLogsHaveNoRun =
+    (logs : List Log) (i : ℕ) (log : Log) (f : ReplayFault) (run : List (ℕ × Event)) → AreLogs logs → slice_get logs i ≡ Some log
+    → StopsAt log.nodes (first_state log.initiator) log.events f → IsRingRun logs run → ¬ (IsRunOfLogs logs run)
+
+-- the numbers of the places in a beginning of an order are a consistent cut
+abbrev pub MomentsAreCuts : Type 0
+MomentsAreCuts =
+    (logs : List Log) (order cut : List ℕ) (t : ℕ) → AreLogs logs → Matches logs → IsOrder logs order → t ≤ length order
+    → length cut ≡ length logs → ((i : ℕ) → i < length logs → slice_index cut i ≡ standings (take t order) i)
+    → IsConsistentCut logs cut
+
+-- each consistent cut of logs that have an order is the numbers of the places in a beginning of some
+-- order
+abbrev pub CutsAreMoments : Type 0
+CutsAreMoments =
+    (logs : List Log) (order cut : List ℕ) → AreLogs logs → Matches logs → IsOrder logs order → IsConsistentCut logs cut
+    → (other : List ℕ) × (t : ℕ) × IsOrder logs other × (t ≤ length other) × ((i : ℕ) → i < length logs → slice_index cut i ≡ standings (take t other) i)

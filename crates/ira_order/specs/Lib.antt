@@ -1,0 +1,12 @@
+pub mod Before
+pub mod Circle
+pub mod Counts
+pub mod Cut
+pub mod Laws
+pub mod MatchFault
+pub mod Matching
+pub mod Order
+pub mod Ordered
+pub mod Ring
+pub mod Run
+pub mod Scan

@@ -1,0 +1,36 @@
+ghost use Rattle.ira_order.specs.Laws.{OrdersMeanEvents, OrdersAreRuns, RunsAreOrders, UnmatchedLogsHaveNoRun, CircledLogsHaveNoRun, FaultyLogsHaveNoRun, MomentsAreCuts, CutsAreMoments};
+
+/// A law: an order means a list of events.
+pub fn orders_mean_events()
+    ensures { OrdersMeanEvents }
+{}
+
+/// A law: each order of matched logs all of whose events have node steps is a run of the ring.
+pub fn orders_are_runs()
+    ensures { OrdersAreRuns }
+{}
+
+/// A law: the logs of a run of the ring match, all their events have node steps, and the run's places
+/// are an order of them.
+pub fn runs_are_orders()
+    ensures { RunsAreOrders }
+{}
+
+/// A law: logs that don't match, that have a circle, or that have an event without a node step are
+/// the logs of no run of the ring.
+pub fn refused_logs_have_no_run()
+    ensures unmatched { UnmatchedLogsHaveNoRun }
+    ensures circled { CircledLogsHaveNoRun }
+    ensures faulty { FaultyLogsHaveNoRun }
+{}
+
+/// A law: a beginning of an order is a consistent cut (Mattern, Virtual Time and Global States of
+/// Distributed Systems, 1989).
+pub fn moments_are_cuts()
+    ensures { MomentsAreCuts }
+{}
+
+/// A law: each consistent cut of logs that have an order is a beginning of some order.
+pub fn cuts_are_moments()
+    ensures { CutsAreMoments }
+{}

@@ -1,0 +1,59 @@
+ghost use Rattle.std.specs.Prelude.{◌≡◌, ◌<◌, ◌↔◌, ℕ, [], ◌∷◌, Err, IsOk, MatchOption, MatchResult, length};
+ghost use Rattle.ira_event.specs.declared.msg.Msg.{Msg};
+ghost use Rattle.ira_order.specs.declared.match_fault.MatchFault.{MatchFault};
+ghost use Rattle.ira_order.specs.Matching.{sent, IsPaired, Matches};
+ghost use Rattle.ira_order.specs.MatchFault.{IsLinkFault, IsMatchFault};
+
+use crate::match_fault::MatchFault;
+use ira_event::{Event, Events, Logs, Msg, NodeLog};
+use std::alloc::Allocator;
+
+/// The first message that these events send; the events up to it are passed over.
+fn next_sending(events: &mut Events<'_>) -> Option<Msg>
+    ensures { MatchOption result (sent events.old ≡ []) (λ message. sent events.old ≡ message ∷ sent events.new) }
+{
+    while let Some(event) = events.next() {
+        if let Event::Sent(message) = event {
+            return Some(message);
+        }
+    }
+    None
+}
+
+/// Whether each receipt of a link has its sending, by one cursor for each of the two logs.
+fn match_link<A: Allocator>(
+    link: u8,
+    writer: &NodeLog<A>,
+    reader: &NodeLog<A>,
+) -> Result<(), MatchFault>
+    ensures { MatchResult result (λ _. (k : ℕ) → IsPaired writer.now.events reader.now.events k) (IsLinkFault link writer.now.events reader.now.events) }
+{
+    let mut sendings = writer.events();
+    let mut k = 0;
+    for event in reader.events() {
+        if let Event::Got(message) = event {
+            k += 1;
+            let Some(sending) = next_sending(&mut sendings) else {
+                return Err(MatchFault::NoSending { link, k });
+            };
+            if sending != message {
+                return Err(MatchFault::Differs { link, k });
+            }
+        }
+    }
+    Ok(())
+}
+
+/// Whether each receipt has its sending: the k-th receipt of a link the k-th sending, of the same
+/// message. It takes no memory.
+pub fn match_links<A: Allocator>(logs: &Logs<A>) -> Result<(), MatchFault>
+    ensures ok { IsOk result ↔ Matches logs.now }
+    ensures fault { (f : MatchFault) → (result ≡ Err f) ↔ IsMatchFault logs.now f }
+{
+    let nodes = logs.size().get();
+    for link in 0..nodes {
+        let next = if link + 1 < nodes { link + 1 } else { 0 };
+        match_link(link, logs.log(link), logs.log(next))?;
+    }
+    Ok(())
+}

@@ -1,0 +1,50 @@
+use crate::match_fault::MatchFault;
+use std::alloc::{AllocError, AllocFailed};
+use thiserror::Error;
+
+/// Why logs have no order.
+#[derive(Clone, Copy, Debug, PartialEq, Eq, Error)]
+pub enum OrderFault {
+    /// The logs don't match.
+    #[error("{0}")]
+    Match(MatchFault),
+    /// The logs match, but events wait for one another in a circle.
+    #[error("circle")]
+    Circle,
+    /// A growth was refused.
+    #[error("out of memory")]
+    OutOfMemory,
+}
+
+impl From<MatchFault> for OrderFault {
+    ghost use Rattle.std.specs.Prelude.{◌≡◌};
+    ghost use Rattle.ira_order.specs.declared.order_fault.OrderFault.TheVariants.{Match};
+
+    ghost from_gives = { λ fault f. f ≡ Match fault };
+
+    fn from(fault: MatchFault) -> OrderFault {
+        OrderFault::Match(fault)
+    }
+}
+
+impl<T: Drop> From<AllocFailed<T>> for OrderFault {
+    ghost use Rattle.std.specs.Prelude.{◌≡◌};
+    ghost use Rattle.ira_order.specs.declared.order_fault.OrderFault.TheVariants.{OutOfMemory};
+
+    ghost from_gives = { λ _ f. f ≡ OutOfMemory };
+
+    fn from(_refused: AllocFailed<T>) -> OrderFault {
+        OrderFault::OutOfMemory
+    }
+}
+
+impl From<AllocError> for OrderFault {
+    ghost use Rattle.std.specs.Prelude.{◌≡◌};
+    ghost use Rattle.ira_order.specs.declared.order_fault.OrderFault.TheVariants.{OutOfMemory};
+
+    ghost from_gives = { λ _ f. f ≡ OutOfMemory };
+
+    fn from(_refused: AllocError) -> OrderFault {
+        OrderFault::OutOfMemory
+    }
+}

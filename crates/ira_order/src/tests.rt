@@ -1,0 +1,310 @@
+ghost use Rattle.std.specs.Prelude.{◌<◌, length};
+
+use crate::{MatchFault, OrderFault, match_links, order};
+use ira_event::{Event, Logs, Msg, NodeLog, RingSize};
+use std::alloc::Global;
+use std::process::Abort;
+use std::test::Fail;
+
+fn clean(round: u32, id: u32, hop: u32) -> Msg {
+    Msg {
+        round,
+        id,
+        hop,
+        dirty: false,
+    }
+}
+
+fn dirty(round: u32, id: u32, hop: u32) -> Msg {
+    Msg {
+        round,
+        id,
+        hop,
+        dirty: true,
+    }
+}
+
+/// The logs of a ring of as many nodes as there are lists of events.
+fn logs_of(alloc: Global, initiators: u8, events: &[&[Event]]) -> Result<Logs<Global>, Fail> {
+    let size = u8::try_from(events.len()).ok().ok_or("a smaller ring")?;
+    let nodes = RingSize::new(size).ok_or("a ring of that size")?;
+    let mut logs = Vec::new(alloc);
+    for (place, own) in (0..size).zip(events) {
+        let own = own.to_vec(alloc)?;
+        logs.push(NodeLog::new(nodes, place, place < initiators, own).ok_or("a log")?)?;
+    }
+    Ok(Logs::gather(logs).ok().ok_or("no logs of one ring")?)
+}
+
+/// Whether the places have each event of the reader once, and each receipt after its sending.
+fn keeps_link(logs: &Logs<Global>, places: &[u8], writer: u8, reader: u8) -> bool
+    requires { (writer < length logs.now) × (reader < length logs.now) }
+{
+    let mut writes = logs.log(writer).events();
+    let mut reads = logs.log(reader).events();
+    let mut on_link = 0_u32;
+    for place in places {
+        if *place == writer {
+            if let Some(Event::Sent(_)) = writes.next() {
+                on_link = on_link.saturating_add(1);
+            }
+        } else if *place == reader {
+            match reads.next() {
+                None => return false,
+                Some(Event::Got(_)) => match on_link.checked_sub(1) {
+                    None => return false,
+                    Some(left) => on_link = left,
+                },
+                Some(_) => {}
+            }
+        }
+    }
+    reads.next().is_none()
+}
+
+/// Whether the places are an order of the logs.
+fn is_order(logs: &Logs<Global>, places: &[u8]) -> bool {
+    let nodes = logs.size().get();
+    let mut kept = places.iter().all(|place| *place < nodes);
+    for writer in 0..nodes {
+        let reader = if writer + 1 < nodes { writer + 1 } else { 0 };
+        kept = kept && keeps_link(logs, places, writer, reader);
+    }
+    kept
+}
+
+fn assert_ordered(
+    rt: &impl Abort,
+    alloc: Global,
+    initiators: u8,
+    events: &[&[Event]],
+) -> Result<(), Fail> {
+    let logs = logs_of(alloc, initiators, events)?;
+    assert_eq!(rt; match_links(&logs), Ok(()));
+    let ordered = order(alloc, &logs).ok().ok_or("an order")?;
+    assert!(rt; is_order(ordered.logs(), ordered.schedule()));
+    Ok(())
+}
+
+fn assert_refused(
+    rt: &impl Abort,
+    alloc: Global,
+    initiators: u8,
+    events: &[&[Event]],
+    fault: OrderFault,
+) -> Result<(), Fail> {
+    let logs = logs_of(alloc, initiators, events)?;
+    assert_eq!(rt; order(alloc, &logs).err(), Some(fault));
+    Ok(())
+}
+
+#[test]
+fn two_node_election(rt: HostRuntime) -> Result<(), Fail> {
+    assert_ordered(
+        &rt,
+        rt.alloc(),
+        2,
+        &[
+            &[
+                Event::Draw(2),
+                Event::Sent(clean(1, 2, 1)),
+                Event::Got(clean(1, 1, 1)),
+                Event::Got(clean(1, 2, 2)),
+            ],
+            &[
+                Event::Draw(1),
+                Event::Sent(clean(1, 1, 1)),
+                Event::Got(clean(1, 2, 1)),
+                Event::Sent(clean(1, 2, 2)),
+            ],
+        ],
+    )
+}
+
+#[test]
+fn tie_then_win(rt: HostRuntime) -> Result<(), Fail> {
+    assert_ordered(
+        &rt,
+        rt.alloc(),
+        2,
+        &[
+            &[
+                Event::Draw(1),
+                Event::Sent(clean(1, 1, 1)),
+                Event::Got(clean(1, 1, 1)),
+                Event::Sent(dirty(1, 1, 2)),
+                Event::Got(dirty(1, 1, 2)),
+                Event::Draw(2),
+                Event::Sent(clean(2, 2, 1)),
+                Event::Got(clean(2, 1, 1)),
+                Event::Got(clean(2, 2, 2)),
+            ],
+            &[
+                Event::Draw(1),
+                Event::Sent(clean(1, 1, 1)),
+                Event::Got(clean(1, 1, 1)),
+                Event::Sent(dirty(1, 1, 2)),
+                Event::Got(dirty(1, 1, 2)),
+                Event::Draw(1),
+                Event::Sent(clean(2, 1, 1)),
+                Event::Got(clean(2, 2, 1)),
+                Event::Sent(clean(2, 2, 2)),
+            ],
+        ],
+    )
+}
+
+#[test]
+fn equal_pair_passed_on_clean(rt: HostRuntime) -> Result<(), Fail> {
+    let first = [
+        Event::Draw(1),
+        Event::Sent(clean(1, 1, 1)),
+        Event::Got(clean(1, 1, 1)),
+        Event::Sent(clean(1, 1, 2)),
+    ];
+    let second = [
+        Event::Draw(1),
+        Event::Sent(clean(1, 1, 1)),
+        Event::Got(clean(1, 1, 1)),
+        Event::Sent(dirty(1, 1, 2)),
+        Event::Got(clean(1, 1, 2)),
+    ];
+    assert_ordered(&rt, rt.alloc(), 2, &[&first, &second])
+}
+
+#[test]
+fn lone_initiator(rt: HostRuntime) -> Result<(), Fail> {
+    assert_ordered(
+        &rt,
+        rt.alloc(),
+        1,
+        &[
+            &[
+                Event::Draw(1),
+                Event::Sent(clean(1, 1, 1)),
+                Event::Got(clean(1, 1, 3)),
+            ],
+            &[Event::Got(clean(1, 1, 1)), Event::Sent(clean(1, 1, 2))],
+            &[Event::Got(clean(1, 1, 2)), Event::Sent(clean(1, 1, 3))],
+        ],
+    )
+}
+
+#[test]
+fn empty_logs_meet_at_start(rt: HostRuntime) -> Result<(), Fail> {
+    assert_ordered(&rt, rt.alloc(), 2, &[&[], &[]])
+}
+
+#[test]
+fn circle_of_two(rt: HostRuntime) -> Result<(), Fail> {
+    assert_refused(
+        &rt,
+        rt.alloc(),
+        0,
+        &[
+            &[Event::Got(clean(1, 1, 1)), Event::Sent(clean(1, 1, 2))],
+            &[Event::Got(clean(1, 1, 2)), Event::Sent(clean(1, 1, 1))],
+        ],
+        OrderFault::Circle,
+    )
+}
+
+#[test]
+fn receipts_exchanged(rt: HostRuntime) -> Result<(), Fail> {
+    assert_refused(
+        &rt,
+        rt.alloc(),
+        2,
+        &[
+            &[
+                Event::Draw(2),
+                Event::Sent(clean(1, 2, 1)),
+                Event::Got(clean(1, 2, 2)),
+                Event::Got(clean(1, 1, 1)),
+            ],
+            &[
+                Event::Draw(1),
+                Event::Sent(clean(1, 1, 1)),
+                Event::Got(clean(1, 2, 1)),
+                Event::Sent(clean(1, 2, 2)),
+            ],
+        ],
+        OrderFault::Match(MatchFault::Differs { link: 1, k: 1 }),
+    )
+}
+
+#[test]
+fn receipt_without_sending(rt: HostRuntime) -> Result<(), Fail> {
+    assert_refused(
+        &rt,
+        rt.alloc(),
+        2,
+        &[
+            &[
+                Event::Draw(2),
+                Event::Sent(clean(1, 2, 1)),
+                Event::Got(clean(1, 1, 1)),
+                Event::Got(clean(1, 2, 2)),
+            ],
+            &[
+                Event::Draw(1),
+                Event::Sent(clean(1, 1, 1)),
+                Event::Got(clean(1, 2, 1)),
+            ],
+        ],
+        OrderFault::Match(MatchFault::NoSending { link: 1, k: 2 }),
+    )
+}
+
+/// The logs of a ring of 64 nodes, each of 1,000 events: one message goes round 500 times. Where node
+/// 0 receives it first, nobody can begin.
+fn long_logs(alloc: Global, begins: bool) -> Result<Logs<Global>, Fail> {
+    let nodes = RingSize::new(64).ok_or("a ring of 64")?;
+    let message = clean(1, 1, 1);
+    let mut logs = Vec::new(alloc);
+    for place in 0..64 {
+        let mut events = Vec::new(alloc);
+        for _ in 0..500 {
+            if begins && place == 0 {
+                events.push(Event::Sent(message))?;
+                events.push(Event::Got(message))?;
+            } else {
+                events.push(Event::Got(message))?;
+                events.push(Event::Sent(message))?;
+            }
+        }
+        logs.push(NodeLog::new(nodes, place, false, events).ok_or("a log")?)?;
+    }
+    Ok(Logs::gather(logs).ok().ok_or("the logs of a ring")?)
+}
+
+#[test]
+fn ring_of_64_with_1000_events_a_node(rt: HostRuntime) -> Result<(), Fail> {
+    let logs = long_logs(rt.alloc(), true)?;
+    let ordered = order(rt.alloc(), &logs).ok().ok_or("an order")?;
+    assert_eq!(rt; ordered.schedule().len(), 64_000);
+    assert!(rt; is_order(&logs, ordered.schedule()));
+    let stuck = long_logs(rt.alloc(), false)?;
+    assert_eq!(rt; match_links(&stuck), Ok(()));
+    assert_eq!(rt; order(rt.alloc(), &stuck).err(), Some(OrderFault::Circle));
+    Ok(())
+}
+
+#[test]
+fn words_of_faults(rt: HostRuntime) -> Result<(), Fail> {
+    for (fault, words) in [
+        (
+            OrderFault::Match(MatchFault::NoSending { link: 1, k: 2 }),
+            "link 1: receipt 2 has no sending",
+        ),
+        (
+            OrderFault::Match(MatchFault::Differs { link: 1, k: 1 }),
+            "link 1: receipt 1 differs",
+        ),
+        (OrderFault::Circle, "circle"),
+        (OrderFault::OutOfMemory, "out of memory"),
+    ] {
+        assert_eq!(rt; format!(in rt.alloc(); "{fault}")?.as_str(), words);
+    }
+    Ok(())
+}
