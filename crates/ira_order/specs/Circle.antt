@@ -1,4 +1,4 @@
--- Logs that match and yet have no order: their events wait for one another in a circle.
+-- Circles: logs that match and yet have no order.
 use Rattle.std.specs.Prelude.{List, ℕ}
 use Rattle.ira_event.specs.Log.{Log}
 use Rattle.ira_order.specs.Matching.{Matches}

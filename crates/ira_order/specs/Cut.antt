@@ -9,8 +9,8 @@ pub record IsCut (logs : List Log) (cut : List ℕ) : Type 0 where
   pub places : length cut ≡ length logs
   pub within : (i : ℕ) → i < length logs → slice_index cut i ≤ length (log_of logs i)
 
--- with each event that it holds, the cut that holds (at i) events of each node i holds every event
--- that happened before that one
+-- where (at i) events of each node i are held: with each event held, every event that happened before
+-- it is held
 abbrev pub HoldsAllBefore : List Log → (ℕ → ℕ) → Type 0
 HoldsAllBefore logs at = (i a j b : ℕ) → Before logs i a j b → b ≤ at j → a ≤ at i
 

@@ -3,9 +3,8 @@ use Rattle.std.specs.Prelude.{◌≡◌, ◌≤◌, ◌<◌, ℕ, List, length, 
 use Rattle.ira_event.specs.declared.event.Event.{Event}
 use Rattle.ira_event.specs.Log.{Log}
 use Rattle.ira_event.specs.Logs.{AreLogs}
-use Rattle.ira_node.specs.NodeState.{first_state}
 use Rattle.ira_replay.specs.declared.replay_fault.ReplayFault.{ReplayFault}
-use Rattle.ira_replay.specs.LocalRun.{StopsAt}
+use Rattle.ira_replay.specs.LocalRun.{IsFirstFault}
 use Rattle.ira_order.specs.declared.match_fault.MatchFault.{MatchFault}
 use Rattle.ira_order.specs.Matching.{Matches}
 use Rattle.ira_order.specs.MatchFault.{IsMatchFault}
@@ -51,17 +50,17 @@ CircledLogsHaveNoRun =
 abbrev pub FaultyLogsHaveNoRun : Type 0
 FaultyLogsHaveNoRun =
     (logs : List Log) (i : ℕ) (log : Log) (f : ReplayFault) (run : List (ℕ × Event)) → AreLogs logs → slice_get logs i ≡ Some log
-    → StopsAt log.nodes (first_state log.initiator) log.events f → IsRingRun logs run → ¬ (IsRunOfLogs logs run)
+    → IsFirstFault log f → IsRingRun logs run → ¬ (IsRunOfLogs logs run)
 
--- the numbers of the places in a beginning of an order are a consistent cut
+-- how often each place stands in a beginning of an order is a consistent cut
 abbrev pub MomentsAreCuts : Type 0
 MomentsAreCuts =
     (logs : List Log) (order cut : List ℕ) (t : ℕ) → AreLogs logs → Matches logs → IsOrder logs order → t ≤ length order
     → length cut ≡ length logs → ((i : ℕ) → i < length logs → slice_index cut i ≡ standings (take t order) i)
     → IsConsistentCut logs cut
 
--- each consistent cut of logs that have an order is the numbers of the places in a beginning of some
--- order
+-- each consistent cut of logs that have an order is how often each place stands in a beginning of
+-- some order
 abbrev pub CutsAreMoments : Type 0
 CutsAreMoments =
     (logs : List Log) (order cut : List ℕ) → AreLogs logs → Matches logs → IsOrder logs order → IsConsistentCut logs cut

@@ -1,5 +1,5 @@
 -- Links are first in, first out: the k-th receipt of a link takes the k-th sending (Itai and Rodeh,
--- Symmetry breaking in distributed networks, Information and Computation 88, 1990, section 2).
+-- Symmetry breaking in distributed networks, Information and Computation 88, 1990).
 use Rattle.std.specs.Prelude.{◌≡◌, ℕ, ◌<◌, List, Option, Some, None, length}
 use Rattle.std.specs.List.{filter_map}
 use Rattle.ira_event.specs.declared.msg.Msg.{Msg}

@@ -26,7 +26,8 @@ pub record IsPair (logs : List Log) (i a b : ℕ) : Type 0 where
   pub receives : numbered (log_of logs (next (length logs) i)) b ≡ Some (Got taken)
   pub rank : length (sent (take a (log_of logs i))) ≡ length (got (take b (log_of logs (next (length logs) i))))
 
--- each place stands as often as its log has events, and each receipt stands after its sending
+-- of logs that match: each place stands as often as its log has events, and each receipt stands after
+-- its sending
 pub record IsOrder (logs : List Log) (order : List ℕ) : Type 0 where
   pub places : All (λ p. p < length logs) order
   pub whole : (i : ℕ) → i < length logs → standings order i ≡ length (log_of logs i)

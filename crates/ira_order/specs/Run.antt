@@ -10,7 +10,7 @@ use Rattle.ira_event.specs.Logs.{EachLog}
 use Rattle.ira_node.specs.declared.node_state.NodeState.{NodeState}
 use Rattle.ira_node.specs.NodeState.{first_state}
 use Rattle.ira_node.specs.NodeStep.{NodeStep}
-use Rattle.ira_replay.specs.LocalRun.{LeadsTo}
+use Rattle.ira_replay.specs.LocalRun.{IsLocalRun}
 use Rattle.ira_order.specs.Ring.{prev, log_of}
 
 -- what an event of node i does to the messages on the links of a ring of n nodes
@@ -22,7 +22,7 @@ LinkStep n i (Sent m) old new = (new i ≡ old i ++ m ∷ []) × ((j : ℕ) → 
 -- a message that is received stood first on the link that leads to the node, and is taken away
 LinkStep n i (Got m) old new = (old (prev n i) ≡ m ∷ new (prev n i)) × ((j : ℕ) → j < n → j ≢ prev n i → new j ≡ old j)
 
--- the state of each node, and the messages on each link
+-- the state of each node, and the messages on each link; only places of the ring count
 pub record Configuration : Type 0 where
   pub state : ℕ → NodeState
   pub link : ℕ → List Msg
@@ -56,10 +56,10 @@ IsRingRun logs run = Chains (length logs) (opening logs) run
 abbrev pub event_of : ℕ → ℕ × Event → Option Event
 event_of i x = cond (x.0 == i) (Some x.1) None
 
--- the events of each node, in their order, are its log
+-- the events of each node, in their order, are its log; whether or not they are a run
 abbrev pub IsRunOfLogs : List Log → List (ℕ × Event) → Type 0
 IsRunOfLogs logs run = (i : ℕ) → i < length logs → filter_map (event_of i) run ≡ log_of logs i
 
 -- all events of each log have steps
 abbrev pub AreLocalRuns : List Log → Type 0
-AreLocalRuns logs = EachLog logs (λ i log. (t : NodeState) × LeadsTo log.nodes (first_state log.initiator) log.events t)
+AreLocalRuns logs = EachLog logs (λ i log. IsLocalRun log)

@@ -2,7 +2,7 @@ use crate::match_fault::MatchFault;
 use std::alloc::{AllocError, AllocFailed};
 use thiserror::Error;
 
-/// Why logs have no order.
+/// Why no order was given.
 #[derive(Clone, Copy, Debug, PartialEq, Eq, Error)]
 pub enum OrderFault {
     /// The logs don't match.
