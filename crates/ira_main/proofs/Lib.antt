@@ -1,3 +1,1 @@
-pub mod Auditing
 pub mod Reading
-pub mod Unless

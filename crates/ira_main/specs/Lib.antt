@@ -1,6 +1,4 @@
-pub mod Answer
 pub mod Counted
 pub mod ReadText
-pub mod Report
 pub mod Serve
 pub mod Status

@@ -2,12 +2,12 @@
 use Rattle.std.specs.Prelude.{◌≡◌, ◌⊎◌, ℕ, ◌+◌, true, List, Option}
 use Rattle.ira_event.specs.declared.limits.TheConstants.{MAX_TEXT}
 use Rattle.ira_event.specs.Sink.{Takes, StopsIn}
-use Rattle.ira_main.specs.Answer.{IsAnswer}
+use Rattle.ira_audit.specs.Answer.{IsAnswer}
 use Rattle.ira_main.specs.Counted.{Reads}
 use Rattle.ira_main.specs.ReadText.{IsReadTo}
-use Rattle.ira_main.specs.Report.{report_line}
+use Rattle.ira_audit.specs.Report.{report_line}
 use Rattle.ira_main.specs.Status.{status_number, answer_status}
-use Rattle.ira_main.specs.declared.answer.Answer.{Answer}
+use Rattle.ira_audit.specs.declared.answer.Answer.{Answer}
 
 -- nothing was written, and nothing failed
 pub record IsUntouched (taken : Option (List ℕ)) (failures : ℕ) (taken' : Option (List ℕ)) (failures' : ℕ) : Type 0 where

@@ -1,6 +1,6 @@
 use Rattle.std.specs.Prelude.{ℕ}
-use Rattle.ira_main.specs.declared.answer.Answer.{Answer}
-use Rattle.ira_main.specs.declared.answer.Answer.TheVariants as answer
+use Rattle.ira_audit.specs.declared.answer.Answer.{Answer}
+use Rattle.ira_audit.specs.declared.answer.Answer.TheVariants as answer
 use Rattle.ira_main.specs.declared.status.Status.{Status}
 use Rattle.ira_main.specs.declared.status.Status.TheVariants.{Yes, No, Refused, OutOfMemory}
 

@@ -1,17 +1,15 @@
 ghost use Rattle.std.specs.Prelude.{◌≡◌, ◌≢◌, ◌≤◌, ◌+◌, []};
-ghost use Rattle.ira_main.specs.Report.{IsReportable};
+ghost use Rattle.ira_audit.specs.Report.{IsReportable};
 ghost use Rattle.ira_main.specs.Serve.{Judges, Refuses, Reports};
 ghost use Rattle.ira_main.specs.Status.{status_number};
 
-use crate::answer::Answer;
-use crate::audit::audit_one;
 use crate::command_line::refuse;
 use crate::complaint::complain;
 use crate::counted::Counted;
 use crate::read_text::read_text;
-use crate::report::write_report;
 use crate::shelf::{Shelf, ShelfFault};
 use crate::status::Status;
+use ira_audit::{Answer, audit_one, write_report};
 use ira_event::{MAX_TEXT, OutOfMemory, Sink};
 use std::alloc::Allocator;
 use std::io::Read;

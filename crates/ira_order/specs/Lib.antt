@@ -9,4 +9,5 @@ pub mod Order
 pub mod Ordered
 pub mod Ring
 pub mod Run
+pub mod RunsOfLogs
 pub mod Scan

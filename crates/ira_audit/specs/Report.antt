@@ -4,10 +4,14 @@ use Rattle.ira_event.specs.declared.log_fault.LogFault.{LogFault}
 use Rattle.ira_event.specs.declared.log_fault.LogFault.TheVariants.{TooLong, Head, Line, Range, TooMany, Cut, Count, Trailing, OutOfMemory}
 use Rattle.ira_node.specs.declared.step_fault.StepFault.{StepFault}
 use Rattle.ira_node.specs.declared.step_fault.StepFault.TheVariants.{Owes, NotOwed, NotChoosing, DrawRange, MustDraw, Ended, HopPast, RoundLimit, HopLimit}
-use Rattle.ira_main.specs.declared.answer.Reason.{Reason}
-use Rattle.ira_main.specs.declared.answer.Reason.TheVariants.{Log, Replay}
-use Rattle.ira_main.specs.declared.answer.Answer.{Answer}
-use Rattle.ira_main.specs.declared.answer.Answer.TheVariants.{Yes, No}
+use Rattle.ira_event.specs.declared.head_fault.HeadFault.{HeadFault}
+use Rattle.ira_event.specs.declared.head_fault.HeadFault.TheVariants.{Number, Size, Place}
+use Rattle.ira_order.specs.declared.match_fault.MatchFault.{MatchFault}
+use Rattle.ira_order.specs.declared.match_fault.MatchFault.TheVariants.{NoSending, Differs}
+use Rattle.ira_audit.specs.declared.reason.Reason.{Reason}
+use Rattle.ira_audit.specs.declared.reason.Reason.TheVariants.{Log, Heads, Match, Circle, Replay}
+use Rattle.ira_audit.specs.declared.answer.Answer.{Answer}
+use Rattle.ira_audit.specs.declared.answer.Answer.TheVariants.{Yes, No}
 
 -- the words, and a number behind them
 abbrev pub numbered : List ℕ → ℕ → List ℕ
@@ -25,6 +29,21 @@ log_fault_words Count = codes "count"
 log_fault_words Trailing = codes "trailing"
 log_fault_words OutOfMemory = []
 
+-- why logs aren't those of one ring, in words
+abbrev pub head_fault_words : HeadFault → List ℕ
+head_fault_words Number = codes "number"
+head_fault_words (Size i) = numbered (codes "size ") i
+head_fault_words (Place i) = numbered (codes "place ") i
+
+-- the receipt k of link i, in words
+abbrev pub receipt_words : ℕ → ℕ → List ℕ
+receipt_words i k = numbered (codes "link ") i ++ numbered (codes ": receipt ") k
+
+-- why logs don't match, in words
+abbrev pub match_fault_words : MatchFault → List ℕ
+match_fault_words (NoSending link k) = receipt_words link k ++ codes " has no sending"
+match_fault_words (Differs link k) = receipt_words link k ++ codes " differs"
+
 -- why an event has no step, in words
 abbrev pub step_fault_words : StepFault → List ℕ
 step_fault_words Owes = codes "owes"
@@ -40,6 +59,9 @@ step_fault_words HopLimit = codes "hop limit"
 -- the reason in words
 abbrev pub reason_words : Reason → List ℕ
 reason_words (Log number fault) = numbered (codes "no: log ") number ++ codes ": " ++ log_fault_words fault
+reason_words (Heads fault) = codes "no: heads: " ++ head_fault_words fault
+reason_words (Match fault) = codes "no: " ++ match_fault_words fault
+reason_words Circle = codes "no: circle"
 reason_words (Replay place position fault) =
     numbered (codes "no: node ") place ++ numbered (codes ": event ") position ++ codes ": " ++ step_fault_words fault
 
@@ -51,6 +73,9 @@ report_line (No reason) = reason_words reason ++ codes "\n"
 -- the reason holds no want of memory
 abbrev pub IsReportableReason : Reason → Type 0
 IsReportableReason (Log number fault) = fault ≢ OutOfMemory
+IsReportableReason (Heads fault) = ⊤
+IsReportableReason (Match fault) = ⊤
+IsReportableReason Circle = ⊤
 IsReportableReason (Replay place position fault) = ⊤
 
 -- the answer holds no want of memory

@@ -1,8 +1,8 @@
 use Rattle.std.proofs.Common.{◌++◌, codes, decimal}
 use Rattle.std.proofs.lemmas.Result.{err_from_is_err_and}
 use Rattle.ira_event.proofs.Writing.{StopsIn-append, Takes-StopsIn, Takes-append, Wrote-then}
-use Rattle.ira_main.specs.Report.{log_fault_words}
-use Rattle.ira_main.proofs.report.write_log_reason.Goals as goal
+use Rattle.ira_audit.specs.Report.{log_fault_words}
+use Rattle.ira_audit.proofs.report.write_log_reason.Goals as goal
 
 pub returns-in_err-write_numbered : goal.returns-in_err-write_numbered
 returns-in_err-write_numbered g c =

@@ -1,12 +1,6 @@
-use ira_event::LogFault;
+use ira_event::{HeadFault, LogFault};
 use ira_node::StepFault;
-
-/// What is said of a log.
-#[derive(Clone, Copy, Debug, PartialEq, Eq)]
-pub enum Answer {
-    Yes,
-    No(Reason),
-}
+use ira_order::MatchFault;
 
 /// Why the answer is no: the first reason that holds, in this order.
 #[derive(Clone, Copy, Debug, PartialEq, Eq)]
@@ -16,6 +10,12 @@ pub enum Reason {
         number: u32,
         fault: LogFault,
     },
+    /// The logs aren't those of one ring, each at its place.
+    Heads(HeadFault),
+    /// A receipt has no sending, or another message than its sending.
+    Match(MatchFault),
+    /// Events wait for one another in a circle, so that the logs have no order.
+    Circle,
     /// An event of a node has no step. `place` is the node's, and events count from 1.
     Replay {
         place: u8,

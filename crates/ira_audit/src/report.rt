@@ -1,10 +1,12 @@
 ghost use Rattle.std.specs.Prelude.{◌≡◌, ◌≢◌, ◌++◌, codes, decimal};
 ghost use Rattle.ira_event.specs.Sink.{Wrote};
-ghost use Rattle.ira_main.specs.Report.{log_fault_words, step_fault_words, reason_words, report_line, IsReportable, IsReportableReason};
+ghost use Rattle.ira_audit.specs.Report.{log_fault_words, head_fault_words, receipt_words, match_fault_words, step_fault_words, reason_words, report_line, IsReportable, IsReportableReason};
 
-use crate::answer::{Answer, Reason};
-use ira_event::{LogFault, Sink, WriteFault, write_bytes, write_number};
+use crate::answer::Answer;
+use crate::reason::Reason;
+use ira_event::{HeadFault, LogFault, Sink, WriteFault, write_bytes, write_number};
 use ira_node::StepFault;
+use ira_order::MatchFault;
 
 #[tactic(auto, using(ira_event::proofs::Writing::writes))]
 fn write_numbered<W: Sink>(before: &[u8], n: u32, sink: &mut W) -> Result<(), WriteFault>
@@ -28,6 +30,36 @@ fn write_log_fault<W: Sink>(fault: LogFault, sink: &mut W) -> Result<(), WriteFa
         LogFault::Count => write_bytes(b"count", sink),
         LogFault::Trailing => write_bytes(b"trailing", sink),
         LogFault::OutOfMemory => unreachable!(),
+    }
+}
+
+fn write_head_fault<W: Sink>(fault: HeadFault, sink: &mut W) -> Result<(), WriteFault>
+    ensures { Wrote result (head_fault_words fault) (W.taken sink.old) (W.failures sink.old) (W.taken sink.new) (W.failures sink.new) }
+{
+    match fault {
+        HeadFault::Number => write_bytes(b"number", sink),
+        HeadFault::Size(i) => write_numbered(b"size ", u32::from(i), sink),
+        HeadFault::Place(i) => write_numbered(b"place ", u32::from(i), sink),
+    }
+}
+
+#[tactic(auto, using(ira_event::proofs::Writing::writes))]
+fn write_receipt<W: Sink>(link: u32, k: u32, words: &[u8], sink: &mut W) -> Result<(), WriteFault>
+    ensures { Wrote result (receipt_words link k ++ words.now) (W.taken sink.old) (W.failures sink.old) (W.taken sink.new) (W.failures sink.new) }
+{
+    write_numbered(b"link ", link, sink)?;
+    write_numbered(b": receipt ", k, sink)?;
+    write_bytes(words, sink)
+}
+
+fn write_match_fault<W: Sink>(fault: MatchFault, sink: &mut W) -> Result<(), WriteFault>
+    ensures { Wrote result (match_fault_words fault) (W.taken sink.old) (W.failures sink.old) (W.taken sink.new) (W.failures sink.new) }
+{
+    match fault {
+        MatchFault::NoSending { link, k } => {
+            write_receipt(u32::from(link), k, b" has no sending", sink)
+        }
+        MatchFault::Differs { link, k } => write_receipt(u32::from(link), k, b" differs", sink),
     }
 }
 
@@ -72,12 +104,31 @@ fn write_replay_reason<W: Sink>(
     write_bytes(step_fault_text(fault), sink)
 }
 
+#[tactic(auto, using(ira_event::proofs::Writing::writes))]
+fn write_heads_reason<W: Sink>(fault: HeadFault, sink: &mut W) -> Result<(), WriteFault>
+    ensures { Wrote result (reason_words (Reason.Heads fault)) (W.taken sink.old) (W.failures sink.old) (W.taken sink.new) (W.failures sink.new) }
+{
+    write_bytes(b"no: heads: ", sink)?;
+    write_head_fault(fault, sink)
+}
+
+#[tactic(auto, using(ira_event::proofs::Writing::writes))]
+fn write_match_reason<W: Sink>(fault: MatchFault, sink: &mut W) -> Result<(), WriteFault>
+    ensures { Wrote result (reason_words (Reason.Match fault)) (W.taken sink.old) (W.failures sink.old) (W.taken sink.new) (W.failures sink.new) }
+{
+    write_bytes(b"no: ", sink)?;
+    write_match_fault(fault, sink)
+}
+
 fn write_reason<W: Sink>(reason: &Reason, sink: &mut W) -> Result<(), WriteFault>
     requires { IsReportableReason reason.now }
     ensures { Wrote result (reason_words reason.now) (W.taken sink.old) (W.failures sink.old) (W.taken sink.new) (W.failures sink.new) }
 {
     match *reason {
         Reason::Log { number, fault } => write_log_reason(number, fault, sink),
+        Reason::Heads(fault) => write_heads_reason(fault, sink),
+        Reason::Match(fault) => write_match_reason(fault, sink),
+        Reason::Circle => write_bytes(b"no: circle", sink),
         Reason::Replay {
             place,
             position,

@@ -1,0 +1,4 @@
+pub mod Judging
+pub mod LogTexts
+pub mod OneAnswer
+pub mod Unless

@@ -1,0 +1,6 @@
+pub mod Answer
+pub mod LogTexts
+pub mod LogsAnswer
+pub mod Refusal
+pub mod Report
+pub mod TextRuns

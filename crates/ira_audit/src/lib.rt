@@ -1,0 +1,13 @@
+//! What is said of the texts of logs: of one log alone, or of the logs of a whole ring together.
+#![tactic(auto)]
+
+mod answer;
+mod one_log;
+mod reason;
+mod refusal;
+mod report;
+
+pub use answer::Answer;
+pub use one_log::audit_one;
+pub use reason::Reason;
+pub use report::write_report;

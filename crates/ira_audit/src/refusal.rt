@@ -1,0 +1,75 @@
+ghost use Rattle.std.specs.Prelude.{◌≡◌, Ok, Err};
+ghost use Rattle.ira_audit.specs.declared.answer.Answer.TheVariants as answer;
+
+use crate::answer::Answer;
+use crate::reason::Reason;
+use ira_event::{HeadFault, OutOfMemory};
+use ira_order::OrderFault;
+use std::alloc::{AllocError, AllocFailed};
+
+/// Why there is no yes: a reason, which holds no want of memory, or a growth that was refused.
+#[derive(Clone, Copy, Debug, PartialEq, Eq)]
+pub(crate) enum Refusal {
+    No(Reason),
+    OutOfMemory,
+}
+
+impl From<Reason> for Refusal {
+    ghost use Rattle.std.specs.Prelude.{◌≡◌};
+    ghost use Rattle.ira_audit.specs.declared.refusal.Refusal.TheVariants.{No};
+
+    ghost from_gives = { λ reason r. r ≡ No reason };
+
+    fn from(reason: Reason) -> Refusal {
+        Refusal::No(reason)
+    }
+}
+
+impl From<HeadFault> for Refusal {
+    ghost use Rattle.std.specs.Prelude.{◌≡◌};
+    ghost use Rattle.ira_audit.specs.declared.reason.Reason.TheVariants.{Heads};
+    ghost use Rattle.ira_audit.specs.declared.refusal.Refusal.TheVariants.{No};
+
+    ghost from_gives = { λ fault r. r ≡ No (Heads fault) };
+
+    fn from(fault: HeadFault) -> Refusal {
+        Refusal::No(Reason::Heads(fault))
+    }
+}
+
+impl From<OrderFault> for Refusal {
+    ghost use Rattle.std.specs.Prelude.{◌≡◌};
+    ghost use Rattle.ira_audit.specs.Refusal.{order_refusal};
+
+    ghost from_gives = { λ fault r. r ≡ order_refusal fault };
+
+    fn from(fault: OrderFault) -> Refusal {
+        match fault {
+            OrderFault::Match(fault) => Refusal::No(Reason::Match(fault)),
+            OrderFault::Circle => Refusal::No(Reason::Circle),
+            OrderFault::OutOfMemory => Refusal::OutOfMemory,
+        }
+    }
+}
+
+impl From<AllocError> for Refusal {
+    ghost use Rattle.std.specs.Prelude.{◌≡◌};
+    ghost use Rattle.ira_audit.specs.declared.refusal.Refusal.TheVariants.{OutOfMemory};
+
+    ghost from_gives = { λ _ r. r ≡ OutOfMemory };
+
+    fn from(_refused: AllocError) -> Refusal {
+        Refusal::OutOfMemory
+    }
+}
+
+impl<T: Drop> From<AllocFailed<T>> for Refusal {
+    ghost use Rattle.std.specs.Prelude.{◌≡◌};
+    ghost use Rattle.ira_audit.specs.declared.refusal.Refusal.TheVariants.{OutOfMemory};
+
+    ghost from_gives = { λ _ r. r ≡ OutOfMemory };
+
+    fn from(_refused: AllocFailed<T>) -> Refusal {
+        Refusal::OutOfMemory
+    }
+}
