@@ -1,5 +1,5 @@
 -- What an audit that has judged by a definition of answers has answered.
-use Rattle.std.proofs.Common.{◌≡◌, ◌≢◌, ◌↔◌, ◌⊎◌, ℕ, List, Result, Ok, Err, inl, inr, refl, subst, ap}
+use Rattle.std.proofs.Common.{◌≡◌, ◌≢◌, ◌↔◌, ◌⊎◌, ℕ, List, Some, take, slice_get, Result, Ok, Err, inl, inr, refl, subst, ap}
 use Rattle.ira_event.specs.Result.{UnlessErr}
 use Rattle.ira_event.specs.declared.log_fault.LogFault.{LogFault}
 use Rattle.ira_event.specs.declared.log_fault.LogFault.TheVariants as fault
@@ -15,7 +15,16 @@ use Rattle.ira_audit.specs.declared.refusal.Refusal.{Refusal}
 use Rattle.ira_audit.specs.declared.refusal.Refusal.TheVariants as refusal
 use Rattle.ira_audit.specs.declared.answer.Answer.{Answer}
 use Rattle.ira_audit.specs.Answer as single
-use Rattle.ira_audit.specs.Refusal.{Judged}
+use Rattle.ira_audit.specs.Refusal.{Judged, order_refusal}
+use Rattle.ira_event.specs.declared.head_fault.HeadFault.{HeadFault}
+use Rattle.ira_event.specs.Logs.{AreLogs, HeadFaultOf}
+use Rattle.ira_order.specs.declared.match_fault.MatchFault.{MatchFault}
+use Rattle.ira_order.specs.declared.order_fault.OrderFault.{OrderFault}
+use Rattle.ira_order.specs.declared.order_fault.OrderFault.TheVariants as order
+use Rattle.ira_order.specs.Circle.{HasCircle, HasOrder}
+use Rattle.ira_order.specs.MatchFault.{IsMatchFault}
+use Rattle.ira_audit.specs.LogTexts.{AreLogTexts, IsFirstTextFault}
+use Rattle.ira_audit.specs.LogsAnswer.{IsLogsAnswer, IsFirstStop, no_log, no_ring, unmatched, circled, stopped}
 use Rattle.ira_audit.proofs.Unless.{ok_same}
 
 -- an answer that is right is the only one
@@ -34,3 +43,37 @@ pub log_refused : (text : List ℕ) (log : Log) (r : Result (Unit {0}) Refusal) 
     → (f : ReplayFault) × (s ≡ reason.Replay log.place f.position f.fault) × IsFirstFault log f
     → Judged r (single.IsAnswer text)
 log_refused text log r s is of h = rw (is, h.1) (single.stopped log h.0 of h.2 refl, tt)
+
+-- ---- texts of several logs
+
+-- the text that comes next is refused
+pub next_refused : (texts : List (List ℕ)) (logs : List Log) (i n : ℕ) (text : List ℕ) (s : Refusal) → AreLogTexts (take i texts) logs → slice_get texts i ≡ Some text → n ≡ i
+    → (s ≡ refusal.OutOfMemory) ⊎ ((f : LogFault) × (s ≡ refusal.No (reason.Log n f)) × LogTextFault text f × (f ≢ fault.OutOfMemory))
+    → (s ≡ refusal.OutOfMemory) ⊎ ((m : ℕ) × (f : LogFault) × (s ≡ refusal.No (reason.Log m f)) × IsFirstTextFault texts m f × (f ≢ fault.OutOfMemory))
+next_refused texts logs i n text s before at number (inl e) = inl e
+next_refused texts logs i n text s before at number (inr h) =
+    inr (n, h.0, h.1, rw number (record { before = logs; before_are = before; text = text; at = at; fault = h.2 }), h.3)
+
+-- a text is no log's
+pub texts_refused : (texts : List (List ℕ)) (r : Result (Unit {0}) Refusal) (s : Refusal) → r ≡ Err s
+    → (s ≡ refusal.OutOfMemory) ⊎ ((m : ℕ) × (f : LogFault) × (s ≡ refusal.No (reason.Log m f)) × IsFirstTextFault texts m f × (f ≢ fault.OutOfMemory))
+    → Judged r (IsLogsAnswer texts)
+texts_refused texts r s is (inl e) = rw (is, e) tt
+texts_refused texts r s is (inr h) = rw (is, h.2) (no_log h.0 h.1 h.3 refl, h.4)
+
+module _ (texts : List (List ℕ)) (logs : List Log) (are : AreLogTexts texts logs) (r : Result (Unit {0}) Refusal) where
+  pub heads_refused : (f : HeadFault) → r ≡ Err (refusal.No (reason.Heads f)) → HeadFaultOf logs f → Judged r (IsLogsAnswer texts)
+  heads_refused f is h = rw is (no_ring logs f are h refl, tt)
+
+  pub order_refused : {T : Type 0} (f : OrderFault) → r ≡ Err (order_refusal f) → AreLogs logs
+      → ((g : MatchFault) → ◌≡◌ {A = Result T OrderFault} (Err f) (Err (order.Match g)) ↔ IsMatchFault logs g)
+      → (◌≢◌ {A = Result T OrderFault} (Err f) (Err order.OutOfMemory) → ◌≡◌ {A = Result T OrderFault} (Err f) (Err order.Circle) ↔ HasCircle logs)
+      → Judged r (IsLogsAnswer texts)
+  order_refused (order.Match g) is ring matches circle = rw is (unmatched logs g are ring ((matches g).0 refl) refl, tt)
+  order_refused order.Circle is ring matches circle = rw is (circled logs are ring ((circle (λ e. cc)).0 refl) refl, tt)
+  order_refused order.OutOfMemory is ring matches circle = rw is tt
+
+  pub stop_refused : (s : Reason) → r ≡ Err (refusal.No s) → AreLogs logs → HasOrder logs
+      → (place : ℕ) × (f : ReplayFault) × (s ≡ reason.Replay place f.position f.fault) × IsFirstStop logs place f
+      → Judged r (IsLogsAnswer texts)
+  stop_refused s is ring has h = rw (is, h.2) (stopped logs h.0 h.1 are ring has h.3 refl, tt)

@@ -1,4 +1,5 @@
 pub mod Judging
 pub mod LogTexts
 pub mod OneAnswer
+pub mod TextRuns
 pub mod Unless

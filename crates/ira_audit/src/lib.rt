@@ -2,12 +2,16 @@
 #![tactic(auto)]
 
 mod answer;
+mod laws;
 mod one_log;
 mod reason;
 mod refusal;
 mod report;
+mod ring_logs;
 
 pub use answer::Answer;
+pub use laws::answers_are_one;
 pub use one_log::audit_one;
 pub use reason::Reason;
 pub use report::write_report;
+pub use ring_logs::audit_logs;
