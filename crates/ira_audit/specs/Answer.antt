@@ -16,7 +16,7 @@ pub data IsAnswer (text : List ℕ) (answer : Answer) : Type 0 where
   no_log :
       (f : LogFault) → LogTextFault text f
       → answer ≡ No (reason.Log 0 f) → IsAnswer text answer
-  -- it is a log's, an event of which has no step; the log's own place is named
+  -- it is a log's, and this is its first event without a step; the log's own place is named
   stopped :
       (log : Log) (f : ReplayFault) → IsLogText text log → IsFirstFault log f
       → answer ≡ No (reason.Replay log.place f.position f.fault) → IsAnswer text answer

@@ -6,7 +6,7 @@ use Rattle.ira_event.specs.Log.{Log}
 use Rattle.ira_event.specs.LogText.{IsLogText}
 use Rattle.ira_event.specs.LogTextFault.{LogTextFault}
 
--- these are the texts of these logs, one by one
+-- there are as many texts as logs, and each text is that of its log
 abbrev pub AreLogTexts : List (List ℕ) → List Log → Type 0
 AreLogTexts texts logs = AllZip IsLogText texts logs
 

@@ -25,7 +25,7 @@ pub record IsFirstStop (logs : List Log) (place : ℕ) (f : ReplayFault) : Type 
 
 -- the answer of the texts
 pub data IsLogsAnswer (texts : List (List ℕ)) (answer : Answer) : Type 0 where
-  -- a text is no log's
+  -- a text is no log's: the first such text, and its fault
   no_log :
       (number : ℕ) (f : LogFault) → IsFirstTextFault texts number f
       → answer ≡ No (reason.Log number f) → IsLogsAnswer texts answer

@@ -9,14 +9,14 @@ use Rattle.ira_audit.specs.declared.answer.Answer.{Answer}
 use Rattle.ira_audit.specs.declared.answer.Answer.TheVariants as answer
 use Rattle.ira_audit.specs.Report.{IsReportableReason}
 
--- the refusal of logs that have no order
+-- the refusal where no order was given
 abbrev pub order_refusal : OrderFault → Refusal
 order_refusal (order.Match f) = No (Match f)
 order_refusal order.Circle = No Circle
 order_refusal order.OutOfMemory = OutOfMemory
 
--- the answer where there was no memory has none; else the fact holds of yes, or of a reason, which is
--- no want of memory
+-- where memory was wanting, nothing is said; else the fact holds of yes, or of the reason, and that
+-- reason holds no want of memory
 abbrev pub Judged : {T : Type 0} → Result T Refusal → (Answer → Type 0) → Type 0
 Judged (Ok _) P = P answer.Yes
 Judged (Err (No reason)) P = P (answer.No reason) × IsReportableReason reason

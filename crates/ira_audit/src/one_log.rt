@@ -40,7 +40,7 @@ fn judge_text<A: Allocator>(alloc: A, text: &[u8]) -> Result<(), Refusal>
 /// The log of the text of this number.
 pub(crate) fn read_text<A: Allocator>(
     alloc: A,
-    number: u32,
+    number: usize,
     text: &[u8],
 ) -> Result<NodeLog<A>, Refusal>
     ensures { MatchResult result (IsLogText text.now) (λ r. (r ≡ Refusal.OutOfMemory) ⊎ ((f : LogFault) × (r ≡ Refusal.No (Reason.Log number f)) × LogTextFault text.now f × (f ≢ LogFault.OutOfMemory))) }

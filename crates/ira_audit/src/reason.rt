@@ -7,7 +7,7 @@ use ira_order::MatchFault;
 pub enum Reason {
     /// A text is no log's. `number` is the text's number in the list of texts, from 0.
     Log {
-        number: u32,
+        number: usize,
         fault: LogFault,
     },
     /// The logs aren't those of one ring, each at its place.

@@ -9,7 +9,7 @@ use ira_node::StepFault;
 use ira_order::MatchFault;
 
 #[tactic(auto, using(ira_event::proofs::Writing::writes))]
-fn write_numbered<W: Sink>(before: &[u8], n: u32, sink: &mut W) -> Result<(), WriteFault>
+fn write_numbered<W: Sink>(before: &[u8], n: u64, sink: &mut W) -> Result<(), WriteFault>
     ensures { Wrote result (before.now ++ decimal n) (W.taken sink.old) (W.failures sink.old) (W.taken sink.new) (W.failures sink.new) }
 {
     write_bytes(before, sink)?;
@@ -23,8 +23,8 @@ fn write_log_fault<W: Sink>(fault: LogFault, sink: &mut W) -> Result<(), WriteFa
     match fault {
         LogFault::TooLong => write_bytes(b"too long", sink),
         LogFault::Head => write_bytes(b"head", sink),
-        LogFault::Line(k) => write_numbered(b"line ", k, sink),
-        LogFault::Range(k) => write_numbered(b"range ", k, sink),
+        LogFault::Line(k) => write_numbered(b"line ", u64::from(k), sink),
+        LogFault::Range(k) => write_numbered(b"range ", u64::from(k), sink),
         LogFault::TooMany => write_bytes(b"too many records", sink),
         LogFault::Cut => write_bytes(b"cut", sink),
         LogFault::Count => write_bytes(b"count", sink),
@@ -38,13 +38,13 @@ fn write_head_fault<W: Sink>(fault: HeadFault, sink: &mut W) -> Result<(), Write
 {
     match fault {
         HeadFault::Number => write_bytes(b"number", sink),
-        HeadFault::Size(i) => write_numbered(b"size ", u32::from(i), sink),
-        HeadFault::Place(i) => write_numbered(b"place ", u32::from(i), sink),
+        HeadFault::Size(i) => write_numbered(b"size ", u64::from(i), sink),
+        HeadFault::Place(i) => write_numbered(b"place ", u64::from(i), sink),
     }
 }
 
 #[tactic(auto, using(ira_event::proofs::Writing::writes))]
-fn write_receipt<W: Sink>(link: u32, k: u32, words: &[u8], sink: &mut W) -> Result<(), WriteFault>
+fn write_receipt<W: Sink>(link: u64, k: u64, words: &[u8], sink: &mut W) -> Result<(), WriteFault>
     ensures { Wrote result (receipt_words link k ++ words.now) (W.taken sink.old) (W.failures sink.old) (W.taken sink.new) (W.failures sink.new) }
 {
     write_numbered(b"link ", link, sink)?;
@@ -57,9 +57,14 @@ fn write_match_fault<W: Sink>(fault: MatchFault, sink: &mut W) -> Result<(), Wri
 {
     match fault {
         MatchFault::NoSending { link, k } => {
-            write_receipt(u32::from(link), k, b" has no sending", sink)
+            write_receipt(u64::from(link), u64::from(k), b" has no sending", sink)
         }
-        MatchFault::Differs { link, k } => write_receipt(u32::from(link), k, b" differs", sink),
+        MatchFault::Differs { link, k } => write_receipt(
+            u64::from(link),
+            u64::from(k),
+            b" differs",
+            sink,
+        ),
     }
 }
 
@@ -80,7 +85,7 @@ fn step_fault_text(fault: StepFault) -> &'static [u8]
 }
 
 #[tactic(auto, using(ira_event::proofs::Writing::writes))]
-fn write_log_reason<W: Sink>(number: u32, fault: LogFault, sink: &mut W) -> Result<(), WriteFault>
+fn write_log_reason<W: Sink>(number: u64, fault: LogFault, sink: &mut W) -> Result<(), WriteFault>
     requires { fault ≢ LogFault.OutOfMemory }
     ensures { Wrote result (reason_words (Reason.Log number fault)) (W.taken sink.old) (W.failures sink.old) (W.taken sink.new) (W.failures sink.new) }
 {
@@ -91,8 +96,8 @@ fn write_log_reason<W: Sink>(number: u32, fault: LogFault, sink: &mut W) -> Resu
 
 #[tactic(auto, using(ira_event::proofs::Writing::writes))]
 fn write_replay_reason<W: Sink>(
-    place: u32,
-    position: u32,
+    place: u64,
+    position: u64,
     fault: StepFault,
     sink: &mut W,
 ) -> Result<(), WriteFault>
@@ -125,7 +130,7 @@ fn write_reason<W: Sink>(reason: &Reason, sink: &mut W) -> Result<(), WriteFault
     ensures { Wrote result (reason_words reason.now) (W.taken sink.old) (W.failures sink.old) (W.taken sink.new) (W.failures sink.new) }
 {
     match *reason {
-        Reason::Log { number, fault } => write_log_reason(number, fault, sink),
+        Reason::Log { number, fault } => write_log_reason(number as u64, fault, sink),
         Reason::Heads(fault) => write_heads_reason(fault, sink),
         Reason::Match(fault) => write_match_reason(fault, sink),
         Reason::Circle => write_bytes(b"no: circle", sink),
@@ -133,12 +138,12 @@ fn write_reason<W: Sink>(reason: &Reason, sink: &mut W) -> Result<(), WriteFault
             place,
             position,
             fault,
-        } => write_replay_reason(u32::from(place), position, fault, sink),
+        } => write_replay_reason(u64::from(place), u64::from(position), fault, sink),
     }
 }
 
-/// Writes the line of an answer: `yes`, or `no` and the reason. No reason holds want of memory, which
-/// is no answer.
+/// Writes the line of an answer: `yes`, or `no` and the reason. The reason must hold no want of memory,
+/// which is no answer.
 #[tactic(auto, using(ira_event::proofs::Writing::writes))]
 pub fn write_report<W: Sink>(answer: &Answer, sink: &mut W) -> Result<(), WriteFault>
     requires { IsReportable answer.now }

@@ -24,10 +24,8 @@ use std::alloc::Allocator;
 /// logs, whether these are the logs of one ring, match and have an order, and whether each event has a
 /// step. The first reason against them is answered. No answer holds want of memory.
 ///
-/// After a yes, and after a reason that speaks of the logs together, what the logs have to do with runs
-/// of the ring is known: each order of them is one, or there is none.
-///
-/// Want of memory is also answered where the texts are more than a `u32` counts.
+/// After a yes the logs have an order, and each order of them is a run of the ring. Where they don't
+/// match, have no order, or an event has no step, they are the logs of no run.
 pub fn audit_logs<A: Allocator + Clone>(alloc: A, texts: &[&[u8]]) -> Result<Answer, OutOfMemory>
     ensures answer { (a : Answer) → UnlessErr result (record {}) ((result ≡ Ok a) ↔ IsLogsAnswer (map (λ text. text.now) texts.now) a) }
     ensures reportable { IfOk result IsReportable }
@@ -61,10 +59,7 @@ pub(crate) fn read_texts<A: Allocator + Clone>(
 {
     let mut logs = Vec::new(alloc.clone()?);
     for text in texts {
-        let Ok(number) = u32::try_from(logs.len()) else {
-            return Err(Refusal::OutOfMemory);
-        };
-        logs.push(read_text(alloc.clone()?, number, text)?)?;
+        logs.push(read_text(alloc.clone()?, logs.len(), text)?)?;
     }
     Ok(logs)
 }

@@ -28,7 +28,7 @@ pub fn write_bytes<W: Sink>(bytes: &[u8], sink: &mut W) -> Result<(), WriteFault
 }
 
 /// Writes a number in plain decimal.
-pub fn write_number<W: Sink>(n: u32, sink: &mut W) -> Result<(), WriteFault>
+pub fn write_number<W: Sink>(n: u64, sink: &mut W) -> Result<(), WriteFault>
     ensures { Wrote result (decimal n) (W.taken sink.old) (W.failures sink.old) (W.taken sink.new) (W.failures sink.new) }
 {
     write_bytes(Buffer::new().format(n).as_bytes(), sink)

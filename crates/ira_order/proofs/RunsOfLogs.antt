@@ -1,5 +1,5 @@
 -- Runs of logs: what an order means, and what the places of a run are.
-use Rattle.std.proofs.Common.{◌≡◌, ◌≢◌, ℕ, zero, suc, ◌+◌, ◌<◌, ◌≤◌, inl, inr, List, [], ◌∷◌, length, refl, sym, ◌∙◌, ap, arith, get_or, take, drop, false, Option, Some, None, cond, ◌==◌, subst, slice_get}
+use Rattle.std.proofs.Common.{Ok, ◌≡◌, ◌≢◌, ℕ, zero, suc, ◌+◌, ◌<◌, ◌≤◌, inl, inr, List, [], ◌∷◌, length, refl, sym, ◌∙◌, ap, arith, get_or, take, drop, false, Option, Some, None, cond, ◌==◌, subst, slice_get}
 use Rattle.std.specs.List.{filter_map, cons_option}
 use Rattle.std.specs.Prelude.{All}
 use Rattle.ira_event.specs.declared.event.Event.{Event}
@@ -9,13 +9,20 @@ use Rattle.ira_event.specs.Logs.{AreLogs}
 use Rattle.ira_node.specs.declared.node_state.NodeState.{NodeState}
 use Rattle.ira_node.specs.NodeState.{first_state}
 use Rattle.ira_node.specs.NodeStep.{NodeStep}
-use Rattle.ira_replay.specs.LocalRun.{LeadsTo}
+use Rattle.ira_replay.specs.declared.replay_fault.ReplayFault.{ReplayFault}
+use Rattle.ira_replay.specs.LocalRun.{LeadsTo, IsFirstFault}
+use Rattle.ira_replay.specs.StatesLeft.{replayed}
+use Rattle.ira_replay.proofs.Along.{leads_exactly, stops_exactly}
+use Rattle.ira_order.specs.declared.match_fault.MatchFault.{MatchFault}
+use Rattle.ira_order.specs.MatchFault.{IsMatchFault}
+use Rattle.ira_order.specs.Circle.{HasCircle}
+use Rattle.ira_order.specs.RunsOfLogs.{EveryOrderIsRun, HaveNoRun}
+use Rattle.ira_order.proofs.Faults.{unmatched}
 use Rattle.ira_order.specs.Ring.{log_of, events_of}
 use Rattle.ira_order.specs.Matching.{Matches}
 use Rattle.ira_order.specs.Order.{standings, IsOrder}
 use Rattle.ira_order.specs.Counts.{IsWhole, IsWholeSchedule}
-use Rattle.ira_order.specs.Run.{Configuration, Chains, opening, is_initiator, event_of, IsRingRun, IsRunOfLogs, AreLocalRuns}
-use Rattle.ira_order.specs.Laws.{places_of}
+use Rattle.ira_order.specs.Run.{Configuration, Chains, opening, is_initiator, event_of, IsRingRun, IsRunOfLogs, AreLocalRuns, places_of}
 use Rattle.ira_order.proofs.Ranks.{eq_cases}
 use Rattle.ira_order.proofs.Cuts.{cons_same, cons_other}
 use Rattle.ira_order.proofs.Bridge.{kept_order, order_schedule}
@@ -110,13 +117,15 @@ meant_events logs at (i ∷ order) j fits = elim (eq_cases i j) [
       ∙ ap (λ (x : ℕ). take x (drop (at j) (log_of logs j))) (sym number)
 ]
 
-pub order_means : (logs : List Log) (order : List ℕ) → IsOrder logs order → (run : List (ℕ × Event)) × (places_of run ≡ order) × IsRunOfLogs logs run
+pub order_means : (logs : List Log) (order : List ℕ) → IsOrder logs order → (run : List (ℕ × Event)) × ((places_of run ≡ order) × IsRunOfLogs logs run)
 order_means logs order o = (
   meant logs (λ i. 0) order,
-  meant_places logs (λ i. 0) order,
-  λ i l.
-      meant_events logs (λ i. 0) order i (omega (arith, o.whole i l))
-      ∙ take_all (standings order i) (log_of logs i) (omega (arith, o.whole i l)),
+  (
+    meant_places logs (λ i. 0) order,
+    λ i l.
+        meant_events logs (λ i. 0) order i (omega (arith, o.whole i l))
+        ∙ take_all (standings order i) (log_of logs i) (omega (arith, o.whole i l)),
+  ),
 )
 
 -- a run of logs is what its places mean
@@ -235,3 +244,22 @@ run_is_order logs run are chain is =
         whole = whole;
       },
     )
+
+-- ---- what answers rest on
+
+pub every_order_is_run : (logs : List Log) → AreLogs logs → Matches logs → AreLocalRuns logs → EveryOrderIsRun logs
+every_order_is_run logs are matches local = λ order is_order.
+    (order_means logs order is_order, λ run means. order_is_run logs run are matches local (subst (IsOrder logs) (sym means.0) is_order) means.1)
+
+pub unmatched_no_run : (logs : List Log) (f : MatchFault) → AreLogs logs → IsMatchFault logs f → HaveNoRun logs
+unmatched_no_run logs f are fault = λ run chain is. unmatched logs f fault (run_is_order logs run are chain is).0
+
+pub circled_no_run : (logs : List Log) → AreLogs logs → HasCircle logs → HaveNoRun logs
+circled_no_run logs are circle = λ run chain is. circle.1 _ (run_is_order logs run are chain is).2
+
+pub faulty_no_run : (logs : List Log) (i : ℕ) (log : Log) (f : ReplayFault) → AreLogs logs → slice_get logs i ≡ Some log → IsFirstFault log f → HaveNoRun logs
+faulty_no_run logs i log f are at stops = λ run chain is.
+    let local = (run_is_order logs run are chain is).1 i log at in
+    let good = (leads_exactly log.nodes (first_state log.initiator) log.events (replayed log.nodes 0 (Ok (first_state log.initiator)) log.events) refl local.0).1 local.1 in
+    let bad = (stops_exactly log.nodes (first_state log.initiator) log.events (replayed log.nodes 0 (Ok (first_state log.initiator)) log.events) refl f).1 stops in
+    cc

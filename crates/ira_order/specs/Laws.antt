@@ -1,5 +1,5 @@
 -- Laws of orders, cuts and runs.
-use Rattle.std.specs.Prelude.{◌≡◌, ◌≤◌, ◌<◌, ℕ, List, length, slice_index, take, map, slice_get, Some}
+use Rattle.std.specs.Prelude.{◌≡◌, ◌≤◌, ◌<◌, ℕ, List, length, slice_index, take, slice_get, Some}
 use Rattle.ira_event.specs.declared.event.Event.{Event}
 use Rattle.ira_event.specs.Log.{Log}
 use Rattle.ira_event.specs.Logs.{AreLogs}
@@ -11,23 +11,17 @@ use Rattle.ira_order.specs.MatchFault.{IsMatchFault}
 use Rattle.ira_order.specs.Circle.{HasCircle}
 use Rattle.ira_order.specs.Order.{IsOrder, standings}
 use Rattle.ira_order.specs.Cut.{IsConsistentCut}
-use Rattle.ira_order.specs.Run.{IsRingRun, IsRunOfLogs, AreLocalRuns}
+use Rattle.ira_order.specs.Run.{IsRingRun, IsRunOfLogs, AreLocalRuns, places_of}
+use Rattle.ira_order.specs.RunsOfLogs.{Means, EveryOrderIsRun, HaveNoRun}
 
--- the places of a run
-abbrev pub places_of : List (ℕ × Event) → List ℕ
-places_of run = map (λ x. x.0) run
-
--- an order means events, one for each standing of a place: there is a list of them whose places are
--- the order and whose events of each node are its log
+-- each order means events
 abbrev pub OrdersMeanEvents : Type 0
-OrdersMeanEvents =
-    (logs : List Log) (order : List ℕ) → IsOrder logs order → (run : List (ℕ × Event)) × (places_of run ≡ order) × IsRunOfLogs logs run
+OrdersMeanEvents = (logs : List Log) (order : List ℕ) → IsOrder logs order → (run : List (ℕ × Event)) × Means logs order run
 
--- each order of matched logs that are local runs is a run of the ring: the events that it means are
+-- each order of matched logs that are local runs is a run of the ring: it means events, and whatever
+-- events it means are one
 abbrev pub OrdersAreRuns : Type 0
-OrdersAreRuns =
-    (logs : List Log) (run : List (ℕ × Event)) → AreLogs logs → Matches logs → AreLocalRuns logs
-    → IsOrder logs (places_of run) → IsRunOfLogs logs run → IsRingRun logs run
+OrdersAreRuns = (logs : List Log) → AreLogs logs → Matches logs → AreLocalRuns logs → EveryOrderIsRun logs
 
 -- logs of which a run of the ring is a run match, are local runs, and have its places as an order
 abbrev pub RunsAreOrders : Type 0
@@ -37,20 +31,17 @@ RunsAreOrders =
 
 -- logs with a fault of matching are the logs of no run of the ring
 abbrev pub UnmatchedLogsHaveNoRun : Type 0
-UnmatchedLogsHaveNoRun =
-    (logs : List Log) (f : MatchFault) (run : List (ℕ × Event)) → AreLogs logs → IsMatchFault logs f → IsRingRun logs run
-    → ¬ (IsRunOfLogs logs run)
+UnmatchedLogsHaveNoRun = (logs : List Log) (f : MatchFault) → AreLogs logs → IsMatchFault logs f → HaveNoRun logs
 
 -- logs that match and have no order are the logs of no run of the ring
 abbrev pub CircledLogsHaveNoRun : Type 0
-CircledLogsHaveNoRun =
-    (logs : List Log) (run : List (ℕ × Event)) → AreLogs logs → HasCircle logs → IsRingRun logs run → ¬ (IsRunOfLogs logs run)
+CircledLogsHaveNoRun = (logs : List Log) → AreLogs logs → HasCircle logs → HaveNoRun logs
 
 -- logs one of which has an event without a node step are the logs of no run of the ring
 abbrev pub FaultyLogsHaveNoRun : Type 0
 FaultyLogsHaveNoRun =
-    (logs : List Log) (i : ℕ) (log : Log) (f : ReplayFault) (run : List (ℕ × Event)) → AreLogs logs → slice_get logs i ≡ Some log
-    → IsFirstFault log f → IsRingRun logs run → ¬ (IsRunOfLogs logs run)
+    (logs : List Log) (i : ℕ) (log : Log) (f : ReplayFault) → AreLogs logs → slice_get logs i ≡ Some log
+    → IsFirstFault log f → HaveNoRun logs
 
 -- how often each place stands in a beginning of an order is a consistent cut
 abbrev pub MomentsAreCuts : Type 0

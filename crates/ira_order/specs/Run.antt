@@ -1,6 +1,6 @@
 -- Runs of a ring of nodes that follow the algorithm of Itai and Rodeh (Symmetry breaking in
 -- distributed networks, Information and Computation 88, 1990).
-use Rattle.std.specs.Prelude.{◌≡◌, ◌≢◌, ℕ, ◌<◌, ◌==◌, List, [], ◌∷◌, ◌++◌, Bool, false, Option, Some, None, length, slice_get, cond}
+use Rattle.std.specs.Prelude.{◌≡◌, ◌≢◌, ℕ, ◌<◌, ◌==◌, List, [], ◌∷◌, ◌++◌, Bool, false, Option, Some, None, length, slice_get, cond, map}
 use Rattle.std.specs.List.{filter_map}
 use Rattle.ira_event.specs.declared.msg.Msg.{Msg}
 use Rattle.ira_event.specs.declared.event.Event.{Event}
@@ -59,6 +59,10 @@ event_of i x = cond (x.0 == i) (Some x.1) None
 -- the events of each node, in their order, are its log; whether or not they are a run
 abbrev pub IsRunOfLogs : List Log → List (ℕ × Event) → Type 0
 IsRunOfLogs logs run = (i : ℕ) → i < length logs → filter_map (event_of i) run ≡ log_of logs i
+
+-- the places of a run
+abbrev pub places_of : List (ℕ × Event) → List ℕ
+places_of run = map (λ x. x.0) run
 
 -- all events of each log have steps
 abbrev pub AreLocalRuns : List Log → Type 0

@@ -1,10 +1,9 @@
--- Which runs of the ring logs have.
+-- What runs of the ring given logs have.
 use Rattle.std.specs.Prelude.{◌≡◌, ℕ, List}
 use Rattle.ira_event.specs.declared.event.Event.{Event}
 use Rattle.ira_event.specs.Log.{Log}
-use Rattle.ira_order.specs.Laws.{places_of}
 use Rattle.ira_order.specs.Order.{IsOrder}
-use Rattle.ira_order.specs.Run.{IsRingRun, IsRunOfLogs}
+use Rattle.ira_order.specs.Run.{IsRingRun, IsRunOfLogs, places_of}
 
 -- the order means these events: their places are the order, and the events of each node are its log
 abbrev pub Means : List Log → List ℕ → List (ℕ × Event) → Type 0

@@ -6,9 +6,9 @@ use Rattle.ira_audit.proofs.ring_logs.read_texts.Goals as goal
 pub returns-in_err-read_text : goal.returns-in_err-read_text
 returns-in_err-read_text g c =
     let is : c.from_residual-in_err-read_text.result ≡ Err c.in_err-read_text.field-0.0 = search rules in
-    let number : c.in-Ok.number ≡ c.loop-text.text-index = search rules in
+    let number : c.len.result ≡ c.loop-text.text-index = search rules in
     let at = lent c.args.texts.now c.loop-text.text-index _ (search rules) in
-    rw is (next_refused (map (λ t. t.now) c.args.texts.now) c.loop-text.logs.items c.loop-text.text-index c.in-Ok.number _ c.in_err-read_text.field-0.0 c.loop-text.invariant.1 at number c.in_err-read_text.ensures)
+    rw is (next_refused (map (λ t. t.now) c.args.texts.now) c.loop-text.logs.items c.loop-text.text-index c.len.result _ c.in_err-read_text.field-0.0 c.loop-text.invariant.1 at number c.in_err-read_text.ensures)
 
 pub loop-text-preserved : goal.loop-text-preserved
 loop-text-preserved g c =

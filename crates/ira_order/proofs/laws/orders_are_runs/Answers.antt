@@ -1,5 +1,5 @@
-use Rattle.ira_order.proofs.RunsOfLogs.{order_is_run}
+use Rattle.ira_order.proofs.RunsOfLogs.{every_order_is_run}
 use Rattle.ira_order.proofs.laws.orders_are_runs.Goals as goal
 
 pub returns : goal.returns
-returns c = order_is_run
+returns c = every_order_is_run
