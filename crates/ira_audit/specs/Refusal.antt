@@ -1,5 +1,6 @@
 -- Helpers, no definitions: what the audits' own functions hand on.
 use Rattle.std.specs.Prelude.{Result, Ok, Err, ⊤}
+use Rattle.ira_event.specs.declared.out_of_memory.OutOfMemory as memory
 use Rattle.ira_order.specs.declared.order_fault.OrderFault.{OrderFault}
 use Rattle.ira_order.specs.declared.order_fault.OrderFault.TheVariants as order
 use Rattle.ira_audit.specs.declared.reason.Reason.TheVariants.{Match, Circle}
@@ -14,6 +15,12 @@ abbrev pub order_refusal : OrderFault → Refusal
 order_refusal (order.Match f) = No (Match f)
 order_refusal order.Circle = No Circle
 order_refusal order.OutOfMemory = OutOfMemory
+
+-- the answer of texts that were judged
+abbrev pub answered : {T : Type 0} → Result T Refusal → Result Answer memory.OutOfMemory
+answered (Ok _) = Ok answer.Yes
+answered (Err (No reason)) = Ok (answer.No reason)
+answered (Err OutOfMemory) = Err (record {})
 
 -- where memory was wanting, nothing is said; else the fact holds of yes, or of the reason, and that
 -- reason holds no want of memory

@@ -15,7 +15,7 @@ ghost use Rattle.ira_audit.specs.declared.answer.Answer.{Answer};
 use crate::answer::Answer;
 use crate::one_log::{check_steps, read_text};
 use crate::reason::Reason;
-use crate::refusal::Refusal;
+use crate::refusal::{Refusal, answer_of};
 use ira_event::{Logs, NodeLog, OutOfMemory};
 use ira_order::order;
 use std::alloc::Allocator;
@@ -34,11 +34,7 @@ pub fn audit_logs<A: Allocator + Clone>(alloc: A, texts: &[&[u8]]) -> Result<Ans
     ensures circled { result ≡ Ok (Answer.No Reason.Circle) → AreTextsWithoutRun (map (λ text. text.now) texts.now) }
     ensures stopped { (place position : ℕ) (f : StepFault) → result ≡ Ok (Answer.No (Reason.Replay place position f)) → AreTextsWithoutRun (map (λ text. text.now) texts.now) }
 {
-    match judge_texts(alloc, texts) {
-        Ok(()) => Ok(Answer::Yes),
-        Err(Refusal::No(reason)) => Ok(Answer::No(reason)),
-        Err(Refusal::OutOfMemory) => Err(OutOfMemory),
-    }
+    answer_of(judge_texts(alloc, texts))
 }
 
 fn judge_texts<A: Allocator + Clone>(alloc: A, texts: &[&[u8]]) -> Result<(), Refusal>

@@ -4,10 +4,10 @@ use Rattle.ira_event.specs.Log.{Log}
 use Rattle.ira_order.specs.Matching.{Matches}
 use Rattle.ira_order.specs.Order.{IsOrder}
 
--- they match and have an order
+-- the logs match and have an order
 abbrev pub HasOrder : List Log → Type 0
 HasOrder logs = Matches logs × (order : List ℕ) × IsOrder logs order
 
--- they match, and have no order: some events wait for one another in a circle
+-- the logs match and yet have no order: their events wait for one another in a circle
 abbrev pub HasCircle : List Log → Type 0
 HasCircle logs = Matches logs × ((order : List ℕ) → ¬ (IsOrder logs order))
