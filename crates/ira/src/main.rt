@@ -1,50 +1,9 @@
-//! The program `ira`: hands its words, its streams and the system's files to `ira_main::serve`.
+//! The program `ira`.
 #![tactic(auto)]
 
-use ira_event::ToWriter;
-use ira_main::{Counted, FileShelf, serve};
-use std::alloc::Global;
-use std::io::{self, ErrorKind};
+use ira_main::start;
 use std::process::ExitCode;
 
-/// Stands for a word that is no text.
-const NO_TEXT: &str = "\u{FFFD}";
-
-// The words behind the program's name.
-fn words_given(rt: &HostRuntime) -> io::Result<Vec<String>> {
-    let alloc = rt.alloc();
-    match std::env::args(rt) {
-        Ok(words) => Ok(words.skip(1).collect(alloc)?),
-        Err(error) if error.kind() == ErrorKind::OutOfMemory => Err(error),
-        Err(_) => Ok(vec![in alloc; String::from_str(alloc, NO_TEXT)?]?),
-    }
-}
-
-fn borrowed(alloc: Global, words: &[String]) -> io::Result<Vec<&str>> {
-    Ok(words.iter().map(|word| word.as_str()).collect(alloc)?)
-}
-
-fn run(rt: &HostRuntime) -> io::Result<u8> {
-    let alloc = rt.alloc();
-    let given = words_given(rt)?;
-    let words = borrowed(alloc, &given)?;
-    Ok(serve(
-        rt,
-        alloc,
-        &words,
-        &mut Counted::new(rt.stdin()),
-        &mut FileShelf::new(rt, alloc),
-        &mut ToWriter::new(rt.stdout()),
-        &mut ToWriter::new(rt.stderr()),
-    ))
-}
-
 fn main(rt: HostRuntime) -> ExitCode {
-    match run(&rt) {
-        Ok(status) => ExitCode::from(status),
-        Err(_) => {
-            let _ = eprintln!(rt; "ira: out of memory");
-            ExitCode::from(3)
-        }
-    }
+    start(&rt)
 }

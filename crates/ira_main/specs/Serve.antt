@@ -3,6 +3,7 @@ use Rattle.std.specs.Prelude.{◌≡◌, ◌⊎◌, ℕ, ◌+◌, true, List, Op
 use Rattle.ira_event.specs.declared.limits.TheConstants.{MAX_TEXT}
 use Rattle.ira_event.specs.Sink.{Takes, StopsIn}
 use Rattle.ira_audit.specs.Answer.{IsAnswer}
+use Rattle.ira_audit.specs.LogsAnswer.{IsLogsAnswer}
 use Rattle.ira_main.specs.Counted.{Reads}
 use Rattle.ira_main.specs.ReadText.{IsReadTo}
 use Rattle.ira_audit.specs.Report.{report_line}
@@ -28,8 +29,14 @@ pub data Judges (old new : Reads) (taken : Option (List ℕ)) (failures : ℕ) (
   unread : new.is_over ≡ true → IsUntouched taken failures taken' failures' → status ≡ 2 → Judges old new taken failures taken' failures' status
   no_memory : IsUntouched taken failures taken' failures' → status ≡ 3 → Judges old new taken failures taken' failures' status
 
--- with words: they were refused, and neither was the input read nor the answer's sink written to
-pub record Refuses (old new : Reads) (taken : Option (List ℕ)) (failures : ℕ) (taken' : Option (List ℕ)) (failures' : ℕ) (status : ℕ) : Type 0 where
-  pub refused : (status ≡ 2) ⊎ (status ≡ 3)
+-- logs in files: the texts of some files were judged together, and their answer reported; or the files
+-- weren't read or judged, and nothing was written
+pub data JudgesTogether (taken : Option (List ℕ)) (failures : ℕ) (taken' : Option (List ℕ)) (failures' : ℕ) (status : ℕ) : Type 0 where
+  judged : (texts : List (List ℕ)) (answer : Answer) → IsLogsAnswer texts answer → Reports answer taken failures taken' failures' status → JudgesTogether taken failures taken' failures' status
+  unjudged : IsUntouched taken failures taken' failures' → (status ≡ 2) ⊎ (status ≡ 3) → JudgesTogether taken failures taken' failures' status
+
+-- with words: the input wasn't read; and the words, or the files that they name, were refused, or the
+-- logs in these files judged
+pub record Obeys (old new : Reads) (taken : Option (List ℕ)) (failures : ℕ) (taken' : Option (List ℕ)) (failures' : ℕ) (status : ℕ) : Type 0 where
   pub unread : new ≡ old
-  pub unwritten : IsUntouched taken failures taken' failures'
+  pub judged : JudgesTogether taken failures taken' failures' status

@@ -1,6 +1,10 @@
-use Rattle.std.specs.Prelude.{ℕ}
+use Rattle.std.specs.Prelude.{ℕ, Result, Ok, Err}
 use Rattle.ira_audit.specs.declared.answer.Answer.{Answer}
 use Rattle.ira_audit.specs.declared.answer.Answer.TheVariants as answer
+use Rattle.ira_main.specs.declared.complaint.Complaint.{Complaint}
+use Rattle.ira_main.specs.declared.complaint.Complaint.TheVariants as complaint
+use Rattle.ira_main.specs.declared.shelf_fault.ShelfFault.{ShelfFault}
+use Rattle.ira_main.specs.declared.shelf_fault.ShelfFault.TheVariants as fault
 use Rattle.ira_main.specs.declared.status.Status.{Status}
 use Rattle.ira_main.specs.declared.status.Status.TheVariants.{Yes, No, Refused, OutOfMemory}
 
@@ -15,3 +19,18 @@ status_number OutOfMemory = 3
 abbrev pub answer_status : Answer → Status
 answer_status answer.Yes = Yes
 answer_status (answer.No reason) = No
+
+-- the status of a file that wasn't read
+abbrev pub fault_status : ShelfFault → Status
+fault_status fault.Device = Refused
+fault_status fault.OutOfMemory = OutOfMemory
+
+-- the status of a complaint
+abbrev pub complaint_status : Complaint → Status
+complaint_status complaint.OutOfMemory = OutOfMemory
+complaint_status _ = Refused
+
+-- the number of the status that there is, or of the complaint's
+abbrev pub outcome_number : Result Status Complaint → ℕ
+outcome_number (Ok status) = status_number status
+outcome_number (Err c) = status_number (complaint_status c)

@@ -1,12 +1,88 @@
 ghost use Rattle.std.specs.Prelude.{◌≡◌};
+ghost use Rattle.ira_main.specs.Status.{complaint_status, fault_status};
 
+use crate::shelf_fault::ShelfFault;
 use crate::status::Status;
-use ira_event::{Sink, write_bytes};
+use ira_event::{OutOfMemory, Sink, WriteFault, write_bytes};
+use std::alloc::{AllocError, AllocFailed};
 
-/// Ends with this status and says why on `err`. Where that fails the status stays.
-pub(crate) fn complain<V: Sink>(status: Status, line: &[u8], err: &mut V) -> Status
-    ensures { result ≡ status }
-{
-    let _ = write_bytes(line, err);
-    status
+/// Why the program ends with no answer, or with one that couldn't be written.
+#[derive(Debug, Drop)]
+pub(crate) enum Complaint<'a> {
+    /// The words were refused, with this text.
+    Words(String),
+    /// The file of this name can't be read; `-` stands for standard input.
+    CannotRead(&'a str),
+    CannotWriteAnswer,
+    OutOfMemory,
+}
+
+impl<'a> Complaint<'a> {
+    /// The file of this name, or standard input, wasn't read.
+    pub(crate) fn unread(name: &'a str, fault: ShelfFault) -> Complaint<'a>
+        ensures { complaint_status result ≡ fault_status fault }
+    {
+        match fault {
+            ShelfFault::Device => Complaint::CannotRead(name),
+            ShelfFault::OutOfMemory => Complaint::OutOfMemory,
+        }
+    }
+
+    /// Says it on `err`, and gives the status that the program ends with. Where `err` fails the
+    /// status stays.
+    pub(crate) fn tell<V: Sink>(&self, err: &mut V) -> Status
+        ensures { result ≡ complaint_status self.now }
+    {
+        let _ = self.write(err);
+        match self {
+            Complaint::OutOfMemory => Status::OutOfMemory,
+            _ => Status::Refused,
+        }
+    }
+
+    fn write<V: Sink>(&self, err: &mut V) -> Result<(), WriteFault> {
+        match self {
+            Complaint::Words(text) => write_bytes(text.as_bytes(), err),
+            Complaint::CannotRead(name) => {
+                write_bytes(b"ira: cannot read ", err)?;
+                write_bytes(name.as_bytes(), err)?;
+                write_bytes(b"\n", err)
+            }
+            Complaint::CannotWriteAnswer => write_bytes(b"ira: cannot write the answer\n", err),
+            Complaint::OutOfMemory => write_bytes(b"ira: out of memory\n", err),
+        }
+    }
+}
+
+impl<'a> From<OutOfMemory> for Complaint<'a> {
+    ghost use Rattle.std.specs.Prelude.{◌≡◌};
+    ghost use Rattle.ira_main.specs.declared.complaint.Complaint.TheVariants as complaint;
+
+    ghost from_gives = { λ _ c. c ≡ complaint.OutOfMemory };
+
+    fn from(_refused: OutOfMemory) -> Complaint<'a> {
+        Complaint::OutOfMemory
+    }
+}
+
+impl<'a> From<AllocError> for Complaint<'a> {
+    ghost use Rattle.std.specs.Prelude.{◌≡◌};
+    ghost use Rattle.ira_main.specs.declared.complaint.Complaint.TheVariants as complaint;
+
+    ghost from_gives = { λ _ c. c ≡ complaint.OutOfMemory };
+
+    fn from(_refused: AllocError) -> Complaint<'a> {
+        Complaint::OutOfMemory
+    }
+}
+
+impl<'a, T: Drop> From<AllocFailed<T>> for Complaint<'a> {
+    ghost use Rattle.std.specs.Prelude.{◌≡◌};
+    ghost use Rattle.ira_main.specs.declared.complaint.Complaint.TheVariants as complaint;
+
+    ghost from_gives = { λ _ c. c ≡ complaint.OutOfMemory };
+
+    fn from(_refused: AllocFailed<T>) -> Complaint<'a> {
+        Complaint::OutOfMemory
+    }
 }

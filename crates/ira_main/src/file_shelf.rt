@@ -1,12 +1,13 @@
 use crate::counted::Counted;
 use crate::read_text::read_text;
-use crate::shelf::{Shelf, ShelfFault};
-use ira_event::ToWriter;
+use crate::shelf::Shelf;
+use crate::shelf_fault::ShelfFault;
+use ira_event::{ToWriter, WriteFault};
 use std::alloc::Allocator;
 use std::fs::{self, Files};
-use std::io::{Error, ErrorKind};
+use std::io::BufWriter;
 
-/// The files of the system.
+/// The files of the system. They are written through a buffer.
 #[derive(Drop)]
 pub struct FileShelf<'a, R: Files, A: Allocator> {
     rt: &'a R,
@@ -19,30 +20,25 @@ impl<'a, R: Files, A: Allocator> FileShelf<'a, R, A> {
     }
 }
 
-fn fault_of(error: &Error) -> ShelfFault {
-    match error.kind() {
-        ErrorKind::OutOfMemory => ShelfFault::OutOfMemory,
-        _ => ShelfFault::Device,
-    }
-}
-
 impl<R: Files, A: Allocator + Clone> Shelf<A> for FileShelf<'_, R, A> {
-    type Out = ToWriter<R::File>;
+    type Out = ToWriter<BufWriter<R::File, A>>;
 
     fn read(&mut self, name: &str) -> Result<Vec<u8, A>, ShelfFault> {
-        let Ok(alloc) = self.alloc.clone() else {
-            return Err(ShelfFault::OutOfMemory);
-        };
-        match fs::open(self.rt, name) {
-            Ok(file) => read_text(alloc, &mut Counted::new(file)),
-            Err(error) => Err(fault_of(&error)),
-        }
+        let alloc = self.alloc.clone()?;
+        let file = fs::open(self.rt, name)?;
+        read_text(alloc, &mut Counted::new(file))
     }
 
     fn create(&mut self, name: &str) -> Result<Self::Out, ShelfFault> {
-        match fs::create(self.rt, name) {
-            Ok(file) => Ok(ToWriter::new(file)),
-            Err(error) => Err(fault_of(&error)),
+        let alloc = self.alloc.clone()?;
+        let file = fs::create(self.rt, name)?;
+        Ok(ToWriter::new(BufWriter::new(alloc, file)?))
+    }
+
+    fn close(&mut self, mut file: Self::Out) -> Result<(), ShelfFault> {
+        match file.flush() {
+            Ok(()) => Ok(()),
+            Err(WriteFault) => Err(ShelfFault::Device),
         }
     }
 }

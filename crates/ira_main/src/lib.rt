@@ -7,13 +7,18 @@ mod counted;
 mod file_shelf;
 mod program;
 mod read_text;
+mod request;
 mod shelf;
+mod shelf_fault;
 mod status;
+mod system;
 
 pub use counted::Counted;
 pub use file_shelf::FileShelf;
 pub use program::serve;
-pub use shelf::{Shelf, ShelfFault};
+pub use shelf::Shelf;
+pub use shelf_fault::ShelfFault;
+pub use system::start;
 
 #[cfg(test)]
 mod tests;

@@ -1,59 +1,105 @@
 ghost use Rattle.std.specs.Prelude.{◌≡◌, ◌≢◌, ◌≤◌, ◌+◌, []};
 ghost use Rattle.ira_audit.specs.Report.{IsReportable};
-ghost use Rattle.ira_main.specs.Serve.{Judges, Refuses, Reports};
-ghost use Rattle.ira_main.specs.Status.{status_number};
+ghost use Rattle.ira_main.specs.Serve.{Judges, JudgesTogether, Obeys, Reports};
+ghost use Rattle.ira_main.specs.Status.{outcome_number};
 
-use crate::command_line::refuse;
-use crate::complaint::complain;
+use crate::command_line::request;
+use crate::complaint::Complaint;
 use crate::counted::Counted;
 use crate::read_text::read_text;
-use crate::shelf::{Shelf, ShelfFault};
+use crate::request::Request;
+use crate::shelf::Shelf;
 use crate::status::Status;
-use ira_audit::{Answer, audit_one, write_report};
-use ira_event::{MAX_TEXT, OutOfMemory, Sink};
-use std::alloc::Allocator;
+use ira_audit::{Answer, audit_logs, audit_one, write_report};
+use ira_event::{MAX_TEXT, Sink, WriteFault};
+use std::alloc::{Allocator, Global};
 use std::io::Read;
 
-fn out_of_memory<V: Sink>(err: &mut V) -> Status
-    ensures { result ≡ Status.OutOfMemory }
-{
-    complain(Status::OutOfMemory, b"ira: out of memory\n", err)
-}
-
 // Writes the answer's line, and gives the answer's status.
-fn report<W: Sink, V: Sink>(answer: &Answer, out: &mut W, err: &mut V) -> Status
+fn report<'a, W: Sink>(answer: &Answer, out: &mut W) -> Result<Status, Complaint<'a>>
     requires { IsReportable answer.now }
-    ensures { Reports answer.now (W.taken out.old) (W.failures out.old) (W.taken out.new) (W.failures out.new) (status_number result) }
+    ensures { Reports answer.now (W.taken out.old) (W.failures out.old) (W.taken out.new) (W.failures out.new) (outcome_number result) }
 {
-    if write_report(answer, out).is_err() {
-        return complain(Status::Refused, b"ira: cannot write the answer\n", err);
-    }
-    match answer {
-        Answer::Yes => Status::Yes,
-        Answer::No(_) => Status::No,
+    match write_report(answer, out) {
+        Ok(()) => Ok(Status::of_answer(answer)),
+        Err(WriteFault) => Err(Complaint::CannotWriteAnswer),
     }
 }
 
 // Judges the log on the input.
-fn judge<A: Allocator, I: Read, W: Sink, V: Sink>(
+fn judge_input<'a, A: Allocator, I: Read, W: Sink>(
     alloc: A,
     input: &mut Counted<I>,
     out: &mut W,
-    err: &mut V,
-) -> Status
-    ensures judged { Judges input.old input.new (W.taken out.old) (W.failures out.old) (W.taken out.new) (W.failures out.new) (status_number result) }
+) -> Result<Status, Complaint<'a>>
+    ensures judged { Judges input.old input.new (W.taken out.old) (W.failures out.old) (W.taken out.new) (W.failures out.new) (outcome_number result) }
     ensures reads { input.new.reads ≤ input.old.reads + (MAX_TEXT + 1) }
 {
     let text = match read_text(&alloc, input) {
         Ok(text) => text,
-        Err(ShelfFault::Device) => {
-            return complain(Status::Refused, b"ira: cannot read -\n", err);
-        }
-        Err(ShelfFault::OutOfMemory) => return out_of_memory(err),
+        Err(fault) => return Err(Complaint::unread("-", fault)),
     };
-    match audit_one(&alloc, &text) {
-        Ok(answer) => report(&answer, out, err),
-        Err(OutOfMemory) => out_of_memory(err),
+    let answer = audit_one(&alloc, &text)?;
+    report(&answer, out)
+}
+
+// The texts of the files of these names, in their order.
+fn read_files<'a, A: Allocator, B: Allocator, F: Shelf<B>>(
+    alloc: A,
+    names: &[&'a str],
+    shelf: &mut F,
+) -> Result<Vec<Vec<u8, B>, A>, Complaint<'a>> {
+    let mut texts = Vec::with_capacity(alloc, names.len())?;
+    for name in names {
+        match shelf.read(name) {
+            Ok(text) => texts.push(text)?,
+            Err(fault) => return Err(Complaint::unread(name, fault)),
+        }
+    }
+    Ok(texts)
+}
+
+// Judges the logs in the files of these names together. All are read before any is judged.
+fn judge_files<'a, A: Allocator, F: Shelf<A>, W: Sink>(
+    alloc: A,
+    names: &[&'a str],
+    shelf: &mut F,
+    out: &mut W,
+) -> Result<Status, Complaint<'a>>
+    ensures { JudgesTogether (W.taken out.old) (W.failures out.old) (W.taken out.new) (W.failures out.new) (outcome_number result) }
+{
+    let files = read_files(&alloc, names, shelf)?;
+    let texts: Vec<&[u8], &A> = files.iter().map(|text| text.as_slice()).collect(&alloc)?;
+    let answer = audit_logs(&alloc, &texts)?;
+    report(&answer, out)
+}
+
+// Does what the words ask for.
+fn obey<'a, A: Allocator, I: Read, F: Shelf<A>, W: Sink>(
+    words_alloc: Global,
+    alloc: A,
+    words: &'a [&'a str],
+    input: &mut Counted<I>,
+    shelf: &mut F,
+    out: &mut W,
+) -> Result<Status, Complaint<'a>>
+    ensures judged { words.now ≡ [] → Judges input.old input.new (W.taken out.old) (W.failures out.old) (W.taken out.new) (W.failures out.new) (outcome_number result) }
+    ensures obeyed { words.now ≢ [] → Obeys input.old input.new (W.taken out.old) (W.failures out.old) (W.taken out.new) (W.failures out.new) (outcome_number result) }
+    ensures reads { input.new.reads ≤ input.old.reads + (MAX_TEXT + 1) }
+{
+    match request(words_alloc, words)? {
+        Request::OneLog => judge_input(alloc, input, out),
+        Request::Logs(names) => judge_files(alloc, &names, shelf, out),
+    }
+}
+
+// The number of the status that the program ends with; a complaint is told on `err`.
+fn conclude<V: Sink>(outcome: Result<Status, Complaint<'_>>, err: &mut V) -> u8
+    ensures { result ≡ outcome_number outcome.entry }
+{
+    match outcome {
+        Ok(status) => status.number(),
+        Err(complaint) => complaint.tell(err).number(),
     }
 }
 
@@ -63,23 +109,22 @@ fn judge<A: Allocator, I: Read, W: Sink, V: Sink>(
 /// changes no status.
 ///
 /// Without words it judges the log on `input`, of which it reads at most one byte more than
-/// `MAX_TEXT`. Any word is refused.
+/// `MAX_TEXT`. With words it reads nothing of `input`: `logs` and some names judges the logs in those
+/// files together, and all other words are refused.
 pub fn serve<R: AllocGlobal, A: Allocator, I: Read, F: Shelf<A>, W: Sink, V: Sink>(
     rt: &R,
     alloc: A,
     words: &[&str],
     input: &mut Counted<I>,
-    _shelf: &mut F,
+    shelf: &mut F,
     out: &mut W,
     err: &mut V,
 ) -> u8
     ensures status { result ≤ 3 }
     ensures reads { input.new.reads ≤ input.old.reads + (MAX_TEXT + 1) }
     ensures judged { words.now ≡ [] → Judges input.old input.new (W.taken out.old) (W.failures out.old) (W.taken out.new) (W.failures out.new) result }
-    ensures refused { words.now ≢ [] → Refuses input.old input.new (W.taken out.old) (W.failures out.old) (W.taken out.new) (W.failures out.new) result }
+    ensures obeyed { words.now ≢ [] → Obeys input.old input.new (W.taken out.old) (W.failures out.old) (W.taken out.new) (W.failures out.new) result }
 {
-    if !words.is_empty() {
-        return refuse(rt.alloc(), words, err).number();
-    }
-    judge(alloc, input, out, err).number()
+    let outcome = obey(rt.alloc(), alloc, words, input, shelf, out);
+    conclude(outcome, err)
 }

@@ -4,7 +4,7 @@ ghost use Rattle.ira_main.specs.Counted.{one_more, gives_none};
 ghost use Rattle.ira_main.specs.ReadText.{IsReadTo, IsReadOnce};
 
 use crate::counted::Counted;
-use crate::shelf::ShelfFault;
+use crate::shelf_fault::ShelfFault;
 use ira_event::MAX_TEXT;
 use std::alloc::Allocator;
 use std::io;

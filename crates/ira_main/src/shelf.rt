@@ -1,17 +1,6 @@
+use crate::shelf_fault::ShelfFault;
 use ira_event::Sink;
 use std::alloc::Allocator;
-use thiserror::Error;
-
-/// Why a file could not be read or made.
-#[derive(Clone, Copy, Debug, PartialEq, Eq, Error)]
-pub enum ShelfFault {
-    /// The file, or the device that it lies on, refused.
-    #[error("the file can't be used")]
-    Device,
-    /// A growth was refused.
-    #[error("out of memory")]
-    OutOfMemory,
-}
 
 /// Where the program's files lie: each is read whole, or made anew.
 pub trait Shelf<A: Allocator> {
@@ -23,4 +12,10 @@ pub trait Shelf<A: Allocator> {
 
     /// A new file of this name, empty; one of the same name is emptied.
     fn create(&mut self, name: &str) -> Result<Self::Out, ShelfFault>;
+
+    /// Ends the writing of a file: what a buffer still holds is written. Only then is it known that
+    /// nothing was lost.
+    fn close(&mut self, _file: Self::Out) -> Result<(), ShelfFault> {
+        Ok(())
+    }
 }

@@ -1,5 +1,7 @@
 ghost use Rattle.std.specs.Prelude.{◌≡◌};
-ghost use Rattle.ira_main.specs.Status.{status_number};
+ghost use Rattle.ira_main.specs.Status.{answer_status, status_number};
+
+use ira_audit::Answer;
 
 /// What the program ends with.
 #[derive(Clone, Copy, Debug, PartialEq, Eq)]
@@ -14,6 +16,15 @@ pub(crate) enum Status {
 }
 
 impl Status {
+    pub(crate) fn of_answer(answer: &Answer) -> Status
+        ensures { result ≡ answer_status answer.now }
+    {
+        match answer {
+            Answer::Yes => Status::Yes,
+            Answer::No(_) => Status::No,
+        }
+    }
+
     pub(crate) fn number(self) -> u8
         ensures { result ≡ status_number self }
     {

@@ -1,0 +1,8 @@
+/// What the words behind the program's name ask for.
+#[derive(Debug, Drop)]
+pub(crate) enum Request<'a> {
+    /// To judge the log on standard input.
+    OneLog,
+    /// To judge the logs in the files of these names together, in the order of the ring's places.
+    Logs(Vec<&'a str>),
+}
