@@ -1,0 +1,12 @@
+//! Runs of a ring: what a run gives, the draws of its nodes, and the collector of what they wrote.
+#![tactic(auto)]
+
+mod node_end;
+mod node_part;
+mod run;
+mod run_fault;
+
+pub use node_end::NodeEnd;
+pub use node_part::NodePart;
+pub use run::Run;
+pub use run_fault::RunFault;
