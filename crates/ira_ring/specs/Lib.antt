@@ -1,2 +1,5 @@
+pub mod FullRun
 pub mod Run
 pub mod RunFault
+pub mod Setup
+pub mod ShownEnd
