@@ -5,8 +5,10 @@ mod node_end;
 mod node_part;
 mod run;
 mod run_fault;
+mod setup;
 
 pub use node_end::NodeEnd;
 pub use node_part::NodePart;
 pub use run::Run;
 pub use run_fault::RunFault;
+pub use setup::Setup;
