@@ -1,1 +1,2 @@
+mod LoneNodes
 mod Setups

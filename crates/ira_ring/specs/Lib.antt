@@ -1,4 +1,5 @@
 pub mod FullRun
+pub mod LoneNode
 pub mod Run
 pub mod RunFault
 pub mod Setup

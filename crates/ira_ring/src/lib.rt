@@ -1,6 +1,7 @@
 //! Runs of a ring: what a run gives, the draws of its nodes, and the collector of what they wrote.
 #![tactic(auto)]
 
+mod lone_node;
 mod node_end;
 mod node_part;
 mod run;
