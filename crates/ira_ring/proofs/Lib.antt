@@ -1,2 +1,3 @@
 mod LoneNodes
+mod LoneTurns
 mod Setups

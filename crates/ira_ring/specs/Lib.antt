@@ -1,5 +1,6 @@
 pub mod FullRun
 pub mod LoneNode
+pub mod LoneRing
 pub mod Run
 pub mod RunFault
 pub mod Setup

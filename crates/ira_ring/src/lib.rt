@@ -2,6 +2,7 @@
 #![tactic(auto)]
 
 mod lone_node;
+mod lone_ring;
 mod node_end;
 mod node_part;
 mod run;
