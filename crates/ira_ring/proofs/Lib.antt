@@ -1,3 +1,6 @@
 mod LoneNodes
+mod LoneSteps
 mod LoneTurns
+mod LoneTurnsOn
 mod Setups
+mod Walks

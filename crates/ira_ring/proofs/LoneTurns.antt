@@ -19,7 +19,7 @@ read_at nodes i j node l is read = get_or_read nodes i node l (read ∙ ap (λ (
 
 -- the IDs that a node has left are those of its ring
 pub ids_left : (s : Setup) (nodes : List LoneNode) (i j n : ℕ) (node : LoneNode) → KeepsRules s → IsReached s nodes → i < length nodes → j ≡ i → n ≡ s.nodes → node ≡ get_or nodes j node
-  → All (λ d. (1 ≤ d) × (d ≤ n)) node.ids
+    → All (λ d. (1 ≤ d) × (d ≤ n)) node.ids
 ids_left s nodes i j n node rules reached l is size read =
     let place : i < s.nodes = omega (arith, reached.many) in
     let P : ℕ → ℕ → Type 0 = λ m d. (1 ≤ d) × (d ≤ m) in
@@ -30,7 +30,7 @@ ids_left s nodes i j n node rules reached l is size read =
 
 -- a node that has no next event stays as it is
 pub no_turn : (s : Setup) (nodes : List LoneNode) (i j n most : ℕ) (node : LoneNode) (end : NodeEnd) → i < length nodes → j ≡ i → n ≡ s.nodes → most ≡ s.cap → node ≡ get_or nodes j node
-  → Ends n most node end → HasEnded s.nodes s.cap (node_at nodes i) × (set nodes j node ≡ nodes)
+    → Ends n most node end → HasEnded s.nodes s.cap (node_at nodes i) × (set nodes j node ≡ nodes)
 no_turn s nodes i j n most node end l is size room read ends =
     let P : ℕ → Type 0 = λ x. Ends x most node end in
     let Q : ℕ → Type 0 = λ x. Ends s.nodes x node end in

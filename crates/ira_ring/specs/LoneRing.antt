@@ -1,7 +1,8 @@
 -- Helpers, no definitions: what the lone runner keeps of the ring, and what a step of it changes.
-use Rattle.std.specs.Prelude.{◌≡◌, ◌≢◌, ℕ, ◌<◌, List, [], ◌++◌, false, Option, Some, None, length, slice_index_or}
+use Rattle.std.specs.Prelude.{◌≡◌, ◌≢◌, ℕ, ◌+◌, ◌<◌, ◌⊎◌, List, [], ◌++◌, false, Option, Some, None, length, slice_get, slice_index_or}
 use Rattle.ira_event.specs.declared.event.Event.{Event}
 use Rattle.ira_event.specs.declared.event.Event.TheVariants.{Draw, Sent, Got}
+use Rattle.ira_event.specs.Log.{Log}
 use Rattle.ira_node.specs.declared.node_state.NodeState.{NodeState}
 use Rattle.ira_node.specs.NodeState.{first_state}
 use Rattle.ira_order.specs.Ring.{next, prev}
@@ -41,6 +42,13 @@ IsTurn n most i old new None = HasEnded n most (node_at old i) × (new ≡ old)
 IsTurn n most i old new (Some event) =
     (after : NodeState) × IsNext n most (node_at old i) event after × IsMoved n i event after old new × (length new ≡ length old)
 
+-- the least node that may have a next event, where `least` was it before this turn of its
+abbrev pub IsLeastAfter : ℕ → ℕ → Option Event → ℕ → Type 0
+IsLeastAfter n least None after = after ≡ least + 1
+IsLeastAfter n least (Some (Sent m)) after = ((least + 1 ≡ n) × (after ≡ 0)) ⊎ ((least + 1 < n) × (after ≡ least))
+IsLeastAfter n least (Some (Draw id)) after = after ≡ least
+IsLeastAfter n least (Some (Got m)) after = after ≡ least
+
 -- the nodes are where a run of the setup led them, each place of which can step at its point
 pub record IsReached (s : Setup) (nodes : List LoneNode) : Type 0 where
   pub many : length nodes ≡ s.nodes
@@ -55,3 +63,14 @@ pub record IsReached (s : Setup) (nodes : List LoneNode) : Type 0 where
 -- they have come to the end of it
 abbrev pub AreDone : Setup → List LoneNode → Type 0
 AreDone s nodes = IsReached s nodes × ((i : ℕ) → i < s.nodes → HasEnded s.nodes s.cap (node_at nodes i))
+
+-- the logs of the nodes
+abbrev pub AreLogsOfNodes : Setup → List LoneNode → List Log → Type 0
+AreLogsOfNodes s nodes logs =
+    (length logs ≡ length nodes)
+    × ((i : ℕ) (log : Log) → slice_get logs i ≡ Some log → log ≡ record { nodes = s.nodes; place = i; initiator = is_initiator s i; events = (node_at nodes i).events })
+
+-- the ends of the nodes
+abbrev pub AreEndsOfNodes : Setup → List LoneNode → List NodeEnd → Type 0
+AreEndsOfNodes s nodes ends =
+    (length ends ≡ length nodes) × ((i : ℕ) (end : NodeEnd) → slice_get ends i ≡ Some end → Ends s.nodes s.cap (node_at nodes i) end)

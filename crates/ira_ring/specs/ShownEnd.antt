@@ -1,5 +1,5 @@
 -- What the way in which a node ended says of its log and of the messages sent to it.
-use Rattle.std.specs.Prelude.{◌≡◌, ℕ, ◌<◌, List, [], ◌∷◌, ◌++◌, None, Some, length, slice_get}
+use Rattle.std.specs.Prelude.{◌≡◌, ◌≢◌, ℕ, ◌<◌, List, [], ◌∷◌, ◌++◌, None, Some, length, slice_get}
 use Rattle.ira_event.specs.declared.msg.Msg.{Msg}
 use Rattle.ira_event.specs.declared.event.Event.{Event}
 use Rattle.ira_event.specs.declared.event.Event.TheVariants.{Got}
@@ -14,7 +14,8 @@ use Rattle.ira_order.specs.Matching.{sent, got}
 use Rattle.ira_ring.specs.declared.node_end.NodeEnd.{NodeEnd}
 use Rattle.ira_ring.specs.declared.node_end.NodeEnd.TheVariants.{Leader, Stopped, DrawsSpent, LogFull, NoStep, Quiet}
 use Rattle.ira_ring.specs.Setup.{Setup, is_initiator, given}
-use Rattle.ira_ring.specs.FullRun.{drawn, BeginsWith}
+use Rattle.ira_ring.specs.FullRun.{drawn, BeginsWith, AreFullLogs}
+use Rattle.ira_ring.specs.Run.{Run}
 
 -- a node in this state that has made these events doesn't lead, and may have more of them
 abbrev pub MayGoOn : Setup → NodeState → List Event → Type 0
@@ -46,3 +47,9 @@ IsShown s logs i end =
 -- each end is shown
 abbrev pub AreShown : Setup → List Log → List NodeEnd → Type 0
 AreShown s logs ends = (i : ℕ) (end : NodeEnd) → slice_get ends i ≡ Some end → IsShown s logs i end
+
+-- the logs of a full run of the setup, with an end for each node that its logs show; none is Stopped
+pub record IsLoneRun (s : Setup) (run : Run) : Type 0 where
+  pub logs : AreFullLogs s run.logs
+  pub ends : AreShown s run.logs run.ends
+  pub moved : (i : ℕ) → slice_get run.ends i ≢ Some Stopped

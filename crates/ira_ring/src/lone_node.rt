@@ -1,9 +1,10 @@
 ghost use Rattle.std.specs.Prelude.{◌≡◌, ◌≤◌, ℕ, [], All, MatchResult, IfOk, IfErr, OnOk};
+ghost use Rattle.ira_event.specs.Log.{IsLog};
 ghost use Rattle.ira_node.specs.NodeState.{first_state};
 ghost use Rattle.ira_ring.specs.LoneNode.{IsNext, IsFirst, Offers, Ends, after_event, after_put};
 
 use crate::node_end::NodeEnd;
-use ira_event::{Event, Msg, RingSize};
+use ira_event::{Event, Msg, NodeLog, RingSize};
 use ira_node::{NodeState, Wanted};
 use std::alloc::{AllocError, Allocator};
 use std::collections::VecDeque;
@@ -109,5 +110,13 @@ impl<'a, A: Allocator> LoneNode<'a, A> {
     {
         self.input.push_back(message)?;
         Ok(())
+    }
+
+    /// The node's log.
+    pub(crate) fn into_log(self, nodes: RingSize, place: u8, initiator: bool) -> NodeLog<A>
+        requires { IsLog (record { nodes = nodes; place = place; initiator = initiator; events = self.events }) }
+        ensures { result ≡ record { nodes = nodes; place = place; initiator = initiator; events = self.entry.events } }
+    {
+        NodeLog::of_parts(nodes, place, initiator, self.events)
     }
 }
