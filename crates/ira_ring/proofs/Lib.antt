@@ -1,4 +1,6 @@
+mod LoneEnds
 mod LoneNodes
+mod LoneStarts
 mod LoneSteps
 mod LoneTurns
 mod LoneTurnsOn

@@ -45,7 +45,7 @@ sending_owes n s t k (wins round id m es ee g h d et) = cc
 unused : (ids used : List ℕ) (left : List ℕ) (id : ℕ) (rest : List ℕ) → ids ≡ used ++ left → left ≡ id ∷ rest → length used < length ids
 unused ids used left id rest is first = omega (arith, ap length is, ap length first, length-append used left)
 
-has_event : (n most : ℕ) (ids : List ℕ) (node : LoneNode) (e : Event) (after : NodeState) → IsNext n most node e after → ids ≡ drawn node.events ++ node.ids → HasEvent n ids node.state node.events node.input
+pub has_event : (n most : ℕ) (ids : List ℕ) (node : LoneNode) (e : Event) (after : NodeState) → IsNext n most node e after → ids ≡ drawn node.events ++ node.ids → HasEvent n ids node.state node.events node.input
 has_event n most ids node (Draw id) after step left =
     let w : (round : ℕ) × (node.state ≡ free (Choosing round)) = drawing_chooses n node.state after id step.step in
     chooses w.0 w.1 (unused ids (drawn node.events) node.ids id step.first.0 left step.first.1)

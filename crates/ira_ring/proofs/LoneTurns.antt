@@ -14,7 +14,7 @@ all_behind P [] ys all = all
 all_behind P (x ∷ xs) ys all = all_behind P xs ys (λ k d l. all (suc k) d (omega (arith, l)))
 
 -- a node that was read
-read_at : (nodes : List LoneNode) (i j : ℕ) (node : LoneNode) → i < length nodes → j ≡ i → node ≡ get_or nodes j node → node ≡ node_at nodes i
+pub read_at : (nodes : List LoneNode) (i j : ℕ) (node : LoneNode) → i < length nodes → j ≡ i → node ≡ get_or nodes j node → node ≡ node_at nodes i
 read_at nodes i j node l is read = get_or_read nodes i node l (read ∙ ap (λ (x : ℕ). get_or nodes x node) is) idle
 
 -- the IDs that a node has left are those of its ring
