@@ -1,8 +1,10 @@
 mod LoneEnds
+mod LoneLogs
 mod LoneNodes
 mod LoneStarts
 mod LoneSteps
 mod LoneTurns
 mod LoneTurnsOn
+mod Recordable
 mod Setups
 mod Walks

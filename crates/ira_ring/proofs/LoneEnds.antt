@@ -29,7 +29,7 @@ choosing_no_waiting : (round : ℕ) (state : NodeState) → state ≡ free (Choo
 choosing_no_waiting round state is r = let P : NodeState → Type 0 = λ x. Receives x.phase in subst P is r
 
 pub ended_no_event : (n most : ℕ) (ids : List ℕ) (node : LoneNode) (end : NodeEnd) → ids ≡ drawn node.events ++ node.ids → Ends n most node end
-  → ¬ (IsLeader node.state.phase) → length node.events < most → HasEvent n ids node.state node.events node.input → ⊥
+    → ¬ (IsLeader node.state.phase) → length node.events < most → HasEvent n ids node.state node.events node.input → ⊥
 ended_no_event n most ids node Leader left h follows room event = follows h
 ended_no_event n most ids node Stopped left h follows room event = h
 ended_no_event n most ids node LogFull left h follows room event = omega (arith, h.1)
@@ -69,7 +69,7 @@ ended_no_step s nodes reached i l ended can =
 -- ---- the ends, as the code finds them
 
 pub no_next_left : (s : Setup) (nodes : List LoneNode) (i n most : ℕ) (node : LoneNode) (e : Event) (after : NodeState) → AreDone s nodes → i < length nodes → n ≡ s.nodes → most ≡ s.cap → node ≡ get_or nodes i node
-  → IsNext n most node e after → ⊥
+    → IsNext n most node e after → ⊥
 no_next_left s nodes i n most node e after done l size room read next =
     let place : i < s.nodes = omega (arith, done.0.many) in
     let P : ℕ → Type 0 = λ x. IsNext x most node e after in
@@ -78,8 +78,8 @@ no_next_left s nodes i n most node e after done l size room read next =
     ended_no_next s nodes i e after done.0 place (done.1 i place) (subst R (read_at nodes i i node l refl read) (subst Q room (subst P size next)))
 
 pub ends_more : (s : Setup) (nodes : List LoneNode) (i n most : ℕ) (node : LoneNode) (ends : List NodeEnd) (end : NodeEnd) → i < length nodes → n ≡ s.nodes → most ≡ s.cap → node ≡ get_or nodes i node
-  → Ends n most node end → length ends ≡ i → ((j : ℕ) → j < i → Ends s.nodes s.cap (node_at nodes j) (get_or ends j Quiet))
-  → (j : ℕ) → j < i + 1 → Ends s.nodes s.cap (node_at nodes j) (get_or (ends ++ end ∷ []) j Quiet)
+    → Ends n most node end → length ends ≡ i → ((j : ℕ) → j < i → Ends s.nodes s.cap (node_at nodes j) (get_or ends j Quiet))
+    → (j : ℕ) → j < i + 1 → Ends s.nodes s.cap (node_at nodes j) (get_or (ends ++ end ∷ []) j Quiet)
 ends_more s nodes i n most node ends end l size room read here many each =
     let P : ℕ → Type 0 = λ x. Ends x most node end in
     let Q : ℕ → Type 0 = λ x. Ends s.nodes x node end in

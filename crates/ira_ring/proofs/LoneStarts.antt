@@ -38,8 +38,8 @@ each_more {X} P d xs x i many each here j l = elim (eq_cases j i) [
 
 -- the node that the code makes of what it reads
 made_of : {V : Type 0} (see : V → List ℕ) (n : ℕ) (kinds : List Bool) (rows : List V) (most i : ℕ) (node : LoneNode) (kind : Bool) (row : V) → i < length kinds → i < length rows
-  → kind ≡ get_or kinds i kind → row ≡ get_or rows i row → node ≡ record { state = first_state kind; ids = see row; input = []; events = [] }
-  → node ≡ first_node (record { nodes = n; initiators = kinds; draws = map see rows; cap = most }) i
+    → kind ≡ get_or kinds i kind → row ≡ get_or rows i row → node ≡ record { state = first_state kind; ids = see row; input = []; events = [] }
+    → node ≡ first_node (record { nodes = n; initiators = kinds; draws = map see rows; cap = most }) i
 made_of {V} see n kinds rows most i node kind row l m kind_is row_is is =
     let k : kind ≡ get_or kinds i false = get_or_read kinds i kind l kind_is false in
     let r : see row ≡ get_or (map see rows) i [] = ap see row_is ∙ sym (get_or-map see rows i row [] m) in
@@ -48,9 +48,9 @@ made_of {V} see n kinds rows most i node kind row l m kind_is row_is is =
     ∙ ap (λ (x : List ℕ). record { state = first_state (get_or kinds i false); ids = x; input = []; events = [] }) r
 
 pub first_more : {V : Type 0} (see : V → List ℕ) (n : ℕ) (kinds : List Bool) (rows : List V) (most : ℕ) (s : Setup) (i : ℕ) (nodes : List LoneNode) (node : LoneNode) (kind : Bool) (row : V)
-  → record { nodes = n; initiators = kinds; draws = map see rows; cap = most } ≡ s → KeepsRules s → i < n
-  → kind ≡ get_or kinds i kind → row ≡ get_or rows i row → node ≡ record { state = first_state kind; ids = see row; input = []; events = [] }
-  → length nodes ≡ i → ((j : ℕ) → j < i → node_at nodes j ≡ first_node s j) → (j : ℕ) → j < i + 1 → node_at (nodes ++ node ∷ []) j ≡ first_node s j
+    → record { nodes = n; initiators = kinds; draws = map see rows; cap = most } ≡ s → KeepsRules s → i < n
+    → kind ≡ get_or kinds i kind → row ≡ get_or rows i row → node ≡ record { state = first_state kind; ids = see row; input = []; events = [] }
+    → length nodes ≡ i → ((j : ℕ) → j < i → node_at nodes j ≡ first_node s j) → (j : ℕ) → j < i + 1 → node_at (nodes ++ node ∷ []) j ≡ first_node s j
 first_more {V} see n kinds rows most s i nodes node kind row view rules l kind_is row_is is many each =
     let kinds_are : length kinds ≡ n = ap (λ (x : Setup). length x.initiators) view ∙ rules.lists.0 ∙ sym (ap (λ (x : Setup). x.nodes) view) in
     let rows_are : length rows ≡ n = sym (length-map rows see) ∙ ap (λ (x : Setup). length x.draws) view ∙ rules.lists.1 ∙ sym (ap (λ (x : Setup). x.nodes) view) in

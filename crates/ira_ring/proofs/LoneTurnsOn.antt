@@ -125,8 +125,8 @@ pub record IsOnward (first before behind : Setup) (old new : List LoneNode) (lea
   pub less : measure behind.nodes behind.cap new after < measure before.nodes before.cap old least
 
 pub onward : (first before behind : Setup) (n : ℕ) (old new : List LoneNode) (least after : ℕ) (made : Option Event) → KeepsRules first → before ≡ first → behind ≡ before → n ≡ first.nodes → IsReached before old
-  → least < n → ((j : ℕ) → j < least → HasEnded before.nodes before.cap (node_at old j)) → IsTurn before.nodes before.cap least old new made → IsLeastAfter n least made after
-  → IsOnward first before behind old new least after
+    → least < n → ((j : ℕ) → j < least → HasEnded before.nodes before.cap (node_at old j)) → IsTurn before.nodes before.cap least old new made → IsLeastAfter n least made after
+    → IsOnward first before behind old new least after
 onward first before behind n old new least after made rules same still size reached here ended turn is =
     let n_is : n ≡ before.nodes = size ∙ ap (λ (s : Setup). s.nodes) (sym same) in
     let P : ℕ → Type 0 = λ x. IsLeastAfter x least made after in

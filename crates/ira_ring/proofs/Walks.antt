@@ -43,10 +43,10 @@ pub other_more : (past : List (ℕ × Event)) (i j : ℕ) (e : Event) → i ≢ 
 other_more past i j e ne =
     filter_map-append (event_of j) past ((i, e) ∷ []) ∙ ap (λ (o : Option Event). events_at past j ++ cons_option o []) (event_no i j e ne) ∙ append-nil (events_at past j)
 
-own_first : (x : ℕ × Event) (run : List (ℕ × Event)) (j : ℕ) → x.0 ≡ j → events_at (x ∷ run) j ≡ x.1 ∷ events_at run j
+pub own_first : (x : ℕ × Event) (run : List (ℕ × Event)) (j : ℕ) → x.0 ≡ j → events_at (x ∷ run) j ≡ x.1 ∷ events_at run j
 own_first x run j same = ap (λ (o : Option Event). cons_option o (events_at run j)) (event_yes x.0 j x.1 same)
 
-other_first : (x : ℕ × Event) (run : List (ℕ × Event)) (j : ℕ) → x.0 ≢ j → events_at (x ∷ run) j ≡ events_at run j
+pub other_first : (x : ℕ × Event) (run : List (ℕ × Event)) (j : ℕ) → x.0 ≢ j → events_at (x ∷ run) j ≡ events_at run j
 other_first x run j ne = ap (λ (o : Option Event). cons_option o (events_at run j)) (event_no x.0 j x.1 ne)
 
 -- ---- where a walk leads
