@@ -1,6 +1,7 @@
 mod LoneEnds
 mod LoneLogs
 mod LoneNodes
+mod LoneRuns
 mod LoneStarts
 mod LoneSteps
 mod LoneTurns

@@ -49,10 +49,10 @@ wants_send (Leader round id) owed m h = cc
 abbrev pub parts : NodeState → List ℕ → List Msg → List Event → LoneNode
 parts state ids input events = record { state = state; ids = ids; input = input; events = events }
 
-choosing_follows : (s : NodeState) (round : ℕ) → s ≡ free (Choosing round) → ¬ (IsLeader s.phase)
+pub choosing_follows : (s : NodeState) (round : ℕ) → s ≡ free (Choosing round) → ¬ (IsLeader s.phase)
 choosing_follows s round is l = let P : NodeState → Type 0 = λ x. IsLeader x.phase in subst P is l
 
-receiving_follows : (phase : Phase) → Receives phase → ¬ (IsLeader phase)
+pub receiving_follows : (phase : Phase) → Receives phase → ¬ (IsLeader phase)
 receiving_follows (Choosing round) r l = r
 receiving_follows (Active round id) r l = l
 receiving_follows Passive r l = l
