@@ -1,11 +1,18 @@
-//! Runs of a ring: what a run gives, the draws of its nodes, and the collector of what they wrote.
+//! Runs of a ring: what a run gives, the draws of its nodes, the collector of what they wrote, and the
+//! lines of their ends.
 #![tactic(auto)]
 
+mod collector;
+mod draws;
+mod ends_writer;
 mod node_end;
 mod node_part;
 mod run;
 mod run_fault;
 
+pub use collector::Collector;
+pub use draws::draw_lists;
+pub use ends_writer::write_ends;
 pub use node_end::NodeEnd;
 pub use node_part::NodePart;
 pub use run::Run;
