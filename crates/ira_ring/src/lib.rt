@@ -17,3 +17,6 @@ pub use node_end::NodeEnd;
 pub use node_part::NodePart;
 pub use run::Run;
 pub use run_fault::RunFault;
+
+#[cfg(test)]
+mod tests;
