@@ -1,19 +1,15 @@
 -- What a node of a lone run does next, or how it ends.
-use Rattle.std.proofs.Common.{◌≡◌, ℕ, ◌<◌, ◌≤◌, List, [], ◌∷◌, All, Option, Some, None, Ok, Err, length, get_or, refl, subst, slice_get, arith}
+use Rattle.std.proofs.Common.{◌≡◌, ℕ, ◌<◌, List, [], ◌∷◌, Option, Some, None, length, get_or, refl, subst, slice_get, arith}
 use Rattle.ira_event.specs.declared.msg.Msg.{Msg}
 use Rattle.ira_event.specs.declared.event.Event.{Event}
 use Rattle.ira_event.specs.declared.event.Event.TheVariants.{Draw, Sent, Got}
-use Rattle.ira_event.specs.RingSize.{IsRingSize}
 use Rattle.ira_node.specs.declared.phase.Phase.{Phase}
 use Rattle.ira_node.specs.declared.phase.Phase.TheVariants.{Choosing, Active, Passive, Leader}
 use Rattle.ira_node.specs.declared.node_state.NodeState.{NodeState}
-use Rattle.ira_node.specs.declared.step_fault.StepFault.{StepFault}
-use Rattle.ira_node.specs.declared.wanted.Wanted.{Wanted}
-use Rattle.ira_node.specs.declared.wanted.Wanted.TheVariants.{Draw as WantsDraw, Send, Receipt, Nothing}
+use Rattle.ira_node.specs.declared.wanted.Wanted.TheVariants.{Draw as WantsDraw, Send, Receipt}
 use Rattle.ira_node.specs.Wanted.{wanted_of}
 use Rattle.ira_node.specs.NodeStep.{NodeStep}
 use Rattle.ira_node.specs.NodeState.{free, IsLeader, Receives}
-use Rattle.ira_ring.specs.declared.node_end.NodeEnd.{NodeEnd}
 use Rattle.ira_ring.specs.declared.node_end.NodeEnd.TheVariants.{DrawsSpent}
 use Rattle.ira_ring.specs.LoneNode.{LoneNode, IsFirst, IsAtHand, Offers, IsNext, Ends}
 

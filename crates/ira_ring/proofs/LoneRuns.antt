@@ -1,15 +1,14 @@
 -- What a lone run gives: the logs of a full run, and ends that they show.
-use Rattle.std.proofs.Common.{◌≡◌, ◌≢◌, ℕ, ◌++◌, ◌<◌, ◌≤◌, List, [], ◌∷◌, Option, Some, None, length, get_or, refl, sym, ◌∙◌, subst, ap, append-nil, append_assoc, arith}
+use Rattle.std.proofs.Common.{◌≡◌, ◌≢◌, ℕ, ◌++◌, ◌<◌, ◌≤◌, List, [], ◌∷◌, Some, length, get_or, refl, sym, ◌∙◌, subst, ap, append-nil, append_assoc, arith}
 use Rattle.std.specs.Prelude.{slice_get}
-use Rattle.std.proofs.lemmas.Option.{slice_get-get_or, get_or_from_slice_get, slice_get_within}
+use Rattle.std.proofs.lemmas.Option.{slice_get-get_or, slice_get_within}
 use Rattle.ira_event.specs.declared.event.Event.{Event}
 use Rattle.ira_event.specs.declared.msg.Msg.{Msg}
 use Rattle.ira_event.specs.Log.{Log, IsLog}
 use Rattle.ira_event.specs.Logs.{AreLogs}
 use Rattle.ira_event.specs.RingSize.{IsRingSize}
-use Rattle.ira_node.specs.declared.phase.Phase.TheVariants.{Choosing}
 use Rattle.ira_node.specs.declared.node_state.NodeState.{NodeState}
-use Rattle.ira_node.specs.NodeState.{first_state, free}
+use Rattle.ira_node.specs.NodeState.{first_state}
 use Rattle.ira_replay.specs.LocalRun.{LeadsTo}
 use Rattle.ira_order.specs.Ring.{next, prev, log_of, events_of}
 use Rattle.ira_order.specs.Matching.{sent, got}
@@ -19,12 +18,12 @@ use Rattle.ira_ring.specs.declared.node_end.NodeEnd.{NodeEnd}
 use Rattle.ira_ring.specs.declared.node_end.NodeEnd.TheVariants.{Leader, Stopped, DrawsSpent, LogFull, NoStep, Quiet}
 use Rattle.ira_ring.specs.Setup.{Setup, is_initiator, given, KeepsRules}
 use Rattle.ira_ring.specs.Run.{Run}
-use Rattle.ira_ring.specs.FullRun.{opening, events_at, drawn, AreLogsOf, IsFullRun, AreFullLogs}
-use Rattle.ira_ring.specs.ShownEnd.{Says, IsShown, AreShown, IsLoneRun}
+use Rattle.ira_ring.specs.FullRun.{opening, events_at, drawn, AreFullLogs}
+use Rattle.ira_ring.specs.ShownEnd.{Says, IsShown, IsLoneRun}
 use Rattle.ira_ring.specs.LoneNode.{LoneNode, Ends}
-use Rattle.ira_ring.specs.LoneRing.{idle, node_at, IsReached, AreDone, AreLogsOfNodes, AreEndsOfNodes}
+use Rattle.ira_ring.specs.LoneRing.{node_at, IsReached, AreDone, AreLogsOfNodes, AreEndsOfNodes}
 use Rattle.ira_ring.proofs.LoneEnds.{ended_no_step}
-use Rattle.ira_ring.proofs.LoneLogs.{no_log, log_at, is_log}
+use Rattle.ira_ring.proofs.LoneLogs.{no_log, is_log}
 use Rattle.ira_ring.proofs.LoneNodes.{choosing_follows, receiving_follows}
 use Rattle.ira_ring.proofs.Recordable.{run_within}
 use Rattle.ira_ring.proofs.Walks.{walk_leads, walk_balanced}

@@ -1,5 +1,5 @@
 -- A turn of the lone runner is a step of a run.
-use Rattle.std.proofs.Common.{◌≡◌, ◌≢◌, ℕ, ◌+◌, ◌<◌, ◌≤◌, ◌⊎◌, inl, inr, List, [], ◌∷◌, ◌++◌, Some, None, length, refl, sym, ◌∙◌, subst, ap, drop, append-nil, append_assoc, length-append, arith}
+use Rattle.std.proofs.Common.{◌≡◌, ◌≢◌, ℕ, ◌<◌, ◌≤◌, inl, inr, List, [], ◌∷◌, ◌++◌, Some, length, refl, sym, ◌∙◌, subst, ap, drop, append-nil, append_assoc, length-append, arith}
 use Rattle.std.specs.List.{cons_option}
 use Rattle.std.proofs.lemmas.List.Elements.{filter_map-append}
 use Rattle.ira_event.specs.declared.event.Event.{Event}
@@ -13,10 +13,10 @@ use Rattle.ira_order.specs.Ring.{next, prev}
 use Rattle.ira_order.specs.Run.{Configuration, LinkStep, RingStep}
 use Rattle.ira_order.proofs.Ranks.{eq_cases, next_below}
 use Rattle.ira_order.proofs.Runs.{next_prev, prev_next, prev_below}
-use Rattle.ira_ring.specs.Setup.{Setup, KeepsRules, given}
-use Rattle.ira_ring.specs.FullRun.{opening, events_at, drawing, drawn, HasEvent, owes, chooses, receives, CanStep, Walks}
-use Rattle.ira_ring.specs.LoneNode.{LoneNode, IsFirst, IsNext, Ends, drawn_by, after_event, after_put}
-use Rattle.ira_ring.specs.LoneRing.{idle, node_at, IsMoved, IsTurn, IsReached}
+use Rattle.ira_ring.specs.Setup.{Setup, given}
+use Rattle.ira_ring.specs.FullRun.{opening, events_at, drawing, drawn, HasEvent, owes, chooses, receives, CanStep}
+use Rattle.ira_ring.specs.LoneNode.{LoneNode, IsFirst, IsNext, drawn_by, after_event, after_put}
+use Rattle.ira_ring.specs.LoneRing.{node_at, IsMoved, IsReached}
 use Rattle.ira_ring.proofs.Walks.{walk_more, own_more, other_more, links_from}
 
 -- ---- a node with a next event can step

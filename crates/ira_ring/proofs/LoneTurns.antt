@@ -1,9 +1,9 @@
 -- A turn of the lone runner, as the code makes it.
-use Rattle.std.proofs.Common.{◌≡◌, ℕ, suc, ◌+◌, ◌<◌, ◌≤◌, List, [], ◌∷◌, ◌++◌, All, length, get_or, sym, ◌∙◌, subst, ap, arith}
+use Rattle.std.proofs.Common.{◌≡◌, ℕ, suc, ◌<◌, ◌≤◌, List, [], ◌∷◌, ◌++◌, All, length, get_or, sym, ◌∙◌, subst, ap, arith}
 use Rattle.std.proofs.Math.ListN.{set}
 use Rattle.std.proofs.lemmas.List.{get_or_read, set-get_or}
 use Rattle.ira_ring.specs.declared.node_end.NodeEnd.{NodeEnd}
-use Rattle.ira_ring.specs.Setup.{Setup, KeepsRules, given}
+use Rattle.ira_ring.specs.Setup.{Setup, KeepsRules}
 use Rattle.ira_ring.specs.FullRun.{drawn}
 use Rattle.ira_ring.specs.LoneNode.{LoneNode, Ends}
 use Rattle.ira_ring.specs.LoneRing.{idle, node_at, HasEnded, IsReached}

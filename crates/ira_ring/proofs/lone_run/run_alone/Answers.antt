@@ -1,5 +1,4 @@
-use Rattle.std.proofs.Common.{◌≡◌, ◌∙◌, List, length, refl, sym, subst, ap, arith}
-use Rattle.ira_event.specs.Log.{Log}
+use Rattle.std.proofs.Common.{◌≡◌, ◌∙◌, length, refl, sym, subst, ap, arith}
 use Rattle.ira_event.specs.Logs.{AreLogs}
 use Rattle.ira_ring.specs.Setup.{Setup, KeepsRules}
 use Rattle.ira_ring.specs.LoneRing.{AreLogsOfNodes}

@@ -1,4 +1,4 @@
-use Rattle.std.proofs.Common.{◌≡◌, ◌<◌, ◌∙◌, ◌++◌, ◌∷◌, [], length, get_or, refl, ap, arith}
+use Rattle.std.proofs.Common.{◌≡◌, ◌<◌, ◌++◌, ◌∷◌, [], length, get_or, refl, ap, arith}
 use Rattle.ira_ring.specs.Setup.{Setup}
 use Rattle.ira_ring.proofs.LoneEnds.{no_next_left, ends_more, all_ends}
 use Rattle.ira_ring.proofs.LoneTurns.{ids_left}

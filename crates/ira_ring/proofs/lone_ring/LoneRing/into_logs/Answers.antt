@@ -1,9 +1,7 @@
-use Rattle.std.proofs.Common.{◌≡◌, ◌<◌, ◌∙◌, ◌+◌, ◌++◌, ◌∷◌, [], drop, length, sym, subst, ap, refl, arith}
-use Rattle.std.specs.Vec.Iter.{into_iter_items}
-use Rattle.ira_event.specs.Log.{Log, IsLog}
+use Rattle.std.proofs.Common.{◌≡◌, ◌∙◌, ◌++◌, ◌∷◌, [], length, sym, subst, ap, arith}
+use Rattle.ira_event.specs.Log.{IsLog}
 use Rattle.ira_ring.specs.Setup.{Setup}
-use Rattle.ira_ring.specs.LoneRing.{node_at}
-use Rattle.ira_ring.proofs.LoneLogs.{log_at, is_log, first_left, log_is, logs_more, all_logs}
+use Rattle.ira_ring.proofs.LoneLogs.{is_log, first_left, log_is, logs_more, all_logs}
 use Rattle.ira_ring.proofs.lone_ring.LoneRing.into_logs.Goals as goal
 
 pub index-initiator-requires : goal.index-initiator-requires

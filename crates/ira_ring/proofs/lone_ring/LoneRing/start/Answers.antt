@@ -1,4 +1,4 @@
-use Rattle.std.proofs.Common.{◌≡◌, ◌∙◌, ◌++◌, ◌∷◌, [], length, sym, ap, arith}
+use Rattle.std.proofs.Common.{◌≡◌, ◌∙◌, ◌++◌, ◌∷◌, [], ap, arith}
 use Rattle.ira_ring.specs.Setup.{Setup}
 use Rattle.ira_ring.proofs.LoneStarts.{started, first_more}
 use Rattle.ira_ring.proofs.lone_ring.LoneRing.start.Goals as goal
