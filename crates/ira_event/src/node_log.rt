@@ -60,7 +60,7 @@ impl<A: Allocator> NodeLog<A> {
     }
 
     /// The log of these parts, which are known to be in range.
-    pub(crate) fn of_parts(
+    pub fn of_parts(
         nodes: RingSize,
         place: u8,
         initiator: bool,

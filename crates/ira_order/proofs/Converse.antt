@@ -26,7 +26,7 @@ module _ (n i : ℕ) (past past' : ℕ → List Event) (old new : ℕ → List M
     (here : i < n)
     (same : (j : ℕ) → j ≢ i → past' j ≡ past j)
     (balanced : Balanced n past old) where
-  balanced_step : (e : Event) → past' i ≡ past i ++ e ∷ [] → LinkStep n i e old new → Balanced n past' new
+  pub balanced_step : (e : Event) → past' i ≡ past i ++ e ∷ [] → LinkStep n i e old new → Balanced n past' new
   balanced_step (Sent m) more step k lk =
       let sent_i : sent (past' i) ≡ sent (past i) ++ m ∷ [] = ap sent more ∙ filter_map-append sending (past i) (Sent m ∷ []) in
       let got_i : got (past' i) ≡ got (past i) = ap got more ∙ filter_map-append receipt (past i) (Sent m ∷ []) ∙ append-nil (got (past i)) in

@@ -36,10 +36,10 @@ use Rattle.std.proofs.lemmas.Option.{get_or_from_slice_get, slice_get_within, sl
 
 -- ---- the events of one node
 
-event_yes : (i j : ℕ) (e : Event) → i ≡ j → event_of j (i, e) ≡ Some e
+pub event_yes : (i j : ℕ) (e : Event) → i ≡ j → event_of j (i, e) ≡ Some e
 event_yes i j e same = rw (eq-eqb i j same) refl
 
-event_no : (i j : ℕ) (e : Event) → i ≢ j → event_of j (i, e) ≡ None
+pub event_no : (i j : ℕ) (e : Event) → i ≢ j → event_of j (i, e) ≡ None
 event_no i j e ne = rw (ne_eqb i j ne) refl
 
 own_cons : (x : ℕ × Event) (run : List (ℕ × Event)) (i : ℕ) → x.0 ≡ i → filter_map (event_of i) (x ∷ run) ≡ x.1 ∷ filter_map (event_of i) run

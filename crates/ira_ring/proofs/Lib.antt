@@ -1,0 +1,15 @@
+pub mod Collecting
+pub mod Drawing
+pub mod EndLines
+pub mod FullRuns
+pub mod LoneEnds
+pub mod LoneLogs
+pub mod LoneNodes
+pub mod LoneRuns
+pub mod LoneStarts
+pub mod LoneSteps
+pub mod LoneTurns
+pub mod LoneTurnsOn
+pub mod Recordable
+pub mod Setups
+pub mod Walks

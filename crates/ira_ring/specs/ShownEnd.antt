@@ -1,0 +1,55 @@
+-- What the way in which a node ended says of its log and of the messages sent to it.
+use Rattle.std.specs.Prelude.{◌≡◌, ◌≢◌, ℕ, ◌<◌, List, [], ◌∷◌, ◌++◌, None, Some, length, slice_get}
+use Rattle.ira_event.specs.declared.msg.Msg.{Msg}
+use Rattle.ira_event.specs.declared.event.Event.{Event}
+use Rattle.ira_event.specs.declared.event.Event.TheVariants.{Got}
+use Rattle.ira_event.specs.Log.{Log}
+use Rattle.ira_node.specs.declared.phase.Phase.TheVariants.{Choosing}
+use Rattle.ira_node.specs.declared.node_state.NodeState.{NodeState}
+use Rattle.ira_node.specs.NodeState.{first_state, free, IsLeader, Receives}
+use Rattle.ira_node.specs.NodeStep.{HasStep}
+use Rattle.ira_replay.specs.LocalRun.{LeadsTo}
+use Rattle.ira_order.specs.Ring.{prev, log_of}
+use Rattle.ira_order.specs.Matching.{sent, got}
+use Rattle.ira_ring.specs.declared.node_end.NodeEnd.{NodeEnd}
+use Rattle.ira_ring.specs.declared.node_end.NodeEnd.TheVariants.{Leader, Stopped, DrawsSpent, LogFull, NoStep, Quiet}
+use Rattle.ira_ring.specs.Setup.{Setup, is_initiator, given}
+use Rattle.ira_ring.specs.FullRun.{drawn, BeginsWith, AreFullLogs}
+use Rattle.ira_ring.specs.Run.{Run}
+
+-- a node in this state that has made these events doesn't lead, and may have more of them
+abbrev pub MayGoOn : Setup → NodeState → List Event → Type 0
+MayGoOn s state events = ¬ (IsLeader state.phase) × (length events < s.cap)
+
+-- and it receives
+abbrev pub Waits : Setup → NodeState → List Event → Type 0
+Waits s state events = MayGoOn s state events × (state.owed ≡ None) × Receives state.phase
+
+-- what an end says of node i, where its events led it to this state and these messages were sent to it
+abbrev pub Says : Setup → ℕ → NodeState → List Event → List Msg → NodeEnd → Type 0
+-- it leads
+Says s i state events input Leader = IsLeader state.phase
+-- it doesn't lead, and has made as many events as it may
+Says s i state events input LogFull = ¬ (IsLeader state.phase) × (length events ≡ s.cap)
+-- it has to draw, and has drawn all IDs that it was given
+Says s i state events input DrawsSpent = MayGoOn s state events × ((round : ℕ) × (state ≡ free (Choosing round))) × (drawn events ≡ given s i)
+-- it receives, and the message behind those that it received has no step
+Says s i state events input (NoStep m) = Waits s state events × ¬ (HasStep s.nodes state (Got m)) × BeginsWith input (got events ++ m ∷ [])
+-- it receives, and has received all messages that were sent to it
+Says s i state events input Quiet = Waits s state events × (got events ≡ input)
+Says s i state events input Stopped = Waits s state events × (got events ≡ input)
+
+-- the end is shown by the logs: by that of node i, and by the sendings of the node before it
+abbrev pub IsShown : Setup → List Log → ℕ → NodeEnd → Type 0
+IsShown s logs i end =
+    (state : NodeState) × LeadsTo s.nodes (first_state (is_initiator s i)) (log_of logs i) state × Says s i state (log_of logs i) (sent (log_of logs (prev s.nodes i))) end
+
+-- each end is shown
+abbrev pub AreShown : Setup → List Log → List NodeEnd → Type 0
+AreShown s logs ends = (i : ℕ) (end : NodeEnd) → slice_get ends i ≡ Some end → IsShown s logs i end
+
+-- the logs of a full run of the setup, with an end for each node that its logs show; none is Stopped
+pub record IsLoneRun (s : Setup) (run : Run) : Type 0 where
+  pub logs : AreFullLogs s run.logs
+  pub ends : AreShown s run.logs run.ends
+  pub moved : (i : ℕ) → slice_get run.ends i ≢ Some Stopped

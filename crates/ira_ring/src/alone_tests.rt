@@ -1,0 +1,278 @@
+use crate::{NodeEnd, RunFault, Setup, run_alone};
+use ira_event::{Event, Msg, RingSize};
+use std::alloc::Global;
+use std::process::Abort;
+use std::test::Fail;
+
+fn clean(round: u32, id: u32, hop: u32) -> Msg {
+    Msg {
+        round,
+        id,
+        hop,
+        dirty: false,
+    }
+}
+
+fn dirty(round: u32, id: u32, hop: u32) -> Msg {
+    Msg {
+        round,
+        id,
+        hop,
+        dirty: true,
+    }
+}
+
+/// A setup of a ring of so many nodes.
+fn setup_of(
+    alloc: Global,
+    nodes: u8,
+    initiators: &[bool],
+    draws: &[&[u32]],
+    cap: usize,
+) -> Result<Setup<Global>, Fail> {
+    let mut lists = Vec::new(alloc);
+    for ids in draws {
+        lists.push(ids.to_vec(alloc)?)?;
+    }
+    Ok(Setup {
+        nodes: RingSize::new(nodes).ok_or("a ring of that size")?,
+        initiators: initiators.to_vec(alloc)?,
+        draws: lists,
+        cap,
+    })
+}
+
+fn assert_run(
+    rt: &impl Abort,
+    alloc: Global,
+    setup: &Setup<Global>,
+    logs: &[&[Event]],
+    ends: &[NodeEnd],
+) -> Result<(), Fail> {
+    let run = run_alone(alloc, setup)?;
+    assert_eq!(rt; run.ends(), ends);
+    let size = run.logs().size().get();
+    assert_eq!(rt; usize::from(size), logs.len());
+    for place in 0..size {
+        let mut events = run.logs().log(place).events();
+        for event in logs[usize::from(place)] {
+            assert_eq!(rt; events.next(), Some(*event));
+        }
+        assert_eq!(rt; events.next(), None);
+    }
+    Ok(())
+}
+
+fn assert_refused(rt: &impl Abort, alloc: Global, setup: &Setup<Global>) {
+    assert!(rt; matches!(run_alone(alloc, setup), Err(RunFault::Setup)));
+}
+
+/// The events of the ring of two in which node 0 draws 2 and node 1 draws 1.
+const WINNER: [Event; 4] = [
+    Event::Draw(2),
+    Event::Sent(Msg {
+        round: 1,
+        id: 2,
+        hop: 1,
+        dirty: false,
+    }),
+    Event::Got(Msg {
+        round: 1,
+        id: 1,
+        hop: 1,
+        dirty: false,
+    }),
+    Event::Got(Msg {
+        round: 1,
+        id: 2,
+        hop: 2,
+        dirty: false,
+    }),
+];
+
+const LOSER: [Event; 4] = [
+    Event::Draw(1),
+    Event::Sent(Msg {
+        round: 1,
+        id: 1,
+        hop: 1,
+        dirty: false,
+    }),
+    Event::Got(Msg {
+        round: 1,
+        id: 2,
+        hop: 1,
+        dirty: false,
+    }),
+    Event::Sent(Msg {
+        round: 1,
+        id: 2,
+        hop: 2,
+        dirty: false,
+    }),
+];
+
+#[test]
+fn two_node_election(rt: HostRuntime) -> Result<(), Fail> {
+    let setup = setup_of(rt.alloc(), 2, &[true, true], &[&[2], &[1]], 100)?;
+    assert_run(
+        &rt,
+        rt.alloc(),
+        &setup,
+        &[&WINNER, &LOSER],
+        &[NodeEnd::Leader, NodeEnd::Quiet],
+    )
+}
+
+#[test]
+fn tie_then_win(rt: HostRuntime) -> Result<(), Fail> {
+    let setup = setup_of(rt.alloc(), 2, &[true, true], &[&[1, 2], &[1, 1]], 100)?;
+    assert_run(
+        &rt,
+        rt.alloc(),
+        &setup,
+        &[
+            &[
+                Event::Draw(1),
+                Event::Sent(clean(1, 1, 1)),
+                Event::Got(clean(1, 1, 1)),
+                Event::Sent(dirty(1, 1, 2)),
+                Event::Got(dirty(1, 1, 2)),
+                Event::Draw(2),
+                Event::Sent(clean(2, 2, 1)),
+                Event::Got(clean(2, 1, 1)),
+                Event::Got(clean(2, 2, 2)),
+            ],
+            &[
+                Event::Draw(1),
+                Event::Sent(clean(1, 1, 1)),
+                Event::Got(clean(1, 1, 1)),
+                Event::Sent(dirty(1, 1, 2)),
+                Event::Got(dirty(1, 1, 2)),
+                Event::Draw(1),
+                Event::Sent(clean(2, 1, 1)),
+                Event::Got(clean(2, 2, 1)),
+                Event::Sent(clean(2, 2, 2)),
+            ],
+        ],
+        &[NodeEnd::Leader, NodeEnd::Quiet],
+    )
+}
+
+#[test]
+fn lone_initiator(rt: HostRuntime) -> Result<(), Fail> {
+    let setup = setup_of(rt.alloc(), 3, &[true, false, false], &[&[1], &[], &[]], 100)?;
+    assert_run(
+        &rt,
+        rt.alloc(),
+        &setup,
+        &[
+            &[
+                Event::Draw(1),
+                Event::Sent(clean(1, 1, 1)),
+                Event::Got(clean(1, 1, 3)),
+            ],
+            &[Event::Got(clean(1, 1, 1)), Event::Sent(clean(1, 1, 2))],
+            &[Event::Got(clean(1, 1, 2)), Event::Sent(clean(1, 1, 3))],
+        ],
+        &[NodeEnd::Leader, NodeEnd::Quiet, NodeEnd::Quiet],
+    )
+}
+
+/// The events of a node of a ring of two in which both nodes draw 1.
+const TIED: [Event; 5] = [
+    Event::Draw(1),
+    Event::Sent(Msg {
+        round: 1,
+        id: 1,
+        hop: 1,
+        dirty: false,
+    }),
+    Event::Got(Msg {
+        round: 1,
+        id: 1,
+        hop: 1,
+        dirty: false,
+    }),
+    Event::Sent(Msg {
+        round: 1,
+        id: 1,
+        hop: 2,
+        dirty: true,
+    }),
+    Event::Got(Msg {
+        round: 1,
+        id: 1,
+        hop: 2,
+        dirty: true,
+    }),
+];
+
+#[test]
+fn draws_spent_on_both(rt: HostRuntime) -> Result<(), Fail> {
+    let setup = setup_of(rt.alloc(), 2, &[true, true], &[&[1], &[1]], 100)?;
+    assert_run(
+        &rt,
+        rt.alloc(),
+        &setup,
+        &[&TIED, &TIED],
+        &[NodeEnd::DrawsSpent, NodeEnd::DrawsSpent],
+    )
+}
+
+#[test]
+fn full_logs_and_bad_setups(rt: HostRuntime) -> Result<(), Fail> {
+    let both = &[true, true];
+    let full = setup_of(rt.alloc(), 2, both, &[&[2], &[1]], 3)?;
+    assert_run(
+        &rt,
+        rt.alloc(),
+        &full,
+        &[&WINNER[..3], &LOSER[..3]],
+        &[NodeEnd::LogFull, NodeEnd::LogFull],
+    )?;
+    for setup in [
+        setup_of(rt.alloc(), 2, &[false, false], &[&[2], &[1]], 100)?,
+        setup_of(rt.alloc(), 2, both, &[&[2], &[1]], 0)?,
+        setup_of(rt.alloc(), 2, both, &[&[3], &[1]], 100)?,
+    ] {
+        assert_refused(&rt, rt.alloc(), &setup);
+    }
+    Ok(())
+}
+
+#[test]
+fn waiting_for_a_spent_node(rt: HostRuntime) -> Result<(), Fail> {
+    let setup = setup_of(rt.alloc(), 2, &[true, true], &[&[1], &[1, 1]], 100)?;
+    let [drawn, sent, met, passed, back] = TIED;
+    assert_run(
+        &rt,
+        rt.alloc(),
+        &setup,
+        &[
+            &TIED,
+            &[
+                drawn,
+                sent,
+                met,
+                passed,
+                back,
+                Event::Draw(1),
+                Event::Sent(clean(2, 1, 1)),
+            ],
+        ],
+        &[NodeEnd::DrawsSpent, NodeEnd::Quiet],
+    )
+}
+
+#[test]
+fn leader_beside_a_full_log(rt: HostRuntime) -> Result<(), Fail> {
+    let setup = setup_of(rt.alloc(), 2, &[true, true], &[&[2], &[1]], 4)?;
+    assert_run(
+        &rt,
+        rt.alloc(),
+        &setup,
+        &[&WINNER, &LOSER],
+        &[NodeEnd::Leader, NodeEnd::LogFull],
+    )
+}

@@ -1,0 +1,32 @@
+//! Runs of a ring: what a run starts from and gives, the run on one thread, the draws of its nodes, the
+//! collector of what they wrote, and the lines of their ends.
+#![tactic(auto)]
+
+mod collector;
+mod draws;
+mod ends_writer;
+mod laws;
+mod lone_node;
+mod lone_ring;
+mod lone_run;
+mod node_end;
+mod node_part;
+mod run;
+mod run_fault;
+mod setup;
+
+pub use collector::Collector;
+pub use draws::draw_lists;
+pub use ends_writer::write_ends;
+pub use laws::full_runs_are_runs;
+pub use lone_run::run_alone;
+pub use node_end::NodeEnd;
+pub use node_part::NodePart;
+pub use run::Run;
+pub use run_fault::RunFault;
+pub use setup::Setup;
+
+#[cfg(test)]
+mod alone_tests;
+#[cfg(test)]
+mod tests;

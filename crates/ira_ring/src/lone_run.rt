@@ -1,0 +1,31 @@
+ghost use Rattle.std.specs.Prelude.{◌≡◌, ◌↔◌, ◌⊎◌, Err, IfOk, IfErr};
+ghost use Rattle.ira_ring.specs.declared.run_fault.RunFault.TheVariants.{Setup as SetupFault, OutOfMemory};
+ghost use Rattle.ira_ring.specs.Setup.{KeepsRules};
+ghost use Rattle.ira_ring.specs.ShownEnd.{IsLoneRun};
+
+use crate::lone_ring::LoneRing;
+use crate::run::Run;
+use crate::run_fault::RunFault;
+use crate::setup::Setup;
+use ira_event::Logs;
+use std::alloc::Allocator;
+
+/// A full run of the setup on one thread, without links: always the least node that can step makes its
+/// next event, until none can. `Setup` where the setup breaks the rules; nothing is taken before they
+/// were looked at. Time is linear in the records and in the places that are passed on the way.
+pub fn run_alone<A: Allocator + Clone>(alloc: A, setup: &Setup<A>) -> Result<Run<A>, RunFault>
+    ensures rules { (result ≡ Err SetupFault) ↔ ¬ (KeepsRules setup.now) }
+    ensures ok { IfOk result (IsLoneRun setup.now) }
+    ensures err { IfErr result (λ f. (f ≡ SetupFault) ⊎ (f ≡ OutOfMemory)) }
+{
+    if !setup.keeps_rules() {
+        return Err(RunFault::Setup);
+    }
+    let mut ring = LoneRing::start(alloc.clone()?, setup)?;
+    ring.run()?;
+    let ends = ring.ends(alloc.clone()?)?;
+    let Ok(logs) = Logs::gather(ring.into_logs(alloc)?) else {
+        unreachable!();
+    };
+    Ok(Run::of_parts(logs, ends))
+}
