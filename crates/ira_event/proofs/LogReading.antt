@@ -1,5 +1,6 @@
 -- What the reader of a log text found, line by line.
 use Rattle.std.proofs.Common.{◌≡◌, ◌≢◌, ◌≤◌, ◌<◌, ℕ, ◌+◌, ◌&&◌, Bool, true, false, cond, List, [], ◌∷◌, ◌++◌, length, take, drop, suc, get_or, Option, Some, None, Ok, refl, sym, ap, subst, ◌∙◌, arith, inl, inr, nat_eq, nat_lt, nat_le, append_assoc, length-append}
+use Rattle.std.specs.Option.{is_some}
 use Rattle.std.specs.Prelude.{codes, position}
 use Rattle.std.specs.List.{list_all, position_or_len}
 use Rattle.std.proofs.Math.Seq.{split_at}
@@ -19,7 +20,7 @@ use Rattle.ira_event.specs.Event.{is_number, is_msg, is_event}
 use Rattle.ira_event.specs.LogScan.{line_at}
 use Rattle.ira_event.specs.LogText.{IsRecord, AreRecords, IsEnd}
 use Rattle.ira_event.specs.LogTextFault.{HasNoLineFeed, BeginsAsRecord, BeginsWithRecords, too_many, no_line, out_of_range, other_count, trailing, RestFault, at_line, RecordsFault, AreAllRecords}
-use Rattle.ira_event.specs.Records.{RecordsLeft, ReadsRecord, IsAtEnd, ReadsOn}
+use Rattle.ira_event.specs.Records.{RecordsLeft, ReadsRecord, IsAtEnd, ReadsOn, HasRead}
 use Rattle.ira_event.specs.declared.log_fault.LogFault.{LogFault}
 use Rattle.ira_event.specs.Scan.{kept}
 use Rattle.ira_event.proofs.Numerals.{and_parts}
@@ -126,26 +127,34 @@ module _ (bs after : List ℕ) where
 
 -- ---- record by record
 
--- these events were read, and this is left of the text
-abbrev pub Behind : List ℕ → List Event → RecordsLeft → Type 0
-Behind text es left = BeginsWithRecords text es left.rest × (length es ≡ left.count)
-
-pub behind_nothing : (text : List ℕ) (left : RecordsLeft) → left.rest ≡ text → left.count ≡ 0 → Behind text [] left
+pub behind_nothing : (text : List ℕ) (left : RecordsLeft) → left.rest ≡ text → left.count ≡ 0 → HasRead text [] left
 behind_nothing text left rest none = (subst (BeginsWithRecords text []) (sym rest) (begins_nothing text), sym none)
 
-pub behind_more : (text : List ℕ) (es : List Event) (old new : RecordsLeft) (e : Event) → Behind text es old → ReadsRecord old new e → Behind text (es ++ e ∷ []) new
+pub behind_more : (text : List ℕ) (es : List Event) (old new : RecordsLeft) (e : Event) → HasRead text es old → ReadsRecord old new e → HasRead text (es ++ e ∷ []) new
 behind_more text es old new e h r =
     (begins_pushed text old.rest r.line new.rest es e h.0 r.rest r.is (λ q. r.few (sym h.1 ∙ q)) r.number, omega (arith, length-append es (e ∷ []), h.1, r.count))
 
-pub behind_all : (text : List ℕ) (es : List Event) (left : RecordsLeft) → Behind text es left → IsAtEnd left → AreAllRecords text es
+pub behind_all : (text : List ℕ) (es : List Event) (left : RecordsLeft) → HasRead text es left → IsAtEnd left → AreAllRecords text es
 behind_all text es left h r = record { end = r.line; end_is = subst (IsEnd r.line) (sym h.1) r.is; begins = subst (BeginsWithRecords text es) r.rest h.0 }
 
-pub behind_fault : (text : List ℕ) (es : List Event) (left : RecordsLeft) (f : LogFault) → Behind text es left → RestFault left.count left.rest f → RecordsFault text f
+pub behind_fault : (text : List ℕ) (es : List Event) (left : RecordsLeft) (f : LogFault) → HasRead text es left → RestFault left.count left.rest f → RecordsFault text f
 behind_fault text es left f h r = record { events = es; rest = left.rest; begins = h.0; fault = subst (λ k. RestFault k left.rest f) (sym h.1) r }
+
+-- what stood behind these events goes on behind those read later
+pub behind_later : (text : List ℕ) (es later : List Event) (old new : RecordsLeft) (e : Event) → HasRead text (es ++ later) old → ReadsRecord old new e → HasRead text (es ++ (later ++ e ∷ [])) new
+behind_later text es later old new e h r = subst (λ xs. HasRead text xs new) (append_assoc es later (e ∷ [])) (behind_more text (es ++ later) old new e h r)
 
 pub was_read : (old new : RecordsLeft) (r : Option Event) (e : Event) → ReadsOn old new (Ok r) → r ≡ Some e → ReadsRecord old new e
 was_read old new (Some x) e h is = let same : x ≡ e = cc in subst (ReadsRecord old new) same h
 was_read old new None e h is = absurd cc
+
+pub some_was_read : (old new : RecordsLeft) (r : Option Event) → ReadsOn old new (Ok r) → true ≡ is_some r → (e : Event) × ReadsRecord old new e
+some_was_read old new (Some e) h some = (e, h)
+some_was_read old new None h some = absurd cc
+
+pub none_was_last : (old new : RecordsLeft) (r : Option Event) → ReadsOn old new (Ok r) → false ≡ is_some r → IsAtEnd old
+none_was_last old new (Some e) h none = absurd cc
+none_was_last old new None h none = h
 
 pub was_last : (old new : RecordsLeft) (r : Option Event) → ReadsOn old new (Ok r) → r ≡ None → IsAtEnd old
 was_last old new (Some x) h is = absurd cc

@@ -1,7 +1,7 @@
 ghost use Rattle.std.specs.Prelude.{◌≡◌, ◌≤◌, ◌↔◌, ◌==◌, None, IsTrue, position};
 ghost use Rattle.ira_event.specs.LogScan.{line_at};
 ghost use Rattle.ira_event.specs.LogTextFault.{BeginsAsRecord, RestFault};
-ghost use Rattle.ira_event.specs.Records.{ReadsOn};
+ghost use Rattle.ira_event.specs.Records.{ReadsOn, ReadsThrough};
 ghost use Rattle.ira_event.specs.declared.limits.TheConstants.{MAX_RECORDS};
 
 use crate::event::Event;
@@ -77,6 +77,14 @@ impl<'a> Records<'a> {
                 Ok(None)
             }
         }
+    }
+
+    /// Reads the records that are left, and answers the fault behind them, if there is one.
+    pub fn read_through(&mut self) -> Result<(), LogFault>
+        ensures { ReadsThrough self.old result }
+    {
+        while self.next_event()?.is_some() {}
+        Ok(())
     }
 }
 
