@@ -5,17 +5,14 @@ use Rattle.ira_event.specs.declared.log_fault.LogFault.{LogFault}
 use Rattle.ira_event.specs.declared.log_fault.LogFault.TheVariants as fault
 use Rattle.ira_event.specs.declared.out_of_memory.OutOfMemory.{OutOfMemory}
 use Rattle.ira_event.specs.Log.{Log}
-use Rattle.ira_event.specs.LogText.{IsLogText}
 use Rattle.ira_event.specs.LogTextFault.{LogTextFault}
 use Rattle.ira_replay.specs.declared.replay_fault.ReplayFault.{ReplayFault}
-use Rattle.ira_replay.specs.LocalRun.{IsFirstFault}
 use Rattle.ira_audit.specs.declared.reason.Reason.{Reason}
 use Rattle.ira_audit.specs.declared.reason.Reason.TheVariants as reason
 use Rattle.ira_audit.specs.declared.refusal.Refusal.{Refusal}
 use Rattle.ira_audit.specs.declared.refusal.Refusal.TheVariants as refusal
 use Rattle.ira_audit.specs.declared.answer.Answer.{Answer}
 use Rattle.ira_audit.specs.declared.answer.Answer.TheVariants.{Yes, No}
-use Rattle.ira_audit.specs.Answer as single
 use Rattle.ira_audit.specs.Refusal.{Judged, answered, order_refusal}
 use Rattle.ira_audit.specs.Report.{IsReportable}
 use Rattle.ira_event.specs.declared.head_fault.HeadFault.{HeadFault}
@@ -45,19 +42,6 @@ pub answered_reportable : (P : Answer → Type 0) (r : Result (Unit {0}) Refusal
 answered_reportable P (Ok done) h = tt
 answered_reportable P (Err (refusal.No s)) h = h.1
 answered_reportable P (Err refusal.OutOfMemory) h = tt
-
--- a text that is no log's
-pub text_refused : (text : List ℕ) (r : Result (Unit {0}) Refusal) (s : Refusal) → r ≡ Err s
-    → (s ≡ refusal.OutOfMemory) ⊎ ((f : LogFault) × (s ≡ refusal.No (reason.Log 0 f)) × LogTextFault text f × (f ≢ fault.OutOfMemory))
-    → Judged r (single.IsAnswer text)
-text_refused text r s is (inl e) = rw (is, e) tt
-text_refused text r s is (inr h) = rw (is, h.1) (single.no_log h.0 h.2 refl, h.3)
-
--- a log that has an event without a step
-pub log_refused : (text : List ℕ) (log : Log) (r : Result (Unit {0}) Refusal) (s : Reason) → r ≡ Err (refusal.No s) → IsLogText text log
-    → (f : ReplayFault) × (s ≡ reason.Replay log.place f.position f.fault) × IsFirstFault log f
-    → Judged r (single.IsAnswer text)
-log_refused text log r s is of h = rw (is, h.1) (single.stopped log h.0 of h.2 refl, tt)
 
 -- ---- texts of several logs
 

@@ -1,5 +1,6 @@
 pub mod Judging
 pub mod LogTexts
 pub mod OneAnswer
+pub mod Replaying
 pub mod TextRuns
 pub mod Unless

@@ -2,5 +2,6 @@ pub mod Answer
 pub mod LogTexts
 pub mod LogsAnswer
 pub mod Refusal
+pub mod Replaying
 pub mod Report
 pub mod TextRuns

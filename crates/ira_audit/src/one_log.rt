@@ -1,63 +1,93 @@
-ghost use Rattle.std.specs.Prelude.{◌≡◌, ◌↔◌, ◌≢◌, ◌⊎◌, Ok, Err, IfOk, MatchResult};
+ghost use Rattle.std.specs.Prelude.{◌≡◌, ◌↔◌, Ok, IfOk, MatchResult};
+ghost use Rattle.ira_event.specs.Log.{Log};
 ghost use Rattle.ira_event.specs.LogText.{IsLogText};
-ghost use Rattle.ira_event.specs.LogTextFault.{LogTextFault};
+ghost use Rattle.ira_event.specs.LogTextFault.{LogTextFault, RecordsFault};
 ghost use Rattle.ira_event.specs.Result.{UnlessErr};
-ghost use Rattle.ira_replay.specs.declared.replay_fault.ReplayFault.{ReplayFault};
-ghost use Rattle.ira_replay.specs.LocalRun.{IsLocalRun, IsFirstFault};
 ghost use Rattle.ira_audit.specs.Answer.{IsAnswer};
-ghost use Rattle.ira_audit.specs.Refusal.{Judged};
+ghost use Rattle.ira_audit.specs.Replaying.{IsLogAnswer, IsJudged, ReplaysRecords};
 ghost use Rattle.ira_audit.specs.Report.{IsReportable};
+ghost use Rattle.ira_node.specs.StepAnswer.{answer};
+ghost use Rattle.ira_replay.specs.StatesLeft.{placed};
 ghost use Rattle.ira_audit.specs.declared.answer.Answer.{Answer};
 
 use crate::answer::Answer;
 use crate::reason::Reason;
-use crate::refusal::{Refusal, answer_of};
-use ira_event::{LogFault, NodeLog, OutOfMemory, read_log};
-use ira_replay::{ReplayFault, replay};
+use ira_event::{Event, LogFault, LogHead, OutOfMemory, Records, RingSize, open_log};
+use ira_node::NodeState;
+use ira_replay::ReplayFault;
 use std::alloc::Allocator;
 
 /// Judges the text of one log alone: whether it is a log's, and then whether each event has a step.
-/// No answer holds want of memory.
-pub fn audit_one<A: Allocator>(alloc: A, text: &[u8]) -> Result<Answer, OutOfMemory>
+/// It takes no memory: each event has its step as it is read.
+pub fn audit_one<A: Allocator>(_alloc: A, text: &[u8]) -> Result<Answer, OutOfMemory>
     ensures answer { (a : Answer) → UnlessErr result (record {}) ((result ≡ Ok a) ↔ IsAnswer text.now a) }
     ensures reportable { IfOk result IsReportable }
 {
-    answer_of(judge_text(alloc, text))
-}
-
-fn judge_text<A: Allocator>(alloc: A, text: &[u8]) -> Result<(), Refusal>
-    ensures { Judged result (IsAnswer text.now) }
-{
-    let log = read_text(alloc, 0, text)?;
-    check_steps(&log)?;
-    Ok(())
-}
-
-/// The log of the text of this number.
-pub(crate) fn read_text<A: Allocator>(
-    alloc: A,
-    number: usize,
-    text: &[u8],
-) -> Result<NodeLog<A>, Refusal>
-    ensures { MatchResult result (IsLogText text.now) (λ r. (r ≡ Refusal.OutOfMemory) ⊎ ((f : LogFault) × (r ≡ Refusal.No (Reason.Log number f)) × LogTextFault text.now f × (f ≢ LogFault.OutOfMemory))) }
-{
-    match read_log(alloc, text) {
-        Ok(log) => Ok(log),
-        Err(LogFault::OutOfMemory) => Err(Refusal::OutOfMemory),
-        Err(fault) => Err(Refusal::No(Reason::Log { number, fault })),
+    match judge_text(text) {
+        Ok(answer) => Ok(answer),
+        Err(fault) => Ok(Answer::No(Reason::Log { number: 0, fault })),
     }
 }
 
-/// Whether each event of a log has a step.
-pub(crate) fn check_steps<A: Allocator>(log: &NodeLog<A>) -> Result<(), Reason>
-    ensures { MatchResult result (λ _. IsLocalRun log.now) (λ r. (f : ReplayFault) × (r ≡ Reason.Replay log.now.place f.position f.fault) × IsFirstFault log.now f) }
+/// The answer of the text's log, or the text's fault.
+fn judge_text(text: &[u8]) -> Result<Answer, LogFault>
+    ensures { MatchResult result (λ a. (log : Log) × IsLogText text.now log × IsLogAnswer log a) (λ f. LogTextFault text.now f) }
 {
-    match replay(log) {
-        Ok(_) => Ok(()),
-        Err(ReplayFault { position, fault }) => Err(Reason::Replay {
-            place: log.place(),
-            position,
-            fault,
-        }),
+    let (head, records) = open_log(text)?;
+    judge_records(head, records)
+}
+
+/// The answer of the log with this head and these records, none of which was read yet, or their fault.
+fn judge_records(head: LogHead, records: Records<'_>) -> Result<Answer, LogFault>
+    requires { records.count ≡ 0 }
+    ensures { MatchResult result (IsJudged records.entry.rest head) (RecordsFault records.entry.rest) }
+{
+    let mut records = records;
+    let Some(stop) = replay_records(head.nodes, head.initiator, &mut records)? else {
+        return Ok(Answer::Yes);
+    };
+    records.read_through()?;
+    Ok(Answer::No(Reason::Replay {
+        place: head.place,
+        position: stop.position,
+        fault: stop.fault,
+    }))
+}
+
+/// Reads the records, none of which was read yet, as far as they have steps, and answers the first one
+/// without a step, if there is one.
+#[inline(never)]
+fn replay_records(
+    nodes: RingSize,
+    initiator: bool,
+    records: &mut Records<'_>,
+) -> Result<Option<ReplayFault>, LogFault>
+    requires { records.old.count ≡ 0 }
+    ensures { ReplaysRecords nodes initiator records.old.rest records.new result }
+{
+    let mut state = NodeState::first(initiator);
+    let mut position = 0;
+    while let Some(event) = records.next_event()? {
+        position += 1;
+        match step_at(state, nodes, position, event) {
+            Ok(after) => state = after,
+            Err(fault) => return Ok(Some(fault)),
+        }
     }
+    Ok(None)
+}
+
+/// The step of the event at this position.
+#[inline(always)]
+fn step_at(
+    state: NodeState,
+    nodes: RingSize,
+    position: u32,
+    event: Event,
+) -> Result<NodeState, ReplayFault>
+    ensures { result ≡ placed position (answer nodes state event) }
+{
+    state
+        .step(nodes, &event)
+        .map_err(|fault| ReplayFault { position, fault })
 }

@@ -1,9 +1,12 @@
 ghost use Rattle.std.specs.Prelude.{◌≡◌, ◌↔◌, ◌≢◌, ◌⊎◌, ℕ, Ok, Err, IfOk, MatchResult, map};
 ghost use Rattle.ira_event.specs.Result.{UnlessErr};
+ghost use Rattle.ira_event.specs.LogText.{IsLogText};
+ghost use Rattle.ira_event.specs.LogTextFault.{LogTextFault};
 ghost use Rattle.ira_event.specs.declared.log_fault.LogFault.{LogFault};
 ghost use Rattle.ira_node.specs.declared.step_fault.StepFault.{StepFault};
 ghost use Rattle.ira_replay.specs.declared.replay_fault.ReplayFault.{ReplayFault};
 ghost use Rattle.ira_order.specs.declared.match_fault.MatchFault.{MatchFault};
+ghost use Rattle.ira_replay.specs.LocalRun.{IsLocalRun, IsFirstFault};
 ghost use Rattle.ira_order.specs.Run.{AreLocalRuns};
 ghost use Rattle.ira_audit.specs.LogTexts.{AreLogTexts, IsFirstTextFault};
 ghost use Rattle.ira_audit.specs.LogsAnswer.{IsLogsAnswer, IsFirstStop};
@@ -13,11 +16,11 @@ ghost use Rattle.ira_audit.specs.TextRuns.{AreTextsOfRuns, AreTextsWithoutRun};
 ghost use Rattle.ira_audit.specs.declared.answer.Answer.{Answer};
 
 use crate::answer::Answer;
-use crate::one_log::{check_steps, read_text};
 use crate::reason::Reason;
 use crate::refusal::{Refusal, answer_of};
-use ira_event::{Logs, NodeLog, OutOfMemory};
+use ira_event::{LogFault, Logs, NodeLog, OutOfMemory, read_log};
 use ira_order::order;
+use ira_replay::{ReplayFault, replay};
 use std::alloc::Allocator;
 
 /// Judges the texts of a ring's logs, given in the order of its places: whether they are texts of
@@ -68,4 +71,29 @@ pub(crate) fn check_all_steps<A: Allocator>(logs: &Logs<A>) -> Result<(), Reason
         check_steps(logs.log(place))?;
     }
     Ok(())
+}
+
+/// The log of the text of this number.
+fn read_text<A: Allocator>(alloc: A, number: usize, text: &[u8]) -> Result<NodeLog<A>, Refusal>
+    ensures { MatchResult result (IsLogText text.now) (λ r. (r ≡ Refusal.OutOfMemory) ⊎ ((f : LogFault) × (r ≡ Refusal.No (Reason.Log number f)) × LogTextFault text.now f × (f ≢ LogFault.OutOfMemory))) }
+{
+    match read_log(alloc, text) {
+        Ok(log) => Ok(log),
+        Err(LogFault::OutOfMemory) => Err(Refusal::OutOfMemory),
+        Err(fault) => Err(Refusal::No(Reason::Log { number, fault })),
+    }
+}
+
+/// Whether each event of a log has a step.
+fn check_steps<A: Allocator>(log: &NodeLog<A>) -> Result<(), Reason>
+    ensures { MatchResult result (λ _. IsLocalRun log.now) (λ r. (f : ReplayFault) × (r ≡ Reason.Replay log.now.place f.position f.fault) × IsFirstFault log.now f) }
+{
+    match replay(log) {
+        Ok(_) => Ok(()),
+        Err(ReplayFault { position, fault }) => Err(Reason::Replay {
+            place: log.place(),
+            position,
+            fault,
+        }),
+    }
 }

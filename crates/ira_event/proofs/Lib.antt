@@ -1,6 +1,7 @@
 pub mod Digits
 pub mod Gathering
 pub mod Heads
+pub mod LineWords
 pub mod LogAnswers
 pub mod LogReading
 pub mod LogTexts

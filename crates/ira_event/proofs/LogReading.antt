@@ -1,5 +1,6 @@
 -- What the reader of a log text found, line by line.
-use Rattle.std.proofs.Common.{◌≡◌, ◌≢◌, ◌≤◌, ◌<◌, ℕ, ◌+◌, ◌&&◌, Bool, true, false, cond, List, [], ◌∷◌, ◌++◌, length, take, drop, suc, get_or, Some, None, refl, sym, ap, subst, ◌∙◌, arith, inl, inr, nat_eq, nat_lt, nat_le, append_assoc, length-append}
+use Rattle.std.proofs.Common.{◌≡◌, ◌≢◌, ◌≤◌, ◌<◌, ℕ, ◌+◌, ◌&&◌, Bool, true, false, cond, List, [], ◌∷◌, ◌++◌, length, take, drop, suc, get_or, Option, Some, None, Ok, refl, sym, ap, subst, ◌∙◌, arith, inl, inr, nat_eq, nat_lt, nat_le, append_assoc, length-append}
+use Rattle.std.specs.Option.{is_some}
 use Rattle.std.specs.Prelude.{codes, position}
 use Rattle.std.specs.List.{list_all, position_or_len}
 use Rattle.std.proofs.Math.Seq.{split_at}
@@ -13,13 +14,14 @@ use Rattle.ira_event.specs.declared.limits.TheConstants.{MAX_NUMBER, MAX_RECORDS
 use Rattle.ira_event.specs.declared.event.Event.{Event}
 use Rattle.ira_event.specs.declared.event.Event.TheVariants.{Draw, Sent, Got}
 use Rattle.ira_event.specs.declared.msg.Msg.{Msg}
-use Rattle.ira_event.specs.declared.log_line.LogLine.{LogLine}
 use Rattle.ira_event.specs.declared.log_line.LogLine.TheVariants.{Record, End}
 use Rattle.ira_event.specs.declared.log_fault.LogFault.TheVariants as fault
 use Rattle.ira_event.specs.Event.{is_number, is_msg, is_event}
 use Rattle.ira_event.specs.LogScan.{line_at}
 use Rattle.ira_event.specs.LogText.{IsRecord, AreRecords, IsEnd}
-use Rattle.ira_event.specs.LogTextFault.{HasNoLineFeed, BeginsAsRecord, BeginsWithRecords, too_many, no_line, out_of_range, other_count, trailing, RestFault, at_line, AreAllRecords}
+use Rattle.ira_event.specs.LogTextFault.{HasNoLineFeed, BeginsAsRecord, BeginsWithRecords, too_many, no_line, out_of_range, other_count, trailing, RestFault, at_line, RecordsFault, AreAllRecords}
+use Rattle.ira_event.specs.Records.{RecordsLeft, ReadsRecord, IsAtEnd, ReadsOn, HasRead}
+use Rattle.ira_event.specs.declared.log_fault.LogFault.{LogFault}
 use Rattle.ira_event.specs.Scan.{kept}
 use Rattle.ira_event.proofs.Numerals.{and_parts}
 use Rattle.ira_event.proofs.RecordLines.{kept_message, kept_event, line-takes, record-again, end-again, record_begins}
@@ -82,13 +84,13 @@ begins_pushed text bs line after es e h parts is few good = record {
 -- ---- at a line that was read
 
 module _ (bs after : List ℕ) where
-  pub begins_more : (text : List ℕ) (es items : List Event) (e : Event) → line_at bs ≡ Some (Record e, after) → BeginsWithRecords text es bs → length es ≢ MAX_RECORDS → is_event e ≡ true → items ≡ es ++ e ∷ [] → BeginsWithRecords text items after
-  begins_more text es items e read h few good pushed =
+  pub reads_record : (k : ℕ) (e : Event) → line_at bs ≡ Some (Record e, after) → k ≢ MAX_RECORDS → is_event e ≡ true → ReadsRecord (record { rest = bs; count = k }) (record { rest = after; count = k + 1 }) e
+  reads_record k e read few good =
       let f = line-takes bs (Record e, after) read in
       let e' = f.says.0 in
       let good' : is_event e' ≡ true = sym (event_kept e') ∙ ap is_event (sym f.says.2) ∙ good in
       let same : e ≡ e' = f.says.2 ∙ event_kept_same e' good' in
-      subst (λ xs. BeginsWithRecords text xs after) (sym pushed) (subst (λ x. BeginsWithRecords text (es ++ x ∷ []) after) (sym same) (begins_pushed text bs f.text after es e' h f.parts f.says.1 few good'))
+      record { line = f.text; is = subst (IsRecord f.text) (sym same) f.says.1; number = good; few = few; rest = f.parts; count = refl }
 
   pub fault_too_many : (k : ℕ) (e : Event) → line_at bs ≡ Some (Record e, after) → k ≡ MAX_RECORDS → RestFault k bs fault.TooMany
   fault_too_many k e read many =
@@ -114,18 +116,52 @@ module _ (bs after : List ℕ) where
       let f = line-takes bs (End n, after) read in
       at_line f.text after f.parts f.whole (trailing (subst (IsEnd f.text) (counted k n f.says.0 few same f.says.2) f.says.1) more refl)
 
-  pub all_read : (text : List ℕ) (es : List Event) (n : ℕ) → line_at bs ≡ Some (End n, after) → BeginsWithRecords text es bs → n ≡ length es → after ≡ [] → AreAllRecords text es
-  all_read text es n read h same none =
-      let f = line-takes bs (End n, after) read in record {
-        end = f.text;
-        end_is = subst (IsEnd f.text) (counted (length es) n f.says.0 h.count same f.says.2) f.says.1;
-        begins = subst (BeginsWithRecords text es) (f.parts ∙ ap (λ w. f.text ++ codes "\n" ++ w) none ∙ append-nil (f.text ++ codes "\n")) h;
+  pub at_end : (k n : ℕ) → line_at bs ≡ Some (End n, after) → k ≤ MAX_RECORDS → n ≡ k → after ≡ [] → IsAtEnd (record { rest = bs; count = k })
+  at_end k n read few same none =
+      let f = line-takes bs (End n, after) read in
+      record {
+        line = f.text;
+        is = subst (IsEnd f.text) (counted k n f.says.0 few same f.says.2) f.says.1;
+        rest = f.parts ∙ ap (λ w. f.text ++ codes "\n" ++ w) none ∙ append-nil (f.text ++ codes "\n");
       }
 
-  pub line_shorter : (l : LogLine) → line_at bs ≡ Some (l, after) → suc (length after) ≤ length bs
-  line_shorter l read =
-      let f = line-takes bs (l, after) read in
-      omega (arith, ap length f.parts, length-append (f.text ++ codes "\n") after, length-append f.text (codes "\n"))
+-- ---- record by record
+
+pub behind_nothing : (text : List ℕ) (left : RecordsLeft) → left.rest ≡ text → left.count ≡ 0 → HasRead text [] left
+behind_nothing text left rest none = (subst (BeginsWithRecords text []) (sym rest) (begins_nothing text), sym none)
+
+pub behind_more : (text : List ℕ) (es : List Event) (old new : RecordsLeft) (e : Event) → HasRead text es old → ReadsRecord old new e → HasRead text (es ++ e ∷ []) new
+behind_more text es old new e h r =
+    (begins_pushed text old.rest r.line new.rest es e h.0 r.rest r.is (λ q. r.few (sym h.1 ∙ q)) r.number, omega (arith, length-append es (e ∷ []), h.1, r.count))
+
+pub behind_all : (text : List ℕ) (es : List Event) (left : RecordsLeft) → HasRead text es left → IsAtEnd left → AreAllRecords text es
+behind_all text es left h r = record { end = r.line; end_is = subst (IsEnd r.line) (sym h.1) r.is; begins = subst (BeginsWithRecords text es) r.rest h.0 }
+
+pub behind_fault : (text : List ℕ) (es : List Event) (left : RecordsLeft) (f : LogFault) → HasRead text es left → RestFault left.count left.rest f → RecordsFault text f
+behind_fault text es left f h r = record { events = es; rest = left.rest; begins = h.0; fault = subst (λ k. RestFault k left.rest f) (sym h.1) r }
+
+-- what stood behind these events goes on behind those read later
+pub behind_later : (text : List ℕ) (es later : List Event) (old new : RecordsLeft) (e : Event) → HasRead text (es ++ later) old → ReadsRecord old new e → HasRead text (es ++ (later ++ e ∷ [])) new
+behind_later text es later old new e h r = subst (λ xs. HasRead text xs new) (append_assoc es later (e ∷ [])) (behind_more text (es ++ later) old new e h r)
+
+pub was_read : (old new : RecordsLeft) (r : Option Event) (e : Event) → ReadsOn old new (Ok r) → r ≡ Some e → ReadsRecord old new e
+was_read old new (Some x) e h is = let same : x ≡ e = cc in subst (ReadsRecord old new) same h
+was_read old new None e h is = absurd cc
+
+pub some_was_read : (old new : RecordsLeft) (r : Option Event) → ReadsOn old new (Ok r) → true ≡ is_some r → (e : Event) × ReadsRecord old new e
+some_was_read old new (Some e) h some = (e, h)
+some_was_read old new None h some = absurd cc
+
+pub none_was_last : (old new : RecordsLeft) (r : Option Event) → ReadsOn old new (Ok r) → false ≡ is_some r → IsAtEnd old
+none_was_last old new (Some e) h none = absurd cc
+none_was_last old new None h none = h
+
+pub was_last : (old new : RecordsLeft) (r : Option Event) → ReadsOn old new (Ok r) → r ≡ None → IsAtEnd old
+was_last old new (Some x) h is = absurd cc
+was_last old new None h is = h
+
+pub record_shorter : (old new : RecordsLeft) (e : Event) → ReadsRecord old new e → suc (length new.rest) ≤ length old.rest
+record_shorter old new e r = omega (arith, ap length r.rest, length-append (r.line ++ codes "\n") new.rest, length-append r.line (codes "\n"))
 
 -- ---- where no line was read
 

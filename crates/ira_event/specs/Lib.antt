@@ -6,6 +6,7 @@ pub mod LogText
 pub mod LogTextFault
 pub mod Logs
 pub mod Numeral
+pub mod Records
 pub mod Result
 pub mod RingSize
 pub mod Scan

@@ -6,6 +6,8 @@ use Rattle.ira_event.specs.declared.msg.Msg.{Msg}
 use Rattle.ira_event.specs.declared.event.Event.TheVariants.{Draw, Sent, Got}
 use Rattle.ira_event.specs.declared.log_line.LogLine.{LogLine}
 use Rattle.ira_event.specs.declared.log_line.LogLine.TheVariants.{Record, End}
+use Rattle.ira_event.specs.declared.log_line.LineWord.{LineWord}
+use Rattle.ira_event.specs.declared.log_line.LineWord.TheVariants as word
 use Rattle.ira_event.specs.declared.log_head.HeadLines.{HeadLines}
 
 -- the bit at the end of a message's line, and what follows the line
@@ -29,6 +31,14 @@ number_line text = do
   n ← kept_at text
   rest ← after_word (codes "\n") n.1
   Some (n.0, rest)
+
+-- the word that a line begins with, and what follows its space
+abbrev pub word_at : List ℕ → Option (LineWord × List ℕ)
+word_at text =
+    behind (after_word (codes "draw ") text) (λ r. Some (word.Draw, r))
+    (behind (after_word (codes "send ") text) (λ r. Some (word.Send, r))
+    (behind (after_word (codes "recv ") text) (λ r. Some (word.Recv, r))
+    (behind (after_word (codes "end ") text) (λ r. Some (word.End, r)) None)))
 
 -- a record's line or the end line, and what follows it
 unfoldable pub line_at : List ℕ → Option (LogLine × List ℕ)

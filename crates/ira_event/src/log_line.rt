@@ -1,6 +1,6 @@
 ghost use Rattle.std.specs.Prelude.{◌≡◌};
 ghost use Rattle.ira_event.specs.Scan.{Gives};
-ghost use Rattle.ira_event.specs.LogScan.{bit_at, message_at, number_line, line_at};
+ghost use Rattle.ira_event.specs.LogScan.{bit_at, message_at, number_line, word_at, line_at};
 
 use crate::event::Event;
 use crate::msg::Msg;
@@ -13,28 +13,59 @@ pub enum LogLine {
     End(u32),
 }
 
+/// The word that a line begins with.
+#[derive(Clone, Copy, Debug)]
+enum LineWord {
+    Draw,
+    Send,
+    Recv,
+    End,
+}
+
 /// The line that the text begins with, and what follows its line feed. Its numbers are as spelled,
 /// in range or not.
 #[inline(always)]
-#[tactic(auto, unfolding(crate::specs::LogScan::line_at))]
+#[tactic(auto, using(crate::proofs::LineWords::line_by_word))]
 pub fn take_line(text: &[u8]) -> Option<(LogLine, &[u8])>
     ensures { Gives (λ found. (found.0, found.1.now)) result (line_at text.now) }
 {
+    let (word, rest) = take_word(text)?;
+    match word {
+        LineWord::Draw => {
+            let (drawn, rest) = take_number_line(rest)?;
+            Some((LogLine::Record(Event::Draw(drawn)), rest))
+        }
+        LineWord::Send | LineWord::Recv => {
+            let (message, rest) = take_message_line(rest)?;
+            let event = match word {
+                LineWord::Send => Event::Sent(message),
+                _ => Event::Got(message),
+            };
+            Some((LogLine::Record(event), rest))
+        }
+        LineWord::End => {
+            let (count, rest) = take_number_line(rest)?;
+            Some((LogLine::End(count), rest))
+        }
+    }
+}
+
+/// The word and the space that the line begins with.
+#[inline(always)]
+fn take_word(text: &[u8]) -> Option<(LineWord, &[u8])>
+    ensures { Gives (λ found. (found.0, found.1.now)) result (word_at text.now) }
+{
     if let Some(rest) = skip_word(text, b"draw ") {
-        let (drawn, rest) = take_number_line(rest)?;
-        return Some((LogLine::Record(Event::Draw(drawn)), rest));
+        return Some((LineWord::Draw, rest));
     }
     if let Some(rest) = skip_word(text, b"send ") {
-        let (sent, rest) = take_message_line(rest)?;
-        return Some((LogLine::Record(Event::Sent(sent)), rest));
+        return Some((LineWord::Send, rest));
     }
     if let Some(rest) = skip_word(text, b"recv ") {
-        let (got, rest) = take_message_line(rest)?;
-        return Some((LogLine::Record(Event::Got(got)), rest));
+        return Some((LineWord::Recv, rest));
     }
     let rest = skip_word(text, b"end ")?;
-    let (count, rest) = take_number_line(rest)?;
-    Some((LogLine::End(count), rest))
+    Some((LineWord::End, rest))
 }
 
 #[inline(always)]

@@ -1,6 +1,10 @@
 ghost use Rattle.std.specs.Prelude.{◌≡◌, ◌≤◌, ◌+◌, ◌*◌, ℕ};
 ghost use Rattle.ira_event.specs.Scan.{digits_from, kept, kept_at, after_word, Gives};
 
+/// More digits than any number within the limits has behind its first one. So many turns are
+/// unrolled.
+const FEW: usize = 7;
+
 /// What follows the word that the text begins with.
 #[inline(always)]
 pub fn skip_word<'a>(text: &'a [u8], word: &[u8]) -> Option<&'a [u8]>
@@ -25,6 +29,26 @@ pub fn take_number(text: &[u8]) -> Option<(u32, &[u8])>
 /// What the digits at the front go on to, after the number so far, and what follows them.
 #[inline(always)]
 fn take_digits(first: u32, text: &[u8]) -> (u32, &[u8])
+    ensures value { result.0 ≡ kept (digits_from first text.now).0 }
+    ensures rest { result.1.now ≡ (digits_from first text.now).1 }
+{
+    if text.len() < FEW {
+        return take_many_digits(first, text);
+    }
+    let mut value = first;
+    for i in 0..FEW {
+        if !text[i].is_ascii_digit() {
+            return (value, &text[i..]);
+        }
+        value = with_digit(value, u32::from(text[i] - b'0'));
+    }
+    take_many_digits(value, &text[FEW..])
+}
+
+/// The same, where the digits are many or the text's last ones.
+#[cold]
+#[inline(never)]
+fn take_many_digits(first: u32, text: &[u8]) -> (u32, &[u8])
     ensures value { result.0 ≡ kept (digits_from first text.now).0 }
     ensures rest { result.1.now ≡ (digits_from first text.now).1 }
 {

@@ -126,3 +126,10 @@ stops_exactly n s es r a f = (
   λ h. to_stops_at n s es f (to_stops n 0 s es f (sym a ∙ h)),
   λ h. a ∙ from_stops_at n s es f h,
 )
+
+-- ---- one event more
+
+-- the step of the event behind the others leads one state on
+pub leads_further : (n : ℕ) (s : NodeState) (es : List Event) (t : NodeState) (e : Event) (u : NodeState) → LeadsTo n s es t → NodeStep n t e u → LeadsTo n s (es ++ e ∷ []) u
+leads_further n s [] t e u h k = (u, subst (λ x. NodeStep n x e u) h k, refl)
+leads_further n s (x ∷ xs) t e u h k = (h.0, h.1, leads_further n h.0 xs t e u h.2 k)

@@ -1,8 +1,8 @@
 use Rattle.std.proofs.Common.{refl, sym, ◌∙◌, subst, arith}
 use Rattle.ira_event.specs.LogTextFault.{cut}
 use Rattle.ira_event.proofs.LogReading.{FirstFeed, no_line_end, line_end_at, fault_unread_too_many, fault_line}
-use Rattle.ira_event.proofs.log_reader.unread_fault.Goals as goal
-use Rattle.ira_event.proofs.log_reader.unread_fault.Goals.{else-records-eq-MAX_RECORDS-via-then-records-eq-MAX_RECORDS+else-begins_as_record, else-records-eq-MAX_RECORDS-via-else-records-eq-MAX_RECORDS}
+use Rattle.ira_event.proofs.records.unread_fault.Goals as goal
+use Rattle.ira_event.proofs.records.unread_fault.Goals.{else-records-eq-MAX_RECORDS-via-then-records-eq-MAX_RECORDS+else-begins_as_record, else-records-eq-MAX_RECORDS-via-else-records-eq-MAX_RECORDS}
 
 pub returns-in_default : goal.returns-in_default
 returns-in_default c = cut (no_line_end c.args.text.now (sym c.line_end.ensures ∙ c.in_default.is)) refl

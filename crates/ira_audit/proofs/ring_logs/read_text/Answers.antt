@@ -1,7 +1,7 @@
 use Rattle.std.proofs.Common.{◌≢◌, inr, refl, rules}
 use Rattle.ira_event.specs.declared.log_fault.LogFault.TheVariants.{OutOfMemory}
 use Rattle.ira_audit.proofs.Unless.{unless_err}
-use Rattle.ira_audit.proofs.one_log.read_text.Goals as goal
+use Rattle.ira_audit.proofs.ring_logs.read_text.Goals as goal
 
 pub returns-in-Err : goal.returns-in-Err
 returns-in-Err g c =

@@ -1,0 +1,146 @@
+-- A log that is judged while it is read.
+use Rattle.std.proofs.Common.{◌≡◌, ◌≢◌, ◌↔◌, ◌≤◌, ℕ, ◌+◌, List, [], ◌∷◌, ◌++◌, length, Result, Ok, Err, refl, sym, ap, subst, arith, append_assoc, length-append, Bool, Option, Some, None, inl, inr}
+use Rattle.std.specs.Prelude.{⊤, MatchResult}
+use Rattle.ira_event.specs.declared.event.Event.{Event}
+use Rattle.ira_event.specs.declared.limits.TheConstants.{MAX_RECORDS, MAX_TEXT}
+use Rattle.ira_event.specs.Log.{Log}
+use Rattle.ira_event.specs.LogText.{IsLogText}
+use Rattle.ira_event.specs.LogTextFault.{LogTextFault, LinesFault, no_head, behind_head, LineFault, too_many, no_line, out_of_range, other_count, trailing, RestFault, cut, at_line, RecordsFault, BeginsWithHead}
+use Rattle.ira_event.specs.Records.{RecordsLeft, ReadsRecord, HasRead, ReadsThrough}
+use Rattle.ira_event.proofs.LogReading.{behind_nothing, behind_more}
+use Rattle.ira_event.proofs.LogAnswers.{log_read}
+use Rattle.ira_event.specs.Result.{UnlessErr}
+use Rattle.ira_event.specs.declared.out_of_memory.OutOfMemory.{OutOfMemory}
+use Rattle.ira_event.specs.declared.log_fault.LogFault.{LogFault}
+use Rattle.ira_event.specs.declared.log_fault.LogFault.TheVariants as fault
+use Rattle.ira_node.specs.declared.node_state.NodeState.{NodeState}
+use Rattle.ira_node.specs.NodeState.{first_state}
+use Rattle.ira_node.specs.NodeStep.{NodeStep}
+use Rattle.ira_node.specs.NodeStepFault.{NodeStepFault}
+use Rattle.ira_node.specs.declared.step_fault.StepFault.{StepFault}
+use Rattle.ira_replay.specs.declared.replay_fault.ReplayFault.{ReplayFault}
+use Rattle.ira_replay.specs.LocalRun.{LeadsTo}
+use Rattle.ira_audit.specs.Answer as single
+use Rattle.ira_replay.specs.StatesLeft.{placed}
+use Rattle.ira_node.specs.StepAnswer.{answer}
+use Rattle.ira_node.proofs.Answers.{step_exactly, fault_exactly}
+use Rattle.ira_event.specs.declared.log_head.LogHead.{LogHead}
+use Rattle.ira_audit.specs.Replaying.{IsLogAnswer, IsJudged, HasStopped, ReplaysRecords}
+use Rattle.ira_replay.proofs.Along.{leads_further}
+use Rattle.ira_audit.specs.Report.{IsReportable}
+use Rattle.ira_audit.specs.declared.reason.Reason.TheVariants as reason
+use Rattle.ira_audit.specs.declared.answer.Answer.{Answer}
+use Rattle.ira_audit.specs.declared.answer.Answer.TheVariants.{Yes, No}
+use Rattle.ira_audit.proofs.Unless.{ok_same}
+use Rattle.ira_audit.proofs.OneAnswer.{one_answer}
+
+-- the records that were read lead from the first state to this one
+pub record Replaying (text : List ℕ) (nodes : ℕ) (first : NodeState) (left : RecordsLeft) (state : NodeState) (position : ℕ) : Type 0 where
+  pub events : List Event
+  pub read : HasRead text events left
+  pub leads : LeadsTo nodes first events state
+  pub at : position ≡ length events
+
+pub replaying_nothing : (text : List ℕ) (nodes : ℕ) (first : NodeState) (left : RecordsLeft) → left.rest ≡ text → left.count ≡ 0 → Replaying text nodes first left first 0
+replaying_nothing text nodes first left rest none = record { events = []; read = behind_nothing text left rest none; leads = refl; at = refl }
+
+pub replaying_more : (text : List ℕ) (nodes : ℕ) (first : NodeState) (old new : RecordsLeft) (state after : NodeState) (position : ℕ) (e : Event)
+    → Replaying text nodes first old state position → ReadsRecord old new e → NodeStep nodes state e after → Replaying text nodes first new after (position + 1)
+replaying_more text nodes first old new state after position e h r step =
+    let read = behind_more text h.events old new e h.read r in
+    record {
+      events = h.events ++ e ∷ [];
+      read = read;
+      leads = leads_further nodes first h.events state e after h.leads step;
+      at = omega (arith, h.at, length-append h.events (e ∷ []));
+    }
+
+pub replaying_room : (text : List ℕ) (nodes : ℕ) (first : NodeState) (left : RecordsLeft) (state : NodeState) (position : ℕ) → Replaying text nodes first left state position → position ≤ MAX_RECORDS
+replaying_room text nodes first left state position h = omega (arith, h.at, h.read.0.count)
+
+pub step_is : (n p : ℕ) (s : NodeState) (e : Event) (t : NodeState) (r : Result NodeState StepFault) → answer n s e ≡ r → placed p r ≡ Ok t → NodeStep n s e t
+step_is n p s e t (Ok u) a h = let same : u ≡ t = cc in subst (NodeStep n s e) same ((step_exactly n s e (answer n s e) refl u).0 a)
+step_is n p s e t (Err f) a h = absurd cc
+
+pub fault_is : (n p : ℕ) (s : NodeState) (e : Event) (g : ReplayFault) (r : Result NodeState StepFault) → answer n s e ≡ r → placed p r ≡ Err g → (g.position ≡ p) × NodeStepFault n s e g.fault
+fault_is n p s e g (Ok u) a h = absurd cc
+fault_is n p s e g (Err f) a h =
+    let same : record { position = p; fault = f } ≡ g = cc in
+    (ap (λ k. k.position) (sym same), subst (λ (k : ReplayFault). NodeStepFault n s e k.fault) same ((fault_exactly n s e (answer n s e) refl f).0 a))
+
+pub has_stopped : (text : List ℕ) (nodes : ℕ) (initiator : Bool) (old new : RecordsLeft) (state : NodeState) (position : ℕ) (e : Event) (f : ReplayFault)
+    → Replaying text nodes (first_state initiator) old state position → ReadsRecord old new e → f.position ≡ position + 1 → NodeStepFault nodes state e f.fault → HasStopped text nodes initiator new f
+has_stopped text nodes initiator old new state position e f h r at bad = (
+  h.events ++ e ∷ [],
+  behind_more text h.events old new e h.read r,
+  λ later. record {
+    before = h.events;
+    event = e;
+    after = later;
+    state = state;
+    parts = append_assoc h.events (e ∷ []) later;
+    leads = h.leads;
+    position = omega (arith, h.at, at);
+    fault = bad;
+  },
+)
+
+pub judged_no : (text : List ℕ) (head : LogHead) (left : RecordsLeft) (f : ReplayFault) (done : ⊤)
+    → HasStopped text head.nodes head.initiator left f → ReadsThrough left (Ok done) → IsJudged text head (No (reason.Replay head.place f.position f.fault))
+judged_no text head left f done h through =
+    let l = through text h.0 h.1 in
+    (h.0 ++ l.0, l.1, (refl, h.2 l.0))
+
+pub stop_is : (nodes : ℕ) (initiator : Bool) (text : List ℕ) (left : RecordsLeft) (r : Option ReplayFault) (f : ReplayFault) → ReplaysRecords nodes initiator text left (Ok r) → r ≡ Some f → HasStopped text nodes initiator left f
+stop_is nodes initiator text left (Some g) f h is = let same : g ≡ f = cc in subst (HasStopped text nodes initiator left) same h
+stop_is nodes initiator text left None f h is = absurd cc
+
+pub text_judged : (text : List ℕ) (head : LogHead) (rest : List ℕ) (r : Result Answer LogFault) → length text ≤ MAX_TEXT → BeginsWithHead text head.nodes head.place head.initiator rest
+    → MatchResult r (IsJudged rest head) (RecordsFault rest) → MatchResult r (λ a. (log : Log) × IsLogText text log × IsLogAnswer log a) (λ f. LogTextFault text f)
+text_judged text head rest (Ok a) short b h =
+    (record { nodes = head.nodes; place = head.place; initiator = head.initiator; events = h.0 }, log_read text head.nodes head.place head.initiator rest h.0 b h.1, h.2)
+text_judged text head rest (Err f) short b h = inr (short, behind_head head.nodes head.place head.initiator rest b h)
+
+-- ---- a fault of a text is no want of memory
+
+line_fault_other : (k : ℕ) (line more : List ℕ) (f : LogFault) → LineFault k line more f → f ≢ fault.OutOfMemory
+line_fault_other k line more f (too_many a b p) q = absurd cc
+line_fault_other k line more f (no_line a b c p) q = absurd cc
+line_fault_other k line more f (out_of_range e a b c p) q = absurd cc
+line_fault_other k line more f (other_count n a b p) q = absurd cc
+line_fault_other k line more f (trailing a b p) q = absurd cc
+
+rest_fault_other : (k : ℕ) (rest : List ℕ) (f : LogFault) → RestFault k rest f → f ≢ fault.OutOfMemory
+rest_fault_other k rest f (cut a p) q = absurd cc
+rest_fault_other k rest f (at_line l m e w h) q = line_fault_other k l m f h q
+
+lines_fault_other : (text : List ℕ) (f : LogFault) → LinesFault text f → f ≢ fault.OutOfMemory
+lines_fault_other text f (no_head a p) q = absurd cc
+lines_fault_other text f (behind_head n x i rest b h) q = rest_fault_other (length h.events) h.rest f h.fault q
+
+pub text_fault_other : (text : List ℕ) (f : LogFault) → LogTextFault text f → f ≢ fault.OutOfMemory
+text_fault_other text f (inl a) q = let p = a.1 in absurd cc
+text_fault_other text f (inr a) q = lines_fault_other text f a.1 q
+
+-- ---- the answer of the text
+
+-- an answer that is right is the only one
+pub exactly : (text : List ℕ) (x : Answer) → single.IsAnswer text x → (a : Answer) → UnlessErr {T = Answer} {E = OutOfMemory} (Ok x) (record {}) (◌≡◌ {A = Result Answer OutOfMemory} (Ok x) (Ok a) ↔ single.IsAnswer text a)
+exactly text x h a = inr (λ e. subst (single.IsAnswer text) (ok_same x a e) h, λ k. ap Ok (one_answer text x a h k))
+
+-- the answer of the text's log is the text's
+pub of_log : (text : List ℕ) (log : Log) (a : Answer) → IsLogText text log → IsLogAnswer log a → single.IsAnswer text a
+of_log text log Yes is h = single.yes log is h refl
+of_log text log (No (reason.Log n f)) is h = absurd h
+of_log text log (No (reason.Heads f)) is h = absurd h
+of_log text log (No (reason.Match f)) is h = absurd h
+of_log text log (No reason.Circle) is h = absurd h
+of_log text log (No (reason.Replay p k f)) is h = single.stopped log (record { position = k; fault = f }) is h.1 (rw h.0 refl)
+
+pub log_reportable : (log : Log) (a : Answer) → IsLogAnswer log a → IsReportable a
+log_reportable log Yes h = tt
+log_reportable log (No (reason.Log n f)) h = absurd h
+log_reportable log (No (reason.Heads f)) h = absurd h
+log_reportable log (No (reason.Match f)) h = absurd h
+log_reportable log (No reason.Circle) h = absurd h
+log_reportable log (No (reason.Replay p k f)) h = tt

@@ -1,0 +1,44 @@
+-- Helpers, no definitions: a log that is judged while it is read.
+use Rattle.std.specs.Prelude.{◌≡◌, ℕ, Bool, List, ◌++◌, Option, Some, None, Result, Ok, Err}
+use Rattle.ira_event.specs.declared.event.Event.{Event}
+use Rattle.ira_event.specs.declared.log_fault.LogFault.{LogFault}
+use Rattle.ira_event.specs.declared.log_head.LogHead.{LogHead}
+use Rattle.ira_event.specs.Log.{Log}
+use Rattle.ira_event.specs.LogTextFault.{RecordsFault, AreAllRecords}
+use Rattle.ira_event.specs.Records.{RecordsLeft, HasRead}
+use Rattle.ira_node.specs.NodeState.{first_state}
+use Rattle.ira_replay.specs.declared.replay_fault.ReplayFault.{ReplayFault}
+use Rattle.ira_replay.specs.LocalRun.{LeadsTo, StopsAt, IsLocalRun, IsFirstFault}
+use Rattle.ira_audit.specs.declared.reason.Reason.TheVariants as reason
+use Rattle.ira_audit.specs.declared.answer.Answer.TheVariants.{Yes, No}
+use Rattle.ira_audit.specs.declared.answer.Answer.{Answer}
+use Rattle.ira_node.specs.declared.node_state.NodeState.{NodeState}
+
+-- the answer of a log
+abbrev pub IsLogAnswer : Log → Answer → Type 0
+IsLogAnswer log Yes = IsLocalRun log
+IsLogAnswer log (No (reason.Log number fault)) = ⊥
+IsLogAnswer log (No (reason.Heads fault)) = ⊥
+IsLogAnswer log (No (reason.Match fault)) = ⊥
+IsLogAnswer log (No reason.Circle) = ⊥
+IsLogAnswer log (No (reason.Replay place position fault)) =
+    (place ≡ log.place) × IsFirstFault log (record { position = position; fault = fault })
+
+-- the text is all records of a log with this head and this answer
+abbrev pub IsJudged : List ℕ → LogHead → Answer → Type 0
+IsJudged text head a =
+    (events : List Event) × AreAllRecords text events
+    × IsLogAnswer (record { nodes = head.nodes; place = head.place; initiator = head.initiator; events = events }) a
+
+-- the records that were read stop at this fault, whatever stands behind them
+abbrev pub HasStopped : List ℕ → ℕ → Bool → RecordsLeft → ReplayFault → Type 0
+HasStopped text nodes initiator left f =
+    (events : List Event) × HasRead text events left
+    × ((later : List Event) → StopsAt nodes (first_state initiator) (events ++ later) f)
+
+-- all records of the text have steps, or those read so far stop, or the text has a fault
+abbrev pub ReplaysRecords : ℕ → Bool → List ℕ → RecordsLeft → Result (Option ReplayFault) LogFault → Type 0
+ReplaysRecords nodes initiator text left (Ok None) =
+    (events : List Event) × (t : NodeState) × AreAllRecords text events × LeadsTo nodes (first_state initiator) events t
+ReplaysRecords nodes initiator text left (Ok (Some f)) = HasStopped text nodes initiator left f
+ReplaysRecords nodes initiator text left (Err f) = RecordsFault text f

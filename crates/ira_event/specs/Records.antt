@@ -1,0 +1,45 @@
+-- What stands behind the head of a log text, read record by record.
+use Rattle.std.specs.Prelude.{◌≡◌, ◌≢◌, ℕ, ◌+◌, true, List, ◌++◌, length, ⊤, codes, Option, Some, None, Result, Ok, Err}
+use Rattle.ira_event.specs.declared.limits.TheConstants.{MAX_RECORDS}
+use Rattle.ira_event.specs.declared.event.Event.{Event}
+use Rattle.ira_event.specs.declared.log_fault.LogFault.{LogFault}
+use Rattle.ira_event.specs.Event.{is_event}
+use Rattle.ira_event.specs.LogText.{IsRecord, IsEnd}
+use Rattle.ira_event.specs.LogTextFault.{BeginsWithRecords, RestFault, RecordsFault, AreAllRecords}
+use Rattle.ira_event.specs.LogTextFault.{RestFault}
+
+-- what was not read yet, and how many records were
+pub record RecordsLeft : Type 0 where
+  pub rest : List ℕ
+  pub count : ℕ
+
+-- the line of this event within the limits was read
+pub record ReadsRecord (old new : RecordsLeft) (e : Event) : Type 0 where
+  pub line : List ℕ
+  pub is : IsRecord line e
+  pub number : is_event e ≡ true
+  pub few : old.count ≢ MAX_RECORDS
+  pub rest : old.rest ≡ line ++ codes "\n" ++ new.rest
+  pub count : new.count ≡ old.count + 1
+
+-- all that is left is the end line of the records that were read
+pub record IsAtEnd (left : RecordsLeft) : Type 0 where
+  pub line : List ℕ
+  pub is : IsEnd line left.count
+  pub rest : left.rest ≡ line ++ codes "\n"
+
+-- reading on gave the next record's event, no event at the end, or the fault of what is left
+abbrev pub ReadsOn : RecordsLeft → RecordsLeft → Result (Option Event) LogFault → Type 0
+ReadsOn old new (Ok (Some e)) = ReadsRecord old new e
+ReadsOn old new (Ok None) = IsAtEnd old
+ReadsOn old new (Err f) = RestFault old.count old.rest f
+
+-- the text begins with the lines of these events, which were read, and this is left of it
+abbrev pub HasRead : List ℕ → List Event → RecordsLeft → Type 0
+HasRead text events left = BeginsWithRecords text events left.rest × (length events ≡ left.count)
+
+-- reading to the end found later events and behind them the end of the text, or the fault of what
+-- stands behind the events that were read before
+abbrev pub ReadsThrough : RecordsLeft → Result ⊤ LogFault → Type 0
+ReadsThrough left (Ok done) = (text : List ℕ) (events : List Event) → HasRead text events left → (later : List Event) × AreAllRecords text (events ++ later)
+ReadsThrough left (Err f) = (text : List ℕ) (events : List Event) → HasRead text events left → RecordsFault text f
