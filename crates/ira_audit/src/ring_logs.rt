@@ -27,8 +27,11 @@ use std::alloc::Allocator;
 /// logs, whether these are the logs of one ring, match and have an order, and whether each event has a
 /// step. The first reason against them is answered. No answer holds want of memory.
 ///
-/// After a yes the logs have an order, and each order of them is a run of the ring. Where they don't
-/// match, have no order, or an event has no step, they are the logs of no run.
+/// After a yes the logs have an order, and each order of them is a run of the ring, with the draws that
+/// were recorded. Where they don't match, have no order, or have an event without a step, no run of the
+/// ring is a run of them.
+///
+/// Beside the logs themselves it takes memory for one order of their events.
 pub fn audit_logs<A: Allocator + Clone>(alloc: A, texts: &[&[u8]]) -> Result<Answer, OutOfMemory>
     ensures answer { (a : Answer) → UnlessErr result (record {}) ((result ≡ Ok a) ↔ IsLogsAnswer (map (λ text. text.now) texts.now) a) }
     ensures reportable { IfOk result IsReportable }
