@@ -1,5 +1,5 @@
 use crate::{NodeEnd, RunFault, Setup, run_alone};
-use ira_event::{Event, Msg, RingSize};
+use ira_event::{Event, Msg, NodeLog, RingSize};
 use std::alloc::Global;
 use std::process::Abort;
 use std::test::Fail;
@@ -42,6 +42,14 @@ fn setup_of(
     })
 }
 
+fn assert_events(rt: &impl Abort, log: &NodeLog<Global>, expected: &[Event]) {
+    let mut events = log.events();
+    for event in expected {
+        assert_eq!(rt; events.next(), Some(*event));
+    }
+    assert_eq!(rt; events.next(), None);
+}
+
 fn assert_run(
     rt: &impl Abort,
     alloc: Global,
@@ -54,11 +62,7 @@ fn assert_run(
     let size = run.logs().size().get();
     assert_eq!(rt; usize::from(size), logs.len());
     for place in 0..size {
-        let mut events = run.logs().log(place).events();
-        for event in logs[usize::from(place)] {
-            assert_eq!(rt; events.next(), Some(*event));
-        }
-        assert_eq!(rt; events.next(), None);
+        assert_events(rt, run.logs().log(place), logs[usize::from(place)]);
     }
     Ok(())
 }

@@ -49,6 +49,7 @@ impl<'a, A: Allocator> LoneNode<'a, A> {
 
     /// What the node does next in a ring of so many nodes, where a log may have `cap` records, with the
     /// state after it; or how the node has ended as things stand.
+    #[inline(always)]
     pub(crate) fn next_step(
         &self,
         nodes: RingSize,
@@ -68,6 +69,7 @@ impl<'a, A: Allocator> LoneNode<'a, A> {
     }
 
     /// The event that the state wants, where it is at hand.
+    #[inline(always)]
     fn offered(&self, cap: usize) -> Result<Event, NodeEnd>
         ensures event { IfOk result (Offers cap self.now) }
         ensures end { IfErr result (λ end. (n : ℕ) → Ends n cap self.now end) }
@@ -88,6 +90,7 @@ impl<'a, A: Allocator> LoneNode<'a, A> {
     }
 
     /// Makes the node's next event.
+    #[inline(always)]
     pub(crate) fn make(&mut self, event: Event, after: NodeState) -> Result<(), AllocError>
         requires { IsFirst self.old event }
         ensures { OnOk result (self.new ≡ after_event self.old event after) }
@@ -105,6 +108,7 @@ impl<'a, A: Allocator> LoneNode<'a, A> {
     }
 
     /// Puts a message last on the link that leads to the node.
+    #[inline]
     pub(crate) fn put(&mut self, message: Msg) -> Result<(), AllocError>
         ensures { OnOk result (self.new ≡ after_put self.old message) }
     {
