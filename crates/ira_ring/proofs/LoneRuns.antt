@@ -119,6 +119,7 @@ is_lone_run s nodes logs ends run rules done of_nodes are_ends is =
     let place : (i : ℕ) (end : NodeEnd) → slice_get ends i ≡ Some end → i < s.nodes = λ i end at. omega (arith, slice_get_within ends i end at, are_ends.0, done.0.many) in
     subst (IsLoneRun s) (sym is) record {
       logs = full_logs s nodes logs rules done of_nodes;
+      many = omega (arith, are_ends.0, done.0.many);
       ends = λ i end at. is_shown s nodes logs rules done.0 of_nodes i end (omega (arith, slice_get_within ends i end at, are_ends.0, done.0.many)) (are_ends.1 i end at);
-      moved = λ i at. not_stopped s (node_at nodes i) Stopped (are_ends.1 i Stopped at) refl;
+      none_stopped = λ i at. not_stopped s (node_at nodes i) Stopped (are_ends.1 i Stopped at) refl;
     }

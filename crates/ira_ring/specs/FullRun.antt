@@ -59,7 +59,8 @@ abbrev pub BeginsWith : {X : Type 0} → List X → List X → Type 0
 BeginsWith {X} whole part = (rest : List X) × (whole ≡ part ++ rest)
 
 -- a run of the setup's ring from its opening to configuration end: each place can step at its point,
--- each node draws the IDs that it was given, in their order, and at the end no node can step
+-- the IDs that each node draws are the first of those that it was given, in their order, and at the end
+-- no node can step
 pub record IsFullRun (s : Setup) (run : List (ℕ × Event)) (end : Configuration) : Type 0 where
   pub walk : Walks s [] (opening s) run end
   pub draws : (i : ℕ) → i < s.nodes → BeginsWith (given s i) (drawn (events_at run i))

@@ -31,7 +31,7 @@ HasInitiator s = (i : ℕ) × (i < s.nodes) × (is_initiator s i ≡ true)
 abbrev pub GivesIds : Setup → Type 0
 GivesIds s = (i : ℕ) → i < s.nodes → All (λ d. (1 ≤ d) × (d ≤ s.nodes)) (given s i)
 
--- a node may have an event, and no more events than a log
+-- a node may have at least one event, and at most as many as a log may have
 abbrev pub HasCap : Setup → Type 0
 HasCap s = (1 ≤ s.cap) × (s.cap ≤ MAX_RECORDS)
 

@@ -21,11 +21,12 @@ use Rattle.ira_ring.specs.Run.{Run}
 abbrev pub MayGoOn : Setup → NodeState → List Event → Type 0
 MayGoOn s state events = ¬ (IsLeader state.phase) × (length events < s.cap)
 
--- and it receives
+-- a node in this state that has made these events may go on, and receives next
 abbrev pub Waits : Setup → NodeState → List Event → Type 0
 Waits s state events = MayGoOn s state events × (state.owed ≡ None) × Receives state.phase
 
--- what an end says of node i, where its events led it to this state and these messages were sent to it
+-- what an end says of node i, where its events led it to this state and these messages were sent to
+-- it; Quiet and Stopped say the same, one where a node runs alone, the other where its thread was told
 abbrev pub Says : Setup → ℕ → NodeState → List Event → List Msg → NodeEnd → Type 0
 -- it leads
 Says s i state events input Leader = IsLeader state.phase
@@ -48,8 +49,9 @@ IsShown s logs i end =
 abbrev pub AreShown : Setup → List Log → List NodeEnd → Type 0
 AreShown s logs ends = (i : ℕ) (end : NodeEnd) → slice_get ends i ≡ Some end → IsShown s logs i end
 
--- the logs of a full run of the setup, with an end for each node that its logs show; none is Stopped
+-- the logs of a full run of the setup, and for each node an end, which the logs show; none is Stopped
 pub record IsLoneRun (s : Setup) (run : Run) : Type 0 where
   pub logs : AreFullLogs s run.logs
+  pub many : length run.ends ≡ s.nodes
   pub ends : AreShown s run.logs run.ends
-  pub moved : (i : ℕ) → slice_get run.ends i ≢ Some Stopped
+  pub none_stopped : (i : ℕ) → slice_get run.ends i ≢ Some Stopped

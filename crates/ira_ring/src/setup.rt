@@ -6,7 +6,7 @@ use ira_event::{MAX_RECORDS, RingSize};
 use std::alloc::Allocator;
 use std::marker::Model;
 
-/// What a run of a ring starts from. Anybody may make one, and it may break the rules: each list has a
+/// What a run of a ring starts from. Anybody may make one, and it may break the rules. These are: each list has a
 /// member for each node, some node is an initiator, each draw is in `1..=N`, and the cap is in
 /// `1..=MAX_RECORDS`.
 #[derive(Drop)]
