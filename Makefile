@@ -9,9 +9,10 @@ PROGRAM = crates/ira/out/ira
 test:
 	rt ci
 
-# Builds the program, and judges a good and a bad log.
+# Builds the program, and judges the logs of a good and of a bad election, and a bad log alone.
 run: ira
-	bin/ira < examples/two_node_election/0.log
+	bin/ira logs examples/two_node_election/0.log examples/two_node_election/1.log
+	bin/ira logs examples/receipts_exchanged/0.log examples/receipts_exchanged/1.log || test $$? -eq 1
 	bin/ira < examples/two_node_election/0_draw_out_of_range.log || test $$? -eq 1
 
 # Leaves the program at bin/ira. Only a proved crate is built.
