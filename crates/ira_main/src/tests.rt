@@ -3,4 +3,5 @@
 mod fakes;
 mod logs;
 mod one_log;
+mod recorded;
 mod words;
