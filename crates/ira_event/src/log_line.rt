@@ -4,7 +4,7 @@ ghost use Rattle.ira_event.specs.LogScan.{bit_at, message_at, number_line, word_
 
 use crate::event::Event;
 use crate::msg::Msg;
-use crate::scan::{skip_word, take_number};
+use crate::scan::{skip_parts, skip_word, take_number};
 
 /// A line of a log text behind its head.
 #[derive(Clone, Copy, Debug)]
@@ -92,10 +92,10 @@ fn take_message_line(text: &[u8]) -> Option<(Msg, &[u8])>
 fn take_bit(text: &[u8]) -> Option<(bool, &[u8])>
     ensures { Gives (λ found. (found.0, found.1.now)) result (bit_at text.now) }
 {
-    if let Some(rest) = skip_word(text, b" clean\n") {
+    if let Some(rest) = skip_parts(text, b" clea", b"n\n") {
         return Some((false, rest));
     }
-    let rest = skip_word(text, b" dirty\n")?;
+    let rest = skip_parts(text, b" dirt", b"y\n")?;
     Some((true, rest))
 }
 

@@ -1,4 +1,4 @@
-ghost use Rattle.std.specs.Prelude.{◌≡◌, ◌≤◌, ◌+◌, ◌*◌, ℕ};
+ghost use Rattle.std.specs.Prelude.{◌≡◌, ◌≤◌, ◌+◌, ◌*◌, ◌++◌, ℕ};
 ghost use Rattle.ira_event.specs.Scan.{digits_from, kept, kept_at, after_word, Gives};
 
 /// More digits than any number within the limits has behind its first one. So many turns are
@@ -11,6 +11,14 @@ pub fn skip_word<'a>(text: &'a [u8], word: &[u8]) -> Option<&'a [u8]>
     ensures { Gives (λ rest. rest.now) result (after_word word.now text.now) }
 {
     text.strip_prefix(word)
+}
+
+/// What follows a word in two parts. A short part is compared in one go, a long word byte by byte.
+#[inline(always)]
+pub fn skip_parts<'a>(text: &'a [u8], first: &[u8], second: &[u8]) -> Option<&'a [u8]>
+    ensures { Gives (λ rest. rest.now) result (after_word (first.now ++ second.now) text.now) }
+{
+    skip_word(skip_word(text, first)?, second)
 }
 
 /// The number that the text begins with, and what follows it. A number is `0`, or a digit 1 to 9 and
