@@ -13,7 +13,7 @@ test:
 run: ira
 	bin/ira logs examples/two_node_election/0.log examples/two_node_election/1.log
 	bin/ira logs examples/receipts_exchanged/0.log examples/receipts_exchanged/1.log || test $$? -eq 1
-	bin/ira < examples/two_node_election/0_draw_out_of_range.log || test $$? -eq 1
+	bin/ira < examples/one_bad_log/draw_out_of_range.log || test $$? -eq 1
 
 # Leaves the program at bin/ira. Only a proved crate is built.
 ira:
