@@ -67,13 +67,13 @@ pub record IsFullRun (s : Setup) (run : List (ℕ × Event)) (end : Configuratio
 
 -- logs of the setup's ring, each of its place and of its node's start kind
 pub record AreLogsOf (s : Setup) (logs : List Log) : Type 0 where
-  pub logs : AreLogs logs
+  pub ring : AreLogs logs
   pub number : length logs ≡ s.nodes
   pub kinds : EachLog logs (λ i log. log.initiator ≡ is_initiator s i)
 
 -- the logs of a full run of the setup
 pub record AreFullLogs (s : Setup) (logs : List Log) : Type 0 where
-  pub ring : AreLogsOf s logs
+  pub of_setup : AreLogsOf s logs
   pub run : List (ℕ × Event)
   pub end : Configuration
   pub full : IsFullRun s run end

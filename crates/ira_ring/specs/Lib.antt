@@ -1,4 +1,7 @@
 pub mod FullRun
+pub mod NodeFrames
+pub mod Recorder
+pub mod Recording
 pub mod Run
 pub mod RunFault
 pub mod Setup

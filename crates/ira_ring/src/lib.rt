@@ -3,10 +3,15 @@
 
 mod node_end;
 mod node_part;
+mod node_thread;
+mod node_work;
+mod recorder;
 mod run;
 mod run_fault;
 
 pub use node_end::NodeEnd;
 pub use node_part::NodePart;
+pub use node_thread::node_body;
+pub use node_work::NodeWork;
 pub use run::Run;
 pub use run_fault::RunFault;
