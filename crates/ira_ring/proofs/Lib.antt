@@ -1,3 +1,4 @@
-pub mod Frames
-pub mod Growing
-pub mod Turns
+mod Frames
+mod Growing
+mod Setups
+mod Turns

@@ -8,6 +8,7 @@ mod node_work;
 mod recorder;
 mod run;
 mod run_fault;
+mod setup;
 
 pub use node_end::NodeEnd;
 pub use node_part::NodePart;
@@ -15,3 +16,4 @@ pub use node_thread::node_body;
 pub use node_work::NodeWork;
 pub use run::Run;
 pub use run_fault::RunFault;
+pub use setup::Setup;
