@@ -1,3 +1,6 @@
+mod Collecting
+mod Drawing
+mod EndLines
 mod Frames
 mod Growing
 mod Setups

@@ -1,4 +1,8 @@
+pub mod Collector
+pub mod Draws
+pub mod EndsWriter
 pub mod FullRun
+pub mod NodeEnd
 pub mod NodeFrames
 pub mod Recorder
 pub mod Recording

@@ -1,3 +1,6 @@
+ghost use Rattle.std.specs.Prelude.{◌≡◌};
+ghost use Rattle.ira_ring.specs.NodeEnd.{is_stopped};
+
 use ira_event::Msg;
 
 /// How a node came to its end.
@@ -15,4 +18,13 @@ pub enum NodeEnd {
     NoStep(Msg),
     /// The node waited for a message, and none would come.
     Quiet,
+}
+
+impl NodeEnd {
+    /// Whether the node ended because the node before it had.
+    pub(crate) fn is_stopped(&self) -> bool
+        ensures { result ≡ is_stopped self.now }
+    {
+        matches!(self, NodeEnd::Stopped)
+    }
 }

@@ -1,0 +1,12 @@
+use Rattle.std.specs.Prelude.{Bool, true, false}
+use Rattle.ira_ring.specs.declared.node_end.NodeEnd.{NodeEnd}
+use Rattle.ira_ring.specs.declared.node_end.NodeEnd.TheVariants.{Leader, Stopped, DrawsSpent, LogFull, NoStep, Quiet}
+
+-- whether a node ended because the node before it had
+abbrev pub is_stopped : NodeEnd → Bool
+is_stopped Leader = false
+is_stopped Stopped = true
+is_stopped DrawsSpent = false
+is_stopped LogFull = false
+is_stopped (NoStep m) = false
+is_stopped Quiet = false
