@@ -5,6 +5,7 @@ use crate::{NodeEnd, NodePart, NodeWork, node_body};
 use ira_event::{Event, Msg, RingSize};
 use ira_links::{Frame, OpenGate, link};
 use std::alloc::Global;
+use std::process::Abort;
 use std::test::*;
 
 fn clean(round: u32, id: u32, hop: u32) -> Msg
@@ -19,7 +20,13 @@ fn clean(round: u32, id: u32, hop: u32) -> Msg
     }
 }
 
-fn assert_part(rt: &impl Abort, part: &NodePart<Global>, place: u8, events: &[Event], end: NodeEnd) {
+fn assert_part(
+    rt: &impl Abort,
+    part: &NodePart<Global>,
+    place: u8,
+    events: &[Event],
+    end: NodeEnd,
+) {
     assert_eq!(rt; part.place, place);
     assert_eq!(rt; part.end, end);
     assert_eq!(rt; part.log.place(), place);
