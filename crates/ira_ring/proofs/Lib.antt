@@ -1,7 +1,9 @@
 pub mod Collecting
 pub mod Drawing
 pub mod EndLines
+pub mod Frames
 pub mod FullRuns
+pub mod Growing
 pub mod LoneEnds
 pub mod LoneLogs
 pub mod LoneNodes
@@ -12,4 +14,5 @@ pub mod LoneTurns
 pub mod LoneTurnsOn
 pub mod Recordable
 pub mod Setups
+pub mod Turns
 pub mod Walks

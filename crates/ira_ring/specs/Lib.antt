@@ -6,6 +6,9 @@ pub mod FullRunLaws
 pub mod LoneNode
 pub mod LoneRing
 pub mod NodeEnd
+pub mod NodeFrames
+pub mod Recorder
+pub mod Recording
 pub mod Run
 pub mod RunFault
 pub mod Setup

@@ -11,6 +11,9 @@ mod lone_ring;
 mod lone_run;
 mod node_end;
 mod node_part;
+mod node_thread;
+mod node_work;
+mod recorder;
 mod run;
 mod run_fault;
 mod setup;
@@ -22,6 +25,8 @@ pub use laws::full_runs_are_runs;
 pub use lone_run::run_alone;
 pub use node_end::NodeEnd;
 pub use node_part::NodePart;
+pub use node_thread::node_body;
+pub use node_work::NodeWork;
 pub use run::Run;
 pub use run_fault::RunFault;
 pub use setup::Setup;
@@ -30,3 +35,5 @@ pub use setup::Setup;
 mod alone_tests;
 #[cfg(test)]
 mod tests;
+#[cfg(test)]
+mod thread_tests;
