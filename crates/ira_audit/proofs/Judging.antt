@@ -1,5 +1,5 @@
 -- What an audit that has judged by a definition of answers has answered.
-use Rattle.std.proofs.Common.{◌≡◌, ◌≢◌, ◌↔◌, ◌⊎◌, ℕ, List, Some, take, slice_get, Result, Ok, Err, inl, inr, refl, subst, ap}
+use Rattle.std.proofs.Common.{◌≡◌, ◌≢◌, ◌↔◌, ◌⊎◌, ℕ, List, Some, take, slice_get, IfOk, Result, Ok, Err, inl, inr, refl, subst, ap}
 use Rattle.ira_event.specs.Result.{UnlessErr}
 use Rattle.ira_event.specs.declared.log_fault.LogFault.{LogFault}
 use Rattle.ira_event.specs.declared.log_fault.LogFault.TheVariants as fault
@@ -14,8 +14,10 @@ use Rattle.ira_audit.specs.declared.reason.Reason.TheVariants as reason
 use Rattle.ira_audit.specs.declared.refusal.Refusal.{Refusal}
 use Rattle.ira_audit.specs.declared.refusal.Refusal.TheVariants as refusal
 use Rattle.ira_audit.specs.declared.answer.Answer.{Answer}
+use Rattle.ira_audit.specs.declared.answer.Answer.TheVariants.{Yes, No}
 use Rattle.ira_audit.specs.Answer as single
-use Rattle.ira_audit.specs.Refusal.{Judged, order_refusal}
+use Rattle.ira_audit.specs.Refusal.{Judged, answered, order_refusal}
+use Rattle.ira_audit.specs.Report.{IsReportable}
 use Rattle.ira_event.specs.declared.head_fault.HeadFault.{HeadFault}
 use Rattle.ira_event.specs.Logs.{AreLogs, HeadFaultOf}
 use Rattle.ira_order.specs.declared.match_fault.MatchFault.{MatchFault}
@@ -28,8 +30,21 @@ use Rattle.ira_audit.specs.LogsAnswer.{IsLogsAnswer, IsFirstStop, no_log, no_rin
 use Rattle.ira_audit.proofs.Unless.{ok_same}
 
 -- an answer that is right is the only one
-pub exactly : (P : Answer → Type 0) → ((a b : Answer) → P a → P b → a ≡ b) → (x : Answer) → P x → (a : Answer) → UnlessErr {T = Answer} {E = OutOfMemory} (Ok x) (record {}) (◌≡◌ {A = Result Answer OutOfMemory} (Ok x) (Ok a) ↔ P a)
-exactly P one x h a = inr (λ e. subst P (ok_same x a e) h, λ k. ap Ok (one x a h k))
+pub answered_exactly : (P : Answer → Type 0) → ((a b : Answer) → P a → P b → a ≡ b) → (r : Result (Unit {0}) Refusal) → Judged r P
+    → (a : Answer) → UnlessErr {T = Answer} {E = OutOfMemory} (answered r) (record {}) ((answered r ≡ Ok a) ↔ P a)
+answered_exactly P one (Ok done) h a = inr (λ e. subst P (ok_same Yes a e) h, λ k. ap Ok (one Yes a h k))
+answered_exactly P one (Err (refusal.No s)) h a = inr (λ e. subst P (ok_same (No s) a e) h.0, λ k. ap Ok (one (No s) a h.0 k))
+answered_exactly P one (Err refusal.OutOfMemory) h a = inl refl
+
+pub answered_holds : (P : Answer → Type 0) (r : Result (Unit {0}) Refusal) → Judged r P → (a : Answer) → answered r ≡ Ok a → P a
+answered_holds P (Ok done) h a e = subst P (ok_same Yes a e) h
+answered_holds P (Err (refusal.No s)) h a e = subst P (ok_same (No s) a e) h.0
+answered_holds P (Err refusal.OutOfMemory) h a e = absurd cc
+
+pub answered_reportable : (P : Answer → Type 0) (r : Result (Unit {0}) Refusal) → Judged r P → IfOk (answered r) IsReportable
+answered_reportable P (Ok done) h = tt
+answered_reportable P (Err (refusal.No s)) h = h.1
+answered_reportable P (Err refusal.OutOfMemory) h = tt
 
 -- a text that is no log's
 pub text_refused : (text : List ℕ) (r : Result (Unit {0}) Refusal) (s : Refusal) → r ≡ Err s

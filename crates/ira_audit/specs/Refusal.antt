@@ -1,5 +1,6 @@
 -- Helpers, no definitions: what the audits' own functions hand on.
 use Rattle.std.specs.Prelude.{Result, Ok, Err, ⊤}
+use Rattle.ira_event.specs.declared.out_of_memory.OutOfMemory as memory
 use Rattle.ira_order.specs.declared.order_fault.OrderFault.{OrderFault}
 use Rattle.ira_order.specs.declared.order_fault.OrderFault.TheVariants as order
 use Rattle.ira_audit.specs.declared.reason.Reason.TheVariants.{Match, Circle}
@@ -15,8 +16,13 @@ order_refusal (order.Match f) = No (Match f)
 order_refusal order.Circle = No Circle
 order_refusal order.OutOfMemory = OutOfMemory
 
--- the answer where there was no memory has none; else the fact holds of yes, or of a reason, which is
--- no want of memory
+-- the answer of texts that were judged
+abbrev pub answered : {T : Type 0} → Result T Refusal → Result Answer memory.OutOfMemory
+answered (Ok _) = Ok answer.Yes
+answered (Err (No reason)) = Ok (answer.No reason)
+answered (Err OutOfMemory) = Err (record {})
+
+-- the fact holds of the answer, if there is one, and no reason in it holds want of memory
 abbrev pub Judged : {T : Type 0} → Result T Refusal → (Answer → Type 0) → Type 0
 Judged (Ok _) P = P answer.Yes
 Judged (Err (No reason)) P = P (answer.No reason) × IsReportableReason reason

@@ -15,3 +15,6 @@ pub use one_log::audit_one;
 pub use reason::Reason;
 pub use report::write_report;
 pub use ring_logs::audit_logs;
+
+#[cfg(test)]
+mod tests;

@@ -11,7 +11,7 @@ ghost use Rattle.ira_audit.specs.declared.answer.Answer.{Answer};
 
 use crate::answer::Answer;
 use crate::reason::Reason;
-use crate::refusal::Refusal;
+use crate::refusal::{Refusal, answer_of};
 use ira_event::{LogFault, NodeLog, OutOfMemory, read_log};
 use ira_replay::{ReplayFault, replay};
 use std::alloc::Allocator;
@@ -22,11 +22,7 @@ pub fn audit_one<A: Allocator>(alloc: A, text: &[u8]) -> Result<Answer, OutOfMem
     ensures answer { (a : Answer) → UnlessErr result (record {}) ((result ≡ Ok a) ↔ IsAnswer text.now a) }
     ensures reportable { IfOk result IsReportable }
 {
-    match judge_text(alloc, text) {
-        Ok(()) => Ok(Answer::Yes),
-        Err(Refusal::No(reason)) => Ok(Answer::No(reason)),
-        Err(Refusal::OutOfMemory) => Err(OutOfMemory),
-    }
+    answer_of(judge_text(alloc, text))
 }
 
 fn judge_text<A: Allocator>(alloc: A, text: &[u8]) -> Result<(), Refusal>

@@ -1,5 +1,5 @@
-ghost use Rattle.std.specs.Prelude.{◌≡◌, Ok, Err};
-ghost use Rattle.ira_audit.specs.declared.answer.Answer.TheVariants as answer;
+ghost use Rattle.std.specs.Prelude.{◌≡◌};
+ghost use Rattle.ira_audit.specs.Refusal.{answered};
 
 use crate::answer::Answer;
 use crate::reason::Reason;
@@ -12,6 +12,17 @@ use std::alloc::{AllocError, AllocFailed};
 pub(crate) enum Refusal {
     No(Reason),
     OutOfMemory,
+}
+
+/// The answer of texts that were judged: yes where nothing stands against them.
+pub(crate) fn answer_of(judged: Result<(), Refusal>) -> Result<Answer, OutOfMemory>
+    ensures { result ≡ answered judged }
+{
+    match judged {
+        Ok(()) => Ok(Answer::Yes),
+        Err(Refusal::No(reason)) => Ok(Answer::No(reason)),
+        Err(Refusal::OutOfMemory) => Err(OutOfMemory),
+    }
 }
 
 impl From<Reason> for Refusal {

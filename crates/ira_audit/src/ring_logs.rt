@@ -15,7 +15,7 @@ ghost use Rattle.ira_audit.specs.declared.answer.Answer.{Answer};
 use crate::answer::Answer;
 use crate::one_log::{check_steps, read_text};
 use crate::reason::Reason;
-use crate::refusal::Refusal;
+use crate::refusal::{Refusal, answer_of};
 use ira_event::{Logs, NodeLog, OutOfMemory};
 use ira_order::order;
 use std::alloc::Allocator;
@@ -24,10 +24,12 @@ use std::alloc::Allocator;
 /// logs, whether these are the logs of one ring, match and have an order, and whether each event has a
 /// step. The first reason against them is answered. No answer holds want of memory.
 ///
-/// After a yes, and after a reason that speaks of the logs together, what the logs have to do with runs
-/// of the ring is known: each order of them is one, or there is none.
+/// After a yes each order of the logs is a run of the ring, with the draws that were recorded. Where
+/// the logs don't match, have no order, or have an event without a step, no run of the ring is a run of
+/// them.
 ///
-/// Want of memory is also answered where the texts are more than a `u32` counts.
+/// Beside the logs themselves it takes memory for one order of their events. Where the texts are more
+/// than a `u32` can number, want of memory is answered.
 pub fn audit_logs<A: Allocator + Clone>(alloc: A, texts: &[&[u8]]) -> Result<Answer, OutOfMemory>
     ensures answer { (a : Answer) → UnlessErr result (record {}) ((result ≡ Ok a) ↔ IsLogsAnswer (map (λ text. text.now) texts.now) a) }
     ensures reportable { IfOk result IsReportable }
@@ -36,11 +38,7 @@ pub fn audit_logs<A: Allocator + Clone>(alloc: A, texts: &[&[u8]]) -> Result<Ans
     ensures circled { result ≡ Ok (Answer.No Reason.Circle) → AreTextsWithoutRun (map (λ text. text.now) texts.now) }
     ensures stopped { (place position : ℕ) (f : StepFault) → result ≡ Ok (Answer.No (Reason.Replay place position f)) → AreTextsWithoutRun (map (λ text. text.now) texts.now) }
 {
-    match judge_texts(alloc, texts) {
-        Ok(()) => Ok(Answer::Yes),
-        Err(Refusal::No(reason)) => Ok(Answer::No(reason)),
-        Err(Refusal::OutOfMemory) => Err(OutOfMemory),
-    }
+    answer_of(judge_texts(alloc, texts))
 }
 
 fn judge_texts<A: Allocator + Clone>(alloc: A, texts: &[&[u8]]) -> Result<(), Refusal>
@@ -61,6 +59,7 @@ pub(crate) fn read_texts<A: Allocator + Clone>(
 {
     let mut logs = Vec::new(alloc.clone()?);
     for text in texts {
+        // More logs than a `u32` counts are kept by then.
         let Ok(number) = u32::try_from(logs.len()) else {
             return Err(Refusal::OutOfMemory);
         };

@@ -1,0 +1,178 @@
+use super::*;
+use ira_event::MemorySink;
+use std::process::Abort;
+
+/// Judges the texts and compares the answer's line.
+fn assert_reported(rt: &(impl Abort + AllocGlobal), texts: &[&[u8]], line: &str) {
+    let answer = audit_logs(rt.alloc(), texts).expect(rt, "memory");
+    let mut sink = MemorySink::new(rt.alloc());
+    assert_eq!(rt; write_report(&answer, &mut sink), Ok(()));
+    assert_eq!(rt; sink.bytes(), line.as_bytes());
+}
+
+const ELECTION_0: &[u8] = b"irlog 1\nnodes 2\nplace 0\nstart initiator\n\
+    draw 2\n\
+    send 1 2 1 clean\n\
+    recv 1 1 1 clean\n\
+    recv 1 2 2 clean\n\
+    end 4\n";
+
+const ELECTION_1: &[u8] = b"irlog 1\nnodes 2\nplace 1\nstart initiator\n\
+    draw 1\n\
+    send 1 1 1 clean\n\
+    recv 1 2 1 clean\n\
+    send 1 2 2 clean\n\
+    end 4\n";
+
+const TIE_0: &[u8] = b"irlog 1\nnodes 2\nplace 0\nstart initiator\n\
+    draw 1\n\
+    send 1 1 1 clean\n\
+    recv 1 1 1 clean\n\
+    send 1 1 2 dirty\n\
+    recv 1 1 2 dirty\n\
+    draw 2\n\
+    send 2 2 1 clean\n\
+    recv 2 1 1 clean\n\
+    recv 2 2 2 clean\n\
+    end 9\n";
+
+const TIE_1: &[u8] = b"irlog 1\nnodes 2\nplace 1\nstart initiator\n\
+    draw 1\n\
+    send 1 1 1 clean\n\
+    recv 1 1 1 clean\n\
+    send 1 1 2 dirty\n\
+    recv 1 1 2 dirty\n\
+    draw 1\n\
+    send 2 1 1 clean\n\
+    recv 2 2 1 clean\n\
+    send 2 2 2 clean\n\
+    end 9\n";
+
+const LONE_0: &[u8] = b"irlog 1\nnodes 3\nplace 0\nstart initiator\n\
+    draw 1\n\
+    send 1 1 1 clean\n\
+    recv 1 1 3 clean\n\
+    end 3\n";
+
+const LONE_1: &[u8] = b"irlog 1\nnodes 3\nplace 1\nstart passive\n\
+    recv 1 1 1 clean\n\
+    send 1 1 2 clean\n\
+    end 2\n";
+
+const LONE_2: &[u8] = b"irlog 1\nnodes 3\nplace 2\nstart passive\n\
+    recv 1 1 2 clean\n\
+    send 1 1 3 clean\n\
+    end 2\n";
+
+#[test]
+fn two_node_election(rt: HostRuntime) {
+    assert_reported(&rt, &[ELECTION_0, ELECTION_1], "yes\n");
+    assert_eq!(rt; audit_one(rt.alloc(), ELECTION_0), Ok(Answer::Yes));
+    assert_eq!(rt; audit_one(rt.alloc(), ELECTION_1), Ok(Answer::Yes));
+}
+
+#[test]
+fn tie_then_win(rt: HostRuntime) {
+    assert_reported(&rt, &[TIE_0, TIE_1], "yes\n");
+}
+
+#[test]
+fn lone_initiator(rt: HostRuntime) {
+    assert_reported(&rt, &[LONE_0, LONE_1, LONE_2], "yes\n");
+}
+
+#[test]
+fn heads_out_of_place(rt: HostRuntime) {
+    assert_reported(&rt, &[], "no: heads: number\n");
+    assert_reported(&rt, &[ELECTION_0], "no: heads: number\n");
+    assert_reported(&rt, &[ELECTION_1, ELECTION_0], "no: heads: place 0\n");
+    assert_reported(&rt, &[ELECTION_0, LONE_1], "no: heads: size 1\n");
+}
+
+#[test]
+fn text_without_end(rt: HostRuntime) {
+    let cut = b"irlog 1\nnodes 2\nplace 1\nstart passive\n";
+    assert_reported(&rt, &[ELECTION_0, cut], "no: log 1: cut\n");
+    assert_reported(&rt, &[b"", cut], "no: log 0: head\n");
+}
+
+#[test]
+fn circle_of_two(rt: HostRuntime) {
+    let first = b"irlog 1\nnodes 2\nplace 0\nstart passive\n\
+        recv 1 1 1 clean\n\
+        send 1 1 2 clean\n\
+        end 2\n";
+    let second = b"irlog 1\nnodes 2\nplace 1\nstart passive\n\
+        recv 1 1 2 clean\n\
+        send 1 1 1 clean\n\
+        end 2\n";
+    assert_reported(&rt, &[first, second], "no: circle\n");
+}
+
+#[test]
+fn receipts_exchanged(rt: HostRuntime) {
+    let first = b"irlog 1\nnodes 2\nplace 0\nstart initiator\n\
+        draw 2\n\
+        send 1 2 1 clean\n\
+        recv 1 2 2 clean\n\
+        recv 1 1 1 clean\n\
+        end 4\n";
+    assert_reported(&rt, &[first, ELECTION_1], "no: link 1: receipt 1 differs\n");
+}
+
+#[test]
+fn receipt_without_sending(rt: HostRuntime) {
+    let second = b"irlog 1\nnodes 2\nplace 1\nstart initiator\n\
+        draw 1\n\
+        send 1 1 1 clean\n\
+        recv 1 2 1 clean\n\
+        end 3\n";
+    assert_reported(
+        &rt,
+        &[ELECTION_0, second],
+        "no: link 1: receipt 2 has no sending\n",
+    );
+}
+
+#[test]
+fn equal_pair_passed_on_clean(rt: HostRuntime) {
+    let first = b"irlog 1\nnodes 2\nplace 0\nstart initiator\n\
+        draw 1\n\
+        send 1 1 1 clean\n\
+        recv 1 1 1 clean\n\
+        send 1 1 2 clean\n\
+        recv 1 1 2 dirty\n\
+        draw 2\n\
+        send 2 2 1 clean\n\
+        recv 2 1 1 clean\n\
+        recv 2 2 2 clean\n\
+        end 9\n";
+    let second = b"irlog 1\nnodes 2\nplace 1\nstart initiator\n\
+        draw 1\n\
+        send 1 1 1 clean\n\
+        recv 1 1 1 clean\n\
+        send 1 1 2 dirty\n\
+        recv 1 1 2 clean\n\
+        draw 1\n\
+        send 2 1 1 clean\n\
+        recv 2 2 1 clean\n\
+        send 2 2 2 clean\n\
+        end 9\n";
+    assert_reported(&rt, &[first, second], "no: node 0: event 4: not owed\n");
+}
+
+#[test]
+fn draw_out_of_range(rt: HostRuntime) {
+    let empty = b"irlog 1\nnodes 2\nplace 1\nstart initiator\nend 0\n";
+    let drawn = b"irlog 1\nnodes 2\nplace 0\nstart initiator\ndraw 3\nend 1\n";
+    assert_reported(&rt, &[drawn, empty], "no: node 0: event 1: draw range\n");
+    let drawn = b"irlog 1\nnodes 2\nplace 0\nstart initiator\ndraw 2\nend 1\n";
+    assert_reported(&rt, &[drawn, empty], "yes\n");
+}
+
+#[test]
+fn second_log_stops(rt: HostRuntime) {
+    let empty = b"irlog 1\nnodes 2\nplace 0\nstart initiator\nend 0\n";
+    let drawn = b"irlog 1\nnodes 2\nplace 1\nstart initiator\ndraw 1\ndraw 2\nend 2\n";
+    assert_reported(&rt, &[empty, drawn], "no: node 1: event 2: owes\n");
+}
