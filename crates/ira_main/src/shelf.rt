@@ -1,5 +1,7 @@
+ghost use Rattle.std.specs.Prelude.{◌≤◌, ◌+◌, length, IfOk};
+
 use crate::shelf_fault::ShelfFault;
-use ira_event::Sink;
+use ira_event::{MAX_TEXT, Sink};
 use std::alloc::Allocator;
 
 /// Where the program's files lie: each is read whole, or made anew.
@@ -8,7 +10,8 @@ pub trait Shelf<A: Allocator> {
     type Out: Sink + Drop;
 
     /// The bytes of a file, to its end or to one more than `MAX_TEXT`, whichever comes first.
-    fn read(&mut self, name: &str) -> Result<Vec<u8, A>, ShelfFault>;
+    fn read(&mut self, name: &str) -> Result<Vec<u8, A>, ShelfFault>
+        ensures { IfOk result (λ text. length text.items ≤ MAX_TEXT + 1) };
 
     /// A new file of this name, empty; one of the same name is emptied.
     fn create(&mut self, name: &str) -> Result<Self::Out, ShelfFault>;
