@@ -55,7 +55,13 @@ fn tie_then_win(rt: HostRuntime) -> Result<(), Fail> {
 
 #[test]
 fn lone_initiator(rt: HostRuntime) -> Result<(), Fail> {
-    assert_is_run(&rt, rt.alloc(), &[true, false, false], &[&[1], &[], &[]], 100)
+    assert_is_run(
+        &rt,
+        rt.alloc(),
+        &[true, false, false],
+        &[&[1], &[], &[]],
+        100,
+    )
 }
 
 #[test]
