@@ -18,10 +18,11 @@ fn texts_of(alloc: Global, logs: &Logs<Global>) -> Result<Vec<MemorySink<Global>
     Ok(texts)
 }
 
-/// Runs a ring of as many nodes as there are initiators and lists of draws, and judges its logs.
+/// Runs a ring of so many nodes, and judges its logs.
 fn assert_is_run(
     rt: &impl Abort,
     alloc: Global,
+    nodes: u8,
     initiators: &[bool],
     draws: &[&[u32]],
     cap: usize,
@@ -31,7 +32,7 @@ fn assert_is_run(
         lists.push(ids.to_vec(alloc)?)?;
     }
     let setup = Setup {
-        nodes: RingSize::new(initiators.len() as u8).ok_or("a ring of that size")?,
+        nodes: RingSize::new(nodes).ok_or("a ring of that size")?,
         initiators: initiators.to_vec(alloc)?,
         draws: lists,
         cap,
@@ -45,12 +46,12 @@ fn assert_is_run(
 
 #[test]
 fn two_node_election(rt: HostRuntime) -> Result<(), Fail> {
-    assert_is_run(&rt, rt.alloc(), &[true, true], &[&[2], &[1]], 100)
+    assert_is_run(&rt, rt.alloc(), 2, &[true, true], &[&[2], &[1]], 100)
 }
 
 #[test]
 fn tie_then_win(rt: HostRuntime) -> Result<(), Fail> {
-    assert_is_run(&rt, rt.alloc(), &[true, true], &[&[1, 2], &[1, 1]], 100)
+    assert_is_run(&rt, rt.alloc(), 2, &[true, true], &[&[1, 2], &[1, 1]], 100)
 }
 
 #[test]
@@ -66,10 +67,10 @@ fn lone_initiator(rt: HostRuntime) -> Result<(), Fail> {
 
 #[test]
 fn draws_spent_on_both(rt: HostRuntime) -> Result<(), Fail> {
-    assert_is_run(&rt, rt.alloc(), &[true, true], &[&[1], &[1]], 100)
+    assert_is_run(&rt, rt.alloc(), 2, &[true, true], &[&[1], &[1]], 100)
 }
 
 #[test]
 fn full_logs_and_bad_setups(rt: HostRuntime) -> Result<(), Fail> {
-    assert_is_run(&rt, rt.alloc(), &[true, true], &[&[2], &[1]], 3)
+    assert_is_run(&rt, rt.alloc(), 2, &[true, true], &[&[2], &[1]], 3)
 }
