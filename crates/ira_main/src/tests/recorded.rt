@@ -59,6 +59,7 @@ fn lone_initiator(rt: HostRuntime) -> Result<(), Fail> {
     assert_is_run(
         &rt,
         rt.alloc(),
+        3,
         &[true, false, false],
         &[&[1], &[], &[]],
         100,
