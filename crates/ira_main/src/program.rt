@@ -10,7 +10,7 @@ use crate::read_text::read_text;
 use crate::request::Request;
 use crate::shelf::Shelf;
 use crate::status::Status;
-use ira_audit::{Answer, audit_logs, audit_one, write_report};
+use ira_audit::{Answer, RingAudit, audit_one, write_report};
 use ira_event::{MAX_TEXT, Sink, WriteFault};
 use std::alloc::{Allocator, Global};
 use std::io::Read;
@@ -43,23 +43,8 @@ fn judge_input<'a, A: Allocator, I: Read, W: Sink>(
     report(&answer, out)
 }
 
-// The texts of the files of these names, in their order.
-fn read_files<'a, A: Allocator, B: Allocator, F: Shelf<B>>(
-    alloc: A,
-    names: &[&'a str],
-    shelf: &mut F,
-) -> Result<Vec<Vec<u8, B>, A>, Complaint<'a>> {
-    let mut texts = Vec::with_capacity(alloc, names.len())?;
-    for name in names {
-        match shelf.read(name) {
-            Ok(text) => texts.push(text)?,
-            Err(fault) => return Err(Complaint::unread(name, fault)),
-        }
-    }
-    Ok(texts)
-}
-
-// Judges the logs in the files of these names together. All are read before any is judged.
+// Judges the logs in the files of these names together. Each file is read before an answer is given,
+// and its text is given up once its log is read.
 fn judge_files<'a, A: Allocator, F: Shelf<A>, W: Sink>(
     alloc: A,
     names: &[&'a str],
@@ -68,9 +53,14 @@ fn judge_files<'a, A: Allocator, F: Shelf<A>, W: Sink>(
 ) -> Result<Status, Complaint<'a>>
     ensures { JudgesTogether (W.taken out.old) (W.failures out.old) (W.taken out.new) (W.failures out.new) (outcome_number result) }
 {
-    let files = read_files(&alloc, names, shelf)?;
-    let texts: Vec<&[u8], &A> = files.iter().map(|text| text.as_slice()).collect(&alloc)?;
-    let answer = audit_logs(&alloc, &texts)?;
+    let mut audit = RingAudit::new(&alloc);
+    for name in names {
+        match shelf.read(name) {
+            Ok(text) => audit.take(&text)?,
+            Err(fault) => return Err(Complaint::unread(name, fault)),
+        }
+    }
+    let answer = audit.finish()?;
     report(&answer, out)
 }
 
