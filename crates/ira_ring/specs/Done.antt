@@ -54,3 +54,7 @@ Passed before (done ∷ dones) after = IsPrefix done.input.frames before × Pass
 -- the same round the ring
 abbrev pub PassedRound : List Done → Type 0
 PassedRound dones = (last : List Frame) × Passed last dones last
+
+-- those of all places of some setup's ring of n nodes
+abbrev pub AreOfOneRing : ℕ → List Done → Type 0
+AreOfOneRing n dones = (s : Setup) × (s.nodes ≡ n) × AreInPlaceRound s dones

@@ -61,3 +61,7 @@ pub record IsRecording (s : Setup) (run : Run) : Type 0 where
   pub many : length run.ends ≡ s.nodes
   pub ends : AreShown s run.logs run.ends
   pub none_quiet : (i : ℕ) → slice_get run.ends i ≢ Some Quiet
+
+-- not every node ended because the node before it had
+abbrev pub HasOwnEnd : Run → Type 0
+HasOwnEnd run = (i : ℕ) × (end : NodeEnd) × (slice_get run.ends i ≡ Some end) × (end ≢ Stopped)

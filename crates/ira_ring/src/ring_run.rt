@@ -1,13 +1,12 @@
 // A run with a thread for each node, from its setup to what the nodes recorded.
-ghost use Rattle.std.specs.Prelude.{◌≡◌, ◌↔◌, ◌≢◌, ◌≤◌, ◌-◌, [], Err, None, map, replicate, IfOk, IfErr, ◌⊎◌, All};
+ghost use Rattle.std.specs.Prelude.{◌≡◌, ◌↔◌, ◌≢◌, ◌≤◌, ◌-◌, [], Err, None, map, replicate, length, IfOk, IfErr, ◌⊎◌};
 ghost use Rattle.std.specs.VecDeque.{deque_len, deque_capacity};
 ghost use Rattle.ira_links.specs.declared.limits.TheConstants.{MAX_CAPACITY};
-ghost use Rattle.ira_ring.specs.declared.node_end.NodeEnd.TheVariants.{Stopped};
 ghost use Rattle.ira_ring.specs.declared.run_fault.RunFault.TheVariants.{Setup as SetupFault, OutOfMemory, NoEnd, Stranger, Double, Thread, Closed as ClosedFault};
-ghost use Rattle.ira_ring.specs.Setup.{Setup, KeepsRules};
+ghost use Rattle.ira_ring.specs.Setup.{KeepsRules};
 ghost use Rattle.ira_ring.specs.Seat.{AreSeated, AreSeatedRound};
-ghost use Rattle.ira_ring.specs.Done.{AreInPlaceRound, PassedRound};
-ghost use Rattle.ira_ring.specs.Recording.{IsRecording};
+ghost use Rattle.ira_ring.specs.Done.{AreInPlaceRound, AreOfOneRing, PassedRound};
+ghost use Rattle.ira_ring.specs.Recording.{IsRecording, HasOwnEnd};
 
 use crate::collector::Collector;
 use crate::done::Done;
@@ -76,11 +75,13 @@ fn settle_all<A: Allocator>(
     mut dones: VecDeque<Done<A>, A>,
     mut collector: Collector<A>,
 ) -> Result<Run<A>, RunFault>
-    requires { (s : Setup) × KeepsRules s × AreInPlaceRound s dones.items × (collector ≡ replicate s.nodes None) }
+    requires none { collector ≡ replicate (length collector) None }
+    requires size { 1 ≤ length collector }
+    requires ring { AreOfOneRing (length collector) dones.items }
     ensures logs { IfOk result (λ run. run.logs ≡ map (λ done. done.log) dones.items) }
     ensures ends { IfOk result (λ run. run.ends ≡ map (λ done. done.end) dones.items) }
     ensures passed { IfOk result (λ run. PassedRound dones.items) }
-    ensures ended { IfOk result (λ run. ¬ (All (λ end. end ≡ Stopped) run.ends)) }
+    ensures ended { IfOk result HasOwnEnd }
     ensures err { IfErr result (λ f. f ≡ NoEnd) }
 {
     let Some(first) = dones.pop_front() else {
@@ -124,7 +125,7 @@ where
     A: Allocator + Clone + Send + Sync,
     ensures rules { (result ≡ Err SetupFault) ↔ ¬ (KeepsRules setup.now) }
     ensures recording { IfOk result (IsRecording setup.now) }
-    ensures ended { IfOk result (λ run. ¬ (All (λ end. end ≡ Stopped) run.ends)) }
+    ensures ended { IfOk result HasOwnEnd }
     ensures faults { IfErr result (λ f. (f ≢ Stranger) × (f ≢ Double)) }
 {
     if !setup.keeps_rules() {
