@@ -1,7 +1,7 @@
 -- What the nodes of a ring recorded, from what they did one by one and from the frames that passed the links.
 -- No thread occurs here.
 use Rattle.std.proofs.Common.{◌≡◌, ℕ, zero, suc, ◌+◌, ◌-◌, ◌<◌, ◌≤◌, Bool, List, [], ◌∷◌, ◌++◌, map, length, Option, Some, refl, sym, ap, ◌∙◌, subst, arith}
-use Rattle.std.specs.Prelude.{slice_get, option_map}
+use Rattle.std.specs.Prelude.{slice_get, option_map, Result, Ok, Err, IfOk}
 use Rattle.std.proofs.lemmas.List.{append-nil, length-map, map-append}
 use Rattle.std.proofs.lemmas.Option.{slice_get-map, slice_get_within}
 use mathlib.Core.List.{IsPrefix}
@@ -16,6 +16,7 @@ use Rattle.ira_replay.specs.LocalRun.{LeadsTo, IsLocalRun}
 use Rattle.ira_order.specs.Ring.{prev, log_of, events_of}
 use Rattle.ira_order.specs.Matching.{sent, got}
 use Rattle.ira_ring.specs.declared.node_end.NodeEnd.{NodeEnd}
+use Rattle.ira_ring.specs.declared.run_fault.RunFault.{RunFault}
 use Rattle.ira_ring.specs.declared.node_end.NodeEnd.TheVariants.{Leader, Stopped, DrawsSpent, LogFull, NoStep, Quiet}
 use Rattle.ira_ring.specs.Setup.{Setup, is_initiator, given}
 use Rattle.ira_ring.specs.FullRun.{drawn, BeginsWith}
@@ -131,7 +132,7 @@ linked_at s dones run i d h =
     let P : List Event → Type 0 = λ es. BeginsWith (sent es) (got d.log.events) in
     subst P (sym h.sendings) (got_of_put (got d.log.events) (sent h.before.log.events) (last_taken d.end) h.link.0 h.link.1)
 
-pub is_recording : (s : Setup) (dones : List Done) (run : Run) → IsRun run → AreInPlaceRound s dones → PassedRound dones → run.logs ≡ map (λ done. done.log) dones → run.ends ≡ map (λ done. done.end) dones → IsRecording s run
+is_recording : (s : Setup) (dones : List Done) (run : Run) → IsRun run → AreInPlaceRound s dones → PassedRound dones → run.logs ≡ map (λ done. done.log) dones → run.ends ≡ map (λ done. done.end) dones → IsRecording s run
 is_recording s dones run valid ring passed logs ends =
     let many : s.nodes ≡ length dones = omega (arith, place_count s 0 s.nodes ring.0 ring.0 dones ring.1) in
     let at : (i : ℕ) (d : Done) → slice_get dones i ≡ Some d → At s dones run i d = λ i d there. all_at s dones run i d ring passed logs there in
@@ -164,3 +165,8 @@ is_recording s dones run valid ring passed logs ends =
           let P : NodeEnd → Type 0 = λ x. EndsAs s.nodes s.cap (given s i) rec.state p.0.log.events x in
           subst P p.2 rec.end;
     }
+
+-- the same where there may be no run
+pub is_recording_if_ok : (s : Setup) (dones : List Done) (r : Result Run RunFault) → IfOk r IsRun → AreInPlaceRound s dones → IfOk r (λ run. PassedRound dones) → IfOk r (λ run. run.logs ≡ map (λ done. done.log) dones) → IfOk r (λ run. run.ends ≡ map (λ done. done.end) dones) → IfOk r (IsRecording s)
+is_recording_if_ok s dones (Ok run) valid ring passed logs ends = is_recording s dones run valid ring passed logs ends
+is_recording_if_ok s dones (Err f) valid ring passed logs ends = tt

@@ -218,6 +218,9 @@ pub on_ok : {X E : Type 0} (r : Result X E) (P Q : X → Type 0) → ((x : X) �
 on_ok (Ok x) P Q f h = f x h
 on_ok (Err e) P Q f h = tt
 
+pub ok_of : {X E : Type 0} (r : Result X E) (x : X) (P : X → Type 0) → r ≡ Ok x → IfOk r P → P x
+ok_of r x P is h = subst (λ r. IfOk r P) is h
+
 pub finished_with_end : (r : Result Run RunFault) (taken : List (Option (Log × NodeEnd))) → IfOk r (λ run. AreParts taken run) → ((f : RunFault) → (r ≡ Err f) ↔ FinishFaultOf taken f) → IfOk r HasOwnEnd
 finished_with_end (Ok run) taken parts err = run_has_own_end run taken parts (λ none. let no = (err NoEnd).1 (none, refl) in absurd cc)
 finished_with_end (Err f) taken parts err = tt

@@ -1,19 +1,37 @@
-use Rattle.std.proofs.Common.{◌≡◌, ◌∙◌, ap, sym, refl, subst, length, arith}
-use Rattle.std.specs.Prelude.{map}
+use Rattle.std.proofs.Common.{◌≡◌, ◌≤◌, ◌∙◌, None, ap, sym, refl, length, arith}
+use Rattle.std.specs.VecDeque.{deque_capacity}
 use Rattle.std.proofs.lemmas.List.{length-replicate}
 use Rattle.ira_ring.specs.Setup.{Setup, KeepsRules}
-use Rattle.ira_ring.specs.Done.{AreInPlaceRound, PassedRound}
-use Rattle.ira_ring.proofs.Recordings.{is_recording}
+use Rattle.ira_ring.specs.Done.{AreInPlaceRound}
+use Rattle.ira_ring.proofs.Settling.{ok_of}
+use Rattle.ira_ring.proofs.Recordings.{is_recording_if_ok}
 use Rattle.ira_ring.proofs.ring_run.run_ring.Goals as goal
 
 pub scoped-requires : goal.scoped-requires
-scoped-requires g c = record { at = λ a. (?, ?) }
+scoped-requires g c =
+    let s : Setup = c.args.setup.now in
+    let kept : KeepsRules s = c.if-not-keeps_rules.ensures.0 refl in
+    let nodes : c.from-nodes.result ≡ s.nodes = c.from-nodes.ensures ∙ c.get.ensures.value ∙ ap (λ (x : Setup). x.nodes) c.setup.view_is in
+    let children : s.nodes ≤ deque_capacity c.in_ok-children.children = omega (arith, nodes, c.in_ok-children.ensures.capacity) in
+    let dones : s.nodes ≤ deque_capacity c.in_ok-dones.dones = omega (arith, nodes, c.in_ok-dones.ensures.capacity) in
+    let bounds = c.type_bounds in
+    record {
+      at = λ a. (
+        (kept, c.in_ok-seats.ensures.seats, c.in_ok-children.ensures.items, children, c.in_ok-dones.ensures.items, dones),
+        (bounds.send-A, bounds.sync-R, bounds.sync-G, bounds.sync-A, bounds.frees-A-Allocator),
+      );
+    }
 
 pub settle_all-requires-clause-ring : goal.settle_all-requires-clause-ring
 settle_all-requires-clause-ring g c =
-    let scoped = c.scoped.ensures.1 in
-    let many : c.args.setup.now.nodes ≡ length c.in_ok-collector.collector = ? in
-    (c.args.setup.now, many, ?)
+    let s : Setup = c.args.setup.now in
+    let nodes : c.setup.inside.nodes ≡ s.nodes = ap (λ (x : Setup). x.nodes) c.setup.view_is in
+    let many : length c.in_ok-collector.collector ≡ c.setup.inside.nodes = ap length c.in_ok-collector.ensures ∙ length-replicate c.setup.inside.nodes None in
+    (s, sym nodes ∙ sym many, ok_of c.scoped.result c.in_ok-dones-2.dones (λ dones. AreInPlaceRound s dones.items) c.in_ok-dones-2.was c.scoped.ensures.1.0)
 
 pub returns-clause-recording : goal.returns-clause-recording
-returns-clause-recording g c = ?
+returns-clause-recording g c =
+    let s : Setup = c.args.setup.now in
+    let ring = ok_of c.scoped.result c.in_ok-dones-2.dones (λ dones. AreInPlaceRound s dones.items) c.in_ok-dones-2.was c.scoped.ensures.1.0 in
+    let settled = c.settle_all.ensures in
+    is_recording_if_ok s c.in_ok-dones-2.dones.items c.settle_all.result settled.valid ring settled.passed settled.logs settled.ends

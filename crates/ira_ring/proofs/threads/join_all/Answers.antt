@@ -11,7 +11,7 @@ pub loop-child-init : goal.loop-child-init
 loop-child-init g c =
     let none = c.requires.room.0 in
     record {
-      done = λ _. ([], (refl, subst (AreDone []) (sym none) tt));
+      done = λ _. ([], refl, subst (AreDone []) (sym none) tt);
       count = omega (arith, c.args.dones.ok.0, ap length none);
       room = c.requires.room.1;
     }
