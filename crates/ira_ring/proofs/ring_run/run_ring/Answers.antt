@@ -1,6 +1,9 @@
 use Rattle.std.proofs.Common.{◌≡◌, ◌≤◌, ◌∙◌, None, ap, sym, refl, length, arith}
 use Rattle.std.specs.VecDeque.{deque_capacity}
 use Rattle.std.proofs.lemmas.List.{length-replicate}
+use mir.Syntax.{of_param}
+use denote.Exit.{unseen}
+use denote.Param.Send.{Quiet-if}
 use Rattle.ira_ring.specs.Setup.{Setup, KeepsRules}
 use Rattle.ira_ring.specs.Done.{AreInPlaceRound}
 use Rattle.ira_ring.proofs.Settling.{ok_of}
@@ -18,7 +21,13 @@ scoped-requires g c =
     record {
       at = λ a. (
         (kept, c.in_ok-seats.ensures.seats, c.in_ok-children.ensures.items, children, c.in_ok-dones.ensures.items, dones),
-        (bounds.send-A, bounds.sync-R, bounds.sync-G, bounds.sync-A, bounds.frees-A-Allocator),
+        (
+          record { owned = bounds.send-A.owned; leaving = λ k. Quiet-if (k (of_param 2)) unseen unseen (λ x w. tt) (λ x w. tt) },
+          record { shared = bounds.sync-R.shared },
+          record { shared = bounds.sync-G.shared },
+          record { shared = bounds.sync-A.shared },
+          bounds.frees-A-Allocator,
+        ),
       );
     }
 
