@@ -32,13 +32,13 @@ moved s seat k a done place input h =
     }
 
 -- what was done by those who had seats that follow one another
-pub in_place : (s : Setup) (cap k m : ℕ) (a b : LinkName) (seats : List Seat) (dones : List Done) → AreSeated cap k a seats m b → AreDone (map (duty_of s) seats) dones → AreInPlace s k a dones m b
-in_place s cap k m a b [] [] seated h = seated
-in_place s cap k m a b [] (x ∷ xs) seated h = absurd h
-in_place s cap k m a b (q ∷ qs) [] seated h = absurd h
-in_place s cap k m a b (q ∷ qs) (x ∷ xs) seated h =
+pub in_place : (s : Setup) (most k m : ℕ) (a b : LinkName) (seats : List Seat) (dones : List Done) → AreSeated most k a seats m b → AreDone (map (duty_of s) seats) dones → AreInPlace s k a dones m b
+in_place s most k m a b [] [] seated h = seated
+in_place s most k m a b [] (x ∷ xs) seated h = absurd h
+in_place s most k m a b (q ∷ qs) [] seated h = absurd h
+in_place s most k m a b (q ∷ qs) (x ∷ xs) seated h =
     let P : LinkName → Type 0 = λ l. AreInPlace s (k + 1) l xs m b in
-    (moved s q k a x seated.0 seated.2 h.0, subst P (sym h.0.output) (in_place s cap (k + 1) m q.output b qs xs seated.3 h.1))
+    (moved s q k a x seated.0 seated.2 h.0, subst P (sym h.0.output) (in_place s most (k + 1) m q.output b qs xs seated.3 h.1))
 
 pub place_count : (s : Setup) (k m : ℕ) (a b : LinkName) (dones : List Done) → AreInPlace s k a dones m b → k + length dones ≡ m
 place_count s k m a b [] h = omega (arith, h.0)

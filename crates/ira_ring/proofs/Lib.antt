@@ -14,6 +14,7 @@ pub mod LoneSteps
 pub mod LoneTurns
 pub mod LoneTurnsOn
 pub mod Recordable
+pub mod Recordings
 pub mod Seats
 pub mod Settling
 pub mod Setups

@@ -1,9 +1,9 @@
 -- What the threads of a ring gave back, while their links are settled and their parts are collected.
 use Rattle.std.proofs.Common.{◌≡◌, ◌≢◌, ℕ, zero, suc, ◌+◌, ◌<◌, ◌≤◌, ◌⊎◌, List, [], ◌∷◌, ◌++◌, map, length, set, replicate, Option, Some, None, inl, inr, ⊎_elim, refl, sym, ap, ◌∙◌, subst, arith, append_assoc, length-append}
-use Rattle.std.specs.Prelude.{slice_get}
-use Rattle.std.specs.List.{zip}
+use Rattle.std.specs.Prelude.{Bool, true, false, Result, Ok, Err, IfOk, IfErr, ◌↔◌, slice_get}
+use Rattle.std.specs.List.{zip, list_all}
 use Rattle.std.proofs.lemmas.List.{append-nil, length-map, length-replicate, map-append}
-use Rattle.std.proofs.lemmas.Option.{none-some}
+use Rattle.std.proofs.lemmas.Option.{some_pair_parts}
 use Rattle.std.proofs.Math.Seq.{set-append_seam}
 use mathlib.Core.List.{IsPrefix}
 use Rattle.ira_event.specs.Log.{Log}
@@ -13,14 +13,22 @@ use Rattle.ira_ring.specs.declared.node_end.NodeEnd.{NodeEnd}
 use Rattle.ira_ring.specs.declared.run_fault.RunFault.{RunFault}
 use Rattle.ira_ring.specs.Setup.{Setup}
 use Rattle.ira_ring.specs.Run.{Run}
-use Rattle.ira_ring.specs.Collector.{KeepsPart, PartFaultOf, AreParts}
+use Rattle.ira_ring.specs.declared.node_end.NodeEnd.TheVariants.{Stopped}
+use Rattle.ira_ring.specs.declared.run_fault.RunFault.TheVariants.{NoEnd}
+use Rattle.ira_ring.specs.NodeEnd.{is_stopped}
+use Rattle.ira_ring.specs.Recording.{HasOwnEnd}
+use Rattle.ira_ring.specs.Collector.{KeepsPart, PartFaultOf, HasNoEnd, FinishFaultOf, AreParts}
 use Rattle.ira_ring.specs.Done.{Done, IsDone, AreInPlace, AreOfOneRing, Passed, PassedRound}
-use Rattle.ira_ring.proofs.Collecting.{keeps-part, no-stranger, get-behind}
+use Rattle.ira_ring.proofs.Collecting.{keeps-part, no-stranger, get-behind, each-stopped}
 use Rattle.ira_ring.proofs.Dones.{passed_more, place_count}
 
 -- the part of a node, as a collector takes it
 abbrev pub part_of : Done → Option (Log × NodeEnd)
 part_of done = Some (done.log, done.end)
+
+either : (b : Bool) → (b ≡ true) ⊎ (b ≡ false)
+either true = inl refl
+either false = inr refl
 
 -- the parts of these, and nothing yet of m more
 abbrev pub taken_of : List Done → ℕ → List (Option (Log × NodeEnd))
@@ -156,7 +164,7 @@ pub settled_round : (n : ℕ) (all left : List Done) (first last : LinkEnd) (tak
 settled_round n all left first last taken is was took =
     let whole : all ≡ was.head ∷ was.past = was.parts ∙ ap (λ ds. (was.head ∷ was.past) ++ ds) is ∙ append-nil (was.head ∷ was.past) in
     let P : List Frame → Type 0 = λ fs. IsPrefix fs last.frames in
-    subst PassedRound (sym whole) (last.frames, subst P was.first_is took, was.passed)
+    subst PassedRound (sym whole) (last.frames, (subst P was.first_is took, was.passed))
 
 pub settled_taken : (n : ℕ) (all left : List Done) (first last : LinkEnd) (taken : List (Option (Log × NodeEnd))) → left ≡ [] → Settling n all left first last taken → taken ≡ map part_of all
 settled_taken n all left first last taken is was =
@@ -175,11 +183,48 @@ parts_are (log ∷ logs) (x ∷ xs) [] l e same = absurd (omega arith)
 parts_are (log ∷ logs) (x ∷ xs) (d ∷ ds) l e same =
     let rest : map part_of ds ≡ map (λ part. Some part) (zip logs xs) = cc in
     let tails = parts_are logs xs ds (omega arith) (omega arith) rest in
-    let log_is : log ≡ d.log = cc in
-    let end_is : x ≡ d.end = cc in
+    let heads : part_of d ≡ Some (log, x) = cc in
+    let head_is = some_pair_parts d.log log d.end x heads in
+    let log_is : log ≡ d.log = sym head_is.0 in
+    let end_is : x ≡ d.end = sym head_is.1 in
     (ap (λ (z : Log × List Log). z.0 ∷ z.1) (λ j. (log_is j, tails.0 j)), ap (λ (z : NodeEnd × List NodeEnd). z.0 ∷ z.1) (λ j. (end_is j, tails.1 j)))
 
 pub settled_run : (dones : List Done) (run : Run) (taken : List (Option (Log × NodeEnd))) → taken ≡ map part_of dones → AreParts taken run → (run.logs ≡ map (λ done. done.log) dones) × (run.ends ≡ map (λ done. done.end) dones)
 settled_run dones run taken is parts =
     let many : length taken ≡ length dones = ap length is ∙ length-map dones part_of in
     parts_are run.logs run.ends dones (parts.logs ∙ many) (parts.ends ∙ many) (sym is ∙ parts.parts)
+
+-- one of these ends isn't `Stopped`
+own_end : (ends : List NodeEnd) → list_all is_stopped ends ≡ false → (i : ℕ) × (end : NodeEnd) × (slice_get ends i ≡ Some end) × (end ≢ Stopped)
+own_end [] e = absurd cc
+own_end (x ∷ xs) e = elim (either (is_stopped x)) [
+  | inl stopped ↦
+      let rest : list_all is_stopped xs ≡ false = rw stopped at e in
+      let there = own_end xs rest in
+      (suc there.0, there.1, there.2, there.3)
+  | inr goes_on ↦ (0, x, refl, λ is. let no : is_stopped Stopped ≡ false = subst (λ (y : NodeEnd). is_stopped y ≡ false) is goes_on in absurd cc)
+]
+
+run_has_own_end : (run : Run) (taken : List (Option (Log × NodeEnd))) → AreParts taken run → ¬ (HasNoEnd taken) → HasOwnEnd run
+run_has_own_end run taken parts some = elim (either (list_all is_stopped run.ends)) [
+  | inl all ↦
+      let P : List (Option (Log × NodeEnd)) → Type 0 = λ xs. HasNoEnd xs in
+      absurd (some (subst P (sym parts.parts) (inr (each-stopped run.logs run.ends all))))
+  | inr other ↦ own_end run.ends other
+]
+
+-- what a collector that has finished tells
+pub on_ok : {X E : Type 0} (r : Result X E) (P Q : X → Type 0) → ((x : X) → P x → Q x) → IfOk r P → IfOk r Q
+on_ok (Ok x) P Q f h = f x h
+on_ok (Err e) P Q f h = tt
+
+pub ok_of : {X E : Type 0} (r : Result X E) (x : X) (P : X → Type 0) → r ≡ Ok x → IfOk r P → P x
+ok_of r x P is h = subst (λ r. IfOk r P) is h
+
+pub finished_with_end : (r : Result Run RunFault) (taken : List (Option (Log × NodeEnd))) → IfOk r (λ run. AreParts taken run) → ((f : RunFault) → (r ≡ Err f) ↔ FinishFaultOf taken f) → IfOk r HasOwnEnd
+finished_with_end (Ok run) taken parts err = run_has_own_end run taken parts (λ none. let no = (err NoEnd).1 (none, refl) in absurd cc)
+finished_with_end (Err f) taken parts err = tt
+
+pub unfinished : (r : Result Run RunFault) (taken : List (Option (Log × NodeEnd))) → ((f : RunFault) → (r ≡ Err f) ↔ FinishFaultOf taken f) → IfErr r (λ f. f ≡ NoEnd)
+unfinished (Ok run) taken err = tt
+unfinished (Err f) taken err = ((err f).0 refl).1

@@ -4,6 +4,7 @@ ghost use Rattle.std.specs.VecDeque.{deque_len, deque_capacity};
 ghost use Rattle.ira_links.specs.declared.limits.TheConstants.{MAX_CAPACITY};
 ghost use Rattle.ira_ring.specs.declared.run_fault.RunFault.TheVariants.{Setup as SetupFault, OutOfMemory, NoEnd, Stranger, Double, Thread, Closed as ClosedFault};
 ghost use Rattle.ira_ring.specs.Setup.{KeepsRules};
+ghost use Rattle.ira_ring.specs.Run.{IsRun};
 ghost use Rattle.ira_ring.specs.Seat.{AreSeated, AreSeatedRound};
 ghost use Rattle.ira_ring.specs.Done.{AreInPlaceRound, AreOfOneRing, PassedRound};
 ghost use Rattle.ira_ring.specs.Recording.{IsRecording, HasOwnEnd};
@@ -78,6 +79,7 @@ fn settle_all<A: Allocator>(
     requires none { collector ≡ replicate (length collector) None }
     requires size { 1 ≤ length collector }
     requires ring { AreOfOneRing (length collector) dones.items }
+    ensures valid { IfOk result IsRun }
     ensures logs { IfOk result (λ run. run.logs ≡ map (λ done. done.log) dones.items) }
     ensures ends { IfOk result (λ run. run.ends ≡ map (λ done. done.end) dones.items) }
     ensures passed { IfOk result (λ run. PassedRound dones.items) }
