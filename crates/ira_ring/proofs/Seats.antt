@@ -1,5 +1,5 @@
 -- Seats of places that follow one another.
-use Rattle.std.proofs.Common.{◌≡◌, ℕ, ◌+◌, ◌<◌, List, [], ◌∷◌, ◌++◌, length, refl, sym, ◌∙◌, arith}
+use Rattle.std.proofs.Common.{◌≡◌, ℕ, ◌+◌, List, [], ◌∷◌, ◌++◌, length, refl, sym, ◌∙◌, arith}
 use Rattle.ira_links.specs.LinkEnd.{LinkName}
 use Rattle.ira_ring.specs.Seat.{Seat, AreSeated}
 

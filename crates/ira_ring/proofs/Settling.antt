@@ -1,5 +1,5 @@
 -- What the threads of a ring gave back, while their links are settled and their parts are collected.
-use Rattle.std.proofs.Common.{◌≡◌, ◌≢◌, ℕ, zero, suc, ◌+◌, ◌<◌, ◌≤◌, ◌⊎◌, List, [], ◌∷◌, ◌++◌, map, length, set, replicate, Option, Some, None, inl, inr, ⊎_elim, refl, sym, ap, ◌∙◌, subst, arith, append_assoc, length-append}
+use Rattle.std.proofs.Common.{◌≡◌, ◌≢◌, ℕ, suc, ◌+◌, ◌<◌, ◌⊎◌, List, [], ◌∷◌, ◌++◌, map, length, set, replicate, Option, Some, None, inl, inr, refl, sym, ap, ◌∙◌, subst, arith, append_assoc, length-append}
 use Rattle.std.specs.Prelude.{Bool, true, false, Result, Ok, Err, IfOk, IfErr, ◌↔◌, slice_get}
 use Rattle.std.specs.List.{zip, list_all}
 use Rattle.std.proofs.lemmas.List.{append-nil, length-map, length-replicate, map-append}
@@ -18,7 +18,7 @@ use Rattle.ira_ring.specs.declared.run_fault.RunFault.TheVariants.{NoEnd}
 use Rattle.ira_ring.specs.NodeEnd.{is_stopped}
 use Rattle.ira_ring.specs.Recording.{HasOwnEnd}
 use Rattle.ira_ring.specs.Collector.{KeepsPart, PartFaultOf, HasNoEnd, FinishFaultOf, AreParts}
-use Rattle.ira_ring.specs.Done.{Done, IsDone, AreInPlace, AreOfOneRing, Passed, PassedRound}
+use Rattle.ira_ring.specs.Done.{Done, AreInPlace, AreOfOneRing, Passed, PassedRound}
 use Rattle.ira_ring.proofs.Collecting.{keeps-part, no-stranger, get-behind, each-stopped}
 use Rattle.ira_ring.proofs.Dones.{passed_more, place_count}
 
@@ -130,13 +130,7 @@ settling_more n all left rest done first last old new is was took kept =
       taken_is = taken_more (was.head ∷ was.past) (length rest) done.place done old new here.0.place (was.taken_is ∙ ap (λ ds. taken_of (was.head ∷ was.past) (length ds)) is) kept;
     }
 
--- the next one's input is the last one's output
-pub settling_link : (n : ℕ) (all left rest : List Done) (done : Done) (first last : LinkEnd) (taken : List (Option (Log × NodeEnd))) → left ≡ done ∷ rest → Settling n all left first last taken → last.link ≡ done.input.link
-settling_link n all left rest done first last taken is was =
-    let P : List Done → Type 0 = λ ds. AreInPlace was.setup (length (was.head ∷ was.past)) last.link ds n first.link in
-    sym (subst P is was.place).0.input
-
--- and its part can be taken
+-- the next part can be taken
 pub settling_takes : (n : ℕ) (all left rest : List Done) (done : Done) (first last : LinkEnd) (taken : List (Option (Log × NodeEnd))) (f : RunFault) → left ≡ done ∷ rest → length taken ≡ n → Settling n all left first last taken → ¬ (PartFaultOf taken done.place done.log f)
 settling_takes n all left rest done first last taken f is many was =
     let P : List Done → Type 0 = λ ds. AreInPlace was.setup (length (was.head ∷ was.past)) last.link ds n first.link in
@@ -154,12 +148,7 @@ first_takes n all left head taken f parts ring none =
     let many : n ≡ suc (length left) = omega (arith, place_count s 0 n link link (head ∷ left) here) in
     takes [] (length left) n head.place head.log taken f here.0.place (omega (arith, many, here.0.place)) (ap length none ∙ length-replicate n None) (here.0.recorded.nodes ∙ ring.1) (here.0.recorded.place ∙ sym here.0.place) (none ∙ ap (λ k. replicate k None) many)
 
--- all parts were taken, and the first link is left
-pub settled_link : (n : ℕ) (all left : List Done) (first last : LinkEnd) (taken : List (Option (Log × NodeEnd))) → left ≡ [] → Settling n all left first last taken → last.link ≡ first.link
-settled_link n all left first last taken is was =
-    let P : List Done → Type 0 = λ ds. AreInPlace was.setup (length (was.head ∷ was.past)) last.link ds n first.link in
-    (subst P is was.place).1
-
+-- all parts were taken
 pub settled_round : (n : ℕ) (all left : List Done) (first last : LinkEnd) (taken : List (Option (Log × NodeEnd))) → left ≡ [] → Settling n all left first last taken → IsPrefix first.frames last.frames → PassedRound all
 settled_round n all left first last taken is was took =
     let whole : all ≡ was.head ∷ was.past = was.parts ∙ ap (λ ds. (was.head ∷ was.past) ++ ds) is ∙ append-nil (was.head ∷ was.past) in

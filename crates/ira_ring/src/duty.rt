@@ -10,8 +10,8 @@ use std::marker::Model;
 use std::snapshot::Snapshot;
 use std::thread::Promise;
 
-/// What the thread of a node is started for: what it gives back is of this place of the setup's ring, and
-/// of these links.
+/// What the thread of a node is started for: to be the node at this place of the setup's ring, and to read
+/// and write these links.
 #[derive(Drop)]
 pub struct Duty<A: Allocator> {
     setup: Snapshot<Setup<A>>,

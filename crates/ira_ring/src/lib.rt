@@ -2,6 +2,7 @@
 //! thread, the draws of the nodes, the collector of what they wrote, and the lines of their ends.
 #![tactic(auto)]
 
+mod child;
 mod collector;
 mod done;
 mod draws;

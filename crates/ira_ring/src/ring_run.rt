@@ -31,8 +31,8 @@ fn capacity<A: Allocator>(setup: &Setup<A>) -> u32
     2 * u32::from(setup.nodes.get()) + 2
 }
 
-/// Adds the seats of all places but the last, and gives the end that the last one is to read. The first one reads
-/// `first`.
+/// Adds the seats of all places but the last, of which the first is to read `first`, and gives the end that
+/// the last place is to read.
 fn most_seats<A: Allocator + Clone>(
     alloc: A,
     setup: &Setup<A>,
@@ -113,13 +113,15 @@ fn settle_all<A: Allocator>(
     collector.finish()
 }
 
-/// Runs the nodes of the setup, each in a thread of its own, with links between them. `Setup` where the
-/// setup breaks the rules; nothing is taken before they were looked at. All memory is reserved before the
-/// first thread starts. Threads start by rising place, each after the gate admitted it. Where it doesn't
-/// admit one, or one can't be started, `Stop` is put on the link to node 0, if the end that writes it is still
-/// there, and the answer is `Thread`, whatever the started nodes answer; `Closed` where all were started
-/// and a node found its link closed. All threads are joined before it answers. `NoEnd` where no node
-/// ended by itself.
+/// Runs the nodes of the setup, each in a thread of its own, with links between them that hold `2N + 2`
+/// frames. `Setup` where the setup breaks the rules; nothing is taken before they were looked at. All
+/// memory is reserved before the first thread starts.
+///
+/// Threads start by rising place, each after the gate admitted it. Where the gate doesn't admit one, or it
+/// can't be started, `Stop` is put on the link to node 0, if the end that writes it wasn't given away yet; all
+/// ends that are left are dropped, the started threads are joined, and the answer is `Thread`, whatever
+/// they answer. `Closed` where all were started and one of them found its link closed, and `NoEnd` where
+/// every node says that the one before it ended.
 pub fn run_ring<R, G, A>(rt: &R, alloc: A, setup: &Setup<A>, gate: &G) -> Result<Run<A>, RunFault>
 where
     R: Threads + Wait + Clock + Sync,

@@ -14,8 +14,9 @@ use std::marker::Model;
 use std::sync::Wait;
 use std::time::Clock;
 
-/// What the thread of a node is to own: the place of the node, the room for its log, and its ends of two new
-/// links. It names no lifetime: of a thread whose closure captures what does, nothing would be known.
+/// What the thread of a node is to own: the place of the node, the room for its log, and its ends of two
+/// new links. It names no lifetime, since nothing would be known of what the thread of a closure gives
+/// that captures a value which does.
 #[derive(Drop)]
 pub struct Seat<A: Allocator> {
     pub(crate) place: u8,

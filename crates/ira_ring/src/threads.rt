@@ -7,6 +7,7 @@ ghost use Rattle.ira_ring.specs.Seat.{AreSeatedRound};
 ghost use Rattle.ira_ring.specs.Duty.{duty_of};
 ghost use Rattle.ira_ring.specs.Done.{IsDone, AreDone, AreInPlaceRound};
 
+use crate::child::Child;
 use crate::done::Done;
 use crate::duty::Duty;
 use crate::run_fault::RunFault;
@@ -15,29 +16,14 @@ use crate::setup::Setup;
 use ira_links::{Closed, Gate};
 use std::alloc::Allocator;
 use std::collections::VecDeque;
-use std::marker::Model;
 use std::sync::Wait;
-use std::thread::{PromisedHandle, Scope, Threads};
+use std::thread::{Scope, Threads};
 use std::time::Clock;
 
-/// The started thread of a node.
-#[derive(Drop)]
-pub struct Child<A: Allocator> {
-    handle: PromisedHandle<Result<Done<A>, Closed>, Duty<A>>,
-}
-
-impl<A: Allocator> Model for Child<A> {
-    ghost use Rattle.ira_ring.specs.Duty.{Duty};
-
-    ghost Value = { Duty };
-
-    ghost view = { λ a. a.handle.promise };
-}
-
-/// Starts the threads of the seats, by rising place, each after the gate admitted it. Where it doesn't,
-/// or no thread can be started, `Stop` is put on the last link, if the end that writes it is still in its seat,
-/// and all seats that are left are dropped; true where all were started. The seat of a thread that can't be started
-/// is dropped with the closure that took it, so nothing is put where it was the last seat.
+/// Starts the threads of the seats, by rising place, each after the gate admitted it; true where all were
+/// started. Where the gate doesn't admit one, or it can't be started, `Stop` is put on the last link, if the
+/// seat that writes it is still here, and the seats that are left are dropped. The seat of a thread that
+/// can't be started is dropped with the closure that took it: no `Stop` is put where that is the last.
 fn start_all<'s, 'e, R, G, A>(
     rt: &'e R,
     setup: &'e Setup<A>,
@@ -97,8 +83,8 @@ fn join_all<R: Threads, A: Allocator>(
     (dones, all)
 }
 
-/// Runs the nodes of the seats, each in a thread of its own. The two empty queues are the room for what is kept
-/// of the threads.
+/// Runs the nodes of the seats, each in a thread of its own. The two empty queues are the room for the
+/// threads, and for what they give back.
 pub(crate) fn run_seats<'s, 'e, R, G, A>(
     rt: &'e R,
     setup: &'e Setup<A>,

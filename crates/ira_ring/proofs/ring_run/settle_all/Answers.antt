@@ -1,6 +1,5 @@
-use Rattle.std.proofs.Common.{rules, ◌≡◌, ◌∙◌, ◌∷◌, [], List, length, map, ap, sym, subst}
+use Rattle.std.proofs.Common.{rules, ◌≡◌, ◌∙◌, ◌∷◌, [], length, map, ap, sym}
 use Rattle.std.specs.VecDeque.{deque_len}
-use Rattle.ira_ring.specs.Run.{Run}
 use Rattle.ira_ring.specs.Done.{Done, PassedRound}
 use Rattle.ira_ring.specs.Collector.{AreParts}
 use Rattle.ira_ring.proofs.Seats.{none_left}
