@@ -7,6 +7,7 @@ use crate::command_line::request;
 use crate::complaint::Complaint;
 use crate::counted::Counted;
 use crate::read_text::read_text;
+use crate::record_run::record_run;
 use crate::request::Request;
 use crate::shelf::Shelf;
 use crate::status::Status;
@@ -75,7 +76,7 @@ fn judge_files<'a, A: Allocator, F: Shelf<A>, W: Sink>(
 }
 
 // Does what the words ask for.
-fn obey<'a, A: Allocator, I: Read, F: Shelf<A>, W: Sink>(
+fn obey<'a, A: Allocator + Clone, I: Read, F: Shelf<A>, W: Sink>(
     words_alloc: Global,
     alloc: A,
     words: &'a [&'a str],
@@ -90,6 +91,7 @@ fn obey<'a, A: Allocator, I: Read, F: Shelf<A>, W: Sink>(
     match request(words_alloc, words)? {
         Request::OneLog => judge_input(alloc, input, out),
         Request::Logs(names) => judge_files(alloc, &names, shelf, out),
+        Request::Run(ring) => record_run(alloc, &ring, shelf, out),
     }
 }
 
@@ -105,13 +107,14 @@ fn conclude<V: Sink>(outcome: Result<Status, Complaint<'_>>, err: &mut V) -> u8
 
 /// The program: `words` are those behind its name, `input` is its standard input, the files lie on
 /// `shelf`, and `out` and `err` are its standard streams. It gives the status: 0 yes, 1 no, 2 refused
-/// words, a failed read or a failed write of the answer, 3 want of memory. A failed write to `err`
+/// words, a refused ring, a failed read or a failed write, 3 want of memory. A failed write to `err`
 /// changes no status.
 ///
 /// Without words it judges the log on `input`, of which it reads at most one byte more than
 /// `MAX_TEXT`. With words it reads nothing of `input`: `logs` and some names judges the logs in those
-/// files together, and all other words are refused.
-pub fn serve<R: AllocGlobal, A: Allocator, I: Read, F: Shelf<A>, W: Sink, V: Sink>(
+/// files together, `run` and its options runs a ring and writes the logs of its nodes to files, and all
+/// other words are refused.
+pub fn serve<R: AllocGlobal, A: Allocator + Clone, I: Read, F: Shelf<A>, W: Sink, V: Sink>(
     rt: &R,
     alloc: A,
     words: &[&str],

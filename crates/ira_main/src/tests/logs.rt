@@ -144,10 +144,7 @@ fn answer_on_a_full_device(rt: HostRuntime) {
         ("0.log", File::Text(ELECTED_0)),
         ("1.log", File::Text(ELECTED_1)),
     ];
-    let mut shelf = MemoryShelf {
-        alloc: rt.alloc(),
-        files: &files,
-    };
+    let mut shelf = MemoryShelf::new(rt.alloc(), &files);
     let mut on_err = MemorySink::new(rt.alloc());
     let status = serve(
         &rt,

@@ -83,10 +83,7 @@ fn reader_fails_in_mid_text(rt: HostRuntime) {
 #[test]
 fn answer_on_a_full_device(rt: HostRuntime) {
     let text = "irlog 1\nnodes 2\nplace 0\nstart initiator\nend 0\n".as_bytes();
-    let mut shelf = MemoryShelf {
-        alloc: rt.alloc(),
-        files: &[],
-    };
+    let mut shelf = MemoryShelf::new(rt.alloc(), &[]);
     let mut on_err = MemorySink::new(rt.alloc());
     let status = serve(
         &rt,
