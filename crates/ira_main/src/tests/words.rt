@@ -92,7 +92,7 @@ fn options_of_a_run(rt: HostRuntime) {
         ),
         (
             "--draws=",
-            "a value is required for '--draws <K>' but none was supplied",
+            "invalid value '' for '--draws <K>': cannot parse integer from empty string",
             "",
         ),
         (
