@@ -115,7 +115,11 @@ fn options_of_a_run(rt: HostRuntime) {
             "the argument '--seed <S>' cannot be used multiple times",
             usage,
         ),
-        ("--depth=2", "unexpected argument '--depth' found", usage),
+        (
+            "--depth=2",
+            "unexpected argument '--depth' found",
+            "\n\nUsage: ira run --nodes <N> --seed <S> --out <DIR>",
+        ),
         ("-1", "unexpected argument '-1' found", usage),
         ("0.log", "unexpected argument '0.log' found", usage),
         (
