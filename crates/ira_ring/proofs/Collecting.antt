@@ -42,7 +42,7 @@ get-set-cases (z ∷ xs) (suc i) zero x y p = inr p
 get-set-cases (z ∷ xs) (suc i) (suc j) x y p =
     elim (get-set-cases xs i j x y p) [ inl q ↦ inl (ap suc q.0, q.1) | inr q ↦ inr q ]
 
-get-behind : {X : Type 0} (xs : List X) (x : X) (ys : List X) → slice_get (xs ++ x ∷ ys) (length xs) ≡ Some x
+pub get-behind : {X : Type 0} (xs : List X) (x : X) (ys : List X) → slice_get (xs ++ x ∷ ys) (length xs) ≡ Some x
 get-behind [] x ys = refl
 get-behind (y ∷ xs) x ys = get-behind xs x ys
 
@@ -116,7 +116,7 @@ stopped-is LogFull e = absurd cc
 stopped-is (NoStep m) e = absurd cc
 stopped-is Quiet e = absurd cc
 
-both-true : (a b : Bool) → (a && b) ≡ true → (a ≡ true) × (b ≡ true)
+pub both-true : (a b : Bool) → (a && b) ≡ true → (a ≡ true) × (b ≡ true)
 both-true true b e = (refl, e)
 both-true false b e = absurd cc
 

@@ -1,4 +1,5 @@
 pub mod Collecting
+pub mod Dones
 pub mod Drawing
 pub mod EndLines
 pub mod Frames
@@ -13,6 +14,9 @@ pub mod LoneSteps
 pub mod LoneTurns
 pub mod LoneTurnsOn
 pub mod Recordable
+pub mod Recordings
+pub mod Seats
+pub mod Settling
 pub mod Setups
 pub mod Turns
 pub mod Walks

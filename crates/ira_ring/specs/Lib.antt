@@ -1,5 +1,7 @@
 pub mod Collector
+pub mod Done
 pub mod Draws
+pub mod Duty
 pub mod EndsWriter
 pub mod FullRun
 pub mod FullRunLaws
@@ -11,5 +13,6 @@ pub mod Recorder
 pub mod Recording
 pub mod Run
 pub mod RunFault
+pub mod Seat
 pub mod Setup
 pub mod ShownEnd

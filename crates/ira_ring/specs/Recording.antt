@@ -1,24 +1,22 @@
 -- What the nodes of a ring record, each in a thread of its own or however else.
-use Rattle.std.specs.Prelude.{◌≡◌, ℕ, ◌<◌, ◌≤◌, Bool, List, None, length}
+use Rattle.std.specs.Prelude.{◌≡◌, ◌≢◌, ℕ, ◌<◌, ◌≤◌, Bool, List, Some, length, slice_get}
 use Rattle.ira_event.specs.declared.event.Event.{Event}
 use Rattle.ira_event.specs.declared.event.Event.TheVariants.{Got}
 use Rattle.ira_event.specs.Log.{Log}
+use Rattle.ira_event.specs.Logs.{EachLog}
 use Rattle.ira_node.specs.declared.phase.Phase.TheVariants.{Choosing}
 use Rattle.ira_node.specs.declared.node_state.NodeState.{NodeState}
-use Rattle.ira_node.specs.NodeState.{first_state, free, IsLeader, Receives}
+use Rattle.ira_node.specs.NodeState.{first_state, free, IsLeader}
 use Rattle.ira_node.specs.NodeStep.{HasStep}
-use Rattle.ira_replay.specs.LocalRun.{LeadsTo}
+use Rattle.ira_replay.specs.LocalRun.{LeadsTo, IsLocalRun}
+use Rattle.ira_order.specs.Ring.{prev, log_of}
+use Rattle.ira_order.specs.Matching.{sent, got}
 use Rattle.ira_ring.specs.declared.node_end.NodeEnd.{NodeEnd}
 use Rattle.ira_ring.specs.declared.node_end.NodeEnd.TheVariants.{Leader, Stopped, DrawsSpent, LogFull, NoStep, Quiet}
-use Rattle.ira_ring.specs.FullRun.{drawn, BeginsWith}
-
--- a node in this state doesn't lead, and with so many events has fewer than the cap
-abbrev pub GoesOn : ℕ → NodeState → List Event → Type 0
-GoesOn cap state events = ¬ (IsLeader state.phase) × (length events < cap)
-
--- and it waits for a message
-abbrev pub Listens : ℕ → NodeState → List Event → Type 0
-Listens cap state events = GoesOn cap state events × (state.owed ≡ None) × Receives state.phase
+use Rattle.ira_ring.specs.Setup.{Setup, given}
+use Rattle.ira_ring.specs.FullRun.{drawn, BeginsWith, AreLogsOf}
+use Rattle.ira_ring.specs.Run.{Run}
+use Rattle.ira_ring.specs.ShownEnd.{MayGoOn, Waits, AreShown}
 
 -- in a ring of n nodes, what the end of a node that runs in a thread says of its own log: of the state
 -- that its events led to, of their number, and of the draws among them
@@ -28,11 +26,11 @@ EndsAs n cap ids state events Leader = IsLeader state.phase
 -- it doesn't lead, and its log is full
 EndsAs n cap ids state events LogFull = ¬ (IsLeader state.phase) × (length events ≡ cap)
 -- it has to draw, and has drawn all IDs that it was given
-EndsAs n cap ids state events DrawsSpent = GoesOn cap state events × ((round : ℕ) × (state ≡ free (Choosing round))) × (drawn events ≡ ids)
+EndsAs n cap ids state events DrawsSpent = MayGoOn cap state events × ((round : ℕ) × (state ≡ free (Choosing round))) × (drawn events ≡ ids)
 -- it waits for a message, and this one has no step
-EndsAs n cap ids state events (NoStep m) = Listens cap state events × ¬ (HasStep n state (Got m))
+EndsAs n cap ids state events (NoStep m) = Waits cap state events × ¬ (HasStep n state (Got m))
 -- it waits for a message
-EndsAs n cap ids state events Stopped = Listens cap state events
+EndsAs n cap ids state events Stopped = Waits cap state events
 -- no thread ends so
 EndsAs n cap ids state events Quiet = ⊥
 
@@ -48,3 +46,22 @@ pub record IsRecorded (n i : ℕ) (initiator : Bool) (ids : List ℕ) (cap : ℕ
   pub count : length log.events ≤ cap
   pub draws : BeginsWith ids (drawn log.events)
   pub end : EndsAs n cap ids state log.events how
+
+-- what the nodes of a setup's ring recorded, each of them for itself
+pub record IsRecording (s : Setup) (run : Run) : Type 0 where
+  pub logs : AreLogsOf s run.logs
+  -- each log is a local run of at most so many events
+  pub runs : EachLog run.logs (λ i log. IsLocalRun log)
+  pub counts : EachLog run.logs (λ i log. length log.events ≤ s.cap)
+  -- the IDs that a node drew are the first of those that it was given
+  pub draws : EachLog run.logs (λ i log. BeginsWith (given s i) (drawn log.events))
+  -- the messages that a node received are the first of those that the node before it sent
+  pub links : EachLog run.logs (λ i log. BeginsWith (sent (log_of run.logs (prev s.nodes i))) (got log.events))
+  -- each node has an end, which the logs show; none is Quiet
+  pub many : length run.ends ≡ s.nodes
+  pub ends : AreShown s run.logs run.ends
+  pub none_quiet : (i : ℕ) → slice_get run.ends i ≢ Some Quiet
+
+-- not every node ended because the node before it had
+abbrev pub HasOwnEnd : Run → Type 0
+HasOwnEnd run = (i : ℕ) × (end : NodeEnd) × (slice_get run.ends i ≡ Some end) × (end ≢ Stopped)

@@ -17,13 +17,13 @@ use Rattle.ira_ring.specs.Setup.{Setup, is_initiator, given}
 use Rattle.ira_ring.specs.FullRun.{drawn, BeginsWith, AreFullLogs}
 use Rattle.ira_ring.specs.Run.{Run}
 
--- a node in this state that has made these events doesn't lead, and may have more of them
-abbrev pub MayGoOn : Setup → NodeState → List Event → Type 0
-MayGoOn s state events = ¬ (IsLeader state.phase) × (length events < s.cap)
+-- a node in this state that has made these events doesn't lead, and has made fewer than the cap
+abbrev pub MayGoOn : ℕ → NodeState → List Event → Type 0
+MayGoOn cap state events = ¬ (IsLeader state.phase) × (length events < cap)
 
 -- a node in this state that has made these events may go on, and receives next
-abbrev pub Waits : Setup → NodeState → List Event → Type 0
-Waits s state events = MayGoOn s state events × (state.owed ≡ None) × Receives state.phase
+abbrev pub Waits : ℕ → NodeState → List Event → Type 0
+Waits cap state events = MayGoOn cap state events × (state.owed ≡ None) × Receives state.phase
 
 -- what an end says of node i, where its events led it to this state and these messages were sent to
 -- it; Quiet and Stopped say the same, one where a node runs alone, the other where its thread was told
@@ -33,12 +33,12 @@ Says s i state events input Leader = IsLeader state.phase
 -- it doesn't lead, and has made as many events as it may
 Says s i state events input LogFull = ¬ (IsLeader state.phase) × (length events ≡ s.cap)
 -- it has to draw, and has drawn all IDs that it was given
-Says s i state events input DrawsSpent = MayGoOn s state events × ((round : ℕ) × (state ≡ free (Choosing round))) × (drawn events ≡ given s i)
+Says s i state events input DrawsSpent = MayGoOn s.cap state events × ((round : ℕ) × (state ≡ free (Choosing round))) × (drawn events ≡ given s i)
 -- it receives, and the message behind those that it received has no step
-Says s i state events input (NoStep m) = Waits s state events × ¬ (HasStep s.nodes state (Got m)) × BeginsWith input (got events ++ m ∷ [])
+Says s i state events input (NoStep m) = Waits s.cap state events × ¬ (HasStep s.nodes state (Got m)) × BeginsWith input (got events ++ m ∷ [])
 -- it receives, and has received all messages that were sent to it
-Says s i state events input Quiet = Waits s state events × (got events ≡ input)
-Says s i state events input Stopped = Waits s state events × (got events ≡ input)
+Says s i state events input Quiet = Waits s.cap state events × (got events ≡ input)
+Says s i state events input Stopped = Waits s.cap state events × (got events ≡ input)
 
 -- the end is shown by the logs: by that of node i, and by the sendings of the node before it
 abbrev pub IsShown : Setup → List Log → ℕ → NodeEnd → Type 0

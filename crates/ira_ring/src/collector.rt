@@ -3,6 +3,7 @@ ghost use Rattle.std.specs.List.{list_all};
 ghost use Rattle.ira_ring.specs.declared.run_fault.RunFault.{RunFault};
 ghost use Rattle.ira_ring.specs.NodeEnd.{is_stopped};
 ghost use Rattle.ira_ring.specs.Collector.{PartFaultOf, KeepsPart, FinishFaultOf, AreParts};
+ghost use Rattle.ira_ring.specs.Run.{IsRun};
 
 use crate::node_end::NodeEnd;
 use crate::node_part::NodePart;
@@ -87,6 +88,7 @@ impl<A: Allocator> Collector<A> {
     /// every end is `Stopped`. It takes no memory.
     pub fn finish(self) -> Result<Run<A>, RunFault>
         ensures ok { IfOk result (λ run. AreParts self run) }
+        ensures valid { IfOk result IsRun }
         ensures err { (f : RunFault) → (result ≡ Err f) ↔ FinishFaultOf self f }
     {
         let Collector {

@@ -1,9 +1,11 @@
-//! Runs of a ring: what a run starts from and gives, the run on one thread, the draws of its nodes, the
-//! collector of what they wrote, and the lines of their ends.
+//! Runs of a ring: what a run starts from and gives, the run with a thread for each node, the run on one
+//! thread, the draws of the nodes, the collector of what they wrote, and the lines of their ends.
 #![tactic(auto)]
 
 mod collector;
+mod done;
 mod draws;
+mod duty;
 mod ends_writer;
 mod laws;
 mod lone_node;
@@ -14,9 +16,12 @@ mod node_part;
 mod node_thread;
 mod node_work;
 mod recorder;
+mod ring_run;
 mod run;
 mod run_fault;
+mod seat;
 mod setup;
+mod threads;
 
 pub use collector::Collector;
 pub use draws::draw_lists;
@@ -27,6 +32,7 @@ pub use node_end::NodeEnd;
 pub use node_part::NodePart;
 pub use node_thread::node_body;
 pub use node_work::NodeWork;
+pub use ring_run::run_ring;
 pub use run::Run;
 pub use run_fault::RunFault;
 pub use setup::Setup;

@@ -4,6 +4,7 @@ use Rattle.std.specs.Vec.Iter.{into_iter_items}
 use Rattle.ira_event.proofs.Gathering.{no-fault}
 use Rattle.ira_ring.specs.Collector.{AreTaken, HasNoEnd}
 use Rattle.ira_ring.specs.NodeEnd.{is_stopped}
+use Rattle.ira_ring.specs.Run.{Run, IsRun}
 use Rattle.ira_ring.proofs.Collecting.{parts_of, none-by, parts-more, parts-whole, missing-behind, each-stopped, run-has-end, parts-are-logs, run-of-parts, answers-no-end, answers-run}
 use Rattle.ira_ring.proofs.collector.Collector.finish.Goals as goal
 
@@ -70,3 +71,9 @@ returns-clause-err g c =
     let goes_on : list_all is_stopped ends ≡ false = ap (λ xs. list_all is_stopped xs) (sym c.deref.ensures.value) ∙ sym c.all_stopped.ensures ∙ c.if-all_stopped.false in
     let some : ¬ (HasNoEnd c.args.self) = rw parts (run-has-end logs ends c.loop-part.invariant.same goes_on) in
     answers-run c.of_parts.result c.args.self some
+
+pub returns-clause-valid : goal.returns-clause-valid
+returns-clause-valid g c =
+    let gathered = (c.gather.ensures.ok c.in-Ok.logs).0 c.in-Ok.is in
+    let P : Run → Type 0 = λ run. IsRun run in
+    subst P (sym c.of_parts.ensures) (record { logs = gathered.1; ends = sym c.loop-part.invariant.same ∙ ap length (sym gathered.0) })
