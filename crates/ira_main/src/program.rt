@@ -13,8 +13,11 @@ use crate::shelf::Shelf;
 use crate::status::Status;
 use ira_audit::{Answer, audit_logs, audit_one, write_report};
 use ira_event::{MAX_TEXT, Sink, WriteFault};
-use std::alloc::{Allocator, Global};
+use std::alloc::Allocator;
 use std::io::Read;
+use std::sync::Wait;
+use std::thread::Threads;
+use std::time::Clock;
 
 // Writes the answer's line, and gives the answer's status.
 fn report<'a, W: Sink>(answer: &Answer, out: &mut W) -> Result<Status, Complaint<'a>>
@@ -76,22 +79,28 @@ fn judge_files<'a, A: Allocator, F: Shelf<A>, W: Sink>(
 }
 
 // Does what the words ask for.
-fn obey<'a, A: Allocator + Clone, I: Read, F: Shelf<A>, W: Sink>(
-    words_alloc: Global,
+fn obey<'a, R, A, I, F, W>(
+    rt: &R,
     alloc: A,
     words: &'a [&'a str],
     input: &mut Counted<I>,
     shelf: &mut F,
     out: &mut W,
 ) -> Result<Status, Complaint<'a>>
+where
+    R: AllocGlobal + Threads + Wait + Clock + Sync,
+    A: Allocator + Clone + Send + Sync,
+    I: Read,
+    F: Shelf<A>,
+    W: Sink,
     ensures judged { words.now ≡ [] → Judges input.old input.new (W.taken out.old) (W.failures out.old) (W.taken out.new) (W.failures out.new) (outcome_number result) }
     ensures obeyed { words.now ≢ [] → Obeys input.old input.new (W.taken out.old) (W.failures out.old) (W.taken out.new) (W.failures out.new) (outcome_number result) }
     ensures reads { input.new.reads ≤ input.old.reads + (MAX_TEXT + 1) }
 {
-    match request(words_alloc, words)? {
+    match request(rt.alloc(), words)? {
         Request::OneLog => judge_input(alloc, input, out),
         Request::Logs(names) => judge_files(alloc, &names, shelf, out),
-        Request::Run(ring) => record_run(alloc, &ring, shelf, out),
+        Request::Run(ring) => record_run(rt, alloc, &ring, shelf, out),
     }
 }
 
@@ -114,7 +123,7 @@ fn conclude<V: Sink>(outcome: Result<Status, Complaint<'_>>, err: &mut V) -> u8
 /// `MAX_TEXT`. With words it reads nothing of `input`: `logs` and some names judges the logs in those
 /// files together, `run` and its options runs a ring and writes the logs of its nodes to files, and all
 /// other words are refused.
-pub fn serve<R: AllocGlobal, A: Allocator + Clone, I: Read, F: Shelf<A>, W: Sink, V: Sink>(
+pub fn serve<R, A, I, F, W, V>(
     rt: &R,
     alloc: A,
     words: &[&str],
@@ -123,11 +132,18 @@ pub fn serve<R: AllocGlobal, A: Allocator + Clone, I: Read, F: Shelf<A>, W: Sink
     out: &mut W,
     err: &mut V,
 ) -> u8
+where
+    R: AllocGlobal + Threads + Wait + Clock + Sync,
+    A: Allocator + Clone + Send + Sync,
+    I: Read,
+    F: Shelf<A>,
+    W: Sink,
+    V: Sink,
     ensures status { result ≤ 3 }
     ensures reads { input.new.reads ≤ input.old.reads + (MAX_TEXT + 1) }
     ensures judged { words.now ≡ [] → Judges input.old input.new (W.taken out.old) (W.failures out.old) (W.taken out.new) (W.failures out.new) result }
     ensures obeyed { words.now ≢ [] → Obeys input.old input.new (W.taken out.old) (W.failures out.old) (W.taken out.new) (W.failures out.new) result }
 {
-    let outcome = obey(rt.alloc(), alloc, words, input, shelf, out);
+    let outcome = obey(rt, alloc, words, input, shelf, out);
     conclude(outcome, err)
 }

@@ -7,8 +7,11 @@ use crate::shelf::Shelf;
 use crate::shelf_fault::ShelfFault;
 use crate::status::Status;
 use ira_event::{Logs, NodeLog, Sink, WriteFault, write_log};
-use ira_ring::{run_alone, write_ends};
+use ira_ring::write_ends;
 use std::alloc::Allocator;
+use std::sync::Wait;
+use std::thread::Threads;
+use std::time::Clock;
 
 // Writes a log to the file of its place.
 fn write_file<A: Allocator, B: Allocator, F: Shelf<B>>(
@@ -41,19 +44,25 @@ fn write_files<'a, A: Allocator, B: Allocator, F: Shelf<B>>(
 }
 
 /// Runs the ring that is asked for, writes the log of each node to a file, and then how each node ended.
-pub(crate) fn record_run<'a, A: Allocator + Clone, F: Shelf<A>, W: Sink>(
+pub(crate) fn record_run<'a, R, A, F, W>(
+    rt: &R,
     alloc: A,
     request: &RunRequest<'a>,
     shelf: &mut F,
     out: &mut W,
 ) -> Result<Status, Complaint<'a>>
+where
+    R: Threads + Wait + Clock + Sync,
+    A: Allocator + Clone + Send + Sync,
+    F: Shelf<A>,
+    W: Sink,
     ensures { Records (W.taken out.old) (W.failures out.old) (W.taken out.new) (W.failures out.new) (outcome_number result) }
 {
     let Some(nodes) = request.ring_size() else {
         return Err(Complaint::RingSize);
     };
     let setup = request.setup(alloc.clone()?, nodes)?;
-    let run = run_alone(alloc.clone()?, &setup)?;
+    let run = request.run(rt, alloc.clone()?, &setup)?;
     write_files(&alloc, request.folder, run.logs(), shelf)?;
     match write_ends(&run, out) {
         Ok(()) => Ok(Status::of_ends(run.ends())),

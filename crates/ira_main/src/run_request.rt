@@ -1,10 +1,14 @@
 ghost use Rattle.std.specs.Prelude.{◌≡◌, map, nat_lt, IfOk, IfSome, unwrap_or};
 ghost use Rattle.std.specs.List.{range_with_len};
-ghost use Rattle.ira_main.specs.RunRequest.{IsAskedSetup};
+ghost use Rattle.ira_main.specs.RunRequest.{IsAskedSetup, IsAskedRun};
 
 use ira_event::{OutOfMemory, RingSize};
-use ira_ring::{Setup, draw_lists};
+use ira_links::OpenGate;
+use ira_ring::{Run, RunFault, Setup, draw_lists, run_alone, run_ring};
 use std::alloc::{AllocError, Allocator};
+use std::sync::Wait;
+use std::thread::Threads;
+use std::time::Clock;
 
 /// A ring to run, as the words name it.
 #[derive(Clone, Copy, Debug)]
@@ -61,5 +65,19 @@ impl RunRequest<'_> {
             draws: draw_lists(alloc, nodes, self.seed, self.draws)?,
             cap: self.cap as usize,
         })
+    }
+
+    /// Runs the ring of this setup.
+    pub(crate) fn run<R, A>(&self, rt: &R, alloc: A, setup: &Setup<A>) -> Result<Run<A>, RunFault>
+    where
+        R: Threads + Wait + Clock + Sync,
+        A: Allocator + Clone + Send + Sync,
+        ensures { IfOk result (IsAskedRun self.now.is_alone setup.now) }
+    {
+        if self.is_alone {
+            run_alone(alloc, setup)
+        } else {
+            run_ring(rt, alloc, setup, &OpenGate)
+        }
     }
 }

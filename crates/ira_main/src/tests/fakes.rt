@@ -7,6 +7,9 @@ use std::alloc::Global;
 use std::io;
 use std::io::{ErrorKind, Read};
 use std::process::Abort;
+use std::sync::Wait;
+use std::thread::Threads;
+use std::time::Clock;
 
 /// A file in memory.
 #[derive(Clone, Copy)]
@@ -156,7 +159,7 @@ impl Sink for FullSink {
 /// Serves these words over this shelf and input, and compares the status and what was written to both
 /// streams.
 pub(super) fn assert_served<I: Read>(
-    rt: &(impl Abort + AllocGlobal),
+    rt: &(impl Abort + AllocGlobal + Threads + Wait + Clock + Sync),
     words: &[&str],
     files: &[(&str, File<'_>)],
     input: &mut Counted<I>,

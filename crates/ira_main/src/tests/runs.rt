@@ -6,7 +6,10 @@ use ira_event::MemorySink;
 use std::alloc::Global;
 use std::io;
 use std::process::Abort;
+use std::sync::Wait;
 use std::test::Fail;
+use std::thread::Threads;
+use std::time::Clock;
 
 const ELECTED_0: &str = "irlog 1\nnodes 2\nplace 0\nstart initiator\ndraw 2\nsend 1 2 1 clean\n\
                          recv 1 1 1 clean\nrecv 1 2 2 clean\nend 4\n";
@@ -33,7 +36,7 @@ fn words_of<'a>(alloc: Global, options: &[&'a str]) -> Result<Vec<&'a str>, Fail
 /// Serves a run with these options, on a shelf where these files can't be written, and compares what it
 /// wrote.
 fn assert_run(
-    rt: &(impl Abort + AllocGlobal),
+    rt: &(impl Abort + AllocGlobal + Threads + Wait + Clock + Sync),
     options: &[&str],
     broken: &[(&str, File<'_>)],
     status: u8,
@@ -65,7 +68,7 @@ fn assert_run(
 
 /// Refuses the words with this text, and writes nothing else.
 fn assert_refused(
-    rt: &(impl Abort + AllocGlobal),
+    rt: &(impl Abort + AllocGlobal + Threads + Wait + Clock + Sync),
     options: &[&str],
     text: &str,
 ) -> Result<(), Fail> {
@@ -77,71 +80,70 @@ fn assert_refused(
 
 #[test]
 fn runs_by_the_program(rt: HostRuntime) -> Result<(), Fail> {
-    let passive = "irlog 1\nnodes 2\nplace 1\nstart passive\nend 0\n";
     let initiator = "irlog 1\nnodes 2\nplace 0\nstart initiator\nend 0\n";
+    let passive = "irlog 1\nnodes 2\nplace 1\nstart passive\nend 0\n";
     assert_eq!(rt; initiator.len(), 46);
+    let options = [
+        "--nodes",
+        "2",
+        "--seed",
+        "7",
+        "--out",
+        "d",
+        "--initiators",
+        "1",
+        "--draws",
+        "0",
+    ];
     let logs = [("d/0.log", initiator), ("d/1.log", passive)];
-    assert_run(
-        &rt,
-        &[
-            "--nodes",
-            "2",
-            "--seed",
-            "7",
-            "--out",
-            "d",
-            "--initiators",
-            "1",
-            "--draws",
-            "0",
-            "--alone",
-        ],
-        &[],
-        1,
-        "node 0: draws spent, 0 events\nnode 1: quiet, 0 events\n",
-        "",
-        &logs,
-    )?;
-    assert_refused(
-        &rt,
-        &[
-            "--nodes",
-            "2",
-            "--seed",
-            "7",
-            "--out",
-            "d",
-            "--initiators",
-            "0",
-        ],
-        "ira: run refused 1\n",
-    )
+    let ends = "node 0: draws spent, 0 events\nnode 1: stopped, 0 events\n";
+    assert_run(&rt, &options, &[], 1, ends, "", &logs)?;
+    let mut alone = options.to_vec(rt.alloc())?;
+    alone.push("--alone")?;
+    let ends = "node 0: draws spent, 0 events\nnode 1: quiet, 0 events\n";
+    assert_run(&rt, &alone, &[], 1, ends, "", &logs)?;
+    for way in ["--alone", "--draws=0"] {
+        let options = ["--nodes=2", "--seed=7", "--out=d", "--initiators=0", way];
+        assert_refused(&rt, &options, "ira: run refused 1\n")?;
+    }
+    Ok(())
 }
 
 #[test]
 fn two_node_election(rt: HostRuntime) -> Result<(), Fail> {
     let logs = [("d/0.log", ELECTED_0), ("d/1.log", ELECTED_1)];
-    let ends = "node 0: leader, 4 events\nnode 1: quiet, 4 events\n";
-    for options in [
-        ["--nodes", "2", "--seed", "7", "--out", "d", "--alone"].as_slice(),
-        ["--alone", "--out=d", "--seed=7", "--nodes=2"].as_slice(),
-        [
-            "--nodes=002",
-            "--seed=+7",
-            "--initiators=9",
-            "--out=d",
-            "--alone",
-        ]
-        .as_slice(),
-        [
-            "--draws=1",
-            "--cap=5",
-            "--nodes=2",
-            "--seed=7",
-            "--alone",
-            "--out=d",
-        ]
-        .as_slice(),
+    for (options, ends) in [
+        (
+            ["--nodes", "2", "--seed", "7", "--out", "d"].as_slice(),
+            "node 0: leader, 4 events\nnode 1: stopped, 4 events\n",
+        ),
+        (
+            ["--out=d", "--alone", "--seed=7", "--nodes=2"].as_slice(),
+            "node 0: leader, 4 events\nnode 1: quiet, 4 events\n",
+        ),
+        (
+            [
+                "--nodes=002",
+                "--seed=+7",
+                "--initiators=9",
+                "--out=d",
+                "--alone",
+            ]
+            .as_slice(),
+            "node 0: leader, 4 events\nnode 1: quiet, 4 events\n",
+        ),
+        (
+            [
+                "--draws=1",
+                "--cap=4",
+                "--nodes=2",
+                "--seed=7",
+                "--alone",
+                "--out=d",
+            ]
+            .as_slice(),
+            "node 0: leader, 4 events\nnode 1: log full, 4 events\n",
+        ),
     ] {
         assert_run(&rt, options, &[], 0, ends, "", &logs)?;
     }

@@ -5,13 +5,20 @@ use crate::{Counted, serve};
 use ira_event::MemorySink;
 use std::io;
 use std::process::Abort;
+use std::sync::Wait;
+use std::thread::Threads;
+use std::time::Clock;
 
 const USAGE: &str = "\n\nUsage: ira < LOG\n       ira logs <LOG>...\n       \
                      ira run --nodes <N> --seed <S> --out <DIR> [OPTIONS]\n\n\
                      For more information, try '--help'.\n";
 
 /// Refuses the words with this text, and reads nothing.
-fn assert_refused(rt: &(impl Abort + AllocGlobal), words: &[&str], text: &str) {
+fn assert_refused(
+    rt: &(impl Abort + AllocGlobal + Threads + Wait + Clock + Sync),
+    words: &[&str],
+    text: &str,
+) {
     let mut input = Counted::new(io::empty());
     assert_served(rt, words, &[], &mut input, 2, "", text);
     assert_eq!(rt; input.reads(), 0);
