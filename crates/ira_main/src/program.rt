@@ -7,13 +7,17 @@ use crate::command_line::request;
 use crate::complaint::Complaint;
 use crate::counted::Counted;
 use crate::read_text::read_text;
+use crate::record_run::record_run;
 use crate::request::Request;
 use crate::shelf::Shelf;
 use crate::status::Status;
 use ira_audit::{Answer, RingAudit, audit_one, write_report};
 use ira_event::{MAX_TEXT, Sink, WriteFault};
-use std::alloc::{Allocator, Global};
+use std::alloc::Allocator;
 use std::io::Read;
+use std::sync::Wait;
+use std::thread::Threads;
+use std::time::Clock;
 
 // Writes the answer's line, and gives the answer's status.
 fn report<'a, W: Sink>(answer: &Answer, out: &mut W) -> Result<Status, Complaint<'a>>
@@ -65,21 +69,28 @@ fn judge_files<'a, A: Allocator, F: Shelf<A>, W: Sink>(
 }
 
 // Does what the words ask for.
-fn obey<'a, A: Allocator, I: Read, F: Shelf<A>, W: Sink>(
-    words_alloc: Global,
+fn obey<'a, R, A, I, F, W>(
+    rt: &R,
     alloc: A,
     words: &'a [&'a str],
     input: &mut Counted<I>,
     shelf: &mut F,
     out: &mut W,
 ) -> Result<Status, Complaint<'a>>
+where
+    R: AllocGlobal + Threads + Wait + Clock + Sync,
+    A: Allocator + Clone + Send + Sync,
+    I: Read,
+    F: Shelf<A>,
+    W: Sink,
     ensures judged { words.now ≡ [] → Judges input.old input.new (W.taken out.old) (W.failures out.old) (W.taken out.new) (W.failures out.new) (outcome_number result) }
     ensures obeyed { words.now ≢ [] → Obeys input.old input.new (W.taken out.old) (W.failures out.old) (W.taken out.new) (W.failures out.new) (outcome_number result) }
     ensures reads { input.new.reads ≤ input.old.reads + (MAX_TEXT + 1) }
 {
-    match request(words_alloc, words)? {
+    match request(rt.alloc(), words)? {
         Request::OneLog => judge_input(alloc, input, out),
         Request::Logs(names) => judge_files(alloc, &names, shelf, out),
+        Request::Run(ring) => record_run(rt, alloc, &ring, shelf, out),
     }
 }
 
@@ -95,13 +106,14 @@ fn conclude<V: Sink>(outcome: Result<Status, Complaint<'_>>, err: &mut V) -> u8
 
 /// The program: `words` are those behind its name, `input` is its standard input, the files lie on
 /// `shelf`, and `out` and `err` are its standard streams. It gives the status: 0 yes, 1 no, 2 refused
-/// words, a failed read or a failed write of the answer, 3 want of memory. A failed write to `err`
+/// words, a refused ring, a failed read or a failed write, 3 want of memory. A failed write to `err`
 /// changes no status.
 ///
 /// Without words it judges the log on `input`, of which it reads at most one byte more than
 /// `MAX_TEXT`. With words it reads nothing of `input`: `logs` and some names judges the logs in those
-/// files together, and all other words are refused.
-pub fn serve<R: AllocGlobal, A: Allocator, I: Read, F: Shelf<A>, W: Sink, V: Sink>(
+/// files together, `run` and its options runs a ring and writes the logs of its nodes to files, and all
+/// other words are refused.
+pub fn serve<R, A, I, F, W, V>(
     rt: &R,
     alloc: A,
     words: &[&str],
@@ -110,11 +122,18 @@ pub fn serve<R: AllocGlobal, A: Allocator, I: Read, F: Shelf<A>, W: Sink, V: Sin
     out: &mut W,
     err: &mut V,
 ) -> u8
+where
+    R: AllocGlobal + Threads + Wait + Clock + Sync,
+    A: Allocator + Clone + Send + Sync,
+    I: Read,
+    F: Shelf<A>,
+    W: Sink,
+    V: Sink,
     ensures status { result ≤ 3 }
     ensures reads { input.new.reads ≤ input.old.reads + (MAX_TEXT + 1) }
     ensures judged { words.now ≡ [] → Judges input.old input.new (W.taken out.old) (W.failures out.old) (W.taken out.new) (W.failures out.new) result }
     ensures obeyed { words.now ≢ [] → Obeys input.old input.new (W.taken out.old) (W.failures out.old) (W.taken out.new) (W.failures out.new) result }
 {
-    let outcome = obey(rt.alloc(), alloc, words, input, shelf, out);
+    let outcome = obey(rt, alloc, words, input, shelf, out);
     conclude(outcome, err)
 }
