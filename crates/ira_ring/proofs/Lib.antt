@@ -12,7 +12,9 @@ pub mod LoneStarts
 pub mod LoneSteps
 pub mod LoneTurns
 pub mod LoneTurnsOn
+pub mod MoreDraws
 pub mod Recordable
+pub mod Seeded
 pub mod Setups
 pub mod Turns
 pub mod Walks

@@ -25,7 +25,7 @@ choosing_no_receipt n round state m is h =
     let P : NodeState → Type 0 = λ x. IsOfKind (wanted_of x.phase x.owed) (Got m) in
     subst P is (step_wanted n state (Got m) h.0 h.1)
 
-choosing_no_waiting : (round : ℕ) (state : NodeState) → state ≡ free (Choosing round) → Receives state.phase → ⊥
+pub choosing_no_waiting : (round : ℕ) (state : NodeState) → state ≡ free (Choosing round) → Receives state.phase → ⊥
 choosing_no_waiting round state is r = let P : NodeState → Type 0 = λ x. Receives x.phase in subst P is r
 
 pub ended_no_event : (n most : ℕ) (ids : List ℕ) (node : LoneNode) (end : NodeEnd) → ids ≡ drawn node.events ++ node.ids → Ends n most node end

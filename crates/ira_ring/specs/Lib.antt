@@ -11,5 +11,6 @@ pub mod Recorder
 pub mod Recording
 pub mod Run
 pub mod RunFault
+pub mod SeededRun
 pub mod Setup
 pub mod ShownEnd

@@ -16,6 +16,7 @@ mod node_work;
 mod recorder;
 mod run;
 mod run_fault;
+mod seeded_run;
 mod setup;
 
 pub use collector::Collector;
@@ -29,6 +30,7 @@ pub use node_thread::node_body;
 pub use node_work::NodeWork;
 pub use run::Run;
 pub use run_fault::RunFault;
+pub use seeded_run::run_alone_seeded;
 pub use setup::Setup;
 
 #[cfg(test)]
