@@ -7,6 +7,7 @@ use Rattle.std.proofs.lemmas.List.{length-map}
 use Rattle.std.proofs.lemmas.List.FromFn.{get_or-map-range_with_len, length-map-range_with_len}
 use Rattle.std.proofs.lemmas.Option.{slice_get-map, slice_get_cases, get_or_from_slice_get}
 use Rattle.ira_ring.specs.Draws.{draws}
+use Rattle.ira_ring.specs.SeededRun.{seeded}
 use Rattle.ira_main.specs.declared.run_request.RunRequest.{RunRequest}
 use Rattle.ira_main.specs.RunRequest.{IsAskedSetup}
 
@@ -32,5 +33,19 @@ asked_setup {V} see request n kinds rows size first many lists =
       lists = (ap length first ∙ length-map-range_with_len f 0 n, length-map rows see ∙ many);
       initiators = λ i l. ap (λ ks. get_or ks i false) first ∙ get_or-map-range_with_len f 0 n i i false l (omega arith);
       draws = λ i l. seen_at see rows i _ (omega (arith, many)) (lists i);
+      cap = refl;
+    }
+
+pub asked_seeded : (request : RunRequest) (n : ℕ) (kinds : List Bool) → n ≡ request.nodes
+    → kinds ≡ map (λ i. nat_lt i (unwrap_or request.initiators n)) (range_with_len 0 n)
+    → IsAskedSetup request (seeded n kinds request.seed request.draws request.cap)
+asked_seeded request n kinds size first =
+    let f : ℕ → Bool = λ i. nat_lt i (unwrap_or request.initiators n) in
+    let ids : ℕ → List ℕ = λ place. draws n request.seed place request.draws in
+    record {
+      nodes = size;
+      lists = (ap length first ∙ length-map-range_with_len f 0 n, length-map-range_with_len ids 0 n);
+      initiators = λ i l. ap (λ ks. get_or ks i false) first ∙ get_or-map-range_with_len f 0 n i i false l (omega arith);
+      draws = λ i l. get_or-map-range_with_len ids 0 n i i [] l (omega arith);
       cap = refl;
     }

@@ -18,6 +18,10 @@ pub record IsAskedSetup (request : RunRequest) (s : Setup) : Type 0 where
   pub cap : s.cap ≡ request.cap
 
 -- a run of a setup, on one thread or with a thread for each node
-abbrev pub IsAskedRun : Bool → Setup → Run → Type 0
-IsAskedRun true s run = IsLoneRun s run
-IsAskedRun false s run = IsRecording s run
+abbrev pub IsRunOf : Bool → Setup → Run → Type 0
+IsRunOf true s run = IsLoneRun s run
+IsRunOf false s run = IsRecording s run
+
+-- a run of the setup that a request names
+abbrev pub IsAskedRun : RunRequest → Run → Type 0
+IsAskedRun request run = (s : Setup) × IsAskedSetup request s × IsRunOf request.is_alone s run

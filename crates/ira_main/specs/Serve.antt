@@ -6,11 +6,10 @@ use Rattle.ira_audit.specs.Answer.{IsAnswer}
 use Rattle.ira_audit.specs.LogsAnswer.{IsLogsAnswer}
 use Rattle.ira_ring.specs.EndsWriter.{ends_text}
 use Rattle.ira_ring.specs.Run.{Run}
-use Rattle.ira_ring.specs.Setup.{Setup}
 use Rattle.ira_main.specs.Counted.{Reads}
 use Rattle.ira_main.specs.ReadText.{IsReadTo}
 use Rattle.ira_audit.specs.Report.{report_line}
-use Rattle.ira_main.specs.RunRequest.{IsAskedSetup, IsAskedRun}
+use Rattle.ira_main.specs.RunRequest.{IsAskedRun}
 use Rattle.ira_main.specs.Status.{IsElectionStatus, status_number, answer_status}
 use Rattle.ira_audit.specs.declared.answer.Answer.{Answer}
 use Rattle.ira_main.specs.declared.run_request.RunRequest.{RunRequest}
@@ -47,10 +46,10 @@ ReportsEnds run taken failures taken' failures' status =
     (Takes (ends_text run) taken failures taken' failures' × IsElectionStatus run.ends status)
     ⊎ (StopsIn (ends_text run) taken failures taken' failures' × (status ≡ 2))
 
--- a run was recorded: its ring was set up as a request asks, and its ends were reported; or there was no
+-- a run was recorded: one that a request asks for, and its ends were reported; or there was no
 -- run, or its logs weren't all written, and nothing was written to the output
 pub data Records (taken : Option (List ℕ)) (failures : ℕ) (taken' : Option (List ℕ)) (failures' : ℕ) (status : ℕ) : Type 0 where
-  recorded : (request : RunRequest) (s : Setup) (run : Run) → IsAskedSetup request s → IsAskedRun request.is_alone s run → ReportsEnds run taken failures taken' failures' status → Records taken failures taken' failures' status
+  recorded : (request : RunRequest) (run : Run) → IsAskedRun request run → ReportsEnds run taken failures taken' failures' status → Records taken failures taken' failures' status
   unrecorded : IsUntouched taken failures taken' failures' → (status ≡ 2) ⊎ (status ≡ 3) → Records taken failures taken' failures' status
 
 -- with words: the input wasn't read; and the words, or the files that they name, were refused, or the

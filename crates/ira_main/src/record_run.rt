@@ -61,8 +61,7 @@ where
     let Some(nodes) = request.ring_size() else {
         return Err(Complaint::RingSize);
     };
-    let setup = request.setup(alloc.clone()?, nodes)?;
-    let run = request.run(rt, alloc.clone()?, &setup)?;
+    let run = request.run(rt, alloc.clone()?, nodes)?;
     write_files(&alloc, request.folder, run.logs(), shelf)?;
     match write_ends(&run, out) {
         Ok(()) => Ok(Status::of_ends(run.ends())),

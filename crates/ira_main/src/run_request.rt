@@ -1,10 +1,12 @@
 ghost use Rattle.std.specs.Prelude.{◌≡◌, map, nat_lt, IfOk, IfSome, unwrap_or};
 ghost use Rattle.std.specs.List.{range_with_len};
+ghost use Rattle.ira_ring.specs.Setup.{Setup};
+ghost use Rattle.ira_ring.specs.ShownEnd.{IsLoneRun};
 ghost use Rattle.ira_main.specs.RunRequest.{IsAskedSetup, IsAskedRun};
 
 use ira_event::{OutOfMemory, RingSize};
 use ira_links::OpenGate;
-use ira_ring::{Run, RunFault, Setup, draw_lists, run_alone, run_ring};
+use ira_ring::{Run, RunFault, Setup, draw_lists, run_alone_seeded, run_ring};
 use std::alloc::{AllocError, Allocator};
 use std::sync::Wait;
 use std::thread::Threads;
@@ -50,8 +52,8 @@ impl RunRequest<'_> {
             .collect(alloc)
     }
 
-    /// The setup of a ring of this size.
-    pub(crate) fn setup<A: Allocator + Clone>(
+    // The setup of a ring of this size.
+    fn setup<A: Allocator + Clone>(
         &self,
         alloc: A,
         nodes: RingSize,
@@ -67,17 +69,32 @@ impl RunRequest<'_> {
         })
     }
 
-    /// Runs the ring of this setup.
-    pub(crate) fn run<R, A>(&self, rt: &R, alloc: A, setup: &Setup<A>) -> Result<Run<A>, RunFault>
+    // Runs a ring of this size on one thread.
+    fn run_alone<A: Allocator + Clone>(
+        &self,
+        alloc: A,
+        nodes: RingSize,
+    ) -> Result<Run<A>, RunFault>
+        requires { nodes ≡ self.now.nodes }
+        ensures { IfOk result (λ run. (s : Setup) × IsAskedSetup self.now s × IsLoneRun s run) }
+    {
+        let initiators = self.initiators(alloc.clone()?, nodes)?;
+        let cap = self.cap as usize;
+        run_alone_seeded(alloc, nodes, &initiators, self.seed, self.draws, cap)
+    }
+
+    /// Runs the ring, which has this size.
+    pub(crate) fn run<R, A>(&self, rt: &R, alloc: A, nodes: RingSize) -> Result<Run<A>, RunFault>
     where
         R: Threads + Wait + Clock + Sync,
         A: Allocator + Clone + Send + Sync,
-        ensures { IfOk result (IsAskedRun self.now.is_alone setup.now) }
+        requires { nodes ≡ self.now.nodes }
+        ensures { IfOk result (IsAskedRun self.now) }
     {
         if self.is_alone {
-            run_alone(alloc, setup)
-        } else {
-            run_ring(rt, alloc, setup, &OpenGate)
+            return self.run_alone(alloc, nodes);
         }
+        let setup = self.setup(alloc.clone()?, nodes)?;
+        run_ring(rt, alloc, &setup, &OpenGate)
     }
 }

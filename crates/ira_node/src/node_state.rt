@@ -22,7 +22,7 @@ pub struct NodeState {
 
 impl NodeState {
     /// The state before the first event: an initiator chooses in round 1, any other node is passive.
-    #[inline]
+    #[inline(always)]
     pub fn first(initiator: bool) -> NodeState
         ensures { result ≡ first_state initiator }
     {
@@ -34,7 +34,7 @@ impl NodeState {
     }
 
     /// The kind of event that can have a step.
-    #[inline]
+    #[inline(always)]
     #[tactic(auto, using(crate::proofs::Wants::step_wanted))]
     pub fn wanted(&self) -> Wanted
         ensures value { result ≡ wanted_of self.now.phase self.now.owed }
@@ -55,7 +55,7 @@ impl NodeState {
     }
 
     /// The state after the event in a ring of so many nodes, or why the event has no step.
-    #[inline]
+    #[inline(always)]
     pub fn step(&self, nodes: RingSize, event: &Event) -> Result<NodeState, StepFault>
         ensures value { result ≡ step_answer nodes self.now.phase self.now.owed event.now }
         ensures ok { (t : NodeState) → (result ≡ Ok t) ↔ NodeStep nodes self.now event.now t }
@@ -70,14 +70,14 @@ impl NodeState {
         }
     }
 
-    #[inline]
+    #[inline(always)]
     fn free(phase: Phase) -> NodeState
         ensures { result ≡ record { phase = phase; owed = None } }
     {
         NodeState { phase, owed: None }
     }
 
-    #[inline]
+    #[inline(always)]
     fn owing(phase: Phase, message: Msg) -> NodeState
         ensures { result ≡ owing phase message }
     {
@@ -89,7 +89,7 @@ impl NodeState {
 }
 
 /// The step of a node that owes the message and doesn't lead.
-#[inline]
+#[inline(always)]
 fn settle(phase: Phase, message: Msg, event: &Event) -> Result<NodeState, StepFault>
     ensures { result ≡ sent_answer phase message event.now }
 {
@@ -101,7 +101,7 @@ fn settle(phase: Phase, message: Msg, event: &Event) -> Result<NodeState, StepFa
 }
 
 /// The step of a node that owes nothing and doesn't lead.
-#[inline]
+#[inline(always)]
 fn proceed(phase: Phase, nodes: RingSize, event: &Event) -> Result<NodeState, StepFault>
     ensures { result ≡ free_answer nodes phase event.now }
 {
@@ -112,7 +112,7 @@ fn proceed(phase: Phase, nodes: RingSize, event: &Event) -> Result<NodeState, St
     }
 }
 
-#[inline]
+#[inline(always)]
 fn draw(phase: Phase, nodes: RingSize, id: u32) -> Result<NodeState, StepFault>
     ensures { result ≡ drawn_answer nodes phase id }
 {
@@ -134,7 +134,7 @@ fn draw(phase: Phase, nodes: RingSize, id: u32) -> Result<NodeState, StepFault>
     }
 }
 
-#[inline]
+#[inline(always)]
 fn receive(phase: Phase, nodes: RingSize, message: &Msg) -> Result<NodeState, StepFault>
     ensures { result ≡ got_answer nodes phase message.now }
 {
@@ -147,7 +147,7 @@ fn receive(phase: Phase, nodes: RingSize, message: &Msg) -> Result<NodeState, St
 }
 
 /// What an active node does with a message: pairs are compared by round, then by ID.
-#[inline]
+#[inline(always)]
 fn compare(nodes: RingSize, round: u32, id: u32, message: &Msg) -> Result<NodeState, StepFault>
     ensures { result ≡ compared nodes round id message.now }
 {
@@ -159,7 +159,7 @@ fn compare(nodes: RingSize, round: u32, id: u32, message: &Msg) -> Result<NodeSt
 }
 
 /// What a node does with a message that it passes on as a passive one.
-#[inline]
+#[inline(always)]
 fn pass(message: &Msg) -> Result<NodeState, StepFault>
     ensures { result ≡ passed message.now }
 {
@@ -174,7 +174,7 @@ fn pass(message: &Msg) -> Result<NodeState, StepFault>
 }
 
 /// What an active node does with a message that has its own pair.
-#[inline]
+#[inline(always)]
 fn meet(nodes: RingSize, round: u32, id: u32, message: &Msg) -> Result<NodeState, StepFault>
     ensures { result ≡ own_pair_answer nodes round id message.now }
 {

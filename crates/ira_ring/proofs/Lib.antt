@@ -13,9 +13,11 @@ pub mod LoneStarts
 pub mod LoneSteps
 pub mod LoneTurns
 pub mod LoneTurnsOn
+pub mod MoreDraws
 pub mod Recordable
 pub mod Recordings
 pub mod Seats
+pub mod Seeded
 pub mod Settling
 pub mod Setups
 pub mod Turns

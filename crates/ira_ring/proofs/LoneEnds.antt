@@ -1,5 +1,5 @@
 -- A node that has ended can't step.
-use Rattle.std.proofs.Common.{◌≡◌, ℕ, ◌+◌, ◌++◌, ◌<◌, List, [], ◌∷◌, length, get_or, refl, subst, ap, length-append, arith}
+use Rattle.std.proofs.Common.{◌≡◌, ℕ, ◌+◌, ◌++◌, ◌<◌, List, [], ◌∷◌, None, length, get_or, refl, sym, subst, ap, length-append, arith}
 use Rattle.std.proofs.lemmas.Option.{get_or_from_slice_get, slice_get_within}
 use Rattle.ira_event.specs.declared.event.Event.{Event}
 use Rattle.ira_event.specs.declared.event.Event.TheVariants.{Got}
@@ -9,15 +9,16 @@ use Rattle.ira_node.specs.declared.node_state.NodeState.{NodeState}
 use Rattle.ira_node.specs.NodeState.{free, IsLeader, Receives}
 use Rattle.ira_node.specs.NodeStep.{HasStep}
 use Rattle.ira_node.specs.Wanted.{wanted_of, IsOfKind}
+use Rattle.ira_node.specs.declared.wanted.Wanted.TheVariants.{Draw as WantsDraw, Send, Receipt}
 use Rattle.ira_node.proofs.Wants.{step_wanted}
 use Rattle.ira_ring.specs.declared.node_end.NodeEnd.{NodeEnd}
 use Rattle.ira_ring.specs.declared.node_end.NodeEnd.TheVariants.{Leader, Stopped, DrawsSpent, LogFull, NoStep, Quiet}
 use Rattle.ira_ring.specs.Setup.{Setup, given}
 use Rattle.ira_ring.specs.FullRun.{events_at, drawn, HasEvent, owes, chooses, receives, CanStep}
-use Rattle.ira_ring.specs.LoneNode.{LoneNode, IsNext, Ends}
-use Rattle.ira_ring.specs.LoneRing.{node_at, HasEnded, IsReached, AreDone, AreEndsOfNodes}
+use Rattle.ira_ring.specs.LoneNode.{LoneNode, Ends, HasEnded}
+use Rattle.ira_ring.specs.LoneRing.{node_at, IsReached, AreDone, AreEndsOfNodes}
+use Rattle.ira_ring.proofs.LoneNodes.{wants_draw, wants_receipt, wants_send, choosing_follows, receiving_follows, owing_follows, first_message, parts}
 use Rattle.ira_ring.proofs.LoneStarts.{each_more}
-use Rattle.ira_ring.proofs.LoneSteps.{has_event}
 use Rattle.ira_ring.proofs.LoneTurns.{read_at}
 
 choosing_no_receipt : (n round : ℕ) (state : NodeState) (m : Msg) → state ≡ free (Choosing round) → HasStep n state (Got m) → ⊥
@@ -25,7 +26,7 @@ choosing_no_receipt n round state m is h =
     let P : NodeState → Type 0 = λ x. IsOfKind (wanted_of x.phase x.owed) (Got m) in
     subst P is (step_wanted n state (Got m) h.0 h.1)
 
-choosing_no_waiting : (round : ℕ) (state : NodeState) → state ≡ free (Choosing round) → Receives state.phase → ⊥
+pub choosing_no_waiting : (round : ℕ) (state : NodeState) → state ≡ free (Choosing round) → Receives state.phase → ⊥
 choosing_no_waiting round state is r = let P : NodeState → Type 0 = λ x. Receives x.phase in subst P is r
 
 pub ended_no_event : (n most : ℕ) (ids : List ℕ) (node : LoneNode) (end : NodeEnd) → ids ≡ drawn node.events ++ node.ids → Ends n most node end
@@ -47,13 +48,7 @@ ended_no_event n most ids node Quiet left h follows room (owes m o) = let is = h
 ended_no_event n most ids node Quiet left h follows room (chooses round is unused) = choosing_no_waiting round node.state is h.2
 ended_no_event n most ids node Quiet left h follows room (receives m others is step) = let none = h.3 in cc
 
--- so it has no next event
-pub ended_no_next : (s : Setup) (nodes : List LoneNode) (i : ℕ) (e : Event) (after : NodeState) → IsReached s nodes → i < s.nodes → HasEnded s.nodes s.cap (node_at nodes i) → IsNext s.nodes s.cap (node_at nodes i) e after → ⊥
-ended_no_next s nodes i e after reached l ended next =
-    ended_no_event s.nodes s.cap (given s i) (node_at nodes i) ended.0 (reached.draws i l) ended.1 next.follows next.room
-    (has_event s.nodes s.cap (given s i) (node_at nodes i) e after next (reached.draws i l))
-
--- and can't step
+-- so it can't step
 pub ended_no_step : (s : Setup) (nodes : List LoneNode) (reached : IsReached s nodes) (i : ℕ) → i < s.nodes → HasEnded s.nodes s.cap (node_at nodes i) → ¬ (CanStep s reached.run reached.point i)
 ended_no_step s nodes reached i l ended can =
     let node : LoneNode = node_at nodes i in
@@ -68,23 +63,46 @@ ended_no_step s nodes reached i l ended can =
 
 -- ---- the ends, as the code finds them
 
-pub no_next_left : (s : Setup) (nodes : List LoneNode) (i n most : ℕ) (node : LoneNode) (e : Event) (after : NodeState) → AreDone s nodes → i < length nodes → n ≡ s.nodes → most ≡ s.cap → node ≡ get_or nodes i node
-    → IsNext n most node e after → ⊥
-no_next_left s nodes i n most node e after done l size room read next =
-    let place : i < s.nodes = omega (arith, done.0.many) in
-    let P : ℕ → Type 0 = λ x. IsNext x most node e after in
-    let Q : ℕ → Type 0 = λ x. IsNext s.nodes x node e after in
-    let R : LoneNode → Type 0 = λ x. IsNext s.nodes s.cap x e after in
-    ended_no_next s nodes i e after done.0 place (done.1 i place) (subst R (read_at nodes i i node l refl read) (subst Q room (subst P size next)))
+spent_ids : (n most round : ℕ) (node : LoneNode) (end : NodeEnd) (ids : List ℕ) → node.ids ≡ ids → Ends n most node end → node.state ≡ free (Choosing round) → length node.events < most → ids ≡ []
+spent_ids n most round node end [] is ends choosing room = refl
+spent_ids n most round node end (id ∷ ids) is ends choosing room =
+    absurd (ended_no_event n most (drawn node.events ++ node.ids) node end refl ends (choosing_follows node.state round choosing) room
+    (chooses round choosing (omega (arith, length-append (drawn node.events) node.ids, ap length is))))
 
-pub ends_more : (s : Setup) (nodes : List LoneNode) (i n most : ℕ) (node : LoneNode) (ends : List NodeEnd) (end : NodeEnd) → i < length nodes → n ≡ s.nodes → most ≡ s.cap → node ≡ get_or nodes i node
-    → Ends n most node end → length ends ≡ i → ((j : ℕ) → j < i → Ends s.nodes s.cap (node_at nodes j) (get_or ends j Quiet))
+pub ends_spent : (n most : ℕ) (state : NodeState) (ids : List ℕ) (input : List Msg) (events : List Event) (node : LoneNode) → parts state ids input events ≡ node → WantsDraw ≡ wanted_of state.phase state.owed → length events < most
+    → HasEnded n most node → Ends n most node DrawsSpent
+ends_spent n most state ids input events node is wants room =
+    let P : LoneNode → Type 0 = λ x. HasEnded n most x → Ends n most x DrawsSpent in
+    let w : (round : ℕ) × (state ≡ free (Choosing round)) = wants_draw state.phase state.owed wants in
+    subst P is (λ ended. (room, w, spent_ids n most w.0 (parts state ids input events) ended.0 ids refl ended.1 w.1 room))
+
+pub ends_waiting : (n most : ℕ) (state : NodeState) (ids : List ℕ) (input : List Msg) (events : List Event) (node : LoneNode) (m : Msg) → parts state ids input events ≡ node → Receipt ≡ wanted_of state.phase state.owed → length events < most
+    → 0 < length input → m ≡ get_or input 0 m → HasEnded n most node → Ends n most node (NoStep m)
+ends_waiting n most state ids input events node m is wants room some first =
+    let P : LoneNode → Type 0 = λ x. HasEnded n most x → Ends n most x (NoStep m) in
+    let w : (state.owed ≡ None) × Receives state.phase = wants_receipt state.phase state.owed wants in
+    let f : (rest : List Msg) × (input ≡ m ∷ rest) = first_message input m some first in
+    subst P is (λ ended. (room, w.0, w.1, f, λ step. ended_no_event n most (drawn events ++ ids) (parts state ids input events) ended.0 refl ended.1 (receiving_follows state.phase w.1) room (receives m f.0 f.1 step)))
+
+pub owing_goes_on : (n most : ℕ) (state : NodeState) (ids : List ℕ) (input : List Msg) (events : List Event) (node : LoneNode) (m : Msg) → parts state ids input events ≡ node → Send m ≡ wanted_of state.phase state.owed → length events < most
+    → HasEnded n most node → ⊥
+owing_goes_on n most state ids input events node m is wants room =
+    let P : LoneNode → Type 0 = λ x. HasEnded n most x → ⊥ in
+    subst P is (λ ended. ended_no_event n most (drawn events ++ ids) (parts state ids input events) ended.0 refl ended.1 (owing_follows state.phase state.owed m wants) room (owes m (wants_send state.phase state.owed m wants)))
+
+pub ended_at : (s : Setup) (nodes : List LoneNode) (i most : ℕ) (node : LoneNode) → AreDone s nodes → i < length nodes → most ≡ s.cap → node ≡ get_or nodes i node → HasEnded s.nodes most node
+ended_at s nodes i most node done l room read =
+    let P : ℕ → Type 0 = λ x. HasEnded s.nodes x node in
+    subst P (sym room) (subst (HasEnded s.nodes s.cap) (sym (read_at nodes i i node l refl read)) (done.1 i (omega (arith, done.0.many))))
+
+pub ends_more : (s : Setup) (nodes : List LoneNode) (i most : ℕ) (node : LoneNode) (ends : List NodeEnd) (end : NodeEnd) → AreDone s nodes → i < length nodes → most ≡ s.cap → node ≡ get_or nodes i node
+    → (HasEnded s.nodes most node → Ends s.nodes most node end) → length ends ≡ i → ((j : ℕ) → j < i → Ends s.nodes s.cap (node_at nodes j) (get_or ends j Quiet))
     → (j : ℕ) → j < i + 1 → Ends s.nodes s.cap (node_at nodes j) (get_or (ends ++ end ∷ []) j Quiet)
-ends_more s nodes i n most node ends end l size room read here many each =
-    let P : ℕ → Type 0 = λ x. Ends x most node end in
-    let Q : ℕ → Type 0 = λ x. Ends s.nodes x node end in
-    let R : LoneNode → Type 0 = λ x. Ends s.nodes s.cap x end in
-    each_more (λ j x. Ends s.nodes s.cap (node_at nodes j) x) Quiet ends end i many each (subst R (read_at nodes i i node l refl read) (subst Q room (subst P size here)))
+ends_more s nodes i most node ends end done l room read so many each =
+    let P : ℕ → Type 0 = λ x. Ends s.nodes x node end in
+    let Q : LoneNode → Type 0 = λ x. Ends s.nodes s.cap x end in
+    each_more (λ j x. Ends s.nodes s.cap (node_at nodes j) x) Quiet ends end i many each
+    (subst Q (read_at nodes i i node l refl read) (subst P room (so (ended_at s nodes i most node done l room read))))
 
 pub all_ends : (s : Setup) (nodes : List LoneNode) (ends : List NodeEnd) → length ends ≡ length nodes → ((j : ℕ) → j < length nodes → Ends s.nodes s.cap (node_at nodes j) (get_or ends j Quiet)) → AreEndsOfNodes s nodes ends
 all_ends s nodes ends many each = (

@@ -14,5 +14,6 @@ pub mod Recording
 pub mod Run
 pub mod RunFault
 pub mod Seat
+pub mod SeededRun
 pub mod Setup
 pub mod ShownEnd

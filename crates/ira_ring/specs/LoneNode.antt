@@ -1,5 +1,5 @@
 -- Helpers, no definitions: what the lone runner keeps of a node, and what it does with it.
-use Rattle.std.specs.Prelude.{◌≡◌, ℕ, ◌<◌, ◌≤◌, List, [], ◌∷◌, ◌++◌, None, Some, length, drop}
+use Rattle.std.specs.Prelude.{◌≡◌, ◌≢◌, ℕ, zero, suc, ◌<◌, ◌≤◌, List, [], ◌∷◌, ◌++◌, Option, None, Some, length, drop}
 use Rattle.ira_event.specs.declared.msg.Msg.{Msg}
 use Rattle.ira_event.specs.declared.event.Event.{Event}
 use Rattle.ira_event.specs.declared.event.Event.TheVariants.{Draw, Sent, Got}
@@ -24,18 +24,6 @@ IsFirst node (Draw id) = (rest : List ℕ) × (node.ids ≡ id ∷ rest)
 IsFirst node (Sent m) = Unit {0}
 IsFirst node (Got m) = (rest : List Msg) × (node.input ≡ m ∷ rest)
 
--- the event is of the kind that the state wants, and is at hand
-abbrev pub IsAtHand : LoneNode → Event → Type 0
-IsAtHand node (Draw id) = ((round : ℕ) × (node.state ≡ free (Choosing round))) × IsFirst node (Draw id)
-IsAtHand node (Sent m) = node.state.owed ≡ Some m
-IsAtHand node (Got m) = (node.state.owed ≡ None) × Receives node.state.phase × IsFirst node (Got m)
-
--- the one event that the node may have next
-pub record Offers (most : ℕ) (node : LoneNode) (event : Event) : Type 0 where
-  pub follows : ¬ (IsLeader node.state.phase)
-  pub room : length node.events < most
-  pub at_hand : IsAtHand node event
-
 -- the node's next event in a ring of n nodes, and the state after it
 pub record IsNext (n most : ℕ) (node : LoneNode) (event : Event) (after : NodeState) : Type 0 where
   pub follows : ¬ (IsLeader node.state.phase)
@@ -53,6 +41,10 @@ Ends n most node LogFull = ¬ (IsLeader node.state.phase) × (most ≤ length no
 Ends n most node (NoStep m) =
     (length node.events < most) × (node.state.owed ≡ None) × Receives node.state.phase × ((rest : List Msg) × (node.input ≡ m ∷ rest)) × ¬ (HasStep n node.state (Got m))
 Ends n most node Quiet = (length node.events < most) × (node.state.owed ≡ None) × Receives node.state.phase × (node.input ≡ [])
+
+-- the node has no next event
+abbrev pub HasEnded : ℕ → ℕ → LoneNode → Type 0
+HasEnded n most node = (end : NodeEnd) × Ends n most node end
 
 -- how many of the IDs left an event draws, and how many of the messages it takes
 abbrev pub drawn_by : Event → ℕ
@@ -73,3 +65,30 @@ after_event node event after =
 -- the node with one message more on the link that leads to it
 abbrev pub after_put : LoneNode → Msg → LoneNode
 after_put node m = record { state = node.state; ids = node.ids; input = node.input ++ m ∷ []; events = node.events }
+
+-- the event is no sending
+abbrev pub SendsNothing : Event → Type 0
+SendsNothing e = (m : Msg) → e ≢ Sent m
+
+-- the node's next event, which sends nothing and leads to this state; or there is no next event
+abbrev pub MakesOwn : ℕ → ℕ → LoneNode → LoneNode → Option NodeState → Type 0
+MakesOwn n most old new None = HasEnded n most old × (new ≡ old)
+MakesOwn n most old new (Some after) =
+    (e : Event) × SendsNothing e × IsNext n most old e after × (new ≡ after_event old e after)
+
+-- the node's next event is the sending of the message
+abbrev pub MakesSending : ℕ → ℕ → LoneNode → LoneNode → Msg → Type 0
+MakesSending n most old new m =
+    (after : NodeState) × IsNext n most old (Sent m) after × (new ≡ after_event old (Sent m) after)
+
+-- so many events that send nothing
+abbrev pub GoesTo : ℕ → ℕ → ℕ → LoneNode → LoneNode → Type 0
+GoesTo n most zero old new = new ≡ old
+GoesTo n most (suc k) old new =
+    (node : LoneNode) × GoesTo n most k old node × ((after : NodeState) × MakesOwn n most node new (Some after))
+
+-- events that send nothing, and then the sending of this message, or no next event
+abbrev pub GoesOn : ℕ → ℕ → LoneNode → LoneNode → Option Msg → Type 0
+GoesOn n most old new None = ((k : ℕ) × GoesTo n most k old new) × HasEnded n most new
+GoesOn n most old new (Some m) =
+    (node : LoneNode) × ((k : ℕ) × GoesTo n most k old node) × MakesSending n most node new m

@@ -1,5 +1,6 @@
 -- Helpers, no definitions: what the lone runner keeps of the ring, and what a step of it changes.
 use Rattle.std.specs.Prelude.{◌≡◌, ◌≢◌, ℕ, ◌+◌, ◌<◌, ◌⊎◌, List, [], ◌++◌, false, Option, Some, None, length, slice_get, slice_index_or}
+use Rattle.ira_event.specs.declared.msg.Msg.{Msg}
 use Rattle.ira_event.specs.declared.event.Event.{Event}
 use Rattle.ira_event.specs.declared.event.Event.TheVariants.{Draw, Sent, Got}
 use Rattle.ira_event.specs.Log.{Log}
@@ -10,7 +11,7 @@ use Rattle.ira_order.specs.Run.{Configuration}
 use Rattle.ira_ring.specs.declared.node_end.NodeEnd.{NodeEnd}
 use Rattle.ira_ring.specs.Setup.{Setup, is_initiator, given}
 use Rattle.ira_ring.specs.FullRun.{opening, events_at, drawn, Walks}
-use Rattle.ira_ring.specs.LoneNode.{LoneNode, IsNext, Ends, after_event, after_put}
+use Rattle.ira_ring.specs.LoneNode.{LoneNode, Ends, HasEnded, GoesOn, after_event, after_put}
 
 -- a node that has done nothing and has nothing to do
 abbrev pub idle : LoneNode
@@ -19,10 +20,6 @@ idle = record { state = first_state false; ids = []; input = []; events = [] }
 -- the node at place i
 abbrev pub node_at : List LoneNode → ℕ → LoneNode
 node_at nodes i = slice_index_or nodes i idle
-
--- the node has no next event
-abbrev pub HasEnded : ℕ → ℕ → LoneNode → Type 0
-HasEnded n most node = (end : NodeEnd) × Ends n most node end
 
 -- all nodes but node i, and but the next one where the event is a sending, are as they were, and these
 -- two are as the event makes them
@@ -36,18 +33,26 @@ IsMoved n i (Draw id) after old new =
 IsMoved n i (Got m) after old new =
     (node_at new i ≡ after_event (node_at old i) (Got m) after) × ((j : ℕ) → j ≢ i → node_at new j ≡ node_at old j)
 
--- what a turn of node i does: its next event, or nothing where there is none
-abbrev pub IsTurn : ℕ → ℕ → ℕ → List LoneNode → List LoneNode → Option Event → Type 0
-IsTurn n most i old new None = HasEnded n most (node_at old i) × (new ≡ old)
-IsTurn n most i old new (Some event) =
-    (after : NodeState) × IsNext n most (node_at old i) event after × IsMoved n i event after old new × (length new ≡ length old)
+-- node i becomes this one, the message sent is last on the link that leads to the next one, and all else
+-- is as it was
+abbrev pub IsPut : ℕ → ℕ → Option Msg → LoneNode → List LoneNode → List LoneNode → Type 0
+IsPut n i None node old new = (node_at new i ≡ node) × ((j : ℕ) → j ≢ i → node_at new j ≡ node_at old j)
+IsPut n i (Some m) node old new =
+    (node_at new i ≡ node)
+    × (node_at new (next n i) ≡ after_put (node_at old (next n i)) m)
+    × ((j : ℕ) → j ≢ i → j ≢ next n i → node_at new j ≡ node_at old j)
+
+-- what a turn of node i does: its events up to its next sending, where there is one
+pub record IsTurn (n most i : ℕ) (old new : List LoneNode) (sent : Option Msg) : Type 0 where
+  pub node : LoneNode
+  pub goes : GoesOn n most (node_at old i) node sent
+  pub put : IsPut n i sent node old new
+  pub many : length new ≡ length old
 
 -- the least node that may have a next event, where `least` was it before this turn of its
-abbrev pub IsLeastAfter : ℕ → ℕ → Option Event → ℕ → Type 0
+abbrev pub IsLeastAfter : ℕ → ℕ → Option Msg → ℕ → Type 0
 IsLeastAfter n least None after = after ≡ least + 1
-IsLeastAfter n least (Some (Sent m)) after = ((least + 1 ≡ n) × (after ≡ 0)) ⊎ ((least + 1 < n) × (after ≡ least))
-IsLeastAfter n least (Some (Draw id)) after = after ≡ least
-IsLeastAfter n least (Some (Got m)) after = after ≡ least
+IsLeastAfter n least (Some m) after = ((least + 1 ≡ n) × (after ≡ 0)) ⊎ ((least + 1 < n) × (after ≡ least))
 
 -- the nodes are where a run of the setup led them, each place of which can step at its point
 pub record IsReached (s : Setup) (nodes : List LoneNode) : Type 0 where

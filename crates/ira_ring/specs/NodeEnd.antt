@@ -10,3 +10,12 @@ is_stopped DrawsSpent = false
 is_stopped LogFull = false
 is_stopped (NoStep m) = false
 is_stopped Quiet = false
+
+-- whether a node had to draw, and had no draw left
+abbrev pub is_draws_spent : NodeEnd → Bool
+is_draws_spent Leader = false
+is_draws_spent Stopped = false
+is_draws_spent DrawsSpent = true
+is_draws_spent LogFull = false
+is_draws_spent (NoStep m) = false
+is_draws_spent Quiet = false

@@ -21,6 +21,7 @@ mod ring_run;
 mod run;
 mod run_fault;
 mod seat;
+mod seeded_run;
 mod setup;
 mod threads;
 
@@ -36,6 +37,7 @@ pub use node_work::NodeWork;
 pub use ring_run::run_ring;
 pub use run::Run;
 pub use run_fault::RunFault;
+pub use seeded_run::run_alone_seeded;
 pub use setup::Setup;
 
 #[cfg(test)]
@@ -44,6 +46,8 @@ mod gate_tests;
 mod run_tests;
 #[cfg(test)]
 mod samples;
+#[cfg(test)]
+mod seeded_tests;
 #[cfg(test)]
 mod tests;
 #[cfg(test)]

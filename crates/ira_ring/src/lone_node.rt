@@ -1,7 +1,9 @@
-ghost use Rattle.std.specs.Prelude.{◌≡◌, ◌≤◌, ℕ, [], All, MatchResult, IfOk, IfErr, OnOk};
+ghost use Rattle.std.specs.Prelude.{◌≡◌, ◌<◌, ◌≤◌, ℕ, [], All, IfOk, OnOk, length};
 ghost use Rattle.ira_event.specs.Log.{IsLog};
+ghost use Rattle.ira_node.specs.declared.wanted.Wanted.TheVariants.{Draw as WantsDraw, Send, Receipt};
 ghost use Rattle.ira_node.specs.NodeState.{first_state};
-ghost use Rattle.ira_ring.specs.LoneNode.{IsNext, IsFirst, Offers, Ends, after_event, after_put};
+ghost use Rattle.ira_node.specs.Wanted.{wanted_of};
+ghost use Rattle.ira_ring.specs.LoneNode.{HasEnded, Ends, MakesOwn, MakesSending, GoesOn, after_put};
 
 use crate::node_end::NodeEnd;
 use ira_event::{Event, Msg, NodeLog, RingSize};
@@ -47,64 +49,106 @@ impl<'a, A: Allocator> LoneNode<'a, A> {
         })
     }
 
-    /// What the node does next in a ring of so many nodes, where a log may have `cap` records, with the
-    /// state after it; or how the node has ended as things stand.
+    /// Makes the node's events up to its next sending, and answers the message that it sent; `None`
+    /// where the node has no next event before that, as things stand. A log may have `cap` records.
     #[inline(always)]
-    pub(crate) fn next_step(
-        &self,
-        nodes: RingSize,
-        cap: usize,
-    ) -> Result<(Event, NodeState), NodeEnd>
-        requires { All (λ d. (1 ≤ d) × (d ≤ nodes)) self.now.ids }
-        ensures { MatchResult result (λ x. IsNext nodes cap self.now x.0 x.1) (Ends nodes cap self.now) }
+    pub(crate) fn go_on(&mut self, nodes: RingSize, cap: usize) -> Result<Option<Msg>, AllocError>
+        requires { All (λ d. (1 ≤ d) × (d ≤ nodes)) self.old.ids }
+        ensures { IfOk result (GoesOn nodes cap self.old self.new) }
     {
-        let event = self.offered(cap)?;
-        match self.state.step(nodes, &event) {
-            Ok(after) => Ok((event, after)),
-            Err(_) => match event {
-                Event::Got(message) => Err(NodeEnd::NoStep(message)),
-                Event::Draw(_) | Event::Sent(_) => unreachable!(),
-            },
+        // The state at hand, so that it isn't read back.
+        let mut state = self.state;
+        while self.events.len() < cap {
+            let next = match state.wanted() {
+                Wanted::Nothing => return Ok(None),
+                Wanted::Send(message) => {
+                    self.send(state, nodes, message)?;
+                    return Ok(Some(message));
+                }
+                Wanted::Draw => self.draw(state, nodes)?,
+                Wanted::Receipt => self.receive(state, nodes)?,
+            };
+            let Some(after) = next else {
+                return Ok(None);
+            };
+            state = after;
         }
+        Ok(None)
     }
 
-    /// The event that the state wants, where it is at hand.
+    /// Sends the message that the node owes in its state.
     #[inline(always)]
-    fn offered(&self, cap: usize) -> Result<Event, NodeEnd>
-        ensures event { IfOk result (Offers cap self.now) }
-        ensures end { IfErr result (λ end. (n : ℕ) → Ends n cap self.now end) }
+    fn send(&mut self, state: NodeState, nodes: RingSize, message: Msg) -> Result<(), AllocError>
+        requires state { state ≡ self.old.state }
+        requires wanted { Send message ≡ wanted_of state.phase state.owed }
+        ensures { OnOk result ((most : ℕ) → length self.old.events < most → MakesSending nodes most self.old self.new message) }
     {
-        match self.state.wanted() {
-            Wanted::Nothing => Err(NodeEnd::Leader),
-            _ if self.events.len() >= cap => Err(NodeEnd::LogFull),
-            Wanted::Send(message) => Ok(Event::Sent(message)),
-            Wanted::Draw => match self.ids.first() {
-                Some(&id) => Ok(Event::Draw(id)),
-                None => Err(NodeEnd::DrawsSpent),
-            },
-            Wanted::Receipt => match self.input.front() {
-                Some(&message) => Ok(Event::Got(message)),
-                None => Err(NodeEnd::Quiet),
-            },
-        }
-    }
-
-    /// Makes the node's next event.
-    #[inline(always)]
-    pub(crate) fn make(&mut self, event: Event, after: NodeState) -> Result<(), AllocError>
-        requires { IsFirst self.old event }
-        ensures { OnOk result (self.new ≡ after_event self.old event after) }
-    {
-        match event {
-            Event::Draw(_) => self.ids = &self.ids[1..],
-            Event::Got(_) => {
-                self.input.pop_front();
-            }
-            Event::Sent(_) => {}
-        }
-        self.events.push(event)?;
+        let Ok(after) = state.step(nodes, &Event::Sent(message)) else {
+            unreachable!();
+        };
+        self.events.push(Event::Sent(message))?;
         self.state = after;
         Ok(())
+    }
+
+    /// Draws the next ID, where one is left, and answers the state after it.
+    #[inline(always)]
+    fn draw(&mut self, state: NodeState, nodes: RingSize) -> Result<Option<NodeState>, AllocError>
+        requires state { state ≡ self.old.state }
+        requires wanted { WantsDraw ≡ wanted_of state.phase state.owed }
+        requires ids { All (λ d. (1 ≤ d) × (d ≤ nodes)) self.old.ids }
+        ensures { IfOk result (λ next. (most : ℕ) → length self.old.events < most → MakesOwn nodes most self.old self.new next) }
+    {
+        let Some((&id, others)) = self.ids.split_first() else {
+            return Ok(None);
+        };
+        let Ok(after) = state.step(nodes, &Event::Draw(id)) else {
+            unreachable!();
+        };
+        self.events.push(Event::Draw(id))?;
+        self.ids = others;
+        self.state = after;
+        Ok(Some(after))
+    }
+
+    /// Receives the next message, where there is one that has a step, and answers the state after it.
+    #[inline(always)]
+    fn receive(
+        &mut self,
+        state: NodeState,
+        nodes: RingSize,
+    ) -> Result<Option<NodeState>, AllocError>
+        requires state { state ≡ self.old.state }
+        requires wanted { Receipt ≡ wanted_of state.phase state.owed }
+        ensures { IfOk result (λ next. (most : ℕ) → length self.old.events < most → MakesOwn nodes most self.old self.new next) }
+    {
+        let Some(&message) = self.input.front() else {
+            return Ok(None);
+        };
+        let Ok(after) = state.step(nodes, &Event::Got(message)) else {
+            return Ok(None);
+        };
+        self.events.push(Event::Got(message))?;
+        let _ = self.input.pop_front();
+        self.state = after;
+        Ok(Some(after))
+    }
+
+    /// How the node has ended, as it has where it has no next event.
+    pub(crate) fn end(&self, cap: usize) -> NodeEnd
+        requires { (n : ℕ) × HasEnded n cap self.now }
+        ensures { (n : ℕ) → HasEnded n cap self.now → Ends n cap self.now result }
+    {
+        match self.state.wanted() {
+            Wanted::Nothing => NodeEnd::Leader,
+            _ if self.events.len() >= cap => NodeEnd::LogFull,
+            Wanted::Send(_) => unreachable!(),
+            Wanted::Draw => NodeEnd::DrawsSpent,
+            Wanted::Receipt => match self.input.front() {
+                Some(&message) => NodeEnd::NoStep(message),
+                None => NodeEnd::Quiet,
+            },
+        }
     }
 
     /// Puts a message last on the link that leads to the node.

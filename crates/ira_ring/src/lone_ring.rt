@@ -5,7 +5,7 @@ ghost use Rattle.ira_ring.specs.LoneRing.{IsTurn, IsLeastAfter, IsReached, AreDo
 use crate::lone_node::LoneNode;
 use crate::node_end::NodeEnd;
 use crate::setup::Setup;
-use ira_event::{Event, NodeLog};
+use ira_event::{Msg, NodeLog};
 use std::alloc::{AllocError, Allocator};
 
 /// A run on one thread: what it starts from, and where its nodes are.
@@ -17,14 +17,14 @@ pub(crate) struct LoneRing<'a, A: Allocator> {
 
 /// The least node that may have a next event, where `least` was it before its turn. A node gets on only
 /// by its own events and by a sending of the node before it, which is below it unless it is the last.
-fn least_after(nodes: u8, least: u8, made: Option<Event>) -> u8
+fn least_after(nodes: u8, least: u8, sent: Option<Msg>) -> u8
     requires { least < nodes }
-    ensures { IsLeastAfter nodes least made result }
+    ensures { IsLeastAfter nodes least sent result }
 {
-    match made {
+    match sent {
         None => least + 1,
-        Some(Event::Sent(_)) if least + 1 == nodes => 0,
-        Some(Event::Sent(_) | Event::Draw(_) | Event::Got(_)) => least,
+        Some(_) if least + 1 == nodes => 0,
+        Some(_) => least,
     }
 }
 
@@ -56,14 +56,15 @@ impl<'a, A: Allocator> LoneRing<'a, A> {
         let nodes = setup.nodes.get();
         let mut least = 0;
         while least < nodes {
-            let made = self.turn(least)?;
-            least = least_after(nodes, least, made);
+            let sent = self.turn(least)?;
+            least = least_after(nodes, least, sent);
         }
         Ok(())
     }
 
-    /// The next event of a node, where there is one.
-    fn turn(&mut self, i: u8) -> Result<Option<Event>, AllocError>
+    /// The events of a node up to its next sending, where there is one; the message sent is put on its
+    /// link.
+    fn turn(&mut self, i: u8) -> Result<Option<Msg>, AllocError>
         requires rules { KeepsRules self.old.setup.now }
         requires reached { IsReached self.old.setup.now self.old.nodes.items }
         requires place { i < length self.old.nodes.items }
@@ -72,16 +73,12 @@ impl<'a, A: Allocator> LoneRing<'a, A> {
     {
         let setup = self.setup;
         let size = setup.nodes;
-        let node = &mut self.nodes[usize::from(i)];
-        let Ok((event, after)) = node.next_step(size, setup.cap) else {
+        let Some(message) = self.nodes[usize::from(i)].go_on(size, setup.cap)? else {
             return Ok(None);
         };
-        node.make(event, after)?;
-        if let Event::Sent(message) = event {
-            let next = if i + 1 < size.get() { i + 1 } else { 0 };
-            self.nodes[usize::from(next)].put(message)?;
-        }
-        Ok(Some(event))
+        let next = if i + 1 < size.get() { i + 1 } else { 0 };
+        self.nodes[usize::from(next)].put(message)?;
+        Ok(Some(message))
     }
 
     /// How the nodes have ended.
@@ -93,10 +90,7 @@ impl<'a, A: Allocator> LoneRing<'a, A> {
         let setup = self.setup;
         let mut ends = Vec::with_capacity(alloc, self.nodes.len())?;
         for node in &self.nodes {
-            let Err(end) = node.next_step(setup.nodes, setup.cap) else {
-                unreachable!();
-            };
-            ends.push(end)?;
+            ends.push(node.end(setup.cap))?;
         }
         Ok(ends)
     }

@@ -1,5 +1,6 @@
 use Rattle.std.proofs.Common.{◌≡◌, ℕ, ◌<◌, ◌≤◌}
-use Rattle.ira_ring.specs.LoneRing.{node_at, HasEnded, IsReached}
+use Rattle.ira_ring.specs.LoneNode.{HasEnded}
+use Rattle.ira_ring.specs.LoneRing.{node_at, IsReached}
 use Rattle.ira_ring.proofs.LoneTurnsOn.{measure}
 use Rattle.ira_ring.proofs.lone_ring.LoneRing.run.Given as goal
 
