@@ -15,7 +15,7 @@ use crate::setup::Setup;
 use ira_event::{OutOfMemory, RingSize};
 use std::alloc::Allocator;
 
-/// How many draws of each node are made at first. Most elections need no more.
+/// How many draws of each node are made at first: few, and yet an election seldom needs more.
 const FIRST_DRAWS: u32 = 16;
 
 /// The setup whose nodes are given their first `k` draws.
@@ -45,7 +45,7 @@ fn lack_draws(ends: &[NodeEnd]) -> bool
 }
 
 /// A full run on one thread of a ring whose nodes are given the first `k` draws of the seed, as
-/// `run_alone` gives it. Draws that no node comes to aren't made.
+/// `run_alone` gives it. Where the first few draws of each node will do, no others are made.
 pub fn run_alone_seeded<A: Allocator + Clone>(
     alloc: A,
     nodes: RingSize,
