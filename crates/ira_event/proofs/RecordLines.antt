@@ -45,23 +45,6 @@ word-again word rest =
     let t : pointwise nat_eq (take (length word) (word ++ rest)) word ≡ true = (bytes_decides _ _).1 (take_at word rest (length word) refl) in
     rw t (ap Some (drop_at word rest (length word) refl))
 
-option_same : {A : Type 0} (x y : Option A) → ((a : A) → x ≡ Some a → y ≡ Some a) → ((a : A) → y ≡ Some a → x ≡ Some a) → x ≡ y
-option_same (Some a) y f g = sym (f a refl)
-option_same None (Some b) f g = g b refl
-option_same None None f g = refl
-
--- a word is passed by passing its two parts
-pub word-parts : (v w bs : List ℕ) → after_word (v ++ w) bs ≡ (after_word v bs >>= after_word w)
-word-parts v w bs =
-    option_same (after_word (v ++ w) bs) (after_word v bs >>= after_word w)
-    (λ rest e.
-    let whole : bs ≡ v ++ (w ++ rest) = word-takes (v ++ w) bs rest e ∙ append_assoc v w rest in
-    rw (whole, word-again v (w ++ rest)) (word-again w rest))
-    (λ rest e.
-    let b = bind_some (after_word v bs) (after_word w) rest e in
-    let whole : bs ≡ (v ++ w) ++ rest = word-takes v bs b.0 b.1 ∙ ap (λ x. v ++ x) (word-takes w b.0 rest b.2) ∙ sym (append_assoc v w rest) in
-    rw whole (word-again (v ++ w) rest))
-
 -- a number as it is kept
 pub record Kept (bs : List ℕ) (p : ℕ × List ℕ) : Type 0 where
   pub n : ℕ

@@ -4,7 +4,7 @@ ghost use Rattle.ira_event.specs.LogScan.{bit_at, message_at, number_line, word_
 
 use crate::event::Event;
 use crate::msg::Msg;
-use crate::scan::{skip_parts, skip_word, take_number};
+use crate::scan::{skip_word, take_number};
 
 /// A line of a log text behind its head.
 #[derive(Clone, Copy, Debug)]
@@ -55,17 +55,13 @@ pub fn take_line(text: &[u8]) -> Option<(LogLine, &[u8])>
 fn take_word(text: &[u8]) -> Option<(LineWord, &[u8])>
     ensures { Gives (λ found. (found.0, found.1.now)) result (word_at text.now) }
 {
-    if let Some(rest) = skip_word(text, b"draw ") {
-        return Some((LineWord::Draw, rest));
+    match text {
+        [b'd', ..] => Some((LineWord::Draw, skip_word(text, b"draw ")?)),
+        [b's', ..] => Some((LineWord::Send, skip_word(text, b"send ")?)),
+        [b'r', ..] => Some((LineWord::Recv, skip_word(text, b"recv ")?)),
+        [b'e', ..] => Some((LineWord::End, skip_word(text, b"end ")?)),
+        _ => None,
     }
-    if let Some(rest) = skip_word(text, b"send ") {
-        return Some((LineWord::Send, rest));
-    }
-    if let Some(rest) = skip_word(text, b"recv ") {
-        return Some((LineWord::Recv, rest));
-    }
-    let rest = skip_word(text, b"end ")?;
-    Some((LineWord::End, rest))
 }
 
 #[inline(always)]
@@ -92,11 +88,11 @@ fn take_message_line(text: &[u8]) -> Option<(Msg, &[u8])>
 fn take_bit(text: &[u8]) -> Option<(bool, &[u8])>
     ensures { Gives (λ found. (found.0, found.1.now)) result (bit_at text.now) }
 {
-    if let Some(rest) = skip_parts(text, b" clea", b"n\n") {
-        return Some((false, rest));
+    match text {
+        [b' ', b'c', b'l', b'e', b'a', b'n', b'\n', rest @ ..] => Some((false, rest)),
+        [b' ', b'd', b'i', b'r', b't', b'y', b'\n', rest @ ..] => Some((true, rest)),
+        _ => None,
     }
-    let rest = skip_parts(text, b" dirt", b"y\n")?;
-    Some((true, rest))
 }
 
 #[inline(always)]

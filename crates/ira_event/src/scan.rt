@@ -1,4 +1,4 @@
-ghost use Rattle.std.specs.Prelude.{◌≡◌, ◌≤◌, ◌+◌, ◌*◌, ◌++◌, ℕ};
+ghost use Rattle.std.specs.Prelude.{◌≡◌, ◌≤◌, ◌+◌, ◌*◌, ℕ, drop, length};
 ghost use Rattle.ira_event.specs.Scan.{digits_from, kept, kept_at, after_word, Gives};
 
 /// More digits than any number within the limits has behind its first one. So many turns are
@@ -11,14 +11,6 @@ pub fn skip_word<'a>(text: &'a [u8], word: &[u8]) -> Option<&'a [u8]>
     ensures { Gives (λ rest. rest.now) result (after_word word.now text.now) }
 {
     text.strip_prefix(word)
-}
-
-/// What follows a word in two parts. A short part is compared in one go, a long word byte by byte.
-#[inline(always)]
-pub fn skip_parts<'a>(text: &'a [u8], first: &[u8], second: &[u8]) -> Option<&'a [u8]>
-    ensures { Gives (λ rest. rest.now) result (after_word (first.now ++ second.now) text.now) }
-{
-    skip_word(skip_word(text, first)?, second)
 }
 
 /// The number that the text begins with, and what follows it. A number is `0`, or a digit 1 to 9 and
@@ -40,36 +32,35 @@ fn take_digits(first: u32, text: &[u8]) -> (u32, &[u8])
     ensures value { result.0 ≡ kept (digits_from first text.now).0 }
     ensures rest { result.1.now ≡ (digits_from first text.now).1 }
 {
-    if text.len() < FEW {
-        return take_many_digits(first, text);
+    if text.len() >= FEW {
+        let mut value = first;
+        for i in 0..FEW {
+            if !text[i].is_ascii_digit() {
+                return (value, &text[i..]);
+            }
+            value = with_digit(value, u32::from(text[i] - b'0'));
+        }
     }
+    let (value, digits) = read_many_digits(first, text);
+    (value, &text[digits..])
+}
+
+/// The same number, where the digits are many or the text's last ones, and how many they are.
+#[cold]
+#[inline(never)]
+fn read_many_digits(first: u32, text: &[u8]) -> (u32, usize)
+    ensures value { result.0 ≡ kept (digits_from first text.now).0 }
+    ensures rest { drop result.1 text.now ≡ (digits_from first text.now).1 }
+    ensures within { result.1 ≤ length text.now }
+{
     let mut value = first;
-    for i in 0..FEW {
+    for i in 0..text.len() {
         if !text[i].is_ascii_digit() {
-            return (value, &text[i..]);
+            return (value, i);
         }
         value = with_digit(value, u32::from(text[i] - b'0'));
     }
-    take_many_digits(value, &text[FEW..])
-}
-
-/// The same, where the digits are many or the text's last ones.
-#[cold]
-#[inline(never)]
-fn take_many_digits(first: u32, text: &[u8]) -> (u32, &[u8])
-    ensures value { result.0 ≡ kept (digits_from first text.now).0 }
-    ensures rest { result.1.now ≡ (digits_from first text.now).1 }
-{
-    let mut value = first;
-    let mut rest = text;
-    while let Some((digit, after)) = rest.split_first() {
-        if !digit.is_ascii_digit() {
-            break;
-        }
-        value = with_digit(value, u32::from(*digit - b'0'));
-        rest = after;
-    }
-    (value, rest)
+    (value, text.len())
 }
 
 /// The number that one more digit makes of it.

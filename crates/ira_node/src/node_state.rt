@@ -151,11 +151,14 @@ fn receive(phase: Phase, nodes: RingSize, message: &Msg) -> Result<NodeState, St
 fn compare(nodes: RingSize, round: u32, id: u32, message: &Msg) -> Result<NodeState, StepFault>
     ensures { result ≡ compared nodes round id message.now }
 {
-    match (message.round, message.id).cmp(&(round, id)) {
-        Ordering::Greater => pass(message),
-        Ordering::Less => Ok(NodeState::free(Phase::Active { round, id })),
-        Ordering::Equal => meet(nodes, round, id, message),
+    let (met, own) = ((message.round, message.id), (round, id));
+    if met == own {
+        return meet(nodes, round, id, message);
     }
+    if met > own {
+        return pass(message);
+    }
+    Ok(NodeState::free(Phase::Active { round, id }))
 }
 
 /// What a node does with a message that it passes on as a passive one.

@@ -1,5 +1,5 @@
 -- One step of a scan.
-use Rattle.std.proofs.Common.{◌≡◌, ◌≢◌, ℕ, zero, suc, ◌+◌, ◌-◌, ◌<◌, ◌≤◌, inl, inr, ◌↔◌, List, [], ◌∷◌, ◌++◌, length, refl, sym, ◌∙◌, ap, arith, get_or, set, take, IsTrue, Option, Some, None, length-append, get_or-set_same, get_or-set_other, length-set, leb}
+use Rattle.std.proofs.Common.{◌≡◌, ◌≢◌, ℕ, zero, suc, ◌+◌, ◌-◌, ◌<◌, ◌≤◌, inl, inr, ◌↔◌, List, [], ◌∷◌, ◌++◌, length, refl, sym, ◌∙◌, ap, arith, get_or, set, take, IsTrue, Option, Some, None, length-append, get_or-set_same, get_or-set_other, length-set, leb, replicate, append_assoc}
 use Rattle.ira_event.specs.declared.event.Event.{Event}
 use Rattle.ira_event.specs.declared.msg.Msg.{Msg}
 use Rattle.ira_event.specs.Log.{Log}
@@ -9,12 +9,12 @@ use Rattle.ira_order.specs.Ring.{log_of, next, events_of}
 use Rattle.ira_order.specs.Matching.{sent, got, sending, receipt}
 use Rattle.ira_order.specs.Order.{standings}
 use Rattle.ira_order.specs.Counts.{CanStep, Covers, IsSchedule}
-use Rattle.ira_order.specs.Scan.{IsScan, sent_by, got_by}
+use Rattle.ira_order.specs.Scan.{IsScan, IsStuckAt, sent_by, got_by}
 use Rattle.ira_order.proofs.Ranks.{filter_map_more, lt_cases, eq_cases, rank_mono, next_other}
 use Rattle.ira_event.specs.declared.limits.TheConstants.{MAX_RECORDS}
 use Rattle.std.specs.Prelude.{slice_get}
-use Rattle.std.proofs.lemmas.Option.{get_or_from_slice_get, slice_get_within}
-use Rattle.std.proofs.lemmas.List.{take_all, take-append-le, length_push, get_or_read}
+use Rattle.std.proofs.lemmas.Option.{get_or_from_slice_get, slice_get_cases, slice_get_within}
+use Rattle.std.proofs.lemmas.List.{take_all, take-append-le, length_push, get_or_read, set-get_or, set-set, replicate-append-replicate}
 use Rattle.std.proofs.lemmas.List.Elements.{All-push}
 use Rattle.std.proofs.lemmas.List.Sums.{sum_by_push, sum_by-set}
 use Rattle.std.proofs.lemmas.Bool.{leb-true, le-leb, ne_eqb, eq-eqb}
@@ -121,8 +121,12 @@ scan_step logs done sents gots places i e scan two here free is =
       schedule = schedule_push logs places i two here scan.schedule free;
     }
 
+-- the link into node i comes from this one
+abbrev pub IsWriter : ℕ → ℕ → ℕ → Type 0
+IsWriter n i from = (i ≡ 0 → from ≡ n - 1) × (i ≢ 0 → from ≡ i - 1)
+
 -- what the test of a place finds
-pub can_step_iff : (logs : List Log) (done sents gots places : List ℕ) (i from g s : ℕ) (e : Event) → IsScan logs done sents gots places → i < length logs → standings places i < length (log_of logs i) → e ≡ get_or (log_of logs i) (standings places i) e → (i ≡ 0 → from ≡ length logs - 1) × (i ≢ 0 → from ≡ i - 1) → g ≡ get_or gots i 0 → s ≡ get_or sents from 0 → IsTrue (leb (g + got_by e) s) ↔ CanStep logs (standings places) i
+pub can_step_iff : (logs : List Log) (done sents gots places : List ℕ) (i from g s : ℕ) (e : Event) → IsScan logs done sents gots places → i < length logs → standings places i < length (log_of logs i) → e ≡ get_or (log_of logs i) (standings places i) e → IsWriter (length logs) i from → g ≡ get_or gots i 0 → s ≡ get_or sents from 0 → IsTrue (leb (g + got_by e) s) ↔ CanStep logs (standings places) i
 can_step_iff logs done sents gots places i from g s e scan here more is source g_is s_is =
     let there : from < length logs = elim (eq_cases i 0) [ inl z ↦ omega (arith, source.0 z) | inr z ↦ omega (arith, source.1 z) ] in
     let into : next (length logs) from ≡ i = elim (eq_cases i 0) [
@@ -147,14 +151,26 @@ can_step_iff logs done sents gots places i from g s e scan here more is source g
       λ can. le-leb _ _ (rw (gots_then, sents_now) at (can.1 from there into)),
     )
 
--- the same of what the code reads
-module _ (logs : List Log) (done sents gots places : List ℕ) (i at : ℕ) (log : Log)
-    (scan : IsScan logs done sents gots places)
+-- a counter that was read and not changed
+pub unchanged : (xs : List ℕ) (i n : ℕ) → n ≡ get_or xs i n → set xs i n ≡ xs
+unchanged xs i n e = ap (λ k. set xs i k) e ∙ set-get_or xs i n
+
+-- a place that stood so many times at the end stands there once more
+pub once_more : (places : List ℕ) (i before at : ℕ) → before ≤ at → (places ++ replicate (at - before) i) ++ i ∷ [] ≡ places ++ replicate (at + 1 - before) i
+once_more places i before at l =
+    let count : at - before + 1 ≡ at + 1 - before = omega arith in
+    append_assoc places (replicate (at - before) i) (i ∷ []) ∙ ap (λ xs. places ++ xs) (replicate-append-replicate (at - before) 1 i ∙ ap (λ n. replicate n i) count)
+
+-- the same where a node runs: the code reads its three counters, and writes them when no event may come
+module _ (logs : List Log) (done sents gots places : List ℕ) (i at sent got : ℕ) (log : Log)
+    (scan : IsScan logs (set done i at) (set sents i sent) (set gots i got) places)
     (here : i < length logs)
-    (at_is : at ≡ get_or done i at)
     (log_is : slice_get logs i ≡ Some log) where
+  counter : (xs : List ℕ) (n : ℕ) → length (set xs i n) ≡ length logs → get_or (set xs i n) i 0 ≡ n
+  counter xs n l = get_or-set_same xs i n 0 (omega (arith, l, here, length-set xs i n))
+
   at_standings : at ≡ standings places i
-  at_standings = get_or_read done i at (omega (arith, scan.all_done)) at_is 0 ∙ scan.done_is i here
+  at_standings = sym (counter done at scan.all_done) ∙ scan.done_is i here
 
   events_are : log_of logs i ≡ log.events
   events_are = ap events_of log_is
@@ -162,44 +178,56 @@ module _ (logs : List Log) (done sents gots places : List ℕ) (i at : ℕ) (log
   e_here : (e : Event) → slice_get log.events at ≡ Some e → e ≡ get_or (log_of logs i) (standings places i) e
   e_here e e_is = rw (← at_standings, events_are) (sym (get_or_from_slice_get log.events at e e e_is))
 
+  more : (e : Event) → slice_get log.events at ≡ Some e → standings places i < length (log_of logs i)
+  more e e_is = omega (arith, at_standings, ap length events_are, slice_get_within log.events at e e_is)
+
   pub few_events : length log.events ≤ MAX_RECORDS
   few_events = (scan.logs_are.valid i log log_is).count
 
-  pub at_within : at ≤ length log.events
-  at_within = omega (arith, at_standings, ap length events_are, scan.schedule.within i here)
+  pub got_within : got ≤ at
+  got_within =
+      omega (arith, counter gots got scan.all_gots, scan.gots_is i here, rank_le receipt (log_of logs i) (standings places i), at_standings)
 
-  pub at_below : CanStep logs (standings places) i → at < length log.events
-  at_below free = omega (arith, at_standings, ap length events_are, free.0)
+  pub sent_within : sent ≤ at
+  sent_within =
+      omega (arith, counter sents sent scan.all_sents, scan.sents_is i here, rank_le sending (log_of logs i) (standings places i), at_standings)
 
-  pub got_within : (g : ℕ) → g ≡ get_or gots i g → g ≤ at
-  got_within g g_is =
-      omega (arith, get_or_read gots i g (omega (arith, scan.all_gots)) g_is 0, scan.gots_is i here, rank_le receipt (log_of logs i) (standings places i), at_standings)
-
-  pub sent_within : (s : ℕ) → s ≡ get_or sents i s → s ≤ at
-  sent_within s s_is =
-      omega (arith, get_or_read sents i s (omega (arith, scan.all_sents)) s_is 0, scan.sents_is i here, rank_le sending (log_of logs i) (standings places i), at_standings)
-
-  -- no event is left
-  pub cannot_step : at ≡ length log.events → CanStep logs (standings places) i → ⊥
-  cannot_step e free = omega (arith, e, at_below free)
-
-  pub can_step_read : (from g s r : ℕ) (e : Event) → slice_get log.events at ≡ Some e → (i ≡ 0 → from ≡ length logs - 1) × (i ≢ 0 → from ≡ i - 1) → g ≡ get_or gots i g → s ≡ get_or sents from s → r ≡ got_by e → IsTrue (leb (g + r) s) ↔ CanStep logs (standings places) i
-  can_step_read from g s r e e_is source g_is s_is r_is =
+  -- the number of sendings of the node before it, which the code reads once
+  sendings_are : (from s : ℕ) → IsWriter (length logs) i from → s ≡ get_or sents from s → s ≡ get_or (set sents i sent) from 0
+  sendings_are from s source s_is =
+      let two : 2 ≤ length logs = scan.logs_are.ring.0 in
       let there : from < length logs = elim (eq_cases i 0) [ inl z ↦ omega (arith, source.0 z) | inr z ↦ omega (arith, source.1 z) ] in
-      let room : at < length log.events = slice_get_within log.events at e e_is in
-      rw r_is
-      (can_step_iff logs done sents gots places i from g s e scan here
-      (omega (arith, at_standings, ap length events_are, room))
-      (e_here e e_is) source
-      (get_or_read gots i g (omega (arith, scan.all_gots)) g_is 0)
-      (get_or_read sents from s (omega (arith, scan.all_sents)) s_is 0))
+      let other : from ≢ i = elim (eq_cases i 0) [ inl z ↦ omega (arith, source.0 z) | inr z ↦ omega (arith, source.1 z) ] in
+      let long : from < length sents = omega (arith, length-set sents i sent, scan.all_sents) in
+      get_or_read sents from s long s_is 0 ∙ sym (get_or-set_other sents i from sent 0 other)
 
-  pub scan_step_read : (g s r t : ℕ) (e : Event) → slice_get log.events at ≡ Some e → 2 ≤ length logs → CanStep logs (standings places) i → g ≡ get_or gots i g → s ≡ get_or sents i s → r ≡ got_by e → t ≡ sent_by e → IsScan logs (set done i (at + 1)) (set sents i (s + t)) (set gots i (g + r)) (places ++ i ∷ [])
-  scan_step_read g s r t e e_is two free g_is s_is r_is t_is =
-      let a : at ≡ get_or done i 0 = get_or_read done i at (omega (arith, scan.all_done)) at_is 0 in
-      let b : s ≡ get_or sents i 0 = get_or_read sents i s (omega (arith, scan.all_sents)) s_is 0 in
-      let d : g ≡ get_or gots i 0 = get_or_read gots i g (omega (arith, scan.all_gots)) g_is 0 in
-      rw (a, b, d, r_is, t_is) (scan_step logs done sents gots places i e scan two here free (e_here e e_is))
+  free_iff : (from s : ℕ) (e : Event) → IsWriter (length logs) i from → s ≡ get_or sents from s → slice_get log.events at ≡ Some e → IsTrue (leb (got + got_by e) s) ↔ CanStep logs (standings places) i
+  free_iff from s e source s_is e_is =
+      can_step_iff logs (set done i at) (set sents i sent) (set gots i got) places i from got s e scan here (more e e_is) (e_here e e_is) source
+      (sym (counter gots got scan.all_gots)) (sendings_are from s source s_is)
+
+  -- the next event may come, and was added
+  pub run_on : (from s : ℕ) (e : Event) → IsWriter (length logs) i from → s ≡ get_or sents from s → slice_get log.events at ≡ Some e → got + got_by e ≤ s → IsScan logs (set done i (at + 1)) (set sents i (sent + sent_by e)) (set gots i (got + got_by e)) (places ++ i ∷ [])
+  run_on from s e source s_is e_is free =
+      let can = (free_iff from s e source s_is e_is).0 (le-leb _ _ free) in
+      rw (
+        counter done at scan.all_done,
+        counter sents sent scan.all_sents,
+        counter gots got scan.all_gots,
+        set-set done i at (at + 1),
+        set-set sents i sent (sent + sent_by e),
+        set-set gots i got (got + got_by e),
+      ) at (scan_step logs (set done i at) (set sents i sent) (set gots i got) places i e scan scan.logs_are.ring.0 here can (e_here e e_is))
+
+  -- no next event may come
+  pub run_ends : (from s : ℕ) → IsWriter (length logs) i from → s ≡ get_or sents from s → ((e : Event) → slice_get log.events at ≡ Some e → s < got + got_by e) → IsStuckAt logs (standings places) i
+  run_ends from s source s_is none can =
+      elim (slice_get_cases log.events at).1 [
+        | inl found ↦
+            let free = leb-true _ _ ((free_iff from s found.0 source s_is found.2).1 can) in
+            omega (arith, free, none found.0 found.2)
+        | inr past ↦ omega (arith, can.0, past.0, at_standings, ap length events_are)
+      ]
 
 pub got_by_le : (e : Event) → got_by e ≤ 1
 got_by_le (Sent m) = omega arith

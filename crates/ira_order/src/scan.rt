@@ -1,11 +1,11 @@
-ghost use Rattle.std.specs.Prelude.{◌≡◌, ◌<◌, ◌≤◌, ◌+◌, ◌↔◌, length, ℕ, List, IfOk, [], ◌∷◌, ◌++◌, IsTrue, OnOk, slice_index, MatchBool};
+ghost use Rattle.std.specs.Prelude.{◌≡◌, ◌<◌, ◌≤◌, ◌+◌, ◌↔◌, length, ℕ, List, IfOk, [], ◌∷◌, ◌++◌, IsTrue, OnOk, slice_index, slice_get, MatchBool, MatchOption};
 ghost use Rattle.ira_event.specs.declared.event.Event.{Event};
 ghost use Rattle.ira_order.specs.Ring.{log_of};
 ghost use Rattle.ira_order.specs.Order.{standings};
 ghost use Rattle.ira_order.specs.Counts.{CanStep};
 ghost use Rattle.ira_order.specs.Scan.{IsScan, sent_by, got_by, GoesOn, IsStuckAt};
 
-use ira_event::{Event, Logs};
+use ira_event::{Event, Logs, NodeLog};
 use std::alloc::{AllocError, Allocator};
 
 /// A beginning of an order: how many events each node has made, how many messages it has sent and
@@ -38,6 +38,21 @@ fn receives(event: Event) -> u32
     }
 }
 
+/// The event behind the first `at` of a log, where it may come: if it is a receipt, its sending came.
+fn next_free<A: Allocator>(log: &NodeLog<A>, at: u32, got: u32, sendings: u32) -> Option<Event>
+    requires { got ≤ at }
+    ensures { MatchOption result ((e : Event) → slice_get log.now.events at ≡ Some e → sendings < got + got_by e) (λ e. (slice_get log.now.events at ≡ Some e) × (got + got_by e ≤ sendings)) }
+{
+    if at as usize >= log.len() {
+        return None;
+    }
+    let event = log.event(at + 1);
+    if got + receives(event) > sendings {
+        return None;
+    }
+    Some(event)
+}
+
 impl<A: Allocator> Scan<A> {
     /// The beginning without an event.
     pub(crate) fn start(alloc: A, logs: &Logs<A>) -> Result<Scan<A>, AllocError>
@@ -54,44 +69,8 @@ impl<A: Allocator> Scan<A> {
         })
     }
 
-    /// Whether the next event of a node may come: there is one, and if it is a receipt, its sending
-    /// came.
-    fn can_step(&self, logs: &Logs<A>, i: u8) -> bool
-        requires scan { IsScan logs.now self.now.done.items self.now.sent.items self.now.got.items self.now.places.items }
-        requires place { i < length logs.now }
-        ensures { IsTrue result ↔ CanStep logs.now (standings self.now.places.items) i }
-    {
-        let log = logs.log(i);
-        let at = self.done[usize::from(i)];
-        if at as usize == log.len() {
-            return false;
-        }
-        let writer = if i == 0 { logs.size().get() - 1 } else { i - 1 };
-        self.got[usize::from(i)] + receives(log.event(at + 1)) <= self.sent[usize::from(writer)]
-    }
-
-    /// Adds the next event of a node.
-    fn advance(&mut self, logs: &Logs<A>, i: u8) -> Result<(), AllocError>
-        requires scan { IsScan logs.now self.old.done.items self.old.sent.items self.old.got.items self.old.places.items }
-        requires place { i < length logs.now }
-        requires free { CanStep logs.now (standings self.old.places.items) i }
-        ensures scan { OnOk result (IsScan logs.now self.new.done.items self.new.sent.items self.new.got.items self.new.places.items) }
-        ensures place { OnOk result (self.new.places.items ≡ self.old.places.items ++ i ∷ []) }
-    {
-        let node = usize::from(i);
-        let log = logs.log(i);
-        let at = self.done[node];
-        let event = log.event(at + 1);
-        self.places.push(i)?;
-        let sent = self.sent[node];
-        let got = self.got[node];
-        self.sent[node] = sent + sends(event);
-        self.got[node] = got + receives(event);
-        self.done[node] = at + 1;
-        Ok(())
-    }
-
-    /// Adds the events of a node as far as they may come.
+    /// Adds the events of a node as far as they may come. The node before it makes none meanwhile, so
+    /// the number of its sendings stays.
     fn run(&mut self, logs: &Logs<A>, i: u8) -> Result<(), AllocError>
         requires scan { IsScan logs.now self.old.done.items self.old.sent.items self.old.got.items self.old.places.items }
         requires place { i < length logs.now }
@@ -99,9 +78,24 @@ impl<A: Allocator> Scan<A> {
         ensures further { OnOk result (GoesOn self.old.places.items self.new.places.items) }
         ensures stuck { OnOk result (IsStuckAt logs.now (standings self.new.places.items) i) }
     {
-        while self.can_step(logs, i) {
-            self.advance(logs, i)?;
+        let writer = if i == 0 { logs.size().get() - 1 } else { i - 1 };
+        let sendings = self.sent[usize::from(writer)];
+        let log = logs.log(i);
+        let node = usize::from(i);
+        let before = self.done[node];
+        let mut at = before;
+        let mut sent = self.sent[node];
+        let mut got = self.got[node];
+        while let Some(event) = next_free(log, at, got, sendings) {
+            at += 1;
+            sent += sends(event);
+            got += receives(event);
         }
+        let places = self.places.len() + (at - before) as usize;
+        self.places.resize(places, i)?;
+        self.done[node] = at;
+        self.sent[node] = sent;
+        self.got[node] = got;
         Ok(())
     }
 

@@ -1,14 +1,12 @@
-use Rattle.std.proofs.Common.{◌-◌, length}
-use Rattle.ira_order.specs.Ring.{log_of}
-use Rattle.ira_order.specs.Order.{standings}
-use Rattle.ira_order.specs.Scan.{IsScan, GoesOn}
+use Rattle.std.proofs.Common.{◌≤◌, ◌-◌, ◌++◌, length, replicate, set}
+use Rattle.ira_order.specs.Scan.{IsScan}
 use Rattle.ira_order.proofs.scan.Scan.run.Given as goal
 
-abbrev pub invariant-loop-self : goal.invariant-loop-self
-invariant-loop-self g l = record {
-  scan : IsScan l.logs l.self.done.items l.self.sent.items l.self.got.items l.self.places.items;
-  further : GoesOn l.fn.self.places.items l.self.places.items;
+abbrev pub invariant-loop-event : goal.invariant-loop-event
+invariant-loop-event g l = record {
+  scan : IsScan l.logs (set l.self.done.items l.i l.at) (set l.self.sent.items l.i l.sent) (set l.self.got.items l.i l.got) (l.self.places.items ++ replicate (l.at - l.before) l.i);
+  on : l.before ≤ l.at;
 }
 
-abbrev pub decreases-loop-self : goal.decreases-loop-self
-decreases-loop-self g l = length (log_of l.logs l.i) - standings l.self.places.items l.i
+abbrev pub decreases-loop-event : goal.decreases-loop-event
+decreases-loop-event g l = length l.log.events - l.at
