@@ -47,19 +47,23 @@ pub record IsRecorded (n i : ℕ) (initiator : Bool) (ids : List ℕ) (cap : ℕ
   pub draws : BeginsWith ids (drawn log.events)
   pub end : EndsAs n cap ids state log.events how
 
--- what the nodes of a setup's ring recorded, each of them for itself
+-- what the nodes of a setup's ring recorded, each of them for itself, whatever their threads did
 pub record IsRecording (s : Setup) (run : Run) : Type 0 where
+  -- there is a log for each node of the ring, of its place and its start kind
   pub logs : AreLogsOf s run.logs
-  -- each log is a local run of at most so many events
+  -- each log is a local run
   pub runs : EachLog run.logs (λ i log. IsLocalRun log)
+  -- it has at most as many events as the setup allows
   pub counts : EachLog run.logs (λ i log. length log.events ≤ s.cap)
-  -- the IDs that a node drew are the first of those that it was given
+  -- the IDs that its node drew are the first of those that it was given
   pub draws : EachLog run.logs (λ i log. BeginsWith (given s i) (drawn log.events))
-  -- the messages that a node received are the first of those that the node before it sent
+  -- the messages that it received are the first of those that the node before it sent
   pub links : EachLog run.logs (λ i log. BeginsWith (sent (log_of run.logs (prev s.nodes i))) (got log.events))
-  -- each node has an end, which the logs show; none is Quiet
+  -- there is an end for each node
   pub many : length run.ends ≡ s.nodes
+  -- the logs show each end
   pub ends : AreShown s run.logs run.ends
+  -- no end is Quiet
   pub none_quiet : (i : ℕ) → slice_get run.ends i ≢ Some Quiet
 
 -- not every node ended because the node before it had
