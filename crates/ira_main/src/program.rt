@@ -112,7 +112,7 @@ fn conclude<V: Sink>(outcome: Result<Status, Complaint<'_>>, err: &mut V) -> u8
 /// Without words it judges the log on `input`, of which it reads at most one byte more than
 /// `MAX_TEXT`. With words it reads nothing of `input`: `logs` and some names judges the logs in those
 /// files together, `run` and its options runs a ring and writes the logs of its nodes to files, and all
-/// other words are refused.
+/// other words are refused. Only a run without `--alone` starts threads, and waits for them.
 pub fn serve<R, A, I, F, W, V>(
     rt: &R,
     alloc: A,

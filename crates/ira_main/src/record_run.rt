@@ -35,9 +35,8 @@ fn write_files<'a, A: Allocator, B: Allocator, F: Shelf<B>>(
     shelf: &mut F,
 ) -> Result<(), Complaint<'a>> {
     for place in 0..logs.size().get() {
-        match write_file(&alloc, folder, logs.log(place), shelf) {
-            Ok(()) => {}
-            Err(fault) => return Err(Complaint::unwritten(folder, place, fault)),
+        if let Err(fault) = write_file(&alloc, folder, logs.log(place), shelf) {
+            return Err(Complaint::unwritten(folder, place, fault));
         }
     }
     Ok(())

@@ -11,7 +11,7 @@ pub(crate) enum Status {
     Yes,
     /// The answer was no, or no node was elected.
     No,
-    /// A word or a file was refused, or a read or a write failed.
+    /// A word, a ring or a file was refused, or a read or a write failed.
     Refused,
     OutOfMemory,
 }
