@@ -1,5 +1,5 @@
--- The setup that is made for a request.
-use Rattle.std.proofs.Common.{◌≡◌, ℕ, ◌<◌, Bool, false, List, [], length, get_or, inl, inr, refl, ap, subst, ◌∙◌, arith}
+-- What is made for a request.
+use Rattle.std.proofs.Common.{◌≡◌, ℕ, ◌<◌, Bool, true, false, List, [], Result, Ok, Err, IfOk, length, get_or, inl, inr, refl, sym, ap, subst, ◌∙◌, arith}
 use Rattle.std.specs.Prelude.{Option, IfSome, map, nat_lt, unwrap_or, slice_get}
 use Rattle.std.specs.List.{range_with_len}
 use Rattle.std.specs.Option.{option_map}
@@ -9,7 +9,12 @@ use Rattle.std.proofs.lemmas.Option.{slice_get-map, slice_get_cases, get_or_from
 use Rattle.ira_ring.specs.Draws.{draws}
 use Rattle.ira_ring.specs.SeededRun.{seeded}
 use Rattle.ira_main.specs.declared.run_request.RunRequest.{RunRequest}
-use Rattle.ira_main.specs.RunRequest.{IsAskedSetup}
+use Rattle.ira_ring.specs.declared.run_fault.RunFault.{RunFault}
+use Rattle.ira_ring.specs.Recording.{IsRecording}
+use Rattle.ira_ring.specs.Run.{Run}
+use Rattle.ira_ring.specs.Setup.{Setup}
+use Rattle.ira_ring.specs.ShownEnd.{IsLoneRun}
+use Rattle.ira_main.specs.RunRequest.{IsAskedSetup, IsAskedRun, IsRunOf}
 
 -- what holds of the member at a place holds of what is seen of it there
 seen_at : {V : Type 0} (see : V → List ℕ) (rows : List V) (i : ℕ) (ids : List ℕ) → i < length rows → IfSome (slice_get rows i) (λ row. see row ≡ ids) → get_or (map see rows) i [] ≡ ids
@@ -49,3 +54,12 @@ asked_seeded request n kinds size first =
       draws = λ i l. get_or-map-range_with_len ids 0 n i i [] l (omega arith);
       cap = refl;
     }
+
+-- a run of the setup that is asked for is the run that is asked for
+pub asked_alone : (request : RunRequest) (s : Setup) (r : Result Run RunFault) → request.is_alone ≡ true → IsAskedSetup request s → IfOk r (IsLoneRun s) → IfOk r (IsAskedRun request)
+asked_alone request s (Ok run) alone asked is = (s, asked, subst (λ b. IsRunOf b s run) (sym alone) is)
+asked_alone request s (Err f) alone asked is = tt
+
+pub asked_ring : (request : RunRequest) (s : Setup) (r : Result Run RunFault) → request.is_alone ≡ false → IsAskedSetup request s → IfOk r (IsRecording s) → IfOk r (IsAskedRun request)
+asked_ring request s (Ok run) threads asked is = (s, asked, subst (λ b. IsRunOf b s run) (sym threads) is)
+asked_ring request s (Err f) threads asked is = tt

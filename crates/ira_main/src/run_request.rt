@@ -1,7 +1,5 @@
 ghost use Rattle.std.specs.Prelude.{◌≡◌, map, nat_lt, IfOk, IfSome, unwrap_or};
 ghost use Rattle.std.specs.List.{range_with_len};
-ghost use Rattle.ira_ring.specs.Setup.{Setup};
-ghost use Rattle.ira_ring.specs.ShownEnd.{IsLoneRun};
 ghost use Rattle.ira_main.specs.RunRequest.{IsAskedSetup, IsAskedRun};
 
 use ira_event::{OutOfMemory, RingSize};
@@ -69,20 +67,6 @@ impl RunRequest<'_> {
         })
     }
 
-    // Runs a ring of this size on one thread.
-    fn run_alone<A: Allocator + Clone>(
-        &self,
-        alloc: A,
-        nodes: RingSize,
-    ) -> Result<Run<A>, RunFault>
-        requires { nodes ≡ self.now.nodes }
-        ensures { IfOk result (λ run. (s : Setup) × IsAskedSetup self.now s × IsLoneRun s run) }
-    {
-        let initiators = self.initiators(alloc.clone()?, nodes)?;
-        let cap = self.cap as usize;
-        run_alone_seeded(alloc, nodes, &initiators, self.seed, self.draws, cap)
-    }
-
     /// Runs the ring, which has this size.
     pub(crate) fn run<R, A>(&self, rt: &R, alloc: A, nodes: RingSize) -> Result<Run<A>, RunFault>
     where
@@ -92,7 +76,9 @@ impl RunRequest<'_> {
         ensures { IfOk result (IsAskedRun self.now) }
     {
         if self.is_alone {
-            return self.run_alone(alloc, nodes);
+            let initiators = self.initiators(alloc.clone()?, nodes)?;
+            let cap = self.cap as usize;
+            return run_alone_seeded(alloc, nodes, &initiators, self.seed, self.draws, cap);
         }
         let setup = self.setup(alloc.clone()?, nodes)?;
         run_ring(rt, alloc, &setup, &OpenGate)
