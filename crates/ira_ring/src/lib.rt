@@ -39,7 +39,11 @@ pub use run_fault::RunFault;
 pub use setup::Setup;
 
 #[cfg(test)]
-mod alone_tests;
+mod gate_tests;
+#[cfg(test)]
+mod run_tests;
+#[cfg(test)]
+mod samples;
 #[cfg(test)]
 mod tests;
 #[cfg(test)]

@@ -1,17 +1,9 @@
+use crate::samples::{clean, loser, winner};
 use crate::{Collector, NodeEnd, NodePart, RunFault, draw_lists, write_ends};
-use ira_event::{Event, MemorySink, Msg, NodeLog, RingSize};
+use ira_event::{Event, MemorySink, NodeLog, RingSize};
 use std::alloc::Global;
 use std::process::Abort;
 use std::test::Fail;
-
-fn clean(round: u32, id: u32, hop: u32) -> Msg {
-    Msg {
-        round,
-        id,
-        hop,
-        dirty: false,
-    }
-}
 
 fn ring(nodes: u8) -> Result<RingSize, Fail> {
     Ok(RingSize::new(nodes).ok_or("a ring of that size")?)
@@ -144,32 +136,8 @@ fn assert_ends_text(
 #[test]
 fn two_node_election(rt: HostRuntime) -> Result<(), Fail> {
     let alloc = rt.alloc();
-    let leader = part_of(
-        alloc,
-        0,
-        2,
-        0,
-        &[
-            Event::Draw(2),
-            Event::Sent(clean(1, 2, 1)),
-            Event::Got(clean(1, 1, 1)),
-            Event::Got(clean(1, 2, 2)),
-        ],
-        NodeEnd::Leader,
-    )?;
-    let stopped = part_of(
-        alloc,
-        1,
-        2,
-        1,
-        &[
-            Event::Draw(1),
-            Event::Sent(clean(1, 1, 1)),
-            Event::Got(clean(1, 2, 1)),
-            Event::Sent(clean(1, 2, 2)),
-        ],
-        NodeEnd::Stopped,
-    )?;
+    let leader = part_of(alloc, 0, 2, 0, &winner(), NodeEnd::Leader)?;
+    let stopped = part_of(alloc, 1, 2, 1, &loser(), NodeEnd::Stopped)?;
     // The parts may come in any order.
     assert_ends_text(
         &rt,

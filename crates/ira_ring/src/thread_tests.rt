@@ -1,24 +1,10 @@
-ghost use Rattle.std.specs.Prelude.{◌≡◌, ◌≤◌, [], true, vec_capacity};
-ghost use Rattle.ira_event.specs.Event.{is_msg};
-
+use crate::samples::{assert_events, clean};
 use crate::{NodeEnd, NodePart, NodeWork, node_body};
-use ira_event::{Event, Msg, RingSize};
+use ira_event::{Event, RingSize};
 use ira_links::{Frame, OpenGate, link};
 use std::alloc::Global;
 use std::process::Abort;
 use std::test::*;
-
-fn clean(round: u32, id: u32, hop: u32) -> Msg
-    requires { (1 ≤ round) × (round ≤ 1000000) × (1 ≤ id) × (id ≤ 1000000) × (1 ≤ hop) × (hop ≤ 1000000) }
-    ensures { is_msg result ≡ true }
-{
-    Msg {
-        round,
-        id,
-        hop,
-        dirty: false,
-    }
-}
 
 fn assert_part(
     rt: &impl Abort,
@@ -30,10 +16,7 @@ fn assert_part(
     assert_eq!(rt; part.place, place);
     assert_eq!(rt; part.end, end);
     assert_eq!(rt; part.log.place(), place);
-    assert_eq!(rt; part.log.len(), events.len());
-    for (event, want) in part.log.events().zip(events) {
-        assert_eq!(rt; event, *want);
-    }
+    assert_events(rt, &part.log, events);
 }
 
 #[test]
