@@ -5,5 +5,5 @@ use ira_main::start;
 use std::process::ExitCode;
 
 fn main(rt: HostRuntime) -> ExitCode {
-    start(&rt)
+    start(&rt, rt.stdin(), rt.stdout(), rt.stderr())
 }

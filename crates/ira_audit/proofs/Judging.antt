@@ -45,21 +45,6 @@ answered_reportable P (Err refusal.OutOfMemory) h = tt
 
 -- ---- texts of several logs
 
--- the text that comes next is refused
-pub next_refused : (texts : List (List ℕ)) (logs : List Log) (i n : ℕ) (text : List ℕ) (s : Refusal) → AreLogTexts (take i texts) logs → slice_get texts i ≡ Some text → n ≡ i
-    → (s ≡ refusal.OutOfMemory) ⊎ ((f : LogFault) × (s ≡ refusal.No (reason.Log n f)) × LogTextFault text f × (f ≢ fault.OutOfMemory))
-    → (s ≡ refusal.OutOfMemory) ⊎ ((m : ℕ) × (f : LogFault) × (s ≡ refusal.No (reason.Log m f)) × IsFirstTextFault texts m f × (f ≢ fault.OutOfMemory))
-next_refused texts logs i n text s before at number (inl e) = inl e
-next_refused texts logs i n text s before at number (inr h) =
-    inr (n, h.0, h.1, rw number (record { before = logs; before_are = before; text = text; at = at; fault = h.2 }), h.3)
-
--- a text is no log's
-pub texts_refused : (texts : List (List ℕ)) (r : Result (Unit {0}) Refusal) (s : Refusal) → r ≡ Err s
-    → (s ≡ refusal.OutOfMemory) ⊎ ((m : ℕ) × (f : LogFault) × (s ≡ refusal.No (reason.Log m f)) × IsFirstTextFault texts m f × (f ≢ fault.OutOfMemory))
-    → Judged r (IsLogsAnswer texts)
-texts_refused texts r s is (inl e) = rw (is, e) tt
-texts_refused texts r s is (inr h) = rw (is, h.2) (no_log h.0 h.1 h.3 refl, h.4)
-
 module _ (texts : List (List ℕ)) (logs : List Log) (are : AreLogTexts texts logs) (r : Result (Unit {0}) Refusal) where
   pub heads_refused : (f : HeadFault) → r ≡ Err (refusal.No (reason.Heads f)) → HeadFaultOf logs f → Judged r (IsLogsAnswer texts)
   heads_refused f is h = rw is (no_ring logs f are h refl, tt)

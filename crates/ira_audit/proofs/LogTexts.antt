@@ -1,13 +1,17 @@
 -- Texts and the logs whose texts they are.
-use Rattle.std.proofs.Common.{Bor, map, length, slice_index_or, ◌≡◌, ℕ, zero, suc, ◌+◌, ◌<◌, List, [], ◌∷◌, ◌++◌, Some, take, refl, sym, ap, subst, ◌∙◌, arith}
+use Rattle.std.proofs.Common.{Bor, true, false, Option, None, map, length, slice_index_or, ◌≡◌, ℕ, zero, suc, ◌+◌, ◌<◌, ◌≤◌, List, [], ◌∷◌, ◌++◌, Some, take, refl, sym, ap, subst, ◌∙◌, arith}
 use native.Mathlib.Numerals.{unary_clauses}
 use Rattle.std.specs.Prelude.{slice_get}
+use Rattle.std.proofs.lemmas.List.{take-append-le, take_more, take_all, length-map}
+use Rattle.std.proofs.lemmas.Option.{slice_get_within, get_or_from_slice_get}
 use Rattle.ira_event.specs.declared.log_fault.LogFault.{LogFault}
 use Rattle.ira_event.specs.Log.{Log}
 use Rattle.ira_event.specs.LogText.{IsLogText}
 use Rattle.ira_event.specs.LogTextFault.{LogTextFault}
 use Rattle.ira_event.proofs.LogAnswers.{one_log, log_or_fault, one_fault}
+use Rattle.std.specs.Option.{is_some}
 use Rattle.ira_audit.specs.LogTexts.{AreLogTexts, IsFirstTextFault}
+use Rattle.ira_audit.specs.RingAudit.{AreKept}
 
 some_is : {X : Type 0} (x y : X) → Some x ≡ Some y → x ≡ y
 some_is x y e = cc
@@ -52,18 +56,81 @@ one_first texts i j f g h k =
     let text : h.text ≡ k.text = some_is _ _ (sym h.at ∙ ap (slice_get texts) here ∙ k.at) in
     (here, one_fault k.text f g (subst (λ x. LogTextFault x f) text h.fault) k.fault)
 
--- one text more
-pub one_more : (texts : List (List ℕ)) (logs : List Log) (i : ℕ) (text : List ℕ) (log : Log) → AreLogTexts (take i texts) logs → slice_get texts i ≡ Some text → IsLogText text log → AreLogTexts (take (i + 1) texts) (logs ++ log ∷ [])
-one_more [] logs i text log a e is = absurd cc
-one_more (t ∷ ts) [] zero text log a e is = (subst (λ x. IsLogText x log) (sym (some_is t text e)) is, tt)
-one_more (t ∷ ts) (l ∷ ls) zero text log a e is = absurd a
-one_more (t ∷ ts) [] (suc i) text log a e is = absurd a
-one_more (t ∷ ts) (l ∷ ls) (suc i) text log a e is =
-    let behind = simp unary_clauses at (one_more ts ls i text log a.1 e is) in
-    simp unary_clauses (a.0, behind)
+-- a member of a list is a member of a longer one
+member : {X : Type 0} (xs ys : List X) (i : ℕ) (x : X) → slice_get xs i ≡ Some x → slice_get (xs ++ ys) i ≡ Some x
+member [] ys i x e = absurd cc
+member (y ∷ xs) ys zero x e = e
+member (y ∷ xs) ys (suc i) x e = member xs ys i x e
+
+-- one text more, and its log
+pub one_more : (texts : List (List ℕ)) (logs : List Log) (text : List ℕ) (log : Log) → AreLogTexts texts logs → IsLogText text log → AreLogTexts (texts ++ text ∷ []) (logs ++ log ∷ [])
+one_more [] [] text log a is = (is, tt)
+one_more [] (l ∷ ls) text log a is = absurd a
+one_more (t ∷ ts) [] text log a is = absurd a
+one_more (t ∷ ts) (l ∷ ls) text log a is = (a.0, one_more ts ls text log a.1 is)
+
+-- the text behind those of some logs
+next_at : (texts : List (List ℕ)) (logs : List Log) (text : List ℕ) → AreLogTexts texts logs → slice_get (texts ++ text ∷ []) (length logs) ≡ Some text
+next_at [] [] text a = refl
+next_at [] (l ∷ ls) text a = absurd a
+next_at (t ∷ ts) [] text a = absurd a
+next_at (t ∷ ts) (l ∷ ls) text a = next_at ts ls text a.1
+
+before_next : (texts : List (List ℕ)) (logs : List Log) (text : List ℕ) → AreLogTexts texts logs → AreLogTexts (take (length logs) (texts ++ text ∷ [])) logs
+before_next [] [] text a = tt
+before_next [] (l ∷ ls) text a = absurd a
+before_next (t ∷ ts) [] text a = absurd a
+before_next (t ∷ ts) (l ∷ ls) text a = (a.0, before_next ts ls text a.1)
+
+-- the text behind those of some logs is no log's
+pub first_fault : (texts : List (List ℕ)) (logs : List Log) (text : List ℕ) (f : LogFault) → AreLogTexts texts logs → LogTextFault text f → IsFirstTextFault (texts ++ text ∷ []) (length logs) f
+first_fault texts logs text f a h = record {
+  before = logs;
+  before_are = before_next texts logs text a;
+  text = text;
+  at = next_at texts logs text a;
+  fault = h;
+}
+
+-- one text more, behind one that is no log's
+pub later_text : (texts : List (List ℕ)) (text : List ℕ) (i : ℕ) (f : LogFault) → IsFirstTextFault texts i f → IsFirstTextFault (texts ++ text ∷ []) i f
+later_text texts text i f h = record {
+  before = h.before;
+  before_are = subst (λ front. AreLogTexts front h.before) (sym (take-append-le i texts (text ∷ []) (omega (arith, slice_get_within texts i h.text h.at)))) h.before_are;
+  text = h.text;
+  at = member texts (text ∷ []) i h.text h.at;
+  fault = h.fault;
+}
 
 -- the text that a place of the list of borrowed texts lends
 pub lent : (texts : List (Bor (List ℕ))) (i : ℕ) (d : Bor (List ℕ)) → i < length texts → slice_get (map (λ t. t.now) texts) i ≡ Some (slice_index_or texts i d).now
 lent [] i d lt = absurd (omega (arith, lt))
 lent (t ∷ ts) zero d lt = refl
 lent (t ∷ ts) (suc i) d lt = lent ts i d (omega (arith, lt))
+
+-- ---- what is kept of texts that are taken one by one
+
+-- one text more, which is a log's
+pub keeps_log : (texts : List (List ℕ)) (logs : List Log) (fault : Option LogFault) (text : List ℕ) (log : Log) → false ≡ is_some fault → AreKept texts logs fault → IsLogText text log → AreKept (texts ++ text ∷ []) (logs ++ log ∷ []) fault
+keeps_log texts logs None text log none kept is = one_more texts logs text log kept is
+keeps_log texts logs (Some f) text log none kept is = absurd cc
+
+-- one text more, which is none
+pub keeps_fault : (texts : List (List ℕ)) (logs : List Log) (fault : Option LogFault) (text : List ℕ) (f : LogFault) → false ≡ is_some fault → AreKept texts logs fault → LogTextFault text f → IsFirstTextFault (texts ++ text ∷ []) (length logs) f
+keeps_fault texts logs None text f none kept h = first_fault texts logs text f kept h
+keeps_fault texts logs (Some g) text f none kept h = absurd cc
+
+-- one text more, behind one that is no log's
+pub keeps_first : (texts : List (List ℕ)) (logs : List Log) (fault : Option LogFault) (text : List ℕ) → true ≡ is_some fault → AreKept texts logs fault → AreKept (texts ++ text ∷ []) logs fault
+keeps_first texts logs None text some kept = absurd cc
+keeps_first texts logs (Some f) text some kept = (later_text texts text (length logs) f kept.0, kept.1)
+
+-- the texts up to the next one, and that
+pub next_taken : (texts : List (List ℕ)) (i : ℕ) (text : List ℕ) → slice_get texts i ≡ Some text → take i texts ++ text ∷ [] ≡ take (i + 1) texts
+next_taken texts i text at =
+    let here = get_or_from_slice_get texts i text text at in
+    sym (take_more texts i text (slice_get_within texts i text at) ∙ ap (λ t. take i texts ++ t ∷ []) here)
+
+-- all of the borrowed texts
+pub all_taken : (texts : List (Bor (List ℕ))) (i : ℕ) → length texts ≤ i → take i (map (λ t. t.now) texts) ≡ map (λ t. t.now) texts
+all_taken texts i most = take_all i (map (λ t. t.now) texts) (omega (arith, most, length-map texts (λ (t : Bor (List ℕ)). t.now)))

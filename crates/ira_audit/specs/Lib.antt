@@ -4,4 +4,5 @@ pub mod LogsAnswer
 pub mod Refusal
 pub mod Replaying
 pub mod Report
+pub mod RingAudit
 pub mod TextRuns

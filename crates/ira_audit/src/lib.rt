@@ -7,6 +7,7 @@ mod one_log;
 mod reason;
 mod refusal;
 mod report;
+mod ring_audit;
 mod ring_logs;
 
 pub use answer::Answer;
@@ -14,6 +15,7 @@ pub use laws::answers_are_one;
 pub use one_log::audit_one;
 pub use reason::Reason;
 pub use report::write_report;
+pub use ring_audit::RingAudit;
 pub use ring_logs::audit_logs;
 
 #[cfg(test)]

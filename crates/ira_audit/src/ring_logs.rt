@@ -1,14 +1,11 @@
-ghost use Rattle.std.specs.Prelude.{◌≡◌, ◌↔◌, ◌≢◌, ◌⊎◌, ℕ, Ok, Err, IfOk, MatchResult, map};
+ghost use Rattle.std.specs.Prelude.{◌≡◌, ◌↔◌, ℕ, List, Ok, IfOk, MatchResult, map};
 ghost use Rattle.ira_event.specs.Result.{UnlessErr};
-ghost use Rattle.ira_event.specs.LogText.{IsLogText};
-ghost use Rattle.ira_event.specs.LogTextFault.{LogTextFault};
-ghost use Rattle.ira_event.specs.declared.log_fault.LogFault.{LogFault};
 ghost use Rattle.ira_node.specs.declared.step_fault.StepFault.{StepFault};
 ghost use Rattle.ira_replay.specs.declared.replay_fault.ReplayFault.{ReplayFault};
 ghost use Rattle.ira_order.specs.declared.match_fault.MatchFault.{MatchFault};
 ghost use Rattle.ira_replay.specs.LocalRun.{IsLocalRun, IsFirstFault};
 ghost use Rattle.ira_order.specs.Run.{AreLocalRuns};
-ghost use Rattle.ira_audit.specs.LogTexts.{AreLogTexts, IsFirstTextFault};
+ghost use Rattle.ira_audit.specs.LogTexts.{AreLogTexts};
 ghost use Rattle.ira_audit.specs.LogsAnswer.{IsLogsAnswer, IsFirstStop};
 ghost use Rattle.ira_audit.specs.Refusal.{Judged};
 ghost use Rattle.ira_audit.specs.Report.{IsReportable};
@@ -17,8 +14,9 @@ ghost use Rattle.ira_audit.specs.declared.answer.Answer.{Answer};
 
 use crate::answer::Answer;
 use crate::reason::Reason;
-use crate::refusal::{Refusal, answer_of};
-use ira_event::{LogFault, Logs, NodeLog, OutOfMemory, read_log};
+use crate::refusal::Refusal;
+use crate::ring_audit::RingAudit;
+use ira_event::{Logs, NodeLog, OutOfMemory};
 use ira_order::order;
 use ira_replay::{ReplayFault, replay};
 use std::alloc::Allocator;
@@ -40,30 +38,22 @@ pub fn audit_logs<A: Allocator + Clone>(alloc: A, texts: &[&[u8]]) -> Result<Ans
     ensures circled { result ≡ Ok (Answer.No Reason.Circle) → AreTextsWithoutRun (map (λ text. text.now) texts.now) }
     ensures stopped { (place position : ℕ) (f : StepFault) → result ≡ Ok (Answer.No (Reason.Replay place position f)) → AreTextsWithoutRun (map (λ text. text.now) texts.now) }
 {
-    answer_of(judge_texts(alloc, texts))
+    let mut audit = RingAudit::new(alloc);
+    for text in texts {
+        audit.take(text)?;
+    }
+    audit.finish()
 }
 
-fn judge_texts<A: Allocator + Clone>(alloc: A, texts: &[&[u8]]) -> Result<(), Refusal>
-    ensures { Judged result (IsLogsAnswer (map (λ text. text.now) texts.now)) }
+/// Whether the logs are those of one ring, match and have an order, and each event has a step.
+pub(crate) fn judge_logs<A: Allocator + Clone>(logs: Vec<NodeLog<A>, A>) -> Result<(), Refusal>
+    ensures { (texts : List (List ℕ)) → AreLogTexts texts logs.items → Judged result (IsLogsAnswer texts) }
 {
-    let logs = Logs::gather(read_texts(alloc.clone()?, texts)?)?;
+    let alloc = logs.allocator().clone()?;
+    let logs = Logs::gather(logs)?;
     order(alloc, &logs)?;
     check_all_steps(&logs)?;
     Ok(())
-}
-
-/// The logs of the texts.
-pub(crate) fn read_texts<A: Allocator + Clone>(
-    alloc: A,
-    texts: &[&[u8]],
-) -> Result<Vec<NodeLog<A>, A>, Refusal>
-    ensures { MatchResult result (λ logs. AreLogTexts (map (λ text. text.now) texts.now) logs.items) (λ r. (r ≡ Refusal.OutOfMemory) ⊎ ((i : ℕ) × (f : LogFault) × (r ≡ Refusal.No (Reason.Log i f)) × IsFirstTextFault (map (λ text. text.now) texts.now) i f × (f ≢ LogFault.OutOfMemory))) }
-{
-    let mut logs = Vec::new(alloc.clone()?);
-    for text in texts {
-        logs.push(read_text(alloc.clone()?, logs.len(), text)?)?;
-    }
-    Ok(logs)
 }
 
 /// Whether each event of each log has a step.
@@ -74,17 +64,6 @@ pub(crate) fn check_all_steps<A: Allocator>(logs: &Logs<A>) -> Result<(), Reason
         check_steps(logs.log(place))?;
     }
     Ok(())
-}
-
-/// The log of the text of this number.
-fn read_text<A: Allocator>(alloc: A, number: usize, text: &[u8]) -> Result<NodeLog<A>, Refusal>
-    ensures { MatchResult result (IsLogText text.now) (λ r. (r ≡ Refusal.OutOfMemory) ⊎ ((f : LogFault) × (r ≡ Refusal.No (Reason.Log number f)) × LogTextFault text.now f × (f ≢ LogFault.OutOfMemory))) }
-{
-    match read_log(alloc, text) {
-        Ok(log) => Ok(log),
-        Err(LogFault::OutOfMemory) => Err(Refusal::OutOfMemory),
-        Err(fault) => Err(Refusal::No(Reason::Log { number, fault })),
-    }
 }
 
 /// Whether each event of a log has a step.

@@ -1,6 +1,8 @@
-use Rattle.std.specs.Prelude.{ℕ, Result, Ok, Err}
+use Rattle.std.specs.Prelude.{◌≡◌, ◌⊎◌, ℕ, List, Some, Result, Ok, Err, slice_get}
 use Rattle.ira_audit.specs.declared.answer.Answer.{Answer}
 use Rattle.ira_audit.specs.declared.answer.Answer.TheVariants as answer
+use Rattle.ira_ring.specs.declared.node_end.NodeEnd.{NodeEnd}
+use Rattle.ira_ring.specs.declared.node_end.NodeEnd.TheVariants.{Leader}
 use Rattle.ira_main.specs.declared.complaint.Complaint.{Complaint}
 use Rattle.ira_main.specs.declared.complaint.Complaint.TheVariants as complaint
 use Rattle.ira_main.specs.declared.shelf_fault.ShelfFault.{ShelfFault}
@@ -20,7 +22,15 @@ abbrev pub answer_status : Answer → Status
 answer_status answer.Yes = Yes
 answer_status (answer.No reason) = No
 
--- the status of a file that wasn't read
+-- a node ended as the leader
+abbrev pub HasLeader : List NodeEnd → Type 0
+HasLeader ends = (i : ℕ) × (slice_get ends i ≡ Some Leader)
+
+-- the number of a run's status: 0 where a node leads, else 1
+abbrev pub IsElectionStatus : List NodeEnd → ℕ → Type 0
+IsElectionStatus ends status = (HasLeader ends × (status ≡ 0)) ⊎ (¬ (HasLeader ends) × (status ≡ 1))
+
+-- the status of a file that wasn't read or written
 abbrev pub fault_status : ShelfFault → Status
 fault_status fault.Device = Refused
 fault_status fault.OutOfMemory = OutOfMemory

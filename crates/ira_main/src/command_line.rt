@@ -3,8 +3,9 @@ ghost use Rattle.ira_main.specs.declared.request.Request.TheVariants as request;
 
 use crate::complaint::Complaint;
 use crate::request::Request;
+use crate::run_request::RunRequest;
 use clap::error::ErrorKind;
-use clap::{Arg, ArgAction, ArgMatches, Command, Error};
+use clap::{Arg, ArgAction, ArgMatches, Command, Error, value_parser};
 use std::alloc::{AllocError, Global};
 
 /// The program's command line.
@@ -12,15 +13,20 @@ fn command<'a>(alloc: Global) -> Result<Command<'a>, AllocError> {
     Command::new(alloc, "ira")
         .no_binary_name(true)
         .bin_name("ira")?
-        .about("Judges logs of Itai-Rodeh elections on anonymous rings.")
-        .override_usage("ira < LOG\n       ira logs <LOG>...")
+        .about("Judges and makes logs of Itai-Rodeh elections on anonymous rings.")
+        .override_usage(
+            "ira < LOG\n       ira logs <LOG>...\n       \
+             ira run --nodes <N> --seed <S> --out <DIR> [OPTIONS]",
+        )
         .after_help(
             "Without words ira judges the log of one node, on standard input. It prints `yes`, or \
-             `no` and\nthe first reason. The status is 0 for yes, 1 for no, 2 for refused words, a \
-             failed read or a\nfailed write, 3 for want of memory.",
+             `no` and\nthe first reason. The status is 0 for yes or an elected leader, 1 for no or \
+             no leader, 2 for\nrefused words, a refused ring, a failed read or a failed write, 3 for \
+             want of memory.",
         )
         .subcommand_required(true)
-        .subcommand(logs_command(alloc)?)
+        .subcommand(logs_command(alloc)?)?
+        .subcommand(run_command(alloc)?)
 }
 
 fn logs_command<'a>(alloc: Global) -> Result<Command<'a>, AllocError> {
@@ -44,15 +50,76 @@ fn logs_request<'a>(alloc: Global, matches: &ArgMatches<'a>) -> Result<Request<'
     Ok(Request::Logs(names))
 }
 
+/// An option that takes a number.
+fn number<'a>(alloc: Global, name: &'a str, value: &'a str, help: &'a str) -> Arg<'a> {
+    Arg::new(alloc, name)
+        .long(name)
+        .value_name(value)
+        .value_parser(value_parser!(u64))
+        .help(help)
+}
+
+fn run_command<'a>(alloc: Global) -> Result<Command<'a>, AllocError> {
+    let nodes = number(alloc, "nodes", "N", "How many nodes the ring has, 2 to 64");
+    let seed = number(alloc, "seed", "S", "The number that all draws come from");
+    let folder = Arg::new(alloc, "out").long("out").value_name("DIR").help(
+        "The folder, which exists, for the logs 0.log, 1.log and so on",
+    );
+    let initiators = number(
+        alloc,
+        "initiators",
+        "M",
+        "How many nodes begin, from node 0 on; all if not given",
+    );
+    let draws = Arg::new(alloc, "draws")
+        .long("draws")
+        .value_name("K")
+        .value_parser(value_parser!(u32).range(0..=100_000))
+        .default_value("64")
+        .help("How many IDs each node is given to draw, 0 to 100000");
+    let cap = number(alloc, "cap", "C", "The most records of a log, 1 to 100000");
+    let alone = Arg::new(alloc, "alone")
+        .long("alone")
+        .action(ArgAction::SetTrue)
+        .help("Run all nodes on one thread");
+    Command::new(alloc, "run")
+        .about("Runs an election, and writes the log of each node to a file")
+        .arg(nodes.required(true))?
+        .arg(seed.required(true))?
+        .arg(folder.required(true))?
+        .arg(initiators)?
+        .arg(draws)?
+        .arg(cap.default_value("10000"))?
+        .arg(alone)
+}
+
+/// The ring to run, where all its options have a value.
+fn run_request<'a>(matches: &ArgMatches<'a>) -> Option<RunRequest<'a>> {
+    Some(RunRequest {
+        nodes: matches.get_one("nodes")?,
+        seed: matches.get_one("seed")?,
+        folder: matches.get_str("out")?,
+        initiators: matches.get_one("initiators"),
+        draws: matches.get_one("draws")?,
+        cap: matches.get_one("cap")?,
+        is_alone: matches.get_flag("alone"),
+    })
+}
+
 // What some words ask for.
 fn request_of_words<'a>(alloc: Global, words: &'a [&'a str]) -> Result<Request<'a>, Error>
     ensures { result ≢ Ok request.OneLog }
 {
     let mut command = command(alloc)?;
     let matches = command.try_get_matches_from_mut(words)?;
-    match matches.subcommand() {
-        Some(("logs", found)) => logs_request(alloc, found),
-        _ => Err(command.error(ErrorKind::MissingSubcommand, "a command is missing")?),
+    let asked = match matches.subcommand() {
+        Some(("logs", found)) => Some(logs_request(alloc, found)?),
+        Some(("run", found)) => run_request(found).map(Request::Run),
+        _ => None,
+    };
+    match asked {
+        Some(request) => Ok(request),
+        None => Err(command.error(ErrorKind::MissingSubcommand, "a command is missing")?),
     }
 }
 

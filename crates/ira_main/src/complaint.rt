@@ -3,7 +3,8 @@ ghost use Rattle.ira_main.specs.Status.{complaint_status, fault_status};
 
 use crate::shelf_fault::ShelfFault;
 use crate::status::Status;
-use ira_event::{OutOfMemory, Sink, WriteFault, write_bytes};
+use ira_event::{OutOfMemory, Sink, WriteFault, write_bytes, write_number};
+use ira_ring::RunFault;
 use std::alloc::{AllocError, AllocFailed};
 
 /// Why the program ends with no answer, or with one that couldn't be written.
@@ -13,6 +14,11 @@ pub(crate) enum Complaint<'a> {
     Words(String),
     /// The file of this name can't be read; `-` stands for standard input.
     CannotRead(&'a str),
+    /// A ring of so many nodes is none.
+    RingSize,
+    RunRefused(RunFault),
+    /// The log of the node at this place can't be written to its file in this folder.
+    CannotWriteLog(&'a str, u8),
     CannotWriteAnswer,
     OutOfMemory,
 }
@@ -24,6 +30,16 @@ impl<'a> Complaint<'a> {
     {
         match fault {
             ShelfFault::Device => Complaint::CannotRead(name),
+            ShelfFault::OutOfMemory => Complaint::OutOfMemory,
+        }
+    }
+
+    /// The log of the node at this place wasn't written to its file in this folder.
+    pub(crate) fn unwritten(folder: &'a str, place: u8, fault: ShelfFault) -> Complaint<'a>
+        ensures { complaint_status result ≡ fault_status fault }
+    {
+        match fault {
+            ShelfFault::Device => Complaint::CannotWriteLog(folder, place),
             ShelfFault::OutOfMemory => Complaint::OutOfMemory,
         }
     }
@@ -47,6 +63,19 @@ impl<'a> Complaint<'a> {
                 write_bytes(b"ira: cannot read ", err)?;
                 write_bytes(name.as_bytes(), err)?;
                 write_bytes(b"\n", err)
+            }
+            Complaint::RingSize => write_bytes(b"ira: ring size\n", err),
+            Complaint::RunRefused(fault) => {
+                write_bytes(b"ira: run refused ", err)?;
+                write_number(u64::from(fault.number()), err)?;
+                write_bytes(b"\n", err)
+            }
+            Complaint::CannotWriteLog(folder, place) => {
+                write_bytes(b"ira: cannot write ", err)?;
+                write_bytes(folder.as_bytes(), err)?;
+                write_bytes(b"/", err)?;
+                write_number(u64::from(*place), err)?;
+                write_bytes(b".log\n", err)
             }
             Complaint::CannotWriteAnswer => write_bytes(b"ira: cannot write the answer\n", err),
             Complaint::OutOfMemory => write_bytes(b"ira: out of memory\n", err),
@@ -84,5 +113,14 @@ impl<'a, T: Drop> From<AllocFailed<T>> for Complaint<'a> {
 
     fn from(_refused: AllocFailed<T>) -> Complaint<'a> {
         Complaint::OutOfMemory
+    }
+}
+
+impl<'a> From<RunFault> for Complaint<'a> {
+    fn from(fault: RunFault) -> Complaint<'a> {
+        match fault {
+            RunFault::OutOfMemory => Complaint::OutOfMemory,
+            refused => Complaint::RunRefused(refused),
+        }
     }
 }

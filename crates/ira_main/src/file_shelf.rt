@@ -2,7 +2,7 @@ use crate::counted::Counted;
 use crate::read_text::read_text;
 use crate::shelf::Shelf;
 use crate::shelf_fault::ShelfFault;
-use ira_event::{ToWriter, WriteFault};
+use ira_event::ToWriter;
 use std::alloc::Allocator;
 use std::fs::{self, Files};
 use std::io::BufWriter;
@@ -36,9 +36,6 @@ impl<R: Files, A: Allocator + Clone> Shelf<A> for FileShelf<'_, R, A> {
     }
 
     fn close(&mut self, mut file: Self::Out) -> Result<(), ShelfFault> {
-        match file.flush() {
-            Ok(()) => Ok(()),
-            Err(WriteFault) => Err(ShelfFault::Device),
-        }
+        Ok(file.flush()?)
     }
 }

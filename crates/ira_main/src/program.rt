@@ -7,13 +7,17 @@ use crate::command_line::request;
 use crate::complaint::Complaint;
 use crate::counted::Counted;
 use crate::read_text::read_text;
+use crate::record_run::record_run;
 use crate::request::Request;
 use crate::shelf::Shelf;
 use crate::status::Status;
-use ira_audit::{Answer, audit_logs, audit_one, write_report};
+use ira_audit::{Answer, RingAudit, audit_one, write_report};
 use ira_event::{MAX_TEXT, Sink, WriteFault};
-use std::alloc::{Allocator, Global};
+use std::alloc::Allocator;
 use std::io::Read;
+use std::sync::Wait;
+use std::thread::Threads;
+use std::time::Clock;
 
 // Writes the answer's line, and gives the answer's status.
 fn report<'a, W: Sink>(answer: &Answer, out: &mut W) -> Result<Status, Complaint<'a>>
@@ -43,23 +47,8 @@ fn judge_input<'a, A: Allocator, I: Read, W: Sink>(
     report(&answer, out)
 }
 
-// The texts of the files of these names, in their order.
-fn read_files<'a, A: Allocator, B: Allocator, F: Shelf<B>>(
-    alloc: A,
-    names: &[&'a str],
-    shelf: &mut F,
-) -> Result<Vec<Vec<u8, B>, A>, Complaint<'a>> {
-    let mut texts = Vec::with_capacity(alloc, names.len())?;
-    for name in names {
-        match shelf.read(name) {
-            Ok(text) => texts.push(text)?,
-            Err(fault) => return Err(Complaint::unread(name, fault)),
-        }
-    }
-    Ok(texts)
-}
-
-// Judges the logs in the files of these names together. All are read before any is judged.
+// Judges the logs in the files of these names together. Each file is read before an answer is given,
+// and its text is given up once its log is read.
 fn judge_files<'a, A: Allocator, F: Shelf<A>, W: Sink>(
     alloc: A,
     names: &[&'a str],
@@ -68,28 +57,40 @@ fn judge_files<'a, A: Allocator, F: Shelf<A>, W: Sink>(
 ) -> Result<Status, Complaint<'a>>
     ensures { JudgesTogether (W.taken out.old) (W.failures out.old) (W.taken out.new) (W.failures out.new) (outcome_number result) }
 {
-    let files = read_files(&alloc, names, shelf)?;
-    let texts: Vec<&[u8], &A> = files.iter().map(|text| text.as_slice()).collect(&alloc)?;
-    let answer = audit_logs(&alloc, &texts)?;
+    let mut audit = RingAudit::new(&alloc);
+    for name in names {
+        match shelf.read(name) {
+            Ok(text) => audit.take(&text)?,
+            Err(fault) => return Err(Complaint::unread(name, fault)),
+        }
+    }
+    let answer = audit.finish()?;
     report(&answer, out)
 }
 
 // Does what the words ask for.
-fn obey<'a, A: Allocator, I: Read, F: Shelf<A>, W: Sink>(
-    words_alloc: Global,
+fn obey<'a, R, A, I, F, W>(
+    rt: &R,
     alloc: A,
     words: &'a [&'a str],
     input: &mut Counted<I>,
     shelf: &mut F,
     out: &mut W,
 ) -> Result<Status, Complaint<'a>>
+where
+    R: AllocGlobal + Threads + Wait + Clock + Sync,
+    A: Allocator + Clone + Send + Sync,
+    I: Read,
+    F: Shelf<A>,
+    W: Sink,
     ensures judged { words.now ≡ [] → Judges input.old input.new (W.taken out.old) (W.failures out.old) (W.taken out.new) (W.failures out.new) (outcome_number result) }
     ensures obeyed { words.now ≢ [] → Obeys input.old input.new (W.taken out.old) (W.failures out.old) (W.taken out.new) (W.failures out.new) (outcome_number result) }
     ensures reads { input.new.reads ≤ input.old.reads + (MAX_TEXT + 1) }
 {
-    match request(words_alloc, words)? {
+    match request(rt.alloc(), words)? {
         Request::OneLog => judge_input(alloc, input, out),
         Request::Logs(names) => judge_files(alloc, &names, shelf, out),
+        Request::Run(ring) => record_run(rt, alloc, &ring, shelf, out),
     }
 }
 
@@ -105,13 +106,14 @@ fn conclude<V: Sink>(outcome: Result<Status, Complaint<'_>>, err: &mut V) -> u8
 
 /// The program: `words` are those behind its name, `input` is its standard input, the files lie on
 /// `shelf`, and `out` and `err` are its standard streams. It gives the status: 0 yes, 1 no, 2 refused
-/// words, a failed read or a failed write of the answer, 3 want of memory. A failed write to `err`
+/// words, a refused ring, a failed read or a failed write, 3 want of memory. A failed write to `err`
 /// changes no status.
 ///
 /// Without words it judges the log on `input`, of which it reads at most one byte more than
 /// `MAX_TEXT`. With words it reads nothing of `input`: `logs` and some names judges the logs in those
-/// files together, and all other words are refused.
-pub fn serve<R: AllocGlobal, A: Allocator, I: Read, F: Shelf<A>, W: Sink, V: Sink>(
+/// files together, `run` and its options runs a ring and writes the logs of its nodes to files, and all
+/// other words are refused.
+pub fn serve<R, A, I, F, W, V>(
     rt: &R,
     alloc: A,
     words: &[&str],
@@ -120,11 +122,18 @@ pub fn serve<R: AllocGlobal, A: Allocator, I: Read, F: Shelf<A>, W: Sink, V: Sin
     out: &mut W,
     err: &mut V,
 ) -> u8
+where
+    R: AllocGlobal + Threads + Wait + Clock + Sync,
+    A: Allocator + Clone + Send + Sync,
+    I: Read,
+    F: Shelf<A>,
+    W: Sink,
+    V: Sink,
     ensures status { result ≤ 3 }
     ensures reads { input.new.reads ≤ input.old.reads + (MAX_TEXT + 1) }
     ensures judged { words.now ≡ [] → Judges input.old input.new (W.taken out.old) (W.failures out.old) (W.taken out.new) (W.failures out.new) result }
     ensures obeyed { words.now ≢ [] → Obeys input.old input.new (W.taken out.old) (W.failures out.old) (W.taken out.new) (W.failures out.new) result }
 {
-    let outcome = obey(rt.alloc(), alloc, words, input, shelf, out);
+    let outcome = obey(rt, alloc, words, input, shelf, out);
     conclude(outcome, err)
 }

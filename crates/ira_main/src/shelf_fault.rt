@@ -1,3 +1,4 @@
+use ira_event::WriteFault;
 use std::alloc::AllocError;
 use std::io::{Error, ErrorKind};
 
@@ -24,5 +25,11 @@ impl From<Error> for ShelfFault {
 impl From<AllocError> for ShelfFault {
     fn from(_refused: AllocError) -> ShelfFault {
         ShelfFault::OutOfMemory
+    }
+}
+
+impl From<WriteFault> for ShelfFault {
+    fn from(_failed: WriteFault) -> ShelfFault {
+        ShelfFault::Device
     }
 }

@@ -1,14 +1,15 @@
 ghost use Rattle.std.specs.Prelude.{◌≡◌};
-ghost use Rattle.ira_main.specs.Status.{answer_status, status_number};
+ghost use Rattle.ira_main.specs.Status.{IsElectionStatus, answer_status, status_number};
 
 use ira_audit::Answer;
+use ira_ring::NodeEnd;
 
 /// What the program ends with.
 #[derive(Clone, Copy, Debug, PartialEq, Eq)]
 pub(crate) enum Status {
-    /// The answer was yes.
+    /// The answer was yes, or a node was elected.
     Yes,
-    /// The answer was no.
+    /// The answer was no, or no node was elected.
     No,
     /// A word or a file was refused, or a read or a write failed.
     Refused,
@@ -22,6 +23,17 @@ impl Status {
         match answer {
             Answer::Yes => Status::Yes,
             Answer::No(_) => Status::No,
+        }
+    }
+
+    /// Whether a node leads.
+    pub(crate) fn of_ends(ends: &[NodeEnd]) -> Status
+        ensures { IsElectionStatus ends.now (status_number result) }
+    {
+        if ends.contains(&NodeEnd::Leader) {
+            Status::Yes
+        } else {
+            Status::No
         }
     }
 

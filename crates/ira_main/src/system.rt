@@ -1,19 +1,24 @@
 ghost use Rattle.std.specs.Prelude.{◌≤◌, IfOk};
 ghost use Rattle.std.specs.Process.{exit_status};
 
+use crate::complaint::Complaint;
 use crate::counted::Counted;
 use crate::file_shelf::FileShelf;
 use crate::program::serve;
-use ira_event::ToWriter;
+use ira_event::{Sink, ToWriter};
 use std::alloc::Global;
-use std::io::{self, ErrorKind};
+use std::io::{self, ErrorKind, Read, Write};
 use std::process::ExitCode;
+use std::rt::{Env, Files};
+use std::sync::Wait;
+use std::thread::Threads;
+use std::time::Clock;
 
 /// Stands for a word that is no text.
 const NO_TEXT: &str = "\u{FFFD}";
 
 // The words behind the program's name.
-fn words_given(rt: &HostRuntime) -> io::Result<Vec<String>> {
+fn words_given<R: AllocGlobal + Env>(rt: &R) -> io::Result<Vec<String>> {
     let alloc = rt.alloc();
     match std::env::args(rt) {
         Ok(words) => Ok(words.skip(1).collect(alloc)?),
@@ -26,7 +31,12 @@ fn borrowed(alloc: Global, words: &[String]) -> io::Result<Vec<&str>> {
     Ok(words.iter().map(|word| word.as_str()).collect(alloc)?)
 }
 
-fn serve_system(rt: &HostRuntime) -> io::Result<u8>
+fn serve_system<R, I, W, V>(rt: &R, input: I, out: W, err: &mut V) -> io::Result<u8>
+where
+    R: AllocGlobal + Env + Files + Threads + Wait + Clock + Sync,
+    I: Read + Drop,
+    W: Write + Drop,
+    V: Sink,
     ensures { IfOk result (λ status. status ≤ 3) }
 {
     let alloc = rt.alloc();
@@ -36,22 +46,25 @@ fn serve_system(rt: &HostRuntime) -> io::Result<u8>
         rt,
         alloc,
         &words,
-        &mut Counted::new(rt.stdin()),
+        &mut Counted::new(input),
         &mut FileShelf::new(rt, alloc),
-        &mut ToWriter::new(rt.stdout()),
-        &mut ToWriter::new(rt.stderr()),
+        &mut ToWriter::new(out),
+        err,
     ))
 }
 
-/// Serves the words, the streams and the files of the system. The status is 0 to 3.
-pub fn start(rt: &HostRuntime) -> ExitCode
+/// Serves the words and the files of the system, over these streams. The status is 0 to 3.
+pub fn start<R, I, W, V>(rt: &R, input: I, out: W, err: V) -> ExitCode
+where
+    R: AllocGlobal + Env + Files + Threads + Wait + Clock + Sync,
+    I: Read + Drop,
+    W: Write + Drop,
+    V: Write + Drop,
     ensures { exit_status result ≤ 3 }
 {
-    match serve_system(rt) {
+    let mut err = ToWriter::new(err);
+    match serve_system(rt, input, out, &mut err) {
         Ok(status) => ExitCode::from(status),
-        Err(_) => {
-            let _ = eprintln!(rt; "ira: out of memory");
-            ExitCode::from(3)
-        }
+        Err(_) => ExitCode::from(Complaint::OutOfMemory.tell(&mut err).number()),
     }
 }

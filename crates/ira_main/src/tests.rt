@@ -4,4 +4,5 @@ mod fakes;
 mod logs;
 mod one_log;
 mod recorded;
+mod runs;
 mod words;

@@ -7,6 +7,9 @@ use std::alloc::Global;
 use std::io;
 use std::io::{ErrorKind, Read};
 use std::process::Abort;
+use std::sync::Wait;
+use std::thread::Threads;
+use std::time::Clock;
 
 /// A file in memory.
 #[derive(Clone, Copy)]
@@ -15,33 +18,104 @@ pub(super) enum File<'a> {
     /// The device fails behind these bytes.
     Broken(&'a str),
     Missing,
+    /// It can't be made.
+    Locked,
+    /// It is made, and takes no byte.
+    Full,
+    /// It takes its bytes into a buffer, and fails when it is closed.
+    Unflushed,
 }
 
-/// Files under their names.
+/// A file that is being written.
+#[derive(Drop)]
+pub(super) struct NewFile {
+    name: String,
+    bytes: Vec<u8>,
+    is_full: bool,
+    is_unflushed: bool,
+    failures: u64,
+}
+
+impl Sink for NewFile {
+    ghost failures = { λ s. s.failures };
+
+    fn push(&mut self, bytes: &[u8]) -> Result<usize, SinkFault> {
+        if self.is_full || self.bytes.extend_from_slice(bytes).is_err() {
+            self.failures = self.failures.saturating_add(1);
+            return Err(SinkFault);
+        }
+        Ok(bytes.len())
+    }
+}
+
+/// Files under their names, and those that were written, each when it was closed.
 #[derive(Drop)]
 pub(super) struct MemoryShelf<'a> {
-    pub(super) alloc: Global,
-    pub(super) files: &'a [(&'a str, File<'a>)],
+    alloc: Global,
+    files: &'a [(&'a str, File<'a>)],
+    written: Vec<NewFile>,
 }
 
-impl Shelf<Global> for MemoryShelf<'_> {
-    type Out = MemorySink<Global>;
-
-    fn read(&mut self, name: &str) -> Result<Vec<u8>, ShelfFault> {
-        match self.files.iter().find(|file| file.0 == name) {
-            Some((_, File::Text(text))) => {
-                read_text(self.alloc, &mut Counted::new(text.as_bytes()))
-            }
-            Some((_, File::Broken(text))) => {
-                let rest = text.as_bytes();
-                read_text(self.alloc, &mut Counted::new(FailingReader { rest }))
-            }
-            Some((_, File::Missing)) | None => Err(ShelfFault::Device),
+impl<'a> MemoryShelf<'a> {
+    pub(super) fn new(alloc: Global, files: &'a [(&'a str, File<'a>)]) -> MemoryShelf<'a> {
+        MemoryShelf {
+            alloc,
+            files,
+            written: Vec::new(alloc),
         }
     }
 
-    fn create(&mut self, _name: &str) -> Result<MemorySink<Global>, ShelfFault> {
-        Ok(MemorySink::new(self.alloc))
+    fn file(&self, name: &str) -> Option<File<'a>> {
+        let (_, file) = self.files.iter().find(|file| file.0 == name)?;
+        Some(*file)
+    }
+
+    /// Compares the files that were written, in their order.
+    pub(super) fn assert_written(&self, rt: &impl Abort, files: &[(&str, &str)]) {
+        assert_eq!(rt; self.written.len(), files.len());
+        for (file, (name, text)) in self.written.iter().zip(files) {
+            assert_eq!(rt; file.name.as_str(), *name);
+            assert_eq!(rt; file.bytes.as_slice(), text.as_bytes());
+        }
+    }
+}
+
+impl Shelf<Global> for MemoryShelf<'_> {
+    type Out = NewFile;
+
+    fn read(&mut self, name: &str) -> Result<Vec<u8>, ShelfFault> {
+        match self.file(name) {
+            Some(File::Text(text)) => read_text(self.alloc, &mut Counted::new(text.as_bytes())),
+            Some(File::Broken(text)) => {
+                let rest = text.as_bytes();
+                read_text(self.alloc, &mut Counted::new(FailingReader { rest }))
+            }
+            _ => Err(ShelfFault::Device),
+        }
+    }
+
+    fn create(&mut self, name: &str) -> Result<NewFile, ShelfFault> {
+        let file = self.file(name);
+        if matches!(file, Some(File::Locked)) {
+            return Err(ShelfFault::Device);
+        }
+        Ok(NewFile {
+            name: String::from_str(self.alloc, name)?,
+            bytes: Vec::new(self.alloc),
+            is_full: matches!(file, Some(File::Full)),
+            is_unflushed: matches!(file, Some(File::Unflushed)),
+            failures: 0,
+        })
+    }
+
+    fn close(&mut self, file: NewFile) -> Result<(), ShelfFault> {
+        if file.is_unflushed {
+            return Err(ShelfFault::Device);
+        }
+        match self.written.push(file) {
+            Ok(()) => Ok(()),
+            Err(_) => Err(ShelfFault::OutOfMemory),
+        }
     }
 }
 
@@ -85,7 +159,7 @@ impl Sink for FullSink {
 /// Serves these words over this shelf and input, and compares the status and what was written to both
 /// streams.
 pub(super) fn assert_served<I: Read>(
-    rt: &(impl Abort + AllocGlobal),
+    rt: &(impl Abort + AllocGlobal + Threads + Wait + Clock + Sync),
     words: &[&str],
     files: &[(&str, File<'_>)],
     input: &mut Counted<I>,
@@ -93,10 +167,7 @@ pub(super) fn assert_served<I: Read>(
     out: &str,
     err: &str,
 ) {
-    let mut shelf = MemoryShelf {
-        alloc: rt.alloc(),
-        files,
-    };
+    let mut shelf = MemoryShelf::new(rt.alloc(), files);
     let mut on_out = MemorySink::new(rt.alloc());
     let mut on_err = MemorySink::new(rt.alloc());
     let found = serve(
@@ -111,4 +182,5 @@ pub(super) fn assert_served<I: Read>(
     assert_eq!(rt; on_out.bytes(), out.as_bytes());
     assert_eq!(rt; on_err.bytes(), err.as_bytes());
     assert_eq!(rt; found, status);
+    shelf.assert_written(rt, &[]);
 }

@@ -5,6 +5,9 @@ use crate::{Counted, serve};
 use ira_event::MemorySink;
 use std::io;
 use std::process::Abort;
+use std::sync::Wait;
+use std::thread::Threads;
+use std::time::Clock;
 
 const ELECTED_0: &str = "irlog 1\nnodes 2\nplace 0\nstart initiator\ndraw 2\nsend 1 2 1 clean\n\
                          recv 1 1 1 clean\nrecv 1 2 2 clean\nend 4\n";
@@ -18,7 +21,7 @@ const NAMES: [&str; 2] = ["ring/0.log", "ring/1.log"];
 
 /// Serves `logs` with the names of these files, in their order.
 fn assert_logs(
-    rt: &(impl Abort + AllocGlobal),
+    rt: &(impl Abort + AllocGlobal + Threads + Wait + Clock + Sync),
     files: &[File<'_>],
     status: u8,
     out: &str,
@@ -36,7 +39,11 @@ fn assert_logs(
 }
 
 /// Judges the texts of these logs with no.
-fn assert_no(rt: &(impl Abort + AllocGlobal), texts: [&str; 2], line: &str) {
+fn assert_no(
+    rt: &(impl Abort + AllocGlobal + Threads + Wait + Clock + Sync),
+    texts: [&str; 2],
+    line: &str,
+) {
     assert_logs(
         rt,
         &[File::Text(texts[0]), File::Text(texts[1])],
@@ -144,10 +151,7 @@ fn answer_on_a_full_device(rt: HostRuntime) {
         ("0.log", File::Text(ELECTED_0)),
         ("1.log", File::Text(ELECTED_1)),
     ];
-    let mut shelf = MemoryShelf {
-        alloc: rt.alloc(),
-        files: &files,
-    };
+    let mut shelf = MemoryShelf::new(rt.alloc(), &files);
     let mut on_err = MemorySink::new(rt.alloc());
     let status = serve(
         &rt,

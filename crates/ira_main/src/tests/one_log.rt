@@ -5,6 +5,9 @@ use crate::{Counted, serve};
 use ira_event::MemorySink;
 use std::io;
 use std::process::Abort;
+use std::sync::Wait;
+use std::thread::Threads;
+use std::time::Clock;
 
 const EMPTY_HEAD: &str = "irlog 1\nnodes 2\nplace 0\nstart initiator\n";
 
@@ -12,7 +15,12 @@ const ELECTED: &str = "irlog 1\nnodes 2\nplace 0\nstart initiator\ndraw 2\nsend 
                        recv 1 1 1 clean\nrecv 1 2 2 clean\n";
 
 /// Judges the text that these parts make.
-fn assert_judged(rt: &(impl Abort + AllocGlobal), parts: [&str; 2], status: u8, line: &str) {
+fn assert_judged(
+    rt: &(impl Abort + AllocGlobal + Threads + Wait + Clock + Sync),
+    parts: [&str; 2],
+    status: u8,
+    line: &str,
+) {
     let mut text = Vec::new(rt.alloc());
     for part in parts {
         let grown = text.extend_from_slice(part.as_bytes());
@@ -83,10 +91,7 @@ fn reader_fails_in_mid_text(rt: HostRuntime) {
 #[test]
 fn answer_on_a_full_device(rt: HostRuntime) {
     let text = "irlog 1\nnodes 2\nplace 0\nstart initiator\nend 0\n".as_bytes();
-    let mut shelf = MemoryShelf {
-        alloc: rt.alloc(),
-        files: &[],
-    };
+    let mut shelf = MemoryShelf::new(rt.alloc(), &[]);
     let mut on_err = MemorySink::new(rt.alloc());
     let status = serve(
         &rt,

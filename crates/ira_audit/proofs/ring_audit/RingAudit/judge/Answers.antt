@@ -1,0 +1,11 @@
+use Rattle.std.proofs.Common.{◌≡◌, length, refl, sym, subst, rules}
+use Rattle.ira_audit.specs.LogsAnswer.{no_log}
+use Rattle.ira_audit.specs.RingAudit.{AreKept, HasTaken}
+use Rattle.ira_audit.proofs.ring_audit.RingAudit.judge.Goals as goal
+
+pub returns-in-Some : goal.returns-in-Some
+returns-in-Some g c = λ texts taken.
+    let kept = subst (λ a. HasTaken a texts) (sym c.self.view_is) taken in
+    let first = subst (AreKept texts c.self.inside.logs.items) c.in-Some.is kept in
+    let number : c.len.result ≡ length c.self.inside.logs.items = search rules in
+    (no_log c.len.result c.in-Some.fault (rw number first.0) refl, first.1)

@@ -1,0 +1,21 @@
+-- What is kept of the texts of a ring's logs while they are taken one by one.
+use Rattle.std.specs.Prelude.{◌≢◌, ℕ, List, Option, Some, None, length}
+use Rattle.ira_event.specs.declared.log_fault.LogFault.{LogFault}
+use Rattle.ira_event.specs.declared.log_fault.LogFault.TheVariants.{OutOfMemory}
+use Rattle.ira_event.specs.Log.{Log}
+use Rattle.ira_audit.specs.LogTexts.{AreLogTexts, IsFirstTextFault}
+
+-- some logs, and what is wrong with the text behind theirs, if something is
+pub record RingAudit : Type 0 where
+  pub logs : List Log
+  pub fault : Option LogFault
+
+-- without a fault the texts are those of the logs; with one the first text that is no log's stands
+-- behind those of the logs, and has this fault
+abbrev pub AreKept : List (List ℕ) → List Log → Option LogFault → Type 0
+AreKept texts logs None = AreLogTexts texts logs
+AreKept texts logs (Some f) = IsFirstTextFault texts (length logs) f × (f ≢ OutOfMemory)
+
+-- these texts were taken, in this order
+abbrev pub HasTaken : RingAudit → List (List ℕ) → Type 0
+HasTaken audit texts = AreKept texts audit.logs audit.fault

@@ -1,0 +1,90 @@
+ghost use Rattle.std.specs.Prelude.{◌≡◌, ◌↔◌, ◌++◌, ◌∷◌, [], ℕ, List, Ok, IfOk, OnOk, OnErr};
+ghost use Rattle.ira_event.specs.Result.{UnlessErr};
+ghost use Rattle.ira_node.specs.declared.step_fault.StepFault.{StepFault};
+ghost use Rattle.ira_order.specs.declared.match_fault.MatchFault.{MatchFault};
+ghost use Rattle.ira_audit.specs.LogsAnswer.{IsLogsAnswer};
+ghost use Rattle.ira_audit.specs.Refusal.{Judged};
+ghost use Rattle.ira_audit.specs.Report.{IsReportable};
+ghost use Rattle.ira_audit.specs.RingAudit.{HasTaken};
+ghost use Rattle.ira_audit.specs.TextRuns.{AreTextsOfRuns, AreTextsWithoutRun};
+ghost use Rattle.ira_audit.specs.declared.answer.Answer.{Answer};
+
+use crate::answer::Answer;
+use crate::reason::Reason;
+use crate::refusal::{Refusal, answer_of};
+use crate::ring_logs::judge_logs;
+use ira_event::{LogFault, NodeLog, OutOfMemory, read_log};
+use std::alloc::Allocator;
+use std::marker::Model;
+
+/// Judges the texts of a ring's logs, which it takes one by one, in the order of the ring's places. Of
+/// a text it keeps the log alone, so that the texts needn't all be in memory at once.
+#[derive(Drop)]
+pub struct RingAudit<A: Allocator> {
+    /// The logs of the texts, up to the first that is no log's.
+    logs: Vec<NodeLog<A>, A>,
+    /// What is wrong with the text behind these.
+    fault: Option<LogFault>,
+}
+
+impl<A: Allocator> Model for RingAudit<A> {
+    ghost use Rattle.ira_audit.specs.RingAudit.{RingAudit};
+
+    ghost Value = { RingAudit };
+
+    ghost view = { λ a. record { logs = a.logs.items; fault = a.fault } };
+}
+
+impl<A: Allocator + Clone> RingAudit<A> {
+    /// No text was taken.
+    pub fn new(alloc: A) -> RingAudit<A>
+        ensures { HasTaken result [] }
+    {
+        RingAudit {
+            logs: Vec::new(alloc),
+            fault: None,
+        }
+    }
+
+    /// Takes the text that comes next. Where memory is wanting the audit is as it was.
+    pub fn take(&mut self, text: &[u8]) -> Result<(), OutOfMemory>
+        ensures ok { OnOk result ((texts : List (List ℕ)) → HasTaken self.old texts → HasTaken self.new (texts ++ text.now ∷ [])) }
+        ensures err { OnErr result (self.new ≡ self.old) }
+    {
+        if self.fault.is_some() {
+            return Ok(());
+        }
+        match read_log(self.logs.allocator().clone()?, text) {
+            Ok(log) => self.logs.push(log)?,
+            Err(LogFault::OutOfMemory) => return Err(OutOfMemory),
+            Err(fault) => self.fault = Some(fault),
+        }
+        Ok(())
+    }
+
+    /// The answer of the texts that were taken: the first reason against them, or yes. It says of them
+    /// what `audit_logs` says.
+    pub fn finish(self) -> Result<Answer, OutOfMemory>
+        ensures answer { (texts : List (List ℕ)) (a : Answer) → HasTaken self texts → UnlessErr result (record {}) ((result ≡ Ok a) ↔ IsLogsAnswer texts a) }
+        ensures reportable { (texts : List (List ℕ)) → HasTaken self texts → IfOk result IsReportable }
+        ensures runs { (texts : List (List ℕ)) → HasTaken self texts → result ≡ Ok Answer.Yes → AreTextsOfRuns texts }
+        ensures unmatched { (texts : List (List ℕ)) (f : MatchFault) → HasTaken self texts → result ≡ Ok (Answer.No (Reason.Match f)) → AreTextsWithoutRun texts }
+        ensures circled { (texts : List (List ℕ)) → HasTaken self texts → result ≡ Ok (Answer.No Reason.Circle) → AreTextsWithoutRun texts }
+        ensures stopped { (texts : List (List ℕ)) (place position : ℕ) (f : StepFault) → HasTaken self texts → result ≡ Ok (Answer.No (Reason.Replay place position f)) → AreTextsWithoutRun texts }
+    {
+        answer_of(self.judge())
+    }
+
+    fn judge(self) -> Result<(), Refusal>
+        ensures { (texts : List (List ℕ)) → HasTaken self texts → Judged result (IsLogsAnswer texts) }
+    {
+        let RingAudit { logs, fault } = self;
+        match fault {
+            None => judge_logs(logs),
+            Some(fault) => Err(Refusal::No(Reason::Log {
+                number: logs.len(),
+                fault,
+            })),
+        }
+    }
+}

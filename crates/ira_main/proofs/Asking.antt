@@ -1,0 +1,36 @@
+-- The setup that is made for a request.
+use Rattle.std.proofs.Common.{◌≡◌, ℕ, ◌<◌, Bool, false, List, [], length, get_or, inl, inr, refl, ap, subst, ◌∙◌, arith}
+use Rattle.std.specs.Prelude.{Option, IfSome, map, nat_lt, unwrap_or, slice_get}
+use Rattle.std.specs.List.{range_with_len}
+use Rattle.std.specs.Option.{option_map}
+use Rattle.std.proofs.lemmas.List.{length-map}
+use Rattle.std.proofs.lemmas.List.FromFn.{get_or-map-range_with_len, length-map-range_with_len}
+use Rattle.std.proofs.lemmas.Option.{slice_get-map, slice_get_cases, get_or_from_slice_get}
+use Rattle.ira_ring.specs.Draws.{draws}
+use Rattle.ira_main.specs.declared.run_request.RunRequest.{RunRequest}
+use Rattle.ira_main.specs.RunRequest.{IsAskedSetup}
+
+-- what holds of the member at a place holds of what is seen of it there
+seen_at : {V : Type 0} (see : V → List ℕ) (rows : List V) (i : ℕ) (ids : List ℕ) → i < length rows → IfSome (slice_get rows i) (λ row. see row ≡ ids) → get_or (map see rows) i [] ≡ ids
+seen_at {V} see rows i ids within holds =
+    elim (slice_get_cases rows i).1 [
+      | inl at ↦
+          let P : Option V → Type 0 = λ o. IfSome o (λ row. see row ≡ ids) in
+          let here = subst P at.2 holds in
+          get_or_from_slice_get (map see rows) i (see at.0) [] (slice_get-map see rows i ∙ ap (option_map see) at.2) ∙ here
+      | inr past ↦ absurd (omega (arith, past.0))
+    ]
+
+pub asked_setup : {V : Type 0} (see : V → List ℕ) (request : RunRequest) (n : ℕ) (kinds : List Bool) (rows : List V) → n ≡ request.nodes
+    → kinds ≡ map (λ i. nat_lt i (unwrap_or request.initiators n)) (range_with_len 0 n)
+    → length rows ≡ n → ((place : ℕ) → IfSome (slice_get rows place) (λ row. see row ≡ draws n request.seed place request.draws))
+    → IsAskedSetup request (record { nodes = n; initiators = kinds; draws = map see rows; cap = request.cap })
+asked_setup {V} see request n kinds rows size first many lists =
+    let f : ℕ → Bool = λ i. nat_lt i (unwrap_or request.initiators n) in
+    record {
+      nodes = size;
+      lists = (ap length first ∙ length-map-range_with_len f 0 n, length-map rows see ∙ many);
+      initiators = λ i l. ap (λ ks. get_or ks i false) first ∙ get_or-map-range_with_len f 0 n i i false l (omega arith);
+      draws = λ i l. seen_at see rows i _ (omega (arith, many)) (lists i);
+      cap = refl;
+    }

@@ -1,0 +1,23 @@
+-- What the words of a run name.
+use Rattle.std.specs.Prelude.{◌≡◌, ℕ, ◌<◌, Bool, true, false, nat_lt, unwrap_or}
+use Rattle.ira_ring.specs.Draws.{draws}
+use Rattle.ira_ring.specs.Recording.{IsRecording}
+use Rattle.ira_ring.specs.Run.{Run}
+use Rattle.ira_ring.specs.Setup.{Setup, IsForEachNode, is_initiator, given}
+use Rattle.ira_ring.specs.ShownEnd.{IsLoneRun}
+use Rattle.ira_main.specs.declared.run_request.RunRequest.{RunRequest}
+
+-- the setup that a request names
+pub record IsAskedSetup (request : RunRequest) (s : Setup) : Type 0 where
+  pub nodes : s.nodes ≡ request.nodes
+  pub lists : IsForEachNode s
+  -- the first nodes are initiators, as many as were asked for, or all
+  pub initiators : (i : ℕ) → i < s.nodes → is_initiator s i ≡ nat_lt i (unwrap_or request.initiators s.nodes)
+  -- the draws of each node are those of the seed
+  pub draws : (i : ℕ) → i < s.nodes → given s i ≡ draws s.nodes request.seed i request.draws
+  pub cap : s.cap ≡ request.cap
+
+-- a run of a setup, on one thread or with a thread for each node
+abbrev pub IsAskedRun : Bool → Setup → Run → Type 0
+IsAskedRun true s run = IsLoneRun s run
+IsAskedRun false s run = IsRecording s run

@@ -1,0 +1,71 @@
+ghost use Rattle.ira_main.specs.Serve.{Records};
+ghost use Rattle.ira_main.specs.Status.{outcome_number};
+
+use crate::complaint::Complaint;
+use crate::run_request::RunRequest;
+use crate::shelf::Shelf;
+use crate::shelf_fault::ShelfFault;
+use crate::status::Status;
+use ira_event::{Logs, NodeLog, Sink, WriteFault, write_log};
+use ira_ring::write_ends;
+use std::alloc::Allocator;
+use std::sync::Wait;
+use std::thread::Threads;
+use std::time::Clock;
+
+// Writes a log to the file of its place.
+fn write_file<A: Allocator, B: Allocator, F: Shelf<B>>(
+    alloc: A,
+    folder: &str,
+    log: &NodeLog<B>,
+    shelf: &mut F,
+) -> Result<(), ShelfFault> {
+    let place = log.place();
+    let name = format!(in alloc; "{folder}/{place}.log")?;
+    let mut file = shelf.create(name.as_str())?;
+    write_log(log, &mut file)?;
+    shelf.close(file)
+}
+
+// Writes the logs, each to a file of its own, in the order of the places.
+fn write_files<'a, A: Allocator, B: Allocator, F: Shelf<B>>(
+    alloc: A,
+    folder: &'a str,
+    logs: &Logs<B>,
+    shelf: &mut F,
+) -> Result<(), Complaint<'a>> {
+    for place in 0..logs.size().get() {
+        match write_file(&alloc, folder, logs.log(place), shelf) {
+            Ok(()) => {}
+            Err(fault) => return Err(Complaint::unwritten(folder, place, fault)),
+        }
+    }
+    Ok(())
+}
+
+/// Runs the ring that is asked for, writes the log of each node to a file, and then how each node ended.
+pub(crate) fn record_run<'a, R, A, F, W>(
+    rt: &R,
+    alloc: A,
+    request: &RunRequest<'a>,
+    shelf: &mut F,
+    out: &mut W,
+) -> Result<Status, Complaint<'a>>
+where
+    R: Threads + Wait + Clock + Sync,
+    A: Allocator + Clone + Send + Sync,
+    F: Shelf<A>,
+    W: Sink,
+    ensures { Records (W.taken out.old) (W.failures out.old) (W.taken out.new) (W.failures out.new) (outcome_number result) }
+{
+    let Some(nodes) = request.ring_size() else {
+        return Err(Complaint::RingSize);
+    };
+    let setup = request.setup(alloc.clone()?, nodes)?;
+    let run = request.run(rt, alloc.clone()?, &setup)?;
+    write_files(&alloc, request.folder, run.logs(), shelf)?;
+    match write_ends(&run, out) {
+        Ok(()) => Ok(Status::of_ends(run.ends())),
+        Err(WriteFault) => Err(Complaint::CannotWriteAnswer),
+    }
+}
