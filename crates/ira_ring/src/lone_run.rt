@@ -1,4 +1,4 @@
-ghost use Rattle.std.specs.Prelude.{◌≡◌, ◌↔◌, ◌⊎◌, Err, IfOk, IfErr};
+ghost use Rattle.std.specs.Prelude.{◌≡◌, ◌↔◌, ◌⊎◌, Err, IfOk, IfErr, OnOk};
 ghost use Rattle.ira_ring.specs.declared.run_fault.RunFault.TheVariants.{Setup as SetupFault, OutOfMemory};
 ghost use Rattle.ira_ring.specs.Setup.{KeepsRules};
 ghost use Rattle.ira_ring.specs.ShownEnd.{IsLoneRun};
@@ -15,6 +15,7 @@ use std::alloc::Allocator;
 /// were looked at. Time is linear in the records and in the places that are passed on the way.
 pub fn run_alone<A: Allocator + Clone>(alloc: A, setup: &Setup<A>) -> Result<Run<A>, RunFault>
     ensures rules { (result ≡ Err SetupFault) ↔ ¬ (KeepsRules setup.now) }
+    ensures kept { OnOk result (KeepsRules setup.now) }
     ensures ok { IfOk result (IsLoneRun setup.now) }
     ensures err { IfErr result (λ f. (f ≡ SetupFault) ⊎ (f ≡ OutOfMemory)) }
 {

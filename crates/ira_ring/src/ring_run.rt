@@ -1,5 +1,5 @@
 // A run with a thread for each node, from its setup to what the nodes recorded.
-ghost use Rattle.std.specs.Prelude.{◌≡◌, ◌↔◌, ◌≢◌, ◌≤◌, ◌-◌, [], Err, None, map, replicate, length, IfOk, IfErr, ◌⊎◌};
+ghost use Rattle.std.specs.Prelude.{◌≡◌, ◌↔◌, ◌≢◌, ◌≤◌, ◌-◌, [], Err, None, map, replicate, length, IfOk, IfErr, OnOk, ◌⊎◌};
 ghost use Rattle.std.specs.VecDeque.{deque_len, deque_capacity};
 ghost use Rattle.ira_links.specs.declared.limits.TheConstants.{MAX_CAPACITY};
 ghost use Rattle.ira_ring.specs.declared.run_fault.RunFault.TheVariants.{Setup as SetupFault, OutOfMemory, NoEnd, Stranger, Double, Thread, Closed as ClosedFault};
@@ -128,6 +128,7 @@ where
     G: Gate + Sync,
     A: Allocator + Clone + Send + Sync,
     ensures rules { (result ≡ Err SetupFault) ↔ ¬ (KeepsRules setup.now) }
+    ensures kept { OnOk result (KeepsRules setup.now) }
     ensures recording { IfOk result (IsRecording setup.now) }
     ensures ended { IfOk result HasOwnEnd }
     ensures faults { IfErr result (λ f. (f ≢ Stranger) × (f ≢ Double)) }

@@ -22,6 +22,9 @@ of_parts-requires g c =
       ends = omega (arith, c.in_ok-ends.ensures.0, c.in_ok-into_logs.ensures.0, ap length gathered.0);
     }
 
+pub returns-clause-kept : goal.returns-clause-kept
+returns-clause-kept g c = c.if-not-keeps_rules.ensures.0 refl
+
 pub returns-clause-ok : goal.returns-clause-ok
 returns-clause-ok g c =
     let kept : KeepsRules c.args.setup.now = c.if-not-keeps_rules.ensures.0 refl in
