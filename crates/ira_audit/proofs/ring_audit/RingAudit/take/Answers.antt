@@ -22,6 +22,6 @@ returns-in-Err g c =
     let other : f ≢ OutOfMemory = search rules in
     let is = (unless_err f _ _ other (c.in-Err.ensures.err f)).0 refl in
     record {
-      ok = λ texts taken. let kept = subst (λ a. HasTaken a texts) (sym c.self.view_is) taken in (keeps_fault texts c.self.inside.logs.items c.self.inside.fault c.args.text.now f c.if-is_some.ensures kept is, other);
+      ok = λ texts taken. let kept = subst (λ a. HasTaken a texts) (sym c.self.view_is) taken in keeps_fault texts c.self.inside.logs.items c.self.inside.fault c.args.text.now f c.if-is_some.ensures kept is;
       err = tt;
     }
