@@ -60,7 +60,7 @@ fn all_seats<A: Allocator + Clone>(
     alloc: A,
     setup: &Setup<A>,
 ) -> Result<VecDeque<Seat<A>, A>, RunFault>
-    ensures seats { IfOk result (λ seats. AreSeatedRound setup.now.nodes setup.now.cap seats.items) }
+    ensures seats { IfOk result (λ seats. AreSeatedRound setup.now.cap setup.now.nodes seats.items) }
     ensures err { IfErr result (λ f. f ≡ OutOfMemory) }
 {
     let mut seats = VecDeque::with_capacity(alloc.clone()?, usize::from(setup.nodes.get()))?;
@@ -145,7 +145,7 @@ where
         thread::scope_env(),
         rt,
         move |scope| -> Result<VecDeque<Done<A>, A>, RunFault>
-            requires { KeepsRules setup.now × AreSeatedRound setup.now.nodes setup.now.cap seats.items × (children.items ≡ []) × (setup.now.nodes ≤ deque_capacity children) × (dones.items ≡ []) × (setup.now.nodes ≤ deque_capacity dones) }
+            requires { KeepsRules setup.now × AreSeatedRound setup.now.cap setup.now.nodes seats.items × (children.items ≡ []) × (setup.now.nodes ≤ deque_capacity children) × (dones.items ≡ []) × (setup.now.nodes ≤ deque_capacity dones) }
             ensures { IfOk result (λ dones. AreInPlaceRound setup.entry.now dones.items) × IfErr result (λ f. (f ≡ Thread) ⊎ (f ≡ ClosedFault)) }
         { run_seats(rt, setup, gate, scope, seats, children, dones) },
     )?;
