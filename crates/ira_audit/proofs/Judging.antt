@@ -24,7 +24,7 @@ use Rattle.ira_order.specs.Circle.{HasCircle, HasOrder}
 use Rattle.ira_order.specs.MatchFault.{IsMatchFault}
 use Rattle.ira_audit.specs.LogTexts.{AreLogTexts, IsFirstTextFault}
 use Rattle.ira_audit.specs.LogsAnswer.{IsLogsAnswer, IsFirstStop, no_log, no_ring, unmatched, circled, stopped}
-use Rattle.ira_audit.proofs.Unless.{ok_same}
+use Rattle.ira_event.proofs.Unless.{ok_same}
 
 -- an answer that is right is the only one
 pub answered_exactly : (P : Answer → Type 0) → ((a b : Answer) → P a → P b → a ≡ b) → (r : Result (Unit {0}) Refusal) → Judged r P

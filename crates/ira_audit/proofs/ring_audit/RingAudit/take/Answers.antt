@@ -2,7 +2,7 @@ use Rattle.std.proofs.Common.{◌≢◌, refl, sym, subst, rules}
 use Rattle.ira_audit.specs.RingAudit.{HasTaken}
 use Rattle.ira_event.specs.declared.log_fault.LogFault.TheVariants.{OutOfMemory}
 use Rattle.ira_audit.proofs.LogTexts.{keeps_log, keeps_fault, keeps_first}
-use Rattle.ira_audit.proofs.Unless.{unless_err, unless_ok}
+use Rattle.ira_event.proofs.Unless.{unless_err, unless_ok}
 use Rattle.ira_audit.proofs.ring_audit.RingAudit.take.Goals as goal
 
 pub returns-then-is_some-clause-ok : goal.returns-then-is_some-clause-ok
