@@ -32,21 +32,6 @@ impl<S: Iterator<Item = (u32, NodeState)> + Listed, T: LocalTest> Holding<S, T> 
     }
 }
 
-/// The next position whose state passes.
-fn next_passing<S: Iterator<Item = (u32, NodeState)> + Listed, T: LocalTest>(
-    states: &mut S,
-    test: &T,
-) -> Option<u32>
-    ensures { YieldsFirst (λ s. positions_passing (T.holds test.now) (S.left s)) states.old result states.new }
-{
-    while let Some((position, state)) = states.next() {
-        if test.holds(&state) {
-            return Some(position);
-        }
-    }
-    None
-}
-
 impl<S: Iterator<Item = (u32, NodeState)> + Listed, T: LocalTest> Iterator for Holding<S, T> {
     type Item = u32;
 
@@ -55,7 +40,12 @@ impl<S: Iterator<Item = (u32, NodeState)> + Listed, T: LocalTest> Iterator for H
     ghost remaining = { item_count (λ s. s) };
 
     fn next(&mut self) -> Option<u32> {
-        next_passing(&mut self.states, &self.test)
+        while let Some((position, state)) = self.states.next() {
+            if self.test.holds(&state) {
+                return Some(position);
+            }
+        }
+        None
     }
 }
 
