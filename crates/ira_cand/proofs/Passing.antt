@@ -16,7 +16,7 @@ use Rattle.ira_replay.proofs.Along.{are_placed_states}
 use Rattle.ira_replay.proofs.Reached.{one_list}
 use Rattle.ira_cand.specs.Holding.{positions_passing}
 use Rattle.ira_cand.specs.Candidates.{MeetsAt, AreCandidates}
-use Rattle.ira_cand.specs.PositionsFound.{candidates_of}
+use Rattle.ira_cand.specs.CandidatesFound.{candidates_of}
 use Rattle.ira_cand.proofs.Clauses.{holds_exactly}
 use Rattle.ira_cand.proofs.Rising.{contains_behind, contains_first, same_rising}
 

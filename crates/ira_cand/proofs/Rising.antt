@@ -3,7 +3,7 @@ use Rattle.std.proofs.Common.{◌≡◌, ℕ, zero, suc, ◌+◌, ◌<◌, ◌�
 use Rattle.std.specs.List.Sorted.{IsStrictlyIncreasing}
 use Rattle.std.proofs.lemmas.List.Kept.{AllPairs-from_increasing}
 use Rattle.std.proofs.lemmas.Map.Made.{Contains-tail}
-use Rattle.ira_cand.specs.Ahead.{put_back}
+use Rattle.ira_cand.specs.Ahead.{with_front}
 
 -- behind the first number of a rising list the others rise
 pub rises_behind : (x : ℕ) (xs : List ℕ) → IsStrictlyIncreasing (x ∷ xs) → IsStrictlyIncreasing xs
@@ -44,7 +44,7 @@ same_rising (x ∷ xs) (y ∷ ys) h k same =
     rw (e, rest) refl
 
 -- a rising list rises on once its first number, which was taken out already, makes way for the next
-pub rises_on : (front next : Option ℕ) (rest later : List ℕ) → is_some front ≡ true → IsStrictlyIncreasing (put_back front rest) → MatchOption next ((rest ≡ []) × (later ≡ [])) (λ x. rest ≡ x ∷ later) → IsStrictlyIncreasing (put_back next later)
+pub rises_on : (front next : Option ℕ) (rest later : List ℕ) → is_some front ≡ true → IsStrictlyIncreasing (with_front front rest) → MatchOption next ((rest ≡ []) × (later ≡ [])) (λ x. rest ≡ x ∷ later) → IsStrictlyIncreasing (with_front next later)
 rises_on None next rest later some h e = cc
 rises_on (Some x) None rest later some h e = λ k l. absurd (omega (arith, l))
 rises_on (Some x) (Some y) rest later some h e = subst IsStrictlyIncreasing e (rises_behind x rest h)

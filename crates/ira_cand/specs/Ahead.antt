@@ -1,6 +1,6 @@
 use Rattle.std.specs.Prelude.{ℕ, List, [], ◌∷◌, Option, Some, None}
 
--- a list of which the first position, if there is one, was taken out; without one the list has ended
-abbrev pub put_back : Option ℕ → List ℕ → List ℕ
-put_back None rest = []
-put_back (Some first) rest = first ∷ rest
+-- the positions left: the front and then the rest; without a front there are none
+abbrev pub with_front : Option ℕ → List ℕ → List ℕ
+with_front None rest = []
+with_front (Some front) rest = front ∷ rest

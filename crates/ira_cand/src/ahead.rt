@@ -4,8 +4,8 @@ ghost use Rattle.std.specs.List.Sorted.{IsStrictlyIncreasing};
 use ira_event::Listed;
 use std::marker::Model;
 
-/// Rising positions, of which the first one left can be looked at before it is taken. It takes its
-/// source's positions one by one and keeps no other.
+/// Rising positions of which the first can be looked at before it is taken; seen by contracts as the
+/// list of those that are left. Nothing is kept but that first one.
 #[derive(Drop)]
 pub struct Ahead<I: Iterator<Item = u32> + Listed> {
     front: Option<u32>,
@@ -15,16 +15,17 @@ pub struct Ahead<I: Iterator<Item = u32> + Listed> {
 impl<I: Iterator<Item = u32> + Listed> Model for Ahead<I> {
     ghost use Rattle.std.specs.Prelude.{List, ℕ};
     ghost use Rattle.std.specs.List.Sorted.{IsStrictlyIncreasing};
-    ghost use Rattle.ira_cand.specs.Ahead.{put_back};
+    ghost use Rattle.ira_cand.specs.Ahead.{with_front};
 
     ghost Value = { List ℕ };
 
-    ghost view = { λ a. put_back a.front (I.left a.rest) };
+    ghost view = { λ a. with_front a.front (I.left a.rest) };
 
-    ghost invariant = { λ a. IsStrictlyIncreasing (put_back a.front (I.left a.rest)) };
+    ghost invariant = { λ a. IsStrictlyIncreasing (with_front a.front (I.left a.rest)) };
 }
 
 impl<I: Iterator<Item = u32> + Listed> Ahead<I> {
+    /// All positions of the source.
     pub fn new(mut rest: I) -> Ahead<I>
         requires { IsStrictlyIncreasing (I.left rest) }
         ensures { result ≡ I.left rest }
@@ -50,7 +51,7 @@ impl<I: Iterator<Item = u32> + Listed> Ahead<I> {
         }
     }
 
-    /// Removes the positions below `p`. Over all calls it takes time linear in what they remove.
+    /// Removes the positions below `p`. It looks at no position but those and the next one.
     pub fn skip_below(&mut self, p: u32)
         ensures { self.new ≡ filter (nat_le p) self.old }
     {

@@ -1,7 +1,7 @@
 ghost use Rattle.std.specs.Prelude.{◌≡◌, IfOk};
 ghost use Rattle.ira_pred.specs.Clause.{formula};
 ghost use Rattle.ira_cand.specs.Candidates.{AreCandidates};
-ghost use Rattle.ira_cand.specs.PositionsFound.{candidates_of};
+ghost use Rattle.ira_cand.specs.CandidatesFound.{candidates_of};
 
 use crate::ahead::Ahead;
 use crate::holding::Holding;
@@ -10,9 +10,9 @@ use ira_pred::Clause;
 use ira_replay::States;
 use std::alloc::Allocator;
 
-/// The candidates of a log for a clause: the positions at which the node's state meets the clause,
-/// position 0 and the last one among them (Garg and Waldecker 1994). They are found while one goes
-/// along, and no list is kept.
+/// The candidates of a log for a clause: the positions at which the clause holds of the node's state,
+/// where position 0 and the last one count too (Garg and Waldecker, Detection of Weak Unstable
+/// Predicates in Distributed Programs, IEEE TPDS 5(3), 1994). They are found as they are asked for.
 pub fn candidates<'a, A: Allocator>(
     log: &'a NodeLog<A>,
     clause: &'a Clause<A>,
@@ -35,7 +35,7 @@ pub fn table<A: Allocator>(
     Ok(passing(log, clause).collect(alloc)?)
 }
 
-/// The positions of the log's states that meet the clause.
+/// The positions of those of the log's states of which the clause holds.
 fn passing<'a, A: Allocator>(
     log: &'a NodeLog<A>,
     clause: &'a Clause<A>,

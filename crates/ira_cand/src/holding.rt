@@ -7,8 +7,8 @@ use ira_event::Listed;
 use ira_node::NodeState;
 use std::marker::Model;
 
-/// The positions of a source of states at which the state passes a test, in the source's order. Each
-/// state is looked at once, and none is kept.
+/// The positions of a source at which the state passes a test, in the source's order; seen by contracts
+/// as the list of those that are left. Each state is looked at once, and none is kept.
 #[derive(Drop)]
 pub struct Holding<S: Iterator<Item = (u32, NodeState)> + Listed, T: LocalTest> {
     states: S,
@@ -25,6 +25,7 @@ impl<S: Iterator<Item = (u32, NodeState)> + Listed, T: LocalTest> Model for Hold
 }
 
 impl<S: Iterator<Item = (u32, NodeState)> + Listed, T: LocalTest> Holding<S, T> {
+    /// The positions of those of the states that pass the test.
     pub fn new(states: S, test: T) -> Holding<S, T>
         ensures { result ≡ positions_passing (T.holds test) (S.left states) }
     {
