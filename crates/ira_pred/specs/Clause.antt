@@ -10,7 +10,7 @@ use Rattle.ira_pred.specs.declared.clause.Clause.{Clause}
 use Rattle.ira_pred.specs.declared.clause.Clause.TheVariants as clause
 use Rattle.ira_pred.specs.Formula.{Formula, always, leader, active, passive, choosing, owes, round, id, both, either, negated}
 
--- what the clause says; a box is what lies in it
+-- what the clause says; a box counts as what lies in it
 abbrev pub formula : {A : Type 0} → Clause A → Formula
 formula clause.Always = always
 formula clause.Leader = leader

@@ -30,9 +30,9 @@ id_of Passive = None
 id_of (Leader r i) = Some i
 
 -- whether there is a number, and it compares so with n
-abbrev pub has : Option ℕ → Rel → ℕ → Bool
-has None rel n = false
-has (Some x) rel n = compare_test rel x n
+abbrev pub compare_some_test : Option ℕ → Rel → ℕ → Bool
+compare_some_test None rel n = false
+compare_some_test (Some x) rel n = compare_test rel x n
 
 abbrev pub is_leader : Phase → Bool
 is_leader (Leader r i) = true
@@ -62,8 +62,8 @@ holds_test active s = is_active s.phase
 holds_test passive s = is_passive s.phase
 holds_test choosing s = is_choosing s.phase
 holds_test owes s = is_owing s.owed
-holds_test (round rel n) s = has (round_of s.phase) rel n
-holds_test (id rel n) s = has (id_of s.phase) rel n
+holds_test (round rel n) s = compare_some_test (round_of s.phase) rel n
+holds_test (id rel n) s = compare_some_test (id_of s.phase) rel n
 holds_test (both a b) s = holds_test a s && holds_test b s
 holds_test (either a b) s = holds_test a s || holds_test b s
 holds_test (negated a) s = not (holds_test a s)

@@ -1,6 +1,7 @@
 pub mod Case
 pub mod Clause
 pub mod ClauseAnswer
+pub mod ClauseScan
 pub mod Formula
 pub mod FormulaCode
 pub mod Pairs

@@ -3,7 +3,7 @@ use Rattle.std.specs.Prelude.{ℕ, zero, suc, ◌+◌, ◌-◌, List, [], ◌∷
 use Rattle.std.specs.List.{flat_map}
 use Rattle.ira_pred.specs.Formula.{leader}
 use Rattle.ira_pred.specs.Case.{Conjunct}
-use Rattle.ira_pred.specs.Question.{Query}
+use Rattle.ira_pred.specs.Question.{Asked}
 
 -- so many numbers, rising by one from the first
 abbrev pub numbers_from : ℕ → ℕ → List ℕ
@@ -19,5 +19,5 @@ abbrev pub cases_of_place : ℕ → ℕ → List (List Conjunct)
 cases_of_place n i = map (pair_case i) (numbers_from (i + 1) (n - (i + 1)))
 
 -- each pair of places i < j below n, in lexicographic order
-abbrev pub pairs_query : ℕ → Query
-pairs_query n = record { nodes = n; cases = flat_map (cases_of_place n) (numbers_from 0 n) }
+abbrev pub pairs_asked : ℕ → Asked
+pairs_asked n = record { nodes = n; cases = flat_map (cases_of_place n) (numbers_from 0 n) }

@@ -7,7 +7,7 @@ use Rattle.ira_pred.specs.declared.rel.Rel.{Rel}
 use Rattle.ira_pred.specs.declared.rel.Rel.TheVariants.{Less, Equal, Greater}
 use Rattle.ira_pred.specs.Formula.{Formula, always, leader, active, passive, choosing, owes, round, id, both, either, negated}
 use Rattle.ira_pred.specs.Case.{Conjunct}
-use Rattle.ira_pred.specs.Question.{Query, IsQuestion}
+use Rattle.ira_pred.specs.Question.{Asked, IsQuestion}
 
 -- the sign of a comparison
 abbrev pub rel_sign : Rel → List ℕ
@@ -16,24 +16,24 @@ rel_sign Equal = codes "="
 rel_sign Greater = codes ">"
 
 -- the spelling of a comparison with n, which is at most MAX_NUMBER
-abbrev pub IsComparison : List ℕ → Rel → ℕ → Type 0
-IsComparison text rel n = (number : List ℕ) × (text ≡ rel_sign rel ++ codes " " ++ number) × IsNumeral number n × (n ≤ MAX_NUMBER)
+abbrev pub IsComparisonText : List ℕ → Rel → ℕ → Type 0
+IsComparisonText text rel n = (number : List ℕ) × (text ≡ rel_sign rel ++ codes " " ++ number) × IsNumeral number n × (n ≤ MAX_NUMBER)
 
 -- the spelling of a clause
-abbrev pub IsClause : List ℕ → Formula → Type 0
-IsClause text always = text ≡ codes "true"
-IsClause text leader = text ≡ codes "leader"
-IsClause text active = text ≡ codes "active"
-IsClause text passive = text ≡ codes "passive"
-IsClause text choosing = text ≡ codes "choosing"
-IsClause text owes = text ≡ codes "owes"
-IsClause text (round rel n) = (rest : List ℕ) × (text ≡ codes "round " ++ rest) × IsComparison rest rel n
-IsClause text (id rel n) = (rest : List ℕ) × (text ≡ codes "id " ++ rest) × IsComparison rest rel n
-IsClause text (both a b) =
-    (left : List ℕ) × (right : List ℕ) × (text ≡ codes "(" ++ left ++ codes " and " ++ right ++ codes ")") × IsClause left a × IsClause right b
-IsClause text (either a b) =
-    (left : List ℕ) × (right : List ℕ) × (text ≡ codes "(" ++ left ++ codes " or " ++ right ++ codes ")") × IsClause left a × IsClause right b
-IsClause text (negated a) = (inner : List ℕ) × (text ≡ codes "(not " ++ inner ++ codes ")") × IsClause inner a
+abbrev pub IsClauseText : List ℕ → Formula → Type 0
+IsClauseText text always = text ≡ codes "true"
+IsClauseText text leader = text ≡ codes "leader"
+IsClauseText text active = text ≡ codes "active"
+IsClauseText text passive = text ≡ codes "passive"
+IsClauseText text choosing = text ≡ codes "choosing"
+IsClauseText text owes = text ≡ codes "owes"
+IsClauseText text (round rel n) = (rest : List ℕ) × (text ≡ codes "round " ++ rest) × IsComparisonText rest rel n
+IsClauseText text (id rel n) = (rest : List ℕ) × (text ≡ codes "id " ++ rest) × IsComparisonText rest rel n
+IsClauseText text (both a b) =
+    (left : List ℕ) × (right : List ℕ) × (text ≡ codes "(" ++ left ++ codes " and " ++ right ++ codes ")") × IsClauseText left a × IsClauseText right b
+IsClauseText text (either a b) =
+    (left : List ℕ) × (right : List ℕ) × (text ≡ codes "(" ++ left ++ codes " or " ++ right ++ codes ")") × IsClauseText left a × IsClauseText right b
+IsClauseText text (negated a) = (inner : List ℕ) × (text ≡ codes "(not " ++ inner ++ codes ")") × IsClauseText inner a
 
 -- a line that begins with this number, a colon and a space, and goes on with the text
 abbrev pub IsPlaced : List ℕ → ℕ → List ℕ → Type 0
@@ -41,7 +41,7 @@ IsPlaced line n text = (number : List ℕ) × (line ≡ number ++ codes ": " ++ 
 
 -- the spelling of a conjunct, without its line feed
 abbrev pub IsConjunctLine : List ℕ → Conjunct → Type 0
-IsConjunctLine line c = (text : List ℕ) × IsPlaced line c.place text × IsClause text c.formula
+IsConjunctLine line c = (text : List ℕ) × IsPlaced line c.place text × IsClauseText text c.formula
 
 -- the lines of these conjuncts, each with its line feed
 abbrev pub AreConjunctLines : List ℕ → List Conjunct → Type 0
@@ -65,7 +65,7 @@ IsQuestionHead text nodes =
     (number : List ℕ) × (text ≡ codes "irask 1\n" ++ codes "nodes " ++ number ++ codes "\n") × IsNumeral number nodes
 
 -- the text of a question: its head, its cases and the end line, all within the limits
-pub record IsQuestionText (text : List ℕ) (q : Query) : Type 0 where
+pub record IsQuestionText (text : List ℕ) (q : Asked) : Type 0 where
   pub head : List ℕ
   pub cases : List ℕ
   pub head_is : IsQuestionHead head q.nodes
@@ -99,10 +99,10 @@ abbrev pub case_text : List Conjunct → List ℕ
 case_text conjuncts = codes "case\n" ++ flat_map conjunct_text conjuncts
 
 -- a question
-abbrev pub question_text : Query → List ℕ
+abbrev pub question_text : Asked → List ℕ
 question_text q =
     codes "irask 1\n" ++ codes "nodes " ++ decimal q.nodes ++ codes "\n" ++ flat_map case_text q.cases ++ codes "end\n"
 
 -- the question's text isn't too long
-abbrev pub IsShort : Query → Type 0
+abbrev pub IsShort : Asked → Type 0
 IsShort q = length (question_text q) ≤ MAX_TEXT

@@ -8,50 +8,62 @@ use Rattle.ira_pred.specs.declared.ask_fault.AskFault.{AskFault}
 use Rattle.ira_pred.specs.declared.ask_fault.AskFault.TheVariants.{TooLong, Head, Line, Place, Depth, Empty, Cases, Cut, Trailing}
 use Rattle.ira_pred.specs.Formula.{Formula}
 use Rattle.ira_pred.specs.Case.{Conjunct, AreConjuncts, IsCase}
-use Rattle.ira_pred.specs.QuestionText.{IsClause, IsPlaced, AreConjunctLines, AreCaseTexts, IsQuestionHead}
+use Rattle.ira_pred.specs.QuestionText.{IsClauseText, IsPlaced, AreConjunctLines, AreCaseTexts, IsQuestionHead}
+
+-- how many `(` the text has
+abbrev pub opened : List ℕ → ℕ
+opened text = count_by (λ c. c == 40) text
+
+-- how many `)` the text has
+abbrev pub closed : List ℕ → ℕ
+closed text = count_by (λ c. c == 41) text
 
 -- some front of the text has more than MAX_DEPTH `(` over its `)`
 abbrev pub IsTooDeep : List ℕ → Type 0
-IsTooDeep text =
-    (front : List ℕ) × (back : List ℕ) × (text ≡ front ++ back)
-    × (count_by (λ c. c == 41) front + MAX_DEPTH < count_by (λ c. c == 40) front)
-
--- a clause for this place may follow these conjuncts of its case
-abbrev pub MayFollow : ℕ → List Conjunct → ℕ → Type 0
-MayFollow nodes conjuncts place = (place < nodes) × All (λ c. c.place < place) conjuncts
+IsTooDeep text = (front : List ℕ) × (back : List ℕ) × (text ≡ front ++ back) × (closed front + MAX_DEPTH < opened front)
 
 -- the fault of a complete line that stands where the first `case` is due; it is line 3 of the text
 pub data FirstLineFault (line : List ℕ) (f : AskFault) : Type 0 where
   -- the text asks nothing
   no_case : line ≡ codes "end" → f ≡ Cases → FirstLineFault line f
   -- it is neither of the two that may stand there
-  no_line : line ≢ codes "case" → line ≢ codes "end" → f ≡ Line 3 → FirstLineFault line f
+  other_line : line ≢ codes "case" → line ≢ codes "end" → f ≡ Line 3 → FirstLineFault line f
 
--- the fault of a complete line, number k of the text, in a case; so many cases stand before that case,
--- these conjuncts of it before the line, and `more` behind the line's line feed
-pub data CaseLineFault (nodes k cases : ℕ) (conjuncts : List Conjunct) (line more : List ℕ) (f : AskFault) : Type 0 where
+-- where in a case a line stands: it is line `number` of the text, `cases` are the cases before its own,
+-- `conjuncts` what its case asks before it
+pub record Spot : Type 0 where
+  pub number : ℕ
+  pub cases : ℕ
+  pub conjuncts : List Conjunct
+
+-- at the spot a clause for this place may follow
+abbrev pub MayFollow : ℕ → Spot → ℕ → Type 0
+MayFollow nodes at place = (place < nodes) × All (λ c. c.place < place) at.conjuncts
+
+-- the fault of a complete line at the spot, with `more` behind its line feed
+pub data CaseLineFault (nodes : ℕ) (at : Spot) (line more : List ℕ) (f : AskFault) : Type 0 where
   -- it ends the case, which asks nothing
-  empty : ((line ≡ codes "case") ⊎ (line ≡ codes "end")) → conjuncts ≡ [] → f ≡ Empty k → CaseLineFault nodes k cases conjuncts line more f
+  empty : ((line ≡ codes "case") ⊎ (line ≡ codes "end")) → at.conjuncts ≡ [] → f ≡ Empty at.number → CaseLineFault nodes at line more f
   -- it begins one case more than is allowed
-  too_many : line ≡ codes "case" → conjuncts ≢ [] → cases + 1 ≡ MAX_CASES → f ≡ Cases → CaseLineFault nodes k cases conjuncts line more f
-  -- it is none of `case`, `end`, and a place with something behind it
+  too_many : line ≡ codes "case" → at.conjuncts ≢ [] → MAX_CASES ≤ at.cases + 1 → f ≡ Cases → CaseLineFault nodes at line more f
+  -- it is none of `case`, `end`, and a number with a colon and a space behind it
   no_place :
       line ≢ codes "case" → line ≢ codes "end" → ((n : ℕ) (text : List ℕ) → ¬ (IsPlaced line n text))
-      → f ≡ Line k → CaseLineFault nodes k cases conjuncts line more f
+      → f ≡ Line at.number → CaseLineFault nodes at line more f
   -- its place isn't in the ring, or not above those before in the case
   wrong_place :
-      (n : ℕ) (text : List ℕ) → IsPlaced line n text → ¬ (MayFollow nodes conjuncts n)
-      → f ≡ Place k → CaseLineFault nodes k cases conjuncts line more f
+      (n : ℕ) (text : List ℕ) → IsPlaced line n text → ¬ (MayFollow nodes at n)
+      → f ≡ Place at.number → CaseLineFault nodes at line more f
   -- what stands behind its place is nested too deep
   too_deep :
-      (n : ℕ) (text : List ℕ) → IsPlaced line n text → MayFollow nodes conjuncts n → IsTooDeep text
-      → f ≡ Depth k → CaseLineFault nodes k cases conjuncts line more f
+      (n : ℕ) (text : List ℕ) → IsPlaced line n text → MayFollow nodes at n → IsTooDeep text
+      → f ≡ Depth at.number → CaseLineFault nodes at line more f
   -- what stands behind its place is no clause
   no_clause :
-      (n : ℕ) (text : List ℕ) → IsPlaced line n text → MayFollow nodes conjuncts n → ¬ (IsTooDeep text)
-      → ((g : Formula) → ¬ (IsClause text g)) → f ≡ Line k → CaseLineFault nodes k cases conjuncts line more f
+      (n : ℕ) (text : List ℕ) → IsPlaced line n text → MayFollow nodes at n → ¬ (IsTooDeep text)
+      → ((g : Formula) → ¬ (IsClauseText text g)) → f ≡ Line at.number → CaseLineFault nodes at line more f
   -- it is the end line, and something follows it
-  trailing : line ≡ codes "end" → conjuncts ≢ [] → more ≢ [] → f ≡ Trailing → CaseLineFault nodes k cases conjuncts line more f
+  trailing : line ≡ codes "end" → at.conjuncts ≢ [] → more ≢ [] → f ≡ Trailing → CaseLineFault nodes at line more f
 
 -- the fault of what stands where a line is due: no complete line, or one with a fault; `F line more g`
 -- says that a line has fault g where `more` follows it
@@ -84,16 +96,19 @@ pub record BeginsInCase (nodes : ℕ) (text : List ℕ) (cases : List (List Conj
 abbrev pub lines_of : List (List Conjunct) → ℕ
 lines_of cases = sum_by (λ c. length c + 1) cases
 
+-- where the line behind these cases and these conjuncts stands: two lines of the head, those of the
+-- cases, a `case` line and those of the conjuncts are before it
+abbrev pub spot : List (List Conjunct) → List Conjunct → Spot
+spot cases conjuncts = record { number = 2 + lines_of cases + 1 + length conjuncts + 1; cases = length cases; conjuncts = conjuncts }
+
 -- the fault of what stands behind the head
 pub data CasesFault (nodes : ℕ) (text : List ℕ) (f : AskFault) : Type 0 where
   -- where the first `case` is due
   before_cases : NextLineFault (λ line more g. FirstLineFault line g) text f → CasesFault nodes text f
-  -- in a case: two lines of the head, those of the cases before, the `case` line and those of the
-  -- conjuncts stand before the line
+  -- in a case
   in_case :
       (cases : List (List Conjunct)) (conjuncts : List Conjunct) (rest : List ℕ) → BeginsInCase nodes text cases conjuncts rest
-      → NextLineFault (CaseLineFault nodes (2 + lines_of cases + 1 + length conjuncts + 1) (length cases) conjuncts) rest f
-      → CasesFault nodes text f
+      → NextLineFault (CaseLineFault nodes (spot cases conjuncts)) rest f → CasesFault nodes text f
 
 -- the fault of a text that isn't too long
 pub data QuestionLinesFault (text : List ℕ) (f : AskFault) : Type 0 where

@@ -19,7 +19,7 @@ pub enum AskFault {
     /// The parentheses of a line are nested deeper than `MAX_DEPTH`.
     #[error("depth {0}")]
     Depth(u32),
-    /// A case ends before this line and has no clause.
+    /// The case that this line ends has no clause.
     #[error("empty {0}")]
     Empty(u32),
     /// The question has no case, or one more than `MAX_CASES`.

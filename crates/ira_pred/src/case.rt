@@ -2,6 +2,7 @@ ghost use Rattle.std.specs.Option.{option_map};
 ghost use Rattle.std.specs.Prelude.{◌≡◌, ◌<◌, Some, length, slice_get};
 ghost use Rattle.ira_pred.specs.Case.{IsCaseOfSomeRing};
 ghost use Rattle.ira_pred.specs.Clause.{formula};
+ghost use Rattle.ira_pred.specs.PlacedClause.{conjuncts};
 
 use crate::clause::Clause;
 use std::alloc::Allocator;
@@ -9,7 +10,7 @@ use std::marker::Model;
 
 /// A clause, and the place of the node of whose state it is asked.
 #[derive(Drop)]
-pub struct PlacedClause<A: Allocator> {
+pub(crate) struct PlacedClause<A: Allocator> {
     pub place: u8,
     pub clause: Clause<A>,
 }
@@ -37,6 +38,21 @@ impl<A: Allocator> Model for Case<A> {
 }
 
 impl<A: Allocator> Case<A> {
+    /// The case of these clauses, whose places are known to rise.
+    pub(crate) fn of_parts(clauses: Vec<PlacedClause<A>, A>) -> Case<A>
+        requires { IsCaseOfSomeRing (conjuncts clauses.items) }
+        ensures { result ≡ conjuncts clauses.items }
+    {
+        Case { clauses }
+    }
+
+    /// The clauses at their places.
+    pub(crate) fn clauses(&self) -> &[PlacedClause<A>]
+        ensures { conjuncts result.now ≡ self.now }
+    {
+        &self.clauses
+    }
+
     /// How many clauses there are.
     pub fn len(&self) -> usize
         ensures value { result ≡ length self.now }

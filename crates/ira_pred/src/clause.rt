@@ -1,6 +1,6 @@
 ghost use Rattle.std.specs.Prelude.{◌≡◌, ◌↔◌, IsTrue};
 ghost use Rattle.ira_pred.specs.Clause.{formula, Holds};
-ghost use Rattle.ira_pred.specs.ClauseAnswer.{compare_test, has, round_of, id_of, holds_test};
+ghost use Rattle.ira_pred.specs.ClauseAnswer.{compare_test, compare_some_test, round_of, id_of, holds_test};
 
 use crate::rel::Rel;
 use ira_node::{NodeState, Phase};
@@ -46,8 +46,8 @@ impl Rel {
     }
 
     /// Whether there is a number, and it compares so with `n`.
-    fn has(self, found: Option<u32>, n: u32) -> bool
-        ensures { result ≡ has found self n }
+    fn compares_some(self, found: Option<u32>, n: u32) -> bool
+        ensures { result ≡ compare_some_test found self n }
     {
         match found {
             Some(x) => self.compares(x, n),
@@ -91,8 +91,8 @@ impl<A: Allocator> Clause<A> {
             Clause::Passive => matches!(state.phase, Phase::Passive),
             Clause::Choosing => matches!(state.phase, Phase::Choosing { .. }),
             Clause::Owes => state.owed.is_some(),
-            Clause::Round(rel, n) => rel.has(round(state.phase), *n),
-            Clause::Id(rel, n) => rel.has(id(state.phase), *n),
+            Clause::Round(rel, n) => rel.compares_some(round(state.phase), *n),
+            Clause::Id(rel, n) => rel.compares_some(id(state.phase), *n),
             Clause::Both(a, b) => a.holds(state) && b.holds(state),
             Clause::Either(a, b) => a.holds(state) || b.holds(state),
             Clause::Negated(a) => !a.holds(state),

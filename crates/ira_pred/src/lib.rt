@@ -6,7 +6,9 @@ mod ask_fault;
 mod case;
 mod clause;
 mod limits;
+mod pairs;
 mod question;
+mod question_writer;
 mod rel;
 #[cfg(test)]
 mod tests;
@@ -15,5 +17,7 @@ pub use ask_fault::AskFault;
 pub use case::Case;
 pub use clause::Clause;
 pub use limits::{MAX_CASES, MAX_DEPTH};
+pub use pairs::pairs_question;
 pub use question::Question;
+pub use question_writer::write_question;
 pub use rel::Rel;

@@ -8,7 +8,7 @@ use std::alloc::Allocator;
 use std::marker::Model;
 
 /// What is asked of the runs of a ring: whether ever all clauses of a case hold at once, for each of
-/// its cases. There are 1 to `MAX_CASES` of them, and their text has at most `MAX_TEXT` bytes.
+/// 1 to `MAX_CASES` cases. The question's text has at most `MAX_TEXT` bytes.
 #[derive(Drop)]
 pub struct Question<A: Allocator> {
     nodes: RingSize,
@@ -18,10 +18,10 @@ pub struct Question<A: Allocator> {
 impl<A: Allocator> Model for Question<A> {
     ghost use Rattle.std.specs.Coded.{codes};
     ghost use Rattle.ira_pred.specs.FormulaCode.{formula_code};
-    ghost use Rattle.ira_pred.specs.Question.{Query, IsQuestion};
+    ghost use Rattle.ira_pred.specs.Question.{Asked, IsQuestion};
     ghost use Rattle.ira_pred.specs.QuestionText.{IsShort};
 
-    ghost Value = { Query };
+    ghost Value = { Asked };
 
     ghost coded = { Prim.hlevel (codes, formula_code) };
 
@@ -31,6 +31,15 @@ impl<A: Allocator> Model for Question<A> {
 }
 
 impl<A: Allocator> Question<A> {
+    /// The question of these parts, which are known to be in range.
+    pub(crate) fn of_parts(nodes: RingSize, cases: Vec<Case<A>, A>) -> Question<A>
+        requires valid { IsQuestion (record { nodes = nodes; cases = cases.items }) }
+        requires short { IsShort (record { nodes = nodes; cases = cases.items }) }
+        ensures { result ≡ record { nodes = nodes; cases = cases.items } }
+    {
+        Question { nodes, cases }
+    }
+
     pub fn nodes(&self) -> RingSize
         ensures value { result ≡ self.now.nodes }
         ensures valid { IsQuestion self.now }

@@ -1,5 +1,6 @@
-use crate::{Clause, Rel};
-use ira_event::Msg;
+use crate::question_writer::write_clause;
+use crate::{Clause, Rel, pairs_question, write_question};
+use ira_event::{MemorySink, Msg, RingSize};
 use ira_node::{NodeState, Phase};
 use std::alloc::{AllocError, Allocator, Global};
 use std::test::Fail;
@@ -9,6 +10,12 @@ const CHOOSING: Phase = Phase::Choosing { round: 2 };
 const ACTIVE: Phase = Phase::Active { round: 2, id: 3 };
 
 const LEADER: Phase = Phase::Leader { round: 2, id: 3 };
+
+const NESTED: &[u8] = b"(round > 1 and (not owes))";
+
+/// The question of the pairs of three nodes, 95 bytes.
+const PAIRS_OF_THREE: &[u8] =
+    b"irask 1\nnodes 3\ncase\n0: leader\n1: leader\ncase\n0: leader\n2: leader\ncase\n1: leader\n2: leader\nend\n";
 
 const PHASES: [Phase; 4] = [CHOOSING, ACTIVE, Phase::Passive, LEADER];
 
@@ -78,5 +85,41 @@ fn clauses_of_parts(rt: HostRuntime) -> Result<(), Fail> {
     assert!(rt; either.holds(&free(ACTIVE)));
     assert!(rt; either.holds(&owing(Phase::Passive)));
     assert!(rt; !either.holds(&free(Phase::Passive)));
+    Ok(())
+}
+
+#[test]
+fn written_clause(rt: HostRuntime) -> Result<(), Fail> {
+    let owes_not = negated(rt.alloc(), Clause::Owes)?;
+    let late = Box::new(rt.alloc(), Clause::Round(Rel::Greater, 1))?;
+    let clause = Clause::Both(late, Box::new(rt.alloc(), owes_not)?);
+    let mut sink = MemorySink::new(rt.alloc());
+    write_clause(&clause, &mut sink)?;
+    assert_eq!(rt; sink.bytes(), NESTED);
+    Ok(())
+}
+
+#[test]
+fn pairs_of_three(rt: HostRuntime) -> Result<(), Fail> {
+    let nodes = RingSize::new(3).ok_or("no ring of three")?;
+    let question = pairs_question(rt.alloc(), nodes)?;
+    let mut sink = MemorySink::new(rt.alloc());
+    write_question(&question, &mut sink)?;
+    assert_eq!(rt; PAIRS_OF_THREE.len(), 95);
+    assert_eq!(rt; sink.bytes(), PAIRS_OF_THREE);
+    let last = &question.cases()[2];
+    assert_eq!(rt; last.len(), 2);
+    assert_eq!(rt; last.place(1), 2);
+    assert!(rt; last.clause(0).holds(&free(LEADER)));
+    assert!(rt; !last.clause(0).holds(&free(ACTIVE)));
+    Ok(())
+}
+
+#[test]
+fn pairs_of_the_largest_ring(rt: HostRuntime) -> Result<(), Fail> {
+    let nodes = RingSize::new(64).ok_or("no ring of 64")?;
+    let question = pairs_question(rt.alloc(), nodes)?;
+    assert_eq!(rt; question.nodes(), nodes);
+    assert_eq!(rt; question.cases().len(), 2_016);
     Ok(())
 }
