@@ -4,6 +4,7 @@ use Rattle.std.proofs.lemmas.Result.{err_from_is_err_and}
 use Rattle.ira_ring.specs.declared.run_fault.RunFault.TheVariants.{Setup as SetupFault}
 use Rattle.ira_ring.specs.NodeEnd.{is_draws_spent}
 use Rattle.ira_ring.proofs.Seeded.{seeded_is, same_rules, lone_of_more, lone_of_same, is_err}
+use Rattle.ira_ring.proofs.AgreementLaws.{lone_logs_same, lone_logs_same_if_ok}
 use Rattle.ira_ring.proofs.seeded_run.run_alone_seeded.Goals as goal
 
 pub returns-in_err-run-clause-rules : goal.returns-in_err-run-clause-rules
@@ -32,3 +33,9 @@ returns-clause-broken g c = λ broken. is_err c.run_alone-2.result _ (c.run_alon
 
 pub returns-clause-ok : goal.returns-clause-ok
 returns-clause-ok g c = lone_of_same _ _ _ _ _ _ _ c.run_alone-2.result c.in_ok-all.ensures (seeded_is _ _ _ _ _) c.run_alone-2.ensures.ok
+
+pub returns-then-not-lack_draws-clause-only : goal.returns-then-not-lack_draws-clause-only
+returns-then-not-lack_draws-clause-only g c = lone_logs_same _ _ (returns-then-not-lack_draws-clause-ok g c)
+
+pub returns-clause-only : goal.returns-clause-only
+returns-clause-only g c = lone_logs_same_if_ok _ _ (returns-clause-ok g c)
