@@ -21,7 +21,7 @@ use Rattle.ira_ring.proofs.LoneNodes.{wants_draw, wants_receipt, wants_send, cho
 use Rattle.ira_ring.proofs.LoneStarts.{each_more}
 use Rattle.ira_ring.proofs.LoneTurns.{read_at}
 
-choosing_no_receipt : (n round : ℕ) (state : NodeState) (m : Msg) → state ≡ free (Choosing round) → HasStep n state (Got m) → ⊥
+pub choosing_no_receipt : (n round : ℕ) (state : NodeState) (m : Msg) → state ≡ free (Choosing round) → HasStep n state (Got m) → ⊥
 choosing_no_receipt n round state m is h =
     let P : NodeState → Type 0 = λ x. IsOfKind (wanted_of x.phase x.owed) (Got m) in
     subst P is (step_wanted n state (Got m) h.0 h.1)

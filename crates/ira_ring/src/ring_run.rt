@@ -8,6 +8,7 @@ ghost use Rattle.ira_ring.specs.Run.{IsRun};
 ghost use Rattle.ira_ring.specs.Seat.{AreSeated, AreSeatedRound};
 ghost use Rattle.ira_ring.specs.Done.{AreInPlaceRound, AreOfOneRing, PassedRound};
 ghost use Rattle.ira_ring.specs.Recording.{IsRecording, HasOwnEnd};
+ghost use Rattle.ira_ring.specs.Agreement.{Agrees};
 
 use crate::collector::Collector;
 use crate::done::Done;
@@ -117,6 +118,9 @@ fn settle_all<A: Allocator>(
 /// frames. `Setup` where the setup breaks the rules; nothing is taken before they were looked at. All
 /// memory is reserved before the first thread starts.
 ///
+/// Each node's log begins with its log by `run_alone`. Where a node ends there otherwise than as `Quiet`, the
+/// logs are the same, and so are the ends, with `Stopped` for `Quiet`, however the threads were scheduled.
+///
 /// Threads start by rising place, each after the gate admitted it. Where the gate doesn't admit one, or it
 /// can't be started, `Stop` is put on the link to node 0, if the end that writes it wasn't given away yet; all
 /// ends that are left are dropped, the started threads are joined, and the answer is `Thread`, whatever
@@ -130,6 +134,7 @@ where
     ensures rules { (result ≡ Err SetupFault) ↔ ¬ (KeepsRules setup.now) }
     ensures kept { OnOk result (KeepsRules setup.now) }
     ensures recording { IfOk result (IsRecording setup.now) }
+    ensures agrees { IfOk result (Agrees setup.now) }
     ensures ended { IfOk result HasOwnEnd }
     ensures faults { IfErr result (λ f. (f ≢ Stranger) × (f ≢ Double)) }
 {

@@ -5,6 +5,7 @@ ghost use Rattle.ira_ring.specs.NodeEnd.{is_draws_spent};
 ghost use Rattle.ira_ring.specs.Setup.{KeepsRules};
 ghost use Rattle.ira_ring.specs.ShownEnd.{IsLoneRun};
 ghost use Rattle.ira_ring.specs.SeededRun.{seeded, IsSeeded};
+ghost use Rattle.ira_ring.specs.Agreement.{AreOfEachFullRun};
 
 use crate::draws::draw_lists;
 use crate::lone_run::run_alone;
@@ -58,6 +59,7 @@ pub fn run_alone_seeded<A: Allocator + Clone>(
     ensures broken { ¬ (KeepsRules (seeded nodes initiators.now seed k cap)) → IsErr result }
     ensures kept { OnOk result (KeepsRules (seeded nodes initiators.now seed k cap)) }
     ensures ok { IfOk result (IsLoneRun (seeded nodes initiators.now seed k cap)) }
+    ensures only { IfOk result (λ run. AreOfEachFullRun (seeded nodes initiators.now seed k cap) run.logs) }
     ensures err { IfErr result (λ f. (f ≡ SetupFault) ⊎ (f ≡ MemoryFault)) }
 {
     if k > FIRST_DRAWS {

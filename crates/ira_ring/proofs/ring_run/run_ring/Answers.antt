@@ -9,6 +9,7 @@ use Rattle.ira_ring.specs.Run.{IsRun}
 use Rattle.ira_ring.specs.Done.{AreInPlaceRound}
 use Rattle.ira_ring.proofs.Settling.{on_ok, ok_of}
 use Rattle.ira_ring.proofs.Recordings.{is_recording_if_ok}
+use Rattle.ira_ring.proofs.AgreementLaws.{recording_agrees_if_ok}
 use Rattle.ira_ring.proofs.ring_run.run_ring.Goals as goal
 
 pub scoped-requires : goal.scoped-requires
@@ -48,3 +49,6 @@ returns-clause-recording g c =
     let ring = ok_of c.scoped.result c.in_ok-dones-2.dones (λ dones. AreInPlaceRound s dones.items) c.in_ok-dones-2.was c.scoped.ensures.1.0 in
     let settled = c.settle_all.ensures in
     is_recording_if_ok s c.in_ok-dones-2.dones.items c.settle_all.result settled.valid ring settled.passed settled.logs settled.ends
+
+pub returns-clause-agrees : goal.returns-clause-agrees
+returns-clause-agrees g c = recording_agrees_if_ok _ _ (returns-clause-recording g c)

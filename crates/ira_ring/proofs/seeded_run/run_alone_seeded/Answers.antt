@@ -4,6 +4,7 @@ use Rattle.std.proofs.lemmas.Result.{err_from_is_err_and, on_ok_weaker}
 use Rattle.ira_ring.specs.declared.run_fault.RunFault.TheVariants.{Setup as SetupFault}
 use Rattle.ira_ring.specs.NodeEnd.{is_draws_spent}
 use Rattle.ira_ring.proofs.Seeded.{seeded_is, same_rules, lone_of_more, lone_of_same, is_err}
+use Rattle.ira_ring.proofs.AgreementLaws.{lone_logs_same, lone_logs_same_if_ok}
 use Rattle.ira_ring.proofs.seeded_run.run_alone_seeded.Goals as goal
 
 pub returns-in_err-run-clause-rules : goal.returns-in_err-run-clause-rules
@@ -38,3 +39,9 @@ returns-clause-kept g c = on_ok_weaker c.run_alone-2.result (same_rules _ _ _ _ 
 
 pub returns-clause-ok : goal.returns-clause-ok
 returns-clause-ok g c = lone_of_same _ _ _ _ _ _ _ c.run_alone-2.result c.in_ok-all.ensures (seeded_is _ _ _ _ _) c.run_alone-2.ensures.ok
+
+pub returns-then-not-lack_draws-clause-only : goal.returns-then-not-lack_draws-clause-only
+returns-then-not-lack_draws-clause-only g c = lone_logs_same _ _ (returns-then-not-lack_draws-clause-ok g c)
+
+pub returns-clause-only : goal.returns-clause-only
+returns-clause-only g c = lone_logs_same_if_ok _ _ (returns-clause-ok g c)
