@@ -8,6 +8,8 @@ mod order_fault;
 mod ordered;
 mod scan;
 mod search;
+mod stamps;
+mod tally;
 
 pub use laws::{
     cuts_are_moments, moments_are_cuts, orders_are_runs, orders_mean_events,

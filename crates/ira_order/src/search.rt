@@ -9,6 +9,7 @@ use crate::links::match_links;
 use crate::order_fault::OrderFault;
 use crate::ordered::Ordered;
 use crate::scan::Scan;
+use crate::stamps::Stamps;
 use ira_event::Logs;
 use std::alloc::Allocator;
 
@@ -30,7 +31,9 @@ pub fn find_order<A: Allocator + Clone>(alloc: A, logs: &Logs<A>) -> Result<Vec<
     Ok(scan.into_places())
 }
 
-/// The logs with one order of all their events; or why there is none, as `find_order` says.
+/// The logs with one order of all their events, and which of them happened before one another; or why
+/// there is none, as `find_order` says. It takes a counter of each node for each receipt, and time in
+/// proportion.
 pub fn order<A: Allocator + Clone>(alloc: A, logs: &Logs<A>) -> Result<Ordered<'_, A>, OrderFault>
     ensures logs { IfOk result (λ o. o.logs ≡ logs.now) }
     ensures ok { IfOk result (λ o. IsOrdered o) }
@@ -38,5 +41,7 @@ pub fn order<A: Allocator + Clone>(alloc: A, logs: &Logs<A>) -> Result<Ordered<'
     ensures circle { result ≢ Err OutOfMemory → (result ≡ Err Circle) ↔ HasCircle logs.now }
 {
     let schedule = find_order(alloc, logs)?;
-    Ok(Ordered::of_parts(logs, schedule))
+    let alloc = schedule.allocator().clone()?;
+    let stamps = Stamps::of_order(alloc, logs, &schedule)?;
+    Ok(Ordered::of_parts(logs, schedule, stamps))
 }
