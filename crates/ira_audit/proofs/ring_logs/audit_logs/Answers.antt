@@ -1,4 +1,4 @@
-use Rattle.std.proofs.Common.{◌≡◌, map, take, subst, rules, arith}
+use Rattle.std.proofs.Common.{map, take, subst, rules}
 use Rattle.ira_audit.specs.RingAudit.{HasTaken}
 use Rattle.ira_audit.proofs.LogTexts.{lent, next_taken, all_taken}
 use Rattle.ira_audit.proofs.ring_logs.audit_logs.Goals as goal

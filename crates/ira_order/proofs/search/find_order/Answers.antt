@@ -4,7 +4,7 @@ use Rattle.ira_order.specs.Matching.{Matches}
 use Rattle.ira_order.specs.Circle.{HasCircle}
 use Rattle.ira_order.specs.MatchFault.{IsMatchFault}
 use Rattle.ira_order.proofs.Orders.{is_ok_of, match_answer, no_match_fault, memory_answer, circle_answer, no_circle, is_ordered, has_circle}
-use Rattle.ira_order.proofs.find_order.order.Goals as goal
+use Rattle.ira_order.proofs.search.find_order.Goals as goal
 
 pub returns-in_err-match_links-clause-matching : goal.returns-in_err-match_links-clause-matching
 returns-in_err-match_links-clause-matching g c =
@@ -35,18 +35,18 @@ returns-then-not-is_whole-clause-circle g c =
     let circle : HasCircle c.args.logs.now = has_circle _ _ _ _ _ matches c.in_ok-rounds.ensures.scan c.in_ok-rounds.ensures.stuck c.if-not-is_whole.ensures in
     circle_answer c.args.logs.now (Err Circle) refl circle
 
-pub of_parts-requires : goal.of_parts-requires
-of_parts-requires g c =
+pub returns-clause-ok : goal.returns-clause-ok
+returns-clause-ok g c =
     let matches : Matches c.args.logs.now = c.match_links.ensures.ok.0 (is_ok_of _ _ c.in_ok-match_links.was) in
     rw c.into_places.ensures (is_ordered _ _ _ _ _ matches c.in_ok-rounds.ensures.scan c.if-not-is_whole.ensures)
 
 pub returns-clause-matching : goal.returns-clause-matching
 returns-clause-matching g c =
     let matches : Matches c.args.logs.now = c.match_links.ensures.ok.0 (is_ok_of _ _ c.in_ok-match_links.was) in
-    no_match_fault c.args.logs.now (Ok c.of_parts.result) matches (λ f e. (let z : ⊥ = cc in z))
+    no_match_fault c.args.logs.now (Ok c.into_places.result) matches (λ f e. (let z : ⊥ = cc in z))
 
 pub returns-clause-circle : goal.returns-clause-circle
 returns-clause-circle g c =
     let matches : Matches c.args.logs.now = c.match_links.ensures.ok.0 (is_ok_of _ _ c.in_ok-match_links.was) in
-    no_circle c.args.logs.now (Ok c.of_parts.result) c.of_parts.result _ refl
+    no_circle c.args.logs.now (Ok c.into_places.result) c.into_places.result _ refl
     (is_ordered _ _ _ _ _ matches c.in_ok-rounds.ensures.scan c.if-not-is_whole.ensures).order
