@@ -1,11 +1,8 @@
 -- What an audit that has judged by a definition of answers has answered.
-use Rattle.std.proofs.Common.{◌≡◌, ◌≢◌, ◌↔◌, ◌⊎◌, ℕ, List, Some, take, slice_get, IfOk, Result, Ok, Err, inl, inr, refl, subst, ap}
+use Rattle.std.proofs.Common.{◌≡◌, ◌≢◌, ◌↔◌, ℕ, List, IfOk, Result, Ok, Err, inl, inr, refl, subst, ap}
 use Rattle.ira_event.specs.Result.{UnlessErr}
-use Rattle.ira_event.specs.declared.log_fault.LogFault.{LogFault}
-use Rattle.ira_event.specs.declared.log_fault.LogFault.TheVariants as fault
 use Rattle.ira_event.specs.declared.out_of_memory.OutOfMemory.{OutOfMemory}
 use Rattle.ira_event.specs.Log.{Log}
-use Rattle.ira_event.specs.LogTextFault.{LogTextFault}
 use Rattle.ira_replay.specs.declared.replay_fault.ReplayFault.{ReplayFault}
 use Rattle.ira_audit.specs.declared.reason.Reason.{Reason}
 use Rattle.ira_audit.specs.declared.reason.Reason.TheVariants as reason
@@ -22,9 +19,9 @@ use Rattle.ira_order.specs.declared.order_fault.OrderFault.{OrderFault}
 use Rattle.ira_order.specs.declared.order_fault.OrderFault.TheVariants as order
 use Rattle.ira_order.specs.Circle.{HasCircle, HasOrder}
 use Rattle.ira_order.specs.MatchFault.{IsMatchFault}
-use Rattle.ira_audit.specs.LogTexts.{AreLogTexts, IsFirstTextFault}
-use Rattle.ira_audit.specs.LogsAnswer.{IsLogsAnswer, IsFirstStop, no_log, no_ring, unmatched, circled, stopped}
-use Rattle.ira_audit.proofs.Unless.{ok_same}
+use Rattle.ira_audit.specs.LogTexts.{AreLogTexts}
+use Rattle.ira_audit.specs.LogsAnswer.{IsLogsAnswer, IsFirstStop, no_ring, unmatched, circled, stopped}
+use Rattle.ira_event.proofs.Unless.{ok_same}
 
 -- an answer that is right is the only one
 pub answered_exactly : (P : Answer → Type 0) → ((a b : Answer) → P a → P b → a ≡ b) → (r : Result (Unit {0}) Refusal) → Judged r P

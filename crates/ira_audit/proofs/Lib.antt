@@ -3,4 +3,3 @@ pub mod LogTexts
 pub mod OneAnswer
 pub mod Replaying
 pub mod TextRuns
-pub mod Unless

@@ -1,6 +1,5 @@
 -- Texts and the logs whose texts they are.
 use Rattle.std.proofs.Common.{Bor, true, false, Option, None, map, length, slice_index_or, ◌≡◌, ℕ, zero, suc, ◌+◌, ◌<◌, ◌≤◌, List, [], ◌∷◌, ◌++◌, Some, take, refl, sym, ap, subst, ◌∙◌, arith}
-use native.Mathlib.Numerals.{unary_clauses}
 use Rattle.std.specs.Prelude.{slice_get}
 use Rattle.std.proofs.lemmas.List.{take-append-le, take_more, take_all, length-map}
 use Rattle.std.proofs.lemmas.Option.{slice_get_within, get_or_from_slice_get}
@@ -82,26 +81,6 @@ before_next [] (l ∷ ls) text a = absurd a
 before_next (t ∷ ts) [] text a = absurd a
 before_next (t ∷ ts) (l ∷ ls) text a = (a.0, before_next ts ls text a.1)
 
--- the text behind those of some logs is no log's
-pub first_fault : (texts : List (List ℕ)) (logs : List Log) (text : List ℕ) (f : LogFault) → AreLogTexts texts logs → LogTextFault text f → IsFirstTextFault (texts ++ text ∷ []) (length logs) f
-first_fault texts logs text f a h = record {
-  before = logs;
-  before_are = before_next texts logs text a;
-  text = text;
-  at = next_at texts logs text a;
-  fault = h;
-}
-
--- one text more, behind one that is no log's
-pub later_text : (texts : List (List ℕ)) (text : List ℕ) (i : ℕ) (f : LogFault) → IsFirstTextFault texts i f → IsFirstTextFault (texts ++ text ∷ []) i f
-later_text texts text i f h = record {
-  before = h.before;
-  before_are = subst (λ front. AreLogTexts front h.before) (sym (take-append-le i texts (text ∷ []) (omega (arith, slice_get_within texts i h.text h.at)))) h.before_are;
-  text = h.text;
-  at = member texts (text ∷ []) i h.text h.at;
-  fault = h.fault;
-}
-
 -- the text that a place of the list of borrowed texts lends
 pub lent : (texts : List (Bor (List ℕ))) (i : ℕ) (d : Bor (List ℕ)) → i < length texts → slice_get (map (λ t. t.now) texts) i ≡ Some (slice_index_or texts i d).now
 lent [] i d lt = absurd (omega (arith, lt))
@@ -116,14 +95,28 @@ keeps_log texts logs None text log none kept is = one_more texts logs text log k
 keeps_log texts logs (Some f) text log none kept is = absurd cc
 
 -- one text more, which is none
-pub keeps_fault : (texts : List (List ℕ)) (logs : List Log) (fault : Option LogFault) (text : List ℕ) (f : LogFault) → false ≡ is_some fault → AreKept texts logs fault → LogTextFault text f → IsFirstTextFault (texts ++ text ∷ []) (length logs) f
-keeps_fault texts logs None text f none kept h = first_fault texts logs text f kept h
+pub keeps_fault : (texts : List (List ℕ)) (logs : List Log) (fault : Option LogFault) (text : List ℕ) (f : LogFault) → false ≡ is_some fault → AreKept texts logs fault → LogTextFault text f → AreKept (texts ++ text ∷ []) logs (Some f)
+keeps_fault texts logs None text f none kept h = (before_next texts logs text kept, (text, next_at texts logs text kept, h))
 keeps_fault texts logs (Some g) text f none kept h = absurd cc
 
 -- one text more, behind one that is no log's
 pub keeps_first : (texts : List (List ℕ)) (logs : List Log) (fault : Option LogFault) (text : List ℕ) → true ≡ is_some fault → AreKept texts logs fault → AreKept (texts ++ text ∷ []) logs fault
 keeps_first texts logs None text some kept = absurd cc
-keeps_first texts logs (Some f) text some kept = (later_text texts text (length logs) f kept.0, kept.1)
+keeps_first texts logs (Some f) text some kept =
+    let there = slice_get_within texts (length logs) kept.1.0 kept.1.1 in (
+      subst (λ front. AreLogTexts front logs) (sym (take-append-le (length logs) texts (text ∷ []) (omega (arith, there)))) kept.0,
+      (kept.1.0, member texts (text ∷ []) (length logs) kept.1.0 kept.1.1, kept.1.2),
+    )
+
+-- the text behind those of the logs is the first that is no log's
+pub first_fault : (texts : List (List ℕ)) (logs : List Log) (f : LogFault) → AreKept texts logs (Some f) → IsFirstTextFault texts (length logs) f
+first_fault texts logs f kept = record {
+  before = logs;
+  before_are = kept.0;
+  text = kept.1.0;
+  at = kept.1.1;
+  fault = kept.1.2;
+}
 
 -- the texts up to the next one, and that
 pub next_taken : (texts : List (List ℕ)) (i : ℕ) (text : List ℕ) → slice_get texts i ≡ Some text → take i texts ++ text ∷ [] ≡ take (i + 1) texts

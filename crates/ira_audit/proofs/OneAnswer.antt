@@ -6,6 +6,7 @@ use Rattle.ira_event.specs.declared.log_fault.LogFault.{LogFault}
 use Rattle.ira_event.specs.Log.{Log}
 use Rattle.ira_event.specs.Logs.{AreLogs, HeadFaultOf}
 use Rattle.ira_event.proofs.Gathering.{no-fault, one-fault}
+use Rattle.ira_event.proofs.Unless.{err_same}
 use Rattle.ira_event.proofs.LogAnswers.{one_log, log_or_fault, one_fault}
 use Rattle.ira_node.specs.NodeState.{first_state}
 use Rattle.ira_replay.specs.declared.replay_fault.ReplayFault.{ReplayFault}
@@ -33,16 +34,13 @@ run_or_fault log f local stops =
     let bad = (stops_exactly log.nodes (first_state log.initiator) log.events r refl f).1 stops in
     cc
 
-err_is : {T E : Type 0} (f g : E) → ◌≡◌ {A = Result T E} (Err f) (Err g) → f ≡ g
-err_is f g e = cc
-
 -- a log has one first fault
 pub one_stop : (log : Log) (f g : ReplayFault) → IsFirstFault log f → IsFirstFault log g → f ≡ g
 one_stop log f g a b =
     let r = replayed log.nodes 0 (Ok (first_state log.initiator)) log.events in
     let one = (stops_exactly log.nodes (first_state log.initiator) log.events r refl f).1 a in
     let two = (stops_exactly log.nodes (first_state log.initiator) log.events r refl g).1 b in
-    err_is f g (sym one ∙ two)
+    err_same f g (sym one ∙ two)
 
 -- a text has one answer
 pub one_answer : (text : List ℕ) (a b : Answer) → single.IsAnswer text a → single.IsAnswer text b → a ≡ b

@@ -1,6 +1,5 @@
 -- What an answer says of runs of the ring.
 use Rattle.std.proofs.Common.{◌≡◌, ℕ, List, subst}
-use Rattle.ira_event.specs.Log.{Log}
 use Rattle.ira_order.specs.Circle.{HasOrder}
 use Rattle.ira_order.specs.Ordered.{Ordered, IsOrdered}
 use Rattle.ira_order.proofs.RunsOfLogs.{every_order_is_run, unmatched_no_run, circled_no_run, faulty_no_run}
@@ -11,8 +10,8 @@ use Rattle.ira_audit.specs.LogsAnswer.{IsLogsAnswer, no_log, no_ring, unmatched,
 use Rattle.ira_audit.specs.TextRuns.{AreTextsOfRuns, AreTextsWithoutRun}
 
 -- logs that were ordered have an order
-pub ordered_has : (logs : List Log) (o : Ordered) → o.logs ≡ logs → IsOrdered o → HasOrder logs
-ordered_has logs o of is = subst HasOrder of (is.matches, o.schedule, is.order)
+pub ordered_has : (o : Ordered) → IsOrdered o → HasOrder o.logs
+ordered_has o is = (is.matches, o.schedule, is.order)
 
 -- texts that are answered yes
 pub yes_runs : (texts : List (List ℕ)) (a : Answer) → IsLogsAnswer texts a → a ≡ Yes → AreTextsOfRuns texts

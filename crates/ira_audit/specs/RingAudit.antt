@@ -1,20 +1,21 @@
 -- What is kept of the texts of a ring's logs while they are taken one by one.
-use Rattle.std.specs.Prelude.{◌≢◌, ℕ, List, Option, Some, None, length}
+use Rattle.std.specs.Prelude.{◌≡◌, ℕ, List, Option, Some, None, length, slice_get, take}
 use Rattle.ira_event.specs.declared.log_fault.LogFault.{LogFault}
-use Rattle.ira_event.specs.declared.log_fault.LogFault.TheVariants.{OutOfMemory}
 use Rattle.ira_event.specs.Log.{Log}
-use Rattle.ira_audit.specs.LogTexts.{AreLogTexts, IsFirstTextFault}
+use Rattle.ira_event.specs.LogTextFault.{LogTextFault}
+use Rattle.ira_audit.specs.LogTexts.{AreLogTexts}
 
 -- some logs, and what is wrong with the text behind theirs, if something is
 pub record RingAudit : Type 0 where
   pub logs : List Log
   pub fault : Option LogFault
 
--- without a fault the texts are those of the logs; with one the first text that is no log's stands
--- behind those of the logs, and has this fault
+-- without a fault the texts are those of the logs; with one the first texts, as many as there are logs,
+-- are those of the logs, and the text behind these has the fault
 abbrev pub AreKept : List (List ℕ) → List Log → Option LogFault → Type 0
 AreKept texts logs None = AreLogTexts texts logs
-AreKept texts logs (Some f) = IsFirstTextFault texts (length logs) f × (f ≢ OutOfMemory)
+AreKept texts logs (Some f) =
+    AreLogTexts (take (length logs) texts) logs × ((text : List ℕ) × (slice_get texts (length logs) ≡ Some text) × LogTextFault text f)
 
 -- these texts were taken, in this order
 abbrev pub HasTaken : RingAudit → List (List ℕ) → Type 0

@@ -17,7 +17,7 @@ use crate::reason::Reason;
 use crate::refusal::Refusal;
 use crate::ring_audit::RingAudit;
 use ira_event::{Logs, NodeLog, OutOfMemory};
-use ira_order::order;
+use ira_order::find_order;
 use ira_replay::{ReplayFault, replay};
 use std::alloc::Allocator;
 
@@ -51,7 +51,7 @@ pub(crate) fn judge_logs<A: Allocator + Clone>(logs: Vec<NodeLog<A>, A>) -> Resu
 {
     let alloc = logs.allocator().clone()?;
     let logs = Logs::gather(logs)?;
-    order(alloc, &logs)?;
+    find_order(alloc, &logs)?;
     check_all_steps(&logs)?;
     Ok(())
 }

@@ -9,4 +9,5 @@ pub mod Numerals
 pub mod Pieces
 pub mod RecordLines
 pub mod Spelled
+pub mod Unless
 pub mod Writing

@@ -1,5 +1,5 @@
 -- What is made for a request.
-use Rattle.std.proofs.Common.{◌≡◌, ℕ, ◌<◌, Bool, true, false, List, [], Result, Ok, Err, IfOk, length, get_or, inl, inr, refl, sym, ap, subst, ◌∙◌, arith}
+use Rattle.std.proofs.Common.{◌≡◌, ℕ, ◌<◌, Bool, true, false, List, [], Result, Ok, Err, IfOk, OnOk, length, get_or, inl, inr, refl, sym, ap, subst, ◌∙◌, arith}
 use Rattle.std.specs.Prelude.{Option, IfSome, map, nat_lt, unwrap_or, slice_get}
 use Rattle.std.specs.List.{range_with_len}
 use Rattle.std.specs.Option.{option_map}
@@ -10,9 +10,9 @@ use Rattle.ira_ring.specs.Draws.{draws}
 use Rattle.ira_ring.specs.SeededRun.{seeded}
 use Rattle.ira_main.specs.declared.run_request.RunRequest.{RunRequest}
 use Rattle.ira_ring.specs.declared.run_fault.RunFault.{RunFault}
-use Rattle.ira_ring.specs.Recording.{IsRecording}
+use Rattle.ira_ring.specs.Recording.{IsRecording, HasOwnEnd}
 use Rattle.ira_ring.specs.Run.{Run}
-use Rattle.ira_ring.specs.Setup.{Setup}
+use Rattle.ira_ring.specs.Setup.{Setup, KeepsRules}
 use Rattle.ira_ring.specs.ShownEnd.{IsLoneRun}
 use Rattle.ira_main.specs.RunRequest.{IsAskedSetup, IsAskedRun, IsRunOf}
 
@@ -56,10 +56,10 @@ asked_seeded request n kinds size first =
     }
 
 -- a run of the setup that is asked for is the run that is asked for
-pub asked_alone : (request : RunRequest) (s : Setup) (r : Result Run RunFault) → request.is_alone ≡ true → IsAskedSetup request s → IfOk r (IsLoneRun s) → IfOk r (IsAskedRun request)
-asked_alone request s (Ok run) alone asked is = (s, asked, subst (λ b. IsRunOf b s run) (sym alone) is)
-asked_alone request s (Err f) alone asked is = tt
+pub asked_alone : (request : RunRequest) (s : Setup) (r : Result Run RunFault) → request.is_alone ≡ true → IsAskedSetup request s → OnOk r (KeepsRules s) → IfOk r (IsLoneRun s) → IfOk r (IsAskedRun request)
+asked_alone request s (Ok run) alone asked keeps is = (s, asked, keeps, subst (λ b. IsRunOf b s run) (sym alone) is)
+asked_alone request s (Err f) alone asked keeps is = tt
 
-pub asked_ring : (request : RunRequest) (s : Setup) (r : Result Run RunFault) → request.is_alone ≡ false → IsAskedSetup request s → IfOk r (IsRecording s) → IfOk r (IsAskedRun request)
-asked_ring request s (Ok run) threads asked is = (s, asked, subst (λ b. IsRunOf b s run) (sym threads) is)
-asked_ring request s (Err f) threads asked is = tt
+pub asked_ring : (request : RunRequest) (s : Setup) (r : Result Run RunFault) → request.is_alone ≡ false → IsAskedSetup request s → OnOk r (KeepsRules s) → IfOk r (IsRecording s) → IfOk r HasOwnEnd → IfOk r (IsAskedRun request)
+asked_ring request s (Ok run) threads asked keeps is ended = (s, asked, keeps, subst (λ b. IsRunOf b s run) (sym threads) (is, ended))
+asked_ring request s (Err f) threads asked keeps is ended = tt

@@ -1,9 +1,9 @@
 -- What the words of a run name.
 use Rattle.std.specs.Prelude.{◌≡◌, ℕ, ◌<◌, Bool, true, false, nat_lt, unwrap_or}
 use Rattle.ira_ring.specs.Draws.{draws}
-use Rattle.ira_ring.specs.Recording.{IsRecording}
+use Rattle.ira_ring.specs.Recording.{IsRecording, HasOwnEnd}
 use Rattle.ira_ring.specs.Run.{Run}
-use Rattle.ira_ring.specs.Setup.{Setup, IsForEachNode, is_initiator, given}
+use Rattle.ira_ring.specs.Setup.{Setup, KeepsRules, IsForEachNode, is_initiator, given}
 use Rattle.ira_ring.specs.ShownEnd.{IsLoneRun}
 use Rattle.ira_main.specs.declared.run_request.RunRequest.{RunRequest}
 
@@ -20,8 +20,8 @@ pub record IsAskedSetup (request : RunRequest) (s : Setup) : Type 0 where
 -- a run of a setup, on one thread or with a thread for each node
 abbrev pub IsRunOf : Bool → Setup → Run → Type 0
 IsRunOf true s run = IsLoneRun s run
-IsRunOf false s run = IsRecording s run
+IsRunOf false s run = IsRecording s run × HasOwnEnd run
 
--- a run of the setup that a request names
+-- a run of the setup that a request names, which keeps the rules
 abbrev pub IsAskedRun : RunRequest → Run → Type 0
-IsAskedRun request run = (s : Setup) × IsAskedSetup request s × IsRunOf request.is_alone s run
+IsAskedRun request run = (s : Setup) × IsAskedSetup request s × KeepsRules s × IsRunOf request.is_alone s run

@@ -1,5 +1,5 @@
 -- What the program does.
-use Rattle.std.specs.Prelude.{◌≡◌, ◌⊎◌, ℕ, ◌+◌, true, List, Option}
+use Rattle.std.specs.Prelude.{◌≡◌, ◌⊎◌, ℕ, ◌+◌, true, List, Option, codes, length}
 use Rattle.ira_event.specs.declared.limits.TheConstants.{MAX_TEXT}
 use Rattle.ira_event.specs.Sink.{Takes, StopsIn}
 use Rattle.ira_audit.specs.Answer.{IsAnswer}
@@ -9,6 +9,7 @@ use Rattle.ira_ring.specs.Run.{Run}
 use Rattle.ira_main.specs.Counted.{Reads}
 use Rattle.ira_main.specs.ReadText.{IsReadTo}
 use Rattle.ira_audit.specs.Report.{report_line}
+use Rattle.ira_main.specs.Request.{BeginsWithWord}
 use Rattle.ira_main.specs.RunRequest.{IsAskedRun}
 use Rattle.ira_main.specs.Status.{IsElectionStatus, status_number, answer_status}
 use Rattle.ira_audit.specs.declared.answer.Answer.{Answer}
@@ -33,11 +34,19 @@ pub data Judges (old new : Reads) (taken : Option (List ℕ)) (failures : ℕ) (
   unread : new.is_over ≡ true → IsUntouched taken failures taken' failures' → status ≡ 2 → Judges old new taken failures taken' failures' status
   no_memory : IsUntouched taken failures taken' failures' → status ≡ 3 → Judges old new taken failures taken' failures' status
 
--- logs in files: the texts of some files were judged together, and their answer reported; or the files
--- weren't read or judged, and nothing was written
-pub data JudgesTogether (taken : Option (List ℕ)) (failures : ℕ) (taken' : Option (List ℕ)) (failures' : ℕ) (status : ℕ) : Type 0 where
-  judged : (texts : List (List ℕ)) (answer : Answer) → IsLogsAnswer texts answer → Reports answer taken failures taken' failures' status → JudgesTogether taken failures taken' failures' status
-  unjudged : IsUntouched taken failures taken' failures' → (status ≡ 2) ⊎ (status ≡ 3) → JudgesTogether taken failures taken' failures' status
+-- no answer was given: nothing was written to the output, whatever became of files, and the status is
+-- that of a refusal or of want of memory
+abbrev pub GivesNoAnswer : Option (List ℕ) → ℕ → Option (List ℕ) → ℕ → ℕ → Type 0
+GivesNoAnswer taken failures taken' failures' status =
+    IsUntouched taken failures taken' failures' × ((status ≡ 2) ⊎ (status ≡ 3))
+
+-- so many texts were judged together, and their answer reported
+pub record JudgesTogether (number : ℕ) (taken : Option (List ℕ)) (failures : ℕ) (taken' : Option (List ℕ)) (failures' : ℕ) (status : ℕ) : Type 0 where
+  pub texts : List (List ℕ)
+  pub many : length texts ≡ number
+  pub answer : Answer
+  pub judged : IsLogsAnswer texts answer
+  pub reported : Reports answer taken failures taken' failures' status
 
 -- the ends of a run were written whole, and the status says whether a node leads; or the write failed,
 -- and the status is 2
@@ -46,14 +55,20 @@ ReportsEnds run taken failures taken' failures' status =
     (Takes (ends_text run) taken failures taken' failures' × IsElectionStatus run.ends status)
     ⊎ (StopsIn (ends_text run) taken failures taken' failures' × (status ≡ 2))
 
--- a run was recorded: one that a request asks for, and its ends were reported; or there was no
--- run, or its logs weren't all written, and nothing was written to the output
-pub data Records (taken : Option (List ℕ)) (failures : ℕ) (taken' : Option (List ℕ)) (failures' : ℕ) (status : ℕ) : Type 0 where
-  recorded : (request : RunRequest) (run : Run) → IsAskedRun request run → ReportsEnds run taken failures taken' failures' status → Records taken failures taken' failures' status
-  unrecorded : IsUntouched taken failures taken' failures' → (status ≡ 2) ⊎ (status ≡ 3) → Records taken failures taken' failures' status
+-- a run that the request asks for was made, and its ends were reported
+pub record Records (request : RunRequest) (taken : Option (List ℕ)) (failures : ℕ) (taken' : Option (List ℕ)) (failures' : ℕ) (status : ℕ) : Type 0 where
+  pub run : Run
+  pub asked : IsAskedRun request run
+  pub reported : ReportsEnds run taken failures taken' failures' status
 
--- with words: the input wasn't read; and the words, or the files that they name, were refused, or the
--- logs in these files judged, or a run was recorded
-pub record Obeys (old new : Reads) (taken : Option (List ℕ)) (failures : ℕ) (taken' : Option (List ℕ)) (failures' : ℕ) (status : ℕ) : Type 0 where
+-- what words were obeyed by: the first is `logs`, and texts of some files were judged together; or it is
+-- `run`, and a ring was run for some request; or no answer was given
+pub data Done (words : List (List ℕ)) (taken : Option (List ℕ)) (failures : ℕ) (taken' : Option (List ℕ)) (failures' : ℕ) (status : ℕ) : Type 0 where
+  judged : BeginsWithWord (codes "logs") words → (number : ℕ) → JudgesTogether number taken failures taken' failures' status → Done words taken failures taken' failures' status
+  recorded : BeginsWithWord (codes "run") words → (request : RunRequest) → Records request taken failures taken' failures' status → Done words taken failures taken' failures' status
+  no_answer : GivesNoAnswer taken failures taken' failures' status → Done words taken failures taken' failures' status
+
+-- with words: the input wasn't read, and the words were obeyed
+pub record Obeys (words : List (List ℕ)) (old new : Reads) (taken : Option (List ℕ)) (failures : ℕ) (taken' : Option (List ℕ)) (failures' : ℕ) (status : ℕ) : Type 0 where
   pub unread : new ≡ old
-  pub done : JudgesTogether taken failures taken' failures' status ⊎ Records taken failures taken' failures' status
+  pub done : Done words taken failures taken' failures' status

@@ -1,15 +1,21 @@
-ghost use Rattle.std.specs.Prelude.{◌≡◌, ◌≢◌, [], Ok};
+ghost use Rattle.std.specs.Prelude.{◌≡◌, [], Ok, IfOk, IfSome, false, map};
+ghost use Rattle.clap.specs.Words.{app_of, rule_of};
+ghost use Rattle.ira_main.specs.CommandLine.{IsIraApp, IsRunApp, logs_app, number_rule, option_rule};
+ghost use Rattle.ira_main.specs.Request.{IsLogs, IsMadeOf, IsRun};
 ghost use Rattle.ira_main.specs.declared.request.Request.TheVariants as request;
 
 use crate::complaint::Complaint;
 use crate::request::Request;
 use crate::run_request::RunRequest;
+use clap::builder::ValueParser;
 use clap::error::ErrorKind;
 use clap::{Arg, ArgAction, ArgMatches, Command, Error, value_parser};
 use std::alloc::{AllocError, Global};
 
 /// The program's command line.
-fn command<'a>(alloc: Global) -> Result<Command<'a>, AllocError> {
+fn command<'a>(alloc: Global) -> Result<Command<'a>, AllocError>
+    ensures { IfOk result (λ c. IsIraApp (app_of c)) }
+{
     Command::new(alloc, "ira")
         .no_binary_name(true)
         .bin_name("ira")?
@@ -29,7 +35,9 @@ fn command<'a>(alloc: Global) -> Result<Command<'a>, AllocError> {
         .subcommand(run_command(alloc)?)
 }
 
-fn logs_command<'a>(alloc: Global) -> Result<Command<'a>, AllocError> {
+fn logs_command<'a>(alloc: Global) -> Result<Command<'a>, AllocError>
+    ensures { IfOk result (λ c. app_of c ≡ logs_app) }
+{
     let logs = Arg::new(alloc, "LOG")
         .help("A file with the log of a node, in the order of the ring's places")
         .action(ArgAction::Append)
@@ -41,7 +49,7 @@ fn logs_command<'a>(alloc: Global) -> Result<Command<'a>, AllocError> {
 }
 
 fn logs_request<'a>(alloc: Global, matches: &ArgMatches<'a>) -> Result<Request<'a>, Error>
-    ensures { result ≢ Ok request.OneLog }
+    ensures { IfOk result IsLogs }
 {
     let mut names = Vec::new(alloc);
     if let Some(given) = matches.get_strs("LOG") {
@@ -50,19 +58,34 @@ fn logs_request<'a>(alloc: Global, matches: &ArgMatches<'a>) -> Result<Request<'
     Ok(Request::Logs(names))
 }
 
-/// An option that takes a number.
-fn number<'a>(alloc: Global, name: &'a str, value: &'a str, help: &'a str) -> Arg<'a> {
+/// An option that takes a value.
+fn option<'a>(alloc: Global, name: &'a str, value: &'a str, help: &'a str) -> Arg<'a>
+    ensures rule { rule_of result ≡ option_rule name.entry.now }
+    ensures local { result.global ≡ false }
+{
     Arg::new(alloc, name)
         .long(name)
         .value_name(value)
-        .value_parser(value_parser!(u64))
         .help(help)
 }
 
-fn run_command<'a>(alloc: Global) -> Result<Command<'a>, AllocError> {
+/// An option that takes a number.
+fn number<'a>(alloc: Global, name: &'a str, value: &'a str, help: &'a str) -> Arg<'a>
+    ensures rule { rule_of result ≡ number_rule name.entry.now }
+    ensures local { result.global ≡ false }
+{
+    option(alloc, name, value, help).value_parser(value_parser!(u64))
+}
+
+fn run_command<'a>(alloc: Global) -> Result<Command<'a>, AllocError>
+    ensures { IfOk result (λ c. IsRunApp (app_of c)) }
+{
     let nodes = number(alloc, "nodes", "N", "How many nodes the ring has, 2 to 64");
     let seed = number(alloc, "seed", "S", "The number that all draws come from");
-    let folder = Arg::new(alloc, "out").long("out").value_name("DIR").help(
+    let folder = option(
+        alloc,
+        "out",
+        "DIR",
         "The folder, which exists, for the logs 0.log, 1.log and so on",
     );
     let initiators = number(
@@ -71,12 +94,12 @@ fn run_command<'a>(alloc: Global) -> Result<Command<'a>, AllocError> {
         "M",
         "How many nodes begin, from node 0 on; all if not given",
     );
-    let draws = Arg::new(alloc, "draws")
-        .long("draws")
-        .value_name("K")
-        .value_parser(value_parser!(u32).range(0..=100_000))
-        .default_value("64")
-        .help("How many IDs each node is given to draw, 0 to 100000");
+    let draws = option(
+        alloc,
+        "draws",
+        "K",
+        "How many IDs each node is given to draw, 0 to 100000",
+    );
     let cap = number(alloc, "cap", "C", "The most records of a log, 1 to 100000");
     let alone = Arg::new(alloc, "alone")
         .long("alone")
@@ -86,16 +109,26 @@ fn run_command<'a>(alloc: Global) -> Result<Command<'a>, AllocError> {
         .about("Runs an election, and writes the log of each node to a file")
         .arg(nodes.required(true))?
         .arg(seed.required(true))?
-        .arg(folder.required(true))?
+        .arg(
+            folder
+                .value_parser(ValueParser::NonEmptyString)
+                .required(true),
+        )?
         .arg(initiators)?
-        .arg(draws)?
+        .arg(
+            draws
+                .value_parser(value_parser!(u32).range(0..=100_000))
+                .default_value("64"),
+        )?
         .arg(cap.default_value("10000"))?
         .arg(alone)
 }
 
 /// The ring to run, where all its options have a value.
-fn run_request<'a>(matches: &ArgMatches<'a>) -> Option<RunRequest<'a>> {
-    Some(RunRequest {
+fn run_request<'a>(matches: &ArgMatches<'a>) -> Option<Request<'a>>
+    ensures { IfSome result IsRun }
+{
+    Some(Request::Run(RunRequest {
         nodes: matches.get_one("nodes")?,
         seed: matches.get_one("seed")?,
         folder: matches.get_str("out")?,
@@ -103,18 +136,18 @@ fn run_request<'a>(matches: &ArgMatches<'a>) -> Option<RunRequest<'a>> {
         draws: matches.get_one("draws")?,
         cap: matches.get_one("cap")?,
         is_alone: matches.get_flag("alone"),
-    })
+    }))
 }
 
 // What some words ask for.
 fn request_of_words<'a>(alloc: Global, words: &'a [&'a str]) -> Result<Request<'a>, Error>
-    ensures { result ≢ Ok request.OneLog }
+    ensures { IfOk result (IsMadeOf (map (λ word. word.now) words.now)) }
 {
     let mut command = command(alloc)?;
     let matches = command.try_get_matches_from_mut(words)?;
     let asked = match matches.subcommand() {
         Some(("logs", found)) => Some(logs_request(alloc, found)?),
-        Some(("run", found)) => run_request(found).map(Request::Run),
+        Some(("run", found)) => run_request(found),
         _ => None,
     };
     match asked {
@@ -137,7 +170,7 @@ fn refusal<'a>(alloc: Global, refused: &Error) -> Complaint<'a> {
 /// What the words behind the program's name ask for. Asking for help is refused as well.
 pub(crate) fn request<'a>(alloc: Global, words: &'a [&'a str]) -> Result<Request<'a>, Complaint<'a>>
     ensures none { words.now ≡ [] → result ≡ Ok request.OneLog }
-    ensures some { words.now ≢ [] → result ≢ Ok request.OneLog }
+    ensures made { IfOk result (IsMadeOf (map (λ word. word.now) words.now)) }
 {
     if words.is_empty() {
         return Ok(Request::OneLog);

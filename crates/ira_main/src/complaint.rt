@@ -1,4 +1,5 @@
 ghost use Rattle.std.specs.Prelude.{◌≡◌};
+ghost use Rattle.ira_main.specs.Complaint.{read_complaint, write_complaint};
 ghost use Rattle.ira_main.specs.Status.{complaint_status, fault_status};
 
 use crate::shelf_fault::ShelfFault;
@@ -12,6 +13,8 @@ use std::alloc::{AllocError, AllocFailed};
 pub(crate) enum Complaint<'a> {
     /// The words were refused, with this text.
     Words(String),
+    /// A word isn't UTF-8.
+    WordIsNoText,
     /// The file of this name can't be read; `-` stands for standard input.
     CannotRead(&'a str),
     /// A ring of so many nodes is none.
@@ -26,7 +29,8 @@ pub(crate) enum Complaint<'a> {
 impl<'a> Complaint<'a> {
     /// The file of this name, or standard input, wasn't read.
     pub(crate) fn unread(name: &'a str, fault: ShelfFault) -> Complaint<'a>
-        ensures { complaint_status result ≡ fault_status fault }
+        ensures told { result ≡ read_complaint name.entry fault }
+        ensures status { complaint_status result ≡ fault_status fault }
     {
         match fault {
             ShelfFault::Device => Complaint::CannotRead(name),
@@ -36,7 +40,8 @@ impl<'a> Complaint<'a> {
 
     /// The log of the node at this place wasn't written to its file in this folder.
     pub(crate) fn unwritten(folder: &'a str, place: u8, fault: ShelfFault) -> Complaint<'a>
-        ensures { complaint_status result ≡ fault_status fault }
+        ensures told { result ≡ write_complaint folder.entry place fault }
+        ensures status { complaint_status result ≡ fault_status fault }
     {
         match fault {
             ShelfFault::Device => Complaint::CannotWriteLog(folder, place),
@@ -59,6 +64,7 @@ impl<'a> Complaint<'a> {
     fn write<V: Sink>(&self, err: &mut V) -> Result<(), WriteFault> {
         match self {
             Complaint::Words(text) => write_bytes(text.as_bytes(), err),
+            Complaint::WordIsNoText => write_bytes(b"ira: a word is not UTF-8\n", err),
             Complaint::CannotRead(name) => {
                 write_bytes(b"ira: cannot read ", err)?;
                 write_bytes(name.as_bytes(), err)?;
@@ -117,6 +123,11 @@ impl<'a, T: Drop> From<AllocFailed<T>> for Complaint<'a> {
 }
 
 impl<'a> From<RunFault> for Complaint<'a> {
+    ghost use Rattle.std.specs.Prelude.{◌≡◌};
+    ghost use Rattle.ira_main.specs.Complaint.{run_complaint};
+
+    ghost from_gives = { λ f c. c ≡ run_complaint f };
+
     fn from(fault: RunFault) -> Complaint<'a> {
         match fault {
             RunFault::OutOfMemory => Complaint::OutOfMemory,

@@ -1,6 +1,6 @@
-ghost use Rattle.std.specs.Prelude.{◌≡◌, ◌≢◌, ◌≤◌, ◌+◌, []};
+ghost use Rattle.std.specs.Prelude.{◌≡◌, ◌≢◌, ◌⊎◌, ◌≤◌, ◌+◌, [], length, map};
 ghost use Rattle.ira_audit.specs.Report.{IsReportable};
-ghost use Rattle.ira_main.specs.Serve.{Judges, JudgesTogether, Obeys, Reports};
+ghost use Rattle.ira_main.specs.Serve.{GivesNoAnswer, Judges, JudgesTogether, Obeys, Reports};
 ghost use Rattle.ira_main.specs.Status.{outcome_number};
 
 use crate::command_line::request;
@@ -55,7 +55,7 @@ fn judge_files<'a, A: Allocator, F: Shelf<A>, W: Sink>(
     shelf: &mut F,
     out: &mut W,
 ) -> Result<Status, Complaint<'a>>
-    ensures { JudgesTogether (W.taken out.old) (W.failures out.old) (W.taken out.new) (W.failures out.new) (outcome_number result) }
+    ensures { JudgesTogether (length names.now) (W.taken out.old) (W.failures out.old) (W.taken out.new) (W.failures out.new) (outcome_number result) ⊎ GivesNoAnswer (W.taken out.old) (W.failures out.old) (W.taken out.new) (W.failures out.new) (outcome_number result) }
 {
     let mut audit = RingAudit::new(&alloc);
     for name in names {
@@ -84,7 +84,7 @@ where
     F: Shelf<A>,
     W: Sink,
     ensures judged { words.now ≡ [] → Judges input.old input.new (W.taken out.old) (W.failures out.old) (W.taken out.new) (W.failures out.new) (outcome_number result) }
-    ensures obeyed { words.now ≢ [] → Obeys input.old input.new (W.taken out.old) (W.failures out.old) (W.taken out.new) (W.failures out.new) (outcome_number result) }
+    ensures obeyed { words.now ≢ [] → Obeys (map (λ word. word.now) words.now) input.old input.new (W.taken out.old) (W.failures out.old) (W.taken out.new) (W.failures out.new) (outcome_number result) }
     ensures reads { input.new.reads ≤ input.old.reads + (MAX_TEXT + 1) }
 {
     match request(rt.alloc(), words)? {
@@ -132,7 +132,7 @@ where
     ensures status { result ≤ 3 }
     ensures reads { input.new.reads ≤ input.old.reads + (MAX_TEXT + 1) }
     ensures judged { words.now ≡ [] → Judges input.old input.new (W.taken out.old) (W.failures out.old) (W.taken out.new) (W.failures out.new) result }
-    ensures obeyed { words.now ≢ [] → Obeys input.old input.new (W.taken out.old) (W.failures out.old) (W.taken out.new) (W.failures out.new) result }
+    ensures obeyed { words.now ≢ [] → Obeys (map (λ word. word.now) words.now) input.old input.new (W.taken out.old) (W.failures out.old) (W.taken out.new) (W.failures out.new) result }
 {
     let outcome = obey(rt, alloc, words, input, shelf, out);
     conclude(outcome, err)

@@ -1,4 +1,5 @@
-ghost use Rattle.ira_main.specs.Serve.{Records};
+ghost use Rattle.std.specs.Prelude.{◌⊎◌};
+ghost use Rattle.ira_main.specs.Serve.{GivesNoAnswer, Records};
 ghost use Rattle.ira_main.specs.Status.{outcome_number};
 
 use crate::complaint::Complaint;
@@ -55,7 +56,7 @@ where
     A: Allocator + Clone + Send + Sync,
     F: Shelf<A>,
     W: Sink,
-    ensures { Records (W.taken out.old) (W.failures out.old) (W.taken out.new) (W.failures out.new) (outcome_number result) }
+    ensures { Records request.now (W.taken out.old) (W.failures out.old) (W.taken out.new) (W.failures out.new) (outcome_number result) ⊎ GivesNoAnswer (W.taken out.old) (W.failures out.old) (W.taken out.new) (W.failures out.new) (outcome_number result) }
 {
     let Some(nodes) = request.ring_size() else {
         return Err(Complaint::RingSize);

@@ -1,5 +1,6 @@
-ghost use Rattle.std.specs.Prelude.{◌≡◌, map, nat_lt, IfOk, IfSome, unwrap_or};
+ghost use Rattle.std.specs.Prelude.{◌≡◌, ◌↔◌, map, nat_lt, IfOk, IfSome, IsSome, unwrap_or};
 ghost use Rattle.std.specs.List.{range_with_len};
+ghost use Rattle.ira_event.specs.RingSize.{IsRingSize};
 ghost use Rattle.ira_main.specs.RunRequest.{IsAskedSetup, IsAskedRun};
 
 use ira_event::{OutOfMemory, RingSize};
@@ -31,7 +32,8 @@ pub(crate) struct RunRequest<'a> {
 impl RunRequest<'_> {
     /// The size of the ring, where a ring has one.
     pub(crate) fn ring_size(&self) -> Option<RingSize>
-        ensures { IfSome result (λ size. size ≡ self.now.nodes) }
+        ensures some { IsSome result ↔ IsRingSize self.now.nodes }
+        ensures value { IfSome result (λ size. size ≡ self.now.nodes) }
     {
         RingSize::new(u8::try_from(self.nodes).ok()?)
     }

@@ -6,32 +6,28 @@ use crate::counted::Counted;
 use crate::file_shelf::FileShelf;
 use crate::program::serve;
 use ira_event::{Sink, ToWriter};
-use std::alloc::Global;
-use std::io::{self, ErrorKind, Read, Write};
+use std::alloc::{AllocError, Global};
+use std::io::{ErrorKind, Read, Write};
 use std::process::ExitCode;
 use std::rt::{Env, Files};
 use std::sync::Wait;
 use std::thread::Threads;
 use std::time::Clock;
 
-/// Stands for a word that is no text.
-const NO_TEXT: &str = "\u{FFFD}";
-
 // The words behind the program's name.
-fn words_given<R: AllocGlobal + Env>(rt: &R) -> io::Result<Vec<String>> {
-    let alloc = rt.alloc();
+fn words_given<R: AllocGlobal + Env>(rt: &R) -> Result<Vec<String>, Complaint<'static>> {
     match std::env::args(rt) {
-        Ok(words) => Ok(words.skip(1).collect(alloc)?),
-        Err(error) if error.kind() == ErrorKind::OutOfMemory => Err(error),
-        Err(_) => Ok(vec![in alloc; String::from_str(alloc, NO_TEXT)?]?),
+        Ok(words) => Ok(words.skip(1).collect(rt.alloc())?),
+        Err(error) if error.kind() == ErrorKind::OutOfMemory => Err(Complaint::OutOfMemory),
+        Err(_) => Err(Complaint::WordIsNoText),
     }
 }
 
-fn borrowed(alloc: Global, words: &[String]) -> io::Result<Vec<&str>> {
-    Ok(words.iter().map(|word| word.as_str()).collect(alloc)?)
+fn borrowed(alloc: Global, words: &[String]) -> Result<Vec<&str>, AllocError> {
+    words.iter().map(|word| word.as_str()).collect(alloc)
 }
 
-fn serve_system<R, I, W, V>(rt: &R, input: I, out: W, err: &mut V) -> io::Result<u8>
+fn serve_system<R, I, W, V>(rt: &R, input: I, out: W, err: &mut V) -> Result<u8, Complaint<'static>>
 where
     R: AllocGlobal + Env + Files + Threads + Wait + Clock + Sync,
     I: Read + Drop,
@@ -65,6 +61,6 @@ where
     let mut err = ToWriter::new(err);
     match serve_system(rt, input, out, &mut err) {
         Ok(status) => ExitCode::from(status),
-        Err(_) => ExitCode::from(Complaint::OutOfMemory.tell(&mut err).number()),
+        Err(complaint) => ExitCode::from(complaint.tell(&mut err).number()),
     }
 }

@@ -5,4 +5,5 @@ mod logs;
 mod one_log;
 mod recorded;
 mod runs;
+mod samples;
 mod words;

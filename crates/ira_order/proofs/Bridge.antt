@@ -24,7 +24,7 @@ pub record SendingOf (es : List Event) (a : ℕ) : Type 0 where
   pub below : place < length es
   pub rank : length (sent (take a es)) ≡ length (sent (take place es)) + 1
 
-sending_of : (es : List Event) (a : ℕ) (m : Msg) → numbered es a ≡ Some (Sent m) → SendingOf es a
+pub sending_of : (es : List Event) (a : ℕ) (m : Msg) → numbered es a ≡ Some (Sent m) → SendingOf es a
 sending_of es zero m h = cc
 sending_of es (suc a) m h =
     let l : a < length es = slice_get_within es a (Sent m) h in
@@ -37,7 +37,7 @@ sending_of es (suc a) m h =
     }
 
 -- the sending that is paired with the receipt of rank r
-pair_of : (logs : List Log) (i n r : ℕ) → Matches logs → i < length logs → n ≤ length (log_of logs (next (length logs) i)) → (b : Ranked receipt (log_of logs (next (length logs) i)) n r (Draw 0)) → (a : Ranked sending (log_of logs i) (length (log_of logs i)) r (Draw 0)) × IsPair logs i (suc a.place) (suc b.place)
+pub pair_of : (logs : List Log) (i n r : ℕ) → Matches logs → i < length logs → n ≤ length (log_of logs (next (length logs) i)) → (b : Ranked receipt (log_of logs (next (length logs) i)) n r (Draw 0)) → (a : Ranked sending (log_of logs i) (length (log_of logs i)) r (Draw 0)) × IsPair logs i (suc a.place) (suc b.place)
 pair_of logs i n r matches l within b =
     let up : length (got (take (b.place + 1) (log_of logs (next (length logs) i)))) ≤ length (got (take (length (log_of logs (next (length logs) i))) (log_of logs (next (length logs) i)))) =
     rank_mono receipt (log_of logs (next (length logs) i)) (b.place + 1) (length (log_of logs (next (length logs) i))) (omega (arith, b.below)) in

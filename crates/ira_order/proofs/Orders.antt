@@ -37,6 +37,21 @@ module _ {T : Type 0} (logs : List Log) (r : Result T OrderFault) where
   pub no_circle : (v : T) (order : List ℕ) → r ≡ Ok v → IsOrder logs order → r ≢ Err OutOfMemory → (r ≡ Err Circle) ↔ HasCircle logs
   no_circle v order is o memory = (λ e. (let z : ⊥ = cc in absurd z), λ h. absurd (h.1 order o))
 
+-- the fault of the search for an order is handed on
+module _ {S T : Type 0} (r : Result T OrderFault) (f : OrderFault) (is : r ≡ Err f) where
+  pub handed_match : (P : MatchFault → Type 0) → ((g : MatchFault) → ◌≡◌ {A = Result S OrderFault} (Err f) (Err (Match g)) ↔ P g) → (g : MatchFault) → (r ≡ Err (Match g)) ↔ P g
+  handed_match P told g = (
+    λ e. (let same : f ≡ Match g = cc in (told g).0 (ap Err same)),
+    λ h. (let e : ◌≡◌ {A = Result S OrderFault} (Err f) (Err (Match g)) = (told g).1 h in let same : f ≡ Match g = cc in is ∙ ap Err same),
+  )
+
+  pub handed_circle : (P : Type 0) → (◌≢◌ {A = Result S OrderFault} (Err f) (Err OutOfMemory) → ◌≡◌ {A = Result S OrderFault} (Err f) (Err Circle) ↔ P) → r ≢ Err OutOfMemory → (r ≡ Err Circle) ↔ P
+  handed_circle P told memory =
+      let other : ◌≢◌ {A = Result S OrderFault} (Err f) (Err OutOfMemory) = λ e. (let same : f ≡ OutOfMemory = cc in memory (is ∙ ap Err same)) in (
+        λ e. (let same : f ≡ Circle = cc in (told other).0 (ap Err same)),
+        λ h. (let e : ◌≡◌ {A = Result S OrderFault} (Err f) (Err Circle) = (told other).1 h in let same : f ≡ Circle = cc in is ∙ ap Err same),
+      )
+
 pub is_ordered : (logs : List Log) (done sents gots places : List ℕ) → Matches logs → IsScan logs done sents gots places → ((i : ℕ) → i < length logs → length (log_of logs i) ≤ get_or done i 0) → IsOrdered (record { logs = logs; schedule = places })
 is_ordered logs done sents gots places matches scan whole = record {
   logs = scan.logs_are;

@@ -1,5 +1,6 @@
 pub mod Before
 pub mod Circle
+pub mod Count
 pub mod Counts
 pub mod Cut
 pub mod Laws
@@ -11,3 +12,4 @@ pub mod Ring
 pub mod Run
 pub mod RunsOfLogs
 pub mod Scan
+pub mod Stamps

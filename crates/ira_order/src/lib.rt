@@ -1,15 +1,16 @@
 //! The logs of a ring judged together: whether receipts match sendings, and an order of all events.
 #![tactic(auto)]
 
-mod find_order;
 mod laws;
 mod links;
 mod match_fault;
 mod order_fault;
 mod ordered;
 mod scan;
+mod search;
+mod stamps;
+mod tally;
 
-pub use find_order::order;
 pub use laws::{
     cuts_are_moments, moments_are_cuts, orders_are_runs, orders_mean_events,
     refused_logs_have_no_run, runs_are_orders,
@@ -18,6 +19,7 @@ pub use links::match_links;
 pub use match_fault::MatchFault;
 pub use order_fault::OrderFault;
 pub use ordered::Ordered;
+pub use search::{find_order, order};
 
 #[cfg(test)]
 mod tests;

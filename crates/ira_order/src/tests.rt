@@ -1,6 +1,6 @@
 ghost use Rattle.std.specs.Prelude.{◌<◌, length};
 
-use crate::{MatchFault, OrderFault, match_links, order};
+use crate::{MatchFault, OrderFault, find_order, match_links, order};
 use ira_event::{Event, Logs, Msg, NodeLog, RingSize};
 use std::alloc::Global;
 use std::process::Abort;
@@ -34,6 +34,82 @@ fn logs_of(alloc: Global, initiators: u8, events: &[&[Event]]) -> Result<Logs<Gl
         logs.push(NodeLog::new(nodes, place, place < initiators, own).ok_or("a log")?)?;
     }
     Ok(Logs::gather(logs).ok().ok_or("no logs of one ring")?)
+}
+
+/// The logs of two nodes that both begin; the greater draw wins.
+fn two_node_logs(alloc: Global) -> Result<Logs<Global>, Fail> {
+    logs_of(
+        alloc,
+        2,
+        &[
+            &[
+                Event::Draw(2),
+                Event::Sent(clean(1, 2, 1)),
+                Event::Got(clean(1, 1, 1)),
+                Event::Got(clean(1, 2, 2)),
+            ],
+            &[
+                Event::Draw(1),
+                Event::Sent(clean(1, 1, 1)),
+                Event::Got(clean(1, 2, 1)),
+                Event::Sent(clean(1, 2, 2)),
+            ],
+        ],
+    )
+}
+
+/// The logs of two nodes that draw the same first, and then not.
+fn tie_logs(alloc: Global) -> Result<Logs<Global>, Fail> {
+    logs_of(
+        alloc,
+        2,
+        &[
+            &[
+                Event::Draw(1),
+                Event::Sent(clean(1, 1, 1)),
+                Event::Got(clean(1, 1, 1)),
+                Event::Sent(dirty(1, 1, 2)),
+                Event::Got(dirty(1, 1, 2)),
+                Event::Draw(2),
+                Event::Sent(clean(2, 2, 1)),
+                Event::Got(clean(2, 1, 1)),
+                Event::Got(clean(2, 2, 2)),
+            ],
+            &[
+                Event::Draw(1),
+                Event::Sent(clean(1, 1, 1)),
+                Event::Got(clean(1, 1, 1)),
+                Event::Sent(dirty(1, 1, 2)),
+                Event::Got(dirty(1, 1, 2)),
+                Event::Draw(1),
+                Event::Sent(clean(2, 1, 1)),
+                Event::Got(clean(2, 2, 1)),
+                Event::Sent(clean(2, 2, 2)),
+            ],
+        ],
+    )
+}
+
+/// The logs of three nodes of which one begins.
+fn lone_initiator_logs(alloc: Global) -> Result<Logs<Global>, Fail> {
+    logs_of(
+        alloc,
+        1,
+        &[
+            &[
+                Event::Draw(1),
+                Event::Sent(clean(1, 1, 1)),
+                Event::Got(clean(1, 1, 3)),
+            ],
+            &[Event::Got(clean(1, 1, 1)), Event::Sent(clean(1, 1, 2))],
+            &[Event::Got(clean(1, 1, 2)), Event::Sent(clean(1, 1, 3))],
+        ],
+    )
+}
+
+/// The logs of two nodes without an event.
+fn empty_logs(alloc: Global) -> Result<Logs<Global>, Fail> {
+    logs_of(alloc, 2, &[&[], &[]])
 }
 
 /// Whether the places have each event of the reader once, and each receipt after its sending.
@@ -73,15 +149,11 @@ fn is_order(logs: &Logs<Global>, places: &[u8]) -> bool {
     kept
 }
 
-fn assert_ordered(
-    rt: &impl Abort,
-    alloc: Global,
-    initiators: u8,
-    events: &[&[Event]],
-) -> Result<(), Fail> {
-    let logs = logs_of(alloc, initiators, events)?;
-    assert_eq!(rt; match_links(&logs), Ok(()));
-    let ordered = order(alloc, &logs).ok().ok_or("an order")?;
+fn assert_ordered(rt: &impl Abort, alloc: Global, logs: &Logs<Global>) -> Result<(), Fail> {
+    assert_eq!(rt; match_links(logs), Ok(()));
+    let places = find_order(alloc, logs).ok().ok_or("a list of places")?;
+    assert!(rt; is_order(logs, &places));
+    let ordered = order(alloc, logs).ok().ok_or("an order")?;
     assert!(rt; is_order(ordered.logs(), ordered.schedule()));
     Ok(())
 }
@@ -100,58 +172,12 @@ fn assert_refused(
 
 #[test]
 fn two_node_election(rt: HostRuntime) -> Result<(), Fail> {
-    assert_ordered(
-        &rt,
-        rt.alloc(),
-        2,
-        &[
-            &[
-                Event::Draw(2),
-                Event::Sent(clean(1, 2, 1)),
-                Event::Got(clean(1, 1, 1)),
-                Event::Got(clean(1, 2, 2)),
-            ],
-            &[
-                Event::Draw(1),
-                Event::Sent(clean(1, 1, 1)),
-                Event::Got(clean(1, 2, 1)),
-                Event::Sent(clean(1, 2, 2)),
-            ],
-        ],
-    )
+    assert_ordered(&rt, rt.alloc(), &two_node_logs(rt.alloc())?)
 }
 
 #[test]
 fn tie_then_win(rt: HostRuntime) -> Result<(), Fail> {
-    assert_ordered(
-        &rt,
-        rt.alloc(),
-        2,
-        &[
-            &[
-                Event::Draw(1),
-                Event::Sent(clean(1, 1, 1)),
-                Event::Got(clean(1, 1, 1)),
-                Event::Sent(dirty(1, 1, 2)),
-                Event::Got(dirty(1, 1, 2)),
-                Event::Draw(2),
-                Event::Sent(clean(2, 2, 1)),
-                Event::Got(clean(2, 1, 1)),
-                Event::Got(clean(2, 2, 2)),
-            ],
-            &[
-                Event::Draw(1),
-                Event::Sent(clean(1, 1, 1)),
-                Event::Got(clean(1, 1, 1)),
-                Event::Sent(dirty(1, 1, 2)),
-                Event::Got(dirty(1, 1, 2)),
-                Event::Draw(1),
-                Event::Sent(clean(2, 1, 1)),
-                Event::Got(clean(2, 2, 1)),
-                Event::Sent(clean(2, 2, 2)),
-            ],
-        ],
-    )
+    assert_ordered(&rt, rt.alloc(), &tie_logs(rt.alloc())?)
 }
 
 #[test]
@@ -169,30 +195,21 @@ fn equal_pair_passed_on_clean(rt: HostRuntime) -> Result<(), Fail> {
         Event::Sent(dirty(1, 1, 2)),
         Event::Got(clean(1, 1, 2)),
     ];
-    assert_ordered(&rt, rt.alloc(), 2, &[&first, &second])
-}
-
-#[test]
-fn lone_initiator(rt: HostRuntime) -> Result<(), Fail> {
     assert_ordered(
         &rt,
         rt.alloc(),
-        1,
-        &[
-            &[
-                Event::Draw(1),
-                Event::Sent(clean(1, 1, 1)),
-                Event::Got(clean(1, 1, 3)),
-            ],
-            &[Event::Got(clean(1, 1, 1)), Event::Sent(clean(1, 1, 2))],
-            &[Event::Got(clean(1, 1, 2)), Event::Sent(clean(1, 1, 3))],
-        ],
+        &logs_of(rt.alloc(), 2, &[&first, &second])?,
     )
 }
 
 #[test]
+fn lone_initiator(rt: HostRuntime) -> Result<(), Fail> {
+    assert_ordered(&rt, rt.alloc(), &lone_initiator_logs(rt.alloc())?)
+}
+
+#[test]
 fn empty_logs_meet_at_start(rt: HostRuntime) -> Result<(), Fail> {
-    assert_ordered(&rt, rt.alloc(), 2, &[&[], &[]])
+    assert_ordered(&rt, rt.alloc(), &empty_logs(rt.alloc())?)
 }
 
 #[test]
@@ -254,6 +271,36 @@ fn receipt_without_sending(rt: HostRuntime) -> Result<(), Fail> {
         ],
         OrderFault::Match(MatchFault::NoSending { link: 1, k: 2 }),
     )
+}
+
+#[test]
+fn counts_of_two_node_election(rt: HostRuntime) -> Result<(), Fail> {
+    let logs = two_node_logs(rt.alloc())?;
+    if logs.size().get() != 2 || logs.log(0).len() != 4 || logs.log(1).len() != 4 {
+        return Err(Fail::from("logs of four events"));
+    }
+    let ordered = order(rt.alloc(), &logs).ok().ok_or("an order")?;
+    assert_eq!(rt; ordered.count(0, 3, 1), 2);
+    assert_eq!(rt; ordered.count(0, 4, 1), 4);
+    assert_eq!(rt; ordered.count(1, 4, 0), 2);
+    assert_eq!(rt; ordered.count(1, 0, 0), 0);
+    assert!(rt; ordered.before(1, 3, 0, 4));
+    assert!(rt; !ordered.before(0, 3, 1, 4));
+    Ok(())
+}
+
+#[test]
+fn stored_counters(rt: HostRuntime) -> Result<(), Fail> {
+    for (logs, stored) in [
+        (two_node_logs(rt.alloc())?, 6),
+        (tie_logs(rt.alloc())?, 14),
+        (lone_initiator_logs(rt.alloc())?, 9),
+        (empty_logs(rt.alloc())?, 0),
+    ] {
+        let ordered = order(rt.alloc(), &logs).ok().ok_or("an order")?;
+        assert_eq!(rt; ordered.stored(), stored);
+    }
+    Ok(())
 }
 
 /// The logs of a ring of 64 nodes, each of 1,000 events: one message goes round 500 times. Where node

@@ -9,7 +9,7 @@ use Rattle.ira_node.proofs.Answers.{step_gives}
 use Rattle.ira_replay.specs.LocalRun.{LeadsTo}
 use Rattle.ira_replay.specs.StatesOfLog.{AreStates}
 
-same_next : (n : ℕ) (s : NodeState) (e : Event) (t u : NodeState) → NodeStep n s e t → NodeStep n s e u → t ≡ u
+pub same_next : (n : ℕ) (s : NodeState) (e : Event) (t u : NodeState) → NodeStep n s e t → NodeStep n s e u → t ≡ u
 same_next n s e t u h k =
     let a : answer n s e ≡ Ok t = step_gives n s e t h in
     let b : answer n s e ≡ Ok u = step_gives n s e u k in

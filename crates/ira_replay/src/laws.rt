@@ -1,4 +1,4 @@
-ghost use Rattle.ira_replay.specs.Laws.{OneListOfStates, StatesAreReached};
+ghost use Rattle.ira_replay.specs.Laws.{OneListOfStates, StatesAreReached, LocalRunsGoOnAlike};
 
 /// A law: events have one list of states from a given first state.
 pub fn one_list_of_states()
@@ -9,4 +9,11 @@ pub fn one_list_of_states()
 /// where they all have steps.
 pub fn states_are_reached()
     ensures { StatesAreReached }
+{}
+
+/// A law: what a node does next is fixed by what it did, but for the ID that it draws and the message that it
+/// receives. Two local runs of one ring size and one start kind that agree in their first events go on
+/// with two draws, two receipts, or two sendings of one message.
+pub fn local_runs_go_on_alike()
+    ensures { LocalRunsGoOnAlike }
 {}

@@ -1,3 +1,9 @@
+pub mod Agreement
+pub mod AgreementEnds
+pub mod AgreementLaws
+pub mod AgreementRound
+pub mod AgreementShown
+pub mod Beginnings
 pub mod Collecting
 pub mod Dones
 pub mod Drawing

@@ -15,13 +15,13 @@ use Rattle.ira_ring.specs.declared.node_end.NodeEnd.{NodeEnd}
 use Rattle.ira_ring.specs.declared.node_end.NodeEnd.TheVariants.{Leader, Stopped, DrawsSpent, LogFull, NoStep, Quiet}
 use Rattle.ira_ring.specs.Setup.{Setup, given}
 use Rattle.ira_ring.specs.FullRun.{events_at, drawn, HasEvent, owes, chooses, receives, CanStep}
-use Rattle.ira_ring.specs.LoneNode.{LoneNode, Ends, HasEnded}
-use Rattle.ira_ring.specs.LoneRing.{node_at, IsReached, AreDone, AreEndsOfNodes}
+use Rattle.ira_ring.specs.LoneNode.{LoneNode, Ends, HasNoNext}
+use Rattle.ira_ring.specs.LoneRing.{node_at, IsReached, AreAtEnd, AreEndsOfNodes}
 use Rattle.ira_ring.proofs.LoneNodes.{wants_draw, wants_receipt, wants_send, choosing_follows, receiving_follows, owing_follows, first_message, parts}
 use Rattle.ira_ring.proofs.LoneStarts.{each_more}
 use Rattle.ira_ring.proofs.LoneTurns.{read_at}
 
-choosing_no_receipt : (n round : ℕ) (state : NodeState) (m : Msg) → state ≡ free (Choosing round) → HasStep n state (Got m) → ⊥
+pub choosing_no_receipt : (n round : ℕ) (state : NodeState) (m : Msg) → state ≡ free (Choosing round) → HasStep n state (Got m) → ⊥
 choosing_no_receipt n round state m is h =
     let P : NodeState → Type 0 = λ x. IsOfKind (wanted_of x.phase x.owed) (Got m) in
     subst P is (step_wanted n state (Got m) h.0 h.1)
@@ -49,7 +49,7 @@ ended_no_event n most ids node Quiet left h follows room (chooses round is unuse
 ended_no_event n most ids node Quiet left h follows room (receives m others is step) = let none = h.3 in cc
 
 -- so it can't step
-pub ended_no_step : (s : Setup) (nodes : List LoneNode) (reached : IsReached s nodes) (i : ℕ) → i < s.nodes → HasEnded s.nodes s.cap (node_at nodes i) → ¬ (CanStep s reached.run reached.point i)
+pub ended_no_step : (s : Setup) (nodes : List LoneNode) (reached : IsReached s nodes) (i : ℕ) → i < s.nodes → HasNoNext s.nodes s.cap (node_at nodes i) → ¬ (CanStep s reached.run reached.point i)
 ended_no_step s nodes reached i l ended can =
     let node : LoneNode = node_at nodes i in
     let P : NodeState → Type 0 = λ x. ¬ (IsLeader x.phase) in
@@ -70,33 +70,33 @@ spent_ids n most round node end (id ∷ ids) is ends choosing room =
     (chooses round choosing (omega (arith, length-append (drawn node.events) node.ids, ap length is))))
 
 pub ends_spent : (n most : ℕ) (state : NodeState) (ids : List ℕ) (input : List Msg) (events : List Event) (node : LoneNode) → parts state ids input events ≡ node → WantsDraw ≡ wanted_of state.phase state.owed → length events < most
-    → HasEnded n most node → Ends n most node DrawsSpent
+    → HasNoNext n most node → Ends n most node DrawsSpent
 ends_spent n most state ids input events node is wants room =
-    let P : LoneNode → Type 0 = λ x. HasEnded n most x → Ends n most x DrawsSpent in
+    let P : LoneNode → Type 0 = λ x. HasNoNext n most x → Ends n most x DrawsSpent in
     let w : (round : ℕ) × (state ≡ free (Choosing round)) = wants_draw state.phase state.owed wants in
     subst P is (λ ended. (room, w, spent_ids n most w.0 (parts state ids input events) ended.0 ids refl ended.1 w.1 room))
 
 pub ends_waiting : (n most : ℕ) (state : NodeState) (ids : List ℕ) (input : List Msg) (events : List Event) (node : LoneNode) (m : Msg) → parts state ids input events ≡ node → Receipt ≡ wanted_of state.phase state.owed → length events < most
-    → 0 < length input → m ≡ get_or input 0 m → HasEnded n most node → Ends n most node (NoStep m)
+    → 0 < length input → m ≡ get_or input 0 m → HasNoNext n most node → Ends n most node (NoStep m)
 ends_waiting n most state ids input events node m is wants room some first =
-    let P : LoneNode → Type 0 = λ x. HasEnded n most x → Ends n most x (NoStep m) in
+    let P : LoneNode → Type 0 = λ x. HasNoNext n most x → Ends n most x (NoStep m) in
     let w : (state.owed ≡ None) × Receives state.phase = wants_receipt state.phase state.owed wants in
     let f : (rest : List Msg) × (input ≡ m ∷ rest) = first_message input m some first in
     subst P is (λ ended. (room, w.0, w.1, f, λ step. ended_no_event n most (drawn events ++ ids) (parts state ids input events) ended.0 refl ended.1 (receiving_follows state.phase w.1) room (receives m f.0 f.1 step)))
 
 pub owing_goes_on : (n most : ℕ) (state : NodeState) (ids : List ℕ) (input : List Msg) (events : List Event) (node : LoneNode) (m : Msg) → parts state ids input events ≡ node → Send m ≡ wanted_of state.phase state.owed → length events < most
-    → HasEnded n most node → ⊥
+    → HasNoNext n most node → ⊥
 owing_goes_on n most state ids input events node m is wants room =
-    let P : LoneNode → Type 0 = λ x. HasEnded n most x → ⊥ in
+    let P : LoneNode → Type 0 = λ x. HasNoNext n most x → ⊥ in
     subst P is (λ ended. ended_no_event n most (drawn events ++ ids) (parts state ids input events) ended.0 refl ended.1 (owing_follows state.phase state.owed m wants) room (owes m (wants_send state.phase state.owed m wants)))
 
-pub ended_at : (s : Setup) (nodes : List LoneNode) (i most : ℕ) (node : LoneNode) → AreDone s nodes → i < length nodes → most ≡ s.cap → node ≡ get_or nodes i node → HasEnded s.nodes most node
+pub ended_at : (s : Setup) (nodes : List LoneNode) (i most : ℕ) (node : LoneNode) → AreAtEnd s nodes → i < length nodes → most ≡ s.cap → node ≡ get_or nodes i node → HasNoNext s.nodes most node
 ended_at s nodes i most node done l room read =
-    let P : ℕ → Type 0 = λ x. HasEnded s.nodes x node in
-    subst P (sym room) (subst (HasEnded s.nodes s.cap) (sym (read_at nodes i i node l refl read)) (done.1 i (omega (arith, done.0.many))))
+    let P : ℕ → Type 0 = λ x. HasNoNext s.nodes x node in
+    subst P (sym room) (subst (HasNoNext s.nodes s.cap) (sym (read_at nodes i i node l refl read)) (done.1 i (omega (arith, done.0.many))))
 
-pub ends_more : (s : Setup) (nodes : List LoneNode) (i most : ℕ) (node : LoneNode) (ends : List NodeEnd) (end : NodeEnd) → AreDone s nodes → i < length nodes → most ≡ s.cap → node ≡ get_or nodes i node
-    → (HasEnded s.nodes most node → Ends s.nodes most node end) → length ends ≡ i → ((j : ℕ) → j < i → Ends s.nodes s.cap (node_at nodes j) (get_or ends j Quiet))
+pub ends_more : (s : Setup) (nodes : List LoneNode) (i most : ℕ) (node : LoneNode) (ends : List NodeEnd) (end : NodeEnd) → AreAtEnd s nodes → i < length nodes → most ≡ s.cap → node ≡ get_or nodes i node
+    → (HasNoNext s.nodes most node → Ends s.nodes most node end) → length ends ≡ i → ((j : ℕ) → j < i → Ends s.nodes s.cap (node_at nodes j) (get_or ends j Quiet))
     → (j : ℕ) → j < i + 1 → Ends s.nodes s.cap (node_at nodes j) (get_or (ends ++ end ∷ []) j Quiet)
 ends_more s nodes i most node ends end done l room read so many each =
     let P : ℕ → Type 0 = λ x. Ends s.nodes x node end in

@@ -11,7 +11,7 @@ use Rattle.ira_node.specs.Wanted.{wanted_of}
 use Rattle.ira_node.specs.NodeStep.{NodeStep, HasStep}
 use Rattle.ira_node.specs.NodeState.{free, IsLeader, Receives}
 use Rattle.ira_ring.specs.declared.node_end.NodeEnd.TheVariants.{Leader as Leads, DrawsSpent, LogFull, NoStep, Quiet}
-use Rattle.ira_ring.specs.LoneNode.{LoneNode, IsNext, HasEnded, MakesOwn, MakesSending, GoesTo, drawn_by, after_event}
+use Rattle.ira_ring.specs.LoneNode.{LoneNode, IsNext, HasNoNext, MakesOwn, MakesSending, GoesTo, drawn_by, after_event}
 
 -- what a state's want says of it
 pub wants_draw : (phase : Phase) (owed : Option Msg) → WantsDraw ≡ wanted_of phase owed → (round : ℕ) × (record { phase = phase; owed = owed } ≡ free (Choosing round))
@@ -87,15 +87,15 @@ next_sent n most node m after wants room step = record { follows = owing_follows
 
 -- ---- no next event, by what the state wants
 
-pub spent : (n most : ℕ) (node : LoneNode) → WantsDraw ≡ wanted_of node.state.phase node.state.owed → length node.events < most → length node.ids ≡ 0 → HasEnded n most node
+pub spent : (n most : ℕ) (node : LoneNode) → WantsDraw ≡ wanted_of node.state.phase node.state.owed → length node.events < most → length node.ids ≡ 0 → HasNoNext n most node
 spent n most node wants room none = (DrawsSpent, (room, wants_draw node.state.phase node.state.owed wants, no_number node.ids none))
 
-pub no_step : (n most : ℕ) (node : LoneNode) (m : Msg) → Receipt ≡ wanted_of node.state.phase node.state.owed → length node.events < most → 0 < length node.input → m ≡ get_or node.input 0 m → ¬ (HasStep n node.state (Got m)) → HasEnded n most node
+pub no_step : (n most : ℕ) (node : LoneNode) (m : Msg) → Receipt ≡ wanted_of node.state.phase node.state.owed → length node.events < most → 0 < length node.input → m ≡ get_or node.input 0 m → ¬ (HasStep n node.state (Got m)) → HasNoNext n most node
 no_step n most node m wants room some first none =
     let w : (node.state.owed ≡ None) × Receives node.state.phase = wants_receipt node.state.phase node.state.owed wants in
     (NoStep m, (room, w.0, w.1, first_message node.input m some first, none))
 
-pub quiet : (n most : ℕ) (node : LoneNode) → Receipt ≡ wanted_of node.state.phase node.state.owed → length node.events < most → ¬ (0 < length node.input) → HasEnded n most node
+pub quiet : (n most : ℕ) (node : LoneNode) → Receipt ≡ wanted_of node.state.phase node.state.owed → length node.events < most → ¬ (0 < length node.input) → HasNoNext n most node
 quiet n most node wants room none =
     let w : (node.state.owed ≡ None) × Receives node.state.phase = wants_receipt node.state.phase node.state.owed wants in
     (Quiet, (room, w.0, w.1, no_message node.input none))
@@ -145,13 +145,13 @@ makes_sending n most state ids input events node held after m pushed is same wan
     )
 
 pub draws_none : (n most : ℕ) (state : NodeState) (ids : List ℕ) (input : List Msg) (events : List Event) (node : LoneNode) (held : NodeState) → parts state ids input events ≡ node → held ≡ node.state
-    → WantsDraw ≡ wanted_of held.phase held.owed → length node.events < most → length ids ≡ 0 → HasEnded n most node
+    → WantsDraw ≡ wanted_of held.phase held.owed → length node.events < most → length ids ≡ 0 → HasNoNext n most node
 draws_none n most state ids input events node held is same wants room none =
     let W : NodeState → Type 0 = λ x. WantsDraw ≡ wanted_of x.phase x.owed in
     spent n most node (subst W same wants) room (omega (arith, none, ap (λ (x : LoneNode). length x.ids) is))
 
 pub takes_none : (n most : ℕ) (state : NodeState) (ids : List ℕ) (input : List Msg) (events : List Event) (node : LoneNode) (held : NodeState) (m : Msg) → parts state ids input events ≡ node → held ≡ node.state
-    → Receipt ≡ wanted_of held.phase held.owed → length node.events < most → 0 < length input → m ≡ get_or input 0 m → ¬ (HasStep n held (Got m)) → HasEnded n most node
+    → Receipt ≡ wanted_of held.phase held.owed → length node.events < most → 0 < length input → m ≡ get_or input 0 m → ¬ (HasStep n held (Got m)) → HasNoNext n most node
 takes_none n most state ids input events node held m is same wants room some first none =
     let W : NodeState → Type 0 = λ x. Receipt ≡ wanted_of x.phase x.owed in
     let S : NodeState → Type 0 = λ x. ¬ (HasStep n x (Got m)) in
@@ -159,18 +159,18 @@ takes_none n most state ids input events node held m is same wants room some fir
     no_step n most node m (subst W same wants) room (omega (arith, some, ap (λ (x : LoneNode). length x.input) is)) (subst F is first) (subst S same none)
 
 pub finds_none : (n most : ℕ) (state : NodeState) (ids : List ℕ) (input : List Msg) (events : List Event) (node : LoneNode) (held : NodeState) → parts state ids input events ≡ node → held ≡ node.state
-    → Receipt ≡ wanted_of held.phase held.owed → length node.events < most → length input ≡ 0 → HasEnded n most node
+    → Receipt ≡ wanted_of held.phase held.owed → length node.events < most → length input ≡ 0 → HasNoNext n most node
 finds_none n most state ids input events node held is same wants room none =
     let W : NodeState → Type 0 = λ x. Receipt ≡ wanted_of x.phase x.owed in
     quiet n most node (subst W same wants) room (λ l. omega (arith, l, none, ap (λ (x : LoneNode). length x.input) is))
 
 -- ---- a node that goes on
 
-pub stopped : (n most k : ℕ) (first old new : LoneNode) (next : Option NodeState) → GoesTo n most k first old → MakesOwn n most old new next → next ≡ None → ((k : ℕ) × GoesTo n most k first new) × HasEnded n most new
+pub stopped : (n most k : ℕ) (first old new : LoneNode) (next : Option NodeState) → GoesTo n most k first old → MakesOwn n most old new next → next ≡ None → ((k : ℕ) × GoesTo n most k first new) × HasNoNext n most new
 stopped n most k first old new (Some after) goes made none = cc
 stopped n most k first old new None goes made none = (
   (k, subst (λ (x : LoneNode). GoesTo n most k first x) (sym made.1) goes),
-  subst (HasEnded n most) (sym made.1) made.0,
+  subst (HasNoNext n most) (sym made.1) made.0,
 )
 
 all_behind_drop : (P : ℕ → Type 0) (e : Event) (ids : List ℕ) → All P ids → All P (drop (drawn_by e) ids)
@@ -198,12 +198,12 @@ further n most k first old new (Some t) after goes ids made is =
       longer = omega (arith, ap (λ (x : LoneNode). length x.events) made.3, length-append old.events (made.0 ∷ []));
     }
 
-full_by_phase : (n most : ℕ) (node : LoneNode) (phase : Phase) → node.state.phase ≡ phase → most ≤ length node.events → HasEnded n most node
+full_by_phase : (n most : ℕ) (node : LoneNode) (phase : Phase) → node.state.phase ≡ phase → most ≤ length node.events → HasNoNext n most node
 full_by_phase n most node (Leader round id) is full = (Leads, subst (λ (x : Phase). IsLeader x) (sym is) tt)
 full_by_phase n most node (Choosing round) is full = (LogFull, (λ l. subst (λ (x : Phase). IsLeader x) is l, full))
 full_by_phase n most node (Active round id) is full = (LogFull, (λ l. subst (λ (x : Phase). IsLeader x) is l, full))
 full_by_phase n most node Passive is full = (LogFull, (λ l. subst (λ (x : Phase). IsLeader x) is l, full))
 
 -- a node whose log is full has ended
-pub full_ends : (n most : ℕ) (node : LoneNode) → most ≤ length node.events → HasEnded n most node
+pub full_ends : (n most : ℕ) (node : LoneNode) → most ≤ length node.events → HasNoNext n most node
 full_ends n most node full = full_by_phase n most node node.state.phase refl full

@@ -21,7 +21,7 @@ use Rattle.ira_ring.specs.Run.{Run}
 use Rattle.ira_ring.specs.FullRun.{opening, events_at, drawn, AreFullLogs}
 use Rattle.ira_ring.specs.ShownEnd.{Says, IsShown, IsLoneRun}
 use Rattle.ira_ring.specs.LoneNode.{LoneNode, Ends}
-use Rattle.ira_ring.specs.LoneRing.{node_at, IsReached, AreDone, AreLogsOfNodes, AreEndsOfNodes}
+use Rattle.ira_ring.specs.LoneRing.{node_at, IsReached, AreAtEnd, AreLogsOfNodes, AreEndsOfNodes}
 use Rattle.ira_ring.proofs.LoneEnds.{ended_no_step}
 use Rattle.ira_ring.proofs.LoneLogs.{no_log, is_log}
 use Rattle.ira_ring.proofs.LoneNodes.{choosing_follows, receiving_follows}
@@ -45,7 +45,7 @@ log_of_node s nodes logs reached of_nodes i l =
     let at : slice_get logs i ≡ Some (get_or logs i no_log) = slice_get-get_or logs i no_log (omega (arith, of_nodes.0, reached.many)) in
     ap events_of at ∙ ap (λ (x : Log). x.events) (of_nodes.1 i (get_or logs i no_log) at)
 
-full_logs : (s : Setup) (nodes : List LoneNode) (logs : List Log) → KeepsRules s → AreDone s nodes → AreLogsOfNodes s nodes logs → AreFullLogs s logs
+full_logs : (s : Setup) (nodes : List LoneNode) (logs : List Log) → KeepsRules s → AreAtEnd s nodes → AreLogsOfNodes s nodes logs → AreFullLogs s logs
 full_logs s nodes logs rules done of_nodes =
     let reached : IsReached s nodes = done.0 in
     let many : length logs ≡ s.nodes = of_nodes.0 ∙ done.0.many in
@@ -113,7 +113,7 @@ is_shown s nodes logs rules reached of_nodes i end l ends =
 not_stopped : (s : Setup) (node : LoneNode) (end : NodeEnd) → Ends s.nodes s.cap node end → end ≢ Stopped
 not_stopped s node end ends is = subst (λ (x : NodeEnd). Ends s.nodes s.cap node x) is ends
 
-pub is_lone_run : (s : Setup) (nodes : List LoneNode) (logs : List Log) (ends : List NodeEnd) (run : Run) → KeepsRules s → AreDone s nodes → AreLogsOfNodes s nodes logs → AreEndsOfNodes s nodes ends
+pub is_lone_run : (s : Setup) (nodes : List LoneNode) (logs : List Log) (ends : List NodeEnd) (run : Run) → KeepsRules s → AreAtEnd s nodes → AreLogsOfNodes s nodes logs → AreEndsOfNodes s nodes ends
     → run ≡ record { logs = logs; ends = ends } → IsLoneRun s run
 is_lone_run s nodes logs ends run rules done of_nodes are_ends is =
     let place : (i : ℕ) (end : NodeEnd) → slice_get ends i ≡ Some end → i < s.nodes = λ i end at. omega (arith, slice_get_within ends i end at, are_ends.0, done.0.many) in

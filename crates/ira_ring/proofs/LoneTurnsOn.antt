@@ -10,7 +10,7 @@ use Rattle.ira_event.specs.declared.msg.Msg.{Msg}
 use Rattle.ira_node.specs.declared.node_state.NodeState.{NodeState}
 use Rattle.ira_order.specs.Ring.{next}
 use Rattle.ira_ring.specs.FullRun.{drawn}
-use Rattle.ira_ring.specs.LoneNode.{LoneNode, IsNext, HasEnded, SendsNothing, MakesOwn, MakesSending, GoesTo, after_event, after_put}
+use Rattle.ira_ring.specs.LoneNode.{LoneNode, IsNext, HasNoNext, SendsNothing, MakesOwn, MakesSending, GoesTo, after_event, after_put}
 use Rattle.ira_ring.specs.LoneRing.{idle, node_at, IsMoved, IsPut, IsTurn, IsLeastAfter, IsReached}
 use Rattle.ira_ring.specs.Setup.{Setup, KeepsRules}
 use Rattle.ira_order.proofs.Ranks.{eq_cases}
@@ -19,10 +19,10 @@ use Rattle.ira_ring.proofs.LoneTurns.{next_above, next_not}
 
 -- ---- the nodes below
 
-still_ended : (n most i : ℕ) (m : Msg) (after : NodeState) (old new : List LoneNode) → IsMoved n i (Sent m) after old new → i + 1 < n → ((j : ℕ) → j < i → HasEnded n most (node_at old j))
-    → (j : ℕ) → j < i → HasEnded n most (node_at new j)
+still_ended : (n most i : ℕ) (m : Msg) (after : NodeState) (old new : List LoneNode) → IsMoved n i (Sent m) after old new → i + 1 < n → ((j : ℕ) → j < i → HasNoNext n most (node_at old j))
+    → (j : ℕ) → j < i → HasNoNext n most (node_at new j)
 still_ended n most i m after old new moved far ended j l =
-    let P : LoneNode → Type 0 = HasEnded n most in
+    let P : LoneNode → Type 0 = HasNoNext n most in
     let above : next n i ≡ i + 1 = next_above n i far in
     subst P (sym (moved.2 j (omega arith) (omega arith))) (ended j l)
 
@@ -72,14 +72,14 @@ less_measure n most old new least next_least less =
 pub record IsOn (s : Setup) (old new : List LoneNode) (least after : ℕ) : Type 0 where
   pub reached : IsReached s new
   pub within : after ≤ s.nodes
-  pub ended : (j : ℕ) → j < after → HasEnded s.nodes s.cap (node_at new j)
+  pub ended : (j : ℕ) → j < after → HasNoNext s.nodes s.cap (node_at new j)
   pub less : measure s.nodes s.cap new after < measure s.nodes s.cap old least
 
 module _ (s : Setup) (old new : List LoneNode) (least : ℕ)
     (rules : KeepsRules s)
     (reached : IsReached s old)
     (here : least < s.nodes)
-    (ended : (j : ℕ) → j < least → HasEnded s.nodes s.cap (node_at old j)) where
+    (ended : (j : ℕ) → j < least → HasNoNext s.nodes s.cap (node_at old j)) where
   -- the turn's sending
   sends_on : (m : Msg) (state : NodeState) (after : ℕ) → IsNext s.nodes s.cap (node_at old least) (Sent m) state → IsMoved s.nodes least (Sent m) state old new → length new ≡ length old → IsLeastAfter s.nodes least (Some m) after → IsOn s old new least after
   sends_on m state after is_next moved many how = record {
@@ -164,8 +164,8 @@ module _ (s : Setup) (old new : List LoneNode) (least : ℕ)
     (rules : KeepsRules s)
     (reached : IsReached s old)
     (here : least < s.nodes)
-    (ended : (j : ℕ) → j < least → HasEnded s.nodes s.cap (node_at old j)) where
-  ends_on : (node : LoneNode) (k after : ℕ) → GoesTo s.nodes s.cap k (node_at old least) node → HasEnded s.nodes s.cap node → IsPut s.nodes least None node old new → length new ≡ length old → after ≡ least + 1 → IsOn s old new least after
+    (ended : (j : ℕ) → j < least → HasNoNext s.nodes s.cap (node_at old j)) where
+  ends_on : (node : LoneNode) (k after : ℕ) → GoesTo s.nodes s.cap k (node_at old least) node → HasNoNext s.nodes s.cap node → IsPut s.nodes least None node old new → length new ≡ length old → after ≡ least + 1 → IsOn s old new least after
   ends_on node k after goes now put many is =
       let before = way s old least k node rules reached here goes in
       let w : IsWay s old before.0 least node = before.1 in
@@ -178,8 +178,8 @@ module _ (s : Setup) (old new : List LoneNode) (least : ℕ)
         reached = reached_same s before.0 new w.reached (many ∙ sym w.many) same;
         within = omega arith;
         ended = λ j l. elim (eq_cases j least) [
-          | inl e ↦ (let Q : ℕ → Type 0 = λ x. HasEnded s.nodes s.cap (node_at new x) in subst Q (sym e) (subst (HasEnded s.nodes s.cap) (sym put.0) now))
-          | inr ne ↦ subst (HasEnded s.nodes s.cap) (sym (put.1 j ne)) (ended j (omega arith))
+          | inl e ↦ (let Q : ℕ → Type 0 = λ x. HasNoNext s.nodes s.cap (node_at new x) in subst Q (sym e) (subst (HasNoNext s.nodes s.cap) (sym put.0) now))
+          | inr ne ↦ subst (HasNoNext s.nodes s.cap) (sym (put.1 j ne)) (ended j (omega arith))
         ];
         less = less_past s.nodes s.cap old new least (omega (arith, w.room, room_same s.cap before.0 new (many ∙ sym w.many) same)) here;
       }
@@ -196,7 +196,7 @@ module _ (s : Setup) (old new : List LoneNode) (least : ℕ)
       ) in
       let is_next : IsNext s.nodes s.cap (node_at before.0 least) (Sent m) sending.0 = subst (λ (x : LoneNode). IsNext s.nodes s.cap x (Sent m) sending.0) (sym w.here) sending.1 in
       let on : IsOn s before.0 new least after =
-      sends_on s before.0 new least rules w.reached here (λ j l. subst (HasEnded s.nodes s.cap) (sym (w.others j (omega arith))) (ended j l)) m sending.0 after is_next moved (many ∙ sym w.many) how in
+      sends_on s before.0 new least rules w.reached here (λ j l. subst (HasNoNext s.nodes s.cap) (sym (w.others j (omega arith))) (ended j l)) m sending.0 after is_next moved (many ∙ sym w.many) how in
       record { reached = on.reached; within = on.within; ended = on.ended; less = omega (arith, on.less, le_measure s.nodes s.cap old before.0 least w.room) }
 
   pub turns_on : (sent : Option Msg) (after : ℕ) → IsTurn s.nodes s.cap least old new sent → IsLeastAfter s.nodes least sent after → IsOn s old new least after
@@ -208,11 +208,11 @@ pub record IsOnward (first before behind : Setup) (old new : List LoneNode) (lea
   pub setup : behind ≡ first
   pub reached : IsReached behind new
   pub within : after ≤ behind.nodes
-  pub ended : (j : ℕ) → j < after → HasEnded behind.nodes behind.cap (node_at new j)
+  pub ended : (j : ℕ) → j < after → HasNoNext behind.nodes behind.cap (node_at new j)
   pub less : measure behind.nodes behind.cap new after < measure before.nodes before.cap old least
 
 pub onward : (first before behind : Setup) (n : ℕ) (old new : List LoneNode) (least after : ℕ) (sent : Option Msg) → KeepsRules first → before ≡ first → behind ≡ before → n ≡ first.nodes → IsReached before old
-    → least < n → ((j : ℕ) → j < least → HasEnded before.nodes before.cap (node_at old j)) → IsTurn before.nodes before.cap least old new sent → IsLeastAfter n least sent after
+    → least < n → ((j : ℕ) → j < least → HasNoNext before.nodes before.cap (node_at old j)) → IsTurn before.nodes before.cap least old new sent → IsLeastAfter n least sent after
     → IsOnward first before behind old new least after
 onward first before behind n old new least after sent rules same still size reached here ended turn is =
     let n_is : n ≡ before.nodes = size ∙ ap (λ (s : Setup). s.nodes) (sym same) in

@@ -7,8 +7,8 @@ use Rattle.ira_event.specs.declared.msg.Msg.{Msg}
 use Rattle.ira_node.specs.declared.phase.Phase.TheVariants.{Choosing}
 use Rattle.ira_node.specs.declared.node_state.NodeState.{NodeState}
 use Rattle.ira_node.specs.NodeState.{first_state, free, IsLeader}
-use Rattle.ira_node.proofs.Answers.{step_gives}
 use Rattle.ira_replay.specs.LocalRun.{LeadsTo}
+use Rattle.ira_replay.proofs.Alike.{one_end}
 use Rattle.ira_order.specs.Ring.{prev, log_of}
 use Rattle.ira_order.specs.Matching.{sent}
 use Rattle.ira_order.specs.Run.{Configuration}
@@ -21,21 +21,11 @@ use Rattle.ira_ring.specs.ShownEnd.{Says, IsShown, IsLoneRun}
 use Rattle.ira_ring.proofs.LoneEnds.{choosing_no_waiting}
 use Rattle.ira_ring.proofs.Walks.{walk_leads}
 
--- events lead to one state alone
-one_end : (n : ℕ) (s : NodeState) (es : List Event) (t u : NodeState) → LeadsTo n s es t → LeadsTo n s es u → t ≡ u
-one_end n s [] t u h k = h ∙ sym k
-one_end n s (e ∷ es) t u h k =
-    let a = step_gives n s e h.0 h.1 in
-    let b = step_gives n s e k.0 k.1 in
-    let same : h.0 ≡ k.0 = cc in
-    let P : NodeState → Type 0 = λ x. LeadsTo n x es u in
-    one_end n h.0 es t u h.2 (subst P (sym same) k.2)
-
 choosing_no_leader : (round : ℕ) (state : NodeState) → state ≡ free (Choosing round) → IsLeader state.phase → ⊥
 choosing_no_leader round state is l = let P : NodeState → Type 0 = λ x. IsLeader x.phase in subst P is l
 
 -- a node that has to draw and may go on has spent its draws
-must_have_spent : (s : Setup) (i round : ℕ) (state : NodeState) (events : List Event) (input : List Msg) (end : NodeEnd) → state ≡ free (Choosing round) → length events < s.cap → Says s i state events input end
+pub must_have_spent : (s : Setup) (i round : ℕ) (state : NodeState) (events : List Event) (input : List Msg) (end : NodeEnd) → state ≡ free (Choosing round) → length events < s.cap → Says s i state events input end
     → (end ≡ DrawsSpent) × (drawn events ≡ given s i)
 must_have_spent s i round state events input Leader is room says = absurd (choosing_no_leader round state is says)
 must_have_spent s i round state events input LogFull is room says = absurd (omega (arith, says.1))

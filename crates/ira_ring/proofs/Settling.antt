@@ -93,6 +93,10 @@ pub record Settling (n : ℕ) (all left : List Done) (first last : LinkEnd) (tak
   pub passed : Passed head.output.frames past last.frames
   pub taken_is : taken ≡ taken_of (head ∷ past) (length left)
 
+-- the first of them, as the code holds it
+pub first_held : (all rest : List Done) (seen held : Done) → all ≡ seen ∷ rest → held ≡ seen → all ≡ held ∷ rest
+first_held all rest seen held is same = is ∙ ap (λ (d : Done). d ∷ rest) (sym same)
+
 pub settling_first : (n : ℕ) (all left : List Done) (head : Done) (old new : List (Option (Log × NodeEnd))) → all ≡ head ∷ left → AreOfOneRing n all → old ≡ replicate n None → KeepsPart old head.place (head.log, head.end) new → Settling n all left head.input head.output new
 settling_first n all left head old new parts ring none kept =
     let s = ring.0 in

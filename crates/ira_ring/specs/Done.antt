@@ -18,7 +18,9 @@ pub record Done : Type 0 where
   pub input : LinkEnd
   pub output : LinkEnd
 
--- it is what this duty asks for: the node recorded what it did, and its links are those of the duty
+-- it is what this duty asks for: it is of the duty's place, the node there recorded the log and ended
+-- so, the links are those of the duty, and the frames that passed them are those that a node with this
+-- log and this end put and took
 pub record IsDone (duty : Duty) (done : Done) : Type 0 where
   pub place : done.place ≡ duty.place
   pub recorded : IsRecorded duty.setup.nodes duty.place (is_initiator duty.setup duty.place) (given duty.setup duty.place) duty.setup.cap done.log done.end
@@ -34,8 +36,8 @@ AreDone [] (done ∷ dones) = ⊥
 AreDone (duty ∷ duties) [] = ⊥
 AreDone (duty ∷ duties) (done ∷ dones) = IsDone duty done × AreDone duties dones
 
--- those of the setup's places from k up to m, one by one: the first one read link a, each next one read
--- the link that the one before it wrote, and the last one wrote link b
+-- those of the setup's places from k on that are below m, one by one: the first one read link a, each
+-- next one read the link that the one before it wrote, and the last one wrote link b
 abbrev pub AreInPlace : Setup → ℕ → LinkName → List Done → ℕ → LinkName → Type 0
 AreInPlace s k a [] m b = (k ≡ m) × (a ≡ b)
 AreInPlace s k a (done ∷ dones) m b =

@@ -1,3 +1,4 @@
+pub mod Agreement
 pub mod Collector
 pub mod Done
 pub mod Draws

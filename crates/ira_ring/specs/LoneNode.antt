@@ -43,8 +43,8 @@ Ends n most node (NoStep m) =
 Ends n most node Quiet = (length node.events < most) × (node.state.owed ≡ None) × Receives node.state.phase × (node.input ≡ [])
 
 -- the node has no next event
-abbrev pub HasEnded : ℕ → ℕ → LoneNode → Type 0
-HasEnded n most node = (end : NodeEnd) × Ends n most node end
+abbrev pub HasNoNext : ℕ → ℕ → LoneNode → Type 0
+HasNoNext n most node = (end : NodeEnd) × Ends n most node end
 
 -- how many of the IDs left an event draws, and how many of the messages it takes
 abbrev pub drawn_by : Event → ℕ
@@ -72,7 +72,7 @@ SendsNothing e = (m : Msg) → e ≢ Sent m
 
 -- the node's next event, which sends nothing and leads to this state; or there is no next event
 abbrev pub MakesOwn : ℕ → ℕ → LoneNode → LoneNode → Option NodeState → Type 0
-MakesOwn n most old new None = HasEnded n most old × (new ≡ old)
+MakesOwn n most old new None = HasNoNext n most old × (new ≡ old)
 MakesOwn n most old new (Some after) =
     (e : Event) × SendsNothing e × IsNext n most old e after × (new ≡ after_event old e after)
 
@@ -89,6 +89,6 @@ GoesTo n most (suc k) old new =
 
 -- events that send nothing, and then the sending of this message, or no next event
 abbrev pub GoesOn : ℕ → ℕ → LoneNode → LoneNode → Option Msg → Type 0
-GoesOn n most old new None = ((k : ℕ) × GoesTo n most k old new) × HasEnded n most new
+GoesOn n most old new None = ((k : ℕ) × GoesTo n most k old new) × HasNoNext n most new
 GoesOn n most old new (Some m) =
     (node : LoneNode) × ((k : ℕ) × GoesTo n most k old node) × MakesSending n most node new m

@@ -11,7 +11,7 @@ use Rattle.ira_order.specs.Run.{Configuration}
 use Rattle.ira_ring.specs.declared.node_end.NodeEnd.{NodeEnd}
 use Rattle.ira_ring.specs.Setup.{Setup, is_initiator, given}
 use Rattle.ira_ring.specs.FullRun.{opening, events_at, drawn, Walks}
-use Rattle.ira_ring.specs.LoneNode.{LoneNode, Ends, HasEnded, GoesOn, after_event, after_put}
+use Rattle.ira_ring.specs.LoneNode.{LoneNode, Ends, HasNoNext, GoesOn, after_event, after_put}
 
 -- a node that has done nothing and has nothing to do
 abbrev pub idle : LoneNode
@@ -65,9 +65,9 @@ pub record IsReached (s : Setup) (nodes : List LoneNode) : Type 0 where
   pub events : (i : ℕ) → i < s.nodes → events_at run i ≡ (node_at nodes i).events
   pub draws : (i : ℕ) → i < s.nodes → given s i ≡ drawn (node_at nodes i).events ++ (node_at nodes i).ids
 
--- they have come to the end of it
-abbrev pub AreDone : Setup → List LoneNode → Type 0
-AreDone s nodes = IsReached s nodes × ((i : ℕ) → i < s.nodes → HasEnded s.nodes s.cap (node_at nodes i))
+-- the nodes are where such a run led them, and none of them has a next event
+abbrev pub AreAtEnd : Setup → List LoneNode → Type 0
+AreAtEnd s nodes = IsReached s nodes × ((i : ℕ) → i < s.nodes → HasNoNext s.nodes s.cap (node_at nodes i))
 
 -- the logs of the nodes
 abbrev pub AreLogsOfNodes : Setup → List LoneNode → List Log → Type 0

@@ -25,7 +25,7 @@ abbrev pub EndsAs : ℕ → ℕ → List ℕ → NodeState → List Event → No
 EndsAs n cap ids state events Leader = IsLeader state.phase
 -- it doesn't lead, and its log is full
 EndsAs n cap ids state events LogFull = ¬ (IsLeader state.phase) × (length events ≡ cap)
--- it has to draw, and has drawn all IDs that it was given
+-- it may go on, has to draw, and has drawn all IDs that it was given
 EndsAs n cap ids state events DrawsSpent = MayGoOn cap state events × ((round : ℕ) × (state ≡ free (Choosing round))) × (drawn events ≡ ids)
 -- it waits for a message, and this one has no step
 EndsAs n cap ids state events (NoStep m) = Waits cap state events × ¬ (HasStep n state (Got m))
@@ -34,22 +34,27 @@ EndsAs n cap ids state events Stopped = Waits cap state events
 -- no thread ends so
 EndsAs n cap ids state events Quiet = ⊥
 
--- what node i of a ring of n nodes recorded, with this start kind, these IDs to
--- draw and this cap
+-- node i of a ring of n nodes, with this start kind, these IDs to draw and this cap, recorded this log and
+-- ended so
 pub record IsRecorded (n i : ℕ) (initiator : Bool) (ids : List ℕ) (cap : ℕ) (log : Log) (how : NodeEnd) : Type 0 where
+  -- the log is of that ring, that place and that start kind
   pub nodes : log.nodes ≡ n
   pub place : log.place ≡ i
   pub kind : log.initiator ≡ initiator
-  -- its log is a local run
+  -- its events lead from the first state of that kind to this one
   pub state : NodeState
   pub run : LeadsTo n (first_state initiator) log.events state
+  -- they are no more than the cap
   pub count : length log.events ≤ cap
+  -- the IDs that they draw are the first of those to draw
   pub draws : BeginsWith ids (drawn log.events)
+  -- what the end says of that state and of the events is so
   pub end : EndsAs n cap ids state log.events how
 
--- what the nodes of a setup's ring recorded, each of them for itself, whatever their threads did
+-- what the nodes of a setup's ring recorded: each log is a local run, and what it received was sent by the
+-- node before it, in that order; nothing is said of an order of the events of different nodes
 pub record IsRecording (s : Setup) (run : Run) : Type 0 where
-  -- there is a log for each node of the ring, of its place and its start kind
+  -- they are logs of the ring, one for each node, of its place and its start kind
   pub logs : AreLogsOf s run.logs
   -- each log is a local run
   pub runs : EachLog run.logs (λ i log. IsLocalRun log)

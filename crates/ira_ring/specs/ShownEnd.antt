@@ -21,7 +21,7 @@ use Rattle.ira_ring.specs.Run.{Run}
 abbrev pub MayGoOn : ℕ → NodeState → List Event → Type 0
 MayGoOn cap state events = ¬ (IsLeader state.phase) × (length events < cap)
 
--- a node in this state that has made these events may go on, and receives next
+-- a node in this state that has made these events may go on, owes no message, and receives next
 abbrev pub Waits : ℕ → NodeState → List Event → Type 0
 Waits cap state events = MayGoOn cap state events × (state.owed ≡ None) × Receives state.phase
 
@@ -32,15 +32,16 @@ abbrev pub Says : Setup → ℕ → NodeState → List Event → List Msg → No
 Says s i state events input Leader = IsLeader state.phase
 -- it doesn't lead, and has made as many events as it may
 Says s i state events input LogFull = ¬ (IsLeader state.phase) × (length events ≡ s.cap)
--- it has to draw, and has drawn all IDs that it was given
+-- it may go on, has to draw, and has drawn all IDs that it was given
 Says s i state events input DrawsSpent = MayGoOn s.cap state events × ((round : ℕ) × (state ≡ free (Choosing round))) × (drawn events ≡ given s i)
--- it receives, and the message behind those that it received has no step
+-- it waits, and the message has no step and is the next one sent to it behind those that it received
 Says s i state events input (NoStep m) = Waits s.cap state events × ¬ (HasStep s.nodes state (Got m)) × BeginsWith input (got events ++ m ∷ [])
--- it receives, and has received all messages that were sent to it
+-- it waits, and has received all messages that were sent to it
 Says s i state events input Quiet = Waits s.cap state events × (got events ≡ input)
 Says s i state events input Stopped = Waits s.cap state events × (got events ≡ input)
 
--- the end is shown by the logs: by that of node i, and by the sendings of the node before it
+-- the end is shown by the logs: the events of node i lead to a state, and what the end says of it, of
+-- these events and of the sendings of the node before it is so
 abbrev pub IsShown : Setup → List Log → ℕ → NodeEnd → Type 0
 IsShown s logs i end =
     (state : NodeState) × LeadsTo s.nodes (first_state (is_initiator s i)) (log_of logs i) state × Says s i state (log_of logs i) (sent (log_of logs (prev s.nodes i))) end

@@ -3,7 +3,7 @@ ghost use Rattle.ira_event.specs.Log.{IsLog};
 ghost use Rattle.ira_node.specs.declared.wanted.Wanted.TheVariants.{Draw as WantsDraw, Send, Receipt};
 ghost use Rattle.ira_node.specs.NodeState.{first_state};
 ghost use Rattle.ira_node.specs.Wanted.{wanted_of};
-ghost use Rattle.ira_ring.specs.LoneNode.{HasEnded, Ends, MakesOwn, MakesSending, GoesOn, after_put};
+ghost use Rattle.ira_ring.specs.LoneNode.{HasNoNext, Ends, MakesOwn, MakesSending, GoesOn, after_put};
 
 use crate::node_end::NodeEnd;
 use ira_event::{Event, Msg, NodeLog, RingSize};
@@ -136,8 +136,8 @@ impl<'a, A: Allocator> LoneNode<'a, A> {
 
     /// How the node has ended, as it has where it has no next event.
     pub(crate) fn end(&self, cap: usize) -> NodeEnd
-        requires { (n : ℕ) × HasEnded n cap self.now }
-        ensures { (n : ℕ) → HasEnded n cap self.now → Ends n cap self.now result }
+        requires { (n : ℕ) × HasNoNext n cap self.now }
+        ensures { (n : ℕ) → HasNoNext n cap self.now → Ends n cap self.now result }
     {
         match self.state.wanted() {
             Wanted::Nothing => NodeEnd::Leader,

@@ -1,6 +1,6 @@
 ghost use Rattle.std.specs.Prelude.{◌≡◌, ◌<◌, IfOk, OnOk, length};
 ghost use Rattle.ira_ring.specs.Setup.{KeepsRules};
-ghost use Rattle.ira_ring.specs.LoneRing.{IsTurn, IsLeastAfter, IsReached, AreDone, AreLogsOfNodes, AreEndsOfNodes};
+ghost use Rattle.ira_ring.specs.LoneRing.{IsTurn, IsLeastAfter, IsReached, AreAtEnd, AreLogsOfNodes, AreEndsOfNodes};
 
 use crate::lone_node::LoneNode;
 use crate::node_end::NodeEnd;
@@ -50,7 +50,7 @@ impl<'a, A: Allocator> LoneRing<'a, A> {
         requires rules { KeepsRules self.old.setup.now }
         requires reached { IsReached self.old.setup.now self.old.nodes.items }
         ensures setup { OnOk result (self.new.setup.now ≡ self.old.setup.now) }
-        ensures done { OnOk result (AreDone self.new.setup.now self.new.nodes.items) }
+        ensures done { OnOk result (AreAtEnd self.new.setup.now self.new.nodes.items) }
     {
         let setup = self.setup;
         let nodes = setup.nodes.get();
@@ -84,7 +84,7 @@ impl<'a, A: Allocator> LoneRing<'a, A> {
     /// How the nodes have ended.
     pub(crate) fn ends(&self, alloc: A) -> Result<Vec<NodeEnd, A>, AllocError>
         requires rules { KeepsRules self.now.setup.now }
-        requires done { AreDone self.now.setup.now self.now.nodes.items }
+        requires done { AreAtEnd self.now.setup.now self.now.nodes.items }
         ensures { IfOk result (λ ends. AreEndsOfNodes self.now.setup.now self.now.nodes.items ends.items) }
     {
         let setup = self.setup;

@@ -1,5 +1,5 @@
 // A run with a thread for each node, from its setup to what the nodes recorded.
-ghost use Rattle.std.specs.Prelude.{◌≡◌, ◌↔◌, ◌≢◌, ◌≤◌, ◌-◌, [], Err, None, map, replicate, length, IfOk, IfErr, ◌⊎◌};
+ghost use Rattle.std.specs.Prelude.{◌≡◌, ◌↔◌, ◌≢◌, ◌≤◌, ◌-◌, [], Err, None, map, replicate, length, IfOk, IfErr, OnOk, ◌⊎◌};
 ghost use Rattle.std.specs.VecDeque.{deque_len, deque_capacity};
 ghost use Rattle.ira_links.specs.declared.limits.TheConstants.{MAX_CAPACITY};
 ghost use Rattle.ira_ring.specs.declared.run_fault.RunFault.TheVariants.{Setup as SetupFault, OutOfMemory, NoEnd, Stranger, Double, Thread, Closed as ClosedFault};
@@ -8,6 +8,7 @@ ghost use Rattle.ira_ring.specs.Run.{IsRun};
 ghost use Rattle.ira_ring.specs.Seat.{AreSeated, AreSeatedRound};
 ghost use Rattle.ira_ring.specs.Done.{AreInPlaceRound, AreOfOneRing, PassedRound};
 ghost use Rattle.ira_ring.specs.Recording.{IsRecording, HasOwnEnd};
+ghost use Rattle.ira_ring.specs.Agreement.{Agrees};
 
 use crate::collector::Collector;
 use crate::done::Done;
@@ -60,7 +61,7 @@ fn all_seats<A: Allocator + Clone>(
     alloc: A,
     setup: &Setup<A>,
 ) -> Result<VecDeque<Seat<A>, A>, RunFault>
-    ensures seats { IfOk result (λ seats. AreSeatedRound setup.now.nodes setup.now.cap seats.items) }
+    ensures seats { IfOk result (λ seats. AreSeatedRound setup.now.cap setup.now.nodes seats.items) }
     ensures err { IfErr result (λ f. f ≡ OutOfMemory) }
 {
     let mut seats = VecDeque::with_capacity(alloc.clone()?, usize::from(setup.nodes.get()))?;
@@ -117,6 +118,9 @@ fn settle_all<A: Allocator>(
 /// frames. `Setup` where the setup breaks the rules; nothing is taken before they were looked at. All
 /// memory is reserved before the first thread starts.
 ///
+/// Each node's log begins with its log by `run_alone`. Where a node ends there otherwise than as `Quiet`, the
+/// logs are the same, and so are the ends, with `Stopped` for `Quiet`, however the threads were scheduled.
+///
 /// Threads start by rising place, each after the gate admitted it. Where the gate doesn't admit one, or it
 /// can't be started, `Stop` is put on the link to node 0, if the end that writes it wasn't given away yet; all
 /// ends that are left are dropped, the started threads are joined, and the answer is `Thread`, whatever
@@ -128,7 +132,9 @@ where
     G: Gate + Sync,
     A: Allocator + Clone + Send + Sync,
     ensures rules { (result ≡ Err SetupFault) ↔ ¬ (KeepsRules setup.now) }
+    ensures kept { OnOk result (KeepsRules setup.now) }
     ensures recording { IfOk result (IsRecording setup.now) }
+    ensures agrees { IfOk result (Agrees setup.now) }
     ensures ended { IfOk result HasOwnEnd }
     ensures faults { IfErr result (λ f. (f ≢ Stranger) × (f ≢ Double)) }
 {
@@ -144,7 +150,7 @@ where
         thread::scope_env(),
         rt,
         move |scope| -> Result<VecDeque<Done<A>, A>, RunFault>
-            requires { KeepsRules setup.now × AreSeatedRound setup.now.nodes setup.now.cap seats.items × (children.items ≡ []) × (setup.now.nodes ≤ deque_capacity children) × (dones.items ≡ []) × (setup.now.nodes ≤ deque_capacity dones) }
+            requires { KeepsRules setup.now × AreSeatedRound setup.now.cap setup.now.nodes seats.items × (children.items ≡ []) × (setup.now.nodes ≤ deque_capacity children) × (dones.items ≡ []) × (setup.now.nodes ≤ deque_capacity dones) }
             ensures { IfOk result (λ dones. AreInPlaceRound setup.entry.now dones.items) × IfErr result (λ f. (f ≡ Thread) ⊎ (f ≡ ClosedFault)) }
         { run_seats(rt, setup, gate, scope, seats, children, dones) },
     )?;

@@ -1,10 +1,11 @@
-ghost use Rattle.std.specs.Prelude.{◌≡◌, ◌⊎◌, Err, IfOk, IfErr, IsErr};
+ghost use Rattle.std.specs.Prelude.{◌≡◌, ◌⊎◌, Err, IfOk, IfErr, IsErr, OnOk};
 ghost use Rattle.std.specs.List.{list_any};
 ghost use Rattle.ira_ring.specs.declared.run_fault.RunFault.TheVariants.{Setup as SetupFault, OutOfMemory as MemoryFault};
 ghost use Rattle.ira_ring.specs.NodeEnd.{is_draws_spent};
 ghost use Rattle.ira_ring.specs.Setup.{KeepsRules};
 ghost use Rattle.ira_ring.specs.ShownEnd.{IsLoneRun};
 ghost use Rattle.ira_ring.specs.SeededRun.{seeded, IsSeeded};
+ghost use Rattle.ira_ring.specs.Agreement.{AreOfEachFullRun};
 
 use crate::draws::draw_lists;
 use crate::lone_run::run_alone;
@@ -56,7 +57,9 @@ pub fn run_alone_seeded<A: Allocator + Clone>(
 ) -> Result<Run<A>, RunFault>
     ensures rules { result ≡ Err SetupFault → ¬ (KeepsRules (seeded nodes initiators.now seed k cap)) }
     ensures broken { ¬ (KeepsRules (seeded nodes initiators.now seed k cap)) → IsErr result }
+    ensures kept { OnOk result (KeepsRules (seeded nodes initiators.now seed k cap)) }
     ensures ok { IfOk result (IsLoneRun (seeded nodes initiators.now seed k cap)) }
+    ensures only { IfOk result (λ run. AreOfEachFullRun (seeded nodes initiators.now seed k cap) run.logs) }
     ensures err { IfErr result (λ f. (f ≡ SetupFault) ⊎ (f ≡ MemoryFault)) }
 {
     if k > FIRST_DRAWS {

@@ -37,7 +37,7 @@ where
     G: Gate + Sync,
     A: Allocator + Send + Sync + 'e,
     requires rules { KeepsRules setup.now }
-    requires seats { AreSeatedRound setup.now.nodes setup.now.cap seats.items }
+    requires seats { AreSeatedRound setup.now.cap setup.now.nodes seats.items }
     requires room { (children.items ≡ []) × (setup.now.nodes ≤ deque_capacity children) }
     ensures few { deque_len result.0 ≤ setup.now.nodes }
     ensures duties { result.1 ≡ true → result.0.items ≡ map (duty_of setup.now) seats.items }
@@ -99,7 +99,7 @@ where
     G: Gate + Sync,
     A: Allocator + Send + Sync + 'e,
     requires rules { KeepsRules setup.now }
-    requires seats { AreSeatedRound setup.now.nodes setup.now.cap seats.items }
+    requires seats { AreSeatedRound setup.now.cap setup.now.nodes seats.items }
     requires children { (children.items ≡ []) × (setup.now.nodes ≤ deque_capacity children) }
     requires dones { (dones.items ≡ []) × (setup.now.nodes ≤ deque_capacity dones) }
     ensures ok { IfOk result (λ dones. AreInPlaceRound setup.now dones.items) }

@@ -1,6 +1,7 @@
 //! The command `logs`: the logs of a ring in files.
 
 use super::fakes::{File, FullSink, MemoryShelf, assert_served};
+use super::samples::{ELECTED_0, ELECTED_1};
 use crate::{Counted, serve};
 use ira_event::MemorySink;
 use std::io;
@@ -8,12 +9,6 @@ use std::process::Abort;
 use std::sync::Wait;
 use std::thread::Threads;
 use std::time::Clock;
-
-const ELECTED_0: &str = "irlog 1\nnodes 2\nplace 0\nstart initiator\ndraw 2\nsend 1 2 1 clean\n\
-                         recv 1 1 1 clean\nrecv 1 2 2 clean\nend 4\n";
-
-const ELECTED_1: &str = "irlog 1\nnodes 2\nplace 1\nstart initiator\ndraw 1\nsend 1 1 1 clean\n\
-                         recv 1 2 1 clean\nsend 1 2 2 clean\nend 4\n";
 
 const EMPTY_1: &str = "irlog 1\nnodes 2\nplace 1\nstart initiator\nend 0\n";
 

@@ -1,6 +1,7 @@
 //! The command `run`: an election is run, and its logs are written to files.
 
 use super::fakes::{File, FullSink, MemoryShelf, assert_served};
+use super::samples::{ELECTED_0, ELECTED_1};
 use crate::{Counted, serve};
 use ira_event::MemorySink;
 use std::alloc::Global;
@@ -10,12 +11,6 @@ use std::sync::Wait;
 use std::test::Fail;
 use std::thread::Threads;
 use std::time::Clock;
-
-const ELECTED_0: &str = "irlog 1\nnodes 2\nplace 0\nstart initiator\ndraw 2\nsend 1 2 1 clean\n\
-                         recv 1 1 1 clean\nrecv 1 2 2 clean\nend 4\n";
-
-const ELECTED_1: &str = "irlog 1\nnodes 2\nplace 1\nstart initiator\ndraw 1\nsend 1 1 1 clean\n\
-                         recv 1 2 1 clean\nsend 1 2 2 clean\nend 4\n";
 
 const LONE_0: &str = "irlog 1\nnodes 3\nplace 0\nstart initiator\ndraw 1\nsend 1 1 1 clean\n\
                       recv 1 1 3 clean\nend 3\n";

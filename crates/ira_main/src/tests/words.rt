@@ -141,6 +141,10 @@ fn options_of_a_run(rt: HostRuntime) {
         let words = [whole[0], whole[1], whole[2], whole[3], word];
         assert_refused(&rt, &words, text.as_str());
     }
+    let words = ["run", "--nodes=2", "--seed=7", "--out="];
+    let text = "error: a value is required for '--out <DIR>' but none was supplied\n\n\
+                For more information, try '--help'.\n";
+    assert_refused(&rt, &words, text);
     let text = "error: the following required arguments were not provided:\n  --nodes <N>\n  \
                 --seed <S>\n  --out <DIR>\n\n\
                 Usage: ira run --nodes <N> --seed <S> --out <DIR>\n\n\

@@ -11,17 +11,17 @@ returns-in_err-logs g c = λ texts are.
     let f = c.in_err-logs.field-0.0 in
     heads_refused texts c.args.logs.items are c.from_residual-in_err-logs.result f (search rules) ((c.in_err-logs.ensures.err f).0 refl)
 
-pub returns-in_err-order : goal.returns-in_err-order
-returns-in_err-order g c = λ texts are.
+pub returns-in_err-find_order : goal.returns-in_err-find_order
+returns-in_err-find_order g c = λ texts are.
     let gathered = (c.in_ok-logs.ensures.ok c.in_ok-logs.logs).0 refl in
     let of = subst (AreLogTexts texts) (sym gathered.0) are in
-    order_refused texts c.in_ok-logs.logs of c.from_residual-in_err-order.result c.in_err-order.field-0.0 (search rules) gathered.1 c.in_err-order.ensures.matching c.in_err-order.ensures.circle
+    order_refused texts c.in_ok-logs.logs of c.from_residual-in_err-find_order.result c.in_err-find_order.field-0.0 (search rules) gathered.1 c.in_err-find_order.ensures.matching c.in_err-find_order.ensures.circle
 
 pub returns-in_err-check_all_steps : goal.returns-in_err-check_all_steps
 returns-in_err-check_all_steps g c = λ texts are.
     let gathered = (c.in_ok-logs.ensures.ok c.in_ok-logs.logs).0 refl in
     let of = subst (AreLogTexts texts) (sym gathered.0) are in
-    let has = ordered_has c.in_ok-logs.logs c.in_ok-order.field-0 c.in_ok-order.ensures.logs c.in_ok-order.ensures.ok in
+    let has = ordered_has _ c.in_ok-find_order.ensures.ok in
     let refused = err_from_is_err_and c.from_residual-in_err-check_all_steps.result c.from_residual-in_err-check_all_steps.ensures.1 in
     stop_refused texts c.in_ok-logs.logs of c.from_residual-in_err-check_all_steps.result c.in_err-check_all_steps.field-0.0 (refused.1 ∙ ap Err refused.2) gathered.1 has c.in_err-check_all_steps.ensures
 
@@ -29,5 +29,5 @@ pub returns : goal.returns
 returns g c = λ texts are.
     let gathered = (c.in_ok-logs.ensures.ok c.in_ok-logs.logs).0 refl in
     let of = subst (AreLogTexts texts) (sym gathered.0) are in
-    let has = ordered_has c.in_ok-logs.logs c.in_ok-order.field-0 c.in_ok-order.ensures.logs c.in_ok-order.ensures.ok in
+    let has = ordered_has _ c.in_ok-find_order.ensures.ok in
     yes c.in_ok-logs.logs of gathered.1 has c.in_ok-check_all_steps.ensures refl

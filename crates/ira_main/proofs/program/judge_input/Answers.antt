@@ -1,6 +1,6 @@
 use Rattle.std.proofs.Common.{refl}
 use Rattle.ira_main.specs.Serve.Judges.{judged}
-use Rattle.ira_audit.proofs.Unless.{unless_ok}
+use Rattle.ira_event.proofs.Unless.{unless_ok}
 use Rattle.ira_main.proofs.program.judge_input.Goals as goal
 
 pub returns-clause-judged : goal.returns-clause-judged

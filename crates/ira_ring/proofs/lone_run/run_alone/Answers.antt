@@ -4,6 +4,7 @@ use Rattle.ira_ring.specs.Setup.{Setup, KeepsRules}
 use Rattle.ira_ring.specs.LoneRing.{AreLogsOfNodes}
 use Rattle.ira_ring.specs.ShownEnd.{IsLoneRun}
 use Rattle.ira_ring.proofs.LoneRuns.{are_logs, is_lone_run}
+use Rattle.ira_ring.proofs.AgreementLaws.{lone_logs_same}
 use Rattle.ira_ring.proofs.lone_run.run_alone.Goals as goal
 
 pub unreachable-requires : goal.unreachable-requires
@@ -22,6 +23,9 @@ of_parts-requires g c =
       ends = omega (arith, c.in_ok-ends.ensures.0, c.in_ok-into_logs.ensures.0, ap length gathered.0);
     }
 
+pub returns-clause-kept : goal.returns-clause-kept
+returns-clause-kept g c = c.if-not-keeps_rules.ensures.0 refl
+
 pub returns-clause-ok : goal.returns-clause-ok
 returns-clause-ok g c =
     let kept : KeepsRules c.args.setup.now = c.if-not-keeps_rules.ensures.0 refl in
@@ -31,3 +35,6 @@ returns-clause-ok g c =
     subst (AreLogsOfNodes c.run.new.self.setup.now c.run.new.self.nodes.items) (sym gathered.0) c.in_ok-into_logs.ensures in
     let P : Setup → Type 0 = λ s. IsLoneRun s c.of_parts.result in
     subst P same (is_lone_run c.run.new.self.setup.now c.run.new.self.nodes.items c.in-Ok.logs c.in_ok-ends.ends.items c.of_parts.result (subst KeepsRules (sym same) kept) c.in_ok-run.ensures.done of_nodes c.in_ok-ends.ensures c.of_parts.ensures)
+
+pub returns-clause-only : goal.returns-clause-only
+returns-clause-only g c = lone_logs_same _ _ (returns-clause-ok g c)

@@ -5,9 +5,11 @@ use mir.Syntax.{of_param}
 use denote.Exit.{unseen}
 use denote.Param.Send.{Quiet-if}
 use Rattle.ira_ring.specs.Setup.{Setup, KeepsRules}
+use Rattle.ira_ring.specs.Run.{IsRun}
 use Rattle.ira_ring.specs.Done.{AreInPlaceRound}
-use Rattle.ira_ring.proofs.Settling.{ok_of}
+use Rattle.ira_ring.proofs.Settling.{on_ok, ok_of}
 use Rattle.ira_ring.proofs.Recordings.{is_recording_if_ok}
+use Rattle.ira_ring.proofs.AgreementLaws.{recording_agrees_if_ok}
 use Rattle.ira_ring.proofs.ring_run.run_ring.Goals as goal
 
 pub scoped-requires : goal.scoped-requires
@@ -38,9 +40,15 @@ settle_all-requires-clause-ring g c =
     let many : length c.in_ok-collector.collector ≡ c.setup.inside.nodes = ap length c.in_ok-collector.ensures ∙ length-replicate c.setup.inside.nodes None in
     (s, sym nodes ∙ sym many, ok_of c.scoped.result c.in_ok-dones-2.dones (λ dones. AreInPlaceRound s dones.items) c.in_ok-dones-2.was c.scoped.ensures.1.0)
 
+pub returns-clause-kept : goal.returns-clause-kept
+returns-clause-kept g c = on_ok c.settle_all.result IsRun (λ run. KeepsRules c.args.setup.now) (λ run valid. c.if-not-keeps_rules.ensures.0 refl) c.settle_all.ensures.valid
+
 pub returns-clause-recording : goal.returns-clause-recording
 returns-clause-recording g c =
     let s : Setup = c.args.setup.now in
     let ring = ok_of c.scoped.result c.in_ok-dones-2.dones (λ dones. AreInPlaceRound s dones.items) c.in_ok-dones-2.was c.scoped.ensures.1.0 in
     let settled = c.settle_all.ensures in
     is_recording_if_ok s c.in_ok-dones-2.dones.items c.settle_all.result settled.valid ring settled.passed settled.logs settled.ends
+
+pub returns-clause-agrees : goal.returns-clause-agrees
+returns-clause-agrees g c = recording_agrees_if_ok _ _ (returns-clause-recording g c)

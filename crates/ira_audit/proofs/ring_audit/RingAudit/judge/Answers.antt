@@ -1,11 +1,13 @@
 use Rattle.std.proofs.Common.{◌≡◌, length, refl, sym, subst, rules}
 use Rattle.ira_audit.specs.LogsAnswer.{no_log}
 use Rattle.ira_audit.specs.RingAudit.{AreKept, HasTaken}
+use Rattle.ira_audit.proofs.LogTexts.{first_fault}
+use Rattle.ira_audit.proofs.Replaying.{text_fault_other}
 use Rattle.ira_audit.proofs.ring_audit.RingAudit.judge.Goals as goal
 
 pub returns-in-Some : goal.returns-in-Some
 returns-in-Some g c = λ texts taken.
     let kept = subst (λ a. HasTaken a texts) (sym c.self.view_is) taken in
-    let first = subst (AreKept texts c.self.inside.logs.items) c.in-Some.is kept in
+    let first = first_fault texts c.self.inside.logs.items c.in-Some.fault (subst (AreKept texts c.self.inside.logs.items) c.in-Some.is kept) in
     let number : c.len.result ≡ length c.self.inside.logs.items = search rules in
-    (no_log c.len.result c.in-Some.fault (rw number first.0) refl, first.1)
+    (no_log c.len.result c.in-Some.fault (rw number first) refl, text_fault_other first.text c.in-Some.fault first.fault)

@@ -2,7 +2,7 @@ use Rattle.std.proofs.Common.{◌≢◌, refl, sym, subst, rules}
 use Rattle.ira_audit.specs.RingAudit.{HasTaken}
 use Rattle.ira_event.specs.declared.log_fault.LogFault.TheVariants.{OutOfMemory}
 use Rattle.ira_audit.proofs.LogTexts.{keeps_log, keeps_fault, keeps_first}
-use Rattle.ira_audit.proofs.Unless.{unless_err, unless_ok}
+use Rattle.ira_event.proofs.Unless.{unless_err, unless_ok}
 use Rattle.ira_audit.proofs.ring_audit.RingAudit.take.Goals as goal
 
 pub returns-then-is_some-clause-ok : goal.returns-then-is_some-clause-ok
@@ -22,6 +22,6 @@ returns-in-Err g c =
     let other : f ≢ OutOfMemory = search rules in
     let is = (unless_err f _ _ other (c.in-Err.ensures.err f)).0 refl in
     record {
-      ok = λ texts taken. let kept = subst (λ a. HasTaken a texts) (sym c.self.view_is) taken in (keeps_fault texts c.self.inside.logs.items c.self.inside.fault c.args.text.now f c.if-is_some.ensures kept is, other);
+      ok = λ texts taken. let kept = subst (λ a. HasTaken a texts) (sym c.self.view_is) taken in keeps_fault texts c.self.inside.logs.items c.self.inside.fault c.args.text.now f c.if-is_some.ensures kept is;
       err = tt;
     }

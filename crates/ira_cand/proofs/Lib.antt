@@ -1,0 +1,4 @@
+pub mod Clauses
+pub mod Passing
+pub mod Rising
+pub mod Skips

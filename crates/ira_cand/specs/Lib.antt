@@ -1,0 +1,5 @@
+pub mod Ahead
+pub mod Candidates
+pub mod CandidatesFound
+pub mod Holding
+pub mod Laws

@@ -1,0 +1,21 @@
+-- How many events of a node are known where an event happens: what vector clocks count (Mattern,
+-- Virtual Time and Global States of Distributed Systems, 1989).
+use Rattle.std.specs.Prelude.{◌≡◌, ℕ, ◌≤◌, ◌↔◌, ◌⊎◌, List, length}
+use Rattle.std.specs.List.{sum_by}
+use Rattle.ira_event.specs.Log.{Log}
+use Rattle.ira_order.specs.Ring.{log_of}
+use Rattle.ira_order.specs.Matching.{got}
+use Rattle.ira_order.specs.Before.{Before}
+
+-- event a of node i is event b of node j, or happened before it
+abbrev pub AtOrBefore : List Log → ℕ → ℕ → ℕ → ℕ → Type 0
+AtOrBefore logs i a j b = ((i ≡ j) × (a ≡ b)) ⊎ Before logs i a j b
+
+-- n events of node i are event b of node j or happened before it: the first n of its log
+pub record IsCount (logs : List Log) (j b i n : ℕ) : Type 0 where
+  pub within : n ≤ length (log_of logs i)
+  pub events : (a : ℕ) → 1 ≤ a → (a ≤ n) ↔ AtOrBefore logs i a j b
+
+-- how many receipts the logs have
+abbrev pub receipt_count : List Log → ℕ
+receipt_count logs = sum_by (λ log. length (got log.events)) logs

@@ -1,0 +1,5 @@
+pub mod ClauseTexts
+pub mod Meanings
+pub mod PairCases
+pub mod Rest
+pub mod Sizes

@@ -1,0 +1,34 @@
+-- What a clause says, without the boxes that its parts lie in.
+use Rattle.std.specs.Prelude.{ℕ, ◌+◌, ◌≤◌, max, ⊤}
+use Rattle.ira_event.specs.declared.limits.TheConstants.{MAX_NUMBER}
+use Rattle.ira_pred.specs.declared.rel.Rel.{Rel}
+
+-- a formula over the facts of one node's state
+pub data Formula : Type 0 where
+  always : Formula
+  leader : Formula
+  active : Formula
+  passive : Formula
+  choosing : Formula
+  owes : Formula
+  round : Rel → ℕ → Formula
+  id : Rel → ℕ → Formula
+  both : Formula → Formula → Formula
+  either : Formula → Formula → Formula
+  negated : Formula → Formula
+
+-- how deep a formula is nested: that of one fact is 0
+abbrev pub depth : Formula → ℕ
+depth (both a b) = 1 + max (depth a) (depth b)
+depth (either a b) = 1 + max (depth a) (depth b)
+depth (negated a) = 1 + depth a
+depth _ = 0
+
+-- each number in the formula is at most MAX_NUMBER
+abbrev pub HasNumbersInRange : Formula → Type 0
+HasNumbersInRange (round rel n) = n ≤ MAX_NUMBER
+HasNumbersInRange (id rel n) = n ≤ MAX_NUMBER
+HasNumbersInRange (both a b) = HasNumbersInRange a × HasNumbersInRange b
+HasNumbersInRange (either a b) = HasNumbersInRange a × HasNumbersInRange b
+HasNumbersInRange (negated a) = HasNumbersInRange a
+HasNumbersInRange _ = ⊤

@@ -1,0 +1,11 @@
+pub mod Case
+pub mod Clause
+pub mod ClauseAnswer
+pub mod ClauseScan
+pub mod Formula
+pub mod FormulaCode
+pub mod Pairs
+pub mod PlacedClause
+pub mod Question
+pub mod QuestionText
+pub mod QuestionTextFault

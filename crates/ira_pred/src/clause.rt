@@ -1,0 +1,101 @@
+ghost use Rattle.std.specs.Prelude.{◌≡◌, ◌↔◌, IsTrue};
+ghost use Rattle.ira_pred.specs.Clause.{formula, Holds};
+ghost use Rattle.ira_pred.specs.ClauseAnswer.{compare_test, compare_some_test, round_of, id_of, holds_test};
+
+use crate::rel::Rel;
+use ira_node::{NodeState, Phase};
+use std::alloc::Allocator;
+
+/// What may be asked of one node's state: a local predicate (Garg and Waldecker 1994).
+#[derive(Debug, Drop)]
+pub enum Clause<A: Allocator> {
+    /// It holds of every state.
+    Always,
+    /// The node leads.
+    Leader,
+    /// The node takes part in a round under an ID.
+    Active,
+    /// The node passes messages on.
+    Passive,
+    /// The node is about to draw an ID.
+    Choosing,
+    /// The node owes a message.
+    Owes,
+    /// The node's round compares so with the number. A passive node has no round.
+    Round(Rel, u32),
+    /// The node's ID compares so with the number. A choosing or passive node has no ID.
+    Id(Rel, u32),
+    /// Both hold.
+    Both(Box<Clause<A>, A>, Box<Clause<A>, A>),
+    /// The one or the other holds, or both do.
+    Either(Box<Clause<A>, A>, Box<Clause<A>, A>),
+    /// It doesn't hold.
+    Negated(Box<Clause<A>, A>),
+}
+
+impl Rel {
+    /// Whether `x` compares so with `n`.
+    fn compares(self, x: u32, n: u32) -> bool
+        ensures { result ≡ compare_test self x n }
+    {
+        match self {
+            Rel::Less => x < n,
+            Rel::Equal => x == n,
+            Rel::Greater => x > n,
+        }
+    }
+
+    /// Whether there is a number, and it compares so with `n`.
+    fn compares_some(self, found: Option<u32>, n: u32) -> bool
+        ensures { result ≡ compare_some_test found self n }
+    {
+        match found {
+            Some(x) => self.compares(x, n),
+            None => false,
+        }
+    }
+}
+
+/// The round of the phase. A passive node has none.
+fn round(phase: Phase) -> Option<u32>
+    ensures { result ≡ round_of phase }
+{
+    match phase {
+        Phase::Choosing { round } | Phase::Active { round, .. } | Phase::Leader { round, .. } => {
+            Some(round)
+        }
+        Phase::Passive => None,
+    }
+}
+
+/// The ID of the phase. A choosing or passive node has none.
+fn id(phase: Phase) -> Option<u32>
+    ensures { result ≡ id_of phase }
+{
+    match phase {
+        Phase::Active { id, .. } | Phase::Leader { id, .. } => Some(id),
+        Phase::Choosing { .. } | Phase::Passive => None,
+    }
+}
+
+impl<A: Allocator> Clause<A> {
+    /// Whether the clause holds of the state.
+    pub fn holds(&self, state: &NodeState) -> bool
+        ensures value { result ≡ holds_test (formula self.now) state.now }
+        ensures meaning { IsTrue result ↔ Holds (formula self.now) state.now }
+    {
+        match self {
+            Clause::Always => true,
+            Clause::Leader => matches!(state.phase, Phase::Leader { .. }),
+            Clause::Active => matches!(state.phase, Phase::Active { .. }),
+            Clause::Passive => matches!(state.phase, Phase::Passive),
+            Clause::Choosing => matches!(state.phase, Phase::Choosing { .. }),
+            Clause::Owes => state.owed.is_some(),
+            Clause::Round(rel, n) => rel.compares_some(round(state.phase), *n),
+            Clause::Id(rel, n) => rel.compares_some(id(state.phase), *n),
+            Clause::Both(a, b) => a.holds(state) && b.holds(state),
+            Clause::Either(a, b) => a.holds(state) || b.holds(state),
+            Clause::Negated(a) => !a.holds(state),
+        }
+    }
+}

@@ -1,0 +1,23 @@
+//! Questions about a run: clauses on the state of one node, cases that ask one clause of each of some
+//! nodes, and the text of a question.
+#![tactic(auto)]
+
+mod ask_fault;
+mod case;
+mod clause;
+mod limits;
+mod pairs;
+mod question;
+mod question_writer;
+mod rel;
+#[cfg(test)]
+mod tests;
+
+pub use ask_fault::AskFault;
+pub use case::Case;
+pub use clause::Clause;
+pub use limits::{MAX_CASES, MAX_DEPTH};
+pub use pairs::pairs_question;
+pub use question::Question;
+pub use question_writer::write_question;
+pub use rel::Rel;
