@@ -1,0 +1,19 @@
+-- What holds of questions and their texts, whoever reads or writes them.
+use Rattle.std.specs.Prelude.{◌≡◌, ◌<◌, ◌↔◌, ℕ, List}
+use Rattle.ira_pred.specs.declared.limits.TheConstants.{MAX_DEPTH}
+use Rattle.ira_pred.specs.Formula.{Formula, depth}
+use Rattle.ira_pred.specs.Question.{Asked, IsQuestion}
+use Rattle.ira_pred.specs.QuestionText.{IsClauseText, IsQuestionText, question_text, IsShort}
+use Rattle.ira_pred.specs.QuestionTextFault.{IsTooDeep}
+
+-- each question whose text isn't too long has one text, the one written out
+abbrev pub EachQuestionHasOneText : Type 0
+EachQuestionHasOneText = (text : List ℕ) (q : Asked) → IsQuestionText text q ↔ (IsQuestion q × IsShort q × (text ≡ question_text q))
+
+-- no text belongs to two questions
+abbrev pub NoTextIsTwoQuestions : Type 0
+NoTextIsTwoQuestions = (text : List ℕ) (a b : Asked) → IsQuestionText text a → IsQuestionText text b → a ≡ b
+
+-- the text of a clause goes too deep exactly where the clause does
+abbrev pub TextsAreAsDeepAsClauses : Type 0
+TextsAreAsDeepAsClauses = (text : List ℕ) (f : Formula) → IsClauseText text f → IsTooDeep text ↔ (MAX_DEPTH < depth f)
