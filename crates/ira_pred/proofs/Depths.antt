@@ -4,10 +4,8 @@ use Rattle.std.specs.Prelude.{codes, ◌↔◌}
 use Rattle.std.proofs.lemmas.List.{append-nil}
 use Rattle.std.proofs.lemmas.List.Sums.{sum_by-cons}
 use Rattle.std.proofs.lemmas.Bool.Decides.{nat_tests}
-use Rattle.std.specs.Str.{all_ascii_digits}
-use Rattle.std.specs.Char.{is_ascii_digit}
 use Rattle.ira_event.specs.Numeral.{IsNumeral}
-use Rattle.ira_event.proofs.Numerals.{and_parts, Lacks-numeral}
+use Rattle.ira_event.proofs.Numerals.{Lacks-numeral}
 use Rattle.ira_event.proofs.Pieces.{Lacks, or_parts}
 use Rattle.ira_pred.specs.declared.rel.Rel.{Rel}
 use Rattle.ira_pred.specs.declared.rel.Rel.TheVariants.{Less, Equal, Greater}

@@ -1,22 +1,22 @@
 -- A question has one text, and a text is one question's.
-use Rattle.std.proofs.Common.{◌≡◌, ◌≤◌, ◌<◌, ◌^◌, ◌+◌, ◌⊎◌, ℕ, Bool, true, false, List, [], ◌∷◌, ◌++◌, length, refl, sym, ap, subst, ◌∙◌, arith, append_assoc, inl, inr, Option, Some, None}
+use Rattle.std.proofs.Common.{◌≡◌, ◌≤◌, ◌⊎◌, ℕ, List, [], ◌∷◌, ◌++◌, length, refl, sym, ap, subst, ◌∙◌, arith, append_assoc, inl, inr, Option, Some, None}
 use Rattle.std.specs.Prelude.{All, codes, decimal, ◌↔◌}
 use Rattle.std.specs.List.{flat_map}
-use Rattle.std.proofs.lemmas.List.{append-nil, append_cancel_left}
+use Rattle.std.proofs.lemmas.List.{append_cancel_left}
 use Rattle.std.proofs.lemmas.List.Elements.{All-head, All-tail}
 use Rattle.ira_event.specs.LogTextFault.{HasNoLineFeed}
 use Rattle.ira_event.specs.Numeral.{IsNumeral}
 use Rattle.ira_event.proofs.Numerals.{number-again, numeral_same, Lacks-numeral}
 use Rattle.ira_event.proofs.RecordLines.{some_is}
 use Rattle.ira_event.specs.Scan.{number_at}
-use Rattle.ira_event.proofs.Pieces.{Lacks, Lacks-append, split_same, line_same, first_differs}
+use Rattle.ira_event.proofs.Pieces.{Lacks, Lacks-append, line_same, first_differs}
 use Rattle.ira_event.proofs.Spelled.{numeral_is_decimal, decimal_is_numeral}
 use Rattle.ira_pred.specs.declared.rel.Rel.{Rel}
 use Rattle.ira_pred.specs.declared.rel.Rel.TheVariants.{Less, Equal, Greater}
 use Rattle.ira_pred.specs.Formula.{Formula, always, leader, active, passive, choosing, owes, round, id, both, either, negated}
 use Rattle.ira_pred.specs.Case.{Conjunct, IsConjunct, IsCase}
 use Rattle.ira_pred.specs.Question.{Asked, IsQuestion}
-use Rattle.ira_pred.specs.QuestionText.{rel_sign, IsClauseText, IsPlaced, IsConjunctLine, AreConjunctLines, IsCaseText, AreCaseTexts, IsQuestionHead, IsQuestionText, conjunct_text, case_text, question_text, IsShort, clause_text}
+use Rattle.ira_pred.specs.QuestionText.{rel_sign, IsClauseText, IsPlaced, IsConjunctLine, AreConjunctLines, AreCaseTexts, IsQuestionText, conjunct_text, case_text, question_text, IsShort, clause_text}
 use Rattle.ira_pred.proofs.ClauseTexts.{clause_spelled, clause_is, clause_same}
 
 -- ---- one text
@@ -149,7 +149,7 @@ placed_same line n m t u h k =
     let pair : (n, codes ": " ++ t) ≡ (m, codes ": " ++ u) = some_is _ _ both in
     (ap (λ (p : ℕ × List ℕ). p.0) pair, append_cancel_left (codes ": ") t u (ap (λ (p : ℕ × List ℕ). p.1) pair))
 
-nothing_is : {A : Type 0} (x : A) (o : Option A) → o ≡ Some x → o ≡ None → ⊥
+pub nothing_is : {A : Type 0} (x : A) (o : Option A) → o ≡ Some x → o ≡ None → ⊥
 nothing_is x (Some y) e f = cc
 nothing_is x None e f = cc
 
@@ -181,7 +181,7 @@ closes_no_line x line rest c (inr k) h e =
     end_unplaced c.place h.0 (subst (λ t. IsPlaced t c.place h.0) (sym s.0) h.1)
 
 -- the first line and the others, with what follows them
-first_line : (text line others x : List ℕ) → text ≡ line ++ codes "\n" ++ others → text ++ x ≡ line ++ codes "\n" ++ (others ++ x)
+pub first_line : (text line others x : List ℕ) → text ≡ line ++ codes "\n" ++ others → text ++ x ≡ line ++ codes "\n" ++ (others ++ x)
 first_line text line others x p = ap (λ w. w ++ x) p ∙ append_assoc (line ++ codes "\n") others x
 
 lines_same : (c1 c2 : List Conjunct) (l1 l2 x1 x2 : List ℕ) → AreConjunctLines l1 c1 → AreConjunctLines l2 c2 → Closes x1 → Closes x2 → l1 ++ x1 ≡ l2 ++ x2 → (c1 ≡ c2) × (x1 ≡ x2)
