@@ -8,12 +8,12 @@ use Rattle.std.proofs.lemmas.Slice.Eq.{bytes_eq-Decides}
 use Rattle.clap.specs.Faults.{bundle_fault, bundle_step_fault, fault_of, flag_word_fault, flags_fault, is_simple_and_free, long_fault, other_fault, short_fault, step_fault, turn_fault, walk_fault}
 use Rattle.clap.specs.Kinds.{Kinds, or_else}
 use Rattle.clap.specs.Lexer.{long_of, short_of}
-use Rattle.clap.specs.Simple.{App, HasMatchesOf, Shape, built, entered, filled, help_rule, names_of, subcommand_of, with_index}
-use Rattle.clap.specs.Walk.{Held, Names, Outcome, Row, Rule, Step, Text, Walk, answers_to, arg_by_long, arg_by_short, after_step, bundle_met, bundle_step, has_long, has_short, idle, long_word, trailing, nothing_held, plain, subcommand_or_other, long_or_other, short_or_plain, after_flag, walk_from, walked}
+use Rattle.clap.specs.Simple.{App, HasMatchesOf, Shape, built, built_leaf, entered, filled, help_rule, names_of, subcommand_of, subcommand_rows_of, with_index}
+use Rattle.clap.specs.Walk.{Held, Names, Outcome, Row, Rule, Step, Text, Walk, answers_to, arg_by_long, arg_by_short, after_step, bundle_met, bundle_step, has_long, has_short, idle, long_word, trailing, nothing_held, plain, rows_after, subcommand_or_other, long_or_other, short_or_plain, after_flag, walk_from, walked}
 use Rattle.clap.specs.declared.builder.value_parser.ValueParser.{ValueParser}
 use Rattle.clap.specs.Matches.{subcommand_name_of}
 use Rattle.clap.specs.declared.parser.matches.ArgMatches.{ArgMatches}
-use Rattle.ira_main.specs.CommandLine.{ira_app, IsIraApp}
+use Rattle.ira_main.specs.CommandLine.{ira_app, IsIraApp, logs_app}
 use Rattle.ira_main.specs.Request.{BeginsWithWord}
 
 -- there is a fault
@@ -65,9 +65,12 @@ module _ (p : ValueParser) where
   abbrev name_met : Option (Text × List Row) → Option Text
   name_met = option_map (λ s. s.0)
 
-  logs_met : (rest : List Text) → name_met (subcommand_of (ira_app p) (codes "logs" ∷ rest)) ≡ Some (codes "logs")
+  logs_rows : (rest : List Text) → subcommand_of (ira_app p) (codes "logs" ∷ rest) ≡ Some (codes "logs", rows_after (built_leaf logs_app.top).rules [] rest)
   unfolding walked
-  logs_met rest = ap (λ o. name_met (entered (built (ira_app p)) o)) (stays top.rules names (walk_from nothing_held) (codes "logs") [] rest)
+  logs_rows rest = ap (λ o. entered (built (ira_app p)) o) (stays top.rules names (walk_from nothing_held) (codes "logs") [] rest)
+
+  logs_met : (rest : List Text) → name_met (subcommand_of (ira_app p) (codes "logs" ∷ rest)) ≡ Some (codes "logs")
+  logs_met rest = ap name_met (logs_rows rest)
 
   run_met : (rest : List Text) → name_met (subcommand_of (ira_app p) (codes "run" ∷ rest)) ≡ Some (codes "run")
   unfolding walked
@@ -222,3 +225,12 @@ met_by_first a m words n is has faultless name =
     let Faultless : App → Type 0 = λ x. fault_of x words ≡ [] in
     let rows = (subst Has is.1 has refl).1 in
     named p words n (subst Faultless is.1 (faultless (ap is_simple_and_free is.1))) (sym (ap (option_map (λ s. s.0)) rows) ∙ fused _ _ _ ∙ sym name)
+
+-- what is read of the words behind `logs`
+pub rows_of_logs : (a : App) (m : ArgMatches) (others : List Text) (rows : List Row) → IsIraApp a → HasMatchesOf a (codes "logs" ∷ others) m
+    → Some rows ≡ option_map (λ s. s.1) (subcommand_rows_of m) → rows ≡ rows_after (built_leaf logs_app.top).rules [] others
+rows_of_logs a m others rows is has read =
+    let Has : App → Type 0 = λ x. HasMatchesOf x (codes "logs" ∷ others) m in
+    let both : Some rows ≡ Some (rows_after (built_leaf logs_app.top).rules [] others) =
+    read ∙ ap (option_map (λ s. s.1)) ((subst Has is.1 has refl).1 ∙ logs_rows is.0 others) in
+    cc

@@ -1,3 +1,4 @@
 pub mod Asking
 pub mod FirstWord
+pub mod GivenNames
 pub mod Reading

@@ -9,7 +9,7 @@ use Rattle.ira_ring.specs.Run.{Run}
 use Rattle.ira_main.specs.Counted.{Reads}
 use Rattle.ira_main.specs.ReadText.{IsReadTo}
 use Rattle.ira_audit.specs.Report.{report_line}
-use Rattle.ira_main.specs.Request.{BeginsWithWord}
+use Rattle.ira_main.specs.Request.{AskForLogs, BeginsWithWord}
 use Rattle.ira_main.specs.RunRequest.{IsAskedRun}
 use Rattle.ira_main.specs.Status.{IsElectionStatus, status_number, answer_status}
 use Rattle.ira_audit.specs.declared.answer.Answer.{Answer}
@@ -61,10 +61,10 @@ pub record Records (request : RunRequest) (taken : Option (List ℕ)) (failures 
   pub asked : IsAskedRun request run
   pub reported : ReportsEnds run taken failures taken' failures' status
 
--- what words were obeyed by: the first is `logs`, and texts of some files were judged together; or it is
--- `run`, and a ring was run for some request; or no answer was given
+-- what was done for the words: they ask for the logs in some files, and as many texts were judged together;
+-- or the first is `run`, and a ring was run for some request; or no answer was given
 pub data Done (words : List (List ℕ)) (taken : Option (List ℕ)) (failures : ℕ) (taken' : Option (List ℕ)) (failures' : ℕ) (status : ℕ) : Type 0 where
-  judged : BeginsWithWord (codes "logs") words → (number : ℕ) → JudgesTogether number taken failures taken' failures' status → Done words taken failures taken' failures' status
+  judged : (names : List (List ℕ)) → AskForLogs words names → JudgesTogether (length names) taken failures taken' failures' status → Done words taken failures taken' failures' status
   recorded : BeginsWithWord (codes "run") words → (request : RunRequest) → Records request taken failures taken' failures' status → Done words taken failures taken' failures' status
   no_answer : GivesNoAnswer taken failures taken' failures' status → Done words taken failures taken' failures' status
 

@@ -1,7 +1,7 @@
-ghost use Rattle.std.specs.Prelude.{◌≡◌, [], Ok, IfOk, IfSome, false, map};
-ghost use Rattle.clap.specs.Words.{app_of, rule_of};
+ghost use Rattle.std.specs.Prelude.{◌≡◌, [], Ok, IfOk, IfSome, codes, false, map, unwrap_or};
+ghost use Rattle.clap.specs.Words.{all_of, app_of, found_of, rows_of, rule_of};
 ghost use Rattle.ira_main.specs.CommandLine.{IsIraApp, IsRunApp, logs_app, number_rule, option_rule};
-ghost use Rattle.ira_main.specs.Request.{IsLogs, IsMadeOf, IsRun};
+ghost use Rattle.ira_main.specs.Request.{IsMadeOf, IsRun, NamesFiles};
 ghost use Rattle.ira_main.specs.declared.request.Request.TheVariants as request;
 
 use crate::complaint::Complaint;
@@ -49,13 +49,10 @@ fn logs_command<'a>(alloc: Global) -> Result<Command<'a>, AllocError>
 }
 
 fn logs_request<'a>(alloc: Global, matches: &ArgMatches<'a>) -> Result<Request<'a>, Error>
-    ensures { IfOk result IsLogs }
+    ensures { IfOk result (NamesFiles (unwrap_or (all_of (codes "LOG") (rows_of (found_of matches.now))) [])) }
 {
-    let mut names = Vec::new(alloc);
-    if let Some(given) = matches.get_strs("LOG") {
-        names.extend_from_slice(given)?;
-    }
-    Ok(Request::Logs(names))
+    let names: &[&'a str] = matches.get_strs("LOG").unwrap_or([].as_slice());
+    Ok(Request::Logs(names.to_vec(alloc)?))
 }
 
 /// An option that takes a value.

@@ -9,7 +9,7 @@ use Rattle.ira_event.specs.declared.event.Event.TheVariants.{Got}
 use Rattle.ira_order.specs.Ring.{log_of, next, numbered}
 use Rattle.ira_order.specs.Order.{IsOrder, IsPair, StandsAt, standings}
 use Rattle.ira_order.specs.Before.{Before, own, message, onward}
-use Rattle.ira_order.specs.Count.{AtOrBefore}
+use Rattle.ira_order.specs.VectorClock.{AtOrBefore}
 use Rattle.ira_order.proofs.Ranks.{lt_cases, eq_cases, standings_same, standings_mono}
 use Rattle.ira_order.proofs.Places.{stands}
 use Rattle.ira_order.proofs.Bridge.{before_places}

@@ -11,7 +11,7 @@ use Rattle.ira_order.specs.Matching.{got, sending, receipt, Matches}
 use Rattle.ira_order.specs.Order.{IsOrder, IsPair}
 use Rattle.ira_order.specs.Counts.{Covers}
 use Rattle.ira_order.specs.Before.{Before, own, message, onward}
-use Rattle.ira_order.specs.Count.{AtOrBefore, IsCount}
+use Rattle.ira_order.specs.VectorClock.{AtOrBefore, IsCount}
 use Rattle.ira_order.specs.Stamps.{receipts_by, CountsAt, CountsSent}
 use Rattle.ira_order.proofs.Ranks.{lt_cases, eq_cases, rank_mono, next_below}
 use Rattle.ira_order.proofs.Scanning.{rank_more}

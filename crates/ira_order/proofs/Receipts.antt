@@ -7,7 +7,7 @@ use Rattle.ira_event.specs.Log.{Log}
 use Rattle.ira_event.specs.Logs.{AreLogs}
 use Rattle.ira_order.specs.Ring.{log_of, events_of}
 use Rattle.ira_order.specs.Matching.{got, receipt}
-use Rattle.ira_order.specs.Count.{receipt_count}
+use Rattle.ira_order.specs.VectorClock.{receipt_count}
 use Rattle.ira_order.specs.Stamps.{receipts_by, first_receipt, AreReceipts, AreReceiptsOf, AreBegins}
 use Rattle.ira_order.proofs.Ranks.{lt_cases, eq_cases, rank_mono}
 use Rattle.ira_order.proofs.Scanning.{rank_le, rank_more}

@@ -11,7 +11,7 @@ use Rattle.ira_order.specs.Ring.{log_of, next, numbered}
 use Rattle.ira_order.specs.Matching.{sent, got, sending, receipt, Matches}
 use Rattle.ira_order.specs.Order.{IsOrder, IsPair}
 use Rattle.ira_order.specs.Counts.{Covers}
-use Rattle.ira_order.specs.Count.{IsCount, receipt_count}
+use Rattle.ira_order.specs.VectorClock.{IsCount, receipt_count}
 use Rattle.ira_order.specs.Stamps.{receipts_by, first_receipt, counter, CountsAt, CountsSent, IsStamping}
 use Rattle.ira_order.proofs.Ranks.{lt_cases, eq_cases, rank_mono, next_below, next_other}
 use Rattle.ira_order.proofs.Scanning.{rank_more}

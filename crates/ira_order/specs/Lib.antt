@@ -1,6 +1,5 @@
 pub mod Before
 pub mod Circle
-pub mod Count
 pub mod Counts
 pub mod Cut
 pub mod Laws
@@ -13,3 +12,4 @@ pub mod Run
 pub mod RunsOfLogs
 pub mod Scan
 pub mod Stamps
+pub mod VectorClock

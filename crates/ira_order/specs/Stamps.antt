@@ -5,7 +5,7 @@ use Rattle.ira_event.specs.Log.{Log}
 use Rattle.ira_order.specs.Ring.{log_of, next}
 use Rattle.ira_order.specs.Matching.{got}
 use Rattle.ira_order.specs.Order.{IsPair}
-use Rattle.ira_order.specs.Count.{IsCount, receipt_count}
+use Rattle.ira_order.specs.VectorClock.{IsCount, receipt_count}
 
 -- how many receipts there are among the first b events of node j
 abbrev pub receipts_by : List Log → ℕ → ℕ → ℕ

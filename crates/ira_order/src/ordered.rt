@@ -1,7 +1,7 @@
 ghost use Rattle.std.specs.Prelude.{◌≡◌, ◌↔◌, ◌<◌, ◌≤◌, ◌*◌, IsTrue, length};
 ghost use Rattle.ira_order.specs.Ring.{log_of};
 ghost use Rattle.ira_order.specs.Before.{Before};
-ghost use Rattle.ira_order.specs.Count.{IsCount, receipt_count};
+ghost use Rattle.ira_order.specs.VectorClock.{IsCount, receipt_count};
 ghost use Rattle.ira_order.specs.Stamps.{AreStamps};
 ghost use Rattle.ira_order.specs.Ordered.{IsOrdered};
 

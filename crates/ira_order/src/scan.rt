@@ -3,39 +3,17 @@ ghost use Rattle.ira_event.specs.declared.event.Event.{Event};
 ghost use Rattle.ira_order.specs.Ring.{log_of};
 ghost use Rattle.ira_order.specs.Order.{standings};
 ghost use Rattle.ira_order.specs.Counts.{CanStep};
-ghost use Rattle.ira_order.specs.Scan.{IsScan, sent_by, got_by, GoesOn, IsStuckAt};
+ghost use Rattle.ira_order.specs.Scan.{IsScan, got_by, GoesOn, IsStuckAt};
 
+use crate::tally::{Tally, receives, sends};
 use ira_event::{Event, Logs, NodeLog};
 use std::alloc::{AllocError, Allocator};
 
-/// A beginning of an order: how many events each node has made, how many messages it has sent and
-/// received by them, and the places in their order.
+/// A beginning of an order: the events that it holds of each node, and the places in their order.
 #[derive(Drop)]
 pub(crate) struct Scan<A: Allocator> {
-    done: Vec<u32, A>,
-    sent: Vec<u32, A>,
-    got: Vec<u32, A>,
+    tally: Tally<A>,
     places: Vec<u8, A>,
-}
-
-/// How many messages an event sends.
-fn sends(event: Event) -> u32
-    ensures { result ≡ sent_by event }
-{
-    match event {
-        Event::Sent(_) => 1,
-        Event::Draw(_) | Event::Got(_) => 0,
-    }
-}
-
-/// How many messages an event receives.
-fn receives(event: Event) -> u32
-    ensures { result ≡ got_by event }
-{
-    match event {
-        Event::Got(_) => 1,
-        Event::Draw(_) | Event::Sent(_) => 0,
-    }
 }
 
 /// The event behind the first `at` of a log, where it may come: if it is a receipt, its sending came.
@@ -58,13 +36,10 @@ impl<A: Allocator> Scan<A> {
     pub(crate) fn start(alloc: A, logs: &Logs<A>) -> Result<Scan<A>, AllocError>
     where
         A: Clone,
-        ensures { IfOk result (λ scan. IsScan logs.now scan.done.items scan.sent.items scan.got.items scan.places.items) }
+        ensures { IfOk result (λ scan. IsScan logs.now scan.tally.done.items scan.tally.sent.items scan.tally.got.items scan.places.items) }
     {
-        let nodes = usize::from(logs.size().get());
         Ok(Scan {
-            done: vec![in alloc.clone()?; 0; nodes]?,
-            sent: vec![in alloc.clone()?; 0; nodes]?,
-            got: vec![in alloc.clone()?; 0; nodes]?,
+            tally: Tally::start(alloc.clone()?, logs)?,
             places: Vec::new(alloc),
         })
     }
@@ -72,20 +47,20 @@ impl<A: Allocator> Scan<A> {
     /// Adds the events of a node as far as they may come. The node before it makes none meanwhile, so
     /// the number of its sendings stays.
     fn run(&mut self, logs: &Logs<A>, i: u8) -> Result<(), AllocError>
-        requires scan { IsScan logs.now self.old.done.items self.old.sent.items self.old.got.items self.old.places.items }
+        requires scan { IsScan logs.now self.old.tally.done.items self.old.tally.sent.items self.old.tally.got.items self.old.places.items }
         requires place { i < length logs.now }
-        ensures scan { OnOk result (IsScan logs.now self.new.done.items self.new.sent.items self.new.got.items self.new.places.items) }
+        ensures scan { OnOk result (IsScan logs.now self.new.tally.done.items self.new.tally.sent.items self.new.tally.got.items self.new.places.items) }
         ensures further { OnOk result (GoesOn self.old.places.items self.new.places.items) }
         ensures stuck { OnOk result (IsStuckAt logs.now (standings self.new.places.items) i) }
     {
         let writer = if i == 0 { logs.size().get() - 1 } else { i - 1 };
-        let sendings = self.sent[usize::from(writer)];
+        let sendings = self.tally.sent[usize::from(writer)];
         let log = logs.log(i);
         let node = usize::from(i);
-        let before = self.done[node];
+        let before = self.tally.done[node];
         let mut at = before;
-        let mut sent = self.sent[node];
-        let mut got = self.got[node];
+        let mut sent = self.tally.sent[node];
+        let mut got = self.tally.got[node];
         while let Some(event) = next_free(log, at, got, sendings) {
             at += 1;
             sent += sends(event);
@@ -93,9 +68,9 @@ impl<A: Allocator> Scan<A> {
         }
         let places = self.places.len() + (at - before) as usize;
         self.places.resize(places, i)?;
-        self.done[node] = at;
-        self.sent[node] = sent;
-        self.got[node] = got;
+        self.tally.done[node] = at;
+        self.tally.sent[node] = sent;
+        self.tally.got[node] = got;
         Ok(())
     }
 
@@ -103,8 +78,8 @@ impl<A: Allocator> Scan<A> {
     /// and node 0 only behind the last one; so every node gets on in each round but the first and the
     /// last two, and the rounds cost no more than the events and a few times the nodes.
     fn round(&mut self, logs: &Logs<A>) -> Result<(), AllocError>
-        requires scan { IsScan logs.now self.old.done.items self.old.sent.items self.old.got.items self.old.places.items }
-        ensures scan { OnOk result (IsScan logs.now self.new.done.items self.new.sent.items self.new.got.items self.new.places.items) }
+        requires scan { IsScan logs.now self.old.tally.done.items self.old.tally.sent.items self.old.tally.got.items self.old.places.items }
+        ensures scan { OnOk result (IsScan logs.now self.new.tally.done.items self.new.tally.sent.items self.new.tally.got.items self.new.places.items) }
         ensures further { OnOk result (GoesOn self.old.places.items self.new.places.items) }
         ensures stuck { OnOk result (length self.new.places.items ≡ length self.old.places.items → (i : ℕ) → i < length logs.now → IsStuckAt logs.now (standings self.new.places.items) i) }
     {
@@ -116,8 +91,8 @@ impl<A: Allocator> Scan<A> {
 
     /// Goes on until no event may come.
     pub(crate) fn rounds(&mut self, logs: &Logs<A>) -> Result<(), AllocError>
-        requires scan { IsScan logs.now self.old.done.items self.old.sent.items self.old.got.items self.old.places.items }
-        ensures scan { OnOk result (IsScan logs.now self.new.done.items self.new.sent.items self.new.got.items self.new.places.items) }
+        requires scan { IsScan logs.now self.old.tally.done.items self.old.tally.sent.items self.old.tally.got.items self.old.places.items }
+        ensures scan { OnOk result (IsScan logs.now self.new.tally.done.items self.new.tally.sent.items self.new.tally.got.items self.new.places.items) }
         ensures stuck { OnOk result ((i : ℕ) → i < length logs.now → IsStuckAt logs.now (standings self.new.places.items) i) }
     {
         loop {
@@ -131,11 +106,11 @@ impl<A: Allocator> Scan<A> {
 
     /// Whether every event came.
     pub(crate) fn is_whole(&self, logs: &Logs<A>) -> bool
-        requires { length self.now.done.items ≡ length logs.now }
-        ensures { MatchBool result ((i : ℕ) → i < length logs.now → length (log_of logs.now i) ≤ slice_index self.now.done.items i) ((i : ℕ) × (i < length logs.now) × (slice_index self.now.done.items i < length (log_of logs.now i))) }
+        requires { length self.now.tally.done.items ≡ length logs.now }
+        ensures { MatchBool result ((i : ℕ) → i < length logs.now → length (log_of logs.now i) ≤ slice_index self.now.tally.done.items i) ((i : ℕ) × (i < length logs.now) × (slice_index self.now.tally.done.items i < length (log_of logs.now i))) }
     {
         for i in 0..logs.size().get() {
-            if (self.done[usize::from(i)] as usize) < logs.log(i).len() {
+            if (self.tally.done[usize::from(i)] as usize) < logs.log(i).len() {
                 return false;
             }
         }

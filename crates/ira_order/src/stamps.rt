@@ -1,8 +1,9 @@
 ghost use Rattle.std.specs.Prelude.{◌≡◌, ◌≢◌, ◌+◌, ◌*◌, ◌<◌, ◌≤◌, ◌++◌, ℕ, List, [], IfOk, OnOk, length};
+ghost use Rattle.ira_event.specs.declared.limits.TheConstants.{MAX_RECORDS};
 ghost use Rattle.ira_order.specs.Ring.{log_of, next};
 ghost use Rattle.ira_order.specs.Matching.{got};
 ghost use Rattle.ira_order.specs.Ordered.{IsOrdered};
-ghost use Rattle.ira_order.specs.Count.{IsCount, receipt_count};
+ghost use Rattle.ira_order.specs.VectorClock.{IsCount, receipt_count};
 ghost use Rattle.ira_order.specs.Scan.{IsScan};
 ghost use Rattle.ira_order.specs.Stamps.{receipts_by, AreReceipts, AreReceiptsOf, AreBegins, IsTable, AreStamps, IsStamping, counter as counter_of};
 
@@ -145,7 +146,7 @@ impl<A: Allocator> Stamps<A> {
         requires table { IsTable logs.now self.old.begins.items self.old.numbers.items self.old.counters.items }
         requires place { k < length logs.now }
         requires received { received ≤ length (got (log_of logs.now k)) }
-        requires sent { sent < 100000 }
+        requires sent { sent < MAX_RECORDS }
         ensures begins { self.new.begins.items ≡ self.old.begins.items }
         ensures numbers { self.new.numbers.items ≡ self.old.numbers.items }
         ensures stamping { IsStamping logs.now self.old.counters.items self.new.counters.items (next (length logs.now) k) (sent + 1) k received a }

@@ -1,4 +1,5 @@
-ghost use Rattle.std.specs.Prelude.{◌≡◌, ◌+◌, ◌<◌, ◌^◌, ℕ, [], IfOk, length, slice_index, slice_set};
+ghost use Rattle.std.specs.Prelude.{◌≡◌, ◌+◌, ◌<◌, [], IfOk, length, slice_index, slice_set};
+ghost use Rattle.ira_event.specs.declared.limits.TheConstants.{MAX_RECORDS};
 ghost use Rattle.ira_order.specs.Scan.{IsScan, sent_by, got_by};
 
 use ira_event::{Event, Logs};
@@ -49,9 +50,9 @@ impl<A: Allocator> Tally<A> {
 
     /// Adds an event of node `i`.
     pub(crate) fn add(&mut self, i: u8, event: Event)
-        requires done { (i < length self.old.done.items) × (slice_index self.old.done.items i < 100000) }
-        requires sent { (i < length self.old.sent.items) × (slice_index self.old.sent.items i < 100000) }
-        requires got { (i < length self.old.got.items) × (slice_index self.old.got.items i < 100000) }
+        requires done { (i < length self.old.done.items) × (slice_index self.old.done.items i < MAX_RECORDS) }
+        requires sent { (i < length self.old.sent.items) × (slice_index self.old.sent.items i < MAX_RECORDS) }
+        requires got { (i < length self.old.got.items) × (slice_index self.old.got.items i < MAX_RECORDS) }
         ensures done { self.new.done.items ≡ slice_set self.old.done.items i (slice_index self.old.done.items i + 1) }
         ensures sent { self.new.sent.items ≡ slice_set self.old.sent.items i (slice_index self.old.sent.items i + sent_by event) }
         ensures got { self.new.got.items ≡ slice_set self.old.got.items i (slice_index self.old.got.items i + got_by event) }

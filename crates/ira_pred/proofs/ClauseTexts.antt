@@ -1,5 +1,5 @@
 -- A clause has one spelling, and a spelling at the front is read as that clause.
-use Rattle.std.proofs.Common.{◌≡◌, ◌≤◌, ◌<◌, ◌^◌, ◌+◌, ℕ, zero, suc, Bool, true, false, List, [], ◌∷◌, ◌++◌, Some, None, refl, sym, ap, subst, ◌∙◌, arith, append_assoc, nat_le, max, Option}
+use Rattle.std.proofs.Common.{◌≡◌, ◌≤◌, ◌<◌, ◌^◌, ◌+◌, ℕ, zero, suc, true, List, [], ◌++◌, Some, None, refl, sym, ap, ◌∙◌, arith, append_assoc, nat_le, Option}
 use Rattle.std.specs.Prelude.{codes, decimal}
 use Rattle.std.proofs.lemmas.Bool.Decides.{nat_tests}
 use Rattle.ira_event.specs.declared.limits.TheConstants.{MAX_NUMBER}
@@ -12,7 +12,7 @@ use Rattle.ira_pred.specs.declared.rel.Rel.{Rel}
 use Rattle.ira_pred.specs.declared.rel.Rel.TheVariants.{Less, Equal, Greater}
 use Rattle.ira_pred.specs.Formula.{Formula, always, leader, active, passive, choosing, owes, round, id, both, either, negated, depth, HasNumbersInRange}
 use Rattle.ira_pred.specs.QuestionText.{IsComparisonText, IsClauseText, clause_text, rel_sign}
-use Rattle.ira_pred.specs.ClauseScan.{rel_at, limited_at, comparison_at, atom_at, joint_at, joined, joined_at, negated_at, clause_at}
+use Rattle.ira_pred.specs.ClauseScan.{rel_at, limited_at, comparison_at, atom_at, joined_at, negated_at, clause_at}
 
 small : (n : ℕ) → n ≤ MAX_NUMBER → n < 2 ^ 64
 small n h = omega arith

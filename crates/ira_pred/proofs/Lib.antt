@@ -1,5 +1,10 @@
 pub mod ClauseTexts
+pub mod Depths
 pub mod Meanings
 pub mod PairCases
+pub mod PairOrder
+pub mod QuestionAnswers
+pub mod QuestionTexts
 pub mod Rest
 pub mod Sizes
+pub mod Walks

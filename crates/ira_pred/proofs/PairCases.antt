@@ -1,8 +1,7 @@
 -- The question of pairs keeps all limits.
-use Rattle.std.proofs.Common.{◌≡◌, ◌<◌, ◌≤◌, ◌^◌, ℕ, zero, suc, ◌+◌, ◌*◌, ◌-◌, List, [], ◌∷◌, ◌++◌, map, length, refl, sym, ap, subst, ◌∙◌, arith, length-append, append_assoc, codes}
-use Rattle.std.specs.Prelude.{All, AllPairs, decimal}
+use Rattle.std.proofs.Common.{◌≡◌, ◌<◌, ◌≤◌, ℕ, zero, suc, ◌+◌, ◌*◌, ◌-◌, List, [], ◌∷◌, ◌++◌, map, length, refl, sym, ap, ◌∙◌, arith, length-append, append_assoc, codes}
+use Rattle.std.specs.Prelude.{All, decimal}
 use Rattle.std.specs.List.{flat_map}
-use Rattle.std.proofs.lemmas.List.{append-nil}
 use Rattle.std.proofs.lemmas.List.Elements.{All-nil, All-cons, All-head, All-tail, All-append}
 use Rattle.std.proofs.lemmas.List.Kept.{AllPairs-cons}
 use Rattle.std.proofs.lemmas.Fmt.{length-decimal-le}
@@ -10,7 +9,7 @@ use Rattle.ira_event.specs.RingSize.{IsRingSize}
 use Rattle.ira_pred.specs.Formula.{leader}
 use Rattle.ira_pred.specs.Case.{Conjunct, IsConjunct, IsCase}
 use Rattle.ira_pred.specs.Question.{IsQuestion}
-use Rattle.ira_pred.specs.QuestionText.{conjunct_text, case_text, question_text, IsShort}
+use Rattle.ira_pred.specs.QuestionText.{conjunct_text, case_text, IsShort}
 use Rattle.ira_pred.specs.Pairs.{numbers_from, pair_case, cases_of_place, pairs_asked}
 
 -- the first of the numbers that are left

@@ -1,5 +1,5 @@
 use Rattle.std.proofs.Common.{ℕ, ◌+◌}
-use Rattle.ira_pred.specs.Formula.{Formula, always, leader, active, passive, choosing, owes, round, id, both, either, negated}
+use Rattle.ira_pred.specs.Formula.{Formula, both, either, negated}
 
 -- how many parts a formula has
 abbrev pub size : Formula → ℕ

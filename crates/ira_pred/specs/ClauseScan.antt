@@ -2,7 +2,7 @@
 -- proofs tie both.
 use Rattle.std.specs.Option.{option_map}
 use Rattle.std.specs.Prelude.{ℕ, zero, suc, Bool, true, false, List, Option, Some, None, codes, nat_le, if◌then◌else◌}
-use Rattle.ira_event.specs.Scan.{kept_at, after_word, ◌>>=◌, or, behind}
+use Rattle.ira_event.specs.Scan.{kept_at, after_word, ◌>>=◌, behind}
 use Rattle.ira_event.specs.declared.limits.TheConstants.{MAX_NUMBER}
 use Rattle.ira_pred.specs.declared.rel.Rel.{Rel}
 use Rattle.ira_pred.specs.declared.rel.Rel.TheVariants.{Less, Equal, Greater}

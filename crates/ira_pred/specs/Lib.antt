@@ -7,5 +7,6 @@ pub mod FormulaCode
 pub mod Pairs
 pub mod PlacedClause
 pub mod Question
+pub mod QuestionLaws
 pub mod QuestionText
 pub mod QuestionTextFault

@@ -1,5 +1,5 @@
 -- The fault of a text that is no question's: the first one, line by line.
-use Rattle.std.specs.Prelude.{◌≡◌, ◌≢◌, ℕ, ◌+◌, ◌<◌, ◌≤◌, ◌⊎◌, List, [], ◌∷◌, ◌++◌, ◌==◌, length, codes, All, sum_by, count_by}
+use Rattle.std.specs.Prelude.{◌≡◌, ◌≢◌, ℕ, ◌+◌, ◌<◌, ◌≤◌, ◌⊎◌, List, [], ◌++◌, ◌==◌, length, codes, All, sum_by, count_by}
 use Rattle.ira_event.specs.declared.limits.TheConstants.{MAX_TEXT}
 use Rattle.ira_event.specs.LogTextFault.{HasNoLineFeed}
 use Rattle.ira_event.specs.RingSize.{IsRingSize}

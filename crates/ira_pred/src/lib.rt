@@ -5,6 +5,7 @@
 mod ask_fault;
 mod case;
 mod clause;
+mod laws;
 mod limits;
 mod pairs;
 mod question;
@@ -16,6 +17,10 @@ mod tests;
 pub use ask_fault::AskFault;
 pub use case::Case;
 pub use clause::Clause;
+pub use laws::{
+    a_question_text_has_one_answer, each_question_has_one_text, no_text_is_two_questions,
+    texts_are_as_deep_as_clauses,
+};
 pub use limits::{MAX_CASES, MAX_DEPTH};
 pub use pairs::pairs_question;
 pub use question::Question;

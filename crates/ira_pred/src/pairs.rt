@@ -1,5 +1,5 @@
 ghost use Rattle.std.specs.Prelude.{◌≡◌, ◌<◌, ◌++◌, IfOk, OnOk};
-ghost use Rattle.ira_pred.specs.Pairs.{pair_case as pair, cases_of_place, pairs_asked};
+ghost use Rattle.ira_pred.specs.Pairs.{pair_case as pair, ArePairCases, cases_of_place, pairs_asked};
 
 use crate::case::{Case, PlacedClause};
 use crate::clause::Clause;
@@ -43,7 +43,8 @@ pub fn pairs_question<A: Allocator + Clone>(
     alloc: A,
     nodes: RingSize,
 ) -> Result<Question<A>, OutOfMemory>
-    ensures { IfOk result (λ question. question ≡ pairs_asked nodes) }
+    ensures value { IfOk result (λ question. question ≡ pairs_asked nodes) }
+    ensures pairs { IfOk result (λ question. (question.nodes ≡ nodes) × ArePairCases nodes question.cases) }
 {
     let count = usize::from(nodes.get());
     let mut cases = Vec::with_capacity(alloc.clone()?, count * (count - 1) / 2)?;

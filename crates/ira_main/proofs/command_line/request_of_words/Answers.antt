@@ -1,6 +1,9 @@
-use Rattle.std.proofs.Common.{◌≡◌, ◌∙◌, sym, ap, subst, Option, None, Some, IfSome, map, codes}
-use Rattle.ira_main.specs.Request.{IsMadeOf}
-use Rattle.ira_main.proofs.FirstWord.{met_by_first}
+use Rattle.std.proofs.Common.{◌≡◌, ◌∙◌, sym, ap, subst, List, [], ℕ, Option, None, Some, IfSome, map, codes}
+use Rattle.std.specs.Prelude.{All, unwrap_or}
+use Rattle.clap.specs.Words.{HasMatchesOf, all_of, app_of}
+use Rattle.ira_main.specs.Request.{IsFileName, IsMadeOf}
+use Rattle.ira_main.proofs.FirstWord.{met_by_first, rows_of_logs}
+use Rattle.ira_main.proofs.GivenNames.{words_given}
 use Rattle.ira_main.proofs.command_line.request_of_words.Goals.{in-Some-logs-default+in_ok-logs_request-in-Some-logs-default, in-Some-run-default, in_default}
 use Rattle.ira_main.proofs.command_line.request_of_words.Goals as goal
 
@@ -21,8 +24,11 @@ returns-in-Some c =
       | in-Some-logs-default+in_ok-logs_request-in-Some-logs-default w ↦
           let arm = w.in-Some-logs-default in
           let first = met_by_first _ _ words (codes "logs") c.in_ok-command.ensures parse.ok.2 parse.kinds (ap (λ n. Some n) (sym arm.is-logs) ∙ arm.ensures.name) in
-          let made = w.in_ok-logs_request-in-Some-logs-default in
-          subst (IsMadeOf words) (sym (same_value _ _ _ c.in-Some.is w.asked-is ∙ made.ensures.1)) first
+          let Has : List (List ℕ) → Type 0 = λ ws. HasMatchesOf (app_of c.in_ok-command.command) ws c.in_ok-matches.matches in
+          let rows = rows_of_logs _ _ first.0 _ c.in_ok-command.ensures (subst Has first.1 parse.ok.2) arm.ensures.rows in
+          let made = w.in_ok-logs_request-in-Some-logs-default.ensures in
+          let names_are : All IsFileName first.0 → map (λ name. name.now) made.0.items ≡ first.0 = λ are. made.2 ∙ ap (λ r. unwrap_or (all_of (codes "LOG") r) []) rows ∙ words_given first.0 are in
+          subst (IsMadeOf words) (sym (same_value _ _ _ c.in-Some.is w.asked-is ∙ made.1)) (record { others = first.0; first = first.1; plain = names_are })
       | in-Some-run-default w ↦
           let arm = w.in-Some-run-default in
           let first = met_by_first _ _ words (codes "run") c.in_ok-command.ensures parse.ok.2 parse.kinds (ap (λ n. Some n) (sym arm.is-run) ∙ arm.ensures.name) in

@@ -1,11 +1,17 @@
-use Rattle.std.proofs.Common.{◌≡◌, List, [], ◌∷◌, map, inl, inr, refl, subst}
+use Rattle.std.proofs.Common.{◌≡◌, ◌∙◌, ℕ, ap, sym, length, Option, List, [], ◌∷◌, map, inl, inr, refl, subst}
+use Rattle.std.proofs.lemmas.List.{length-map}
 use Rattle.ira_main.specs.Request.{IsMadeOf}
+use Rattle.ira_main.specs.Serve.{JudgesTogether}
 use Rattle.ira_main.specs.Serve.Done.{judged, recorded, no_answer}
 use Rattle.ira_main.proofs.program.obey.Goals as goal
 
 none_of_none : {X Y : Type 0} (f : X → Y) (xs : List X) → map f xs ≡ [] → xs ≡ []
 none_of_none f [] e = refl
 none_of_none f (x ∷ xs) e = cc
+
+same_number : {taken taken' : Option (List ℕ)} {failures failures' status : ℕ} (m n : ℕ) → m ≡ n
+    → JudgesTogether m taken failures taken' failures' status → JudgesTogether n taken failures taken' failures' status
+same_number m n same h = record { texts = h.texts; many = h.many ∙ same; answer = h.answer; judged = h.judged; reported = h.reported }
 
 pub returns-in-OneLog-clause-obeyed : goal.returns-in-OneLog-clause-obeyed
 returns-in-OneLog-clause-obeyed g c =
@@ -17,7 +23,7 @@ returns-in-Logs-clause-obeyed g c = λ some.
     record {
       unread = refl;
       done = elim c.judge_files.ensures [
-        | inl h ↦ judged made _ h
+        | inl h ↦ judged _ made (same_number _ _ (ap length c.deref.ensures.value ∙ sym (length-map c.in-Logs.names.items (λ name. name.now))) h)
         | inr h ↦ no_answer h
       ];
     }

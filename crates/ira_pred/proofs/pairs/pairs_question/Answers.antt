@@ -1,10 +1,11 @@
-use Rattle.std.proofs.Common.{◌++◌, ◌+◌, ◌-◌, ◌<◌, ◌≤◌, sym, ap, subst, ◌∙◌, arith}
+use Rattle.std.proofs.Common.{◌≡◌, ◌++◌, ◌+◌, ◌-◌, ◌<◌, ◌≤◌, sym, ap, subst, ◌∙◌, arith}
 use Rattle.std.specs.List.{flat_map}
 use Rattle.std.proofs.lemmas.List.{append-nil}
-use Rattle.ira_pred.specs.Question.{IsQuestion}
+use Rattle.ira_pred.specs.Question.{Asked, IsQuestion}
 use Rattle.ira_pred.specs.QuestionText.{IsShort}
-use Rattle.ira_pred.specs.Pairs.{numbers_from, cases_of_place}
+use Rattle.ira_pred.specs.Pairs.{ArePairCases, numbers_from, cases_of_place, pairs_asked}
 use Rattle.ira_pred.proofs.PairCases.{next-number, last-number, shifted, pairs-are-question, pairs-short}
+use Rattle.ira_pred.proofs.PairOrder.{pair_cases}
 use Rattle.ira_pred.proofs.pairs.pairs_question.Goals as goal
 
 pub loop-i-preserved : goal.loop-i-preserved
@@ -34,3 +35,13 @@ of_parts-requires-clause-short g c =
     let end : n ≤ i = omega (arith, c.loop-i-test.false, c.get-i-end.ensures.value) in
     let all = sym (append-nil cases) ∙ ap (λ x. cases ++ x) (sym (ap (flat_map (cases_of_place n)) (last-number i n end))) ∙ c.loop-i.invariant in
     subst (λ x. IsShort (record { nodes = n; cases = x })) (sym all) (pairs-short n c.get.ensures.valid.1)
+
+pub returns-clause-pairs : goal.returns-clause-pairs
+returns-clause-pairs g c =
+    let i = c.loop-i.i in
+    let n = c.args.nodes in
+    let cases = c.loop-i.cases.items in
+    let end : n ≤ i = omega (arith, c.loop-i-test.false, c.get-i-end.ensures.value) in
+    let all = sym (append-nil cases) ∙ ap (λ x. cases ++ x) (sym (ap (flat_map (cases_of_place n)) (last-number i n end))) ∙ c.loop-i.invariant in
+    let is : c.of_parts.result ≡ pairs_asked n = c.of_parts.ensures ∙ ap (λ x. record { nodes = n; cases = x }) all in
+    (ap (λ (q : Asked). q.nodes) is, subst (λ (q : Asked). ArePairCases n q.cases) (sym is) (pair_cases n))

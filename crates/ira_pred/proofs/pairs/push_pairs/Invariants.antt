@@ -1,4 +1,4 @@
-use Rattle.std.proofs.Common.{◌≡◌, ◌+◌, ◌-◌, ◌≤◌, ◌++◌, map}
+use Rattle.std.proofs.Common.{◌≡◌, ◌-◌, ◌++◌, map}
 use Rattle.ira_pred.specs.Pairs.{numbers_from, pair_case, cases_of_place}
 use Rattle.ira_pred.proofs.pairs.push_pairs.Given as goal
 

@@ -1,4 +1,4 @@
-use Rattle.std.proofs.Common.{codes, ◌++◌, []}
+use Rattle.std.proofs.Common.{codes, ◌++◌}
 use Rattle.std.proofs.lemmas.Result.{err_from_is_err_and}
 use Rattle.ira_event.proofs.Writing.{StopsIn-append, Takes-StopsIn, Takes-append, Wrote-then}
 use Rattle.ira_pred.specs.Clause.{formula}

@@ -1,6 +1,6 @@
 use Rattle.std.proofs.Common.{sym, subst}
 use Rattle.ira_order.specs.Ordered.{IsOrdered}
-use Rattle.ira_order.specs.Count.{IsCount}
+use Rattle.ira_order.specs.VectorClock.{IsCount}
 use Rattle.ira_order.proofs.Counting.{count_own}
 use Rattle.ira_order.proofs.ordered.Ordered.count.Goals as goal
 

@@ -3,4 +3,4 @@ use Rattle.ira_order.specs.Ring.{log_of}
 use Rattle.ira_order.proofs.scan.Scan.is_whole.Given as goal
 
 abbrev pub invariant-loop-i : goal.invariant-loop-i
-invariant-loop-i g l = (j : ℕ) → j < l.i → length (log_of l.logs j) ≤ get_or l.self.done.items j 0
+invariant-loop-i g l = (j : ℕ) → j < l.i → length (log_of l.logs j) ≤ get_or l.self.tally.done.items j 0

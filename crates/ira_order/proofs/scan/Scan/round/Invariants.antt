@@ -5,7 +5,7 @@ use Rattle.ira_order.proofs.scan.Scan.round.Given as goal
 
 abbrev pub invariant-loop-i : goal.invariant-loop-i
 invariant-loop-i g l = record {
-  scan : IsScan l.logs l.self.done.items l.self.sent.items l.self.got.items l.self.places.items;
+  scan : IsScan l.logs l.self.tally.done.items l.self.tally.sent.items l.self.tally.got.items l.self.places.items;
   further : GoesOn l.fn.self.places.items l.self.places.items;
   stuck : length l.self.places.items ≡ length l.fn.self.places.items → (j : ℕ) → j < l.i → IsStuckAt l.logs (standings l.self.places.items) j;
 }

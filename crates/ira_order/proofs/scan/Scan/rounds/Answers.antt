@@ -6,7 +6,7 @@ pub loop-self-smaller : goal.loop-self-smaller
 loop-self-smaller g c =
     omega (
       arith,
-      few_places c.args.logs.now c.round.new.self.done.items c.round.new.self.sent.items c.round.new.self.got.items c.round.new.self.places.items c.in_ok-round.ensures.scan,
+      few_places c.args.logs.now c.round.new.self.tally.done.items c.round.new.self.tally.sent.items c.round.new.self.tally.got.items c.round.new.self.places.items c.in_ok-round.ensures.scan,
       goes_on_length c.loop-self.self.places.items c.round.new.self.places.items c.in_ok-round.ensures.further,
       c.len-before.ensures,
       c.len.ensures,

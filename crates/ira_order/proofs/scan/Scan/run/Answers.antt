@@ -7,9 +7,9 @@ use Rattle.ira_order.proofs.scan.Scan.run.Goals.{then-i-eq0, else-i-eq0}
 
 pub loop-event-init : goal.loop-event-init
 loop-event-init g c =
-    let at_is : c.index-before.result.now ≡ get_or c.args.self.now.done.items c.args.i c.index-before.result.now = search rules in
-    let sent_is : c.index-sent.result.now ≡ get_or c.args.self.now.sent.items c.args.i c.index-sent.result.now = search rules in
-    let got_is : c.index-got.result.now ≡ get_or c.args.self.now.got.items c.args.i c.index-got.result.now = search rules in
+    let at_is : c.index-before.result.now ≡ get_or c.args.self.now.tally.done.items c.args.i c.index-before.result.now = search rules in
+    let sent_is : c.index-sent.result.now ≡ get_or c.args.self.now.tally.sent.items c.args.i c.index-sent.result.now = search rules in
+    let got_is : c.index-got.result.now ≡ get_or c.args.self.now.tally.got.items c.args.i c.index-got.result.now = search rules in
     let none : c.index-before.result.now - c.index-before.result.now ≡ 0 = omega arith in
     record {
       scan = rw (unchanged _ _ _ at_is, unchanged _ _ _ sent_is, unchanged _ _ _ got_is, none, append-nil) c.requires.scan;
@@ -44,7 +44,7 @@ loop-event-smaller g c = omega (arith, slice_get_within c.log-log.result.now.eve
 pub loop-event-preserved : goal.loop-event-preserved
 loop-event-preserved g c =
     let source : IsWriter (length c.args.logs.now) c.args.i c.if-i-eq0.writer = elim c.if-i-eq0.branch [ then-i-eq0 w ↦ (λ z. omega arith, λ z. omega arith) | else-i-eq0 w ↦ (λ z. omega arith, λ z. omega arith) ] in
-    let sendings_are : c.index-sendings.result.now ≡ get_or c.args.self.now.sent.items c.if-i-eq0.writer c.index-sendings.result.now = search rules in
+    let sendings_are : c.index-sendings.result.now ≡ get_or c.args.self.now.tally.sent.items c.if-i-eq0.writer c.index-sendings.result.now = search rules in
     record {
       scan = rw (← once_more c.args.self.now.places.items c.args.i c.index-before.result.now c.loop-event.at c.loop-event.invariant.on, c.sends-sent.ensures, c.receives-got.ensures)
           (run_on _ _ _ _ _ _ _ _ _ _ c.loop-event.invariant.scan c.requires.place c.log-log.ensures.value
@@ -72,6 +72,6 @@ returns-clause-stuck g c =
     let old : List ℕ = c.args.self.now.places.items in
     let places : c.resize.new.self.items ≡ old ++ replicate k c.args.i = places_are old c.resize.new.self.items (c.len.result + k) (vec_len c.args.self.now.places) c.args.i k (omega arith) (omega arith) c.in_ok-resize.ensures.items in
     let source : IsWriter (length c.args.logs.now) c.args.i c.if-i-eq0.writer = elim c.if-i-eq0.branch [ then-i-eq0 w ↦ (λ z. omega arith, λ z. omega arith) | else-i-eq0 w ↦ (λ z. omega arith, λ z. omega arith) ] in
-    let sendings_are : c.index-sendings.result.now ≡ get_or c.args.self.now.sent.items c.if-i-eq0.writer c.index-sendings.result.now = search rules in
+    let sendings_are : c.index-sendings.result.now ≡ get_or c.args.self.now.tally.sent.items c.if-i-eq0.writer c.index-sendings.result.now = search rules in
     rw places (run_ends _ _ _ _ _ _ _ _ _ _ c.loop-event.invariant.scan c.requires.place c.log-log.ensures.value
     c.if-i-eq0.writer c.index-sendings.result.now source sendings_are c.in_default.ensures)

@@ -4,7 +4,7 @@ use Rattle.ira_order.proofs.scan.Scan.run.Given as goal
 
 abbrev pub invariant-loop-event : goal.invariant-loop-event
 invariant-loop-event g l = record {
-  scan : IsScan l.logs (set l.self.done.items l.i l.at) (set l.self.sent.items l.i l.sent) (set l.self.got.items l.i l.got) (l.self.places.items ++ replicate (l.at - l.before) l.i);
+  scan : IsScan l.logs (set l.self.tally.done.items l.i l.at) (set l.self.tally.sent.items l.i l.sent) (set l.self.tally.got.items l.i l.got) (l.self.places.items ++ replicate (l.at - l.before) l.i);
   on : l.before ≤ l.at;
 }
 

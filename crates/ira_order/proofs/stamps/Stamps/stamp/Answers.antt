@@ -2,7 +2,7 @@ use Rattle.std.proofs.Common.{◌≡◌, ◌≢◌, ◌+◌, ◌<◌, length, �
 use Rattle.std.proofs.lemmas.Bool.Decides.{nat_tests}
 use Rattle.ira_order.specs.Ring.{next, log_of}
 use Rattle.ira_order.specs.Matching.{got}
-use Rattle.ira_order.specs.Count.{receipt_count}
+use Rattle.ira_order.specs.VectorClock.{receipt_count}
 use Rattle.ira_order.specs.Stamps.{first_receipt, counter as counter_of}
 use Rattle.ira_order.proofs.Ranks.{next_below}
 use Rattle.ira_order.proofs.Receipts.{few_first, begin_read, begins_between, receipt_below}

@@ -1,0 +1,8 @@
+use Rattle.ira_pred.proofs.QuestionAnswers.{question_or_fault, one_fault}
+use Rattle.ira_pred.proofs.laws.a_question_text_has_one_answer.Goals as goal
+
+pub returns-clause-question_or_fault : goal.returns-clause-question_or_fault
+returns-clause-question_or_fault c = question_or_fault
+
+pub returns-clause-one_fault : goal.returns-clause-one_fault
+returns-clause-one_fault c = one_fault

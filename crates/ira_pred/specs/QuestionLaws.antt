@@ -1,0 +1,28 @@
+-- What holds of questions and their texts, whoever reads or writes them.
+use Rattle.std.specs.Prelude.{◌≡◌, ◌<◌, ◌↔◌, ℕ, List}
+use Rattle.ira_pred.specs.declared.limits.TheConstants.{MAX_DEPTH}
+use Rattle.ira_pred.specs.declared.ask_fault.AskFault.{AskFault}
+use Rattle.ira_pred.specs.Formula.{Formula, depth}
+use Rattle.ira_pred.specs.Question.{Asked, IsQuestion}
+use Rattle.ira_pred.specs.QuestionText.{IsClauseText, IsQuestionText, question_text, IsShort}
+use Rattle.ira_pred.specs.QuestionTextFault.{IsTooDeep, QuestionTextFault}
+
+-- each question whose text isn't too long has one text, the one written out
+abbrev pub EachQuestionHasOneText : Type 0
+EachQuestionHasOneText = (text : List ℕ) (q : Asked) → IsQuestionText text q ↔ (IsQuestion q × IsShort q × (text ≡ question_text q))
+
+-- no text belongs to two questions
+abbrev pub NoTextIsTwoQuestions : Type 0
+NoTextIsTwoQuestions = (text : List ℕ) (a b : Asked) → IsQuestionText text a → IsQuestionText text b → a ≡ b
+
+-- the text of a clause goes too deep exactly where the clause does
+abbrev pub TextsAreAsDeepAsClauses : Type 0
+TextsAreAsDeepAsClauses = (text : List ℕ) (f : Formula) → IsClauseText text f → IsTooDeep text ↔ (MAX_DEPTH < depth f)
+
+-- the text of a question has no fault
+abbrev pub NoQuestionTextHasFaults : Type 0
+NoQuestionTextHasFaults = (text : List ℕ) (q : Asked) (f : AskFault) → IsQuestionText text q → ¬ (QuestionTextFault text f)
+
+-- no text has two faults
+abbrev pub NoTextHasTwoFaults : Type 0
+NoTextHasTwoFaults = (text : List ℕ) (f g : AskFault) → QuestionTextFault text f → QuestionTextFault text g → f ≡ g
