@@ -1,0 +1,3 @@
+pub mod CertLaws
+pub mod CertText
+pub mod Certificate
