@@ -182,7 +182,7 @@ pub record FirstLine (bs : List ℕ) (p : LogLine × List ℕ) : Type 0 where
   pub whole : HasNoLineFeed text
   pub says : Says text p.0
 
-number_line-takes : (bs : List ℕ) (p : ℕ × List ℕ) → number_line bs ≡ Some p → (text : List ℕ) × (n : ℕ) × (bs ≡ text ++ codes "\n" ++ p.1) × IsNumeral text n × (p.0 ≡ kept n)
+pub number_line-takes : (bs : List ℕ) (p : ℕ × List ℕ) → number_line bs ≡ Some p → (text : List ℕ) × (n : ℕ) × (bs ≡ text ++ codes "\n" ++ p.1) × IsNumeral text n × (p.0 ≡ kept n)
 number_line-takes bs p e =
     let a = bind_some (kept_at bs) (λ n. after_word (codes "\n") n.1 >>= (λ rest. Some (n.0, rest))) p e in
     let b = bind_some (after_word (codes "\n") a.0.1) (λ rest. Some (a.0.0, rest)) p a.2 in
@@ -221,7 +221,7 @@ pub line-takes : (bs : List ℕ) (p : LogLine × List ℕ) → line_at bs ≡ So
 unfolding line_at
 line-takes bs p e = line-cases bs p _ _ _ _ refl refl refl refl e
 
-number_line-again : (text : List ℕ) (n : ℕ) (rest : List ℕ) → IsNumeral text n → number_line (text ++ codes "\n" ++ rest) ≡ Some (kept n, rest)
+pub number_line-again : (text : List ℕ) (n : ℕ) (rest : List ℕ) → IsNumeral text n → number_line (text ++ codes "\n" ++ rest) ≡ Some (kept n, rest)
 number_line-again text n rest h =
     ap number_line (append_assoc text (codes "\n") rest) ∙ rw (kept-again text n (codes "\n" ++ rest) h refl) refl
 

@@ -105,8 +105,8 @@ fn unread_fault(text: &[u8], records: usize) -> LogFault
     LogFault::Line(records as u32 + 5)
 }
 
-/// Where the first line feed stands.
-fn line_end(text: &[u8]) -> Option<usize>
+/// Where the text's first line feed stands.
+pub fn line_end(text: &[u8]) -> Option<usize>
     ensures { result ≡ position (λ c. c == 10) text.now }
 {
     text.iter().position(|c| *c == b'\n')

@@ -1,0 +1,7 @@
+pub mod CertAnswer
+pub mod CertLaws
+pub mod CertLines
+pub mod CertScan
+pub mod CertText
+pub mod CertTextFault
+pub mod Certificate
