@@ -1,4 +1,5 @@
-//! The logs of a ring judged together: whether receipts match sendings, and an order of all events.
+//! The logs of a ring judged together: whether receipts match sendings, an order of all events, and which of
+//! them happened before which.
 #![tactic(auto)]
 
 mod laws;
