@@ -1,9 +1,0 @@
-use Rattle.std.proofs.Common.{drop}
-use Rattle.std.specs.List.{flat_map}
-use Rattle.ira_event.proofs.Writing.{HasWritten}
-use Rattle.ira_cert.specs.CertText.{step_text}
-use Rattle.ira_cert.proofs.cert_writer.write_steps.Given as goal
-
-abbrev pub invariant-loop-step : goal.invariant-loop-step
-invariant-loop-step g l =
-    HasWritten (flat_map step_text l.fn.steps) (flat_map step_text (drop l.step-index l.fn.steps)) (g.W.Sink.taken l.fn.sink) (g.W.Sink.failures l.fn.sink) (g.W.Sink.taken l.sink) (g.W.Sink.failures l.sink)
