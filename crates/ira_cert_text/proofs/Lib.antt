@@ -5,4 +5,5 @@ pub mod Lines
 pub mod Reading
 pub mod Rest
 pub mod Spelled
+pub mod TextsAnswered
 pub mod Turns

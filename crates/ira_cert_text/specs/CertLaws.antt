@@ -1,8 +1,9 @@
 -- What holds of certificates and their texts, whoever reads or writes them.
-use Rattle.std.specs.Prelude.{◌≡◌, ◌↔◌, ◌≤◌, ℕ, List, length}
+use Rattle.std.specs.Prelude.{◌≡◌, ◌↔◌, ◌⊎◌, ◌≤◌, ℕ, List, length}
 use Rattle.ira_event.specs.declared.limits.TheConstants.{MAX_TEXT}
 use Rattle.ira_cert_text.specs.Certificate.{Certificate, IsCertificate}
 use Rattle.ira_cert_text.specs.declared.cert_fault.CertFault.{CertFault}
+use Rattle.ira_cert_text.specs.declared.cert_fault.CertFault.TheVariants.{OutOfMemory}
 use Rattle.ira_cert_text.specs.CertText.{IsCertText, cert_text}
 use Rattle.ira_cert_text.specs.CertTextFault.{CertTextFault}
 
@@ -23,3 +24,12 @@ NoCertTextHasFaults = (text : List ℕ) (c : Certificate) (f : CertFault) → Is
 -- no text has two faults
 abbrev pub NoTextHasTwoFaults : Type 0
 NoTextHasTwoFaults = (text : List ℕ) (f g : CertFault) → CertTextFault text f → CertTextFault text g → f ≡ g
+
+-- each text is a certificate's or has a fault
+abbrev pub EachTextHasAnAnswer : Type 0
+EachTextHasAnAnswer =
+    (text : List ℕ) → ((c : Certificate) × IsCertText text c) ⊎ ((f : CertFault) × CertTextFault text f)
+
+-- to be out of memory is no fault of a text
+abbrev pub NoTextIsOutOfMemory : Type 0
+NoTextIsOutOfMemory = (text : List ℕ) → ¬ (CertTextFault text OutOfMemory)

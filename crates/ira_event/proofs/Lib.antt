@@ -9,5 +9,6 @@ pub mod Numerals
 pub mod Pieces
 pub mod RecordLines
 pub mod Spelled
+pub mod TextsAnswered
 pub mod Unless
 pub mod Writing

@@ -42,7 +42,7 @@ records_of text log h = record {
   begins = record { records = h.records; records_are = h.records_are; count = h.valid.count; numbers = h.valid.numbers; parts = refl };
 }
 
-abbrev log_of : ℕ → ℕ → Bool → List Event → Log
+abbrev pub log_of : ℕ → ℕ → Bool → List Event → Log
 log_of nodes place initiator events = record { nodes = nodes; place = place; initiator = initiator; events = events }
 
 pub log_read : (text : List ℕ) (nodes place : ℕ) (initiator : Bool) (rest : List ℕ) (events : List Event) → BeginsWithHead text nodes place initiator rest → AreAllRecords rest events → IsLogText text (log_of nodes place initiator events)

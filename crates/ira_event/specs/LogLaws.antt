@@ -1,6 +1,7 @@
 -- What holds of logs and their texts, whoever reads or writes them.
-use Rattle.std.specs.Prelude.{◌≡◌, ◌↔◌, ℕ, List}
+use Rattle.std.specs.Prelude.{◌≡◌, ◌↔◌, ◌⊎◌, ℕ, List}
 use Rattle.ira_event.specs.declared.log_fault.LogFault.{LogFault}
+use Rattle.ira_event.specs.declared.log_fault.LogFault.TheVariants.{OutOfMemory}
 use Rattle.ira_event.specs.Log.{Log, IsLog}
 use Rattle.ira_event.specs.LogText.{IsLogText, log_text}
 use Rattle.ira_event.specs.LogTextFault.{LogTextFault}
@@ -20,3 +21,11 @@ NoLogTextHasFaults = (text : List ℕ) (log : Log) (f : LogFault) → IsLogText 
 -- no text has two faults
 abbrev pub NoTextHasTwoFaults : Type 0
 NoTextHasTwoFaults = (text : List ℕ) (f g : LogFault) → LogTextFault text f → LogTextFault text g → f ≡ g
+
+-- each text is a log's or has a fault
+abbrev pub EachTextHasAnAnswer : Type 0
+EachTextHasAnAnswer = (text : List ℕ) → ((log : Log) × IsLogText text log) ⊎ ((f : LogFault) × LogTextFault text f)
+
+-- to be out of memory is no fault of a text
+abbrev pub NoTextIsOutOfMemory : Type 0
+NoTextIsOutOfMemory = (text : List ℕ) → ¬ (LogTextFault text OutOfMemory)

@@ -1,0 +1,171 @@
+-- Each text is a log's or has a fault.
+use Rattle.std.proofs.Common.{◌≡◌, ◌≤◌, ◌<◌, ℕ, ◌+◌, zero, suc, Bool, true, false, List, [], ◌∷◌, ◌++◌, ◌⊎◌, length, take, Option, Some, None, Result, Ok, Err, refl, sym, ap, ◌∙◌, arith, inl, inr, nat_eq}
+use Rattle.std.specs.Prelude.{codes, position}
+use Rattle.std.proofs.lemmas.Bool.{cases_lt, cases_eq}
+use Rattle.ira_event.specs.declared.limits.TheConstants.{MAX_RECORDS, MAX_TEXT}
+use Rattle.ira_event.specs.declared.event.Event.{Event}
+use Rattle.ira_event.specs.declared.log_fault.LogFault.{LogFault}
+use Rattle.ira_event.specs.declared.log_fault.LogFault.TheVariants as fault
+use Rattle.ira_event.specs.declared.log_head.HeadLines.{HeadLines}
+use Rattle.ira_event.specs.declared.log_line.LogLine.{LogLine}
+use Rattle.ira_event.specs.declared.log_line.LogLine.TheVariants.{Record, End}
+use Rattle.ira_event.specs.Event.{is_event}
+use Rattle.ira_event.specs.Log.{Log}
+use Rattle.ira_event.specs.LogScan.{line_at, head_at}
+use Rattle.ira_event.specs.LogLaws.{EachTextHasAnAnswer, NoTextIsOutOfMemory}
+use Rattle.ira_event.specs.LogText.{IsLogText}
+use Rattle.ira_event.specs.LogTextFault.{BeginsAsRecord, BeginsWithHead, LineFault, too_many, no_line, out_of_range, other_count, trailing, RestFault, cut, at_line, RecordsFault, LinesFault, no_head, behind_head, LogTextFault, AreAllRecords}
+use Rattle.ira_event.specs.Records.{RecordsLeft, ReadsOn, HasRead}
+use Rattle.ira_event.specs.RingSize.{IsRingSize}
+use Rattle.ira_event.specs.Scan.{after_word}
+use Rattle.ira_event.proofs.Heads as heads
+use Rattle.ira_event.proofs.LogAnswers.{log_of, log_read}
+use Rattle.ira_event.proofs.LogReading.{reads_record, at_end, fault_too_many, fault_range, fault_count, fault_trailing, behind_nothing, behind_more, behind_all, behind_fault, record_shorter, no_line_end, line_end_at, fault_unread_too_many, fault_line}
+use Rattle.ira_event.proofs.RecordLines.{word-takes, word-again}
+
+-- the fact holds, or it doesn't
+abbrev pub Decided : Type 0 → Type 0
+Decided P = P ⊎ (¬ P)
+
+-- ---- a line
+
+word_found : (word text : List ℕ) (found : Option (List ℕ)) → after_word word text ≡ found → Decided ((rest : List ℕ) × (text ≡ word ++ rest))
+word_found word text (Some rest) e = inl (rest, word-takes word text rest e)
+word_found word text None e = inr (λ p. let read = sym e ∙ ap (after_word word) p.1 ∙ word-again word p.0 in absurd cc)
+
+-- a text begins with the word, or it doesn't
+pub begins_decided : (word text : List ℕ) → Decided ((rest : List ℕ) × (text ≡ word ++ rest))
+begins_decided word text = word_found word text (after_word word text) refl
+
+both_decided : {P Q : Type 0} → Decided P → Decided Q → Decided (P ⊎ Q)
+both_decided (inl p) q = inl (inl p)
+both_decided (inr n) (inl q) = inl (inr q)
+both_decided (inr n) (inr m) = inr (λ h. elim h [ inl p ↦ n p | inr q ↦ m q ])
+
+record_decided : (line : List ℕ) → Decided (BeginsAsRecord line)
+record_decided line = both_decided (begins_decided (codes "draw ") line) (both_decided (begins_decided (codes "send ") line) (begins_decided (codes "recv ") line))
+
+-- ---- what stands behind some records
+
+abbrev left_of : List ℕ → ℕ → RecordsLeft
+left_of rest k = record { rest = rest; count = k }
+
+-- reading on gives something
+abbrev GoesOn : List ℕ → ℕ → Type 0
+GoesOn rest k = (new : RecordsLeft) × (r : Result (Option Event) LogFault) × ReadsOn (left_of rest k) new r
+
+refused : (rest : List ℕ) (k : ℕ) (f : LogFault) → RestFault k rest f → GoesOn rest k
+refused rest k f h = (left_of rest k, Err f, h)
+
+at_record : (rest after : List ℕ) (k : ℕ) (e : Event) (good : Bool) → k ≤ MAX_RECORDS → line_at rest ≡ Some (Record e, after) → is_event e ≡ good → GoesOn rest k
+at_record rest after k e good within read is = elim (cases_lt k MAX_RECORDS) [
+  | inr full ↦ refused rest k fault.TooMany (fault_too_many rest after k e read (omega (arith, within, full)))
+  | inl room ↦ elim good as (λ b. is_event e ≡ b → GoesOn rest k) [
+    | true ↦ λ t. (left_of after (k + 1), Ok (Some e), reads_record rest after k e read (λ q. omega (arith, q, room)) t)
+    | false ↦ λ t. refused rest k (fault.Range (k + 5)) (fault_range rest after k e read (λ q. omega (arith, q, room)) t)
+  ] is
+]
+
+at_end_line : (rest after : List ℕ) (k n : ℕ) → k ≤ MAX_RECORDS → line_at rest ≡ Some (End n, after) → GoesOn rest k
+at_end_line rest after k n within read = elim (cases_eq n k) [
+  | inr other ↦ refused rest k fault.Count (fault_count rest after k n read within other)
+  | inl same ↦ elim after as (λ xs. line_at rest ≡ Some (End n, xs) → GoesOn rest k) [
+    | [] ↦ λ q. (left_of rest k, Ok None, at_end rest [] k n q within same refl)
+    | x ∷ xs ↦ λ q. refused rest k fault.Trailing (fault_trailing rest (x ∷ xs) k n q within same (λ none. absurd cc))
+  ] read
+]
+
+-- no record and no end line was read, but a line there is
+at_other_line : (rest : List ℕ) (k i : ℕ) → line_at rest ≡ None → position (λ c. nat_eq c 10) rest ≡ Some i → GoesOn rest k
+at_other_line rest k i unread e =
+    let feed = line_end_at rest i e in
+    elim (cases_eq k MAX_RECORDS) [
+      | inr few ↦ refused rest k (fault.Line (k + 5)) (fault_line k rest unread (take i rest) feed (λ many begins. few many))
+      | inl many ↦ elim (record_decided (take i rest)) [
+        | inl begins ↦ refused rest k fault.TooMany (fault_unread_too_many k rest unread (take i rest) feed many begins)
+        | inr other ↦ refused rest k (fault.Line (k + 5)) (fault_line k rest unread (take i rest) feed (λ _ begins. other begins))
+      ]
+    ]
+
+at_no_line : (rest : List ℕ) (k : ℕ) (end : Option ℕ) → line_at rest ≡ None → position (λ c. nat_eq c 10) rest ≡ end → GoesOn rest k
+at_no_line rest k (Some i) unread e = at_other_line rest k i unread e
+at_no_line rest k None unread e = refused rest k fault.Cut (cut (no_line_end rest e) refl)
+
+at_any : (rest : List ℕ) (k : ℕ) (line : Option (LogLine × List ℕ)) → k ≤ MAX_RECORDS → line_at rest ≡ line → GoesOn rest k
+at_any rest k (Some (Record e, after)) within read = at_record rest after k e (is_event e) within read refl
+at_any rest k (Some (End n, after)) within read = at_end_line rest after k n within read
+at_any rest k None within read = at_no_line rest k (position (λ c. nat_eq c 10) rest) read refl
+
+-- ---- what stands behind a head
+
+abbrev RecordsAnswered : List ℕ → Type 0
+RecordsAnswered text = ((events : List Event) × AreAllRecords text events) ⊎ ((f : LogFault) × RecordsFault text f)
+
+-- from record to record, for so many bytes at most
+from_record : (bytes : ℕ) (text : List ℕ) (es : List Event) (left : RecordsLeft) → length left.rest < bytes → HasRead text es left → RecordsAnswered text
+from_record zero text es left short h = absurd (omega arith)
+from_record (suc bytes) text es left short h =
+    let next = at_any left.rest left.count (line_at left.rest) (omega (arith, h.0.count, h.1)) refl in
+    elim next.1 as (λ r. ReadsOn left next.0 r → RecordsAnswered text) [
+      | Ok (Some e) ↦ λ r. from_record bytes text (es ++ e ∷ []) next.0 (omega (arith, record_shorter left next.0 e r, short)) (behind_more text es left next.0 e h r)
+      | Ok None ↦ λ r. inl (es, behind_all text es left h r)
+      | Err f ↦ λ r. inr (f, behind_fault text es left f h r)
+    ] next.2
+
+records_answered : (text : List ℕ) → RecordsAnswered text
+records_answered text = from_record (suc (length text)) text [] (left_of text 0) (omega arith) (behind_nothing text (left_of text 0) refl refl)
+
+-- ---- whole texts
+
+head_decided : (nodes place : ℕ) → Decided (IsRingSize nodes × (place < nodes))
+head_decided nodes place = elim (cases_lt nodes 2) [
+  | inl few ↦ inr (λ h. omega (arith, h.0.0, few))
+  | inr two ↦ elim (cases_lt 64 nodes) [
+    | inl many ↦ inr (λ h. omega (arith, h.0.1, many))
+    | inr small ↦ elim (cases_lt place nodes) [ inl lt ↦ inl ((two, small), lt) | inr past ↦ inr (λ h. omega (arith, h.1, past)) ]
+  ]
+]
+
+abbrev Answered : List ℕ → Type 0
+Answered text = ((log : Log) × IsLogText text log) ⊎ ((f : LogFault) × LogTextFault text f)
+
+no_head_there : (text : List ℕ) → length text ≤ MAX_TEXT → ((nodes place : ℕ) (initiator : Bool) (rest : List ℕ) → ¬ (BeginsWithHead text nodes place initiator rest)) → Answered text
+no_head_there text short none = inr (fault.Head, inr (short, no_head none refl))
+
+head_there : (text : List ℕ) (nodes place : ℕ) (initiator : Bool) (rest : List ℕ) → length text ≤ MAX_TEXT → BeginsWithHead text nodes place initiator rest → RecordsAnswered rest → Answered text
+head_there text nodes place initiator rest short b (inl r) = inl (log_of nodes place initiator r.0, log_read text nodes place initiator rest r.0 b r.1)
+head_there text nodes place initiator rest short b (inr r) = inr (r.0, inr (short, behind_head nodes place initiator rest b r.1))
+
+by_head : (text : List ℕ) (head : Option (HeadLines × List ℕ)) → length text ≤ MAX_TEXT → head_at text ≡ head → Answered text
+by_head text None short e = no_head_there text short (heads.no_head text e)
+by_head text (Some (lines, rest)) short e = elim (head_decided lines.nodes lines.place) [
+  | inl good ↦ head_there text lines.nodes lines.place lines.initiator rest short (heads.head_found text lines rest e good) (records_answered rest)
+  | inr bad ↦ no_head_there text short (heads.head_out_of_range text lines rest e bad)
+]
+
+pub each_answered : EachTextHasAnAnswer
+each_answered text = elim (cases_lt MAX_TEXT (length text)) [
+  | inl long ↦ inr (fault.TooLong, inl (long, refl))
+  | inr short ↦ by_head text (head_at text) short refl
+]
+
+-- ---- no text is out of memory
+
+line_memory : (k : ℕ) (line more : List ℕ) → LineFault k line more fault.OutOfMemory → ⊥
+line_memory k line more (too_many a b e) = absurd cc
+line_memory k line more (no_line a b c e) = absurd cc
+line_memory k line more (out_of_range x a b c e) = absurd cc
+line_memory k line more (other_count n a b e) = absurd cc
+line_memory k line more (trailing a b e) = absurd cc
+
+rest_memory : (k : ℕ) (rest : List ℕ) → RestFault k rest fault.OutOfMemory → ⊥
+rest_memory k rest (cut a e) = absurd cc
+rest_memory k rest (at_line line more a b h) = line_memory k line more h
+
+lines_memory : (text : List ℕ) → LinesFault text fault.OutOfMemory → ⊥
+lines_memory text (no_head a e) = absurd cc
+lines_memory text (behind_head n p i rest b h) = rest_memory (length h.events) h.rest h.fault
+
+pub not_out_of_memory : NoTextIsOutOfMemory
+not_out_of_memory text (inl a) = absurd cc
+not_out_of_memory text (inr a) = lines_memory text a.1
