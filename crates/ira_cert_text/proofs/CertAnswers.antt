@@ -1,7 +1,7 @@
 -- What a text is answered, for whole texts.
 use Rattle.std.proofs.Common.{◌≡◌, ◌≤◌, ℕ, List, ◌++◌, ◌⊎◌, Result, Ok, Err, length, refl, sym, ap, subst, ◌∙◌, arith, inl, inr, append_assoc}
 use Rattle.std.specs.Prelude.{codes}
-use Rattle.ira_event.specs.declared.limits.TheConstants.{MAX_TEXT}
+use Rattle.ira_event.specs.Limits.{MAX_TEXT}
 use Rattle.ira_cert_text.specs.declared.cert_fault.CertFault.{CertFault}
 use Rattle.ira_cert_text.specs.declared.cert_fault.CertFault.TheVariants.{OutOfMemory, Head}
 use Rattle.ira_cert_text.specs.CertAnswer.{AnswersCertificates, AnswersFaults}

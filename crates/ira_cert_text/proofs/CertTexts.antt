@@ -6,7 +6,7 @@ use Rattle.ira_event.proofs.Pieces.{line_same, line_has_feed, first_differs}
 use Rattle.ira_event.proofs.RecordLines.{some_is}
 use Rattle.ira_cert_text.specs.declared.cert_fault.CertFault.{CertFault}
 use Rattle.ira_cert_text.specs.declared.cert_step.CertStep.{CertStep}
-use Rattle.ira_cert_text.specs.declared.limits.TheConstants.{MAX_SECTIONS}
+use Rattle.ira_cert_text.specs.Limits.{MAX_SECTIONS}
 use Rattle.ira_cert_text.specs.Certificate.{Section}
 use Rattle.ira_cert_text.specs.CertText.{IsStepLine, IsSpentLine}
 use Rattle.ira_cert_text.specs.CertTextFault.{BeginsAsStep, OutsideFault, too_many_sections, no_section_or_end, trailing, InsideFault, too_many_steps, no_step_or_spent, step_range, spent_range, DueFault, cut, at_line, BeginsWithSections, BeginsWithSteps, lines_of, SectionsFault, outside, inside}

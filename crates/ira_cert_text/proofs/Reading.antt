@@ -15,7 +15,7 @@ use Rattle.ira_cert_text.specs.declared.cert_line.SpelledLine.{SpelledLine}
 use Rattle.ira_cert_text.specs.declared.cert_lines.SectionLine.TheVariants.{Step, Spent}
 use Rattle.ira_cert_text.specs.declared.cert_lines.SectionLine.{SectionLine}
 use Rattle.ira_cert_text.specs.declared.cert_step.CertStep.{CertStep}
-use Rattle.ira_cert_text.specs.declared.limits.TheConstants.{MAX_SECTIONS, MAX_STEPS}
+use Rattle.ira_cert_text.specs.Limits.{MAX_SECTIONS, MAX_STEPS}
 use Rattle.ira_cert_text.specs.Certificate.{Section, IsStep, IsSection}
 use Rattle.ira_cert_text.specs.CertLines.{LinesLeft, ReadsLine, ReadsOutside, ReadsInside, HasSteps, ReadsSection}
 use Rattle.ira_cert_text.specs.CertScan.{as_step, section_line_at}

@@ -3,7 +3,7 @@ use Rattle.std.proofs.Common.{◌≡◌, ◌≤◌, ℕ, List, [], ◌∷◌, �
 use Rattle.std.specs.Prelude.{codes, decimal}
 use Rattle.std.specs.List.{flat_map}
 use Rattle.std.proofs.lemmas.List.Elements.{All-head, All-tail}
-use Rattle.ira_event.specs.declared.limits.TheConstants.{MAX_TEXT}
+use Rattle.ira_event.specs.Limits.{MAX_TEXT}
 use Rattle.ira_event.proofs.Spelled.{numeral_is_decimal, decimal_is_numeral}
 use Rattle.ira_cert_text.specs.declared.cert_step.CertStep.{CertStep}
 use Rattle.ira_cert_text.specs.Certificate.{Section, Certificate, IsStep, IsSection, IsCertificate}

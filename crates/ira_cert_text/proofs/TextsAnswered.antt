@@ -2,7 +2,7 @@
 use Rattle.std.proofs.Common.{◌≡◌, ◌≤◌, ◌<◌, ℕ, ◌+◌, zero, suc, Bool, true, false, List, [], ◌∷◌, ◌++◌, ◌⊎◌, length, take, Option, Some, None, Result, Ok, Err, refl, arith, inl, inr, nat_eq}
 use Rattle.std.specs.Prelude.{codes, position}
 use Rattle.std.proofs.lemmas.Bool.{cases_lt, cases_eq}
-use Rattle.ira_event.specs.declared.limits.TheConstants.{MAX_RECORDS, MAX_TEXT}
+use Rattle.ira_event.specs.Limits.{MAX_RECORDS, MAX_TEXT}
 use Rattle.ira_event.specs.RingSize.{IsRingSize}
 use Rattle.ira_event.specs.Scan.{after_word}
 use Rattle.ira_event.proofs.LogReading.{line_end_at}
@@ -16,7 +16,7 @@ use Rattle.ira_cert_text.specs.declared.cert_line.SpelledStep.{SpelledStep}
 use Rattle.ira_cert_text.specs.declared.cert_lines.SectionLine.{SectionLine}
 use Rattle.ira_cert_text.specs.declared.cert_lines.SectionLine.TheVariants.{Step, Spent}
 use Rattle.ira_cert_text.specs.declared.cert_step.CertStep.{CertStep}
-use Rattle.ira_cert_text.specs.declared.limits.TheConstants.{MAX_SECTIONS, MAX_STEPS}
+use Rattle.ira_cert_text.specs.Limits.{MAX_SECTIONS, MAX_STEPS}
 use Rattle.ira_cert_text.specs.Certificate.{Section, Certificate, IsStep}
 use Rattle.ira_cert_text.specs.CertLaws.{EachTextHasAnAnswer, NoTextIsOutOfMemory}
 use Rattle.ira_cert_text.specs.CertLines.{LinesLeft, ReadsOutside, ReadsInside, HasSteps, ReadsSection}

@@ -11,7 +11,7 @@ use Rattle.ira_cert_text.specs.declared.cert_step.CertStep.{CertStep}
 use Rattle.ira_cert_text.specs.declared.cert_line.SpelledStep.{SpelledStep}
 use Rattle.ira_cert_text.specs.declared.cert_line.SpelledLine.{SpelledLine}
 use Rattle.ira_cert_text.specs.declared.cert_line.SpelledLine.TheVariants.{Step, Spent}
-use Rattle.ira_cert_text.specs.declared.limits.TheConstants.{MAX_SECTIONS, MAX_STEPS}
+use Rattle.ira_cert_text.specs.Limits.{MAX_SECTIONS, MAX_STEPS}
 use Rattle.ira_cert_text.specs.Certificate.{Section, IsStep, IsSection}
 use Rattle.ira_cert_text.specs.CertScan.{as_step}
 use Rattle.ira_cert_text.specs.CertText.{IsStepLine, AreStepLines, IsSpentLine, IsSectionText, AreSectionTexts}

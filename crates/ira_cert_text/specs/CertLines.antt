@@ -5,7 +5,7 @@ use Rattle.ira_cert_text.specs.declared.cert_fault.CertFault.TheVariants.{OutOfM
 use Rattle.ira_cert_text.specs.declared.cert_step.CertStep.{CertStep}
 use Rattle.ira_cert_text.specs.declared.cert_lines.SectionLine.{SectionLine}
 use Rattle.ira_cert_text.specs.declared.cert_lines.SectionLine.TheVariants.{Step, Spent}
-use Rattle.ira_cert_text.specs.declared.limits.TheConstants.{MAX_SECTIONS, MAX_STEPS}
+use Rattle.ira_cert_text.specs.Limits.{MAX_SECTIONS, MAX_STEPS}
 use Rattle.ira_cert_text.specs.Certificate.{Section, IsStep}
 use Rattle.ira_cert_text.specs.CertText.{IsStepLine, IsSpentLine}
 use Rattle.ira_cert_text.specs.CertTextFault.{OutsideFault, InsideFault, DueFault, BeginsWithSections, BeginsWithSteps, SectionsFault}

@@ -1,12 +1,12 @@
 -- The fault of a text that is no certificate's: the first one, line by line.
 use Rattle.std.specs.Prelude.{◌≡◌, ◌≢◌, ℕ, ◌+◌, ◌<◌, ◌≤◌, ◌⊎◌, List, [], ◌++◌, length, codes, All, sum_by}
-use Rattle.ira_event.specs.declared.limits.TheConstants.{MAX_TEXT}
+use Rattle.ira_event.specs.Limits.{MAX_TEXT}
 use Rattle.ira_event.specs.LogTextFault.{HasNoLineFeed}
 use Rattle.ira_event.specs.RingSize.{IsRingSize}
 use Rattle.ira_cert_text.specs.declared.cert_fault.CertFault.{CertFault}
 use Rattle.ira_cert_text.specs.declared.cert_fault.CertFault.TheVariants.{TooLong, Head, Line, Range, TooMany, Cut, Trailing}
 use Rattle.ira_cert_text.specs.declared.cert_step.CertStep.{CertStep}
-use Rattle.ira_cert_text.specs.declared.limits.TheConstants.{MAX_SECTIONS, MAX_STEPS}
+use Rattle.ira_cert_text.specs.Limits.{MAX_SECTIONS, MAX_STEPS}
 use Rattle.ira_cert_text.specs.Certificate.{Section, IsStep, IsSection}
 use Rattle.ira_cert_text.specs.CertText.{IsStepLine, AreStepLines, IsSpentLine, AreSectionTexts, IsCertHead}
 

@@ -1,9 +1,9 @@
 -- What a certificate says.
 use Rattle.std.specs.Prelude.{ℕ, ◌<◌, ◌≤◌, List, All, length}
-use Rattle.ira_event.specs.declared.limits.TheConstants.{MAX_RECORDS}
+use Rattle.ira_event.specs.Limits.{MAX_RECORDS}
 use Rattle.ira_event.specs.RingSize.{IsRingSize}
 use Rattle.ira_cert_text.specs.declared.cert_step.CertStep.{CertStep}
-use Rattle.ira_cert_text.specs.declared.limits.TheConstants.{MAX_SECTIONS, MAX_STEPS}
+use Rattle.ira_cert_text.specs.Limits.{MAX_SECTIONS, MAX_STEPS}
 
 -- eliminations in their order, and the node that is spent after them
 pub record Section : Type 0 where

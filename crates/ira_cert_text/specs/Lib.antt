@@ -5,3 +5,4 @@ pub mod CertScan
 pub mod CertText
 pub mod CertTextFault
 pub mod Certificate
+pub mod Limits

@@ -1,6 +1,6 @@
 ghost use Rattle.std.specs.Prelude.{◌≡◌, ◌≤◌, ◌+◌, ◌↔◌, ℕ, None, IsTrue, length, codes};
 ghost use Rattle.ira_event.specs.Scan.{after_word};
-ghost use Rattle.ira_event.specs.declared.limits.TheConstants.{MAX_TEXT};
+ghost use Rattle.ira_event.specs.Limits.{MAX_TEXT};
 ghost use Rattle.ira_cert_text.specs.CertScan.{section_line_at};
 ghost use Rattle.ira_cert_text.specs.CertTextFault.{BeginsAsStep, OutsideFault, InsideFault, DueFault};
 ghost use Rattle.ira_cert_text.specs.CertLines.{ReadsOutside, ReadsInside};
@@ -21,7 +21,7 @@ pub(crate) struct CertLines<'a> {
 
 impl<'a> Model for CertLines<'a> {
     ghost use Rattle.std.specs.Prelude.{◌≤◌, ◌+◌, length};
-    ghost use Rattle.ira_event.specs.declared.limits.TheConstants.{MAX_TEXT};
+    ghost use Rattle.ira_event.specs.Limits.{MAX_TEXT};
     ghost use Rattle.ira_cert_text.specs.CertLines.{LinesLeft};
 
     ghost Value = { LinesLeft };

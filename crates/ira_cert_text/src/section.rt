@@ -1,6 +1,6 @@
 ghost use Rattle.std.specs.Prelude.{◌≡◌, ◌≤◌, ◌+◌, ◌*◌, ◌↔◌, All, IsTrue, length};
 ghost use Rattle.std.specs.List.{flat_map};
-ghost use Rattle.ira_cert_text.specs.declared.limits.TheConstants.{MAX_STEPS};
+ghost use Rattle.ira_cert_text.specs.Limits.{MAX_STEPS};
 ghost use Rattle.ira_cert_text.specs.Certificate.{IsStep, IsSection};
 ghost use Rattle.ira_cert_text.specs.CertText.{step_text, section_text};
 

@@ -1,5 +1,5 @@
 use Rattle.std.specs.Prelude.{ℕ, Bool, nat_le, ◌&&◌}
-use Rattle.ira_event.specs.declared.limits.TheConstants.{MAX_NUMBER}
+use Rattle.ira_event.specs.Limits.{MAX_NUMBER}
 use Rattle.ira_event.specs.declared.msg.Msg.{Msg}
 use Rattle.ira_event.specs.declared.event.Event.{Event}
 use Rattle.ira_event.specs.declared.event.Event.TheVariants.{Draw, Sent, Got}

@@ -1,4 +1,5 @@
 pub mod Event
+pub mod Limits
 pub mod Log
 pub mod LogLaws
 pub mod LogScan

@@ -3,7 +3,7 @@ ghost use Rattle.ira_event.specs.Log.{Log};
 ghost use Rattle.ira_event.specs.LogText.{IsLogText};
 ghost use Rattle.ira_event.specs.LogTextFault.{BeginsWithHead, RecordsRead, LogTextFault};
 ghost use Rattle.ira_event.specs.Result.{UnlessErr};
-ghost use Rattle.ira_event.specs.declared.limits.TheConstants.{MAX_TEXT};
+ghost use Rattle.ira_event.specs.Limits.{MAX_TEXT};
 ghost use Rattle.ira_event.specs.declared.log_fault.LogFault.{LogFault};
 
 use crate::event::Event;

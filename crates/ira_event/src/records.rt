@@ -2,7 +2,7 @@ ghost use Rattle.std.specs.Prelude.{◌≡◌, ◌≤◌, ◌↔◌, ◌==◌, N
 ghost use Rattle.ira_event.specs.LogScan.{line_at};
 ghost use Rattle.ira_event.specs.LogTextFault.{BeginsAsRecord, RestFault};
 ghost use Rattle.ira_event.specs.Records.{ReadsOn, ReadsThrough};
-ghost use Rattle.ira_event.specs.declared.limits.TheConstants.{MAX_RECORDS};
+ghost use Rattle.ira_event.specs.Limits.{MAX_RECORDS};
 
 use crate::event::Event;
 use crate::limits::MAX_RECORDS;
@@ -21,7 +21,7 @@ pub struct Records<'a> {
 impl<'a> Model for Records<'a> {
     ghost use Rattle.std.specs.Prelude.{◌≤◌};
     ghost use Rattle.ira_event.specs.Records.{RecordsLeft};
-    ghost use Rattle.ira_event.specs.declared.limits.TheConstants.{MAX_RECORDS};
+    ghost use Rattle.ira_event.specs.Limits.{MAX_RECORDS};
 
     ghost Value = { RecordsLeft };
 

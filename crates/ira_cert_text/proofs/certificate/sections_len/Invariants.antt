@@ -1,7 +1,7 @@
 use Rattle.std.proofs.Common.{◌≡◌, ◌≤◌, ◌+◌, ◌*◌, drop, length}
 use Rattle.std.specs.List.{flat_map}
 use Rattle.ira_cert_text.specs.CertText.{section_text}
-use Rattle.ira_cert_text.specs.declared.limits.TheConstants.{MAX_STEPS}
+use Rattle.ira_cert_text.specs.Limits.{MAX_STEPS}
 use Rattle.ira_cert_text.proofs.certificate.sections_len.Given as goal
 
 abbrev pub invariant-loop-section : goal.invariant-loop-section

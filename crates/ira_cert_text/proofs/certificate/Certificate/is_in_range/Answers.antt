@@ -1,6 +1,6 @@
 use Rattle.std.proofs.Common.{◌≡◌, ◌↔◌, ◌≤◌, ℕ, Bool, List, All, IsTrue, length, subst, arith}
 use Rattle.ira_event.specs.RingSize.{IsRingSize}
-use Rattle.ira_cert_text.specs.declared.limits.TheConstants.{MAX_SECTIONS}
+use Rattle.ira_cert_text.specs.Limits.{MAX_SECTIONS}
 use Rattle.ira_cert_text.specs.Certificate.{Section, Certificate, IsSection, IsCertificate}
 use Rattle.ira_cert_text.proofs.certificate.Certificate.is_in_range.Goals as goal
 

@@ -1,6 +1,6 @@
 use Rattle.std.proofs.Common.{◌≡◌, ◌↔◌, ℕ, refl, IsTrue, length, nat_le, arith}
 use Rattle.std.proofs.lemmas.Bool.Decides.{nat_tests}
-use Rattle.ira_event.specs.declared.limits.TheConstants.{MAX_TEXT}
+use Rattle.ira_event.specs.Limits.{MAX_TEXT}
 use Rattle.ira_cert_text.specs.Certificate.{Certificate, IsCertificate}
 use Rattle.ira_cert_text.specs.CertText.{cert_text, IsCertText}
 use Rattle.ira_cert_text.proofs.Spelled.{cert_text_is}

@@ -1,5 +1,5 @@
 use Rattle.std.proofs.Common.{◌≡◌, ◌≢◌, Some, sym, ap, ◌∙◌, arith}
-use Rattle.ira_event.specs.declared.limits.TheConstants.{MAX_RECORDS}
+use Rattle.ira_event.specs.Limits.{MAX_RECORDS}
 use Rattle.ira_event.proofs.LogReading.{reads_record, at_end, fault_too_many, fault_range, fault_count, fault_trailing, empty_is, not_empty}
 use Rattle.ira_event.proofs.records.Records.next_event.Goals as goal
 

@@ -1,0 +1,10 @@
+-- The limits of certificates.
+use Rattle.std.specs.Prelude.{ℕ}
+
+-- the most sections that a certificate has: one for each pair of 64 nodes
+abbrev pub MAX_SECTIONS : ℕ
+MAX_SECTIONS = 2016
+
+-- the most steps that a section has
+abbrev pub MAX_STEPS : ℕ
+MAX_STEPS = 1000000

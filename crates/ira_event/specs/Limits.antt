@@ -1,0 +1,14 @@
+-- The limits of logs and of texts.
+use Rattle.std.specs.Prelude.{ℕ}
+
+-- the largest round, ID, hop and draw that a record holds
+abbrev pub MAX_NUMBER : ℕ
+MAX_NUMBER = 1000000
+
+-- the most records that a log has
+abbrev pub MAX_RECORDS : ℕ
+MAX_RECORDS = 100000
+
+-- the most bytes that a text has: 64 MiB
+abbrev pub MAX_TEXT : ℕ
+MAX_TEXT = 67108864
