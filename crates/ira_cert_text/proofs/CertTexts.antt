@@ -1,15 +1,17 @@
 -- What stands behind a head is one certificate's or has one fault, never two answers.
 use Rattle.std.proofs.Common.{◌≡◌, ◌≤◌, ◌<◌, ℕ, ◌+◌, suc, List, [], ◌++◌, Some, None, length, refl, sym, ap, subst, ◌∙◌, arith}
 use Rattle.std.specs.Prelude.{codes}
-use Rattle.ira_event.specs.LogTextFault.{HasNoLineFeed}
+use Rattle.ira_event.specs.NextLine.{HasNoLineFeed, NextLineFault, cut, at_line}
+use Rattle.ira_event.proofs.NextLines.{next_faults_same}
 use Rattle.ira_event.proofs.Pieces.{line_same, line_has_feed, first_differs}
 use Rattle.ira_event.proofs.RecordLines.{some_is}
 use Rattle.ira_cert_text.specs.declared.cert_fault.CertFault.{CertFault}
+use Rattle.ira_cert_text.specs.declared.cert_fault.CertFault.TheVariants.{Cut}
 use Rattle.ira_cert_text.specs.declared.cert_step.CertStep.{CertStep}
 use Rattle.ira_cert_text.specs.Limits.{MAX_SECTIONS}
 use Rattle.ira_cert_text.specs.Certificate.{Section}
 use Rattle.ira_cert_text.specs.CertText.{IsStepLine, IsSpentLine}
-use Rattle.ira_cert_text.specs.CertTextFault.{BeginsAsStep, OutsideFault, too_many_sections, no_section_or_end, trailing, InsideFault, too_many_steps, no_step_or_spent, step_range, spent_range, DueFault, cut, at_line, BeginsWithSections, BeginsWithSteps, lines_of, SectionsFault, outside, inside}
+use Rattle.ira_cert_text.specs.CertTextFault.{BeginsAsStep, OutsideFault, too_many_sections, no_section_or_end, trailing, InsideFault, too_many_steps, no_step_or_spent, step_range, spent_range, RestOutsideFault, RestInsideFault, BeginsWithSections, BeginsWithSteps, lines_of, SectionsFault, outside, inside}
 use Rattle.ira_cert_text.proofs.Turns.{step_no_spent, step_good, spent_good, Stage, Turn, opens, drops, closes, Leads, Stops, stops_same, turn_is_one_line, leads_on, steps_lead, sections_lead}
 
 step_begins : (line : List ℕ) (s : CertStep) → IsStepLine line s → BeginsAsStep line
@@ -52,14 +54,6 @@ inside_same nodes k n line f g (spent_range m a b p) (no_step_or_spent a' b' c' 
 inside_same nodes k n line f g (spent_range m a b p) (step_range t a' b' c' q) = absurd (step_no_spent line t m a' a)
 inside_same nodes k n line f g (spent_range m a b p) (spent_range m' a' b' q) = p ∙ sym q
 
-due_same : (F : List ℕ → List ℕ → CertFault → Type 0) → ((line more : List ℕ) (f g : CertFault) → F line more f → F line more g → f ≡ g) → (rest : List ℕ) (f g : CertFault) → DueFault F rest f → DueFault F rest g → f ≡ g
-due_same F one rest f g (cut a p) (cut b q) = p ∙ sym q
-due_same F one rest f g (cut a p) (at_line l m e w h) = absurd (line_has_feed l m (subst (λ t. HasNoLineFeed t) e a))
-due_same F one rest f g (at_line l m e w h) (cut a p) = absurd (line_has_feed l m (subst (λ t. HasNoLineFeed t) e a))
-due_same F one rest f g (at_line l m e w h) (at_line l' m' e' w' h') =
-    let s = line_same l l' m m' w w' (sym e ∙ e') in
-    one l' m' f g (subst (λ t. F t m' f) s.0 (subst (λ t. F l t f) s.1 h)) h'
-
 -- ---- where a fault stands, the good lines end
 
 module _ (nodes : ℕ) (small : nodes ≤ 64) where
@@ -81,14 +75,14 @@ module _ (nodes : ℕ) (small : nodes ≤ 64) where
   inside_line_stops ss steps k line f b (step_range s' a few bad p) (closes xs n e q r t) = step_no_spent line s' n a q
   inside_line_stops ss steps k line f b (spent_range m a bad p) (closes xs n e q r t) = let good = spent_good nodes small line n m q a r in omega (arith, good, bad)
 
-  due_outside_stops : (ss : List Section) (k : ℕ) (rest : List ℕ) (f : CertFault) → DueFault (OutsideFault k (length ss)) rest f → Stops nodes small (ss, None) rest
+  due_outside_stops : (ss : List Section) (k : ℕ) (rest : List ℕ) (f : CertFault) → RestOutsideFault k (length ss) rest f → Stops nodes small (ss, None) rest
   due_outside_stops ss k rest f (cut whole p) = λ line more b e t. line_has_feed line more (subst (λ x. HasNoLineFeed x) e whole)
   due_outside_stops ss k rest f (at_line l m e w h) =
       λ line more b e' t.
       let s = line_same l line m more w (turn_is_one_line nodes small (ss, None) line b t) (sym e ∙ e') in
       outside_line_stops ss k l m f b h (subst (λ x. Turn nodes small (ss, None) x b) (sym s.0) t)
 
-  due_inside_stops : (ss : List Section) (steps : List CertStep) (k : ℕ) (rest : List ℕ) (f : CertFault) → DueFault (λ line more g. InsideFault nodes k (length steps) line g) rest f → Stops nodes small (ss, Some steps) rest
+  due_inside_stops : (ss : List Section) (steps : List CertStep) (k : ℕ) (rest : List ℕ) (f : CertFault) → RestInsideFault nodes k (length steps) rest f → Stops nodes small (ss, Some steps) rest
   due_inside_stops ss steps k rest f (cut whole p) = λ line more b e t. line_has_feed line more (subst (λ x. HasNoLineFeed x) e whole)
   due_inside_stops ss steps k rest f (at_line l m e w h) =
       λ line more b e' t.
@@ -133,8 +127,8 @@ module _ (nodes : ℕ) (small : nodes ≤ 64) where
       let l = sections_reached text ts s c in
       let same = stops_same nodes small h.0 l.0 ([], None) (ss, None) (ts, None) text r s h.1 l.1 (due_outside_stops ss _ r f d) (due_outside_stops ts _ s g e) in
       let one : ss ≡ ts = ap (λ (x : Stage nodes small). x.0) same.0 in
-      due_same (OutsideFault (2 + lines_of ts + 1) (length ts)) (outside_same (2 + lines_of ts + 1) (length ts)) s f g
-      (subst (λ x. DueFault (OutsideFault (2 + lines_of x + 1) (length x)) s f) one (subst (λ x. DueFault (OutsideFault (2 + lines_of ss + 1) (length ss)) x f) same.1 d)) e
+      next_faults_same Cut (OutsideFault (2 + lines_of ts + 1) (length ts)) (outside_same (2 + lines_of ts + 1) (length ts)) s f g
+      (subst (λ x. RestOutsideFault (2 + lines_of x + 1) (length x) s f) one (subst (λ x. RestOutsideFault (2 + lines_of ss + 1) (length ss) x f) same.1 d)) e
   sections_faults_same text f g (outside ss r b d) (inside ts steps body s c few k e) =
       let h = sections_reached text ss r b in
       let l = steps_reached text ts steps body s c few k in
@@ -152,15 +146,15 @@ module _ (nodes : ℕ) (small : nodes ≤ 64) where
       let one : ss ≡ ts = ap (λ (x : Stage nodes small). x.0) same.0 in
       let two : xs ≡ ys = some_is _ _ (ap (λ (x : Stage nodes small). x.1) same.0) in
       let F : List Section → List CertStep → List ℕ → List ℕ → CertFault → Type 0 = λ zs ws line more z. InsideFault nodes (2 + lines_of zs + 1 + length ws + 1) (length ws) line z in
-      due_same (F ts ys) (λ line more. inside_same nodes (2 + lines_of ts + 1 + length ys + 1) (length ys) line) s f g
-      (subst (λ x. DueFault (F ts x) s f) two (subst (λ x. DueFault (F x xs) s f) one (subst (λ x. DueFault (F ss xs) x f) same.1 d))) e
+      next_faults_same Cut (F ts ys) (λ line more. inside_same nodes (2 + lines_of ts + 1 + length ys + 1) (length ys) line) s f g
+      (subst (λ x. NextLineFault Cut (F ts x) s f) two (subst (λ x. NextLineFault Cut (F x xs) s f) one (subst (λ x. NextLineFault Cut (F ss xs) x f) same.1 d))) e
 
   end_has_no_fault : (k n : ℕ) (f : CertFault) (line more : List ℕ) → OutsideFault k n line more f → line ≡ codes "end" → more ≡ [] → ⊥
   end_has_no_fault k n f line more (too_many_sections a b p) end none = section_no_end line a end
   end_has_no_fault k n f line more (no_section_or_end a b p) end none = b end
   end_has_no_fault k n f line more (trailing a b p) end none = b none
 
-  due_not_end : (k n : ℕ) (f : CertFault) → DueFault (OutsideFault k n) (codes "end\n") f → ⊥
+  due_not_end : (k n : ℕ) (f : CertFault) → RestOutsideFault k n (codes "end\n") f → ⊥
   due_not_end k n f (cut whole p) = line_has_feed (codes "end") [] whole
   due_not_end k n f (at_line l m e w h) =
       let s = line_same l (codes "end") m [] w refl (sym e) in
@@ -171,7 +165,7 @@ module _ (nodes : ℕ) (small : nodes ≤ 64) where
       let h = sections_reached text ss (codes "end\n") b in
       let l = sections_reached text ts s c in
       let same = stops_same nodes small h.0 l.0 ([], None) (ss, None) (ts, None) text (codes "end\n") s h.1 l.1 (end_stops ss) (due_outside_stops ts _ s f e) in
-      due_not_end _ _ f (subst (λ x. DueFault (OutsideFault (2 + lines_of ts + 1) (length ts)) x f) (sym same.1) e)
+      due_not_end _ _ f (subst (λ x. RestOutsideFault (2 + lines_of ts + 1) (length ts) x f) (sym same.1) e)
   sections_fault_not_all text ss f (inside ts steps body s c few k e) b =
       let h = sections_reached text ss (codes "end\n") b in
       let l = steps_reached text ts steps body s c few k in

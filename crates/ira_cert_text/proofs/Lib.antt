@@ -3,7 +3,6 @@ pub mod CertTexts
 pub mod Heads
 pub mod Lines
 pub mod Reading
-pub mod Rest
 pub mod Spelled
 pub mod TextsAnswered
 pub mod Turns

@@ -4,7 +4,7 @@ use Rattle.std.specs.Prelude.{codes}
 use Rattle.std.specs.Option.{option_map}
 use Rattle.ira_event.specs.Scan.{kept, after_word, behind}
 use Rattle.ira_event.specs.LogScan.{number_line}
-use Rattle.ira_event.specs.LogTextFault.{HasNoLineFeed}
+use Rattle.ira_event.specs.NextLine.{HasNoLineFeed}
 use Rattle.ira_event.proofs.Pieces.{Lacks-append}
 use Rattle.ira_event.proofs.Numerals.{Lacks-numeral}
 use Rattle.ira_event.proofs.RecordLines.{bind_some, map_some, some_is, word-takes, Kept, kept-takes, kept-again, number_line-takes}

@@ -4,6 +4,7 @@ use Rattle.std.specs.Prelude.{codes, position}
 use Rattle.std.proofs.lemmas.List.{append-nil}
 use Rattle.std.proofs.lemmas.List.Elements.{All-push, All-nil}
 use Rattle.std.proofs.lemmas.List.Sums.{sum_by_push}
+use Rattle.ira_event.specs.NextLine.{cut, at_line}
 use Rattle.ira_event.specs.Scan.{after_word}
 use Rattle.ira_event.proofs.LogReading.{no_line_end, FirstFeed, line_end_at}
 use Rattle.ira_event.proofs.RecordLines.{word-takes, word-again}
@@ -20,19 +21,19 @@ use Rattle.ira_cert_text.specs.Certificate.{Section, IsStep, IsSection}
 use Rattle.ira_cert_text.specs.CertLines.{LinesLeft, ReadsLine, ReadsOutside, ReadsInside, HasSteps, ReadsSection}
 use Rattle.ira_cert_text.specs.CertScan.{as_step, section_line_at}
 use Rattle.ira_cert_text.specs.CertText.{IsStepLine, AreStepLines, IsSpentLine, IsSectionText, AreSectionTexts}
-use Rattle.ira_cert_text.specs.CertTextFault.{BeginsAsStep, OutsideFault, too_many_sections, no_section_or_end, trailing, InsideFault, too_many_steps, no_step_or_spent, step_range, spent_range, DueFault, cut, at_line, BeginsWithSections, lines_of, SectionsFault, outside, inside}
+use Rattle.ira_cert_text.specs.CertTextFault.{BeginsAsStep, too_many_sections, no_section_or_end, trailing, too_many_steps, no_step_or_spent, step_range, spent_range, RestOutsideFault, RestInsideFault, BeginsWithSections, lines_of, SectionsFault, outside, inside}
 use Rattle.ira_cert_text.proofs.Lines.{step_kept_same, step_of_kept, step-again, spent-again, line-takes}
 
 -- ---- outside a section
 
 module _ (k sections : ℕ) (text : List ℕ) where
-  pub fault_too_many_sections : (after : List ℕ) → after_word (codes "section\n") text ≡ Some after → sections ≡ MAX_SECTIONS → DueFault (OutsideFault k sections) text fault.TooMany
+  pub fault_too_many_sections : (after : List ℕ) → after_word (codes "section\n") text ≡ Some after → sections ≡ MAX_SECTIONS → RestOutsideFault k sections text fault.TooMany
   fault_too_many_sections after e many = at_line (codes "section") after (word-takes (codes "section\n") text after e) refl (too_many_sections refl many refl)
 
-  pub fault_trailing : (after : List ℕ) → after_word (codes "end\n") text ≡ Some after → after ≢ [] → DueFault (OutsideFault k sections) text fault.Trailing
+  pub fault_trailing : (after : List ℕ) → after_word (codes "end\n") text ≡ Some after → after ≢ [] → RestOutsideFault k sections text fault.Trailing
   fault_trailing after e more = at_line (codes "end") after (word-takes (codes "end\n") text after e) refl (trailing refl more refl)
 
-  pub fault_outside_cut : position (λ c. nat_eq c 10) text ≡ None → DueFault (OutsideFault k sections) text fault.Cut
+  pub fault_outside_cut : position (λ c. nat_eq c 10) text ≡ None → RestOutsideFault k sections text fault.Cut
   fault_outside_cut e = cut (no_line_end text e) refl
 
   no_word : (word line more : List ℕ) → after_word (word ++ codes "\n") text ≡ None → text ≡ line ++ codes "\n" ++ more → line ≡ word → ⊥
@@ -41,7 +42,7 @@ module _ (k sections : ℕ) (text : List ℕ) where
       let read = sym none ∙ ap (after_word (word ++ codes "\n")) t ∙ word-again (word ++ codes "\n") more in
       absurd cc
 
-  pub fault_outside_line : (i : ℕ) → after_word (codes "section\n") text ≡ None → after_word (codes "end\n") text ≡ None → position (λ c. nat_eq c 10) text ≡ Some i → DueFault (OutsideFault k sections) text (fault.Line k)
+  pub fault_outside_line : (i : ℕ) → after_word (codes "section\n") text ≡ None → after_word (codes "end\n") text ≡ None → position (λ c. nat_eq c 10) text ≡ Some i → RestOutsideFault k sections text (fault.Line k)
   fault_outside_line i no_section no_end e =
       let f = line_end_at text i e in
       at_line (take i text) f.more f.parts f.whole (no_section_or_end (no_word (codes "section") (take i text) f.more no_section f.parts) (no_word (codes "end") (take i text) f.more no_end f.parts) refl)
@@ -50,7 +51,7 @@ module _ (k sections : ℕ) (text : List ℕ) where
 
 module _ (nodes k steps : ℕ) (text : List ℕ) where
   abbrev Due : CertFault → Type 0
-  Due f = DueFault (λ line more g. InsideFault nodes k steps line g) text f
+  Due f = RestInsideFault nodes k steps text f
 
   pub fault_inside_cut : position (λ c. nat_eq c 10) text ≡ None → Due fault.Cut
   fault_inside_cut e = cut (no_line_end text e) refl
@@ -166,14 +167,14 @@ more_sections nodes text ss s old mid new h r few (before, line, b, q, is, good)
 )
 
 pub fault_in_section : (nodes : ℕ) (text : List ℕ) (ss : List Section) (old mid before : LinesLeft) (steps : List CertStep) (f : CertFault) → HasSections nodes text ss old → ReadsLine old mid (codes "section") → length ss ≢ MAX_SECTIONS → HasSteps nodes mid steps before
-    → DueFault (λ line more g. InsideFault nodes before.number (length steps) line g) before.rest f → SectionsFault nodes text f
+    → RestInsideFault nodes before.number (length steps) before.rest f → SectionsFault nodes text f
 fault_in_section nodes text ss old mid before steps f h r few b d =
     let number : before.number ≡ 2 + lines_of ss + 1 + length steps + 1 = omega (arith, h.1, r.number, b.1) in
     inside ss steps mid.rest before.rest (subst (λ w. BeginsWithSections nodes text ss w) r.rest h.0) (omega (arith, h.0.count, few)) b.0
-    (subst (λ k. DueFault (λ line more g. InsideFault nodes k (length steps) line g) before.rest f) number d)
+    (subst (λ k. RestInsideFault nodes k (length steps) before.rest f) number d)
 
-pub fault_outside : (nodes : ℕ) (text : List ℕ) (ss : List Section) (old : LinesLeft) (f : CertFault) → HasSections nodes text ss old → DueFault (OutsideFault old.number (length ss)) old.rest f → SectionsFault nodes text f
-fault_outside nodes text ss old f h d = outside ss old.rest h.0 (subst (λ k. DueFault (OutsideFault k (length ss)) old.rest f) h.1 d)
+pub fault_outside : (nodes : ℕ) (text : List ℕ) (ss : List Section) (old : LinesLeft) (f : CertFault) → HasSections nodes text ss old → RestOutsideFault old.number (length ss) old.rest f → SectionsFault nodes text f
+fault_outside nodes text ss old f h d = outside ss old.rest h.0 (subst (λ k. RestOutsideFault k (length ss) old.rest f) h.1 d)
 
 pub all_sections : (nodes : ℕ) (text : List ℕ) (ss : List Section) (old : LinesLeft) → HasSections nodes text ss old → old.rest ≡ codes "end\n" → BeginsWithSections nodes text ss (codes "end\n")
 all_sections nodes text ss old h e = subst (BeginsWithSections nodes text ss) e h.0
@@ -187,7 +188,7 @@ step_was_read nodes n entry old new ss zs l s h count read is pushed =
 
 pub steps_refused : (nodes n : ℕ) (entry old new : LinesLeft) (ss : List CertStep) (f : CertFault) → HasSteps nodes entry ss old → n ≡ length ss → ReadsInside nodes n old new (Err f) → ReadsSection nodes entry new (Err f)
 steps_refused nodes n entry old new ss f h count d =
-    inr (ss, old, h, subst (λ m. DueFault (λ line more g. InsideFault nodes old.number m line g) old.rest f) count d)
+    inr (ss, old, h, subst (λ m. RestInsideFault nodes old.number m old.rest f) count d)
 
 pub section_was_read : (nodes n : ℕ) (text : List ℕ) (ss zs : List Section) (b : Bool) (s : Section) (old mid new : LinesLeft) → HasSections nodes text ss old → n ≡ length ss → ReadsOutside n old mid (Ok b) → b ≡ true → ReadsSection nodes mid new (Ok s) → zs ≡ ss ++ s ∷ [] → HasSections nodes text zs new
 section_was_read nodes n text ss zs b s old mid new h count read is section pushed =
@@ -201,7 +202,7 @@ section_refused nodes n text ss b f old mid new h count read is (inr (steps, bef
     inr (fault_in_section nodes text ss old mid before steps f h r.0 (λ many. r.1 (count ∙ many)) has d)
 
 pub sections_refused : (nodes n : ℕ) (text : List ℕ) (ss : List Section) (f : CertFault) (old mid : LinesLeft) → HasSections nodes text ss old → n ≡ length ss → ReadsOutside n old mid (Err f) → (f ≡ fault.OutOfMemory) ⊎ SectionsFault nodes text f
-sections_refused nodes n text ss f old mid h count d = inr (fault_outside nodes text ss old f h (subst (λ m. DueFault (OutsideFault old.number m) old.rest f) count d))
+sections_refused nodes n text ss f old mid h count d = inr (fault_outside nodes text ss old f h (subst (λ m. RestOutsideFault old.number m old.rest f) count d))
 
 pub sections_end : (nodes n : ℕ) (text : List ℕ) (ss : List Section) (b : Bool) (old mid : LinesLeft) → HasSections nodes text ss old → ReadsOutside n old mid (Ok b) → b ≡ false → BeginsWithSections nodes text ss (codes "end\n")
 sections_end nodes n text ss b old mid h read is = all_sections nodes text ss old h (subst (λ x. ReadsOutside n old mid (Ok x)) is read)

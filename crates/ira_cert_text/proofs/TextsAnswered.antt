@@ -6,6 +6,7 @@ use Rattle.ira_event.specs.Limits.{MAX_RECORDS, MAX_TEXT}
 use Rattle.ira_event.specs.RingSize.{IsRingSize}
 use Rattle.ira_event.specs.Scan.{after_word}
 use Rattle.ira_event.proofs.LogReading.{line_end_at}
+use Rattle.ira_event.proofs.NextLines.{next_fault_other}
 use Rattle.ira_event.proofs.RecordLines.{word-takes}
 use Rattle.ira_event.proofs.TextsAnswered.{Decided, begins_decided}
 use Rattle.ira_cert_text.specs.declared.cert_fault.CertFault.{CertFault}
@@ -22,7 +23,7 @@ use Rattle.ira_cert_text.specs.CertLaws.{EachTextHasAnAnswer, NoTextIsOutOfMemor
 use Rattle.ira_cert_text.specs.CertLines.{LinesLeft, ReadsOutside, ReadsInside, HasSteps, ReadsSection}
 use Rattle.ira_cert_text.specs.CertScan.{as_step, section_line_at, head_at}
 use Rattle.ira_cert_text.specs.CertText.{IsCertText}
-use Rattle.ira_cert_text.specs.CertTextFault.{OutsideFault, too_many_sections, no_section_or_end, trailing, InsideFault, too_many_steps, no_step_or_spent, step_range, spent_range, DueFault, cut, at_line, BeginsWithCertHead, BeginsWithSections, SectionsFault, outside, inside, CertLinesFault, no_head, behind_head, CertTextFault}
+use Rattle.ira_cert_text.specs.CertTextFault.{OutsideFault, too_many_sections, no_section_or_end, trailing, InsideFault, too_many_steps, no_step_or_spent, step_range, spent_range, RestOutsideFault, RestInsideFault, BeginsWithCertHead, BeginsWithSections, SectionsFault, outside, inside, CertLinesFault, no_head, behind_head, CertTextFault}
 use Rattle.ira_cert_text.proofs.CertAnswers.{certificate_of, certificate_read}
 use Rattle.ira_cert_text.proofs.Heads as heads
 use Rattle.ira_cert_text.proofs.Reading as reading
@@ -54,7 +55,7 @@ abbrev GoesOn : ℕ → List ℕ → ℕ → ℕ → Type 0
 GoesOn nodes rest k steps = (new : LinesLeft) × (r : Result SectionLine CertFault) × ReadsInside nodes steps (left_of rest k) new r
 
 module _ (nodes : ℕ) (small : nodes ≤ 255) (rest : List ℕ) (k steps : ℕ) where
-  refused : (f : CertFault) → DueFault (λ line more g. InsideFault nodes k steps line g) rest f → GoesOn nodes rest k steps
+  refused : (f : CertFault) → RestInsideFault nodes k steps rest f → GoesOn nodes rest k steps
   refused f h = (left_of rest k, Err f, h)
 
   at_step : (s : SpelledStep) (after : List ℕ) → section_line_at rest ≡ Some (spelled.Step s, after) → GoesOn nodes rest k steps
@@ -99,7 +100,7 @@ abbrev SectionAnswered : ℕ → LinesLeft → Type 0
 SectionAnswered nodes old =
     ((new : LinesLeft) × (s : Section) × ReadsSection nodes old new (Ok s))
     ⊎ ((f : CertFault) × (steps : List CertStep) × (before : LinesLeft) × HasSteps nodes old steps before
-    × DueFault (λ line more g. InsideFault nodes before.number (length steps) line g) before.rest f)
+    × RestInsideFault nodes before.number (length steps) before.rest f)
 
 -- from step to step, for so many bytes at most
 from_step : (bytes nodes : ℕ) (small : nodes ≤ 255) (entry old : LinesLeft) (steps : List CertStep) → length old.rest < bytes → HasSteps nodes entry steps old → SectionAnswered nodes entry
@@ -124,7 +125,7 @@ abbrev Opens : List ℕ → ℕ → ℕ → Type 0
 Opens rest k sections = (new : LinesLeft) × (r : Result Bool CertFault) × ReadsOutside sections (left_of rest k) new r
 
 module _ (rest : List ℕ) (k sections : ℕ) where
-  not_outside : (f : CertFault) → DueFault (OutsideFault k sections) rest f → Opens rest k sections
+  not_outside : (f : CertFault) → RestOutsideFault k sections rest f → Opens rest k sections
   not_outside f h = (left_of rest k, Err f, h)
 
   at_section : (after : List ℕ) → after_word (codes "section\n") rest ≡ Some after → Opens rest k sections
@@ -214,13 +215,9 @@ inside_memory nodes k n line (no_step_or_spent a b c e) = absurd cc
 inside_memory nodes k n line (step_range s a b c e) = absurd cc
 inside_memory nodes k n line (spent_range m a b e) = absurd cc
 
-due_memory : (F : List ℕ → List ℕ → CertFault → Type 0) → ((line more : List ℕ) → ¬ (F line more fault.OutOfMemory)) → (rest : List ℕ) → DueFault F rest fault.OutOfMemory → ⊥
-due_memory F none rest (cut a e) = absurd cc
-due_memory F none rest (at_line line more a b h) = none line more h
-
 sections_memory : (nodes : ℕ) (text : List ℕ) → SectionsFault nodes text fault.OutOfMemory → ⊥
-sections_memory nodes text (outside ss rest b d) = due_memory _ (outside_memory _ (length ss)) rest d
-sections_memory nodes text (inside ss steps body rest b few c d) = due_memory _ (λ line more. inside_memory nodes _ (length steps) line) rest d
+sections_memory nodes text (outside ss rest b d) = next_fault_other fault.Cut _ rest fault.OutOfMemory (λ q. absurd cc) (outside_memory _ (length ss)) d
+sections_memory nodes text (inside ss steps body rest b few c d) = next_fault_other fault.Cut _ rest fault.OutOfMemory (λ q. absurd cc) (λ line more. inside_memory nodes _ (length steps) line) d
 
 lines_memory : (text : List ℕ) → CertLinesFault text fault.OutOfMemory → ⊥
 lines_memory text (no_head a e) = absurd cc

@@ -3,7 +3,7 @@ use Rattle.std.proofs.Common.{◌≡◌, ◌≢◌, ◌≤◌, ◌<◌, ℕ, ◌
 use Rattle.std.specs.Prelude.{codes}
 use Rattle.std.proofs.lemmas.List.{append-nil}
 use Rattle.std.proofs.lemmas.List.Elements.{All-head, All-tail}
-use Rattle.ira_event.specs.LogTextFault.{HasNoLineFeed}
+use Rattle.ira_event.specs.NextLine.{HasNoLineFeed}
 use Rattle.ira_event.specs.Scan.{kept}
 use Rattle.ira_event.proofs.Pieces.{line_same, first_differs}
 use Rattle.ira_event.proofs.RecordLines.{some_is}

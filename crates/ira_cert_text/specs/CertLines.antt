@@ -8,7 +8,7 @@ use Rattle.ira_cert_text.specs.declared.cert_lines.SectionLine.TheVariants.{Step
 use Rattle.ira_cert_text.specs.Limits.{MAX_SECTIONS, MAX_STEPS}
 use Rattle.ira_cert_text.specs.Certificate.{Section, IsStep}
 use Rattle.ira_cert_text.specs.CertText.{IsStepLine, IsSpentLine}
-use Rattle.ira_cert_text.specs.CertTextFault.{OutsideFault, InsideFault, DueFault, BeginsWithSections, BeginsWithSteps, SectionsFault}
+use Rattle.ira_cert_text.specs.CertTextFault.{RestOutsideFault, RestInsideFault, BeginsWithSections, BeginsWithSteps, SectionsFault}
 
 -- what was not read yet, and the number of the line that it begins with
 pub record LinesLeft : Type 0 where
@@ -24,14 +24,14 @@ pub record ReadsLine (old new : LinesLeft) (line : List ℕ) : Type 0 where
 abbrev pub ReadsOutside : ℕ → LinesLeft → LinesLeft → Result Bool CertFault → Type 0
 ReadsOutside sections old new (Ok true) = ReadsLine old new (codes "section") × (sections ≢ MAX_SECTIONS)
 ReadsOutside sections old new (Ok false) = old.rest ≡ codes "end\n"
-ReadsOutside sections old new (Err f) = DueFault (OutsideFault old.number sections) old.rest f
+ReadsOutside sections old new (Err f) = RestOutsideFault old.number sections old.rest f
 
 -- in a section: a step or the spent node was read, or a fault
 abbrev pub ReadsInside : ℕ → ℕ → LinesLeft → LinesLeft → Result SectionLine CertFault → Type 0
 ReadsInside nodes steps old new (Ok (Step s)) =
     (line : List ℕ) × ReadsLine old new line × IsStepLine line s × (steps ≢ MAX_STEPS) × IsStep nodes s
 ReadsInside nodes steps old new (Ok (Spent n)) = (line : List ℕ) × ReadsLine old new line × IsSpentLine line n × (n < nodes)
-ReadsInside nodes steps old new (Err f) = DueFault (λ line more g. InsideFault nodes old.number steps line g) old.rest f
+ReadsInside nodes steps old new (Err f) = RestInsideFault nodes old.number steps old.rest f
 
 -- these steps were read
 abbrev pub HasSteps : ℕ → LinesLeft → List CertStep → LinesLeft → Type 0
@@ -44,7 +44,7 @@ ReadsSection nodes old new (Ok s) =
 ReadsSection nodes old new (Err f) =
     (f ≡ OutOfMemory)
     ⊎ ((steps : List CertStep) × (before : LinesLeft) × HasSteps nodes old steps before
-    × DueFault (λ line more g. InsideFault nodes before.number (length steps) line g) before.rest f)
+    × RestInsideFault nodes before.number (length steps) before.rest f)
 
 -- a reader of what stands behind a head answered its sections, its fault, or want of memory
 abbrev pub SectionsRead : {X : Type 0} → ℕ → (X → List Section) → Result X CertFault → List ℕ → Type 0

@@ -1,7 +1,7 @@
 -- The fault of a text that is no certificate's: the first one, line by line.
 use Rattle.std.specs.Prelude.{◌≡◌, ◌≢◌, ℕ, ◌+◌, ◌<◌, ◌≤◌, ◌⊎◌, List, [], ◌++◌, length, codes, All, sum_by}
 use Rattle.ira_event.specs.Limits.{MAX_TEXT}
-use Rattle.ira_event.specs.LogTextFault.{HasNoLineFeed}
+use Rattle.ira_event.specs.NextLine.{NextLineFault}
 use Rattle.ira_event.specs.RingSize.{IsRingSize}
 use Rattle.ira_cert_text.specs.declared.cert_fault.CertFault.{CertFault}
 use Rattle.ira_cert_text.specs.declared.cert_fault.CertFault.TheVariants.{TooLong, Head, Line, Range, TooMany, Cut, Trailing}
@@ -37,13 +37,13 @@ pub data InsideFault (nodes k steps : ℕ) (line : List ℕ) (f : CertFault) : T
   -- the spent node isn't in the ring
   spent_range : (n : ℕ) → IsSpentLine line n → nodes ≤ n → f ≡ Range k → InsideFault nodes k steps line f
 
--- the fault of what stands where a line is due: no complete line, or one with a fault; `F line more g`
--- says that a line has fault g where `more` follows it
-pub data DueFault (F : List ℕ → List ℕ → CertFault → Type 0) (rest : List ℕ) (f : CertFault) : Type 0 where
-  -- a piece of a line, or nothing
-  cut : HasNoLineFeed rest → f ≡ Cut → DueFault F rest f
-  -- a complete line with a fault
-  at_line : (line more : List ℕ) → rest ≡ line ++ codes "\n" ++ more → HasNoLineFeed line → F line more f → DueFault F rest f
+-- the fault of what stands outside a section, from line k of the text on, behind so many sections
+abbrev pub RestOutsideFault : ℕ → ℕ → List ℕ → CertFault → Type 0
+RestOutsideFault k sections rest f = NextLineFault Cut (OutsideFault k sections) rest f
+
+-- the fault of what stands in a section, from line k of the text on, behind so many of its steps
+abbrev pub RestInsideFault : ℕ → ℕ → ℕ → List ℕ → CertFault → Type 0
+RestInsideFault nodes k steps rest f = NextLineFault Cut (λ line more g. InsideFault nodes k steps line g) rest f
 
 -- the text begins with a head of the grammar whose ring size is in range, and goes on with the rest
 pub record BeginsWithCertHead (text : List ℕ) (nodes : ℕ) (rest : List ℕ) : Type 0 where
@@ -77,12 +77,12 @@ pub data SectionsFault (nodes : ℕ) (text : List ℕ) (f : CertFault) : Type 0 
   -- behind whole sections
   outside :
       (sections : List Section) (rest : List ℕ) → BeginsWithSections nodes text sections rest
-      → DueFault (OutsideFault (2 + lines_of sections + 1) (length sections)) rest f → SectionsFault nodes text f
+      → RestOutsideFault (2 + lines_of sections + 1) (length sections) rest f → SectionsFault nodes text f
   -- behind whole sections, the first line of one more, and some of its steps
   inside :
       (sections : List Section) (steps : List CertStep) (body rest : List ℕ) → BeginsWithSections nodes text sections (codes "section\n" ++ body)
       → length sections < MAX_SECTIONS → BeginsWithSteps nodes body steps rest
-      → DueFault (λ line more g. InsideFault nodes (2 + lines_of sections + 1 + length steps + 1) (length steps) line g) rest f
+      → RestInsideFault nodes (2 + lines_of sections + 1 + length steps + 1) (length steps) rest f
       → SectionsFault nodes text f
 
 -- the fault of a text that isn't too long

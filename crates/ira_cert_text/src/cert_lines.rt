@@ -2,7 +2,7 @@ ghost use Rattle.std.specs.Prelude.{◌≡◌, ◌≤◌, ◌+◌, ◌↔◌, �
 ghost use Rattle.ira_event.specs.Scan.{after_word};
 ghost use Rattle.ira_event.specs.Limits.{MAX_TEXT};
 ghost use Rattle.ira_cert_text.specs.CertScan.{section_line_at};
-ghost use Rattle.ira_cert_text.specs.CertTextFault.{BeginsAsStep, OutsideFault, InsideFault, DueFault};
+ghost use Rattle.ira_cert_text.specs.CertTextFault.{BeginsAsStep, RestOutsideFault, RestInsideFault};
 ghost use Rattle.ira_cert_text.specs.CertLines.{ReadsOutside, ReadsInside};
 
 use crate::cert_fault::CertFault;
@@ -114,7 +114,7 @@ impl<'a> CertLines<'a> {
 fn outside_fault(text: &[u8], number: u32) -> CertFault
     requires section { after_word (codes "section\n") text.now ≡ None }
     requires end { after_word (codes "end\n") text.now ≡ None }
-    ensures { (sections : ℕ) → DueFault (OutsideFault number sections) text.now result }
+    ensures { (sections : ℕ) → RestOutsideFault number sections text.now result }
 {
     match line_end(text) {
         Some(_) => CertFault::Line(number),
@@ -127,7 +127,7 @@ fn outside_fault(text: &[u8], number: u32) -> CertFault
 #[cold]
 fn inside_fault(text: &[u8], number: u32, steps: usize) -> CertFault
     requires { section_line_at text.now ≡ None }
-    ensures { (nodes : ℕ) → DueFault (λ line more g. InsideFault nodes number steps line g) text.now result }
+    ensures { (nodes : ℕ) → RestInsideFault nodes number steps text.now result }
 {
     let Some(end) = line_end(text) else {
         return CertFault::Cut;

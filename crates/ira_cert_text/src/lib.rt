@@ -12,8 +12,6 @@ mod certificate;
 mod laws;
 mod limits;
 mod section;
-#[cfg(test)]
-mod tests;
 mod text_len;
 
 pub use cert_fault::CertFault;

@@ -1,7 +1,7 @@
-use Rattle.std.proofs.Common.{◌≡◌, ◌<◌, ℕ, suc, ◌+◌, ◌*◌, ◌-◌, true, false, List, [], ◌∷◌, length, drop, slice_index_or, refl, sym, ap, ◌∙◌, cond, arith}
-use Rattle.std.proofs.Math.Seq.{drop-cons}
+use Rattle.std.proofs.Common.{◌≡◌, ◌<◌, ℕ, ◌+◌, ◌*◌, ◌-◌, true, false, List, [], ◌∷◌, length, drop, slice_index_or, refl, sym, ap, ◌∙◌, cond, arith}
 use Rattle.std.specs.Char.{is_ascii_digit}
 use Rattle.ira_event.specs.Scan.{digits_from, kept}
+use Rattle.ira_event.proofs.Rest.{drop-at}
 
 -- one more digit on two numbers that are kept as one
 pub kept-digit : (m n d : ℕ) → kept m ≡ kept n → kept (10 * m + d) ≡ kept (10 * n + d)
@@ -32,8 +32,7 @@ pub digit-turn : (text : List ℕ) (i v w : ℕ) → i < length text → is_asci
 digit-turn text i v w there digit next =
     let d = slice_index_or text i 0 in
     let cs = drop (i + 1) text in
-    let next_place : suc i ≡ i + 1 = omega arith in
-    let cons : drop i text ≡ d ∷ cs = drop-cons text i 0 there ∙ ap (λ n. d ∷ drop n text) next_place in (
+    let cons : drop i text ≡ d ∷ cs = drop-at text i d 0 there refl in (
       digit-kept v w d cs digit next ∙ ap (λ xs. kept (digits_from v xs).0) (sym cons),
       digit-rest v w d cs digit ∙ ap (λ xs. (digits_from v xs).1) (sym cons),
     )

@@ -5,9 +5,11 @@ pub mod LineWords
 pub mod LogAnswers
 pub mod LogReading
 pub mod LogTexts
+pub mod NextLines
 pub mod Numerals
 pub mod Pieces
 pub mod RecordLines
+pub mod Rest
 pub mod Spelled
 pub mod TextsAnswered
 pub mod Unless

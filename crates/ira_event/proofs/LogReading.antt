@@ -19,7 +19,8 @@ use Rattle.ira_event.specs.declared.log_fault.LogFault.TheVariants as fault
 use Rattle.ira_event.specs.Event.{is_number, is_msg, is_event}
 use Rattle.ira_event.specs.LogScan.{line_at}
 use Rattle.ira_event.specs.LogText.{IsRecord, AreRecords, IsEnd}
-use Rattle.ira_event.specs.LogTextFault.{HasNoLineFeed, BeginsAsRecord, BeginsWithRecords, too_many, no_line, out_of_range, other_count, trailing, RestFault, at_line, RecordsFault, AreAllRecords}
+use Rattle.ira_event.specs.LogTextFault.{BeginsAsRecord, BeginsWithRecords, too_many, no_line, out_of_range, other_count, trailing, RestFault, RecordsFault, AreAllRecords}
+use Rattle.ira_event.specs.NextLine.{HasNoLineFeed, at_line}
 use Rattle.ira_event.specs.Records.{RecordsLeft, ReadsRecord, IsAtEnd, ReadsOn, HasRead}
 use Rattle.ira_event.specs.declared.log_fault.LogFault.{LogFault}
 use Rattle.ira_event.specs.Scan.{kept}

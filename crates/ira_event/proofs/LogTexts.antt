@@ -6,9 +6,12 @@ use Rattle.std.proofs.lemmas.List.{append-nil}
 use Rattle.ira_event.specs.Limits.{MAX_RECORDS}
 use Rattle.ira_event.specs.declared.event.Event.{Event}
 use Rattle.ira_event.specs.declared.log_fault.LogFault.{LogFault}
+use Rattle.ira_event.specs.declared.log_fault.LogFault.TheVariants.{Cut}
 use Rattle.ira_event.specs.Event.{is_event}
 use Rattle.ira_event.specs.LogText.{IsRecord, AreRecords, IsEnd}
-use Rattle.ira_event.specs.LogTextFault.{HasNoLineFeed, BeginsWithRecords, LineFault, too_many, no_line, out_of_range, other_count, trailing, RestFault, cut, at_line, RecordsFault, AreAllRecords}
+use Rattle.ira_event.specs.LogTextFault.{BeginsWithRecords, LineFault, too_many, no_line, out_of_range, other_count, trailing, RestFault, RecordsFault, AreAllRecords}
+use Rattle.ira_event.specs.NextLine.{HasNoLineFeed, cut, at_line}
+use Rattle.ira_event.proofs.NextLines.{next_faults_same}
 use Rattle.ira_event.proofs.Numerals.{and_parts}
 use Rattle.ira_event.proofs.Pieces.{line_same, line_has_feed}
 use Rattle.ira_event.proofs.RecordLines.{record_is_one_line, end_is_one_line, record_same, end_same, record_begins, end_no_record}
@@ -94,14 +97,6 @@ line_faults_same k line more f g (trailing a b p) (out_of_range e a' b' c' q) = 
 line_faults_same k line more f g (trailing a b p) (other_count n a' b' q) = absurd (b' (end_same line n k a' a))
 line_faults_same k line more f g (trailing a b p) (trailing a' b' q) = p ∙ sym q
 
-rest_faults_same : (k : ℕ) (rest : List ℕ) (f g : LogFault) → RestFault k rest f → RestFault k rest g → f ≡ g
-rest_faults_same k rest f g (cut a p) (cut b q) = p ∙ sym q
-rest_faults_same k rest f g (cut a p) (at_line l m e w h) = absurd (line_has_feed l m (subst (λ t. HasNoLineFeed t) e a))
-rest_faults_same k rest f g (at_line l m e w h) (cut a p) = absurd (line_has_feed l m (subst (λ t. HasNoLineFeed t) e a))
-rest_faults_same k rest f g (at_line l m e w h) (at_line l' m' e' w' h') =
-    let s = line_same l l' m m' w w' (sym e ∙ e') in
-    line_faults_same k l' m' f g (subst (λ t. LineFault k t m' f) s.0 (subst (λ t. LineFault k l t f) s.1 h)) h'
-
 line_fault_no_end : (k : ℕ) (line : List ℕ) (f : LogFault) → LineFault k line [] f → IsEnd line k → ⊥
 line_fault_no_end k line f (too_many a b p) end = end_no_record line k end b
 line_fault_no_end k line f (no_line a b c p) end = c k end
@@ -118,7 +113,7 @@ rest_fault_no_end k rest end f (at_line l m p w h) is e =
 pub records_faults_same : (text : List ℕ) (f g : LogFault) → RecordsFault text f → RecordsFault text g → f ≡ g
 records_faults_same text f g a b =
     let s = begins_same text a.events b.events a.rest b.rest a.begins b.begins (fault_stops (length a.events) a.rest f a.fault) (fault_stops (length b.events) b.rest g b.fault) in
-    rest_faults_same (length b.events) b.rest f g (subst (λ es. RestFault (length es) b.rest f) s.0 (subst (λ x. RestFault (length a.events) x f) s.1 a.fault)) b.fault
+    next_faults_same Cut (LineFault (length b.events)) (line_faults_same (length b.events)) b.rest f g (subst (λ es. RestFault (length es) b.rest f) s.0 (subst (λ x. RestFault (length a.events) x f) s.1 a.fault)) b.fault
 
 pub records_fault_not_all : (text : List ℕ) (es : List Event) (f : LogFault) → RecordsFault text f → AreAllRecords text es → ⊥
 records_fault_not_all text es f a b =

@@ -8,7 +8,8 @@ use Rattle.ira_event.specs.Scan.{number_at, kept_at, kept, after_word, ◌>>=◌
 use Rattle.ira_event.specs.LogScan.{bit_at, message_at, number_line, line_at}
 use Rattle.ira_event.specs.Numeral.{IsNumeral}
 use Rattle.ira_event.specs.LogText.{IsMessage, IsRecord, IsEnd, bit_word}
-use Rattle.ira_event.specs.LogTextFault.{HasNoLineFeed, BeginsAsRecord}
+use Rattle.ira_event.specs.LogTextFault.{BeginsAsRecord}
+use Rattle.ira_event.specs.NextLine.{HasNoLineFeed}
 use Rattle.ira_event.specs.declared.msg.Msg.{Msg}
 use Rattle.ira_event.specs.declared.event.Event.{Event}
 use Rattle.ira_event.specs.declared.event.Event.TheVariants.{Draw, Sent, Got}

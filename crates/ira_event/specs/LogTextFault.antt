@@ -1,17 +1,15 @@
 -- The fault of a text that is no log's: the first one, line by line.
-use Rattle.std.specs.Prelude.{◌≡◌, ◌≢◌, ℕ, ◌+◌, ◌<◌, ◌≤◌, ◌⊎◌, Bool, true, false, List, [], ◌++◌, ◌==◌, length, codes, Result, Ok, Err}
-use Rattle.std.specs.List.{list_all, list_any}
+use Rattle.std.specs.Prelude.{◌≡◌, ◌≢◌, ℕ, ◌+◌, ◌<◌, ◌≤◌, ◌⊎◌, Bool, true, false, List, [], ◌++◌, length, codes, Result, Ok, Err}
+use Rattle.std.specs.List.{list_all}
 use Rattle.ira_event.specs.Limits.{MAX_RECORDS, MAX_TEXT}
 use Rattle.ira_event.specs.declared.event.Event.{Event}
 use Rattle.ira_event.specs.declared.log_fault.LogFault.{LogFault}
 use Rattle.ira_event.specs.declared.log_fault.LogFault.TheVariants.{TooLong, Head, Line, Range, TooMany, Cut, Count, Trailing, OutOfMemory}
 use Rattle.ira_event.specs.Event.{is_event}
 use Rattle.ira_event.specs.LogText.{IsHead, IsRecord, AreRecords, IsEnd}
+use Rattle.ira_event.specs.NextLine.{NextLineFault}
 use Rattle.ira_event.specs.RingSize.{IsRingSize}
-
--- no byte is a line feed
-abbrev pub HasNoLineFeed : List ℕ → Type 0
-HasNoLineFeed text = list_any (λ c. c == 10) text ≡ false
+pub use Rattle.ira_event.specs.NextLine.{HasNoLineFeed, cut, at_line}
 
 -- the text begins with a head of the grammar whose numbers are in range, and goes on with the rest
 pub record BeginsWithHead (text : List ℕ) (nodes place : ℕ) (initiator : Bool) (rest : List ℕ) : Type 0 where
@@ -53,11 +51,8 @@ pub data LineFault (k : ℕ) (line more : List ℕ) (f : LogFault) : Type 0 wher
   trailing : IsEnd line k → more ≢ [] → f ≡ Trailing → LineFault k line more f
 
 -- the fault of what stands behind the head and k records
-pub data RestFault (k : ℕ) (rest : List ℕ) (f : LogFault) : Type 0 where
-  -- a piece of a line, or nothing
-  cut : HasNoLineFeed rest → f ≡ Cut → RestFault k rest f
-  -- a complete line with a fault
-  at_line : (line more : List ℕ) → rest ≡ line ++ codes "\n" ++ more → HasNoLineFeed line → LineFault k line more f → RestFault k rest f
+abbrev pub RestFault : ℕ → List ℕ → LogFault → Type 0
+RestFault k rest f = NextLineFault Cut (LineFault k) rest f
 
 -- the fault of what stands behind the head: behind records within the limits comes something with a fault
 pub record RecordsFault (text : List ℕ) (f : LogFault) : Type 0 where

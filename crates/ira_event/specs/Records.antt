@@ -6,7 +6,6 @@ use Rattle.ira_event.specs.declared.log_fault.LogFault.{LogFault}
 use Rattle.ira_event.specs.Event.{is_event}
 use Rattle.ira_event.specs.LogText.{IsRecord, IsEnd}
 use Rattle.ira_event.specs.LogTextFault.{BeginsWithRecords, RestFault, RecordsFault, AreAllRecords}
-use Rattle.ira_event.specs.LogTextFault.{RestFault}
 
 -- what was not read yet, and how many records were
 pub record RecordsLeft : Type 0 where

@@ -1,4 +1,6 @@
-use super::*;
+use ira_cert_text::{
+    CertFault, CertStep, Certificate, Section, read_cert, write_cert,
+};
 use ira_event::{MemorySink, RingSize};
 use std::alloc::Global;
 use std::process::Abort;
@@ -132,20 +134,6 @@ fn prefixes_of_two_step_section(rt: HostRuntime) -> Result<(), Fail> {
     let mut twice = Vec::from_slice(rt.alloc(), TWO_STEP_SECTION)?;
     twice.extend_from_slice(TWO_STEP_SECTION)?;
     assert_eq!(rt; answer(rt.alloc(), &twice), Err(CertFault::Trailing));
-    Ok(())
-}
-
-#[test]
-fn too_many_sections(rt: HostRuntime) -> Result<(), Fail> {
-    let mut lines = Vec::new(rt.alloc());
-    for _ in 0..MAX_SECTIONS {
-        lines.extend_from_slice(b"section\nspent 0\n")?;
-    }
-    let mut more = Vec::from_slice(rt.alloc(), &lines)?;
-    lines.extend_from_slice(b"end\n")?;
-    assert_eq!(rt; answer_lines(rt.alloc(), &lines)?, Ok(2_016));
-    more.extend_from_slice(b"section\n")?;
-    assert_eq!(rt; answer_lines(rt.alloc(), &more)?, Err(CertFault::TooMany));
     Ok(())
 }
 

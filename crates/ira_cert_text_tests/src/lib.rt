@@ -1,0 +1,7 @@
+//! Tests of `ira_cert_text`.
+#![tactic(auto)]
+
+#[cfg(test)]
+mod size_tests;
+#[cfg(test)]
+mod tests;
