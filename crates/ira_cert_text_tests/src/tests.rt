@@ -1,6 +1,4 @@
-use ira_cert_text::{
-    CertFault, CertStep, Certificate, Section, read_cert, write_cert,
-};
+use ira_cert_text::{CertFault, CertStep, Certificate, Section, read_cert, write_cert};
 use ira_event::{MemorySink, RingSize};
 use std::alloc::Global;
 use std::process::Abort;
