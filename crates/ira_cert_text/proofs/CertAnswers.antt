@@ -79,7 +79,7 @@ lines_refused text nodes rest f short b (inr h) = inr (inr (short, behind_head n
 ok_is : (a b : Certificate) → ◌≡◌ {A = Result Certificate CertFault} (Ok a) (Ok b) → a ≡ b
 ok_is a b e = cc
 
-err_is : (f g : CertFault) → ◌≡◌ {A = Result Certificate CertFault} (Err f) (Err g) → f ≡ g
+pub err_is : (f g : CertFault) → ◌≡◌ {A = Result Certificate CertFault} (Err f) (Err g) → f ≡ g
 err_is f g e = cc
 
 pub exactly_ok : (r : Result Certificate CertFault) (text : List ℕ) → CertificateRead r text → AnswersCertificates r text

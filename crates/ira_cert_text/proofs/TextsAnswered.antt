@@ -6,7 +6,6 @@ use Rattle.ira_event.specs.Limits.{MAX_RECORDS, MAX_TEXT}
 use Rattle.ira_event.specs.RingSize.{IsRingSize}
 use Rattle.ira_event.specs.Scan.{after_word}
 use Rattle.ira_event.proofs.LogReading.{line_end_at}
-use Rattle.ira_event.proofs.NextLines.{next_fault_other}
 use Rattle.ira_event.proofs.RecordLines.{word-takes}
 use Rattle.ira_event.proofs.TextsAnswered.{Decided, begins_decided}
 use Rattle.ira_cert_text.specs.declared.cert_fault.CertFault.{CertFault}
@@ -19,11 +18,11 @@ use Rattle.ira_cert_text.specs.declared.cert_lines.SectionLine.TheVariants.{Step
 use Rattle.ira_cert_text.specs.declared.cert_step.CertStep.{CertStep}
 use Rattle.ira_cert_text.specs.Limits.{MAX_SECTIONS, MAX_STEPS}
 use Rattle.ira_cert_text.specs.Certificate.{Section, Certificate, IsStep}
-use Rattle.ira_cert_text.specs.CertLaws.{EachTextHasAnAnswer, NoTextIsOutOfMemory}
+use Rattle.ira_cert_text.specs.CertLaws.{EachTextHasAnAnswer}
 use Rattle.ira_cert_text.specs.CertLines.{LinesLeft, ReadsOutside, ReadsInside, HasSteps, ReadsSection}
 use Rattle.ira_cert_text.specs.CertScan.{as_step, section_line_at, head_at}
 use Rattle.ira_cert_text.specs.CertText.{IsCertText}
-use Rattle.ira_cert_text.specs.CertTextFault.{OutsideFault, too_many_sections, no_section_or_end, trailing, InsideFault, too_many_steps, no_step_or_spent, step_range, spent_range, RestOutsideFault, RestInsideFault, BeginsWithCertHead, BeginsWithSections, SectionsFault, outside, inside, CertLinesFault, no_head, behind_head, CertTextFault}
+use Rattle.ira_cert_text.specs.CertTextFault.{RestOutsideFault, RestInsideFault, BeginsWithCertHead, BeginsWithSections, SectionsFault, no_head, behind_head, CertTextFault}
 use Rattle.ira_cert_text.proofs.CertAnswers.{certificate_of, certificate_read}
 use Rattle.ira_cert_text.proofs.Heads as heads
 use Rattle.ira_cert_text.proofs.Reading as reading
@@ -201,28 +200,3 @@ each_answered text = elim (cases_lt MAX_TEXT (length text)) [
   | inl long ↦ inr (fault.TooLong, inl (long, refl))
   | inr short ↦ by_head text (head_at text) short refl
 ]
-
--- ---- no text is out of memory
-
-outside_memory : (k n : ℕ) (line more : List ℕ) → OutsideFault k n line more fault.OutOfMemory → ⊥
-outside_memory k n line more (too_many_sections a b e) = absurd cc
-outside_memory k n line more (no_section_or_end a b e) = absurd cc
-outside_memory k n line more (trailing a b e) = absurd cc
-
-inside_memory : (nodes k n : ℕ) (line : List ℕ) → InsideFault nodes k n line fault.OutOfMemory → ⊥
-inside_memory nodes k n line (too_many_steps a b e) = absurd cc
-inside_memory nodes k n line (no_step_or_spent a b c e) = absurd cc
-inside_memory nodes k n line (step_range s a b c e) = absurd cc
-inside_memory nodes k n line (spent_range m a b e) = absurd cc
-
-sections_memory : (nodes : ℕ) (text : List ℕ) → SectionsFault nodes text fault.OutOfMemory → ⊥
-sections_memory nodes text (outside ss rest b d) = next_fault_other fault.Cut _ rest fault.OutOfMemory (λ q. absurd cc) (outside_memory _ (length ss)) d
-sections_memory nodes text (inside ss steps body rest b few c d) = next_fault_other fault.Cut _ rest fault.OutOfMemory (λ q. absurd cc) (λ line more. inside_memory nodes _ (length steps) line) d
-
-lines_memory : (text : List ℕ) → CertLinesFault text fault.OutOfMemory → ⊥
-lines_memory text (no_head a e) = absurd cc
-lines_memory text (behind_head n rest b h) = sections_memory n rest h
-
-pub not_out_of_memory : NoTextIsOutOfMemory
-not_out_of_memory text (inl a) = absurd cc
-not_out_of_memory text (inr a) = lines_memory text a.1

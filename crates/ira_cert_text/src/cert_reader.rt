@@ -1,5 +1,7 @@
-ghost use Rattle.std.specs.Prelude.{◌≡◌};
+ghost use Rattle.std.specs.Prelude.{◌≡◌, ◌↔◌};
 ghost use Rattle.ira_cert_text.specs.CertAnswer.{AnswersCertificates, AnswersFaults};
+ghost use Rattle.ira_cert_text.specs.declared.cert_fault.CertFault.{CertFault};
+ghost use Rattle.ira_cert_text.specs.CertTextFault.{CertTextFault};
 ghost use Rattle.ira_cert_text.specs.CertLines.{ReadsSection, SectionsRead};
 
 use crate::cert_fault::CertFault;
@@ -14,6 +16,10 @@ use std::alloc::Allocator;
 pub fn read_cert<A: Allocator + Clone>(alloc: A, text: &[u8]) -> Result<Certificate<A>, CertFault>
     ensures ok { AnswersCertificates result text.now }
     ensures err { AnswersFaults result text.now }
+
+    // These two are answered whatever memory does.
+    ensures too_long { (result ≡ Err CertFault.TooLong) ↔ CertTextFault text.now CertFault.TooLong }
+    ensures head { (result ≡ Err CertFault.Head) ↔ CertTextFault text.now CertFault.Head }
 {
     if text.len() > MAX_TEXT {
         return Err(CertFault::TooLong);

@@ -1,4 +1,5 @@
 pub mod Digits
+pub mod EarlyFaults
 pub mod Gathering
 pub mod Heads
 pub mod LineWords

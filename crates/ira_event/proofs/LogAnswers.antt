@@ -108,7 +108,7 @@ lines_refused text nodes place initiator rest f short b (inr h) = inr (inr (shor
 ok_is : (a b : Log) → ◌≡◌ {A = Result Log LogFault} (Ok a) (Ok b) → a ≡ b
 ok_is a b e = cc
 
-err_is : (f g : LogFault) → ◌≡◌ {A = Result Log LogFault} (Err f) (Err g) → f ≡ g
+pub err_is : (f g : LogFault) → ◌≡◌ {A = Result Log LogFault} (Err f) (Err g) → f ≡ g
 err_is f g e = cc
 
 pub exactly_ok : (r : Result Log LogFault) (text : List ℕ) → LogRead r text → (log : Log) → UnlessErr r OutOfMemory ((r ≡ Ok log) ↔ IsLogText text log)

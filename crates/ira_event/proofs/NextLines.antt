@@ -1,5 +1,5 @@
 -- What stands where a line is due has one fault.
-use Rattle.std.proofs.Common.{◌≡◌, ◌≢◌, ℕ, List, sym, ◌∙◌, subst}
+use Rattle.std.proofs.Common.{◌≡◌, ℕ, List, sym, ◌∙◌, subst}
 use Rattle.ira_event.specs.NextLine.{HasNoLineFeed, NextLineFault, cut, at_line}
 use Rattle.ira_event.proofs.Pieces.{line_same, line_has_feed}
 
@@ -13,7 +13,8 @@ next_faults_same unended F one rest f g (at_line l m e w h) (at_line l' m' e' w'
     let s = line_same l l' m m' w w' (sym e ∙ e') in
     one l' m' f g (subst (λ t. F t m' f) s.0 (subst (λ t. F l t f) s.1 h)) h'
 
--- where no line has the fault, what stands there hasn't
-pub next_fault_other : {E : Type 0} (unended : E) (F : List ℕ → List ℕ → E → Type 0) (rest : List ℕ) (f : E) → unended ≢ f → ((line more : List ℕ) → ¬ (F line more f)) → ¬ (NextLineFault unended F rest f)
-next_fault_other unended F rest f differs none (cut a e) = differs (sym e)
-next_fault_other unended F rest f differs none (at_line line more a b h) = none line more h
+-- what holds of the fault of each line, and of an unended line's, holds of it
+pub next_fault_is : {E : Type 0} (unended : E) (F : List ℕ → List ℕ → E → Type 0) (P : E → Type 0) → P unended → ((line more : List ℕ) (f : E) → F line more f → P f)
+    → (rest : List ℕ) (f : E) → NextLineFault unended F rest f → P f
+next_fault_is unended F P at_cut each rest f (cut a e) = subst P (sym e) at_cut
+next_fault_is unended F P at_cut each rest f (at_line line more a b h) = each line more f h

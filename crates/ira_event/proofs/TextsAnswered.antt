@@ -12,9 +12,9 @@ use Rattle.ira_event.specs.declared.log_line.LogLine.TheVariants.{Record, End}
 use Rattle.ira_event.specs.Event.{is_event}
 use Rattle.ira_event.specs.Log.{Log}
 use Rattle.ira_event.specs.LogScan.{line_at, head_at}
-use Rattle.ira_event.specs.LogLaws.{EachTextHasAnAnswer, NoTextIsOutOfMemory}
+use Rattle.ira_event.specs.LogLaws.{EachTextHasAnAnswer}
 use Rattle.ira_event.specs.LogText.{IsLogText}
-use Rattle.ira_event.specs.LogTextFault.{BeginsAsRecord, BeginsWithHead, LineFault, too_many, no_line, out_of_range, other_count, trailing, RestFault, RecordsFault, LinesFault, no_head, behind_head, LogTextFault, AreAllRecords}
+use Rattle.ira_event.specs.LogTextFault.{BeginsAsRecord, BeginsWithHead, RestFault, RecordsFault, no_head, behind_head, LogTextFault, AreAllRecords}
 use Rattle.ira_event.specs.NextLine.{cut}
 use Rattle.ira_event.specs.Records.{RecordsLeft, ReadsOn, HasRead}
 use Rattle.ira_event.specs.RingSize.{IsRingSize}
@@ -22,7 +22,6 @@ use Rattle.ira_event.specs.Scan.{after_word}
 use Rattle.ira_event.proofs.Heads as heads
 use Rattle.ira_event.proofs.LogAnswers.{log_of, log_read}
 use Rattle.ira_event.proofs.LogReading.{reads_record, at_end, fault_too_many, fault_range, fault_count, fault_trailing, behind_nothing, behind_more, behind_all, behind_fault, record_shorter, no_line_end, line_end_at, fault_unread_too_many, fault_line}
-use Rattle.ira_event.proofs.NextLines.{next_fault_other}
 use Rattle.ira_event.proofs.RecordLines.{word-takes, word-again}
 
 -- the fact holds, or it doesn't
@@ -150,20 +149,3 @@ each_answered text = elim (cases_lt MAX_TEXT (length text)) [
   | inl long ↦ inr (fault.TooLong, inl (long, refl))
   | inr short ↦ by_head text (head_at text) short refl
 ]
-
--- ---- no text is out of memory
-
-line_memory : (k : ℕ) (line more : List ℕ) → LineFault k line more fault.OutOfMemory → ⊥
-line_memory k line more (too_many a b e) = absurd cc
-line_memory k line more (no_line a b c e) = absurd cc
-line_memory k line more (out_of_range x a b c e) = absurd cc
-line_memory k line more (other_count n a b e) = absurd cc
-line_memory k line more (trailing a b e) = absurd cc
-
-lines_memory : (text : List ℕ) → LinesFault text fault.OutOfMemory → ⊥
-lines_memory text (no_head a e) = absurd cc
-lines_memory text (behind_head n p i rest b h) = next_fault_other fault.Cut (LineFault (length h.events)) h.rest fault.OutOfMemory (λ q. absurd cc) (line_memory (length h.events)) h.fault
-
-pub not_out_of_memory : NoTextIsOutOfMemory
-not_out_of_memory text (inl a) = absurd cc
-not_out_of_memory text (inr a) = lines_memory text a.1

@@ -18,6 +18,10 @@ use std::alloc::Allocator;
 pub fn read_log<A: Allocator>(alloc: A, text: &[u8]) -> Result<NodeLog<A>, LogFault>
     ensures ok { (log : Log) → UnlessErr result LogFault.OutOfMemory ((result ≡ Ok log) ↔ IsLogText text.now log) }
     ensures err { (f : LogFault) → UnlessErr result LogFault.OutOfMemory ((result ≡ Err f) ↔ LogTextFault text.now f) }
+
+    // These two are answered whatever memory does.
+    ensures too_long { (result ≡ Err LogFault.TooLong) ↔ LogTextFault text.now LogFault.TooLong }
+    ensures head { (result ≡ Err LogFault.Head) ↔ LogTextFault text.now LogFault.Head }
 {
     let (head, records) = open_log(text)?;
     let events = read_events(alloc, records)?;

@@ -1,5 +1,6 @@
 use Rattle.ira_cert_text.proofs.CertAnswers.{certificate_or_fault, one_fault}
-use Rattle.ira_cert_text.proofs.TextsAnswered.{each_answered, not_out_of_memory}
+use Rattle.ira_cert_text.proofs.EarlyFaults.{not_out_of_memory}
+use Rattle.ira_cert_text.proofs.TextsAnswered.{each_answered}
 use Rattle.ira_cert_text.proofs.laws.a_certificate_text_has_one_answer.Goals as goal
 
 pub returns-clause-answered : goal.returns-clause-answered
