@@ -2,10 +2,12 @@
 //! law that makes this matter.
 #![tactic(auto)]
 
+mod laws;
 mod section_fault;
 mod unsound;
 mod verdict;
 
+pub use laws::{a_section_has_one_verdict, sound_sections_leave_no_cut};
 pub use section_fault::SectionFault;
 pub use unsound::Unsound;
 pub use verdict::Verdict;
