@@ -1,4 +1,5 @@
 pub mod Answer
+pub mod GoodLogs
 pub mod LogTexts
 pub mod LogsAnswer
 pub mod Refusal

@@ -17,6 +17,3 @@ pub use reason::Reason;
 pub use report::write_report;
 pub use ring_audit::RingAudit;
 pub use ring_logs::audit_logs;
-
-#[cfg(test)]
-mod tests;
