@@ -4,7 +4,7 @@ use Rattle.ira_event.specs.Log.{Log}
 use Rattle.ira_order.specs.Circle.{HasOrder}
 use Rattle.ira_order.specs.Ordered.{Ordered, IsOrdered}
 use Rattle.ira_order.proofs.RunsOfLogs.{every_order_is_run, unmatched_no_run, circled_no_run, faulty_no_run}
-use Rattle.ira_audit.specs.declared.reason.Reason.TheVariants.{Log as LogReason, Heads, Match, Circle, Replay}
+use Rattle.ira_audit.specs.declared.reason.Reason.TheVariants.{Match, Circle, Replay}
 use Rattle.ira_audit.specs.declared.answer.Answer.{Answer}
 use Rattle.ira_audit.specs.declared.answer.Answer.TheVariants.{Yes, No}
 use Rattle.ira_audit.specs.GoodLogs.{AreGoodLogs}
@@ -36,12 +36,10 @@ yes_runs texts a (yes logs good e) is = good_runs texts logs good
 
 -- answers that speak of the logs of a ring together
 abbrev pub IsOfRing : Answer → Type 0
-IsOfRing Yes = ⊥
-IsOfRing (No (LogReason number f)) = ⊥
-IsOfRing (No (Heads f)) = ⊥
 IsOfRing (No (Match f)) = Unit {0}
 IsOfRing (No Circle) = Unit {0}
 IsOfRing (No (Replay place position f)) = Unit {0}
+IsOfRing _ = ⊥
 
 -- texts of a ring's logs that are answered no
 pub no_without_run : (texts : List (List ℕ)) (a : Answer) → IsLogsAnswer texts a → IsOfRing a → AreTextsWithoutRun texts
