@@ -11,11 +11,12 @@ use Rattle.ira_node.specs.declared.node_state.NodeState.{NodeState}
 use Rattle.ira_node.specs.NodeState.{first_state}
 use Rattle.ira_pred.specs.ClauseAnswer.{holds_test}
 use Rattle.ira_pred.specs.Formula.{Formula}
-use Rattle.ira_replay.specs.StatesOfLog.{ArePlacedStates}
+use Rattle.ira_replay.specs.StatesOfLog.{AreStates, ArePlacedStates}
 use Rattle.ira_replay.proofs.Along.{are_placed_states}
 use Rattle.ira_replay.proofs.Reached.{one_list}
 use Rattle.ira_cand.specs.Holding.{positions_passing}
-use Rattle.ira_cand.specs.Candidates.{MeetsAt, AreCandidates}
+use Rattle.ira_cand.specs.HoldsAt.{HoldsAt}
+use Rattle.ira_cand.specs.Candidates.{AreCandidates}
 use Rattle.ira_cand.specs.CandidatesFound.{candidates_of}
 use Rattle.ira_cand.proofs.Clauses.{holds_exactly}
 use Rattle.ira_cand.proofs.Rising.{contains_behind, contains_first, same_rising}
@@ -77,28 +78,33 @@ passing_is_member test p (t ∷ ts) (suc k) s g pass =
 -- ---- the candidates of a log
 
 -- a position of the list is one at which the formula holds
-meets : (f : Formula) (ts : List NodeState) (a : ℕ) → Contains (positions_passing (holds_test f) (enumerate_from 0 ts)) a → MeetsAt ts f a
-meets f ts a c =
+holds_at : (log : Log) (f : Formula) (ts : List NodeState) (a : ℕ) → AreStates log.nodes (first_state log.initiator) log.events ts → Contains (positions_passing (holds_test f) (enumerate_from 0 ts)) a → HoldsAt log f a
+holds_at log f ts a are c =
     let h : PassesFrom 0 ts (holds_test f) a = member_passes (holds_test f) 0 ts a c in
     let same : h.0 ≡ a = omega (arith, h.1) in
-    (h.2, subst (λ k. slice_get ts k ≡ Some h.2) same h.3, (holds_exactly f h.2).0 h.4)
+    record {
+      states = ts;
+      states_are = are;
+      state = h.2;
+      at = subst (λ k. slice_get ts k ≡ Some h.2) same h.3;
+      holds = (holds_exactly f h.2).0 h.4;
+    }
 
-is_met : (f : Formula) (ts : List NodeState) (a : ℕ) → MeetsAt ts f a → Contains (positions_passing (holds_test f) (enumerate_from 0 ts)) a
-is_met f ts a h =
+is_position : (log : Log) (f : Formula) (ts : List NodeState) (a : ℕ) → AreStates log.nodes (first_state log.initiator) log.events ts → HoldsAt log f a → Contains (positions_passing (holds_test f) (enumerate_from 0 ts)) a
+is_position log f ts a are h =
     let xs : List ℕ = positions_passing (holds_test f) (enumerate_from 0 ts) in
-    subst (λ q. Contains xs q) {x = 0 + a} {y = a} (omega arith) (passing_is_member (holds_test f) 0 ts a h.0 h.1 ((holds_exactly f h.0).1 h.2))
+    let same = one_list log.nodes (first_state log.initiator) log.events h.states ts h.states_are are in
+    subst (λ q. Contains xs q) {x = 0 + a} {y = a} (omega arith) (passing_is_member (holds_test f) 0 ts a h.state (subst (λ us. slice_get us a ≡ Some h.state) same h.at) ((holds_exactly f h.state).1 h.holds))
 
 pub are_candidates : (log : Log) (f : Formula) → AreCandidates log f (candidates_of log f)
 are_candidates log f =
     let s : NodeState = first_state log.initiator in
     let h : ArePlacedStates log.nodes s log.events _ = are_placed_states log.nodes s log.events in
     record {
-      states = h.0;
-      states_are = h.1;
       rising = subst (λ xs. IsStrictlyIncreasing (positions_passing (holds_test f) xs)) (sym h.2) (passing_rise (holds_test f) 0 h.0 s);
       members = λ a. (
-        λ c. meets f h.0 a (subst (λ xs. Contains (positions_passing (holds_test f) xs) a) h.2 c),
-        λ k. subst (λ xs. Contains (positions_passing (holds_test f) xs) a) (sym h.2) (is_met f h.0 a k),
+        λ c. holds_at log f h.0 a h.1 (subst (λ xs. Contains (positions_passing (holds_test f) xs) a) h.2 c),
+        λ k. subst (λ xs. Contains (positions_passing (holds_test f) xs) a) (sym h.2) (is_position log f h.0 a h.1 k),
       );
     }
 
@@ -107,8 +113,4 @@ are_candidates_as log f xs e = subst (λ ys. AreCandidates log f ys) (sym e) (ar
 
 pub one_list_of_candidates : (log : Log) (f : Formula) (xs ys : List ℕ) → AreCandidates log f xs → AreCandidates log f ys → xs ≡ ys
 one_list_of_candidates log f xs ys h k =
-    let same = one_list log.nodes (first_state log.initiator) log.events h.states k.states h.states_are k.states_are in
-    same_rising xs ys h.rising k.rising (λ a. (
-      λ c. (k.members a).1 (subst (λ ts. MeetsAt ts f a) same ((h.members a).0 c)),
-      λ c. (h.members a).1 (subst (λ ts. MeetsAt ts f a) (sym same) ((k.members a).0 c)),
-    ))
+    same_rising xs ys h.rising k.rising (λ a. (λ c. (k.members a).1 ((h.members a).0 c), λ c. (h.members a).1 ((k.members a).0 c)))
