@@ -1,0 +1,7 @@
+pub mod Asked
+pub mod Front
+pub mod Fronts
+pub mod Laws
+pub mod SectionFault
+pub mod SoundSection
+pub mod Verdict
