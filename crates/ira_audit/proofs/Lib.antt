@@ -1,5 +1,9 @@
 pub mod Judging
 pub mod LogTexts
 pub mod OneAnswer
+pub mod OneAuditAnswer
+pub mod Places
 pub mod Replaying
+pub mod Sections
+pub mod Stages
 pub mod TextRuns

@@ -13,7 +13,8 @@ use Rattle.ira_cert_text.specs.Certificate.{Section, Certificate}
 use Rattle.ira_cert_text.specs.CertText.{IsCertText}
 use Rattle.ira_cert_text.specs.CertTextFault.{CertTextFault}
 use Rattle.ira_cert.specs.declared.section_fault.SectionFault.{SectionFault}
-use Rattle.ira_cert.specs.Section.{IsSoundSection, IsSectionFault}
+use Rattle.ira_cert.specs.SectionFault.{IsSectionFault}
+use Rattle.ira_cert.specs.SoundSection.{IsSoundSection}
 use Rattle.ira_audit.specs.declared.reason.Reason.{Reason}
 use Rattle.ira_audit.specs.declared.reason.Reason.TheVariants as reason
 use Rattle.ira_audit.specs.declared.answer.Answer.{Answer}

@@ -12,8 +12,12 @@ use Rattle.ira_pred.specs.declared.ask_fault.AskFault.{AskFault}
 use Rattle.ira_pred.specs.declared.ask_fault.AskFault.TheVariants as ask
 use Rattle.ira_cert_text.specs.declared.cert_fault.CertFault.{CertFault}
 use Rattle.ira_cert_text.specs.declared.cert_fault.CertFault.TheVariants as cert
+use Rattle.ira_cert.specs.declared.section_fault.SectionFault.{SectionFault}
+use Rattle.ira_cert.specs.declared.section_fault.SectionFault.TheVariants.{Step, NotSpent}
+use Rattle.ira_cert.specs.declared.unsound.Unsound.{Unsound}
+use Rattle.ira_cert.specs.declared.unsound.Unsound.TheVariants.{NotAsked, SameNode, NodeSpent, NotFront, NotBefore}
 use Rattle.ira_audit.specs.declared.reason.Reason.{Reason}
-use Rattle.ira_audit.specs.declared.reason.Reason.TheVariants.{Log, Heads, Match, Circle, Replay, Question, QuestionSize, Certificate, CertificateSize, Sections}
+use Rattle.ira_audit.specs.declared.reason.Reason.TheVariants.{Log, Heads, Match, Circle, Replay, Question, QuestionSize, Certificate, CertificateSize, Sections, Section}
 use Rattle.ira_audit.specs.declared.answer.Answer.{Answer}
 use Rattle.ira_audit.specs.declared.answer.Answer.TheVariants.{Yes, No}
 
@@ -84,6 +88,19 @@ cert_fault_words cert.Cut = codes "cut"
 cert_fault_words cert.Trailing = codes "trailing"
 cert_fault_words cert.OutOfMemory = []
 
+-- why a step isn't sound, in words
+abbrev pub unsound_words : Unsound → List ℕ
+unsound_words NotAsked = codes "not asked"
+unsound_words SameNode = codes "same node"
+unsound_words NodeSpent = codes "node spent"
+unsound_words NotFront = codes "not front"
+unsound_words NotBefore = codes "not before"
+
+-- why a section isn't sound, in words
+abbrev pub section_fault_words : SectionFault → List ℕ
+section_fault_words (Step k why) = numbered (codes "step ") k ++ codes ": " ++ unsound_words why
+section_fault_words (NotSpent node) = numbered (codes "node ") node ++ codes " not spent"
+
 -- the reason in words
 abbrev pub reason_words : Reason → List ℕ
 reason_words (Log number fault) = numbered (codes "no: log ") number ++ codes ": " ++ log_fault_words fault
@@ -98,6 +115,7 @@ reason_words (Certificate fault) = codes "no: certificate: " ++ cert_fault_words
 reason_words CertificateSize = codes "no: certificate: other ring size"
 reason_words (Sections wanted found) =
     numbered (codes "no: sections: ") wanted ++ numbered (codes " wanted, ") found ++ codes " found"
+reason_words (Section case fault) = numbered (codes "no: case ") case ++ codes ": " ++ section_fault_words fault
 
 -- the line of an answer
 abbrev pub report_line : Answer → List ℕ
@@ -116,6 +134,7 @@ IsReportableReason QuestionSize = ⊤
 IsReportableReason (Certificate fault) = fault ≢ cert.OutOfMemory
 IsReportableReason CertificateSize = ⊤
 IsReportableReason (Sections wanted found) = ⊤
+IsReportableReason (Section case fault) = ⊤
 
 -- the answer holds no want of memory
 abbrev pub IsReportable : Answer → Type 0

@@ -1,3 +1,4 @@
+use ira_cert::SectionFault;
 use ira_cert_text::CertFault;
 use ira_event::{HeadFault, LogFault};
 use ira_node::StepFault;
@@ -36,5 +37,10 @@ pub enum Reason {
     Sections {
         wanted: usize,
         found: usize,
+    },
+    /// A section isn't sound for its case, the first such. Cases and their sections count from 0.
+    Section {
+        case: usize,
+        fault: SectionFault,
     },
 }

@@ -1,9 +1,10 @@
 ghost use Rattle.std.specs.Prelude.{◌≡◌, ◌≢◌, ◌++◌, codes, decimal};
 ghost use Rattle.ira_event.specs.Sink.{Wrote};
-ghost use Rattle.ira_audit.specs.Report.{log_fault_words, ask_fault_words, cert_fault_words, head_fault_words, receipt_words, match_fault_words, step_fault_words, reason_words, report_line, IsReportable, IsReportableReason};
+ghost use Rattle.ira_audit.specs.Report.{log_fault_words, ask_fault_words, cert_fault_words, head_fault_words, receipt_words, match_fault_words, step_fault_words, unsound_words, section_fault_words, reason_words, report_line, IsReportable, IsReportableReason};
 
 use crate::answer::Answer;
 use crate::reason::Reason;
+use ira_cert::{SectionFault, Unsound};
 use ira_cert_text::CertFault;
 use ira_event::{HeadFault, LogFault, Sink, WriteFault, write_bytes, write_number};
 use ira_node::StepFault;
@@ -188,6 +189,53 @@ fn write_sections_reason<W: Sink>(wanted: u64, found: u64, sink: &mut W) -> Resu
     write_bytes(b" found", sink)
 }
 
+fn unsound_text(why: Unsound) -> &'static [u8]
+    ensures { result.now ≡ unsound_words why }
+{
+    match why {
+        Unsound::NotAsked => b"not asked",
+        Unsound::SameNode => b"same node",
+        Unsound::NodeSpent => b"node spent",
+        Unsound::NotFront => b"not front",
+        Unsound::NotBefore => b"not before",
+    }
+}
+
+#[tactic(auto, using(ira_event::proofs::Writing::writes))]
+fn write_step_fault<W: Sink>(k: u64, why: Unsound, sink: &mut W) -> Result<(), WriteFault>
+    ensures { Wrote result (section_fault_words (SectionFault.Step k why)) (W.taken sink.old) (W.failures sink.old) (W.taken sink.new) (W.failures sink.new) }
+{
+    write_numbered(b"step ", k, sink)?;
+    write_bytes(b": ", sink)?;
+    write_bytes(unsound_text(why), sink)
+}
+
+#[tactic(auto, using(ira_event::proofs::Writing::writes))]
+fn write_unspent<W: Sink>(node: u64, sink: &mut W) -> Result<(), WriteFault>
+    ensures { Wrote result (section_fault_words (SectionFault.NotSpent node)) (W.taken sink.old) (W.failures sink.old) (W.taken sink.new) (W.failures sink.new) }
+{
+    write_numbered(b"node ", node, sink)?;
+    write_bytes(b" not spent", sink)
+}
+
+fn write_section_fault<W: Sink>(fault: SectionFault, sink: &mut W) -> Result<(), WriteFault>
+    ensures { Wrote result (section_fault_words fault) (W.taken sink.old) (W.failures sink.old) (W.taken sink.new) (W.failures sink.new) }
+{
+    match fault {
+        SectionFault::Step(k, why) => write_step_fault(k as u64, why, sink),
+        SectionFault::NotSpent(node) => write_unspent(u64::from(node), sink),
+    }
+}
+
+#[tactic(auto, using(ira_event::proofs::Writing::writes))]
+fn write_section_reason<W: Sink>(case: u64, fault: SectionFault, sink: &mut W) -> Result<(), WriteFault>
+    ensures { Wrote result (reason_words (Reason.Section case fault)) (W.taken sink.old) (W.failures sink.old) (W.taken sink.new) (W.failures sink.new) }
+{
+    write_numbered(b"no: case ", case, sink)?;
+    write_bytes(b": ", sink)?;
+    write_section_fault(fault, sink)
+}
+
 fn write_reason<W: Sink>(reason: &Reason, sink: &mut W) -> Result<(), WriteFault>
     requires { IsReportableReason reason.now }
     ensures { Wrote result (reason_words reason.now) (W.taken sink.old) (W.failures sink.old) (W.taken sink.new) (W.failures sink.new) }
@@ -209,6 +257,7 @@ fn write_reason<W: Sink>(reason: &Reason, sink: &mut W) -> Result<(), WriteFault
         Reason::Sections { wanted, found } => {
             write_sections_reason(wanted as u64, found as u64, sink)
         }
+        Reason::Section { case, fault } => write_section_reason(case as u64, fault, sink),
     }
 }
 
