@@ -3,7 +3,8 @@ pub mod LogTexts
 pub mod OneAnswer
 pub mod OneAuditAnswer
 pub mod Places
+pub mod RefusedTexts
 pub mod Replaying
-pub mod Sections
+pub mod SoundSections
 pub mod Stages
 pub mod TextRuns

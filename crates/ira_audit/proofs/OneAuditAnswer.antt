@@ -31,7 +31,7 @@ use Rattle.ira_audit.specs.AuditAnswer.{Posed, AreSound, IsFirstUnsound, IsAudit
 use Rattle.ira_audit.proofs.LogTexts.{one_list}
 use Rattle.ira_audit.proofs.OneAnswer.{one_logs_answer}
 use Rattle.ira_audit.proofs.Places.{different_places}
-use Rattle.ira_audit.proofs.Sections.{one_first_unsound, sound_or_first_unsound}
+use Rattle.ira_audit.proofs.SoundSections.{one_first_unsound, sound_or_first_unsound}
 use Rattle.ira_audit.proofs.Stages.{Stage, one_of_stage}
 
 -- ---- the stages, the last one first
@@ -105,7 +105,7 @@ one_unit x y = refl
 one_sound : (logs : List Log) (cases : List (List Conjunct)) (sections : List Section) → ((i : ℕ) (case : List Conjunct) → slice_get cases i ≡ Some case → HasDifferentPlaces case)
     → (a b : Answer) → SoundStage logs cases sections a → SoundStage logs cases sections b → a ≡ b
 one_sound logs cases sections differ = one_of_stage _ _ _ _
-    (λ x z h k. let same = one_first_unsound logs cases sections differ x.0 z.0 x.1 z.1 h k in cc)
+    (λ x z h k. let same = one_first_unsound logs cases sections differ x.0 z.0 x.1 z.1 h k in ap (λ i. (i, x.1)) same.0 ∙ ap (λ f. (z.0, f)) same.1)
     (λ x y h sound. sound_or_first_unsound logs cases sections differ x.0 x.1 h sound)
     (λ y z h k. one_unit y z)
     (λ y a b h e d. e ∙ sym d)
