@@ -1,10 +1,21 @@
 -- The candidates of a case, place by place.
-use Rattle.std.specs.Prelude.{◌≡◌, ℕ, List, Option, Some, slice_get}
+use Rattle.std.specs.Prelude.{◌≡◌, ℕ, ◌≤◌, List, Option, Some, length, slice_get, drop}
 use Rattle.ira_event.specs.Log.{Log}
 use Rattle.ira_pred.specs.Case.{Conjunct}
+use Rattle.ira_cert_text.specs.declared.cert_step.CertStep.{CertStep}
 use Rattle.ira_cert.specs.Asked.{IsAsked, CandidatesOf}
+use Rattle.ira_cert.specs.Front.{made}
 
 -- a list at each place that the case asks and at no other, and it has the candidates of that place
 pub record AreFronts (logs : List Log) (case : List Conjunct) (fronts : List (Option (List ℕ))) : Type 0 where
   pub asked : (i : ℕ) → IsAsked case i → (positions : List ℕ) × (slice_get fronts i ≡ Some (Some positions))
   pub lists : (i : ℕ) (positions : List ℕ) → slice_get fronts i ≡ Some (Some positions) → CandidatesOf logs case i positions
+
+-- The same behind these steps.
+
+-- the list of a place has the candidates left: all but the first, one for each of its eliminations
+pub record AreFrontsBehind (logs : List Log) (case : List Conjunct) (before : List CertStep) (fronts : List (Option (List ℕ))) : Type 0 where
+  pub asked : (i : ℕ) → IsAsked case i → (left : List ℕ) × (slice_get fronts i ≡ Some (Some left))
+  pub lists :
+      (i : ℕ) (left : List ℕ) → slice_get fronts i ≡ Some (Some left)
+      → (positions : List ℕ) × CandidatesOf logs case i positions × (made before i ≤ length positions) × (left ≡ drop (made before i) positions)

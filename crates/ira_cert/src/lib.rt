@@ -2,10 +2,18 @@
 //! law that makes this matter.
 #![tactic(auto)]
 
+mod fronts;
+mod laws;
+mod plain;
+mod positions;
 mod section_fault;
 mod unsound;
 mod verdict;
 
+pub use fronts::check_fronts;
+pub use laws::{a_section_has_one_verdict, sound_sections_leave_no_cut};
+pub use plain::check_plain;
+pub use positions::Positions;
 pub use section_fault::SectionFault;
 pub use unsound::Unsound;
 pub use verdict::Verdict;
