@@ -1,5 +1,6 @@
 pub mod Judging
 pub mod LogTexts
+pub mod NeverMet
 pub mod OneAnswer
 pub mod OneAuditAnswer
 pub mod Places

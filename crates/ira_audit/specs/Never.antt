@@ -1,6 +1,7 @@
 -- What a yes to a question says: that nothing which was asked was ever met.
 use Rattle.std.specs.Prelude.{◌≡◌, ◌≢◌, ℕ, ◌<◌, ◌≤◌, List, Some, length, slice_get, slice_index, take, Contains}
 use Rattle.ira_event.specs.Log.{Log}
+use Rattle.ira_event.specs.Logs.{AreLogs}
 use Rattle.ira_pred.specs.Formula.{leader}
 use Rattle.ira_pred.specs.Case.{Conjunct}
 use Rattle.ira_pred.specs.Question.{Asked}
@@ -20,12 +21,13 @@ use Rattle.ira_audit.specs.AuditAnswer.{IsAuditAnswer}
 abbrev pub NoCutMeetsAny : List Log → List (List Conjunct) → Type 0
 NoCutMeetsAny logs cases = (case : List Conjunct) (cut : List ℕ) → Contains cases case → IsConsistentCut logs cut → ¬ (Meets logs case cut)
 
--- the texts are those of logs, which have an order, and each order of them is a run of the ring; the
+-- the texts are those of a ring's logs, which have an order, and each order of them is a run of the ring; the
 -- question is that of some cases; and no consistent cut of the logs meets any of these
 pub record IsNeverMet (texts : List (List ℕ)) (question : List ℕ) : Type 0 where
   pub logs : List Log
   pub asked : Asked
   pub logs_are : AreLogTexts texts logs
+  pub ring : AreLogs logs
   pub question_is : IsQuestionText question asked
   pub order : HasOrder logs
   pub runs : EveryOrderIsRun logs

@@ -64,12 +64,12 @@ IsTextReason texts r = (number : ℕ) × (f : LogFault) × IsFirstTextFault text
 -- why the text isn't that of a question asked of a ring of so many nodes
 abbrev pub IsQuestionRefusal : List ℕ → ℕ → Reason → Type 0
 IsQuestionRefusal text nodes r =
-    ((f : AskFault) × QuestionTextFault text f × (r ≡ Question f))
+    ((f : AskFault) × QuestionTextFault text f × (f ≢ ask.OutOfMemory) × (r ≡ Question f))
     ⊎ ((asked : Asked) × IsQuestionText text asked × (asked.nodes ≢ nodes) × (r ≡ QuestionSize))
 
 -- why the text isn't that of a certificate for a ring of so many nodes and so many cases
 pub data IsCertificateRefusal (text : List ℕ) (nodes cases : ℕ) (r : Reason) : Type 0 where
-  no_certificate : (f : CertFault) → CertTextFault text f → r ≡ Certificate f → IsCertificateRefusal text nodes cases r
+  no_certificate : (f : CertFault) → CertTextFault text f → f ≢ cert.OutOfMemory → r ≡ Certificate f → IsCertificateRefusal text nodes cases r
   other_size : (c : certificate.Certificate) → IsCertText text c → c.nodes ≢ nodes → r ≡ CertificateSize → IsCertificateRefusal text nodes cases r
   other_number :
       (c : certificate.Certificate) → IsCertText text c → c.nodes ≡ nodes → length c.sections ≢ cases

@@ -1,5 +1,6 @@
 ghost use Rattle.std.specs.Prelude.{◌≡◌, ◌≢◌, ◌↔◌, ◌≤◌, ◌⊎◌, ℕ, List, Ok, IfOk, Contains, length, map};
 ghost use Rattle.ira_event.specs.Log.{Log};
+ghost use Rattle.ira_event.specs.Logs.{AreLogs};
 ghost use Rattle.ira_event.specs.Result.{UnlessErr};
 ghost use Rattle.ira_order.specs.Circle.{HasOrder};
 ghost use Rattle.ira_order.specs.Cut.{IsConsistentCut};
@@ -15,6 +16,7 @@ ghost use Rattle.ira_cert_text.specs.Certificate.{Certificate};
 ghost use Rattle.ira_cert_text.specs.CertText.{IsCertText};
 ghost use Rattle.ira_cert_text.specs.CertTextFault.{CertTextFault};
 ghost use Rattle.ira_audit.specs.AuditAnswer.{IsAuditAnswer};
+ghost use Rattle.ira_audit.specs.GoodLogs.{AreGoodLogs};
 ghost use Rattle.ira_audit.specs.LogTexts.{AreLogTexts};
 ghost use Rattle.ira_audit.specs.Refusal.{Judged, IsQuestionRefusal, IsCertificateRefusal, MatchRefusal};
 ghost use Rattle.ira_audit.specs.Report.{IsReportable};
@@ -29,7 +31,7 @@ use crate::sections::check_sections;
 use ira_cert_text::{Certificate, read_cert};
 use ira_event::{Logs, NodeLog, OutOfMemory, RingSize};
 use ira_links::Gate;
-use ira_order::order;
+use ira_order::{Ordered, order};
 use ira_pred::{Question, read_question};
 use std::alloc::Allocator;
 use std::sync::Wait;
@@ -64,7 +66,7 @@ where
     // the headline
     ensures yes { result ≡ Ok Answer.Yes →
         (logs : List Log) × (asked : Asked)
-        × AreLogTexts (map (λ text. text.now) texts.now) logs × IsQuestionText question.now asked
+        × AreLogTexts (map (λ text. text.now) texts.now) logs × AreLogs logs × IsQuestionText question.now asked
         × HasOrder logs × EveryOrderIsRun logs
         × ((case : List Conjunct) (cut : List ℕ) → Contains asked.cases case → IsConsistentCut logs cut → ¬ (Meets logs case cut)) }
 {
@@ -88,10 +90,24 @@ pub(crate) fn judge_certified<A: Allocator + Clone>(
     let logs = Logs::gather(logs)?;
     let ordered = order(alloc.clone()?, &logs)?;
     check_all_steps(&logs)?;
+    judge_question(alloc, &logs, &ordered, question, certificate)
+}
+
+/// Whether the certificate answers the question, where nothing is said against the logs.
+fn judge_question<A: Allocator + Clone>(
+    alloc: A,
+    logs: &Logs<A>,
+    ordered: &Ordered<'_, A>,
+    question: &[u8],
+    certificate: &[u8],
+) -> Result<(), Refusal>
+    requires { ordered.now.logs ≡ logs.now }
+    ensures { (texts : List (List ℕ)) → AreGoodLogs texts logs.now → Judged result (IsAuditAnswer texts question.now certificate.now) }
+{
     let question = read_posed(alloc.clone()?, logs.size(), question)?;
     let cases = question.cases();
     let certificate = read_certificate(alloc.clone()?, logs.size(), cases.len(), certificate)?;
-    check_sections(alloc, &logs, &ordered, cases, &certificate.sections)
+    check_sections(alloc, logs, ordered, cases, &certificate.sections)
 }
 
 /// The question of the text, which must be asked of a ring of this size.

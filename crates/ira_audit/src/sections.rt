@@ -1,7 +1,6 @@
 ghost use Rattle.std.specs.Prelude.{◌≡◌, ◌<◌, ℕ, List, Some, length, slice_get};
 ghost use Rattle.ira_cert.specs.declared.section_fault.SectionFault.{SectionFault};
 ghost use Rattle.ira_cert.specs.Asked.{HasPlacesOf};
-ghost use Rattle.ira_order.specs.Run.{AreLocalRuns};
 ghost use Rattle.ira_pred.specs.Case.{Conjunct};
 ghost use Rattle.ira_audit.specs.AuditAnswer.{AreSound, IsFirstUnsound};
 ghost use Rattle.ira_audit.specs.Refusal.{MatchRefusal};
@@ -24,7 +23,6 @@ pub(crate) fn check_sections<A: Allocator + Clone>(
     sections: &[Section<A>],
 ) -> Result<(), Refusal>
     requires order { ordered.now.logs ≡ logs.now }
-    requires replayed { AreLocalRuns logs.now }
     requires places { (i : ℕ) (case : List Conjunct) → slice_get cases.now i ≡ Some case → HasPlacesOf logs.now case }
     requires number { length sections.now ≡ length cases.now }
     ensures { MatchRefusal result (λ _. AreSound logs.now cases.now sections.now) (λ r. (i : ℕ) × (f : SectionFault) × (r ≡ Reason.Section i f) × IsFirstUnsound logs.now cases.now sections.now i f) }

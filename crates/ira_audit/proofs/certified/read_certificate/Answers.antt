@@ -11,8 +11,8 @@ returns-in_err-certificate g c =
     let p = err_from_is_err_and c.from_residual.result c.from_residual.ensures.1 in
     certificate_refused _ c.args.text.now c.args.nodes c.args.cases c.from_residual.result p.0 f p.1 p.2 (λ other. (unless_err f _ _ other (c.in_err-certificate.ensures.err f)).0 refl)
 
-pub returns-then-ne : goal.returns-then-ne
-returns-then-ne g c =
+pub returns-then-get : goal.returns-then-get
+returns-then-get g c =
     let k = c.in_ok-certificate.certificate in
     let is = (unless_ok k _ _ (c.in_ok-certificate.ensures.ok k)).0 refl in
     other_size k is (search rules) refl
