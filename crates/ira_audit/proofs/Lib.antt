@@ -1,5 +1,11 @@
 pub mod Judging
 pub mod LogTexts
+pub mod NeverMet
 pub mod OneAnswer
+pub mod OneAuditAnswer
+pub mod Places
+pub mod RefusedTexts
 pub mod Replaying
+pub mod SoundSections
+pub mod Stages
 pub mod TextRuns

@@ -16,7 +16,7 @@ some_is : {X : Type 0} (x y : X) → Some x ≡ Some y → x ≡ y
 some_is x y e = cc
 
 -- a beginning of a list has the list's members
-taken : {X : Type 0} (xs : List X) (i n : ℕ) → i < n → slice_get (take n xs) i ≡ slice_get xs i
+pub taken : {X : Type 0} (xs : List X) (i n : ℕ) → i < n → slice_get (take n xs) i ≡ slice_get xs i
 taken [] i zero lt = refl
 taken [] i (suc n) lt = refl
 taken (x ∷ xs) i zero lt = absurd (omega (arith, lt))
@@ -118,11 +118,11 @@ first_fault texts logs f kept = record {
   fault = kept.1.2;
 }
 
--- the texts up to the next one, and that
-pub next_taken : (texts : List (List ℕ)) (i : ℕ) (text : List ℕ) → slice_get texts i ≡ Some text → take i texts ++ text ∷ [] ≡ take (i + 1) texts
-next_taken texts i text at =
-    let here = get_or_from_slice_get texts i text text at in
-    sym (take_more texts i text (slice_get_within texts i text at) ∙ ap (λ t. take i texts ++ t ∷ []) here)
+-- the members up to the next one, and that
+pub next_taken : {X : Type 0} (xs : List X) (i : ℕ) (x : X) → slice_get xs i ≡ Some x → take i xs ++ x ∷ [] ≡ take (i + 1) xs
+next_taken xs i x at =
+    let here = get_or_from_slice_get xs i x x at in
+    sym (take_more xs i x (slice_get_within xs i x at) ∙ ap (λ y. take i xs ++ y ∷ []) here)
 
 -- all of the borrowed texts
 pub all_taken : (texts : List (Bor (List ℕ))) (i : ℕ) → length texts ≤ i → take i (map (λ t. t.now) texts) ≡ map (λ t. t.now) texts

@@ -92,7 +92,7 @@ only_no_log texts n f h a (no_ring ms g u k e) = absurd (logs_or_fault texts ms 
 only_no_log texts n f h a (unmatched ms g u ring k e) = absurd (logs_or_fault texts ms n f u h)
 only_no_log texts n f h a (circled ms u ring k e) = absurd (logs_or_fault texts ms n f u h)
 only_no_log texts n f h a (stopped ms p g u ring o k e) = absurd (logs_or_fault texts ms n f u h)
-only_no_log texts n f h a (yes ms u ring o k e) = absurd (logs_or_fault texts ms n f u h)
+only_no_log texts n f h a (yes ms good e) = absurd (logs_or_fault texts ms n f good.texts_are h)
 
 module _ (texts : List (List ℕ)) (logs : List Log) (are : AreLogTexts texts logs) where
   -- what holds of any logs of these texts holds of these
@@ -105,7 +105,7 @@ module _ (texts : List (List ℕ)) (logs : List Log) (are : AreLogTexts texts lo
   only_no_ring f h a (unmatched ms g u ring k e) = absurd (no-fault logs f (here AreLogs ms u ring) h)
   only_no_ring f h a (circled ms u ring k e) = absurd (no-fault logs f (here AreLogs ms u ring) h)
   only_no_ring f h a (stopped ms p g u ring o k e) = absurd (no-fault logs f (here AreLogs ms u ring) h)
-  only_no_ring f h a (yes ms u ring o k e) = absurd (no-fault logs f (here AreLogs ms u ring) h)
+  only_no_ring f h a (yes ms good e) = absurd (no-fault logs f (here AreLogs ms good.texts_are good.ring) h)
 
   module _ (ring : AreLogs logs) where
     only_unmatched : (f : MatchFault) → IsMatchFault logs f → (a : Answer) → IsLogsAnswer texts a → a ≡ No (reason.Match f)
@@ -114,7 +114,7 @@ module _ (texts : List (List ℕ)) (logs : List Log) (are : AreLogTexts texts lo
     only_unmatched f h a (unmatched ms g u r k e) = (let same = matching.one_fault logs f g h (here (λ x. IsMatchFault x g) ms u k) in cc)
     only_unmatched f h a (circled ms u r k e) = absurd (matched_circle logs f h (here HasCircle ms u k))
     only_unmatched f h a (stopped ms p g u r o k e) = absurd (matched_order logs f h (here HasOrder ms u o))
-    only_unmatched f h a (yes ms u r o k e) = absurd (matched_order logs f h (here HasOrder ms u o))
+    only_unmatched f h a (yes ms good e) = absurd (matched_order logs f h (here HasOrder ms good.texts_are good.order))
 
     only_circled : HasCircle logs → (a : Answer) → IsLogsAnswer texts a → a ≡ No reason.Circle
     only_circled h a (no_log m g k e) = absurd (logs_or_fault texts logs m g are k)
@@ -122,7 +122,7 @@ module _ (texts : List (List ℕ)) (logs : List Log) (are : AreLogTexts texts lo
     only_circled h a (unmatched ms g u r k e) = absurd (matched_circle logs g (here (λ x. IsMatchFault x g) ms u k) h)
     only_circled h a (circled ms u r k e) = e
     only_circled h a (stopped ms p g u r o k e) = absurd (circle_or_order logs h (here HasOrder ms u o))
-    only_circled h a (yes ms u r o k e) = absurd (circle_or_order logs h (here HasOrder ms u o))
+    only_circled h a (yes ms good e) = absurd (circle_or_order logs h (here HasOrder ms good.texts_are good.order))
 
     module _ (order : HasOrder logs) where
       only_stopped : (place : ℕ) (f : ReplayFault) → IsFirstStop logs place f → (a : Answer) → IsLogsAnswer texts a → a ≡ No (reason.Replay place f.position f.fault)
@@ -131,7 +131,7 @@ module _ (texts : List (List ℕ)) (logs : List Log) (are : AreLogTexts texts lo
       only_stopped place f h a (unmatched ms g u r k e) = absurd (matched_order logs g (here (λ x. IsMatchFault x g) ms u k) order)
       only_stopped place f h a (circled ms u r k e) = absurd (circle_or_order logs (here HasCircle ms u k) order)
       only_stopped place f h a (stopped ms p g u r o k e) = (let same = one_first_stop logs place p f g h (here (λ x. IsFirstStop x p g) ms u k) in cc)
-      only_stopped place f h a (yes ms u r o k e) = absurd (stop_or_runs logs place f h (here AreLocalRuns ms u k))
+      only_stopped place f h a (yes ms good e) = absurd (stop_or_runs logs place f h (here AreLocalRuns ms good.texts_are good.runs))
 
       only_yes : AreLocalRuns logs → (a : Answer) → IsLogsAnswer texts a → a ≡ Yes
       only_yes h a (no_log m g k e) = absurd (logs_or_fault texts logs m g are k)
@@ -139,7 +139,7 @@ module _ (texts : List (List ℕ)) (logs : List Log) (are : AreLogTexts texts lo
       only_yes h a (unmatched ms g u r k e) = absurd (matched_order logs g (here (λ x. IsMatchFault x g) ms u k) order)
       only_yes h a (circled ms u r k e) = absurd (circle_or_order logs (here HasCircle ms u k) order)
       only_yes h a (stopped ms p g u r o k e) = absurd (stop_or_runs logs p g (here (λ x. IsFirstStop x p g) ms u k) h)
-      only_yes h a (yes ms u r o k e) = e
+      only_yes h a (yes ms good e) = e
 
 pub one_logs_answer : (texts : List (List ℕ)) (a b : Answer) → IsLogsAnswer texts a → IsLogsAnswer texts b → a ≡ b
 one_logs_answer texts a b (no_log n f h e) k = e ∙ sym (only_no_log texts n f h b k)
@@ -147,4 +147,4 @@ one_logs_answer texts a b (no_ring ls f t h e) k = e ∙ sym (only_no_ring texts
 one_logs_answer texts a b (unmatched ls f t ring h e) k = e ∙ sym (only_unmatched texts ls t ring f h b k)
 one_logs_answer texts a b (circled ls t ring h e) k = e ∙ sym (only_circled texts ls t ring h b k)
 one_logs_answer texts a b (stopped ls p f t ring o h e) k = e ∙ sym (only_stopped texts ls t ring o p f h b k)
-one_logs_answer texts a b (yes ls t ring o h e) k = e ∙ sym (only_yes texts ls t ring o h b k)
+one_logs_answer texts a b (yes ls good e) k = e ∙ sym (only_yes texts ls good.texts_are good.ring good.order good.runs b k)

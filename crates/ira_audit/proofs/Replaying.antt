@@ -89,7 +89,7 @@ pub judged_no : (text : List ℕ) (head : LogHead) (left : RecordsLeft) (f : Rep
     → HasStopped text head.nodes head.initiator left f → ReadsThrough left (Ok done) → IsJudged text head (No (reason.Replay head.place f.position f.fault))
 judged_no text head left f done h through =
     let l = through text h.0 h.1 in
-    (h.0 ++ l.0, l.1, (refl, h.2 l.0))
+    (h.0 ++ l.0, l.1, inr (f, refl, h.2 l.0))
 
 pub stop_is : (nodes : ℕ) (initiator : Bool) (text : List ℕ) (left : RecordsLeft) (r : Option ReplayFault) (f : ReplayFault) → ReplaysRecords nodes initiator text left (Ok r) → r ≡ Some f → HasStopped text nodes initiator left f
 stop_is nodes initiator text left (Some g) f h is = let same : g ≡ f = cc in subst (HasStopped text nodes initiator left) same h
@@ -130,17 +130,9 @@ exactly text x h a = inr (λ e. subst (single.IsAnswer text) (ok_same x a e) h, 
 
 -- the answer of the text's log is the text's
 pub of_log : (text : List ℕ) (log : Log) (a : Answer) → IsLogText text log → IsLogAnswer log a → single.IsAnswer text a
-of_log text log Yes is h = single.yes log is h refl
-of_log text log (No (reason.Log n f)) is h = absurd h
-of_log text log (No (reason.Heads f)) is h = absurd h
-of_log text log (No (reason.Match f)) is h = absurd h
-of_log text log (No reason.Circle) is h = absurd h
-of_log text log (No (reason.Replay p k f)) is h = single.stopped log (record { position = k; fault = f }) is h.1 (rw h.0 refl)
+of_log text log a is (inl h) = single.yes log is h.1 h.0
+of_log text log a is (inr h) = single.stopped log h.0 is h.2 h.1
 
 pub log_reportable : (log : Log) (a : Answer) → IsLogAnswer log a → IsReportable a
-log_reportable log Yes h = tt
-log_reportable log (No (reason.Log n f)) h = absurd h
-log_reportable log (No (reason.Heads f)) h = absurd h
-log_reportable log (No (reason.Match f)) h = absurd h
-log_reportable log (No reason.Circle) h = absurd h
-log_reportable log (No (reason.Replay p k f)) h = tt
+log_reportable log a (inl h) = rw h.0 tt
+log_reportable log a (inr h) = rw h.1 tt

@@ -1,6 +1,9 @@
 pub mod Answer
+pub mod AuditAnswer
+pub mod GoodLogs
 pub mod LogTexts
 pub mod LogsAnswer
+pub mod Never
 pub mod Refusal
 pub mod Replaying
 pub mod Report

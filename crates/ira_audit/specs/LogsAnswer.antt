@@ -10,11 +10,11 @@ use Rattle.ira_replay.specs.LocalRun.{IsLocalRun, IsFirstFault}
 use Rattle.ira_order.specs.declared.match_fault.MatchFault.{MatchFault}
 use Rattle.ira_order.specs.MatchFault.{IsMatchFault}
 use Rattle.ira_order.specs.Circle.{HasCircle, HasOrder}
-use Rattle.ira_order.specs.Run.{AreLocalRuns}
 use Rattle.ira_audit.specs.declared.reason.Reason.TheVariants as reason
 use Rattle.ira_audit.specs.declared.answer.Answer.{Answer}
 use Rattle.ira_audit.specs.declared.answer.Answer.TheVariants.{Yes, No}
 use Rattle.ira_audit.specs.LogTexts.{AreLogTexts, IsFirstTextFault}
+use Rattle.ira_audit.specs.GoodLogs.{AreGoodLogs}
 
 -- the log of this place is the first that is no local run, and this is its first event without a step
 pub record IsFirstStop (logs : List Log) (place : ℕ) (f : ReplayFault) : Type 0 where
@@ -46,9 +46,7 @@ pub data IsLogsAnswer (texts : List (List ℕ)) (answer : Answer) : Type 0 where
       (logs : List Log) (place : ℕ) (f : ReplayFault) → AreLogTexts texts logs → AreLogs logs → HasOrder logs
       → IsFirstStop logs place f → answer ≡ No (reason.Replay place f.position f.fault) → IsLogsAnswer texts answer
   -- the logs match and have an order, and all events have steps
-  yes :
-      (logs : List Log) → AreLogTexts texts logs → AreLogs logs → HasOrder logs → AreLocalRuns logs
-      → answer ≡ Yes → IsLogsAnswer texts answer
+  yes : (logs : List Log) → AreGoodLogs texts logs → answer ≡ Yes → IsLogsAnswer texts answer
 
 -- no texts have two answers
 abbrev pub NoTextsHaveTwoAnswers : Type 0

@@ -1,13 +1,26 @@
 -- Helpers, no definitions: what the audits' own functions hand on.
-use Rattle.std.specs.Prelude.{Result, Ok, Err, ⊤}
+use Rattle.std.specs.Prelude.{◌≡◌, ◌≢◌, ◌⊎◌, ℕ, List, Result, Ok, Err, length, ⊤}
+use Rattle.ira_event.specs.declared.log_fault.LogFault.{LogFault}
 use Rattle.ira_event.specs.declared.out_of_memory.OutOfMemory as memory
 use Rattle.ira_order.specs.declared.order_fault.OrderFault.{OrderFault}
 use Rattle.ira_order.specs.declared.order_fault.OrderFault.TheVariants as order
-use Rattle.ira_audit.specs.declared.reason.Reason.TheVariants.{Match, Circle}
+use Rattle.ira_pred.specs.declared.ask_fault.AskFault.{AskFault}
+use Rattle.ira_pred.specs.declared.ask_fault.AskFault.TheVariants as ask
+use Rattle.ira_pred.specs.Question.{Asked}
+use Rattle.ira_pred.specs.QuestionText.{IsQuestionText}
+use Rattle.ira_pred.specs.QuestionTextFault.{QuestionTextFault}
+use Rattle.ira_cert_text.specs.declared.cert_fault.CertFault.{CertFault}
+use Rattle.ira_cert_text.specs.declared.cert_fault.CertFault.TheVariants as cert
+use Rattle.ira_cert_text.specs.Certificate as certificate
+use Rattle.ira_cert_text.specs.CertText.{IsCertText}
+use Rattle.ira_cert_text.specs.CertTextFault.{CertTextFault}
+use Rattle.ira_audit.specs.declared.reason.Reason.{Reason}
+use Rattle.ira_audit.specs.declared.reason.Reason.TheVariants.{Log, Match, Circle, Question, QuestionSize, Certificate, CertificateSize, Sections}
 use Rattle.ira_audit.specs.declared.refusal.Refusal.{Refusal}
 use Rattle.ira_audit.specs.declared.refusal.Refusal.TheVariants.{No, OutOfMemory}
 use Rattle.ira_audit.specs.declared.answer.Answer.{Answer}
 use Rattle.ira_audit.specs.declared.answer.Answer.TheVariants as answer
+use Rattle.ira_audit.specs.LogTexts.{IsFirstTextFault}
 use Rattle.ira_audit.specs.Report.{IsReportableReason}
 
 -- the refusal where no order was given
@@ -15,6 +28,14 @@ abbrev pub order_refusal : OrderFault → Refusal
 order_refusal (order.Match f) = No (Match f)
 order_refusal order.Circle = No Circle
 order_refusal order.OutOfMemory = OutOfMemory
+
+-- the refusal of a text that is no question's: out of memory is no fault of the text
+abbrev pub RefusesQuestion : AskFault → Refusal → Type 0
+RefusesQuestion f r = ((f ≡ ask.OutOfMemory) × (r ≡ OutOfMemory)) ⊎ ((f ≢ ask.OutOfMemory) × (r ≡ No (Question f)))
+
+-- the refusal of a text that is no certificate's
+abbrev pub RefusesCertificate : CertFault → Refusal → Type 0
+RefusesCertificate f r = ((f ≡ cert.OutOfMemory) × (r ≡ OutOfMemory)) ⊎ ((f ≢ cert.OutOfMemory) × (r ≡ No (Certificate f)))
 
 -- the answer of texts that were judged
 abbrev pub answered : {T : Type 0} → Result T Refusal → Result Answer memory.OutOfMemory
@@ -28,3 +49,28 @@ abbrev pub Judged : {T : Type 0} → Result T Refusal → (Answer → Type 0) �
 Judged (Ok _) P = P answer.Yes
 Judged (Err (No reason)) P = P (answer.No reason) × IsReportableReason reason
 Judged (Err OutOfMemory) P = ⊤
+
+-- where memory was wanting, nothing is said; else the one fact holds of the value, or the other of the
+-- reason
+abbrev pub MatchRefusal : {T : Type 0} → Result T Refusal → (T → Type 0) → (Reason → Type 0) → Type 0
+MatchRefusal (Ok v) P Q = P v
+MatchRefusal (Err (No reason)) P Q = Q reason
+MatchRefusal (Err OutOfMemory) P Q = ⊤
+
+-- the reason names the first text that is no log's
+abbrev pub IsTextReason : List (List ℕ) → Reason → Type 0
+IsTextReason texts r = (number : ℕ) × (f : LogFault) × IsFirstTextFault texts number f × (r ≡ Log number f)
+
+-- why the text isn't that of a question asked of a ring of so many nodes
+abbrev pub IsQuestionRefusal : List ℕ → ℕ → Reason → Type 0
+IsQuestionRefusal text nodes r =
+    ((f : AskFault) × QuestionTextFault text f × (f ≢ ask.OutOfMemory) × (r ≡ Question f))
+    ⊎ ((asked : Asked) × IsQuestionText text asked × (asked.nodes ≢ nodes) × (r ≡ QuestionSize))
+
+-- why the text isn't that of a certificate for a ring of so many nodes and so many cases
+pub data IsCertificateRefusal (text : List ℕ) (nodes cases : ℕ) (r : Reason) : Type 0 where
+  no_certificate : (f : CertFault) → CertTextFault text f → f ≢ cert.OutOfMemory → r ≡ Certificate f → IsCertificateRefusal text nodes cases r
+  other_size : (c : certificate.Certificate) → IsCertText text c → c.nodes ≢ nodes → r ≡ CertificateSize → IsCertificateRefusal text nodes cases r
+  other_number :
+      (c : certificate.Certificate) → IsCertText text c → c.nodes ≡ nodes → length c.sections ≢ cases
+      → r ≡ Sections cases (length c.sections) → IsCertificateRefusal text nodes cases r

@@ -1,5 +1,5 @@
 -- Helpers, no definitions: a log that is judged while it is read.
-use Rattle.std.specs.Prelude.{◌≡◌, ℕ, Bool, List, ◌++◌, Option, Some, None, Result, Ok, Err}
+use Rattle.std.specs.Prelude.{◌≡◌, ◌⊎◌, ℕ, Bool, List, ◌++◌, Option, Some, None, Result, Ok, Err}
 use Rattle.ira_event.specs.declared.event.Event.{Event}
 use Rattle.ira_event.specs.declared.log_fault.LogFault.{LogFault}
 use Rattle.ira_event.specs.declared.log_head.LogHead.{LogHead}
@@ -16,13 +16,9 @@ use Rattle.ira_node.specs.declared.node_state.NodeState.{NodeState}
 
 -- the answer of a log
 abbrev pub IsLogAnswer : Log → Answer → Type 0
-IsLogAnswer log Yes = IsLocalRun log
-IsLogAnswer log (No (reason.Log number fault)) = ⊥
-IsLogAnswer log (No (reason.Heads fault)) = ⊥
-IsLogAnswer log (No (reason.Match fault)) = ⊥
-IsLogAnswer log (No reason.Circle) = ⊥
-IsLogAnswer log (No (reason.Replay place position fault)) =
-    (place ≡ log.place) × IsFirstFault log (record { position = position; fault = fault })
+IsLogAnswer log a =
+    ((a ≡ Yes) × IsLocalRun log)
+    ⊎ ((f : ReplayFault) × (a ≡ No (reason.Replay log.place f.position f.fault)) × IsFirstFault log f)
 
 -- the text is all records of a log with this head and this answer
 abbrev pub IsJudged : List ℕ → LogHead → Answer → Type 0

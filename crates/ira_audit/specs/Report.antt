@@ -8,8 +8,16 @@ use Rattle.ira_event.specs.declared.head_fault.HeadFault.{HeadFault}
 use Rattle.ira_event.specs.declared.head_fault.HeadFault.TheVariants.{Number, Size, Place}
 use Rattle.ira_order.specs.declared.match_fault.MatchFault.{MatchFault}
 use Rattle.ira_order.specs.declared.match_fault.MatchFault.TheVariants.{NoSending, Differs}
+use Rattle.ira_pred.specs.declared.ask_fault.AskFault.{AskFault}
+use Rattle.ira_pred.specs.declared.ask_fault.AskFault.TheVariants as ask
+use Rattle.ira_cert_text.specs.declared.cert_fault.CertFault.{CertFault}
+use Rattle.ira_cert_text.specs.declared.cert_fault.CertFault.TheVariants as cert
+use Rattle.ira_cert.specs.declared.section_fault.SectionFault.{SectionFault}
+use Rattle.ira_cert.specs.declared.section_fault.SectionFault.TheVariants.{Step, NotSpent}
+use Rattle.ira_cert.specs.declared.unsound.Unsound.{Unsound}
+use Rattle.ira_cert.specs.declared.unsound.Unsound.TheVariants.{NotAsked, SameNode, NodeSpent, NotFront, NotBefore}
 use Rattle.ira_audit.specs.declared.reason.Reason.{Reason}
-use Rattle.ira_audit.specs.declared.reason.Reason.TheVariants.{Log, Heads, Match, Circle, Replay}
+use Rattle.ira_audit.specs.declared.reason.Reason.TheVariants.{Log, Heads, Match, Circle, Replay, Question, QuestionSize, Certificate, CertificateSize, Sections, Section}
 use Rattle.ira_audit.specs.declared.answer.Answer.{Answer}
 use Rattle.ira_audit.specs.declared.answer.Answer.TheVariants.{Yes, No}
 
@@ -56,6 +64,43 @@ step_fault_words HopPast = codes "hop past"
 step_fault_words RoundLimit = codes "round limit"
 step_fault_words HopLimit = codes "hop limit"
 
+-- what is wrong with a question's text, in words
+abbrev pub ask_fault_words : AskFault → List ℕ
+ask_fault_words ask.TooLong = codes "too long"
+ask_fault_words ask.Head = codes "head"
+ask_fault_words (ask.Line k) = numbered (codes "line ") k
+ask_fault_words (ask.Place k) = numbered (codes "place ") k
+ask_fault_words (ask.Depth k) = numbered (codes "depth ") k
+ask_fault_words (ask.Empty k) = numbered (codes "empty ") k
+ask_fault_words ask.Cases = codes "cases"
+ask_fault_words ask.Cut = codes "cut"
+ask_fault_words ask.Trailing = codes "trailing"
+ask_fault_words ask.OutOfMemory = []
+
+-- what is wrong with a certificate's text, in words
+abbrev pub cert_fault_words : CertFault → List ℕ
+cert_fault_words cert.TooLong = codes "too long"
+cert_fault_words cert.Head = codes "head"
+cert_fault_words (cert.Line k) = numbered (codes "line ") k
+cert_fault_words (cert.Range k) = numbered (codes "range ") k
+cert_fault_words cert.TooMany = codes "too many"
+cert_fault_words cert.Cut = codes "cut"
+cert_fault_words cert.Trailing = codes "trailing"
+cert_fault_words cert.OutOfMemory = []
+
+-- why a step isn't sound, in words
+abbrev pub unsound_words : Unsound → List ℕ
+unsound_words NotAsked = codes "not asked"
+unsound_words SameNode = codes "same node"
+unsound_words NodeSpent = codes "node spent"
+unsound_words NotFront = codes "not front"
+unsound_words NotBefore = codes "not before"
+
+-- why a section isn't sound, in words
+abbrev pub section_fault_words : SectionFault → List ℕ
+section_fault_words (Step k why) = numbered (codes "step ") k ++ codes ": " ++ unsound_words why
+section_fault_words (NotSpent node) = numbered (codes "node ") node ++ codes " not spent"
+
 -- the reason in words
 abbrev pub reason_words : Reason → List ℕ
 reason_words (Log number fault) = numbered (codes "no: log ") number ++ codes ": " ++ log_fault_words fault
@@ -64,6 +109,13 @@ reason_words (Match fault) = codes "no: " ++ match_fault_words fault
 reason_words Circle = codes "no: circle"
 reason_words (Replay place position fault) =
     numbered (codes "no: node ") place ++ numbered (codes ": event ") position ++ codes ": " ++ step_fault_words fault
+reason_words (Question fault) = codes "no: question: " ++ ask_fault_words fault
+reason_words QuestionSize = codes "no: question: other ring size"
+reason_words (Certificate fault) = codes "no: certificate: " ++ cert_fault_words fault
+reason_words CertificateSize = codes "no: certificate: other ring size"
+reason_words (Sections wanted found) =
+    numbered (codes "no: sections: ") wanted ++ numbered (codes " wanted, ") found ++ codes " found"
+reason_words (Section case fault) = numbered (codes "no: case ") case ++ codes ": " ++ section_fault_words fault
 
 -- the line of an answer
 abbrev pub report_line : Answer → List ℕ
@@ -77,6 +129,12 @@ IsReportableReason (Heads fault) = ⊤
 IsReportableReason (Match fault) = ⊤
 IsReportableReason Circle = ⊤
 IsReportableReason (Replay place position fault) = ⊤
+IsReportableReason (Question fault) = fault ≢ ask.OutOfMemory
+IsReportableReason QuestionSize = ⊤
+IsReportableReason (Certificate fault) = fault ≢ cert.OutOfMemory
+IsReportableReason CertificateSize = ⊤
+IsReportableReason (Sections wanted found) = ⊤
+IsReportableReason (Section case fault) = ⊤
 
 -- the answer holds no want of memory
 abbrev pub IsReportable : Answer → Type 0

@@ -1,7 +1,9 @@
-//! What is said of the texts of logs: of one log alone, or of the logs of a whole ring together.
+//! What is said of texts: of one log alone, of the logs of a whole ring together, or of these with a
+//! question and a certificate.
 #![tactic(auto)]
 
 mod answer;
+mod certified;
 mod laws;
 mod one_log;
 mod reason;
@@ -9,14 +11,13 @@ mod refusal;
 mod report;
 mod ring_audit;
 mod ring_logs;
+mod sections;
 
 pub use answer::Answer;
-pub use laws::answers_are_one;
+pub use certified::audit;
+pub use laws::{answers_are_one, never_two_leaders, no_moment_meets_a_case};
 pub use one_log::audit_one;
 pub use reason::Reason;
 pub use report::write_report;
 pub use ring_audit::RingAudit;
 pub use ring_logs::audit_logs;
-
-#[cfg(test)]
-mod tests;

@@ -1,6 +1,9 @@
+use ira_cert::SectionFault;
+use ira_cert_text::CertFault;
 use ira_event::{HeadFault, LogFault};
 use ira_node::StepFault;
 use ira_order::MatchFault;
+use ira_pred::AskFault;
 
 /// Why the answer is no: the first reason that holds, in this order.
 #[derive(Clone, Copy, Debug, PartialEq, Eq)]
@@ -21,5 +24,23 @@ pub enum Reason {
         place: u8,
         position: u32,
         fault: StepFault,
+    },
+    /// The text of the question is no question's.
+    Question(AskFault),
+    /// The question is asked of a ring of another size than the logs'.
+    QuestionSize,
+    /// The text of the certificate is no certificate's.
+    Certificate(CertFault),
+    /// The certificate is for a ring of another size than the logs'.
+    CertificateSize,
+    /// The certificate has not one section for each case.
+    Sections {
+        wanted: usize,
+        found: usize,
+    },
+    /// A section isn't sound for its case, the first such. Cases and their sections count from 0.
+    Section {
+        case: usize,
+        fault: SectionFault,
     },
 }

@@ -3,8 +3,10 @@ ghost use Rattle.ira_audit.specs.Refusal.{answered};
 
 use crate::answer::Answer;
 use crate::reason::Reason;
+use ira_cert_text::CertFault;
 use ira_event::{HeadFault, OutOfMemory};
 use ira_order::OrderFault;
+use ira_pred::AskFault;
 use std::alloc::{AllocError, AllocFailed};
 
 /// Why there is no yes: a reason, which holds no want of memory, or a growth that was refused.
@@ -60,6 +62,43 @@ impl From<OrderFault> for Refusal {
             OrderFault::Circle => Refusal::No(Reason::Circle),
             OrderFault::OutOfMemory => Refusal::OutOfMemory,
         }
+    }
+}
+
+impl From<AskFault> for Refusal {
+    ghost use Rattle.ira_audit.specs.Refusal.{RefusesQuestion};
+
+    ghost from_gives = { RefusesQuestion };
+
+    fn from(fault: AskFault) -> Refusal {
+        match fault {
+            AskFault::OutOfMemory => Refusal::OutOfMemory,
+            _ => Refusal::No(Reason::Question(fault)),
+        }
+    }
+}
+
+impl From<CertFault> for Refusal {
+    ghost use Rattle.ira_audit.specs.Refusal.{RefusesCertificate};
+
+    ghost from_gives = { RefusesCertificate };
+
+    fn from(fault: CertFault) -> Refusal {
+        match fault {
+            CertFault::OutOfMemory => Refusal::OutOfMemory,
+            _ => Refusal::No(Reason::Certificate(fault)),
+        }
+    }
+}
+
+impl From<OutOfMemory> for Refusal {
+    ghost use Rattle.std.specs.Prelude.{◌≡◌};
+    ghost use Rattle.ira_audit.specs.declared.refusal.Refusal.TheVariants.{OutOfMemory};
+
+    ghost from_gives = { λ _ r. r ≡ OutOfMemory };
+
+    fn from(_refused: OutOfMemory) -> Refusal {
+        Refusal::OutOfMemory
     }
 }
 

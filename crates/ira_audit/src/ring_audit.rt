@@ -1,21 +1,29 @@
-ghost use Rattle.std.specs.Prelude.{◌≡◌, ◌↔◌, ◌++◌, ◌∷◌, [], ℕ, List, Ok, IfOk, OnOk, OnErr};
+ghost use Rattle.std.specs.Prelude.{◌≡◌, ◌↔◌, ◌++◌, ◌∷◌, ◌≤◌, [], ℕ, List, Ok, IfOk, MatchResult, OnOk, OnErr};
 ghost use Rattle.ira_event.specs.Result.{UnlessErr};
 ghost use Rattle.ira_node.specs.declared.step_fault.StepFault.{StepFault};
 ghost use Rattle.ira_order.specs.declared.match_fault.MatchFault.{MatchFault};
+ghost use Rattle.ira_audit.specs.AuditAnswer.{IsAuditAnswer};
 ghost use Rattle.ira_audit.specs.LogsAnswer.{IsLogsAnswer};
-ghost use Rattle.ira_audit.specs.Refusal.{Judged};
+ghost use Rattle.ira_audit.specs.Never.{IsNeverMet};
+ghost use Rattle.ira_audit.specs.LogTexts.{AreLogTexts};
+ghost use Rattle.ira_audit.specs.Refusal.{Judged, IsTextReason};
 ghost use Rattle.ira_audit.specs.Report.{IsReportable};
 ghost use Rattle.ira_audit.specs.RingAudit.{HasTaken};
 ghost use Rattle.ira_audit.specs.TextRuns.{AreTextsOfRuns, AreTextsWithoutRun};
 ghost use Rattle.ira_audit.specs.declared.answer.Answer.{Answer};
 
 use crate::answer::Answer;
+use crate::certified::judge_certified;
 use crate::reason::Reason;
 use crate::refusal::{Refusal, answer_of};
 use crate::ring_logs::judge_logs;
 use ira_event::{LogFault, NodeLog, OutOfMemory, read_log};
+use ira_links::Gate;
 use std::alloc::Allocator;
 use std::marker::Model;
+use std::sync::Wait;
+use std::thread::Threads;
+use std::time::Clock;
 
 /// Judges the texts of a ring's logs, which it takes one by one, in the order of the ring's places. Of
 /// a text it keeps the log alone, so that the texts needn't all be in memory at once.
@@ -75,16 +83,51 @@ impl<A: Allocator + Clone> RingAudit<A> {
         answer_of(self.judge())
     }
 
+    /// The answer of the texts that were taken, of a question and of a certificate: the first reason
+    /// against them, or yes. It says of them what `audit` says.
+    pub fn finish_with<R, G>(
+        self,
+        rt: &R,
+        question: &[u8],
+        certificate: &[u8],
+        depth: u8,
+        gate: &G,
+    ) -> Result<Answer, OutOfMemory>
+    where
+        R: Threads + Wait + Clock + Sync,
+        G: Gate + Sync,
+        A: Send + Sync,
+        requires { depth ≤ 4 }
+        ensures answer { (texts : List (List ℕ)) (a : Answer) → HasTaken self texts → UnlessErr result (record {}) ((result ≡ Ok a) ↔ IsAuditAnswer texts question.now certificate.now a) }
+        ensures reportable { (texts : List (List ℕ)) → HasTaken self texts → IfOk result IsReportable }
+        ensures yes { (texts : List (List ℕ)) → HasTaken self texts → result ≡ Ok Answer.Yes → IsNeverMet texts question.now }
+    {
+        answer_of(self.judge_with(question, certificate))
+    }
+
+    fn judge_with(self, question: &[u8], certificate: &[u8]) -> Result<(), Refusal>
+        ensures { (texts : List (List ℕ)) → HasTaken self texts → Judged result (IsAuditAnswer texts question.now certificate.now) }
+    {
+        judge_certified(self.into_logs()?, question, certificate)
+    }
+
     fn judge(self) -> Result<(), Refusal>
         ensures { (texts : List (List ℕ)) → HasTaken self texts → Judged result (IsLogsAnswer texts) }
     {
+        judge_logs(self.into_logs()?)
+    }
+
+    /// The logs of the texts that were taken, or why the first text that is no log's is none.
+    fn into_logs(self) -> Result<Vec<NodeLog<A>, A>, Reason>
+        ensures { (texts : List (List ℕ)) → HasTaken self texts → MatchResult result (λ logs. AreLogTexts texts logs.items) (IsTextReason texts) }
+    {
         let RingAudit { logs, fault } = self;
         match fault {
-            None => judge_logs(logs),
-            Some(fault) => Err(Refusal::No(Reason::Log {
+            None => Ok(logs),
+            Some(fault) => Err(Reason::Log {
                 number: logs.len(),
                 fault,
-            })),
+            }),
         }
     }
 }

@@ -30,4 +30,4 @@ returns g c = λ texts are.
     let gathered = (c.in_ok-logs.ensures.ok c.in_ok-logs.logs).0 refl in
     let of = subst (AreLogTexts texts) (sym gathered.0) are in
     let has = ordered_has _ c.in_ok-find_order.ensures.ok in
-    yes c.in_ok-logs.logs of gathered.1 has c.in_ok-check_all_steps.ensures refl
+    yes c.in_ok-logs.logs (record { texts_are = of; ring = gathered.1; order = has; runs = c.in_ok-check_all_steps.ensures }) refl

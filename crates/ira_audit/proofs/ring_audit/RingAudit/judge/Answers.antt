@@ -1,13 +1,10 @@
-use Rattle.std.proofs.Common.{◌≡◌, length, refl, sym, subst, rules}
-use Rattle.ira_audit.specs.LogsAnswer.{no_log}
-use Rattle.ira_audit.specs.RingAudit.{AreKept, HasTaken}
-use Rattle.ira_audit.proofs.LogTexts.{first_fault}
-use Rattle.ira_audit.proofs.Replaying.{text_fault_other}
+use Rattle.std.proofs.Common.{rules}
+use Rattle.ira_audit.proofs.RefusedTexts.{text_refused}
 use Rattle.ira_audit.proofs.ring_audit.RingAudit.judge.Goals as goal
 
-pub returns-in-Some : goal.returns-in-Some
-returns-in-Some g c = λ texts taken.
-    let kept = subst (λ a. HasTaken a texts) (sym c.self.view_is) taken in
-    let first = first_fault texts c.self.inside.logs.items c.in-Some.fault (subst (AreKept texts c.self.inside.logs.items) c.in-Some.is kept) in
-    let number : c.len.result ≡ length c.self.inside.logs.items = search rules in
-    (no_log c.len.result c.in-Some.fault (rw number first) refl, text_fault_other first.text c.in-Some.fault first.fault)
+pub returns-in_err-into_logs : goal.returns-in_err-into_logs
+returns-in_err-into_logs g c = λ texts taken.
+    text_refused texts c.from_residual.result c.in_err-into_logs.field-0.0 (search rules) (c.in_err-into_logs.ensures texts taken)
+
+pub returns : goal.returns
+returns g c = λ texts taken. c.judge_logs.ensures texts (c.in_ok-into_logs.ensures texts taken)

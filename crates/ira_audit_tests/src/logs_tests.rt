@@ -1,4 +1,5 @@
-use super::*;
+use crate::samples::{ELECTION_0, ELECTION_1, LONE_0, LONE_1, LONE_2, TIE_0, TIE_1};
+use ira_audit::{Answer, audit_logs, audit_one, write_report};
 use ira_event::MemorySink;
 use std::process::Abort;
 
@@ -9,60 +10,6 @@ fn assert_reported(rt: &(impl Abort + AllocGlobal), texts: &[&[u8]], line: &str)
     assert_eq!(rt; write_report(&answer, &mut sink), Ok(()));
     assert_eq!(rt; sink.bytes(), line.as_bytes());
 }
-
-const ELECTION_0: &[u8] = b"irlog 1\nnodes 2\nplace 0\nstart initiator\n\
-    draw 2\n\
-    send 1 2 1 clean\n\
-    recv 1 1 1 clean\n\
-    recv 1 2 2 clean\n\
-    end 4\n";
-
-const ELECTION_1: &[u8] = b"irlog 1\nnodes 2\nplace 1\nstart initiator\n\
-    draw 1\n\
-    send 1 1 1 clean\n\
-    recv 1 2 1 clean\n\
-    send 1 2 2 clean\n\
-    end 4\n";
-
-const TIE_0: &[u8] = b"irlog 1\nnodes 2\nplace 0\nstart initiator\n\
-    draw 1\n\
-    send 1 1 1 clean\n\
-    recv 1 1 1 clean\n\
-    send 1 1 2 dirty\n\
-    recv 1 1 2 dirty\n\
-    draw 2\n\
-    send 2 2 1 clean\n\
-    recv 2 1 1 clean\n\
-    recv 2 2 2 clean\n\
-    end 9\n";
-
-const TIE_1: &[u8] = b"irlog 1\nnodes 2\nplace 1\nstart initiator\n\
-    draw 1\n\
-    send 1 1 1 clean\n\
-    recv 1 1 1 clean\n\
-    send 1 1 2 dirty\n\
-    recv 1 1 2 dirty\n\
-    draw 1\n\
-    send 2 1 1 clean\n\
-    recv 2 2 1 clean\n\
-    send 2 2 2 clean\n\
-    end 9\n";
-
-const LONE_0: &[u8] = b"irlog 1\nnodes 3\nplace 0\nstart initiator\n\
-    draw 1\n\
-    send 1 1 1 clean\n\
-    recv 1 1 3 clean\n\
-    end 3\n";
-
-const LONE_1: &[u8] = b"irlog 1\nnodes 3\nplace 1\nstart passive\n\
-    recv 1 1 1 clean\n\
-    send 1 1 2 clean\n\
-    end 2\n";
-
-const LONE_2: &[u8] = b"irlog 1\nnodes 3\nplace 2\nstart passive\n\
-    recv 1 1 2 clean\n\
-    send 1 1 3 clean\n\
-    end 2\n";
 
 #[test]
 fn two_node_election(rt: HostRuntime) {

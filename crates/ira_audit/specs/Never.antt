@@ -1,0 +1,60 @@
+-- What a yes to a question says: that nothing which was asked was ever met.
+use Rattle.std.specs.Prelude.{◌≡◌, ◌≢◌, ℕ, ◌<◌, ◌≤◌, List, Some, length, slice_get, slice_index, take, Contains}
+use Rattle.ira_event.specs.Log.{Log}
+use Rattle.ira_event.specs.Logs.{AreLogs}
+use Rattle.ira_pred.specs.Formula.{leader}
+use Rattle.ira_pred.specs.Case.{Conjunct}
+use Rattle.ira_pred.specs.Question.{Asked}
+use Rattle.ira_pred.specs.QuestionText.{IsQuestionText}
+use Rattle.ira_pred.specs.Pairs.{ArePairCases}
+use Rattle.ira_order.specs.Circle.{HasOrder}
+use Rattle.ira_order.specs.Cut.{IsConsistentCut}
+use Rattle.ira_order.specs.Order.{IsOrder, standings}
+use Rattle.ira_order.specs.RunsOfLogs.{EveryOrderIsRun}
+use Rattle.ira_cand.specs.HoldsAt.{HoldsAt}
+use Rattle.ira_cand.specs.Meets.{Meets}
+use Rattle.ira_audit.specs.declared.answer.Answer.TheVariants.{Yes}
+use Rattle.ira_audit.specs.LogTexts.{AreLogTexts}
+use Rattle.ira_audit.specs.AuditAnswer.{IsAuditAnswer}
+
+-- no consistent cut of the logs meets any of the cases
+abbrev pub NoCutMeetsAny : List Log → List (List Conjunct) → Type 0
+NoCutMeetsAny logs cases = (case : List Conjunct) (cut : List ℕ) → Contains cases case → IsConsistentCut logs cut → ¬ (Meets logs case cut)
+
+-- the texts are those of a ring's logs, which have an order, and each order of them is a run of the ring; the
+-- question is that of some cases; and no consistent cut of the logs meets any of these
+pub record IsNeverMet (texts : List (List ℕ)) (question : List ℕ) : Type 0 where
+  pub logs : List Log
+  pub asked : Asked
+  pub logs_are : AreLogTexts texts logs
+  pub ring : AreLogs logs
+  pub question_is : IsQuestionText question asked
+  pub order : HasOrder logs
+  pub runs : EveryOrderIsRun logs
+  pub never : NoCutMeetsAny logs asked.cases
+
+-- the cut says how many events each node has made after t places of the order
+pub record IsMoment (logs : List Log) (order : List ℕ) (t : ℕ) (cut : List ℕ) : Type 0 where
+  pub within : t ≤ length order
+  pub places : length cut ≡ length logs
+  pub made : (i : ℕ) → i < length logs → slice_index cut i ≡ standings (take t order) i
+
+-- after a yes no order of the logs meets an asked case at any of its moments
+abbrev pub NoMomentMeetsAny : Type 0
+NoMomentMeetsAny =
+    (texts : List (List ℕ)) (question certificate : List ℕ) (logs : List Log) (asked : Asked)
+    → IsAuditAnswer texts question certificate Yes → AreLogTexts texts logs → IsQuestionText question asked
+    → (order cut : List ℕ) (t : ℕ) (case : List Conjunct) → IsOrder logs order → IsMoment logs order t cut
+    → Contains asked.cases case → ¬ (Meets logs case cut)
+
+-- the node is a leader at the cut
+abbrev pub Leads : List Log → List ℕ → ℕ → Type 0
+Leads logs cut i = (log : Log) × (slice_get logs i ≡ Some log) × HoldsAt log leader (slice_index cut i)
+
+-- after a yes to the question of all pairs no consistent cut has two nodes that lead
+abbrev pub NeverTwoLeaders : Type 0
+NeverTwoLeaders =
+    (texts : List (List ℕ)) (question certificate : List ℕ) (logs : List Log) (asked : Asked)
+    → IsAuditAnswer texts question certificate Yes → AreLogTexts texts logs → IsQuestionText question asked
+    → ArePairCases (length logs) asked.cases
+    → (cut : List ℕ) (i j : ℕ) → IsConsistentCut logs cut → i ≢ j → Leads logs cut i → ¬ (Leads logs cut j)

@@ -1,0 +1,149 @@
+ghost use Rattle.std.specs.Prelude.{◌≡◌, ◌≢◌, ◌↔◌, ◌≤◌, ◌⊎◌, ℕ, List, Ok, IfOk, Contains, length, map};
+ghost use Rattle.ira_event.specs.Log.{Log};
+ghost use Rattle.ira_event.specs.Logs.{AreLogs};
+ghost use Rattle.ira_event.specs.Result.{UnlessErr};
+ghost use Rattle.ira_order.specs.Circle.{HasOrder};
+ghost use Rattle.ira_order.specs.Cut.{IsConsistentCut};
+ghost use Rattle.ira_order.specs.RunsOfLogs.{EveryOrderIsRun};
+ghost use Rattle.ira_pred.specs.declared.ask_fault.AskFault.{AskFault};
+ghost use Rattle.ira_pred.specs.Case.{Conjunct};
+ghost use Rattle.ira_pred.specs.Question.{Asked};
+ghost use Rattle.ira_pred.specs.QuestionText.{IsQuestionText};
+ghost use Rattle.ira_pred.specs.QuestionTextFault.{QuestionTextFault};
+ghost use Rattle.ira_cand.specs.Meets.{Meets};
+ghost use Rattle.ira_cert_text.specs.declared.cert_fault.CertFault.{CertFault};
+ghost use Rattle.ira_cert_text.specs.Certificate.{Certificate};
+ghost use Rattle.ira_cert_text.specs.CertText.{IsCertText};
+ghost use Rattle.ira_cert_text.specs.CertTextFault.{CertTextFault};
+ghost use Rattle.ira_audit.specs.AuditAnswer.{IsAuditAnswer};
+ghost use Rattle.ira_audit.specs.GoodLogs.{AreGoodLogs};
+ghost use Rattle.ira_audit.specs.LogTexts.{AreLogTexts};
+ghost use Rattle.ira_audit.specs.Refusal.{Judged, IsQuestionRefusal, IsCertificateRefusal, MatchRefusal};
+ghost use Rattle.ira_audit.specs.Report.{IsReportable};
+ghost use Rattle.ira_audit.specs.declared.answer.Answer.{Answer};
+
+use crate::answer::Answer;
+use crate::reason::Reason;
+use crate::refusal::Refusal;
+use crate::ring_audit::RingAudit;
+use crate::ring_logs::check_all_steps;
+use crate::sections::check_sections;
+use ira_cert_text::{Certificate, read_cert};
+use ira_event::{Logs, NodeLog, OutOfMemory, RingSize};
+use ira_links::Gate;
+use ira_order::{Ordered, order};
+use ira_pred::{Question, read_question};
+use std::alloc::Allocator;
+use std::sync::Wait;
+use std::thread::Threads;
+use std::time::Clock;
+
+/// Judges the texts of a ring's logs, given in the order of its places, the text of a question, and that
+/// of a certificate, which may be anybody's. The first reason against them is answered: first those of
+/// `audit_logs`, then whether the question is one of this ring, whether the certificate is one for this
+/// ring and has a section for each case, and whether each section is sound for its case. No answer holds
+/// out of memory.
+///
+/// After a yes the logs have an order, each order of them is a run of the ring, with the draws that were
+/// recorded, and nothing that the question asks was ever met: no consistent cut of the logs meets any of
+/// its cases. The answer is the same at every depth, 0 to 4, and with every gate.
+pub fn audit<R, G, A>(
+    rt: &R,
+    alloc: A,
+    texts: &[&[u8]],
+    question: &[u8],
+    certificate: &[u8],
+    depth: u8,
+    gate: &G,
+) -> Result<Answer, OutOfMemory>
+where
+    R: Threads + Wait + Clock + Sync,
+    G: Gate + Sync,
+    A: Allocator + Clone + Send + Sync,
+    requires { depth ≤ 4 }
+    ensures answer { (a : Answer) → UnlessErr result (record {}) ((result ≡ Ok a) ↔ IsAuditAnswer (map (λ text. text.now) texts.now) question.now certificate.now a) }
+    ensures reportable { IfOk result IsReportable }
+    // the headline
+    ensures yes { result ≡ Ok Answer.Yes →
+        (logs : List Log) × (asked : Asked)
+        × AreLogTexts (map (λ text. text.now) texts.now) logs × AreLogs logs × IsQuestionText question.now asked
+        × HasOrder logs × EveryOrderIsRun logs
+        × ((case : List Conjunct) (cut : List ℕ) → Contains asked.cases case → IsConsistentCut logs cut → ¬ (Meets logs case cut)) }
+{
+    let mut audit = RingAudit::new(alloc);
+    for text in texts {
+        audit.take(text)?;
+    }
+    audit.finish_with(rt, question, certificate, depth, gate)
+}
+
+/// Whether the logs are those of one ring, match and have an order, each event has a step, and the
+/// certificate answers the question.
+pub(crate) fn judge_certified<A: Allocator + Clone>(
+    logs: Vec<NodeLog<A>, A>,
+    question: &[u8],
+    certificate: &[u8],
+) -> Result<(), Refusal>
+    ensures { (texts : List (List ℕ)) → AreLogTexts texts logs.items → Judged result (IsAuditAnswer texts question.now certificate.now) }
+{
+    let alloc = logs.allocator().clone()?;
+    let logs = Logs::gather(logs)?;
+    let ordered = order(alloc.clone()?, &logs)?;
+    check_all_steps(&logs)?;
+    judge_question(alloc, &logs, &ordered, question, certificate)
+}
+
+/// Whether the certificate answers the question, where nothing is said against the logs.
+fn judge_question<A: Allocator + Clone>(
+    alloc: A,
+    logs: &Logs<A>,
+    ordered: &Ordered<'_, A>,
+    question: &[u8],
+    certificate: &[u8],
+) -> Result<(), Refusal>
+    requires { ordered.now.logs ≡ logs.now }
+    ensures { (texts : List (List ℕ)) → AreGoodLogs texts logs.now → Judged result (IsAuditAnswer texts question.now certificate.now) }
+{
+    let question = read_posed(alloc.clone()?, logs.size(), question)?;
+    let cases = question.cases();
+    let certificate = read_certificate(alloc.clone()?, logs.size(), cases.len(), certificate)?;
+    check_sections(alloc, logs, ordered, cases, &certificate.sections)
+}
+
+/// The question of the text, which must be asked of a ring of this size.
+fn read_posed<A: Allocator + Clone>(
+    alloc: A,
+    nodes: RingSize,
+    text: &[u8],
+) -> Result<Question<A>, Refusal>
+    ensures { MatchRefusal result (λ asked. IsQuestionText text.now asked × (asked.nodes ≡ nodes)) (IsQuestionRefusal text.now nodes) }
+{
+    let question = read_question(alloc, text)?;
+    if question.nodes().get() != nodes.get() {
+        return Err(Refusal::No(Reason::QuestionSize));
+    }
+    Ok(question)
+}
+
+/// The certificate of the text, which must be for a ring of this size and have a section for each case.
+fn read_certificate<A: Allocator + Clone>(
+    alloc: A,
+    nodes: RingSize,
+    cases: usize,
+    text: &[u8],
+) -> Result<Certificate<A>, Refusal>
+    ensures { MatchRefusal result (λ c. IsCertText text.now c × (c.nodes ≡ nodes) × (length c.sections ≡ cases)) (IsCertificateRefusal text.now nodes cases) }
+{
+    let certificate = read_cert(alloc, text)?;
+    if certificate.nodes.get() != nodes.get() {
+        return Err(Refusal::No(Reason::CertificateSize));
+    }
+    let found = certificate.sections.len();
+    if found != cases {
+        return Err(Refusal::No(Reason::Sections {
+            wanted: cases,
+            found,
+        }));
+    }
+    Ok(certificate)
+}

@@ -1,0 +1,38 @@
+ghost use Rattle.std.specs.Prelude.{◌≡◌, ◌<◌, ℕ, List, Some, length, slice_get};
+ghost use Rattle.ira_cert.specs.declared.section_fault.SectionFault.{SectionFault};
+ghost use Rattle.ira_cert.specs.Asked.{HasPlacesOf};
+ghost use Rattle.ira_pred.specs.Case.{Conjunct};
+ghost use Rattle.ira_audit.specs.AuditAnswer.{AreSound, IsFirstUnsound};
+ghost use Rattle.ira_audit.specs.Refusal.{MatchRefusal};
+
+use crate::reason::Reason;
+use crate::refusal::Refusal;
+use ira_cert::{Verdict, check_plain};
+use ira_cert_text::Section;
+use ira_event::Logs;
+use ira_order::Ordered;
+use ira_pred::Case;
+use std::alloc::Allocator;
+
+/// Whether each section is sound for the case of its number.
+pub(crate) fn check_sections<A: Allocator + Clone>(
+    alloc: A,
+    logs: &Logs<A>,
+    ordered: &Ordered<'_, A>,
+    cases: &[Case<A>],
+    sections: &[Section<A>],
+) -> Result<(), Refusal>
+    requires order { ordered.now.logs ≡ logs.now }
+    requires places { (i : ℕ) (case : List Conjunct) → slice_get cases.now i ≡ Some case → HasPlacesOf logs.now case }
+    requires number { length sections.now ≡ length cases.now }
+    ensures { MatchRefusal result (λ _. AreSound logs.now cases.now sections.now) (λ r. (i : ℕ) × (f : SectionFault) × (r ≡ Reason.Section i f) × IsFirstUnsound logs.now cases.now sections.now i f) }
+{
+    for case in 0..cases.len() {
+        let alloc = alloc.clone()?;
+        match check_plain(alloc, logs, ordered, &cases[case], &sections[case])? {
+            Verdict::Yes => {}
+            Verdict::No(fault) => return Err(Refusal::No(Reason::Section { case, fault })),
+        }
+    }
+    Ok(())
+}

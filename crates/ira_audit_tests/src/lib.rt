@@ -1,0 +1,7 @@
+//! Tests of the audits.
+#![tactic(auto)]
+
+#[cfg(test)]
+mod logs_tests;
+#[cfg(test)]
+mod samples;

@@ -1,0 +1,58 @@
+//! Texts of logs that several tests judge.
+
+/// An election of two nodes that both initiate.
+pub const ELECTION_0: &[u8] = b"irlog 1\nnodes 2\nplace 0\nstart initiator\n\
+    draw 2\n\
+    send 1 2 1 clean\n\
+    recv 1 1 1 clean\n\
+    recv 1 2 2 clean\n\
+    end 4\n";
+
+pub const ELECTION_1: &[u8] = b"irlog 1\nnodes 2\nplace 1\nstart initiator\n\
+    draw 1\n\
+    send 1 1 1 clean\n\
+    recv 1 2 1 clean\n\
+    send 1 2 2 clean\n\
+    end 4\n";
+
+/// An election of two nodes that draw the same ID first.
+pub const TIE_0: &[u8] = b"irlog 1\nnodes 2\nplace 0\nstart initiator\n\
+    draw 1\n\
+    send 1 1 1 clean\n\
+    recv 1 1 1 clean\n\
+    send 1 1 2 dirty\n\
+    recv 1 1 2 dirty\n\
+    draw 2\n\
+    send 2 2 1 clean\n\
+    recv 2 1 1 clean\n\
+    recv 2 2 2 clean\n\
+    end 9\n";
+
+pub const TIE_1: &[u8] = b"irlog 1\nnodes 2\nplace 1\nstart initiator\n\
+    draw 1\n\
+    send 1 1 1 clean\n\
+    recv 1 1 1 clean\n\
+    send 1 1 2 dirty\n\
+    recv 1 1 2 dirty\n\
+    draw 1\n\
+    send 2 1 1 clean\n\
+    recv 2 2 1 clean\n\
+    send 2 2 2 clean\n\
+    end 9\n";
+
+/// An election of three nodes, of which the first alone initiates.
+pub const LONE_0: &[u8] = b"irlog 1\nnodes 3\nplace 0\nstart initiator\n\
+    draw 1\n\
+    send 1 1 1 clean\n\
+    recv 1 1 3 clean\n\
+    end 3\n";
+
+pub const LONE_1: &[u8] = b"irlog 1\nnodes 3\nplace 1\nstart passive\n\
+    recv 1 1 1 clean\n\
+    send 1 1 2 clean\n\
+    end 2\n";
+
+pub const LONE_2: &[u8] = b"irlog 1\nnodes 3\nplace 2\nstart passive\n\
+    recv 1 1 2 clean\n\
+    send 1 1 3 clean\n\
+    end 2\n";
