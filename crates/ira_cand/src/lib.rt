@@ -6,8 +6,6 @@ mod find_candidates;
 mod holding;
 mod laws;
 mod local_test;
-#[cfg(test)]
-mod tests;
 
 pub use ahead::Ahead;
 pub use find_candidates::{candidates, table};

@@ -22,12 +22,8 @@ mod records;
 mod ring_size;
 mod scan;
 mod sink;
-#[cfg(test)]
-mod tests;
 mod to_writer;
 mod write;
-#[cfg(test)]
-mod writing_tests;
 
 pub use event::Event;
 pub use events::Events;

@@ -34,8 +34,6 @@ mod link_out;
 mod open_gate;
 mod rule;
 mod settled;
-#[cfg(test)]
-mod tests;
 
 pub use closed::Closed;
 pub use ends::{link, settle};

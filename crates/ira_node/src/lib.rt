@@ -17,6 +17,3 @@ pub use node_state::NodeState;
 pub use phase::Phase;
 pub use step_fault::StepFault;
 pub use wanted::Wanted;
-
-#[cfg(test)]
-mod tests;

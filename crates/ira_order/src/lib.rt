@@ -21,6 +21,3 @@ pub use match_fault::MatchFault;
 pub use order_fault::OrderFault;
 pub use ordered::Ordered;
 pub use search::{find_order, order};
-
-#[cfg(test)]
-mod tests;

@@ -10,6 +10,3 @@ pub use laws::{local_runs_go_on_alike, one_list_of_states, states_are_reached};
 pub use replay_fault::ReplayFault;
 pub use replay_log::replay;
 pub use states::States;
-
-#[cfg(test)]
-mod tests;

@@ -1,0 +1,20 @@
+//! Tests of the crates that the audit and the runners stand on: `ira_event`, `ira_node`, `ira_replay`, `ira_cand`,
+//! `ira_order` and `ira_links`.
+#![tactic(auto)]
+
+#[cfg(test)]
+mod cand_tests;
+#[cfg(test)]
+mod links_tests;
+#[cfg(test)]
+mod node_tests;
+#[cfg(test)]
+mod order_tests;
+#[cfg(test)]
+mod reading_tests;
+#[cfg(test)]
+mod replay_tests;
+#[cfg(test)]
+mod samples;
+#[cfg(test)]
+mod writing_tests;

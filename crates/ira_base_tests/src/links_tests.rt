@@ -1,0 +1,124 @@
+//! Links between threads, and gates.
+ghost use Rattle.std.specs.Prelude.{◌≡◌, ◌≤◌, true};
+ghost use Rattle.ira_event.specs.Event.{is_msg};
+
+use ira_event::Msg;
+use ira_links::{Closed, Frame, Gate, LinkIn, LinkOut, OpenGate, link, settle};
+use std::alloc::Global;
+use std::sync::Wait;
+use std::test::*;
+use std::thread::{self, join};
+use std::time::{Clock, Duration};
+
+// In milliseconds.
+const A_WHILE: u64 = 200;
+
+fn message(id: u32) -> Msg
+    requires { (1 ≤ id) × (id ≤ 1000000) }
+    ensures { is_msg result ≡ true }
+{
+    Msg {
+        round: 1,
+        id,
+        hop: 1,
+        dirty: false,
+    }
+}
+
+#[test]
+fn link_order_and_exhaustion(rt: HostRuntime) -> Result<(), Fail> {
+    let frame = Frame::Msg(message(1));
+    let (mut output, mut input) = link(rt.alloc(), 2)?;
+    assert_eq!(rt; output.put(&rt, frame), Ok(()));
+    assert_eq!(rt; output.put(&rt, Frame::Stop), Ok(()));
+    assert_eq!(rt; input.take(&rt), Ok(frame));
+    let settled = settle(output, input);
+    assert_eq!(rt; settled.puts(), 2);
+    assert_eq!(rt; settled.takes(), 1);
+
+    let (mut output, mut input) = link(rt.alloc(), 1)?;
+    for id in 1..=1_000_000 {
+        let frame = Frame::Msg(message(id));
+        assert_eq!(rt; output.put(&rt, frame), Ok(()), "put {id}");
+        assert_eq!(rt; input.take(&rt), Ok(frame), "take {id}");
+    }
+    assert_eq!(rt; output.put(&rt, frame), Err(frame));
+    let settled = settle(output, input);
+    assert_eq!(rt; settled.puts(), 1_000_000);
+    assert_eq!(rt; settled.takes(), 1_000_000);
+    Ok(())
+}
+
+// Puts three frames at once, and a Stop a while after.
+fn put_four<R: Wait + Clock>(rt: &R, mut output: LinkOut<Global>) -> bool {
+    let mut are_accepted = true;
+    for id in 1..=3 {
+        are_accepted = are_accepted && output.put(rt, Frame::Msg(message(id))) == Ok(());
+    }
+    thread::sleep(rt, Duration::from_millis(A_WHILE));
+    are_accepted && output.put(rt, Frame::Stop) == Ok(())
+}
+
+// Takes what `put_four` puts, and begins a while after it.
+fn take_four<R: Wait + Clock>(rt: &R, mut input: LinkIn<Global>) -> bool {
+    let mut are_equal = true;
+    thread::sleep(rt, Duration::from_millis(A_WHILE));
+    for id in 1..=3 {
+        are_equal = are_equal && input.take(rt) == Ok(Frame::Msg(message(id)));
+    }
+    are_equal && input.take(rt) == Ok(Frame::Stop)
+}
+
+#[test]
+fn ends_wait_for_each_other(rt: HostRuntime) -> Result<(), Fail> {
+    let host = &rt;
+    let (output, input) = link(rt.alloc(), 1)?;
+    let both = join(
+        host,
+        move || put_four(host, output),
+        move || take_four(host, input),
+    );
+    assert_eq!(rt; both, (true, true));
+    Ok(())
+}
+
+#[test]
+fn dropped_end_wakes_the_other(rt: HostRuntime) -> Result<(), Fail> {
+    let host = &rt;
+    let (output, mut input) = link(rt.alloc(), 1)?;
+    let (taken, ()) = join(
+        host,
+        move || input.take(host),
+        move || {
+            thread::sleep(host, Duration::from_millis(A_WHILE));
+            drop(output);
+        },
+    );
+    assert_eq!(rt; taken, Err(Closed));
+
+    let frame = Frame::Msg(message(1));
+    let (mut output, input) = link(rt.alloc(), 1)?;
+    assert_eq!(rt; output.put(&rt, Frame::Stop), Ok(()));
+    let (refused, ()) = join(
+        host,
+        move || output.put(host, frame),
+        move || {
+            thread::sleep(host, Duration::from_millis(A_WHILE));
+            drop(input);
+        },
+    );
+    assert_eq!(rt; refused, Err(frame));
+    Ok(())
+}
+
+fn enters<R: Wait + Clock, G: Gate>(rt: &R, gate: &G, who: u32) -> bool {
+    gate.pass(rt, who);
+    gate.admit(who)
+}
+
+#[test]
+fn open_gate_holds_nobody(rt: HostRuntime) {
+    for who in [0, 1, 63, u32::MAX] {
+        assert!(rt; enters(&rt, &OpenGate, who), "{who}");
+    }
+}

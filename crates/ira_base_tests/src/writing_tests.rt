@@ -1,0 +1,173 @@
+//! Texts of logs written to sinks, and logs gathered.
+
+use crate::samples::{ELECTION_0, ELECTION_1, dirty, log_of, loser, winner};
+use ira_event::{
+    Event, HeadFault, Logs, MemorySink, NodeLog, Sink, SinkFault, ToWriter, WriteFault, write_log,
+};
+use std::alloc::{Allocator, Global};
+use std::io::BufWriter;
+use std::process::Abort;
+use std::test::Fail;
+
+/// Takes at most `most` bytes at a time, fails once when `left` more are taken, and then goes on.
+#[derive(Drop)]
+struct FailsOnce<A: Allocator> {
+    kept: Vec<u8, A>,
+    most: usize,
+    left: usize,
+    failures: u64,
+}
+
+impl<A: Allocator> Sink for FailsOnce<A> {
+    ghost failures = { λ s. s.failures };
+
+    fn push(&mut self, bytes: &[u8]) -> Result<usize, SinkFault> {
+        let n = bytes.len().min(self.most).min(self.left);
+        if n == 0 && !bytes.is_empty() {
+            self.left = usize::MAX;
+            self.failures = self.failures.saturating_add(1);
+            return Err(SinkFault);
+        }
+        if self.kept.extend_from_slice(&bytes[..n]).is_err() {
+            self.failures = self.failures.saturating_add(1);
+            return Err(SinkFault);
+        }
+        self.left -= n;
+        Ok(n)
+    }
+}
+
+fn assert_written(rt: &(impl Abort + AllocGlobal), log: &NodeLog<Global>, text: &[u8]) {
+    let mut sink = MemorySink::new(rt.alloc());
+    assert_eq!(rt; sink.bytes(), b"".as_slice());
+    assert_eq!(rt; write_log(log, &mut sink), Ok(()));
+    assert_eq!(rt; sink.bytes(), text);
+}
+
+#[test]
+fn two_node_election(rt: HostRuntime) -> Result<(), Fail> {
+    assert_eq!(rt; ELECTION_0.len(), 104);
+    assert_written(&rt, &log_of(rt.alloc(), 2, 0, true, &winner())?, ELECTION_0);
+    assert_written(&rt, &log_of(rt.alloc(), 2, 1, true, &loser())?, ELECTION_1);
+    Ok(())
+}
+
+#[test]
+fn largest_numbers_and_dirty(rt: HostRuntime) -> Result<(), Fail> {
+    let message = dirty(1_000_000, 999_999, 10);
+    let events = [
+        Event::Got(message),
+        Event::Draw(1_000_000),
+        Event::Sent(message),
+    ];
+    let log = log_of(rt.alloc(), 64, 63, false, &events)?;
+    let text =
+        b"irlog 1\nnodes 64\nplace 63\nstart passive\nrecv 1000000 999999 10 dirty\ndraw 1000000\nsend 1000000 999999 10 dirty\nend 3\n";
+    assert_written(&rt, &log, text);
+    Ok(())
+}
+
+#[test]
+fn sink_fails_after_ten_bytes(rt: HostRuntime) -> Result<(), Fail> {
+    let mut sink = FailsOnce {
+        kept: Vec::new(rt.alloc()),
+        most: usize::MAX,
+        left: 10,
+        failures: 0,
+    };
+    let log = log_of(rt.alloc(), 2, 0, true, &winner())?;
+    assert_eq!(rt; write_log(&log, &mut sink), Err(WriteFault));
+    assert_eq!(rt; sink.kept.as_slice(), b"irlog 1\nno".as_slice());
+    Ok(())
+}
+
+#[test]
+fn sink_fails_once_at_each_byte(rt: HostRuntime) -> Result<(), Fail> {
+    let log = log_of(rt.alloc(), 2, 0, true, &winner())?;
+    for k in 0..ELECTION_0.len() {
+        let mut sink = FailsOnce {
+            kept: Vec::new(rt.alloc()),
+            most: 3,
+            left: k,
+            failures: 0,
+        };
+        let answer = write_log(&log, &mut sink);
+        assert!(rt;
+            answer == Err(WriteFault)
+                && sink.kept.as_slice() == &ELECTION_0[..k]
+                && sink.failures == 1,
+            "after {k} bytes"
+        );
+    }
+    Ok(())
+}
+
+#[test]
+fn to_a_writer(rt: HostRuntime) -> Result<(), Fail> {
+    let log = log_of(rt.alloc(), 2, 1, true, &loser())?;
+    let mut bytes = Vec::new(rt.alloc());
+    let mut sink = ToWriter::new(&mut bytes);
+    assert_eq!(rt; write_log(&log, &mut sink), Ok(()));
+    assert_eq!(rt; sink.flush(), Ok(()));
+    assert_eq!(rt; bytes.as_slice(), ELECTION_1);
+    Ok(())
+}
+
+#[test]
+fn full_writer(rt: HostRuntime) -> Result<(), Fail> {
+    let log = log_of(rt.alloc(), 2, 1, true, &loser())?;
+    let mut room = [0; 10];
+    assert_eq!(rt;
+        write_log(&log, &mut ToWriter::new(room.as_mut_slice())),
+        Err(WriteFault)
+    );
+    assert_eq!(rt; room.as_slice(), b"irlog 1\nno".as_slice());
+    let mut room = [0; 10];
+    let mut sink = ToWriter::new(BufWriter::new(rt.alloc(), room.as_mut_slice())?);
+    assert_eq!(rt;
+        write_log(&log, &mut sink),
+        Ok(()),
+        "all fits in the buffer"
+    );
+    assert_eq!(rt; sink.flush(), Err(WriteFault));
+    Ok(())
+}
+
+// Logs of these ring sizes and places, gathered: how many there are.
+fn gather(
+    rt: &impl Abort,
+    alloc: Global,
+    heads: &[(u8, u8)],
+) -> Result<Result<u8, HeadFault>, Fail> {
+    let mut logs = Vec::new(alloc);
+    for (nodes, place) in heads {
+        logs.push(log_of(alloc, *nodes, *place, true, &[])?)?;
+    }
+    Ok(Logs::gather(logs).map(|logs| {
+        for i in 0..logs.size().get() {
+            assert_eq!(rt; logs.log(i).place(), i);
+        }
+        logs.size().get()
+    }))
+}
+
+#[test]
+fn heads_out_of_place(rt: HostRuntime) -> Result<(), Fail> {
+    let rows: [(&[(u8, u8)], Result<u8, HeadFault>); 11] = [
+        (&[(2, 0), (2, 1)], Ok(2)),
+        (&[(3, 0), (3, 1), (3, 2)], Ok(3)),
+        (&[(2, 0)], Err(HeadFault::Number)),
+        (&[(2, 1), (2, 0)], Err(HeadFault::Place(0))),
+        (&[(2, 0), (3, 1)], Err(HeadFault::Size(1))),
+        (&[], Err(HeadFault::Number)),
+        (&[(2, 0), (2, 1), (2, 0)], Err(HeadFault::Number)),
+        (&[(3, 0), (2, 1)], Err(HeadFault::Number)),
+        (&[(2, 1), (3, 1)], Err(HeadFault::Size(1))),
+        (&[(3, 0), (3, 1), (3, 1)], Err(HeadFault::Place(2))),
+        (&[(3, 2), (4, 1), (5, 0)], Err(HeadFault::Size(1))),
+    ];
+    for (heads, wanted) in rows {
+        assert_eq!(rt; gather(&rt, rt.alloc(), heads)?, wanted);
+    }
+    Ok(())
+}
