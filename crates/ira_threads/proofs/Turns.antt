@@ -25,24 +25,6 @@ use Rattle.ira_run.specs.declared.node_end.NodeEnd.{NodeEnd}
 use Rattle.ira_replay.specs.LocalRun.{LeadsTo}
 use Rattle.ira_threads.proofs.Frames.{sent_draw, sent_sent, sent_got, got_draw, got_sent, got_got, drawn_draw, drawn_sent, drawn_got}
 
-pub choosing : (p : Phase) (o : Option Message) → wanted_of p o ≡ WantsDraw → (round : ℕ) × (record { phase = p; owed = o } ≡ free (Choosing round))
-choosing (Choosing round) None h = (round, refl)
-choosing (Choosing round) (Some m) h = cc
-choosing (Active round id) None h = cc
-choosing (Active round id) (Some m) h = cc
-choosing Passive None h = cc
-choosing Passive (Some m) h = cc
-choosing (Leader round id) o h = cc
-
-pub listening : (p : Phase) (o : Option Message) → wanted_of p o ≡ Receipt → (o ≡ None) × Receives p
-listening (Choosing round) None h = cc
-listening (Choosing round) (Some m) h = cc
-listening (Active round id) None h = (refl, tt)
-listening (Active round id) (Some m) h = cc
-listening Passive None h = (refl, tt)
-listening Passive (Some m) h = cc
-listening (Leader round id) o h = cc
-
 pub has_step : (n : ℕ) (s t : NodeState) (e : Event) → s ≡ t → HasStep n s e → HasStep n t e
 has_step n s t e same h = (let P : NodeState → Type 0 = λ x. HasStep n x e in subst P same h)
 
