@@ -9,7 +9,7 @@ use Rattle.std.proofs.lemmas.Option.{slice_get-map, slice_get_cases, get_or_from
 use Rattle.ira_ring.specs.Draws.{draws}
 use Rattle.ira_ring.specs.SeededRun.{seeded}
 use Rattle.ira_main.specs.declared.run_request.RunRequest.{RunRequest}
-use Rattle.ira_ring.specs.declared.run_fault.RunFault.{RunFault}
+use Rattle.ira_run.specs.declared.run_fault.RunFault.{RunFault}
 use Rattle.ira_ring.specs.Recording.{IsRecording, HasOwnEnd}
 use Rattle.ira_ring.specs.Run.{Run}
 use Rattle.ira_ring.specs.Setup.{Setup, KeepsRules}

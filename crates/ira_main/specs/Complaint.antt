@@ -1,8 +1,8 @@
 -- Why the program ends with no answer.
 use Rattle.std.specs.Prelude.{ℕ, List}
 use Rattle.std.specs.Borrow.{Bor}
-use Rattle.ira_ring.specs.declared.run_fault.RunFault.{RunFault}
-use Rattle.ira_ring.specs.declared.run_fault.RunFault.TheVariants as run
+use Rattle.ira_run.specs.declared.run_fault.RunFault.{RunFault}
+use Rattle.ira_run.specs.declared.run_fault.RunFault.TheVariants as run
 use Rattle.ira_main.specs.declared.complaint.Complaint.{Complaint}
 use Rattle.ira_main.specs.declared.complaint.Complaint.TheVariants.{CannotRead, CannotWriteLog, OutOfMemory, RunRefused}
 use Rattle.ira_main.specs.declared.shelf_fault.ShelfFault.{ShelfFault}

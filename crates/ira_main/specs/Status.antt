@@ -1,8 +1,8 @@
 use Rattle.std.specs.Prelude.{◌≡◌, ◌⊎◌, ℕ, List, Some, Result, Ok, Err, slice_get}
 use Rattle.ira_audit.specs.declared.answer.Answer.{Answer}
 use Rattle.ira_audit.specs.declared.answer.Answer.TheVariants as answer
-use Rattle.ira_ring.specs.declared.node_end.NodeEnd.{NodeEnd}
-use Rattle.ira_ring.specs.declared.node_end.NodeEnd.TheVariants.{Leader}
+use Rattle.ira_run.specs.declared.node_end.NodeEnd.{NodeEnd}
+use Rattle.ira_run.specs.declared.node_end.NodeEnd.TheVariants.{Leader}
 use Rattle.ira_main.specs.declared.complaint.Complaint.{Complaint}
 use Rattle.ira_main.specs.declared.complaint.Complaint.TheVariants as complaint
 use Rattle.ira_main.specs.declared.shelf_fault.ShelfFault.{ShelfFault}

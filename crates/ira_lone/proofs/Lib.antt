@@ -1,0 +1,9 @@
+pub mod LoneEnds
+pub mod LoneLogs
+pub mod LoneNodes
+pub mod LoneRuns
+pub mod LoneStarts
+pub mod LoneSteps
+pub mod LoneTurns
+pub mod LoneTurnsOn
+pub mod Seeded

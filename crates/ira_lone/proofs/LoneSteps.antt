@@ -1,0 +1,199 @@
+-- A turn of the lone runner is a step of a run.
+use Rattle.std.proofs.Common.{◌≡◌, ◌≢◌, ℕ, ◌<◌, ◌≤◌, inl, inr, List, [], ◌∷◌, ◌++◌, Some, length, refl, sym, ◌∙◌, subst, ap, drop, append-nil, append_assoc, length-append, arith}
+use Rattle.std.specs.List.{cons_option}
+use Rattle.std.proofs.lemmas.List.Elements.{filter_map-append}
+use Rattle.ira_event.specs.declared.event.Event.{Event}
+use Rattle.ira_event.specs.declared.event.Event.TheVariants.{Draw, Sent, Got}
+use Rattle.ira_event.specs.declared.msg.Msg.{Msg}
+use Rattle.ira_node.specs.declared.phase.Phase.TheVariants.{Choosing}
+use Rattle.ira_node.specs.declared.node_state.NodeState.{NodeState}
+use Rattle.ira_node.specs.NodeState.{free, IsLeader}
+use Rattle.ira_node.specs.NodeStep.{NodeStep, sends, draws, passes, gives_in, purges, meets, ties, wins}
+use Rattle.ira_order.specs.Ring.{next, prev}
+use Rattle.ira_order.specs.Run.{Configuration, LinkStep, RingStep}
+use Rattle.ira_order.proofs.Ranks.{eq_cases, next_below}
+use Rattle.ira_order.proofs.Runs.{next_prev, prev_next, prev_below}
+use Rattle.ira_run.specs.Setup.{Setup, given}
+use Rattle.ira_run.specs.FullRun.{opening, events_at, drawing, drawn, HasEvent, owes, chooses, receives, CanStep}
+use Rattle.ira_lone.specs.LoneNode.{LoneNode, IsFirst, IsNext, drawn_by, after_event, after_put}
+use Rattle.ira_lone.specs.LoneRing.{node_at, IsMoved, IsReached}
+use Rattle.ira_run.proofs.Walks.{walk_more, own_more, other_more, links_from}
+
+-- ---- a node with a next event can step
+
+drawing_chooses : (n : ℕ) (state after : NodeState) (id : ℕ) → NodeStep n state (Draw id) after → (round : ℕ) × (state ≡ free (Choosing round))
+drawing_chooses n s t x (sends m runs o ee et) = cc
+drawing_chooses n s t x (draws round id es ee lo hi et) = (round, es)
+drawing_chooses n s t x (passes m es ee h et) = cc
+drawing_chooses n s t x (gives_in round id m es ee g h et) = cc
+drawing_chooses n s t x (purges round id m es ee g et) = cc
+drawing_chooses n s t x (meets round id m es ee g h k et) = cc
+drawing_chooses n s t x (ties round id m es ee g h d k et) = cc
+drawing_chooses n s t x (wins round id m es ee g h d et) = cc
+
+sending_owes : (n : ℕ) (state after : NodeState) (k : Msg) → NodeStep n state (Sent k) after → state.owed ≡ Some k
+sending_owes n s t k (sends m runs o ee et) = let same : m ≡ k = cc in o ∙ ap Some same
+sending_owes n s t k (draws round id es ee lo hi et) = cc
+sending_owes n s t k (passes m es ee h et) = cc
+sending_owes n s t k (gives_in round id m es ee g h et) = cc
+sending_owes n s t k (purges round id m es ee g et) = cc
+sending_owes n s t k (meets round id m es ee g h j et) = cc
+sending_owes n s t k (ties round id m es ee g h d j et) = cc
+sending_owes n s t k (wins round id m es ee g h d et) = cc
+
+-- an ID that is left is unused
+unused : (ids used : List ℕ) (left : List ℕ) (id : ℕ) (rest : List ℕ) → ids ≡ used ++ left → left ≡ id ∷ rest → length used < length ids
+unused ids used left id rest is first = omega (arith, ap length is, ap length first, length-append used left)
+
+pub has_event : (n most : ℕ) (ids : List ℕ) (node : LoneNode) (e : Event) (after : NodeState) → IsNext n most node e after → ids ≡ drawn node.events ++ node.ids → HasEvent n ids node.state node.events node.input
+has_event n most ids node (Draw id) after step left =
+    let w : (round : ℕ) × (node.state ≡ free (Choosing round)) = drawing_chooses n node.state after id step.step in
+    chooses w.0 w.1 (unused ids (drawn node.events) node.ids id step.first.0 left step.first.1)
+has_event n most ids node (Sent m) after step left = owes m (sending_owes n node.state after m step.step)
+has_event n most ids node (Got m) after step left = receives m step.first.0 step.first.1 (after, step.step)
+
+pub can_step : (s : Setup) (run : List (ℕ × Event)) (c : Configuration) (i : ℕ) (node : LoneNode) → c.state i ≡ node.state → c.link (prev s.nodes i) ≡ node.input → events_at run i ≡ node.events
+    → ¬ (IsLeader node.state.phase) → length node.events < s.cap → HasEvent s.nodes (given s i) node.state node.events node.input → CanStep s run c i
+can_step s run c i node state link events follows room event =
+    let P : NodeState → Type 0 = λ x. ¬ (IsLeader x.phase) in
+    let Q : NodeState → Type 0 = λ x. HasEvent s.nodes (given s i) x (events_at run i) (c.link (prev s.nodes i)) in
+    let R : List Event → Type 0 = λ x. HasEvent s.nodes (given s i) node.state x (c.link (prev s.nodes i)) in
+    let S : List Msg → Type 0 = λ x. HasEvent s.nodes (given s i) node.state node.events x in
+    record {
+      follows = subst P (sym state) follows;
+      room = omega (arith, ap length events);
+      event = subst Q (sym state) (subst R (sym events) (subst S (sym link) event));
+    }
+
+-- ---- what a turn leaves of the nodes
+
+-- all but node i keep their state, their events and their IDs
+pub record IsKept (old new : LoneNode) : Type 0 where
+  pub state : new.state ≡ old.state
+  pub events : new.events ≡ old.events
+  pub ids : new.ids ≡ old.ids
+
+kept_same : (old new : LoneNode) → new ≡ old → IsKept old new
+kept_same old new is = record { state = ap (λ (x : LoneNode). x.state) is; events = ap (λ (x : LoneNode). x.events) is; ids = ap (λ (x : LoneNode). x.ids) is }
+
+kept_put : (old new : LoneNode) (m : Msg) → new ≡ after_put old m → IsKept old new
+kept_put old new m is = record { state = ap (λ (x : LoneNode). x.state) is; events = ap (λ (x : LoneNode). x.events) is; ids = ap (λ (x : LoneNode). x.ids) is }
+
+module _ (n i : ℕ) (after : NodeState) (old new : List LoneNode) where
+  pub own : (e : Event) → IsMoved n i e after old new → node_at new i ≡ after_event (node_at old i) e after
+  own (Draw id) moved = moved.0
+  own (Sent m) moved = moved.0
+  own (Got m) moved = moved.0
+
+  pub apart : (e : Event) → IsMoved n i e after old new → (j : ℕ) → j ≢ i → IsKept (node_at old j) (node_at new j)
+  apart (Draw id) moved j ne = kept_same (node_at old j) (node_at new j) (moved.1 j ne)
+  apart (Got m) moved j ne = kept_same (node_at old j) (node_at new j) (moved.1 j ne)
+  apart (Sent m) moved j ne = elim (eq_cases j (next n i)) [
+    | inl e ↦ (let P : ℕ → Type 0 = λ k. IsKept (node_at old k) (node_at new k) in subst P (sym e) (kept_put (node_at old (next n i)) (node_at new (next n i)) m moved.1))
+    | inr other ↦ kept_same (node_at old j) (node_at new j) (moved.2 j ne other)
+  ]
+
+  -- the messages before each node
+  link_step : (e : Event) → 2 ≤ n → i < n → IsMoved n i e after old new → IsFirst (node_at old i) e → LinkStep n i e (λ k. (node_at old (next n k)).input) (λ k. (node_at new (next n k)).input)
+  link_step (Draw id) two here moved first = λ j lj. elim (eq_cases (next n j) i) [
+    | inl e ↦ (let P : ℕ → Type 0 = λ k. (node_at new k).input ≡ (node_at old k).input in subst P (sym e) (ap (λ (x : LoneNode). x.input) moved.0))
+    | inr ne ↦ ap (λ (x : LoneNode). x.input) (moved.1 (next n j) ne)
+  ]
+  link_step (Sent m) two here moved first = (
+    ap (λ (x : LoneNode). x.input) moved.1,
+    λ j lj ne. elim (eq_cases (next n j) i) [
+      | inl e ↦ (let P : ℕ → Type 0 = λ k. (node_at new k).input ≡ (node_at old k).input in subst P (sym e) (ap (λ (x : LoneNode). x.input) moved.0))
+      | inr other ↦ ap (λ (x : LoneNode). x.input) (moved.2 (next n j) other (λ q. ne (prev_next n (next n i) j (next_below n i here) lj q ∙ sym (prev_next n (next n i) i (next_below n i here) here refl))))
+    ],
+  )
+  link_step (Got m) two here moved first =
+      let q : next n (prev n i) ≡ i = next_prev n i here in
+      let before : (node_at old (next n (prev n i))).input ≡ m ∷ first.0 = ap (λ (k : ℕ). (node_at old k).input) q ∙ first.1 in
+      let behind : (node_at new (next n (prev n i))).input ≡ first.0 = ap (λ (k : ℕ). (node_at new k).input) q ∙ ap (λ (x : LoneNode). x.input) moved.0 ∙ ap (drop 1) first.1 in (
+        before ∙ ap (λ (x : List Msg). m ∷ x) (sym behind),
+        λ j lj ne. ap (λ (x : LoneNode). x.input) (moved.1 (next n j) (λ e. ne (prev_next n i j here lj e))),
+      )
+
+-- ---- a turn is a step of the run
+
+-- the IDs that are left after an event
+drawn_more : (events : List Event) (e : Event) → drawn (events ++ e ∷ []) ≡ drawn events ++ cons_option (drawing e) []
+drawn_more events e = filter_map-append drawing events (e ∷ [])
+
+left_after : (node : LoneNode) (e : Event) (ids : List ℕ) → IsFirst node e → ids ≡ drawn node.events ++ node.ids → ids ≡ drawn (node.events ++ e ∷ []) ++ drop (drawn_by e) node.ids
+left_after node (Draw id) ids first left =
+    left
+    ∙ ap (λ (x : List ℕ). drawn node.events ++ x) first.1
+    ∙ sym (append_assoc (drawn node.events) (id ∷ []) first.0)
+    ∙ ap (λ (x : List ℕ). x ++ first.0) (sym (drawn_more node.events (Draw id)))
+    ∙ ap (λ (x : List ℕ). drawn (node.events ++ Draw id ∷ []) ++ x) (sym (ap (drop 1) first.1))
+left_after node (Sent m) ids first left = left ∙ ap (λ (x : List ℕ). x ++ node.ids) (sym (drawn_more node.events (Sent m) ∙ append-nil (drawn node.events)))
+left_after node (Got m) ids first left = left ∙ ap (λ (x : List ℕ). x ++ node.ids) (sym (drawn_more node.events (Got m) ∙ append-nil (drawn node.events)))
+
+-- the link that leads to the next node
+link_is : (n : ℕ) (nodes : List LoneNode) (link : ℕ → List Msg) → ((i : ℕ) → i < n → link (prev n i) ≡ (node_at nodes i).input) → (k : ℕ) → k < n → link k ≡ (node_at nodes (next n k)).input
+link_is n nodes link links k l = ap link (prev_next n (next n k) k (next_below n k l) l refl) ∙ links (next n k) (next_below n k l)
+
+abbrev point_of : ℕ → List LoneNode → Configuration
+point_of n nodes = record { state = λ j. (node_at nodes j).state; link = λ k. (node_at nodes (next n k)).input }
+
+module _ (s : Setup) (old new : List LoneNode) (i : ℕ) (e : Event) (after : NodeState)
+    (two : 2 ≤ s.nodes)
+    (here : i < s.nodes)
+    (reached : IsReached s old)
+    (is_next : IsNext s.nodes s.cap (node_at old i) e after)
+    (moved : IsMoved s.nodes i e after old new) where
+  node_is : node_at new i ≡ after_event (node_at old i) e after
+  node_is = own s.nodes i after old new e moved
+
+  kept : (j : ℕ) → j ≢ i → IsKept (node_at old j) (node_at new j)
+  kept = apart s.nodes i after old new e moved
+
+  ring_step : RingStep s.nodes i e reached.point (point_of s.nodes new)
+  ring_step =
+      let P : NodeState → Type 0 = λ x. NodeStep s.nodes x e after in
+      let Q : NodeState → Type 0 = λ x. NodeStep s.nodes (reached.point.state i) e x in
+      record {
+        place = here;
+        node = subst Q (sym (ap (λ (x : LoneNode). x.state) node_is)) (subst P (sym (reached.states i here)) is_next.step);
+        others = λ j lj ne. (kept j ne).state ∙ sym (reached.states j lj);
+        links = links_from s.nodes i e (λ k. (node_at old (next s.nodes k)).input) reached.point.link (λ k. (node_at new (next s.nodes k)).input) here (prev_below s.nodes i here)
+            (link_is s.nodes old reached.point.link reached.links)
+            (link_step s.nodes i after old new e two here moved is_next.first);
+      }
+
+  may_step : CanStep s reached.run reached.point i
+  may_step =
+      can_step s reached.run reached.point i (node_at old i) (reached.states i here) (reached.links i here) (reached.events i here) is_next.follows is_next.room
+      (has_event s.nodes s.cap (given s i) (node_at old i) e after is_next (reached.draws i here))
+
+  events_of : (j : ℕ) → j < s.nodes → events_at (reached.run ++ (i, e) ∷ []) j ≡ (node_at new j).events
+  events_of j lj = elim (eq_cases i j) [
+    | inl q ↦
+        let P : ℕ → Type 0 = λ k. events_at (reached.run ++ (i, e) ∷ []) k ≡ (node_at new k).events in
+        subst P q (own_more reached.run i i e refl ∙ ap (λ (x : List Event). x ++ e ∷ []) (reached.events i here) ∙ sym (ap (λ (x : LoneNode). x.events) node_is))
+    | inr ne ↦ other_more reached.run i j e ne ∙ reached.events j lj ∙ sym (kept j (λ q. ne (sym q))).events
+  ]
+
+  draws_of : (j : ℕ) → j < s.nodes → given s j ≡ drawn (node_at new j).events ++ (node_at new j).ids
+  draws_of j lj = elim (eq_cases i j) [
+    | inl q ↦
+        let P : ℕ → Type 0 = λ k. given s k ≡ drawn (node_at new k).events ++ (node_at new k).ids in
+        let Q : LoneNode → Type 0 = λ x. given s i ≡ drawn x.events ++ x.ids in
+        subst P q (subst Q (sym node_is) (left_after (node_at old i) e (given s i) is_next.first (reached.draws i here)))
+    | inr ne ↦
+        let k = kept j (λ q. ne (sym q)) in
+        reached.draws j lj ∙ ap (λ (x : List Event). drawn x ++ (node_at old j).ids) (sym k.events) ∙ ap (λ (x : List ℕ). drawn (node_at new j).events ++ x) (sym k.ids)
+  ]
+
+  pub turn_reaches : length new ≡ length old → IsReached s new
+  turn_reaches many = record {
+    many = many ∙ reached.many;
+    run = reached.run ++ (i, e) ∷ [];
+    point = point_of s.nodes new;
+    walk = walk_more s [] (opening s) reached.run reached.point i e (point_of s.nodes new) reached.walk may_step ring_step;
+    states = λ j lj. refl;
+    links = λ j lj. ap (λ (k : ℕ). (node_at new k).input) (next_prev s.nodes j lj);
+    events = events_of;
+    draws = draws_of;
+  }

@@ -1,0 +1,31 @@
+use Rattle.std.proofs.Common.{◌<◌, length, ap, arith}
+use Rattle.ira_lone.specs.LoneNode.{LoneNode, MakesOwn}
+use Rattle.ira_lone.proofs.LoneNodes.{stopped, further, full_ends}
+use Rattle.ira_lone.proofs.lone_node.LoneNode.go_on.Goals as goal
+use Rattle.ira_lone.proofs.lone_node.LoneNode.go_on.Goals.{in-Draw+in_ok-next-in-Draw, in-Receipt+in_ok-next-in-Receipt}
+
+pub returns-in_default : goal.returns-in_default
+returns-in_default g c =
+    let was = c.loop-nodes.invariant in
+    let room : length c.loop-nodes.self.events < c.args.cap = omega (arith, ap (λ (x : LoneNode). length x.events) c.self-in-loop-nodes.view_is) in
+    let made : MakesOwn c.args.nodes c.args.cap c.loop-nodes.self c.match-wanted.self c.match-wanted.next = elim c.match-wanted.branch [
+      | in-Draw+in_ok-next-in-Draw w ↦ rw (w.self-is, w.next-is) (w.in_ok-next-in-Draw.ensures c.args.cap room)
+      | in-Receipt+in_ok-next-in-Receipt w ↦ rw (w.self-is, w.next-is) (w.in_ok-next-in-Receipt.ensures c.args.cap room)
+    ] in
+    stopped _ _ was.goes.0 _ c.loop-nodes.self _ _ was.goes.1 made c.in_default.is
+
+pub loop-nodes-preserved : goal.loop-nodes-preserved
+loop-nodes-preserved g c =
+    let was = c.loop-nodes.invariant in
+    let room : length c.loop-nodes.self.events < c.args.cap = omega (arith, ap (λ (x : LoneNode). length x.events) c.self-in-loop-nodes.view_is) in
+    let made : MakesOwn c.args.nodes c.args.cap c.loop-nodes.self c.match-wanted.self c.match-wanted.next = elim c.match-wanted.branch [
+      | in-Draw+in_ok-next-in-Draw w ↦ rw (w.self-is, w.next-is) (w.in_ok-next-in-Draw.ensures c.args.cap room)
+      | in-Receipt+in_ok-next-in-Receipt w ↦ rw (w.self-is, w.next-is) (w.in_ok-next-in-Receipt.ensures c.args.cap room)
+    ] in
+    let on = further _ _ was.goes.0 _ c.loop-nodes.self _ _ c.in-Some.after was.goes.1 was.ids made c.in-Some.is in
+    record { goes = on.goes; state = on.state; ids = on.ids }
+
+pub returns : goal.returns
+returns g c =
+    let was = c.loop-nodes.invariant in
+    (was.goes, full_ends _ _ c.loop-nodes.self (omega (arith, ap (λ (x : LoneNode). length x.events) c.self-in-loop-nodes.view_is)))

@@ -1,0 +1,3 @@
+pub mod LoneNode
+pub mod LoneRing
+pub mod SeededRun

@@ -1,0 +1,170 @@
+ghost use Rattle.std.specs.Prelude.{◌≡◌, ◌<◌, ◌≤◌, ℕ, [], All, IfOk, OnOk, length};
+ghost use Rattle.ira_event.specs.Log.{IsLog};
+ghost use Rattle.ira_node.specs.declared.wanted.Wanted.TheVariants.{Draw as WantsDraw, Send, Receipt};
+ghost use Rattle.ira_node.specs.NodeState.{first_state};
+ghost use Rattle.ira_node.specs.Wanted.{wanted_of};
+ghost use Rattle.ira_lone.specs.LoneNode.{HasNoNext, Ends, MakesOwn, MakesSending, GoesOn, after_put};
+
+use ira_event::{Event, Msg, NodeLog, RingSize};
+use ira_node::{NodeState, Wanted};
+use ira_run::NodeEnd;
+use std::alloc::{AllocError, Allocator};
+use std::collections::VecDeque;
+use std::marker::Model;
+
+/// A node of a lone run: its state, the IDs that it has left to draw, the messages on the link that
+/// leads to it, and its events.
+#[derive(Drop)]
+pub(crate) struct LoneNode<'a, A: Allocator> {
+    state: NodeState,
+    ids: &'a [u32],
+    input: VecDeque<Msg, A>,
+    events: Vec<Event, A>,
+}
+
+impl<'a, A: Allocator> Model for LoneNode<'a, A> {
+    ghost use Rattle.ira_lone.specs.LoneNode.{LoneNode};
+
+    ghost Value = { LoneNode };
+
+    ghost view = { λ a. record { state = a.state; ids = a.ids.now; input = a.input.items; events = a.events.items } };
+}
+
+impl<'a, A: Allocator> LoneNode<'a, A> {
+    /// The node before its first event.
+    pub(crate) fn first(
+        alloc: A,
+        initiator: bool,
+        ids: &'a [u32],
+    ) -> Result<LoneNode<'a, A>, AllocError>
+    where
+        A: Clone,
+        ensures { IfOk result (λ node. node ≡ record { state = first_state initiator; ids = ids.now; input = []; events = [] }) }
+    {
+        Ok(LoneNode {
+            state: NodeState::first(initiator),
+            ids,
+            input: VecDeque::new(alloc.clone()?),
+            events: Vec::new(alloc),
+        })
+    }
+
+    /// Makes the node's events up to its next sending, and answers the message that it sent; `None`
+    /// where the node has no next event before that, as things stand. A log may have `cap` records.
+    #[inline(always)]
+    pub(crate) fn go_on(&mut self, nodes: RingSize, cap: usize) -> Result<Option<Msg>, AllocError>
+        requires { All (λ d. (1 ≤ d) × (d ≤ nodes)) self.old.ids }
+        ensures { IfOk result (GoesOn nodes cap self.old self.new) }
+    {
+        // The state at hand, so that it isn't read back.
+        let mut state = self.state;
+        while self.events.len() < cap {
+            let next = match state.wanted() {
+                Wanted::Nothing => return Ok(None),
+                Wanted::Send(message) => {
+                    self.send(state, nodes, message)?;
+                    return Ok(Some(message));
+                }
+                Wanted::Draw => self.draw(state, nodes)?,
+                Wanted::Receipt => self.receive(state, nodes)?,
+            };
+            let Some(after) = next else {
+                return Ok(None);
+            };
+            state = after;
+        }
+        Ok(None)
+    }
+
+    /// Sends the message that the node owes in its state.
+    #[inline(always)]
+    fn send(&mut self, state: NodeState, nodes: RingSize, message: Msg) -> Result<(), AllocError>
+        requires state { state ≡ self.old.state }
+        requires wanted { Send message ≡ wanted_of state.phase state.owed }
+        ensures { OnOk result ((most : ℕ) → length self.old.events < most → MakesSending nodes most self.old self.new message) }
+    {
+        let Ok(after) = state.step(nodes, &Event::Sent(message)) else {
+            unreachable!();
+        };
+        self.events.push(Event::Sent(message))?;
+        self.state = after;
+        Ok(())
+    }
+
+    /// Draws the next ID, where one is left, and answers the state after it.
+    #[inline(always)]
+    fn draw(&mut self, state: NodeState, nodes: RingSize) -> Result<Option<NodeState>, AllocError>
+        requires state { state ≡ self.old.state }
+        requires wanted { WantsDraw ≡ wanted_of state.phase state.owed }
+        requires ids { All (λ d. (1 ≤ d) × (d ≤ nodes)) self.old.ids }
+        ensures { IfOk result (λ next. (most : ℕ) → length self.old.events < most → MakesOwn nodes most self.old self.new next) }
+    {
+        let Some((&id, others)) = self.ids.split_first() else {
+            return Ok(None);
+        };
+        let Ok(after) = state.step(nodes, &Event::Draw(id)) else {
+            unreachable!();
+        };
+        self.events.push(Event::Draw(id))?;
+        self.ids = others;
+        self.state = after;
+        Ok(Some(after))
+    }
+
+    /// Receives the next message, where there is one that has a step, and answers the state after it.
+    #[inline(always)]
+    fn receive(
+        &mut self,
+        state: NodeState,
+        nodes: RingSize,
+    ) -> Result<Option<NodeState>, AllocError>
+        requires state { state ≡ self.old.state }
+        requires wanted { Receipt ≡ wanted_of state.phase state.owed }
+        ensures { IfOk result (λ next. (most : ℕ) → length self.old.events < most → MakesOwn nodes most self.old self.new next) }
+    {
+        let Some(&message) = self.input.front() else {
+            return Ok(None);
+        };
+        let Ok(after) = state.step(nodes, &Event::Got(message)) else {
+            return Ok(None);
+        };
+        self.events.push(Event::Got(message))?;
+        let _ = self.input.pop_front();
+        self.state = after;
+        Ok(Some(after))
+    }
+
+    /// How the node has ended, as it has where it has no next event.
+    pub(crate) fn end(&self, cap: usize) -> NodeEnd
+        requires { (n : ℕ) × HasNoNext n cap self.now }
+        ensures { (n : ℕ) → HasNoNext n cap self.now → Ends n cap self.now result }
+    {
+        match self.state.wanted() {
+            Wanted::Nothing => NodeEnd::Leader,
+            _ if self.events.len() >= cap => NodeEnd::LogFull,
+            Wanted::Send(_) => unreachable!(),
+            Wanted::Draw => NodeEnd::DrawsSpent,
+            Wanted::Receipt => match self.input.front() {
+                Some(&message) => NodeEnd::NoStep(message),
+                None => NodeEnd::Quiet,
+            },
+        }
+    }
+
+    /// Puts a message last on the link that leads to the node.
+    #[inline]
+    pub(crate) fn put(&mut self, message: Msg) -> Result<(), AllocError>
+        ensures { OnOk result (self.new ≡ after_put self.old message) }
+    {
+        self.input.push_back(message)?;
+        Ok(())
+    }
+
+    /// The node's log.
+    pub(crate) fn into_log(self, nodes: RingSize, place: u8, initiator: bool) -> NodeLog<A>
+        requires { IsLog (record { nodes = nodes; place = place; initiator = initiator; events = self.events }) }
+        ensures { result ≡ record { nodes = nodes; place = place; initiator = initiator; events = self.entry.events } }
+    {
+        NodeLog::of_parts(nodes, place, initiator, self.events)
+    }
+}

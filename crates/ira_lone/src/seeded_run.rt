@@ -1,0 +1,70 @@
+ghost use Rattle.std.specs.Prelude.{◌≡◌, ◌⊎◌, Err, IfOk, IfErr, IsErr, OnOk};
+ghost use Rattle.std.specs.List.{list_any};
+ghost use Rattle.ira_run.specs.declared.run_fault.RunFault.TheVariants.{Setup as SetupFault, OutOfMemory as MemoryFault};
+ghost use Rattle.ira_run.specs.NodeEnd.{is_draws_spent};
+ghost use Rattle.ira_run.specs.Setup.{KeepsRules};
+ghost use Rattle.ira_run.specs.ShownEnd.{IsLoneRun};
+ghost use Rattle.ira_lone.specs.SeededRun.{seeded, IsSeeded};
+ghost use Rattle.ira_run.specs.Agreement.{AreOfEachFullRun};
+
+use crate::lone_run::run_alone;
+use ira_event::{OutOfMemory, RingSize};
+use ira_run::{NodeEnd, Run, RunFault, Setup, draw_lists};
+use std::alloc::Allocator;
+
+/// How many draws of each node are made at first: few, and yet an election seldom needs more.
+const FIRST_DRAWS: u32 = 16;
+
+/// The setup whose nodes are given their first `k` draws.
+fn seeded_setup<A: Allocator + Clone>(
+    alloc: A,
+    nodes: RingSize,
+    initiators: &[bool],
+    seed: u64,
+    k: u32,
+    cap: usize,
+) -> Result<Setup<A>, OutOfMemory>
+    ensures { IfOk result (IsSeeded nodes initiators.now seed k cap) }
+{
+    Ok(Setup {
+        nodes,
+        initiators: initiators.to_vec(alloc.clone()?)?,
+        draws: draw_lists(alloc, nodes, seed, k)?,
+        cap,
+    })
+}
+
+/// Whether some node had to draw, and had no draw left.
+fn lack_draws(ends: &[NodeEnd]) -> bool
+    ensures { result ≡ list_any is_draws_spent ends.now }
+{
+    ends.iter().any(|end| matches!(end, NodeEnd::DrawsSpent))
+}
+
+/// A full run on one thread of a ring whose nodes are given the first `k` draws of the seed, as
+/// `run_alone` gives it. Where the first few draws of each node will do, no others are made.
+pub fn run_alone_seeded<A: Allocator + Clone>(
+    alloc: A,
+    nodes: RingSize,
+    initiators: &[bool],
+    seed: u64,
+    k: u32,
+    cap: usize,
+) -> Result<Run<A>, RunFault>
+    ensures rules { result ≡ Err SetupFault → ¬ (KeepsRules (seeded nodes initiators.now seed k cap)) }
+    ensures broken { ¬ (KeepsRules (seeded nodes initiators.now seed k cap)) → IsErr result }
+    ensures kept { OnOk result (KeepsRules (seeded nodes initiators.now seed k cap)) }
+    ensures ok { IfOk result (IsLoneRun (seeded nodes initiators.now seed k cap)) }
+    ensures only { IfOk result (λ run. AreOfEachFullRun (seeded nodes initiators.now seed k cap) run.logs) }
+    ensures err { IfErr result (λ f. (f ≡ SetupFault) ⊎ (f ≡ MemoryFault)) }
+{
+    if k > FIRST_DRAWS {
+        let few = seeded_setup(alloc.clone()?, nodes, initiators, seed, FIRST_DRAWS, cap)?;
+        let run = run_alone(alloc.clone()?, &few)?;
+        if !lack_draws(run.ends()) {
+            return Ok(run);
+        }
+    }
+    let all = seeded_setup(alloc.clone()?, nodes, initiators, seed, k, cap)?;
+    run_alone(alloc, &all)
+}

@@ -1,0 +1,112 @@
+-- What shown ends say: the node can't go on, and has one end.
+use Rattle.std.proofs.Common.{◌≡◌, ℕ, ◌<◌, List, [], ◌∷◌, ◌++◌, length, refl, sym, ◌∙◌, subst, ap, append_assoc, length-append, arith}
+use Rattle.ira_event.specs.declared.msg.Msg.{Msg}
+use Rattle.ira_event.specs.declared.event.Event.{Event}
+use Rattle.ira_event.specs.declared.event.Event.TheVariants.{Got}
+use Rattle.ira_event.specs.Log.{Log}
+use Rattle.ira_node.specs.declared.phase.Phase.TheVariants.{Choosing}
+use Rattle.ira_node.specs.declared.node_state.NodeState.{NodeState}
+use Rattle.ira_node.specs.NodeState.{first_state, free, IsLeader}
+use Rattle.ira_node.specs.NodeStep.{HasStep}
+use Rattle.ira_replay.proofs.Alike.{one_end}
+use Rattle.ira_order.specs.Ring.{prev, log_of}
+use Rattle.ira_order.specs.Matching.{sent, got}
+use Rattle.ira_run.specs.declared.node_end.NodeEnd.{NodeEnd}
+use Rattle.ira_run.specs.declared.node_end.NodeEnd.TheVariants.{Leader, Stopped, DrawsSpent, LogFull, NoStep, Quiet}
+use Rattle.ira_run.specs.Setup.{Setup, is_initiator, given}
+use Rattle.ira_run.specs.FullRun.{drawn, HasEvent, owes, chooses, receives}
+use Rattle.ira_run.specs.ShownEnd.{Waits, Says, IsShown}
+use Rattle.ira_run.specs.Agreement.{told}
+use Rattle.ira_run.proofs.Beginnings.{next_same}
+use Rattle.ira_run.proofs.Choosing.{choosing_no_receipt, choosing_no_waiting}
+use Rattle.ira_run.proofs.MoreDraws.{must_have_spent}
+
+-- ---- a node with a shown end can't go on
+
+-- a node that waits makes no event but a receipt
+waiting_no_event : (s : Setup) (i cap : ℕ) (state : NodeState) (events : List Event) (left : List Msg) → Waits cap state events → ((m : Msg) (others : List Msg) → left ≡ m ∷ others → HasStep s.nodes state (Got m) → ⊥)
+    → ¬ (HasEvent s.nodes (given s i) state events left)
+waiting_no_event s i cap state events left waits none (owes m o) = let free = waits.1 in cc
+waiting_no_event s i cap state events left waits none (chooses round is unused) = choosing_no_waiting round state is waits.2
+waiting_no_event s i cap state events left waits none (receives m others is step) = none m others is step
+
+spent_no_event : (s : Setup) (i round : ℕ) (state : NodeState) (events : List Event) (left : List Msg) → state ≡ free (Choosing round) → drawn events ≡ given s i → ¬ (HasEvent s.nodes (given s i) state events left)
+spent_no_event s i round state events left is all (owes m o) = cc
+spent_no_event s i round state events left is all (chooses other other_is unused) = omega (arith, unused, ap length all)
+spent_no_event s i round state events left is all (receives m others there step) = choosing_no_receipt s.nodes round state m is step
+
+-- where all messages were received, none is left
+none_left : (events : List Event) (input left others : List Msg) (m : Msg) → input ≡ got events ++ left → got events ≡ input → left ≡ m ∷ others → ⊥
+none_left events input left others m all same is = omega (arith, ap length all, length-append (got events) left, ap length same, ap length is)
+
+pub shown_stays : (s : Setup) (i : ℕ) (state : NodeState) (events : List Event) (input left : List Msg) (end : NodeEnd) → input ≡ got events ++ left → Says s i state events input end → ¬ (IsLeader state.phase) → length events < s.cap
+    → ¬ (HasEvent s.nodes (given s i) state events left)
+shown_stays s i state events input left Leader all says follows room = absurd (follows says)
+shown_stays s i state events input left LogFull all says follows room = absurd (omega (arith, says.1))
+shown_stays s i state events input left DrawsSpent all says follows room = spent_no_event s i says.1.0 state events left says.1.1 says.2
+shown_stays s i state events input left (NoStep k) all says follows room =
+    waiting_no_event s i s.cap state events left says.0
+    (λ m others is step.
+    let here : input ≡ got events ++ m ∷ others = all ∙ ap (λ (x : List Msg). got events ++ x) is in
+    let there : input ≡ got events ++ k ∷ says.2.0 = says.2.1 ∙ append_assoc (got events) (k ∷ []) says.2.0 in
+    let same : m ≡ k = next_same (got events) others says.2.0 m k (sym here ∙ there) in
+    let P : Msg → Type 0 = λ x. HasStep s.nodes state (Got x) in
+    says.1 (subst P same step))
+shown_stays s i state events input left Quiet all says follows room = waiting_no_event s i s.cap state events left says.0 (λ m others is step. none_left events input left others m all says.1 is)
+shown_stays s i state events input left Stopped all says follows room = waiting_no_event s i s.cap state events left says.0 (λ m others is step. none_left events input left others m all says.1 is)
+
+-- ---- it has one end
+
+-- a node that leads ends so
+leads_so : (s : Setup) (i : ℕ) (state : NodeState) (events : List Event) (input : List Msg) (end : NodeEnd) → IsLeader state.phase → Says s i state events input end → told end ≡ Leader
+leads_so s i state events input Leader l says = refl
+leads_so s i state events input LogFull l says = absurd (says.0 l)
+leads_so s i state events input DrawsSpent l says = absurd (says.0.0 l)
+leads_so s i state events input (NoStep m) l says = absurd (says.0.0.0 l)
+leads_so s i state events input Quiet l says = absurd (says.0.0.0 l)
+leads_so s i state events input Stopped l says = absurd (says.0.0.0 l)
+
+-- a node with a full log that doesn't lead ends so
+full_so : (s : Setup) (i : ℕ) (state : NodeState) (events : List Event) (input : List Msg) (end : NodeEnd) → ¬ (IsLeader state.phase) → length events ≡ s.cap → Says s i state events input end → told end ≡ LogFull
+full_so s i state events input Leader follows full says = absurd (follows says)
+full_so s i state events input LogFull follows full says = refl
+full_so s i state events input DrawsSpent follows full says = absurd (omega (arith, says.0.1, full))
+full_so s i state events input (NoStep m) follows full says = absurd (omega (arith, says.0.0.1, full))
+full_so s i state events input Quiet follows full says = absurd (omega (arith, says.0.0.1, full))
+full_so s i state events input Stopped follows full says = absurd (omega (arith, says.0.0.1, full))
+
+-- a node that waits and has received all messages ends so
+waits_so : (s : Setup) (i : ℕ) (state : NodeState) (events : List Event) (input : List Msg) (end : NodeEnd) → Waits s.cap state events → got events ≡ input → Says s i state events input end → told end ≡ Stopped
+waits_so s i state events input Leader waits all says = absurd (waits.0.0 says)
+waits_so s i state events input LogFull waits all says = absurd (omega (arith, waits.0.1, says.1))
+waits_so s i state events input DrawsSpent waits all says = absurd (choosing_no_waiting says.1.0 state says.1.1 waits.2)
+waits_so s i state events input (NoStep m) waits all says =
+    absurd (none_left events input (m ∷ says.2.0) says.2.0 m (says.2.1 ∙ append_assoc (got events) (m ∷ []) says.2.0) all refl)
+waits_so s i state events input Quiet waits all says = refl
+waits_so s i state events input Stopped waits all says = refl
+
+-- a node that waits before a message without a step ends so
+refuses_so : (s : Setup) (i : ℕ) (state : NodeState) (events : List Event) (input : List Msg) (m : Msg) (end : NodeEnd) → Says s i state events input (NoStep m) → Says s i state events input end → told end ≡ NoStep m
+refuses_so s i state events input m Leader h says = absurd (h.0.0.0 says)
+refuses_so s i state events input m LogFull h says = absurd (omega (arith, h.0.0.1, says.1))
+refuses_so s i state events input m DrawsSpent h says = absurd (choosing_no_waiting says.1.0 state says.1.1 h.0.2)
+refuses_so s i state events input m (NoStep k) h says =
+    let here : input ≡ got events ++ m ∷ h.2.0 = h.2.1 ∙ append_assoc (got events) (m ∷ []) h.2.0 in
+    let there : input ≡ got events ++ k ∷ says.2.0 = says.2.1 ∙ append_assoc (got events) (k ∷ []) says.2.0 in
+    ap NoStep (next_same (got events) says.2.0 h.2.0 k m (sym there ∙ here))
+refuses_so s i state events input m Quiet h says = absurd (none_left events input (m ∷ h.2.0) h.2.0 m (h.2.1 ∙ append_assoc (got events) (m ∷ []) h.2.0) says.1 refl)
+refuses_so s i state events input m Stopped h says = absurd (none_left events input (m ∷ h.2.0) h.2.0 m (h.2.1 ∙ append_assoc (got events) (m ∷ []) h.2.0) says.1 refl)
+
+says_one : (s : Setup) (i : ℕ) (state : NodeState) (events : List Event) (input : List Msg) (end other : NodeEnd) → Says s i state events input end → Says s i state events input other → told end ≡ told other
+says_one s i state events input Leader other h k = sym (leads_so s i state events input other h k)
+says_one s i state events input LogFull other h k = sym (full_so s i state events input other h.0 h.1 k)
+says_one s i state events input (NoStep m) other h k = sym (refuses_so s i state events input m other h k)
+says_one s i state events input Quiet other h k = sym (waits_so s i state events input other h.0 h.1 k)
+says_one s i state events input Stopped other h k = sym (waits_so s i state events input other h.0 h.1 k)
+says_one s i state events input DrawsSpent other h k = sym (ap told (must_have_spent s i h.1.0 state events input other h.1.1 h.0.1 k).0)
+
+pub shows_one_end : (s : Setup) (logs : List Log) (i : ℕ) (end other : NodeEnd) → IsShown s logs i end → IsShown s logs i other → told end ≡ told other
+shows_one_end s logs i end other h k =
+    let same : h.0 ≡ k.0 = one_end s.nodes (first_state (is_initiator s i)) (log_of logs i) h.0 k.0 h.1 k.1 in
+    let P : NodeState → Type 0 = λ x. Says s i x (log_of logs i) (sent (log_of logs (prev s.nodes i))) end in
+    says_one s i k.0 (log_of logs i) (sent (log_of logs (prev s.nodes i))) end other (subst P same h.2) k.2

@@ -1,0 +1,108 @@
+-- The logs of a full run show an end of each node.
+use Rattle.std.proofs.Common.{◌≡◌, ◌≢◌, ℕ, zero, suc, ◌<◌, ◌≤◌, inl, inr, Option, None, Some, List, [], ◌∷◌, ◌++◌, length, refl, sym, ◌∙◌, subst, ap, append-nil, append_assoc, length-append, arith}
+use Rattle.std.specs.Prelude.{slice_get}
+use Rattle.ira_event.specs.declared.msg.Msg.{Msg}
+use Rattle.ira_event.specs.declared.event.Event.{Event}
+use Rattle.ira_event.specs.Log.{Log}
+use Rattle.ira_node.specs.declared.phase.Phase.{Phase}
+use Rattle.ira_node.specs.declared.phase.Phase.TheVariants.{Choosing, Active, Passive, Leader as Leads}
+use Rattle.ira_node.specs.declared.node_state.NodeState.{NodeState}
+use Rattle.ira_node.specs.NodeState.{first_state, free, IsLeader}
+use Rattle.ira_replay.specs.LocalRun.{LeadsTo}
+use Rattle.ira_order.specs.Ring.{prev, log_of}
+use Rattle.ira_order.specs.Matching.{sent, got}
+use Rattle.ira_order.proofs.Ranks.{lt_cases}
+use Rattle.ira_order.proofs.Runs.{prev_below}
+use Rattle.ira_run.specs.declared.node_end.NodeEnd.{NodeEnd}
+use Rattle.ira_run.specs.declared.node_end.NodeEnd.TheVariants.{Leader, Stopped, DrawsSpent, LogFull, NoStep, Quiet}
+use Rattle.ira_run.specs.Setup.{Setup, is_initiator, given}
+use Rattle.ira_run.specs.FullRun.{events_at, drawn, HasEvent, owes, chooses, receives, BeginsWith, AreFullLogs}
+use Rattle.ira_run.specs.ShownEnd.{Waits, Says, IsShown, IsLoneRun}
+use Rattle.ira_run.proofs.Agreement.{IsEnded, full_run_ended}
+use Rattle.ira_run.proofs.Recordable.{run_within}
+
+-- ---- the end of one node
+
+-- node i made these events, received the first of these messages, and can't go on from this state
+module _ (s : Setup) (i : ℕ) (events : List Event) (input : List Msg)
+    (draws : BeginsWith (given s i) (drawn events)) where
+  abbrev Stays : NodeState → List Msg → Type 0
+  Stays state left = ¬ (IsLeader state.phase) → length events < s.cap → ¬ (HasEvent s.nodes (given s i) state events left)
+
+  -- it has an end
+  abbrev Shows : NodeState → Type 0
+  Shows state = (end : NodeEnd) × Says s i state events input end × (end ≢ Stopped)
+
+  all_drawn : (ids : List ℕ) → given s i ≡ drawn events ++ ids → (length (drawn events) < length (given s i) → ⊥) → drawn events ≡ given s i
+  all_drawn [] is none = sym (is ∙ append-nil (drawn events))
+  all_drawn (d ∷ ids) is none = absurd (none (omega (arith, ap length is, length-append (drawn events) (d ∷ ids))))
+
+  spent : (round : ℕ) (left : List Msg) → length events < s.cap → Stays (free (Choosing round)) left → Shows (free (Choosing round))
+  spent round left room stays =
+      (DrawsSpent, (((λ l. l), room), (round, refl), all_drawn draws.0 draws.1 (λ unused. stays (λ l. l) room (chooses round refl unused))), (λ e. cc))
+
+  waits : (state : NodeState) (left : List Msg) → Waits s.cap state events → input ≡ got events ++ left → Stays state left → Shows state
+  waits state [] waiting is stays = (Quiet, (waiting, sym (is ∙ append-nil (got events))), (λ e. cc))
+  waits state (m ∷ others) waiting is stays = (
+    NoStep m,
+    (waiting, (λ step. stays waiting.0.0 waiting.0.1 (receives m others refl step)), (others, is ∙ sym (append_assoc (got events) (m ∷ []) others))),
+    (λ e. cc),
+  )
+
+  goes_on : (phase : Phase) (owed : Option Msg) (left : List Msg) → length events < s.cap → input ≡ got events ++ left → Stays (record { phase = phase; owed = owed }) left → Shows (record { phase = phase; owed = owed })
+  goes_on (Leads round id) owed left room is stays = (Leader, tt, (λ e. cc))
+  goes_on (Choosing round) None left room is stays = spent round left room stays
+  goes_on (Choosing round) (Some m) left room is stays = absurd (stays (λ l. l) room (owes m refl))
+  goes_on (Active round id) None left room is stays = waits (free (Active round id)) left (((λ l. l), room), refl, tt) is stays
+  goes_on (Active round id) (Some m) left room is stays = absurd (stays (λ l. l) room (owes m refl))
+  goes_on Passive None left room is stays = waits (free Passive) left (((λ l. l), room), refl, tt) is stays
+  goes_on Passive (Some m) left room is stays = absurd (stays (λ l. l) room (owes m refl))
+
+  full : (phase : Phase) (owed : Option Msg) → length events ≡ s.cap → Shows (record { phase = phase; owed = owed })
+  full (Leads round id) owed is = (Leader, tt, (λ e. cc))
+  full (Choosing round) owed is = (LogFull, ((λ l. l), is), (λ e. cc))
+  full (Active round id) owed is = (LogFull, ((λ l. l), is), (λ e. cc))
+  full Passive owed is = (LogFull, ((λ l. l), is), (λ e. cc))
+
+  shows : (state : NodeState) (left : List Msg) → length events ≤ s.cap → input ≡ got events ++ left → Stays state left → Shows state
+  shows state left within is stays = elim (lt_cases (length events) s.cap) [
+    | inl room ↦ goes_on state.phase state.owed left room is stays
+    | inr past ↦ full state.phase state.owed (omega arith)
+  ]
+
+-- ---- the ends of all nodes
+
+-- a fact of each member, and of one more before them
+each_first : {X : Type 0} (P : ℕ → X → Type 0) (x : X) (xs : List X) → P 0 x → ((i : ℕ) (y : X) → slice_get xs i ≡ Some y → P (suc i) y) → (i : ℕ) (y : X) → slice_get (x ∷ xs) i ≡ Some y → P i y
+each_first P x xs here rest zero y at =
+    let same : x ≡ y = cc in
+    subst (P 0) same here
+each_first P x xs here rest (suc i) y at = rest i y at
+
+-- a list of one member for each number
+one_each : {X : Type 0} (n : ℕ) (P : ℕ → X → Type 0) → ((i : ℕ) → i < n → (x : X) × P i x) → (xs : List X) × (length xs ≡ n) × ((i : ℕ) (x : X) → slice_get xs i ≡ Some x → P i x)
+one_each {X} zero P one = ([], refl, λ i x at. cc)
+one_each {X} (suc n) P one =
+    let first = one 0 (omega arith) in
+    let rest = one_each n (λ i. P (suc i)) (λ i l. one (suc i) (omega arith)) in
+    (first.0 ∷ rest.0, ap suc rest.1, each_first P first.0 rest.0 first.1 rest.2)
+
+-- an end of node i, where this is what it made and what was sent to it
+abbrev EndsSo : Setup → ℕ → List Event → List Event → Type 0
+EndsSo s i events before = (end : NodeEnd) × ((state : NodeState) × LeadsTo s.nodes (first_state (is_initiator s i)) events state × Says s i state events (sent before) end) × (end ≢ Stopped)
+
+shown_at : (s : Setup) (logs : List Log) (i : ℕ) → AreFullLogs s logs → i < s.nodes → (end : NodeEnd) × IsShown s logs i end × (end ≢ Stopped)
+shown_at s logs i a l =
+    let two : 2 ≤ s.nodes = omega (arith, a.of_setup.ring.ring.0, a.of_setup.number) in
+    let p : prev s.nodes i < s.nodes = prev_below s.nodes i l in
+    let ended : IsEnded s i (events_at a.run i) (sent (events_at a.run (prev s.nodes i))) = full_run_ended s a.run a.end two a.full i l in
+    let end = shows s i (events_at a.run i) (sent (events_at a.run (prev s.nodes i))) ended.draws ended.state ended.receipts.0 (run_within s a.run a.end i a.full.walk) ended.receipts.1 ended.stays in
+    let own : events_at a.run i ≡ log_of logs i = a.events i (omega (arith, a.of_setup.number)) in
+    let before : events_at a.run (prev s.nodes i) ≡ log_of logs (prev s.nodes i) = a.events (prev s.nodes i) (omega (arith, a.of_setup.number)) in
+    let P : List Event × List Event → Type 0 = λ z. EndsSo s i z.0 z.1 in
+    subst P (λ j. (own j, before j)) (end.0, (ended.state, ended.leads, end.1), end.2)
+
+pub full_logs_show : (s : Setup) (logs : List Log) → AreFullLogs s logs → (ends : List NodeEnd) × IsLoneRun s (record { logs = logs; ends = ends })
+full_logs_show s logs a =
+    let ends = one_each s.nodes (λ i end. IsShown s logs i end × (end ≢ Stopped)) (λ i l. (let x = shown_at s logs i a l in (x.0, (x.1, x.2)))) in
+    (ends.0, record { logs = a; many = ends.1; ends = λ i end at. (ends.2 i end at).0; none_stopped = λ i at. (ends.2 i Stopped at).1 refl })

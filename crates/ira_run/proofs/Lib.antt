@@ -1,0 +1,16 @@
+pub mod Agreement
+pub mod AgreementEnds
+pub mod AgreementLaws
+pub mod AgreementRound
+pub mod AgreementShown
+pub mod Beginnings
+pub mod Choosing
+pub mod Collecting
+pub mod Drawing
+pub mod EndLines
+pub mod FullRuns
+pub mod MoreDraws
+pub mod Places
+pub mod Recordable
+pub mod Setups
+pub mod Walks

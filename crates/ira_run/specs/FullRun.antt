@@ -1,0 +1,81 @@
+-- Full runs of a setup: the runs of its ring that end only where no node can step.
+use Rattle.std.specs.Prelude.{◌≡◌, ℕ, ◌<◌, List, [], ◌∷◌, ◌++◌, Option, Some, None, length}
+use Rattle.std.specs.List.{filter_map}
+use Rattle.ira_event.specs.declared.msg.Msg.{Msg}
+use Rattle.ira_event.specs.declared.event.Event.{Event}
+use Rattle.ira_event.specs.declared.event.Event.TheVariants.{Draw, Sent, Got}
+use Rattle.ira_event.specs.Log.{Log}
+use Rattle.ira_event.specs.Logs.{AreLogs, EachLog}
+use Rattle.ira_node.specs.declared.phase.Phase.TheVariants.{Choosing}
+use Rattle.ira_node.specs.declared.node_state.NodeState.{NodeState}
+use Rattle.ira_node.specs.NodeState.{first_state, free, IsLeader}
+use Rattle.ira_node.specs.NodeStep.{HasStep}
+use Rattle.ira_order.specs.Ring.{prev}
+use Rattle.ira_order.specs.Run.{Configuration, RingStep, event_of, IsRunOfLogs}
+use Rattle.ira_run.specs.Setup.{Setup, is_initiator, given}
+
+-- each node is in the first state of its kind, and the links are empty
+abbrev pub opening : Setup → Configuration
+opening s = record { state = λ i. first_state (is_initiator s i); link = λ i. [] }
+
+-- the events of node i among these, in their order
+abbrev pub events_at : List (ℕ × Event) → ℕ → List Event
+events_at run i = filter_map (event_of i) run
+
+-- the ID that an event draws
+abbrev pub drawing : Event → Option ℕ
+drawing (Draw id) = Some id
+drawing (Sent m) = None
+drawing (Got m) = None
+
+-- the IDs that these events draw, in their order
+abbrev pub drawn : List Event → List ℕ
+drawn events = filter_map drawing events
+
+-- a node in this state, which has made these events, was given these IDs, and has these messages
+-- before it, owes a message, or has to draw and has an unused ID, or receives and the first message
+-- has a step
+pub data HasEvent (n : ℕ) (ids : List ℕ) (state : NodeState) (events : List Event) (input : List Msg) : Type 0 where
+  owes : (m : Msg) → state.owed ≡ Some m → HasEvent n ids state events input
+  chooses : (round : ℕ) → state ≡ free (Choosing round) → length (drawn events) < length ids → HasEvent n ids state events input
+  receives : (m : Msg) (others : List Msg) → input ≡ m ∷ others → HasStep n state (Got m) → HasEvent n ids state events input
+
+-- in configuration c, to which the events past led, node i can step: it is no leader, it has made fewer
+-- events than the cap, and it owes a message, or has to draw and has an unused ID, or receives and the
+-- first message on the link that leads to it has a step
+pub record CanStep (s : Setup) (past : List (ℕ × Event)) (c : Configuration) (i : ℕ) : Type 0 where
+  pub follows : ¬ (IsLeader (c.state i).phase)
+  pub room : length (events_at past i) < s.cap
+  pub event : HasEvent s.nodes (given s i) (c.state i) (events_at past i) (c.link (prev s.nodes i))
+
+-- from configuration c, to which the events past led, these events, each with the place of its node,
+-- lead by ring steps to configuration d, and each is of a node that can step at its point
+abbrev pub Walks : Setup → List (ℕ × Event) → Configuration → List (ℕ × Event) → Configuration → Type 0
+Walks s past c [] d = d ≡ c
+Walks s past c (x ∷ xs) d = CanStep s past c x.0 × ((b : Configuration) × RingStep s.nodes x.0 x.1 c b × Walks s (past ++ x ∷ []) b xs d)
+
+-- a list begins with another
+abbrev pub BeginsWith : {X : Type 0} → List X → List X → Type 0
+BeginsWith {X} whole part = (rest : List X) × (whole ≡ part ++ rest)
+
+-- a run of the setup's ring from its opening to configuration end: each place can step at its point,
+-- the IDs that each node draws are the first of those that it was given, in their order, and at the end
+-- no node can step
+pub record IsFullRun (s : Setup) (run : List (ℕ × Event)) (end : Configuration) : Type 0 where
+  pub walk : Walks s [] (opening s) run end
+  pub draws : (i : ℕ) → i < s.nodes → BeginsWith (given s i) (drawn (events_at run i))
+  pub whole : (i : ℕ) → i < s.nodes → ¬ (CanStep s run end i)
+
+-- logs of the setup's ring, each of its place and of its node's start kind
+pub record AreLogsOf (s : Setup) (logs : List Log) : Type 0 where
+  pub ring : AreLogs logs
+  pub number : length logs ≡ s.nodes
+  pub kinds : EachLog logs (λ i log. log.initiator ≡ is_initiator s i)
+
+-- the logs of a full run of the setup
+pub record AreFullLogs (s : Setup) (logs : List Log) : Type 0 where
+  pub of_setup : AreLogsOf s logs
+  pub run : List (ℕ × Event)
+  pub end : Configuration
+  pub full : IsFullRun s run end
+  pub events : IsRunOfLogs logs run

@@ -1,0 +1,12 @@
+pub mod Agreement
+pub mod Collector
+pub mod Draws
+pub mod EndsWriter
+pub mod FullRun
+pub mod FullRunLaws
+pub mod NodeEnd
+pub mod Recording
+pub mod Run
+pub mod RunFault
+pub mod Setup
+pub mod ShownEnd

@@ -1,0 +1,223 @@
+-- What the threads of a ring gave back, while their links are settled and their parts are collected.
+use Rattle.std.proofs.Common.{◌≡◌, ◌≢◌, ℕ, suc, ◌+◌, ◌<◌, ◌⊎◌, List, [], ◌∷◌, ◌++◌, map, length, set, replicate, Option, Some, None, inl, inr, refl, sym, ap, ◌∙◌, subst, arith, append_assoc, length-append}
+use Rattle.std.specs.Prelude.{Bool, true, false, Result, Ok, Err, IfOk, IfErr, ◌↔◌, slice_get}
+use Rattle.std.specs.List.{zip, list_all}
+use Rattle.std.proofs.lemmas.List.{append-nil, length-map, length-replicate, map-append}
+use Rattle.std.proofs.lemmas.Option.{some_pair_parts}
+use Rattle.std.proofs.Math.Seq.{set-append_seam}
+use mathlib.Core.List.{IsPrefix}
+use Rattle.ira_event.specs.Log.{Log}
+use Rattle.ira_links.specs.declared.frame.Frame.{Frame}
+use Rattle.ira_links.specs.LinkEnd.{LinkName, LinkEnd}
+use Rattle.ira_run.specs.declared.node_end.NodeEnd.{NodeEnd}
+use Rattle.ira_run.specs.declared.run_fault.RunFault.{RunFault}
+use Rattle.ira_run.specs.Setup.{Setup}
+use Rattle.ira_run.specs.Run.{Run}
+use Rattle.ira_run.specs.declared.node_end.NodeEnd.TheVariants.{Stopped}
+use Rattle.ira_run.specs.declared.run_fault.RunFault.TheVariants.{NoEnd}
+use Rattle.ira_run.specs.NodeEnd.{is_stopped}
+use Rattle.ira_run.specs.Recording.{HasOwnEnd}
+use Rattle.ira_run.specs.Collector.{KeepsPart, PartFaultOf, HasNoEnd, FinishFaultOf, AreParts}
+use Rattle.ira_threads.specs.Done.{Done, AreInPlace, AreOfOneRing, Passed, PassedRound}
+use Rattle.ira_run.proofs.Collecting.{keeps-part, no-stranger, get-behind, each-stopped}
+use Rattle.ira_threads.proofs.Dones.{passed_more, place_count}
+
+-- the part of a node, as a collector takes it
+abbrev pub part_of : Done → Option (Log × NodeEnd)
+part_of done = Some (done.log, done.end)
+
+either : (b : Bool) → (b ≡ true) ⊎ (b ≡ false)
+either true = inl refl
+either false = inr refl
+
+-- the parts of these, and nothing yet of m more
+abbrev pub taken_of : List Done → ℕ → List (Option (Log × NodeEnd))
+taken_of dones m = map part_of dones ++ replicate m None
+
+-- lists with the same members are the same
+same_members : {X : Type 0} (xs ys : List X) → length xs ≡ length ys → ((i : ℕ) → slice_get xs i ≡ slice_get ys i) → xs ≡ ys
+same_members [] [] many each = refl
+same_members [] (y ∷ ys) many each = absurd (omega arith)
+same_members (x ∷ xs) [] many each = absurd (omega arith)
+same_members (x ∷ xs) (y ∷ ys) many each =
+    let head = each 0 in
+    let x_is : x ≡ y = cc in
+    let rest : xs ≡ ys = same_members xs ys (omega arith) (λ i. each (suc i)) in
+    cc
+
+-- what a collector has taken when it took one part more
+set_part : (old new : List (Option (Log × NodeEnd))) (place : ℕ) (part : Log × NodeEnd) → place < length old → KeepsPart old place part new → new ≡ set old place (Some part)
+set_part old new place part within kept =
+    let put = keeps-part old place part within in
+    same_members new (set old place (Some part)) (kept.number ∙ sym put.number) (λ i.
+    let cases : (i ≡ place) ⊎ ((i < place) ⊎ (place < i)) = grind arith in
+    let others : i ≢ place → slice_get new i ≡ slice_get (set old place (Some part)) i = λ ne. kept.others i ne ∙ sym (put.others i ne) in
+    elim cases [
+      | inl e ↦ ap (λ k. slice_get new k) e ∙ kept.at ∙ sym put.at ∙ ap (λ k. slice_get (set old place (Some part)) k) (sym e)
+      | inr apart ↦ elim apart [ inl lt ↦ others (λ e. absurd (omega arith)) | inr gt ↦ others (λ e. absurd (omega arith)) ]
+    ])
+
+-- the next part is taken
+pub taken_more : (past : List Done) (m place : ℕ) (done : Done) (old new : List (Option (Log × NodeEnd))) → place ≡ length past → old ≡ taken_of past (suc m) → KeepsPart old place (done.log, done.end) new → new ≡ taken_of (past ++ done ∷ []) m
+taken_more past m place done old new at is kept =
+    let front : length (map part_of past) ≡ length past = length-map past part_of in
+    let many : length old ≡ length (map part_of past) + suc m = ap length is ∙ length-append (map part_of past) (replicate (suc m) None) ∙ ap (λ k. length (map part_of past) + k) (length-replicate (suc m) None) in
+    let here : place ≡ length (map part_of past) = at ∙ sym front in
+    set_part old new place (done.log, done.end) (omega (arith, many, here)) kept
+    ∙ ap (λ xs. set xs place (part_of done)) is
+    ∙ ap (λ k. set (taken_of past (suc m)) k (part_of done)) here
+    ∙ set-append_seam (map part_of past) None (replicate m None) (part_of done)
+    ∙ sym (ap (λ xs. xs ++ replicate m None) (map-append part_of past (done ∷ [])) ∙ append_assoc (map part_of past) (part_of done ∷ []) (replicate m None))
+
+-- a collector takes it
+pub takes : (past : List Done) (m n place : ℕ) (log : Log) (taken : List (Option (Log × NodeEnd))) (f : RunFault) → place ≡ length past → place < n → length taken ≡ n → log.nodes ≡ n → log.place ≡ place → taken ≡ taken_of past (suc m) → ¬ (PartFaultOf taken place log f)
+takes past m n place log taken f at within many nodes place_is is fault =
+    let size : log.nodes ≡ length taken = nodes ∙ sym many in
+    let fits = no-stranger (length taken) place log (omega (arith, many, within)) size place_is in
+    let front : place ≡ length (map part_of past) = at ∙ sym (length-map past part_of) in
+    let free : slice_get taken place ≡ Some None = ap (λ xs. slice_get xs place) is ∙ ap (λ k. slice_get (taken_of past (suc m)) k) front ∙ get-behind (map part_of past) None (replicate m None) in
+    elim fault [
+      | inl stranger ↦ fits stranger.0
+      | inr double ↦ let was = double.1.1 in absurd cc
+    ]
+
+-- the first of all and those behind it were settled but for the first link, and these are left
+pub record Settling (n : ℕ) (all left : List Done) (first last : LinkEnd) (taken : List (Option (Log × NodeEnd))) : Type 0 where
+  pub setup : Setup
+  pub head : Done
+  pub past : List Done
+  pub nodes : setup.nodes ≡ n
+  pub parts : all ≡ (head ∷ past) ++ left
+  pub place : AreInPlace setup (length (head ∷ past)) last.link left n first.link
+  pub first_is : first.frames ≡ head.input.frames
+  pub passed : Passed head.output.frames past last.frames
+  pub taken_is : taken ≡ taken_of (head ∷ past) (length left)
+
+-- the first of them, as the code holds it
+pub first_held : (all rest : List Done) (seen held : Done) → all ≡ seen ∷ rest → held ≡ seen → all ≡ held ∷ rest
+first_held all rest seen held is same = is ∙ ap (λ (d : Done). d ∷ rest) (sym same)
+
+pub settling_first : (n : ℕ) (all left : List Done) (head : Done) (old new : List (Option (Log × NodeEnd))) → all ≡ head ∷ left → AreOfOneRing n all → old ≡ replicate n None → KeepsPart old head.place (head.log, head.end) new → Settling n all left head.input head.output new
+settling_first n all left head old new parts ring none kept =
+    let s = ring.0 in
+    let link = ring.2.0 in
+    let P : ℕ × List Done → Type 0 = λ z. AreInPlace s 0 link z.1 z.0 link in
+    let here : AreInPlace s 0 link (head ∷ left) n link = subst P (λ j. (ring.1 j, parts j)) ring.2.1 in
+    let many : n ≡ suc (length left) = omega (arith, place_count s 0 n link link (head ∷ left) here) in
+    let Q : LinkName → Type 0 = λ l. AreInPlace s 1 head.output.link left n l in
+    record {
+      setup = s;
+      head = head;
+      past = [];
+      nodes = ring.1;
+      parts = parts;
+      place = subst Q (sym here.0.input) here.1;
+      first_is = refl;
+      passed = refl;
+      taken_is = taken_more [] (length left) head.place head old new here.0.place (none ∙ ap (λ k. replicate k None) many) kept;
+    }
+
+pub settling_more : (n : ℕ) (all left rest : List Done) (done : Done) (first last : LinkEnd) (old new : List (Option (Log × NodeEnd))) → left ≡ done ∷ rest → Settling n all left first last old → IsPrefix done.input.frames last.frames → KeepsPart old done.place (done.log, done.end) new → Settling n all rest first done.output new
+settling_more n all left rest done first last old new is was took kept =
+    let P : List Done → Type 0 = λ ds. AreInPlace was.setup (length (was.head ∷ was.past)) last.link ds n first.link in
+    let here : AreInPlace was.setup (length (was.head ∷ was.past)) last.link (done ∷ rest) n first.link = subst P is was.place in
+    let longer : length (was.head ∷ was.past) + 1 ≡ length (was.head ∷ was.past ++ done ∷ []) = omega (arith, length-append was.past (done ∷ [])) in
+    record {
+      setup = was.setup;
+      head = was.head;
+      past = was.past ++ done ∷ [];
+      nodes = was.nodes;
+      parts = was.parts ∙ ap (λ ds. (was.head ∷ was.past) ++ ds) is ∙ sym (append_assoc (was.head ∷ was.past) (done ∷ []) rest);
+      place = subst (λ (k : ℕ). AreInPlace was.setup k done.output.link rest n first.link) longer here.1;
+      first_is = was.first_is;
+      passed = passed_more was.head.output.frames last.frames was.past done was.passed took;
+      taken_is = taken_more (was.head ∷ was.past) (length rest) done.place done old new here.0.place (was.taken_is ∙ ap (λ ds. taken_of (was.head ∷ was.past) (length ds)) is) kept;
+    }
+
+-- the next part can be taken
+pub settling_takes : (n : ℕ) (all left rest : List Done) (done : Done) (first last : LinkEnd) (taken : List (Option (Log × NodeEnd))) (f : RunFault) → left ≡ done ∷ rest → length taken ≡ n → Settling n all left first last taken → ¬ (PartFaultOf taken done.place done.log f)
+settling_takes n all left rest done first last taken f is many was =
+    let P : List Done → Type 0 = λ ds. AreInPlace was.setup (length (was.head ∷ was.past)) last.link ds n first.link in
+    let here : AreInPlace was.setup (length (was.head ∷ was.past)) last.link (done ∷ rest) n first.link = subst P is was.place in
+    let count = place_count was.setup (length (was.head ∷ was.past)) n last.link first.link (done ∷ rest) here in
+    takes (was.head ∷ was.past) (length rest) n done.place done.log taken f here.0.place (omega (arith, count, here.0.place)) many (here.0.recorded.nodes ∙ was.nodes) (here.0.recorded.place ∙ sym here.0.place) (was.taken_is ∙ ap (λ ds. taken_of (was.head ∷ was.past) (length ds)) is)
+
+-- the first part can be taken
+pub first_takes : (n : ℕ) (all left : List Done) (head : Done) (taken : List (Option (Log × NodeEnd))) (f : RunFault) → all ≡ head ∷ left → AreOfOneRing n all → taken ≡ replicate n None → ¬ (PartFaultOf taken head.place head.log f)
+first_takes n all left head taken f parts ring none =
+    let s = ring.0 in
+    let link = ring.2.0 in
+    let P : ℕ × List Done → Type 0 = λ z. AreInPlace s 0 link z.1 z.0 link in
+    let here : AreInPlace s 0 link (head ∷ left) n link = subst P (λ j. (ring.1 j, parts j)) ring.2.1 in
+    let many : n ≡ suc (length left) = omega (arith, place_count s 0 n link link (head ∷ left) here) in
+    takes [] (length left) n head.place head.log taken f here.0.place (omega (arith, many, here.0.place)) (ap length none ∙ length-replicate n None) (here.0.recorded.nodes ∙ ring.1) (here.0.recorded.place ∙ sym here.0.place) (none ∙ ap (λ k. replicate k None) many)
+
+-- all parts were taken
+pub settled_round : (n : ℕ) (all left : List Done) (first last : LinkEnd) (taken : List (Option (Log × NodeEnd))) → left ≡ [] → Settling n all left first last taken → IsPrefix first.frames last.frames → PassedRound all
+settled_round n all left first last taken is was took =
+    let whole : all ≡ was.head ∷ was.past = was.parts ∙ ap (λ ds. (was.head ∷ was.past) ++ ds) is ∙ append-nil (was.head ∷ was.past) in
+    let P : List Frame → Type 0 = λ fs. IsPrefix fs last.frames in
+    subst PassedRound (sym whole) (last.frames, (subst P was.first_is took, was.passed))
+
+pub settled_taken : (n : ℕ) (all left : List Done) (first last : LinkEnd) (taken : List (Option (Log × NodeEnd))) → left ≡ [] → Settling n all left first last taken → taken ≡ map part_of all
+settled_taken n all left first last taken is was =
+    let whole : all ≡ was.head ∷ was.past = was.parts ∙ ap (λ ds. (was.head ∷ was.past) ++ ds) is ∙ append-nil (was.head ∷ was.past) in
+    was.taken_is ∙ ap (λ ds. taken_of (was.head ∷ was.past) (length ds)) is ∙ append-nil (map part_of (was.head ∷ was.past)) ∙ ap (λ ds. map part_of ds) (sym whole)
+
+-- the run of the parts has their logs and their ends
+parts_are : (logs : List Log) (ends : List NodeEnd) (dones : List Done) → length logs ≡ length dones → length ends ≡ length dones → map part_of dones ≡ map (λ part. Some part) (zip logs ends) → (logs ≡ map (λ done. done.log) dones) × (ends ≡ map (λ done. done.end) dones)
+parts_are [] [] [] l e same = (refl, refl)
+parts_are [] [] (d ∷ ds) l e same = absurd (omega arith)
+parts_are [] (x ∷ xs) [] l e same = absurd (omega arith)
+parts_are [] (x ∷ xs) (d ∷ ds) l e same = absurd (omega arith)
+parts_are (log ∷ logs) [] [] l e same = absurd (omega arith)
+parts_are (log ∷ logs) [] (d ∷ ds) l e same = absurd (omega arith)
+parts_are (log ∷ logs) (x ∷ xs) [] l e same = absurd (omega arith)
+parts_are (log ∷ logs) (x ∷ xs) (d ∷ ds) l e same =
+    let rest : map part_of ds ≡ map (λ part. Some part) (zip logs xs) = cc in
+    let tails = parts_are logs xs ds (omega arith) (omega arith) rest in
+    let heads : part_of d ≡ Some (log, x) = cc in
+    let head_is = some_pair_parts d.log log d.end x heads in
+    let log_is : log ≡ d.log = sym head_is.0 in
+    let end_is : x ≡ d.end = sym head_is.1 in
+    (ap (λ (z : Log × List Log). z.0 ∷ z.1) (λ j. (log_is j, tails.0 j)), ap (λ (z : NodeEnd × List NodeEnd). z.0 ∷ z.1) (λ j. (end_is j, tails.1 j)))
+
+pub settled_run : (dones : List Done) (run : Run) (taken : List (Option (Log × NodeEnd))) → taken ≡ map part_of dones → AreParts taken run → (run.logs ≡ map (λ done. done.log) dones) × (run.ends ≡ map (λ done. done.end) dones)
+settled_run dones run taken is parts =
+    let many : length taken ≡ length dones = ap length is ∙ length-map dones part_of in
+    parts_are run.logs run.ends dones (parts.logs ∙ many) (parts.ends ∙ many) (sym is ∙ parts.parts)
+
+-- one of these ends isn't `Stopped`
+own_end : (ends : List NodeEnd) → list_all is_stopped ends ≡ false → (i : ℕ) × (end : NodeEnd) × (slice_get ends i ≡ Some end) × (end ≢ Stopped)
+own_end [] e = absurd cc
+own_end (x ∷ xs) e = elim (either (is_stopped x)) [
+  | inl stopped ↦
+      let rest : list_all is_stopped xs ≡ false = rw stopped at e in
+      let there = own_end xs rest in
+      (suc there.0, there.1, there.2, there.3)
+  | inr goes_on ↦ (0, x, refl, λ is. let no : is_stopped Stopped ≡ false = subst (λ (y : NodeEnd). is_stopped y ≡ false) is goes_on in absurd cc)
+]
+
+run_has_own_end : (run : Run) (taken : List (Option (Log × NodeEnd))) → AreParts taken run → ¬ (HasNoEnd taken) → HasOwnEnd run
+run_has_own_end run taken parts some = elim (either (list_all is_stopped run.ends)) [
+  | inl all ↦
+      let P : List (Option (Log × NodeEnd)) → Type 0 = λ xs. HasNoEnd xs in
+      absurd (some (subst P (sym parts.parts) (inr (each-stopped run.logs run.ends all))))
+  | inr other ↦ own_end run.ends other
+]
+
+-- what a collector that has finished tells
+pub on_ok : {X E : Type 0} (r : Result X E) (P Q : X → Type 0) → ((x : X) → P x → Q x) → IfOk r P → IfOk r Q
+on_ok (Ok x) P Q f h = f x h
+on_ok (Err e) P Q f h = tt
+
+pub ok_of : {X E : Type 0} (r : Result X E) (x : X) (P : X → Type 0) → r ≡ Ok x → IfOk r P → P x
+ok_of r x P is h = subst (λ r. IfOk r P) is h
+
+pub finished_with_end : (r : Result Run RunFault) (taken : List (Option (Log × NodeEnd))) → IfOk r (λ run. AreParts taken run) → ((f : RunFault) → (r ≡ Err f) ↔ FinishFaultOf taken f) → IfOk r HasOwnEnd
+finished_with_end (Ok run) taken parts err = run_has_own_end run taken parts (λ none. let no = (err NoEnd).1 (none, refl) in absurd cc)
+finished_with_end (Err f) taken parts err = tt
+
+pub unfinished : (r : Result Run RunFault) (taken : List (Option (Log × NodeEnd))) → ((f : RunFault) → (r ≡ Err f) ↔ FinishFaultOf taken f) → IfErr r (λ f. f ≡ NoEnd)
+unfinished (Ok run) taken err = tt
+unfinished (Err f) taken err = ((err f).0 refl).1

@@ -1,0 +1,14 @@
+use Rattle.std.proofs.Common.{◌≡◌, ◌≤◌}
+use Rattle.std.specs.List.{All}
+use Rattle.ira_threads.specs.Recorder.{AreOfOneNode}
+use Rattle.ira_threads.proofs.Turns.{SoFar}
+use Rattle.ira_threads.proofs.node_thread.turns.Given as goal
+
+abbrev pub invariant-loop : goal.invariant-loop
+invariant-loop g l = record {
+  links : (l.input.link ≡ l.initial.input.link) × (l.output.link ≡ l.initial.output.link);
+  node : AreOfOneNode l.node.log l.initial.node.log;
+  cap : l.node.cap ≡ l.initial.node.cap;
+  so_far : SoFar l.node.log l.output.frames l.input.frames l.draws l.left;
+  ids : All (λ d. (1 ≤ d) × (d ≤ l.initial.node.log.nodes)) l.left;
+}

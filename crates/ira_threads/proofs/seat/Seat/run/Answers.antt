@@ -1,0 +1,45 @@
+use Rattle.std.proofs.Common.{◌≡◌, ◌≤◌, ◌<◌, ◌∙◌, ℕ, Bool, List, All, ap, sym, subst, arith}
+use Rattle.ira_threads.specs.Seat.{Seat}
+use Rattle.ira_run.specs.Setup.{Setup, is_initiator, given}
+use Rattle.ira_run.specs.Recording.{IsRecorded}
+use Rattle.ira_run.proofs.Setups.{read_setup}
+use Rattle.ira_threads.proofs.seat.Seat.run.Goals as goal
+
+pub invariant_of-work : goal.invariant_of-work
+invariant_of-work g c =
+    let s : Setup = c.args.setup.now in
+    let place : c.self.inside.place ≡ c.args.self.place = ap (λ (x : Seat). x.place) c.self.view_is in
+    let cap : c.self.inside.cap ≡ c.args.self.cap = ap (λ (x : Seat). x.cap) c.self.view_is in
+    let nodes : c.setup.inside.nodes ≡ s.nodes = ap (λ (x : Setup). x.nodes) c.setup.view_is in
+    let within : c.self.inside.place < s.nodes = omega (arith, place, c.requires.place) in
+    let read = read_setup (λ v. v.items) c.setup.inside.nodes _ _ _ s c.self.inside.place c.index.result.now c.index-2.result.now c.setup.view_is c.requires.rules.lists within (rw c.from.ensures at c.index.ensures) (rw c.from-2.ensures at c.index-2.ensures) in
+    let ids : c.deref.result.now ≡ given s c.self.inside.place = c.deref.ensures.value ∙ read.1 in
+    let P : ℕ × List ℕ → Type 0 = λ z. All (λ d. (1 ≤ d) × (d ≤ z.0)) z.1 in
+    record {
+      is_place = omega (arith, place, nodes, c.requires.place);
+      are_ids = subst P (λ j. (sym nodes j, sym ids j)) (c.requires.rules.ids c.self.inside.place within);
+      is_cap = omega (arith, cap, c.requires.cap, c.requires.rules.cap.0, c.requires.rules.cap.1);
+      has_room = (c.self.invariant.0, c.self.invariant.1);
+      are_fresh = (c.self.invariant.2, c.self.invariant.3);
+    }
+
+pub returns : goal.returns
+returns g c =
+    let s : Setup = c.args.setup.now in
+    let place : c.self.inside.place ≡ c.args.self.place = ap (λ (x : Seat). x.place) c.self.view_is in
+    let cap : c.self.inside.cap ≡ s.cap = ap (λ (x : Seat). x.cap) c.self.view_is ∙ c.requires.cap in
+    let nodes : c.setup.inside.nodes ≡ s.nodes = ap (λ (x : Setup). x.nodes) c.setup.view_is in
+    let within : c.self.inside.place < s.nodes = omega (arith, place, c.requires.place) in
+    let read = read_setup (λ v. v.items) c.setup.inside.nodes _ _ _ s c.self.inside.place c.index.result.now c.index-2.result.now c.setup.view_is c.requires.rules.lists within (rw c.from.ensures at c.index.ensures) (rw c.from-2.ensures at c.index-2.ensures) in
+    let kind : c.index.result.now ≡ is_initiator s c.args.self.place = read.0 ∙ ap (λ (i : ℕ). is_initiator s i) place in
+    let ids : c.deref.result.now ≡ given s c.args.self.place = c.deref.ensures.value ∙ read.1 ∙ ap (λ (i : ℕ). given s i) place in
+    let part = c.in_ok-part.part in
+    let P : ℕ × ℕ × Bool × List ℕ × ℕ → Type 0 = λ z. IsRecorded z.0 z.1 z.2 z.3 z.4 part.log part.end in
+    record {
+      place = c.in_ok-part.ensures.place ∙ place;
+      recorded = subst P (λ j. (nodes j, place j, kind j, ids j, cap j)) c.in_ok-part.ensures.recorded;
+      input = c.in_ok-part.ensures.links.0 ∙ ap (λ (x : Seat). x.input) c.self.view_is;
+      output = c.in_ok-part.ensures.links.1 ∙ ap (λ (x : Seat). x.output) c.self.view_is;
+      put = c.in_ok-part.ensures.put;
+      taken = c.in_ok-part.ensures.taken;
+    }

@@ -1,0 +1,5 @@
+pub mod Done
+pub mod Duty
+pub mod NodeFrames
+pub mod Recorder
+pub mod Seat

@@ -1,0 +1,20 @@
+use ira_links::{LinkIn, LinkOut};
+use ira_run::NodePart;
+use std::alloc::Allocator;
+use std::marker::Model;
+
+/// What the thread of a node gives back.
+#[derive(Drop)]
+pub struct Done<A: Allocator> {
+    pub(crate) part: NodePart<A>,
+    pub(crate) input: LinkIn<A>,
+    pub(crate) output: LinkOut<A>,
+}
+
+impl<A: Allocator> Model for Done<A> {
+    ghost use Rattle.ira_threads.specs.Done.{Done};
+
+    ghost Value = { Done };
+
+    ghost view = { λ a. record { place = a.part.place; log = a.part.log; end = a.part.end; input = a.input; output = a.output } };
+}

@@ -1,0 +1,16 @@
+//! The run of a ring with a thread for each node.
+#![tactic(auto)]
+
+mod child;
+mod done;
+mod duty;
+mod node_thread;
+mod node_work;
+mod recorder;
+mod ring_run;
+mod seat;
+mod threads;
+
+pub use node_thread::node_body;
+pub use node_work::NodeWork;
+pub use ring_run::run_ring;

@@ -1,0 +1,155 @@
+// A run with a thread for each node, from its setup to what the nodes recorded.
+ghost use Rattle.std.specs.Prelude.{◌≡◌, ◌↔◌, ◌≢◌, ◌≤◌, ◌-◌, [], Err, None, map, replicate, length, IfOk, IfErr, OnOk, ◌⊎◌};
+ghost use Rattle.std.specs.VecDeque.{deque_len, deque_capacity};
+ghost use Rattle.ira_links.specs.declared.limits.TheConstants.{MAX_CAPACITY};
+ghost use Rattle.ira_run.specs.declared.run_fault.RunFault.TheVariants.{Setup as SetupFault, OutOfMemory, NoEnd, Stranger, Double, Thread, Closed as ClosedFault};
+ghost use Rattle.ira_run.specs.Setup.{KeepsRules};
+ghost use Rattle.ira_run.specs.Run.{IsRun};
+ghost use Rattle.ira_threads.specs.Seat.{AreSeated, AreSeatedRound};
+ghost use Rattle.ira_threads.specs.Done.{AreInPlaceRound, AreOfOneRing, PassedRound};
+ghost use Rattle.ira_run.specs.Recording.{IsRecording, HasOwnEnd};
+ghost use Rattle.ira_run.specs.Agreement.{Agrees};
+
+use crate::done::Done;
+use crate::seat::Seat;
+use crate::threads::run_seats;
+use ira_links::{Gate, LinkIn, link, settle};
+use ira_run::{Collector, Run, RunFault, Setup};
+use std::alloc::Allocator;
+use std::collections::VecDeque;
+use std::sync::Wait;
+use std::thread;
+use std::thread::Threads;
+use std::time::Clock;
+
+/// How many frames a link of the setup's ring holds at once.
+fn capacity<A: Allocator>(setup: &Setup<A>) -> u32
+    ensures { (1 ≤ result) × (result ≤ MAX_CAPACITY) }
+{
+    2 * u32::from(setup.nodes.get()) + 2
+}
+
+/// Adds the seats of all places but the last, of which the first is to read `first`, and gives the end that
+/// the last place is to read.
+fn most_seats<A: Allocator + Clone>(
+    alloc: A,
+    setup: &Setup<A>,
+    seats: &mut VecDeque<Seat<A>, A>,
+    first: LinkIn<A>,
+) -> Result<LinkIn<A>, RunFault>
+    requires none { seats.old.items ≡ [] }
+    requires fresh { first.frames ≡ [] }
+    ensures seats { IfOk result (λ input. AreSeated setup.now.cap 0 first.link seats.new.items (setup.now.nodes - 1) input.link) }
+    ensures fresh { IfOk result (λ input. input.frames ≡ []) }
+    ensures err { IfErr result (λ f. f ≡ OutOfMemory) }
+{
+    let mut input = first;
+    for place in 0..setup.nodes.get() - 1 {
+        let (output, next) = link(alloc.clone()?, capacity(setup))?;
+        let seat = Seat::new(alloc.clone()?, setup.cap, place, input, output)?;
+        seats.push_back(seat)?;
+        input = next;
+    }
+    Ok(input)
+}
+
+/// The seats of all places, linked round the ring.
+fn all_seats<A: Allocator + Clone>(
+    alloc: A,
+    setup: &Setup<A>,
+) -> Result<VecDeque<Seat<A>, A>, RunFault>
+    ensures seats { IfOk result (λ seats. AreSeatedRound setup.now.cap setup.now.nodes seats.items) }
+    ensures err { IfErr result (λ f. f ≡ OutOfMemory) }
+{
+    let mut seats = VecDeque::with_capacity(alloc.clone()?, usize::from(setup.nodes.get()))?;
+    let (last, first) = link(alloc.clone()?, capacity(setup))?;
+    let input = most_seats(alloc.clone()?, setup, &mut seats, first)?;
+    let seat = Seat::new(alloc, setup.cap, setup.nodes.get() - 1, input, last)?;
+    seats.push_back(seat)?;
+    Ok(seats)
+}
+
+/// Settles each link, and gives the run of the parts.
+fn settle_all<A: Allocator>(
+    mut dones: VecDeque<Done<A>, A>,
+    mut collector: Collector<A>,
+) -> Result<Run<A>, RunFault>
+    requires none { collector ≡ replicate (length collector) None }
+    requires size { 1 ≤ length collector }
+    requires ring { AreOfOneRing (length collector) dones.items }
+    ensures valid { IfOk result IsRun }
+    ensures logs { IfOk result (λ run. run.logs ≡ map (λ done. done.log) dones.items) }
+    ensures ends { IfOk result (λ run. run.ends ≡ map (λ done. done.end) dones.items) }
+    ensures passed { IfOk result (λ run. PassedRound dones.items) }
+    ensures ended { IfOk result HasOwnEnd }
+    ensures err { IfErr result (λ f. f ≡ NoEnd) }
+{
+    let Some(first) = dones.pop_front() else {
+        unreachable!()
+    };
+    let Done {
+        part,
+        input: first_input,
+        output: mut last,
+    } = first;
+    let Ok(()) = collector.take(part) else {
+        unreachable!()
+    };
+    while let Some(done) = dones.pop_front() {
+        let Done {
+            part,
+            input,
+            output,
+        } = done;
+        settle(last, input);
+        let Ok(()) = collector.take(part) else {
+            unreachable!()
+        };
+        last = output;
+    }
+    settle(last, first_input);
+    collector.finish()
+}
+
+/// Runs the nodes of the setup, each in a thread of its own, with links between them that hold `2N + 2`
+/// frames. `Setup` where the setup breaks the rules; nothing is taken before they were looked at. All
+/// memory is reserved before the first thread starts.
+///
+/// Each node's log begins with its log by `run_alone`. Where a node ends there otherwise than as `Quiet`, the
+/// logs are the same, and so are the ends, with `Stopped` for `Quiet`, however the threads were scheduled.
+///
+/// Threads start by rising place, each after the gate admitted it. Where the gate doesn't admit one, or it
+/// can't be started, `Stop` is put on the link to node 0, if the end that writes it wasn't given away yet; all
+/// ends that are left are dropped, the started threads are joined, and the answer is `Thread`, whatever
+/// they answer. `Closed` where all were started and one of them found its link closed, and `NoEnd` where
+/// every node says that the one before it ended.
+pub fn run_ring<R, G, A>(rt: &R, alloc: A, setup: &Setup<A>, gate: &G) -> Result<Run<A>, RunFault>
+where
+    R: Threads + Wait + Clock + Sync,
+    G: Gate + Sync,
+    A: Allocator + Clone + Send + Sync,
+    ensures rules { (result ≡ Err SetupFault) ↔ ¬ (KeepsRules setup.now) }
+    ensures kept { OnOk result (KeepsRules setup.now) }
+    ensures recording { IfOk result (IsRecording setup.now) }
+    ensures agrees { IfOk result (Agrees setup.now) }
+    ensures ended { IfOk result HasOwnEnd }
+    ensures faults { IfErr result (λ f. (f ≢ Stranger) × (f ≢ Double)) }
+{
+    if !setup.keeps_rules() {
+        return Err(RunFault::Setup);
+    }
+    let nodes = usize::from(setup.nodes.get());
+    let seats = all_seats(alloc.clone()?, setup)?;
+    let children = VecDeque::with_capacity(alloc.clone()?, nodes)?;
+    let dones = VecDeque::with_capacity(alloc.clone()?, nodes)?;
+    let collector = Collector::new(alloc, setup.nodes)?;
+    let dones = thread::scope(
+        thread::scope_env(),
+        rt,
+        move |scope| -> Result<VecDeque<Done<A>, A>, RunFault>
+            requires { KeepsRules setup.now × AreSeatedRound setup.now.cap setup.now.nodes seats.items × (children.items ≡ []) × (setup.now.nodes ≤ deque_capacity children) × (dones.items ≡ []) × (setup.now.nodes ≤ deque_capacity dones) }
+            ensures { IfOk result (λ dones. AreInPlaceRound setup.entry.now dones.items) × IfErr result (λ f. (f ≡ Thread) ⊎ (f ≡ ClosedFault)) }
+        { run_seats(rt, setup, gate, scope, seats, children, dones) },
+    )?;
+    settle_all(dones, collector)
+}

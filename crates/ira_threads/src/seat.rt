@@ -1,0 +1,103 @@
+ghost use Rattle.std.specs.Prelude.{◌≡◌, ◌<◌, [], IfOk};
+ghost use Rattle.ira_run.specs.Setup.{KeepsRules};
+ghost use Rattle.ira_threads.specs.Duty.{duty_of};
+ghost use Rattle.ira_threads.specs.Done.{IsDone};
+
+use crate::done::Done;
+use crate::node_thread::node_body;
+use crate::node_work::NodeWork;
+use ira_event::Event;
+use ira_links::{Closed, Frame, Gate, LinkIn, LinkOut};
+use ira_run::Setup;
+use std::alloc::{AllocError, Allocator};
+use std::marker::Model;
+use std::sync::Wait;
+use std::time::Clock;
+
+/// What the thread of a node is to own: the place of the node, the room for its log, and its ends of two
+/// new links. It names no lifetime, since nothing would be known of what the thread of a closure gives
+/// that captures a value which does.
+#[derive(Drop)]
+pub struct Seat<A: Allocator> {
+    pub(crate) place: u8,
+    pub(crate) cap: usize,
+    pub(crate) room: Vec<Event, A>,
+    pub(crate) input: LinkIn<A>,
+    pub(crate) output: LinkOut<A>,
+}
+
+impl<A: Allocator> Model for Seat<A> {
+    ghost use Rattle.std.specs.Prelude.{◌≡◌, ◌≤◌, [], vec_capacity};
+    ghost use Rattle.ira_threads.specs.Seat.{Seat};
+
+    ghost Value = { Seat };
+
+    ghost view = { λ a. record { place = a.place; cap = a.cap; input = a.input.link; output = a.output.link } };
+
+    ghost invariant = { λ a. (a.room.items ≡ []) × (a.cap ≤ vec_capacity a.room) × (a.input.frames ≡ []) × (a.output.frames ≡ []) };
+}
+
+impl<A: Allocator> Seat<A> {
+    /// A seat for a node at this place, whose log is to have at most `cap` events.
+    pub(crate) fn new(
+        alloc: A,
+        cap: usize,
+        place: u8,
+        input: LinkIn<A>,
+        output: LinkOut<A>,
+    ) -> Result<Seat<A>, AllocError>
+        requires fresh { (input.frames ≡ []) × (output.frames ≡ []) }
+        ensures { IfOk result (λ seat. seat ≡ record { place = place; cap = cap; input = input.link; output = output.link }) }
+    {
+        Ok(Seat {
+            place,
+            cap,
+            room: Vec::with_capacity(alloc, cap)?,
+            input,
+            output,
+        })
+    }
+
+    /// Runs the node of the seat.
+    pub(crate) fn run<R: Wait + Clock, G: Gate>(
+        self,
+        rt: &R,
+        setup: &Setup<A>,
+        gate: &G,
+    ) -> Result<Done<A>, Closed>
+        requires rules { KeepsRules setup.now }
+        requires place { self.place < setup.now.nodes }
+        requires cap { self.cap ≡ setup.now.cap }
+        ensures { IfOk result (IsDone (duty_of setup.now self)) }
+    {
+        let Seat {
+            place,
+            cap,
+            room,
+            input,
+            output,
+        } = self;
+        let work = NodeWork {
+            nodes: setup.nodes,
+            place,
+            initiator: setup.initiators[usize::from(place)],
+            draws: &setup.draws[usize::from(place)],
+            room,
+            cap,
+            input,
+            output,
+        };
+        let (part, input, output) = node_body(rt, work, gate)?;
+        Ok(Done {
+            part,
+            input,
+            output,
+        })
+    }
+
+    /// Puts one `Stop` on the link that the seat writes, and drops the seat.
+    pub(crate) fn stop<R: Wait>(self, rt: &R) {
+        let Seat { mut output, .. } = self;
+        let _refused = output.put(rt, Frame::Stop);
+    }
+}
