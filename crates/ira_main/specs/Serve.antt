@@ -9,11 +9,11 @@ use Rattle.ira_ring.specs.Run.{Run}
 use Rattle.ira_main.specs.Counted.{Reads}
 use Rattle.ira_main.specs.ReadText.{IsReadTo}
 use Rattle.ira_audit.specs.Report.{report_line}
-use Rattle.ira_main.specs.Request.{AskForLogs, BeginsWithWord}
-use Rattle.ira_main.specs.RunRequest.{IsAskedRun}
+use Rattle.ira_words.specs.Request.{AskForLogs, BeginsWithWord}
+use Rattle.ira_main.specs.AskedRun.{IsAskedRun}
 use Rattle.ira_main.specs.Status.{IsElectionStatus, status_number, answer_status}
 use Rattle.ira_audit.specs.declared.answer.Answer.{Answer}
-use Rattle.ira_main.specs.declared.run_request.RunRequest.{RunRequest}
+use Rattle.ira_words.specs.declared.run_request.RunRequest.{RunRequest}
 
 -- nothing was written, and nothing failed
 pub record IsUntouched (taken : Option (List ℕ)) (failures : ℕ) (taken' : Option (List ℕ)) (failures' : ℕ) : Type 0 where
