@@ -3,4 +3,5 @@ pub mod Complaint
 pub mod Counted
 pub mod ReadText
 pub mod Serve
+pub mod ShelfFault
 pub mod Status
