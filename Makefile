@@ -1,25 +1,69 @@
 # What a newcomer types. `rt` is the command of the Rattle kit.
 
+PREFIX = /usr/local
 PROGRAM = crates/ira/out/ira
+JOBS := $(shell nproc)
+START := $(shell date +%s)
 
-.PHONY: test run ira clean
+# The libraries that the program stands on, lowest first, and those that one of them names.
+LIBRARIES := $(shell tac crates.txt | awk -F '[ :]+' 'BEGIN { need["ira"] } \
+	$$1 in need { if ($$1 != "ira") print $$1; for (i = 2; i <= NF; i++) need[$$i] }' | tac)
+uses = $(filter $(LIBRARIES),$(shell sed -n 's/^$(1):/ /p' crates.txt))
+
+# Says something, with the seconds since `make` began.
+say = printf '%4d s  %s\n' $$(($$(date +%s) - $(START)))
+
+.PHONY: help ira run install test clean $(LIBRARIES:%=library-%)
+
+help:
+	@echo 'make ira        proves the program and the libraries that it stands on, and leaves it at bin/ira:'
+	@echo '                some 8 minutes on four cores the first time, then only what has changed'
+	@echo 'make run        makes ira, judges examples with it, and compares its answers with those expected'
+	@echo 'make install    copies bin/ira to $$(PREFIX)/bin; PREFIX is $(PREFIX) if not given'
+	@echo 'make test       the gate: all proofs from nothing, the edits that must be refused, all tests and'
+	@echo '                programs; its last line is `N passed, 0 failed`. See docs/ARCHITECTURE.md for its time'
+	@echo 'make clean      removes what was built and proved'
+
+# Two at a time: a library that stands on none of this repository is proved beside the others, of
+# which each takes all cores in its turn.
+ira:
+	@echo 'Proving the $(words $(LIBRARIES)) libraries that ira stands on, and then ira; the first time takes some minutes.'
+	@mkdir -p bin
+	@$(MAKE) --no-print-directory -j 2 START=$(START) bin/ira
+
+$(LIBRARIES:%=library-%): library-%:
+	@(cd crates/$* && rt lib --jobs $(JOBS)) > bin/$*.log 2>&1 || { tail -20 bin/$*.log; $(say) 'failed: $*'; exit 1; }
+	@$(say) 'proved: $*'
+
+$(foreach it,$(LIBRARIES),$(eval library-$(it): $(addprefix library-,$(filter-out $(it),$(call uses,$(it))))))
+
+# Only a proved crate is built.
+.PHONY: bin/ira
+bin/ira: $(LIBRARIES:%=library-%)
+	@(cd crates/ira && rt run --jobs $(JOBS) < stdin) > bin/ira.log 2>&1 || { tail -20 bin/ira.log; $(say) 'failed: ira'; exit 1; }
+	@cp $(PROGRAM) bin/ira
+	@$(say) 'proved and built: bin/ira'
+
+# Runs `bin/ira` with some words, and compares its status and what it prints.
+judges = echo '$$ bin/ira $(1)'; \
+	said=$$(bin/ira $(1)); status=$$?; echo "$$said"; \
+	test "$$status: $$said" = '$(2): $(3)' || { echo 'expected: $(3), and the status $(2)'; exit 1; }
+
+# A good and a bad election, and a bad log alone.
+run: ira
+	@$(call judges,logs examples/two_node_election/0.log examples/two_node_election/1.log,0,yes)
+	@$(call judges,logs examples/receipts_exchanged/0.log examples/receipts_exchanged/1.log,1,no: link 1: receipt 1 differs)
+	@$(call judges,< examples/one_bad_log/draw_out_of_range.log,1,no: node 0: event 1: draw range)
+	@echo 'All answers are as expected.'
+
+install:
+	@test -x bin/ira || { echo 'make ira first'; exit 1; }
+	install -D -m 755 bin/ira $(DESTDIR)$(PREFIX)/bin/ira
 
 # The merge gate: every proof from nothing, the edits that the prover must refuse, all tests, and
-# the program as two compilers build it.
+# the programs as two compilers build them.
 test:
 	rt ci
-
-# Builds the program, and judges the logs of a good and of a bad election, and a bad log alone.
-run: ira
-	bin/ira logs examples/two_node_election/0.log examples/two_node_election/1.log
-	bin/ira logs examples/receipts_exchanged/0.log examples/receipts_exchanged/1.log || test $$? -eq 1
-	bin/ira < examples/one_bad_log/draw_out_of_range.log || test $$? -eq 1
-
-# Leaves the program at bin/ira. Only a proved crate is built.
-ira:
-	mkdir -p bin
-	cd crates/ira && rt run < ../../examples/two_node_election/0.log > ../../bin/build.log 2>&1 || { tail -20 ../../bin/build.log; exit 1; }
-	cp $(PROGRAM) bin/ira
 
 clean:
 	rm -rf bin crates/*/out

@@ -8,13 +8,13 @@ use Rattle.std.proofs.lemmas.List.FromFn.{get_or-map-range_with_len, length-map-
 use Rattle.std.proofs.lemmas.Option.{slice_get-map, slice_get_cases, get_or_from_slice_get}
 use Rattle.ira_ring.specs.Draws.{draws}
 use Rattle.ira_ring.specs.SeededRun.{seeded}
-use Rattle.ira_main.specs.declared.run_request.RunRequest.{RunRequest}
+use Rattle.ira_words.specs.declared.run_request.RunRequest.{RunRequest}
 use Rattle.ira_run.specs.declared.run_fault.RunFault.{RunFault}
 use Rattle.ira_ring.specs.Recording.{IsRecording, HasOwnEnd}
 use Rattle.ira_ring.specs.Run.{Run}
 use Rattle.ira_ring.specs.Setup.{Setup, KeepsRules}
 use Rattle.ira_ring.specs.ShownEnd.{IsLoneRun}
-use Rattle.ira_main.specs.RunRequest.{IsAskedSetup, IsAskedRun, IsRunOf}
+use Rattle.ira_main.specs.AskedRun.{IsAskedSetup, IsAskedRun, IsRunOf}
 
 -- what holds of the member at a place holds of what is seen of it there
 seen_at : {V : Type 0} (see : V → List ℕ) (rows : List V) (i : ℕ) (ids : List ℕ) → i < length rows → IfSome (slice_get rows i) (λ row. see row ≡ ids) → get_or (map see rows) i [] ≡ ids

@@ -1,4 +1,2 @@
 pub mod Asking
-pub mod FirstWord
-pub mod GivenNames
 pub mod Reading

@@ -1,11 +1,12 @@
 use Rattle.std.specs.Prelude.{ℕ, ◌+◌, ◌-◌, ◌^◌, min, Bool, true, List, Option, Result, Ok, Err, nat_eq}
 
--- a reader: the bytes that it has left, where it tells them, how many reads were made of it, and
--- whether one gave no byte
+-- a reader: the bytes that it has left, where it tells them, how many reads were made of it, whether
+-- the last gave no byte, and whether it failed
 pub record Reads : Type 0 where
   pub left : Option (List ℕ)
   pub reads : ℕ
   pub is_over : Bool
+  pub has_failed : Bool
 
 -- one read more; the count stops at the last u64
 abbrev pub one_more : ℕ → ℕ

@@ -1,8 +1,7 @@
-pub mod CommandLine
+pub mod AskedRun
 pub mod Complaint
 pub mod Counted
 pub mod ReadText
-pub mod Request
-pub mod RunRequest
 pub mod Serve
+pub mod ShelfFault
 pub mod Status

@@ -2,15 +2,18 @@ use Rattle.std.specs.Prelude.{◌≡◌, ℕ, ◌<◌, ◌≤◌, true, false, L
 use Rattle.std.specs.Io.KnownBytes.{Consumes, IsAtEnd}
 use Rattle.ira_main.specs.Counted.{Reads, one_more}
 
--- one read gave these bytes, or none at the end
+-- one read gave these bytes, or none at the end, and didn't fail
 pub record IsReadOnce (old new : Reads) (bytes : List ℕ) : Type 0 where
   pub given : Consumes old.left new.left bytes
   pub count : new.reads ≡ one_more old.reads
   pub going : new.is_over ≡ false → 0 < length bytes
   pub end : new.is_over ≡ true → (bytes ≡ []) × IsAtEnd new.left
+  pub fine : new.has_failed ≡ false
 
--- the text is what the reader had left, to its end or to the limit, whichever came first
+-- the text is what the reader had left, to its end or to the limit, whichever came first, and no read
+-- failed
 pub record IsReadTo (limit : ℕ) (old new : Reads) (text : List ℕ) : Type 0 where
   pub bytes : Consumes old.left new.left text
   pub size : length text ≤ limit
   pub end : old.is_over ≡ false → length text < limit → IsAtEnd new.left
+  pub fine : old.has_failed ≡ false → new.has_failed ≡ false

@@ -9,11 +9,11 @@ use Rattle.ira_ring.specs.Run.{Run}
 use Rattle.ira_main.specs.Counted.{Reads}
 use Rattle.ira_main.specs.ReadText.{IsReadTo}
 use Rattle.ira_audit.specs.Report.{report_line}
-use Rattle.ira_main.specs.Request.{AskForLogs, BeginsWithWord}
-use Rattle.ira_main.specs.RunRequest.{IsAskedRun}
+use Rattle.ira_words.specs.Request.{AskForLogs, BeginsWithWord}
+use Rattle.ira_main.specs.AskedRun.{IsAskedRun}
 use Rattle.ira_main.specs.Status.{IsElectionStatus, status_number, answer_status}
 use Rattle.ira_audit.specs.declared.answer.Answer.{Answer}
-use Rattle.ira_main.specs.declared.run_request.RunRequest.{RunRequest}
+use Rattle.ira_words.specs.declared.run_request.RunRequest.{RunRequest}
 
 -- nothing was written, and nothing failed
 pub record IsUntouched (taken : Option (List ℕ)) (failures : ℕ) (taken' : Option (List ℕ)) (failures' : ℕ) : Type 0 where
@@ -31,7 +31,7 @@ Reports answer taken failures taken' failures' status =
 -- failed, or there was no memory, and nothing was written
 pub data Judges (old new : Reads) (taken : Option (List ℕ)) (failures : ℕ) (taken' : Option (List ℕ)) (failures' : ℕ) (status : ℕ) : Type 0 where
   judged : (text : List ℕ) (answer : Answer) → IsReadTo (MAX_TEXT + 1) old new text → IsAnswer text answer → Reports answer taken failures taken' failures' status → Judges old new taken failures taken' failures' status
-  unread : new.is_over ≡ true → IsUntouched taken failures taken' failures' → status ≡ 2 → Judges old new taken failures taken' failures' status
+  unread : new.has_failed ≡ true → IsUntouched taken failures taken' failures' → status ≡ 2 → Judges old new taken failures taken' failures' status
   no_memory : IsUntouched taken failures taken' failures' → status ≡ 3 → Judges old new taken failures taken' failures' status
 
 -- no answer was given: nothing was written to the output, whatever became of files, and the status is

@@ -6,6 +6,7 @@ use crate::shelf_fault::ShelfFault;
 use crate::status::Status;
 use ira_event::{OutOfMemory, Sink, WriteFault, write_bytes, write_number};
 use ira_ring::RunFault;
+use ira_words::WordsFault;
 use std::alloc::{AllocError, AllocFailed};
 
 /// Why the program ends with no answer, or with one that couldn't be written.
@@ -132,6 +133,20 @@ impl<'a> From<RunFault> for Complaint<'a> {
         match fault {
             RunFault::OutOfMemory => Complaint::OutOfMemory,
             refused => Complaint::RunRefused(refused),
+        }
+    }
+}
+
+impl<'a> From<WordsFault> for Complaint<'a> {
+    ghost use Rattle.std.specs.Prelude.{◌≡◌};
+    ghost use Rattle.ira_main.specs.Complaint.{words_complaint};
+
+    ghost from_gives = { λ f c. c ≡ words_complaint f };
+
+    fn from(fault: WordsFault) -> Complaint<'a> {
+        match fault {
+            WordsFault::Refused(text) => Complaint::Words(text),
+            WordsFault::OutOfMemory => Complaint::OutOfMemory,
         }
     }
 }

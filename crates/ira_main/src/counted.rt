@@ -1,4 +1,4 @@
-ghost use Rattle.std.specs.Prelude.{◌≡◌, ◌<◌, true, false, length};
+ghost use Rattle.std.specs.Prelude.{◌≡◌, ◌<◌, false, length, is_err};
 ghost use Rattle.std.specs.Io.{ReadsAtMost};
 ghost use Rattle.std.specs.Io.KnownBytes.{ReadConsumes};
 ghost use Rattle.ira_main.specs.Counted.{one_more, gives_none};
@@ -8,12 +8,13 @@ use std::io::Read;
 use std::marker::Model;
 
 /// Counts the reads that are made of a reader, and knows when the last one gave no byte: the reader
-/// has ended or failed then, and isn't read again.
+/// has ended then, or has failed, and isn't read again.
 #[derive(Drop)]
 pub struct Counted<I: Read> {
     reader: I,
     reads: u64,
     is_over: bool,
+    has_failed: bool,
 }
 
 impl<I: Read> Model for Counted<I> {
@@ -21,18 +22,19 @@ impl<I: Read> Model for Counted<I> {
 
     ghost Value = { Reads };
 
-    ghost view = { λ s. record { left = I.remaining s.reader; reads = s.reads; is_over = s.is_over } };
+    ghost view = { λ s. record { left = I.remaining s.reader; reads = s.reads; is_over = s.is_over; has_failed = s.has_failed } };
 }
 
 impl<I: Read> Counted<I> {
     /// A reader that wasn't read yet.
     pub fn new(reader: I) -> Counted<I>
-        ensures { result ≡ record { left = I.remaining reader; reads = 0; is_over = false } }
+        ensures { result ≡ record { left = I.remaining reader; reads = 0; is_over = false; has_failed = false } }
     {
         Counted {
             reader,
             reads: 0,
             is_over: false,
+            has_failed: false,
         }
     }
 
@@ -50,6 +52,13 @@ impl<I: Read> Counted<I> {
         self.is_over
     }
 
+    /// Whether the last read failed.
+    pub fn has_failed(&self) -> bool
+        ensures { result ≡ self.now.has_failed }
+    {
+        self.has_failed
+    }
+
     /// Reads once, into the front of the buffer. A failure is the end as well.
     pub fn read(&mut self, buffer: &mut [u8]) -> io::Result<usize>
         requires room { 0 < length buffer.old }
@@ -58,10 +67,12 @@ impl<I: Read> Counted<I> {
         ensures bytes { ReadConsumes self.old.left self.new.left result buffer.new }
         ensures count { self.new.reads ≡ one_more self.old.reads }
         ensures over { self.new.is_over ≡ gives_none result }
+        ensures failed { self.new.has_failed ≡ is_err result }
     {
         self.reads = self.reads.saturating_add(1);
         let given = self.reader.read(buffer);
         self.is_over = !matches!(&given, Ok(1..));
+        self.has_failed = given.is_err();
         given
     }
 }

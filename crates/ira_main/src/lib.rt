@@ -1,15 +1,13 @@
 //! The program `ira` as a function of its words, its input, its files and its two output streams.
 #![tactic(auto)]
 
-mod command_line;
+mod asked_run;
 mod complaint;
 mod counted;
 mod file_shelf;
 mod program;
 mod read_text;
 mod record_run;
-mod request;
-mod run_request;
 mod shelf;
 mod shelf_fault;
 mod status;
@@ -21,6 +19,3 @@ pub use program::serve;
 pub use shelf::Shelf;
 pub use shelf_fault::ShelfFault;
 pub use system::start;
-
-#[cfg(test)]
-mod tests;

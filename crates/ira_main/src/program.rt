@@ -3,16 +3,15 @@ ghost use Rattle.ira_audit.specs.Report.{IsReportable};
 ghost use Rattle.ira_main.specs.Serve.{GivesNoAnswer, Judges, JudgesTogether, Obeys, Reports};
 ghost use Rattle.ira_main.specs.Status.{outcome_number};
 
-use crate::command_line::request;
 use crate::complaint::Complaint;
 use crate::counted::Counted;
 use crate::read_text::read_text;
 use crate::record_run::record_run;
-use crate::request::Request;
 use crate::shelf::Shelf;
 use crate::status::Status;
 use ira_audit::{Answer, RingAudit, audit_one, write_report};
 use ira_event::{MAX_TEXT, Sink, WriteFault};
+use ira_words::{Request, read_words};
 use std::alloc::Allocator;
 use std::io::Read;
 use std::sync::Wait;
@@ -87,7 +86,7 @@ where
     ensures obeyed { words.now ≢ [] → Obeys (map (λ word. word.now) words.now) input.old input.new (W.taken out.old) (W.failures out.old) (W.taken out.new) (W.failures out.new) (outcome_number result) }
     ensures reads { input.new.reads ≤ input.old.reads + (MAX_TEXT + 1) }
 {
-    match request(rt.alloc(), words)? {
+    match read_words(rt.alloc(), words)? {
         Request::OneLog => judge_input(alloc, input, out),
         Request::Logs(names) => judge_files(alloc, &names, shelf, out),
         Request::Run(ring) => record_run(rt, alloc, &ring, shelf, out),

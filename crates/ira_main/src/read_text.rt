@@ -1,4 +1,4 @@
-ghost use Rattle.std.specs.Prelude.{◌≡◌, ◌+◌, ◌≤◌, ◌<◌, true, false, take, drop, length, IfOk, max};
+ghost use Rattle.std.specs.Prelude.{◌≡◌, ◌+◌, ◌≤◌, ◌<◌, true, false, take, drop, length, IfOk, is_err, max};
 ghost use Rattle.std.specs.Io.KnownBytes.{ReadConsumes};
 ghost use Rattle.ira_main.specs.Counted.{one_more, gives_none};
 ghost use Rattle.ira_main.specs.ReadText.{IsReadTo, IsReadOnce};
@@ -22,6 +22,7 @@ fn read_at<I: Read>(input: &mut Counted<I>, text: &mut [u8], at: usize) -> io::R
     ensures bytes { ReadConsumes input.old.left input.new.left result (drop at text.new) }
     ensures count { input.new.reads ≡ one_more input.old.reads }
     ensures over { input.new.is_over ≡ gives_none result }
+    ensures failed { input.new.has_failed ≡ is_err result }
 {
     input.read(&mut text[at..])
 }
@@ -40,7 +41,7 @@ fn read_more<A: Allocator, I: Read>(
     ensures bound { IfOk result (λ n. filled + n ≤ length text.new.items) }
     ensures once { IfOk result (λ n. IsReadOnce input.old input.new (take n (drop filled text.new.items))) }
     ensures count { input.new.reads ≤ input.old.reads + 1 }
-    ensures device { result ≡ Err ShelfFault.Device → input.new.is_over ≡ true }
+    ensures device { result ≡ Err ShelfFault.Device → input.new.has_failed ≡ true }
 {
     if filled == text.len() {
         let room = (filled + CHUNK).min(MAX_TEXT + 1);
@@ -62,7 +63,7 @@ pub(crate) fn read_text<A: Allocator, I: Read>(
 ) -> Result<Vec<u8, A>, ShelfFault>
     ensures text { IfOk result (λ text. IsReadTo (MAX_TEXT + 1) input.old input.new text.items) }
     ensures reads { input.new.reads ≤ input.old.reads + (MAX_TEXT + 1) }
-    ensures device { result ≡ Err ShelfFault.Device → input.new.is_over ≡ true }
+    ensures device { result ≡ Err ShelfFault.Device → input.new.has_failed ≡ true }
 {
     let mut text = Vec::new(alloc);
     let mut filled = 0;

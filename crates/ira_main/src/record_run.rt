@@ -2,13 +2,14 @@ ghost use Rattle.std.specs.Prelude.{◌⊎◌};
 ghost use Rattle.ira_main.specs.Serve.{GivesNoAnswer, Records};
 ghost use Rattle.ira_main.specs.Status.{outcome_number};
 
+use crate::asked_run::{ring_size, run};
 use crate::complaint::Complaint;
-use crate::run_request::RunRequest;
 use crate::shelf::Shelf;
 use crate::shelf_fault::ShelfFault;
 use crate::status::Status;
 use ira_event::{Logs, NodeLog, Sink, WriteFault, write_log};
 use ira_ring::write_ends;
+use ira_words::RunRequest;
 use std::alloc::Allocator;
 use std::sync::Wait;
 use std::thread::Threads;
@@ -58,10 +59,10 @@ where
     W: Sink,
     ensures { Records request.now (W.taken out.old) (W.failures out.old) (W.taken out.new) (W.failures out.new) (outcome_number result) ⊎ GivesNoAnswer (W.taken out.old) (W.failures out.old) (W.taken out.new) (W.failures out.new) (outcome_number result) }
 {
-    let Some(nodes) = request.ring_size() else {
+    let Some(nodes) = ring_size(request) else {
         return Err(Complaint::RingSize);
     };
-    let run = request.run(rt, alloc.clone()?, nodes)?;
+    let run = run(request, rt, alloc.clone()?, nodes)?;
     write_files(&alloc, request.folder, run.logs(), shelf)?;
     match write_ends(&run, out) {
         Ok(()) => Ok(Status::of_ends(run.ends())),

@@ -14,6 +14,12 @@ pub enum ShelfFault {
 }
 
 impl From<Error> for ShelfFault {
+    ghost use Rattle.std.specs.Prelude.{◌≡◌};
+    ghost use Rattle.std.specs.IoError.{error_kind};
+    ghost use Rattle.ira_main.specs.ShelfFault.{kind_fault};
+
+    ghost from_gives = { λ e f. f ≡ kind_fault (error_kind e) };
+
     fn from(error: Error) -> ShelfFault {
         match error.kind() {
             ErrorKind::OutOfMemory => ShelfFault::OutOfMemory,
@@ -23,12 +29,22 @@ impl From<Error> for ShelfFault {
 }
 
 impl From<AllocError> for ShelfFault {
+    ghost use Rattle.std.specs.Prelude.{◌≡◌};
+    ghost use Rattle.ira_main.specs.declared.shelf_fault.ShelfFault.TheVariants as fault;
+
+    ghost from_gives = { λ _ f. f ≡ fault.OutOfMemory };
+
     fn from(_refused: AllocError) -> ShelfFault {
         ShelfFault::OutOfMemory
     }
 }
 
 impl From<WriteFault> for ShelfFault {
+    ghost use Rattle.std.specs.Prelude.{◌≡◌};
+    ghost use Rattle.ira_main.specs.declared.shelf_fault.ShelfFault.TheVariants as fault;
+
+    ghost from_gives = { λ _ f. f ≡ fault.Device };
+
     fn from(_failed: WriteFault) -> ShelfFault {
         ShelfFault::Device
     }

@@ -1,6 +1,6 @@
 use Rattle.std.proofs.Common.{◌≡◌, ◌∙◌, ℕ, ap, sym, length, Option, List, [], ◌∷◌, map, inl, inr, refl, subst}
 use Rattle.std.proofs.lemmas.List.{length-map}
-use Rattle.ira_main.specs.Request.{IsMadeOf}
+use Rattle.ira_words.specs.Request.{IsMadeOf}
 use Rattle.ira_main.specs.Serve.{JudgesTogether}
 use Rattle.ira_main.specs.Serve.Done.{judged, recorded, no_answer}
 use Rattle.ira_main.proofs.program.obey.Goals as goal
@@ -15,11 +15,11 @@ same_number m n same h = record { texts = h.texts; many = h.many ∙ same; answe
 
 pub returns-in-OneLog-clause-obeyed : goal.returns-in-OneLog-clause-obeyed
 returns-in-OneLog-clause-obeyed g c =
-    λ some. absurd (some (none_of_none _ _ (subst (IsMadeOf (map (λ w. w.now) c.args.words.now)) c.in-OneLog.is c.in_ok-request.ensures.made)))
+    λ some. absurd (some (none_of_none _ _ (subst (IsMadeOf (map (λ w. w.now) c.args.words.now)) c.in-OneLog.is c.in_ok-read_words.ensures.made)))
 
 pub returns-in-Logs-clause-obeyed : goal.returns-in-Logs-clause-obeyed
 returns-in-Logs-clause-obeyed g c = λ some.
-    let made = subst (IsMadeOf (map (λ w. w.now) c.args.words.now)) c.in-Logs.is c.in_ok-request.ensures.made in
+    let made = subst (IsMadeOf (map (λ w. w.now) c.args.words.now)) c.in-Logs.is c.in_ok-read_words.ensures.made in
     record {
       unread = refl;
       done = elim c.judge_files.ensures [
@@ -30,7 +30,7 @@ returns-in-Logs-clause-obeyed g c = λ some.
 
 pub returns-in-Run-clause-obeyed : goal.returns-in-Run-clause-obeyed
 returns-in-Run-clause-obeyed g c = λ some.
-    let made = subst (IsMadeOf (map (λ w. w.now) c.args.words.now)) c.in-Run.is c.in_ok-request.ensures.made in
+    let made = subst (IsMadeOf (map (λ w. w.now) c.args.words.now)) c.in-Run.is c.in_ok-read_words.ensures.made in
     record {
       unread = refl;
       done = elim c.record_run.ensures [

@@ -25,5 +25,6 @@ loop-input-preserved g c =
       over = λ e.
           let none : n ≡ 0 = sym given ∙ ap length (once.end e).0 in
           omega (arith, none, short);
+      fine = λ _. once.fine;
       end = λ _ e. (once.end e).1;
     }

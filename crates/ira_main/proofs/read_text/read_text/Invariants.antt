@@ -11,6 +11,7 @@ invariant-loop-input g l = record {
   bytes : Consumes l.fn.input.left l.input.left (take l.filled l.text.items);
   reads : l.input.reads + cond l.input.is_over 0 1 ≤ l.fn.input.reads + cond l.fn.input.is_over 0 1 + l.filled;
   over : l.input.is_over ≡ true → l.filled ≤ MAX_TEXT;
+  fine : l.fn.input.has_failed ≡ false → l.input.has_failed ≡ false;
   end : l.fn.input.is_over ≡ false → l.input.is_over ≡ true → IsAtEnd l.input.left;
 }
 

@@ -1,0 +1,81 @@
+//! The commands of `ira` in turn, on files: an example is judged, and then what each way to run a ring
+//! wrote.
+#![tactic(auto)]
+
+use ira_event::ToWriter;
+use ira_main::{Counted, FileShelf, Shelf, ShelfFault, serve, start};
+use std::alloc::AllocError;
+use std::io;
+use std::io::{Stdin, Stdout};
+use std::process::ExitCode;
+use std::rt::Files;
+use std::sync::Wait;
+use std::thread::Threads;
+use std::time::Clock;
+
+/// Serves the words of this line, and prints it and the status.
+fn ira(
+    rt: &(impl AllocGlobal + Files + Threads + Wait + Clock + Sync),
+    input: Stdin,
+    out: Stdout,
+    line: &str,
+) -> io::Result<()> {
+    println!(out; "$ ira {line}")?;
+    let words: Vec<&str> = line.split_whitespace().collect(rt.alloc())?;
+    let status = serve(
+        rt,
+        rt.alloc(),
+        &words,
+        &mut Counted::new(input),
+        &mut FileShelf::new(rt, rt.alloc()),
+        &mut ToWriter::new(out),
+        &mut ToWriter::new(out),
+    );
+    println!(out; "status {status}")
+}
+
+/// The files that a run of a ring of so many nodes wrote here.
+fn written(rt: &(impl AllocGlobal + Files), nodes: u8) -> Result<Vec<Vec<u8>>, ShelfFault> {
+    let mut shelf = FileShelf::new(rt, rt.alloc());
+    let mut files = Vec::new(rt.alloc());
+    for place in 0..nodes {
+        let name = format!(in rt.alloc(); "{place}.log")?;
+        let text = shelf.read(name.as_str())?;
+        if files.push(text).is_err() {
+            return Err(AllocError.into());
+        }
+    }
+    Ok(files)
+}
+
+/// Serves the commands in turn.
+fn commands(
+    rt: &(impl AllocGlobal + Files + Threads + Wait + Clock + Sync),
+    input: Stdin,
+    out: Stdout,
+) -> io::Result<()> {
+    ira(rt, input, out, "")?;
+    ira(rt, input, out, "logs elected/0.log elected/1.log")?;
+    ira(rt, input, out, "run --nodes=5 --seed=7 --out=.")?;
+    let by_threads = written(rt, 5);
+    ira(rt, input, out, "run --nodes=5 --seed=7 --out=. --alone")?;
+    let by_one = written(rt, 5);
+    println!(out;
+        "the same logs: {}",
+        by_threads.is_ok() && by_threads == by_one
+    )?;
+    ira(rt, input, out, "logs 0.log 1.log 2.log 3.log 4.log")?;
+    ira(rt, input, out, "run --nodes=2 --seed=7 --draws=0 --out=.")?;
+    ira(rt, input, out, "logs 0.log 1.log")?;
+    ira(rt, input, out, "logs 0.log 5.log")?;
+    ira(rt, input, out, "run --nodes=2 --seed=7 --out=nowhere")
+}
+
+/// After the commands, the program itself, on the words that it is given: one that isn't UTF-8.
+fn main(rt: HostRuntime) -> ExitCode {
+    let (input, out) = (rt.stdin(), rt.stdout());
+    match commands(&rt, input, out) {
+        Ok(()) => start(&rt, input, out, out),
+        Err(_) => ExitCode::FAILURE,
+    }
+}

@@ -1,9 +1,0 @@
-//! The program `ira` once more, which the gate runs with the command `run`, on one thread.
-#![tactic(auto)]
-
-use ira_main::start;
-use std::process::ExitCode;
-
-fn main(rt: HostRuntime) -> ExitCode {
-    start(&rt, rt.stdin(), rt.stdout(), rt.stderr())
-}

@@ -1,0 +1,7 @@
+use Rattle.ira_main.proofs.Asking.{asked_setup}
+use Rattle.ira_main.proofs.asked_run.setup.Goals as goal
+
+pub returns : goal.returns
+returns g c =
+    let lists = c.in_ok-draw_lists in
+    asked_setup (λ v. v.items) c.args.request.now c.args.nodes c.in_ok-initiators.field-0.items lists.field-0.items c.requires c.in_ok-initiators.ensures lists.ensures.number lists.ensures.lists

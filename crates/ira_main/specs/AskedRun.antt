@@ -1,0 +1,27 @@
+-- The run that a request names.
+use Rattle.std.specs.Prelude.{◌≡◌, ℕ, ◌<◌, Bool, true, false, nat_lt, unwrap_or}
+use Rattle.ira_ring.specs.Draws.{draws}
+use Rattle.ira_ring.specs.Recording.{IsRecording, HasOwnEnd}
+use Rattle.ira_ring.specs.Run.{Run}
+use Rattle.ira_ring.specs.Setup.{Setup, KeepsRules, IsForEachNode, is_initiator, given}
+use Rattle.ira_ring.specs.ShownEnd.{IsLoneRun}
+use Rattle.ira_words.specs.declared.run_request.RunRequest.{RunRequest}
+
+-- the setup that a request names
+pub record IsAskedSetup (request : RunRequest) (s : Setup) : Type 0 where
+  pub nodes : s.nodes ≡ request.nodes
+  pub lists : IsForEachNode s
+  -- the first nodes are initiators, as many as were asked for, or all
+  pub initiators : (i : ℕ) → i < s.nodes → is_initiator s i ≡ nat_lt i (unwrap_or request.initiators s.nodes)
+  -- the draws of each node are those of the seed
+  pub draws : (i : ℕ) → i < s.nodes → given s i ≡ draws s.nodes request.seed i request.draws
+  pub cap : s.cap ≡ request.cap
+
+-- a run of a setup, on one thread or with a thread for each node
+abbrev pub IsRunOf : Bool → Setup → Run → Type 0
+IsRunOf true s run = IsLoneRun s run
+IsRunOf false s run = IsRecording s run × HasOwnEnd run
+
+-- a run of the setup that a request names, which keeps the rules
+abbrev pub IsAskedRun : RunRequest → Run → Type 0
+IsAskedRun request run = (s : Setup) × IsAskedSetup request s × KeepsRules s × IsRunOf request.is_alone s run

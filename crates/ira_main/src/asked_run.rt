@@ -1,0 +1,74 @@
+ghost use Rattle.std.specs.Prelude.{◌≡◌, ◌↔◌, map, nat_lt, IfOk, IfSome, IsSome, unwrap_or};
+ghost use Rattle.std.specs.List.{range_with_len};
+ghost use Rattle.ira_event.specs.RingSize.{IsRingSize};
+ghost use Rattle.ira_main.specs.AskedRun.{IsAskedSetup, IsAskedRun};
+
+use ira_event::{OutOfMemory, RingSize};
+use ira_links::OpenGate;
+use ira_ring::{Run, RunFault, Setup, draw_lists, run_alone_seeded, run_ring};
+use ira_words::RunRequest;
+use std::alloc::{AllocError, Allocator};
+use std::sync::Wait;
+use std::thread::Threads;
+use std::time::Clock;
+
+/// The size of the ring that is asked for, where a ring has one.
+pub(crate) fn ring_size(request: &RunRequest<'_>) -> Option<RingSize>
+    ensures some { IsSome result ↔ IsRingSize request.now.nodes }
+    ensures value { IfSome result (λ size. size ≡ request.now.nodes) }
+{
+    RingSize::new(u8::try_from(request.nodes).ok()?)
+}
+
+// Whether each node of such a ring is an initiator.
+fn initiators<A: Allocator>(
+    request: &RunRequest<'_>,
+    alloc: A,
+    nodes: RingSize,
+) -> Result<Vec<bool, A>, AllocError>
+    ensures { IfOk result (λ kinds. kinds.items ≡ map (λ i. nat_lt i (unwrap_or request.now.initiators nodes)) (range_with_len 0 nodes)) }
+{
+    let number = request.initiators.unwrap_or(u64::from(nodes.get()));
+    (0..nodes.get())
+        .map(|place| u64::from(place) < number)
+        .collect(alloc)
+}
+
+// The setup of a ring of this size.
+fn setup<A: Allocator + Clone>(
+    request: &RunRequest<'_>,
+    alloc: A,
+    nodes: RingSize,
+) -> Result<Setup<A>, OutOfMemory>
+    requires { nodes ≡ request.now.nodes }
+    ensures { IfOk result (IsAskedSetup request.now) }
+{
+    Ok(Setup {
+        nodes,
+        initiators: initiators(request, alloc.clone()?, nodes)?,
+        draws: draw_lists(alloc, nodes, request.seed, request.draws)?,
+        cap: request.cap as usize,
+    })
+}
+
+/// Runs the ring that is asked for, which has this size.
+pub(crate) fn run<R, A>(
+    request: &RunRequest<'_>,
+    rt: &R,
+    alloc: A,
+    nodes: RingSize,
+) -> Result<Run<A>, RunFault>
+where
+    R: Threads + Wait + Clock + Sync,
+    A: Allocator + Clone + Send + Sync,
+    requires { nodes ≡ request.now.nodes }
+    ensures { IfOk result (IsAskedRun request.now) }
+{
+    if request.is_alone {
+        let initiators = initiators(request, alloc.clone()?, nodes)?;
+        let cap = request.cap as usize;
+        return run_alone_seeded(alloc, nodes, &initiators, request.seed, request.draws, cap);
+    }
+    let setup = setup(request, alloc.clone()?, nodes)?;
+    run_ring(rt, alloc, &setup, &OpenGate)
+}

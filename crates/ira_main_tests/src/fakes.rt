@@ -1,0 +1,182 @@
+//! Files, readers and sinks in memory, some of them broken, and the program run over them.
+
+use ira_event::{MAX_TEXT, MemorySink, Sink, SinkFault};
+use ira_main::{Counted, Shelf, ShelfFault, serve};
+use std::alloc::Global;
+use std::io;
+use std::io::{ErrorKind, Read};
+use std::process::Abort;
+use std::sync::Wait;
+use std::thread::Threads;
+use std::time::Clock;
+
+/// A file in memory.
+#[derive(Clone, Copy)]
+pub(crate) enum File<'a> {
+    Text(&'a str),
+    /// It can't be opened, or a read of it fails.
+    Unreadable,
+    /// It can't be made.
+    Locked,
+    /// It is made, and takes no byte.
+    Full,
+    /// It takes its bytes into a buffer, and fails when it is closed.
+    Unflushed,
+}
+
+/// A file that is being written.
+#[derive(Drop)]
+pub(crate) struct NewFile {
+    name: String,
+    bytes: Vec<u8>,
+    is_full: bool,
+    is_unflushed: bool,
+    failures: u64,
+}
+
+impl Sink for NewFile {
+    ghost failures = { λ s. s.failures };
+
+    fn push(&mut self, bytes: &[u8]) -> Result<usize, SinkFault> {
+        if self.is_full || self.bytes.extend_from_slice(bytes).is_err() {
+            self.failures = self.failures.saturating_add(1);
+            return Err(SinkFault);
+        }
+        Ok(bytes.len())
+    }
+}
+
+/// Files under their names, and those that were written, each when it was closed.
+#[derive(Drop)]
+pub(crate) struct MemoryShelf<'a> {
+    alloc: Global,
+    files: &'a [(&'a str, File<'a>)],
+    written: Vec<NewFile>,
+}
+
+impl<'a> MemoryShelf<'a> {
+    pub(crate) fn new(alloc: Global, files: &'a [(&'a str, File<'a>)]) -> MemoryShelf<'a> {
+        MemoryShelf {
+            alloc,
+            files,
+            written: Vec::new(alloc),
+        }
+    }
+
+    fn file(&self, name: &str) -> Option<File<'a>> {
+        let (_, file) = self.files.iter().find(|file| file.0 == name)?;
+        Some(*file)
+    }
+
+    /// Compares the files that were written, in their order.
+    pub(crate) fn assert_written(&self, rt: &impl Abort, files: &[(&str, &str)]) {
+        assert_eq!(rt; self.written.len(), files.len());
+        for (file, (name, text)) in self.written.iter().zip(files) {
+            assert_eq!(rt; file.name.as_str(), *name);
+            assert_eq!(rt; file.bytes.as_slice(), text.as_bytes());
+        }
+    }
+}
+
+impl Shelf<Global> for MemoryShelf<'_> {
+    type Out = NewFile;
+
+    fn read(&mut self, name: &str) -> Result<Vec<u8>, ShelfFault> {
+        match self.file(name) {
+            Some(File::Text(text)) if text.len() <= MAX_TEXT => {
+                Ok(text.as_bytes().to_vec(self.alloc)?)
+            }
+            _ => Err(ShelfFault::Device),
+        }
+    }
+
+    fn create(&mut self, name: &str) -> Result<NewFile, ShelfFault> {
+        let file = self.file(name);
+        if matches!(file, Some(File::Locked)) {
+            return Err(ShelfFault::Device);
+        }
+        Ok(NewFile {
+            name: String::from_str(self.alloc, name)?,
+            bytes: Vec::new(self.alloc),
+            is_full: matches!(file, Some(File::Full)),
+            is_unflushed: matches!(file, Some(File::Unflushed)),
+            failures: 0,
+        })
+    }
+
+    fn close(&mut self, file: NewFile) -> Result<(), ShelfFault> {
+        if file.is_unflushed {
+            return Err(ShelfFault::Device);
+        }
+        match self.written.push(file) {
+            Ok(()) => Ok(()),
+            Err(_) => Err(ShelfFault::OutOfMemory),
+        }
+    }
+}
+
+/// A device that gives some bytes, two at a time, and then fails.
+#[derive(Drop)]
+pub(crate) struct FailingReader<'a> {
+    pub(crate) rest: &'a [u8],
+}
+
+impl Read for FailingReader<'_> {
+    fn read(&mut self, buffer: &mut [u8]) -> io::Result<usize> {
+        if self.rest.is_empty() {
+            return Err(io::Error::from(ErrorKind::Other));
+        }
+        let n = buffer.len().min(2);
+        self.rest.read(&mut buffer[..n])
+    }
+}
+
+/// A sink on a full device.
+#[derive(Drop)]
+pub(crate) struct FullSink {
+    failures: u64,
+}
+
+impl FullSink {
+    pub(crate) fn new() -> FullSink {
+        FullSink { failures: 0 }
+    }
+}
+
+impl Sink for FullSink {
+    ghost failures = { λ s. s.failures };
+
+    fn push(&mut self, _bytes: &[u8]) -> Result<usize, SinkFault> {
+        self.failures = self.failures.saturating_add(1);
+        Err(SinkFault)
+    }
+}
+
+/// Serves these words over this shelf and input, and compares the status and what was written to both
+/// streams.
+pub(crate) fn assert_served<I: Read>(
+    rt: &(impl Abort + AllocGlobal + Threads + Wait + Clock + Sync),
+    words: &[&str],
+    files: &[(&str, File<'_>)],
+    input: &mut Counted<I>,
+    status: u8,
+    out: &str,
+    err: &str,
+) {
+    let mut shelf = MemoryShelf::new(rt.alloc(), files);
+    let mut on_out = MemorySink::new(rt.alloc());
+    let mut on_err = MemorySink::new(rt.alloc());
+    let found = serve(
+        rt,
+        rt.alloc(),
+        words,
+        input,
+        &mut shelf,
+        &mut on_out,
+        &mut on_err,
+    );
+    assert_eq!(rt; on_out.bytes(), out.as_bytes());
+    assert_eq!(rt; on_err.bytes(), err.as_bytes());
+    assert_eq!(rt; found, status);
+    shelf.assert_written(rt, &[]);
+}

@@ -1,0 +1,17 @@
+//! The program, on files and streams in memory.
+#![tactic(auto)]
+
+#[cfg(test)]
+mod fakes;
+#[cfg(test)]
+mod logs;
+#[cfg(test)]
+mod one_log;
+#[cfg(test)]
+mod recorded;
+#[cfg(test)]
+mod runs;
+#[cfg(test)]
+mod samples;
+#[cfg(test)]
+mod words;

@@ -1,0 +1,169 @@
+//! Words that are refused, and what is said of them.
+
+use crate::fakes::{FullSink, MemoryShelf, assert_served};
+use ira_event::MemorySink;
+use ira_main::{Counted, serve};
+use std::io;
+use std::process::Abort;
+use std::sync::Wait;
+use std::thread::Threads;
+use std::time::Clock;
+
+const USAGE: &str = "\n\nUsage: ira < LOG\n       ira logs <LOG>...\n       \
+                     ira run --nodes <N> --seed <S> --out <DIR> [OPTIONS]\n\n\
+                     For more information, try '--help'.\n";
+
+/// Refuses the words with this text, and reads nothing.
+fn assert_refused(
+    rt: &(impl Abort + AllocGlobal + Threads + Wait + Clock + Sync),
+    words: &[&str],
+    text: &str,
+) {
+    let mut input = Counted::new(io::empty());
+    assert_served(rt, words, &[], &mut input, 2, "", text);
+    assert_eq!(rt; input.reads(), 0);
+}
+
+#[test]
+fn words_that_are_no_command(rt: HostRuntime) {
+    for (word, first_line) in [
+        ("audit", "error: unrecognized subcommand 'audit'"),
+        ("--depth", "error: unexpected argument '--depth' found"),
+        (
+            "--",
+            "error: 'ira' requires a subcommand but one was not provided\n  \
+             [subcommands: logs, run, help]",
+        ),
+    ] {
+        let text = format!(in rt.alloc(); "{first_line}{USAGE}").expect(&rt, "memory");
+        assert_refused(&rt, &[word], text.as_str());
+    }
+}
+
+#[test]
+fn logs_without_a_file(rt: HostRuntime) {
+    let text = "error: the following required arguments were not provided:\n  <LOG>...\n\n\
+                Usage: ira logs <LOG>...\n\nFor more information, try '--help'.\n";
+    assert_refused(&rt, &["logs"], text);
+}
+
+#[test]
+fn help_is_a_refused_word(rt: HostRuntime) {
+    let help = "Judges and makes logs of Itai-Rodeh elections on anonymous rings.\n\n\
+                Usage: ira < LOG\n       ira logs <LOG>...\n       \
+                ira run --nodes <N> --seed <S> --out <DIR> [OPTIONS]\n\n\
+                Commands:\n\
+                \x20 logs  Judges the logs of all nodes of a ring together\n\
+                \x20 run   Runs an election, and writes the log of each node to a file\n\
+                \x20 help  Print this message or the help of the given subcommand(s)\n\n\
+                Options:\n  -h, --help  Print help\n\n\
+                Without words ira judges the log of one node, on standard input. It prints \
+                `yes`, or `no` and\nthe first reason. The status is 0 for yes or an elected leader, \
+                1 for no or no leader, 2 for\nrefused words, a refused ring, a failed read or a failed \
+                write, 3 for want of memory.\n";
+    for words in [
+        &["--help"].as_slice(),
+        &["-h"].as_slice(),
+        &["help"].as_slice(),
+    ] {
+        assert_refused(&rt, words, help);
+    }
+}
+
+#[test]
+fn refusal_on_a_full_device(rt: HostRuntime) {
+    let mut shelf = MemoryShelf::new(rt.alloc(), &[]);
+    let mut on_out = MemorySink::new(rt.alloc());
+    let status = serve(
+        &rt,
+        rt.alloc(),
+        &["audit"],
+        &mut Counted::new(io::empty()),
+        &mut shelf,
+        &mut on_out,
+        &mut FullSink::new(),
+    );
+    assert_eq!(rt; status, 2);
+    assert!(rt; on_out.bytes().is_empty());
+}
+
+#[test]
+fn options_of_a_run(rt: HostRuntime) {
+    let usage = "\n\nUsage: ira run [OPTIONS] --nodes <N> --seed <S> --out <DIR>";
+    let whole = ["run", "--nodes=2", "--seed=7", "--out=d"];
+    for (word, first_line, usage) in [
+        (
+            "--draws=100001",
+            "invalid value '100001' for '--draws <K>': 100001 is not in 0..=100000",
+            "",
+        ),
+        (
+            "--draws=",
+            "invalid value '' for '--draws <K>': cannot parse integer from empty string",
+            "",
+        ),
+        (
+            "--cap=x",
+            "invalid value 'x' for '--cap <C>': invalid digit found in string",
+            "",
+        ),
+        (
+            "--cap=18446744073709551616",
+            "invalid value '18446744073709551616' for '--cap <C>': number too large to fit in target type",
+            "",
+        ),
+        (
+            "--cap",
+            "a value is required for '--cap <C>' but none was supplied",
+            "",
+        ),
+        (
+            "--seed=7",
+            "the argument '--seed <S>' cannot be used multiple times",
+            usage,
+        ),
+        (
+            "--depth=2",
+            "unexpected argument '--depth' found",
+            "\n\nUsage: ira run --nodes <N> --seed <S> --out <DIR>",
+        ),
+        ("-1", "unexpected argument '-1' found", usage),
+        ("0.log", "unexpected argument '0.log' found", usage),
+        (
+            "--alone=yes",
+            "unexpected value 'yes' for '--alone' found; no more were expected",
+            "\n\nUsage: ira run --nodes <N> --seed <S> --out <DIR> --alone",
+        ),
+    ] {
+        let text = format!(in rt.alloc();
+            "error: {first_line}{usage}\n\nFor more information, try '--help'.\n"
+        ).expect(&rt, "memory");
+        let words = [whole[0], whole[1], whole[2], whole[3], word];
+        assert_refused(&rt, &words, text.as_str());
+    }
+    let words = ["run", "--nodes=2", "--seed=7", "--out="];
+    let text = "error: a value is required for '--out <DIR>' but none was supplied\n\n\
+                For more information, try '--help'.\n";
+    assert_refused(&rt, &words, text);
+    let text = "error: the following required arguments were not provided:\n  --nodes <N>\n  \
+                --seed <S>\n  --out <DIR>\n\n\
+                Usage: ira run --nodes <N> --seed <S> --out <DIR>\n\n\
+                For more information, try '--help'.\n";
+    assert_refused(&rt, &["run"], text);
+}
+
+#[test]
+fn help_of_a_run(rt: HostRuntime) {
+    let help = "Runs an election, and writes the log of each node to a file\n\n\
+                Usage: ira run [OPTIONS] --nodes <N> --seed <S> --out <DIR>\n\n\
+                Options:\n\
+                \x20     --nodes <N>       How many nodes the ring has, 2 to 64\n\
+                \x20     --seed <S>        The number that all draws come from\n\
+                \x20     --out <DIR>       The folder, which exists, for the logs 0.log, 1.log and so on\n\
+                \x20     --initiators <M>  How many nodes begin, from node 0 on; all if not given\n\
+                \x20     --draws <K>       How many IDs each node is given to draw, 0 to 100000 [default: 64]\n\
+                \x20     --cap <C>         The most records of a log, 1 to 100000 [default: 10000]\n\
+                \x20     --alone           Run all nodes on one thread\n\
+                \x20 -h, --help            Print help\n";
+    assert_refused(&rt, &["run", "--help"], help);
+}

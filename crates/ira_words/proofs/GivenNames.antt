@@ -1,0 +1,67 @@
+-- The files that words behind `logs` name, where none of them begins with a dash.
+use Rattle.std.proofs.Common.{◌≡◌, ◌≢◌, ℕ, Bool, true, false, List, [], ◌∷◌, ◌++◌, Option, None, Some, All, refl, sym, ap, subst, ◌∙◌, codes, append_assoc, arith, suc, length}
+use Rattle.std.specs.Prelude.{fold, ◌==◌, if◌then◌else◌, map, option_map, unwrap_or}
+use Rattle.std.proofs.lemmas.Bool.Decides.{Decides-eqb}
+use Rattle.std.proofs.lemmas.List.{append-nil}
+use Rattle.clap.specs.Lexer.{strip_byte}
+use Rattle.clap.proofs.WalkLemmas.{raw_values-rows}
+use Rattle.clap.specs.Matches.{matched_of, raw_values}
+use Rattle.clap.specs.Simple.{built_leaf}
+use Rattle.clap.specs.Walk.{Rule, Text, Walk, all_of, finished, positional, rows_after, rows_of, walk_from, nothing_held, walked}
+use Rattle.clap.specs.declared.parser.matches.Found.{Found}
+use Rattle.std.specs.Borrow.{Bor}
+use Rattle.ira_words.specs.CommandLine.{logs_app}
+use Rattle.ira_words.specs.Request.{IsFileName}
+
+-- what a parse reads of `logs`
+abbrev rules : List Rule
+rules = (built_leaf logs_app.top).rules
+
+-- the walk after some file names
+abbrev named : List Text → Walk
+named ws = record { held = record { rows = []; pending = Some (codes "LOG", ws); skip = 0 }; waiting = positional; position = 1; is_trailing = false; stopped = None }
+
+plain_byte : (b : ℕ) → b ≢ 45 → (b == 45) ≡ false
+plain_byte b other = go (b == 45) refl
+  where
+    go : (t : Bool) → (b == 45) ≡ t → (b == 45) ≡ false
+    go true is = absurd (other ((Decides-eqb b 45).0 is))
+    go false is = is
+
+no_dash : (b : ℕ) (bs : Text) → b ≢ 45 → strip_byte 45 (b ∷ bs) ≡ None
+no_dash b bs other = subst (λ t. (if t then Some bs else None) ≡ None) (sym (plain_byte b other)) refl
+
+first_name : (w : Text) → IsFileName w → walked rules [] (walk_from nothing_held) w ≡ named (w ∷ [])
+unfolding walked
+first_name [] is = refl
+first_name (b ∷ bs) is = rw (no_dash b bs is, plain_byte b is) refl
+
+next_name : (ws : List Text) (w : Text) → IsFileName w → walked rules [] (named ws) w ≡ named (ws ++ w ∷ [])
+unfolding walked
+next_name ws [] is = refl
+next_name ws (b ∷ bs) is = rw (no_dash b bs is, plain_byte b is) refl
+
+next_names : (ws rest : List Text) → All IsFileName rest → fold (walked rules []) (named ws) rest ≡ named (ws ++ rest)
+next_names ws [] are = ap named (sym (append-nil ws))
+next_names ws (w ∷ rest) are =
+    ap (λ x. fold (walked rules []) x rest) (next_name ws w (are 0 w (omega arith))) ∙ next_names (ws ++ w ∷ []) rest (λ k d lt. are (suc k) d (omega (arith, lt))) ∙ ap named (append_assoc ws (w ∷ []) rest)
+
+-- they are the values of `LOG`
+names_given : (w : Text) (rest : List Text) → All IsFileName (w ∷ rest) → all_of (codes "LOG") (rows_after rules [] (w ∷ rest)) ≡ Some (w ∷ rest)
+names_given w rest are =
+    ap (λ x. all_of (codes "LOG") (finished rules x.held)) (ap (λ x. fold (walked rules []) x rest) (first_name w (are 0 w (omega arith))) ∙ next_names (w ∷ []) rest (λ k d lt. are (suc k) d (omega (arith, lt))))
+
+pub words_given : (words : List Text) → All IsFileName words → unwrap_or (all_of (codes "LOG") (rows_after rules [] words)) [] ≡ words
+words_given [] are = refl
+words_given (w ∷ rest) are = ap (λ o. unwrap_or o []) (names_given w rest are)
+
+-- the names that are read of what was found
+pub names_read : (o : Option (Bor (List (Bor Text)))) (none : Bor (List (Bor Text))) (f : Found) → none.now ≡ []
+    → option_map (λ s. map (λ v. v.now) s.now) o ≡ option_map raw_values (matched_of f (codes "LOG"))
+    → map (λ v. v.now) (unwrap_or o none).now ≡ unwrap_or (all_of (codes "LOG") (rows_of f)) []
+names_read None none f empty read =
+    let found : None ≡ all_of (codes "LOG") (rows_of f) = read ∙ raw_values-rows f (codes "LOG") in
+    ap (map (λ v. v.now)) empty ∙ ap (λ o. unwrap_or o []) found
+names_read (Some s) none f empty read =
+    let found : Some (map (λ v. v.now) s.now) ≡ all_of (codes "LOG") (rows_of f) = read ∙ raw_values-rows f (codes "LOG") in
+    ap (λ o. unwrap_or o []) found

@@ -1,0 +1,38 @@
+use Rattle.std.proofs.Common.{◌≡◌, ◌∙◌, sym, ap, subst, List, [], ℕ, Option, None, Some, IfSome, map, codes}
+use Rattle.std.specs.Prelude.{All, unwrap_or}
+use Rattle.clap.specs.Words.{HasMatchesOf, all_of, app_of}
+use Rattle.ira_words.specs.Request.{IsFileName, IsMadeOf}
+use Rattle.ira_words.proofs.FirstWord.{met_by_first, rows_of_logs}
+use Rattle.ira_words.proofs.GivenNames.{words_given}
+use Rattle.ira_words.proofs.command_line.request_of_words.Goals.{in-Some-logs-default+in_ok-logs_request-in-Some-logs-default, in-Some-run-default, in_default}
+use Rattle.ira_words.proofs.command_line.request_of_words.Goals as goal
+
+not_both : {X : Type 0} (o : Option X) (x : X) → o ≡ None → o ≡ Some x → ⊥
+not_both o x none some = cc
+
+same_value : {X : Type 0} (o : Option X) (x y : X) → o ≡ Some x → o ≡ Some y → x ≡ y
+same_value o x y is also = cc
+
+value_of : {X : Type 0} (P : X → Type 0) (o : Option X) (x : X) → IfSome o P → o ≡ Some x → P x
+value_of {X = X} P o x holds is = let Q : Option X → Type 0 = λ w. IfSome w P in subst Q is holds
+
+pub returns-in-Some : goal.returns-in-Some
+returns-in-Some c =
+    let words = map (λ w. w.now) c.args.words.now in
+    let parse = c.in_ok-matches.ensures in
+    elim c.match-subcommand.branch [
+      | in-Some-logs-default+in_ok-logs_request-in-Some-logs-default w ↦
+          let arm = w.in-Some-logs-default in
+          let first = met_by_first _ _ words (codes "logs") c.in_ok-command.ensures parse.ok.2 parse.kinds (ap (λ n. Some n) (sym arm.is-logs) ∙ arm.ensures.name) in
+          let Has : List (List ℕ) → Type 0 = λ ws. HasMatchesOf (app_of c.in_ok-command.command) ws c.in_ok-matches.matches in
+          let rows = rows_of_logs _ _ first.0 _ c.in_ok-command.ensures (subst Has first.1 parse.ok.2) arm.ensures.rows in
+          let made = w.in_ok-logs_request-in-Some-logs-default.ensures in
+          let names_are : All IsFileName first.0 → map (λ name. name.now) made.0.items ≡ first.0 = λ are. made.2 ∙ ap (λ r. unwrap_or (all_of (codes "LOG") r) []) rows ∙ words_given first.0 are in
+          subst (IsMadeOf words) (sym (same_value _ _ _ c.in-Some.is w.asked-is ∙ made.1)) (record { others = first.0; first = first.1; plain = names_are })
+      | in-Some-run-default w ↦
+          let arm = w.in-Some-run-default in
+          let first = met_by_first _ _ words (codes "run") c.in_ok-command.ensures parse.ok.2 parse.kinds (ap (λ n. Some n) (sym arm.is-run) ∙ arm.ensures.name) in
+          let ring = value_of _ _ _ w.run_request-asked.ensures (sym w.asked-is ∙ c.in-Some.is) in
+          subst (IsMadeOf words) (sym ring.1) first
+      | in_default w ↦ absurd (not_both _ _ w.asked-is c.in-Some.is)
+    ]

@@ -1,0 +1,179 @@
+ghost use Rattle.std.specs.Prelude.{◌≡◌, [], Ok, IfOk, IfSome, codes, false, map, unwrap_or};
+ghost use Rattle.clap.specs.Words.{all_of, app_of, found_of, rows_of, rule_of};
+ghost use Rattle.ira_words.specs.CommandLine.{IsIraApp, IsRunApp, logs_app, number_rule, option_rule};
+ghost use Rattle.ira_words.specs.Request.{IsMadeOf, IsRun, NamesFiles};
+ghost use Rattle.ira_words.specs.declared.request.Request.TheVariants as request;
+
+use crate::request::Request;
+use crate::run_request::RunRequest;
+use crate::words_fault::WordsFault;
+use clap::builder::ValueParser;
+use clap::error::ErrorKind;
+use clap::{Arg, ArgAction, ArgMatches, Command, Error, value_parser};
+use std::alloc::{AllocError, Global};
+
+/// The program's command line.
+fn command<'a>(alloc: Global) -> Result<Command<'a>, AllocError>
+    ensures { IfOk result (λ c. IsIraApp (app_of c)) }
+{
+    Command::new(alloc, "ira")
+        .no_binary_name(true)
+        .bin_name("ira")?
+        .about("Judges and makes logs of Itai-Rodeh elections on anonymous rings.")
+        .override_usage(
+            "ira < LOG\n       ira logs <LOG>...\n       \
+             ira run --nodes <N> --seed <S> --out <DIR> [OPTIONS]",
+        )
+        .after_help(
+            "Without words ira judges the log of one node, on standard input. It prints `yes`, or \
+             `no` and\nthe first reason. The status is 0 for yes or an elected leader, 1 for no or \
+             no leader, 2 for\nrefused words, a refused ring, a failed read or a failed write, 3 for \
+             want of memory.",
+        )
+        .subcommand_required(true)
+        .subcommand(logs_command(alloc)?)?
+        .subcommand(run_command(alloc)?)
+}
+
+fn logs_command<'a>(alloc: Global) -> Result<Command<'a>, AllocError>
+    ensures { IfOk result (λ c. app_of c ≡ logs_app) }
+{
+    let logs = Arg::new(alloc, "LOG")
+        .help("A file with the log of a node, in the order of the ring's places")
+        .action(ArgAction::Append)
+        .num_args(1..)
+        .required(true);
+    Command::new(alloc, "logs")
+        .about("Judges the logs of all nodes of a ring together")
+        .arg(logs)
+}
+
+fn logs_request<'a>(alloc: Global, matches: &ArgMatches<'a>) -> Result<Request<'a>, Error>
+    ensures { IfOk result (NamesFiles (unwrap_or (all_of (codes "LOG") (rows_of (found_of matches.now))) [])) }
+{
+    let names: &[&'a str] = matches.get_strs("LOG").unwrap_or([].as_slice());
+    Ok(Request::Logs(names.to_vec(alloc)?))
+}
+
+/// An option that takes a value.
+fn option<'a>(alloc: Global, name: &'a str, value: &'a str, help: &'a str) -> Arg<'a>
+    ensures rule { rule_of result ≡ option_rule name.entry.now }
+    ensures local { result.global ≡ false }
+{
+    Arg::new(alloc, name)
+        .long(name)
+        .value_name(value)
+        .help(help)
+}
+
+/// An option that takes a number.
+fn number<'a>(alloc: Global, name: &'a str, value: &'a str, help: &'a str) -> Arg<'a>
+    ensures rule { rule_of result ≡ number_rule name.entry.now }
+    ensures local { result.global ≡ false }
+{
+    option(alloc, name, value, help).value_parser(value_parser!(u64))
+}
+
+fn run_command<'a>(alloc: Global) -> Result<Command<'a>, AllocError>
+    ensures { IfOk result (λ c. IsRunApp (app_of c)) }
+{
+    let nodes = number(alloc, "nodes", "N", "How many nodes the ring has, 2 to 64");
+    let seed = number(alloc, "seed", "S", "The number that all draws come from");
+    let folder = option(
+        alloc,
+        "out",
+        "DIR",
+        "The folder, which exists, for the logs 0.log, 1.log and so on",
+    );
+    let initiators = number(
+        alloc,
+        "initiators",
+        "M",
+        "How many nodes begin, from node 0 on; all if not given",
+    );
+    let draws = option(
+        alloc,
+        "draws",
+        "K",
+        "How many IDs each node is given to draw, 0 to 100000",
+    );
+    let cap = number(alloc, "cap", "C", "The most records of a log, 1 to 100000");
+    let alone = Arg::new(alloc, "alone")
+        .long("alone")
+        .action(ArgAction::SetTrue)
+        .help("Run all nodes on one thread");
+    Command::new(alloc, "run")
+        .about("Runs an election, and writes the log of each node to a file")
+        .arg(nodes.required(true))?
+        .arg(seed.required(true))?
+        .arg(
+            folder
+                .value_parser(ValueParser::NonEmptyString)
+                .required(true),
+        )?
+        .arg(initiators)?
+        .arg(
+            draws
+                .value_parser(value_parser!(u32).range(0..=100_000))
+                .default_value("64"),
+        )?
+        .arg(cap.default_value("10000"))?
+        .arg(alone)
+}
+
+/// The ring to run, where all its options have a value.
+fn run_request<'a>(matches: &ArgMatches<'a>) -> Option<Request<'a>>
+    ensures { IfSome result IsRun }
+{
+    Some(Request::Run(RunRequest {
+        nodes: matches.get_one("nodes")?,
+        seed: matches.get_one("seed")?,
+        folder: matches.get_str("out")?,
+        initiators: matches.get_one("initiators"),
+        draws: matches.get_one("draws")?,
+        cap: matches.get_one("cap")?,
+        is_alone: matches.get_flag("alone"),
+    }))
+}
+
+// What some words ask for.
+fn request_of_words<'a>(alloc: Global, words: &'a [&'a str]) -> Result<Request<'a>, Error>
+    ensures { IfOk result (IsMadeOf (map (λ word. word.now) words.now)) }
+{
+    let mut command = command(alloc)?;
+    let matches = command.try_get_matches_from_mut(words)?;
+    let asked = match matches.subcommand() {
+        Some(("logs", found)) => Some(logs_request(alloc, found)?),
+        Some(("run", found)) => run_request(found),
+        _ => None,
+    };
+    match asked {
+        Some(request) => Ok(request),
+        None => Err(command.error(ErrorKind::MissingSubcommand, "a command is missing")?),
+    }
+}
+
+// The text of a refusal.
+fn refusal(alloc: Global, refused: &Error) -> WordsFault {
+    if refused.kind() == ErrorKind::OutOfMemory {
+        return WordsFault::OutOfMemory;
+    }
+    match refused.to_string(alloc) {
+        Ok(text) => WordsFault::Refused(text),
+        Err(AllocError) => WordsFault::OutOfMemory,
+    }
+}
+
+/// What the words behind the program's name ask for. Asking for help is refused as well.
+pub fn read_words<'a>(alloc: Global, words: &'a [&'a str]) -> Result<Request<'a>, WordsFault>
+    ensures none { words.now ≡ [] → result ≡ Ok request.OneLog }
+    ensures made { IfOk result (IsMadeOf (map (λ word. word.now) words.now)) }
+{
+    if words.is_empty() {
+        return Ok(Request::OneLog);
+    }
+    match request_of_words(alloc, words) {
+        Ok(request) => Ok(request),
+        Err(refused) => Err(refusal(alloc, &refused)),
+    }
+}

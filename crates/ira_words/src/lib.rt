@@ -1,0 +1,12 @@
+//! What the words behind the name of the program `ira` ask for.
+#![tactic(auto)]
+
+mod command_line;
+mod request;
+mod run_request;
+mod words_fault;
+
+pub use command_line::read_words;
+pub use request::Request;
+pub use run_request::RunRequest;
+pub use words_fault::WordsFault;
