@@ -53,5 +53,13 @@ for log in */*.log; do
     echo "$rows" | grep -q -e "^$log$tab" -e "^${log%/*}$tab" || fail "$log: no row in README.md"
 done
 
+# The recorder writes the shipped logs again, where there is a Python to run it.
+if command -v python3 > /dev/null; then
+    folder=$(mktemp -d)
+    python3 -B recorders/ring.py --nodes 4 --initiators 3 --seed 12 --out "$folder"
+    diff -r "$folder" recorded_ring || fail "recorders/ring.py: other logs than recorded_ring"
+    rm -r "$folder"
+fi
+
 echo "examples: $passed as expected, $failed not"
 [ "$passed" -gt 0 ] && [ "$failed" -eq 0 ]
