@@ -6,6 +6,7 @@
 # A row that names a folder is judged by `ira logs` on its logs, one that names a file by `ira` alone.
 
 ira=$(realpath "$1") || exit 2
+[ -x "$ira" ] || { echo "examples: no program at $1"; exit 2; }
 cd "$(dirname "$0")" || exit 2
 
 # The logs of a folder, in the order of places.
