@@ -1,0 +1,50 @@
+"""Writes the log of one node of an Itai-Rodeh ring, as `ira` reads it. Copy this file.
+
+Each node has a recorder of its own, and calls it from one thread, each time after the step that the record
+tells of: `drew` once the ID is drawn, `sent` once the message is on the link, `received` once it is taken off.
+"""
+
+import os
+
+
+class Recorder:
+    """The log of the node at `place`, in the file `place.log` of a folder that exists."""
+
+    def __init__(self, folder, nodes, place, initiator):
+        # No carriage returns, no byte order mark; and each line is handed to the system at once.
+        self.file = open(
+            os.path.join(folder, f"{place}.log"), "w", encoding="ascii", newline="\n", buffering=1
+        )
+        self.records = 0
+        self.file.write("irlog 1\n")
+        self.file.write(f"nodes {nodes}\n")
+        self.file.write(f"place {place}\n")
+        self.file.write("start initiator\n" if initiator else "start passive\n")
+
+    def drew(self, id):
+        self.record(f"draw {id}")
+
+    def sent(self, round, id, hop, dirty):
+        self.record(f"send {round} {id} {hop} {bit(dirty)}")
+
+    def received(self, round, id, hop, dirty):
+        self.record(f"recv {round} {id} {hop} {bit(dirty)}")
+
+    def record(self, line):
+        self.file.write(line + "\n")
+        self.records += 1
+
+    def close(self):
+        """Writes the end line, without which the log counts as cut off."""
+        self.file.write(f"end {self.records}\n")
+        self.file.close()
+
+    def __enter__(self):
+        return self
+
+    def __exit__(self, *_):
+        self.close()
+
+
+def bit(dirty):
+    return "dirty" if dirty else "clean"
