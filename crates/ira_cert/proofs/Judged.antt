@@ -11,7 +11,7 @@ use Rattle.ira_cert.specs.Asked.{HasDifferentPlaces}
 use Rattle.ira_cert.specs.Front.{made, IsSpent}
 use Rattle.ira_cert.specs.Fronts.{AreFrontsBehind}
 use Rattle.ira_cert.specs.SoundSection.{AreSoundSteps, IsSoundSection}
-use Rattle.ira_cert.specs.SectionFault.{IsFirstUnsound, IsSectionFault, unsound, not_spent}
+use Rattle.ira_cert.specs.SectionFault.{IsFirstUnsoundStep, IsSectionFault, unsound, not_spent}
 use Rattle.ira_cert.proofs.Behind.{spent_at}
 use Rattle.ira_cert.proofs.OneList.{one_list}
 
@@ -22,8 +22,8 @@ drop_all (suc n) [] l = refl
 drop_all (suc n) (x ∷ xs) l = drop_all n xs (omega arith)
 
 module _ (logs : List Log) (case : List Conjunct) (section : Section) (steps : List CertStep) (same : steps ≡ section.steps) where
-  pub first_is_fault : (f : SectionFault) → (k : ℕ) × (why : Unsound) × (f ≡ Step k why) × IsFirstUnsound logs case steps k why → IsSectionFault logs case section f
-  first_is_fault f h = unsound h.0 h.1 (subst (λ (xs : List CertStep). IsFirstUnsound logs case xs h.0 h.1) same h.3) h.2
+  pub first_is_fault : (f : SectionFault) → (k : ℕ) × (why : Unsound) × (f ≡ Step k why) × IsFirstUnsoundStep logs case steps k why → IsSectionFault logs case section f
+  first_is_fault f h = unsound h.0 h.1 (subst (λ (xs : List CertStep). IsFirstUnsoundStep logs case xs h.0 h.1) same h.3) h.2
 
   module _ (differ : HasDifferentPlaces case) (fronts : List (Option (List ℕ))) (made_all : AreSoundSteps logs case steps × AreFrontsBehind logs case steps fronts) where
     all_sound : AreSoundSteps logs case section.steps

@@ -16,7 +16,7 @@ use Rattle.ira_cert.specs.declared.verdict.Verdict.TheVariants.{Yes, No}
 use Rattle.ira_cert.specs.Asked.{IsAsked, HasDifferentPlaces}
 use Rattle.ira_cert.specs.Front.{made, IsFront, IsSpent}
 use Rattle.ira_cert.specs.SoundSection.{IsSoundStep, AreSoundSteps, IsSoundSection}
-use Rattle.ira_cert.specs.SectionFault.{HasFront, WhyUnsound, not_asked, same_node, node_spent, not_front, not_before, IsFirstUnsound, IsSectionFault, unsound, not_spent}
+use Rattle.ira_cert.specs.SectionFault.{HasFront, WhyUnsound, not_asked, same_node, node_spent, not_front, not_before, IsFirstUnsoundStep, IsSectionFault, unsound, not_spent}
 use Rattle.ira_cert.specs.Verdict.{IsVerdict}
 use Rattle.ira_cert.proofs.OneList.{one_list}
 use Rattle.ira_cert.proofs.Prefixes.{sound_below}
@@ -86,11 +86,11 @@ module _ (logs : List Log) (case : List Conjunct) (differ : HasDifferentPlaces c
 
 module _ (logs : List Log) (case : List Conjunct) (differ : HasDifferentPlaces case) where
   -- a step that isn't sound isn't followed by another first one
-  first_is_first : (steps : List CertStep) (j k : ℕ) (v w : Unsound) → j < k → IsFirstUnsound logs case steps j v → ¬ (IsFirstUnsound logs case steps k w)
+  first_is_first : (steps : List CertStep) (j k : ℕ) (v w : Unsound) → j < k → IsFirstUnsoundStep logs case steps j v → ¬ (IsFirstUnsoundStep logs case steps k w)
   first_is_first steps j k v w l first other =
       sound_or_not logs case differ (take j steps) first.step v (sound_below logs case steps k other.before j first.step l first.at) first.reason
 
-  one_first : (steps : List CertStep) (j k : ℕ) (v w : Unsound) → IsFirstUnsound logs case steps j v → IsFirstUnsound logs case steps k w → Step j v ≡ Step k w
+  one_first : (steps : List CertStep) (j k : ℕ) (v w : Unsound) → IsFirstUnsoundStep logs case steps j v → IsFirstUnsoundStep logs case steps k w → Step j v ≡ Step k w
   one_first steps j k v w first other = elim (cases_order j k) [
     | inl same ↦
         let step : first.step ≡ other.step = same_Some first.step other.step (sym first.at ∙ ap (λ (n : ℕ). slice_get steps n) same ∙ other.at) in
@@ -105,7 +105,7 @@ module _ (logs : List Log) (case : List Conjunct) (differ : HasDifferentPlaces c
   ]
 
   -- where all steps are sound, none is the first that isn't
-  none_first : (steps : List CertStep) (k : ℕ) (why : Unsound) → AreSoundSteps logs case steps → ¬ (IsFirstUnsound logs case steps k why)
+  none_first : (steps : List CertStep) (k : ℕ) (why : Unsound) → AreSoundSteps logs case steps → ¬ (IsFirstUnsoundStep logs case steps k why)
   none_first steps k why sound first = sound_or_not logs case differ (take k steps) first.step why (sound k first.step first.at) first.reason
 
   one_fault : (section : Section) (f g : SectionFault) → IsSectionFault logs case section f → IsSectionFault logs case section g → f ≡ g

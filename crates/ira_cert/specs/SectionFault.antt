@@ -44,7 +44,7 @@ pub data WhyUnsound (logs : List Log) (case : List Conjunct) (before : List Cert
       → why ≡ NotBefore → WhyUnsound logs case before s why
 
 -- step k, counted from 0, is the first that isn't sound, and this is why
-pub record IsFirstUnsound (logs : List Log) (case : List Conjunct) (steps : List CertStep) (k : ℕ) (why : Unsound) : Type 0 where
+pub record IsFirstUnsoundStep (logs : List Log) (case : List Conjunct) (steps : List CertStep) (k : ℕ) (why : Unsound) : Type 0 where
   pub before : AreSoundSteps logs case (take k steps)
   pub step : CertStep
   pub at : slice_get steps k ≡ Some step
@@ -54,7 +54,7 @@ pub record IsFirstUnsound (logs : List Log) (case : List Conjunct) (steps : List
 pub data IsSectionFault (logs : List Log) (case : List Conjunct) (section : Section) (fault : SectionFault) : Type 0 where
   -- a step isn't sound: the first one
   unsound :
-      (k : ℕ) (why : Unsound) → IsFirstUnsound logs case section.steps k why
+      (k : ℕ) (why : Unsound) → IsFirstUnsoundStep logs case section.steps k why
       → fault ≡ Step k why → IsSectionFault logs case section fault
   -- all steps are sound, and the node isn't spent
   not_spent :

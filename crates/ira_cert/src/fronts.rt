@@ -7,7 +7,7 @@ ghost use Rattle.ira_cert.specs.declared.unsound.Unsound.{Unsound};
 ghost use Rattle.ira_cert.specs.Asked.{HasDifferentPlaces};
 ghost use Rattle.ira_cert.specs.Fronts.{AreFronts, AreFrontsBehind};
 ghost use Rattle.ira_cert.specs.SoundSection.{IsSoundStep, AreSoundSteps};
-ghost use Rattle.ira_cert.specs.SectionFault.{WhyUnsound, IsFirstUnsound};
+ghost use Rattle.ira_cert.specs.SectionFault.{WhyUnsound, IsFirstUnsoundStep};
 ghost use Rattle.ira_cert.specs.Verdict.{IsVerdict};
 
 use crate::section_fault::SectionFault;
@@ -47,7 +47,7 @@ fn make_steps<A: Allocator, I: Iterator<Item = u32> + Listed>(
 ) -> Result<(), SectionFault>
     requires { length fronts.old ≤ length ordered.now.logs }
     ensures ok { (case : List Conjunct) → HasDifferentPlaces case → AreFronts ordered.now.logs case fronts.old → OnOk result (AreSoundSteps ordered.now.logs case steps.now × AreFrontsBehind ordered.now.logs case steps.now fronts.new) }
-    ensures err { (case : List Conjunct) → HasDifferentPlaces case → AreFronts ordered.now.logs case fronts.old → IfErr result (λ f. (k : ℕ) × (why : Unsound) × (f ≡ SectionFault.Step k why) × IsFirstUnsound ordered.now.logs case steps.now k why) }
+    ensures err { (case : List Conjunct) → HasDifferentPlaces case → AreFronts ordered.now.logs case fronts.old → IfErr result (λ f. (k : ℕ) × (why : Unsound) × (f ≡ SectionFault.Step k why) × IsFirstUnsoundStep ordered.now.logs case steps.now k why) }
 {
     for (k, step) in steps.iter().enumerate() {
         if let Err(why) = check_step(ordered, fronts, step) {
