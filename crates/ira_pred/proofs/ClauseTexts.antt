@@ -1,8 +1,7 @@
 -- A clause has one spelling, and a spelling at the front is read as that clause.
-use Rattle.std.proofs.Common.{◌≡◌, ◌≤◌, ◌<◌, ◌^◌, ◌+◌, ℕ, zero, suc, true, List, [], ◌++◌, Some, None, refl, sym, ap, ◌∙◌, arith, append_assoc, nat_le, Option}
+use Rattle.std.proofs.Common.{◌≡◌, ◌≤◌, ◌<◌, ◌^◌, ◌+◌, ◌-◌, ℕ, zero, suc, true, List, [], ◌++◌, Some, None, refl, sym, ap, ◌∙◌, arith, append_assoc, nat_le, Option}
 use Rattle.std.specs.Prelude.{codes, decimal}
 use Rattle.std.proofs.lemmas.Bool.Decides.{nat_tests}
-use Rattle.ira_event.specs.declared.limits.TheConstants.{MAX_NUMBER}
 use Rattle.ira_event.specs.Numeral.{IsNumeral}
 use Rattle.ira_event.specs.Scan.{kept, after_word, behind}
 use Rattle.ira_event.proofs.Numerals.{NoDigit}
@@ -14,7 +13,7 @@ use Rattle.ira_pred.specs.Formula.{Formula, always, leader, active, passive, cho
 use Rattle.ira_pred.specs.QuestionText.{IsComparisonText, IsClauseText, clause_text, rel_sign}
 use Rattle.ira_pred.specs.ClauseScan.{rel_at, limited_at, comparison_at, atom_at, joined_at, negated_at, clause_at}
 
-small : (n : ℕ) → n ≤ MAX_NUMBER → n < 2 ^ 64
+small : (n : ℕ) → n ≤ 1000000 → n < 2 ^ 64
 small n h = omega arith
 
 -- ---- one spelling
@@ -38,7 +37,7 @@ clause_spelled text (either a b) h =
     ∙ ap (λ w. codes "(" ++ clause_text a ++ codes " or " ++ w ++ codes ")") (clause_spelled h.1 b h.4)
 clause_spelled text (negated a) h = h.1 ∙ ap (λ w. codes "(not " ++ w ++ codes ")") (clause_spelled h.0 a h.2)
 
-comparison_is : (rel : Rel) (n : ℕ) → n ≤ MAX_NUMBER → IsComparisonText (rel_sign rel ++ codes " " ++ decimal n) rel n
+comparison_is : (rel : Rel) (n : ℕ) → n ≤ 1000000 → IsComparisonText (rel_sign rel ++ codes " " ++ decimal n) rel n
 comparison_is rel n h = (decimal n, refl, decimal_is_numeral n (small n h), h)
 
 pub clause_is : (f : Formula) → HasNumbersInRange f → IsClauseText (clause_text f) f
@@ -61,10 +60,10 @@ rel-again Less rest = refl
 rel-again Equal rest = refl
 rel-again Greater rest = refl
 
-limited-again : (text : List ℕ) (n : ℕ) (rest : List ℕ) → IsNumeral text n → n ≤ MAX_NUMBER → NoDigit rest → limited_at (text ++ rest) ≡ Some (n, rest)
+limited-again : (text : List ℕ) (n : ℕ) (rest : List ℕ) → IsNumeral text n → n ≤ 1000000 → NoDigit rest → limited_at (text ++ rest) ≡ Some (n, rest)
 limited-again text n rest is h stop =
     let whole : kept n ≡ n = omega arith in
-    let within : nat_le n MAX_NUMBER ≡ true = grind (arith, nat_tests) in
+    let within : nat_le n 1000000 ≡ true = grind (arith, nat_tests) in
     rw (kept-again text n rest is stop, whole, within) refl
 
 comparison-again : (f : Rel → ℕ → Formula) (text : List ℕ) (rel : Rel) (n : ℕ) (rest : List ℕ) → IsComparisonText text rel n → NoDigit rest → comparison_at f (text ++ rest) ≡ Some (f rel n, rest)
@@ -151,3 +150,24 @@ clause_same text f g h k =
     let same : Some (f, []) ≡ Some (g, []) = sym one ∙ two in
     let pair : (f, []) ≡ (g, []) = some_is _ _ same in
     ap (λ (p : Formula × List ℕ). p.0) pair
+
+-- ---- one turn of the scan
+
+pub clause_at_zero : (d : ℕ) (text : List ℕ) → d ≡ 0 → clause_at d text ≡ atom_at text
+clause_at_zero d text e = ap (λ n. clause_at n text) e
+
+pub clause_at_flat : (d : ℕ) (text : List ℕ) → after_word (codes "(not ") text ≡ None → after_word (codes "(") text ≡ None → clause_at d text ≡ atom_at text
+clause_at_flat zero text p q = refl
+clause_at_flat (suc d) text p q = rw (p, q) refl
+
+pub clause_at_negated : (d : ℕ) (text rest : List ℕ) → 0 < d → after_word (codes "(not ") text ≡ Some rest → clause_at d text ≡ negated_at (clause_at (d - 1)) rest
+clause_at_negated zero text rest some p = absurd (omega (arith, some))
+clause_at_negated (suc d) text rest some p =
+    let same : d ≡ suc d - 1 = omega arith in
+    rw p (ap (λ n. negated_at (clause_at n) rest) same)
+
+pub clause_at_joined : (d : ℕ) (text rest : List ℕ) → 0 < d → after_word (codes "(not ") text ≡ None → after_word (codes "(") text ≡ Some rest → clause_at d text ≡ joined_at (clause_at (d - 1)) rest
+clause_at_joined zero text rest some p q = absurd (omega (arith, some))
+clause_at_joined (suc d) text rest some p q =
+    let same : d ≡ suc d - 1 = omega arith in
+    rw (p, q) (ap (λ n. joined_at (clause_at n) rest) same)

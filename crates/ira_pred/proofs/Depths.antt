@@ -1,8 +1,8 @@
 -- How deep a text's parentheses go, and that a clause's text goes as deep as the clause.
-use Rattle.std.proofs.Common.{◌≡◌, ◌≤◌, ◌<◌, ◌+◌, ◌-◌, ◌⊎◌, ℕ, Bool, true, false, cond, List, [], ◌∷◌, ◌++◌, refl, sym, ap, subst, ◌∙◌, arith, append_assoc, nat_eq, max, inl, inr}
+use Rattle.std.proofs.Common.{◌≡◌, ◌≢◌, ◌≤◌, ◌<◌, ◌+◌, ◌-◌, ◌⊎◌, ℕ, Bool, true, false, cond, List, [], ◌∷◌, ◌++◌, length, take, drop, get_or, refl, sym, ap, subst, ◌∙◌, arith, append_assoc, length-append, nat_eq, max, inl, inr}
 use Rattle.std.specs.Prelude.{codes, ◌↔◌}
-use Rattle.std.proofs.lemmas.List.{append-nil}
-use Rattle.std.proofs.lemmas.List.Sums.{sum_by-cons}
+use Rattle.std.proofs.lemmas.List.{append-nil, take_at, take-append-drop}
+use Rattle.std.proofs.lemmas.List.Sums.{sum_by-cons, count_by_more_yes, count_by_more_no}
 use Rattle.std.proofs.lemmas.Bool.Decides.{nat_tests}
 use Rattle.ira_event.specs.Numeral.{IsNumeral}
 use Rattle.ira_event.proofs.Numerals.{Lacks-numeral}
@@ -133,3 +133,39 @@ pub clause_too_deep : (text : List ℕ) (f : Formula) → IsClauseText text f �
 clause_too_deep text f h =
     let same : deepest text ≡ depth f = sym (ap deepest (append-nil text)) ∙ clause_deepest f text [] h ∙ omega arith in
     (λ deep. let d = (too_deep_exactly text).0 deep in omega (arith, d, same), λ d. (too_deep_exactly text).1 (omega (arith, d, same)))
+
+-- ---- counted from the front
+
+-- what a count of the parentheses of the first i bytes knows: so many, and no front of theirs is too deep
+pub record Counted (text : List ℕ) (i o k : ℕ) : Type 0 where
+  pub opens : o ≡ opened (take i text)
+  pub closes : k ≡ closed (take i text)
+  pub shallow : (j : ℕ) → j ≤ i → ¬ (closed (take j text) + 32 < opened (take j text))
+
+module _ (text : List ℕ) (i o k : ℕ) (there : i < length text) (h : Counted text i o k) where
+  pub counts_open : get_or text i 0 ≡ 40 → (o + 1 ≡ opened (take (i + 1) text)) × (k ≡ closed (take (i + 1) text))
+  counts_open is =
+      let yes : nat_eq (get_or text i 0) 40 ≡ true = ap (λ x. nat_eq x 40) is in
+      let no : nat_eq (get_or text i 0) 41 ≡ false = ap (λ x. nat_eq x 41) is in
+      (omega (arith, h.opens, count_by_more_yes (λ x. nat_eq x 40) text i 0 there yes), h.closes ∙ sym (count_by_more_no (λ x. nat_eq x 41) text i 0 there no))
+
+  pub counts_close : get_or text i 0 ≡ 41 → (o ≡ opened (take (i + 1) text)) × (k + 1 ≡ closed (take (i + 1) text))
+  counts_close is =
+      let yes : nat_eq (get_or text i 0) 41 ≡ true = ap (λ x. nat_eq x 41) is in
+      let no : nat_eq (get_or text i 0) 40 ≡ false = ap (λ x. nat_eq x 40) is in
+      (h.opens ∙ sym (count_by_more_no (λ x. nat_eq x 40) text i 0 there no), omega (arith, h.closes, count_by_more_yes (λ x. nat_eq x 41) text i 0 there yes))
+
+  pub counts_other : get_or text i 0 ≢ 40 → get_or text i 0 ≢ 41 → (o ≡ opened (take (i + 1) text)) × (k ≡ closed (take (i + 1) text))
+  counts_other a b =
+      let no_open : nat_eq (get_or text i 0) 40 ≡ false = grind (arith, nat_tests) in
+      let no_close : nat_eq (get_or text i 0) 41 ≡ false = grind (arith, nat_tests) in
+      (h.opens ∙ sym (count_by_more_no (λ x. nat_eq x 40) text i 0 there no_open), h.closes ∙ sym (count_by_more_no (λ x. nat_eq x 41) text i 0 there no_close))
+
+pub counted_deep : (text : List ℕ) (i o k : ℕ) → (o ≡ opened (take i text)) × (k ≡ closed (take i text)) → k + 32 < o → IsTooDeep text
+counted_deep text i o k p deep = (take i text, drop i text, sym (take-append-drop i text), omega (arith, p.0, p.1, deep))
+
+pub counted_all : (text : List ℕ) (i o k : ℕ) → Counted text i o k → length text ≤ i → ¬ (IsTooDeep text)
+counted_all text i o k h all d =
+    let front : take (length d.0) text ≡ d.0 = ap (λ w. take (length d.0) w) d.2 ∙ take_at d.0 d.1 (length d.0) refl in
+    let within : length d.0 ≤ i = omega (arith, all, ap length d.2, length-append d.0 d.1) in
+    h.shallow (length d.0) within (subst (λ w. closed w + 32 < opened w) (sym front) d.3)

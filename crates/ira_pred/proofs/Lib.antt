@@ -1,10 +1,15 @@
+pub mod CaseReading
 pub mod ClauseTexts
+pub mod ClausesTaken
 pub mod Depths
 pub mod Meanings
 pub mod PairCases
 pub mod PairOrder
 pub mod QuestionAnswers
+pub mod QuestionHeads
+pub mod QuestionReading
 pub mod QuestionTexts
+pub mod QuestionsRead
 pub mod Rest
 pub mod Sizes
 pub mod Walks

@@ -7,7 +7,6 @@ use Rattle.ira_event.specs.LogTextFault.{HasNoLineFeed}
 use Rattle.ira_event.specs.Numeral.{IsNumeral}
 use Rattle.ira_event.proofs.Numerals.{numeral_same, Lacks-numeral}
 use Rattle.ira_event.proofs.Pieces.{line_same, line_has_feed}
-use Rattle.ira_pred.specs.declared.limits.TheConstants.{MAX_CASES}
 use Rattle.ira_pred.specs.declared.ask_fault.AskFault.{AskFault}
 use Rattle.ira_pred.specs.declared.ask_fault.AskFault.TheVariants.{Line, Place, Depth, Empty, Cases, Trailing}
 use Rattle.ira_pred.specs.Case.{Conjunct, IsCase}
@@ -200,7 +199,7 @@ some_last : (nodes : ℕ) (text : List ℕ) (cases : List (List Conjunct)) → 1
 some_last nodes text [] some goods h = absurd (omega (arith, some))
 some_last nodes text (c ∷ cs) some goods h = last_case nodes text c cs goods h
 
-begins_last : (nodes : ℕ) (text : List ℕ) (cases : List (List Conjunct)) (r : LastCase nodes text cases) → length cases ≤ MAX_CASES → BeginsInCase nodes (text ++ codes "end\n") r.before r.last (codes "end\n")
+begins_last : (nodes : ℕ) (text : List ℕ) (cases : List (List Conjunct)) (r : LastCase nodes text cases) → length cases ≤ 2016 → BeginsInCase nodes (text ++ codes "end\n") r.before r.last (codes "end\n")
 begins_last nodes text cases r few = record {
   closed = r.closed;
   lines = r.lines;
@@ -226,7 +225,7 @@ ends_well nodes at f some (cut whole is) = line_has_feed (codes "end") [] whole
 ends_well nodes at f some (at_line line more p feed h) =
     let s = line_same (codes "end") line [] more refl feed p in end_line_well nodes at line more f (sym s.0) (sym s.1) some h
 
-no_cases_fault : (nodes : ℕ) (text : List ℕ) (cases : List (List Conjunct)) (f : AskFault) → 1 ≤ length cases → length cases ≤ MAX_CASES → All (IsCase nodes) cases → AreCaseTexts text cases → CasesFault nodes (text ++ codes "end\n") f → ⊥
+no_cases_fault : (nodes : ℕ) (text : List ℕ) (cases : List (List Conjunct)) (f : AskFault) → 1 ≤ length cases → length cases ≤ 2016 → All (IsCase nodes) cases → AreCaseTexts text cases → CasesFault nodes (text ++ codes "end\n") f → ⊥
 no_cases_fault nodes text cases f some few goods h (before_cases a) =
     let l = some_last nodes text cases some goods h in
     let r = reads_on nodes (text ++ codes "end\n") l.before l.last (codes "end\n") (begins_last nodes text cases l few) in

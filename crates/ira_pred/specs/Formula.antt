@@ -1,6 +1,5 @@
 -- What a clause says, without the boxes that its parts lie in.
 use Rattle.std.specs.Prelude.{ℕ, ◌+◌, ◌≤◌, max, ⊤}
-use Rattle.ira_event.specs.declared.limits.TheConstants.{MAX_NUMBER}
 use Rattle.ira_pred.specs.declared.rel.Rel.{Rel}
 
 -- a formula over the facts of one node's state
@@ -24,10 +23,10 @@ depth (either a b) = 1 + max (depth a) (depth b)
 depth (negated a) = 1 + depth a
 depth _ = 0
 
--- each number in the formula is at most MAX_NUMBER
+-- each number in the formula is at most 1000000
 abbrev pub HasNumbersInRange : Formula → Type 0
-HasNumbersInRange (round rel n) = n ≤ MAX_NUMBER
-HasNumbersInRange (id rel n) = n ≤ MAX_NUMBER
+HasNumbersInRange (round rel n) = n ≤ 1000000
+HasNumbersInRange (id rel n) = n ≤ 1000000
 HasNumbersInRange (both a b) = HasNumbersInRange a × HasNumbersInRange b
 HasNumbersInRange (either a b) = HasNumbersInRange a × HasNumbersInRange b
 HasNumbersInRange (negated a) = HasNumbersInRange a

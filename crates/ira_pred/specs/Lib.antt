@@ -7,6 +7,9 @@ pub mod FormulaCode
 pub mod Pairs
 pub mod PlacedClause
 pub mod Question
+pub mod QuestionAnswer
 pub mod QuestionLaws
+pub mod QuestionLines
+pub mod QuestionScan
 pub mod QuestionText
 pub mod QuestionTextFault

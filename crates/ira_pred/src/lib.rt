@@ -5,14 +5,17 @@
 mod ask_fault;
 mod case;
 mod clause;
+mod clause_reader;
 mod laws;
 mod limits;
 mod pairs;
 mod question;
+mod question_head;
+mod question_line;
+mod question_lines;
+mod question_reader;
 mod question_writer;
 mod rel;
-#[cfg(test)]
-mod tests;
 
 pub use ask_fault::AskFault;
 pub use case::Case;
@@ -24,5 +27,6 @@ pub use laws::{
 pub use limits::{MAX_CASES, MAX_DEPTH};
 pub use pairs::pairs_question;
 pub use question::Question;
+pub use question_reader::read_question;
 pub use question_writer::write_question;
 pub use rel::Rel;

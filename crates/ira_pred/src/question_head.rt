@@ -1,0 +1,42 @@
+ghost use Rattle.std.specs.Prelude.{◌≡◌, ◌↔◌, ℕ, List, IsSome, IfSome, MatchOption};
+ghost use Rattle.ira_event.specs.RingSize.{IsRingSize};
+ghost use Rattle.ira_event.specs.Scan.{Gives};
+ghost use Rattle.ira_pred.specs.QuestionScan.{head_at};
+ghost use Rattle.ira_pred.specs.QuestionTextFault.{BeginsWithQuestionHead};
+
+use ira_event::{RingSize, skip_word, take_number};
+
+/// The head of a question's text: the ring size that it names, and what follows it.
+#[derive(Clone, Copy)]
+pub(crate) struct QuestionHead<'a> {
+    pub nodes: RingSize,
+    pub rest: &'a [u8],
+}
+
+/// The head that the text begins with.
+pub(crate) fn take_head(text: &[u8]) -> Option<QuestionHead<'_>>
+    ensures { MatchOption result ((nodes : ℕ) (rest : List ℕ) → ¬ (BeginsWithQuestionHead text.now nodes rest)) (λ head. BeginsWithQuestionHead text.now head.nodes head.rest.now) }
+{
+    let (nodes, rest) = take_head_lines(text)?;
+    let nodes = ring_size(nodes)?;
+    Some(QuestionHead { nodes, rest })
+}
+
+/// A ring of so many nodes, where there is one.
+fn ring_size(nodes: u32) -> Option<RingSize>
+    ensures some { IsSome result ↔ IsRingSize nodes }
+    ensures value { IfSome result (λ size. size ≡ nodes) }
+{
+    RingSize::new(u8::try_from(nodes).ok()?)
+}
+
+/// The head's number as it is spelled, in range or not, and what follows the head.
+fn take_head_lines(text: &[u8]) -> Option<(u32, &[u8])>
+    ensures { Gives (λ found. (found.0, found.1.now)) result (head_at text.now) }
+{
+    let rest = skip_word(text, b"irask 1\n")?;
+    let rest = skip_word(rest, b"nodes ")?;
+    let (nodes, rest) = take_number(rest)?;
+    let rest = skip_word(rest, b"\n")?;
+    Some((nodes, rest))
+}
