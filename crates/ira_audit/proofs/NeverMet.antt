@@ -1,6 +1,6 @@
 -- What a yes says: that no consistent cut of the logs meets any case.
-use Rattle.std.proofs.Common.{◌≡◌, ◌≢◌, ◌<◌, ◌≤◌, ◌⊎◌, ℕ, List, [], ◌∷◌, Some, inl, inr, length, map, refl, sym, ap, subst, ◌∙◌, arith, zero, suc, take}
-use Rattle.std.specs.Prelude.{slice_get, slice_index, slice_index_or, Contains, All}
+use Rattle.std.proofs.Common.{◌≡◌, ◌<◌, ℕ, List, [], ◌∷◌, Some, length, map, refl, sym, ap, subst, ◌∙◌, arith, zero, suc}
+use Rattle.std.specs.Prelude.{slice_get, slice_index, Contains, All}
 use Rattle.std.specs.Option.{option_map}
 use Rattle.std.proofs.lemmas.Option.{slice_get_read, slice_get_within, get_or_from_slice_get, slice_get-map}
 use Rattle.ira_event.specs.Log.{Log}
@@ -13,19 +13,17 @@ use Rattle.ira_pred.specs.Pairs.{ArePairCases, pair_case}
 use Rattle.ira_pred.proofs.QuestionTexts.{one_question}
 use Rattle.ira_order.specs.Circle.{HasOrder}
 use Rattle.ira_order.specs.Cut.{IsConsistentCut}
-use Rattle.ira_order.specs.Order.{IsOrder, standings}
 use Rattle.ira_order.proofs.Cuts.{moment_cut}
 use Rattle.ira_order.proofs.RunsOfLogs.{every_order_is_run}
 use Rattle.ira_cert_text.specs.Certificate.{Section}
 use Rattle.ira_cert.specs.SoundSection.{IsSoundSection}
 use Rattle.ira_cert.proofs.NoCut.{sound_leaves_no_cut}
 use Rattle.ira_cand.specs.HoldsAt.{HoldsAt}
-use Rattle.ira_cand.specs.Meets.{Meets}
 use Rattle.ira_audit.specs.declared.answer.Answer.{Answer}
 use Rattle.ira_audit.specs.declared.answer.Answer.TheVariants.{Yes}
 use Rattle.ira_audit.specs.LogTexts.{AreLogTexts}
 use Rattle.ira_audit.specs.AuditAnswer.{Posed, AreSound, IsAuditAnswer, bad_logs, no_question, other_ring, no_certificate, other_size, other_number, unsound, yes}
-use Rattle.ira_audit.specs.Never.{NoCutMeetsAny, IsNeverMet, IsMoment, NoMomentMeetsAny, Leads, NeverTwoLeaders}
+use Rattle.ira_audit.specs.Never.{NoCutMeetsAny, IsNeverMet, NoMomentMeetsAny, Leads, NeverTwoLeaders}
 use Rattle.ira_audit.proofs.LogTexts.{one_list}
 use Rattle.ira_audit.proofs.Places.{different_places}
 use Rattle.ira_audit.proofs.SoundSections.{zipped_at, section_at}
@@ -61,7 +59,7 @@ yes_never texts question certificate a (yes logs asked c p t size sound e) is = 
 -- ---- laws
 
 module _ (texts : List (List ℕ)) (question certificate : List ℕ) (logs : List Log) (asked : Asked) (yes_is : IsAuditAnswer texts question certificate Yes)
-  (logs_are : AreLogTexts texts logs) (question_is : IsQuestionText question asked) where
+    (logs_are : AreLogTexts texts logs) (question_is : IsQuestionText question asked) where
   never : IsNeverMet texts question
   never = yes_never texts question certificate Yes yes_is refl
 
@@ -95,7 +93,7 @@ asks_pair n cases i j are lt within =
     let has = are.every i j lt within in
     let at = slice_get_read are.pairs (length are.pairs) has.0 (i, j) refl has.1 (sym has.2) in
     let mapped : slice_get (map (λ p. pair_case p.0 p.1) are.pairs) has.0 ≡ Some (pair_case i j) =
-        slice_get-map (λ p. pair_case p.0 p.1) are.pairs has.0 ∙ ap (option_map (λ p. pair_case p.0 p.1)) at in
+    slice_get-map (λ p. pair_case p.0 p.1) are.pairs has.0 ∙ ap (option_map (λ p. pair_case p.0 p.1)) at in
     let there = subst (λ xs. slice_get xs has.0 ≡ Some (pair_case i j)) (sym are.cases_are) mapped in
     (has.0, slice_get_within cases has.0 (pair_case i j) there, get_or_from_slice_get cases has.0 (pair_case i j) (pair_case i j) there)
 

@@ -1,33 +1,28 @@
 -- Texts of logs, of a question and of a certificate have at most one answer.
-use Rattle.std.proofs.Common.{◌≡◌, ◌≢◌, ◌<◌, ◌+◌, ℕ, List, [], ◌∷◌, Some, take, length, refl, sym, ap, subst, ◌∙◌, ◌⊎◌, inl, inr, arith, zero, suc}
+use Rattle.std.proofs.Common.{◌≡◌, ◌≢◌, ℕ, List, [], ◌∷◌, Some, length, refl, sym, ap, ◌∙◌, inl, inr, suc}
 use Rattle.std.specs.Prelude.{slice_get}
 use Rattle.std.specs.List.{AllZip}
 use Rattle.ira_event.specs.Log.{Log}
-use Rattle.ira_pred.specs.declared.ask_fault.AskFault.{AskFault}
 use Rattle.ira_pred.specs.Case.{Conjunct}
 use Rattle.ira_pred.specs.Question.{Asked}
 use Rattle.ira_pred.specs.QuestionText.{IsQuestionText}
 use Rattle.ira_pred.specs.QuestionTextFault.{QuestionTextFault}
 use Rattle.ira_pred.proofs.QuestionAnswers as ask
 use Rattle.ira_pred.proofs.QuestionTexts.{one_question}
-use Rattle.ira_cert_text.specs.declared.cert_fault.CertFault.{CertFault}
 use Rattle.ira_cert_text.specs.Certificate.{Section, Certificate}
 use Rattle.ira_cert_text.specs.CertText.{IsCertText}
 use Rattle.ira_cert_text.specs.CertTextFault.{CertTextFault}
 use Rattle.ira_cert_text.proofs.CertAnswers as cert
 use Rattle.ira_cert.specs.declared.section_fault.SectionFault.{SectionFault}
-use Rattle.ira_cert.specs.declared.verdict.Verdict.TheVariants as verdict
 use Rattle.ira_cert.specs.Asked.{HasDifferentPlaces}
-use Rattle.ira_cert.specs.SoundSection.{IsSoundSection}
-use Rattle.ira_cert.specs.SectionFault.{IsSectionFault}
 use Rattle.ira_audit.specs.declared.reason.Reason.{Reason}
 use Rattle.ira_audit.specs.declared.reason.Reason.TheVariants as reason
 use Rattle.ira_audit.specs.declared.answer.Answer.{Answer}
 use Rattle.ira_audit.specs.declared.answer.Answer.TheVariants.{Yes, No}
 use Rattle.ira_audit.specs.GoodLogs.{AreGoodLogs}
-use Rattle.ira_audit.specs.LogsAnswer.{IsLogsAnswer} 
+use Rattle.ira_audit.specs.LogsAnswer.{IsLogsAnswer}
 use Rattle.ira_audit.specs.LogsAnswer as logs_answer
-use Rattle.ira_audit.specs.AuditAnswer.{Posed, AreSound, IsFirstUnsound, IsAuditAnswer, bad_logs, no_question, other_ring, no_certificate, other_size, other_number, unsound, yes}
+use Rattle.ira_audit.specs.AuditAnswer.{AreSound, IsFirstUnsound, IsAuditAnswer, bad_logs, no_question, other_ring, no_certificate, other_size, other_number, unsound, yes}
 use Rattle.ira_audit.proofs.LogTexts.{one_list}
 use Rattle.ira_audit.proofs.OneAnswer.{one_logs_answer}
 use Rattle.ira_audit.proofs.Places.{different_places}

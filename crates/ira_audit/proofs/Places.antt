@@ -1,5 +1,5 @@
 -- The cases of a question ask each node for one thing at most, and nodes of its ring alone.
-use Rattle.std.proofs.Common.{◌≡◌, ◌≢◌, ◌<◌, ℕ, List, Some, length, sym, subst, ap, arith, rules}
+use Rattle.std.proofs.Common.{◌≡◌, ◌<◌, ℕ, List, Some, length, subst, arith}
 use Rattle.std.specs.Prelude.{slice_get, slice_index_or, All}
 use Rattle.std.proofs.lemmas.Option.{slice_get_within, get_or_from_slice_get}
 use Rattle.ira_event.specs.Log.{Log}

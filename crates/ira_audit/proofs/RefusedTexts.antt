@@ -1,5 +1,5 @@
 -- What is answered where a text of logs, of a question or of a certificate is refused.
-use Rattle.std.proofs.Common.{◌≡◌, ◌≢◌, ℕ, List, length, Result, Ok, Err, inl, inr, refl, subst}
+use Rattle.std.proofs.Common.{◌≡◌, ◌≢◌, ℕ, List, length, Result, Ok, Err, inl, inr, refl}
 use Rattle.ira_event.specs.Log.{Log}
 use Rattle.ira_pred.specs.declared.ask_fault.AskFault.{AskFault}
 use Rattle.ira_pred.specs.declared.ask_fault.AskFault.TheVariants as ask

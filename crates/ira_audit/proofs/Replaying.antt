@@ -30,7 +30,7 @@ use Rattle.ira_replay.proofs.Along.{leads_further}
 use Rattle.ira_audit.specs.Report.{IsReportable}
 use Rattle.ira_audit.specs.declared.reason.Reason.TheVariants as reason
 use Rattle.ira_audit.specs.declared.answer.Answer.{Answer}
-use Rattle.ira_audit.specs.declared.answer.Answer.TheVariants.{Yes, No}
+use Rattle.ira_audit.specs.declared.answer.Answer.TheVariants.{No}
 use Rattle.ira_event.proofs.Unless.{ok_same}
 use Rattle.ira_audit.proofs.OneAnswer.{one_answer}
 

@@ -1,12 +1,11 @@
 -- Sections that are held against their cases one by one.
-use Rattle.std.proofs.Common.{◌≡◌, ◌<◌, ◌+◌, ◌++◌, ℕ, zero, suc, List, [], ◌∷◌, Some, take, length, refl, sym, ap, subst, ◌∙◌, arith}
+use Rattle.std.proofs.Common.{◌≡◌, ◌<◌, ◌+◌, ◌++◌, ℕ, zero, suc, List, [], ◌∷◌, Some, take, refl, sym, ap, subst, ◌∙◌, arith}
 use Rattle.std.specs.Prelude.{slice_get}
 use Rattle.std.specs.List.{AllZip}
 use Rattle.ira_event.specs.Log.{Log}
 use Rattle.ira_pred.specs.Case.{Conjunct}
 use Rattle.ira_cert_text.specs.Certificate.{Section}
 use Rattle.ira_cert.specs.declared.section_fault.SectionFault.{SectionFault}
-use Rattle.ira_cert.specs.declared.verdict.Verdict.{Verdict}
 use Rattle.ira_cert.specs.declared.verdict.Verdict.TheVariants as verdict
 use Rattle.ira_cert.specs.Asked.{HasDifferentPlaces}
 use Rattle.ira_cert.specs.SoundSection.{IsSoundSection}

@@ -1,6 +1,6 @@
 -- Answers that are found stage by stage: at each stage something stands against the texts, which ends it,
 -- or something is found, with which the next stage begins.
-use Rattle.std.proofs.Common.{◌≡◌, ◌⊎◌, inl, inr, refl, sym, ap, subst, ◌∙◌}
+use Rattle.std.proofs.Common.{◌≡◌, ◌⊎◌, inl, inr, sym, ap, subst, ◌∙◌}
 use Rattle.ira_audit.specs.declared.answer.Answer.{Answer}
 
 -- the answer of a stage: what is said of the bad, or what the rest says behind the good

@@ -228,7 +228,11 @@ fn write_section_fault<W: Sink>(fault: SectionFault, sink: &mut W) -> Result<(),
 }
 
 #[tactic(auto, using(ira_event::proofs::Writing::writes))]
-fn write_section_reason<W: Sink>(case: u64, fault: SectionFault, sink: &mut W) -> Result<(), WriteFault>
+fn write_section_reason<W: Sink>(
+    case: u64,
+    fault: SectionFault,
+    sink: &mut W,
+) -> Result<(), WriteFault>
     ensures { Wrote result (reason_words (Reason.Section case fault)) (W.taken sink.old) (W.failures sink.old) (W.taken sink.new) (W.failures sink.new) }
 {
     write_numbered(b"no: case ", case, sink)?;

@@ -2,6 +2,8 @@
 #![tactic(auto)]
 
 #[cfg(test)]
+mod certified_tests;
+#[cfg(test)]
 mod logs_tests;
 #[cfg(test)]
 mod samples;

@@ -1,4 +1,4 @@
-use Rattle.std.proofs.Common.{◌≡◌, Some, Err, length, refl, sym, subst, ap, ◌∙◌, rules}
+use Rattle.std.proofs.Common.{◌≡◌, Some, Err, length, subst, ap, ◌∙◌, rules}
 use Rattle.std.specs.Prelude.{slice_get}
 use Rattle.ira_audit.specs.AuditAnswer.{Posed}
 use Rattle.ira_audit.specs.Refusal.{IsQuestionRefusal, IsCertificateRefusal}
@@ -21,7 +21,7 @@ returns-in_err-certificate g c = λ texts good.
     let is : r ≡ Err s = search rules in
     let asked = c.in_ok-question.question in
     let posed : Posed texts c.args.question.now c.args.logs.now asked =
-        record { logs_are = good; question_is = c.in_ok-question.ensures.0; ring = c.in_ok-question.ensures.1 ∙ c.size.ensures.value } in
+    record { logs_are = good; question_is = c.in_ok-question.ensures.0; ring = c.in_ok-question.ensures.1 ∙ c.size.ensures.value } in
     handed_on _ _ _ r s is c.in_err-certificate.ensures
     (λ x h. certificate_reason texts c.args.question.now c.args.certificate.now c.args.logs.now asked posed x
     (subst (λ cases. IsCertificateRefusal c.args.certificate.now (length c.args.logs.now) (length cases) x) c.cases-cases.ensures.value
@@ -38,7 +38,7 @@ returns g c = λ texts good.
     let k = c.in_ok-certificate.certificate in
     let h = c.in_ok-certificate.ensures in
     let posed : Posed texts c.args.question.now c.args.logs.now asked =
-        record { logs_are = good; question_is = c.in_ok-question.ensures.0; ring = c.in_ok-question.ensures.1 ∙ c.size.ensures.value } in
+    record { logs_are = good; question_is = c.in_ok-question.ensures.0; ring = c.in_ok-question.ensures.1 ∙ c.size.ensures.value } in
     let number : length k.sections ≡ length asked.cases = h.2 ∙ ap length c.cases-cases.ensures.value in
     let sections : c.deref.result.now ≡ k.sections = search rules in
     sections_judged texts c.args.question.now c.args.certificate.now c.args.logs.now asked posed k h.0 (h.1 ∙ c.size-2.ensures.value) number c.check_sections.result

@@ -1,4 +1,4 @@
-use Rattle.std.proofs.Common.{◌≡◌, ◌≢◌, refl, rules, arith}
+use Rattle.std.proofs.Common.{refl, rules}
 use Rattle.std.proofs.lemmas.Result.{err_from_is_err_and}
 use Rattle.ira_event.proofs.Unless.{unless_err, unless_ok}
 use Rattle.ira_audit.specs.Refusal.{other_size, other_number}

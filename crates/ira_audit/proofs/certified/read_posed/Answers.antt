@@ -1,4 +1,4 @@
-use Rattle.std.proofs.Common.{◌≡◌, ◌≢◌, refl, inr, rules, arith}
+use Rattle.std.proofs.Common.{refl, inr, rules}
 use Rattle.std.proofs.lemmas.Result.{err_from_is_err_and}
 use Rattle.ira_event.proofs.Unless.{unless_err, unless_ok}
 use Rattle.ira_audit.proofs.RefusedTexts.{question_refused}

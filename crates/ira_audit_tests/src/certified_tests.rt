@@ -1,0 +1,214 @@
+use crate::samples::{ELECTION_0, ELECTION_1, LONE_0, LONE_1, LONE_2, TIE_0, TIE_1};
+use ira_audit::{audit, write_report};
+use ira_event::MemorySink;
+use ira_links::OpenGate;
+use std::process::Abort;
+use std::sync::Wait;
+use std::thread::Threads;
+use std::time::Clock;
+
+/// Judges the texts at each depth, and compares the answer's line.
+fn assert_answered<R>(rt: &R, texts: &[&[u8]], question: &[u8], certificate: &[u8], line: &str)
+where
+    R: Abort + AllocGlobal + Threads + Wait + Clock + Sync,
+{
+    for depth in 0..5 {
+        let alloc = rt.alloc();
+        let answer = audit(rt, alloc, texts, question, certificate, depth, &OpenGate).expect(
+            rt, "memory",
+        );
+        let mut sink = MemorySink::new(rt.alloc());
+        assert_eq!(rt; write_report(&answer, &mut sink), Ok(()));
+        assert_eq!(rt; sink.bytes(), line.as_bytes());
+    }
+}
+
+const ELECTION: &[&[u8]] = &[ELECTION_0, ELECTION_1];
+
+const BOTH_LEAD: &[u8] = b"irask 1\nnodes 2\ncase\n0: leader\n1: leader\nend\n";
+
+const LEADER_AND_ACTIVE: &[u8] = b"irask 1\nnodes 2\ncase\n0: leader\n1: active\nend\n";
+
+/// The certificate of one section without steps.
+const NODE_1_SPENT: &[u8] = b"ircert 1\nnodes 2\nsection\nspent 1\nend\n";
+
+const TWO_STEPS: &[u8] =
+    b"ircert 1\nnodes 2\nsection\ndrop 1 1 by 0 4\ndrop 1 2 by 0 4\nspent 1\nend\n";
+
+#[test]
+fn section_without_steps(rt: HostRuntime) {
+    assert_answered(&rt, ELECTION, BOTH_LEAD, NODE_1_SPENT, "yes\n");
+}
+
+#[test]
+fn two_step_section(rt: HostRuntime) {
+    assert_answered(&rt, ELECTION, LEADER_AND_ACTIVE, TWO_STEPS, "yes\n");
+}
+
+#[test]
+fn section_cut_and_swapped(rt: HostRuntime) {
+    let cut = b"ircert 1\nnodes 2\nsection\ndrop 1 1 by 0 4\nspent 1\nend\n";
+    let line = "no: case 0: node 1 not spent\n";
+    assert_answered(&rt, ELECTION, LEADER_AND_ACTIVE, cut, line);
+    let swapped = b"ircert 1\nnodes 2\nsection\ndrop 1 2 by 0 4\ndrop 1 1 by 0 4\nspent 1\nend\n";
+    let line = "no: case 0: step 0: not front\n";
+    assert_answered(&rt, ELECTION, LEADER_AND_ACTIVE, swapped, line);
+}
+
+#[test]
+fn least_cut_after_one_step(rt: HostRuntime) {
+    let question = b"irask 1\nnodes 2\ncase\n0: active\n1: passive\nend\n";
+    let certificate =
+        b"ircert 1\nnodes 2\nsection\ndrop 0 1 by 1 3\ndrop 0 2 by 1 3\nspent 0\nend\n";
+    let line = "no: case 0: step 1: not before\n";
+    assert_answered(&rt, ELECTION, question, certificate, line);
+}
+
+#[test]
+fn eight_step_section(rt: HostRuntime) {
+    let question = b"irask 1\nnodes 2\ncase\n0: leader\n1: (not passive)\nend\n";
+    let certificate = b"ircert 1\nnodes 2\nsection\n\
+        drop 1 0 by 0 9\n\
+        drop 1 1 by 0 9\n\
+        drop 1 2 by 0 9\n\
+        drop 1 3 by 0 9\n\
+        drop 1 4 by 0 9\n\
+        drop 1 5 by 0 9\n\
+        drop 1 6 by 0 9\n\
+        drop 1 7 by 0 9\n\
+        spent 1\n\
+        end\n";
+    assert_answered(&rt, &[TIE_0, TIE_1], question, certificate, "yes\n");
+    let certificate = b"ircert 1\nnodes 2\nsection\n\
+        drop 1 0 by 0 9\n\
+        drop 1 3 by 0 9\n\
+        drop 1 2 by 0 9\n\
+        drop 1 3 by 0 9\n\
+        drop 1 4 by 0 9\n\
+        drop 1 5 by 0 9\n\
+        drop 1 6 by 0 9\n\
+        drop 1 0 by 0 9\n\
+        spent 1\n\
+        end\n";
+    let line = "no: case 0: step 1: not front\n";
+    assert_answered(&rt, &[TIE_0, TIE_1], question, certificate, line);
+}
+
+#[test]
+fn pairs_of_three(rt: HostRuntime) {
+    let texts: &[&[u8]] = &[LONE_0, LONE_1, LONE_2];
+    let question = b"irask 1\nnodes 3\n\
+        case\n0: leader\n1: leader\n\
+        case\n0: leader\n2: leader\n\
+        case\n1: leader\n2: leader\n\
+        end\n";
+    let certificate =
+        b"ircert 1\nnodes 3\nsection\nspent 1\nsection\nspent 2\nsection\nspent 1\nend\n";
+    assert_answered(&rt, texts, question, certificate, "yes\n");
+    let certificate = b"ircert 1\nnodes 3\nsection\nspent 1\nsection\nspent 2\nend\n";
+    let line = "no: sections: 3 wanted, 2 found\n";
+    assert_answered(&rt, texts, question, certificate, line);
+    let certificate =
+        b"ircert 1\nnodes 3\nsection\nspent 1\nsection\nspent 1\nsection\nspent 1\nend\n";
+    let line = "no: case 1: node 1 not spent\n";
+    assert_answered(&rt, texts, question, certificate, line);
+}
+
+#[test]
+fn two_cases(rt: HostRuntime) {
+    let question = b"irask 1\nnodes 2\n\
+        case\n0: leader\n1: active\n\
+        case\n0: active\n1: passive\n\
+        end\n";
+    let line = "no: sections: 2 wanted, 1 found\n";
+    assert_answered(&rt, ELECTION, question, TWO_STEPS, line);
+}
+
+#[test]
+fn other_ring_sizes_and_asked_nodes(rt: HostRuntime) {
+    let other = b"irask 1\nnodes 3\ncase\n0: leader\n1: leader\nend\n";
+    let line = "no: question: other ring size\n";
+    assert_answered(&rt, ELECTION, other, NODE_1_SPENT, line);
+    let other = b"ircert 1\nnodes 3\nsection\nspent 1\nend\n";
+    let line = "no: certificate: other ring size\n";
+    assert_answered(&rt, ELECTION, BOTH_LEAD, other, line);
+    let spent = b"ircert 1\nnodes 2\nsection\ndrop 0 4 by 1 0\nspent 1\nend\n";
+    let line = "no: case 0: step 0: node spent\n";
+    assert_answered(&rt, ELECTION, BOTH_LEAD, spent, line);
+    let same = b"ircert 1\nnodes 2\nsection\ndrop 1 1 by 1 2\ndrop 1 2 by 0 4\nspent 1\nend\n";
+    let line = "no: case 0: step 0: same node\n";
+    assert_answered(&rt, ELECTION, LEADER_AND_ACTIVE, same, line);
+    let one = b"irask 1\nnodes 2\ncase\n0: leader\nend\n";
+    let unasked = b"ircert 1\nnodes 2\nsection\ndrop 0 4 by 1 4\nspent 1\nend\n";
+    let line = "no: case 0: step 0: not asked\n";
+    assert_answered(&rt, ELECTION, one, unasked, line);
+}
+
+/// Judges a certificate of these lines behind its head.
+fn assert_certificate<R>(rt: &R, certificate: &[u8], line: &str)
+where
+    R: Abort + AllocGlobal + Threads + Wait + Clock + Sync,
+{
+    assert_answered(rt, ELECTION, BOTH_LEAD, certificate, line);
+}
+
+#[test]
+fn certificate_faults(rt: HostRuntime) {
+    let line = "no: sections: 1 wanted, 0 found\n";
+    assert_certificate(&rt, b"ircert 1\nnodes 2\nend\n", line);
+    let open = b"ircert 1\nnodes 2\nsection\nend\n";
+    assert_certificate(&rt, open, "no: certificate: line 4\n");
+    let outside = b"ircert 1\nnodes 2\ndrop 1 1 by 0 4\nend\n";
+    assert_certificate(&rt, outside, "no: certificate: line 3\n");
+    let stranger = b"ircert 1\nnodes 2\nsection\ndrop 2 1 by 0 4\nspent 1\nend\n";
+    assert_certificate(&rt, stranger, "no: certificate: range 4\n");
+    let far = b"ircert 1\nnodes 2\nsection\ndrop 1 100001 by 0 4\nspent 1\nend\n";
+    assert_certificate(&rt, far, "no: certificate: range 4\n");
+    let short = b"ircert 1\nnodes 2\nsection\ndrop 1 1 by 0\nspent 1\nend\n";
+    assert_certificate(&rt, short, "no: certificate: line 4\n");
+    let stranger = b"ircert 1\nnodes 2\nsection\nspent 2\nend\n";
+    assert_certificate(&rt, stranger, "no: certificate: range 4\n");
+    let cut = b"ircert 1\nnodes 2\nsection\nspent 1";
+    assert_certificate(&rt, cut, "no: certificate: cut\n");
+    let behind = b"ircert 1\nnodes 2\nsection\nspent 1\nend\nend\n";
+    assert_certificate(&rt, behind, "no: certificate: trailing\n");
+    assert_certificate(&rt, b"ircert 2\nnodes 2\nend\n", "no: certificate: head\n");
+}
+
+/// Judges a question, with a certificate for one case.
+fn assert_question<R>(rt: &R, question: &[u8], line: &str)
+where
+    R: Abort + AllocGlobal + Threads + Wait + Clock + Sync,
+{
+    assert_answered(rt, ELECTION, question, NODE_1_SPENT, line);
+}
+
+#[test]
+fn question_faults(rt: HostRuntime) {
+    let none = b"irask 1\nnodes 2\nend\n";
+    assert_question(&rt, none, "no: question: cases\n");
+    let outside = b"irask 1\nnodes 2\n0: leader\nend\n";
+    assert_question(&rt, outside, "no: question: line 3\n");
+    let empty = b"irask 1\nnodes 2\ncase\nend\n";
+    assert_question(&rt, empty, "no: question: empty 4\n");
+    let stranger = b"irask 1\nnodes 2\ncase\n2: true\nend\n";
+    assert_question(&rt, stranger, "no: question: place 4\n");
+    let bare = b"irask 1\nnodes 2\ncase\n0: leader and owes\nend\n";
+    assert_question(&rt, bare, "no: question: line 4\n");
+    let deep = b"irask 1\nnodes 2\ncase\n0: (((((((((((((((((((((((((((((((((\nend\n";
+    assert_question(&rt, deep, "no: question: depth 4\n");
+    let cut = b"irask 1\nnodes 2\ncase\n0: true";
+    assert_question(&rt, cut, "no: question: cut\n");
+    let behind = b"irask 1\nnodes 2\ncase\n0: true\nend\nend\n";
+    assert_question(&rt, behind, "no: question: trailing\n");
+    assert_question(&rt, b"irask 2\nnodes 2\nend\n", "no: question: head\n");
+}
+
+#[test]
+fn logs_are_judged_first(rt: HostRuntime) {
+    let line = "no: heads: number\n";
+    assert_answered(&rt, &[ELECTION_0], b"", b"", line);
+    let cut = b"irlog 1\nnodes 2\nplace 1\nstart passive\n";
+    assert_answered(&rt, &[ELECTION_0, cut], b"", b"", "no: log 1: cut\n");
+    assert_answered(&rt, ELECTION, b"", b"", "no: question: head\n");
+}
