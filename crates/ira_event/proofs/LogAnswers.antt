@@ -1,14 +1,14 @@
 -- What a text is answered, for whole texts.
-use Rattle.std.proofs.Common.{◌≡◌, ◌≤◌, ◌↔◌, ℕ, Bool, List, ◌++◌, ◌⊎◌, Result, Ok, Err, length, refl, sym, ap, subst, ◌∙◌, arith, inl, inr, append_assoc}
+use Rattle.std.proofs.Common.{◌≡◌, ◌≢◌, ◌≤◌, ◌↔◌, ℕ, Bool, List, ◌++◌, ◌⊎◌, Result, Ok, Err, length, refl, sym, ap, subst, ◌∙◌, arith, inl, inr, append_assoc}
 use Rattle.std.specs.Prelude.{codes}
 use Rattle.ira_event.specs.declared.limits.TheConstants.{MAX_TEXT}
 use Rattle.ira_event.specs.declared.event.Event.{Event}
 use Rattle.ira_event.specs.declared.log_fault.LogFault.{LogFault}
-use Rattle.ira_event.specs.declared.log_fault.LogFault.TheVariants.{OutOfMemory}
+use Rattle.ira_event.specs.declared.log_fault.LogFault.TheVariants.{TooLong, Head, OutOfMemory}
 use Rattle.ira_event.specs.declared.log_head.HeadLines.{HeadLines}
 use Rattle.ira_event.specs.Log.{Log, IsLog}
 use Rattle.ira_event.specs.LogText.{IsLogText, log_text}
-use Rattle.ira_event.specs.LogTextFault.{BeginsWithHead, RecordsFault, LinesFault, no_head, behind_head, LogTextFault, AreAllRecords}
+use Rattle.ira_event.specs.LogTextFault.{BeginsWithHead, LineFault, too_many, no_line, out_of_range, other_count, trailing, RestFault, cut, at_line, RecordsFault, LinesFault, no_head, behind_head, LogTextFault, AreAllRecords}
 use Rattle.ira_event.specs.Result.{UnlessErr}
 use Rattle.ira_event.proofs.Heads.{begins-again}
 use Rattle.ira_event.proofs.LogTexts.{records_faults_same, records_fault_not_all, all_records_same}
@@ -120,3 +120,36 @@ pub exactly_err : (r : Result Log LogFault) (text : List ℕ) → LogRead r text
 exactly_err (Ok l) text h f = inr (λ e. absurd cc, λ k. absurd (log_or_fault text l f h k))
 exactly_err (Err g) text (inl e) f = inl (ap Err e)
 exactly_err (Err g) text (inr h) f = inr (λ e. subst (LogTextFault text) (err_is g f e) h, λ k. ap Err (one_fault text g f h k))
+
+-- ---- faults that are found before any record is read
+
+record IsLater (f : LogFault) : Type 0 where
+  fits : f ≢ TooLong
+  has_head : f ≢ Head
+
+line_fault_later : (k : ℕ) (line more : List ℕ) (f : LogFault) → LineFault k line more f → IsLater f
+line_fault_later k line more f (too_many a b e) = record { fits = λ x. absurd cc; has_head = λ x. absurd cc }
+line_fault_later k line more f (no_line a b c e) = record { fits = λ x. absurd cc; has_head = λ x. absurd cc }
+line_fault_later k line more f (out_of_range e' a b c e) = record { fits = λ x. absurd cc; has_head = λ x. absurd cc }
+line_fault_later k line more f (other_count n a b e) = record { fits = λ x. absurd cc; has_head = λ x. absurd cc }
+line_fault_later k line more f (trailing a b e) = record { fits = λ x. absurd cc; has_head = λ x. absurd cc }
+
+rest_fault_later : (k : ℕ) (rest : List ℕ) (f : LogFault) → RestFault k rest f → IsLater f
+rest_fault_later k rest f (cut a e) = record { fits = λ x. absurd cc; has_head = λ x. absurd cc }
+rest_fault_later k rest f (at_line line more a b h) = line_fault_later k line more f h
+
+pub not_too_long : (text : List ℕ) (nodes place : ℕ) (initiator : Bool) (rest : List ℕ) → length text ≤ MAX_TEXT → BeginsWithHead text nodes place initiator rest → LogTextFault text TooLong → ⊥
+not_too_long text nodes place initiator rest short b (inl long) = omega (arith, short, long.0)
+not_too_long text nodes place initiator rest short b (inr lines) =
+    elim lines.1 [
+      | no_head none_there is ↦ none_there _ _ _ _ b
+      | behind_head n p i r c rf ↦ (rest_fault_later _ _ _ rf.fault).fits refl
+    ]
+
+pub not_headless : (text : List ℕ) (nodes place : ℕ) (initiator : Bool) (rest : List ℕ) → BeginsWithHead text nodes place initiator rest → LogTextFault text Head → ⊥
+not_headless text nodes place initiator rest b (inl long) = let e = long.1 in absurd cc
+not_headless text nodes place initiator rest b (inr lines) =
+    elim lines.1 [
+      | no_head none_there is ↦ none_there _ _ _ _ b
+      | behind_head n p i r c rf ↦ (rest_fault_later _ _ _ rf.fault).has_head refl
+    ]

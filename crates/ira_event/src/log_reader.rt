@@ -14,10 +14,13 @@ use crate::node_log::NodeLog;
 use crate::records::Records;
 use std::alloc::Allocator;
 
-/// The log that a text is the text of, or the first fault of a text that is no log's.
+/// The log that a text is the text of, or the first fault of a text that is no log's. Where the text is too
+/// long or begins with no head, it takes no memory.
 pub fn read_log<A: Allocator>(alloc: A, text: &[u8]) -> Result<NodeLog<A>, LogFault>
     ensures ok { (log : Log) → UnlessErr result LogFault.OutOfMemory ((result ≡ Ok log) ↔ IsLogText text.now log) }
     ensures err { (f : LogFault) → UnlessErr result LogFault.OutOfMemory ((result ≡ Err f) ↔ LogTextFault text.now f) }
+    ensures too_long { LogTextFault text.now LogFault.TooLong → result ≡ Err LogFault.TooLong }
+    ensures head { LogTextFault text.now LogFault.Head → result ≡ Err LogFault.Head }
 {
     let (head, records) = open_log(text)?;
     let events = read_events(alloc, records)?;

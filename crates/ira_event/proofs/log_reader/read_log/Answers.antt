@@ -1,6 +1,6 @@
-use Rattle.std.proofs.Common.{◌≡◌, inr}
+use Rattle.std.proofs.Common.{◌≡◌, Err, ap, inr}
 use Rattle.std.proofs.lemmas.Result.{err_from_is_err_and}
-use Rattle.ira_event.proofs.LogAnswers.{log_read, lines_refused, exactly_ok, exactly_err}
+use Rattle.ira_event.proofs.LogAnswers.{log_read, lines_refused, exactly_ok, exactly_err, one_fault, not_too_long, not_headless}
 use Rattle.ira_event.proofs.log_reader.read_log.Goals as goal
 
 pub returns-in_err-head-clause-ok : goal.returns-in_err-head-clause-ok
@@ -14,6 +14,18 @@ returns-in_err-head-clause-err g c =
     let p = err_from_is_err_and c.from_residual.result c.from_residual.ensures.1 in
     let same : p.0 ≡ c.in_err-head.field-0.0 = p.2 in
     rw (p.1, same) (exactly_err _ c.args.text.now (inr c.in_err-head.ensures))
+
+pub returns-in_err-head-clause-too_long : goal.returns-in_err-head-clause-too_long
+returns-in_err-head-clause-too_long g c = λ h.
+    let p = err_from_is_err_and c.from_residual.result c.from_residual.ensures.1 in
+    let same : p.0 ≡ c.in_err-head.field-0.0 = p.2 in
+    rw (p.1, same) (ap Err (one_fault c.args.text.now _ _ c.in_err-head.ensures h))
+
+pub returns-in_err-head-clause-head : goal.returns-in_err-head-clause-head
+returns-in_err-head-clause-head g c = λ h.
+    let p = err_from_is_err_and c.from_residual.result c.from_residual.ensures.1 in
+    let same : p.0 ≡ c.in_err-head.field-0.0 = p.2 in
+    rw (p.1, same) (ap Err (one_fault c.args.text.now _ _ c.in_err-head.ensures h))
 
 pub returns-in_err-events-clause-ok : goal.returns-in_err-events-clause-ok
 returns-in_err-events-clause-ok g c =
@@ -34,3 +46,15 @@ returns-clause-ok g c =
 pub returns-clause-err : goal.returns-clause-err
 returns-clause-err g c =
     rw c.of_parts.ensures (exactly_err _ c.args.text.now (log_read c.args.text.now c.in_ok-head.head.nodes c.in_ok-head.head.place c.in_ok-head.head.initiator c.in_ok-head.records.rest c.in_ok-events.events.items c.in_ok-head.ensures.1 c.in_ok-events.ensures))
+
+pub returns-in_err-events-clause-too_long : goal.returns-in_err-events-clause-too_long
+returns-in_err-events-clause-too_long g c = λ h. absurd (not_too_long c.args.text.now _ _ _ _ c.in_ok-head.ensures.0 c.in_ok-head.ensures.1 h)
+
+pub returns-in_err-events-clause-head : goal.returns-in_err-events-clause-head
+returns-in_err-events-clause-head g c = λ h. absurd (not_headless c.args.text.now _ _ _ _ c.in_ok-head.ensures.1 h)
+
+pub returns-clause-too_long : goal.returns-clause-too_long
+returns-clause-too_long g c = λ h. absurd (not_too_long c.args.text.now _ _ _ _ c.in_ok-head.ensures.0 c.in_ok-head.ensures.1 h)
+
+pub returns-clause-head : goal.returns-clause-head
+returns-clause-head g c = λ h. absurd (not_headless c.args.text.now _ _ _ _ c.in_ok-head.ensures.1 h)
