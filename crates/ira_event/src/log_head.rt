@@ -16,7 +16,7 @@ pub struct LogHead {
 }
 
 /// The numbers and the start kind of a head as they are spelled, in range or not.
-#[derive(Clone, Copy, Debug)]
+#[derive(Clone, Copy)]
 struct HeadLines {
     nodes: u32,
     place: u32,

@@ -7,14 +7,14 @@ use crate::msg::Msg;
 use crate::scan::{skip_word, take_number};
 
 /// A line of a log text behind its head.
-#[derive(Clone, Copy, Debug)]
+#[derive(Clone, Copy)]
 pub enum LogLine {
     Record(Event),
     End(u32),
 }
 
 /// The word that a line begins with.
-#[derive(Clone, Copy, Debug)]
+#[derive(Clone, Copy)]
 enum LineWord {
     Draw,
     Send,

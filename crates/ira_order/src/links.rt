@@ -1,6 +1,7 @@
 ghost use Rattle.std.specs.Prelude.{◌≡◌, ◌<◌, ◌↔◌, ℕ, [], ◌∷◌, Err, IsOk, MatchOption, MatchResult, length};
 ghost use Rattle.ira_event.specs.declared.msg.Msg.{Msg};
 ghost use Rattle.ira_order.specs.declared.match_fault.MatchFault.{MatchFault};
+ghost use Rattle.ira_order.specs.Ring.{next};
 ghost use Rattle.ira_order.specs.Matching.{sent, IsPaired, Matches};
 ghost use Rattle.ira_order.specs.MatchFault.{IsLinkFault, IsMatchFault};
 
@@ -44,6 +45,14 @@ fn match_link<A: Allocator>(
     Ok(())
 }
 
+/// The place that a link leads to, in a ring of so many nodes.
+pub(crate) fn reader_of(nodes: u8, link: u8) -> u8
+    requires { link < nodes }
+    ensures { result ≡ next nodes link }
+{
+    if link + 1 < nodes { link + 1 } else { 0 }
+}
+
 /// Whether each receipt has its sending: the k-th receipt of a link the k-th sending, of the same
 /// message. It takes no memory.
 pub fn match_links<A: Allocator>(logs: &Logs<A>) -> Result<(), MatchFault>
@@ -52,8 +61,8 @@ pub fn match_links<A: Allocator>(logs: &Logs<A>) -> Result<(), MatchFault>
 {
     let nodes = logs.size().get();
     for link in 0..nodes {
-        let next = if link + 1 < nodes { link + 1 } else { 0 };
-        match_link(link, logs.log(link), logs.log(next))?;
+        let reader = reader_of(nodes, link);
+        match_link(link, logs.log(link), logs.log(reader))?;
     }
     Ok(())
 }

@@ -7,6 +7,7 @@ ghost use Rattle.ira_order.specs.VectorClock.{IsCount, receipt_count};
 ghost use Rattle.ira_order.specs.Scan.{IsScan};
 ghost use Rattle.ira_order.specs.Stamps.{receipts_by, AreReceipts, AreReceiptsOf, AreBegins, IsTable, AreStamps, IsStamping, counter as counter_of};
 
+use crate::links::reader_of;
 use crate::tally::Tally;
 use ira_event::{Event, Logs, NodeLog};
 use std::alloc::{AllocError, Allocator};
@@ -152,7 +153,7 @@ impl<A: Allocator> Stamps<A> {
         ensures stamping { IsStamping logs.now self.old.counters.items self.new.counters.items (next (length logs.now) k) (sent + 1) k received a }
     {
         let nodes = logs.size().get();
-        let reader = usize::from(if k + 1 < nodes { k + 1 } else { 0 });
+        let reader = usize::from(reader_of(nodes, k));
         let row = self.begins[reader] + sent;
         if row < self.begins[reader + 1] {
             for i in 0..nodes {

@@ -17,6 +17,14 @@ returns-in_err-size-clause-err g c =
     let none : (n : ℕ) → ¬ (HasNumber c.args.logs.items n) = subst (λ (x : List Log). (n : ℕ) → ¬ (HasNumber x n)) c.deref.ensures.value c.in_err-size.ensures.1 in
     answers-fault c.from_residual.result c.args.logs.items p.0 p.1 (wrong_number none (p.2 ∙ c.in_err-size.ensures.0))
 
+pub returns-in_err-check_sizes-clause-ok : goal.returns-in_err-check_sizes-clause-ok
+returns-in_err-check_sizes-clause-ok g c = λ gathered.
+    let p = err_from_is_err_and c.from_residual-in_err-check_sizes.result c.from_residual-in_err-check_sizes.ensures.1 in
+    let number : HasNumber c.args.logs.items c.in_ok-size.size = subst (λ (x : List Log). HasNumber x c.in_ok-size.size) c.deref.ensures.value c.in_ok-size.ensures.1 in
+    let found = c.in_err-check_sizes.ensures.err in
+    let first : IsFirstOther c.args.logs.items (λ _ log. log.nodes ≡ c.in_ok-size.size) found.0 = subst (λ (x : List Log). IsFirstOther x (λ _ log. log.nodes ≡ c.in_ok-size.size) found.0) c.deref-2.ensures.value found.2 in
+    answers-no-logs c.from_residual-in_err-check_sizes.result c.args.logs.items p.0 p.1 (wrong_size c.in_ok-size.size found.0 number first (p.2 ∙ found.1)) gathered gathered
+
 pub returns-in_err-check_sizes-clause-err : goal.returns-in_err-check_sizes-clause-err
 returns-in_err-check_sizes-clause-err g c =
     let p = err_from_is_err_and c.from_residual-in_err-check_sizes.result c.from_residual-in_err-check_sizes.ensures.1 in
@@ -24,6 +32,15 @@ returns-in_err-check_sizes-clause-err g c =
     let found = c.in_err-check_sizes.ensures.err in
     let first : IsFirstOther c.args.logs.items (λ _ log. log.nodes ≡ c.in_ok-size.size) found.0 = subst (λ (x : List Log). IsFirstOther x (λ _ log. log.nodes ≡ c.in_ok-size.size) found.0) c.deref-2.ensures.value found.2 in
     answers-fault c.from_residual-in_err-check_sizes.result c.args.logs.items p.0 p.1 (wrong_size c.in_ok-size.size found.0 number first (p.2 ∙ found.1))
+
+pub returns-in_err-check_places-clause-ok : goal.returns-in_err-check_places-clause-ok
+returns-in_err-check_places-clause-ok g c = λ gathered.
+    let p = err_from_is_err_and c.from_residual-in_err-check_places.result c.from_residual-in_err-check_places.ensures.1 in
+    let number : HasNumber c.args.logs.items c.in_ok-size.size = subst (λ (x : List Log). HasNumber x c.in_ok-size.size) c.deref.ensures.value c.in_ok-size.ensures.1 in
+    let sizes : EachLog c.args.logs.items (λ _ log. log.nodes ≡ c.in_ok-size.size) = subst (λ (x : List Log). EachLog x (λ _ log. log.nodes ≡ c.in_ok-size.size)) c.deref-2.ensures.value c.in_ok-check_sizes.ensures.ok in
+    let found = c.in_err-check_places.ensures.err in
+    let first : IsFirstOther c.args.logs.items (λ i log. log.place ≡ i) found.0 = subst (λ (x : List Log). IsFirstOther x (λ i log. log.place ≡ i) found.0) c.deref-3.ensures.value found.2 in
+    answers-no-logs c.from_residual-in_err-check_places.result c.args.logs.items p.0 p.1 (wrong_place c.in_ok-size.size found.0 number sizes first (p.2 ∙ found.1)) gathered gathered
 
 pub returns-in_err-check_places-clause-err : goal.returns-in_err-check_places-clause-err
 returns-in_err-check_places-clause-err g c =
