@@ -1,5 +1,5 @@
 -- What the program does.
-use Rattle.std.specs.Prelude.{◌≡◌, ◌⊎◌, ℕ, ◌+◌, true, List, Option, codes, length}
+use Rattle.std.specs.Prelude.{◌≡◌, ◌⊎◌, ℕ, ◌+◌, true, List, Option, length}
 use Rattle.ira_event.specs.declared.limits.TheConstants.{MAX_TEXT}
 use Rattle.ira_event.specs.Sink.{Takes, StopsIn}
 use Rattle.ira_audit.specs.Answer.{IsAnswer}
@@ -9,7 +9,7 @@ use Rattle.ira_ring.specs.Run.{Run}
 use Rattle.ira_main.specs.Counted.{Reads}
 use Rattle.ira_main.specs.ReadText.{IsReadTo}
 use Rattle.ira_audit.specs.Report.{report_line}
-use Rattle.ira_words.specs.Request.{AskForLogs, BeginsWithWord}
+use Rattle.ira_words.specs.Request.{AskForLogs, AskForRun}
 use Rattle.ira_main.specs.AskedRun.{IsAskedRun}
 use Rattle.ira_main.specs.Status.{IsElectionStatus, status_number, answer_status}
 use Rattle.ira_audit.specs.declared.answer.Answer.{Answer}
@@ -62,10 +62,10 @@ pub record Records (request : RunRequest) (taken : Option (List ℕ)) (failures 
   pub reported : ReportsEnds run taken failures taken' failures' status
 
 -- what was done for the words: they ask for the logs in some files, and as many texts were judged together;
--- or the first is `run`, and a ring was run for some request; or no answer was given
+-- or they ask for a ring, and it was run; or no answer was given
 pub data Done (words : List (List ℕ)) (taken : Option (List ℕ)) (failures : ℕ) (taken' : Option (List ℕ)) (failures' : ℕ) (status : ℕ) : Type 0 where
   judged : (names : List (List ℕ)) → AskForLogs words names → JudgesTogether (length names) taken failures taken' failures' status → Done words taken failures taken' failures' status
-  recorded : BeginsWithWord (codes "run") words → (request : RunRequest) → Records request taken failures taken' failures' status → Done words taken failures taken' failures' status
+  recorded : (request : RunRequest) → AskForRun words request → Records request taken failures taken' failures' status → Done words taken failures taken' failures' status
   no_answer : GivesNoAnswer taken failures taken' failures' status → Done words taken failures taken' failures' status
 
 -- with words: the input wasn't read, and the words were obeyed

@@ -1,5 +1,7 @@
 //! Files, readers and sinks in memory, some of them broken, and the program run over them.
 
+ghost use Rattle.std.specs.Prelude.{◌≤◌, IfOk, length};
+
 use ira_event::{MAX_TEXT, MemorySink, Sink, SinkFault};
 use ira_main::{Counted, Shelf, ShelfFault, serve};
 use std::alloc::Global;
@@ -46,7 +48,8 @@ impl Sink for NewFile {
     }
 }
 
-/// Files under their names, and those that were written, each when it was closed.
+/// Files under their names, and those that were written, each when it was closed. A file that was written
+/// is read back.
 #[derive(Drop)]
 pub(crate) struct MemoryShelf<'a> {
     alloc: Global,
@@ -78,14 +81,25 @@ impl<'a> MemoryShelf<'a> {
     }
 }
 
+/// These bytes as a file's, where a file may be as long.
+fn text_of(alloc: Global, bytes: &[u8]) -> Result<Vec<u8>, ShelfFault>
+    ensures { IfOk result (λ text. length text.items ≤ MAX_TEXT) }
+{
+    if bytes.len() > MAX_TEXT {
+        return Err(ShelfFault::Device);
+    }
+    Ok(bytes.to_vec(alloc)?)
+}
+
 impl Shelf<Global> for MemoryShelf<'_> {
     type Out = NewFile;
 
     fn read(&mut self, name: &str) -> Result<Vec<u8>, ShelfFault> {
+        if let Some(file) = self.written.iter().find(|file| file.name.as_str() == name) {
+            return text_of(self.alloc, &file.bytes);
+        }
         match self.file(name) {
-            Some(File::Text(text)) if text.len() <= MAX_TEXT => {
-                Ok(text.as_bytes().to_vec(self.alloc)?)
-            }
+            Some(File::Text(text)) => text_of(self.alloc, text.as_bytes()),
             _ => Err(ShelfFault::Device),
         }
     }

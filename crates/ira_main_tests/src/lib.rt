@@ -4,11 +4,15 @@
 #[cfg(test)]
 mod fakes;
 #[cfg(test)]
+mod files;
+#[cfg(test)]
 mod logs;
 #[cfg(test)]
 mod one_log;
 #[cfg(test)]
 mod recorded;
+#[cfg(test)]
+mod requests;
 #[cfg(test)]
 mod runs;
 #[cfg(test)]

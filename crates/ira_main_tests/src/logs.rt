@@ -1,7 +1,7 @@
 //! The command `logs`: the logs of a ring in files.
 
 use crate::fakes::{File, FullSink, MemoryShelf, assert_served};
-use crate::samples::{ELECTED_0, ELECTED_1};
+use crate::samples::{ELECTED_0, ELECTED_1, LONE_0, LONE_1, LONE_2};
 use ira_event::MemorySink;
 use ira_main::{Counted, serve};
 use std::io;
@@ -137,6 +137,38 @@ fn files_that_cannot_be_read(rt: HostRuntime) {
     assert_logs(&rt, &[unreadable, whole], 2, "", first);
     assert_logs(&rt, &[no_log, unreadable], 2, "", second);
     assert_logs(&rt, &[no_log, whole], 1, "no: log 0: head\n", "");
+}
+
+#[test]
+fn names_behind_dashes(rt: HostRuntime) {
+    let files = [
+        ("-0.log", File::Text(ELECTED_0)),
+        ("--", File::Text(ELECTED_1)),
+    ];
+    let words = ["logs", "--", "-0.log", "--"];
+    let mut input = Counted::new(io::empty());
+    assert_served(&rt, &words, &files, &mut input, 0, "yes\n", "");
+}
+
+#[test]
+fn logs_of_three_nodes(rt: HostRuntime) {
+    let files = [
+        ("0", File::Text(LONE_0)),
+        ("1", File::Text(LONE_1)),
+        ("2", File::Text(LONE_2)),
+    ];
+    for (words, status, line) in [
+        (["logs", "0", "1", "2"].as_slice(), 0, "yes\n"),
+        (["logs", "0", "1"].as_slice(), 1, "no: heads: number\n"),
+        (
+            ["logs", "0", "2", "1"].as_slice(),
+            1,
+            "no: heads: place 1\n",
+        ),
+    ] {
+        let mut input = Counted::new(io::empty());
+        assert_served(&rt, words, &files, &mut input, status, line, "");
+    }
 }
 
 #[test]

@@ -6,6 +6,7 @@ use ira_main::{Counted, serve};
 use std::io;
 use std::process::Abort;
 use std::sync::Wait;
+use std::test::Fail;
 use std::thread::Threads;
 use std::time::Clock;
 
@@ -29,6 +30,7 @@ fn assert_judged(
     let mut input = Counted::new(text.as_slice());
     assert_served(rt, &[], &[], &mut input, status, line, "");
     assert_eq!(rt; input.reads(), 2);
+    assert!(rt; !input.has_failed());
 }
 
 #[test]
@@ -86,6 +88,27 @@ fn reader_fails_in_mid_text(rt: HostRuntime) {
     });
     assert_served(&rt, &[], &[], &mut input, 2, "", "ira: cannot read -\n");
     assert_eq!(rt; input.reads(), 21);
+    assert!(rt; input.has_failed());
+}
+
+#[test]
+fn input_of_several_reads(rt: HostRuntime) -> Result<(), Fail> {
+    for (end, line) in [
+        ("", "no: log 0: cut\n"),
+        ("end 19999\n", "no: log 0: count\n"),
+        ("end 20000\nx", "no: log 0: trailing\n"),
+    ] {
+        let mut text = EMPTY_HEAD.as_bytes().to_vec(rt.alloc())?;
+        for _ in 0..20_000 {
+            text.extend_from_slice(b"draw 1\n")?;
+        }
+        text.extend_from_slice(end.as_bytes())?;
+        let mut input = Counted::new(text.as_slice());
+        assert_served(&rt, &[], &[], &mut input, 1, line, "");
+        assert_eq!(rt; input.reads(), 4);
+        assert!(rt; !input.has_failed());
+    }
+    Ok(())
 }
 
 #[test]

@@ -1,7 +1,7 @@
 //! The command `run`: an election is run, and its logs are written to files.
 
 use crate::fakes::{File, FullSink, MemoryShelf, assert_served};
-use crate::samples::{ELECTED_0, ELECTED_1};
+use crate::samples::{ELECTED_0, ELECTED_1, LONE_0, LONE_1, LONE_2};
 use ira_event::MemorySink;
 use ira_main::{Counted, serve};
 use std::alloc::Global;
@@ -11,15 +11,6 @@ use std::sync::Wait;
 use std::test::Fail;
 use std::thread::Threads;
 use std::time::Clock;
-
-const LONE_0: &str = "irlog 1\nnodes 3\nplace 0\nstart initiator\ndraw 1\nsend 1 1 1 clean\n\
-                      recv 1 1 3 clean\nend 3\n";
-
-const LONE_1: &str = "irlog 1\nnodes 3\nplace 1\nstart passive\nrecv 1 1 1 clean\n\
-                      send 1 1 2 clean\nend 2\n";
-
-const LONE_2: &str = "irlog 1\nnodes 3\nplace 2\nstart passive\nrecv 1 1 2 clean\n\
-                      send 1 1 3 clean\nend 2\n";
 
 /// The words of a run.
 fn words_of<'a>(alloc: Global, options: &[&'a str]) -> Result<Vec<&'a str>, Fail> {
@@ -249,5 +240,37 @@ fn ends_on_a_full_device(rt: HostRuntime) -> Result<(), Fail> {
         b"ira: cannot write the answer\n".as_slice()
     );
     shelf.assert_written(&rt, &[("d/0.log", ELECTED_0), ("d/1.log", ELECTED_1)]);
+    Ok(())
+}
+
+#[test]
+fn largest_ring(rt: HostRuntime) -> Result<(), Fail> {
+    let mut shelf = MemoryShelf::new(rt.alloc(), &[]);
+    let run = ["run", "--nodes=64", "--seed=7", "--out=d", "--alone"];
+    let mut names = Vec::new(rt.alloc());
+    for place in 0..64 {
+        names.push(format!(in rt.alloc(); "d/{place}.log")?)?;
+    }
+    let mut logs = vec![in rt.alloc(); "logs"]?;
+    for name in &names {
+        logs.push(name.as_str())?;
+    }
+    let mut out = MemorySink::new(rt.alloc());
+    for words in [run.as_slice(), logs.as_slice()] {
+        let mut err = MemorySink::new(rt.alloc());
+        let input = &mut Counted::new(io::empty());
+        let status = serve(
+            &rt,
+            rt.alloc(),
+            words,
+            input,
+            &mut shelf,
+            &mut out,
+            &mut err,
+        );
+        assert_eq!(rt; err.bytes(), b"".as_slice());
+        assert_eq!(rt; status, 0);
+    }
+    assert!(rt; out.bytes().ends_with(b"\nyes\n"));
     Ok(())
 }

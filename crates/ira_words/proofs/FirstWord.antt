@@ -10,11 +10,13 @@ use Rattle.clap.specs.Kinds.{Kinds, or_else}
 use Rattle.clap.specs.Lexer.{long_of, short_of}
 use Rattle.clap.specs.Simple.{App, HasMatchesOf, Shape, built, built_leaf, entered, filled, help_rule, names_of, subcommand_of, subcommand_rows_of, with_index}
 use Rattle.clap.specs.Walk.{Held, Names, Outcome, Row, Rule, Step, Text, Walk, answers_to, arg_by_long, arg_by_short, after_step, bundle_met, bundle_step, has_long, has_short, idle, long_word, trailing, nothing_held, plain, rows_after, subcommand_or_other, long_or_other, short_or_plain, after_flag, walk_from, walked}
-use Rattle.clap.specs.declared.builder.value_parser.ValueParser.{ValueParser}
 use Rattle.clap.specs.Matches.{subcommand_name_of}
 use Rattle.clap.specs.declared.parser.matches.ArgMatches.{ArgMatches}
-use Rattle.ira_words.specs.CommandLine.{ira_app, IsIraApp, logs_app}
-use Rattle.ira_words.specs.Request.{BeginsWithWord}
+use Rattle.ira_words.specs.CommandLine.{ira_app, logs_app, run_app}
+
+-- this is the first of the words
+abbrev pub BeginsWithWord : Text → List Text → Type 0
+BeginsWithWord word words = (others : List Text) × (words ≡ word ∷ others)
 
 -- there is a fault
 abbrev IsFault : Kinds → Type 0
@@ -55,182 +57,190 @@ fused : {X Y Z : Type 0} (f : X → Y) (g : Y → Z) (o : Option X) → option_m
 fused f g None = refl
 fused f g (Some x) = refl
 
-module _ (p : ValueParser) where
-  abbrev top : Shape
-  top = (built (ira_app p)).top
+abbrev top : Shape
+top = (built ira_app).top
 
-  abbrev names : Names
-  names = names_of (built (ira_app p))
+abbrev names : Names
+names = names_of (built ira_app)
 
-  abbrev name_met : Option (Text × List Row) → Option Text
-  name_met = option_map (λ s. s.0)
+abbrev name_met : Option (Text × List Row) → Option Text
+name_met = option_map (λ s. s.0)
 
-  logs_rows : (rest : List Text) → subcommand_of (ira_app p) (codes "logs" ∷ rest) ≡ Some (codes "logs", rows_after (built_leaf logs_app.top).rules [] rest)
-  unfolding walked
-  logs_rows rest = ap (λ o. entered (built (ira_app p)) o) (stays top.rules names (walk_from nothing_held) (codes "logs") [] rest)
+logs_rows : (rest : List Text) → subcommand_of ira_app (codes "logs" ∷ rest) ≡ Some (codes "logs", rows_after (built_leaf logs_app.top).rules [] rest)
+unfolding walked
+logs_rows rest = ap (λ o. entered (built ira_app) o) (stays top.rules names (walk_from nothing_held) (codes "logs") [] rest)
 
-  logs_met : (rest : List Text) → name_met (subcommand_of (ira_app p) (codes "logs" ∷ rest)) ≡ Some (codes "logs")
-  logs_met rest = ap name_met (logs_rows rest)
+logs_met : (rest : List Text) → name_met (subcommand_of ira_app (codes "logs" ∷ rest)) ≡ Some (codes "logs")
+logs_met rest = ap name_met (logs_rows rest)
 
-  run_met : (rest : List Text) → name_met (subcommand_of (ira_app p) (codes "run" ∷ rest)) ≡ Some (codes "run")
-  unfolding walked
-  run_met rest = ap (λ o. name_met (entered (built (ira_app p)) o)) (stays top.rules names (walk_from nothing_held) (codes "run") [] rest)
+run_rows : (rest : List Text) → subcommand_of ira_app (codes "run" ∷ rest) ≡ Some (codes "run", rows_after (built_leaf run_app.top).rules [] rest)
+unfolding walked
+run_rows rest = ap (λ o. entered (built ira_app) o) (stays top.rules names (walk_from nothing_held) (codes "run") [] rest)
 
-  help_is_fault : (rest : List Text) → IsFault (fault_of (ira_app p) (codes "help" ∷ rest))
-  unfolding walk_fault
-  help_is_fault rest = tt
+run_met : (rest : List Text) → name_met (subcommand_of ira_app (codes "run" ∷ rest)) ≡ Some (codes "run")
+run_met rest = ap name_met (run_rows rest)
 
-  -- the one option of the program's own
-  abbrev help : Rule
-  help = with_index 1 (filled help_rule)
+help_is_fault : (rest : List Text) → IsFault (fault_of ira_app (codes "help" ∷ rest))
+unfolding walk_fault
+help_is_fault rest = tt
 
-  long_is_fault : (b : Bool) (v : Option Text) → IsFault (long_fault top.rules top.args_override_self (if b then Some help else None) v nothing_held)
-  long_is_fault true None = tt
-  long_is_fault true (Some v) = tt
-  long_is_fault false v = tt
+-- the one option of the program's own
+abbrev help : Rule
+help = with_index 1 (filled help_rule)
 
-  short_is_fault : (b : Bool) (rest : Text) (next : Held → Kinds) → IsFault (short_fault top.rules top.args_override_self (if b then Some help else None) rest nothing_held next)
-  short_is_fault true rest next = tt
-  short_is_fault false rest next = tt
+long_is_fault : (b : Bool) (v : Option Text) → IsFault (long_fault top.rules top.args_override_self (if b then Some help else None) v nothing_held)
+long_is_fault true None = tt
+long_is_fault true (Some v) = tt
+long_is_fault false v = tt
 
-  -- a word that names no command and isn't `--`, by what it is as an option
-  abbrev char_fault : Option ℕ → ℕ → Text → Text → Kinds
-  char_fault x k flags w =
-      let met = bundle_step top.rules x flags 0 plain nothing_held (bundle_met top.rules k) in
-      let after = after_flag top.rules idle w met.0 met.1 in
-      or_else (bundle_step_fault top.rules top.args_override_self x flags 0 nothing_held (flags_fault top.rules top.args_override_self k)) (step_fault top 1 after.0 after.1)
+short_is_fault : (b : Bool) (rest : Text) (next : Held → Kinds) → IsFault (short_fault top.rules top.args_override_self (if b then Some help else None) rest nothing_held next)
+short_is_fault true rest next = tt
+short_is_fault false rest next = tt
 
-  char_is_fault : (x : Option ℕ) (k : ℕ) (flags w : Text) → IsFault (char_fault x k flags w)
-  char_is_fault None k flags w = tt
-  char_is_fault (Some x) k flags w = first_is_fault _ _ (short_is_fault (has_short help x) _ _)
+-- a word that names no command and isn't `--`, by what it is as an option
+abbrev char_fault : Option ℕ → ℕ → Text → Text → Kinds
+char_fault x k flags w =
+    let met = bundle_step top.rules x flags 0 plain nothing_held (bundle_met top.rules k) in
+    let after = after_flag top.rules idle w met.0 met.1 in
+    or_else (bundle_step_fault top.rules top.args_override_self x flags 0 nothing_held (flags_fault top.rules top.args_override_self k)) (step_fault top 1 after.0 after.1)
 
-  abbrev flags_are_fault : ℕ → Text → Text → Kinds
-  flags_are_fault k flags w =
-      let met = bundle_met top.rules k flags 0 plain nothing_held in
-      let after = after_flag top.rules idle w met.0 met.1 in
-      or_else (flags_fault top.rules top.args_override_self k flags 0 nothing_held) (step_fault top 1 after.0 after.1)
+char_is_fault : (x : Option ℕ) (k : ℕ) (flags w : Text) → IsFault (char_fault x k flags w)
+char_is_fault None k flags w = tt
+char_is_fault (Some x) k flags w = first_is_fault _ _ (short_is_fault (has_short help x) _ _)
 
-  flags_is_fault : (k : ℕ) (flags w : Text) → IsFault (flags_are_fault k flags w)
-  unfolding flags_fault bundle_met
-  flags_is_fault zero flags w = tt
-  flags_is_fault (suc k) flags w = char_is_fault (slice_get (chars flags) 0) k flags w
+abbrev flags_are_fault : ℕ → Text → Text → Kinds
+flags_are_fault k flags w =
+    let met = bundle_met top.rules k flags 0 plain nothing_held in
+    let after = after_flag top.rules idle w met.0 met.1 in
+    or_else (flags_fault top.rules top.args_override_self k flags 0 nothing_held) (step_fault top 1 after.0 after.1)
 
-  abbrev option_fault : Option (Text × Option Text) → Option Text → Text → Kinds
-  option_fault None flags w =
-      let after = short_or_plain top.rules idle w flags nothing_held in
-      or_else (option_map_or (λ fs. bundle_fault top.rules top.args_override_self fs nothing_held) flags []) (step_fault top 1 after.0 after.1)
-  option_fault (Some l) flags w =
-      let after = long_word top.rules idle w l.0 l.1 nothing_held in
-      or_else (long_fault top.rules top.args_override_self (arg_by_long top.rules l.0) l.1 nothing_held) (step_fault top 1 after.0 after.1)
+flags_is_fault : (k : ℕ) (flags w : Text) → IsFault (flags_are_fault k flags w)
+unfolding flags_fault bundle_met
+flags_is_fault zero flags w = tt
+flags_is_fault (suc k) flags w = char_is_fault (slice_get (chars flags) 0) k flags w
 
-  option_is_fault : (l : Option (Text × Option Text)) (flags : Option Text) (w : Text) → IsFault (option_fault l flags w)
-  option_is_fault None None w = tt
-  option_is_fault None (Some flags) w = flags_is_fault (length flags) flags w
-  option_is_fault (Some l) flags w = first_is_fault _ _ (long_is_fault (has_long help l.0) l.1)
+abbrev option_fault : Option (Text × Option Text) → Option Text → Text → Kinds
+option_fault None flags w =
+    let after = short_or_plain top.rules idle w flags nothing_held in
+    or_else (option_map_or (λ fs. bundle_fault top.rules top.args_override_self fs nothing_held) flags []) (step_fault top 1 after.0 after.1)
+option_fault (Some l) flags w =
+    let after = long_word top.rules idle w l.0 l.1 nothing_held in
+    or_else (long_fault top.rules top.args_override_self (arg_by_long top.rules l.0) l.1 nothing_held) (step_fault top 1 after.0 after.1)
 
-  -- a word that names no command, which is `--` or not
-  abbrev word_met_by : Bool → Text → Held × Step
-  word_met_by dashes w = if dashes then (nothing_held, trailing 1) else long_or_other top.rules idle w (long_of w) nothing_held
+option_is_fault : (l : Option (Text × Option Text)) (flags : Option Text) (w : Text) → IsFault (option_fault l flags w)
+option_is_fault None None w = tt
+option_is_fault None (Some flags) w = flags_is_fault (length flags) flags w
+option_is_fault (Some l) flags w = first_is_fault _ _ (long_is_fault (has_long help l.0) l.1)
 
-  abbrev word_fault_by : Bool → Text → Kinds
-  word_fault_by dashes w =
-      or_else (if dashes then [] else flag_word_fault top.rules top.args_override_self (long_of w) w nothing_held)
-      (step_fault top 1 (word_met_by dashes w).0 (word_met_by dashes w).1)
+-- a word that names no command, which is `--` or not
+abbrev word_met_by : Bool → Text → Held × Step
+word_met_by dashes w = if dashes then (nothing_held, trailing 1) else long_or_other top.rules idle w (long_of w) nothing_held
 
-  abbrev walk_by : Bool → Text → Walk
-  walk_by dashes w = after_step top.rules w (walk_from nothing_held) (word_met_by dashes w).0 (word_met_by dashes w).1
+abbrev word_fault_by : Bool → Text → Kinds
+word_fault_by dashes w =
+    or_else (if dashes then [] else flag_word_fault top.rules top.args_override_self (long_of w) w nothing_held)
+    (step_fault top 1 (word_met_by dashes w).0 (word_met_by dashes w).1)
 
-  word_is_fault : (l : Option (Text × Option Text)) (w : Text)
-      → IsFault (or_else (flag_word_fault top.rules top.args_override_self l w nothing_held) (step_fault top 1 (long_or_other top.rules idle w l nothing_held).0 (long_or_other top.rules idle w l nothing_held).1))
-  word_is_fault None w = option_is_fault None (short_of w) w
-  word_is_fault (Some l) w = option_is_fault (Some l) None w
+abbrev walk_by : Bool → Text → Walk
+walk_by dashes w = after_step top.rules w (walk_from nothing_held) (word_met_by dashes w).0 (word_met_by dashes w).1
 
-  after_dashes : (w : Text) (rest : List Text) (n : Text) → walk_fault top names (walk_by true w) rest ≡ []
-      → name_met (entered (built (ira_app p)) (fold (walked top.rules names) (walk_by true w) rest).stopped) ≡ Some n → ⊥
-  unfolding walk_fault
-  after_dashes w [] n none met = cc
-  after_dashes w (x ∷ rest) n none met = no_fault _ tt none
+word_is_fault : (l : Option (Text × Option Text)) (w : Text)
+    → IsFault (or_else (flag_word_fault top.rules top.args_override_self l w nothing_held) (step_fault top 1 (long_or_other top.rules idle w l nothing_held).0 (long_or_other top.rules idle w l nothing_held).1))
+word_is_fault None w = option_is_fault None (short_of w) w
+word_is_fault (Some l) w = option_is_fault (Some l) None w
 
-  -- what a first word is, by the command that it names
-  abbrev turn_by : Option (Text × List Text) → Text → Kinds
-  turn_by o w =
-      let met = subcommand_or_other top.rules (option_map (λ s. s.0) o) idle 1 w nothing_held in
-      or_else (other_fault top (option_map (λ s. s.0) o) w nothing_held) (step_fault top 1 met.0 met.1)
+after_dashes : (w : Text) (rest : List Text) (n : Text) → walk_fault top names (walk_by true w) rest ≡ []
+    → name_met (entered (built ira_app) (fold (walked top.rules names) (walk_by true w) rest).stopped) ≡ Some n → ⊥
+unfolding walk_fault
+after_dashes w [] n none met = cc
+after_dashes w (x ∷ rest) n none met = no_fault _ tt none
 
-  abbrev start_by : Option (Text × List Text) → Text → Walk
-  start_by o w =
-      let met = subcommand_or_other top.rules (option_map (λ s. s.0) o) idle 1 w nothing_held in
-      after_step top.rules w (walk_from nothing_held) met.0 met.1
+-- what a first word is, by the command that it names
+abbrev turn_by : Option (Text × List Text) → Text → Kinds
+turn_by o w =
+    let met = subcommand_or_other top.rules (option_map (λ s. s.0) o) idle 1 w nothing_held in
+    or_else (other_fault top (option_map (λ s. s.0) o) w nothing_held) (step_fault top 1 met.0 met.1)
 
-  first_turn : (w : Text) (rest : List Text) → fault_of (ira_app p) (w ∷ rest) ≡ []
-      → (turn_by (find (answers_to w) names) w ≡ []) × (walk_fault top names (start_by (find (answers_to w) names) w) rest ≡ [])
-  unfolding walk_fault walked
-  first_turn w rest none =
-      let walk_none = first_none _ _ none in
-      (first_none _ _ walk_none, second_none _ _ walk_none)
+abbrev start_by : Option (Text × List Text) → Text → Walk
+start_by o w =
+    let met = subcommand_or_other top.rules (option_map (λ s. s.0) o) idle 1 w nothing_held in
+    after_step top.rules w (walk_from nothing_held) met.0 met.1
 
-  first_walk : (w : Text) (rest : List Text)
-      → subcommand_of (ira_app p) (w ∷ rest) ≡ entered (built (ira_app p)) (fold (walked top.rules names) (start_by (find (answers_to w) names) w) rest).stopped
-  unfolding walked
-  first_walk w rest = refl
+first_turn : (w : Text) (rest : List Text) → fault_of ira_app (w ∷ rest) ≡ []
+    → (turn_by (find (answers_to w) names) w ≡ []) × (walk_fault top names (start_by (find (answers_to w) names) w) rest ≡ [])
+unfolding walk_fault walked
+first_turn w rest none =
+    let walk_none = first_none _ _ none in
+    (first_none _ _ walk_none, second_none _ _ walk_none)
 
-  unnamed : (w : Text) (rest : List Text) (n : Text) → find (answers_to w) names ≡ None → fault_of (ira_app p) (w ∷ rest) ≡ []
-      → name_met (subcommand_of (ira_app p) (w ∷ rest)) ≡ Some n → ⊥
-  unnamed w rest n other none met =
-      let turn = first_turn w rest none in
-      let Walks : Option (Text × List Text) → Type 0 = λ o. walk_fault top names (start_by o w) rest ≡ [] in
-      let Stops : Option (Text × List Text) → Type 0 = λ o. name_met (entered (built (ira_app p)) (fold (walked top.rules names) (start_by o w) rest).stopped) ≡ Some n in
-      let Turns : Option (Text × List Text) → Type 0 = λ o. turn_by o w ≡ [] in
-      go (bytes_eq w (45 ∷ 45 ∷ [])) refl (subst Turns other turn.0) (subst Walks other turn.1) (subst Stops other (sym (ap name_met (first_walk w rest)) ∙ met))
-    where
-      go : (dashes : Bool) → bytes_eq w (45 ∷ 45 ∷ []) ≡ dashes → word_fault_by (bytes_eq w (45 ∷ 45 ∷ [])) w ≡ []
-          → walk_fault top names (walk_by (bytes_eq w (45 ∷ 45 ∷ [])) w) rest ≡ []
-          → name_met (entered (built (ira_app p)) (fold (walked top.rules names) (walk_by (bytes_eq w (45 ∷ 45 ∷ [])) w) rest).stopped) ≡ Some n → ⊥
-      go true is turn walks stops =
-          after_dashes w rest n (subst (λ d. walk_fault top names (walk_by d w) rest ≡ []) is walks)
-          (subst (λ d. name_met (entered (built (ira_app p)) (fold (walked top.rules names) (walk_by d w) rest).stopped) ≡ Some n) is stops)
-      go false is turn walks stops = no_fault _ (word_is_fault (long_of w) w) (subst (λ d. word_fault_by d w ≡ []) is turn)
+first_walk : (w : Text) (rest : List Text)
+    → subcommand_of ira_app (w ∷ rest) ≡ entered (built ira_app) (fold (walked top.rules names) (start_by (find (answers_to w) names) w) rest).stopped
+unfolding walked
+first_walk w rest = refl
 
-  -- the command that words without a fault meet is named by the first of them
-  pub named : (words : List Text) (n : Text) → fault_of (ira_app p) words ≡ [] → name_met (subcommand_of (ira_app p) words) ≡ Some n → BeginsWithWord n words
-  named [] n none met = cc
-  named (w ∷ rest) n none met = go (bytes_eq (codes "logs") w) (bytes_eq (codes "run") w) (bytes_eq (codes "help") w) refl refl refl
-    where
-      At : Text → Type 0
-      At x = name_met (subcommand_of (ira_app p) (x ∷ rest)) ≡ Some n
+unnamed : (w : Text) (rest : List Text) (n : Text) → find (answers_to w) names ≡ None → fault_of ira_app (w ∷ rest) ≡ []
+    → name_met (subcommand_of ira_app (w ∷ rest)) ≡ Some n → ⊥
+unnamed w rest n other none met =
+    let turn = first_turn w rest none in
+    let Walks : Option (Text × List Text) → Type 0 = λ o. walk_fault top names (start_by o w) rest ≡ [] in
+    let Stops : Option (Text × List Text) → Type 0 = λ o. name_met (entered (built ira_app) (fold (walked top.rules names) (start_by o w) rest).stopped) ≡ Some n in
+    let Turns : Option (Text × List Text) → Type 0 = λ o. turn_by o w ≡ [] in
+    go (bytes_eq w (45 ∷ 45 ∷ [])) refl (subst Turns other turn.0) (subst Walks other turn.1) (subst Stops other (sym (ap name_met (first_walk w rest)) ∙ met))
+  where
+    go : (dashes : Bool) → bytes_eq w (45 ∷ 45 ∷ []) ≡ dashes → word_fault_by (bytes_eq w (45 ∷ 45 ∷ [])) w ≡ []
+        → walk_fault top names (walk_by (bytes_eq w (45 ∷ 45 ∷ [])) w) rest ≡ []
+        → name_met (entered (built ira_app) (fold (walked top.rules names) (walk_by (bytes_eq w (45 ∷ 45 ∷ [])) w) rest).stopped) ≡ Some n → ⊥
+    go true is turn walks stops =
+        after_dashes w rest n (subst (λ d. walk_fault top names (walk_by d w) rest ≡ []) is walks)
+        (subst (λ d. name_met (entered (built ira_app) (fold (walked top.rules names) (walk_by d w) rest).stopped) ≡ Some n) is stops)
+    go false is turn walks stops = no_fault _ (word_is_fault (long_of w) w) (subst (λ d. word_fault_by d w ≡ []) is turn)
 
-      go : (logs run help : Bool) → bytes_eq (codes "logs") w ≡ logs → bytes_eq (codes "run") w ≡ run → bytes_eq (codes "help") w ≡ help → BeginsWithWord n (w ∷ rest)
-      go true run help is_logs is_run is_help =
-          let same : codes "logs" ≡ w = (bytes_eq-Decides (codes "logs") w).0 is_logs in
-          let both : Some (codes "logs") ≡ Some n = sym (logs_met rest) ∙ subst At (sym same) met in
-          let first : w ≡ n = cc in
-          (rest, ap (λ x. x ∷ rest) first)
-      go false true help is_logs is_run is_help =
-          let same : codes "run" ≡ w = (bytes_eq-Decides (codes "run") w).0 is_run in
-          let both : Some (codes "run") ≡ Some n = sym (run_met rest) ∙ subst At (sym same) met in
-          let first : w ≡ n = cc in
-          (rest, ap (λ x. x ∷ rest) first)
-      go false false true is_logs is_run is_help =
-          let same : codes "help" ≡ w = (bytes_eq-Decides (codes "help") w).0 is_help in
-          absurd (no_fault _ (help_is_fault rest) (subst (λ x. fault_of (ira_app p) (x ∷ rest) ≡ []) (sym same) none))
-      go false false false is_logs is_run is_help =
-          absurd (unnamed w rest n (rw (is_logs, is_run, is_help) refl) none met)
+-- the command that words without a fault meet is named by the first of them
+pub named : (words : List Text) (n : Text) → fault_of ira_app words ≡ [] → name_met (subcommand_of ira_app words) ≡ Some n → BeginsWithWord n words
+named [] n none met = cc
+named (w ∷ rest) n none met = go (bytes_eq (codes "logs") w) (bytes_eq (codes "run") w) (bytes_eq (codes "help") w) refl refl refl
+  where
+    At : Text → Type 0
+    At x = name_met (subcommand_of ira_app (x ∷ rest)) ≡ Some n
+
+    go : (logs run help : Bool) → bytes_eq (codes "logs") w ≡ logs → bytes_eq (codes "run") w ≡ run → bytes_eq (codes "help") w ≡ help → BeginsWithWord n (w ∷ rest)
+    go true run help is_logs is_run is_help =
+        let same : codes "logs" ≡ w = (bytes_eq-Decides (codes "logs") w).0 is_logs in
+        let both : Some (codes "logs") ≡ Some n = sym (logs_met rest) ∙ subst At (sym same) met in
+        let first : w ≡ n = cc in
+        (rest, ap (λ x. x ∷ rest) first)
+    go false true help is_logs is_run is_help =
+        let same : codes "run" ≡ w = (bytes_eq-Decides (codes "run") w).0 is_run in
+        let both : Some (codes "run") ≡ Some n = sym (run_met rest) ∙ subst At (sym same) met in
+        let first : w ≡ n = cc in
+        (rest, ap (λ x. x ∷ rest) first)
+    go false false true is_logs is_run is_help =
+        let same : codes "help" ≡ w = (bytes_eq-Decides (codes "help") w).0 is_help in
+        absurd (no_fault _ (help_is_fault rest) (subst (λ x. fault_of ira_app (x ∷ rest) ≡ []) (sym same) none))
+    go false false false is_logs is_run is_help =
+        absurd (unnamed w rest n (rw (is_logs, is_run, is_help) refl) none met)
 
 -- the command that is met is named by the first word
-pub met_by_first : (a : App) (m : ArgMatches) (words : List Text) (n : Text) → IsIraApp a → HasMatchesOf a words m → (is_simple_and_free a ≡ true → fault_of a words ≡ [])
+pub met_by_first : (a : App) (m : ArgMatches) (words : List Text) (n : Text) → a ≡ ira_app → HasMatchesOf a words m → (is_simple_and_free a ≡ true → fault_of a words ≡ [])
     → Some n ≡ subcommand_name_of m → BeginsWithWord n words
 met_by_first a m words n is has faultless name =
-    let p = is.0 in
     let Has : App → Type 0 = λ x. HasMatchesOf x words m in
     let Faultless : App → Type 0 = λ x. fault_of x words ≡ [] in
-    let rows = (subst Has is.1 has refl).1 in
-    named p words n (subst Faultless is.1 (faultless (ap is_simple_and_free is.1))) (sym (ap (option_map (λ s. s.0)) rows) ∙ fused _ _ _ ∙ sym name)
+    let rows = (subst Has is has refl).1 in
+    named words n (subst Faultless is (faultless (ap is_simple_and_free is))) (sym (ap (option_map (λ s. s.0)) rows) ∙ fused _ _ _ ∙ sym name)
 
--- what is read of the words behind `logs`
-pub rows_of_logs : (a : App) (m : ArgMatches) (others : List Text) (rows : List Row) → IsIraApp a → HasMatchesOf a (codes "logs" ∷ others) m
-    → Some rows ≡ option_map (λ s. s.1) (subcommand_rows_of m) → rows ≡ rows_after (built_leaf logs_app.top).rules [] others
-rows_of_logs a m others rows is has read =
-    let Has : App → Type 0 = λ x. HasMatchesOf x (codes "logs" ∷ others) m in
-    let both : Some rows ≡ Some (rows_after (built_leaf logs_app.top).rules [] others) =
-    read ∙ ap (option_map (λ s. s.1)) ((subst Has is.1 has refl).1 ∙ logs_rows is.0 others) in
+-- what is read of the words behind a command
+rows_behind : (a : App) (m : ArgMatches) (words : List Text) (name : Text) (rows found : List Row) → a ≡ ira_app → HasMatchesOf a words m
+    → Some found ≡ option_map (λ s. s.1) (subcommand_rows_of m) → subcommand_of ira_app words ≡ Some (name, rows) → found ≡ rows
+rows_behind a m words name rows found is has read met =
+    let Has : App → Type 0 = λ x. HasMatchesOf x words m in
+    let both : Some found ≡ Some rows = read ∙ ap (option_map (λ s. s.1)) ((subst Has is has refl).1 ∙ met) in
     cc
+
+pub rows_of_logs : (a : App) (m : ArgMatches) (others : List Text) (found : List Row) → a ≡ ira_app → HasMatchesOf a (codes "logs" ∷ others) m
+    → Some found ≡ option_map (λ s. s.1) (subcommand_rows_of m) → found ≡ rows_after (built_leaf logs_app.top).rules [] others
+rows_of_logs a m others found is has read = rows_behind a m (codes "logs" ∷ others) (codes "logs") _ found is has read (logs_rows others)
+
+pub rows_of_run : (a : App) (m : ArgMatches) (others : List Text) (found : List Row) → a ≡ ira_app → HasMatchesOf a (codes "run" ∷ others) m
+    → Some found ≡ option_map (λ s. s.1) (subcommand_rows_of m) → found ≡ rows_after (built_leaf run_app.top).rules [] others
+rows_of_run a m others found is has read = rows_behind a m (codes "run" ∷ others) (codes "run") _ found is has read (run_rows others)

@@ -1,2 +1,3 @@
 pub mod FirstWord
 pub mod GivenNames
+pub mod Options

@@ -1,11 +1,10 @@
 -- The program's command line, as the parser of words reads it.
-use Rattle.std.specs.Prelude.{◌≡◌, List, [], ◌∷◌, Some, codes, true}
+use Rattle.std.specs.Prelude.{List, [], ◌∷◌, Some, codes, pos, true}
 use Rattle.clap.specs.Lexer.{usize_max}
 use Rattle.clap.specs.Simple.{on_top}
 use Rattle.clap.specs.Words.{App, Rule, Text, new_app, new_rule, with_rule, with_subcommand}
 use Rattle.clap.specs.declared.builder.action.ArgAction.TheVariants.{Append, SetTrue}
-use Rattle.clap.specs.declared.builder.value_parser.ValueParser.{ValueParser}
-use Rattle.clap.specs.declared.builder.value_parser.ValueParser.TheVariants.{NonEmptyString, Unsigned}
+use Rattle.clap.specs.declared.builder.value_parser.ValueParser.TheVariants.{NonEmptyString, Signed, Unsigned}
 
 -- an option that takes a value
 abbrev pub option_rule : Text → Rule
@@ -27,34 +26,26 @@ logs_rule = record (new_rule (codes "LOG")) {
 abbrev pub logs_app : App
 logs_app = with_rule (new_app (codes "logs")) logs_rule
 
--- the options of `run`, where this parser reads the number of draws
-abbrev pub run_rules : ValueParser → List Rule
-run_rules draws =
+-- the options of `run`
+abbrev pub run_rules : List Rule
+run_rules =
     record (number_rule (codes "nodes")) { required = true }
     ∷ record (number_rule (codes "seed")) { required = true }
     ∷ record (option_rule (codes "out")) { parser = Some NonEmptyString; required = true }
     ∷ number_rule (codes "initiators")
-    ∷ record (option_rule (codes "draws")) { parser = Some draws; defaults = codes "64" ∷ [] }
+    ∷ record (option_rule (codes "draws")) { parser = Some (Signed (pos 0) (pos 100000)); defaults = codes "64" ∷ [] }
     ∷ record (number_rule (codes "cap")) { defaults = codes "10000" ∷ [] }
     ∷ record (new_rule (codes "alone")) { long = Some (codes "alone"); action = Some SetTrue }
     ∷ []
 
--- the command `run`, where this parser reads the number of draws
-abbrev pub run_app : ValueParser → App
-run_app draws = on_top (λ s. record s { rules = run_rules draws }) (new_app (codes "run"))
-
--- the command `run`, by some parser of the number of draws
-abbrev pub IsRunApp : App → Type 0
-IsRunApp a = (draws : ValueParser) × (a ≡ run_app draws)
+-- the command `run`
+abbrev pub run_app : App
+run_app = on_top (λ s. record s { rules = run_rules }) (new_app (codes "run"))
 
 -- the program's command line without its commands
 abbrev pub ira_top : App
 ira_top = on_top (λ s. record s { no_binary_name = true; subcommand_required = true }) (new_app (codes "ira"))
 
--- the program's command line, where this parser reads the number of draws
-abbrev pub ira_app : ValueParser → App
-ira_app draws = with_subcommand (with_subcommand ira_top logs_app.top) (run_app draws).top
-
--- the program's command line, by some parser of the number of draws
-abbrev pub IsIraApp : App → Type 0
-IsIraApp a = (draws : ValueParser) × (a ≡ ira_app draws)
+-- the program's command line
+abbrev pub ira_app : App
+ira_app = with_subcommand (with_subcommand ira_top logs_app.top) run_app.top

@@ -1,5 +1,10 @@
 -- What the words behind the program's name ask for.
 use Rattle.std.specs.Prelude.{◌≡◌, ◌≢◌, ℕ, All, List, [], ◌∷◌, codes, map}
+use Rattle.clap.specs.Simple.{built_leaf}
+use Rattle.clap.specs.Walk.{Row, rows_after}
+use Rattle.ira_words.specs.CommandLine.{run_app}
+use Rattle.ira_words.specs.RunRequest.{HasOptions}
+use Rattle.ira_words.specs.declared.run_request.RunRequest.{RunRequest}
 use Rattle.ira_words.specs.declared.request.Request.{Request}
 use Rattle.ira_words.specs.declared.request.Request.TheVariants.{OneLog, Logs, Run}
 
@@ -15,20 +20,22 @@ pub record AskForLogs (words names : List (List ℕ)) : Type 0 where
   pub first : words ≡ codes "logs" ∷ others
   pub plain : All IsFileName others → names ≡ others
 
--- this is the first of the words
-abbrev pub BeginsWithWord : List ℕ → List (List ℕ) → Type 0
-BeginsWithWord word words = (others : List (List ℕ)) × (words ≡ word ∷ others)
+-- the words are `run` and options, which ask for this ring
+pub record AskForRun (words : List (List ℕ)) (ring : RunRequest) : Type 0 where
+  pub others : List (List ℕ)
+  pub first : words ≡ codes "run" ∷ others
+  pub options : HasOptions (rows_after (built_leaf run_app.top).rules [] others) ring
 
 -- these words make the request
 abbrev pub IsMadeOf : List (List ℕ) → Request → Type 0
 IsMadeOf words OneLog = words ≡ []
 IsMadeOf words (Logs names) = AskForLogs words (map (λ name. name.now) names.items)
-IsMadeOf words (Run ring) = BeginsWithWord (codes "run") words
+IsMadeOf words (Run ring) = AskForRun words ring
 
 -- it asks to judge the logs in the files of these names
 abbrev pub NamesFiles : List (List ℕ) → Request → Type 0
 NamesFiles texts r = (names : _) × (r ≡ Logs names) × (map (λ name. name.now) names.items ≡ texts)
 
--- it asks to run a ring
-abbrev pub IsRun : Request → Type 0
-IsRun r = (ring : _) × (r ≡ Run ring)
+-- it asks for the ring of these options
+abbrev pub IsRun : List Row → Request → Type 0
+IsRun rows r = (ring : _) × (r ≡ Run ring) × HasOptions rows ring

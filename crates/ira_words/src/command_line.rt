@@ -1,6 +1,6 @@
 ghost use Rattle.std.specs.Prelude.{◌≡◌, [], Ok, IfOk, IfSome, codes, false, map, unwrap_or};
 ghost use Rattle.clap.specs.Words.{all_of, app_of, found_of, rows_of, rule_of};
-ghost use Rattle.ira_words.specs.CommandLine.{IsIraApp, IsRunApp, logs_app, number_rule, option_rule};
+ghost use Rattle.ira_words.specs.CommandLine.{ira_app, run_app, logs_app, number_rule, option_rule};
 ghost use Rattle.ira_words.specs.Request.{IsMadeOf, IsRun, NamesFiles};
 ghost use Rattle.ira_words.specs.declared.request.Request.TheVariants as request;
 
@@ -14,7 +14,7 @@ use std::alloc::{AllocError, Global};
 
 /// The program's command line.
 fn command<'a>(alloc: Global) -> Result<Command<'a>, AllocError>
-    ensures { IfOk result (λ c. IsIraApp (app_of c)) }
+    ensures { IfOk result (λ c. app_of c ≡ ira_app) }
 {
     Command::new(alloc, "ira")
         .no_binary_name(true)
@@ -75,7 +75,7 @@ fn number<'a>(alloc: Global, name: &'a str, value: &'a str, help: &'a str) -> Ar
 }
 
 fn run_command<'a>(alloc: Global) -> Result<Command<'a>, AllocError>
-    ensures { IfOk result (λ c. IsRunApp (app_of c)) }
+    ensures { IfOk result (λ c. app_of c ≡ run_app) }
 {
     let nodes = number(alloc, "nodes", "N", "How many nodes the ring has, 2 to 64");
     let seed = number(alloc, "seed", "S", "The number that all draws come from");
@@ -123,7 +123,7 @@ fn run_command<'a>(alloc: Global) -> Result<Command<'a>, AllocError>
 
 /// The ring to run, where all its options have a value.
 fn run_request<'a>(matches: &ArgMatches<'a>) -> Option<Request<'a>>
-    ensures { IfSome result IsRun }
+    ensures { IfSome result (IsRun (rows_of (found_of matches.now))) }
 {
     Some(Request::Run(RunRequest {
         nodes: matches.get_one("nodes")?,

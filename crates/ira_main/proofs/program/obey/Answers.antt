@@ -34,7 +34,7 @@ returns-in-Run-clause-obeyed g c = λ some.
     record {
       unread = refl;
       done = elim c.record_run.ensures [
-        | inl h ↦ recorded made _ h
+        | inl h ↦ recorded _ made h
         | inr h ↦ no_answer h
       ];
     }

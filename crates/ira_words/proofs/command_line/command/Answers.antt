@@ -11,6 +11,6 @@ returns c =
     let run_is = c.in_ok-run_command.ensures in
     let above : app_of c.subcommand_required.result ≡ ira_top = search rules in
     let logs_local = plain_local _ _ _ _ (ap (λ (a : App). a.top.is_plain) logs_is) in
-    let run_local = plain_local _ _ _ _ (ap (λ (a : App). a.top.is_plain) run_is.1) in
+    let run_local = plain_local _ _ _ _ (ap (λ (a : App). a.top.is_plain) run_is) in
     let with_logs = c.in_ok-subcommand.ensures.shape logs_local ∙ ap₂ with_subcommand above (ap (λ (a : App). a.top) logs_is) in
-    IfOk-weaker c.subcommand-2.result _ _ (λ r h. (run_is.0, h.shape run_local ∙ ap₂ with_subcommand with_logs (ap (λ (a : App). a.top) run_is.1))) c.subcommand-2.ensures
+    IfOk-weaker c.subcommand-2.result _ _ (λ r h. h.shape run_local ∙ ap₂ with_subcommand with_logs (ap (λ (a : App). a.top) run_is)) c.subcommand-2.ensures

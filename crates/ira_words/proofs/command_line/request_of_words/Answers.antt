@@ -2,7 +2,8 @@ use Rattle.std.proofs.Common.{◌≡◌, ◌∙◌, sym, ap, subst, List, [], �
 use Rattle.std.specs.Prelude.{All, unwrap_or}
 use Rattle.clap.specs.Words.{HasMatchesOf, all_of, app_of}
 use Rattle.ira_words.specs.Request.{IsFileName, IsMadeOf}
-use Rattle.ira_words.proofs.FirstWord.{met_by_first, rows_of_logs}
+use Rattle.ira_words.specs.RunRequest.{HasOptions}
+use Rattle.ira_words.proofs.FirstWord.{met_by_first, rows_of_logs, rows_of_run}
 use Rattle.ira_words.proofs.GivenNames.{words_given}
 use Rattle.ira_words.proofs.command_line.request_of_words.Goals.{in-Some-logs-default+in_ok-logs_request-in-Some-logs-default, in-Some-run-default, in_default}
 use Rattle.ira_words.proofs.command_line.request_of_words.Goals as goal
@@ -32,7 +33,9 @@ returns-in-Some c =
       | in-Some-run-default w ↦
           let arm = w.in-Some-run-default in
           let first = met_by_first _ _ words (codes "run") c.in_ok-command.ensures parse.ok.2 parse.kinds (ap (λ n. Some n) (sym arm.is-run) ∙ arm.ensures.name) in
+          let Has : List (List ℕ) → Type 0 = λ ws. HasMatchesOf (app_of c.in_ok-command.command) ws c.in_ok-matches.matches in
+          let rows = rows_of_run _ _ first.0 _ c.in_ok-command.ensures (subst Has first.1 parse.ok.2) arm.ensures.rows in
           let ring = value_of _ _ _ w.run_request-asked.ensures (sym w.asked-is ∙ c.in-Some.is) in
-          subst (IsMadeOf words) (sym ring.1) first
+          subst (IsMadeOf words) (sym ring.1) (record { others = first.0; first = first.1; options = subst (λ found. HasOptions found ring.0) rows ring.2 })
       | in_default w ↦ absurd (not_both _ _ w.asked-is c.in-Some.is)
     ]
