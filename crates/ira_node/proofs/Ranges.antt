@@ -2,7 +2,7 @@
 use Rattle.std.proofs.Common.{◌≡◌, ℕ, ◌+◌, ◌<◌, Bool, ◌&&◌, true, refl, subst, arith}
 use Rattle.std.proofs.lemmas.Bool.Decides.{nat_tests}
 use Rattle.ira_event.specs.Event.{is_number, is_msg, is_event}
-use Rattle.ira_event.specs.declared.limits.TheConstants.{MAX_NUMBER}
+use Rattle.ira_event.specs.Limits.{MAX_NUMBER}
 use Rattle.ira_event.specs.declared.msg.Msg.{Msg}
 use Rattle.ira_event.specs.declared.event.Event.{Event}
 use Rattle.ira_event.specs.declared.event.Event.TheVariants.{Sent}

@@ -1,6 +1,6 @@
 -- Laws of the node step, for rings, states and events of any numbers.
 use Rattle.std.specs.Prelude.{◌≡◌, ℕ, ◌+◌, ◌≤◌, ◌⊎◌, Some, true}
-use Rattle.ira_event.specs.declared.limits.TheConstants.{MAX_NUMBER}
+use Rattle.ira_event.specs.Limits.{MAX_NUMBER}
 use Rattle.ira_event.specs.declared.msg.Msg.{Msg}
 use Rattle.ira_event.specs.declared.event.Event.{Event}
 use Rattle.ira_event.specs.declared.event.Event.TheVariants.{Sent, Got}

@@ -2,7 +2,7 @@
 -- it answers what the relations of NodeStep and NodeStepFault say is proved.
 use Rattle.std.specs.Prelude.{ℕ, ◌+◌, Bool, cond, ◌&&◌, not, ◌||◌, nat_eq, nat_lt, Option, Some, None, Result, Ok, Err}
 use mathlib.Core.Bool.{beq}
-use Rattle.ira_event.specs.declared.limits.TheConstants.{MAX_NUMBER}
+use Rattle.ira_event.specs.Limits.{MAX_NUMBER}
 use Rattle.ira_event.specs.declared.msg.Msg.{Msg}
 use Rattle.ira_event.specs.declared.event.Event.{Event}
 use Rattle.ira_event.specs.declared.event.Event.TheVariants.{Draw, Sent, Got}

@@ -11,7 +11,7 @@ use Rattle.ira_order.specs.Order.{standings}
 use Rattle.ira_order.specs.Counts.{CanStep, Covers, IsSchedule}
 use Rattle.ira_order.specs.Scan.{IsScan, IsStuckAt, sent_by, got_by}
 use Rattle.ira_order.proofs.Ranks.{filter_map_more, lt_cases, eq_cases, rank_mono, next_other}
-use Rattle.ira_event.specs.declared.limits.TheConstants.{MAX_RECORDS}
+use Rattle.ira_event.specs.Limits.{MAX_RECORDS}
 use Rattle.std.specs.Prelude.{slice_get}
 use Rattle.std.proofs.lemmas.Option.{get_or_from_slice_get, slice_get_cases, slice_get_within}
 use Rattle.std.proofs.lemmas.List.{take_all, take-append-le, length_push, get_or_read, set-get_or, set-set, replicate-append-replicate}

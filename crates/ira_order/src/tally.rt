@@ -1,5 +1,5 @@
 ghost use Rattle.std.specs.Prelude.{◌≡◌, ◌+◌, ◌<◌, [], IfOk, length, slice_index, slice_set};
-ghost use Rattle.ira_event.specs.declared.limits.TheConstants.{MAX_RECORDS};
+ghost use Rattle.ira_event.specs.Limits.{MAX_RECORDS};
 ghost use Rattle.ira_order.specs.Scan.{IsScan, sent_by, got_by};
 
 use ira_event::{Event, Logs};

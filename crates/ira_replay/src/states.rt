@@ -1,6 +1,6 @@
 ghost use Rattle.std.specs.Prelude.{◌≡◌, ◌≤◌, length};
 ghost use Rattle.std.specs.Iterator.{YieldsFirst, item_count};
-ghost use Rattle.ira_event.specs.declared.limits.TheConstants.{MAX_RECORDS};
+ghost use Rattle.ira_event.specs.Limits.{MAX_RECORDS};
 ghost use Rattle.ira_node.specs.NodeState.{first_state};
 ghost use Rattle.ira_replay.specs.StatesOfLog.{ArePlacedStates};
 ghost use Rattle.ira_replay.specs.StatesLeft.{states_left};
@@ -21,7 +21,7 @@ pub struct States<E: Iterator<Item = Event> + Listed> {
 
 impl<E: Iterator<Item = Event> + Listed> Model for States<E> {
     ghost use Rattle.std.specs.Prelude.{List, ℕ, ◌+◌, ◌≤◌, length, IfSome};
-    ghost use Rattle.ira_event.specs.declared.limits.TheConstants.{MAX_RECORDS};
+    ghost use Rattle.ira_event.specs.Limits.{MAX_RECORDS};
     ghost use Rattle.ira_node.specs.declared.node_state.NodeState.{NodeState};
     ghost use Rattle.ira_replay.specs.StatesLeft.{states_left};
 

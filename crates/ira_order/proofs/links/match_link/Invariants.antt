@@ -1,5 +1,5 @@
 use Rattle.std.proofs.Common.{◌+◌, ◌≤◌, length}
-use Rattle.ira_event.specs.declared.limits.TheConstants.{MAX_RECORDS}
+use Rattle.ira_event.specs.Limits.{MAX_RECORDS}
 use Rattle.ira_order.proofs.Pairing.{PairedSoFar}
 use Rattle.ira_order.proofs.links.match_link.Given as goal
 

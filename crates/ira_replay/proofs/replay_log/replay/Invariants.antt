@@ -1,5 +1,5 @@
 use Rattle.std.proofs.Common.{◌≡◌, ◌+◌, ◌≤◌, length, Ok}
-use Rattle.ira_event.specs.declared.limits.TheConstants.{MAX_RECORDS}
+use Rattle.ira_event.specs.Limits.{MAX_RECORDS}
 use Rattle.ira_node.specs.NodeState.{first_state}
 use Rattle.ira_replay.specs.StatesLeft.{replayed}
 use Rattle.ira_replay.proofs.replay_log.replay.Given as goal
