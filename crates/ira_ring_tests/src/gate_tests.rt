@@ -1,13 +1,16 @@
 // What the gate of a ring's threads sees: that the nodes run at once, that a message comes after its sending,
 // and that each started thread has ended.
 use crate::samples::{assert_events, assert_run, clean, loser, setup_of, winner};
-use ira_event::{Event, RingSize};
+use ira_event::{Event, NodeLog, RingSize};
 use ira_links::{Gate, OpenGate};
 use ira_ring::{NodeEnd, RunFault, Setup, run_ring};
+use std::alloc::Global;
+use std::process::Abort;
 use std::sync::Wait;
 use std::sync::atomic::{AtomicU64, Ordering};
 use std::test::Fail;
 use std::thread;
+use std::thread::Threads;
 use std::time::{Clock, Duration};
 
 // In milliseconds.
@@ -165,68 +168,87 @@ impl Gate for Below {
     }
 }
 
-#[test]
-fn refused_start_ends_all(rt: HostRuntime) -> Result<(), Fail> {
-    let alloc = rt.alloc();
-    let setup = setup_of(alloc, 3, &[true, true, true], &[&[3], &[1], &[2]], 100)?;
-    for place in 0..3 {
-        let mut entered = Vec::new(alloc);
-        for _ in 0..3 {
-            entered.push(AtomicU64::new(0))?;
-        }
-        let gate = Below {
-            place,
-            asked: AtomicU64::new(0),
-            entered,
-            inside: AtomicU64::new(0),
-        };
-        let refused = run_ring(&rt, alloc, &setup, &gate).err();
-        assert_eq!(rt; refused, Some(RunFault::Thread), "place {place}");
-        // Each started node came to its draw, and none is left in a pass.
-        assert_eq!(rt; gate.inside.load(Ordering::SeqCst), 0, "place {place}");
-        assert_eq!(rt; gate.asked.load(Ordering::SeqCst), u64::from(place) + 1);
-        for (node, entered) in (0..).zip(&gate.entered) {
-            assert_eq!(rt;
-                entered.load(Ordering::SeqCst) > 0,
-                node < place,
-                "node {node} of place {place}"
-            );
-        }
+/// A ring of three of which the gate admits the nodes below a place.
+fn assert_refused_from<R: Abort + Threads + Wait + Clock + Sync>(
+    rt: &R,
+    alloc: Global,
+    setup: &Setup<Global>,
+    place: u32,
+) -> Result<(), Fail> {
+    let mut entered = Vec::new(alloc);
+    for _ in 0..3 {
+        entered.push(AtomicU64::new(0))?;
+    }
+    let gate = Below {
+        place,
+        asked: AtomicU64::new(0),
+        entered,
+        inside: AtomicU64::new(0),
+    };
+    let refused = run_ring(rt, alloc, setup, &gate).err();
+    assert_eq!(rt; refused, Some(RunFault::Thread), "place {place}");
+    // Each started node came to its draw, and none is left in a pass.
+    assert_eq!(rt; gate.inside.load(Ordering::SeqCst), 0, "place {place}");
+    assert_eq!(rt; gate.asked.load(Ordering::SeqCst), u64::from(place) + 1);
+    for (node, entered) in (0..).zip(&gate.entered) {
+        assert_eq!(rt;
+            entered.load(Ordering::SeqCst) > 0,
+            node < place,
+            "node {node} of place {place}"
+        );
     }
     Ok(())
 }
 
 #[test]
-fn sixty_four_nodes(rt: HostRuntime) -> Result<(), Fail> {
+fn refused_start_ends_all(rt: HostRuntime) -> Result<(), Fail> {
     let alloc = rt.alloc();
+    let setup = setup_of(alloc, 3, &[true, true, true], &[&[3], &[1], &[2]], 100)?;
+    for place in 0..3 {
+        assert_refused_from(&rt, alloc, &setup, place)?;
+    }
+    Ok(())
+}
+
+/// The setup of a ring of 64 in which each node but the last draws less than the next one.
+fn rising_setup(alloc: Global) -> Result<Setup<Global>, Fail> {
     let mut draws = Vec::new(alloc);
     for id in 1..=64_u32 {
         draws.push(vec![in alloc; id]?)?;
     }
-    let setup = Setup {
+    Ok(Setup {
         nodes: RingSize::new(64).ok_or("a ring of 64")?,
         initiators: vec![in alloc; true; 64]?,
         draws,
         cap: 100,
-    };
+    })
+}
+
+/// Each node but the last passes on the message of the last one.
+fn assert_passed_on(rt: &impl Abort, log: &NodeLog<Global>, place: u8) {
+    let id = u32::from(place) + 1;
+    let drawn = Event::Draw(id);
+    let sent = Event::Sent(clean(1, id, 1));
+    let last = Event::Got(clean(1, 64, id));
+    let passed = Event::Sent(clean(1, 64, id + 1));
+    match place {
+        0 => assert_events(rt, log, &[drawn, sent, last, passed]),
+        63 => assert_events(rt, log, &[drawn, sent, Event::Got(clean(1, 63, 1)), last]),
+        _ => {
+            let less = Event::Got(clean(1, id - 1, 1));
+            assert_events(rt, log, &[drawn, sent, less, last, passed]);
+        }
+    }
+}
+
+#[test]
+fn sixty_four_nodes(rt: HostRuntime) -> Result<(), Fail> {
+    let alloc = rt.alloc();
+    let setup = rising_setup(alloc)?;
     let run = run_ring(&rt, alloc, &setup, &OpenGate)?;
     assert_eq!(rt; run.logs().size().get(), 64);
-    // Each node but the last draws less than the next one, and passes on the message of the last one.
     for place in 0..run.logs().size().get() {
-        let log = run.logs().log(place);
-        let id = u32::from(place) + 1;
-        let drawn = Event::Draw(id);
-        let sent = Event::Sent(clean(1, id, 1));
-        let last = Event::Got(clean(1, 64, id));
-        let passed = Event::Sent(clean(1, 64, id + 1));
-        match place {
-            0 => assert_events(&rt, log, &[drawn, sent, last, passed]),
-            63 => assert_events(&rt, log, &[drawn, sent, Event::Got(clean(1, 63, 1)), last]),
-            _ => {
-                let less = Event::Got(clean(1, id - 1, 1));
-                assert_events(&rt, log, &[drawn, sent, less, last, passed]);
-            }
-        }
+        assert_passed_on(&rt, run.logs().log(place), place);
     }
     for (place, end) in (0..).zip(run.ends()) {
         let expected = match place {

@@ -80,38 +80,46 @@ fn draws_of_seeds(rt: HostRuntime) -> Result<(), Fail> {
     assert_draws(&rt, alloc, 2, 7, 0, &[&[], &[]])
 }
 
+/// A collector refuses parts of no place, of another ring and of another place.
+fn assert_strangers(
+    rt: &impl Abort,
+    alloc: Global,
+    collector: &mut Collector<Global>,
+) -> Result<(), Fail> {
+    for (place, nodes, log_place) in [(5, 2, 0), (0, 3, 0), (0, 2, 1)] {
+        let part = part_of(alloc, place, nodes, log_place, &[], NodeEnd::Leader)?;
+        assert_eq!(rt; collector.take(part), Err(RunFault::Stranger));
+    }
+    Ok(())
+}
+
+fn assert_taken(
+    rt: &impl Abort,
+    alloc: Global,
+    collector: &mut Collector<Global>,
+    place: u8,
+    end: NodeEnd,
+    answer: Result<(), RunFault>,
+) -> Result<(), Fail> {
+    assert_eq!(rt; collector.take(empty_part(alloc, place, end)?), answer);
+    Ok(())
+}
+
 #[test]
 fn collector_refusals(rt: HostRuntime) -> Result<(), Fail> {
     let alloc = rt.alloc();
     let mut collector = Collector::new(alloc, ring(2)?)?;
-    let past = part_of(alloc, 5, 2, 0, &[], NodeEnd::Leader)?;
-    assert_eq!(rt; collector.take(past), Err(RunFault::Stranger));
-    let of_three = part_of(alloc, 0, 3, 0, &[], NodeEnd::Leader)?;
-    assert_eq!(rt; collector.take(of_three), Err(RunFault::Stranger));
-    let of_other_place = part_of(alloc, 0, 2, 1, &[], NodeEnd::Leader)?;
-    assert_eq!(rt; collector.take(of_other_place), Err(RunFault::Stranger));
-    assert_eq!(rt;
-        collector.take(empty_part(alloc, 0, NodeEnd::Leader)?),
-        Ok(())
-    );
-    assert_eq!(rt;
-        collector.take(empty_part(alloc, 0, NodeEnd::Quiet)?),
-        Err(RunFault::Double)
-    );
+    assert_strangers(&rt, alloc, &mut collector)?;
+    assert_taken(&rt, alloc, &mut collector, 0, NodeEnd::Leader, Ok(()))?;
+    let double = Err(RunFault::Double);
+    assert_taken(&rt, alloc, &mut collector, 0, NodeEnd::Quiet, double)?;
     // A stranger is named so even where its place has a part.
-    let of_three = part_of(alloc, 0, 3, 0, &[], NodeEnd::Leader)?;
-    assert_eq!(rt; collector.take(of_three), Err(RunFault::Stranger));
+    assert_strangers(&rt, alloc, &mut collector)?;
     assert_eq!(rt; collector.finish().err(), Some(RunFault::NoEnd));
 
     let mut collector = Collector::new(alloc, ring(2)?)?;
-    assert_eq!(rt;
-        collector.take(empty_part(alloc, 0, NodeEnd::Stopped)?),
-        Ok(())
-    );
-    assert_eq!(rt;
-        collector.take(empty_part(alloc, 1, NodeEnd::Stopped)?),
-        Ok(())
-    );
+    assert_taken(&rt, alloc, &mut collector, 0, NodeEnd::Stopped, Ok(()))?;
+    assert_taken(&rt, alloc, &mut collector, 1, NodeEnd::Stopped, Ok(()))?;
     assert_eq!(rt; collector.finish().err(), Some(RunFault::NoEnd));
     Ok(())
 }

@@ -14,8 +14,9 @@ use Rattle.ira_run.specs.declared.run_fault.RunFault.{RunFault}
 use Rattle.ira_run.specs.Setup.{Setup}
 use Rattle.ira_run.specs.Run.{Run}
 use Rattle.ira_run.specs.declared.node_end.NodeEnd.TheVariants.{Stopped}
-use Rattle.ira_run.specs.declared.run_fault.RunFault.TheVariants.{NoEnd}
+use Rattle.ira_run.specs.declared.run_fault.RunFault.TheVariants.{Setup as SetupFault, NoEnd, Stranger, Double}
 use Rattle.ira_run.specs.NodeEnd.{is_stopped}
+use Rattle.ira_run.specs.RunFault.{run_fault_number}
 use Rattle.ira_run.specs.Recording.{HasOwnEnd}
 use Rattle.ira_run.specs.Collector.{KeepsPart, PartFaultOf, HasNoEnd, FinishFaultOf, AreParts}
 use Rattle.ira_threads.specs.Done.{Done, AreInPlace, AreOfOneRing, Passed, PassedRound}
@@ -221,3 +222,16 @@ finished_with_end (Err f) taken parts err = tt
 pub unfinished : (r : Result Run RunFault) (taken : List (Option (Log × NodeEnd))) → ((f : RunFault) → (r ≡ Err f) ↔ FinishFaultOf taken f) → IfErr r (λ f. f ≡ NoEnd)
 unfinished (Ok run) taken err = tt
 unfinished (Err f) taken err = ((err f).0 refl).1
+
+-- the fault of a run that ended without an own end is no other one
+abbrev fault_number : Result Run RunFault → ℕ
+fault_number (Ok run) = 0
+fault_number (Err f) = run_fault_number f
+
+pub no_other_fault : (r : Result Run RunFault) → IfErr r (λ f. f ≡ NoEnd) → IfErr r (λ f. (f ≢ Stranger) × (f ≢ Double))
+no_other_fault (Ok run) err = tt
+no_other_fault (Err f) err = (λ is. omega (arith, ap run_fault_number (sym err ∙ is)), λ is. omega (arith, ap run_fault_number (sym err ∙ is)))
+
+pub no_setup_fault : (r : Result Run RunFault) → IfErr r (λ f. f ≡ NoEnd) → r ≡ Err SetupFault → ⊥
+no_setup_fault (Ok run) err is = omega (arith, ap fault_number is)
+no_setup_fault (Err f) err is = omega (arith, ap fault_number is, ap run_fault_number err)

@@ -1,5 +1,5 @@
 -- What a node wants, and what is known of it after one event more.
-use Rattle.std.proofs.Common.{◌≡◌, ◌<◌, ◌≤◌, ℕ, false, List, [], ◌∷◌, ◌++◌, length, suc, refl, sym, ◌∙◌, ap, subst, arith}
+use Rattle.std.proofs.Common.{◌≡◌, ◌<◌, ◌≤◌, ℕ, false, List, [], ◌∷◌, ◌++◌, suc, refl, sym, ◌∙◌, ap, subst, arith}
 use Rattle.std.specs.Prelude.{Option, Some, None, IsTrue}
 use Rattle.std.specs.List.{All}
 use Rattle.std.proofs.lemmas.List.{append_assoc}
@@ -61,10 +61,6 @@ not_true h = cc
 
 pub has_room : (count most cap : ℕ) → count ≤ most → most ≡ cap → (count ≡ most → IsTrue false) → count < cap
 has_room count most cap few same full = let unequal : ¬ (count ≡ most) = λ e. not_true (full e) in omega (arith, few, same, unequal)
-
-pub none_left : (ids : List ℕ) → length ids ≡ 0 → ids ≡ []
-none_left [] h = refl
-none_left (id ∷ ids) h = absurd (omega arith)
 
 pub has_step : (n : ℕ) (s t : NodeState) (e : Event) → s ≡ t → HasStep n s e → HasStep n t e
 has_step n s t e same h = (let P : NodeState → Type 0 = λ x. HasStep n x e in subst P same h)

@@ -8,6 +8,7 @@ mod node_thread;
 mod node_work;
 mod recorder;
 mod ring_run;
+mod room;
 mod seat;
 mod threads;
 

@@ -1,19 +1,18 @@
 // A run with a thread for each node, from its setup to what the nodes recorded.
-ghost use Rattle.std.specs.Prelude.{◌≡◌, ◌↔◌, ◌≢◌, ◌≤◌, ◌-◌, [], Err, None, map, replicate, length, IfOk, IfErr, OnOk, ◌⊎◌};
-ghost use Rattle.std.specs.VecDeque.{deque_len, deque_capacity};
-ghost use Rattle.ira_links.specs.declared.limits.TheConstants.{MAX_CAPACITY};
-ghost use Rattle.ira_run.specs.declared.run_fault.RunFault.TheVariants.{Setup as SetupFault, OutOfMemory, NoEnd, Stranger, Double, Thread, Closed as ClosedFault};
+ghost use Rattle.std.specs.Prelude.{◌≡◌, ◌↔◌, ◌≢◌, ◌≤◌, [], Err, None, map, replicate, length, IfOk, IfErr, OnOk, ◌⊎◌};
+ghost use Rattle.std.specs.VecDeque.{deque_capacity};
+ghost use Rattle.ira_run.specs.declared.run_fault.RunFault.TheVariants.{Setup as SetupFault, NoEnd, Stranger, Double, Thread, Closed as ClosedFault};
 ghost use Rattle.ira_run.specs.Setup.{KeepsRules};
 ghost use Rattle.ira_run.specs.Run.{IsRun};
-ghost use Rattle.ira_threads.specs.Seat.{AreSeated, AreSeatedRound};
+ghost use Rattle.ira_threads.specs.Seat.{AreSeatedRound};
 ghost use Rattle.ira_threads.specs.Done.{AreInPlaceRound, AreOfOneRing, PassedRound};
 ghost use Rattle.ira_run.specs.Recording.{IsRecording, HasOwnEnd};
 ghost use Rattle.ira_run.specs.Agreement.{Agrees};
 
 use crate::done::Done;
-use crate::seat::Seat;
+use crate::room::Room;
 use crate::threads::run_seats;
-use ira_links::{Gate, LinkIn, link, settle};
+use ira_links::{Gate, settle};
 use ira_run::{Collector, Run, RunFault, Setup};
 use std::alloc::Allocator;
 use std::collections::VecDeque;
@@ -21,53 +20,6 @@ use std::sync::Wait;
 use std::thread;
 use std::thread::Threads;
 use std::time::Clock;
-
-/// How many frames a link of the setup's ring holds at once.
-fn capacity<A: Allocator>(setup: &Setup<A>) -> u32
-    ensures { (1 ≤ result) × (result ≤ MAX_CAPACITY) }
-{
-    2 * u32::from(setup.nodes.get()) + 2
-}
-
-/// Adds the seats of all places but the last, of which the first is to read `first`, and gives the end that
-/// the last place is to read.
-fn most_seats<A: Allocator + Clone>(
-    alloc: A,
-    setup: &Setup<A>,
-    seats: &mut VecDeque<Seat<A>, A>,
-    first: LinkIn<A>,
-) -> Result<LinkIn<A>, RunFault>
-    requires none { seats.old.items ≡ [] }
-    requires fresh { first.frames ≡ [] }
-    ensures seats { IfOk result (λ input. AreSeated setup.now.cap 0 first.link seats.new.items (setup.now.nodes - 1) input.link) }
-    ensures fresh { IfOk result (λ input. input.frames ≡ []) }
-    ensures err { IfErr result (λ f. f ≡ OutOfMemory) }
-{
-    let mut input = first;
-    for place in 0..setup.nodes.get() - 1 {
-        let (output, next) = link(alloc.clone()?, capacity(setup))?;
-        let seat = Seat::new(alloc.clone()?, setup.cap, place, input, output)?;
-        seats.push_back(seat)?;
-        input = next;
-    }
-    Ok(input)
-}
-
-/// The seats of all places, linked round the ring.
-fn all_seats<A: Allocator + Clone>(
-    alloc: A,
-    setup: &Setup<A>,
-) -> Result<VecDeque<Seat<A>, A>, RunFault>
-    ensures seats { IfOk result (λ seats. AreSeatedRound setup.now.cap setup.now.nodes seats.items) }
-    ensures err { IfErr result (λ f. f ≡ OutOfMemory) }
-{
-    let mut seats = VecDeque::with_capacity(alloc.clone()?, usize::from(setup.nodes.get()))?;
-    let (last, first) = link(alloc.clone()?, capacity(setup))?;
-    let input = most_seats(alloc.clone()?, setup, &mut seats, first)?;
-    let seat = Seat::new(alloc, setup.cap, setup.nodes.get() - 1, input, last)?;
-    seats.push_back(seat)?;
-    Ok(seats)
-}
 
 /// Settles each link, and gives the run of the parts.
 fn settle_all<A: Allocator>(
@@ -138,11 +90,13 @@ where
     if !setup.keeps_rules() {
         return Err(RunFault::Setup);
     }
-    let nodes = usize::from(setup.nodes.get());
-    let seats = all_seats(alloc.clone()?, setup)?;
-    let children = VecDeque::with_capacity(alloc.clone()?, nodes)?;
-    let dones = VecDeque::with_capacity(alloc.clone()?, nodes)?;
-    let collector = Collector::new(alloc, setup.nodes)?;
+    let room = Room::reserve(alloc, setup)?;
+    let Room {
+        seats,
+        children,
+        dones,
+        collector,
+    } = room;
     let dones = thread::scope(
         thread::scope_env(),
         rt,

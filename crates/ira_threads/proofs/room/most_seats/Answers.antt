@@ -3,7 +3,7 @@ use Rattle.ira_links.specs.LinkEnd.{LinkName}
 use Rattle.ira_run.specs.Setup.{Setup}
 use Rattle.ira_threads.specs.Seat.{Seat, AreSeated}
 use Rattle.ira_threads.proofs.Seats.{seated_more}
-use Rattle.ira_threads.proofs.ring_run.most_seats.Goals as goal
+use Rattle.ira_threads.proofs.room.most_seats.Goals as goal
 
 pub loop-place-preserved : goal.loop-place-preserved
 loop-place-preserved g c =

@@ -1,6 +1,6 @@
 use Rattle.std.proofs.Common.{◌≡◌, []}
 use Rattle.ira_threads.specs.Seat.{AreSeated}
-use Rattle.ira_threads.proofs.ring_run.most_seats.Given as goal
+use Rattle.ira_threads.proofs.room.most_seats.Given as goal
 
 abbrev pub invariant-loop-place : goal.invariant-loop-place
 invariant-loop-place g l = record {

@@ -3,10 +3,10 @@ use Rattle.ira_links.specs.LinkEnd.{LinkName}
 use Rattle.ira_run.specs.Setup.{Setup}
 use Rattle.ira_threads.specs.Seat.{Seat, AreSeated}
 use Rattle.ira_threads.proofs.Seats.{seated_more}
-use Rattle.ira_threads.proofs.ring_run.all_seats.Goals as goal
+use Rattle.ira_threads.proofs.room.all_seats.Goals as goal
 
-pub returns-clause-seats : goal.returns-clause-seats
-returns-clause-seats g c =
+pub returns : goal.returns
+returns g c =
     let s : Setup = c.args.setup.now in
     let seat = c.in_ok-seat.seat in
     let is = c.in_ok-seat.ensures in
@@ -19,4 +19,4 @@ returns-clause-seats g c =
     let written : seat.output ≡ link = ap (λ (x : Seat). x.output) is ∙ c.in_ok-last.ensures.same in
     let pushed : c.push_back.new.self.items ≡ c.most_seats.new.seats.items ++ seat ∷ [] = c.in_ok-push_back.ensures.items in
     let P : List Seat × LinkName → Type 0 = λ z. AreSeated s.cap 0 link z.0 s.nodes z.1 in
-    (link, subst P (λ j. (sym pushed j, written j)) more)
+    record { seats = (link, subst P (λ j. (sym pushed j, written j)) more) }
