@@ -259,10 +259,7 @@ fn assert_done(
 
 #[test]
 fn largest_ring(rt: HostRuntime) -> Result<(), Fail> {
-    let mut shelf = MemoryShelf::new(rt.alloc(), &[]);
-    let mut out = MemorySink::new(rt.alloc());
     let run = ["run", "--nodes=64", "--seed=7", "--out=d", "--alone"];
-    assert_done(&rt, &run, &mut shelf, &mut out);
     let mut names = Vec::new(rt.alloc());
     for place in 0..64 {
         names.push(format!(in rt.alloc(); "d/{place}.log")?)?;
@@ -271,6 +268,9 @@ fn largest_ring(rt: HostRuntime) -> Result<(), Fail> {
     for name in &names {
         logs.push(name.as_str())?;
     }
+    let mut shelf = MemoryShelf::new(rt.alloc(), &[]);
+    let mut out = MemorySink::new(rt.alloc());
+    assert_done(&rt, &run, &mut shelf, &mut out);
     assert_done(&rt, &logs, &mut shelf, &mut out);
     assert!(rt; out.bytes().ends_with(b"\nyes\n"));
     Ok(())
