@@ -17,7 +17,7 @@ say = printf '%4d s  %s\n' $$(($$(date +%s) - $(START)))
 
 help:
 	@echo 'make ira        proves the program and the libraries that it stands on, and leaves it at bin/ira:'
-	@echo '                some 8 minutes on four cores the first time, then only what has changed'
+	@echo '                the first time some 27 minutes of processor time, over all cores; then only what has changed'
 	@echo 'make run        makes ira, judges examples with it, and compares its answers with those expected'
 	@echo 'make install    copies bin/ira to $$(PREFIX)/bin; PREFIX is $(PREFIX) if not given'
 	@echo 'make test       the gate: all proofs from nothing, the edits that must be refused, all tests and'
@@ -27,7 +27,7 @@ help:
 # Two at a time: a library that stands on none of this repository is proved beside the others, of
 # which each takes all cores in its turn.
 ira:
-	@echo 'Proving the $(words $(LIBRARIES)) libraries that ira stands on, and then ira; the first time takes some minutes.'
+	@echo 'Proving the $(words $(LIBRARIES)) libraries that ira stands on, and then ira: the first time some 27 minutes of processor time, over $(JOBS) cores.'
 	@mkdir -p bin
 	@$(MAKE) --no-print-directory -j 2 START=$(START) bin/ira
 

@@ -243,9 +243,22 @@ fn ends_on_a_full_device(rt: HostRuntime) -> Result<(), Fail> {
     Ok(())
 }
 
+/// Serves words that nothing speaks against.
+fn assert_done(
+    rt: &(impl Abort + AllocGlobal + Threads + Wait + Clock + Sync),
+    words: &[&str],
+    shelf: &mut MemoryShelf<'_>,
+    out: &mut MemorySink<Global>,
+) {
+    let mut err = MemorySink::new(rt.alloc());
+    let input = &mut Counted::new(io::empty());
+    let status = serve(rt, rt.alloc(), words, input, shelf, out, &mut err);
+    assert!(rt; err.bytes().is_empty());
+    assert_eq!(rt; status, 0);
+}
+
 #[test]
 fn largest_ring(rt: HostRuntime) -> Result<(), Fail> {
-    let mut shelf = MemoryShelf::new(rt.alloc(), &[]);
     let run = ["run", "--nodes=64", "--seed=7", "--out=d", "--alone"];
     let mut names = Vec::new(rt.alloc());
     for place in 0..64 {
@@ -255,22 +268,10 @@ fn largest_ring(rt: HostRuntime) -> Result<(), Fail> {
     for name in &names {
         logs.push(name.as_str())?;
     }
+    let mut shelf = MemoryShelf::new(rt.alloc(), &[]);
     let mut out = MemorySink::new(rt.alloc());
-    for words in [run.as_slice(), logs.as_slice()] {
-        let mut err = MemorySink::new(rt.alloc());
-        let input = &mut Counted::new(io::empty());
-        let status = serve(
-            &rt,
-            rt.alloc(),
-            words,
-            input,
-            &mut shelf,
-            &mut out,
-            &mut err,
-        );
-        assert_eq!(rt; err.bytes(), b"".as_slice());
-        assert_eq!(rt; status, 0);
-    }
+    assert_done(&rt, &run, &mut shelf, &mut out);
+    assert_done(&rt, &logs, &mut shelf, &mut out);
     assert!(rt; out.bytes().ends_with(b"\nyes\n"));
     Ok(())
 }

@@ -5,11 +5,11 @@ use Rattle.std.specs.Str.{bytes_eq, chars}
 use Rattle.std.specs.Option.{option_map_or}
 use Rattle.std.proofs.lemmas.List.{append-nil}
 use Rattle.std.proofs.lemmas.Slice.Eq.{bytes_eq-Decides}
-use Rattle.clap.specs.Faults.{bundle_fault, bundle_step_fault, fault_of, flag_word_fault, flags_fault, is_simple_and_free, long_fault, other_fault, short_fault, step_fault, turn_fault, walk_fault}
+use Rattle.clap.specs.Faults.{bundle_fault, bundle_step_fault, fault_of, flag_word_fault, flags_fault, is_simple_and_free, long_fault, other_fault, short_fault, step_fault, walk_fault}
 use Rattle.clap.specs.Kinds.{Kinds, or_else}
 use Rattle.clap.specs.Lexer.{long_of, short_of}
 use Rattle.clap.specs.Simple.{App, HasMatchesOf, Shape, built, built_leaf, entered, filled, help_rule, names_of, subcommand_of, subcommand_rows_of, with_index}
-use Rattle.clap.specs.Walk.{Held, Names, Outcome, Row, Rule, Step, Text, Walk, answers_to, arg_by_long, arg_by_short, after_step, bundle_met, bundle_step, has_long, has_short, idle, long_word, trailing, nothing_held, plain, rows_after, subcommand_or_other, long_or_other, short_or_plain, after_flag, walk_from, walked}
+use Rattle.clap.specs.Walk.{Held, Names, Row, Rule, Step, Text, Walk, answers_to, arg_by_long, after_step, bundle_met, bundle_step, has_long, has_short, idle, long_word, trailing, nothing_held, plain, rows_after, subcommand_or_other, long_or_other, short_or_plain, after_flag, walk_from, walked}
 use Rattle.clap.specs.Matches.{subcommand_name_of}
 use Rattle.clap.specs.declared.parser.matches.ArgMatches.{ArgMatches}
 use Rattle.ira_words.specs.CommandLine.{ira_app, logs_app, run_app}

@@ -1,5 +1,6 @@
--- The files that words behind `logs` name, where none of them begins with a dash.
-use Rattle.std.proofs.Common.{◌≡◌, ◌≢◌, ℕ, Bool, true, false, List, [], ◌∷◌, ◌++◌, Option, None, Some, All, refl, sym, ap, subst, ◌∙◌, codes, append_assoc, arith, suc, length}
+-- The files that words behind `logs` name: those up to `--`, where none of them begins with a dash, and
+-- each behind it.
+use Rattle.std.proofs.Common.{◌≡◌, ◌≢◌, ℕ, Bool, true, false, List, [], ◌∷◌, ◌++◌, Option, None, Some, All, refl, sym, ap, subst, ◌∙◌, codes, append_assoc, arith, suc}
 use Rattle.std.specs.Prelude.{fold, ◌==◌, if◌then◌else◌, map, option_map, unwrap_or}
 use Rattle.std.proofs.lemmas.Bool.Decides.{Decides-eqb}
 use Rattle.std.proofs.lemmas.List.{append-nil}
@@ -16,6 +17,10 @@ use Rattle.ira_words.specs.Request.{IsFileName}
 -- what a parse reads of `logs`
 abbrev rules : List Rule
 rules = (built_leaf logs_app.top).rules
+
+-- the names that are read of these words behind `logs`
+abbrev pub given_behind : List Text → List Text
+given_behind words = unwrap_or (all_of (codes "LOG") (rows_after rules [] words)) []
 
 -- the walk after some file names
 abbrev named : List Text → Walk
@@ -46,14 +51,56 @@ next_names ws [] are = ap named (sym (append-nil ws))
 next_names ws (w ∷ rest) are =
     ap (λ x. fold (walked rules []) x rest) (next_name ws w (are 0 w (omega arith))) ∙ next_names (ws ++ w ∷ []) rest (λ k d lt. are (suc k) d (omega (arith, lt))) ∙ ap named (append_assoc ws (w ∷ []) rest)
 
+all_names : (w : Text) (rest : List Text) → All IsFileName (w ∷ rest) → fold (walked rules []) (walk_from nothing_held) (w ∷ rest) ≡ named (w ∷ rest)
+all_names w rest are =
+    ap (λ x. fold (walked rules []) x rest) (first_name w (are 0 w (omega arith))) ∙ next_names (w ∷ []) rest (λ k d lt. are (suc k) d (omega (arith, lt)))
+
 -- they are the values of `LOG`
 names_given : (w : Text) (rest : List Text) → All IsFileName (w ∷ rest) → all_of (codes "LOG") (rows_after rules [] (w ∷ rest)) ≡ Some (w ∷ rest)
-names_given w rest are =
-    ap (λ x. all_of (codes "LOG") (finished rules x.held)) (ap (λ x. fold (walked rules []) x rest) (first_name w (are 0 w (omega arith))) ∙ next_names (w ∷ []) rest (λ k d lt. are (suc k) d (omega (arith, lt))))
+names_given w rest are = ap (λ x. all_of (codes "LOG") (finished rules x.held)) (all_names w rest are)
 
-pub words_given : (words : List Text) → All IsFileName words → unwrap_or (all_of (codes "LOG") (rows_after rules [] words)) [] ≡ words
+pub words_given : (words : List Text) → All IsFileName words → given_behind words ≡ words
 words_given [] are = refl
 words_given (w ∷ rest) are = ap (λ o. unwrap_or o []) (names_given w rest are)
+
+-- the walk behind `--`, after some names
+abbrev marked : List Text → Walk
+marked ws = record (named ws) { is_trailing = true }
+
+next_marked : (ws : List Text) (w : Text) → walked rules [] (marked ws) w ≡ marked (ws ++ w ∷ [])
+unfolding walked
+next_marked ws w = refl
+
+all_marked : (ws rest : List Text) → fold (walked rules []) (marked ws) rest ≡ marked (ws ++ rest)
+all_marked ws [] = ap marked (sym (append-nil ws))
+all_marked ws (w ∷ rest) =
+    ap (λ x. fold (walked rules []) x rest) (next_marked ws w) ∙ all_marked (ws ++ w ∷ []) rest ∙ ap marked (append_assoc ws (w ∷ []) rest)
+
+walk_on : (x : Walk) (ws rest : List Text) → fold (walked rules []) x (ws ++ rest) ≡ fold (walked rules []) (fold (walked rules []) x ws) rest
+walk_on x [] rest = refl
+walk_on x (w ∷ ws) rest = walk_on (walked rules [] x w) ws rest
+
+dashes_first : (w : Text) → walked rules [] (walked rules [] (walk_from nothing_held) (codes "--")) w ≡ marked (w ∷ [])
+unfolding walked
+dashes_first w = refl
+
+dashes_next : (ws : List Text) → walked rules [] (named ws) (codes "--") ≡ marked ws
+unfolding walked
+dashes_next ws = refl
+
+dashes_alone : all_of (codes "LOG") (rows_after rules [] (codes "--" ∷ [])) ≡ None
+unfolding walked
+dashes_alone = refl
+
+abbrev given_at : Walk → List Text
+given_at x = unwrap_or (all_of (codes "LOG") (finished rules x.held)) []
+
+pub words_behind : (front back : List Text) → All IsFileName front → given_behind (front ++ codes "--" ∷ back) ≡ front ++ back
+words_behind [] [] are = ap (λ o. unwrap_or o []) dashes_alone
+words_behind [] (w ∷ back) are = ap given_at (ap (λ x. fold (walked rules []) x back) (dashes_first w) ∙ all_marked (w ∷ []) back)
+words_behind (w ∷ front) back are =
+    ap given_at (walk_on (walk_from nothing_held) (w ∷ front) (codes "--" ∷ back) ∙ ap (λ x. fold (walked rules []) x (codes "--" ∷ back)) (all_names w front are)
+    ∙ ap (λ x. fold (walked rules []) x back) (dashes_next (w ∷ front)) ∙ all_marked (w ∷ front) back)
 
 -- the names that are read of what was found
 pub names_read : (o : Option (Bor (List (Bor Text)))) (none : Bor (List (Bor Text))) (f : Found) → none.now ≡ []

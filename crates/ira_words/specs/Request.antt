@@ -1,5 +1,5 @@
 -- What the words behind the program's name ask for.
-use Rattle.std.specs.Prelude.{◌≡◌, ◌≢◌, ℕ, All, List, [], ◌∷◌, codes, map}
+use Rattle.std.specs.Prelude.{◌≡◌, ◌≢◌, ℕ, All, List, [], ◌∷◌, ◌++◌, codes, map}
 use Rattle.clap.specs.Simple.{built_leaf}
 use Rattle.clap.specs.Walk.{Row, rows_after}
 use Rattle.ira_words.specs.CommandLine.{run_app}
@@ -13,12 +13,14 @@ abbrev pub IsFileName : List ℕ → Type 0
 IsFileName [] = Unit {0}
 IsFileName (b ∷ bs) = b ≢ 45
 
--- the words are `logs` and others, which ask for the files of these names; where none of the others begins
--- with a dash, they are the names
+-- the words are `logs` and others, which ask for the files of these names: where none of the others begins
+-- with a dash, they are the names; where one is the first that does, and is `--`, the words behind it are
+-- names too
 pub record AskForLogs (words names : List (List ℕ)) : Type 0 where
   pub others : List (List ℕ)
   pub first : words ≡ codes "logs" ∷ others
   pub plain : All IsFileName others → names ≡ others
+  pub marked : (front back : List (List ℕ)) → All IsFileName front → others ≡ front ++ codes "--" ∷ back → names ≡ front ++ back
 
 -- the words are `run` and options, which ask for this ring
 pub record AskForRun (words : List (List ℕ)) (ring : RunRequest) : Type 0 where

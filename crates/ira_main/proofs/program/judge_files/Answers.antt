@@ -1,4 +1,4 @@
-use Rattle.std.proofs.Common.{inl, refl, ◌++◌, ◌∷◌, [], ◌∙◌, arith, length-append}
+use Rattle.std.proofs.Common.{inl, refl, ◌∷◌, [], ◌∙◌, arith, length-append}
 use Rattle.ira_event.proofs.Unless.{unless_ok}
 use Rattle.ira_main.proofs.program.judge_files.Goals as goal
 

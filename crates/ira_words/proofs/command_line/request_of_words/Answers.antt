@@ -1,10 +1,10 @@
-use Rattle.std.proofs.Common.{◌≡◌, ◌∙◌, sym, ap, subst, List, [], ℕ, Option, None, Some, IfSome, map, codes}
+use Rattle.std.proofs.Common.{◌≡◌, ◌∙◌, sym, ap, subst, List, [], ◌∷◌, ◌++◌, ℕ, Option, None, Some, IfSome, map, codes}
 use Rattle.std.specs.Prelude.{All, unwrap_or}
 use Rattle.clap.specs.Words.{HasMatchesOf, all_of, app_of}
 use Rattle.ira_words.specs.Request.{IsFileName, IsMadeOf}
 use Rattle.ira_words.specs.RunRequest.{HasOptions}
 use Rattle.ira_words.proofs.FirstWord.{met_by_first, rows_of_logs, rows_of_run}
-use Rattle.ira_words.proofs.GivenNames.{words_given}
+use Rattle.ira_words.proofs.GivenNames.{given_behind, words_behind, words_given}
 use Rattle.ira_words.proofs.command_line.request_of_words.Goals.{in-Some-logs-default+in_ok-logs_request-in-Some-logs-default, in-Some-run-default, in_default}
 use Rattle.ira_words.proofs.command_line.request_of_words.Goals as goal
 
@@ -28,8 +28,10 @@ returns-in-Some c =
           let Has : List (List ℕ) → Type 0 = λ ws. HasMatchesOf (app_of c.in_ok-command.command) ws c.in_ok-matches.matches in
           let rows = rows_of_logs _ _ first.0 _ c.in_ok-command.ensures (subst Has first.1 parse.ok.2) arm.ensures.rows in
           let made = w.in_ok-logs_request-in-Some-logs-default.ensures in
-          let names_are : All IsFileName first.0 → map (λ name. name.now) made.0.items ≡ first.0 = λ are. made.2 ∙ ap (λ r. unwrap_or (all_of (codes "LOG") r) []) rows ∙ words_given first.0 are in
-          subst (IsMadeOf words) (sym (same_value _ _ _ c.in-Some.is w.asked-is ∙ made.1)) (record { others = first.0; first = first.1; plain = names_are })
+          let read : map (λ name. name.now) made.0.items ≡ given_behind first.0 = made.2 ∙ ap (λ r. unwrap_or (all_of (codes "LOG") r) []) rows in
+          let marked : (front back : List (List ℕ)) → All IsFileName front → first.0 ≡ front ++ codes "--" ∷ back → map (λ name. name.now) made.0.items ≡ front ++ back =
+          λ front back are apart. read ∙ ap given_behind apart ∙ words_behind front back are in
+          subst (IsMadeOf words) (sym (same_value _ _ _ c.in-Some.is w.asked-is ∙ made.1)) (record { others = first.0; first = first.1; plain = λ are. read ∙ words_given first.0 are; marked = marked })
       | in-Some-run-default w ↦
           let arm = w.in-Some-run-default in
           let first = met_by_first _ _ words (codes "run") c.in_ok-command.ensures parse.ok.2 parse.kinds (ap (λ n. Some n) (sym arm.is-run) ∙ arm.ensures.name) in
