@@ -14,7 +14,7 @@ option_rule name = record (new_rule name) { long = Some name; value_names = 1 }
 abbrev pub number_rule : Text → Rule
 number_rule name = record (option_rule name) { parser = Some (Unsigned 0 18446744073709551615) }
 
--- the files of `logs`
+-- files with the logs of a ring
 abbrev pub logs_rule : Rule
 logs_rule = record (new_rule (codes "LOG")) {
   action = Some Append;
@@ -25,6 +25,19 @@ logs_rule = record (new_rule (codes "LOG")) {
 -- the command `logs`
 abbrev pub logs_app : App
 logs_app = with_rule (new_app (codes "logs")) logs_rule
+
+-- the options and files of `check`
+abbrev pub check_rules : List Rule
+check_rules =
+    record (option_rule (codes "question")) { required = true }
+    ∷ record (option_rule (codes "cert")) { required = true }
+    ∷ record (option_rule (codes "depth")) { parser = Some (Signed (pos 0) (pos 4)); defaults = codes "2" ∷ [] }
+    ∷ logs_rule
+    ∷ []
+
+-- the command `check`
+abbrev pub check_app : App
+check_app = on_top (λ s. record s { rules = check_rules }) (new_app (codes "check"))
 
 -- the options of `run`
 abbrev pub run_rules : List Rule
@@ -48,4 +61,4 @@ ira_top = on_top (λ s. record s { no_binary_name = true; subcommand_required = 
 
 -- the program's command line
 abbrev pub ira_app : App
-ira_app = with_subcommand (with_subcommand ira_top logs_app.top) run_app.top
+ira_app = with_subcommand (with_subcommand (with_subcommand ira_top logs_app.top) check_app.top) run_app.top

@@ -1,3 +1,4 @@
+pub mod CheckRequest
 pub mod CommandLine
 pub mod Request
 pub mod RunRequest

@@ -2,11 +2,13 @@
 use Rattle.std.specs.Prelude.{◌≡◌, ◌≢◌, ℕ, All, List, [], ◌∷◌, ◌++◌, codes, map}
 use Rattle.clap.specs.Simple.{built_leaf}
 use Rattle.clap.specs.Walk.{Row, rows_after}
-use Rattle.ira_words.specs.CommandLine.{run_app}
+use Rattle.ira_words.specs.CheckRequest.{HasFiles}
+use Rattle.ira_words.specs.CommandLine.{check_app, run_app}
 use Rattle.ira_words.specs.RunRequest.{HasOptions}
+use Rattle.ira_words.specs.declared.check_request.CheckRequest.{CheckRequest}
 use Rattle.ira_words.specs.declared.run_request.RunRequest.{RunRequest}
 use Rattle.ira_words.specs.declared.request.Request.{Request}
-use Rattle.ira_words.specs.declared.request.Request.TheVariants.{OneLog, Logs, Run}
+use Rattle.ira_words.specs.declared.request.Request.TheVariants.{OneLog, Logs, Check, Run}
 
 -- a word that may name a file as it stands: it doesn't begin with a dash
 abbrev pub IsFileName : List ℕ → Type 0
@@ -22,6 +24,12 @@ pub record AskForLogs (words names : List (List ℕ)) : Type 0 where
   pub plain : All IsFileName others → names ≡ others
   pub marked : (front back : List (List ℕ)) → All IsFileName front → others ≡ front ++ codes "--" ∷ back → names ≡ front ++ back
 
+-- the words are `check`, options and names, which ask for these files
+pub record AskForCheck (words : List (List ℕ)) (check : CheckRequest) : Type 0 where
+  pub others : List (List ℕ)
+  pub first : words ≡ codes "check" ∷ others
+  pub files : HasFiles (rows_after (built_leaf check_app.top).rules [] others) check
+
 -- the words are `run` and options, which ask for this ring
 pub record AskForRun (words : List (List ℕ)) (ring : RunRequest) : Type 0 where
   pub others : List (List ℕ)
@@ -32,11 +40,12 @@ pub record AskForRun (words : List (List ℕ)) (ring : RunRequest) : Type 0 wher
 abbrev pub IsMadeOf : List (List ℕ) → Request → Type 0
 IsMadeOf words OneLog = words ≡ []
 IsMadeOf words (Logs names) = AskForLogs words (map (λ name. name.now) names.items)
+IsMadeOf words (Check check) = AskForCheck words check
 IsMadeOf words (Run ring) = AskForRun words ring
 
--- it asks to judge the logs in the files of these names
-abbrev pub NamesFiles : List (List ℕ) → Request → Type 0
-NamesFiles texts r = (names : _) × (r ≡ Logs names) × (map (λ name. name.now) names.items ≡ texts)
+-- it asks to judge the logs in the files of these options and names
+abbrev pub IsCheck : List Row → Request → Type 0
+IsCheck rows r = (check : _) × (r ≡ Check check) × HasFiles rows check
 
 -- it asks for the ring of these options
 abbrev pub IsRun : List Row → Request → Type 0

@@ -1,9 +1,10 @@
 ghost use Rattle.std.specs.Prelude.{◌≡◌, [], Ok, IfOk, IfSome, codes, false, map, unwrap_or};
 ghost use Rattle.clap.specs.Words.{all_of, app_of, found_of, rows_of, rule_of};
-ghost use Rattle.ira_words.specs.CommandLine.{ira_app, run_app, logs_app, number_rule, option_rule};
-ghost use Rattle.ira_words.specs.Request.{IsMadeOf, IsRun, NamesFiles};
+ghost use Rattle.ira_words.specs.CommandLine.{check_app, ira_app, logs_app, logs_rule, number_rule, option_rule, run_app};
+ghost use Rattle.ira_words.specs.Request.{IsCheck, IsMadeOf, IsRun};
 ghost use Rattle.ira_words.specs.declared.request.Request.TheVariants as request;
 
+use crate::check_request::CheckRequest;
 use crate::request::Request;
 use crate::run_request::RunRequest;
 use crate::words_fault::WordsFault;
@@ -22,6 +23,7 @@ fn command<'a>(alloc: Global) -> Result<Command<'a>, AllocError>
         .about("Judges and makes logs of Itai-Rodeh elections on anonymous rings.")
         .override_usage(
             "ira < LOG\n       ira logs <LOG>...\n       \
+             ira check --question <Q> --cert <C> [--depth <D>] <LOG>...\n       \
              ira run --nodes <N> --seed <S> --out <DIR> [OPTIONS]",
         )
         .after_help(
@@ -32,27 +34,72 @@ fn command<'a>(alloc: Global) -> Result<Command<'a>, AllocError>
         )
         .subcommand_required(true)
         .subcommand(logs_command(alloc)?)?
+        .subcommand(check_command(alloc)?)?
         .subcommand(run_command(alloc)?)
+}
+
+/// The files with the logs of a ring.
+fn log_files<'a>(alloc: Global) -> Arg<'a>
+    ensures rule { rule_of result ≡ logs_rule }
+    ensures local { result.global ≡ false }
+{
+    Arg::new(alloc, "LOG")
+        .help("A file with the log of a node, in the order of the ring's places")
+        .action(ArgAction::Append)
+        .num_args(1..)
+        .required(true)
+}
+
+/// The names of these files.
+fn log_names<'a>(alloc: Global, matches: &ArgMatches<'a>) -> Result<Vec<&'a str>, AllocError>
+    ensures { IfOk result (λ names. map (λ name. name.now) names.items ≡ unwrap_or (all_of (codes "LOG") (rows_of (found_of matches.now))) []) }
+{
+    let names: &[&'a str] = matches.get_strs("LOG").unwrap_or([].as_slice());
+    names.to_vec(alloc)
 }
 
 fn logs_command<'a>(alloc: Global) -> Result<Command<'a>, AllocError>
     ensures { IfOk result (λ c. app_of c ≡ logs_app) }
 {
-    let logs = Arg::new(alloc, "LOG")
-        .help("A file with the log of a node, in the order of the ring's places")
-        .action(ArgAction::Append)
-        .num_args(1..)
-        .required(true);
     Command::new(alloc, "logs")
         .about("Judges the logs of all nodes of a ring together")
-        .arg(logs)
+        .arg(log_files(alloc))
 }
 
-fn logs_request<'a>(alloc: Global, matches: &ArgMatches<'a>) -> Result<Request<'a>, Error>
-    ensures { IfOk result (NamesFiles (unwrap_or (all_of (codes "LOG") (rows_of (found_of matches.now))) [])) }
+fn check_command<'a>(alloc: Global) -> Result<Command<'a>, AllocError>
+    ensures { IfOk result (λ c. app_of c ≡ check_app) }
 {
-    let names: &[&'a str] = matches.get_strs("LOG").unwrap_or([].as_slice());
-    Ok(Request::Logs(names.to_vec(alloc)?))
+    let question = option(alloc, "question", "Q", "The file with the question");
+    let certificate = option(alloc, "cert", "C", "The file with the certificate");
+    let depth = option(
+        alloc,
+        "depth",
+        "D",
+        "How often the steps of a section are halved among threads, 0 to 4",
+    );
+    Command::new(alloc, "check")
+        .about("Judges logs together with a certificate that no moment met a case of a question")
+        .arg(question.required(true))?
+        .arg(certificate.required(true))?
+        .arg(
+            depth
+                .value_parser(value_parser!(u32).range(0..=4))
+                .default_value("2"),
+        )?
+        .arg(log_files(alloc))
+}
+
+/// The files to judge, where all options have a value.
+fn check_request<'a>(matches: &ArgMatches<'a>, logs: Vec<&'a str>) -> Option<Request<'a>>
+    requires { map (λ name. name.now) logs.items ≡ unwrap_or (all_of (codes "LOG") (rows_of (found_of matches.now))) [] }
+    ensures { IfSome result (IsCheck (rows_of (found_of matches.now))) }
+{
+    Some(Request::Check(CheckRequest {
+        question: matches.get_str("question")?,
+        certificate: matches.get_str("cert")?,
+        depth: matches.get_one("depth")?,
+        logs,
+    }))
 }
 
 /// An option that takes a value.
@@ -143,7 +190,8 @@ fn request_of_words<'a>(alloc: Global, words: &'a [&'a str]) -> Result<Request<'
     let mut command = command(alloc)?;
     let matches = command.try_get_matches_from_mut(words)?;
     let asked = match matches.subcommand() {
-        Some(("logs", found)) => Some(logs_request(alloc, found)?),
+        Some(("logs", found)) => Some(Request::Logs(log_names(alloc, found)?)),
+        Some(("check", found)) => check_request(found, log_names(alloc, found)?),
         Some(("run", found)) => run_request(found),
         _ => None,
     };

@@ -1,11 +1,13 @@
 //! What the words behind the name of the program `ira` ask for.
 #![tactic(auto)]
 
+mod check_request;
 mod command_line;
 mod request;
 mod run_request;
 mod words_fault;
 
+pub use check_request::CheckRequest;
 pub use command_line::read_words;
 pub use request::Request;
 pub use run_request::RunRequest;

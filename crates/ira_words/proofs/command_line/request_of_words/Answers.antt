@@ -2,10 +2,11 @@ use Rattle.std.proofs.Common.{◌≡◌, ◌∙◌, sym, ap, subst, List, [], �
 use Rattle.std.specs.Prelude.{All, unwrap_or}
 use Rattle.clap.specs.Words.{HasMatchesOf, all_of, app_of}
 use Rattle.ira_words.specs.Request.{IsFileName, IsMadeOf}
+use Rattle.ira_words.specs.CheckRequest.{HasFiles}
 use Rattle.ira_words.specs.RunRequest.{HasOptions}
-use Rattle.ira_words.proofs.FirstWord.{met_by_first, rows_of_logs, rows_of_run}
+use Rattle.ira_words.proofs.FirstWord.{met_by_first, rows_of_check, rows_of_logs, rows_of_run}
 use Rattle.ira_words.proofs.GivenNames.{given_behind, words_behind, words_given}
-use Rattle.ira_words.proofs.command_line.request_of_words.Goals.{in-Some-logs-default+in_ok-logs_request-in-Some-logs-default, in-Some-run-default, in_default}
+use Rattle.ira_words.proofs.command_line.request_of_words.Goals.{in-Some-logs-default+in_ok-log_names-in-Some-logs-default, in-Some-check-default+in_ok-log_names-in-Some-check-default, in-Some-run-default, in_default}
 use Rattle.ira_words.proofs.command_line.request_of_words.Goals as goal
 
 not_both : {X : Type 0} (o : Option X) (x : X) → o ≡ None → o ≡ Some x → ⊥
@@ -22,16 +23,23 @@ returns-in-Some c =
     let words = map (λ w. w.now) c.args.words.now in
     let parse = c.in_ok-matches.ensures in
     elim c.match-subcommand.branch [
-      | in-Some-logs-default+in_ok-logs_request-in-Some-logs-default w ↦
+      | in-Some-logs-default+in_ok-log_names-in-Some-logs-default w ↦
           let arm = w.in-Some-logs-default in
           let first = met_by_first _ _ words (codes "logs") c.in_ok-command.ensures parse.ok.2 parse.kinds (ap (λ n. Some n) (sym arm.is-logs) ∙ arm.ensures.name) in
           let Has : List (List ℕ) → Type 0 = λ ws. HasMatchesOf (app_of c.in_ok-command.command) ws c.in_ok-matches.matches in
           let rows = rows_of_logs _ _ first.0 _ c.in_ok-command.ensures (subst Has first.1 parse.ok.2) arm.ensures.rows in
-          let made = w.in_ok-logs_request-in-Some-logs-default.ensures in
-          let read : map (λ name. name.now) made.0.items ≡ given_behind first.0 = made.2 ∙ ap (λ r. unwrap_or (all_of (codes "LOG") r) []) rows in
-          let marked : (front back : List (List ℕ)) → All IsFileName front → first.0 ≡ front ++ codes "--" ∷ back → map (λ name. name.now) made.0.items ≡ front ++ back =
+          let names = w.in_ok-log_names-in-Some-logs-default in
+          let read : map (λ name. name.now) names.field-0.items ≡ given_behind first.0 = names.ensures ∙ ap (λ r. unwrap_or (all_of (codes "LOG") r) []) rows in
+          let marked : (front back : List (List ℕ)) → All IsFileName front → first.0 ≡ front ++ codes "--" ∷ back → map (λ name. name.now) names.field-0.items ≡ front ++ back =
           λ front back are apart. read ∙ ap given_behind apart ∙ words_behind front back are in
-          subst (IsMadeOf words) (sym (same_value _ _ _ c.in-Some.is w.asked-is ∙ made.1)) (record { others = first.0; first = first.1; plain = λ are. read ∙ words_given first.0 are; marked = marked })
+          subst (IsMadeOf words) (sym (same_value _ _ _ c.in-Some.is w.asked-is)) (record { others = first.0; first = first.1; plain = λ are. read ∙ words_given first.0 are; marked = marked })
+      | in-Some-check-default+in_ok-log_names-in-Some-check-default w ↦
+          let arm = w.in-Some-check-default in
+          let first = met_by_first _ _ words (codes "check") c.in_ok-command.ensures parse.ok.2 parse.kinds (ap (λ n. Some n) (sym arm.is-check) ∙ arm.ensures.name) in
+          let Has : List (List ℕ) → Type 0 = λ ws. HasMatchesOf (app_of c.in_ok-command.command) ws c.in_ok-matches.matches in
+          let rows = rows_of_check _ _ first.0 _ c.in_ok-command.ensures (subst Has first.1 parse.ok.2) arm.ensures.rows in
+          let check = value_of _ _ _ w.check_request-asked.ensures (sym w.asked-is ∙ c.in-Some.is) in
+          subst (IsMadeOf words) (sym check.1) (record { others = first.0; first = first.1; files = subst (λ found. HasFiles found check.0) rows check.2 })
       | in-Some-run-default w ↦
           let arm = w.in-Some-run-default in
           let first = met_by_first _ _ words (codes "run") c.in_ok-command.ensures parse.ok.2 parse.kinds (ap (λ n. Some n) (sym arm.is-run) ∙ arm.ensures.name) in

@@ -1,0 +1,12 @@
+/// Logs to judge together with a question and a certificate, as the words name them.
+#[derive(Debug, Drop)]
+pub struct CheckRequest<'a> {
+    /// The file of the question.
+    pub question: &'a str,
+    /// The file of the certificate.
+    pub certificate: &'a str,
+    /// How often the steps of a section are to be halved among threads, 0 to 4.
+    pub depth: u32,
+    /// The files of the logs, in the order of the ring's places.
+    pub logs: Vec<&'a str>,
+}
