@@ -3,16 +3,18 @@ use Rattle.std.specs.Prelude.{◌≡◌, ◌⊎◌, ℕ, ◌+◌, true, List, Op
 use Rattle.ira_event.specs.declared.limits.TheConstants.{MAX_TEXT}
 use Rattle.ira_event.specs.Sink.{Takes, StopsIn}
 use Rattle.ira_audit.specs.Answer.{IsAnswer}
+use Rattle.ira_audit.specs.AuditAnswer.{IsAuditAnswer}
 use Rattle.ira_audit.specs.LogsAnswer.{IsLogsAnswer}
 use Rattle.ira_ring.specs.EndsWriter.{ends_text}
 use Rattle.ira_ring.specs.Run.{Run}
 use Rattle.ira_main.specs.Counted.{Reads}
 use Rattle.ira_main.specs.ReadText.{IsReadTo}
 use Rattle.ira_audit.specs.Report.{report_line}
-use Rattle.ira_words.specs.Request.{AskForLogs, AskForRun}
+use Rattle.ira_words.specs.Request.{AskForCheck, AskForLogs, AskForRun}
 use Rattle.ira_main.specs.AskedRun.{IsAskedRun}
 use Rattle.ira_main.specs.Status.{IsElectionStatus, status_number, answer_status}
 use Rattle.ira_audit.specs.declared.answer.Answer.{Answer}
+use Rattle.ira_words.specs.declared.check_request.CheckRequest.{CheckRequest}
 use Rattle.ira_words.specs.declared.run_request.RunRequest.{RunRequest}
 
 -- nothing was written, and nothing failed
@@ -48,6 +50,17 @@ pub record JudgesTogether (number : ℕ) (taken : Option (List ℕ)) (failures :
   pub judged : IsLogsAnswer texts answer
   pub reported : Reports answer taken failures taken' failures' status
 
+-- so many texts of logs were judged together with the text of a question and the text of a certificate, and their
+-- answer reported
+pub record JudgesCertified (number : ℕ) (taken : Option (List ℕ)) (failures : ℕ) (taken' : Option (List ℕ)) (failures' : ℕ) (status : ℕ) : Type 0 where
+  pub texts : List (List ℕ)
+  pub many : length texts ≡ number
+  pub question : List ℕ
+  pub certificate : List ℕ
+  pub answer : Answer
+  pub judged : IsAuditAnswer texts question certificate answer
+  pub reported : Reports answer taken failures taken' failures' status
+
 -- the ends of a run were written whole, and the status says whether a node leads; or the write failed,
 -- and the status is 2
 abbrev pub ReportsEnds : Run → Option (List ℕ) → ℕ → Option (List ℕ) → ℕ → ℕ → Type 0
@@ -62,9 +75,11 @@ pub record Records (request : RunRequest) (taken : Option (List ℕ)) (failures 
   pub reported : ReportsEnds run taken failures taken' failures' status
 
 -- what was done for the words: they ask for the logs in some files, and as many texts were judged together;
--- or they ask for a ring, and it was run; or no answer was given
+-- or they ask to check the logs in some files, and as many texts were judged with those of a question and of a
+-- certificate; or they ask for a ring, and it was run; or no answer was given
 pub data Done (words : List (List ℕ)) (taken : Option (List ℕ)) (failures : ℕ) (taken' : Option (List ℕ)) (failures' : ℕ) (status : ℕ) : Type 0 where
   judged : (names : List (List ℕ)) → AskForLogs words names → JudgesTogether (length names) taken failures taken' failures' status → Done words taken failures taken' failures' status
+  certified : (check : CheckRequest) → AskForCheck words check → JudgesCertified (length check.logs.items) taken failures taken' failures' status → Done words taken failures taken' failures' status
   recorded : (request : RunRequest) → AskForRun words request → Records request taken failures taken' failures' status → Done words taken failures taken' failures' status
   no_answer : GivesNoAnswer taken failures taken' failures' status → Done words taken failures taken' failures' status
 

@@ -1,6 +1,7 @@
-ghost use Rattle.std.specs.Prelude.{◌≡◌, ◌≢◌, ◌⊎◌, ◌≤◌, ◌+◌, [], length, map};
+ghost use Rattle.std.specs.Prelude.{◌≡◌, ◌≢◌, ◌⊎◌, ◌≤◌, ◌+◌, ℕ, List, [], IfOk, length, map};
 ghost use Rattle.ira_audit.specs.Report.{IsReportable};
-ghost use Rattle.ira_main.specs.Serve.{GivesNoAnswer, Judges, JudgesTogether, Obeys, Reports};
+ghost use Rattle.ira_audit.specs.RingAudit.{HasTaken};
+ghost use Rattle.ira_main.specs.Serve.{GivesNoAnswer, Judges, JudgesCertified, JudgesTogether, Obeys, Reports};
 ghost use Rattle.ira_main.specs.Status.{outcome_number};
 
 use crate::complaint::Complaint;
@@ -11,7 +12,8 @@ use crate::shelf::Shelf;
 use crate::status::Status;
 use ira_audit::{Answer, RingAudit, audit_one, write_report};
 use ira_event::{MAX_TEXT, Sink, WriteFault};
-use ira_words::{Request, read_words};
+use ira_links::OpenGate;
+use ira_words::{CheckRequest, Request, read_words};
 use std::alloc::Allocator;
 use std::io::Read;
 use std::sync::Wait;
@@ -46,8 +48,34 @@ fn judge_input<'a, A: Allocator, I: Read, W: Sink>(
     report(&answer, out)
 }
 
-// Judges the logs in the files of these names together. Each file is read before an answer is given,
-// and its text is given up once its log is read.
+// The text of the file of this name.
+fn read_file<'a, A: Allocator, F: Shelf<A>>(
+    name: &'a str,
+    shelf: &mut F,
+) -> Result<Vec<u8, A>, Complaint<'a>> {
+    match shelf.read(name) {
+        Ok(text) => Ok(text),
+        Err(fault) => Err(Complaint::unread(name, fault)),
+    }
+}
+
+// The logs in the files of these names. Each text is given up once its log is read.
+fn read_logs<'a, A: Allocator + Clone, B: Allocator, F: Shelf<B>>(
+    alloc: A,
+    names: &[&'a str],
+    shelf: &mut F,
+) -> Result<RingAudit<A>, Complaint<'a>>
+    ensures { IfOk result (λ audit. (texts : List (List ℕ)) × HasTaken audit texts × (length texts ≡ length names.now)) }
+{
+    let mut audit = RingAudit::new(alloc);
+    for name in names {
+        let text = read_file(name, shelf)?;
+        audit.take(&text)?;
+    }
+    Ok(audit)
+}
+
+// Judges the logs in the files of these names together. Each file is read before an answer is given.
 fn judge_files<'a, A: Allocator, F: Shelf<A>, W: Sink>(
     alloc: A,
     names: &[&'a str],
@@ -56,14 +84,32 @@ fn judge_files<'a, A: Allocator, F: Shelf<A>, W: Sink>(
 ) -> Result<Status, Complaint<'a>>
     ensures { JudgesTogether (length names.now) (W.taken out.old) (W.failures out.old) (W.taken out.new) (W.failures out.new) (outcome_number result) ⊎ GivesNoAnswer (W.taken out.old) (W.failures out.old) (W.taken out.new) (W.failures out.new) (outcome_number result) }
 {
-    let mut audit = RingAudit::new(&alloc);
-    for name in names {
-        match shelf.read(name) {
-            Ok(text) => audit.take(&text)?,
-            Err(fault) => return Err(Complaint::unread(name, fault)),
-        }
-    }
+    let audit = read_logs(&alloc, names, shelf)?;
     let answer = audit.finish()?;
+    report(&answer, out)
+}
+
+// Judges the logs in the files that are named with the question and the certificate in theirs. The files are
+// read in this order, all before an answer is given: question, certificate, logs.
+fn check_files<'a, R, A, F, W>(
+    rt: &R,
+    alloc: A,
+    check: &CheckRequest<'a>,
+    shelf: &mut F,
+    out: &mut W,
+) -> Result<Status, Complaint<'a>>
+where
+    R: Threads + Wait + Clock + Sync,
+    A: Allocator + Clone + Send + Sync,
+    F: Shelf<A>,
+    W: Sink,
+    ensures { JudgesCertified (length check.now.logs.items) (W.taken out.old) (W.failures out.old) (W.taken out.new) (W.failures out.new) (outcome_number result) ⊎ GivesNoAnswer (W.taken out.old) (W.failures out.old) (W.taken out.new) (W.failures out.new) (outcome_number result) }
+{
+    let question = read_file(check.question, shelf)?;
+    let certificate = read_file(check.certificate, shelf)?;
+    let audit = read_logs(alloc, &check.logs, shelf)?;
+    let depth = check.depth.min(4) as u8;
+    let answer = audit.finish_with(rt, &question, &certificate, depth, &OpenGate)?;
     report(&answer, out)
 }
 
@@ -89,6 +135,7 @@ where
     match read_words(rt.alloc(), words)? {
         Request::OneLog => judge_input(alloc, input, out),
         Request::Logs(names) => judge_files(alloc, &names, shelf, out),
+        Request::Check(check) => check_files(rt, alloc, &check, shelf, out),
         Request::Run(ring) => record_run(rt, alloc, &ring, shelf, out),
     }
 }
@@ -110,8 +157,9 @@ fn conclude<V: Sink>(outcome: Result<Status, Complaint<'_>>, err: &mut V) -> u8
 ///
 /// Without words it judges the log on `input`, of which it reads at most one byte more than
 /// `MAX_TEXT`. With words it reads nothing of `input`: `logs` and some names judges the logs in those
-/// files together, `run` and its options runs a ring and writes the logs of its nodes to files, and all
-/// other words are refused. Only a run without `--alone` starts threads, and waits for them.
+/// files together; `check` judges them with the question and the certificate in the files of its options; `run`
+/// and its options runs a ring and writes the logs of its nodes to files; and all other words are refused. Only a
+/// run without `--alone` starts threads, and waits for them.
 pub fn serve<R, A, I, F, W, V>(
     rt: &R,
     alloc: A,

@@ -1,0 +1,23 @@
+use Rattle.std.proofs.Common.{inl, refl, ap, length, ◌∙◌}
+use Rattle.ira_event.proofs.Unless.{unless_ok}
+use Rattle.ira_main.proofs.program.check_files.Goals as goal
+
+pub report-requires : goal.report-requires
+report-requires g c =
+    let taken = c.in_ok-audit.ensures in
+    c.in_ok-answer.ensures.reportable taken.0 taken.1
+
+pub returns : goal.returns
+returns g c =
+    let taken = c.in_ok-audit.ensures in
+    let answer = c.in_ok-answer.answer in
+    let exact = unless_ok answer _ _ (c.in_ok-answer.ensures.answer taken.0 answer taken.1) in
+    inl (record {
+      texts = taken.0;
+      many = taken.2 ∙ ap length c.deref.ensures.value;
+      question = _;
+      certificate = _;
+      answer = answer;
+      judged = exact.0 refl;
+      reported = c.report.ensures;
+    })
