@@ -5,6 +5,7 @@ ghost use Rattle.ira_event.specs.Event.{is_msg};
 use ira_event::Msg;
 use ira_links::{Closed, Frame, Gate, LinkIn, LinkOut, OpenGate, link, settle};
 use std::alloc::Global;
+use std::process::Abort;
 use std::sync::Wait;
 use std::test::*;
 use std::thread::{self, join};
@@ -25,28 +26,38 @@ fn message(id: u32) -> Msg
     }
 }
 
-#[test]
-fn link_order_and_exhaustion(rt: HostRuntime) -> Result<(), Fail> {
+fn assert_in_order(rt: &(impl Abort + Wait + AllocGlobal)) -> Result<(), Fail> {
     let frame = Frame::Msg(message(1));
     let (mut output, mut input) = link(rt.alloc(), 2)?;
-    assert_eq!(rt; output.put(&rt, frame), Ok(()));
-    assert_eq!(rt; output.put(&rt, Frame::Stop), Ok(()));
-    assert_eq!(rt; input.take(&rt), Ok(frame));
+    assert_eq!(rt; output.put(rt, frame), Ok(()));
+    assert_eq!(rt; output.put(rt, Frame::Stop), Ok(()));
+    assert_eq!(rt; input.take(rt), Ok(frame));
     let settled = settle(output, input);
     assert_eq!(rt; settled.puts(), 2);
     assert_eq!(rt; settled.takes(), 1);
+    Ok(())
+}
 
+fn assert_exhausted(rt: &(impl Abort + Wait + AllocGlobal)) -> Result<(), Fail> {
     let (mut output, mut input) = link(rt.alloc(), 1)?;
+    let mut are_equal = true;
     for id in 1..=1_000_000 {
         let frame = Frame::Msg(message(id));
-        assert_eq!(rt; output.put(&rt, frame), Ok(()), "put {id}");
-        assert_eq!(rt; input.take(&rt), Ok(frame), "take {id}");
+        are_equal = are_equal && output.put(rt, frame) == Ok(()) && input.take(rt) == Ok(frame);
     }
-    assert_eq!(rt; output.put(&rt, frame), Err(frame));
+    assert!(rt; are_equal);
+    let frame = Frame::Msg(message(1));
+    assert_eq!(rt; output.put(rt, frame), Err(frame));
     let settled = settle(output, input);
     assert_eq!(rt; settled.puts(), 1_000_000);
     assert_eq!(rt; settled.takes(), 1_000_000);
     Ok(())
+}
+
+#[test]
+fn link_order_and_exhaustion(rt: HostRuntime) -> Result<(), Fail> {
+    assert_in_order(&rt)?;
+    assert_exhausted(&rt)
 }
 
 // Puts three frames at once, and a Stop a while after.

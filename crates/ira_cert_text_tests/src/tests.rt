@@ -31,21 +31,6 @@ fn one_section(alloc: Global, steps: &[CertStep]) -> Result<Certificate<Global>,
     })
 }
 
-/// So many sections without steps.
-fn empty_sections(alloc: Global, count: usize) -> Result<Certificate<Global>, Fail> {
-    let mut sections = Vec::new(alloc);
-    for _ in 0..count {
-        sections.push(Section {
-            steps: Vec::new(alloc),
-            spent: 1,
-        })?;
-    }
-    Ok(Certificate {
-        nodes: RingSize::new(2).ok_or("a ring of two")?,
-        sections,
-    })
-}
-
 #[test]
 fn two_step_section(rt: HostRuntime) -> Result<(), Fail> {
     assert_eq!(rt; TWO_STEP_SECTION.len(), 69);
@@ -132,18 +117,5 @@ fn prefixes_of_two_step_section(rt: HostRuntime) -> Result<(), Fail> {
     let mut twice = Vec::from_slice(rt.alloc(), TWO_STEP_SECTION)?;
     twice.extend_from_slice(TWO_STEP_SECTION)?;
     assert_eq!(rt; answer(rt.alloc(), &twice), Err(CertFault::Trailing));
-    Ok(())
-}
-
-#[test]
-fn readable_within_the_limits(rt: HostRuntime) -> Result<(), Fail> {
-    let alloc = rt.alloc();
-    assert!(rt; one_section(alloc, &[step(1, 100_000, 0, 100_000)])?.readable());
-    assert!(rt; !one_section(alloc, &[step(1, 100_001, 0, 1)])?.readable());
-    assert!(rt; !one_section(alloc, &[step(1, 1, 0, 100_001)])?.readable());
-    assert!(rt; !one_section(alloc, &[step(2, 1, 0, 4)])?.readable());
-    assert!(rt; !one_section(alloc, &[step(1, 1, 2, 4)])?.readable());
-    assert!(rt; empty_sections(alloc, 2_016)?.readable());
-    assert!(rt; !empty_sections(alloc, 2_017)?.readable());
     Ok(())
 }

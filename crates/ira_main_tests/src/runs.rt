@@ -4,7 +4,7 @@ use crate::fakes::{File, FullSink, MemoryShelf, assert_served};
 use crate::samples::{ELECTED_0, ELECTED_1, LONE_0, LONE_1, LONE_2};
 use ira_event::MemorySink;
 use ira_main::{Counted, serve};
-use std::alloc::Global;
+use std::alloc::{AllocError, Global};
 use std::io;
 use std::process::Abort;
 use std::sync::Wait;
@@ -257,17 +257,19 @@ fn assert_done(
     assert_eq!(rt; status, 0);
 }
 
+fn borrowed(alloc: Global, words: &[String]) -> Result<Vec<&str>, AllocError> {
+    words.iter().map(|word| word.as_str()).collect(alloc)
+}
+
 #[test]
 fn largest_ring(rt: HostRuntime) -> Result<(), Fail> {
     let run = ["run", "--nodes=64", "--seed=7", "--out=d", "--alone"];
-    let mut names = Vec::new(rt.alloc());
+    let mut words = Vec::new(rt.alloc());
+    words.push(format!(in rt.alloc(); "logs")?)?;
     for place in 0..64 {
-        names.push(format!(in rt.alloc(); "d/{place}.log")?)?;
+        words.push(format!(in rt.alloc(); "d/{place}.log")?)?;
     }
-    let mut logs = vec![in rt.alloc(); "logs"]?;
-    for name in &names {
-        logs.push(name.as_str())?;
-    }
+    let logs = borrowed(rt.alloc(), &words)?;
     let mut shelf = MemoryShelf::new(rt.alloc(), &[]);
     let mut out = MemorySink::new(rt.alloc());
     assert_done(&rt, &run, &mut shelf, &mut out);

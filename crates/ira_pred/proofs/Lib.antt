@@ -11,6 +11,5 @@ pub mod QuestionHeads
 pub mod QuestionReading
 pub mod QuestionTexts
 pub mod QuestionsRead
-pub mod Rest
 pub mod Sizes
 pub mod Walks

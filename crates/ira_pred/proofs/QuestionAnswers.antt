@@ -3,16 +3,17 @@ use Rattle.std.proofs.Common.{◌≡◌, ◌≢◌, ◌≤◌, ◌+◌, ◌⊎�
 use Rattle.std.specs.Prelude.{All, codes}
 use Rattle.std.proofs.lemmas.List.{append-nil, append_cancel_left}
 use Rattle.std.proofs.lemmas.List.Elements.{All-nil, All-cons, All-head, All-tail}
-use Rattle.ira_event.specs.LogTextFault.{HasNoLineFeed}
+use Rattle.ira_event.specs.NextLine.{HasNoLineFeed, cut, at_line}
 use Rattle.ira_event.specs.Numeral.{IsNumeral}
 use Rattle.ira_event.proofs.Numerals.{numeral_same, Lacks-numeral}
+use Rattle.ira_event.proofs.NextLines.{next_faults_same}
 use Rattle.ira_event.proofs.Pieces.{line_same, line_has_feed}
 use Rattle.ira_pred.specs.declared.ask_fault.AskFault.{AskFault}
-use Rattle.ira_pred.specs.declared.ask_fault.AskFault.TheVariants.{Line, Place, Depth, Empty, Cases, Trailing}
+use Rattle.ira_pred.specs.declared.ask_fault.AskFault.TheVariants.{Line, Place, Depth, Empty, Cases, Cut, Trailing}
 use Rattle.ira_pred.specs.Case.{Conjunct, IsCase}
 use Rattle.ira_pred.specs.Question.{Asked}
 use Rattle.ira_pred.specs.QuestionText.{IsPlaced, AreConjunctLines, AreCaseTexts, IsQuestionText}
-use Rattle.ira_pred.specs.QuestionTextFault.{IsTooDeep, Spot, MayFollow, FirstLineFault, no_case, other_line, CaseLineFault, empty, too_many, no_place, wrong_place, too_deep, no_clause, trailing, NextLineFault, cut, at_line, BeginsWithQuestionHead, BeginsInCase, spot, CasesFault, before_cases, in_case, QuestionLinesFault, no_head, behind_head, QuestionTextFault}
+use Rattle.ira_pred.specs.QuestionTextFault.{IsTooDeep, Spot, MayFollow, FirstLineFault, no_case, other_line, CaseLineFault, empty, too_many, no_place, wrong_place, too_deep, no_clause, trailing, NextLineFault, BeginsWithQuestionHead, BeginsInCase, spot, CasesFault, before_cases, in_case, QuestionLinesFault, no_head, behind_head, QuestionTextFault}
 use Rattle.ira_pred.proofs.QuestionTexts.{placed_same, case_unplaced, end_unplaced}
 use Rattle.ira_pred.proofs.Walks.{Reading, Walk, Stops, walks_same, ReadsOn, reads_on, faults_stop, end_stops}
 
@@ -107,14 +108,6 @@ first_faults_same line more f g (no_case a is) (other_line x y is') = absurd (y 
 first_faults_same line more f g (other_line x y is) (no_case b is') = absurd (y b)
 first_faults_same line more f g (other_line x y is) (other_line x' y' is') = is ∙ sym is'
 
-next_faults_same : (F : List ℕ → List ℕ → AskFault → Type 0) → ((line more : List ℕ) (f g : AskFault) → F line more f → F line more g → f ≡ g) → (x : List ℕ) (f g : AskFault) → NextLineFault F x f → NextLineFault F x g → f ≡ g
-next_faults_same F one x f g (cut a is) (cut b is') = is ∙ sym is'
-next_faults_same F one x f g (cut a is) (at_line line more p feed h) = absurd (line_has_feed line more (subst (λ t. HasNoLineFeed t) p a))
-next_faults_same F one x f g (at_line line more p feed h) (cut a is) = absurd (line_has_feed line more (subst (λ t. HasNoLineFeed t) p a))
-next_faults_same F one x f g (at_line l rest p feed h) (at_line m more q feed' k) =
-    let s = line_same l m rest more feed feed' (sym p ∙ q) in
-    one m more f g (subst (λ w. F m w f) s.1 (subst (λ w. F w rest f) s.0 h)) k
-
 -- ---- the fault behind a head
 
 at_case : (line : List ℕ) (f : AskFault) → line ≡ codes "case" → FirstLineFault line f → ⊥
@@ -141,7 +134,7 @@ abbrev SpotFault : ℕ → Reading → List ℕ → AskFault → Type 0
 SpotFault nodes r x f = NextLineFault (CaseLineFault nodes (spot r.cases r.conjuncts)) x f
 
 cases_faults_same : (nodes : ℕ) (text : List ℕ) (f g : AskFault) → CasesFault nodes text f → CasesFault nodes text g → f ≡ g
-cases_faults_same nodes text f g (before_cases a) (before_cases b) = next_faults_same (λ line rest h. FirstLineFault line h) first_faults_same text f g a b
+cases_faults_same nodes text f g (before_cases a) (before_cases b) = next_faults_same Cut (λ line rest h. FirstLineFault line h) first_faults_same text f g a b
 cases_faults_same nodes text f g (before_cases a) (in_case cases conjuncts rest b lf) =
     let r = reads_on nodes text cases conjuncts rest b in absurd (begins_well text r.more f r.parts a)
 cases_faults_same nodes text f g (in_case cases conjuncts rest b lf) (before_cases a) =
@@ -151,7 +144,7 @@ cases_faults_same nodes text f g (in_case cases conjuncts rest a lf) (in_case ca
     let q = reading cases' conjuncts' in
     let s = readings_same nodes text p q rest rest' (reads_on nodes text cases conjuncts rest a) (reads_on nodes text cases' conjuncts' rest' b) (faults_stop nodes p rest f lf) (faults_stop nodes q rest' g lg) in
     let moved = subst (λ w. SpotFault nodes q w f) s.1 (subst (λ r. SpotFault nodes r rest f) s.0 lf) in
-    next_faults_same (CaseLineFault nodes (spot cases' conjuncts')) (line_faults_same nodes (spot cases' conjuncts')) rest' f g moved lg
+    next_faults_same Cut (CaseLineFault nodes (spot cases' conjuncts')) (line_faults_same nodes (spot cases' conjuncts')) rest' f g moved lg
 
 -- ---- the text of a question has no fault
 

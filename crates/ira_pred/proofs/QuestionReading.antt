@@ -4,6 +4,7 @@ use Rattle.std.specs.Option.{option_map}
 use Rattle.std.specs.Prelude.{All, AllPairs, codes, position}
 use Rattle.std.proofs.lemmas.Bool.Decides.{nat_tests}
 use Rattle.std.proofs.lemmas.List.{length-map, get_or-map}
+use Rattle.ira_event.specs.NextLine.{cut, at_line}
 use Rattle.ira_event.specs.Numeral.{IsNumeral}
 use Rattle.ira_event.specs.Scan.{kept, kept_at, after_word, Gives}
 use Rattle.ira_event.proofs.LogReading.{no_line_end, line_end_at}
@@ -20,7 +21,7 @@ use Rattle.ira_pred.specs.PlacedClause.{conjunct, conjuncts}
 use Rattle.ira_pred.specs.QuestionLines.{LinesLeft, ReadsLine, ClauseFault}
 use Rattle.ira_pred.specs.QuestionScan.{place_at}
 use Rattle.ira_pred.specs.QuestionText.{IsClauseText, IsPlaced, IsConjunctLine}
-use Rattle.ira_pred.specs.QuestionTextFault.{IsTooDeep, Spot, MayFollow, FirstLineFault, no_case, other_line, CaseLineFault, empty, too_many, no_place, wrong_place, too_deep, no_clause, trailing, NextLineFault, cut, at_line}
+use Rattle.ira_pred.specs.QuestionTextFault.{IsTooDeep, Spot, MayFollow, FirstLineFault, no_case, other_line, CaseLineFault, empty, too_many, no_place, wrong_place, too_deep, no_clause, trailing, NextLineFault}
 use Rattle.ira_pred.proofs.ClausesTaken.{clause-takes, clause_in_range}
 use Rattle.ira_pred.proofs.ClauseTexts.{clause-again}
 use Rattle.ira_pred.proofs.Depths.{clause_too_deep}

@@ -4,7 +4,7 @@ use Rattle.std.specs.Prelude.{All, codes, decimal, ◌↔◌}
 use Rattle.std.specs.List.{flat_map}
 use Rattle.std.proofs.lemmas.List.{append_cancel_left}
 use Rattle.std.proofs.lemmas.List.Elements.{All-head, All-tail}
-use Rattle.ira_event.specs.LogTextFault.{HasNoLineFeed}
+use Rattle.ira_event.specs.NextLine.{HasNoLineFeed}
 use Rattle.ira_event.specs.Numeral.{IsNumeral}
 use Rattle.ira_event.proofs.Numerals.{number-again, numeral_same, Lacks-numeral}
 use Rattle.ira_event.proofs.RecordLines.{some_is}

@@ -3,12 +3,12 @@ use Rattle.std.proofs.Common.{◌≡◌, ◌≢◌, ◌<◌, ◌+◌, ℕ, suc, 
 use Rattle.std.specs.Prelude.{All, AllPairs, codes}
 use Rattle.std.proofs.lemmas.List.{append-nil}
 use Rattle.std.proofs.lemmas.List.Elements.{All-nil, All-cons, All-head, All-tail}
-use Rattle.ira_event.specs.LogTextFault.{HasNoLineFeed}
+use Rattle.ira_event.specs.NextLine.{HasNoLineFeed, cut, at_line}
 use Rattle.ira_event.proofs.Pieces.{line_same, line_has_feed}
 use Rattle.ira_pred.specs.declared.ask_fault.AskFault.{AskFault}
 use Rattle.ira_pred.specs.Case.{Conjunct, IsConjunct, AreConjuncts, IsCase}
 use Rattle.ira_pred.specs.QuestionText.{IsClauseText, IsPlaced, IsConjunctLine, AreConjunctLines, AreCaseTexts}
-use Rattle.ira_pred.specs.QuestionTextFault.{IsTooDeep, MayFollow, CaseLineFault, empty, too_many, no_place, wrong_place, too_deep, no_clause, trailing, NextLineFault, cut, at_line, BeginsInCase, spot}
+use Rattle.ira_pred.specs.QuestionTextFault.{IsTooDeep, MayFollow, CaseLineFault, empty, too_many, no_place, wrong_place, too_deep, no_clause, trailing, NextLineFault, BeginsInCase, spot}
 use Rattle.ira_pred.proofs.Depths.{clause_too_deep}
 use Rattle.ira_pred.proofs.QuestionTexts.{placed_same, case_unplaced, end_unplaced, conjunct_same, conjunct_is_one_line, first_line}
 

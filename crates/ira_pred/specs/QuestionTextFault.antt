@@ -1,6 +1,6 @@
 -- The fault of a text that is no question's: the first one, line by line.
 use Rattle.std.specs.Prelude.{◌≡◌, ◌≢◌, ℕ, ◌+◌, ◌<◌, ◌≤◌, ◌⊎◌, List, [], ◌++◌, ◌==◌, length, codes, All, sum_by, count_by}
-use Rattle.ira_event.specs.LogTextFault.{HasNoLineFeed}
+use Rattle.ira_event.specs.NextLine as next
 use Rattle.ira_event.specs.RingSize.{IsRingSize}
 use Rattle.ira_pred.specs.declared.ask_fault.AskFault.{AskFault}
 use Rattle.ira_pred.specs.declared.ask_fault.AskFault.TheVariants.{TooLong, Head, Line, Place, Depth, Empty, Cases, Cut, Trailing}
@@ -63,13 +63,9 @@ pub data CaseLineFault (nodes : ℕ) (at : Spot) (line more : List ℕ) (f : Ask
   -- it is the end line, and something follows it
   trailing : line ≡ codes "end" → at.conjuncts ≢ [] → more ≢ [] → f ≡ Trailing → CaseLineFault nodes at line more f
 
--- the fault of what stands where a line is due: no complete line, or one with a fault; `F line more g`
--- says that a line has fault g where `more` follows it
-pub data NextLineFault (F : List ℕ → List ℕ → AskFault → Type 0) (rest : List ℕ) (f : AskFault) : Type 0 where
-  -- a piece of a line, or nothing
-  cut : HasNoLineFeed rest → f ≡ Cut → NextLineFault F rest f
-  -- a complete line with a fault
-  at_line : (line more : List ℕ) → rest ≡ line ++ codes "\n" ++ more → HasNoLineFeed line → F line more f → NextLineFault F rest f
+-- the fault of what stands where a line is due: Cut where no complete line does, else the fault of the line
+abbrev pub NextLineFault : (List ℕ → List ℕ → AskFault → Type 0) → List ℕ → AskFault → Type 0
+NextLineFault F rest f = next.NextLineFault Cut F rest f
 
 -- the text begins with a head of the grammar whose ring size is in range, and goes on with the rest
 pub record BeginsWithQuestionHead (text : List ℕ) (nodes : ℕ) (rest : List ℕ) : Type 0 where

@@ -4,7 +4,7 @@ use Rattle.std.proofs.lemmas.Result.{err_from_is_err_and}
 use Rattle.ira_event.proofs.Writing.{HasWritten-more, HasWritten-stops}
 use Rattle.ira_pred.specs.PlacedClause.{conjunct, conjuncts}
 use Rattle.ira_pred.specs.QuestionText.{conjunct_text}
-use Rattle.ira_pred.proofs.Rest.{drop-at}
+use Rattle.ira_event.proofs.Rest.{drop-at}
 use Rattle.ira_pred.proofs.question_writer.write_all_placed.Goals as goal
 
 pub loop-placed-preserved : goal.loop-placed-preserved
@@ -12,7 +12,7 @@ loop-placed-preserved g c =
     let xs = c.args.clauses.now in
     let i = c.loop-placed.placed-index in
     let x = c.placed-item.result in
-    let next = ap (λ ys. flat_map conjunct_text (conjuncts ys)) (sym (drop-at xs i x (omega arith) c.placed-item.is)) in
+    let next = ap (λ ys. flat_map conjunct_text (conjuncts ys)) (sym (drop-at xs i x x (omega arith) c.placed-item.is)) in
     HasWritten-more (flat_map conjunct_text (conjuncts xs)) (flat_map conjunct_text (conjuncts (drop i xs))) (conjunct_text (conjunct x)) (flat_map conjunct_text (conjuncts (drop (i + 1) xs))) _ _ _ _ _ _ c.loop-placed.invariant next c.in_ok-write_placed.ensures
 
 pub returns-in_err-write_placed : goal.returns-in_err-write_placed
@@ -21,5 +21,5 @@ returns-in_err-write_placed g c =
     let xs = c.args.clauses.now in
     let i = c.loop-placed.placed-index in
     let x = c.placed-item.result in
-    let next = ap (λ ys. flat_map conjunct_text (conjuncts ys)) (sym (drop-at xs i x (omega arith) c.placed-item.is)) in
+    let next = ap (λ ys. flat_map conjunct_text (conjuncts ys)) (sym (drop-at xs i x x (omega arith) c.placed-item.is)) in
     HasWritten-stops _ _ stop.1 (flat_map conjunct_text (conjuncts xs)) (flat_map conjunct_text (conjuncts (drop i xs))) (conjunct_text (conjunct x)) (flat_map conjunct_text (conjuncts (drop (i + 1) xs))) _ _ _ _ _ _ c.loop-placed.invariant next c.in_err-write_placed.ensures
