@@ -3,7 +3,8 @@
 #
 #     sh examples/check.sh bin/ira
 #
-# A row that names a folder is judged by `ira logs` on its logs, one that names a file by `ira` alone.
+# A row that names a folder is judged by `ira logs` on its logs, one that names a file by `ira` alone, and one that names
+# a question and its certificate by `ira check` on these and the logs of their folder.
 
 ira=$(realpath "$1") || exit 2
 [ -x "$ira" ] || { echo "examples: no program at $1"; exit 2; }
@@ -21,8 +22,10 @@ logs_of() {
 judge() {
     if [ -d "$1" ]; then
         "$ira" logs $(logs_of "$1") < /dev/null
-    else
+    elif [ -f "$1" ]; then
         "$ira" < "$1"
+    else
+        "$ira" check --question "$1.ask" --cert "$1.cert" $(logs_of "${1%/*}") < /dev/null
     fi
 }
 
@@ -61,6 +64,11 @@ if command -v python3 > /dev/null; then
     diff -r "$folder" recorded_ring || fail "recorders/ring.py: other logs than recorded_ring"
     rm -r "$folder"
 fi
+
+# Each certificate has a row.
+for cert in */*.cert; do
+    echo "$rows" | grep -q "^${cert%.cert}$tab" || fail "$cert: no row in README.md"
+done
 
 echo "examples: $passed as expected, $failed not"
 [ "$passed" -gt 0 ] && [ "$failed" -eq 0 ]
