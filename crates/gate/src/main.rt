@@ -1,4 +1,4 @@
-//! The commands of `ira` in turn, on files: an example is judged, and then what each way to run a ring
+//! The commands of `ira` in turn, on files: examples are judged, with questions and certificates too, and then what each way to run a ring
 //! wrote.
 #![tactic(auto)]
 
@@ -56,6 +56,18 @@ fn commands(
 ) -> io::Result<()> {
     ira(rt, input, out, "")?;
     ira(rt, input, out, "logs elected/0.log elected/1.log")?;
+    ira(
+        rt,
+        input,
+        out,
+        "check --question=elected/two_leaders.ask --cert=elected/two_leaders.cert elected/0.log elected/1.log",
+    )?;
+    ira(
+        rt,
+        input,
+        out,
+        "check --question=elected/one_step_short.ask --cert=elected/one_step_short.cert elected/0.log elected/1.log",
+    )?;
     ira(rt, input, out, "run --nodes=5 --seed=7 --out=.")?;
     let by_threads = written(rt, 5);
     ira(rt, input, out, "run --nodes=5 --seed=7 --out=. --alone")?;

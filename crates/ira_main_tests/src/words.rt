@@ -10,6 +10,7 @@ use std::thread::Threads;
 use std::time::Clock;
 
 const USAGE: &str = "\n\nUsage: ira < LOG\n       ira logs <LOG>...\n       \
+                     ira check --question <Q> --cert <C> [--depth <D>] <LOG>...\n       \
                      ira run --nodes <N> --seed <S> --out <DIR> [OPTIONS]\n\n\
                      For more information, try '--help'.\n";
 
@@ -32,7 +33,7 @@ fn words_that_are_no_command(rt: HostRuntime) {
         (
             "--",
             "error: 'ira' requires a subcommand but one was not provided\n  \
-             [subcommands: logs, run, help]",
+             [subcommands: logs, check, run, help]",
         ),
     ] {
         let text = format!(in rt.alloc(); "{first_line}{USAGE}").expect(&rt, "memory");
@@ -51,11 +52,13 @@ fn logs_without_a_file(rt: HostRuntime) {
 fn help_is_a_refused_word(rt: HostRuntime) {
     let help = "Judges and makes logs of Itai-Rodeh elections on anonymous rings.\n\n\
                 Usage: ira < LOG\n       ira logs <LOG>...\n       \
+                ira check --question <Q> --cert <C> [--depth <D>] <LOG>...\n       \
                 ira run --nodes <N> --seed <S> --out <DIR> [OPTIONS]\n\n\
                 Commands:\n\
-                \x20 logs  Judges the logs of all nodes of a ring together\n\
-                \x20 run   Runs an election, and writes the log of each node to a file\n\
-                \x20 help  Print this message or the help of the given subcommand(s)\n\n\
+                \x20 logs   Judges the logs of all nodes of a ring together\n\
+                \x20 check  Judges logs together with a certificate that no moment met a case of a question\n\
+                \x20 run    Runs an election, and writes the log of each node to a file\n\
+                \x20 help   Print this message or the help of the given subcommand(s)\n\n\
                 Options:\n  -h, --help  Print help\n\n\
                 Without words ira judges the log of one node, on standard input. It prints \
                 `yes`, or `no` and\nthe first reason. The status is 0 for yes or an elected leader, \
