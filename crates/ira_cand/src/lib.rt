@@ -6,6 +6,8 @@ mod find_candidates;
 mod holding;
 mod laws;
 mod local_test;
+mod phase_run;
+mod profile;
 #[cfg(test)]
 mod tests;
 
@@ -14,3 +16,4 @@ pub use find_candidates::{candidates, table};
 pub use holding::Holding;
 pub use laws::one_list_of_candidates;
 pub use local_test::LocalTest;
+pub use profile::Profile;
