@@ -1,6 +1,11 @@
+pub mod Behind
+pub mod CaseFronts
+pub mod Exactly
+pub mod Judged
 pub mod Made
 pub mod NoCut
 pub mod OneList
 pub mod OneVerdict
+pub mod Past
 pub mod Prefixes
 pub mod SomeVerdict

@@ -15,8 +15,8 @@ use Rattle.ira_cert.specs.declared.verdict.Verdict.{Verdict}
 use Rattle.ira_cert.specs.declared.verdict.Verdict.TheVariants.{Yes, No}
 use Rattle.ira_cert.specs.Asked.{IsAsked, HasDifferentPlaces}
 use Rattle.ira_cert.specs.Front.{made, IsFront, IsSpent}
-use Rattle.ira_cert.specs.SoundSection.{IsSoundStep, IsSoundSection}
-use Rattle.ira_cert.specs.SectionFault.{HasFront, WhyUnsound, not_asked, same_node, node_spent, not_front, not_before, IsSectionFault, unsound, not_spent}
+use Rattle.ira_cert.specs.SoundSection.{IsSoundStep, AreSoundSteps, IsSoundSection}
+use Rattle.ira_cert.specs.SectionFault.{HasFront, WhyUnsound, not_asked, same_node, node_spent, not_front, not_before, IsFirstUnsoundStep, IsSectionFault, unsound, not_spent}
 use Rattle.ira_cert.specs.Verdict.{IsVerdict}
 use Rattle.ira_cert.proofs.OneList.{one_list}
 use Rattle.ira_cert.proofs.Prefixes.{sound_below}
@@ -85,25 +85,37 @@ module _ (logs : List Log) (case : List Conjunct) (differ : HasDifferentPlaces c
     sound_or_not why sound h = (only_not_before why sound.differ sound.front sound.other_front h).1 sound.happened_before
 
 module _ (logs : List Log) (case : List Conjunct) (differ : HasDifferentPlaces case) where
-  one_fault : (section : Section) (f g : SectionFault) → IsSectionFault logs case section f → IsSectionFault logs case section g → f ≡ g
-  one_fault section f g (unsound j s v sound at why e) (unsound k t w sound' at' why' e') = elim (cases_order j k) [
+  -- a step that isn't sound isn't followed by another first one
+  first_is_first : (steps : List CertStep) (j k : ℕ) (v w : Unsound) → j < k → IsFirstUnsoundStep logs case steps j v → ¬ (IsFirstUnsoundStep logs case steps k w)
+  first_is_first steps j k v w l first other =
+      sound_or_not logs case differ (take j steps) first.step v (sound_below logs case steps k other.before j first.step l first.at) first.reason
+
+  one_first : (steps : List CertStep) (j k : ℕ) (v w : Unsound) → IsFirstUnsoundStep logs case steps j v → IsFirstUnsoundStep logs case steps k w → Step j v ≡ Step k w
+  one_first steps j k v w first other = elim (cases_order j k) [
     | inl same ↦
-        let step : s ≡ t = same_Some s t (sym at ∙ ap (λ (n : ℕ). slice_get section.steps n) same ∙ at') in
-        let there : WhyUnsound logs case (take k section.steps) t v =
-        subst (λ (n : ℕ). WhyUnsound logs case (take n section.steps) t v) same (subst (λ (u : CertStep). WhyUnsound logs case (take j section.steps) u v) step why) in
-        let reason : v ≡ w = one_why logs case differ (take k section.steps) t v w there why' in
-        e ∙ ap (λ (n : ℕ). Step n v) same ∙ ap (λ (u : Unsound). Step k u) reason ∙ sym e'
-    | inr other ↦ elim other [
-      | inl l ↦ absurd (sound_or_not logs case differ (take j section.steps) s v (sound_below logs case section.steps k sound' j s l at) why)
-      | inr l ↦ absurd (sound_or_not logs case differ (take k section.steps) t w (sound_below logs case section.steps j sound k t l at') why')
+        let step : first.step ≡ other.step = same_Some first.step other.step (sym first.at ∙ ap (λ (n : ℕ). slice_get steps n) same ∙ other.at) in
+        let there : WhyUnsound logs case (take k steps) other.step v =
+        subst (λ (n : ℕ). WhyUnsound logs case (take n steps) other.step v) same (subst (λ (u : CertStep). WhyUnsound logs case (take j steps) u v) step first.reason) in
+        let reason : v ≡ w = one_why logs case differ (take k steps) other.step v w there other.reason in
+        ap (λ (n : ℕ). Step n v) same ∙ ap (λ (u : Unsound). Step k u) reason
+    | inr apart ↦ elim apart [
+      | inl l ↦ absurd (first_is_first steps j k v w l first other)
+      | inr l ↦ absurd (first_is_first steps k j w v l other first)
     ]
   ]
-  one_fault section f g (unsound j s v sound at why e) (not_spent all _ _) = absurd (sound_or_not logs case differ (take j section.steps) s v (all j s at) why)
-  one_fault section f g (not_spent all _ _) (unsound j s v sound at why e) = absurd (sound_or_not logs case differ (take j section.steps) s v (all j s at) why)
+
+  -- where all steps are sound, none is the first that isn't
+  none_first : (steps : List CertStep) (k : ℕ) (why : Unsound) → AreSoundSteps logs case steps → ¬ (IsFirstUnsoundStep logs case steps k why)
+  none_first steps k why sound first = sound_or_not logs case differ (take k steps) first.step why (sound k first.step first.at) first.reason
+
+  one_fault : (section : Section) (f g : SectionFault) → IsSectionFault logs case section f → IsSectionFault logs case section g → f ≡ g
+  one_fault section f g (unsound j v first e) (unsound k w other e') = e ∙ one_first section.steps j k v w first other ∙ sym e'
+  one_fault section f g (unsound k why first _) (not_spent all _ _) = absurd (none_first section.steps k why all first)
+  one_fault section f g (not_spent all _ _) (unsound k why first _) = absurd (none_first section.steps k why all first)
   one_fault section f g (not_spent _ _ e) (not_spent _ _ e') = e ∙ sym e'
 
   sound_has_no_fault : (section : Section) (f : SectionFault) → IsSoundSection logs case section → ¬ (IsSectionFault logs case section f)
-  sound_has_no_fault section f sound (unsound j s v _ at why e) = sound_or_not logs case differ (take j section.steps) s v (sound.steps j s at) why
+  sound_has_no_fault section f sound (unsound k why first e) = none_first section.steps k why sound.steps first
   sound_has_no_fault section f sound (not_spent _ isnt e) = isnt sound.spent
 
   pub one_verdict : (section : Section) (a b : Verdict) → IsVerdict logs case section a → IsVerdict logs case section b → a ≡ b

@@ -84,7 +84,7 @@ module _ (logs : List Log) (case : List Conjunct) (places : HasPlacesOf logs cas
       let s = step_at section.steps k (omega arith) in
       judged section.steps k s.0 (omega arith) sound
       (λ next. not (subst (λ (n : ℕ). AreSoundSteps logs case (take n section.steps)) {x = k + 1} {y = suc k} (omega arith) (sound_more logs case section.steps k s.0 s.1 sound next)))
-      (λ why reason. none (No (Step k why)) (unsound k s.0 why sound s.1 reason refl)))
+      (λ why reason. none (No (Step k why)) (unsound k why (record { before = sound; step = s.0; at = s.1; reason = reason }) refl)))
 
 pub some_verdict : (logs : List Log) (case : List Conjunct) (section : Section) → HasPlacesOf logs case → ¬ ((a : Verdict) → ¬ (IsVerdict logs case section a))
 some_verdict logs case section places none =

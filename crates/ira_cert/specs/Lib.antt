@@ -5,3 +5,4 @@ pub mod Laws
 pub mod SectionFault
 pub mod SoundSection
 pub mod Verdict
+pub use Rattle.ira_cert_text.specs.Certificate.{Section, Certificate}

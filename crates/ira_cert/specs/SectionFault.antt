@@ -43,12 +43,18 @@ pub data WhyUnsound (logs : List Log) (case : List Conjunct) (before : List Cert
       → ¬ (Before logs s.node (s.pos + 1) s.other s.other_pos)
       → why ≡ NotBefore → WhyUnsound logs case before s why
 
+-- step k, counted from 0, is the first that isn't sound, and this is why
+pub record IsFirstUnsoundStep (logs : List Log) (case : List Conjunct) (steps : List CertStep) (k : ℕ) (why : Unsound) : Type 0 where
+  pub before : AreSoundSteps logs case (take k steps)
+  pub step : CertStep
+  pub at : slice_get steps k ≡ Some step
+  pub reason : WhyUnsound logs case (take k steps) step why
+
 -- the section's fault
 pub data IsSectionFault (logs : List Log) (case : List Conjunct) (section : Section) (fault : SectionFault) : Type 0 where
-  -- step k, counted from 0, is the first that isn't sound
+  -- a step isn't sound: the first one
   unsound :
-      (k : ℕ) (s : CertStep) (why : Unsound) → AreSoundSteps logs case (take k section.steps)
-      → slice_get section.steps k ≡ Some s → WhyUnsound logs case (take k section.steps) s why
+      (k : ℕ) (why : Unsound) → IsFirstUnsoundStep logs case section.steps k why
       → fault ≡ Step k why → IsSectionFault logs case section fault
   -- all steps are sound, and the node isn't spent
   not_spent :

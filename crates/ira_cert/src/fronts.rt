@@ -1,12 +1,13 @@
-ghost use Rattle.std.specs.Prelude.{◌≡◌, ◌≢◌, ◌↔◌, ◌+◌, ◌<◌, ◌≤◌, ℕ, List, [], IsTrue, MatchOption, MatchResult, OnOk, Some, length, drop, slice_get, take};
+ghost use Rattle.std.specs.Prelude.{◌≡◌, ◌≢◌, ◌↔◌, ◌+◌, ◌<◌, ◌≤◌, ℕ, List, [], IsTrue, MatchOption, MatchResult, OnOk, IfErr, Some, length, drop, slice_get, slice_index_or, slice_set, take};
+ghost use Rattle.std.specs.Option.{option_map};
 ghost use Rattle.ira_pred.specs.Case.{Conjunct};
 ghost use Rattle.ira_order.specs.Before.{Before};
 ghost use Rattle.ira_cert_text.specs.declared.cert_step.CertStep.{CertStep};
+ghost use Rattle.ira_cert.specs.declared.unsound.Unsound.{Unsound};
 ghost use Rattle.ira_cert.specs.Asked.{HasDifferentPlaces};
-ghost use Rattle.ira_cert.specs.Front.{IsSpent};
 ghost use Rattle.ira_cert.specs.Fronts.{AreFronts, AreFrontsBehind};
-ghost use Rattle.ira_cert.specs.SoundSection.{IsSoundStep};
-ghost use Rattle.ira_cert.specs.SectionFault.{WhyUnsound};
+ghost use Rattle.ira_cert.specs.SoundSection.{IsSoundStep, AreSoundSteps};
+ghost use Rattle.ira_cert.specs.SectionFault.{WhyUnsound, IsFirstUnsoundStep};
 ghost use Rattle.ira_cert.specs.Verdict.{IsVerdict};
 
 use crate::section_fault::SectionFault;
@@ -29,16 +30,32 @@ pub fn check_fronts<A: Allocator, I: Iterator<Item = u32> + Listed + Drop>(
     requires { length fronts.items ≤ length ordered.now.logs }
     ensures { (case : List Conjunct) → HasDifferentPlaces case → AreFronts ordered.now.logs case fronts.items → IsVerdict ordered.now.logs case section.now result }
 {
-    for (k, step) in section.steps.iter().enumerate() {
-        if let Err(why) = check_step(ordered, &fronts, step) {
-            return Verdict::No(SectionFault::Step(k, why));
-        }
-        eliminate(&mut fronts, step.node);
+    if let Err(fault) = make_steps(ordered, &mut fronts, &section.steps) {
+        return Verdict::No(fault);
     }
     if !is_spent(&fronts, section.spent) {
         return Verdict::No(SectionFault::NotSpent(section.spent));
     }
     Verdict::Yes
+}
+
+/// Makes the eliminations one after the other, as long as they are sound.
+fn make_steps<A: Allocator, I: Iterator<Item = u32> + Listed>(
+    ordered: &Ordered<'_, A>,
+    fronts: &mut [Option<Ahead<I>>],
+    steps: &[CertStep],
+) -> Result<(), SectionFault>
+    requires { length fronts.old ≤ length ordered.now.logs }
+    ensures ok { (case : List Conjunct) → HasDifferentPlaces case → AreFronts ordered.now.logs case fronts.old → OnOk result (AreSoundSteps ordered.now.logs case steps.now × AreFrontsBehind ordered.now.logs case steps.now fronts.new) }
+    ensures err { (case : List Conjunct) → HasDifferentPlaces case → AreFronts ordered.now.logs case fronts.old → IfErr result (λ f. (k : ℕ) × (why : Unsound) × (f ≡ SectionFault.Step k why) × IsFirstUnsoundStep ordered.now.logs case steps.now k why) }
+{
+    for (k, step) in steps.iter().enumerate() {
+        if let Err(why) = check_step(ordered, fronts, step) {
+            return Err(SectionFault::Step(k, why));
+        }
+        eliminate(fronts, step.node);
+    }
+    Ok(())
 }
 
 /// Whether the step is sound behind those that were made, and why not.
@@ -48,15 +65,24 @@ fn check_step<A: Allocator, I: Iterator<Item = u32> + Listed>(
     step: &CertStep,
 ) -> Result<(), Unsound>
     requires { length fronts.now ≤ length ordered.now.logs }
-    ensures { (case : List Conjunct) (before : List CertStep) → HasDifferentPlaces case → AreFrontsBehind ordered.now.logs case before fronts.now → MatchResult result (λ _. IsSoundStep ordered.now.logs case before step.now) (λ why. WhyUnsound ordered.now.logs case before step.now why) }
+    ensures place { OnOk result (step.now.node < length fronts.now) }
+    ensures verdict { (case : List Conjunct) (before : List CertStep) → HasDifferentPlaces case → AreFrontsBehind ordered.now.logs case before fronts.now → MatchResult result (λ _. IsSoundStep ordered.now.logs case before step.now) (λ why. WhyUnsound ordered.now.logs case before step.now why) }
 {
-    let left = candidates_left(fronts, step.node).ok_or(Unsound::NotAsked)?;
-    let other_left = candidates_left(fronts, step.other).ok_or(Unsound::NotAsked)?;
+    let Some(left) = candidates_left(fronts, step.node) else {
+        return Err(Unsound::NotAsked);
+    };
+    let Some(other_left) = candidates_left(fronts, step.other) else {
+        return Err(Unsound::NotAsked);
+    };
     if step.node == step.other {
         return Err(Unsound::SameNode);
     }
-    let front = left.front().ok_or(Unsound::NodeSpent)?;
-    let other_front = other_left.front().ok_or(Unsound::NodeSpent)?;
+    let Some(front) = left.front() else {
+        return Err(Unsound::NodeSpent);
+    };
+    let Some(other_front) = other_left.front() else {
+        return Err(Unsound::NodeSpent);
+    };
     if step.pos != front || step.other_pos != other_front {
         return Err(Unsound::NotFront);
     }
@@ -83,17 +109,21 @@ fn rules_out<A: Allocator>(ordered: &Ordered<'_, A>, step: &CertStep) -> bool
     ensures { IsTrue result ↔ Before ordered.now.logs step.now.node (step.now.pos + 1) step.now.other step.now.other_pos }
 {
     let logs = ordered.logs();
-    let leads_on = (step.pos as usize) < logs.log(step.node).len();
-    let was_led_to = 1 <= step.other_pos && step.other_pos as usize <= logs.log(step.other).len();
-    leads_on && was_led_to && ordered.before(step.node, step.pos + 1, step.other, step.other_pos)
+    if step.pos as usize >= logs.log(step.node).len() {
+        return false;
+    }
+    if step.other_pos == 0 || step.other_pos as usize > logs.log(step.other).len() {
+        return false;
+    }
+    ordered.before(step.node, step.pos + 1, step.other, step.other_pos)
 }
 
 /// Removes the first candidate left of the node.
 fn eliminate<I: Iterator<Item = u32> + Listed>(fronts: &mut [Option<Ahead<I>>], place: u8)
-    ensures others { (i : ℕ) → place ≢ i → slice_get fronts.new i ≡ slice_get fronts.old i }
-    ensures one { (xs : List ℕ) → slice_get fronts.old place ≡ Some (Some xs) → slice_get fronts.new place ≡ Some (Some (drop 1 xs)) }
+    requires { place < length fronts.old }
+    ensures { fronts.new ≡ slice_set fronts.old place (option_map (λ xs. drop 1 xs) (slice_index_or fronts.old place None)) }
 {
-    if let Some(Some(left)) = fronts.get_mut(usize::from(place)) {
+    if let Some(left) = &mut fronts[usize::from(place)] {
         left.advance();
     }
 }
@@ -102,5 +132,8 @@ fn eliminate<I: Iterator<Item = u32> + Listed>(fronts: &mut [Option<Ahead<I>>], 
 fn is_spent<I: Iterator<Item = u32> + Listed>(fronts: &[Option<Ahead<I>>], place: u8) -> bool
     ensures { IsTrue result ↔ (slice_get fronts.now place ≡ Some (Some [])) }
 {
-    candidates_left(fronts, place).is_some_and(|left| left.front().is_none())
+    let Some(left) = candidates_left(fronts, place) else {
+        return false;
+    };
+    left.front().is_none()
 }

@@ -11,6 +11,9 @@ mod unsound;
 mod verdict;
 
 pub use fronts::check_fronts;
+pub use ira_cert_text::{
+    CertFault, CertStep, Certificate, MAX_SECTIONS, MAX_STEPS, Section, read_cert, write_cert,
+};
 pub use laws::{a_section_has_one_verdict, sound_sections_leave_no_cut};
 pub use plain::check_plain;
 pub use positions::Positions;

@@ -1,8 +1,8 @@
-ghost use Rattle.std.specs.Prelude.{◌≡◌, ◌↔◌, Ok, IfOk, MatchOption, Contains, length};
+ghost use Rattle.std.specs.Prelude.{◌≡◌, ◌↔◌, ◌<◌, Ok, IfOk, OnOk, MatchOption, Contains, length};
 ghost use Rattle.ira_event.specs.Result.{UnlessErr};
 ghost use Rattle.ira_pred.specs.Clause.{formula};
 ghost use Rattle.ira_cert.specs.declared.section_fault.SectionFault.{SectionFault};
-ghost use Rattle.ira_cert.specs.Asked.{IsAsked, HasPlacesOf};
+ghost use Rattle.ira_cert.specs.Asked.{IsAsked, CandidatesOf, HasDifferentPlaces, HasPlacesOf};
 ghost use Rattle.ira_cert.specs.Fronts.{AreFronts};
 ghost use Rattle.ira_cert.specs.SoundSection.{IsSoundSection};
 ghost use Rattle.ira_cert.specs.SectionFault.{IsSectionFault};
@@ -50,21 +50,36 @@ fn fronts_of<'a, A: Allocator>(
     case: &'a Case<A>,
 ) -> Result<Vec<Option<Candidates<'a, A>>, A>, OutOfMemory>
     requires { HasPlacesOf logs.now case.now }
+    ensures different { OnOk result (HasDifferentPlaces case.now) }
     ensures count { IfOk result (λ fronts. length fronts.items ≡ length logs.now) }
     ensures fronts { IfOk result (λ fronts. AreFronts logs.now case.now fronts.items) }
 {
     let nodes = logs.size().get();
     let mut fronts = Vec::with_capacity(alloc, usize::from(nodes))?;
     for place in 0..nodes {
-        let clause = clause_at(case, place);
-        fronts.push(clause.map(|clause| candidates(logs.log(place), clause)))?;
+        fronts.push(candidates_at(logs, case, place))?;
     }
     Ok(fronts)
 }
 
+/// The candidates of the node, if the case asks it.
+fn candidates_at<'a, A: Allocator>(
+    logs: &'a Logs<A>,
+    case: &'a Case<A>,
+    place: u8,
+) -> Option<Candidates<'a, A>>
+    requires { place < length logs.now }
+    ensures different { HasDifferentPlaces case.now }
+    ensures found { MatchOption result (¬ (IsAsked case.now place)) (λ positions. CandidatesOf logs.now case.now place positions) }
+{
+    let clause = clause_at(case, place)?;
+    Some(candidates(logs.log(place), clause))
+}
+
 /// What the case asks of the node, if anything.
 fn clause_at<A: Allocator>(case: &Case<A>, place: u8) -> Option<&Clause<A>>
-    ensures { MatchOption result (¬ (IsAsked case.now place)) (λ clause. Contains case.now (record { place = place; formula = formula clause.now })) }
+    ensures different { HasDifferentPlaces case.now }
+    ensures found { MatchOption result (¬ (IsAsked case.now place)) (λ clause. Contains case.now (record { place = place; formula = formula clause.now })) }
 {
     for n in 0..case.len() {
         if case.place(n) == place {

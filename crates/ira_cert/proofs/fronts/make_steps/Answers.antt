@@ -1,0 +1,49 @@
+use Rattle.std.proofs.Common.{◌≡◌, ◌+◌, ℕ, List, Option, get_or, take, refl, sym, subst, arith}
+use Rattle.std.proofs.lemmas.List.{take_all}
+use Rattle.std.proofs.lemmas.Option.{slice_get-get_or}
+use Rattle.ira_cert_text.specs.declared.cert_step.CertStep.{CertStep}
+use Rattle.ira_cert.specs.Fronts.{AreFrontsBehind}
+use Rattle.ira_cert.specs.SoundSection.{AreSoundSteps}
+use Rattle.ira_cert.proofs.Behind.{all_left, left_on}
+use Rattle.ira_cert.proofs.Prefixes.{sound_more}
+use Rattle.ira_cert.proofs.fronts.make_steps.Goals as goal
+
+-- what is read past the end of a list of steps
+none : CertStep
+none = record { node = 0; pos = 0; other = 0; other_pos = 0 }
+
+pub loop-k-init : goal.loop-k-init
+loop-k-init g c = λ case differ fronts. (λ k s at. cc, all_left c.args.ordered.now.logs case c.args.fronts.now fronts)
+
+pub returns-in-Err-clause-err : goal.returns-in-Err-clause-err
+unfolding none
+returns-in-Err-clause-err g c = λ case differ fronts.
+    let steps = c.args.steps.now in let k = c.loop-k.k in
+    let so_far = c.loop-k.invariant case differ fronts in (
+      k,
+      c.in-Err.why,
+      refl,
+      record {
+        before = so_far.0;
+        step = get_or steps k none;
+        at = slice_get-get_or steps k none c.loop-k-test.true;
+        reason = c.in-Err.ensures.verdict case (take k steps) differ so_far.1;
+      },
+    )
+
+pub loop-k-preserved : goal.loop-k-preserved
+unfolding none
+loop-k-preserved g c = λ case differ fronts.
+    let logs = c.args.ordered.now.logs in let steps = c.args.steps.now in let k = c.loop-k.k in
+    let so_far = c.loop-k.invariant case differ fronts in
+    let at = slice_get-get_or steps k none c.loop-k-test.true in
+    let sound = c.in_default.ensures.verdict case (take k steps) differ so_far.1 in (
+      sound_more logs case steps k (get_or steps k none) at so_far.0 sound,
+      subst (λ (left : List (Option (List ℕ))). AreFrontsBehind logs case (take (k + 1) steps) left) (sym c.eliminate.ensures) (left_on logs case differ steps k (get_or steps k none) at sound c.loop-k.fronts so_far.1),
+    )
+
+pub returns-clause-ok : goal.returns-clause-ok
+returns-clause-ok g c = λ case differ fronts.
+    let logs = c.args.ordered.now.logs in let steps = c.args.steps.now in
+    let whole : take c.loop-k.k steps ≡ steps = take_all c.loop-k.k steps (omega arith) in
+    subst (λ (xs : List CertStep). AreSoundSteps logs case xs × AreFrontsBehind logs case xs c.loop-k.fronts) whole (c.loop-k.invariant case differ fronts)

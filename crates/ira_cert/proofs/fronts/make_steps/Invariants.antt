@@ -1,0 +1,10 @@
+use Rattle.std.proofs.Common.{List, take}
+use Rattle.ira_pred.specs.Case.{Conjunct}
+use Rattle.ira_cert.specs.Asked.{HasDifferentPlaces}
+use Rattle.ira_cert.specs.Fronts.{AreFronts, AreFrontsBehind}
+use Rattle.ira_cert.specs.SoundSection.{AreSoundSteps}
+use Rattle.ira_cert.proofs.fronts.make_steps.Given as goal
+
+abbrev pub invariant-loop-k : goal.invariant-loop-k
+invariant-loop-k g l =
+    (case : List Conjunct) → HasDifferentPlaces case → AreFronts l.ordered.logs case l.fn.fronts → AreSoundSteps l.ordered.logs case (take l.k l.steps) × AreFrontsBehind l.ordered.logs case (take l.k l.steps) l.fronts

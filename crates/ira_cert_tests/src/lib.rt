@@ -1,0 +1,9 @@
+//! Tests of the plain checker of certificates.
+#![tactic(auto)]
+
+#[cfg(test)]
+mod every_section_tests;
+#[cfg(test)]
+mod samples;
+#[cfg(test)]
+mod section_tests;
