@@ -98,8 +98,8 @@ module _ (logs : List Log) (case : List Conjunct) (differ : HasDifferentPlaces c
       (h.0, h.1, omega (arith, more), e ∙ ap (λ (ys : List ℕ). drop 1 ys) h.3 ∙ drop-drop 1 m h.0 ∙ ap (λ (n : ℕ). drop n h.0) (sym more))
 
   -- behind the step the lists are those left
-  pub left_on : AreFrontsBehind logs case (take (k + 1) steps) (one_fewer fronts s.node)
-  left_on = record {
+  left_one_fewer : AreFrontsBehind logs case (take (k + 1) steps) (one_fewer fronts s.node)
+  left_one_fewer = record {
     asked = λ i asked. elim (cases_eq s.node i) [
       | inl same ↦ (drop 1 own.0, subst (λ (j : ℕ). slice_get (one_fewer fronts s.node) j ≡ Some (Some (drop 1 own.0))) same own_fewer)
       | inr other ↦ (let h = behind.asked i asked in (h.0, slice_get-set_other fronts s.node i _ other ∙ h.1))
@@ -115,3 +115,6 @@ module _ (logs : List Log) (case : List Conjunct) (differ : HasDifferentPlaces c
           (h.0, h.1, omega (arith, h.2), h.3 ∙ ap (λ (n : ℕ). drop n h.0) (sym same))
     ];
   }
+
+  pub left_on : (new : List (Option (List ℕ))) → new ≡ one_fewer fronts s.node → AreFrontsBehind logs case (take (k + 1) steps) new
+  left_on new e = subst (λ (left : List (Option (List ℕ))). AreFrontsBehind logs case (take (k + 1) steps) left) (sym e) left_one_fewer

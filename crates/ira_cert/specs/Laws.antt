@@ -22,7 +22,8 @@ NoSectionHasTwoVerdicts =
     (logs : List Log) (case : List Conjunct) (section : Section) (a b : Verdict) → HasDifferentPlaces case
     → IsVerdict logs case section a → IsVerdict logs case section b → a ≡ b
 
--- no section has none
+-- no section has none. It is said as a negation, since of logs that have no order nothing tells which
+-- event happened before which
 abbrev pub NoSectionIsWithoutVerdict : Type 0
 NoSectionIsWithoutVerdict =
     (logs : List Log) (case : List Conjunct) (section : Section) → HasPlacesOf logs case

@@ -1,7 +1,10 @@
 use crate::samples::{
     ACTIVE_AND_PASSIVE, BOTH_LEAD, ELECTION, LEADER_AND_ACTIVE, TIE, first_case, logs_of, step,
 };
-use ira_cert::{CertStep, Section, SectionFault, Unsound, Verdict, check_plain};
+use ira_cand::Ahead;
+use ira_cert::{
+    CertStep, Positions, Section, SectionFault, Unsound, Verdict, check_fronts, check_plain,
+};
 use ira_order::order;
 use ira_pred::read_question;
 use std::alloc::Global;
@@ -48,6 +51,22 @@ fn two_step_section(rt: HostRuntime) -> Result<(), Fail> {
         judge(rt.alloc(), &ELECTION, LEADER_AND_ACTIVE, &steps, 1)?,
         Verdict::Yes
     );
+    Ok(())
+}
+
+#[test]
+fn candidates_that_were_kept(rt: HostRuntime) -> Result<(), Fail> {
+    let logs = logs_of(rt.alloc(), &ELECTION)?;
+    assert_eq!(rt; logs.size().get(), 2);
+    let ordered = order(rt.alloc(), &logs).ok().ok_or("an order")?;
+    let section = Section {
+        steps: [step(1, 1, 0, 4), step(1, 2, 0, 4)].to_vec(rt.alloc())?,
+        spent: 1,
+    };
+    let mut fronts = Vec::new(rt.alloc());
+    fronts.push(Some(Ahead::new(Positions::new(&[4]))))?;
+    fronts.push(Some(Ahead::new(Positions::new(&[1, 2]))))?;
+    assert_eq!(rt; check_fronts(&ordered, fronts, &section), Verdict::Yes);
     Ok(())
 }
 

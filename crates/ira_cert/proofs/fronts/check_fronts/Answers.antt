@@ -1,4 +1,4 @@
-use Rattle.std.proofs.Common.{◌≡◌, ℕ, List, Option, sym, ◌∙◌, ap, subst}
+use Rattle.std.proofs.Common.{◌≡◌, ℕ, List, Option, sym, ◌∙◌, ap, subst, drop, length}
 use Rattle.std.proofs.lemmas.List.{take_at}
 use Rattle.ira_cert_text.specs.Certificate.{Section}
 use Rattle.ira_cert.specs.Fronts.{AreFronts, AreFrontsBehind}
@@ -18,7 +18,7 @@ returns-then-not-is_spent g c = λ case differ fronts.
     let steps : c.deref.result.now ≡ c.args.section.now.steps = c.deref.ensures.value ∙ ap (λ (s : Section). s.steps) c.section.view_is in
     let given = subst (λ (fs : List (Option (List ℕ))). AreFronts logs case fs) (sym c.deref_mut.ensures.value) fronts in
     let whole : c.deref-2.result.now ≡ c.make_steps.new.fronts =
-    c.deref-2.ensures.value ∙ take_at c.make_steps.new.fronts _ c.args.fronts.len (c.make_steps.auto.fronts ∙ c.deref_mut.ensures.len) in
+    c.deref-2.ensures.value ∙ take_at c.make_steps.new.fronts (drop (length c.make_steps.new.fronts) c.args.fronts.items) c.args.fronts.len (c.make_steps.auto.fronts ∙ c.deref_mut.ensures.len) in
     let left = subst (λ (fs : List (Option (List ℕ))). AreFrontsBehind logs case c.deref.result.now fs) (sym whole) (c.in_default.ensures.ok case differ given).1 in
     left_is_fault logs case c.args.section.now c.deref.result.now steps differ c.deref-2.result.now ((c.in_default.ensures.ok case differ given).0, left)
     c.section.inside.spent (ap (λ (s : Section). s.spent) c.section.view_is) (λ empty. (let t = c.is_spent.ensures.1 empty in cc))
@@ -29,7 +29,7 @@ returns g c = λ case differ fronts.
     let steps : c.deref.result.now ≡ c.args.section.now.steps = c.deref.ensures.value ∙ ap (λ (s : Section). s.steps) c.section.view_is in
     let given = subst (λ (fs : List (Option (List ℕ))). AreFronts logs case fs) (sym c.deref_mut.ensures.value) fronts in
     let whole : c.deref-2.result.now ≡ c.make_steps.new.fronts =
-    c.deref-2.ensures.value ∙ take_at c.make_steps.new.fronts _ c.args.fronts.len (c.make_steps.auto.fronts ∙ c.deref_mut.ensures.len) in
+    c.deref-2.ensures.value ∙ take_at c.make_steps.new.fronts (drop (length c.make_steps.new.fronts) c.args.fronts.items) c.args.fronts.len (c.make_steps.auto.fronts ∙ c.deref_mut.ensures.len) in
     let left = subst (λ (fs : List (Option (List ℕ))). AreFrontsBehind logs case c.deref.result.now fs) (sym whole) (c.in_default.ensures.ok case differ given).1 in
     empty_is_sound logs case c.args.section.now c.deref.result.now steps differ c.deref-2.result.now ((c.in_default.ensures.ok case differ given).0, left)
     c.section.inside.spent (ap (λ (s : Section). s.spent) c.section.view_is) (c.is_spent.ensures.0 c.if-not-is_spent.false)

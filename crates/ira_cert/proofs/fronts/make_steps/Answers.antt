@@ -1,4 +1,4 @@
-use Rattle.std.proofs.Common.{◌≡◌, ◌+◌, ℕ, List, Option, get_or, take, refl, sym, subst, arith}
+use Rattle.std.proofs.Common.{◌≡◌, List, get_or, take, refl, subst, arith}
 use Rattle.std.proofs.lemmas.List.{take_all}
 use Rattle.std.proofs.lemmas.Option.{slice_get-get_or}
 use Rattle.ira_cert_text.specs.declared.cert_step.CertStep.{CertStep}
@@ -39,7 +39,7 @@ loop-k-preserved g c = λ case differ fronts.
     let at = slice_get-get_or steps k none c.loop-k-test.true in
     let sound = c.in_default.ensures.verdict case (take k steps) differ so_far.1 in (
       sound_more logs case steps k (get_or steps k none) at so_far.0 sound,
-      subst (λ (left : List (Option (List ℕ))). AreFrontsBehind logs case (take (k + 1) steps) left) (sym c.eliminate.ensures) (left_on logs case differ steps k (get_or steps k none) at sound c.loop-k.fronts so_far.1),
+      left_on logs case differ steps k (get_or steps k none) at sound c.loop-k.fronts so_far.1 c.eliminate.new.fronts c.eliminate.ensures,
     )
 
 pub returns-clause-ok : goal.returns-clause-ok
