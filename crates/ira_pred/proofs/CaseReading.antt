@@ -90,9 +90,6 @@ more_cases nodes text cases cs old new h r some few = (
   omega (arith, sum_by_push (λ c. length c + 1) cases cs, h.1, r.number),
 )
   where
-    front : List ℕ
-    front = h.0.closed ++ (codes "case\n" ++ h.0.lines)
-
     begun : text ≡ (h.0.closed ++ (codes "case\n" ++ h.0.lines)) ++ codes "case\n" ++ [] ++ new.rest
     begun = closed_more text h.0.closed h.0.lines old.rest h.0.parts ∙ ap (λ w. (h.0.closed ++ (codes "case\n" ++ h.0.lines)) ++ w) r.rest ∙ sym (append_assoc (h.0.closed ++ (codes "case\n" ++ h.0.lines)) (codes "case\n") new.rest) ∙ ap (λ w. w ++ new.rest) (sym (append-nil ((h.0.closed ++ (codes "case\n" ++ h.0.lines)) ++ codes "case\n")))
 
@@ -161,9 +158,3 @@ module _ (nodes n : ℕ) (text : List ℕ) (cases : List (List Conjunct)) (cs ds
         let r = subst (λ x. ReadsInCase nodes (at_line old.number n ds) old new (Ok x)) is read in
         let all = all_cases nodes text cases cs old h r.0 (subst (λ x. x ≢ []) same r.1) in
         subst (λ x. AreAllCases nodes text x) (sym (pushed ∙ ap (λ x. cases ++ x ∷ []) this)) all
-
-    pub clause_goes_on : (p : PlacedClause A) → l ≡ line.Clause p → suc (length new.rest) ≤ length old.rest
-    clause_goes_on p is = let r = subst (λ x. ReadsInCase nodes (at_line old.number n ds) old new (Ok x)) is read in line_shorter old new r.0 r.1
-
-    pub case_goes_on : l ≡ line.Case → suc (length new.rest) ≤ length old.rest
-    case_goes_on is = let r = subst (λ x. ReadsInCase nodes (at_line old.number n ds) old new (Ok x)) is read in line_shorter old new (codes "case") r.0

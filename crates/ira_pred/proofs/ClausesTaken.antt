@@ -130,6 +130,18 @@ joined_deep : (w : Bool) (a b : Formula) (d : ℕ) → depth a ≤ d → depth b
 joined_deep true a b d h k = omega (arith, h, k)
 joined_deep false a b d h k = omega (arith, h, k)
 
+-- the parts of two joined clauses, put together
+joined_parts : (d : ℕ) (text r : List ℕ) (p : Formula × List ℕ) (w : Bool) (a b : Formula × List ℕ) (behind after : List ℕ) → text ≡ codes "(" ++ r → Taken d r a → a.1 ≡ joint_word w ++ behind → Taken d behind b → b.1 ≡ codes ")" ++ after → (joined w a.0 b.0, after) ≡ p → Taken (suc d) text p
+joined_parts d text r p w a b behind after begins left joint right ends made =
+    let back = right.parts ∙ ap (λ x. right.front ++ x) ends in
+    let middle = left.parts ∙ ap (λ x. left.front ++ x) (joint ∙ ap (λ x. joint_word w ++ x) back) in
+    subst (Taken (suc d) text) {x = (joined w a.0 b.0, after)} made (record {
+      front = codes "(" ++ left.front ++ joint_word w ++ right.front ++ codes ")";
+      parts = begins ∙ ap (λ x. codes "(" ++ x) middle ∙ simp append_assoc;
+      is = joined_is w left.front right.front a.0 b.0 left.is right.is;
+      deep = joined_deep w a.0 b.0 d left.deep right.deep;
+    })
+
 module _ (d : ℕ) (inner : (t : List ℕ) (q : Formula × List ℕ) → clause_at d t ≡ Some q → Taken d t q) (text : List ℕ) (p : Formula × List ℕ) where
   negated-takes : (r : List ℕ) → after_word (codes "(not ") text ≡ Some r → negated_at (clause_at d) r ≡ Some p → Taken (suc d) text p
   negated-takes r begins e =
@@ -150,16 +162,7 @@ module _ (d : ℕ) (inner : (t : List ℕ) (q : Formula × List ℕ) → clause_
       let w = bind_some (joint_at a.0.1) (λ w. clause_at d w.1 >>= (λ b. option_map (λ s. (joined w.0 a.0.0 b.0, s)) (after_word (codes ")") b.1))) p a.2 in
       let b = bind_some (clause_at d w.0.1) (λ b. option_map (λ s. (joined w.0.0 a.0.0 b.0, s)) (after_word (codes ")") b.1)) p w.2 in
       let m = map_some (after_word (codes ")") b.0.1) (λ s. (joined w.0.0 a.0.0 b.0.0, s)) p b.2 in
-      let left = inner r a.0 a.1 in
-      let right = inner w.0.1 b.0 b.1 in
-      let back = right.parts ∙ ap (λ x. right.front ++ x) (word-takes (codes ")") b.0.1 m.0 m.1) in
-      let middle = left.parts ∙ ap (λ x. left.front ++ x) (joint-takes a.0.1 w.0 w.1 ∙ ap (λ x. joint_word w.0.0 ++ x) back) in
-      subst (Taken (suc d) text) m.2 (record {
-        front = codes "(" ++ left.front ++ joint_word w.0.0 ++ right.front ++ codes ")";
-        parts = word-takes (codes "(") text r begins ∙ ap (λ x. codes "(" ++ x) middle ∙ simp append_assoc;
-        is = joined_is w.0.0 left.front right.front a.0.0 b.0.0 left.is right.is;
-        deep = joined_deep w.0.0 a.0.0 b.0.0 d left.deep right.deep;
-      })
+      joined_parts d text r p w.0.0 a.0 b.0 w.0.1 m.0 (word-takes (codes "(") text r begins) (inner r a.0 a.1) (joint-takes a.0.1 w.0 w.1) (inner w.0.1 b.0 b.1) (word-takes (codes ")") b.0.1 m.0 m.1) m.2
 
   nested-cases : (a b : Option (List ℕ)) → after_word (codes "(not ") text ≡ a → after_word (codes "(") text ≡ b → behind a (negated_at (clause_at d)) (behind b (joined_at (clause_at d)) (atom_at text)) ≡ Some p → Taken (suc d) text p
   nested-cases (Some r) b ea eb e = negated-takes r ea e

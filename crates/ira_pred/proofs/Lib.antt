@@ -2,6 +2,7 @@ pub mod CaseReading
 pub mod ClauseTexts
 pub mod ClausesTaken
 pub mod Depths
+pub mod EachText
 pub mod Meanings
 pub mod PairCases
 pub mod PairOrder

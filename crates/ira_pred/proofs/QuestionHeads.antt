@@ -1,5 +1,5 @@
 -- A head that is read is spelled so and stands at the front, and a head of the grammar that stands there is read.
-use Rattle.std.proofs.Common.{◌≡◌, ◌≤◌, ◌+◌, ℕ, List, ◌++◌, Some, None, length, refl, sym, ap, subst, ◌∙◌, arith, append_assoc, length-append}
+use Rattle.std.proofs.Common.{◌≡◌, ℕ, List, ◌++◌, Some, None, refl, sym, ap, subst, ◌∙◌, arith, append_assoc}
 use Rattle.std.specs.Prelude.{codes}
 use Rattle.ira_event.specs.Numeral.{IsNumeral}
 use Rattle.ira_event.specs.RingSize.{IsRingSize}
@@ -36,9 +36,3 @@ head_found text n rest e good =
       size = good;
       parts = word-takes (codes "irask 1\n") text v.0 v.1 ∙ ap (λ w. codes "irask 1\n" ++ w) (word-takes (codes "nodes ") v.0 a.0 a.1 ∙ ap (λ w. codes "nodes " ++ w) t.2) ∙ simp append_assoc;
     }
-
--- what follows a head is shorter than the text by some bytes
-pub head_long : (text : List ℕ) (nodes : ℕ) (rest : List ℕ) → BeginsWithQuestionHead text nodes rest → 3 + length rest ≤ length text
-head_long text nodes rest h =
-    let e = ap length (h.parts ∙ ap (λ w. w ++ rest) h.head_is.1) in
-    omega (arith, e, length-append (h.head_is.0 ++ codes "\n") rest)

@@ -1,11 +1,11 @@
 -- What the reader of a question's text answers.
-use Rattle.std.specs.Prelude.{◌≡◌, ◌↔◌, ℕ, List, Result, Ok, Err}
+use Rattle.std.specs.Prelude.{◌≡◌, ◌↔◌, ℕ, ◌<◌, ◌≤◌, List, length, Result, Ok, Err}
 use Rattle.ira_event.specs.Result.{UnlessErr}
 use Rattle.ira_pred.specs.declared.ask_fault.AskFault.{AskFault}
-use Rattle.ira_pred.specs.declared.ask_fault.AskFault.TheVariants.{OutOfMemory}
+use Rattle.ira_pred.specs.declared.ask_fault.AskFault.TheVariants.{OutOfMemory, TooLong, Head}
 use Rattle.ira_pred.specs.Question.{Asked}
 use Rattle.ira_pred.specs.QuestionText.{IsQuestionText}
-use Rattle.ira_pred.specs.QuestionTextFault.{QuestionTextFault}
+use Rattle.ira_pred.specs.QuestionTextFault.{BeginsWithQuestionHead, QuestionTextFault}
 
 -- unless out of memory, a question is answered exactly where the text is its text
 abbrev pub AnswersQuestions : Result Asked AskFault → List ℕ → Type 0
@@ -14,3 +14,8 @@ AnswersQuestions result text = (q : Asked) → UnlessErr result OutOfMemory ((re
 -- unless out of memory, a fault is answered exactly where it is the text's
 abbrev pub AnswersFaults : Result Asked AskFault → List ℕ → Type 0
 AnswersFaults result text = (f : AskFault) → UnlessErr result OutOfMemory ((result ≡ Err f) ↔ QuestionTextFault text f)
+
+-- whatever memory does, a text that is too long, or else has no head, is answered so
+pub record AnswersBadFronts (result : Result Asked AskFault) (text : List ℕ) : Type 0 where
+  pub too_long : 67108864 < length text → result ≡ Err TooLong
+  pub no_head : length text ≤ 67108864 → ((nodes : ℕ) (rest : List ℕ) → ¬ (BeginsWithQuestionHead text nodes rest)) → result ≡ Err Head

@@ -1,5 +1,5 @@
 -- What holds of questions and their texts, whoever reads or writes them.
-use Rattle.std.specs.Prelude.{◌≡◌, ◌<◌, ◌↔◌, ℕ, List}
+use Rattle.std.specs.Prelude.{◌≡◌, ◌<◌, ◌↔◌, ◌⊎◌, ℕ, List}
 use Rattle.ira_pred.specs.declared.ask_fault.AskFault.{AskFault}
 use Rattle.ira_pred.specs.Formula.{Formula, depth}
 use Rattle.ira_pred.specs.Question.{Asked, IsQuestion}
@@ -25,3 +25,7 @@ NoQuestionTextHasFaults = (text : List ℕ) (q : Asked) (f : AskFault) → IsQue
 -- no text has two faults
 abbrev pub NoTextHasTwoFaults : Type 0
 NoTextHasTwoFaults = (text : List ℕ) (f g : AskFault) → QuestionTextFault text f → QuestionTextFault text g → f ≡ g
+
+-- each text is a question's, or has a fault
+abbrev pub EachTextHasAnAnswer : Type 0
+EachTextHasAnAnswer = (text : List ℕ) → ((q : Asked) × IsQuestionText text q) ⊎ ((f : AskFault) × QuestionTextFault text f)

@@ -57,8 +57,8 @@ impl<'a> QuestionLines<'a> {
         requires { self.old.number ≡ 3 }
         ensures { ReadsFirst self.old self.new result }
     {
-        if let Some(after) = skip_word(self.rest, b"case\n") {
-            self.go_on(after);
+        if let Some(lines) = skip_word(self.rest, b"case\n") {
+            self.go_on(lines);
             return Ok(());
         }
         if skip_word(self.rest, b"end\n").is_some() {

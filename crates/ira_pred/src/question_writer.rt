@@ -63,10 +63,7 @@ fn write_negated<A: Allocator, W: Sink>(clause: &Clause<A>, sink: &mut W) -> Res
 }
 
 #[cycle(clauses)]
-pub(crate) fn write_clause<A: Allocator, W: Sink>(
-    clause: &Clause<A>,
-    sink: &mut W,
-) -> Result<(), WriteFault>
+fn write_clause<A: Allocator, W: Sink>(clause: &Clause<A>, sink: &mut W) -> Result<(), WriteFault>
     ensures { Wrote result (clause_text (formula clause.now)) (W.taken sink.old) (W.failures sink.old) (W.taken sink.new) (W.failures sink.new) }
 {
     match clause {

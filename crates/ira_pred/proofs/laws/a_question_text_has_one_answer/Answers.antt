@@ -1,5 +1,9 @@
+use Rattle.ira_pred.proofs.EachText.{each_text}
 use Rattle.ira_pred.proofs.QuestionAnswers.{question_or_fault, one_fault}
 use Rattle.ira_pred.proofs.laws.a_question_text_has_one_answer.Goals as goal
+
+pub returns-clause-answer : goal.returns-clause-answer
+returns-clause-answer c = each_text
 
 pub returns-clause-question_or_fault : goal.returns-clause-question_or_fault
 returns-clause-question_or_fault c = question_or_fault
