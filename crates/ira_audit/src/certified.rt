@@ -1,20 +1,15 @@
-ghost use Rattle.std.specs.Prelude.{◌≡◌, ◌≢◌, ◌↔◌, ◌≤◌, ◌⊎◌, ℕ, List, Ok, IfOk, Contains, length, map};
+ghost use Rattle.std.specs.Prelude.{◌≡◌, ◌↔◌, ◌≤◌, ℕ, List, Ok, IfOk, Contains, length, map};
 ghost use Rattle.ira_event.specs.Log.{Log};
 ghost use Rattle.ira_event.specs.Logs.{AreLogs};
 ghost use Rattle.ira_event.specs.Result.{UnlessErr};
 ghost use Rattle.ira_order.specs.Circle.{HasOrder};
 ghost use Rattle.ira_order.specs.Cut.{IsConsistentCut};
 ghost use Rattle.ira_order.specs.RunsOfLogs.{EveryOrderIsRun};
-ghost use Rattle.ira_pred.specs.declared.ask_fault.AskFault.{AskFault};
 ghost use Rattle.ira_pred.specs.Case.{Conjunct};
 ghost use Rattle.ira_pred.specs.Question.{Asked};
 ghost use Rattle.ira_pred.specs.QuestionText.{IsQuestionText};
-ghost use Rattle.ira_pred.specs.QuestionTextFault.{QuestionTextFault};
 ghost use Rattle.ira_cand.specs.Meets.{Meets};
-ghost use Rattle.ira_cert_text.specs.declared.cert_fault.CertFault.{CertFault};
-ghost use Rattle.ira_cert_text.specs.Certificate.{Certificate};
 ghost use Rattle.ira_cert_text.specs.CertText.{IsCertText};
-ghost use Rattle.ira_cert_text.specs.CertTextFault.{CertTextFault};
 ghost use Rattle.ira_audit.specs.AuditAnswer.{IsAuditAnswer};
 ghost use Rattle.ira_audit.specs.GoodLogs.{AreGoodLogs};
 ghost use Rattle.ira_audit.specs.LogTexts.{AreLogTexts};
@@ -47,6 +42,9 @@ use std::time::Clock;
 /// After a yes the logs have an order, each order of them is a run of the ring, with the draws that were
 /// recorded, and nothing that the question asks was ever met: no consistent cut of the logs meets any of
 /// its cases. The answer is the same at every depth, 0 to 4, and with every gate.
+///
+/// Beside the logs it takes a counter of each node for each receipt, a byte for each event and, for one case
+/// after the other, a list of the candidates of each node that the case asks.
 pub fn audit<R, G, A>(
     rt: &R,
     alloc: A,

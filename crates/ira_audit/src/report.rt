@@ -1,4 +1,4 @@
-ghost use Rattle.std.specs.Prelude.{◌≡◌, ◌≢◌, ◌++◌, codes, decimal};
+ghost use Rattle.std.specs.Prelude.{◌≡◌, ◌≢◌, ◌++◌, decimal};
 ghost use Rattle.ira_event.specs.Sink.{Wrote};
 ghost use Rattle.ira_audit.specs.Report.{log_fault_words, ask_fault_words, cert_fault_words, head_fault_words, receipt_words, match_fault_words, step_fault_words, unsound_words, section_fault_words, reason_words, report_line, IsReportable, IsReportableReason};
 

@@ -1,4 +1,4 @@
-ghost use Rattle.std.specs.Prelude.{◌≡◌, ◌<◌, ℕ, List, Some, length, slice_get};
+ghost use Rattle.std.specs.Prelude.{◌≡◌, ◌<◌, ℕ, List, IfOk, Some, length, slice_get};
 ghost use Rattle.ira_cert.specs.declared.section_fault.SectionFault.{SectionFault};
 ghost use Rattle.ira_cert.specs.Asked.{HasPlacesOf};
 ghost use Rattle.ira_pred.specs.Case.{Conjunct};
@@ -7,14 +7,16 @@ ghost use Rattle.ira_audit.specs.Refusal.{MatchRefusal};
 
 use crate::reason::Reason;
 use crate::refusal::Refusal;
-use ira_cert::{Verdict, check_plain};
+use ira_cand::Profile;
+use ira_cert::{Verdict, check_profiled};
 use ira_cert_text::Section;
-use ira_event::Logs;
+use ira_event::{Logs, OutOfMemory};
 use ira_order::Ordered;
 use ira_pred::Case;
 use std::alloc::Allocator;
 
-/// Whether each section is sound for the case of its number.
+/// Whether each section is sound for the case of its number. The states of each log are computed once,
+/// however many cases there are.
 pub(crate) fn check_sections<A: Allocator + Clone>(
     alloc: A,
     logs: &Logs<A>,
@@ -27,12 +29,28 @@ pub(crate) fn check_sections<A: Allocator + Clone>(
     requires number { length sections.now ≡ length cases.now }
     ensures { MatchRefusal result (λ _. AreSound logs.now cases.now sections.now) (λ r. (i : ℕ) × (f : SectionFault) × (r ≡ Reason.Section i f) × IsFirstUnsound logs.now cases.now sections.now i f) }
 {
+    let profiles = all_profiles(alloc.clone()?, logs)?;
     for case in 0..cases.len() {
         let alloc = alloc.clone()?;
-        match check_plain(alloc, logs, ordered, &cases[case], &sections[case])? {
+        match check_profiled(alloc, &profiles, ordered, &cases[case], &sections[case])? {
             Verdict::Yes => {}
             Verdict::No(fault) => return Err(Refusal::No(Reason::Section { case, fault })),
         }
     }
     Ok(())
+}
+
+/// The states of each log, told in short.
+fn all_profiles<A: Allocator + Clone>(
+    alloc: A,
+    logs: &Logs<A>,
+) -> Result<Vec<Profile<'_, A>, A>, OutOfMemory>
+    ensures { IfOk result (λ profiles. profiles.items ≡ logs.now) }
+{
+    let nodes = logs.size().get();
+    let mut profiles = Vec::with_capacity(alloc.clone()?, usize::from(nodes))?;
+    for place in 0..nodes {
+        profiles.push(Profile::new(alloc.clone()?, logs.log(place))?)?;
+    }
+    Ok(profiles)
 }

@@ -1,4 +1,5 @@
 pub mod Clauses
 pub mod Passing
+pub mod Profiles
 pub mod Rising
 pub mod Skips

@@ -5,3 +5,4 @@ pub mod Holding
 pub mod HoldsAt
 pub mod Laws
 pub mod Meets
+pub mod Profile

@@ -6,9 +6,12 @@ mod find_candidates;
 mod holding;
 mod laws;
 mod local_test;
+mod phase_run;
+mod profile;
 
 pub use ahead::Ahead;
 pub use find_candidates::{candidates, table};
 pub use holding::Holding;
 pub use laws::one_list_of_candidates;
 pub use local_test::LocalTest;
+pub use profile::Profile;

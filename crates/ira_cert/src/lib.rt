@@ -3,9 +3,11 @@
 #![tactic(auto)]
 
 mod fronts;
+mod kept;
 mod laws;
 mod plain;
 mod positions;
+mod profiled;
 mod section_fault;
 mod unsound;
 mod verdict;
@@ -17,6 +19,7 @@ pub use ira_cert_text::{
 pub use laws::{a_section_has_one_verdict, sound_sections_leave_no_cut};
 pub use plain::check_plain;
 pub use positions::Positions;
+pub use profiled::check_profiled;
 pub use section_fault::SectionFault;
 pub use unsound::Unsound;
 pub use verdict::Verdict;

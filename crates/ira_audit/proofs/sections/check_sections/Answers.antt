@@ -1,8 +1,22 @@
-use Rattle.std.proofs.Common.{Ok, length, refl, sym, ap, rules}
+use Rattle.std.proofs.Common.{◌≡◌, List, Ok, length, refl, sym, ap, subst, ◌∙◌, rules}
 use Rattle.std.proofs.lemmas.Option.{slice_get_read}
+use Rattle.ira_event.specs.Log.{Log}
 use Rattle.ira_event.proofs.Unless.{unless_ok}
+use Rattle.ira_cert.specs.Asked.{HasPlacesOf}
+use Rattle.ira_cert.specs.SoundSection.{IsSoundSection}
+use Rattle.ira_cert.specs.SectionFault.{IsSectionFault}
 use Rattle.ira_audit.proofs.SoundSections.{sound_more}
 use Rattle.ira_audit.proofs.sections.check_sections.Goals as goal
+
+pub check_profiled-requires-clause-order : goal.check_profiled-requires-clause-order
+check_profiled-requires-clause-order g c = c.requires.order ∙ sym (c.deref.ensures.value ∙ c.in_ok-profiles.ensures)
+
+pub check_profiled-requires-clause-places : goal.check_profiled-requires-clause-places
+check_profiled-requires-clause-places g c =
+    let case = c.index-cases-case.result in
+    let case_at = slice_get_read c.args.cases.now _ c.loop-case.case case refl (search rules) c.index-cases-case.is in
+    let same : c.deref.result.now ≡ c.args.logs.now = c.deref.ensures.value ∙ c.in_ok-profiles.ensures in
+    subst (λ (ls : List Log). HasPlacesOf ls case) (sym same) (c.requires.places c.loop-case.case case case_at)
 
 pub loop-case-preserved : goal.loop-case-preserved
 loop-case-preserved g c =
@@ -10,14 +24,17 @@ loop-case-preserved g c =
     let section = c.index-sections-case.result in
     let case_at = slice_get_read c.args.cases.now _ c.loop-case.case case refl (search rules) c.index-cases-case.is in
     let section_at = slice_get_read c.args.sections.now (length c.args.cases.now) c.loop-case.case section (sym c.requires.number) (search rules) c.index-sections-case.is in
-    let sound = (unless_ok c.in_ok-check_plain.field-0 _ _ c.in_ok-check_plain.ensures.yes).0 (ap Ok c.in-Yes.is) in
-    sound_more c.args.logs.now c.args.cases.now c.args.sections.now c.loop-case.case case section case_at section_at c.loop-case.invariant sound
+    let same : c.deref.result.now ≡ c.args.logs.now = c.deref.ensures.value ∙ c.in_ok-profiles.ensures in
+    let sound = (unless_ok c.in_ok-check_profiled.field-0 _ _ c.in_ok-check_profiled.ensures.yes).0 (ap Ok c.in-Yes.is) in
+    sound_more c.args.logs.now c.args.cases.now c.args.sections.now c.loop-case.case case section case_at section_at c.loop-case.invariant
+    (subst (λ (ls : List Log). IsSoundSection ls case section) same sound)
 
 pub returns-in-No : goal.returns-in-No
 returns-in-No g c =
     let case = c.index-cases-case.result in
     let section = c.index-sections-case.result in
-    let fault = c.in-No.fault in (
+    let fault = c.in-No.fault in
+    let same : c.deref.result.now ≡ c.args.logs.now = c.deref.ensures.value ∙ c.in_ok-profiles.ensures in (
       c.loop-case.case,
       fault,
       refl,
@@ -27,6 +44,7 @@ returns-in-No g c =
         case_at = slice_get_read c.args.cases.now _ c.loop-case.case case refl (search rules) c.index-cases-case.is;
         section = section;
         section_at = slice_get_read c.args.sections.now (length c.args.cases.now) c.loop-case.case section (sym c.requires.number) (search rules) c.index-sections-case.is;
-        fault = (unless_ok c.in_ok-check_plain.field-0 _ _ (c.in_ok-check_plain.ensures.no fault)).0 (ap Ok c.in-No.is);
+        fault = subst (λ (ls : List Log). IsSectionFault ls case section fault) same
+            ((unless_ok c.in_ok-check_profiled.field-0 _ _ (c.in_ok-check_profiled.ensures.no fault)).0 (ap Ok c.in-No.is));
       },
     )
