@@ -21,7 +21,7 @@ help:
 	@echo 'make run        makes ira, judges examples with it, and compares its answers with those expected'
 	@echo 'make install    copies bin/ira to $$(PREFIX)/bin; PREFIX is $(PREFIX) if not given'
 	@echo 'make test       the gate: all proofs from nothing, the edits that must be refused, all tests and'
-	@echo '                programs; its last line is `N passed, 0 failed`. See docs/ARCHITECTURE.md for its time'
+	@echo '                programs: `N passed, 0 failed`; and all examples. See docs/ARCHITECTURE.md for its time'
 	@echo 'make clean      removes what was built and proved'
 
 # Two at a time: a library that stands on none of this repository is proved beside the others, of
@@ -49,21 +49,22 @@ judges = echo '$$ bin/ira $(1)'; \
 	said=$$(bin/ira $(1)); status=$$?; echo "$$said"; \
 	test "$$status: $$said" = '$(2): $(3)' || { echo 'expected: $(3), and the status $(2)'; exit 1; }
 
-# A good and a bad election, and a bad log alone.
+# A good and a bad election, a bad log alone, and then all examples.
 run: ira
 	@$(call judges,logs examples/two_node_election/0.log examples/two_node_election/1.log,0,yes)
 	@$(call judges,logs examples/receipts_exchanged/0.log examples/receipts_exchanged/1.log,1,no: link 1: receipt 1 differs)
 	@$(call judges,< examples/one_bad_log/draw_out_of_range.log,1,no: node 0: event 1: draw range)
-	@echo 'All answers are as expected.'
+	@sh examples/check.sh bin/ira
 
 install:
 	@test -x bin/ira || { echo 'make ira first'; exit 1; }
 	install -D -m 755 bin/ira $(DESTDIR)$(PREFIX)/bin/ira
 
-# The merge gate: every proof from nothing, the edits that the prover must refuse, all tests, and
-# the programs as two compilers build them.
+# The merge gate: every proof from nothing, the edits that the prover must refuse, all tests, the programs as
+# two compilers build them, and the answers to all examples.
 test:
 	rt ci
+	@sh examples/check.sh $(PROGRAM)
 
 clean:
 	rm -rf bin crates/*/out

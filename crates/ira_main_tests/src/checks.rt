@@ -145,14 +145,17 @@ fn files_that_cannot_be_read(rt: HostRuntime) {
         File::Text("irlog 2\n"),
         File::Unreadable,
     );
-    let unread = |name| match name {
-        0 => "ira: cannot read q\n",
-        1 => "ira: cannot read c\n",
-        _ => "ira: cannot read 0.log\n",
-    };
-    assert_checked(&rt, none, none, none, 2, "", unread(0));
-    assert_checked(&rt, question, none, bad, 2, "", unread(1));
-    assert_checked(&rt, bad, certificate, none, 2, "", unread(2));
+    assert_checked(&rt, none, none, none, 2, "", "ira: cannot read q\n");
+    assert_checked(&rt, question, none, bad, 2, "", "ira: cannot read c\n");
+    assert_checked(
+        &rt,
+        bad,
+        certificate,
+        none,
+        2,
+        "",
+        "ira: cannot read 0.log\n",
+    );
     assert_checked(&rt, bad, bad, bad, 1, "no: log 0: head\n", "");
     assert_checked(&rt, bad, bad, log, 1, "no: question: head\n", "");
     assert_checked(&rt, question, bad, log, 1, "no: certificate: head\n", "");
