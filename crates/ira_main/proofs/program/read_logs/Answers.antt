@@ -1,4 +1,4 @@
-use Rattle.std.proofs.Common.{inl, refl, ◌∷◌, [], ◌∙◌, arith, length-append}
+use Rattle.std.proofs.Common.{refl, ◌∷◌, [], ◌∙◌, arith, length-append}
 use Rattle.ira_main.proofs.program.read_logs.Goals as goal
 
 pub loop-name-init : goal.loop-name-init
@@ -8,7 +8,7 @@ pub loop-name-preserved : goal.loop-name-preserved
 loop-name-preserved g c =
     let taken = c.loop-name.invariant in
     let text = c.deref.result.now in
-    (_, c.in_ok-take-in-Ok.ensures.ok taken.0 taken.1, length-append taken.0 (text ∷ []) ∙ omega (arith, taken.2), omega (arith, c.loop-name-test.true))
+    (_, c.in_ok-take.ensures.ok taken.0 taken.1, length-append taken.0 (text ∷ []) ∙ omega (arith, taken.2), omega (arith, c.loop-name-test.true))
 
 pub returns : goal.returns
 returns g c =
