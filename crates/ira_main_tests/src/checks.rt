@@ -20,11 +20,11 @@ const TWO_STEPS: &str =
     "ircert 1\nnodes 2\nsection\ndrop 1 1 by 0 4\ndrop 1 2 by 0 4\nspent 1\nend\n";
 
 /// Serves `check` on these files and the logs of the two-node election.
-fn assert_checked(
+fn assert_checked<'a>(
     rt: &(impl Abort + AllocGlobal + Threads + Wait + Clock + Sync),
-    question: File<'_>,
-    certificate: File<'_>,
-    log: File<'_>,
+    question: File<'a>,
+    certificate: File<'a>,
+    log: File<'a>,
     status: u8,
     out: &str,
     err: &str,
