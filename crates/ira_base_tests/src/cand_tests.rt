@@ -3,8 +3,8 @@ ghost use Rattle.std.specs.Prelude.{is_none};
 ghost use Rattle.std.specs.Iterator.{YieldsFirst, item_count};
 
 use crate::samples::{clean, free, log_of, loser, owing};
-use ira_cand::{Ahead, Holding, LocalTest, candidates, table};
-use ira_event::Listed;
+use ira_cand::{Ahead, Holding, LocalTest, Profile, candidates, table};
+use ira_event::{Event, Listed};
 use ira_node::{NodeState, Phase};
 use ira_pred::Clause;
 use std::test::Fail;
@@ -23,6 +23,23 @@ fn candidates_of_active(rt: HostRuntime) -> Result<(), Fail> {
     assert_eq!(rt; ahead.front(), None);
     ahead.advance();
     assert_eq!(rt; ahead.front(), None);
+    Ok(())
+}
+
+/// A passive node that passes 2,000 messages on owes one behind each receipt.
+#[test]
+fn candidates_of_a_long_log(rt: HostRuntime) -> Result<(), Fail> {
+    let passed_on = [Event::Got(clean(1, 1, 1)), Event::Sent(clean(1, 1, 2))];
+    let mut events = Vec::new(rt.alloc());
+    for _ in 0..2_000 {
+        events.extend_from_slice(&passed_on)?;
+    }
+    let log = log_of(rt.alloc(), 2, 1, false, &events)?;
+    let found = table(rt.alloc(), &log, &Clause::Owes)?;
+    assert_eq!(rt; found.len(), 2_000);
+    assert!(rt; found.iter().all(|position| *position % 2 == 1));
+    let told_in_short = Profile::new(rt.alloc(), &log)?.table(rt.alloc(), &Clause::Owes)?;
+    assert!(rt; told_in_short == found);
     Ok(())
 }
 
