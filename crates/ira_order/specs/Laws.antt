@@ -1,5 +1,5 @@
 -- Laws of orders, cuts and runs.
-use Rattle.std.specs.Prelude.{◌≡◌, ◌≤◌, ◌<◌, ℕ, List, length, slice_index, take, slice_get, Some}
+use Rattle.std.specs.Prelude.{◌≡◌, ◌≤◌, ◌<◌, ◌⊎◌, ℕ, List, length, slice_index, take, slice_get, Some}
 use Rattle.ira_event.specs.declared.event.Event.{Event}
 use Rattle.ira_event.specs.Log.{Log}
 use Rattle.ira_event.specs.Logs.{AreLogs}
@@ -8,7 +8,8 @@ use Rattle.ira_replay.specs.LocalRun.{IsFirstFault}
 use Rattle.ira_order.specs.declared.match_fault.MatchFault.{MatchFault}
 use Rattle.ira_order.specs.Matching.{Matches}
 use Rattle.ira_order.specs.MatchFault.{IsMatchFault}
-use Rattle.ira_order.specs.Circle.{HasCircle}
+use Rattle.ira_order.specs.Circle.{HasOrder, HasCircle}
+use Rattle.ira_order.specs.Before.{Before}
 use Rattle.ira_order.specs.Ring.{log_of}
 use Rattle.ira_order.specs.Order.{IsOrder, standings}
 use Rattle.ira_order.specs.Cut.{IsConsistentCut, IsJoin, IsMeet}
@@ -61,9 +62,11 @@ CutsAreMoments =
 
 -- in logs that have an order each event has its counts, and so has the beginning of each log
 abbrev pub EventsHaveCounts : Type 0
-EventsHaveCounts =
-    (logs : List Log) (order : List ℕ) (j b : ℕ) → AreLogs logs → Matches logs → IsOrder logs order → j < length logs
-    → b ≤ length (log_of logs j) → (counts : List ℕ) × AreCounts logs j b counts
+EventsHaveCounts = (logs : List Log) (j b : ℕ) → HasOrder logs → j < length logs → b ≤ length (log_of logs j) → (counts : List ℕ) × AreCounts logs j b counts
+
+-- and whether one event happened before another is decided
+abbrev pub HappenedBeforeIsDecided : Type 0
+HappenedBeforeIsDecided = (logs : List Log) (i a j b : ℕ) → HasOrder logs → Before logs i a j b ⊎ ¬ (Before logs i a j b)
 
 -- the counts of an event are a consistent cut
 abbrev pub CountsAreCuts : Type 0

@@ -1,4 +1,4 @@
-ghost use Rattle.ira_order.specs.Laws.{OrdersMeanEvents, OrdersAreRuns, RunsAreOrders, UnmatchedLogsHaveNoRun, CircledLogsHaveNoRun, FaultyLogsHaveNoRun, MomentsAreCuts, CutsAreMoments, EventsHaveCounts, CountsAreCuts, CountsAreLeast, JoinsAreCuts, MeetsAreCuts};
+ghost use Rattle.ira_order.specs.Laws.{OrdersMeanEvents, OrdersAreRuns, RunsAreOrders, UnmatchedLogsHaveNoRun, CircledLogsHaveNoRun, FaultyLogsHaveNoRun, MomentsAreCuts, CutsAreMoments, EventsHaveCounts, HappenedBeforeIsDecided, CountsAreCuts, CountsAreLeast, JoinsAreCuts, MeetsAreCuts};
 
 /// A law: an order means a list of events.
 pub fn orders_mean_events()
@@ -35,10 +35,11 @@ pub fn cuts_are_moments()
     ensures { CutsAreMoments }
 {}
 
-/// A law: where logs have an order, each event counts the events of each node that happened before it.
-/// So whether one event happened before another is decided there.
+/// A law: where logs have an order, each event has its counts, one for each node; so whether one event
+/// happened before another is decided there.
 pub fn events_have_counts()
-    ensures { EventsHaveCounts }
+    ensures counts { EventsHaveCounts }
+    ensures decided { HappenedBeforeIsDecided }
 {}
 
 /// A law: the counts of an event are a consistent cut, the least one that holds the event (Mattern,
