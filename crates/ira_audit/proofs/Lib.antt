@@ -6,6 +6,8 @@ pub mod OneAuditAnswer
 pub mod Places
 pub mod RefusedTexts
 pub mod Replaying
+pub mod SomeAuditAnswer
+pub mod SomeLogsAnswer
 pub mod SoundSections
 pub mod Stages
 pub mod TextRuns

@@ -5,11 +5,11 @@ use Rattle.ira_event.specs.declared.event.Event.{Event}
 use Rattle.ira_event.specs.declared.limits.TheConstants.{MAX_RECORDS, MAX_TEXT}
 use Rattle.ira_event.specs.Log.{Log}
 use Rattle.ira_event.specs.LogText.{IsLogText}
-use Rattle.ira_event.specs.LogTextFault.{LogTextFault, LinesFault, no_head, behind_head, LineFault, too_many, no_line, out_of_range, other_count, trailing, RestFault, cut, at_line, RecordsFault, BeginsWithHead}
+use Rattle.ira_event.specs.LogTextFault.{LogTextFault, behind_head, RecordsFault, BeginsWithHead}
 use Rattle.ira_event.specs.Records.{RecordsLeft, ReadsRecord, HasRead, ReadsThrough}
+use Rattle.ira_event.proofs.EarlyFaults.{not_out_of_memory}
 use Rattle.ira_event.proofs.LogReading.{behind_nothing, behind_more}
 use Rattle.ira_event.proofs.LogAnswers.{log_read}
-use Rattle.ira_event.specs.Result.{UnlessErr}
 use Rattle.ira_event.specs.declared.out_of_memory.OutOfMemory.{OutOfMemory}
 use Rattle.ira_event.specs.declared.log_fault.LogFault.{LogFault}
 use Rattle.ira_event.specs.declared.log_fault.LogFault.TheVariants as fault
@@ -101,32 +101,15 @@ text_judged text head rest (Ok a) short b h =
     (record { nodes = head.nodes; place = head.place; initiator = head.initiator; events = h.0 }, log_read text head.nodes head.place head.initiator rest h.0 b h.1, h.2)
 text_judged text head rest (Err f) short b h = inr (short, behind_head head.nodes head.place head.initiator rest b h)
 
--- ---- a fault of a text is no want of memory
-
-line_fault_other : (k : ℕ) (line more : List ℕ) (f : LogFault) → LineFault k line more f → f ≢ fault.OutOfMemory
-line_fault_other k line more f (too_many a b p) q = absurd cc
-line_fault_other k line more f (no_line a b c p) q = absurd cc
-line_fault_other k line more f (out_of_range e a b c p) q = absurd cc
-line_fault_other k line more f (other_count n a b p) q = absurd cc
-line_fault_other k line more f (trailing a b p) q = absurd cc
-
-rest_fault_other : (k : ℕ) (rest : List ℕ) (f : LogFault) → RestFault k rest f → f ≢ fault.OutOfMemory
-rest_fault_other k rest f (cut a p) q = absurd cc
-rest_fault_other k rest f (at_line l m e w h) q = line_fault_other k l m f h q
-
-lines_fault_other : (text : List ℕ) (f : LogFault) → LinesFault text f → f ≢ fault.OutOfMemory
-lines_fault_other text f (no_head a p) q = absurd cc
-lines_fault_other text f (behind_head n x i rest b h) q = rest_fault_other (length h.events) h.rest f h.fault q
-
-pub text_fault_other : (text : List ℕ) (f : LogFault) → LogTextFault text f → f ≢ fault.OutOfMemory
-text_fault_other text f (inl a) q = let p = a.1 in absurd cc
-text_fault_other text f (inr a) q = lines_fault_other text f a.1 q
-
 -- ---- the answer of the text
 
+-- a fault of a text is no want of memory
+pub text_fault_other : (text : List ℕ) (f : LogFault) → LogTextFault text f → f ≢ fault.OutOfMemory
+text_fault_other text f h e = not_out_of_memory text (subst (LogTextFault text) e h)
+
 -- an answer that is right is the only one
-pub exactly : (text : List ℕ) (x : Answer) → single.IsAnswer text x → (a : Answer) → UnlessErr {T = Answer} {E = OutOfMemory} (Ok x) (record {}) (◌≡◌ {A = Result Answer OutOfMemory} (Ok x) (Ok a) ↔ single.IsAnswer text a)
-exactly text x h a = inr (λ e. subst (single.IsAnswer text) (ok_same x a e) h, λ k. ap Ok (one_answer text x a h k))
+pub exactly : (text : List ℕ) (x : Answer) → single.IsAnswer text x → (a : Answer) → ◌≡◌ {A = Result Answer OutOfMemory} (Ok x) (Ok a) ↔ single.IsAnswer text a
+exactly text x h a = (λ e. subst (single.IsAnswer text) (ok_same x a e) h, λ k. ap Ok (one_answer text x a h k))
 
 -- the answer of the text's log is the text's
 pub of_log : (text : List ℕ) (log : Log) (a : Answer) → IsLogText text log → IsLogAnswer log a → single.IsAnswer text a

@@ -28,3 +28,7 @@ pub data IsAnswer (text : List ℕ) (answer : Answer) : Type 0 where
 -- no text has two answers
 abbrev pub NoTextHasTwoAnswers : Type 0
 NoTextHasTwoAnswers = (text : List ℕ) (a b : Answer) → IsAnswer text a → IsAnswer text b → a ≡ b
+
+-- each text has one
+abbrev pub EachTextHasAnAnswer : Type 0
+EachTextHasAnAnswer = (text : List ℕ) → (a : Answer) × IsAnswer text a

@@ -83,3 +83,8 @@ abbrev pub NoTextsHaveTwoAuditAnswers : Type 0
 NoTextsHaveTwoAuditAnswers =
     (texts : List (List ℕ)) (question certificate : List ℕ) (a b : Answer)
     → IsAuditAnswer texts question certificate a → IsAuditAnswer texts question certificate b → a ≡ b
+
+-- any texts have one
+abbrev pub AnyTextsHaveAnAuditAnswer : Type 0
+AnyTextsHaveAnAuditAnswer =
+    (texts : List (List ℕ)) (question certificate : List ℕ) → (a : Answer) × IsAuditAnswer texts question certificate a

@@ -51,3 +51,7 @@ pub data IsLogsAnswer (texts : List (List ℕ)) (answer : Answer) : Type 0 where
 -- no texts have two answers
 abbrev pub NoTextsHaveTwoAnswers : Type 0
 NoTextsHaveTwoAnswers = (texts : List (List ℕ)) (a b : Answer) → IsLogsAnswer texts a → IsLogsAnswer texts b → a ≡ b
+
+-- any texts have one
+abbrev pub AnyTextsHaveAnAnswer : Type 0
+AnyTextsHaveAnAnswer = (texts : List (List ℕ)) → (a : Answer) × IsLogsAnswer texts a

@@ -1,4 +1,4 @@
--- What is kept of the texts of a ring's logs while they are taken one by one.
+-- Helpers, no definitions: what is kept of the texts of a ring's logs while they are taken one by one.
 use Rattle.std.specs.Prelude.{◌≡◌, ℕ, List, Option, Some, None, length, slice_get, take}
 use Rattle.ira_event.specs.declared.log_fault.LogFault.{LogFault}
 use Rattle.ira_event.specs.Log.{Log}

@@ -1,6 +1,6 @@
-ghost use Rattle.ira_audit.specs.Answer.{NoTextHasTwoAnswers};
-ghost use Rattle.ira_audit.specs.AuditAnswer.{NoTextsHaveTwoAuditAnswers};
-ghost use Rattle.ira_audit.specs.LogsAnswer.{NoTextsHaveTwoAnswers};
+ghost use Rattle.ira_audit.specs.Answer.{EachTextHasAnAnswer, NoTextHasTwoAnswers};
+ghost use Rattle.ira_audit.specs.AuditAnswer.{AnyTextsHaveAnAuditAnswer, NoTextsHaveTwoAuditAnswers};
+ghost use Rattle.ira_audit.specs.LogsAnswer.{AnyTextsHaveAnAnswer, NoTextsHaveTwoAnswers};
 ghost use Rattle.ira_audit.specs.Never.{NoMomentMeetsAny, NeverTwoLeaders};
 
 /// A law: the text of one log, the texts of the logs of a ring, and these with a question and a
@@ -9,6 +9,13 @@ pub fn answers_are_one()
     ensures one_log { NoTextHasTwoAnswers }
     ensures ring_logs { NoTextsHaveTwoAnswers }
     ensures certified { NoTextsHaveTwoAuditAnswers }
+{}
+
+/// A law: each of these has an answer, whether or not there is memory to find it.
+pub fn texts_have_answers()
+    ensures one_log { EachTextHasAnAnswer }
+    ensures ring_logs { AnyTextsHaveAnAnswer }
+    ensures certified { AnyTextsHaveAnAuditAnswer }
 {}
 
 /// A law: after a yes no order of the logs meets an asked case at any of its moments.

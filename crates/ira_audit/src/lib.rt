@@ -15,7 +15,7 @@ mod sections;
 
 pub use answer::Answer;
 pub use certified::audit;
-pub use laws::{answers_are_one, never_two_leaders, no_moment_meets_a_case};
+pub use laws::{answers_are_one, never_two_leaders, no_moment_meets_a_case, texts_have_answers};
 pub use one_log::audit_one;
 pub use reason::Reason;
 pub use report::write_report;

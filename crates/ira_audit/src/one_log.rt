@@ -1,8 +1,7 @@
-ghost use Rattle.std.specs.Prelude.{◌≡◌, ◌↔◌, Ok, IfOk, MatchResult};
+ghost use Rattle.std.specs.Prelude.{◌≡◌, ◌↔◌, Ok, IfOk, IsOk, MatchResult};
 ghost use Rattle.ira_event.specs.Log.{Log};
 ghost use Rattle.ira_event.specs.LogText.{IsLogText};
 ghost use Rattle.ira_event.specs.LogTextFault.{LogTextFault, RecordsFault};
-ghost use Rattle.ira_event.specs.Result.{UnlessErr};
 ghost use Rattle.ira_audit.specs.Answer.{IsAnswer};
 ghost use Rattle.ira_audit.specs.Replaying.{IsLogAnswer, IsJudged, ReplaysRecords};
 ghost use Rattle.ira_audit.specs.Report.{IsReportable};
@@ -18,9 +17,10 @@ use ira_replay::ReplayFault;
 use std::alloc::Allocator;
 
 /// Judges the text of one log alone: whether it is a log's, and then whether each event has a step.
-/// It takes no memory: each event has its step as it is read.
+/// It takes no memory, each event has its step as it is read, so it always answers.
 pub fn audit_one<A: Allocator>(_alloc: A, text: &[u8]) -> Result<Answer, OutOfMemory>
-    ensures answer { (a : Answer) → UnlessErr result (record {}) ((result ≡ Ok a) ↔ IsAnswer text.now a) }
+    ensures answer { (a : Answer) → (result ≡ Ok a) ↔ IsAnswer text.now a }
+    ensures answered { IsOk result }
     ensures reportable { IfOk result IsReportable }
 {
     match judge_text(text) {

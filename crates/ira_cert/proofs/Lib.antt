@@ -1,6 +1,7 @@
 pub mod Behind
 pub mod CaseFronts
 pub mod Exactly
+pub mod FoundVerdict
 pub mod Judged
 pub mod Made
 pub mod NoCut

@@ -34,7 +34,7 @@ module _ (logs : List Log) (case : List Conjunct) (places : HasPlacesOf logs cas
       ]
 
   -- sound steps eliminate no more states of it than those
-  enough : (steps : List CertStep) (k : ℕ) → k ≤ length steps → AreSoundSteps logs case (take k steps) → (i : ℕ) → IsAsked case i → (positions : List ℕ) × CandidatesOf logs case i positions × (made (take k steps) i ≤ length positions)
+  pub enough : (steps : List CertStep) (k : ℕ) → k ≤ length steps → AreSoundSteps logs case (take k steps) → (i : ℕ) → IsAsked case i → (positions : List ℕ) × CandidatesOf logs case i positions × (made (take k steps) i ≤ length positions)
   enough steps zero l sound i asked = let c = candidates_at i asked in (c.0, c.1, omega arith)
   enough steps (suc k) l sound i asked =
       let s = step_at steps k (omega arith) in

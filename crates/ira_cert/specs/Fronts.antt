@@ -1,4 +1,4 @@
--- The candidates of a case, place by place.
+-- Helpers, no definitions: the candidates of a case, place by place.
 use Rattle.std.specs.Prelude.{◌≡◌, ℕ, ◌≤◌, List, Option, Some, length, slice_get, drop}
 use Rattle.ira_event.specs.Log.{Log}
 use Rattle.ira_pred.specs.Case.{Conjunct}

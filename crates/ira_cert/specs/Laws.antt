@@ -2,6 +2,7 @@
 use Rattle.std.specs.Prelude.{◌≡◌, ℕ, List}
 use Rattle.ira_event.specs.Log.{Log}
 use Rattle.ira_pred.specs.Case.{Conjunct}
+use Rattle.ira_order.specs.Circle.{HasOrder}
 use Rattle.ira_order.specs.Cut.{IsConsistentCut}
 use Rattle.ira_cand.specs.Meets.{Meets}
 use Rattle.ira_cert_text.specs.Certificate.{Section}
@@ -28,3 +29,9 @@ abbrev pub NoSectionIsWithoutVerdict : Type 0
 NoSectionIsWithoutVerdict =
     (logs : List Log) (case : List Conjunct) (section : Section) → HasPlacesOf logs case
     → ¬ ((a : Verdict) → ¬ (IsVerdict logs case section a))
+
+-- of logs that have an order each section has one
+abbrev pub SectionsOfOrderedLogsHaveVerdicts : Type 0
+SectionsOfOrderedLogsHaveVerdicts =
+    (logs : List Log) (case : List Conjunct) (section : Section) → HasOrder logs → HasDifferentPlaces case
+    → HasPlacesOf logs case → (a : Verdict) × IsVerdict logs case section a

@@ -1,3 +1,4 @@
+pub mod Existence
 pub mod LoneEnds
 pub mod LoneLogs
 pub mod LoneNodes

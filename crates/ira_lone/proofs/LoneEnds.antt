@@ -8,9 +8,8 @@ use Rattle.ira_node.specs.declared.phase.Phase.TheVariants.{Choosing}
 use Rattle.ira_node.specs.declared.node_state.NodeState.{NodeState}
 use Rattle.ira_node.specs.NodeState.{free, IsLeader, Receives}
 use Rattle.ira_node.specs.NodeStep.{HasStep}
-use Rattle.ira_node.specs.Wanted.{wanted_of, IsOfKind}
+use Rattle.ira_node.specs.Wanted.{wanted_of}
 use Rattle.ira_node.specs.declared.wanted.Wanted.TheVariants.{Draw as WantsDraw, Send, Receipt}
-use Rattle.ira_node.proofs.Wants.{step_wanted}
 use Rattle.ira_run.specs.declared.node_end.NodeEnd.{NodeEnd}
 use Rattle.ira_run.specs.declared.node_end.NodeEnd.TheVariants.{Leader, Stopped, DrawsSpent, LogFull, NoStep, Quiet}
 use Rattle.ira_run.specs.Setup.{Setup, given}

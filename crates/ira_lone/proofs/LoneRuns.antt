@@ -46,7 +46,7 @@ log_of_node s nodes logs reached of_nodes i l =
     let at : slice_get logs i ≡ Some (get_or logs i no_log) = slice_get-get_or logs i no_log (omega (arith, of_nodes.0, reached.many)) in
     ap events_of at ∙ ap (λ (x : Log). x.events) (of_nodes.1 i (get_or logs i no_log) at)
 
-full_logs : (s : Setup) (nodes : List LoneNode) (logs : List Log) → KeepsRules s → AreAtEnd s nodes → AreLogsOfNodes s nodes logs → AreFullLogs s logs
+pub full_logs : (s : Setup) (nodes : List LoneNode) (logs : List Log) → KeepsRules s → AreAtEnd s nodes → AreLogsOfNodes s nodes logs → AreFullLogs s logs
 full_logs s nodes logs rules done of_nodes =
     let reached : IsReached s nodes = done.0 in
     let many : length logs ≡ s.nodes = of_nodes.0 ∙ done.0.many in

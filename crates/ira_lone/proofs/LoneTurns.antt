@@ -21,14 +21,18 @@ pub read_at : (nodes : List LoneNode) (i j : ℕ) (node : LoneNode) → i < leng
 read_at nodes i j node l is read = get_or_read nodes i node l (read ∙ ap (λ (x : ℕ). get_or nodes x node) is) idle
 
 -- the IDs that a node has left are those of its ring
+pub ids_of : (s : Setup) (nodes : List LoneNode) (i : ℕ) → KeepsRules s → IsReached s nodes → i < s.nodes → All (λ d. (1 ≤ d) × (d ≤ s.nodes)) (node_at nodes i).ids
+ids_of s nodes i rules reached place =
+    let P : ℕ → Type 0 = λ d. (1 ≤ d) × (d ≤ s.nodes) in
+    let all : All P (drawn (node_at nodes i).events ++ (node_at nodes i).ids) = subst (All P) (reached.draws i place) (rules.ids i place) in
+    all_behind P (drawn (node_at nodes i).events) (node_at nodes i).ids all
+
+-- the same of a node that was read
 pub ids_left : (s : Setup) (nodes : List LoneNode) (i j n : ℕ) (node : LoneNode) → KeepsRules s → IsReached s nodes → i < length nodes → j ≡ i → n ≡ s.nodes → node ≡ get_or nodes j node
     → All (λ d. (1 ≤ d) × (d ≤ n)) node.ids
 ids_left s nodes i j n node rules reached l is size read =
-    let place : i < s.nodes = omega (arith, reached.many) in
     let P : ℕ → ℕ → Type 0 = λ m d. (1 ≤ d) × (d ≤ m) in
-    let all : All (P s.nodes) (drawn (node_at nodes i).events ++ (node_at nodes i).ids) = subst (All (P s.nodes)) (reached.draws i place) (rules.ids i place) in
-    let left : All (P s.nodes) (node_at nodes i).ids = all_behind (P s.nodes) (drawn (node_at nodes i).events) (node_at nodes i).ids all in
-    let of_node : All (P s.nodes) node.ids = subst (λ (x : LoneNode). All (P s.nodes) x.ids) (sym (read_at nodes i j node l is read)) left in
+    let of_node : All (P s.nodes) node.ids = subst (λ (x : LoneNode). All (P s.nodes) x.ids) (sym (read_at nodes i j node l is read)) (ids_of s nodes i rules reached (omega (arith, reached.many))) in
     subst (λ (m : ℕ). All (P m) node.ids) (sym size) of_node
 
 -- ---- the node behind

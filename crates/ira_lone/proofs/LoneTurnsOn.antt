@@ -45,7 +45,7 @@ sum_less f (x ∷ old) (y ∷ new) zero many here less each = omega (arith, sum_
 sum_less f (x ∷ old) (y ∷ new) (suc i) many here less each =
     omega (arith, sum_by-cons f x old, sum_by-cons f y new, each 0 (omega arith), sum_less f old new i (omega arith) (omega arith) less (λ j ne. each (suc j) (omega arith)))
 
-less_room : (n most i : ℕ) (e : Event) (after : NodeState) (old new : List LoneNode) → i < length old → length new ≡ length old → IsNext n most (node_at old i) e after → IsMoved n i e after old new
+pub less_room : (n most i : ℕ) (e : Event) (after : NodeState) (old new : List LoneNode) → i < length old → length new ≡ length old → IsNext n most (node_at old i) e after → IsMoved n i e after old new
     → room_in most new < room_in most old
 less_room n most i e after old new here many is_next moved =
     let node_is = own n i after old new e moved in

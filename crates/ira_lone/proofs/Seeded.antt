@@ -1,18 +1,19 @@
 -- Setups whose nodes draw from a seed.
 use Rattle.std.proofs.Common.{◌≡◌, ℕ, zero, suc, ◌<◌, ◌≤◌, Bool, true, false, List, [], ◌∷◌, ◌++◌, Some, All, length, get_or, refl, sym, ◌∙◌, subst, ap, arith}
-use Rattle.std.specs.Prelude.{map, slice_get, IfSome, Result, Ok, Err, IfOk, IsErr}
+use Rattle.std.specs.Prelude.{map, slice_get, IfSome, Result, Ok, Err, IfOk}
 use Rattle.std.specs.List.{list_any}
 use Rattle.std.proofs.lemmas.List.{get_or-map, length-map}
 use Rattle.std.proofs.lemmas.List.FromFn.{length-map-range_with_len, get_or-map-range_with_len}
 use Rattle.rand_core.specs.Steps.{first_words}
 use Rattle.rand_pcg.specs.Lcg.{Lcg}
 use Rattle.rand_pcg.specs.Pcg.{pcg32}
+use Rattle.ira_event.specs.declared.limits.TheConstants.{MAX_RECORDS}
 use Rattle.ira_event.specs.RingSize.{IsRingSize}
 use Rattle.ira_run.specs.declared.node_end.NodeEnd.{NodeEnd}
 use Rattle.ira_run.specs.declared.node_end.NodeEnd.TheVariants.{Leader, Stopped, DrawsSpent, LogFull, NoStep, Quiet}
 use Rattle.ira_run.specs.declared.run_fault.RunFault.{RunFault}
 use Rattle.ira_run.specs.NodeEnd.{is_draws_spent}
-use Rattle.ira_run.specs.Setup.{Setup, given, KeepsRules}
+use Rattle.ira_run.specs.Setup.{Setup, given, HasInitiator, KeepsRules}
 use Rattle.ira_run.specs.Draws.{draws, generator, id_of_word}
 use Rattle.ira_run.specs.Run.{Run}
 use Rattle.ira_run.specs.FullRun.{BeginsWith}
@@ -68,6 +69,18 @@ same_rules n kinds seed k m cap s t a b rules =
       cap = (omega (arith, rules.cap.0, a.limit, b.limit), omega (arith, rules.cap.1, a.limit, b.limit));
     }
 
+-- the rules, where they hold of all but the draws
+pub keeps_all : (n : ℕ) (kinds : List Bool) (seed k cap : ℕ) → IsRingSize n → length kinds ≡ n → HasInitiator (seeded n kinds seed k cap) → (1 ≤ cap) × (cap ≤ MAX_RECORDS) → KeepsRules (seeded n kinds seed k cap)
+keeps_all n kinds seed k cap size many some within =
+    let is : IsSeeded n kinds seed k cap (seeded n kinds seed k cap) = seeded_is n kinds seed k cap in
+    record {
+      size = size;
+      lists = (many, is.many);
+      initiator = some;
+      ids = λ i l. subst (All (λ d. (1 ≤ d) × (d ≤ n))) (sym (is.draws i l)) (ids_drawn n _ (omega (arith, size.0)));
+      cap = within;
+    }
+
 -- ---- more draws begin with fewer
 
 begins : (n k m : ℕ) (g : Lcg) → k ≤ m → BeginsWith (draws_of n m g) (draws_of n k g)
@@ -121,6 +134,3 @@ one_of_same n kinds seed k cap s t run a b lone =
 pub lone_of_same : (n : ℕ) (kinds : List Bool) (seed k cap : ℕ) (s t : Setup) (r : Result Run RunFault) → IsSeeded n kinds seed k cap s → IsSeeded n kinds seed k cap t → IfOk r (IsLoneRun s) → IfOk r (IsLoneRun t)
 lone_of_same n kinds seed k cap s t (Ok run) a b lone = one_of_same n kinds seed k cap s t run a b lone
 lone_of_same n kinds seed k cap s t (Err f) a b lone = tt
-
-pub is_err : (r : Result Run RunFault) (f : RunFault) → r ≡ Err f → IsErr r
-is_err r f is = subst (λ (x : Result Run RunFault). IsErr x) (sym is) refl

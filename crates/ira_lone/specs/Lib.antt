@@ -1,3 +1,4 @@
+pub mod Existence
 pub mod LoneNode
 pub mod LoneRing
 pub mod SeededRun

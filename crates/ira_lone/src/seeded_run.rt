@@ -1,4 +1,4 @@
-ghost use Rattle.std.specs.Prelude.{◌≡◌, ◌⊎◌, Err, IfOk, IfErr, IsErr, OnOk};
+ghost use Rattle.std.specs.Prelude.{◌≡◌, ◌↔◌, ◌⊎◌, ℕ, Err, IfOk, IfErr, IsTrue, OnOk};
 ghost use Rattle.std.specs.List.{list_any};
 ghost use Rattle.ira_run.specs.declared.run_fault.RunFault.TheVariants.{Setup as SetupFault, OutOfMemory as MemoryFault};
 ghost use Rattle.ira_run.specs.NodeEnd.{is_draws_spent};
@@ -8,12 +8,21 @@ ghost use Rattle.ira_lone.specs.SeededRun.{seeded, IsSeeded};
 ghost use Rattle.ira_run.specs.Agreement.{AreOfEachFullRun};
 
 use crate::lone_run::run_alone;
-use ira_event::{OutOfMemory, RingSize};
+use ira_event::{MAX_RECORDS, OutOfMemory, RingSize};
 use ira_run::{NodeEnd, Run, RunFault, Setup, draw_lists};
 use std::alloc::Allocator;
 
 /// How many draws of each node are made at first: few, and yet an election seldom needs more.
 const FIRST_DRAWS: u32 = 16;
+
+/// Whether the setup whose nodes draw from a seed keeps the rules. Draws of a generator always do.
+fn keeps_rules(nodes: RingSize, initiators: &[bool], cap: usize) -> bool
+    ensures { (seed k : ℕ) → IsTrue result ↔ KeepsRules (seeded nodes initiators.now seed k cap) }
+{
+    (1..=MAX_RECORDS).contains(&cap)
+        && initiators.len() == usize::from(nodes.get())
+        && initiators.contains(&true)
+}
 
 /// The setup whose nodes are given their first `k` draws.
 fn seeded_setup<A: Allocator + Clone>(
@@ -42,7 +51,8 @@ fn lack_draws(ends: &[NodeEnd]) -> bool
 }
 
 /// A full run on one thread of a ring whose nodes are given the first `k` draws of the seed, as
-/// `run_alone` gives it. Where the first few draws of each node will do, no others are made.
+/// `run_alone` gives it. `Setup` where the setup of the seed breaks the rules; nothing is taken before they
+/// were looked at. Where the first few draws of each node will do, no others are made.
 pub fn run_alone_seeded<A: Allocator + Clone>(
     alloc: A,
     nodes: RingSize,
@@ -51,13 +61,15 @@ pub fn run_alone_seeded<A: Allocator + Clone>(
     k: u32,
     cap: usize,
 ) -> Result<Run<A>, RunFault>
-    ensures rules { result ≡ Err SetupFault → ¬ (KeepsRules (seeded nodes initiators.now seed k cap)) }
-    ensures broken { ¬ (KeepsRules (seeded nodes initiators.now seed k cap)) → IsErr result }
+    ensures rules { (result ≡ Err SetupFault) ↔ ¬ (KeepsRules (seeded nodes initiators.now seed k cap)) }
     ensures kept { OnOk result (KeepsRules (seeded nodes initiators.now seed k cap)) }
     ensures ok { IfOk result (IsLoneRun (seeded nodes initiators.now seed k cap)) }
     ensures only { IfOk result (λ run. AreOfEachFullRun (seeded nodes initiators.now seed k cap) run.logs) }
     ensures err { IfErr result (λ f. (f ≡ SetupFault) ⊎ (f ≡ MemoryFault)) }
 {
+    if !keeps_rules(nodes, initiators, cap) {
+        return Err(RunFault::Setup);
+    }
     if k > FIRST_DRAWS {
         let few = seeded_setup(alloc.clone()?, nodes, initiators, seed, FIRST_DRAWS, cap)?;
         let run = run_alone(alloc.clone()?, &few)?;

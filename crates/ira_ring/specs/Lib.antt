@@ -1,3 +1,4 @@
+pub use Rattle.ira_lone.specs.Existence
 pub use Rattle.ira_lone.specs.SeededRun
 pub use Rattle.ira_run.specs.Agreement
 pub use Rattle.ira_run.specs.Collector

@@ -3,7 +3,7 @@
 //! stands in a crate of its own, so that the parts are proved side by side.
 #![tactic(auto)]
 
-pub use ira_lone::{run_alone, run_alone_seeded};
+pub use ira_lone::{run_alone, run_alone_seeded, setups_have_full_runs};
 pub use ira_run::{
     Collector, NodeEnd, NodePart, Run, RunFault, Setup, draw_lists, full_runs_are_runs,
     full_runs_have_the_same_logs, full_runs_show_ends, logs_show_one_end, recordings_agree,

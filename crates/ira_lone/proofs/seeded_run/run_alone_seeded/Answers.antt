@@ -1,24 +1,23 @@
-use Rattle.std.proofs.Common.{◌≡◌, ◌∙◌, Err, sym, ap, arith}
+use Rattle.std.proofs.Common.{◌≡◌, ◌∙◌, Err, refl, sym, ap, arith}
 use Rattle.std.specs.List.{list_any}
 use Rattle.std.proofs.lemmas.Result.{err_from_is_err_and, on_ok_weaker}
 use Rattle.ira_run.specs.declared.run_fault.RunFault.TheVariants.{Setup as SetupFault}
 use Rattle.ira_run.specs.NodeEnd.{is_draws_spent}
-use Rattle.ira_lone.proofs.Seeded.{seeded_is, same_rules, lone_of_more, lone_of_same, is_err}
+use Rattle.ira_lone.proofs.Seeded.{seeded_is, same_rules, lone_of_more, lone_of_same}
 use Rattle.ira_run.proofs.AgreementLaws.{lone_logs_same, lone_logs_same_if_ok}
 use Rattle.ira_lone.proofs.seeded_run.run_alone_seeded.Goals as goal
 
 pub returns-in_err-run-clause-rules : goal.returns-in_err-run-clause-rules
-returns-in_err-run-clause-rules g c = λ is rules.
+returns-in_err-run-clause-rules g c =
     let p = err_from_is_err_and c.from_residual-in_err-run.result c.from_residual-in_err-run.ensures.1 in
     let e = p.1 in
-    let f = p.2 in
-    let refused : c.in_err-run.field-0.0 ≡ SetupFault = cc in
-    c.in_err-run.ensures.rules.0 (ap Err refused) (same_rules _ _ _ _ _ _ _ _ (seeded_is _ _ _ _ _) c.in_ok-few.ensures rules)
-
-pub returns-then-not-lack_draws-clause-broken : goal.returns-then-not-lack_draws-clause-broken
-returns-then-not-lack_draws-clause-broken g c = λ broken.
-    let refused = c.in_ok-run.ensures.rules.1 (λ rules. broken (same_rules _ _ _ _ _ _ _ _ c.in_ok-few.ensures (seeded_is _ _ _ _ _) rules)) in
-    cc
+    let f = p.2 in (
+      λ is.
+          let refused : c.in_err-run.field-0.0 ≡ SetupFault = cc in
+          let kept = (c.if-not-keeps_rules.ensures c.args.seed c.args.k).0 refl in
+          absurd (c.in_err-run.ensures.rules.0 (ap Err refused) (same_rules _ _ _ _ _ _ _ _ (seeded_is _ _ _ _ _) c.in_ok-few.ensures kept)),
+      λ broken. absurd (broken ((c.if-not-keeps_rules.ensures c.args.seed c.args.k).0 refl)),
+    )
 
 pub returns-then-not-lack_draws-clause-kept : goal.returns-then-not-lack_draws-clause-kept
 returns-then-not-lack_draws-clause-kept g c = same_rules _ _ _ _ _ _ _ _ c.in_ok-few.ensures (seeded_is _ _ _ _ _) c.in_ok-run.ensures.kept
@@ -29,10 +28,11 @@ returns-then-not-lack_draws-clause-ok g c =
     (sym (c.lack_draws.ensures ∙ ap (list_any is_draws_spent) c.ends.ensures.value) ∙ c.if-not-lack_draws.true) c.in_ok-run.ensures.ok
 
 pub returns-clause-rules : goal.returns-clause-rules
-returns-clause-rules g c = λ is rules. c.run_alone-2.ensures.rules.0 is (same_rules _ _ _ _ _ _ _ _ (seeded_is _ _ _ _ _) c.in_ok-all.ensures rules)
-
-pub returns-clause-broken : goal.returns-clause-broken
-returns-clause-broken g c = λ broken. is_err c.run_alone-2.result _ (c.run_alone-2.ensures.rules.1 (λ rules. broken (same_rules _ _ _ _ _ _ _ _ c.in_ok-all.ensures (seeded_is _ _ _ _ _) rules)))
+returns-clause-rules g c =
+    let kept = (c.if-not-keeps_rules.ensures c.args.seed c.args.k).0 refl in (
+      λ is. absurd (c.run_alone-2.ensures.rules.0 is (same_rules _ _ _ _ _ _ _ _ (seeded_is _ _ _ _ _) c.in_ok-all.ensures kept)),
+      λ broken. absurd (broken kept),
+    )
 
 pub returns-clause-kept : goal.returns-clause-kept
 returns-clause-kept g c = on_ok_weaker c.run_alone-2.result (same_rules _ _ _ _ _ _ _ _ c.in_ok-all.ensures (seeded_is _ _ _ _ _)) c.run_alone-2.ensures.kept
