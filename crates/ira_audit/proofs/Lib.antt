@@ -8,4 +8,5 @@ pub mod RefusedTexts
 pub mod Replaying
 pub mod SoundSections
 pub mod Stages
+pub mod Taking
 pub mod TextRuns
