@@ -99,14 +99,27 @@ pub keeps_fault : (texts : List (List ℕ)) (logs : List Log) (fault : Option Lo
 keeps_fault texts logs None text f none kept h = (before_next texts logs text kept, (text, next_at texts logs text kept, h))
 keeps_fault texts logs (Some g) text f none kept h = absurd cc
 
--- one text more, behind one that is no log's
-pub keeps_first : (texts : List (List ℕ)) (logs : List Log) (fault : Option LogFault) (text : List ℕ) → true ≡ is_some fault → AreKept texts logs fault → AreKept (texts ++ text ∷ []) logs fault
-keeps_first texts logs None text some kept = absurd cc
-keeps_first texts logs (Some f) text some kept =
+-- more texts, behind one that is no log's
+pub keeps_first : (texts more : List (List ℕ)) (logs : List Log) (fault : Option LogFault) → true ≡ is_some fault → AreKept texts logs fault → AreKept (texts ++ more) logs fault
+keeps_first texts more logs None some kept = absurd cc
+keeps_first texts more logs (Some f) some kept =
     let there = slice_get_within texts (length logs) kept.1.0 kept.1.1 in (
-      subst (λ front. AreLogTexts front logs) (sym (take-append-le (length logs) texts (text ∷ []) (omega (arith, there)))) kept.0,
-      (kept.1.0, member texts (text ∷ []) (length logs) kept.1.0 kept.1.1, kept.1.2),
+      subst (λ front. AreLogTexts front logs) (sym (take-append-le (length logs) texts more (omega (arith, there)))) kept.0,
+      (kept.1.0, member texts more (length logs) kept.1.0 kept.1.1, kept.1.2),
     )
+
+-- more texts, behind those of logs
+keeps_both : (texts more : List (List ℕ)) (logs others : List Log) (fault : Option LogFault) → AreLogTexts texts logs → AreKept more others fault → AreKept (texts ++ more) (logs ++ others) fault
+keeps_both [] more [] others fault kept next = next
+keeps_both [] more (l ∷ ls) others fault kept next = absurd kept
+keeps_both (t ∷ ts) more [] others fault kept next = absurd kept
+keeps_both (t ∷ ts) more (l ∷ ls) others None kept next = (kept.0, keeps_both ts more ls others None kept.1 next)
+keeps_both (t ∷ ts) more (l ∷ ls) others (Some f) kept next =
+    let behind = keeps_both ts more ls others (Some f) kept.1 next in ((kept.0, behind.0), behind.1)
+
+pub keeps_all : (texts more : List (List ℕ)) (logs others : List Log) (fault next : Option LogFault) → false ≡ is_some fault → AreKept texts logs fault → AreKept more others next → AreKept (texts ++ more) (logs ++ others) next
+keeps_all texts more logs others None next none kept both = keeps_both texts more logs others next kept both
+keeps_all texts more logs others (Some f) next none kept both = absurd cc
 
 -- the text behind those of the logs is the first that is no log's
 pub first_fault : (texts : List (List ℕ)) (logs : List Log) (f : LogFault) → AreKept texts logs (Some f) → IsFirstTextFault texts (length logs) f

@@ -1,9 +1,16 @@
 -- Helpers, no definitions: what is kept of the texts of a ring's logs while they are taken one by one.
-use Rattle.std.specs.Prelude.{◌≡◌, ℕ, List, Option, Some, None, length, slice_get, take}
+use Rattle.std.specs.Prelude.{◌≡◌, ◌⊎◌, ℕ, List, Option, Some, None, Result, Ok, Err, length, slice_get, take}
 use Rattle.ira_event.specs.declared.log_fault.LogFault.{LogFault}
+use Rattle.ira_event.specs.declared.log_fault.LogFault.TheVariants.{OutOfMemory}
 use Rattle.ira_event.specs.Log.{Log}
+use Rattle.ira_event.specs.LogText.{IsLogText}
 use Rattle.ira_event.specs.LogTextFault.{LogTextFault}
 use Rattle.ira_audit.specs.LogTexts.{AreLogTexts}
+
+-- what reading a text gave: the log whose text it is, or its fault, or out of memory
+abbrev pub IsReading : List ℕ → Result Log LogFault → Type 0
+IsReading text (Ok log) = IsLogText text log
+IsReading text (Err f) = (f ≡ OutOfMemory) ⊎ LogTextFault text f
 
 -- some logs, and what is wrong with the text behind theirs, if something is
 pub record RingAudit : Type 0 where

@@ -1,4 +1,5 @@
-ghost use Rattle.std.specs.Prelude.{◌≡◌, ◌↔◌, ◌++◌, ◌∷◌, ◌≤◌, [], ℕ, List, Ok, IfOk, MatchResult, OnOk, OnErr};
+ghost use Rattle.std.specs.Prelude.{◌≡◌, ◌↔◌, ◌++◌, ◌∷◌, ◌<◌, ◌≤◌, [], ℕ, List, Ok, IfOk, IfSome, MatchResult, OnOk, OnErr, length, map, slice_get};
+ghost use Rattle.std.specs.List.{AllZip};
 ghost use Rattle.ira_event.specs.Result.{UnlessErr};
 ghost use Rattle.ira_node.specs.declared.step_fault.StepFault.{StepFault};
 ghost use Rattle.ira_order.specs.declared.match_fault.MatchFault.{MatchFault};
@@ -8,7 +9,7 @@ ghost use Rattle.ira_audit.specs.Never.{IsNeverMet};
 ghost use Rattle.ira_audit.specs.LogTexts.{AreLogTexts};
 ghost use Rattle.ira_audit.specs.Refusal.{Judged, IsTextReason};
 ghost use Rattle.ira_audit.specs.Report.{IsReportable};
-ghost use Rattle.ira_audit.specs.RingAudit.{HasTaken};
+ghost use Rattle.ira_audit.specs.RingAudit.{HasTaken, IsReading};
 ghost use Rattle.ira_audit.specs.TextRuns.{AreTextsOfRuns, AreTextsWithoutRun};
 ghost use Rattle.ira_audit.specs.declared.answer.Answer.{Answer};
 
@@ -19,10 +20,10 @@ use crate::refusal::{Refusal, answer_of};
 use crate::ring_logs::judge_logs;
 use ira_event::{LogFault, NodeLog, OutOfMemory, read_log};
 use ira_links::Gate;
-use std::alloc::Allocator;
+use std::alloc::{AllocError, Allocator};
 use std::marker::Model;
 use std::sync::Wait;
-use std::thread::Threads;
+use std::thread::{self, Threads};
 use std::time::Clock;
 
 /// Judges the texts of a ring's logs, which it takes one by one, in the order of the ring's places. Of
@@ -41,6 +42,36 @@ impl<A: Allocator> Model for RingAudit<A> {
     ghost Value = { RingAudit };
 
     ghost view = { λ a. record { logs = a.logs.items; fault = a.fault } };
+}
+
+/// The log of a text, or its fault.
+fn read_text<A: Allocator + Clone>(alloc: &A, text: &[u8]) -> Result<NodeLog<A>, LogFault>
+    ensures { IsReading text.now result }
+{
+    read_log(alloc.clone()?, text)
+}
+
+/// The logs of the texts or their faults, read side by side.
+fn read_texts<R, A, B>(
+    rt: &R,
+    alloc: &A,
+    texts: &[Vec<u8, B>],
+) -> Result<Vec<Result<NodeLog<A>, LogFault>, A>, AllocError>
+where
+    R: Threads + Sync,
+    A: Allocator + Clone + Send + Sync,
+    B: Allocator + Sync,
+    ensures { IfOk result (λ readings. AllZip IsReading (map (λ text. text.items) texts.now) readings.items) }
+{
+    thread::map_indices(
+        rt,
+        alloc.clone()?,
+        texts.len(),
+        &|i| -> Result<NodeLog<A>, LogFault>
+            requires { i < length texts.now }
+            ensures { IfSome (slice_get texts.entry.now i) (λ text. IsReading text.items result) }
+        { read_text(alloc, &texts[i]) },
+    )
 }
 
 impl<A: Allocator + Clone> RingAudit<A> {
@@ -62,7 +93,54 @@ impl<A: Allocator + Clone> RingAudit<A> {
         if self.fault.is_some() {
             return Ok(());
         }
-        match read_log(self.logs.allocator().clone()?, text) {
+        let reading = read_text(self.logs.allocator(), text);
+        self.keep(reading)
+    }
+
+    /// Takes the texts that come next. They are read side by side, each by a thread of its own where one
+    /// can be started, and no text is looked at behind one that is no log's. Where memory is wanting the
+    /// audit is as it was.
+    pub fn take_all<R, B>(&mut self, rt: &R, texts: &[Vec<u8, B>]) -> Result<(), OutOfMemory>
+    where
+        R: Threads + Sync,
+        A: Send + Sync,
+        B: Allocator + Sync,
+        ensures ok { OnOk result ((before : List (List ℕ)) → HasTaken self.old before → HasTaken self.new (before ++ map (λ text. text.items) texts.now)) }
+        ensures err { OnErr result (self.new ≡ self.old) }
+    {
+        if self.fault.is_some() {
+            return Ok(());
+        }
+        let mut next = RingAudit::of_texts(rt, self.logs.allocator(), texts)?;
+        self.logs.append(&mut next.logs)?;
+        self.fault = next.fault;
+        Ok(())
+    }
+
+    /// These texts were taken.
+    fn of_texts<R, B>(rt: &R, alloc: &A, texts: &[Vec<u8, B>]) -> Result<RingAudit<A>, OutOfMemory>
+    where
+        R: Threads + Sync,
+        A: Send + Sync,
+        B: Allocator + Sync,
+        ensures { IfOk result (λ audit. HasTaken audit (map (λ text. text.items) texts.now)) }
+    {
+        let mut audit = RingAudit::new(alloc.clone()?);
+        for reading in read_texts(rt, alloc, texts)? {
+            audit.keep(reading)?;
+        }
+        Ok(audit)
+    }
+
+    /// Keeps what was read of the text that comes next.
+    fn keep(&mut self, reading: Result<NodeLog<A>, LogFault>) -> Result<(), OutOfMemory>
+        ensures ok { OnOk result ((texts : List (List ℕ)) (text : List ℕ) → IsReading text reading → HasTaken self.old texts → HasTaken self.new (texts ++ text ∷ [])) }
+        ensures err { OnErr result (self.new ≡ self.old) }
+    {
+        if self.fault.is_some() {
+            return Ok(());
+        }
+        match reading {
             Ok(log) => self.logs.push(log)?,
             Err(LogFault::OutOfMemory) => return Err(OutOfMemory),
             Err(fault) => self.fault = Some(fault),

@@ -8,8 +8,10 @@ pub mod LogTextFault
 pub mod Logs
 pub mod NextLine
 pub mod Numeral
+pub mod PackedEvent
 pub mod Records
 pub mod Result
 pub mod RingSize
 pub mod Scan
 pub mod Sink
+pub mod StoredEvents

@@ -18,10 +18,12 @@ mod memory_sink;
 mod msg;
 mod node_log;
 mod out_of_memory;
+mod packed_event;
 mod records;
 mod ring_size;
 mod scan;
 mod sink;
+mod stored_events;
 mod to_writer;
 mod write;
 

@@ -6,7 +6,10 @@ ghost use Rattle.ira_event.specs.Log.{Log, IsLog};
 use crate::event::Event;
 use crate::events::Events;
 use crate::limits::MAX_RECORDS;
+use crate::log_head::LogHead;
+use crate::packed_event::PackedEvent;
 use crate::ring_size::RingSize;
+use crate::stored_events::StoredEvents;
 use std::alloc::Allocator;
 use std::marker::Model;
 
@@ -17,7 +20,7 @@ pub struct NodeLog<A: Allocator> {
     nodes: RingSize,
     place: u8,
     initiator: bool,
-    events: Vec<Event, A>,
+    events: StoredEvents<A>,
 }
 
 impl<A: Allocator> Model for NodeLog<A> {
@@ -25,9 +28,9 @@ impl<A: Allocator> Model for NodeLog<A> {
 
     ghost Value = { Log };
 
-    ghost view = { λ a. record { nodes = a.nodes; place = a.place; initiator = a.initiator; events = a.events.items } };
+    ghost view = { λ a. record { nodes = a.nodes; place = a.place; initiator = a.initiator; events = a.events } };
 
-    ghost invariant = { λ a. IsLog (record { nodes = a.nodes; place = a.place; initiator = a.initiator; events = a.events.items }) };
+    ghost invariant = { λ a. IsLog (record { nodes = a.nodes; place = a.place; initiator = a.initiator; events = a.events }) };
 }
 
 fn are_in_range(events: &[Event]) -> bool
@@ -55,7 +58,7 @@ impl<A: Allocator> NodeLog<A> {
             nodes,
             place,
             initiator,
-            events,
+            events: StoredEvents::plain(events),
         })
     }
 
@@ -73,7 +76,20 @@ impl<A: Allocator> NodeLog<A> {
             nodes,
             place,
             initiator,
-            events,
+            events: StoredEvents::plain(events),
+        }
+    }
+
+    /// The log of a text's head and records, which are in range.
+    pub(crate) fn of_packed(head: LogHead, events: Vec<PackedEvent, A>) -> NodeLog<A>
+        requires { IsLog (record { nodes = head.nodes; place = head.place; initiator = head.initiator; events = events.items }) }
+        ensures { result ≡ record { nodes = head.nodes; place = head.place; initiator = head.initiator; events = events.items } }
+    {
+        NodeLog {
+            nodes: head.nodes,
+            place: head.place,
+            initiator: head.initiator,
+            events: StoredEvents::packed(events),
         }
     }
 
@@ -110,7 +126,7 @@ impl<A: Allocator> NodeLog<A> {
         requires { (1 ≤ k) × (k ≤ length self.now.events) }
         ensures { slice_get self.now.events (k - 1) ≡ Some result }
     {
-        self.events[k as usize - 1]
+        self.events.event(k)
     }
 
     /// The events from the first to the last.
@@ -118,6 +134,6 @@ impl<A: Allocator> NodeLog<A> {
         ensures list { result ≡ self.now.events }
         ensures valid { IsLog self.now }
     {
-        Events::new(&self.events)
+        self.events.iter()
     }
 }

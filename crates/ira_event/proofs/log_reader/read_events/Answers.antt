@@ -1,4 +1,4 @@
-use Rattle.std.proofs.Common.{◌≡◌, [], sym, subst, inr, refl}
+use Rattle.std.proofs.Common.{◌≡◌, ◌++◌, [], ◌∷◌, sym, ap, subst, inr, refl, ◌∙◌}
 use Rattle.std.proofs.lemmas.Result.{err_from_is_err_and}
 use Rattle.ira_event.specs.Records.{HasRead}
 use Rattle.ira_event.proofs.LogReading.{behind_nothing, behind_more, behind_all, behind_fault, was_read, was_last, record_shorter}
@@ -20,7 +20,8 @@ loop-events-smaller g c = record_shorter c.loop-events.records c.next_event.new.
 
 pub loop-events-preserved : goal.loop-events-preserved
 loop-events-preserved g c =
-    subst (λ es. HasRead c.args.records.rest es c.next_event.new.self) (sym c.in_ok-push.ensures.items) (behind_more _ _ _ _ _ c.loop-events.invariant (was_read _ _ _ _ c.in_ok-event.ensures c.in-Some.is))
+    let one_more = c.in_ok-push.ensures.items ∙ ap (λ e. c.loop-events.events.items ++ e ∷ []) c.new.ensures in
+    subst (λ es. HasRead c.args.records.rest es c.next_event.new.self) (sym one_more) (behind_more _ _ _ _ _ c.loop-events.invariant (was_read _ _ _ _ c.in_ok-event.ensures c.in-Some.is))
 
 pub returns : goal.returns
 returns g c = behind_all _ _ _ c.loop-events.invariant (was_last _ _ _ c.in_ok-event.ensures c.in_default.is)

