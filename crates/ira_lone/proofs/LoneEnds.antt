@@ -17,28 +17,28 @@ use Rattle.ira_run.specs.FullRun.{events_at, drawn, HasEvent, owes, chooses, rec
 use Rattle.ira_lone.specs.LoneNode.{LoneNode, Ends, HasNoNext}
 use Rattle.ira_lone.specs.LoneRing.{node_at, IsReached, AreAtEnd, AreEndsOfNodes}
 use Rattle.ira_run.proofs.Choosing.{choosing_no_receipt, choosing_no_waiting}
-use Rattle.ira_lone.proofs.LoneNodes.{wants_draw, wants_receipt, wants_send, choosing_follows, receiving_follows, owing_follows, first_message, parts}
+use Rattle.ira_lone.proofs.LoneNodes.{wants_draw, wants_receipt, wants_send, choosing_leads_not, receiving_leads_not, owing_leads_not, first_message, parts}
 use Rattle.ira_lone.proofs.LoneStarts.{each_more}
 use Rattle.ira_lone.proofs.LoneTurns.{read_at}
 
 pub ended_no_event : (n most : ℕ) (ids : List ℕ) (node : LoneNode) (end : NodeEnd) → ids ≡ drawn node.events ++ node.ids → Ends n most node end
     → ¬ (IsLeader node.state.phase) → length node.events < most → HasEvent n ids node.state node.events node.input → ⊥
-ended_no_event n most ids node Leader left h follows room event = follows h
-ended_no_event n most ids node Stopped left h follows room event = h
-ended_no_event n most ids node LogFull left h follows room event = omega (arith, h.1)
-ended_no_event n most ids node DrawsSpent left h follows room (owes m o) = let is = h.1.1 in cc
-ended_no_event n most ids node DrawsSpent left h follows room (chooses round is unused) = omega (arith, ap length left, length-append (drawn node.events) node.ids, ap length h.2)
-ended_no_event n most ids node DrawsSpent left h follows room (receives m others is step) = choosing_no_receipt n h.1.0 node.state m h.1.1 step
-ended_no_event n most ids node (NoStep k) left h follows room (owes m o) = let is = h.1 in cc
-ended_no_event n most ids node (NoStep k) left h follows room (chooses round is unused) = choosing_no_waiting round node.state is h.2
-ended_no_event n most ids node (NoStep k) left h follows room (receives m others is step) =
+ended_no_event n most ids node Leader left h not_leader room event = not_leader h
+ended_no_event n most ids node Stopped left h not_leader room event = h
+ended_no_event n most ids node LogFull left h not_leader room event = omega (arith, h.1)
+ended_no_event n most ids node DrawsSpent left h not_leader room (owes m o) = let is = h.1.1 in cc
+ended_no_event n most ids node DrawsSpent left h not_leader room (chooses round is unused) = omega (arith, ap length left, length-append (drawn node.events) node.ids, ap length h.2)
+ended_no_event n most ids node DrawsSpent left h not_leader room (receives m others is step) = choosing_no_receipt n h.1.0 node.state m h.1.1 step
+ended_no_event n most ids node (NoStep k) left h not_leader room (owes m o) = let is = h.1 in cc
+ended_no_event n most ids node (NoStep k) left h not_leader room (chooses round is unused) = choosing_no_waiting round node.state is h.2
+ended_no_event n most ids node (NoStep k) left h not_leader room (receives m others is step) =
     let first = h.3.1 in
     let same : m ≡ k = cc in
     let P : Msg → Type 0 = λ x. HasStep n node.state (Got x) in
     h.4 (subst P same step)
-ended_no_event n most ids node Quiet left h follows room (owes m o) = let is = h.1 in cc
-ended_no_event n most ids node Quiet left h follows room (chooses round is unused) = choosing_no_waiting round node.state is h.2
-ended_no_event n most ids node Quiet left h follows room (receives m others is step) = let none = h.3 in cc
+ended_no_event n most ids node Quiet left h not_leader room (owes m o) = let is = h.1 in cc
+ended_no_event n most ids node Quiet left h not_leader room (chooses round is unused) = choosing_no_waiting round node.state is h.2
+ended_no_event n most ids node Quiet left h not_leader room (receives m others is step) = let none = h.3 in cc
 
 -- so it can't step
 pub ended_no_step : (s : Setup) (nodes : List LoneNode) (reached : IsReached s nodes) (i : ℕ) → i < s.nodes → HasNoNext s.nodes s.cap (node_at nodes i) → ¬ (CanStep s reached.run reached.point i)
@@ -49,7 +49,7 @@ ended_no_step s nodes reached i l ended can =
     let R : List Event → Type 0 = λ x. HasEvent s.nodes (given s i) (reached.point.state i) x (node_at nodes i).input in
     let S : List Msg → Type 0 = λ x. HasEvent s.nodes (given s i) (reached.point.state i) (events_at reached.run i) x in
     ended_no_event s.nodes s.cap (given s i) (node_at nodes i) ended.0 (reached.draws i l) ended.1
-    (subst P (reached.states i l) can.follows)
+    (subst P (reached.states i l) can.not_leader)
     (omega (arith, can.room, ap length (reached.events i l)))
     (subst Q (reached.states i l) (subst R (reached.events i l) (subst S (reached.links i l) can.event)))
 
@@ -58,7 +58,7 @@ ended_no_step s nodes reached i l ended can =
 spent_ids : (n most round : ℕ) (node : LoneNode) (end : NodeEnd) (ids : List ℕ) → node.ids ≡ ids → Ends n most node end → node.state ≡ free (Choosing round) → length node.events < most → ids ≡ []
 spent_ids n most round node end [] is ends choosing room = refl
 spent_ids n most round node end (id ∷ ids) is ends choosing room =
-    absurd (ended_no_event n most (drawn node.events ++ node.ids) node end refl ends (choosing_follows node.state round choosing) room
+    absurd (ended_no_event n most (drawn node.events ++ node.ids) node end refl ends (choosing_leads_not node.state round choosing) room
     (chooses round choosing (omega (arith, length-append (drawn node.events) node.ids, ap length is))))
 
 pub ends_spent : (n most : ℕ) (state : NodeState) (ids : List ℕ) (input : List Msg) (events : List Event) (node : LoneNode) → parts state ids input events ≡ node → WantsDraw ≡ wanted_of state.phase state.owed → length events < most
@@ -74,13 +74,13 @@ ends_waiting n most state ids input events node m is wants room some first =
     let P : LoneNode → Type 0 = λ x. HasNoNext n most x → Ends n most x (NoStep m) in
     let w : (state.owed ≡ None) × Receives state.phase = wants_receipt state.phase state.owed wants in
     let f : (rest : List Msg) × (input ≡ m ∷ rest) = first_message input m some first in
-    subst P is (λ ended. (room, w.0, w.1, f, λ step. ended_no_event n most (drawn events ++ ids) (parts state ids input events) ended.0 refl ended.1 (receiving_follows state.phase w.1) room (receives m f.0 f.1 step)))
+    subst P is (λ ended. (room, w.0, w.1, f, λ step. ended_no_event n most (drawn events ++ ids) (parts state ids input events) ended.0 refl ended.1 (receiving_leads_not state.phase w.1) room (receives m f.0 f.1 step)))
 
 pub owing_goes_on : (n most : ℕ) (state : NodeState) (ids : List ℕ) (input : List Msg) (events : List Event) (node : LoneNode) (m : Msg) → parts state ids input events ≡ node → Send m ≡ wanted_of state.phase state.owed → length events < most
     → HasNoNext n most node → ⊥
 owing_goes_on n most state ids input events node m is wants room =
     let P : LoneNode → Type 0 = λ x. HasNoNext n most x → ⊥ in
-    subst P is (λ ended. ended_no_event n most (drawn events ++ ids) (parts state ids input events) ended.0 refl ended.1 (owing_follows state.phase state.owed m wants) room (owes m (wants_send state.phase state.owed m wants)))
+    subst P is (λ ended. ended_no_event n most (drawn events ++ ids) (parts state ids input events) ended.0 refl ended.1 (owing_leads_not state.phase state.owed m wants) room (owes m (wants_send state.phase state.owed m wants)))
 
 pub ended_at : (s : Setup) (nodes : List LoneNode) (i most : ℕ) (node : LoneNode) → AreAtEnd s nodes → i < length nodes → most ≡ s.cap → node ≡ get_or nodes i node → HasNoNext s.nodes most node
 ended_at s nodes i most node done l room read =

@@ -41,14 +41,14 @@ wants_send (Active round id) (Some k) m h = cc
 wants_send Passive (Some k) m h = cc
 wants_send (Leader round id) owed m h = cc
 
-pub choosing_follows : (s : NodeState) (round : ℕ) → s ≡ free (Choosing round) → ¬ (IsLeader s.phase)
-choosing_follows s round is l = let P : NodeState → Type 0 = λ x. IsLeader x.phase in subst P is l
+pub choosing_leads_not : (s : NodeState) (round : ℕ) → s ≡ free (Choosing round) → ¬ (IsLeader s.phase)
+choosing_leads_not s round is l = let P : NodeState → Type 0 = λ x. IsLeader x.phase in subst P is l
 
-pub receiving_follows : (phase : Phase) → Receives phase → ¬ (IsLeader phase)
-receiving_follows (Choosing round) r l = r
-receiving_follows (Active round id) r l = l
-receiving_follows Passive r l = l
-receiving_follows (Leader round id) r l = r
+pub receiving_leads_not : (phase : Phase) → Receives phase → ¬ (IsLeader phase)
+receiving_leads_not (Choosing round) r l = r
+receiving_leads_not (Active round id) r l = l
+receiving_leads_not Passive r l = l
+receiving_leads_not (Leader round id) r l = r
 
 no_number : (ids : List ℕ) → length ids ≡ 0 → ids ≡ []
 no_number [] h = refl
@@ -68,22 +68,22 @@ pub next_draw : (n most : ℕ) (node : LoneNode) (id : ℕ) (rest : List ℕ) (a
     → IsNext n most node (Draw id) after
 next_draw n most node id rest after wants room first step =
     let w : (round : ℕ) × (node.state ≡ free (Choosing round)) = wants_draw node.state.phase node.state.owed wants in
-    record { follows = choosing_follows node.state w.0 w.1; room = room; step = step; first = (rest, first) }
+    record { not_leader = choosing_leads_not node.state w.0 w.1; room = room; step = step; first = (rest, first) }
 
 pub next_got : (n most : ℕ) (node : LoneNode) (m : Msg) (after : NodeState) → Receipt ≡ wanted_of node.state.phase node.state.owed → length node.events < most → 0 < length node.input → m ≡ get_or node.input 0 m → NodeStep n node.state (Got m) after
     → IsNext n most node (Got m) after
 next_got n most node m after wants room some first step =
     let w : (node.state.owed ≡ None) × Receives node.state.phase = wants_receipt node.state.phase node.state.owed wants in
-    record { follows = receiving_follows node.state.phase w.1; room = room; step = step; first = first_message node.input m some first }
+    record { not_leader = receiving_leads_not node.state.phase w.1; room = room; step = step; first = first_message node.input m some first }
 
-pub owing_follows : (phase : Phase) (owed : Option Msg) (m : Msg) → Send m ≡ wanted_of phase owed → ¬ (IsLeader phase)
-owing_follows (Choosing round) owed m wants l = l
-owing_follows (Active round id) owed m wants l = l
-owing_follows Passive owed m wants l = l
-owing_follows (Leader round id) owed m wants l = cc
+pub owing_leads_not : (phase : Phase) (owed : Option Msg) (m : Msg) → Send m ≡ wanted_of phase owed → ¬ (IsLeader phase)
+owing_leads_not (Choosing round) owed m wants l = l
+owing_leads_not (Active round id) owed m wants l = l
+owing_leads_not Passive owed m wants l = l
+owing_leads_not (Leader round id) owed m wants l = cc
 
 pub next_sent : (n most : ℕ) (node : LoneNode) (m : Msg) (after : NodeState) → Send m ≡ wanted_of node.state.phase node.state.owed → length node.events < most → NodeStep n node.state (Sent m) after → IsNext n most node (Sent m) after
-next_sent n most node m after wants room step = record { follows = owing_follows node.state.phase node.state.owed m wants; room = room; step = step; first = tt }
+next_sent n most node m after wants room step = record { not_leader = owing_leads_not node.state.phase node.state.owed m wants; room = room; step = step; first = tt }
 
 -- ---- no next event, by what the state wants
 

@@ -18,14 +18,14 @@ use Rattle.ira_run.specs.declared.node_end.NodeEnd.{NodeEnd}
 use Rattle.ira_run.specs.declared.node_end.NodeEnd.TheVariants.{Leader, Stopped, DrawsSpent, LogFull, NoStep, Quiet}
 use Rattle.ira_run.specs.Setup.{Setup, is_initiator, given, KeepsRules}
 use Rattle.ira_run.specs.Run.{Run}
-use Rattle.ira_run.specs.FullRun.{opening, events_at, drawn, AreFullLogs}
+use Rattle.ira_run.specs.FullRun.{opening_of, events_at, drawn, AreFullLogs}
 use Rattle.ira_run.specs.ShownEnd.{Says, IsShown, IsLoneRun}
 use Rattle.ira_lone.specs.LoneNode.{LoneNode, Ends}
 use Rattle.ira_lone.specs.LoneRing.{node_at, IsReached, AreAtEnd, AreLogsOfNodes, AreEndsOfNodes}
 use Rattle.ira_lone.proofs.LoneEnds.{ended_no_step}
 use Rattle.ira_run.proofs.FullRuns.{no_log}
 use Rattle.ira_lone.proofs.LoneLogs.{is_log}
-use Rattle.ira_lone.proofs.LoneNodes.{choosing_follows, receiving_follows}
+use Rattle.ira_lone.proofs.LoneNodes.{choosing_leads_not, receiving_leads_not}
 use Rattle.ira_run.proofs.Recordable.{run_within}
 use Rattle.ira_run.proofs.Walks.{walk_leads, walk_balanced}
 
@@ -74,17 +74,17 @@ says_of s i node input Leader within left links h = h
 says_of s i node input Stopped within left links h = absurd h
 says_of s i node input LogFull within left links h = (h.0, omega (arith, h.1))
 says_of s i node input DrawsSpent within left links h = (
-  (choosing_follows node.state h.1.0 h.1.1, h.0),
+  (choosing_leads_not node.state h.1.0 h.1.1, h.0),
   h.1,
   sym (append-nil (drawn node.events)) ∙ ap (λ (x : List ℕ). drawn node.events ++ x) (sym h.2) ∙ sym left,
 )
 says_of s i node input (NoStep m) within left links h = (
-  ((receiving_follows node.state.phase h.2, h.0), h.1, h.2),
+  ((receiving_leads_not node.state.phase h.2, h.0), h.1, h.2),
   h.4,
   (h.3.0, sym links ∙ ap (λ (x : List Msg). got node.events ++ x) h.3.1 ∙ sym (append_assoc (got node.events) (m ∷ []) h.3.0)),
 )
 says_of s i node input Quiet within left links h = (
-  ((receiving_follows node.state.phase h.2, h.0), h.1, h.2),
+  ((receiving_leads_not node.state.phase h.2, h.0), h.1, h.2),
   sym (append-nil (got node.events)) ∙ ap (λ (x : List Msg). got node.events ++ x) (sym h.3) ∙ links,
 )
 
@@ -93,8 +93,8 @@ is_shown s nodes logs rules reached of_nodes i end l ends =
     let node : LoneNode = node_at nodes i in
     let log : log_of logs i ≡ (node_at nodes i).events = log_of_node s nodes logs reached of_nodes i l in
     let p : prev s.nodes i < s.nodes = prev_below s.nodes i l in
-    let balanced : Balanced s.nodes (events_at reached.run) reached.point.link = walk_balanced s [] (opening s) reached.run reached.point rules.size.0 (λ k lk. refl) reached.walk in
-    let leads : LeadsTo s.nodes (first_state (is_initiator s i)) (events_at reached.run i) (reached.point.state i) = walk_leads s [] (opening s) reached.run reached.point i l reached.walk in
+    let balanced : Balanced s.nodes (events_at reached.run) reached.point.link = walk_balanced s [] (opening_of s) reached.run reached.point rules.size.0 (λ k lk. refl) reached.walk in
+    let leads : LeadsTo s.nodes (first_state (is_initiator s i)) (events_at reached.run i) (reached.point.state i) = walk_leads s [] (opening_of s) reached.run reached.point i l reached.walk in
     let own : events_at reached.run (next s.nodes (prev s.nodes i)) ≡ (node_at nodes i).events = ap (events_at reached.run) (next_prev s.nodes i l) ∙ reached.events i l in
     let sends : sent (events_at reached.run (prev s.nodes i)) ≡ sent (log_of logs (prev s.nodes i)) = ap sent (reached.events (prev s.nodes i) p ∙ sym (log_of_node s nodes logs reached of_nodes (prev s.nodes i) p)) in
     let links : got (node_at nodes i).events ++ (node_at nodes i).input ≡ sent (log_of logs (prev s.nodes i)) =

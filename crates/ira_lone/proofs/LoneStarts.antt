@@ -6,7 +6,7 @@ use Rattle.std.proofs.lemmas.List.{get_or_append_left, get_or_read, get_or-map, 
 use Rattle.ira_node.specs.NodeState.{first_state}
 use Rattle.ira_order.proofs.Ranks.{eq_cases}
 use Rattle.ira_run.specs.Setup.{Setup, is_initiator, given, KeepsRules}
-use Rattle.ira_run.specs.FullRun.{opening, drawn}
+use Rattle.ira_run.specs.FullRun.{opening_of, drawn}
 use Rattle.ira_lone.specs.LoneNode.{LoneNode}
 use Rattle.ira_lone.specs.LoneRing.{idle, node_at, IsReached}
 
@@ -18,7 +18,7 @@ pub started : (s : Setup) (nodes : List LoneNode) → length nodes ≡ s.nodes �
 started s nodes many each = record {
   many = many;
   run = [];
-  point = opening s;
+  point = opening_of s;
   walk = refl;
   states = λ i l. sym (ap (λ (x : LoneNode). x.state) (each i l));
   links = λ i l. sym (ap (λ (x : LoneNode). x.input) (each i l));

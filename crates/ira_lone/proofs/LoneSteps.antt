@@ -14,7 +14,7 @@ use Rattle.ira_order.specs.Run.{Configuration, LinkStep, RingStep}
 use Rattle.ira_order.proofs.Ranks.{eq_cases, next_below}
 use Rattle.ira_order.proofs.Runs.{next_prev, prev_next, prev_below}
 use Rattle.ira_run.specs.Setup.{Setup, given}
-use Rattle.ira_run.specs.FullRun.{opening, events_at, drawing, drawn, HasEvent, owes, chooses, receives, CanStep}
+use Rattle.ira_run.specs.FullRun.{opening_of, events_at, drawing, drawn, HasEvent, owes, chooses, receives, CanStep}
 use Rattle.ira_lone.specs.LoneNode.{LoneNode, IsFirst, IsNext, drawn_by, after_event, after_put}
 use Rattle.ira_lone.specs.LoneRing.{node_at, IsMoved, IsReached}
 use Rattle.ira_run.proofs.Walks.{walk_more, own_more, other_more, links_from}
@@ -54,13 +54,13 @@ has_event n most ids node (Got m) after step left = receives m step.first.0 step
 
 pub can_step : (s : Setup) (run : List (ℕ × Event)) (c : Configuration) (i : ℕ) (node : LoneNode) → c.state i ≡ node.state → c.link (prev s.nodes i) ≡ node.input → events_at run i ≡ node.events
     → ¬ (IsLeader node.state.phase) → length node.events < s.cap → HasEvent s.nodes (given s i) node.state node.events node.input → CanStep s run c i
-can_step s run c i node state link events follows room event =
+can_step s run c i node state link events not_leader room event =
     let P : NodeState → Type 0 = λ x. ¬ (IsLeader x.phase) in
     let Q : NodeState → Type 0 = λ x. HasEvent s.nodes (given s i) x (events_at run i) (c.link (prev s.nodes i)) in
     let R : List Event → Type 0 = λ x. HasEvent s.nodes (given s i) node.state x (c.link (prev s.nodes i)) in
     let S : List Msg → Type 0 = λ x. HasEvent s.nodes (given s i) node.state node.events x in
     record {
-      follows = subst P (sym state) follows;
+      not_leader = subst P (sym state) not_leader;
       room = omega (arith, ap length events);
       event = subst Q (sym state) (subst R (sym events) (subst S (sym link) event));
     }
@@ -164,7 +164,7 @@ module _ (s : Setup) (old new : List LoneNode) (i : ℕ) (e : Event) (after : No
 
   may_step : CanStep s reached.run reached.point i
   may_step =
-      can_step s reached.run reached.point i (node_at old i) (reached.states i here) (reached.links i here) (reached.events i here) is_next.follows is_next.room
+      can_step s reached.run reached.point i (node_at old i) (reached.states i here) (reached.links i here) (reached.events i here) is_next.not_leader is_next.room
       (has_event s.nodes s.cap (given s i) (node_at old i) e after is_next (reached.draws i here))
 
   events_of : (j : ℕ) → j < s.nodes → events_at (reached.run ++ (i, e) ∷ []) j ≡ (node_at new j).events
@@ -191,7 +191,7 @@ module _ (s : Setup) (old new : List LoneNode) (i : ℕ) (e : Event) (after : No
     many = many ∙ reached.many;
     run = reached.run ++ (i, e) ∷ [];
     point = point_of s.nodes new;
-    walk = walk_more s [] (opening s) reached.run reached.point i e (point_of s.nodes new) reached.walk may_step ring_step;
+    walk = walk_more s [] (opening_of s) reached.run reached.point i e (point_of s.nodes new) reached.walk may_step ring_step;
     states = λ j lj. refl;
     links = λ j lj. ap (λ (k : ℕ). (node_at new k).input) (next_prev s.nodes j lj);
     events = events_of;

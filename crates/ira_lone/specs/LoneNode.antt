@@ -26,7 +26,7 @@ IsFirst node (Got m) = (rest : List Msg) × (node.input ≡ m ∷ rest)
 
 -- the node's next event in a ring of n nodes, and the state after it
 pub record IsNext (n most : ℕ) (node : LoneNode) (event : Event) (after : NodeState) : Type 0 where
-  pub follows : ¬ (IsLeader node.state.phase)
+  pub not_leader : ¬ (IsLeader node.state.phase)
   pub room : length node.events < most
   pub step : NodeStep n node.state event after
   pub first : IsFirst node event
@@ -88,7 +88,7 @@ GoesTo n most (suc k) old new =
     (node : LoneNode) × GoesTo n most k old node × ((after : NodeState) × MakesOwn n most node new (Some after))
 
 -- events that send nothing, and then the sending of this message, or no next event
-abbrev pub GoesOn : ℕ → ℕ → LoneNode → LoneNode → Option Msg → Type 0
-GoesOn n most old new None = ((k : ℕ) × GoesTo n most k old new) × HasNoNext n most new
-GoesOn n most old new (Some m) =
+abbrev pub GoesToSending : ℕ → ℕ → LoneNode → LoneNode → Option Msg → Type 0
+GoesToSending n most old new None = ((k : ℕ) × GoesTo n most k old new) × HasNoNext n most new
+GoesToSending n most old new (Some m) =
     (node : LoneNode) × ((k : ℕ) × GoesTo n most k old node) × MakesSending n most node new m

@@ -10,8 +10,8 @@ use Rattle.ira_order.specs.Ring.{next, prev}
 use Rattle.ira_order.specs.Run.{Configuration}
 use Rattle.ira_run.specs.declared.node_end.NodeEnd.{NodeEnd}
 use Rattle.ira_run.specs.Setup.{Setup, is_initiator, given}
-use Rattle.ira_run.specs.FullRun.{opening, events_at, drawn, Walks}
-use Rattle.ira_lone.specs.LoneNode.{LoneNode, Ends, HasNoNext, GoesOn, after_event, after_put}
+use Rattle.ira_run.specs.FullRun.{opening_of, events_at, drawn, Walks}
+use Rattle.ira_lone.specs.LoneNode.{LoneNode, Ends, HasNoNext, GoesToSending, after_event, after_put}
 
 -- a node that has done nothing and has nothing to do
 abbrev pub idle : LoneNode
@@ -45,7 +45,7 @@ IsPut n i (Some m) node old new =
 -- what a turn of node i does: its events up to its next sending, where there is one
 pub record IsTurn (n most i : ℕ) (old new : List LoneNode) (sent : Option Msg) : Type 0 where
   pub node : LoneNode
-  pub goes : GoesOn n most (node_at old i) node sent
+  pub goes : GoesToSending n most (node_at old i) node sent
   pub put : IsPut n i sent node old new
   pub many : length new ≡ length old
 
@@ -59,7 +59,7 @@ pub record IsReached (s : Setup) (nodes : List LoneNode) : Type 0 where
   pub many : length nodes ≡ s.nodes
   pub run : List (ℕ × Event)
   pub point : Configuration
-  pub walk : Walks s [] (opening s) run point
+  pub walk : Walks s [] (opening_of s) run point
   pub states : (i : ℕ) → i < s.nodes → point.state i ≡ (node_at nodes i).state
   pub links : (i : ℕ) → i < s.nodes → point.link (prev s.nodes i) ≡ (node_at nodes i).input
   pub events : (i : ℕ) → i < s.nodes → events_at run i ≡ (node_at nodes i).events

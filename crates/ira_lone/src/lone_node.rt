@@ -3,7 +3,7 @@ ghost use Rattle.ira_event.specs.Log.{IsLog};
 ghost use Rattle.ira_node.specs.declared.wanted.Wanted.TheVariants.{Draw as WantsDraw, Send, Receipt};
 ghost use Rattle.ira_node.specs.NodeState.{first_state};
 ghost use Rattle.ira_node.specs.Wanted.{wanted_of};
-ghost use Rattle.ira_lone.specs.LoneNode.{HasNoNext, Ends, MakesOwn, MakesSending, GoesOn, after_put};
+ghost use Rattle.ira_lone.specs.LoneNode.{HasNoNext, Ends, MakesOwn, MakesSending, GoesToSending, after_put};
 
 use ira_event::{Event, Msg, NodeLog, RingSize};
 use ira_node::{NodeState, Wanted};
@@ -54,7 +54,7 @@ impl<'a, A: Allocator> LoneNode<'a, A> {
     #[inline(always)]
     pub(crate) fn go_on(&mut self, nodes: RingSize, cap: usize) -> Result<Option<Msg>, AllocError>
         requires { All (λ d. (1 ≤ d) × (d ≤ nodes)) self.old.ids }
-        ensures { IfOk result (GoesOn nodes cap self.old self.new) }
+        ensures { IfOk result (GoesToSending nodes cap self.old self.new) }
     {
         // The state at hand, so that it isn't read back.
         let mut state = self.state;

@@ -11,7 +11,7 @@ use Rattle.ira_node.specs.declared.phase.Phase.TheVariants.{Choosing, Active, Pa
 use Rattle.ira_node.specs.declared.node_state.NodeState.{NodeState}
 use Rattle.ira_node.specs.declared.step_fault.StepFault.{StepFault}
 use Rattle.ira_node.specs.declared.step_fault.StepFault.TheVariants.{Owes, NotChoosing, DrawRange, Ended, HopPast, RoundLimit, HopLimit}
-use Rattle.ira_node.specs.Msg.{opening, raised, dirtied, IsGreater, IsLess, IsEqual}
+use Rattle.ira_node.specs.Msg.{first_message, raised, dirtied, IsGreater, IsLess, IsEqual}
 use Rattle.ira_node.specs.NodeState.{free, owing, IsLeader, Receives}
 use Rattle.ira_node.specs.NodeStep.{NodeStep, sends, draws, passes, gives_in, purges, meets, ties, wins, HasStep}
 use Rattle.ira_node.specs.NodeStepFault.{IsSending, PassesOn, NodeStepFault, ended, owes, another, nothing_owed, must_draw, draw_range, not_choosing, hop_limit, hop_past, round_limit}
@@ -150,7 +150,7 @@ ties_gives n round id m g h k = grind (arith, nat_tests)
 wins_gives : (n round id : ℕ) (m : Msg) → m.hop ≡ n → m.dirty ≡ false → own_pair_answer n round id m ≡ Ok (free (Leader round id))
 wins_gives n round id m g h = grind (arith, nat_tests)
 
-draws_gives : (n round d : ℕ) → 1 ≤ d → d ≤ n → drawn_answer n (Choosing round) d ≡ Ok (owing (Active round d) (opening round d))
+draws_gives : (n round d : ℕ) → 1 ≤ d → d ≤ n → drawn_answer n (Choosing round) d ≡ Ok (owing (Active round d) (first_message round d))
 draws_gives n round d g h = grind (arith, nat_tests)
 
 passes_gives : (m : Msg) → m.hop < MAX_NUMBER → passed m ≡ Ok (owing Passive (raised m))

@@ -8,7 +8,7 @@ use Rattle.ira_event.specs.declared.event.Event.{Event}
 use Rattle.ira_event.specs.declared.event.Event.TheVariants.{Sent}
 use Rattle.ira_node.specs.declared.phase.Phase.TheVariants.{Active}
 use Rattle.ira_node.specs.declared.node_state.NodeState.{NodeState}
-use Rattle.ira_node.specs.Msg.{opening, raised, dirtied}
+use Rattle.ira_node.specs.Msg.{first_message, raised, dirtied}
 use Rattle.ira_node.specs.NodeState.{owing, is_debt, is_state}
 use Rattle.ira_node.specs.NodeStep.{NodeStep, sends, draws, passes, gives_in, purges, meets, ties, wins}
 
@@ -18,8 +18,8 @@ raised_stays m h low = grind (arith, nat_tests)
 dirtied_stays : (m : Msg) → is_msg m ≡ true → m.hop < MAX_NUMBER → is_msg (dirtied m) ≡ true
 dirtied_stays m h low = grind (arith, nat_tests)
 
-opening_stays : (round id : ℕ) → is_number round ≡ true → is_number id ≡ true → is_state (owing (Active round id) (opening round id)) ≡ true
-opening_stays round id h k = rw (h, k) refl
+first_message_stays : (round id : ℕ) → is_number round ≡ true → is_number id ≡ true → is_state (owing (Active round id) (first_message round id)) ≡ true
+first_message_stays round id h k = rw (h, k) refl
 
 next_round_stays : (round : ℕ) → round < MAX_NUMBER → is_number (round + 1) ≡ true
 next_round_stays round h = grind (arith, nat_tests)
@@ -36,7 +36,7 @@ second_of_both a b h = grind (arith, nat_tests)
 pub stays : (n : ℕ) (s : NodeState) (e : Event) (t : NodeState) → is_state s ≡ true → is_event e ≡ true → NodeStep n s e t → is_state t ≡ true
 stays n s e t h k (sends m runs o ee et) = rw et (both _ _ (first_of_both _ _ h) refl)
 stays n s e t h k (draws round id es ee lo hi et) =
-    rw et (opening_stays round id (first_of_both _ _ (subst (λ x. is_state x ≡ true) es h)) (subst (λ x. is_event x ≡ true) ee k))
+    rw et (first_message_stays round id (first_of_both _ _ (subst (λ x. is_state x ≡ true) es h)) (subst (λ x. is_event x ≡ true) ee k))
 stays n s e t h k (passes m es ee low et) = rw et (raised_stays m (subst (λ x. is_event x ≡ true) ee k) low)
 stays n s e t h k (gives_in round id m es ee g low et) = rw et (raised_stays m (subst (λ x. is_event x ≡ true) ee k) low)
 stays n s e t h k (purges round id m es ee g et) = rw et h

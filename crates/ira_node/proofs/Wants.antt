@@ -8,7 +8,7 @@ use Rattle.ira_node.specs.declared.phase.Phase.{Phase}
 use Rattle.ira_node.specs.declared.phase.Phase.TheVariants.{Choosing, Active, Passive, Leader}
 use Rattle.ira_node.specs.declared.node_state.NodeState.{NodeState}
 use Rattle.ira_node.specs.declared.wanted.Wanted.{Wanted}
-use Rattle.ira_node.specs.Msg.{opening, raised, dirtied, IsGreater, IsLess, IsEqual}
+use Rattle.ira_node.specs.Msg.{first_message, raised, dirtied, IsGreater, IsLess, IsEqual}
 use Rattle.ira_node.specs.NodeState.{free, owing, IsLeader}
 use Rattle.ira_node.specs.NodeStep.{NodeStep, sends, draws, passes, gives_in, purges, meets, ties, wins, HasStep}
 use Rattle.ira_node.specs.Wanted.{IsOfKind, CanCome, wanted_of}
@@ -41,10 +41,10 @@ active_receives n round id m h one (inr (inr same)) = (owing (Active round id) (
 
 -- what is wanted can come
 can_come_of : (n : ℕ) (phase : Phase) (owed : Option Msg) → IsRingSize n → CanCome n (record { phase = phase; owed = owed }) (wanted_of phase owed)
-can_come_of n (Choosing round) None size = λ id low high. (owing (Active round id) (opening round id), draws round id refl refl low high refl)
+can_come_of n (Choosing round) None size = λ id low high. (owing (Active round id) (first_message round id), draws round id refl refl low high refl)
 can_come_of n (Active round id) None size =
-    (opening 1 1, refl, active_receives n round id (opening 1 1) size.0 refl (compares (opening 1 1) round id))
-can_come_of n Passive None size = (opening 1 1, refl, (owing Passive (raised (opening 1 1)), passes (opening 1 1) refl refl (omega arith) refl))
+    (first_message 1 1, refl, active_receives n round id (first_message 1 1) size.0 refl (compares (first_message 1 1) round id))
+can_come_of n Passive None size = (first_message 1 1, refl, (owing Passive (raised (first_message 1 1)), passes (first_message 1 1) refl refl (omega arith) refl))
 can_come_of n (Choosing round) (Some m) size = (free (Choosing round), sends m (λ h. h) refl refl refl)
 can_come_of n (Active round id) (Some m) size = (free (Active round id), sends m (λ h. h) refl refl refl)
 can_come_of n Passive (Some m) size = (free Passive, sends m (λ h. h) refl refl refl)

@@ -9,14 +9,14 @@ use Rattle.ira_event.specs.declared.event.Event.{Event}
 use Rattle.ira_event.specs.declared.event.Event.TheVariants.{Draw, Sent, Got}
 use Rattle.ira_node.specs.declared.phase.Phase.TheVariants.{Choosing, Active, Passive, Leader}
 use Rattle.ira_node.specs.declared.node_state.NodeState.{NodeState}
-use Rattle.ira_node.specs.Msg.{opening, raised, dirtied, IsGreater, IsLess, IsEqual}
+use Rattle.ira_node.specs.Msg.{first_message, raised, dirtied, IsGreater, IsLess, IsEqual}
 use Rattle.ira_node.specs.NodeState.{free, owing, IsLeader}
 
 pub data NodeStep (n : ℕ) (s : NodeState) (e : Event) (t : NodeState) : Type 0 where
   -- a node sends the message that it owes, and owes nothing more
   sends : (m : Msg) → ¬ (IsLeader s.phase) → s.owed ≡ Some m → e ≡ Sent m → t ≡ free s.phase → NodeStep n s e t
   -- a choosing node draws an ID of 1 to n, becomes active and owes its own message
-  draws : (round id : ℕ) → s ≡ free (Choosing round) → e ≡ Draw id → 1 ≤ id → id ≤ n → t ≡ owing (Active round id) (opening round id) → NodeStep n s e t
+  draws : (round id : ℕ) → s ≡ free (Choosing round) → e ≡ Draw id → 1 ≤ id → id ≤ n → t ≡ owing (Active round id) (first_message round id) → NodeStep n s e t
   -- a passive node passes each message on
   passes : (m : Msg) → s ≡ free Passive → e ≡ Got m → m.hop < MAX_NUMBER → t ≡ owing Passive (raised m) → NodeStep n s e t
   -- an active node that receives a greater pair becomes passive and passes the message on

@@ -11,7 +11,7 @@ use Rattle.ira_node.specs.declared.phase.Phase.TheVariants.{Choosing, Active, Pa
 use Rattle.ira_node.specs.declared.node_state.NodeState.{NodeState}
 use Rattle.ira_node.specs.declared.step_fault.StepFault.{StepFault}
 use Rattle.ira_node.specs.declared.step_fault.StepFault.TheVariants.{Owes, NotOwed, NotChoosing, DrawRange, MustDraw, Ended, HopPast, RoundLimit, HopLimit}
-use Rattle.ira_node.specs.Msg.{opening, raised, dirtied}
+use Rattle.ira_node.specs.Msg.{first_message, raised, dirtied}
 use Rattle.ira_node.specs.NodeState.{free, owing}
 
 -- whether two messages are equal
@@ -57,7 +57,7 @@ got_answer n (Leader round id) m = Err Ended
 
 -- a node that owes nothing drew
 abbrev pub drawn_answer : ℕ → Phase → ℕ → Result NodeState StepFault
-drawn_answer n (Choosing round) d = cond (nat_lt 0 d && not (nat_lt n d)) (Ok (owing (Active round d) (opening round d))) (Err DrawRange)
+drawn_answer n (Choosing round) d = cond (nat_lt 0 d && not (nat_lt n d)) (Ok (owing (Active round d) (first_message round d))) (Err DrawRange)
 drawn_answer n (Active round id) d = Err NotChoosing
 drawn_answer n Passive d = Err NotChoosing
 drawn_answer n (Leader round id) d = Err Ended

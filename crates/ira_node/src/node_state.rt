@@ -65,8 +65,8 @@ impl NodeState {
             return Err(StepFault::Ended);
         }
         match self.owed {
-            Some(message) => settle(self.phase, message, event),
-            None => proceed(self.phase, nodes, event),
+            Some(message) => step_owing(self.phase, message, event),
+            None => step_owing_nothing(self.phase, nodes, event),
         }
     }
 
@@ -90,7 +90,7 @@ impl NodeState {
 
 /// The step of a node that owes the message and doesn't lead.
 #[inline(always)]
-fn settle(phase: Phase, message: Msg, event: &Event) -> Result<NodeState, StepFault>
+fn step_owing(phase: Phase, message: Msg, event: &Event) -> Result<NodeState, StepFault>
     ensures { result ≡ sent_answer phase message event.now }
 {
     match event {
@@ -102,7 +102,7 @@ fn settle(phase: Phase, message: Msg, event: &Event) -> Result<NodeState, StepFa
 
 /// The step of a node that owes nothing and doesn't lead.
 #[inline(always)]
-fn proceed(phase: Phase, nodes: RingSize, event: &Event) -> Result<NodeState, StepFault>
+fn step_owing_nothing(phase: Phase, nodes: RingSize, event: &Event) -> Result<NodeState, StepFault>
     ensures { result ≡ free_answer nodes phase event.now }
 {
     match event {
@@ -153,7 +153,7 @@ fn compare(nodes: RingSize, round: u32, id: u32, message: &Msg) -> Result<NodeSt
 {
     let (met, own) = ((message.round, message.id), (round, id));
     if met == own {
-        return meet(nodes, round, id, message);
+        return receive_own_pair(nodes, round, id, message);
     }
     if met > own {
         return pass(message);
@@ -178,7 +178,12 @@ fn pass(message: &Msg) -> Result<NodeState, StepFault>
 
 /// What an active node does with a message that has its own pair.
 #[inline(always)]
-fn meet(nodes: RingSize, round: u32, id: u32, message: &Msg) -> Result<NodeState, StepFault>
+fn receive_own_pair(
+    nodes: RingSize,
+    round: u32,
+    id: u32,
+    message: &Msg,
+) -> Result<NodeState, StepFault>
     ensures { result ≡ own_pair_answer nodes round id message.now }
 {
     let whole_ring = u32::from(nodes.get());

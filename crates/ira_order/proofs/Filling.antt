@@ -8,7 +8,7 @@ use Rattle.ira_event.specs.Log.{Log}
 use Rattle.ira_order.specs.Ring.{log_of, next, events_of}
 use Rattle.ira_order.specs.Matching.{sent, got, sending, receipt}
 use Rattle.ira_order.specs.Order.{standings}
-use Rattle.ira_order.specs.Counts.{Covers, CanStep}
+use Rattle.ira_order.specs.Counts.{Covers, IsReady}
 use Rattle.ira_order.specs.Scan.{IsScan, sent_by, got_by}
 use Rattle.ira_order.specs.Ordered.{IsOrdered}
 use Rattle.ira_order.specs.Stamps.{receipts_by, CountsAt, CountsSent, IsStamping}
@@ -48,7 +48,7 @@ module _ (logs : List Log) (schedule : List ℕ) (ordered : IsOrdered (record { 
     pub goes_on : standings (take t schedule) (get_or schedule t 0) < length (log_of logs (get_or schedule t 0))
     goes_on = omega (arith, one_on, standings-take-le schedule (t + 1) (get_or schedule t 0), ordered.order.whole (get_or schedule t 0) in_ring)
 
-    can_go : CanStep logs (standings (take t schedule)) (get_or schedule t 0)
+    can_go : IsReady logs (standings (take t schedule)) (get_or schedule t 0)
     can_go = (
       goes_on,
       λ j lj e.

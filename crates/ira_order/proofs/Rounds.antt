@@ -9,33 +9,33 @@ use Rattle.ira_order.specs.Ring.{log_of, next}
 use Rattle.ira_order.specs.Matching.{sent, got, Matches}
 use Rattle.ira_order.specs.Order.{standings, IsOrder}
 use Rattle.ira_order.specs.Counts.{IsSchedule, IsWhole, IsWholeSchedule}
-use Rattle.ira_order.specs.Scan.{IsScan, GoesOn, IsStuckAt}
+use Rattle.ira_order.specs.Scan.{IsScan, HasGrown, IsStuckAt}
 use Rattle.ira_order.proofs.Bridge.{kept_order, order_schedule}
 use Rattle.ira_order.proofs.Ranks.{lt_cases}
 use Rattle.ira_order.proofs.Stuck.{all_below}
 use Rattle.std.proofs.lemmas.List.Sums.{sum_by-cons}
 use Rattle.std.proofs.lemmas.List.{nil_from_length}
 
-pub goes_on_refl : (a : List ℕ) → GoesOn a a
-goes_on_refl a = ([], sym (append-nil a))
+pub has_grown_refl : (a : List ℕ) → HasGrown a a
+has_grown_refl a = ([], sym (append-nil a))
 
-pub goes_on_trans : (a b d : List ℕ) → GoesOn a b → GoesOn b d → GoesOn a d
-goes_on_trans a b d f g = (f.0 ++ g.0, g.1 ∙ ap (λ (x : List ℕ). x ++ g.0) f.1 ∙ append_assoc a f.0 g.0)
+pub has_grown_trans : (a b d : List ℕ) → HasGrown a b → HasGrown b d → HasGrown a d
+has_grown_trans a b d f g = (f.0 ++ g.0, g.1 ∙ ap (λ (x : List ℕ). x ++ g.0) f.1 ∙ append_assoc a f.0 g.0)
 
-pub goes_on_length : (a b : List ℕ) → GoesOn a b → length a ≤ length b
-goes_on_length a b g = omega (arith, ap length g.1, length-append a g.0)
+pub has_grown_length : (a b : List ℕ) → HasGrown a b → length a ≤ length b
+has_grown_length a b g = omega (arith, ap length g.1, length-append a g.0)
 
-pub goes_on_same : (a b : List ℕ) → GoesOn a b → length b ≤ length a → b ≡ a
-goes_on_same a b g l =
+pub has_grown_same : (a b : List ℕ) → HasGrown a b → length b ≤ length a → b ≡ a
+has_grown_same a b g l =
     let none : length g.0 ≡ 0 = omega (arith, ap length g.1, length-append a g.0) in
     g.1 ∙ ap (λ (x : List ℕ). a ++ x) (nil_from_length g.0 none) ∙ append-nil a
 
 -- a place more without a step
-pub stuck_more : (logs : List Log) (first old new : List ℕ) (i : ℕ) → GoesOn first old → GoesOn old new → (length old ≡ length first → (j : ℕ) → j < i → IsStuckAt logs (standings old) j) → IsStuckAt logs (standings new) i → length new ≡ length first → (j : ℕ) → j < i + 1 → IsStuckAt logs (standings new) j
+pub stuck_more : (logs : List Log) (first old new : List ℕ) (i : ℕ) → HasGrown first old → HasGrown old new → (length old ≡ length first → (j : ℕ) → j < i → IsStuckAt logs (standings old) j) → IsStuckAt logs (standings new) i → length new ≡ length first → (j : ℕ) → j < i + 1 → IsStuckAt logs (standings new) j
 stuck_more logs first old new i f g before here e j l =
-    let a = goes_on_length first old f in
-    let b = goes_on_length old new g in
-    let same : new ≡ old = goes_on_same old new g (omega arith) in
+    let a = has_grown_length first old f in
+    let b = has_grown_length old new g in
+    let same : new ≡ old = has_grown_same old new g (omega arith) in
     elim (lt_cases j i) [
       | inl lower ↦ (let P : List ℕ → Type 0 = λ x. IsStuckAt logs (standings x) j in subst P (sym same) (before (omega arith) j lower))
       | inr top ↦ (let at : i ≡ j = omega arith in let P : ℕ → Type 0 = λ x. IsStuckAt logs (standings new) x in subst P at here)

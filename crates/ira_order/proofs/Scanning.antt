@@ -8,7 +8,7 @@ use Rattle.std.specs.List.{filter_map, cons_option}
 use Rattle.ira_order.specs.Ring.{log_of, next, events_of}
 use Rattle.ira_order.specs.Matching.{sent, got, sending, receipt}
 use Rattle.ira_order.specs.Order.{standings}
-use Rattle.ira_order.specs.Counts.{CanStep, Covers, IsSchedule}
+use Rattle.ira_order.specs.Counts.{IsReady, Covers, IsSchedule}
 use Rattle.ira_order.specs.Scan.{IsScan, IsStuckAt, sent_by, got_by}
 use Rattle.ira_order.proofs.Ranks.{filter_map_more, lt_cases, eq_cases, rank_mono, next_other}
 use Rattle.ira_event.specs.Limits.{MAX_RECORDS}
@@ -50,7 +50,7 @@ module _ (logs : List Log) (places : List ℕ) (i : ℕ)
     (two : 2 ≤ length logs)
     (here : i < length logs)
     (so_far : IsSchedule logs places)
-    (free : CanStep logs (standings places) i) where
+    (free : IsReady logs (standings places) i) where
   covers_push : Covers logs (standings (places ++ i ∷ []))
   covers_push k lk =
       let n : ℕ = length logs in
@@ -100,7 +100,7 @@ raised xs count count' n i by long here is same other j lj = elim (eq_cases i j)
       rw (get_or-set_other xs i j (get_or xs i 0 + by) 0 ne') (is j lj ∙ sym (other j ne))
 ]
 
-pub scan_step : (logs : List Log) (done sents gots places : List ℕ) (i : ℕ) (e : Event) → IsScan logs done sents gots places → 2 ≤ length logs → i < length logs → CanStep logs (standings places) i → e ≡ get_or (log_of logs i) (standings places i) e → IsScan logs (set done i (get_or done i 0 + 1)) (set sents i (get_or sents i 0 + sent_by e)) (set gots i (get_or gots i 0 + got_by e)) (places ++ i ∷ [])
+pub scan_step : (logs : List Log) (done sents gots places : List ℕ) (i : ℕ) (e : Event) → IsScan logs done sents gots places → 2 ≤ length logs → i < length logs → IsReady logs (standings places) i → e ≡ get_or (log_of logs i) (standings places i) e → IsScan logs (set done i (get_or done i 0 + 1)) (set sents i (get_or sents i 0 + sent_by e)) (set gots i (get_or gots i 0 + got_by e)) (places ++ i ∷ [])
 scan_step logs done sents gots places i e scan two here free is =
     let at_i = standings_push_same places i in
     let n : ℕ = length logs in
@@ -126,7 +126,7 @@ abbrev pub IsWriter : ℕ → ℕ → ℕ → Type 0
 IsWriter n i from = (i ≡ 0 → from ≡ n - 1) × (i ≢ 0 → from ≡ i - 1)
 
 -- what the test of a place finds
-pub can_step_iff : (logs : List Log) (done sents gots places : List ℕ) (i from g s : ℕ) (e : Event) → IsScan logs done sents gots places → i < length logs → standings places i < length (log_of logs i) → e ≡ get_or (log_of logs i) (standings places i) e → IsWriter (length logs) i from → g ≡ get_or gots i 0 → s ≡ get_or sents from 0 → IsTrue (leb (g + got_by e) s) ↔ CanStep logs (standings places) i
+pub can_step_iff : (logs : List Log) (done sents gots places : List ℕ) (i from g s : ℕ) (e : Event) → IsScan logs done sents gots places → i < length logs → standings places i < length (log_of logs i) → e ≡ get_or (log_of logs i) (standings places i) e → IsWriter (length logs) i from → g ≡ get_or gots i 0 → s ≡ get_or sents from 0 → IsTrue (leb (g + got_by e) s) ↔ IsReady logs (standings places) i
 can_step_iff logs done sents gots places i from g s e scan here more is source g_is s_is =
     let there : from < length logs = elim (eq_cases i 0) [ inl z ↦ omega (arith, source.0 z) | inr z ↦ omega (arith, source.1 z) ] in
     let into : next (length logs) from ≡ i = elim (eq_cases i 0) [
@@ -201,7 +201,7 @@ module _ (logs : List Log) (done sents gots places : List ℕ) (i at sent got : 
       let long : from < length sents = omega (arith, length-set sents i sent, scan.all_sents) in
       get_or_read sents from s long s_is 0 ∙ sym (get_or-set_other sents i from sent 0 other)
 
-  free_iff : (from s : ℕ) (e : Event) → IsWriter (length logs) i from → s ≡ get_or sents from s → slice_get log.events at ≡ Some e → IsTrue (leb (got + got_by e) s) ↔ CanStep logs (standings places) i
+  free_iff : (from s : ℕ) (e : Event) → IsWriter (length logs) i from → s ≡ get_or sents from s → slice_get log.events at ≡ Some e → IsTrue (leb (got + got_by e) s) ↔ IsReady logs (standings places) i
   free_iff from s e source s_is e_is =
       can_step_iff logs (set done i at) (set sents i sent) (set gots i got) places i from got s e scan here (more e e_is) (e_here e e_is) source
       (sym (counter gots got scan.all_gots)) (sendings_are from s source s_is)

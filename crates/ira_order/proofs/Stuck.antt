@@ -5,7 +5,7 @@ use Rattle.std.specs.Prelude.{All}
 use Rattle.ira_order.specs.Ring.{log_of, next}
 use Rattle.ira_order.specs.Matching.{sent, got, sending}
 use Rattle.ira_order.specs.Order.{standings}
-use Rattle.ira_order.specs.Counts.{CanStep, IsKept}
+use Rattle.ira_order.specs.Counts.{IsReady, IsKept}
 use Rattle.ira_order.proofs.Ranks.{lt_cases, eq_cases, rank_mono, standings_same, standings_other, standings-take-le, next_other}
 use Rattle.std.proofs.lemmas.List.{take_all}
 
@@ -14,7 +14,7 @@ module _ (logs : List Log) (order : List ℕ) (at : ℕ → ℕ)
     (places : All (λ p. p < length logs) order)
     (within : (i : ℕ) → i < length logs → standings order i ≤ length (log_of logs i))
     (kept : IsKept logs order)
-    (stuck : (i : ℕ) → i < length logs → CanStep logs at i → ⊥) where
+    (stuck : (i : ℕ) → i < length logs → IsReady logs at i → ⊥) where
   -- an order that has not yet passed the stuck cut doesn't pass it in one step
   step_below : (t : ℕ) → t < length order → ((j : ℕ) → j < length logs → standings (take t order) j ≤ at j) → (j : ℕ) → j < length logs → standings (take (t + 1) order) j ≤ at j
   step_below t l before j lj = elim (eq_cases (get_or order t 0) j) [

@@ -22,8 +22,8 @@ pub record IsSchedule (logs : List Log) (order : List ℕ) : Type 0 where
   pub kept : IsKept logs order
 
 -- the next event of node i may come: there is one, and if it is a receipt, it is covered
-abbrev pub CanStep : List Log → (ℕ → ℕ) → ℕ → Type 0
-CanStep logs at i =
+abbrev pub IsReady : List Log → (ℕ → ℕ) → ℕ → Type 0
+IsReady logs at i =
     (at i < length (log_of logs i)) × ((j : ℕ) → j < length logs → next (length logs) j ≡ i → length (got (take (at i + 1) (log_of logs i))) ≤ length (sent (take (at j) (log_of logs j))))
 
 -- each place stands as often as its log has events

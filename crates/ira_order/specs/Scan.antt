@@ -7,7 +7,7 @@ use Rattle.ira_event.specs.Logs.{AreLogs}
 use Rattle.ira_order.specs.Ring.{log_of}
 use Rattle.ira_order.specs.Matching.{sent, got, sending, receipt}
 use Rattle.ira_order.specs.Order.{standings}
-use Rattle.ira_order.specs.Counts.{IsSchedule, CanStep}
+use Rattle.ira_order.specs.Counts.{IsSchedule, IsReady}
 
 -- how many messages an event sends
 abbrev pub sent_by : Event → ℕ
@@ -31,8 +31,8 @@ pub record IsScan (logs : List Log) (done sents gots places : List ℕ) : Type 0
 
 -- no step of this node may come
 abbrev pub IsStuckAt : List Log → (ℕ → ℕ) → ℕ → Type 0
-IsStuckAt logs at i = CanStep logs at i → ⊥
+IsStuckAt logs at i = IsReady logs at i → ⊥
 
 -- the list may have grown at its end
-abbrev pub GoesOn : List ℕ → List ℕ → Type 0
-GoesOn old new = (more : List ℕ) × (new ≡ old ++ more)
+abbrev pub HasGrown : List ℕ → List ℕ → Type 0
+HasGrown old new = (more : List ℕ) × (new ≡ old ++ more)

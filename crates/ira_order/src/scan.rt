@@ -2,8 +2,8 @@ ghost use Rattle.std.specs.Prelude.{◌≡◌, ◌<◌, ◌≤◌, ◌+◌, ◌�
 ghost use Rattle.ira_event.specs.declared.event.Event.{Event};
 ghost use Rattle.ira_order.specs.Ring.{log_of};
 ghost use Rattle.ira_order.specs.Order.{standings};
-ghost use Rattle.ira_order.specs.Counts.{CanStep};
-ghost use Rattle.ira_order.specs.Scan.{IsScan, got_by, GoesOn, IsStuckAt};
+ghost use Rattle.ira_order.specs.Counts.{IsReady};
+ghost use Rattle.ira_order.specs.Scan.{IsScan, got_by, HasGrown, IsStuckAt};
 
 use crate::tally::{Tally, receives, sends};
 use ira_event::{Event, Logs, NodeLog};
@@ -50,7 +50,7 @@ impl<A: Allocator> Scan<A> {
         requires scan { IsScan logs.now self.old.tally.done.items self.old.tally.sent.items self.old.tally.got.items self.old.places.items }
         requires place { i < length logs.now }
         ensures scan { OnOk result (IsScan logs.now self.new.tally.done.items self.new.tally.sent.items self.new.tally.got.items self.new.places.items) }
-        ensures further { OnOk result (GoesOn self.old.places.items self.new.places.items) }
+        ensures further { OnOk result (HasGrown self.old.places.items self.new.places.items) }
         ensures stuck { OnOk result (IsStuckAt logs.now (standings self.new.places.items) i) }
     {
         let writer = if i == 0 { logs.size().get() - 1 } else { i - 1 };
@@ -80,7 +80,7 @@ impl<A: Allocator> Scan<A> {
     fn round(&mut self, logs: &Logs<A>) -> Result<(), AllocError>
         requires scan { IsScan logs.now self.old.tally.done.items self.old.tally.sent.items self.old.tally.got.items self.old.places.items }
         ensures scan { OnOk result (IsScan logs.now self.new.tally.done.items self.new.tally.sent.items self.new.tally.got.items self.new.places.items) }
-        ensures further { OnOk result (GoesOn self.old.places.items self.new.places.items) }
+        ensures further { OnOk result (HasGrown self.old.places.items self.new.places.items) }
         ensures stuck { OnOk result (length self.new.places.items ≡ length self.old.places.items → (i : ℕ) → i < length logs.now → IsStuckAt logs.now (standings self.new.places.items) i) }
     {
         for i in 0..logs.size().get() {

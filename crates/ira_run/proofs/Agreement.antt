@@ -19,7 +19,7 @@ use Rattle.ira_order.proofs.Ranks.{eq_cases}
 use Rattle.ira_order.proofs.Runs.{next_prev, prev_below}
 use Rattle.ira_order.proofs.Converse.{Balanced, balanced_step}
 use Rattle.ira_run.specs.Setup.{Setup, is_initiator, given}
-use Rattle.ira_run.specs.FullRun.{opening, events_at, drawing, drawn, HasEvent, owes, chooses, receives, CanStep, Walks, BeginsWith, IsFullRun}
+use Rattle.ira_run.specs.FullRun.{opening_of, events_at, drawing, drawn, HasEvent, owes, chooses, receives, CanStep, Walks, BeginsWith, IsFullRun}
 use Rattle.ira_run.proofs.Beginnings.{next_same, begin_each_other, sends_begin}
 use Rattle.ira_run.proofs.Walks.{own_more, other_more, walk_leads, walk_balanced}
 
@@ -57,7 +57,7 @@ module _ (s : Setup) (i : ℕ) (past log : List Event) (state : NodeState) (link
     (balanced : got past ++ link ≡ writer)
     (more : BeginsWith sendings writer)
     (ended : IsEnded s i log sendings)
-    (follows : ¬ (IsLeader state.phase))
+    (not_leader : ¬ (IsLeader state.phase))
     (room : length past < s.cap)
     (event : HasEvent s.nodes (given s i) state past link) where
   -- so they are not all of the log
@@ -72,7 +72,7 @@ module _ (s : Setup) (i : ℕ) (past log : List Event) (state : NodeState) (link
       let Q : NodeState → Type 0 = λ x. ¬ (IsLeader x.phase) in
       let R : NodeState → Type 0 = λ x. HasEvent s.nodes (given s i) x past (link ++ more.0) in
       let S : List Msg → Type 0 = λ x. HasEvent s.nodes (given s i) here.state past x in
-      here.stays (subst Q (sym state_is) follows) room (subst S (sym left_is) (subst R (sym state_is) (has_event_still s.nodes (given s i) state past link more.0 event)))
+      here.stays (subst Q (sym state_is) not_leader) room (subst S (sym left_is) (subst R (sym state_is) (has_event_still s.nodes (given s i) state past link more.0 event)))
 
   -- the next event of the log is of the same kind
   alike : (e f : Event) (rest : List Event) (after : NodeState) → NodeStep s.nodes state e after → log ≡ past ++ f ∷ rest → AreAlike e f
@@ -136,7 +136,7 @@ held_more s logs past c b i e two ended held can step draws =
     let P : List Event → Type 0 = λ es. BeginsWith (given s i) (drawn es) in
     let begins : BeginsWith (logs i) (events_at past i ++ e ∷ []) =
     held_on s i (events_at past i) (logs i) (c.state i) (c.link (prev s.nodes i)) (sent (events_at past (prev s.nodes i))) (sent (logs (prev s.nodes i)))
-    (held.leads i l) link (sends_begin (logs (prev s.nodes i)) (events_at past (prev s.nodes i)) (held.begins (prev s.nodes i) p)) (ended i l) can.follows can.room can.event
+    (held.leads i l) link (sends_begin (logs (prev s.nodes i)) (events_at past (prev s.nodes i)) (held.begins (prev s.nodes i) p)) (ended i l) can.not_leader can.room can.event
     e (b.state i) (held.begins i l).0 step.node (subst P own draws) (λ m is. taken_first s.nodes i e c.link b.link m step.links is) (held.begins i l).1 in
     record {
       leads = λ j lj. elim (eq_cases i j) [
@@ -185,21 +185,21 @@ held s logs past c (x ∷ run) d two ended so_far walk draws i l =
 -- each log that is ended begins with what its node did in a full run
 pub full_run_held : (s : Setup) (logs : ℕ → List Event) (run : List (ℕ × Event)) (end : Configuration) → 2 ≤ s.nodes → AreEnded s logs → IsFullRun s run end → (i : ℕ) → i < s.nodes → BeginsWith (logs i) (events_at run i)
 full_run_held s logs run end two ended full =
-    held s logs [] (opening s) run end two ended (record { leads = λ i l. refl; balanced = λ k l. refl; begins = λ i l. (logs i, refl) }) full.walk full.draws
+    held s logs [] (opening_of s) run end two ended (record { leads = λ i l. refl; balanced = λ k l. refl; begins = λ i l. (logs i, refl) }) full.walk full.draws
 
 -- what the nodes did in a full run is ended
 pub full_run_ended : (s : Setup) (run : List (ℕ × Event)) (end : Configuration) → 2 ≤ s.nodes → IsFullRun s run end → AreEnded s (events_at run)
 full_run_ended s run end two full i l =
-    let balanced : Balanced s.nodes (events_at run) end.link = walk_balanced s [] (opening s) run end two (λ k lk. refl) full.walk in
+    let balanced : Balanced s.nodes (events_at run) end.link = walk_balanced s [] (opening_of s) run end two (λ k lk. refl) full.walk in
     record {
       state = end.state i;
-      leads = walk_leads s [] (opening s) run end i l full.walk;
+      leads = walk_leads s [] (opening_of s) run end i l full.walk;
       draws = full.draws i l;
       receipts = (
         end.link (prev s.nodes i),
         sym (balanced (prev s.nodes i) (prev_below s.nodes i l)) ∙ ap (λ (x : ℕ). got (events_at run x) ++ end.link (prev s.nodes i)) (next_prev s.nodes i l),
       );
-      stays = λ follows room event. full.whole i l record { follows = follows; room = room; event = event };
+      stays = λ not_leader room event. full.whole i l record { not_leader = not_leader; room = room; event = event };
     }
 
 -- each node does the same in two full runs

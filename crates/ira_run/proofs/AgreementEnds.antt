@@ -16,7 +16,7 @@ use Rattle.ira_run.specs.declared.node_end.NodeEnd.TheVariants.{Leader, Stopped,
 use Rattle.ira_run.specs.Setup.{Setup, is_initiator, given}
 use Rattle.ira_run.specs.FullRun.{drawn, HasEvent, owes, chooses, receives}
 use Rattle.ira_run.specs.ShownEnd.{Waits, Says, IsShown}
-use Rattle.ira_run.specs.Agreement.{told}
+use Rattle.ira_run.specs.Agreement.{stopped_for_quiet}
 use Rattle.ira_run.proofs.Beginnings.{next_same}
 use Rattle.ira_run.proofs.Choosing.{choosing_no_receipt, choosing_no_waiting}
 use Rattle.ira_run.proofs.MoreDraws.{must_have_spent}
@@ -41,10 +41,10 @@ none_left events input left others m all same is = omega (arith, ap length all, 
 
 pub shown_stays : (s : Setup) (i : ℕ) (state : NodeState) (events : List Event) (input left : List Msg) (end : NodeEnd) → input ≡ got events ++ left → Says s i state events input end → ¬ (IsLeader state.phase) → length events < s.cap
     → ¬ (HasEvent s.nodes (given s i) state events left)
-shown_stays s i state events input left Leader all says follows room = absurd (follows says)
-shown_stays s i state events input left LogFull all says follows room = absurd (omega (arith, says.1))
-shown_stays s i state events input left DrawsSpent all says follows room = spent_no_event s i says.1.0 state events left says.1.1 says.2
-shown_stays s i state events input left (NoStep k) all says follows room =
+shown_stays s i state events input left Leader all says not_leader room = absurd (not_leader says)
+shown_stays s i state events input left LogFull all says not_leader room = absurd (omega (arith, says.1))
+shown_stays s i state events input left DrawsSpent all says not_leader room = spent_no_event s i says.1.0 state events left says.1.1 says.2
+shown_stays s i state events input left (NoStep k) all says not_leader room =
     waiting_no_event s i s.cap state events left says.0
     (λ m others is step.
     let here : input ≡ got events ++ m ∷ others = all ∙ ap (λ (x : List Msg). got events ++ x) is in
@@ -52,13 +52,13 @@ shown_stays s i state events input left (NoStep k) all says follows room =
     let same : m ≡ k = next_same (got events) others says.2.0 m k (sym here ∙ there) in
     let P : Msg → Type 0 = λ x. HasStep s.nodes state (Got x) in
     says.1 (subst P same step))
-shown_stays s i state events input left Quiet all says follows room = waiting_no_event s i s.cap state events left says.0 (λ m others is step. none_left events input left others m all says.1 is)
-shown_stays s i state events input left Stopped all says follows room = waiting_no_event s i s.cap state events left says.0 (λ m others is step. none_left events input left others m all says.1 is)
+shown_stays s i state events input left Quiet all says not_leader room = waiting_no_event s i s.cap state events left says.0 (λ m others is step. none_left events input left others m all says.1 is)
+shown_stays s i state events input left Stopped all says not_leader room = waiting_no_event s i s.cap state events left says.0 (λ m others is step. none_left events input left others m all says.1 is)
 
 -- ---- it has one end
 
 -- a node that leads ends so
-leads_so : (s : Setup) (i : ℕ) (state : NodeState) (events : List Event) (input : List Msg) (end : NodeEnd) → IsLeader state.phase → Says s i state events input end → told end ≡ Leader
+leads_so : (s : Setup) (i : ℕ) (state : NodeState) (events : List Event) (input : List Msg) (end : NodeEnd) → IsLeader state.phase → Says s i state events input end → stopped_for_quiet end ≡ Leader
 leads_so s i state events input Leader l says = refl
 leads_so s i state events input LogFull l says = absurd (says.0 l)
 leads_so s i state events input DrawsSpent l says = absurd (says.0.0 l)
@@ -67,16 +67,16 @@ leads_so s i state events input Quiet l says = absurd (says.0.0.0 l)
 leads_so s i state events input Stopped l says = absurd (says.0.0.0 l)
 
 -- a node with a full log that doesn't lead ends so
-full_so : (s : Setup) (i : ℕ) (state : NodeState) (events : List Event) (input : List Msg) (end : NodeEnd) → ¬ (IsLeader state.phase) → length events ≡ s.cap → Says s i state events input end → told end ≡ LogFull
-full_so s i state events input Leader follows full says = absurd (follows says)
-full_so s i state events input LogFull follows full says = refl
-full_so s i state events input DrawsSpent follows full says = absurd (omega (arith, says.0.1, full))
-full_so s i state events input (NoStep m) follows full says = absurd (omega (arith, says.0.0.1, full))
-full_so s i state events input Quiet follows full says = absurd (omega (arith, says.0.0.1, full))
-full_so s i state events input Stopped follows full says = absurd (omega (arith, says.0.0.1, full))
+full_so : (s : Setup) (i : ℕ) (state : NodeState) (events : List Event) (input : List Msg) (end : NodeEnd) → ¬ (IsLeader state.phase) → length events ≡ s.cap → Says s i state events input end → stopped_for_quiet end ≡ LogFull
+full_so s i state events input Leader not_leader full says = absurd (not_leader says)
+full_so s i state events input LogFull not_leader full says = refl
+full_so s i state events input DrawsSpent not_leader full says = absurd (omega (arith, says.0.1, full))
+full_so s i state events input (NoStep m) not_leader full says = absurd (omega (arith, says.0.0.1, full))
+full_so s i state events input Quiet not_leader full says = absurd (omega (arith, says.0.0.1, full))
+full_so s i state events input Stopped not_leader full says = absurd (omega (arith, says.0.0.1, full))
 
 -- a node that waits and has received all messages ends so
-waits_so : (s : Setup) (i : ℕ) (state : NodeState) (events : List Event) (input : List Msg) (end : NodeEnd) → Waits s.cap state events → got events ≡ input → Says s i state events input end → told end ≡ Stopped
+waits_so : (s : Setup) (i : ℕ) (state : NodeState) (events : List Event) (input : List Msg) (end : NodeEnd) → Waits s.cap state events → got events ≡ input → Says s i state events input end → stopped_for_quiet end ≡ Stopped
 waits_so s i state events input Leader waits all says = absurd (waits.0.0 says)
 waits_so s i state events input LogFull waits all says = absurd (omega (arith, waits.0.1, says.1))
 waits_so s i state events input DrawsSpent waits all says = absurd (choosing_no_waiting says.1.0 state says.1.1 waits.2)
@@ -86,7 +86,7 @@ waits_so s i state events input Quiet waits all says = refl
 waits_so s i state events input Stopped waits all says = refl
 
 -- a node that waits before a message without a step ends so
-refuses_so : (s : Setup) (i : ℕ) (state : NodeState) (events : List Event) (input : List Msg) (m : Msg) (end : NodeEnd) → Says s i state events input (NoStep m) → Says s i state events input end → told end ≡ NoStep m
+refuses_so : (s : Setup) (i : ℕ) (state : NodeState) (events : List Event) (input : List Msg) (m : Msg) (end : NodeEnd) → Says s i state events input (NoStep m) → Says s i state events input end → stopped_for_quiet end ≡ NoStep m
 refuses_so s i state events input m Leader h says = absurd (h.0.0.0 says)
 refuses_so s i state events input m LogFull h says = absurd (omega (arith, h.0.0.1, says.1))
 refuses_so s i state events input m DrawsSpent h says = absurd (choosing_no_waiting says.1.0 state says.1.1 h.0.2)
@@ -97,15 +97,15 @@ refuses_so s i state events input m (NoStep k) h says =
 refuses_so s i state events input m Quiet h says = absurd (none_left events input (m ∷ h.2.0) h.2.0 m (h.2.1 ∙ append_assoc (got events) (m ∷ []) h.2.0) says.1 refl)
 refuses_so s i state events input m Stopped h says = absurd (none_left events input (m ∷ h.2.0) h.2.0 m (h.2.1 ∙ append_assoc (got events) (m ∷ []) h.2.0) says.1 refl)
 
-says_one : (s : Setup) (i : ℕ) (state : NodeState) (events : List Event) (input : List Msg) (end other : NodeEnd) → Says s i state events input end → Says s i state events input other → told end ≡ told other
+says_one : (s : Setup) (i : ℕ) (state : NodeState) (events : List Event) (input : List Msg) (end other : NodeEnd) → Says s i state events input end → Says s i state events input other → stopped_for_quiet end ≡ stopped_for_quiet other
 says_one s i state events input Leader other h k = sym (leads_so s i state events input other h k)
 says_one s i state events input LogFull other h k = sym (full_so s i state events input other h.0 h.1 k)
 says_one s i state events input (NoStep m) other h k = sym (refuses_so s i state events input m other h k)
 says_one s i state events input Quiet other h k = sym (waits_so s i state events input other h.0 h.1 k)
 says_one s i state events input Stopped other h k = sym (waits_so s i state events input other h.0 h.1 k)
-says_one s i state events input DrawsSpent other h k = sym (ap told (must_have_spent s i h.1.0 state events input other h.1.1 h.0.1 k).0)
+says_one s i state events input DrawsSpent other h k = sym (ap stopped_for_quiet (must_have_spent s i h.1.0 state events input other h.1.1 h.0.1 k).0)
 
-pub shows_one_end : (s : Setup) (logs : List Log) (i : ℕ) (end other : NodeEnd) → IsShown s logs i end → IsShown s logs i other → told end ≡ told other
+pub shows_one_end : (s : Setup) (logs : List Log) (i : ℕ) (end other : NodeEnd) → IsShown s logs i end → IsShown s logs i other → stopped_for_quiet end ≡ stopped_for_quiet other
 shows_one_end s logs i end other h k =
     let same : h.0 ≡ k.0 = one_end s.nodes (first_state (is_initiator s i)) (log_of logs i) h.0 k.0 h.1 k.1 in
     let P : NodeState → Type 0 = λ x. Says s i x (log_of logs i) (sent (log_of logs (prev s.nodes i))) end in

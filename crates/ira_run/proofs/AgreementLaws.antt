@@ -20,7 +20,7 @@ use Rattle.ira_run.specs.Run.{Run}
 use Rattle.ira_run.specs.FullRun.{drawn, BeginsWith, AreLogsOf, AreFullLogs}
 use Rattle.ira_run.specs.ShownEnd.{IsShown, IsLoneRun}
 use Rattle.ira_run.specs.Recording.{IsRecording}
-use Rattle.ira_run.specs.Agreement.{AreOfEachFullRun, told, HasBusyEnd, Agrees}
+use Rattle.ira_run.specs.Agreement.{AreOfEachFullRun, stopped_for_quiet, HasBusyEnd, Agrees}
 use Rattle.ira_run.proofs.Agreement.{IsEnded, AreEnded, full_run_held, full_runs_same}
 use Rattle.ira_run.proofs.AgreementEnds.{shown_stays, shows_one_end}
 use Rattle.ira_run.proofs.AgreementRound.{all_round, IsWaiting, no_further}
@@ -106,7 +106,7 @@ only_quiet_waits LogFull q t w = w
 only_quiet_waits (NoStep m) q t w = w
 only_quiet_waits Quiet q t w = q refl
 
-told_as_it_is : (end : NodeEnd) → end ≢ Quiet → told end ≡ end
+told_as_it_is : (end : NodeEnd) → end ≢ Quiet → stopped_for_quiet end ≡ end
 told_as_it_is Leader ne = refl
 told_as_it_is Stopped ne = refl
 told_as_it_is DrawsSpent ne = refl
@@ -142,11 +142,11 @@ module _ (s : Setup) (run lone : Run) (rec : IsRecording s run) (full : IsLoneRu
   logs_same : HasBusyEnd lone → run.logs ≡ lone.logs
   logs_same busy = same_logs s run.logs lone.logs rec.logs full.logs.of_setup (each_as_much busy)
 
-  ends_same : HasBusyEnd lone → run.ends ≡ map told lone.ends
+  ends_same : HasBusyEnd lone → run.ends ≡ map stopped_for_quiet lone.ends
   ends_same busy =
-      same_items run.ends (map told lone.ends) (rec.many ∙ sym full.many ∙ sym (length-map lone.ends told))
+      same_items run.ends (map stopped_for_quiet lone.ends) (rec.many ∙ sym full.many ∙ sym (length-map lone.ends stopped_for_quiet))
       (λ i end other at there.
-      let alone = get_map told lone.ends i other there in
+      let alone = get_map stopped_for_quiet lone.ends i other there in
       let P : List Log → Type 0 = λ ls. IsShown s ls i end in
       let shown : IsShown s lone.logs i end = subst P (logs_same busy) (rec.ends i end at) in
       let not_quiet : end ≢ Quiet = λ is. rec.none_quiet i (at ∙ ap Some is) in

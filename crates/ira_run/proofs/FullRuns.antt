@@ -8,7 +8,7 @@ use Rattle.ira_node.specs.NodeState.{first_state}
 use Rattle.ira_order.specs.Run.{Configuration, Chains, IsRingRun, opening as ring_opening, is_initiator as starts}
 use Rattle.ira_order.proofs.Runs.{prev_below}
 use Rattle.ira_run.specs.Setup.{Setup, is_initiator}
-use Rattle.ira_run.specs.FullRun.{opening, AreLogsOf, IsFullRun}
+use Rattle.ira_run.specs.FullRun.{opening_of, AreLogsOf, IsFullRun}
 use Rattle.ira_run.proofs.Walks.{walk_chains, chains_from}
 
 abbrev pub no_log : Log
@@ -21,6 +21,6 @@ same_start s logs of_setup i l =
 
 pub full_run_is_run : (s : Setup) (logs : List Log) (run : List (ℕ × Event)) (end : Configuration) → AreLogsOf s logs → IsFullRun s run end → IsRingRun logs run
 full_run_is_run s logs run end of_setup full =
-    let P : ℕ → Type 0 = λ n. Chains n (opening s) run in
-    chains_from (length logs) (opening s) (ring_opening logs) run (λ i l. prev_below (length logs) i l) (same_start s logs of_setup) (λ i l. refl)
-    (subst P (sym of_setup.number) (walk_chains s [] (opening s) run end full.walk))
+    let P : ℕ → Type 0 = λ n. Chains n (opening_of s) run in
+    chains_from (length logs) (opening_of s) (ring_opening logs) run (λ i l. prev_below (length logs) i l) (same_start s logs of_setup) (λ i l. refl)
+    (subst P (sym of_setup.number) (walk_chains s [] (opening_of s) run end full.walk))

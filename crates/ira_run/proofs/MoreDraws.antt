@@ -16,7 +16,7 @@ use Rattle.ira_run.specs.declared.node_end.NodeEnd.{NodeEnd}
 use Rattle.ira_run.specs.declared.node_end.NodeEnd.TheVariants.{Leader, Stopped, DrawsSpent, LogFull, NoStep, Quiet}
 use Rattle.ira_run.specs.Setup.{Setup, is_initiator, given}
 use Rattle.ira_run.specs.Run.{Run}
-use Rattle.ira_run.specs.FullRun.{opening, events_at, drawn, HasEvent, owes, chooses, receives, CanStep, Walks, BeginsWith}
+use Rattle.ira_run.specs.FullRun.{opening_of, events_at, drawn, HasEvent, owes, chooses, receives, CanStep, Walks, BeginsWith}
 use Rattle.ira_run.specs.ShownEnd.{Says, IsShown, IsLoneRun}
 use Rattle.ira_run.proofs.Choosing.{choosing_no_waiting}
 use Rattle.ira_run.proofs.Walks.{walk_leads}
@@ -48,7 +48,7 @@ module _ (s : Setup) (ds : List (List ℕ)) (more : (i : ℕ) → i < s.nodes �
 
   can_step_still : (past : List (ℕ × Event)) (c : Configuration) (i : ℕ) → i < s.nodes → CanStep s past c i → CanStep (with_draws s ds) past c i
   can_step_still past c i l can = record {
-    follows = can.follows;
+    not_leader = can.not_leader;
     room = can.room;
     event = has_event_still i l (c.state i) (events_at past i) (c.link (prev s.nodes i)) can.event;
   }
@@ -65,7 +65,7 @@ module _ (s : Setup) (ds : List (List ℕ)) (more : (i : ℕ) → i < s.nodes �
         let at : slice_get run.ends i ≡ Some (get_or run.ends i Quiet) = slice_get-get_or run.ends i Quiet (omega (arith, lone.many)) in
         let shown : IsShown s run.logs i (get_or run.ends i Quiet) = lone.ends i (get_or run.ends i Quiet) at in
         let log : events_at lone.logs.run i ≡ log_of run.logs i = lone.logs.events i (omega (arith, lone.logs.of_setup.number)) in
-        let leads : LeadsTo s.nodes (first_state (is_initiator s i)) (events_at lone.logs.run i) (lone.logs.end.state i) = walk_leads s [] (opening s) lone.logs.run lone.logs.end i l lone.logs.full.walk in
+        let leads : LeadsTo s.nodes (first_state (is_initiator s i)) (events_at lone.logs.run i) (lone.logs.end.state i) = walk_leads s [] (opening_of s) lone.logs.run lone.logs.end i l lone.logs.full.walk in
         let P : List Event → Type 0 = λ es. LeadsTo s.nodes (first_state (is_initiator s i)) es (lone.logs.end.state i) in
         let same : shown.0 ≡ lone.logs.end.state i = one_end s.nodes (first_state (is_initiator s i)) (log_of run.logs i) shown.0 (lone.logs.end.state i) shown.1 (subst P log leads) in
         let spent = must_have_spent s i round shown.0 (log_of run.logs i) (sent (log_of run.logs (prev s.nodes i))) (get_or run.ends i Quiet) (same ∙ is) (omega (arith, room, ap length log)) shown.2 in
@@ -73,9 +73,9 @@ module _ (s : Setup) (ds : List (List ℕ)) (more : (i : ℕ) → i < s.nodes �
         omega (arith, unused, ap length all, ap length spent.1, ap (λ (es : List Event). length (drawn es)) log)
 
     no_step_still : (i : ℕ) → i < s.nodes → CanStep (with_draws s ds) lone.logs.run lone.logs.end i → HasEvent s.nodes (given (with_draws s ds) i) (lone.logs.end.state i) (events_at lone.logs.run i) (lone.logs.end.link (prev s.nodes i)) → ⊥
-    no_step_still i l can (owes m o) = lone.logs.full.whole i l (record { follows = can.follows; room = can.room; event = owes m o })
+    no_step_still i l can (owes m o) = lone.logs.full.whole i l (record { not_leader = can.not_leader; room = can.room; event = owes m o })
     no_step_still i l can (chooses round is unused) = none_unused i round l is can.room unused
-    no_step_still i l can (receives m others is step) = lone.logs.full.whole i l (record { follows = can.follows; room = can.room; event = receives m others is step })
+    no_step_still i l can (receives m others is step) = lone.logs.full.whole i l (record { not_leader = can.not_leader; room = can.room; event = receives m others is step })
 
     draws_still : (i : ℕ) → i < s.nodes → BeginsWith (given (with_draws s ds) i) (drawn (events_at lone.logs.run i))
     draws_still i l =
@@ -100,7 +100,7 @@ module _ (s : Setup) (ds : List (List ℕ)) (more : (i : ℕ) → i < s.nodes �
         run = lone.logs.run;
         end = lone.logs.end;
         full = record {
-          walk = walks_still [] (opening s) lone.logs.run lone.logs.end lone.logs.full.walk;
+          walk = walks_still [] (opening_of s) lone.logs.run lone.logs.end lone.logs.full.walk;
           draws = draws_still;
           whole = λ i l can. no_step_still i l can can.event;
         };

@@ -16,7 +16,7 @@ use Rattle.ira_order.specs.Run.{Configuration, LinkStep, RingStep}
 use Rattle.ira_order.proofs.Ranks.{eq_cases}
 use Rattle.ira_order.proofs.Runs.{prev_below}
 use Rattle.ira_run.specs.Setup.{Setup, is_initiator, KeepsRules}
-use Rattle.ira_run.specs.FullRun.{opening, events_at, Walks}
+use Rattle.ira_run.specs.FullRun.{opening_of, events_at, Walks}
 use Rattle.ira_run.proofs.Walks.{own_first, other_first, own_more, other_more}
 
 -- ---- one step
@@ -102,8 +102,8 @@ events_recordable s past c (x ∷ run) d i few all walk =
       | inr ne ↦ subst P (sym (other_first x run i ne)) rest
     ]
 
-pub run_recordable : (s : Setup) (run : List (ℕ × Event)) (d : Configuration) (i : ℕ) → KeepsRules s → Walks s [] (opening s) run d → list_all is_event (events_at run i) ≡ true
-run_recordable s run d i rules walk = events_recordable s [] (opening s) run d i rules.size.1 record { states = λ j l. first_recordable (is_initiator s j); links = λ k l. refl } walk
+pub run_recordable : (s : Setup) (run : List (ℕ × Event)) (d : Configuration) (i : ℕ) → KeepsRules s → Walks s [] (opening_of s) run d → list_all is_event (events_at run i) ≡ true
+run_recordable s run d i rules walk = events_recordable s [] (opening_of s) run d i rules.size.1 record { states = λ j l. first_recordable (is_initiator s j); links = λ k l. refl } walk
 
 -- ---- no node makes more events than the cap
 
@@ -120,5 +120,5 @@ few_events s past c (x ∷ run) d i few walk =
     ] in
     subst P (append_assoc past (x ∷ []) run) (few_events s (past ++ x ∷ []) walk.1.0 run d i more walk.1.2)
 
-pub run_within : (s : Setup) (run : List (ℕ × Event)) (d : Configuration) (i : ℕ) → Walks s [] (opening s) run d → length (events_at run i) ≤ s.cap
-run_within s run d i walk = few_events s [] (opening s) run d i (omega arith) walk
+pub run_within : (s : Setup) (run : List (ℕ × Event)) (d : Configuration) (i : ℕ) → Walks s [] (opening_of s) run d → length (events_at run i) ≤ s.cap
+run_within s run d i walk = few_events s [] (opening_of s) run d i (omega arith) walk

@@ -15,19 +15,19 @@ seen_rows : {V : Type 0} (see : V → List ℕ) (P : List ℕ → Type 0) (n : �
 seen_rows {V} see P n rows many each k d l = subst P (get_or-map see rows k d [] l) (each k (omega arith))
 
 -- each row holds IDs exactly where the setup gives IDs
-seen : {V : Type 0} (see : V → List ℕ) (n : ℕ) (kinds : List Bool) (rows : List V) (most : ℕ) (told : Bool) → IsForEachNode (record { nodes = n; initiators = kinds; draws = map see rows; cap = most })
-    → (IsTrue told ↔ All (λ row. All (λ d. (1 ≤ d) × (d ≤ n)) (see row)) rows) → IsTrue told ↔ GivesIds (record { nodes = n; initiators = kinds; draws = map see rows; cap = most })
-seen {V} see n kinds rows most told lists is =
+seen : {V : Type 0} (see : V → List ℕ) (n : ℕ) (kinds : List Bool) (rows : List V) (most : ℕ) (stopped_for_quiet : Bool) → IsForEachNode (record { nodes = n; initiators = kinds; draws = map see rows; cap = most })
+    → (IsTrue stopped_for_quiet ↔ All (λ row. All (λ d. (1 ≤ d) × (d ≤ n)) (see row)) rows) → IsTrue stopped_for_quiet ↔ GivesIds (record { nodes = n; initiators = kinds; draws = map see rows; cap = most })
+seen {V} see n kinds rows most stopped_for_quiet lists is =
     let P : List ℕ → Type 0 = λ ids. All (λ d. (1 ≤ d) × (d ≤ n)) ids in
     let many : length rows ≡ n = omega (arith, length-map rows see, lists.1) in (
       λ y. rows_seen see P n rows many (is.0 y),
       λ gives. is.1 (seen_rows see P n rows many gives),
     )
 
-pub seen_ids : {V : Type 0} (see : V → List ℕ) (n : ℕ) (kinds : List Bool) (rows : List V) (most : ℕ) (told : Bool) (s : Setup) → record { nodes = n; initiators = kinds; draws = map see rows; cap = most } ≡ s → IsForEachNode s
-    → (IsTrue told ↔ All (λ row. All (λ d. (1 ≤ d) × (d ≤ n)) (see row)) rows) → IsTrue told ↔ GivesIds s
-seen_ids {V} see n kinds rows most told s is lists each =
-    let P : Setup → Type 0 = λ x. IsForEachNode x → IsTrue told ↔ GivesIds x in subst P is (λ h. seen see n kinds rows most told h each) lists
+pub seen_ids : {V : Type 0} (see : V → List ℕ) (n : ℕ) (kinds : List Bool) (rows : List V) (most : ℕ) (stopped_for_quiet : Bool) (s : Setup) → record { nodes = n; initiators = kinds; draws = map see rows; cap = most } ≡ s → IsForEachNode s
+    → (IsTrue stopped_for_quiet ↔ All (λ row. All (λ d. (1 ≤ d) × (d ≤ n)) (see row)) rows) → IsTrue stopped_for_quiet ↔ GivesIds s
+seen_ids {V} see n kinds rows most stopped_for_quiet s is lists each =
+    let P : Setup → Type 0 = λ x. IsForEachNode x → IsTrue stopped_for_quiet ↔ GivesIds x in subst P is (λ h. seen see n kinds rows most stopped_for_quiet h each) lists
 
 -- what the code reads of a setup for a place
 pub read_setup : {V : Type 0} (see : V → List ℕ) (n : ℕ) (kinds : List Bool) (rows : List V) (most : ℕ) (s : Setup) (i : ℕ) (kind : Bool) (row : V) → record { nodes = n; initiators = kinds; draws = map see rows; cap = most } ≡ s → IsForEachNode s → i < s.nodes

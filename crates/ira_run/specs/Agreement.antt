@@ -25,17 +25,17 @@ abbrev pub FullRunsShowEnds : Type 0
 FullRunsShowEnds = (s : Setup) (logs : List Log) → AreFullLogs s logs → (ends : List NodeEnd) × IsLoneRun s (record { logs = logs; ends = ends })
 
 -- the end, with Stopped for Quiet: a node that waits alone waits on, one in a thread is told that nothing comes
-abbrev pub told : NodeEnd → NodeEnd
-told Leader = Leader
-told Stopped = Stopped
-told DrawsSpent = DrawsSpent
-told LogFull = LogFull
-told (NoStep m) = NoStep m
-told Quiet = Stopped
+abbrev pub stopped_for_quiet : NodeEnd → NodeEnd
+stopped_for_quiet Leader = Leader
+stopped_for_quiet Stopped = Stopped
+stopped_for_quiet DrawsSpent = DrawsSpent
+stopped_for_quiet LogFull = LogFull
+stopped_for_quiet (NoStep m) = NoStep m
+stopped_for_quiet Quiet = Stopped
 
 -- logs show one end of a node, with Stopped for Quiet
 abbrev pub LogsShowOneEnd : Type 0
-LogsShowOneEnd = (s : Setup) (logs : List Log) (i : ℕ) (end other : NodeEnd) → IsShown s logs i end → IsShown s logs i other → told end ≡ told other
+LogsShowOneEnd = (s : Setup) (logs : List Log) (i : ℕ) (end other : NodeEnd) → IsShown s logs i end → IsShown s logs i other → stopped_for_quiet end ≡ stopped_for_quiet other
 
 -- some node of the run ended otherwise than as Quiet
 abbrev pub HasBusyEnd : Run → Type 0
@@ -47,7 +47,7 @@ pub record Agrees (s : Setup) (run : Run) : Type 0 where
   pub begins : (full : List Log) → AreFullLogs s full → (i : ℕ) → i < s.nodes → BeginsWith (log_of run.logs i) (log_of full i)
   -- where some node of a full run ends otherwise than Quiet, the logs are that run's, and the ends are its
   -- ends with Stopped for Quiet
-  pub same : (lone : Run) → IsLoneRun s lone → HasBusyEnd lone → (run.logs ≡ lone.logs) × (run.ends ≡ map told lone.ends)
+  pub same : (lone : Run) → IsLoneRun s lone → HasBusyEnd lone → (run.logs ≡ lone.logs) × (run.ends ≡ map stopped_for_quiet lone.ends)
   -- so the logs have an order, and every order of them is a run of the ring
   pub ordered : (lone : Run) → IsLoneRun s lone → HasBusyEnd lone → HasOrder run.logs × EveryOrderIsRun run.logs
 

@@ -15,8 +15,8 @@ use Rattle.ira_order.specs.Run.{Configuration, RingStep, event_of, IsRunOfLogs}
 use Rattle.ira_run.specs.Setup.{Setup, is_initiator, given}
 
 -- each node is in the first state of its kind, and the links are empty
-abbrev pub opening : Setup → Configuration
-opening s = record { state = λ i. first_state (is_initiator s i); link = λ i. [] }
+abbrev pub opening_of : Setup → Configuration
+opening_of s = record { state = λ i. first_state (is_initiator s i); link = λ i. [] }
 
 -- the events of node i among these, in their order
 abbrev pub events_at : List (ℕ × Event) → ℕ → List Event
@@ -44,7 +44,7 @@ pub data HasEvent (n : ℕ) (ids : List ℕ) (state : NodeState) (events : List 
 -- events than the cap, and it owes a message, or has to draw and has an unused ID, or receives and the
 -- first message on the link that leads to it has a step
 pub record CanStep (s : Setup) (past : List (ℕ × Event)) (c : Configuration) (i : ℕ) : Type 0 where
-  pub follows : ¬ (IsLeader (c.state i).phase)
+  pub not_leader : ¬ (IsLeader (c.state i).phase)
   pub room : length (events_at past i) < s.cap
   pub event : HasEvent s.nodes (given s i) (c.state i) (events_at past i) (c.link (prev s.nodes i))
 
@@ -62,7 +62,7 @@ BeginsWith {X} whole part = (rest : List X) × (whole ≡ part ++ rest)
 -- the IDs that each node draws are the first of those that it was given, in their order, and at the end
 -- no node can step
 pub record IsFullRun (s : Setup) (run : List (ℕ × Event)) (end : Configuration) : Type 0 where
-  pub walk : Walks s [] (opening s) run end
+  pub walk : Walks s [] (opening_of s) run end
   pub draws : (i : ℕ) → i < s.nodes → BeginsWith (given s i) (drawn (events_at run i))
   pub whole : (i : ℕ) → i < s.nodes → ¬ (CanStep s run end i)
 

@@ -1,7 +1,7 @@
-pub mod Dones
-pub mod Frames
-pub mod Growing
+pub mod FinishedNodes
+pub mod FramesOfLongerLogs
+pub mod NodeTasks
+pub mod RecorderGrows
 pub mod Recordings
-pub mod Seats
-pub mod Settling
-pub mod Turns
+pub mod SettledLinks
+pub mod WantedEvents

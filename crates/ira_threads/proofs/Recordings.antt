@@ -22,11 +22,11 @@ use Rattle.ira_run.specs.Setup.{Setup, is_initiator, given}
 use Rattle.ira_run.specs.FullRun.{drawn, BeginsWith}
 use Rattle.ira_run.specs.Run.{Run, IsRun}
 use Rattle.ira_threads.specs.NodeFrames.{frames, last_taken, frames_put, frames_taken}
-use Rattle.ira_threads.specs.Done.{Done, AreInPlaceRound, PassedRound}
+use Rattle.ira_threads.specs.FinishedNode.{FinishedNode, AreFinishedOnRing, FramesPassRoundRing}
 use Rattle.ira_run.specs.ShownEnd.{Says, IsShown}
 use Rattle.ira_run.specs.Recording.{EndsAs, IsRecorded, IsRecording}
 use Rattle.ira_run.proofs.Places.{get_map, get_within}
-use Rattle.ira_threads.proofs.Dones.{done_at, passed_at, place_count}
+use Rattle.ira_threads.proofs.FinishedNodes.{finished_at, passed_at, place_count}
 
 -- messages that were taken, and then any frames, begin the messages that were put, and a Stop
 got_of_put : (gs ss : List Message) (rest left : List Frame) → (frames gs ++ rest) ++ left ≡ frames ss ++ Stop ∷ [] → BeginsWith ss gs
@@ -66,21 +66,21 @@ prev_within n zero l = omega arith
 prev_within n (suc i) l = omega arith
 
 -- what the node of a place recorded
-recorded_at : (s : Setup) (dones : List Done) (i : ℕ) (d : Done) → AreInPlaceRound s dones → slice_get dones i ≡ Some d → IsRecorded s.nodes i (is_initiator s i) (given s i) s.cap d.log d.end
-recorded_at s dones i d ring at =
-    let h = done_at s 0 s.nodes ring.0 ring.0 dones i d ring.1 at in
+recorded_at : (s : Setup) (finished_nodes : List FinishedNode) (i : ℕ) (d : FinishedNode) → AreFinishedOnRing s finished_nodes → slice_get finished_nodes i ≡ Some d → IsRecorded s.nodes i (is_initiator s i) (given s i) s.cap d.log d.end
+recorded_at s finished_nodes i d ring at =
+    let h = finished_at s 0 s.nodes ring.0 ring.0 finished_nodes i d ring.1 at in
     let place : h.0.place ≡ i = omega (arith, h.2) in
     let P : Setup × ℕ → Type 0 = λ z. IsRecorded z.0.nodes z.1 (is_initiator z.0 z.1) (given z.0 z.1) z.0.cap d.log d.end in
     subst P (λ j. (h.1 j, place j)) h.3.recorded
 
 -- the frames on the link that leads to it: those that it took begin those that the node before it put
-link_at : (s : Setup) (dones : List Done) (i : ℕ) (p d : Done) → AreInPlaceRound s dones → PassedRound dones → slice_get dones i ≡ Some d → slice_get dones (prev s.nodes i) ≡ Some p → IsPrefix (frames_taken d.log.events d.end) (frames_put p.log.events)
-link_at s dones i p d ring passed at before =
-    let reader = done_at s 0 s.nodes ring.0 ring.0 dones i d ring.1 at in
-    let writer = done_at s 0 s.nodes ring.0 ring.0 dones (prev s.nodes i) p ring.1 before in
-    let many : s.nodes ≡ length dones = omega (arith, place_count s 0 s.nodes ring.0 ring.0 dones ring.1) in
+link_at : (s : Setup) (finished_nodes : List FinishedNode) (i : ℕ) (p d : FinishedNode) → AreFinishedOnRing s finished_nodes → FramesPassRoundRing finished_nodes → slice_get finished_nodes i ≡ Some d → slice_get finished_nodes (prev s.nodes i) ≡ Some p → IsPrefix (frames_taken d.log.events d.end) (frames_put p.log.events)
+link_at s finished_nodes i p d ring passed at before =
+    let reader = finished_at s 0 s.nodes ring.0 ring.0 finished_nodes i d ring.1 at in
+    let writer = finished_at s 0 s.nodes ring.0 ring.0 finished_nodes (prev s.nodes i) p ring.1 before in
+    let many : s.nodes ≡ length finished_nodes = omega (arith, place_count s 0 s.nodes ring.0 ring.0 finished_nodes ring.1) in
     let P : List Frame × List Frame → Type 0 = λ z. IsPrefix z.0 z.1 in
-    subst P (λ j. (reader.3.taken j, writer.3.put j)) (passed_at s.nodes dones i p d many passed at before)
+    subst P (λ j. (reader.3.taken j, writer.3.put j)) (passed_at s.nodes finished_nodes i p d many passed at before)
 
 local_run : (n : ℕ) (kind : Bool) (log : Log) (state : NodeState) → log.nodes ≡ n → log.initiator ≡ kind → LeadsTo n (first_state kind) log.events state → IsLocalRun log
 local_run n kind log state nodes is h =
@@ -88,51 +88,51 @@ local_run n kind log state nodes is h =
     (state, subst P (λ j. (sym nodes j, sym is j)) h)
 
 -- the log and the end of a place, and the log of the place before it
-pub record At (s : Setup) (dones : List Done) (run : Run) (i : ℕ) (d : Done) : Type 0 where
+pub record At (s : Setup) (finished_nodes : List FinishedNode) (run : Run) (i : ℕ) (d : FinishedNode) : Type 0 where
   pub recorded : IsRecorded s.nodes i (is_initiator s i) (given s i) s.cap d.log d.end
   pub events : log_of run.logs i ≡ d.log.events
-  pub before : Done
+  pub before : FinishedNode
   pub sendings : log_of run.logs (prev s.nodes i) ≡ before.log.events
   pub link : IsPrefix (frames_taken d.log.events d.end) (frames_put before.log.events)
 
-logged : (dones : List Done) (run : Run) (i : ℕ) (d : Done) → run.logs ≡ map (λ done. done.log) dones → slice_get dones i ≡ Some d → log_of run.logs i ≡ d.log.events
-logged dones run i d logs at =
-    ap (λ ls. events_of (slice_get ls i)) logs ∙ ap (λ o. events_of o) (slice_get-map (λ done. done.log) dones i ∙ ap (λ (o : Option Done). option_map (λ (done : Done). done.log) o) at)
+logged : (finished_nodes : List FinishedNode) (run : Run) (i : ℕ) (d : FinishedNode) → run.logs ≡ map (λ finished. finished.log) finished_nodes → slice_get finished_nodes i ≡ Some d → log_of run.logs i ≡ d.log.events
+logged finished_nodes run i d logs at =
+    ap (λ ls. events_of (slice_get ls i)) logs ∙ ap (λ o. events_of o) (slice_get-map (λ finished. finished.log) finished_nodes i ∙ ap (λ (o : Option FinishedNode). option_map (λ (finished : FinishedNode). finished.log) o) at)
 
-all_at : (s : Setup) (dones : List Done) (run : Run) (i : ℕ) (d : Done) → AreInPlaceRound s dones → PassedRound dones → run.logs ≡ map (λ done. done.log) dones → slice_get dones i ≡ Some d → At s dones run i d
-all_at s dones run i d ring passed logs at =
-    let many : s.nodes ≡ length dones = omega (arith, place_count s 0 s.nodes ring.0 ring.0 dones ring.1) in
-    let l : i < s.nodes = omega (arith, many, slice_get_within dones i d at) in
-    let p = get_within dones (prev s.nodes i) (omega (arith, many, prev_within s.nodes i l)) in
+all_at : (s : Setup) (finished_nodes : List FinishedNode) (run : Run) (i : ℕ) (d : FinishedNode) → AreFinishedOnRing s finished_nodes → FramesPassRoundRing finished_nodes → run.logs ≡ map (λ finished. finished.log) finished_nodes → slice_get finished_nodes i ≡ Some d → At s finished_nodes run i d
+all_at s finished_nodes run i d ring passed logs at =
+    let many : s.nodes ≡ length finished_nodes = omega (arith, place_count s 0 s.nodes ring.0 ring.0 finished_nodes ring.1) in
+    let l : i < s.nodes = omega (arith, many, slice_get_within finished_nodes i d at) in
+    let p = get_within finished_nodes (prev s.nodes i) (omega (arith, many, prev_within s.nodes i l)) in
     record {
-      recorded = recorded_at s dones i d ring at;
-      events = logged dones run i d logs at;
+      recorded = recorded_at s finished_nodes i d ring at;
+      events = logged finished_nodes run i d logs at;
       before = p.0;
-      sendings = logged dones run (prev s.nodes i) p.0 logs p.1;
-      link = link_at s dones i p.0 d ring passed at p.1;
+      sendings = logged finished_nodes run (prev s.nodes i) p.0 logs p.1;
+      link = link_at s finished_nodes i p.0 d ring passed at p.1;
     }
 
-shown_at : (s : Setup) (dones : List Done) (run : Run) (i : ℕ) (d : Done) → At s dones run i d → IsShown s run.logs i d.end
-shown_at s dones run i d h =
+shown_at : (s : Setup) (finished_nodes : List FinishedNode) (run : Run) (i : ℕ) (d : FinishedNode) → At s finished_nodes run i d → IsShown s run.logs i d.end
+shown_at s finished_nodes run i d h =
     let rec = h.recorded in
     let P : List Event × List Event → Type 0 = λ z. (state : NodeState) × LeadsTo s.nodes (first_state (is_initiator s i)) z.0 state × Says s i state z.0 (sent z.1) d.end in
     subst P (λ j. (sym h.events j, sym h.sendings j)) (rec.state, rec.run, shown s i rec.state d.log.events (sent h.before.log.events) h.link.0 d.end rec.end h.link.1)
 
-linked_at : (s : Setup) (dones : List Done) (run : Run) (i : ℕ) (d : Done) → At s dones run i d → BeginsWith (sent (log_of run.logs (prev s.nodes i))) (got d.log.events)
-linked_at s dones run i d h =
+linked_at : (s : Setup) (finished_nodes : List FinishedNode) (run : Run) (i : ℕ) (d : FinishedNode) → At s finished_nodes run i d → BeginsWith (sent (log_of run.logs (prev s.nodes i))) (got d.log.events)
+linked_at s finished_nodes run i d h =
     let P : List Event → Type 0 = λ es. BeginsWith (sent es) (got d.log.events) in
     subst P (sym h.sendings) (got_of_put (got d.log.events) (sent h.before.log.events) (last_taken d.end) h.link.0 h.link.1)
 
-is_recording : (s : Setup) (dones : List Done) (run : Run) → IsRun run → AreInPlaceRound s dones → PassedRound dones → run.logs ≡ map (λ done. done.log) dones → run.ends ≡ map (λ done. done.end) dones → IsRecording s run
-is_recording s dones run valid ring passed logs ends =
-    let many : s.nodes ≡ length dones = omega (arith, place_count s 0 s.nodes ring.0 ring.0 dones ring.1) in
-    let at : (i : ℕ) (d : Done) → slice_get dones i ≡ Some d → At s dones run i d = λ i d there. all_at s dones run i d ring passed logs there in
-    let log_at : (i : ℕ) (log : Log) → slice_get run.logs i ≡ Some log → (d : Done) × (slice_get dones i ≡ Some d) × (d.log ≡ log) = λ i log there. get_map (λ done. done.log) dones i log (ap (λ ls. slice_get ls i) (sym logs) ∙ there) in
-    let end_at : (i : ℕ) (end : NodeEnd) → slice_get run.ends i ≡ Some end → (d : Done) × (slice_get dones i ≡ Some d) × (d.end ≡ end) = λ i end there. get_map (λ done. done.end) dones i end (ap (λ es. slice_get es i) (sym ends) ∙ there) in
+is_recording : (s : Setup) (finished_nodes : List FinishedNode) (run : Run) → IsRun run → AreFinishedOnRing s finished_nodes → FramesPassRoundRing finished_nodes → run.logs ≡ map (λ finished. finished.log) finished_nodes → run.ends ≡ map (λ finished. finished.end) finished_nodes → IsRecording s run
+is_recording s finished_nodes run valid ring passed logs ends =
+    let many : s.nodes ≡ length finished_nodes = omega (arith, place_count s 0 s.nodes ring.0 ring.0 finished_nodes ring.1) in
+    let at : (i : ℕ) (d : FinishedNode) → slice_get finished_nodes i ≡ Some d → At s finished_nodes run i d = λ i d there. all_at s finished_nodes run i d ring passed logs there in
+    let log_at : (i : ℕ) (log : Log) → slice_get run.logs i ≡ Some log → (d : FinishedNode) × (slice_get finished_nodes i ≡ Some d) × (d.log ≡ log) = λ i log there. get_map (λ finished. finished.log) finished_nodes i log (ap (λ ls. slice_get ls i) (sym logs) ∙ there) in
+    let end_at : (i : ℕ) (end : NodeEnd) → slice_get run.ends i ≡ Some end → (d : FinishedNode) × (slice_get finished_nodes i ≡ Some d) × (d.end ≡ end) = λ i end there. get_map (λ finished. finished.end) finished_nodes i end (ap (λ es. slice_get es i) (sym ends) ∙ there) in
     record {
       logs = record {
         ring = valid.logs;
-        number = ap length logs ∙ length-map dones (λ done. done.log) ∙ sym many;
+        number = ap length logs ∙ length-map finished_nodes (λ finished. finished.log) ∙ sym many;
         kinds = λ i log there. let p = log_at i log there in let P : Log → Type 0 = λ x. x.initiator ≡ is_initiator s i in subst P p.2 (at i p.0 p.1).recorded.kind;
       };
       runs = λ i log there.
@@ -144,12 +144,12 @@ is_recording s dones run valid ring passed logs ends =
       links = λ i log there.
           let p = log_at i log there in
           let P : Log → Type 0 = λ x. BeginsWith (sent (log_of run.logs (prev s.nodes i))) (got x.events) in
-          subst P p.2 (linked_at s dones run i p.0 (at i p.0 p.1));
-      many = ap length ends ∙ length-map dones (λ done. done.end) ∙ sym many;
+          subst P p.2 (linked_at s finished_nodes run i p.0 (at i p.0 p.1));
+      many = ap length ends ∙ length-map finished_nodes (λ finished. finished.end) ∙ sym many;
       ends = λ i end there.
           let p = end_at i end there in
           let P : NodeEnd → Type 0 = λ x. IsShown s run.logs i x in
-          subst P p.2 (shown_at s dones run i p.0 (at i p.0 p.1));
+          subst P p.2 (shown_at s finished_nodes run i p.0 (at i p.0 p.1));
       none_quiet = λ i there.
           let p = end_at i Quiet there in
           let rec = (at i p.0 p.1).recorded in
@@ -158,6 +158,6 @@ is_recording s dones run valid ring passed logs ends =
     }
 
 -- the same where there may be no run
-pub is_recording_if_ok : (s : Setup) (dones : List Done) (r : Result Run RunFault) → IfOk r IsRun → AreInPlaceRound s dones → IfOk r (λ run. PassedRound dones) → IfOk r (λ run. run.logs ≡ map (λ done. done.log) dones) → IfOk r (λ run. run.ends ≡ map (λ done. done.end) dones) → IfOk r (IsRecording s)
-is_recording_if_ok s dones (Ok run) valid ring passed logs ends = is_recording s dones run valid ring passed logs ends
-is_recording_if_ok s dones (Err f) valid ring passed logs ends = tt
+pub is_recording_if_ok : (s : Setup) (finished_nodes : List FinishedNode) (r : Result Run RunFault) → IfOk r IsRun → AreFinishedOnRing s finished_nodes → IfOk r (λ run. FramesPassRoundRing finished_nodes) → IfOk r (λ run. run.logs ≡ map (λ finished. finished.log) finished_nodes) → IfOk r (λ run. run.ends ≡ map (λ finished. finished.end) finished_nodes) → IfOk r (IsRecording s)
+is_recording_if_ok s finished_nodes (Ok run) valid ring passed logs ends = is_recording s finished_nodes run valid ring passed logs ends
+is_recording_if_ok s finished_nodes (Err f) valid ring passed logs ends = tt

@@ -1,5 +1,5 @@
-pub mod Done
-pub mod Duty
+pub mod FinishedNode
 pub mod NodeFrames
+pub mod NodeTask
 pub mod Recorder
-pub mod Seat
+pub mod TaskPromise

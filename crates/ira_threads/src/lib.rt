@@ -1,15 +1,15 @@
 //! The run of a ring with a thread for each node.
 #![tactic(auto)]
 
-mod child;
-mod done;
-mod duty;
+mod finished_node;
+mod node_task;
 mod node_thread;
 mod node_work;
 mod recorder;
 mod ring_run;
 mod room;
-mod seat;
+mod started_node;
+mod task_promise;
 mod threads;
 
 pub use node_thread::node_body;

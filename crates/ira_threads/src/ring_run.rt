@@ -4,14 +4,14 @@ ghost use Rattle.std.specs.VecDeque.{deque_capacity};
 ghost use Rattle.ira_run.specs.declared.run_fault.RunFault.TheVariants.{Setup as SetupFault, NoEnd, Stranger, Double, Thread, Closed as ClosedFault};
 ghost use Rattle.ira_run.specs.Setup.{KeepsRules};
 ghost use Rattle.ira_run.specs.Run.{IsRun};
-ghost use Rattle.ira_threads.specs.Seat.{AreSeatedRound};
-ghost use Rattle.ira_threads.specs.Done.{AreInPlaceRound, AreOfOneRing, PassedRound};
+ghost use Rattle.ira_threads.specs.NodeTask.{AreTasksOfRing};
+ghost use Rattle.ira_threads.specs.FinishedNode.{AreFinishedOnRing, AreOfOneRing, FramesPassRoundRing};
 ghost use Rattle.ira_run.specs.Recording.{IsRecording, HasOwnEnd};
 ghost use Rattle.ira_run.specs.Agreement.{Agrees};
 
-use crate::done::Done;
+use crate::finished_node::FinishedNode;
 use crate::room::Room;
-use crate::threads::run_seats;
+use crate::threads::run_tasks;
 use ira_links::{Gate, settle};
 use ira_run::{Collector, Run, RunFault, Setup};
 use std::alloc::Allocator;
@@ -23,23 +23,23 @@ use std::time::Clock;
 
 /// Settles each link, and gives the run of the parts.
 fn settle_all<A: Allocator>(
-    mut dones: VecDeque<Done<A>, A>,
+    mut finished_nodes: VecDeque<FinishedNode<A>, A>,
     mut collector: Collector<A>,
 ) -> Result<Run<A>, RunFault>
     requires none { collector ≡ replicate (length collector) None }
     requires size { 1 ≤ length collector }
-    requires ring { AreOfOneRing (length collector) dones.items }
+    requires ring { AreOfOneRing (length collector) finished_nodes.items }
     ensures valid { IfOk result IsRun }
-    ensures logs { IfOk result (λ run. run.logs ≡ map (λ done. done.log) dones.items) }
-    ensures ends { IfOk result (λ run. run.ends ≡ map (λ done. done.end) dones.items) }
-    ensures passed { IfOk result (λ run. PassedRound dones.items) }
+    ensures logs { IfOk result (λ run. run.logs ≡ map (λ finished. finished.log) finished_nodes.items) }
+    ensures ends { IfOk result (λ run. run.ends ≡ map (λ finished. finished.end) finished_nodes.items) }
+    ensures passed { IfOk result (λ run. FramesPassRoundRing finished_nodes.items) }
     ensures ended { IfOk result HasOwnEnd }
     ensures err { IfErr result (λ f. f ≡ NoEnd) }
 {
-    let Some(first) = dones.pop_front() else {
+    let Some(first) = finished_nodes.pop_front() else {
         unreachable!()
     };
-    let Done {
+    let FinishedNode {
         part,
         input: first_input,
         output: mut last,
@@ -47,12 +47,12 @@ fn settle_all<A: Allocator>(
     let Ok(()) = collector.take(part) else {
         unreachable!()
     };
-    while let Some(done) = dones.pop_front() {
-        let Done {
+    while let Some(finished) = finished_nodes.pop_front() {
+        let FinishedNode {
             part,
             input,
             output,
-        } = done;
+        } = finished;
         settle(last, input);
         let Ok(()) = collector.take(part) else {
             unreachable!()
@@ -92,18 +92,18 @@ where
     }
     let room = Room::reserve(alloc, setup)?;
     let Room {
-        seats,
-        children,
-        dones,
+        tasks,
+        started_nodes,
+        finished_nodes,
         collector,
     } = room;
-    let dones = thread::scope(
+    let finished_nodes = thread::scope(
         thread::scope_env(),
         rt,
-        move |scope| -> Result<VecDeque<Done<A>, A>, RunFault>
-            requires { KeepsRules setup.now × AreSeatedRound setup.now.cap setup.now.nodes seats.items × (children.items ≡ []) × (setup.now.nodes ≤ deque_capacity children) × (dones.items ≡ []) × (setup.now.nodes ≤ deque_capacity dones) }
-            ensures { IfOk result (λ dones. AreInPlaceRound setup.entry.now dones.items) × IfErr result (λ f. (f ≡ Thread) ⊎ (f ≡ ClosedFault)) }
-        { run_seats(rt, setup, gate, scope, seats, children, dones) },
+        move |scope| -> Result<VecDeque<FinishedNode<A>, A>, RunFault>
+            requires { KeepsRules setup.now × AreTasksOfRing setup.now.cap setup.now.nodes tasks.items × (started_nodes.items ≡ []) × (setup.now.nodes ≤ deque_capacity started_nodes) × (finished_nodes.items ≡ []) × (setup.now.nodes ≤ deque_capacity finished_nodes) }
+            ensures { IfOk result (λ finished_nodes. AreFinishedOnRing setup.entry.now finished_nodes.items) × IfErr result (λ f. (f ≡ Thread) ⊎ (f ≡ ClosedFault)) }
+        { run_tasks(rt, setup, gate, scope, tasks, started_nodes, finished_nodes) },
     )?;
-    settle_all(dones, collector)
+    settle_all(finished_nodes, collector)
 }

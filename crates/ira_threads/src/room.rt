@@ -1,23 +1,23 @@
 ghost use Rattle.std.specs.Prelude.{◌≡◌, ◌≤◌, ◌-◌, [], None, replicate, IfOk};
 ghost use Rattle.std.specs.VecDeque.{deque_capacity};
 ghost use Rattle.ira_links.specs.declared.limits.TheConstants.{MAX_CAPACITY};
-ghost use Rattle.ira_threads.specs.Seat.{AreSeated, AreSeatedRound};
+ghost use Rattle.ira_threads.specs.NodeTask.{AreTasksOfPlaces, AreTasksOfRing};
 
-use crate::child::Child;
-use crate::done::Done;
-use crate::seat::Seat;
+use crate::finished_node::FinishedNode;
+use crate::node_task::NodeTask;
+use crate::started_node::StartedNode;
 use ira_event::OutOfMemory;
 use ira_links::{LinkIn, link};
 use ira_run::{Collector, Setup};
 use std::alloc::Allocator;
 use std::collections::VecDeque;
 
-/// All memory of a run: its seats, and the empty queues and the collector for what comes of them.
+/// All memory of a run: its tasks, and the empty queues and the collector for what comes of them.
 #[derive(Drop)]
 pub(crate) struct Room<A: Allocator> {
-    pub(crate) seats: VecDeque<Seat<A>, A>,
-    pub(crate) children: VecDeque<Child<A>, A>,
-    pub(crate) dones: VecDeque<Done<A>, A>,
+    pub(crate) tasks: VecDeque<NodeTask<A>, A>,
+    pub(crate) started_nodes: VecDeque<StartedNode<A>, A>,
+    pub(crate) finished_nodes: VecDeque<FinishedNode<A>, A>,
     pub(crate) collector: Collector<A>,
 }
 
@@ -28,42 +28,42 @@ fn capacity<A: Allocator>(setup: &Setup<A>) -> u32
     2 * u32::from(setup.nodes.get()) + 2
 }
 
-/// Adds the seats of all places but the last, of which the first is to read `first`, and gives the end that
+/// Adds the tasks of all places but the last, of which the first is to read `first`, and gives the end that
 /// the last place is to read.
-fn most_seats<A: Allocator + Clone>(
+fn most_tasks<A: Allocator + Clone>(
     alloc: A,
     setup: &Setup<A>,
-    seats: &mut VecDeque<Seat<A>, A>,
+    tasks: &mut VecDeque<NodeTask<A>, A>,
     first: LinkIn<A>,
 ) -> Result<LinkIn<A>, OutOfMemory>
-    requires none { seats.old.items ≡ [] }
+    requires none { tasks.old.items ≡ [] }
     requires fresh { first.frames ≡ [] }
-    ensures seats { IfOk result (λ input. AreSeated setup.now.cap 0 first.link seats.new.items (setup.now.nodes - 1) input.link) }
+    ensures tasks { IfOk result (λ input. AreTasksOfPlaces setup.now.cap 0 first.link tasks.new.items (setup.now.nodes - 1) input.link) }
     ensures fresh { IfOk result (λ input. input.frames ≡ []) }
 {
     let mut input = first;
     for place in 0..setup.nodes.get() - 1 {
         let (output, next) = link(alloc.clone()?, capacity(setup))?;
-        let seat = Seat::new(alloc.clone()?, setup.cap, place, input, output)?;
-        seats.push_back(seat)?;
+        let task = NodeTask::new(alloc.clone()?, setup.cap, place, input, output)?;
+        tasks.push_back(task)?;
         input = next;
     }
     Ok(input)
 }
 
-/// The seats of all places, linked round the ring.
-fn all_seats<A: Allocator + Clone>(
+/// The tasks of all places, linked round the ring.
+fn all_tasks<A: Allocator + Clone>(
     alloc: A,
     setup: &Setup<A>,
-) -> Result<VecDeque<Seat<A>, A>, OutOfMemory>
-    ensures seats { IfOk result (λ seats. AreSeatedRound setup.now.cap setup.now.nodes seats.items) }
+) -> Result<VecDeque<NodeTask<A>, A>, OutOfMemory>
+    ensures tasks { IfOk result (λ tasks. AreTasksOfRing setup.now.cap setup.now.nodes tasks.items) }
 {
-    let mut seats = VecDeque::with_capacity(alloc.clone()?, usize::from(setup.nodes.get()))?;
+    let mut tasks = VecDeque::with_capacity(alloc.clone()?, usize::from(setup.nodes.get()))?;
     let (last, first) = link(alloc.clone()?, capacity(setup))?;
-    let input = most_seats(alloc.clone()?, setup, &mut seats, first)?;
-    let seat = Seat::new(alloc, setup.cap, setup.nodes.get() - 1, input, last)?;
-    seats.push_back(seat)?;
-    Ok(seats)
+    let input = most_tasks(alloc.clone()?, setup, &mut tasks, first)?;
+    let task = NodeTask::new(alloc, setup.cap, setup.nodes.get() - 1, input, last)?;
+    tasks.push_back(task)?;
+    Ok(tasks)
 }
 
 impl<A: Allocator> Room<A> {
@@ -71,20 +71,20 @@ impl<A: Allocator> Room<A> {
     pub(crate) fn reserve(alloc: A, setup: &Setup<A>) -> Result<Room<A>, OutOfMemory>
     where
         A: Clone,
-        ensures seats { IfOk result (λ room. AreSeatedRound setup.now.cap setup.now.nodes room.seats.items) }
-        ensures children { IfOk result (λ room. (room.children.items ≡ []) × (setup.now.nodes ≤ deque_capacity room.children)) }
-        ensures dones { IfOk result (λ room. (room.dones.items ≡ []) × (setup.now.nodes ≤ deque_capacity room.dones)) }
+        ensures tasks { IfOk result (λ room. AreTasksOfRing setup.now.cap setup.now.nodes room.tasks.items) }
+        ensures started_nodes { IfOk result (λ room. (room.started_nodes.items ≡ []) × (setup.now.nodes ≤ deque_capacity room.started_nodes)) }
+        ensures finished_nodes { IfOk result (λ room. (room.finished_nodes.items ≡ []) × (setup.now.nodes ≤ deque_capacity room.finished_nodes)) }
         ensures collector { IfOk result (λ room. room.collector ≡ replicate setup.now.nodes None) }
     {
         let nodes = usize::from(setup.nodes.get());
-        let seats = all_seats(alloc.clone()?, setup)?;
-        let children = VecDeque::with_capacity(alloc.clone()?, nodes)?;
-        let dones = VecDeque::with_capacity(alloc.clone()?, nodes)?;
+        let tasks = all_tasks(alloc.clone()?, setup)?;
+        let started_nodes = VecDeque::with_capacity(alloc.clone()?, nodes)?;
+        let finished_nodes = VecDeque::with_capacity(alloc.clone()?, nodes)?;
         let collector = Collector::new(alloc, setup.nodes)?;
         Ok(Room {
-            seats,
-            children,
-            dones,
+            tasks,
+            started_nodes,
+            finished_nodes,
             collector,
         })
     }

@@ -1,7 +1,7 @@
 use Rattle.std.proofs.Common.{subst}
 use Rattle.ira_threads.specs.Recorder.{Recorder, IsRecorder}
 use Rattle.ira_run.specs.Recording.{IsRecorded}
-use Rattle.ira_threads.proofs.Turns.{recorded}
+use Rattle.ira_threads.proofs.WantedEvents.{recorded}
 use Rattle.ira_threads.proofs.node_thread.node_body.Goals as goal
 
 pub returns-clause-recorded : goal.returns-clause-recorded

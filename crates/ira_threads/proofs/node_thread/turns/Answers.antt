@@ -4,8 +4,8 @@ use Rattle.ira_event.specs.declared.event.Event.TheVariants.{Got}
 use Rattle.ira_links.specs.declared.frame.Frame.TheVariants.{Msg, Stop}
 use Rattle.ira_node.specs.NodeStep.{HasStep}
 use Rattle.ira_run.specs.FullRun.{drawn}
-use Rattle.ira_threads.proofs.Seats.{none_left}
-use Rattle.ira_threads.proofs.Turns.{no_leader, choosing, waiting, has_room, has_step, all_first, all_rest, one_node, so_far_draw, so_far_sent, so_far_got}
+use Rattle.ira_threads.proofs.NodeTasks.{none_left}
+use Rattle.ira_threads.proofs.WantedEvents.{no_leader, choosing, waiting, has_room, has_step, all_first, all_rest, one_node, so_far_draw, so_far_sent, so_far_got}
 use Rattle.ira_threads.proofs.node_thread.turns.Goals as goal
 
 pub unreachable-requires : goal.unreachable-requires

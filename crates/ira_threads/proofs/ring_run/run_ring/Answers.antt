@@ -7,8 +7,8 @@ use denote.Exit.{unseen}
 use denote.Param.Send.{Quiet-if}
 use Rattle.ira_run.specs.Setup.{Setup, KeepsRules}
 use Rattle.ira_run.specs.Run.{IsRun}
-use Rattle.ira_threads.specs.Done.{AreInPlaceRound}
-use Rattle.ira_threads.proofs.Settling.{on_ok, ok_of, no_other_fault, no_setup_fault}
+use Rattle.ira_threads.specs.FinishedNode.{AreFinishedOnRing}
+use Rattle.ira_threads.proofs.SettledLinks.{on_ok, ok_of, no_other_fault, no_setup_fault}
 use Rattle.ira_threads.proofs.Recordings.{is_recording_if_ok}
 use Rattle.ira_run.proofs.AgreementLaws.{recording_agrees_if_ok}
 use Rattle.ira_threads.proofs.ring_run.run_ring.Goals as goal
@@ -20,7 +20,7 @@ scoped-requires g c =
     let bounds = c.type_bounds in
     record {
       at = λ a. (
-        (kept, room.seats, room.children.0, room.children.1, room.dones.0, room.dones.1),
+        (kept, room.tasks, room.started_nodes.0, room.started_nodes.1, room.finished_nodes.0, room.finished_nodes.1),
         (
           record { owned = bounds.send-A.owned; leaving = λ k. Quiet-if (k (of_param 2)) unseen unseen (λ x w. tt) (λ x w. tt) },
           record { shared = bounds.sync-R.shared },
@@ -48,7 +48,7 @@ settle_all-requires-clause-size g c =
 pub settle_all-requires-clause-ring : goal.settle_all-requires-clause-ring
 settle_all-requires-clause-ring g c =
     let s : Setup = c.args.setup.now in
-    (s, sym (collected s.nodes c.in_ok-room.room.collector c.in_ok-room.ensures.collector), ok_of c.scoped.result c.in_ok-dones.dones (λ dones. AreInPlaceRound s dones.items) c.in_ok-dones.was c.scoped.ensures.1.0)
+    (s, sym (collected s.nodes c.in_ok-room.room.collector c.in_ok-room.ensures.collector), ok_of c.scoped.result c.in_ok-finished_nodes.finished_nodes (λ finished_nodes. AreFinishedOnRing s finished_nodes.items) c.in_ok-finished_nodes.was c.scoped.ensures.1.0)
 
 pub returns-clause-kept : goal.returns-clause-kept
 returns-clause-kept g c = on_ok c.settle_all.result IsRun (λ run. KeepsRules c.args.setup.now) (λ run valid. c.if-not-keeps_rules.ensures.0 refl) c.settle_all.ensures.valid
@@ -56,9 +56,9 @@ returns-clause-kept g c = on_ok c.settle_all.result IsRun (λ run. KeepsRules c.
 pub returns-clause-recording : goal.returns-clause-recording
 returns-clause-recording g c =
     let s : Setup = c.args.setup.now in
-    let ring = ok_of c.scoped.result c.in_ok-dones.dones (λ dones. AreInPlaceRound s dones.items) c.in_ok-dones.was c.scoped.ensures.1.0 in
+    let ring = ok_of c.scoped.result c.in_ok-finished_nodes.finished_nodes (λ finished_nodes. AreFinishedOnRing s finished_nodes.items) c.in_ok-finished_nodes.was c.scoped.ensures.1.0 in
     let settled = c.settle_all.ensures in
-    is_recording_if_ok s c.in_ok-dones.dones.items c.settle_all.result settled.valid ring settled.passed settled.logs settled.ends
+    is_recording_if_ok s c.in_ok-finished_nodes.finished_nodes.items c.settle_all.result settled.valid ring settled.passed settled.logs settled.ends
 
 pub returns-clause-agrees : goal.returns-clause-agrees
 returns-clause-agrees g c = recording_agrees_if_ok _ _ (returns-clause-recording g c)

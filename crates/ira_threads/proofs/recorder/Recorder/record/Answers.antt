@@ -1,7 +1,7 @@
 use Rattle.std.proofs.Common.{◌<◌, length, sym, subst, arith}
 use Rattle.std.proofs.lemmas.Result.{err_from_is_err_and}
 use Rattle.ira_threads.specs.Recorder.{Recorder}
-use Rattle.ira_threads.proofs.Growing.{grown}
+use Rattle.ira_threads.proofs.RecorderGrows.{grown}
 use Rattle.ira_threads.proofs.recorder.Recorder.record.Goals as goal
 
 pub returns-in_err-self-inside-clause-err : goal.returns-in_err-self-inside-clause-err

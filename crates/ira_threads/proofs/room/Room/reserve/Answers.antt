@@ -8,8 +8,8 @@ returns g c =
     let size : c.setup.inside.nodes ≡ s.nodes = ap (λ (x : Setup). x.nodes) c.setup.view_is in
     let nodes : c.from-nodes.result ≡ s.nodes = c.from-nodes.ensures ∙ c.get.ensures.value ∙ size in
     record {
-      seats = c.in_ok-seats.ensures.seats;
-      children = (c.in_ok-children.ensures.items, omega (arith, nodes, c.in_ok-children.ensures.capacity));
-      dones = (c.in_ok-dones.ensures.items, omega (arith, nodes, c.in_ok-dones.ensures.capacity));
+      tasks = c.in_ok-tasks.ensures.tasks;
+      started_nodes = (c.in_ok-started_nodes.ensures.items, omega (arith, nodes, c.in_ok-started_nodes.ensures.capacity));
+      finished_nodes = (c.in_ok-finished_nodes.ensures.items, omega (arith, nodes, c.in_ok-finished_nodes.ensures.capacity));
       collector = c.in_ok-collector.ensures ∙ ap (λ (n : ℕ). replicate n None) size;
     }

@@ -19,21 +19,21 @@ use Rattle.ira_run.specs.NodeEnd.{is_stopped}
 use Rattle.ira_run.specs.RunFault.{run_fault_number}
 use Rattle.ira_run.specs.Recording.{HasOwnEnd}
 use Rattle.ira_run.specs.Collector.{KeepsPart, PartFaultOf, HasNoEnd, FinishFaultOf, AreParts}
-use Rattle.ira_threads.specs.Done.{Done, AreInPlace, AreOfOneRing, Passed, PassedRound}
+use Rattle.ira_threads.specs.FinishedNode.{FinishedNode, AreFinishedOnPlaces, AreOfOneRing, FramesPass, FramesPassRoundRing}
 use Rattle.ira_run.proofs.Collecting.{keeps-part, no-stranger, get-behind, each-stopped}
-use Rattle.ira_threads.proofs.Dones.{passed_more, place_count}
+use Rattle.ira_threads.proofs.FinishedNodes.{passed_more, place_count}
 
 -- the part of a node, as a collector takes it
-abbrev pub part_of : Done → Option (Log × NodeEnd)
-part_of done = Some (done.log, done.end)
+abbrev pub part_of : FinishedNode → Option (Log × NodeEnd)
+part_of finished = Some (finished.log, finished.end)
 
 either : (b : Bool) → (b ≡ true) ⊎ (b ≡ false)
 either true = inl refl
 either false = inr refl
 
 -- the parts of these, and nothing yet of m more
-abbrev pub taken_of : List Done → ℕ → List (Option (Log × NodeEnd))
-taken_of dones m = map part_of dones ++ replicate m None
+abbrev pub taken_of : List FinishedNode → ℕ → List (Option (Log × NodeEnd))
+taken_of finished_nodes m = map part_of finished_nodes ++ replicate m None
 
 -- lists with the same members are the same
 same_members : {X : Type 0} (xs ys : List X) → length xs ≡ length ys → ((i : ℕ) → slice_get xs i ≡ slice_get ys i) → xs ≡ ys
@@ -59,19 +59,19 @@ set_part old new place part within kept =
     ])
 
 -- the next part is taken
-pub taken_more : (past : List Done) (m place : ℕ) (done : Done) (old new : List (Option (Log × NodeEnd))) → place ≡ length past → old ≡ taken_of past (suc m) → KeepsPart old place (done.log, done.end) new → new ≡ taken_of (past ++ done ∷ []) m
-taken_more past m place done old new at is kept =
+pub taken_more : (past : List FinishedNode) (m place : ℕ) (finished : FinishedNode) (old new : List (Option (Log × NodeEnd))) → place ≡ length past → old ≡ taken_of past (suc m) → KeepsPart old place (finished.log, finished.end) new → new ≡ taken_of (past ++ finished ∷ []) m
+taken_more past m place finished old new at is kept =
     let front : length (map part_of past) ≡ length past = length-map past part_of in
     let many : length old ≡ length (map part_of past) + suc m = ap length is ∙ length-append (map part_of past) (replicate (suc m) None) ∙ ap (λ k. length (map part_of past) + k) (length-replicate (suc m) None) in
     let here : place ≡ length (map part_of past) = at ∙ sym front in
-    set_part old new place (done.log, done.end) (omega (arith, many, here)) kept
-    ∙ ap (λ xs. set xs place (part_of done)) is
-    ∙ ap (λ k. set (taken_of past (suc m)) k (part_of done)) here
-    ∙ set-append_seam (map part_of past) None (replicate m None) (part_of done)
-    ∙ sym (ap (λ xs. xs ++ replicate m None) (map-append part_of past (done ∷ [])) ∙ append_assoc (map part_of past) (part_of done ∷ []) (replicate m None))
+    set_part old new place (finished.log, finished.end) (omega (arith, many, here)) kept
+    ∙ ap (λ xs. set xs place (part_of finished)) is
+    ∙ ap (λ k. set (taken_of past (suc m)) k (part_of finished)) here
+    ∙ set-append_seam (map part_of past) None (replicate m None) (part_of finished)
+    ∙ sym (ap (λ xs. xs ++ replicate m None) (map-append part_of past (finished ∷ [])) ∙ append_assoc (map part_of past) (part_of finished ∷ []) (replicate m None))
 
 -- a collector takes it
-pub takes : (past : List Done) (m n place : ℕ) (log : Log) (taken : List (Option (Log × NodeEnd))) (f : RunFault) → place ≡ length past → place < n → length taken ≡ n → log.nodes ≡ n → log.place ≡ place → taken ≡ taken_of past (suc m) → ¬ (PartFaultOf taken place log f)
+pub takes : (past : List FinishedNode) (m n place : ℕ) (log : Log) (taken : List (Option (Log × NodeEnd))) (f : RunFault) → place ≡ length past → place < n → length taken ≡ n → log.nodes ≡ n → log.place ≡ place → taken ≡ taken_of past (suc m) → ¬ (PartFaultOf taken place log f)
 takes past m n place log taken f at within many nodes place_is is fault =
     let size : log.nodes ≡ length taken = nodes ∙ sym many in
     let fits = no-stranger (length taken) place log (omega (arith, many, within)) size place_is in
@@ -83,29 +83,29 @@ takes past m n place log taken f at within many nodes place_is is fault =
     ]
 
 -- the first of all and those behind it were settled but for the first link, and these are left
-pub record Settling (n : ℕ) (all left : List Done) (first last : LinkEnd) (taken : List (Option (Log × NodeEnd))) : Type 0 where
+pub record Settling (n : ℕ) (all left : List FinishedNode) (first last : LinkEnd) (taken : List (Option (Log × NodeEnd))) : Type 0 where
   pub setup : Setup
-  pub head : Done
-  pub past : List Done
+  pub head : FinishedNode
+  pub past : List FinishedNode
   pub nodes : setup.nodes ≡ n
   pub parts : all ≡ (head ∷ past) ++ left
-  pub place : AreInPlace setup (length (head ∷ past)) last.link left n first.link
+  pub place : AreFinishedOnPlaces setup (length (head ∷ past)) last.link left n first.link
   pub first_is : first.frames ≡ head.input.frames
-  pub passed : Passed head.output.frames past last.frames
+  pub passed : FramesPass head.output.frames past last.frames
   pub taken_is : taken ≡ taken_of (head ∷ past) (length left)
 
 -- the first of them, as the code holds it
-pub first_held : (all rest : List Done) (seen held : Done) → all ≡ seen ∷ rest → held ≡ seen → all ≡ held ∷ rest
-first_held all rest seen held is same = is ∙ ap (λ (d : Done). d ∷ rest) (sym same)
+pub first_held : (all rest : List FinishedNode) (seen held : FinishedNode) → all ≡ seen ∷ rest → held ≡ seen → all ≡ held ∷ rest
+first_held all rest seen held is same = is ∙ ap (λ (d : FinishedNode). d ∷ rest) (sym same)
 
-pub settling_first : (n : ℕ) (all left : List Done) (head : Done) (old new : List (Option (Log × NodeEnd))) → all ≡ head ∷ left → AreOfOneRing n all → old ≡ replicate n None → KeepsPart old head.place (head.log, head.end) new → Settling n all left head.input head.output new
+pub settling_first : (n : ℕ) (all left : List FinishedNode) (head : FinishedNode) (old new : List (Option (Log × NodeEnd))) → all ≡ head ∷ left → AreOfOneRing n all → old ≡ replicate n None → KeepsPart old head.place (head.log, head.end) new → Settling n all left head.input head.output new
 settling_first n all left head old new parts ring none kept =
     let s = ring.0 in
     let link = ring.2.0 in
-    let P : ℕ × List Done → Type 0 = λ z. AreInPlace s 0 link z.1 z.0 link in
-    let here : AreInPlace s 0 link (head ∷ left) n link = subst P (λ j. (ring.1 j, parts j)) ring.2.1 in
+    let P : ℕ × List FinishedNode → Type 0 = λ z. AreFinishedOnPlaces s 0 link z.1 z.0 link in
+    let here : AreFinishedOnPlaces s 0 link (head ∷ left) n link = subst P (λ j. (ring.1 j, parts j)) ring.2.1 in
     let many : n ≡ suc (length left) = omega (arith, place_count s 0 n link link (head ∷ left) here) in
-    let Q : LinkName → Type 0 = λ l. AreInPlace s 1 head.output.link left n l in
+    let Q : LinkName → Type 0 = λ l. AreFinishedOnPlaces s 1 head.output.link left n l in
     record {
       setup = s;
       head = head;
@@ -118,55 +118,55 @@ settling_first n all left head old new parts ring none kept =
       taken_is = taken_more [] (length left) head.place head old new here.0.place (none ∙ ap (λ k. replicate k None) many) kept;
     }
 
-pub settling_more : (n : ℕ) (all left rest : List Done) (done : Done) (first last : LinkEnd) (old new : List (Option (Log × NodeEnd))) → left ≡ done ∷ rest → Settling n all left first last old → IsPrefix done.input.frames last.frames → KeepsPart old done.place (done.log, done.end) new → Settling n all rest first done.output new
-settling_more n all left rest done first last old new is was took kept =
-    let P : List Done → Type 0 = λ ds. AreInPlace was.setup (length (was.head ∷ was.past)) last.link ds n first.link in
-    let here : AreInPlace was.setup (length (was.head ∷ was.past)) last.link (done ∷ rest) n first.link = subst P is was.place in
-    let longer : length (was.head ∷ was.past) + 1 ≡ length (was.head ∷ was.past ++ done ∷ []) = omega (arith, length-append was.past (done ∷ [])) in
+pub settling_more : (n : ℕ) (all left rest : List FinishedNode) (finished : FinishedNode) (first last : LinkEnd) (old new : List (Option (Log × NodeEnd))) → left ≡ finished ∷ rest → Settling n all left first last old → IsPrefix finished.input.frames last.frames → KeepsPart old finished.place (finished.log, finished.end) new → Settling n all rest first finished.output new
+settling_more n all left rest finished first last old new is was took kept =
+    let P : List FinishedNode → Type 0 = λ ds. AreFinishedOnPlaces was.setup (length (was.head ∷ was.past)) last.link ds n first.link in
+    let here : AreFinishedOnPlaces was.setup (length (was.head ∷ was.past)) last.link (finished ∷ rest) n first.link = subst P is was.place in
+    let longer : length (was.head ∷ was.past) + 1 ≡ length (was.head ∷ was.past ++ finished ∷ []) = omega (arith, length-append was.past (finished ∷ [])) in
     record {
       setup = was.setup;
       head = was.head;
-      past = was.past ++ done ∷ [];
+      past = was.past ++ finished ∷ [];
       nodes = was.nodes;
-      parts = was.parts ∙ ap (λ ds. (was.head ∷ was.past) ++ ds) is ∙ sym (append_assoc (was.head ∷ was.past) (done ∷ []) rest);
-      place = subst (λ (k : ℕ). AreInPlace was.setup k done.output.link rest n first.link) longer here.1;
+      parts = was.parts ∙ ap (λ ds. (was.head ∷ was.past) ++ ds) is ∙ sym (append_assoc (was.head ∷ was.past) (finished ∷ []) rest);
+      place = subst (λ (k : ℕ). AreFinishedOnPlaces was.setup k finished.output.link rest n first.link) longer here.1;
       first_is = was.first_is;
-      passed = passed_more was.head.output.frames last.frames was.past done was.passed took;
-      taken_is = taken_more (was.head ∷ was.past) (length rest) done.place done old new here.0.place (was.taken_is ∙ ap (λ ds. taken_of (was.head ∷ was.past) (length ds)) is) kept;
+      passed = passed_more was.head.output.frames last.frames was.past finished was.passed took;
+      taken_is = taken_more (was.head ∷ was.past) (length rest) finished.place finished old new here.0.place (was.taken_is ∙ ap (λ ds. taken_of (was.head ∷ was.past) (length ds)) is) kept;
     }
 
 -- the next part can be taken
-pub settling_takes : (n : ℕ) (all left rest : List Done) (done : Done) (first last : LinkEnd) (taken : List (Option (Log × NodeEnd))) (f : RunFault) → left ≡ done ∷ rest → length taken ≡ n → Settling n all left first last taken → ¬ (PartFaultOf taken done.place done.log f)
-settling_takes n all left rest done first last taken f is many was =
-    let P : List Done → Type 0 = λ ds. AreInPlace was.setup (length (was.head ∷ was.past)) last.link ds n first.link in
-    let here : AreInPlace was.setup (length (was.head ∷ was.past)) last.link (done ∷ rest) n first.link = subst P is was.place in
-    let count = place_count was.setup (length (was.head ∷ was.past)) n last.link first.link (done ∷ rest) here in
-    takes (was.head ∷ was.past) (length rest) n done.place done.log taken f here.0.place (omega (arith, count, here.0.place)) many (here.0.recorded.nodes ∙ was.nodes) (here.0.recorded.place ∙ sym here.0.place) (was.taken_is ∙ ap (λ ds. taken_of (was.head ∷ was.past) (length ds)) is)
+pub settling_takes : (n : ℕ) (all left rest : List FinishedNode) (finished : FinishedNode) (first last : LinkEnd) (taken : List (Option (Log × NodeEnd))) (f : RunFault) → left ≡ finished ∷ rest → length taken ≡ n → Settling n all left first last taken → ¬ (PartFaultOf taken finished.place finished.log f)
+settling_takes n all left rest finished first last taken f is many was =
+    let P : List FinishedNode → Type 0 = λ ds. AreFinishedOnPlaces was.setup (length (was.head ∷ was.past)) last.link ds n first.link in
+    let here : AreFinishedOnPlaces was.setup (length (was.head ∷ was.past)) last.link (finished ∷ rest) n first.link = subst P is was.place in
+    let count = place_count was.setup (length (was.head ∷ was.past)) n last.link first.link (finished ∷ rest) here in
+    takes (was.head ∷ was.past) (length rest) n finished.place finished.log taken f here.0.place (omega (arith, count, here.0.place)) many (here.0.recorded.nodes ∙ was.nodes) (here.0.recorded.place ∙ sym here.0.place) (was.taken_is ∙ ap (λ ds. taken_of (was.head ∷ was.past) (length ds)) is)
 
 -- the first part can be taken
-pub first_takes : (n : ℕ) (all left : List Done) (head : Done) (taken : List (Option (Log × NodeEnd))) (f : RunFault) → all ≡ head ∷ left → AreOfOneRing n all → taken ≡ replicate n None → ¬ (PartFaultOf taken head.place head.log f)
+pub first_takes : (n : ℕ) (all left : List FinishedNode) (head : FinishedNode) (taken : List (Option (Log × NodeEnd))) (f : RunFault) → all ≡ head ∷ left → AreOfOneRing n all → taken ≡ replicate n None → ¬ (PartFaultOf taken head.place head.log f)
 first_takes n all left head taken f parts ring none =
     let s = ring.0 in
     let link = ring.2.0 in
-    let P : ℕ × List Done → Type 0 = λ z. AreInPlace s 0 link z.1 z.0 link in
-    let here : AreInPlace s 0 link (head ∷ left) n link = subst P (λ j. (ring.1 j, parts j)) ring.2.1 in
+    let P : ℕ × List FinishedNode → Type 0 = λ z. AreFinishedOnPlaces s 0 link z.1 z.0 link in
+    let here : AreFinishedOnPlaces s 0 link (head ∷ left) n link = subst P (λ j. (ring.1 j, parts j)) ring.2.1 in
     let many : n ≡ suc (length left) = omega (arith, place_count s 0 n link link (head ∷ left) here) in
     takes [] (length left) n head.place head.log taken f here.0.place (omega (arith, many, here.0.place)) (ap length none ∙ length-replicate n None) (here.0.recorded.nodes ∙ ring.1) (here.0.recorded.place ∙ sym here.0.place) (none ∙ ap (λ k. replicate k None) many)
 
 -- all parts were taken
-pub settled_round : (n : ℕ) (all left : List Done) (first last : LinkEnd) (taken : List (Option (Log × NodeEnd))) → left ≡ [] → Settling n all left first last taken → IsPrefix first.frames last.frames → PassedRound all
+pub settled_round : (n : ℕ) (all left : List FinishedNode) (first last : LinkEnd) (taken : List (Option (Log × NodeEnd))) → left ≡ [] → Settling n all left first last taken → IsPrefix first.frames last.frames → FramesPassRoundRing all
 settled_round n all left first last taken is was took =
     let whole : all ≡ was.head ∷ was.past = was.parts ∙ ap (λ ds. (was.head ∷ was.past) ++ ds) is ∙ append-nil (was.head ∷ was.past) in
     let P : List Frame → Type 0 = λ fs. IsPrefix fs last.frames in
-    subst PassedRound (sym whole) (last.frames, (subst P was.first_is took, was.passed))
+    subst FramesPassRoundRing (sym whole) (last.frames, (subst P was.first_is took, was.passed))
 
-pub settled_taken : (n : ℕ) (all left : List Done) (first last : LinkEnd) (taken : List (Option (Log × NodeEnd))) → left ≡ [] → Settling n all left first last taken → taken ≡ map part_of all
+pub settled_taken : (n : ℕ) (all left : List FinishedNode) (first last : LinkEnd) (taken : List (Option (Log × NodeEnd))) → left ≡ [] → Settling n all left first last taken → taken ≡ map part_of all
 settled_taken n all left first last taken is was =
     let whole : all ≡ was.head ∷ was.past = was.parts ∙ ap (λ ds. (was.head ∷ was.past) ++ ds) is ∙ append-nil (was.head ∷ was.past) in
     was.taken_is ∙ ap (λ ds. taken_of (was.head ∷ was.past) (length ds)) is ∙ append-nil (map part_of (was.head ∷ was.past)) ∙ ap (λ ds. map part_of ds) (sym whole)
 
 -- the run of the parts has their logs and their ends
-parts_are : (logs : List Log) (ends : List NodeEnd) (dones : List Done) → length logs ≡ length dones → length ends ≡ length dones → map part_of dones ≡ map (λ part. Some part) (zip logs ends) → (logs ≡ map (λ done. done.log) dones) × (ends ≡ map (λ done. done.end) dones)
+parts_are : (logs : List Log) (ends : List NodeEnd) (finished_nodes : List FinishedNode) → length logs ≡ length finished_nodes → length ends ≡ length finished_nodes → map part_of finished_nodes ≡ map (λ part. Some part) (zip logs ends) → (logs ≡ map (λ finished. finished.log) finished_nodes) × (ends ≡ map (λ finished. finished.end) finished_nodes)
 parts_are [] [] [] l e same = (refl, refl)
 parts_are [] [] (d ∷ ds) l e same = absurd (omega arith)
 parts_are [] (x ∷ xs) [] l e same = absurd (omega arith)
@@ -183,10 +183,10 @@ parts_are (log ∷ logs) (x ∷ xs) (d ∷ ds) l e same =
     let end_is : x ≡ d.end = sym head_is.1 in
     (ap (λ (z : Log × List Log). z.0 ∷ z.1) (λ j. (log_is j, tails.0 j)), ap (λ (z : NodeEnd × List NodeEnd). z.0 ∷ z.1) (λ j. (end_is j, tails.1 j)))
 
-pub settled_run : (dones : List Done) (run : Run) (taken : List (Option (Log × NodeEnd))) → taken ≡ map part_of dones → AreParts taken run → (run.logs ≡ map (λ done. done.log) dones) × (run.ends ≡ map (λ done. done.end) dones)
-settled_run dones run taken is parts =
-    let many : length taken ≡ length dones = ap length is ∙ length-map dones part_of in
-    parts_are run.logs run.ends dones (parts.logs ∙ many) (parts.ends ∙ many) (sym is ∙ parts.parts)
+pub settled_run : (finished_nodes : List FinishedNode) (run : Run) (taken : List (Option (Log × NodeEnd))) → taken ≡ map part_of finished_nodes → AreParts taken run → (run.logs ≡ map (λ finished. finished.log) finished_nodes) × (run.ends ≡ map (λ finished. finished.end) finished_nodes)
+settled_run finished_nodes run taken is parts =
+    let many : length taken ≡ length finished_nodes = ap length is ∙ length-map finished_nodes part_of in
+    parts_are run.logs run.ends finished_nodes (parts.logs ∙ many) (parts.ends ∙ many) (sym is ∙ parts.parts)
 
 -- one of these ends isn't `Stopped`
 own_end : (ends : List NodeEnd) → list_all is_stopped ends ≡ false → (i : ℕ) × (end : NodeEnd) × (slice_get ends i ≡ Some end) × (end ≢ Stopped)

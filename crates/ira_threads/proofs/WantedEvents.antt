@@ -24,7 +24,7 @@ use Rattle.ira_threads.specs.Recorder.{Recorder, IsRecorder, AreOfOneNode}
 use Rattle.ira_run.specs.Recording.{EndsAs, IsRecorded}
 use Rattle.ira_run.specs.declared.node_end.NodeEnd.{NodeEnd}
 use Rattle.ira_replay.specs.LocalRun.{LeadsTo}
-use Rattle.ira_threads.proofs.Frames.{sent_draw, sent_sent, sent_got, got_draw, got_sent, got_got, drawn_draw, drawn_sent, drawn_got}
+use Rattle.ira_threads.proofs.FramesOfLongerLogs.{sent_draw, sent_sent, sent_got, got_draw, got_sent, got_got, drawn_draw, drawn_sent, drawn_got}
 
 choosing_free : (p : Phase) (o : Option Message) → WantsDraw ≡ wanted_of p o → (round : ℕ) × (record { phase = p; owed = o } ≡ free (Choosing round))
 choosing_free (Choosing round) None h = (round, refl)

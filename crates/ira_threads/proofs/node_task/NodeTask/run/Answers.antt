@@ -1,15 +1,15 @@
 use Rattle.std.proofs.Common.{◌≡◌, ◌≤◌, ◌<◌, ◌∙◌, ℕ, Bool, List, All, ap, sym, subst, arith}
-use Rattle.ira_threads.specs.Seat.{Seat}
+use Rattle.ira_threads.specs.NodeTask.{NodeTask}
 use Rattle.ira_run.specs.Setup.{Setup, is_initiator, given}
 use Rattle.ira_run.specs.Recording.{IsRecorded}
 use Rattle.ira_run.proofs.Setups.{read_setup}
-use Rattle.ira_threads.proofs.seat.Seat.run.Goals as goal
+use Rattle.ira_threads.proofs.node_task.NodeTask.run.Goals as goal
 
 pub invariant_of-work : goal.invariant_of-work
 invariant_of-work g c =
     let s : Setup = c.args.setup.now in
-    let place : c.self.inside.place ≡ c.args.self.place = ap (λ (x : Seat). x.place) c.self.view_is in
-    let cap : c.self.inside.cap ≡ c.args.self.cap = ap (λ (x : Seat). x.cap) c.self.view_is in
+    let place : c.self.inside.place ≡ c.args.self.place = ap (λ (x : NodeTask). x.place) c.self.view_is in
+    let cap : c.self.inside.cap ≡ c.args.self.cap = ap (λ (x : NodeTask). x.cap) c.self.view_is in
     let nodes : c.setup.inside.nodes ≡ s.nodes = ap (λ (x : Setup). x.nodes) c.setup.view_is in
     let within : c.self.inside.place < s.nodes = omega (arith, place, c.requires.place) in
     let read = read_setup (λ v. v.items) c.setup.inside.nodes _ _ _ s c.self.inside.place c.index.result.now c.index-2.result.now c.setup.view_is c.requires.rules.lists within (rw c.from.ensures at c.index.ensures) (rw c.from-2.ensures at c.index-2.ensures) in
@@ -26,8 +26,8 @@ invariant_of-work g c =
 pub returns : goal.returns
 returns g c =
     let s : Setup = c.args.setup.now in
-    let place : c.self.inside.place ≡ c.args.self.place = ap (λ (x : Seat). x.place) c.self.view_is in
-    let cap : c.self.inside.cap ≡ s.cap = ap (λ (x : Seat). x.cap) c.self.view_is ∙ c.requires.cap in
+    let place : c.self.inside.place ≡ c.args.self.place = ap (λ (x : NodeTask). x.place) c.self.view_is in
+    let cap : c.self.inside.cap ≡ s.cap = ap (λ (x : NodeTask). x.cap) c.self.view_is ∙ c.requires.cap in
     let nodes : c.setup.inside.nodes ≡ s.nodes = ap (λ (x : Setup). x.nodes) c.setup.view_is in
     let within : c.self.inside.place < s.nodes = omega (arith, place, c.requires.place) in
     let read = read_setup (λ v. v.items) c.setup.inside.nodes _ _ _ s c.self.inside.place c.index.result.now c.index-2.result.now c.setup.view_is c.requires.rules.lists within (rw c.from.ensures at c.index.ensures) (rw c.from-2.ensures at c.index-2.ensures) in
@@ -38,8 +38,8 @@ returns g c =
     record {
       place = c.in_ok-part.ensures.place ∙ place;
       recorded = subst P (λ j. (nodes j, place j, kind j, ids j, cap j)) c.in_ok-part.ensures.recorded;
-      input = c.in_ok-part.ensures.links.0 ∙ ap (λ (x : Seat). x.input) c.self.view_is;
-      output = c.in_ok-part.ensures.links.1 ∙ ap (λ (x : Seat). x.output) c.self.view_is;
+      input = c.in_ok-part.ensures.links.0 ∙ ap (λ (x : NodeTask). x.input) c.self.view_is;
+      output = c.in_ok-part.ensures.links.1 ∙ ap (λ (x : NodeTask). x.output) c.self.view_is;
       put = c.in_ok-part.ensures.put;
       taken = c.in_ok-part.ensures.taken;
     }

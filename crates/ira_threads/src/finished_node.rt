@@ -5,16 +5,16 @@ use std::marker::Model;
 
 /// What the thread of a node gives back.
 #[derive(Drop)]
-pub struct Done<A: Allocator> {
+pub struct FinishedNode<A: Allocator> {
     pub(crate) part: NodePart<A>,
     pub(crate) input: LinkIn<A>,
     pub(crate) output: LinkOut<A>,
 }
 
-impl<A: Allocator> Model for Done<A> {
-    ghost use Rattle.ira_threads.specs.Done.{Done};
+impl<A: Allocator> Model for FinishedNode<A> {
+    ghost use Rattle.ira_threads.specs.FinishedNode.{FinishedNode};
 
-    ghost Value = { Done };
+    ghost Value = { FinishedNode };
 
     ghost view = { λ a. record { place = a.part.place; log = a.part.log; end = a.part.end; input = a.input; output = a.output } };
 }

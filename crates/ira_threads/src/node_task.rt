@@ -1,9 +1,9 @@
 ghost use Rattle.std.specs.Prelude.{◌≡◌, ◌<◌, [], IfOk};
 ghost use Rattle.ira_run.specs.Setup.{KeepsRules};
-ghost use Rattle.ira_threads.specs.Duty.{duty_of};
-ghost use Rattle.ira_threads.specs.Done.{IsDone};
+ghost use Rattle.ira_threads.specs.TaskPromise.{promise_of};
+ghost use Rattle.ira_threads.specs.FinishedNode.{KeepsPromise};
 
-use crate::done::Done;
+use crate::finished_node::FinishedNode;
 use crate::node_thread::node_body;
 use crate::node_work::NodeWork;
 use ira_event::Event;
@@ -18,7 +18,7 @@ use std::time::Clock;
 /// new links. It names no lifetime, since nothing would be known of what the thread of a closure gives
 /// that captures a value which does.
 #[derive(Drop)]
-pub struct Seat<A: Allocator> {
+pub struct NodeTask<A: Allocator> {
     pub(crate) place: u8,
     pub(crate) cap: usize,
     pub(crate) room: Vec<Event, A>,
@@ -26,30 +26,30 @@ pub struct Seat<A: Allocator> {
     pub(crate) output: LinkOut<A>,
 }
 
-impl<A: Allocator> Model for Seat<A> {
+impl<A: Allocator> Model for NodeTask<A> {
     ghost use Rattle.std.specs.Prelude.{◌≡◌, ◌≤◌, [], vec_capacity};
-    ghost use Rattle.ira_threads.specs.Seat.{Seat};
+    ghost use Rattle.ira_threads.specs.NodeTask.{NodeTask};
 
-    ghost Value = { Seat };
+    ghost Value = { NodeTask };
 
     ghost view = { λ a. record { place = a.place; cap = a.cap; input = a.input.link; output = a.output.link } };
 
     ghost invariant = { λ a. (a.room.items ≡ []) × (a.cap ≤ vec_capacity a.room) × (a.input.frames ≡ []) × (a.output.frames ≡ []) };
 }
 
-impl<A: Allocator> Seat<A> {
-    /// A seat for a node at this place, whose log is to have at most `cap` events.
+impl<A: Allocator> NodeTask<A> {
+    /// A task for a node at this place, whose log is to have at most `cap` events.
     pub(crate) fn new(
         alloc: A,
         cap: usize,
         place: u8,
         input: LinkIn<A>,
         output: LinkOut<A>,
-    ) -> Result<Seat<A>, AllocError>
+    ) -> Result<NodeTask<A>, AllocError>
         requires fresh { (input.frames ≡ []) × (output.frames ≡ []) }
-        ensures { IfOk result (λ seat. seat ≡ record { place = place; cap = cap; input = input.link; output = output.link }) }
+        ensures { IfOk result (λ task. task ≡ record { place = place; cap = cap; input = input.link; output = output.link }) }
     {
-        Ok(Seat {
+        Ok(NodeTask {
             place,
             cap,
             room: Vec::with_capacity(alloc, cap)?,
@@ -58,19 +58,19 @@ impl<A: Allocator> Seat<A> {
         })
     }
 
-    /// Runs the node of the seat.
+    /// Runs the node of the task.
     pub(crate) fn run<R: Wait + Clock, G: Gate>(
         self,
         rt: &R,
         setup: &Setup<A>,
         gate: &G,
-    ) -> Result<Done<A>, Closed>
+    ) -> Result<FinishedNode<A>, Closed>
         requires rules { KeepsRules setup.now }
         requires place { self.place < setup.now.nodes }
         requires cap { self.cap ≡ setup.now.cap }
-        ensures { IfOk result (IsDone (duty_of setup.now self)) }
+        ensures { IfOk result (KeepsPromise (promise_of setup.now self)) }
     {
-        let Seat {
+        let NodeTask {
             place,
             cap,
             room,
@@ -88,16 +88,16 @@ impl<A: Allocator> Seat<A> {
             output,
         };
         let (part, input, output) = node_body(rt, work, gate)?;
-        Ok(Done {
+        Ok(FinishedNode {
             part,
             input,
             output,
         })
     }
 
-    /// Puts one `Stop` on the link that the seat writes, and drops the seat.
+    /// Puts one `Stop` on the link that the task writes, and drops the task.
     pub(crate) fn stop<R: Wait>(self, rt: &R) {
-        let Seat { mut output, .. } = self;
+        let NodeTask { mut output, .. } = self;
         let _refused = output.put(rt, Frame::Stop);
     }
 }
