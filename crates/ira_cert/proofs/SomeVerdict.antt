@@ -25,7 +25,7 @@ use Rattle.ira_cert.proofs.Prefixes.{sound_below, sound_fewer, sound_more}
 
 module _ (logs : List Log) (case : List Conjunct) (places : HasPlacesOf logs case) where
   -- a node that is asked has candidates
-  candidates_at : (i : ℕ) → IsAsked case i → (positions : List ℕ) × CandidatesOf logs case i positions
+  pub candidates_at : (i : ℕ) → IsAsked case i → (positions : List ℕ) × CandidatesOf logs case i positions
   candidates_at i asked =
       let within : i < length logs = All-contains (λ (c : Conjunct). c.place < length logs) case (record { place = i; formula = asked.0 }) places asked.1 in
       elim (slice_get_cases logs i).1 [

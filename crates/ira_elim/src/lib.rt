@@ -5,9 +5,11 @@
 mod cut;
 mod elimination;
 mod found;
+mod laws;
 mod maker;
 
 pub use cut::Cut;
 pub use elimination::decide_fronts;
 pub use found::Found;
+pub use laws::a_case_is_absent_or_present;
 pub use maker::{decide, decide_profiled};

@@ -1,0 +1,212 @@
+-- Of logs that have an order each case is decided: as long as no node is spent and some elimination is
+-- left, it is made, and there are no more of them than candidates.
+use Rattle.std.proofs.Common.{◌≡◌, ◌≢◌, ℕ, zero, suc, ◌+◌, ◌<◌, ◌≤◌, ◌⊎◌, inl, inr, List, [], ◌∷◌, ◌++◌, Option, Some, None, length, slice_get, refl, sym, ◌∙◌, ap, arith}
+use Rattle.std.proofs.lemmas.List.{ext_get_or, length_push}
+use Rattle.std.proofs.lemmas.Option.{slice_get_within}
+use Rattle.ira_event.specs.Log.{Log}
+use Rattle.ira_pred.specs.Case.{Conjunct}
+use Rattle.ira_order.specs.Ring.{log_of}
+use Rattle.ira_order.specs.Before.{Before}
+use Rattle.ira_order.specs.Circle.{HasOrder}
+use Rattle.ira_order.specs.Matching.{Matches}
+use Rattle.ira_order.specs.Order.{IsOrder}
+use Rattle.ira_order.specs.VectorClock.{IsCount}
+use Rattle.ira_order.proofs.Ranks.{lt_cases, eq_cases}
+use Rattle.ira_order.proofs.Acyclic.{before_own}
+use Rattle.ira_order.proofs.HasCounts.{list_of, count_of, before_decided}
+use Rattle.ira_cert_text.specs.declared.cert_step.CertStep.{CertStep}
+use Rattle.ira_cert.specs.Asked.{HasDifferentPlaces, HasPlacesOf}
+use Rattle.ira_cert.specs.Fronts.{AreFronts}
+use Rattle.ira_cert.proofs.Behind.{one_fewer}
+use Rattle.ira_elim.specs.Elimination.{HasList, IsFirstLeft, IsElimination, IsGreatestCount, AreGreatestCounts}
+use Rattle.ira_elim.specs.LeastCut.{IsLeastCut}
+use Rattle.ira_elim.specs.Laws.{IsAbsent, IsPresent}
+use Rattle.ira_elim.proofs.Places.{one_first}
+use Rattle.ira_elim.proofs.SomeFronts.{some_fronts}
+use Rattle.ira_elim.proofs.Steps.{AreMade, none_made, made_more, total, total_less, absent}
+use Rattle.ira_elim.proofs.Present.{present}
+use Rattle.ira_elim.proofs.Within.{within}
+
+-- what is searched for below a number is there or not
+search_below : (P : ℕ → Type 0) (n : ℕ) → ((i : ℕ) → P i ⊎ ¬ (P i)) → ((i : ℕ) × P i) ⊎ ((i : ℕ) → i < n → ¬ (P i))
+search_below P zero test = inr (λ i l. absurd (omega arith))
+search_below P (suc n) test = elim (test n) [
+  | inl here ↦ inl (n, here)
+  | inr not_here ↦ elim (search_below P n test) [
+    | inl below ↦ inl below
+    | inr none ↦ inr (λ i l. elim (eq_cases i n) [
+      | inl e ↦ (let h : ¬ (P i) = rw e not_here in h)
+      | inr other ↦ none i (omega arith)
+    ])
+  ]
+]
+
+-- a node has a first candidate left, or none
+first_or_none : (fronts : List (Option (List ℕ))) (i : ℕ) → ((p : ℕ) × IsFirstLeft fronts i p) ⊎ ((p : ℕ) → ¬ (IsFirstLeft fronts i p))
+first_or_none fronts i = by_entry (slice_get fronts i) refl
+  where
+    by_entry : (o : Option (Option (List ℕ))) → slice_get fronts i ≡ o → ((p : ℕ) × IsFirstLeft fronts i p) ⊎ ((p : ℕ) → ¬ (IsFirstLeft fronts i p))
+    by_entry None at = inr (λ p h. (let z : None ≡ Some (Some h.0) = sym at ∙ h.1 in cc))
+    by_entry (Some None) at = inr (λ p h. (let z : Some None ≡ Some (Some h.0) = sym at ∙ h.1 in cc))
+    by_entry (Some (Some [])) at = inr (λ p h. (let z : Some (Some []) ≡ Some (Some h.0) = sym at ∙ h.1 in let e : [] ≡ h.0 = cc in let none : None ≡ Some p = ap (λ (xs : List ℕ). slice_get xs 0) e ∙ h.2 in cc))
+    by_entry (Some (Some (p ∷ left))) at = inl (p, (p ∷ left, at, refl))
+
+first_within : (fronts : List (Option (List ℕ))) (i p : ℕ) → IsFirstLeft fronts i p → i < length fronts
+first_within fronts i p h = slice_get_within fronts i (Some h.0) h.1
+
+-- some node is spent, or each has a first candidate left
+spent_or_not : (fronts : List (Option (List ℕ))) → ((i : ℕ) × (slice_get fronts i ≡ Some (Some []))) ⊎ ((i : ℕ) → HasList fronts i → (p : ℕ) × IsFirstLeft fronts i p)
+spent_or_not fronts = elim (search_below (λ i. slice_get fronts i ≡ Some (Some [])) (length fronts) (λ i. empty_or_not (slice_get fronts i))) [
+  | inl some ↦ inl some
+  | inr none ↦ inr (λ i has. first_of_list i has.0 has.1 (none i (slice_get_within fronts i (Some has.0) has.1)))
+]
+  where
+    empty_or_not : (o : Option (Option (List ℕ))) → (o ≡ Some (Some [])) ⊎ ¬ (o ≡ Some (Some []))
+    empty_or_not None = inr (λ e. cc)
+    empty_or_not (Some None) = inr (λ e. cc)
+    empty_or_not (Some (Some [])) = inl refl
+    empty_or_not (Some (Some (p ∷ left))) = inr (λ e. cc)
+
+    first_of_list : (i : ℕ) (left : List ℕ) → slice_get fronts i ≡ Some (Some left) → ¬ (slice_get fronts i ≡ Some (Some [])) → (p : ℕ) × IsFirstLeft fronts i p
+    first_of_list i [] at none = absurd (none at)
+    first_of_list i (p ∷ left) at none = (p, (p ∷ left, at, refl))
+
+module _ (logs : List Log) (order : List ℕ) (o : IsOrder logs order) (matches : Matches logs) where
+  -- some elimination is left, or none
+  module _ (fronts : List (Option (List ℕ))) where
+    eliminates : (i j : ℕ) → ((s : CertStep) × (s.node ≡ i) × (s.other ≡ j) × IsElimination logs fronts s) ⊎ ¬ ((s : CertStep) × (s.node ≡ i) × (s.other ≡ j) × IsElimination logs fronts s)
+    eliminates i j = elim (eq_cases i j) [
+      | inl same ↦ inr (λ h. h.3.differ (h.1 ∙ same ∙ sym h.2))
+      | inr differ ↦ elim (first_or_none fronts i) [
+        | inr none ↦ inr (λ h. (let front : IsFirstLeft fronts i h.0.pos = rw h.1 at h.3.front in none h.0.pos front))
+        | inl p ↦ elim (first_or_none fronts j) [
+          | inr none ↦ inr (λ h. (let front : IsFirstLeft fronts j h.0.other_pos = rw h.2 at h.3.other_front in none h.0.other_pos front))
+          | inl q ↦ elim (before_decided logs order o matches i (p.0 + 1) j q.0) [
+            | inl before ↦ inl (record { node = i; pos = p.0; other = j; other_pos = q.0 }, refl, refl, record { differ = differ; front = p.1; other_front = q.1; happened_before = before })
+            | inr not ↦ inr (λ h.
+                let front : IsFirstLeft fronts i h.0.pos = rw h.1 at h.3.front in
+                let other_front : IsFirstLeft fronts j h.0.other_pos = rw h.2 at h.3.other_front in
+                let at_p : h.0.pos ≡ p.0 = one_first fronts i i h.0.pos p.0 refl front p.1 in
+                let at_q : h.0.other_pos ≡ q.0 = one_first fronts j j h.0.other_pos q.0 refl other_front q.1 in
+                let before : Before logs i (p.0 + 1) j q.0 = rw (h.1, h.2, at_p, at_q) at h.3.happened_before in
+                not before)
+          ]
+        ]
+      ]
+    ]
+
+    eliminated_by : (i : ℕ) → ((j : ℕ) × (s : CertStep) × (s.node ≡ i) × (s.other ≡ j) × IsElimination logs fronts s) ⊎ ((s : CertStep) → s.node ≡ i → ¬ (IsElimination logs fronts s))
+    eliminated_by i = elim (search_below (λ j. (s : CertStep) × (s.node ≡ i) × (s.other ≡ j) × IsElimination logs fronts s) (length fronts) (eliminates i)) [
+      | inl found ↦ inl (found.0, found.1.0, found.1.1, found.1.2, found.1.3)
+      | inr none ↦ inr (λ s at is. none s.other (first_within fronts s.other s.other_pos is.other_front) (s, at, refl, is))
+    ]
+
+    elimination_or_not : ((s : CertStep) × IsElimination logs fronts s) ⊎ ((s : CertStep) → IsElimination logs fronts s → ⊥)
+    elimination_or_not = elim (search_below (λ i. (s : CertStep) × (s.node ≡ i) × IsElimination logs fronts s) (length fronts) (λ i. elim (eliminated_by i) [
+      | inl found ↦ inl (found.1, found.2, found.4)
+      | inr none ↦ inr (λ h. none h.0 h.1 h.2)
+    ])) [
+      | inl found ↦ inl (found.1.0, found.1.2)
+      | inr none ↦ inr (λ s is. none s.node (first_within fronts s.node s.pos is.front) (s, refl, is))
+    ]
+
+    -- the greatest of the counts of node i
+    module _ (inside : (j q : ℕ) → IsFirstLeft fronts j q → (j < length logs) × (q ≤ length (log_of logs j))) where
+      counted : (i j q : ℕ) → i < length logs → IsFirstLeft fronts j q → (n : ℕ) × IsCount logs j q i n × (i ≡ j → n ≤ q)
+      counted i j q li first =
+          let w = inside j q first in
+          let n = count_of logs order o matches j q i w.0 w.1 li in
+          (n.0, n.1, λ same. own_count i j q n.0 same n.1)
+        where
+          own_count : (i j q n : ℕ) → i ≡ j → IsCount logs j q i n → n ≤ q
+          own_count i j q zero same count = omega arith
+          own_count i j q (suc n) same count = elim ((count.events (suc n) (omega arith)).0 (omega arith)) [
+            | inl e ↦ omega (arith, e.1)
+            | inr before ↦ (let before' : Before logs j (suc n) j q = rw same at before in omega (arith, before_own logs order o j (suc n) q before'))
+          ]
+
+      record IsGreatestBelow (m i c : ℕ) : Type 0 where
+        pub upper : (j q : ℕ) → j < m → IsFirstLeft fronts j q → (n : ℕ) × IsCount logs j q i n × (n ≤ c)
+        pub reached : (c ≡ 0) ⊎ ((j : ℕ) × (q : ℕ) × IsFirstLeft fronts j q × IsCount logs j q i c × (i ≡ j → c ≤ q))
+
+      greatest_below : (m i : ℕ) → i < length logs → (c : ℕ) × IsGreatestBelow m i c
+      greatest_below zero i li = (0, record { upper = λ j q l first. absurd (omega arith); reached = inl refl })
+      greatest_below (suc m) i li =
+          let before = greatest_below m i li in
+          elim (first_or_none fronts m) [
+            | inr none ↦ (
+              before.0,
+              record {
+                upper = λ j q l first. elim (eq_cases j m) [
+                  | inl same ↦ (let first' : IsFirstLeft fronts m q = rw same at first in absurd (none q first'))
+                  | inr other ↦ before.1.upper j q (omega arith) first
+                ];
+                reached = before.1.reached;
+              },
+            )
+            | inl p ↦
+                let n = counted i m p.0 li p.1 in
+                elim (lt_cases before.0 n.0) [
+                  | inl more ↦ (
+                    n.0,
+                    record {
+                      upper = λ j q l first. elim (eq_cases j m) [
+                        | inl same ↦
+                            let e : q ≡ p.0 = one_first fronts j m q p.0 same first p.1 in
+                            rw (same, e) (n.0, n.1, omega arith)
+                        | inr other ↦ (let u = before.1.upper j q (omega arith) first in (u.0, u.1, omega (arith, u.2)))
+                      ];
+                      reached = inr (m, p.0, p.1, n.1, n.2);
+                    },
+                  )
+                  | inr less ↦ (
+                    before.0,
+                    record {
+                      upper = λ j q l first. elim (eq_cases j m) [
+                        | inl same ↦
+                            let e : q ≡ p.0 = one_first fronts j m q p.0 same first p.1 in
+                            rw (same, e) (n.0, n.1, less)
+                        | inr other ↦ before.1.upper j q (omega arith) first
+                      ];
+                      reached = before.1.reached;
+                    },
+                  )
+                ]
+          ]
+
+      greatest_counts : (cut : List ℕ) × AreGreatestCounts logs fronts cut
+      greatest_counts =
+          let cut = list_of (λ i c. IsGreatestCount logs fronts i c) (length logs) (λ i li.
+          let g = greatest_below (length fronts) i li in
+          (g.0, record { upper = λ j q first. g.1.upper j q (first_within fronts j q first) first; reached = g.1.reached })) in
+          (cut.0, record { places = cut.1; counts = cut.2 })
+
+  -- eliminations are made as long as there are any
+  module _ (case : List Conjunct) (differ : HasDifferentPlaces case) (first : List (Option (List ℕ))) (first_are : AreFronts logs case first) where
+    eliminated : (n : ℕ) (steps : List CertStep) (fronts : List (Option (List ℕ))) → AreMade logs case steps fronts → length steps + total fronts ≡ total first → total fronts < n → IsAbsent logs case ⊎ IsPresent logs case
+    eliminated zero steps fronts made count l = absurd (omega arith)
+    eliminated (suc n) steps fronts made count l = elim (spent_or_not fronts) [
+      | inl spent ↦ inl (record { steps = steps; spent = spent.0 }, absent logs case first fronts steps spent.0 first_are made count spent.1)
+      | inr left ↦ elim (elimination_or_not fronts) [
+        | inl s ↦
+            let fewer : total fronts ≡ total (one_fewer fronts s.0.node) + 1 = total_less fronts s.0.node s.0.pos s.1.front in
+            let more : List CertStep = steps ++ s.0 ∷ [] in
+            eliminated n (steps ++ s.0 ∷ []) (one_fewer fronts s.0.node) (made_more logs case steps (steps ++ s.0 ∷ []) fronts (one_fewer fronts s.0.node) s.0 differ made s.1 refl refl)
+            (omega (arith, length_push steps s.0, fewer)) (omega (arith, fewer))
+        | inr none ↦
+            let cut = greatest_counts fronts (within logs case steps fronts made.behind) in
+            inr (cut.0, present logs case steps fronts differ made cut.0 cut.1 none left)
+      ]
+    ]
+
+pub case_decided : (logs : List Log) (case : List Conjunct) → HasOrder logs → HasDifferentPlaces case → HasPlacesOf logs case → IsAbsent logs case ⊎ IsPresent logs case
+case_decided logs case has differ places =
+    let first = some_fronts logs case places in
+    eliminated logs has.1 has.2 has.0 case differ first.0 first.1 (suc (total first.0)) [] first.0 (none_made logs case [] first.0 first.1 refl) (omega arith) (omega arith)
+
+-- two least cuts lie at or below one another
+pub one_least : (logs : List Log) (case : List Conjunct) (a b : List ℕ) → IsLeastCut logs case a → IsLeastCut logs case b → a ≡ b
+one_least logs case a b least_a least_b =
+    let long_a : length a ≡ length logs = least_a.consistent.0.places in
+    ext_get_or 0 a b (omega (arith, least_b.consistent.0.places))
+    (λ i l. omega (arith, least_a.least b least_b.consistent least_b.meets i (omega arith), least_b.least a least_a.consistent least_a.meets i (omega arith)))
