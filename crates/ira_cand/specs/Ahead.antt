@@ -1,3 +1,4 @@
+-- Helpers, no definitions: what is ahead, the positions that are left of a rising list.
 use Rattle.std.specs.Prelude.{ℕ, List, [], ◌∷◌, Option, Some, None}
 
 -- the positions left: the front and then the rest; without a front there are none

@@ -1,5 +1,4 @@
-ghost use Rattle.std.specs.Prelude.{◌≡◌, ◌↔◌, ℕ, List, IsSome, IfSome, MatchOption};
-ghost use Rattle.ira_event.specs.RingSize.{IsRingSize};
+ghost use Rattle.std.specs.Prelude.{ℕ, List, MatchOption};
 ghost use Rattle.ira_event.specs.Scan.{Gives};
 ghost use Rattle.ira_cert_text.specs.CertScan.{head_at};
 ghost use Rattle.ira_cert_text.specs.CertTextFault.{BeginsWithCertHead};
@@ -18,16 +17,8 @@ pub(crate) fn take_head(text: &[u8]) -> Option<CertHead<'_>>
     ensures { MatchOption result ((nodes : ℕ) (rest : List ℕ) → ¬ (BeginsWithCertHead text.now nodes rest)) (λ head. BeginsWithCertHead text.now head.nodes head.rest.now) }
 {
     let (nodes, rest) = take_head_lines(text)?;
-    let nodes = ring_size(nodes)?;
+    let nodes = RingSize::of_number(nodes)?;
     Some(CertHead { nodes, rest })
-}
-
-/// A ring of so many nodes, where there is one.
-fn ring_size(nodes: u32) -> Option<RingSize>
-    ensures some { IsSome result ↔ IsRingSize nodes }
-    ensures value { IfSome result (λ size. size ≡ nodes) }
-{
-    RingSize::new(u8::try_from(nodes).ok()?)
 }
 
 /// The head's number as it is spelled, in range or not, and what follows the head.

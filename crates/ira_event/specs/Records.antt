@@ -1,4 +1,4 @@
--- What stands behind the head of a log text, read record by record.
+-- Helpers, no definitions: what stands behind the head of a log text, read record by record.
 use Rattle.std.specs.Prelude.{◌≡◌, ◌≢◌, ℕ, ◌+◌, true, List, ◌++◌, length, ⊤, codes, Option, Some, None, Result, Ok, Err}
 use Rattle.ira_event.specs.Limits.{MAX_RECORDS}
 use Rattle.ira_event.specs.declared.event.Event.{Event}

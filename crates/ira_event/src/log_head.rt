@@ -38,7 +38,7 @@ impl HeadLines {
         ensures some { IsSome result ↔ (IsRingSize self.nodes × (self.place < self.nodes)) }
         ensures value { IfSome result (λ head. (head.nodes ≡ self.nodes) × (head.place ≡ self.place) × (head.initiator ≡ self.initiator)) }
     {
-        let nodes = RingSize::new(u8::try_from(self.nodes).ok()?)?;
+        let nodes = RingSize::of_number(self.nodes)?;
         let place = u8::try_from(self.place).ok()?;
         if place >= nodes.get() {
             return None;

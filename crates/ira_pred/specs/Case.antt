@@ -1,5 +1,6 @@
 -- What a case asks: a conjunction of local predicates, one per node at most.
 use Rattle.std.specs.Prelude.{◌≢◌, ℕ, ◌<◌, ◌≤◌, List, [], All, AllPairs}
+use Rattle.ira_pred.specs.Limits.{MAX_DEPTH}
 use Rattle.ira_event.specs.RingSize.{IsRingSize}
 use Rattle.ira_pred.specs.Formula.{Formula, depth, HasNumbersInRange}
 
@@ -11,7 +12,7 @@ pub record Conjunct : Type 0 where
 -- it is asked of a node of the ring, and its formula keeps the limits
 pub record IsConjunct (nodes : ℕ) (c : Conjunct) : Type 0 where
   pub in_ring : c.place < nodes
-  pub deep : depth c.formula ≤ 32
+  pub deep : depth c.formula ≤ MAX_DEPTH
   pub numbers : HasNumbersInRange c.formula
 
 -- conjuncts of a ring of so many nodes, each place below those that follow

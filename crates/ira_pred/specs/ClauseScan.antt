@@ -2,6 +2,7 @@
 -- proofs tie both.
 use Rattle.std.specs.Option.{option_map}
 use Rattle.std.specs.Prelude.{ℕ, zero, suc, Bool, true, false, List, Option, Some, None, codes, nat_le, if◌then◌else◌}
+use Rattle.ira_pred.specs.Limits.{MAX_NUMBER}
 use Rattle.ira_event.specs.Scan.{kept_at, after_word, ◌>>=◌, behind}
 use Rattle.ira_pred.specs.declared.rel.Rel.{Rel}
 use Rattle.ira_pred.specs.declared.rel.Rel.TheVariants.{Less, Equal, Greater}
@@ -16,7 +17,7 @@ rel_at text =
 
 -- a number that an atom may hold, and what follows it
 abbrev pub limited_at : List ℕ → Option (ℕ × List ℕ)
-limited_at text = kept_at text >>= (λ n. if nat_le n.0 1000000 then Some n else None)
+limited_at text = kept_at text >>= (λ n. if nat_le n.0 MAX_NUMBER then Some n else None)
 
 -- a comparison, put into a formula, and what follows it
 abbrev pub comparison_at : (Rel → ℕ → Formula) → List ℕ → Option (Formula × List ℕ)

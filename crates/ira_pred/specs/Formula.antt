@@ -1,5 +1,6 @@
 -- What a clause says, without the boxes that its parts lie in.
 use Rattle.std.specs.Prelude.{ℕ, ◌+◌, ◌≤◌, max, ⊤}
+use Rattle.ira_pred.specs.Limits.{MAX_NUMBER}
 use Rattle.ira_pred.specs.declared.rel.Rel.{Rel}
 
 -- a formula over the facts of one node's state
@@ -23,10 +24,10 @@ depth (either a b) = 1 + max (depth a) (depth b)
 depth (negated a) = 1 + depth a
 depth _ = 0
 
--- each number in the formula is at most 1000000
+-- each number in the formula is at most `MAX_NUMBER`
 abbrev pub HasNumbersInRange : Formula → Type 0
-HasNumbersInRange (round rel n) = n ≤ 1000000
-HasNumbersInRange (id rel n) = n ≤ 1000000
+HasNumbersInRange (round rel n) = n ≤ MAX_NUMBER
+HasNumbersInRange (id rel n) = n ≤ MAX_NUMBER
 HasNumbersInRange (both a b) = HasNumbersInRange a × HasNumbersInRange b
 HasNumbersInRange (either a b) = HasNumbersInRange a × HasNumbersInRange b
 HasNumbersInRange (negated a) = HasNumbersInRange a

@@ -4,6 +4,7 @@ pub mod ClauseAnswer
 pub mod ClauseScan
 pub mod Formula
 pub mod FormulaCode
+pub mod Limits
 pub mod Pairs
 pub mod PlacedClause
 pub mod Question

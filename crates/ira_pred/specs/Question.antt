@@ -1,5 +1,6 @@
 -- What a question asks.
 use Rattle.std.specs.Prelude.{ℕ, ◌≤◌, List, length, All}
+use Rattle.ira_pred.specs.Limits.{MAX_CASES}
 use Rattle.ira_event.specs.RingSize.{IsRingSize}
 use Rattle.ira_pred.specs.Case.{Conjunct, IsCase}
 
@@ -8,9 +9,9 @@ pub record Asked : Type 0 where
   pub nodes : ℕ
   pub cases : List (List Conjunct)
 
--- a ring size, and 1 to 2016 cases of that ring
+-- a ring size, and 1 to `MAX_CASES` cases of that ring
 pub record IsQuestion (q : Asked) : Type 0 where
   pub size : IsRingSize q.nodes
   pub some : 1 ≤ length q.cases
-  pub count : length q.cases ≤ 2016
+  pub count : length q.cases ≤ MAX_CASES
   pub cases_are : All (IsCase q.nodes) q.cases

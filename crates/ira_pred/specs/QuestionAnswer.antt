@@ -1,5 +1,6 @@
 -- What the reader of a question's text answers.
 use Rattle.std.specs.Prelude.{◌≡◌, ◌↔◌, ℕ, ◌<◌, ◌≤◌, List, length, Result, Ok, Err}
+use Rattle.ira_pred.specs.Limits.{MAX_TEXT}
 use Rattle.ira_event.specs.Result.{UnlessErr}
 use Rattle.ira_pred.specs.declared.ask_fault.AskFault.{AskFault}
 use Rattle.ira_pred.specs.declared.ask_fault.AskFault.TheVariants.{OutOfMemory, TooLong, Head}
@@ -17,5 +18,5 @@ AnswersFaults result text = (f : AskFault) → UnlessErr result OutOfMemory ((re
 
 -- whatever memory does, a text that is too long, or else has no head, is answered so
 pub record AnswersBadFronts (result : Result Asked AskFault) (text : List ℕ) : Type 0 where
-  pub too_long : 67108864 < length text → result ≡ Err TooLong
-  pub no_head : length text ≤ 67108864 → ((nodes : ℕ) (rest : List ℕ) → ¬ (BeginsWithQuestionHead text nodes rest)) → result ≡ Err Head
+  pub too_long : MAX_TEXT < length text → result ≡ Err TooLong
+  pub no_head : length text ≤ MAX_TEXT → ((nodes : ℕ) (rest : List ℕ) → ¬ (BeginsWithQuestionHead text nodes rest)) → result ≡ Err Head

@@ -1,5 +1,6 @@
 -- What holds of questions and their texts, whoever reads or writes them.
 use Rattle.std.specs.Prelude.{◌≡◌, ◌<◌, ◌↔◌, ◌⊎◌, ℕ, List}
+use Rattle.ira_pred.specs.Limits.{MAX_DEPTH}
 use Rattle.ira_pred.specs.declared.ask_fault.AskFault.{AskFault}
 use Rattle.ira_pred.specs.Formula.{Formula, depth}
 use Rattle.ira_pred.specs.Question.{Asked, IsQuestion}
@@ -16,7 +17,7 @@ NoTextIsTwoQuestions = (text : List ℕ) (a b : Asked) → IsQuestionText text a
 
 -- the text of a clause goes too deep exactly where the clause does
 abbrev pub TextsAreAsDeepAsClauses : Type 0
-TextsAreAsDeepAsClauses = (text : List ℕ) (f : Formula) → IsClauseText text f → IsTooDeep text ↔ (32 < depth f)
+TextsAreAsDeepAsClauses = (text : List ℕ) (f : Formula) → IsClauseText text f → IsTooDeep text ↔ (MAX_DEPTH < depth f)
 
 -- the text of a question has no fault
 abbrev pub NoQuestionTextHasFaults : Type 0

@@ -1,5 +1,6 @@
 -- Helpers, no definitions: what stands behind the head of a question's text, read line by line.
 use Rattle.std.specs.Prelude.{◌≡◌, ◌≢◌, ℕ, ◌+◌, ◌<◌, ◌≤◌, ◌⊎◌, List, [], ◌++◌, length, codes, All, Result, Ok, Err}
+use Rattle.ira_pred.specs.Limits.{MAX_CASES}
 use Rattle.ira_pred.specs.declared.ask_fault.AskFault.{AskFault}
 use Rattle.ira_pred.specs.declared.ask_fault.AskFault.TheVariants.{OutOfMemory, Depth, Line}
 use Rattle.ira_pred.specs.declared.question_line.QuestionLine.{QuestionLine}
@@ -29,7 +30,7 @@ ReadsFirst old new (Err f) = NextLineFault (λ line more g. FirstLineFault line 
 abbrev pub ReadsInCase : {A : Type 0} → ℕ → Spot → LinesLeft → LinesLeft → Result (QuestionLine A) AskFault → Type 0
 ReadsInCase nodes at old new (Ok (Clause c)) =
     (line : List ℕ) × ReadsLine old new line × IsConjunctLine line (conjunct c) × IsConjunct nodes (conjunct c) × All (λ d. d.place < c.place) at.conjuncts
-ReadsInCase nodes at old new (Ok Case) = ReadsLine old new (codes "case") × (at.conjuncts ≢ []) × (at.cases + 1 < 2016)
+ReadsInCase nodes at old new (Ok Case) = ReadsLine old new (codes "case") × (at.conjuncts ≢ []) × (at.cases + 1 < MAX_CASES)
 ReadsInCase nodes at old new (Ok End) = (old.rest ≡ codes "end\n") × (at.conjuncts ≢ [])
 ReadsInCase nodes at old new (Err f) = (f ≡ OutOfMemory) ⊎ NextLineFault (CaseLineFault nodes at) old.rest f
 
@@ -42,7 +43,7 @@ pub record AreAllCases (nodes : ℕ) (text : List ℕ) (cases : List (List Conju
   pub front : List ℕ
   pub cases_are : AreCaseTexts front cases
   pub some : 1 ≤ length cases
-  pub count : length cases ≤ 2016
+  pub count : length cases ≤ MAX_CASES
   pub valid : All (IsCase nodes) cases
   pub parts : text ≡ front ++ codes "end\n"
 

@@ -1,6 +1,7 @@
 -- The text of a question, as relations between a value and its spelling.
 use Rattle.std.specs.Prelude.{◌≡◌, ℕ, ◌≤◌, List, [], ◌∷◌, ◌++◌, length, codes, decimal}
 use Rattle.std.specs.List.{flat_map}
+use Rattle.ira_pred.specs.Limits.{MAX_NUMBER, MAX_TEXT}
 use Rattle.ira_event.specs.Numeral.{IsNumeral}
 use Rattle.ira_pred.specs.declared.rel.Rel.{Rel}
 use Rattle.ira_pred.specs.declared.rel.Rel.TheVariants.{Less, Equal, Greater}
@@ -14,9 +15,9 @@ rel_sign Less = codes "<"
 rel_sign Equal = codes "="
 rel_sign Greater = codes ">"
 
--- the spelling of a comparison with n, which is at most 1000000
+-- the spelling of a comparison with n, which is at most `MAX_NUMBER`
 abbrev pub IsComparisonText : List ℕ → Rel → ℕ → Type 0
-IsComparisonText text rel n = (number : List ℕ) × (text ≡ rel_sign rel ++ codes " " ++ number) × IsNumeral number n × (n ≤ 1000000)
+IsComparisonText text rel n = (number : List ℕ) × (text ≡ rel_sign rel ++ codes " " ++ number) × IsNumeral number n × (n ≤ MAX_NUMBER)
 
 -- the spelling of a clause
 abbrev pub IsClauseText : List ℕ → Formula → Type 0
@@ -70,7 +71,7 @@ pub record IsQuestionText (text : List ℕ) (q : Asked) : Type 0 where
   pub head_is : IsQuestionHead head q.nodes
   pub cases_are : AreCaseTexts cases q.cases
   pub parts : text ≡ head ++ cases ++ codes "end\n"
-  pub short : length text ≤ 67108864
+  pub short : length text ≤ MAX_TEXT
   pub valid : IsQuestion q
 
 -- The same written out: numbers are plain decimal.
@@ -104,4 +105,4 @@ question_text q =
 
 -- the question's text isn't too long
 abbrev pub IsShort : Asked → Type 0
-IsShort q = length (question_text q) ≤ 67108864
+IsShort q = length (question_text q) ≤ MAX_TEXT

@@ -1,5 +1,6 @@
 -- The fault of a text that is no question's: the first one, line by line.
 use Rattle.std.specs.Prelude.{◌≡◌, ◌≢◌, ℕ, ◌+◌, ◌<◌, ◌≤◌, ◌⊎◌, List, [], ◌++◌, ◌==◌, length, codes, All, sum_by, count_by}
+use Rattle.ira_pred.specs.Limits.{MAX_CASES, MAX_DEPTH, MAX_TEXT}
 use Rattle.ira_event.specs.NextLine as next
 use Rattle.ira_event.specs.RingSize.{IsRingSize}
 use Rattle.ira_pred.specs.declared.ask_fault.AskFault.{AskFault}
@@ -16,9 +17,9 @@ opened text = count_by (λ c. c == 40) text
 abbrev pub closed : List ℕ → ℕ
 closed text = count_by (λ c. c == 41) text
 
--- some front of the text has more than 32 `(` over its `)`
+-- some front of the text has more than `MAX_DEPTH` `(` over its `)`
 abbrev pub IsTooDeep : List ℕ → Type 0
-IsTooDeep text = (front : List ℕ) × (back : List ℕ) × (text ≡ front ++ back) × (closed front + 32 < opened front)
+IsTooDeep text = (front : List ℕ) × (back : List ℕ) × (text ≡ front ++ back) × (closed front + MAX_DEPTH < opened front)
 
 -- the fault of a complete line that stands where the first `case` is due; it is line 3 of the text
 pub data FirstLineFault (line : List ℕ) (f : AskFault) : Type 0 where
@@ -43,7 +44,7 @@ pub data CaseLineFault (nodes : ℕ) (at : Spot) (line more : List ℕ) (f : Ask
   -- it ends the case, which asks nothing
   empty : ((line ≡ codes "case") ⊎ (line ≡ codes "end")) → at.conjuncts ≡ [] → f ≡ Empty at.number → CaseLineFault nodes at line more f
   -- it begins one case more than is allowed
-  too_many : line ≡ codes "case" → at.conjuncts ≢ [] → 2016 ≤ at.cases + 1 → f ≡ Cases → CaseLineFault nodes at line more f
+  too_many : line ≡ codes "case" → at.conjuncts ≢ [] → MAX_CASES ≤ at.cases + 1 → f ≡ Cases → CaseLineFault nodes at line more f
   -- it is none of `case`, `end`, and a number with a colon and a space behind it
   no_place :
       line ≢ codes "case" → line ≢ codes "end" → ((n : ℕ) (text : List ℕ) → ¬ (IsPlaced line n text))
@@ -81,7 +82,7 @@ pub record BeginsInCase (nodes : ℕ) (text : List ℕ) (cases : List (List Conj
   pub lines : List ℕ
   pub closed_are : AreCaseTexts closed cases
   pub lines_are : AreConjunctLines lines conjuncts
-  pub count : length cases < 2016
+  pub count : length cases < MAX_CASES
   pub cases_are : All (IsCase nodes) cases
   pub conjuncts_are : AreConjuncts nodes conjuncts
   pub parts : text ≡ closed ++ codes "case\n" ++ lines ++ rest
@@ -114,4 +115,4 @@ pub data QuestionLinesFault (text : List ℕ) (f : AskFault) : Type 0 where
 -- the fault of a text
 abbrev pub QuestionTextFault : List ℕ → AskFault → Type 0
 QuestionTextFault text f =
-    ((67108864 < length text) × (f ≡ TooLong)) ⊎ ((length text ≤ 67108864) × QuestionLinesFault text f)
+    ((MAX_TEXT < length text) × (f ≡ TooLong)) ⊎ ((length text ≤ MAX_TEXT) × QuestionLinesFault text f)

@@ -76,7 +76,7 @@ impl<'a> QuestionLines<'a> {
         cases: usize,
         asked: &[PlacedClause<A>],
     ) -> Result<QuestionLine<A>, AskFault>
-        requires count { cases < 2016 }
+        requires count { cases < MAX_CASES }
         requires rising { AllPairs (λ a b. a.place < b.place) (conjuncts asked.now) }
         ensures { ReadsInCase nodes (record { number = self.old.number; cases = cases; conjuncts = conjuncts asked.now }) self.old self.new result }
     {
