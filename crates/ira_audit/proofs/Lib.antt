@@ -3,6 +3,7 @@ pub mod LogTexts
 pub mod NeverMet
 pub mod OneAnswer
 pub mod OneAuditAnswer
+pub mod OnePosed
 pub mod Places
 pub mod RefusedTexts
 pub mod Replaying

@@ -22,7 +22,8 @@ use Rattle.ira_cand.specs.HoldsAt.{HoldsAt}
 use Rattle.ira_audit.specs.declared.answer.Answer.{Answer}
 use Rattle.ira_audit.specs.declared.answer.Answer.TheVariants.{Yes}
 use Rattle.ira_audit.specs.LogTexts.{AreLogTexts}
-use Rattle.ira_audit.specs.AuditAnswer.{Posed, AreSound, IsAuditAnswer, bad_logs, no_question, other_ring, no_certificate, other_size, other_number, unsound, yes}
+use Rattle.ira_audit.specs.AuditAnswer.{AreSound, IsAuditAnswer, not_posed, no_certificate, other_size, other_number, unsound, yes}
+use Rattle.ira_audit.specs.Posed.{Posed}
 use Rattle.ira_audit.specs.Never.{NoCutMeetsAny, IsNeverMet, NoMomentMeetsAny, Leads, NeverTwoLeaders}
 use Rattle.ira_audit.proofs.LogTexts.{one_list}
 use Rattle.ira_audit.proofs.Places.{different_places}
@@ -38,9 +39,7 @@ no_cut texts question logs asked sections posed sound = λ case cut has consiste
 
 -- the texts are answered yes
 pub yes_never : (texts : List (List ℕ)) (question certificate : List ℕ) (a : Answer) → IsAuditAnswer texts question certificate a → a ≡ Yes → IsNeverMet texts question
-yes_never texts question certificate a (bad_logs r h e) is = absurd cc
-yes_never texts question certificate a (no_question logs f good h e) is = absurd cc
-yes_never texts question certificate a (other_ring logs asked good t other e) is = absurd cc
+yes_never texts question certificate a (not_posed r h e) is = absurd cc
 yes_never texts question certificate a (no_certificate logs asked f p h e) is = absurd cc
 yes_never texts question certificate a (other_size logs asked c p t other e) is = absurd cc
 yes_never texts question certificate a (other_number logs asked c p t size other e) is = absurd cc

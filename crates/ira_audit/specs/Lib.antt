@@ -4,6 +4,7 @@ pub mod GoodLogs
 pub mod LogTexts
 pub mod LogsAnswer
 pub mod Never
+pub mod Posed
 pub mod Refusal
 pub mod Replaying
 pub mod Report

@@ -21,6 +21,8 @@ use Rattle.ira_audit.specs.declared.refusal.Refusal.TheVariants.{No, OutOfMemory
 use Rattle.ira_audit.specs.declared.answer.Answer.{Answer}
 use Rattle.ira_audit.specs.declared.answer.Answer.TheVariants as answer
 use Rattle.ira_audit.specs.LogTexts.{IsFirstTextFault}
+use Rattle.ira_audit.specs.LogsAnswer.{IsLogsAnswer}
+use Rattle.ira_audit.specs.Posed.{WhyNotPosed}
 use Rattle.ira_audit.specs.Report.{IsReportableReason}
 
 -- the refusal where no order was given
@@ -60,6 +62,14 @@ MatchRefusal (Err OutOfMemory) P Q = ⊤
 -- the reason names the first text that is no log's
 abbrev pub IsTextReason : List (List ℕ) → Reason → Type 0
 IsTextReason texts r = (number : ℕ) × (f : LogFault) × IsFirstTextFault texts number f × (r ≡ Log number f)
+
+-- the reason is the answer of the texts of logs, and holds no want of memory
+abbrev pub IsLogsReason : List (List ℕ) → Reason → Type 0
+IsLogsReason texts r = IsLogsAnswer texts (answer.No r) × IsReportableReason r
+
+-- the reason is why the question isn't posed, and holds no want of memory
+abbrev pub IsPosedReason : List (List ℕ) → List ℕ → Reason → Type 0
+IsPosedReason texts question r = WhyNotPosed texts question r × IsReportableReason r
 
 -- why the text isn't that of a question asked of a ring of so many nodes
 abbrev pub IsQuestionRefusal : List ℕ → ℕ → Reason → Type 0
