@@ -1,5 +1,7 @@
+pub mod Deciding
 pub mod Judging
 pub mod LogTexts
+pub mod MadeCertificates
 pub mod NeverMet
 pub mod OneAnswer
 pub mod OneAuditAnswer
@@ -10,3 +12,4 @@ pub mod Replaying
 pub mod SoundSections
 pub mod Stages
 pub mod TextRuns
+pub mod Zipped

@@ -27,13 +27,13 @@ use Rattle.ira_audit.specs.Posed.{Posed}
 use Rattle.ira_audit.specs.Never.{NoCutMeetsAny, IsNeverMet, NoMomentMeetsAny, Leads, NeverTwoLeaders}
 use Rattle.ira_audit.proofs.LogTexts.{one_list}
 use Rattle.ira_audit.proofs.Places.{different_places}
-use Rattle.ira_audit.proofs.SoundSections.{zipped_at, section_at}
+use Rattle.ira_audit.proofs.Zipped.{zipped_at, partner_at}
 
 -- where each section is sound for its case, no case is met
 no_cut : (texts : List (List ℕ)) (question : List ℕ) (logs : List Log) (asked : Asked) (sections : List Section) → Posed texts question logs asked → AreSound logs asked.cases sections → NoCutMeetsAny logs asked.cases
 no_cut texts question logs asked sections posed sound = λ case cut has consistent.
     let at = slice_get_read asked.cases (length asked.cases) has.0 case refl has.1 (sym has.2) in
-    let section = section_at asked.cases sections has.0 case (IsSoundSection logs) sound at in
+    let section = partner_at asked.cases sections has.0 case (IsSoundSection logs) sound at in
     sound_leaves_no_cut logs case section.0 cut (different_places asked posed.question_is.valid has.0 case at)
     (zipped_at (IsSoundSection logs) asked.cases sections has.0 case section.0 sound at section.1) consistent
 

@@ -48,6 +48,11 @@ judged_refused P texts (Ok v) s is h = absurd cc
 judged_refused P texts (Err (refusal.No x)) s is h = h
 judged_refused P texts (Err refusal.OutOfMemory) s is h = tt
 
+pub posed_refused : {T : Type 0} (P : T → Type 0) (texts : List (List ℕ)) (question : List ℕ) (r : Result T Refusal) (s : Refusal) → r ≡ Err s → Judged r (IsLogsAnswer texts) → MatchRefusal r P (IsPosedReason texts question)
+posed_refused P texts question (Ok v) s is h = absurd cc
+posed_refused P texts question (Err (refusal.No x)) s is h = (bad_logs h.0, h.1)
+posed_refused P texts question (Err refusal.OutOfMemory) s is h = tt
+
 -- a reason against the logs is one against a question about them
 pub logs_reason : (texts : List (List ℕ)) (question : List ℕ) (r : Reason) → IsLogsReason texts r → IsPosedReason texts question r
 logs_reason texts question r h = (bad_logs h.0, h.1)

@@ -1,5 +1,7 @@
 pub mod Answer
 pub mod AuditAnswer
+pub mod Findings
+pub mod FindingsText
 pub mod GoodLogs
 pub mod LogTexts
 pub mod LogsAnswer

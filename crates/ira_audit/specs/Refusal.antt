@@ -20,6 +20,8 @@ use Rattle.ira_audit.specs.declared.refusal.Refusal.{Refusal}
 use Rattle.ira_audit.specs.declared.refusal.Refusal.TheVariants.{No, OutOfMemory}
 use Rattle.ira_audit.specs.declared.answer.Answer.{Answer}
 use Rattle.ira_audit.specs.declared.answer.Answer.TheVariants as answer
+use Rattle.ira_audit.specs.declared.findings.Findings.{Findings}
+use Rattle.ira_audit.specs.declared.findings.Findings.TheVariants.{Refused}
 use Rattle.ira_audit.specs.LogTexts.{IsFirstTextFault}
 use Rattle.ira_audit.specs.LogsAnswer.{IsLogsAnswer}
 use Rattle.ira_audit.specs.Posed.{WhyNotPosed}
@@ -44,6 +46,12 @@ abbrev pub answered : {T : Type 0} → Result T Refusal → Result Answer memory
 answered (Ok _) = Ok answer.Yes
 answered (Err (No reason)) = Ok (answer.No reason)
 answered (Err OutOfMemory) = Err (record {})
+
+-- the findings of a question that was looked at
+abbrev pub decided_findings : {A : Type 0} → Result (Findings A) Refusal → Result (Findings A) memory.OutOfMemory
+decided_findings (Ok findings) = Ok findings
+decided_findings (Err (No reason)) = Ok (Refused reason)
+decided_findings (Err OutOfMemory) = Err (record {})
 
 -- where memory was wanting, nothing is said; else the fact holds of yes, or of the reason, and that
 -- reason holds no want of memory
