@@ -1,8 +1,11 @@
+pub mod Deciding
 pub mod Judging
 pub mod LogTexts
+pub mod MadeCertificates
 pub mod NeverMet
 pub mod OneAnswer
 pub mod OneAuditAnswer
+pub mod OnePosed
 pub mod Places
 pub mod RefusedTexts
 pub mod Replaying
@@ -12,3 +15,4 @@ pub mod SoundSections
 pub mod Stages
 pub mod Taking
 pub mod TextRuns
+pub mod Zipped

@@ -21,7 +21,8 @@ use Rattle.ira_audit.specs.declared.reason.Reason.TheVariants as reason
 use Rattle.ira_audit.specs.declared.answer.Answer.{Answer}
 use Rattle.ira_audit.specs.declared.answer.Answer.TheVariants.{Yes, No}
 use Rattle.ira_audit.specs.GoodLogs.{AreGoodLogs}
-use Rattle.ira_audit.specs.AuditAnswer.{Posed, AreSound, IsFirstUnsound, IsAuditAnswer, bad_logs, no_question, other_ring, no_certificate, other_size, other_number, unsound, yes}
+use Rattle.ira_audit.specs.Posed.{Posed, bad_logs, no_question, other_ring}
+use Rattle.ira_audit.specs.AuditAnswer.{AreSound, IsFirstUnsound, IsAuditAnswer, not_posed, no_certificate, other_size, other_number, unsound, yes}
 use Rattle.ira_audit.proofs.Places.{different_places, places_of_logs}
 use Rattle.ira_audit.proofs.SomeLogsAnswer.{bad_or_good}
 
@@ -73,9 +74,9 @@ module _ (texts : List (List ℕ)) (question certificate : List ℕ) where
   of_question : (logs : List Log) → AreGoodLogs texts logs → HasAnswer
   unfolding HasAnswer
   of_question logs good = elim (each_text question) [
-    | inr h ↦ (No (reason.Question h.0), no_question logs h.0 good h.1 refl)
+    | inr h ↦ (No (reason.Question h.0), not_posed (reason.Question h.0) (no_question logs h.0 good h.1 refl) refl)
     | inl q ↦ elim (eq_cases q.0.nodes (length logs)) [
-      | inr other ↦ (No reason.QuestionSize, other_ring logs q.0 good q.1 other refl)
+      | inr other ↦ (No reason.QuestionSize, not_posed reason.QuestionSize (other_ring logs q.0 good q.1 other refl) refl)
       | inl ring ↦ of_certificate logs q.0 (record { logs_are = good; question_is = q.1; ring = ring })
     ]
   ]
@@ -83,6 +84,6 @@ module _ (texts : List (List ℕ)) (question certificate : List ℕ) where
   pub some_audit_answer : (a : Answer) × IsAuditAnswer texts question certificate a
   unfolding HasAnswer
   some_audit_answer = elim (bad_or_good texts) [
-    | inl bad ↦ (No bad.0, bad_logs bad.0 bad.1 refl)
+    | inl bad ↦ (No bad.0, not_posed bad.0 (bad_logs bad.1) refl)
     | inr good ↦ of_question good.0 good.1
   ]

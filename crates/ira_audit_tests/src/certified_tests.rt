@@ -1,4 +1,6 @@
-use crate::samples::{ELECTION_0, ELECTION_1, LONE_0, LONE_1, LONE_2, TIE_0, TIE_1};
+use crate::samples::{
+    ELECTION, ELECTION_0, LEADER_AND_ACTIVE, LONE_0, LONE_1, LONE_2, TIE_0, TIE_1, TWO_STEPS,
+};
 use ira_audit::{audit, write_report};
 use ira_event::MemorySink;
 use ira_links::OpenGate;
@@ -23,17 +25,10 @@ where
     }
 }
 
-const ELECTION: &[&[u8]] = &[ELECTION_0, ELECTION_1];
-
 const BOTH_LEAD: &[u8] = b"irask 1\nnodes 2\ncase\n0: leader\n1: leader\nend\n";
-
-const LEADER_AND_ACTIVE: &[u8] = b"irask 1\nnodes 2\ncase\n0: leader\n1: active\nend\n";
 
 /// The certificate of one section without steps.
 const NODE_1_SPENT: &[u8] = b"ircert 1\nnodes 2\nsection\nspent 1\nend\n";
-
-const TWO_STEPS: &[u8] =
-    b"ircert 1\nnodes 2\nsection\ndrop 1 1 by 0 4\ndrop 1 2 by 0 4\nspent 1\nend\n";
 
 #[test]
 fn section_without_steps(rt: HostRuntime) {

@@ -1,4 +1,4 @@
-//! Texts of logs that several tests judge.
+//! Texts that several tests judge.
 
 /// An election of two nodes that both initiate.
 pub const ELECTION_0: &[u8] = b"irlog 1\nnodes 2\nplace 0\nstart initiator\n\
@@ -14,6 +14,15 @@ pub const ELECTION_1: &[u8] = b"irlog 1\nnodes 2\nplace 1\nstart initiator\n\
     recv 1 2 1 clean\n\
     send 1 2 2 clean\n\
     end 4\n";
+
+pub const ELECTION: &[&[u8]] = &[ELECTION_0, ELECTION_1];
+
+/// Of the election: whether its leader leads while the other node is active.
+pub const LEADER_AND_ACTIVE: &[u8] = b"irask 1\nnodes 2\ncase\n0: leader\n1: active\nend\n";
+
+/// The certificate that it never does.
+pub const TWO_STEPS: &[u8] =
+    b"ircert 1\nnodes 2\nsection\ndrop 1 1 by 0 4\ndrop 1 2 by 0 4\nspent 1\nend\n";
 
 /// An election of two nodes that draw the same ID first.
 pub const TIE_0: &[u8] = b"irlog 1\nnodes 2\nplace 0\nstart initiator\n\

@@ -1,0 +1,99 @@
+use crate::samples::{ELECTION, ELECTION_0, LEADER_AND_ACTIVE, LONE_0, LONE_1, LONE_2, TWO_STEPS};
+use ira_audit::{Answer, Findings, audit, decide_all, write_findings};
+use ira_cert_text::write_cert;
+use ira_event::{MemorySink, RingSize};
+use ira_links::OpenGate;
+use ira_pred::{pairs_question, write_question};
+use std::alloc::Global;
+use std::process::Abort;
+
+/// Decides the question of the texts, and compares the lines of what is found.
+fn assert_found(
+    rt: &(impl Abort + AllocGlobal),
+    texts: &[&[u8]],
+    question: &[u8],
+    lines: &str,
+) -> Findings<Global> {
+    let findings = decide_all(rt.alloc(), texts, question).expect(rt, "memory");
+    let mut sink = MemorySink::new(rt.alloc());
+    assert_eq!(rt; write_findings(&findings, &mut sink), Ok(()));
+    assert_eq!(rt; sink.bytes(), lines.as_bytes());
+    findings
+}
+
+/// The same, where no certificate is made of it.
+fn assert_uncertified(
+    rt: &(impl Abort + AllocGlobal),
+    texts: &[&[u8]],
+    question: &[u8],
+    lines: &str,
+) {
+    let findings = assert_found(rt, texts, question, lines);
+    assert!(rt; findings.into_certificate().expect(rt, "memory").is_none());
+}
+
+/// The text of the certificate that is made of the findings.
+fn certificate_text(
+    rt: &(impl Abort + AllocGlobal),
+    findings: Findings<Global>,
+) -> MemorySink<Global> {
+    let made = findings.into_certificate().expect(rt, "memory");
+    let certificate = made.expect(rt, "each case is absent");
+    let mut sink = MemorySink::new(rt.alloc());
+    assert_eq!(rt; write_cert(&certificate, &mut sink), Ok(()));
+    sink
+}
+
+#[test]
+fn made_certificate(rt: HostRuntime) {
+    let line = "case 0: absent, 2 steps, node 1 spent\n";
+    let findings = assert_found(&rt, ELECTION, LEADER_AND_ACTIVE, line);
+    assert_eq!(rt; certificate_text(&rt, findings).bytes(), TWO_STEPS);
+}
+
+#[test]
+fn two_cases(rt: HostRuntime) {
+    let question = b"irask 1\nnodes 2\n\
+        case\n0: leader\n1: active\n\
+        case\n0: active\n1: passive\n\
+        end\n";
+    let lines = "case 0: absent, 2 steps, node 1 spent\ncase 1: present at 2 3\n";
+    assert_uncertified(&rt, ELECTION, question, lines);
+}
+
+#[test]
+fn pairs_of_three(rt: HostRuntime) {
+    let texts: &[&[u8]] = &[LONE_0, LONE_1, LONE_2];
+    let pairs = pairs_question(rt.alloc(), RingSize::new(3).unwrap()).expect(&rt, "memory");
+    let mut question = MemorySink::new(rt.alloc());
+    assert_eq!(rt; write_question(&pairs, &mut question), Ok(()));
+    let lines = "case 0: absent, 0 steps, node 1 spent\n\
+        case 1: absent, 0 steps, node 2 spent\n\
+        case 2: absent, 0 steps, node 1 spent\n";
+    let findings = assert_found(&rt, texts, question.bytes(), lines);
+    let text = certificate_text(&rt, findings);
+    let answer = audit(
+        &rt,
+        rt.alloc(),
+        texts,
+        question.bytes(),
+        text.bytes(),
+        2,
+        &OpenGate,
+    );
+    assert_eq!(rt; answer, Ok(Answer::Yes));
+}
+
+#[test]
+fn refusals(rt: HostRuntime) {
+    let cut = b"irlog 1\nnodes 2\nplace 1\nstart passive\n";
+    assert_uncertified(
+        &rt,
+        &[ELECTION_0, cut],
+        LEADER_AND_ACTIVE,
+        "no: log 1: cut\n",
+    );
+    assert_uncertified(&rt, ELECTION, b"irask 2\n", "no: question: head\n");
+    let other = b"irask 1\nnodes 3\ncase\n0: leader\n1: leader\nend\n";
+    assert_uncertified(&rt, ELECTION, other, "no: question: other ring size\n");
+}
