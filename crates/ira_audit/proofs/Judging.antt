@@ -42,7 +42,7 @@ answered_reportable P (Err refusal.OutOfMemory) h = tt
 
 -- ---- texts of several logs
 
-module _ (texts : List (List ℕ)) (logs : List Log) (are : AreLogTexts texts logs) (r : Result (Unit {0}) Refusal) where
+module _ {U : Type 0} (texts : List (List ℕ)) (logs : List Log) (are : AreLogTexts texts logs) (r : Result U Refusal) where
   pub heads_refused : (f : HeadFault) → r ≡ Err (refusal.No (reason.Heads f)) → HeadFaultOf logs f → Judged r (IsLogsAnswer texts)
   heads_refused f is h = rw is (no_ring logs f are h refl, tt)
 

@@ -1,11 +1,15 @@
+pub mod Deciding
 pub mod Judging
 pub mod LogTexts
+pub mod MadeCertificates
 pub mod NeverMet
 pub mod OneAnswer
 pub mod OneAuditAnswer
+pub mod OnePosed
 pub mod Places
 pub mod RefusedTexts
 pub mod Replaying
 pub mod SoundSections
 pub mod Stages
 pub mod TextRuns
+pub mod Zipped

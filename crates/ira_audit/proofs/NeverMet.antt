@@ -22,25 +22,24 @@ use Rattle.ira_cand.specs.HoldsAt.{HoldsAt}
 use Rattle.ira_audit.specs.declared.answer.Answer.{Answer}
 use Rattle.ira_audit.specs.declared.answer.Answer.TheVariants.{Yes}
 use Rattle.ira_audit.specs.LogTexts.{AreLogTexts}
-use Rattle.ira_audit.specs.AuditAnswer.{Posed, AreSound, IsAuditAnswer, bad_logs, no_question, other_ring, no_certificate, other_size, other_number, unsound, yes}
+use Rattle.ira_audit.specs.AuditAnswer.{AreSound, IsAuditAnswer, not_posed, no_certificate, other_size, other_number, unsound, yes}
+use Rattle.ira_audit.specs.Posed.{Posed}
 use Rattle.ira_audit.specs.Never.{NoCutMeetsAny, IsNeverMet, NoMomentMeetsAny, Leads, NeverTwoLeaders}
 use Rattle.ira_audit.proofs.LogTexts.{one_list}
 use Rattle.ira_audit.proofs.Places.{different_places}
-use Rattle.ira_audit.proofs.SoundSections.{zipped_at, section_at}
+use Rattle.ira_audit.proofs.Zipped.{zipped_at, partner_at}
 
 -- where each section is sound for its case, no case is met
 no_cut : (texts : List (List ℕ)) (question : List ℕ) (logs : List Log) (asked : Asked) (sections : List Section) → Posed texts question logs asked → AreSound logs asked.cases sections → NoCutMeetsAny logs asked.cases
 no_cut texts question logs asked sections posed sound = λ case cut has consistent.
     let at = slice_get_read asked.cases (length asked.cases) has.0 case refl has.1 (sym has.2) in
-    let section = section_at asked.cases sections has.0 case (IsSoundSection logs) sound at in
+    let section = partner_at asked.cases sections has.0 case (IsSoundSection logs) sound at in
     sound_leaves_no_cut logs case section.0 cut (different_places asked posed.question_is.valid has.0 case at)
     (zipped_at (IsSoundSection logs) asked.cases sections has.0 case section.0 sound at section.1) consistent
 
 -- the texts are answered yes
 pub yes_never : (texts : List (List ℕ)) (question certificate : List ℕ) (a : Answer) → IsAuditAnswer texts question certificate a → a ≡ Yes → IsNeverMet texts question
-yes_never texts question certificate a (bad_logs r h e) is = absurd cc
-yes_never texts question certificate a (no_question logs f good h e) is = absurd cc
-yes_never texts question certificate a (other_ring logs asked good t other e) is = absurd cc
+yes_never texts question certificate a (not_posed r h e) is = absurd cc
 yes_never texts question certificate a (no_certificate logs asked f p h e) is = absurd cc
 yes_never texts question certificate a (other_size logs asked c p t other e) is = absurd cc
 yes_never texts question certificate a (other_number logs asked c p t size other e) is = absurd cc

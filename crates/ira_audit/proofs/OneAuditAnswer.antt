@@ -1,33 +1,25 @@
 -- Texts of logs, of a question and of a certificate have at most one answer.
 use Rattle.std.proofs.Common.{◌≡◌, ◌≢◌, ℕ, List, [], ◌∷◌, Some, length, refl, sym, ap, ◌∙◌, inl, inr, suc}
 use Rattle.std.specs.Prelude.{slice_get}
-use Rattle.std.specs.List.{AllZip}
 use Rattle.ira_event.specs.Log.{Log}
 use Rattle.ira_pred.specs.Case.{Conjunct}
 use Rattle.ira_pred.specs.Question.{Asked}
-use Rattle.ira_pred.specs.QuestionText.{IsQuestionText}
-use Rattle.ira_pred.specs.QuestionTextFault.{QuestionTextFault}
-use Rattle.ira_pred.proofs.QuestionAnswers as ask
-use Rattle.ira_pred.proofs.QuestionTexts.{one_question}
 use Rattle.ira_cert_text.specs.Certificate.{Section, Certificate}
 use Rattle.ira_cert_text.specs.CertText.{IsCertText}
 use Rattle.ira_cert_text.specs.CertTextFault.{CertTextFault}
 use Rattle.ira_cert_text.proofs.CertAnswers as cert
 use Rattle.ira_cert.specs.declared.section_fault.SectionFault.{SectionFault}
 use Rattle.ira_cert.specs.Asked.{HasDifferentPlaces}
-use Rattle.ira_audit.specs.declared.reason.Reason.{Reason}
 use Rattle.ira_audit.specs.declared.reason.Reason.TheVariants as reason
 use Rattle.ira_audit.specs.declared.answer.Answer.{Answer}
 use Rattle.ira_audit.specs.declared.answer.Answer.TheVariants.{Yes, No}
-use Rattle.ira_audit.specs.GoodLogs.{AreGoodLogs}
-use Rattle.ira_audit.specs.LogsAnswer.{IsLogsAnswer}
-use Rattle.ira_audit.specs.LogsAnswer as logs_answer
-use Rattle.ira_audit.specs.AuditAnswer.{AreSound, IsFirstUnsound, IsAuditAnswer, bad_logs, no_question, other_ring, no_certificate, other_size, other_number, unsound, yes}
-use Rattle.ira_audit.proofs.LogTexts.{one_list}
-use Rattle.ira_audit.proofs.OneAnswer.{one_logs_answer}
+use Rattle.ira_audit.specs.AuditAnswer.{AreSound, IsFirstUnsound, IsAuditAnswer, not_posed, no_certificate, other_size, other_number, unsound, yes}
+use Rattle.ira_audit.specs.Posed.{Posed, WhyNotPosed}
+use Rattle.ira_audit.proofs.OnePosed.{one_reason, posed_or_not, one_posed}
 use Rattle.ira_audit.proofs.Places.{different_places}
 use Rattle.ira_audit.proofs.SoundSections.{one_first_unsound, sound_or_first_unsound}
 use Rattle.ira_audit.proofs.Stages.{Stage, one_of_stage}
+use Rattle.ira_audit.proofs.Zipped.{zipped_length}
 
 -- ---- the stages, the last one first
 
@@ -54,43 +46,22 @@ abbrev CertificateStage : List ℕ → List Log → List (List Conjunct) → Ans
 CertificateStage certificate logs cases =
     Stage (CertTextFault certificate) (λ f. No (reason.Certificate f)) (IsCertText certificate) (SizeStage logs cases)
 
--- whether the question is asked of the ring
-abbrev RingStage : List ℕ → List Log → Asked → Answer → Type 0
-RingStage certificate logs asked =
-    Stage (λ (x : Unit {0}). asked.nodes ≢ length logs) (λ x. No reason.QuestionSize)
-    (λ (y : Unit {0}). asked.nodes ≡ length logs) (λ y. CertificateStage certificate logs asked.cases)
-
--- whether the text is a question's
-abbrev QuestionStage : List ℕ → List ℕ → List Log → Answer → Type 0
-QuestionStage question certificate logs =
-    Stage (QuestionTextFault question) (λ f. No (reason.Question f)) (IsQuestionText question) (RingStage certificate logs)
-
--- whether the logs are good
-abbrev LogsStage : List (List ℕ) → List ℕ → List ℕ → Answer → Type 0
-LogsStage texts question certificate =
-    Stage (λ r. IsLogsAnswer texts (No r)) No (AreGoodLogs texts) (QuestionStage question certificate)
+-- whether the question is posed
+abbrev PosedStage : List (List ℕ) → List ℕ → List ℕ → Answer → Type 0
+PosedStage texts question certificate =
+    Stage (WhyNotPosed texts question) No (λ (y : List Log × Asked). Posed texts question y.0 y.1) (λ y. CertificateStage certificate y.0 y.1.cases)
 
 -- an answer is one of the stages
-staged : (texts : List (List ℕ)) (question certificate : List ℕ) (a : Answer) → IsAuditAnswer texts question certificate a → LogsStage texts question certificate a
-staged texts question certificate a (bad_logs r h e) = inl (r, h, e)
-staged texts question certificate a (no_question logs f good h e) = inr (logs, good, inl (f, h, e))
-staged texts question certificate a (other_ring logs asked good is other e) = inr (logs, good, inr (asked, is, inl (tt, other, e)))
-staged texts question certificate a (no_certificate logs asked f p h e) =
-    inr (logs, p.logs_are, inr (asked, p.question_is, inr (tt, p.ring, inl (f, h, e))))
-staged texts question certificate a (other_size logs asked c p is other e) =
-    inr (logs, p.logs_are, inr (asked, p.question_is, inr (tt, p.ring, inr (c, is, inl (tt, other, e)))))
+staged : (texts : List (List ℕ)) (question certificate : List ℕ) (a : Answer) → IsAuditAnswer texts question certificate a → PosedStage texts question certificate a
+staged texts question certificate a (not_posed r h e) = inl (r, h, e)
+staged texts question certificate a (no_certificate logs asked f p h e) = inr ((logs, asked), p, inl (f, h, e))
+staged texts question certificate a (other_size logs asked c p is other e) = inr ((logs, asked), p, inr (c, is, inl (tt, other, e)))
 staged texts question certificate a (other_number logs asked c p is size other e) =
-    inr (logs, p.logs_are, inr (asked, p.question_is, inr (tt, p.ring, inr (c, is, inr (tt, size, inl (tt, other, e))))))
+    inr ((logs, asked), p, inr (c, is, inr (tt, size, inl (tt, other, e))))
 staged texts question certificate a (unsound logs asked c i f p is size number h e) =
-    inr (logs, p.logs_are, inr (asked, p.question_is, inr (tt, p.ring, inr (c, is, inr (tt, size, inr (tt, number, inl ((i, f), h, e)))))))
+    inr ((logs, asked), p, inr (c, is, inr (tt, size, inr (tt, number, inl ((i, f), h, e)))))
 staged texts question certificate a (yes logs asked c p is size sound e) =
-    inr (logs, p.logs_are, inr (asked, p.question_is, inr (tt, p.ring, inr (c, is, inr (tt, size, inr (tt, AllZip-length _ _ _ sound, inr (tt, sound, e)))))))
-  where
-    AllZip-length : {X Y : Type 0} (R : X → Y → Type 0) (xs : List X) (ys : List Y) → AllZip R xs ys → length ys ≡ length xs
-    AllZip-length R [] [] h = refl
-    AllZip-length R [] (y ∷ ys) h = absurd h
-    AllZip-length R (x ∷ xs) [] h = absurd h
-    AllZip-length R (x ∷ xs) (y ∷ ys) h = ap suc (AllZip-length R xs ys h.1)
+    inr ((logs, asked), p, inr (c, is, inr (tt, size, inr (tt, zipped_length _ _ _ sound, inr (tt, sound, e)))))
 
 -- ---- each stage has one answer
 
@@ -115,22 +86,9 @@ module _ (logs : List Log) (cases : List (List Conjunct)) (differ : (i : ℕ) (c
   one_certificate : (certificate : List ℕ) (a b : Answer) → CertificateStage certificate logs cases a → CertificateStage certificate logs cases b → a ≡ b
   one_certificate certificate = one_of_stage _ _ _ _ (cert.one_fault certificate) (λ f c h is. cert.certificate_or_fault certificate c f is h) (cert.one_certificate certificate) (λ c a b h. one_size c a b)
 
-one_ring : (certificate : List ℕ) (logs : List Log) (asked : Asked) (question : List ℕ) → IsQuestionText question asked
-    → (a b : Answer) → RingStage certificate logs asked a → RingStage certificate logs asked b → a ≡ b
-one_ring certificate logs asked question is = one_of_stage _ _ _ _ (λ x z h k. one_unit x z) (λ x y other same. other same) (λ y z h k. one_unit y z)
-    (λ y a b h. one_certificate logs asked.cases (different_places asked is.valid) certificate a b)
-
-one_asked : (question certificate : List ℕ) (logs : List Log) (a b : Answer) → QuestionStage question certificate logs a → QuestionStage question certificate logs b → a ≡ b
-one_asked question certificate logs = one_of_stage _ _ _ _ (ask.one_fault question) (λ f q h is. ask.question_or_fault question q f is h) (one_question question)
-    (λ q a b is. one_ring certificate logs q question is a b)
-
-one_reason : (texts : List (List ℕ)) (r s : Reason) → IsLogsAnswer texts (No r) → IsLogsAnswer texts (No s) → r ≡ s
-one_reason texts r s h k = let same = one_logs_answer texts (No r) (No s) h k in cc
-
-bad_or_good : (texts : List (List ℕ)) (r : Reason) (logs : List Log) → IsLogsAnswer texts (No r) → AreGoodLogs texts logs → ⊥
-bad_or_good texts r logs h good = let same = one_logs_answer texts (No r) Yes h (logs_answer.yes logs good refl) in cc
-
 pub one_audit_answer : (texts : List (List ℕ)) (question certificate : List ℕ) (a b : Answer) → IsAuditAnswer texts question certificate a → IsAuditAnswer texts question certificate b → a ≡ b
 one_audit_answer texts question certificate a b h k =
-    one_of_stage _ _ _ _ (one_reason texts) (bad_or_good texts) (λ logs others g o. one_list texts logs others g.texts_are o.texts_are)
-    (λ logs x y good. one_asked question certificate logs x y) a b (staged texts question certificate a h) (staged texts question certificate b k)
+    one_of_stage _ _ _ _ (one_reason texts question) (λ r y bad p. posed_or_not texts question r y.0 y.1 bad p)
+    (λ y z p q. let same = one_posed texts question y.0 z.0 y.1 z.1 p q in ap (λ logs. (logs, y.1)) same.0 ∙ ap (λ asked. (z.0, asked)) same.1)
+    (λ y x z p. one_certificate y.0 y.1.cases (different_places y.1 p.question_is.valid) certificate x z) a b
+    (staged texts question certificate a h) (staged texts question certificate b k)

@@ -18,11 +18,12 @@ use Rattle.ira_audit.specs.declared.refusal.Refusal.{Refusal}
 use Rattle.ira_audit.specs.declared.refusal.Refusal.TheVariants as refusal
 use Rattle.ira_audit.specs.declared.answer.Answer.{Answer}
 use Rattle.ira_audit.specs.declared.answer.Answer.TheVariants.{No}
-use Rattle.ira_audit.specs.AuditAnswer.{Posed, AreSound, IsFirstUnsound, IsAuditAnswer, bad_logs, no_question, other_ring}
+use Rattle.ira_audit.specs.AuditAnswer.{AreSound, IsFirstUnsound, IsAuditAnswer, not_posed}
 use Rattle.ira_audit.specs.AuditAnswer as answer
 use Rattle.ira_audit.specs.GoodLogs.{AreGoodLogs}
 use Rattle.ira_audit.specs.LogsAnswer.{IsLogsAnswer, no_log}
-use Rattle.ira_audit.specs.Refusal.{Judged, MatchRefusal, RefusesQuestion, RefusesCertificate, IsTextReason, IsQuestionRefusal, IsCertificateRefusal, no_certificate, other_size, other_number}
+use Rattle.ira_audit.specs.Posed.{Posed, bad_logs, no_question, other_ring}
+use Rattle.ira_audit.specs.Refusal.{Judged, MatchRefusal, RefusesQuestion, RefusesCertificate, IsTextReason, IsLogsReason, IsPosedReason, IsQuestionRefusal, IsCertificateRefusal, no_certificate, other_size, other_number}
 use Rattle.ira_audit.specs.Report.{IsReportableReason}
 use Rattle.ira_audit.proofs.Replaying.{text_fault_other}
 
@@ -38,14 +39,38 @@ text_refused texts r s is h = rw is (text_reason texts s h)
 -- what is said of logs alone is said of them with a question and a certificate
 pub logs_refused : {T : Type 0} (texts : List (List ℕ)) (question certificate : List ℕ) (r : Result T Refusal) (s : Refusal) → r ≡ Err s → Judged r (IsLogsAnswer texts) → Judged r (IsAuditAnswer texts question certificate)
 logs_refused texts question certificate (Ok v) s is h = absurd cc
-logs_refused texts question certificate (Err (refusal.No x)) s is h = (bad_logs x h.0 refl, h.1)
+logs_refused texts question certificate (Err (refusal.No x)) s is h = (not_posed x (bad_logs h.0) refl, h.1)
 logs_refused texts question certificate (Err refusal.OutOfMemory) s is h = tt
+
+-- it is a reason against them
+pub judged_refused : {T : Type 0} (P : T → Type 0) (texts : List (List ℕ)) (r : Result T Refusal) (s : Refusal) → r ≡ Err s → Judged r (IsLogsAnswer texts) → MatchRefusal r P (IsLogsReason texts)
+judged_refused P texts (Ok v) s is h = absurd cc
+judged_refused P texts (Err (refusal.No x)) s is h = h
+judged_refused P texts (Err refusal.OutOfMemory) s is h = tt
+
+pub posed_refused : {T : Type 0} (P : T → Type 0) (texts : List (List ℕ)) (question : List ℕ) (r : Result T Refusal) (s : Refusal) → r ≡ Err s → Judged r (IsLogsAnswer texts) → MatchRefusal r P (IsPosedReason texts question)
+posed_refused P texts question (Ok v) s is h = absurd cc
+posed_refused P texts question (Err (refusal.No x)) s is h = (bad_logs h.0, h.1)
+posed_refused P texts question (Err refusal.OutOfMemory) s is h = tt
+
+-- a reason against the logs is one against a question about them
+pub logs_reason : (texts : List (List ℕ)) (question : List ℕ) (r : Reason) → IsLogsReason texts r → IsPosedReason texts question r
+logs_reason texts question r h = (bad_logs h.0, h.1)
+
+-- why a question isn't posed is said of it with a certificate
+pub posed_reason : (texts : List (List ℕ)) (question certificate : List ℕ) (r : Reason) → IsPosedReason texts question r → IsAuditAnswer texts question certificate (No r) × IsReportableReason r
+posed_reason texts question certificate r h = (not_posed r h.0 refl, h.1)
 
 -- a refusal that is handed on
 pub handed_on : {T U : Type 0} (P : T → Type 0) (Q : Reason → Type 0) (S : Answer → Type 0) (r : Result U Refusal) (s : Refusal) → r ≡ Err s → MatchRefusal {T = T} (Err s) P Q
     → ((x : Reason) → Q x → S (No x) × IsReportableReason x) → Judged r S
 handed_on P Q S r (refusal.No x) is h so = rw is (so x h)
 handed_on P Q S r refusal.OutOfMemory is h so = rw is tt
+
+pub refused_again : {T U : Type 0} (P : T → Type 0) (Q : Reason → Type 0) (S : U → Type 0) (V : Reason → Type 0) (r : Result U Refusal) (s : Refusal) → r ≡ Err s → MatchRefusal {T = T} (Err s) P Q
+    → ((x : Reason) → Q x → V x) → MatchRefusal r S V
+refused_again P Q S V r (refusal.No x) is h so = rw is (so x h)
+refused_again P Q S V r refusal.OutOfMemory is h so = rw is tt
 
 -- a text is no question's
 pub question_refused : {T : Type 0} (P : T → Type 0) (text : List ℕ) (nodes : ℕ) (r : Result T Refusal) (s : Refusal) (f : AskFault) → r ≡ Err s → RefusesQuestion f s → (f ≢ ask.OutOfMemory → QuestionTextFault text f)
@@ -66,20 +91,19 @@ abbrev pub SectionsJudged : List Log → List (List Conjunct) → List CertSecti
 SectionsJudged logs cases sections r =
     MatchRefusal r (λ _. AreSound logs cases sections) (λ x. (i : ℕ) × (f : SectionFault) × (x ≡ Section i f) × IsFirstUnsound logs cases sections i f)
 
-module _ (texts : List (List ℕ)) (question certificate : List ℕ) (logs : List Log) where
-  pub question_reason : AreGoodLogs texts logs → (r : Reason) → IsQuestionRefusal question (length logs) r → IsAuditAnswer texts question certificate (No r) × IsReportableReason r
-  question_reason good r (inl h) = rw h.3 (no_question logs h.0 good h.1 refl, h.2)
-  question_reason good r (inr h) = rw h.3 (other_ring logs h.0 good h.1 h.2 refl, tt)
+pub question_reason : (texts : List (List ℕ)) (question : List ℕ) (logs : List Log) → AreGoodLogs texts logs → (r : Reason) → IsQuestionRefusal question (length logs) r → IsPosedReason texts question r
+question_reason texts question logs good r (inl h) = rw h.3 (no_question logs h.0 good h.1 refl, h.2)
+question_reason texts question logs good r (inr h) = rw h.3 (other_ring logs h.0 good h.1 h.2 refl, tt)
 
-  module _ (asked : Asked) (posed : Posed texts question logs asked) where
-    pub certificate_reason : (r : Reason) → IsCertificateRefusal certificate (length logs) (length asked.cases) r → IsAuditAnswer texts question certificate (No r) × IsReportableReason r
-    certificate_reason r (no_certificate f fault other e) = rw e (answer.no_certificate logs asked f posed fault refl, other)
-    certificate_reason r (other_size c is other e) = rw e (answer.other_size logs asked c posed is other refl, tt)
-    certificate_reason r (other_number c is size other e) = rw e (answer.other_number logs asked c posed is size other refl, tt)
+module _ (texts : List (List ℕ)) (question certificate : List ℕ) (logs : List Log) (asked : Asked) (posed : Posed texts question logs asked) where
+  pub certificate_reason : (r : Reason) → IsCertificateRefusal certificate (length logs) (length asked.cases) r → IsAuditAnswer texts question certificate (No r) × IsReportableReason r
+  certificate_reason r (no_certificate f fault other e) = rw e (answer.no_certificate logs asked f posed fault refl, other)
+  certificate_reason r (other_size c is other e) = rw e (answer.other_size logs asked c posed is other refl, tt)
+  certificate_reason r (other_number c is size other e) = rw e (answer.other_number logs asked c posed is size other refl, tt)
 
-    -- the sections are sound, or one of them is the first that isn't
-    pub sections_judged : (c : Certificate) → IsCertText certificate c → c.nodes ≡ length logs → length c.sections ≡ length asked.cases → (r : Result (Unit {0}) Refusal)
-        → SectionsJudged logs asked.cases c.sections r → Judged r (IsAuditAnswer texts question certificate)
-    sections_judged c is size number (Ok done) h = answer.yes logs asked c posed is size h refl
-    sections_judged c is size number (Err (refusal.No x)) h = rw h.2 (answer.unsound logs asked c h.0 h.1 posed is size number h.3 refl, tt)
-    sections_judged c is size number (Err refusal.OutOfMemory) h = tt
+  -- the sections are sound, or one of them is the first that isn't
+  pub sections_judged : (c : Certificate) → IsCertText certificate c → c.nodes ≡ length logs → length c.sections ≡ length asked.cases → (r : Result (Unit {0}) Refusal)
+      → SectionsJudged logs asked.cases c.sections r → Judged r (IsAuditAnswer texts question certificate)
+  sections_judged c is size number (Ok done) h = answer.yes logs asked c posed is size h refl
+  sections_judged c is size number (Err (refusal.No x)) h = rw h.2 (answer.unsound logs asked c h.0 h.1 posed is size number h.3 refl, tt)
+  sections_judged c is size number (Err refusal.OutOfMemory) h = tt

@@ -1,7 +1,6 @@
 -- Sections that are held against their cases one by one.
 use Rattle.std.proofs.Common.{◌≡◌, ◌<◌, ◌+◌, ◌++◌, ℕ, zero, suc, List, [], ◌∷◌, Some, take, refl, sym, ap, subst, ◌∙◌, arith}
 use Rattle.std.specs.Prelude.{slice_get}
-use Rattle.std.specs.List.{AllZip}
 use Rattle.ira_event.specs.Log.{Log}
 use Rattle.ira_pred.specs.Case.{Conjunct}
 use Rattle.ira_cert_text.specs.Certificate.{Section}
@@ -13,6 +12,7 @@ use Rattle.ira_cert.specs.SectionFault.{IsSectionFault}
 use Rattle.ira_cert.proofs.OneVerdict.{one_verdict}
 use Rattle.ira_audit.specs.AuditAnswer.{AreSound, IsFirstUnsound}
 use Rattle.ira_audit.proofs.LogTexts.{taken, next_taken}
+use Rattle.ira_audit.proofs.Zipped.{zipped_at, zipped_more}
 
 some_is : {X : Type 0} (x y : X) → Some x ≡ Some y → x ≡ y
 some_is x y e = cc
@@ -22,29 +22,6 @@ sound_or_fault logs case section f differ sound fault = let same = one_verdict l
 
 one_fault : (logs : List Log) (case : List Conjunct) (section : Section) (f g : SectionFault) → HasDifferentPlaces case → IsSectionFault logs case section f → IsSectionFault logs case section g → f ≡ g
 one_fault logs case section f g differ h k = let same = one_verdict logs case differ section (verdict.No f) (verdict.No g) h k in cc
-
--- what ties two lists ties their members
-pub zipped_at : {X Y : Type 0} (R : X → Y → Type 0) (xs : List X) (ys : List Y) (i : ℕ) (x : X) (y : Y) → AllZip R xs ys → slice_get xs i ≡ Some x → slice_get ys i ≡ Some y → R x y
-zipped_at R [] [] i x y h a b = absurd cc
-zipped_at R [] (v ∷ ys) i x y h a b = absurd h
-zipped_at R (u ∷ xs) [] i x y h a b = absurd h
-zipped_at R (u ∷ xs) (v ∷ ys) zero x y h a b = rw (← some_is u x a, ← some_is v y b) h.0
-zipped_at R (u ∷ xs) (v ∷ ys) (suc i) x y h a b = zipped_at R xs ys i x y h.1 a b
-
--- a member has one that it is tied to
-pub section_at : {X Y : Type 0} (xs : List X) (ys : List Y) (i : ℕ) (x : X) (R : X → Y → Type 0) → AllZip R xs ys → slice_get xs i ≡ Some x → (y : Y) × (slice_get ys i ≡ Some y)
-section_at [] [] i x R h a = absurd cc
-section_at [] (v ∷ ys) i x R h a = absurd h
-section_at (u ∷ xs) [] i x R h a = absurd h
-section_at (u ∷ xs) (v ∷ ys) zero x R h a = (v, refl)
-section_at (u ∷ xs) (v ∷ ys) (suc i) x R h a = section_at xs ys i x R h.1 a
-
--- one member more of each
-zipped_more : {X Y : Type 0} (R : X → Y → Type 0) (xs : List X) (ys : List Y) (x : X) (y : Y) → AllZip R xs ys → R x y → AllZip R (xs ++ x ∷ []) (ys ++ y ∷ [])
-zipped_more R [] [] x y h r = (r, tt)
-zipped_more R [] (v ∷ ys) x y h r = absurd h
-zipped_more R (u ∷ xs) [] x y h r = absurd h
-zipped_more R (u ∷ xs) (v ∷ ys) x y h r = (h.0, zipped_more R xs ys x y h.1 r)
 
 module _ (logs : List Log) (cases : List (List Conjunct)) (sections : List Section) where
   -- one section more is sound

@@ -3,11 +3,8 @@
 use Rattle.std.specs.Prelude.{◌≡◌, ◌≢◌, ℕ, List, Some, length, slice_get, take}
 use Rattle.std.specs.List.{AllZip}
 use Rattle.ira_event.specs.Log.{Log}
-use Rattle.ira_pred.specs.declared.ask_fault.AskFault.{AskFault}
 use Rattle.ira_pred.specs.Case.{Conjunct}
 use Rattle.ira_pred.specs.Question.{Asked}
-use Rattle.ira_pred.specs.QuestionText.{IsQuestionText}
-use Rattle.ira_pred.specs.QuestionTextFault.{QuestionTextFault}
 use Rattle.ira_cert_text.specs.declared.cert_fault.CertFault.{CertFault}
 use Rattle.ira_cert_text.specs.Certificate.{Section, Certificate}
 use Rattle.ira_cert_text.specs.CertText.{IsCertText}
@@ -19,14 +16,7 @@ use Rattle.ira_audit.specs.declared.reason.Reason.{Reason}
 use Rattle.ira_audit.specs.declared.reason.Reason.TheVariants as reason
 use Rattle.ira_audit.specs.declared.answer.Answer.{Answer}
 use Rattle.ira_audit.specs.declared.answer.Answer.TheVariants.{Yes, No}
-use Rattle.ira_audit.specs.GoodLogs.{AreGoodLogs}
-use Rattle.ira_audit.specs.LogsAnswer.{IsLogsAnswer}
-
--- the texts are those of good logs, and the question is asked of their ring
-pub record Posed (texts : List (List ℕ)) (question : List ℕ) (logs : List Log) (asked : Asked) : Type 0 where
-  pub logs_are : AreGoodLogs texts logs
-  pub question_is : IsQuestionText question asked
-  pub ring : asked.nodes ≡ length logs
+use Rattle.ira_audit.specs.Posed.{Posed, WhyNotPosed}
 
 -- each section is sound for its case, and there are as many sections as cases
 abbrev pub AreSound : List Log → List (List Conjunct) → List Section → Type 0
@@ -43,16 +33,8 @@ pub record IsFirstUnsound (logs : List Log) (cases : List (List Conjunct)) (sect
 
 -- the answer of the texts
 pub data IsAuditAnswer (texts : List (List ℕ)) (question certificate : List ℕ) (answer : Answer) : Type 0 where
-  -- something is said against the logs
-  bad_logs : (r : Reason) → IsLogsAnswer texts (No r) → answer ≡ No r → IsAuditAnswer texts question certificate answer
-  -- the logs are good, but the question's text is none
-  no_question :
-      (logs : List Log) (f : AskFault) → AreGoodLogs texts logs → QuestionTextFault question f
-      → answer ≡ No (reason.Question f) → IsAuditAnswer texts question certificate answer
-  -- the question is asked of another ring
-  other_ring :
-      (logs : List Log) (asked : Asked) → AreGoodLogs texts logs → IsQuestionText question asked → asked.nodes ≢ length logs
-      → answer ≡ No reason.QuestionSize → IsAuditAnswer texts question certificate answer
+  -- the question isn't posed
+  not_posed : (r : Reason) → WhyNotPosed texts question r → answer ≡ No r → IsAuditAnswer texts question certificate answer
   -- the question is posed, but the certificate's text is none
   no_certificate :
       (logs : List Log) (asked : Asked) (f : CertFault) → Posed texts question logs asked → CertTextFault certificate f

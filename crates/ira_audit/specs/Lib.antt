@@ -1,9 +1,12 @@
 pub mod Answer
 pub mod AuditAnswer
+pub mod Findings
+pub mod FindingsText
 pub mod GoodLogs
 pub mod LogTexts
 pub mod LogsAnswer
 pub mod Never
+pub mod Posed
 pub mod Refusal
 pub mod Replaying
 pub mod Report

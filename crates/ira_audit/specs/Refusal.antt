@@ -20,7 +20,11 @@ use Rattle.ira_audit.specs.declared.refusal.Refusal.{Refusal}
 use Rattle.ira_audit.specs.declared.refusal.Refusal.TheVariants.{No, OutOfMemory}
 use Rattle.ira_audit.specs.declared.answer.Answer.{Answer}
 use Rattle.ira_audit.specs.declared.answer.Answer.TheVariants as answer
+use Rattle.ira_audit.specs.declared.findings.Findings.{Findings}
+use Rattle.ira_audit.specs.declared.findings.Findings.TheVariants.{Refused}
 use Rattle.ira_audit.specs.LogTexts.{IsFirstTextFault}
+use Rattle.ira_audit.specs.LogsAnswer.{IsLogsAnswer}
+use Rattle.ira_audit.specs.Posed.{WhyNotPosed}
 use Rattle.ira_audit.specs.Report.{IsReportableReason}
 
 -- the refusal where no order was given
@@ -43,6 +47,12 @@ answered (Ok _) = Ok answer.Yes
 answered (Err (No reason)) = Ok (answer.No reason)
 answered (Err OutOfMemory) = Err (record {})
 
+-- the findings of a question that was looked at
+abbrev pub decided_findings : {A : Type 0} → Result (Findings A) Refusal → Result (Findings A) memory.OutOfMemory
+decided_findings (Ok findings) = Ok findings
+decided_findings (Err (No reason)) = Ok (Refused reason)
+decided_findings (Err OutOfMemory) = Err (record {})
+
 -- where memory was wanting, nothing is said; else the fact holds of yes, or of the reason, and that
 -- reason holds no want of memory
 abbrev pub Judged : {T : Type 0} → Result T Refusal → (Answer → Type 0) → Type 0
@@ -60,6 +70,14 @@ MatchRefusal (Err OutOfMemory) P Q = ⊤
 -- the reason names the first text that is no log's
 abbrev pub IsTextReason : List (List ℕ) → Reason → Type 0
 IsTextReason texts r = (number : ℕ) × (f : LogFault) × IsFirstTextFault texts number f × (r ≡ Log number f)
+
+-- the reason is the answer of the texts of logs, and holds no want of memory
+abbrev pub IsLogsReason : List (List ℕ) → Reason → Type 0
+IsLogsReason texts r = IsLogsAnswer texts (answer.No r) × IsReportableReason r
+
+-- the reason is why the question isn't posed, and holds no want of memory
+abbrev pub IsPosedReason : List (List ℕ) → List ℕ → Reason → Type 0
+IsPosedReason texts question r = WhyNotPosed texts question r × IsReportableReason r
 
 -- why the text isn't that of a question asked of a ring of so many nodes
 abbrev pub IsQuestionRefusal : List ℕ → ℕ → Reason → Type 0

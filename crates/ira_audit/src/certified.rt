@@ -21,12 +21,12 @@ use crate::answer::Answer;
 use crate::reason::Reason;
 use crate::refusal::Refusal;
 use crate::ring_audit::RingAudit;
-use crate::ring_logs::check_all_steps;
+use crate::ring_logs::order_runs;
 use crate::sections::check_sections;
 use ira_cert_text::{Certificate, read_cert};
 use ira_event::{Logs, NodeLog, OutOfMemory, RingSize};
 use ira_links::Gate;
-use ira_order::{Ordered, order};
+use ira_order::Ordered;
 use ira_pred::{Question, read_question};
 use std::alloc::Allocator;
 use std::sync::Wait;
@@ -86,8 +86,7 @@ pub(crate) fn judge_certified<A: Allocator + Clone>(
 {
     let alloc = logs.allocator().clone()?;
     let logs = Logs::gather(logs)?;
-    let ordered = order(alloc.clone()?, &logs)?;
-    check_all_steps(&logs)?;
+    let ordered = order_runs(alloc.clone()?, &logs)?;
     judge_question(alloc, &logs, &ordered, question, certificate)
 }
 
@@ -109,7 +108,7 @@ fn judge_question<A: Allocator + Clone>(
 }
 
 /// The question of the text, which must be asked of a ring of this size.
-fn read_posed<A: Allocator + Clone>(
+pub(crate) fn read_posed<A: Allocator + Clone>(
     alloc: A,
     nodes: RingSize,
     text: &[u8],

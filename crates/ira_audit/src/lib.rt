@@ -1,9 +1,12 @@
 //! What is said of texts: of one log alone, of the logs of a whole ring together, or of these with a
-//! question and a certificate.
+//! question and a certificate; and what is found for a question about them.
 #![tactic(auto)]
 
 mod answer;
+mod cases;
 mod certified;
+mod findings;
+mod findings_writer;
 mod laws;
 mod one_log;
 mod reason;
@@ -14,7 +17,10 @@ mod ring_logs;
 mod sections;
 
 pub use answer::Answer;
+pub use cases::decide_all;
 pub use certified::audit;
+pub use findings::Findings;
+pub use findings_writer::write_findings;
 pub use laws::{answers_are_one, never_two_leaders, no_moment_meets_a_case};
 pub use one_log::audit_one;
 pub use reason::Reason;

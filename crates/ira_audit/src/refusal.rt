@@ -1,13 +1,14 @@
 ghost use Rattle.std.specs.Prelude.{◌≡◌};
-ghost use Rattle.ira_audit.specs.Refusal.{answered};
+ghost use Rattle.ira_audit.specs.Refusal.{answered, decided_findings};
 
 use crate::answer::Answer;
+use crate::findings::Findings;
 use crate::reason::Reason;
 use ira_cert_text::CertFault;
 use ira_event::{HeadFault, OutOfMemory};
 use ira_order::OrderFault;
 use ira_pred::AskFault;
-use std::alloc::{AllocError, AllocFailed};
+use std::alloc::{AllocError, AllocFailed, Allocator};
 
 /// Why there is no yes: a reason, which holds no want of memory, or a growth that was refused.
 #[derive(Clone, Copy, Debug, PartialEq, Eq)]
@@ -23,6 +24,19 @@ pub(crate) fn answer_of(judged: Result<(), Refusal>) -> Result<Answer, OutOfMemo
     match judged {
         Ok(()) => Ok(Answer::Yes),
         Err(Refusal::No(reason)) => Ok(Answer::No(reason)),
+        Err(Refusal::OutOfMemory) => Err(OutOfMemory),
+    }
+}
+
+/// The findings of a question that was looked at.
+pub(crate) fn findings_of<A: Allocator>(
+    decided: Result<Findings<A>, Refusal>,
+) -> Result<Findings<A>, OutOfMemory>
+    ensures { result ≡ decided_findings decided }
+{
+    match decided {
+        Ok(findings) => Ok(findings),
+        Err(Refusal::No(reason)) => Ok(Findings::Refused(reason)),
         Err(Refusal::OutOfMemory) => Err(OutOfMemory),
     }
 }

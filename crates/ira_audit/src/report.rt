@@ -12,7 +12,7 @@ use ira_order::MatchFault;
 use ira_pred::AskFault;
 
 #[tactic(auto, using(ira_event::proofs::Writing::writes))]
-fn write_numbered<W: Sink>(before: &[u8], n: u64, sink: &mut W) -> Result<(), WriteFault>
+pub(crate) fn write_numbered<W: Sink>(before: &[u8], n: u64, sink: &mut W) -> Result<(), WriteFault>
     ensures { Wrote result (before.now ++ decimal n) (W.taken sink.old) (W.failures sink.old) (W.taken sink.new) (W.failures sink.new) }
 {
     write_bytes(before, sink)?;

@@ -3,19 +3,24 @@ ghost use Rattle.ira_event.specs.Result.{UnlessErr};
 ghost use Rattle.ira_node.specs.declared.step_fault.StepFault.{StepFault};
 ghost use Rattle.ira_order.specs.declared.match_fault.MatchFault.{MatchFault};
 ghost use Rattle.ira_audit.specs.AuditAnswer.{IsAuditAnswer};
+ghost use Rattle.ira_audit.specs.Findings.{AreFindings, AreReportable};
 ghost use Rattle.ira_audit.specs.LogsAnswer.{IsLogsAnswer};
 ghost use Rattle.ira_audit.specs.Never.{IsNeverMet};
 ghost use Rattle.ira_audit.specs.LogTexts.{AreLogTexts};
-ghost use Rattle.ira_audit.specs.Refusal.{Judged, IsTextReason};
+ghost use Rattle.ira_audit.specs.Posed.{WhyNotPosed};
+ghost use Rattle.ira_audit.specs.Refusal.{Judged, MatchRefusal, IsTextReason, IsPosedReason};
 ghost use Rattle.ira_audit.specs.Report.{IsReportable};
 ghost use Rattle.ira_audit.specs.RingAudit.{HasTaken};
 ghost use Rattle.ira_audit.specs.TextRuns.{AreTextsOfRuns, AreTextsWithoutRun};
 ghost use Rattle.ira_audit.specs.declared.answer.Answer.{Answer};
+ghost use Rattle.ira_audit.specs.declared.reason.Reason.{Reason};
 
 use crate::answer::Answer;
+use crate::cases::decide_posed;
 use crate::certified::judge_certified;
+use crate::findings::Findings;
 use crate::reason::Reason;
-use crate::refusal::{Refusal, answer_of};
+use crate::refusal::{Refusal, answer_of, findings_of};
 use crate::ring_logs::judge_logs;
 use ira_event::{LogFault, NodeLog, OutOfMemory, read_log};
 use ira_links::Gate;
@@ -103,6 +108,22 @@ impl<A: Allocator + Clone> RingAudit<A> {
         ensures yes { (texts : List (List ℕ)) → HasTaken self texts → result ≡ Ok Answer.Yes → IsNeverMet texts question.now }
     {
         answer_of(self.judge_with(question, certificate))
+    }
+
+    /// What is found for each case of a question about the logs that were taken, or the first reason against
+    /// them or the question. It says of them what `decide_all` says.
+    pub fn decide(self, question: &[u8]) -> Result<Findings<A>, OutOfMemory>
+        ensures refused { (texts : List (List ℕ)) (r : Reason) → HasTaken self texts → UnlessErr result (record {}) ((result ≡ Ok (Findings.Refused r)) ↔ WhyNotPosed texts question.now r) }
+        ensures found { (texts : List (List ℕ)) → HasTaken self texts → IfOk result (AreFindings texts question.now) }
+        ensures reportable { (texts : List (List ℕ)) → HasTaken self texts → IfOk result AreReportable }
+    {
+        findings_of(self.decide_taken(question))
+    }
+
+    fn decide_taken(self, question: &[u8]) -> Result<Findings<A>, Refusal>
+        ensures { (texts : List (List ℕ)) → HasTaken self texts → MatchRefusal result (λ findings. AreFindings texts question.now findings × AreReportable findings) (IsPosedReason texts question.now) }
+    {
+        decide_posed(self.into_logs()?, question)
     }
 
     fn judge_with(self, question: &[u8], certificate: &[u8]) -> Result<(), Refusal>

@@ -1,13 +1,15 @@
 ghost use Rattle.std.specs.Prelude.{◌≡◌, ◌↔◌, ℕ, List, Ok, IfOk, MatchResult, map};
+ghost use Rattle.ira_event.specs.Logs.{AreLogs};
 ghost use Rattle.ira_event.specs.Result.{UnlessErr};
 ghost use Rattle.ira_node.specs.declared.step_fault.StepFault.{StepFault};
 ghost use Rattle.ira_replay.specs.declared.replay_fault.ReplayFault.{ReplayFault};
 ghost use Rattle.ira_order.specs.declared.match_fault.MatchFault.{MatchFault};
 ghost use Rattle.ira_replay.specs.LocalRun.{IsLocalRun, IsFirstFault};
 ghost use Rattle.ira_order.specs.Run.{AreLocalRuns};
+ghost use Rattle.ira_audit.specs.GoodLogs.{AreGoodLogs};
 ghost use Rattle.ira_audit.specs.LogTexts.{AreLogTexts};
 ghost use Rattle.ira_audit.specs.LogsAnswer.{IsLogsAnswer, IsFirstStop};
-ghost use Rattle.ira_audit.specs.Refusal.{Judged};
+ghost use Rattle.ira_audit.specs.Refusal.{Judged, IsLogsReason, MatchRefusal};
 ghost use Rattle.ira_audit.specs.Report.{IsReportable};
 ghost use Rattle.ira_audit.specs.TextRuns.{AreTextsOfRuns, AreTextsWithoutRun};
 ghost use Rattle.ira_audit.specs.declared.answer.Answer.{Answer};
@@ -17,7 +19,7 @@ use crate::reason::Reason;
 use crate::refusal::Refusal;
 use crate::ring_audit::RingAudit;
 use ira_event::{Logs, NodeLog, OutOfMemory};
-use ira_order::find_order;
+use ira_order::{Ordered, find_order, order};
 use ira_replay::{ReplayFault, replay};
 use std::alloc::Allocator;
 
@@ -56,8 +58,21 @@ pub(crate) fn judge_logs<A: Allocator + Clone>(logs: Vec<NodeLog<A>, A>) -> Resu
     Ok(())
 }
 
+/// The order of the logs of one ring, where they match and have one, and each event has a step.
+pub(crate) fn order_runs<A: Allocator + Clone>(
+    alloc: A,
+    logs: &Logs<A>,
+) -> Result<Ordered<'_, A>, Refusal>
+    ensures logs { IfOk result (λ o. o.logs ≡ logs.now) }
+    ensures runs { (texts : List (List ℕ)) → AreLogTexts texts logs.now → AreLogs logs.now → MatchRefusal result (λ _. AreGoodLogs texts logs.now) (IsLogsReason texts) }
+{
+    let ordered = order(alloc, logs)?;
+    check_all_steps(logs)?;
+    Ok(ordered)
+}
+
 /// Whether each event of each log has a step.
-pub(crate) fn check_all_steps<A: Allocator>(logs: &Logs<A>) -> Result<(), Reason>
+fn check_all_steps<A: Allocator>(logs: &Logs<A>) -> Result<(), Reason>
     ensures { MatchResult result (λ _. AreLocalRuns logs.now) (λ r. (place : ℕ) × (f : ReplayFault) × (r ≡ Reason.Replay place f.position f.fault) × IsFirstStop logs.now place f) }
 {
     for place in 0..logs.size().get() {

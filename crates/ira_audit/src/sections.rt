@@ -41,7 +41,7 @@ pub(crate) fn check_sections<A: Allocator + Clone>(
 }
 
 /// The states of each log, told in short.
-fn all_profiles<A: Allocator + Clone>(
+pub(crate) fn all_profiles<A: Allocator + Clone>(
     alloc: A,
     logs: &Logs<A>,
 ) -> Result<Vec<Profile<'_, A>, A>, OutOfMemory>

@@ -21,7 +21,7 @@ none_left fronts i [] front false at e t = absurd (let n : is_some front ≡ fal
 none_left fronts i (x ∷ xs) front true at e t = absurd (let n : is_some front ≡ true = ap is_some e in cc)
 none_left fronts i (x ∷ xs) front false at e t = (λ h. cc, λ h. cc)
 
-slice_get-drop : (n : ℕ) (xs : List ℕ) → slice_get (drop n xs) 0 ≡ slice_get xs n
+pub slice_get-drop : (n : ℕ) (xs : List ℕ) → slice_get (drop n xs) 0 ≡ slice_get xs n
 slice_get-drop zero [] = refl
 slice_get-drop zero (x ∷ xs) = refl
 slice_get-drop (suc n) [] = refl

@@ -21,7 +21,7 @@ use Rattle.ira_cert.proofs.Made.{step_at, made_own, made_other}
 use Rattle.ira_cert.proofs.OneList.{one_list}
 
 -- of a rising list later members are no lower
-rising_le : (xs : List ℕ) (a b x y : ℕ) → IsStrictlyIncreasing xs → slice_get xs a ≡ Some x → slice_get xs b ≡ Some y → a ≤ b → x ≤ y
+pub rising_le : (xs : List ℕ) (a b x y : ℕ) → IsStrictlyIncreasing xs → slice_get xs a ≡ Some x → slice_get xs b ≡ Some y → a ≤ b → x ≤ y
 rising_le xs a b x y up at_a at_b l =
     let within : b < length xs = slice_get_within xs b y at_b in
     let ea : get_or xs a 0 ≡ x = get_or_from_slice_get xs a x 0 at_a in
@@ -32,7 +32,7 @@ rising_le xs a b x y up at_a at_b l =
     ]
 
 -- where a cut meets a case, its position of a node that is asked is a candidate of the node
-candidate_at : (logs : List Log) (case : List Conjunct) (cut : List ℕ) (i : ℕ) (positions : List ℕ) → Meets logs case cut → CandidatesOf logs case i positions → (n : ℕ) × (slice_get positions n ≡ Some (slice_index cut i))
+pub candidate_at : (logs : List Log) (case : List Conjunct) (cut : List ℕ) (i : ℕ) (positions : List ℕ) → Meets logs case cut → CandidatesOf logs case i positions → (n : ℕ) × (slice_get positions n ≡ Some (slice_index cut i))
 candidate_at logs case cut i positions meets of =
     let p : ℕ = slice_index cut i in
     let h = All-contains (λ (c : Conjunct). (log : Log) × (slice_get logs c.place ≡ Some log) × HoldsAt log c.formula (slice_index cut c.place)) case (record { place = i; formula = of.formula }) meets of.asked in
@@ -42,7 +42,7 @@ candidate_at logs case cut i positions meets of =
 
 module _ (logs : List Log) (case : List Conjunct) (cut : List ℕ) (differ : HasDifferentPlaces case) (consistent : IsConsistentCut logs cut) (meets : Meets logs case cut) where
   -- the candidate that the cut has of a node comes no sooner than the eliminated ones, which come first
-  abbrev IsKept : List CertStep → Type 0
+  abbrev pub IsKept : List CertStep → Type 0
   IsKept before = (i : ℕ) (positions : List ℕ) (n : ℕ) → CandidatesOf logs case i positions → slice_get positions n ≡ Some (slice_index cut i) → made before i ≤ n
 
   -- a sound step doesn't eliminate the state that the cut has
@@ -79,7 +79,7 @@ module _ (logs : List Log) (case : List Conjunct) (cut : List ℕ) (differ : Has
         (subst (λ (j : ℕ). slice_get positions n ≡ Some (slice_index cut j)) (sym same) here))
   ]
 
-  kept_all : (steps : List CertStep) → AreSoundSteps logs case steps → (k : ℕ) → k ≤ length steps → IsKept (take k steps)
+  pub kept_all : (steps : List CertStep) → AreSoundSteps logs case steps → (k : ℕ) → k ≤ length steps → IsKept (take k steps)
   kept_all steps sound zero l = λ i positions n of here. omega arith
   kept_all steps sound (suc k) l =
       let s = step_at steps k (omega arith) in

@@ -15,7 +15,7 @@ apart : (case : List Conjunct) (i j : ℕ) (c d : Conjunct) → HasDifferentPlac
 apart case i j c d differ l within first second same =
     differ i j c l within (ap (λ (x : Conjunct). x.place) first ∙ same ∙ sym (ap (λ (x : Conjunct). x.place) (get_or_default case j c d within ∙ second)))
 
-one_formula : (case : List Conjunct) (i : ℕ) (f g : Formula) → HasDifferentPlaces case → Contains case (record { place = i; formula = f }) → Contains case (record { place = i; formula = g }) → f ≡ g
+pub one_formula : (case : List Conjunct) (i : ℕ) (f g : Formula) → HasDifferentPlaces case → Contains case (record { place = i; formula = f }) → Contains case (record { place = i; formula = g }) → f ≡ g
 one_formula case i f g differ a b =
     let c : Conjunct = record { place = i; formula = f } in
     let d : Conjunct = record { place = i; formula = g } in

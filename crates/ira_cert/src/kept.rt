@@ -7,7 +7,7 @@ use std::marker::Model;
 
 /// The positions of a list that it owns; seen by contracts as the list of those that are left.
 #[derive(Drop)]
-pub(crate) struct Kept<A: Allocator> {
+pub struct Kept<A: Allocator> {
     positions: Vec<u32, A>,
     given: usize,
 }

@@ -16,10 +16,11 @@ pub use fronts::check_fronts;
 pub use ira_cert_text::{
     CertFault, CertStep, Certificate, MAX_SECTIONS, MAX_STEPS, Section, read_cert, write_cert,
 };
+pub use kept::Kept;
 pub use laws::{a_section_has_one_verdict, sound_sections_leave_no_cut};
-pub use plain::check_plain;
+pub use plain::{Candidates, case_fronts, check_plain};
 pub use positions::Positions;
-pub use profiled::check_profiled;
+pub use profiled::{check_profiled, profiled_fronts};
 pub use section_fault::SectionFault;
 pub use unsound::Unsound;
 pub use verdict::Verdict;

@@ -18,7 +18,7 @@ use ira_replay::States;
 use std::alloc::Allocator;
 
 /// The candidates of a node, found as they are asked for.
-type Candidates<'a, A> = Ahead<Holding<States<Events<'a>>, &'a Clause<A>>>;
+pub type Candidates<'a, A> = Ahead<Holding<States<Events<'a>>, &'a Clause<A>>>;
 
 /// Judges whether the section shows that no consistent cut of the logs meets the case: each step rules
 /// out a state that can stand in no consistent cut together with the candidates left of another node,
@@ -39,12 +39,13 @@ pub fn check_plain<A: Allocator>(
     ensures yes { UnlessErr result (record {}) ((result ≡ Ok Verdict.Yes) ↔ IsSoundSection logs.now case.now section.now) }
     ensures no { (f : SectionFault) → UnlessErr result (record {}) ((result ≡ Ok (Verdict.No f)) ↔ IsSectionFault logs.now case.now section.now f) }
 {
-    let fronts = fronts_of(alloc, logs, case)?;
+    let fronts = case_fronts(alloc, logs, case)?;
     Ok(check_fronts(ordered, fronts, section))
 }
 
-/// The candidates of the case, place by place.
-fn fronts_of<'a, A: Allocator>(
+/// The candidates of the case, place by place: of each node that it asks those of its log, found as they
+/// are asked for; of others none.
+pub fn case_fronts<'a, A: Allocator>(
     alloc: A,
     logs: &'a Logs<A>,
     case: &'a Case<A>,

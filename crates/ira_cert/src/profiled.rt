@@ -34,12 +34,13 @@ pub fn check_profiled<A: Allocator + Clone>(
     ensures no { (f : SectionFault) → UnlessErr result (record {}) ((result ≡ Ok (Verdict.No f)) ↔ IsSectionFault profiles.now case.now section.now f) }
 {
     let nodes = ordered.logs().size().get();
-    let fronts = found_fronts(alloc, nodes, profiles, case)?;
+    let fronts = profiled_fronts(alloc, nodes, profiles, case)?;
     Ok(check_fronts(ordered, fronts, section))
 }
 
-/// The candidates of the case, place by place.
-fn found_fronts<A: Allocator + Clone>(
+/// The candidates of the case, place by place, found in the profiles of the logs: of each node that it asks
+/// a list of them, of others none.
+pub fn profiled_fronts<A: Allocator + Clone>(
     alloc: A,
     nodes: u8,
     profiles: &[Profile<'_, A>],

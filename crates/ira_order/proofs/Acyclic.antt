@@ -49,14 +49,14 @@ pub record CameWith (logs : List Log) (i a j b : ℕ) : Type 0 where
 
 module _ (logs : List Log) (order : List ℕ) (o : IsOrder logs order) where
   -- where event b of node j stands
-  place_of : (j b : ℕ) → j < length logs → 1 ≤ b → b ≤ length (log_of logs j) → (t : ℕ) × StandsAt order t j b
+  pub place_of : (j b : ℕ) → j < length logs → 1 ≤ b → b ≤ length (log_of logs j) → (t : ℕ) × StandsAt order t j b
   place_of j b lj one l =
       let whole : take (length order) order ≡ order = take_all (length order) order (omega arith) in
       let room : b - 1 < standings (take (length order) order) j = rw whole (omega (arith, o.whole j lj)) in
       let s = stands order (length order) j (b - 1) (omega arith) room in
       (s.0, (slice_get-get_or order s.0 0 s.1 ∙ ap Some s.2, omega (arith, s.3)))
 
-  before_stands : (i a j b : ℕ) → Before logs i a j b → (s t : ℕ) → StandsAt order s i a → StandsAt order t j b → s < t
+  pub before_stands : (i a j b : ℕ) → Before logs i a j b → (s t : ℕ) → StandsAt order s i a → StandsAt order t j b → s < t
   before_stands i a j b (own e l one lower upper) s t si tj = elim (lt_cases s t) [
     | inl fine ↦ fine
     | inr late ↦ (let tj' = rw (← e) at tj in absurd (omega (arith, standings_mono order t s i late, si.1, tj'.1)))

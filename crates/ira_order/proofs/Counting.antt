@@ -52,6 +52,22 @@ count_first logs j i = record {
   );
 }
 
+-- a receipt has its sending
+pub sending_before : (logs : List Log) → Matches logs → (k b : ℕ) (m : Msg) → k < length logs → slice_get (log_of logs (next (length logs) k)) b ≡ Some (Got m) → (a : ℕ) × IsPair logs k a (suc b)
+sending_before logs matches k b m lk is =
+    let within : b < length (log_of logs (next (length logs) k)) = slice_get_within (log_of logs (next (length logs) k)) b (Got m) is in
+    let e : get_or (log_of logs (next (length logs) k)) b (Draw 0) ≡ Got m = get_or_from_slice_get (log_of logs (next (length logs) k)) b (Got m) (Draw 0) is in
+    let rank : Ranked receipt (log_of logs (next (length logs) k)) (suc b) (length (got (take b (log_of logs (next (length logs) k))))) (Draw 0) = record {
+      place = b;
+      below = omega arith;
+      rank = refl;
+      next_rank = rank_more receipt (log_of logs (next (length logs) k)) b (Draw 0) within ∙ ap (λ (x : Event). length (got (take b (log_of logs (next (length logs) k)))) + length (cons_option (receipt x) [])) e;
+      message = m;
+      is = ap receipt e;
+    } in
+    let p = pair_of logs k (suc b) (length (got (take b (log_of logs (next (length logs) k))))) matches lk (omega arith) rank in
+    (suc p.0.place, p.1)
+
 module _ (logs : List Log) (order : List ℕ) (o : IsOrder logs order) where
   -- of its own node an event counts its number
   pub count_own : (j b : ℕ) → j < length logs → b ≤ length (log_of logs j) → IsCount logs j b j b
@@ -117,19 +133,8 @@ module _ (logs : List Log) (order : List ℕ) (o : IsOrder logs order) where
     -- a receipt up to there counts as its sending
     counts_receipt : (k b : ℕ) (m : Msg) → k < length logs → suc b ≤ at (next (length logs) k) → slice_get (log_of logs (next (length logs) k)) b ≡ Some (Got m) → CountsAt logs counters (next (length logs) k) (suc b)
     counts_receipt k b m lk l is =
-        let es : List Event = log_of logs (next (length logs) k) in
-        let within : b < length (log_of logs (next (length logs) k)) = slice_get_within (log_of logs (next (length logs) k)) b (Got m) is in
-        let e : get_or (log_of logs (next (length logs) k)) b (Draw 0) ≡ Got m = get_or_from_slice_get (log_of logs (next (length logs) k)) b (Got m) (Draw 0) is in
-        let rank : Ranked receipt (log_of logs (next (length logs) k)) (suc b) (length (got (take b (log_of logs (next (length logs) k))))) (Draw 0) = record {
-          place = b;
-          below = omega arith;
-          rank = refl;
-          next_rank = rank_more receipt (log_of logs (next (length logs) k)) b (Draw 0) within ∙ ap (λ (x : Event). length (got (take b (log_of logs (next (length logs) k)))) + length (cons_option (receipt x) [])) e;
-          message = m;
-          is = ap receipt e;
-        } in
-        let p = pair_of logs k (suc b) (length (got (take b (log_of logs (next (length logs) k))))) matches lk (omega arith) rank in
-        stamped k (suc p.0.place) (suc b) p.1 (covers_consistent logs at covers k (suc p.0.place) (next (length logs) k) (suc b) (message refl p.1) l)
+        let p = sending_before logs matches k b m lk is in
+        stamped k p.0 (suc b) p.1 (covers_consistent logs at covers k p.0 (next (length logs) k) (suc b) (message refl p.1) l)
 
     counts_other : (j b : ℕ) (e : Event) → j < length logs → slice_get (log_of logs j) b ≡ Some e → ((m : Msg) → e ≡ Got m → ⊥) → CountsAt logs counters j b → CountsAt logs counters j (suc b)
     counts_other j b e lj is never before i li ne =

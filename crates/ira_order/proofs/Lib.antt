@@ -2,9 +2,11 @@ pub mod Acyclic
 pub mod Bridge
 pub mod Converse
 pub mod Counting
+pub mod CutLattice
 pub mod Cuts
 pub mod Faults
 pub mod Filling
+pub mod HasCounts
 pub mod Orders
 pub mod Pairing
 pub mod Places

@@ -1,5 +1,5 @@
 -- How a table of stamps is filled.
-use Rattle.std.proofs.Common.{◌≡◌, ◌≢◌, ℕ, zero, suc, ◌+◌, ◌-◌, ◌*◌, ◌<◌, ◌≤◌, ◌⊎◌, inl, inr, List, [], length, refl, sym, ◌∙◌, ap, arith, take, get_or, set, Some, add-one, length-set, get_or-set_same, get_or-set_other}
+use Rattle.std.proofs.Common.{◌≡◌, ◌≢◌, ℕ, zero, suc, ◌+◌, ◌-◌, ◌*◌, ◌<◌, ◌≤◌, ◌⊎◌, inl, inr, List, [], length, refl, sym, ◌∙◌, ap, arith, take, get_or, set, drop, replicate, Some, add-one, length-set, length-drop, get_or-set_same, get_or-set_other}
 use Rattle.std.specs.Prelude.{slice_get, slice_index}
 use Rattle.std.specs.List.{cons_option}
 use Rattle.ira_event.specs.declared.event.Event.{Event}
@@ -11,13 +11,14 @@ use Rattle.ira_order.specs.Ring.{log_of, next, numbered}
 use Rattle.ira_order.specs.Matching.{sent, got, sending, receipt, Matches}
 use Rattle.ira_order.specs.Order.{IsOrder, IsPair}
 use Rattle.ira_order.specs.Counts.{Covers}
-use Rattle.ira_order.specs.VectorClock.{IsCount, receipt_count}
-use Rattle.ira_order.specs.Stamps.{receipts_by, first_receipt, counter, CountsAt, CountsSent, IsStamping}
+use Rattle.ira_order.specs.VectorClock.{IsCount, AreCountsOfOthers, receipt_count}
+use Rattle.ira_order.specs.Stamps.{receipts_by, first_receipt, counter, CountsAt, CountsSent, AreStamps, IsStamping}
 use Rattle.ira_order.proofs.Ranks.{lt_cases, eq_cases, rank_mono, next_below, next_other}
 use Rattle.ira_order.proofs.Scanning.{rank_more}
 use Rattle.ira_order.proofs.Runs.{prev_next}
 use Rattle.ira_order.proofs.Counting.{count_own, count_stays, count_taken, counts_all}
 use Rattle.ira_order.proofs.Receipts.{receipts_by_le, receipt_below, few_receipts, apart}
+use Rattle.std.proofs.lemmas.List.{get_or-take, get_or-drop, get_or-replicate, length-replicate, length-take-le}
 use Rattle.std.proofs.lemmas.Option.{get_or_from_slice_get, slice_get_within}
 use Rattle.std.proofs.lemmas.Nat.{mul-add-lt, mul-le, same_from_place}
 
@@ -202,3 +203,35 @@ module _ (logs : List Log) (order : List ℕ) (o : IsOrder logs order) (matches 
       | inl below ↦ old_pair l c b below pair
       | inr top ↦ (let pair' : IsPair logs k (suc (at k)) b = rw (top.0, top.1) at pair in rw top.0 (new_pair b pair'))
     ]
+
+-- what stands in the row of the last receipt up to an event, or zeros before the first receipt, counts
+module _ (logs : List Log) (begins numbers counters : List ℕ) (j b : ℕ) (are : AreStamps logs begins numbers counters) (lj : j < length logs) (l : b ≤ length (log_of logs j)) where
+  pub zeros_count : (n m : ℕ) → receipts_by logs j b ≡ 0 → n ≡ length logs → n ≤ m → AreCountsOfOthers logs j b (take n (replicate m 0))
+  zeros_count n m none all room = record {
+    places = length-take-le n (replicate m 0) (omega (arith, length-replicate {A = ℕ} m 0)) ∙ all;
+    others = λ i li ne.
+        let zero_at : slice_index (take n (replicate m 0)) i ≡ 0 = get_or-take n (replicate m 0) i 0 (omega arith) ∙ get_or-replicate m i 0 0 (omega arith) in
+        let count : IsCount logs j b i (counter logs counters j 0 i) = rw none at (are.counts j b lj l i li ne) in
+        rw zero_at count;
+  }
+
+  -- the row of that receipt is within the table
+  pub row_within : (row n : ℕ) → 1 ≤ receipts_by logs j b → row ≡ first_receipt logs j + (receipts_by logs j b - 1) → n ≡ length logs → (row + 1) * n ≤ length counters
+  row_within row n some at all =
+      let below : row < receipt_count logs = omega (arith, at, receipt_below logs j (receipts_by logs j b - 1) lj (omega (arith, receipts_by_le logs j b))) in
+      rw all (omega (arith, are.table.all_counters, mul-le (length logs) (row + 1) (length logs) (receipt_count logs) (omega arith) (omega arith)))
+
+  pub row_counts : (row n : ℕ) → 1 ≤ receipts_by logs j b → row ≡ first_receipt logs j + (receipts_by logs j b - 1) → n ≡ length logs → AreCountsOfOthers logs j b (take ((row + 1) * n - row * n) (drop (row * n) counters))
+  row_counts row n some at all =
+      let wide : (row + 1) * n - row * n ≡ n = omega arith in
+      rw wide record {
+        places = length-take-le n (drop (row * n) counters) (omega (arith, length-drop (row * n) counters, row_within row n some at all)) ∙ all;
+        others = λ i li ne.
+            let read : get_or (take n (drop (row * n) counters)) i 0 ≡ counter logs counters j (receipts_by logs j b) i =
+            get_or-take n (drop (row * n) counters) i 0 (omega arith)
+            ∙ get_or-drop (row * n) counters i 0
+            ∙ ap (λ (x : ℕ). get_or counters (x * n + i) 0) at
+            ∙ ap (λ (x : ℕ). get_or counters ((first_receipt logs j + (receipts_by logs j b - 1)) * x + i) 0) all
+            ∙ sym (counter_at logs counters j (receipts_by logs j b) i some) in
+            rw read (are.counts j b lj l i li ne);
+      }

@@ -1,5 +1,5 @@
 -- Cuts (Mattern, Virtual Time and Global States of Distributed Systems, 1989).
-use Rattle.std.specs.Prelude.{◌≡◌, ℕ, ◌<◌, ◌≤◌, List, length, slice_index}
+use Rattle.std.specs.Prelude.{◌≡◌, ℕ, ◌<◌, ◌≤◌, max, min, List, length, slice_index}
 use Rattle.ira_event.specs.Log.{Log}
 use Rattle.ira_order.specs.Ring.{log_of}
 use Rattle.ira_order.specs.Before.{Before}
@@ -17,3 +17,13 @@ HoldsAllBefore logs at = (i a j b : ℕ) → Before logs i a j b → b ≤ at j 
 -- a consistent cut
 abbrev pub IsConsistentCut : List Log → List ℕ → Type 0
 IsConsistentCut logs cut = IsCut logs cut × HoldsAllBefore logs (slice_index cut)
+
+-- a list of one position for each node, each the greater of those that two cuts have there: their join
+pub record IsJoin (logs : List Log) (a b cut : List ℕ) : Type 0 where
+  pub places : length cut ≡ length logs
+  pub greater : (i : ℕ) → i < length logs → slice_index cut i ≡ max (slice_index a i) (slice_index b i)
+
+-- the same with the lesser: their meet
+pub record IsMeet (logs : List Log) (a b cut : List ℕ) : Type 0 where
+  pub places : length cut ≡ length logs
+  pub lesser : (i : ℕ) → i < length logs → slice_index cut i ≡ min (slice_index a i) (slice_index b i)

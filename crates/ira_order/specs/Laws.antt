@@ -9,8 +9,10 @@ use Rattle.ira_order.specs.declared.match_fault.MatchFault.{MatchFault}
 use Rattle.ira_order.specs.Matching.{Matches}
 use Rattle.ira_order.specs.MatchFault.{IsMatchFault}
 use Rattle.ira_order.specs.Circle.{HasCircle}
+use Rattle.ira_order.specs.Ring.{log_of}
 use Rattle.ira_order.specs.Order.{IsOrder, standings}
-use Rattle.ira_order.specs.Cut.{IsConsistentCut}
+use Rattle.ira_order.specs.Cut.{IsConsistentCut, IsJoin, IsMeet}
+use Rattle.ira_order.specs.VectorClock.{AreCounts}
 use Rattle.ira_order.specs.Run.{IsRingRun, IsRunOfLogs, AreLocalRuns, places_of}
 use Rattle.ira_order.specs.RunsOfLogs.{Means, EveryOrderIsRun, HaveNoRun}
 
@@ -56,3 +58,27 @@ abbrev pub CutsAreMoments : Type 0
 CutsAreMoments =
     (logs : List Log) (order cut : List ℕ) → AreLogs logs → Matches logs → IsOrder logs order → IsConsistentCut logs cut
     → (other : List ℕ) × (t : ℕ) × IsOrder logs other × (t ≤ length other) × ((i : ℕ) → i < length logs → slice_index cut i ≡ standings (take t other) i)
+
+-- in logs that have an order each event has its counts, and so has the beginning of each log
+abbrev pub EventsHaveCounts : Type 0
+EventsHaveCounts =
+    (logs : List Log) (order : List ℕ) (j b : ℕ) → AreLogs logs → Matches logs → IsOrder logs order → j < length logs
+    → b ≤ length (log_of logs j) → (counts : List ℕ) × AreCounts logs j b counts
+
+-- the counts of an event are a consistent cut
+abbrev pub CountsAreCuts : Type 0
+CountsAreCuts = (logs : List Log) (j b : ℕ) (counts : List ℕ) → AreCounts logs j b counts → IsConsistentCut logs counts
+
+-- and of those that hold the event it is the least
+abbrev pub CountsAreLeast : Type 0
+CountsAreLeast =
+    (logs : List Log) (j b : ℕ) (counts cut : List ℕ) → j < length logs → AreCounts logs j b counts → IsConsistentCut logs cut
+    → (b ≤ slice_index counts j) × (b ≤ slice_index cut j → (i : ℕ) → i < length logs → slice_index counts i ≤ slice_index cut i)
+
+-- the join of two consistent cuts is one
+abbrev pub JoinsAreCuts : Type 0
+JoinsAreCuts = (logs : List Log) (a b cut : List ℕ) → IsConsistentCut logs a → IsConsistentCut logs b → IsJoin logs a b cut → IsConsistentCut logs cut
+
+-- and so is their meet
+abbrev pub MeetsAreCuts : Type 0
+MeetsAreCuts = (logs : List Log) (a b cut : List ℕ) → IsConsistentCut logs a → IsConsistentCut logs b → IsMeet logs a b cut → IsConsistentCut logs cut

@@ -1,4 +1,4 @@
-ghost use Rattle.ira_order.specs.Laws.{OrdersMeanEvents, OrdersAreRuns, RunsAreOrders, UnmatchedLogsHaveNoRun, CircledLogsHaveNoRun, FaultyLogsHaveNoRun, MomentsAreCuts, CutsAreMoments};
+ghost use Rattle.ira_order.specs.Laws.{OrdersMeanEvents, OrdersAreRuns, RunsAreOrders, UnmatchedLogsHaveNoRun, CircledLogsHaveNoRun, FaultyLogsHaveNoRun, MomentsAreCuts, CutsAreMoments, EventsHaveCounts, CountsAreCuts, CountsAreLeast, JoinsAreCuts, MeetsAreCuts};
 
 /// A law: an order means a list of events.
 pub fn orders_mean_events()
@@ -33,4 +33,24 @@ pub fn moments_are_cuts()
 /// A law: each consistent cut of logs that have an order is a beginning of some order.
 pub fn cuts_are_moments()
     ensures { CutsAreMoments }
+{}
+
+/// A law: where logs have an order, each event counts the events of each node that happened before it.
+/// So whether one event happened before another is decided there.
+pub fn events_have_counts()
+    ensures { EventsHaveCounts }
+{}
+
+/// A law: the counts of an event are a consistent cut, the least one that holds the event (Mattern,
+/// Virtual Time and Global States of Distributed Systems, 1989).
+pub fn counts_are_cuts()
+    ensures cuts { CountsAreCuts }
+    ensures least { CountsAreLeast }
+{}
+
+/// A law: the consistent cuts are a lattice, by the greater and the lesser position at each place
+/// (Mattern 1989).
+pub fn cuts_are_a_lattice()
+    ensures join { JoinsAreCuts }
+    ensures meet { MeetsAreCuts }
 {}

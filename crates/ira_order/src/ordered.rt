@@ -1,7 +1,7 @@
 ghost use Rattle.std.specs.Prelude.{◌≡◌, ◌↔◌, ◌<◌, ◌≤◌, ◌*◌, IsTrue, length};
 ghost use Rattle.ira_order.specs.Ring.{log_of};
 ghost use Rattle.ira_order.specs.Before.{Before};
-ghost use Rattle.ira_order.specs.VectorClock.{IsCount, receipt_count};
+ghost use Rattle.ira_order.specs.VectorClock.{IsCount, AreCountsOfOthers, receipt_count};
 ghost use Rattle.ira_order.specs.Stamps.{AreStamps};
 ghost use Rattle.ira_order.specs.Ordered.{IsOrdered};
 
@@ -76,7 +76,20 @@ impl<'a, A: Allocator> Ordered<'a, A> {
         if i == j {
             return b;
         }
-        self.stamps.count(logs, j, b, i)
+        self.stamps.counts(logs, j, b)[usize::from(i)]
+    }
+
+    /// How many events of each node are event `b` of node `j` or happened before it, node by node, as
+    /// `count` says, but of node `j` itself, where what the list has is left open. It lends what is
+    /// stored, found by one search.
+    pub fn counts(&self, j: u8, b: u32) -> &[u32]
+        requires place { j < length self.now.logs }
+        requires position { b ≤ length (log_of self.now.logs j) }
+        ensures counts { AreCountsOfOthers self.now.logs j b result.now }
+        ensures valid { IsOrdered self.now }
+    {
+        let logs = self.logs;
+        self.stamps.counts(logs, j, b)
     }
 
     /// Whether event `a` of node `i` happened before event `b` of node `j`; events count from 1.

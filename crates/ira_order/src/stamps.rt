@@ -1,9 +1,9 @@
-ghost use Rattle.std.specs.Prelude.{◌≡◌, ◌≢◌, ◌+◌, ◌*◌, ◌<◌, ◌≤◌, ◌++◌, ℕ, List, [], IfOk, OnOk, length};
+ghost use Rattle.std.specs.Prelude.{◌≡◌, ◌+◌, ◌*◌, ◌<◌, ◌≤◌, ◌++◌, ℕ, List, [], IfOk, OnOk, length};
 ghost use Rattle.ira_event.specs.Limits.{MAX_RECORDS};
 ghost use Rattle.ira_order.specs.Ring.{log_of, next};
 ghost use Rattle.ira_order.specs.Matching.{got};
 ghost use Rattle.ira_order.specs.Ordered.{IsOrdered};
-ghost use Rattle.ira_order.specs.VectorClock.{IsCount, receipt_count};
+ghost use Rattle.ira_order.specs.VectorClock.{AreCountsOfOthers, receipt_count};
 ghost use Rattle.ira_order.specs.Scan.{IsScan};
 ghost use Rattle.ira_order.specs.Stamps.{receipts_by, AreReceipts, AreReceiptsOf, AreBegins, IsTable, AreStamps, IsStamping, counter as counter_of};
 
@@ -25,6 +25,9 @@ pub(crate) struct Stamps<A: Allocator> {
     /// A counter for each node of the ring, receipt by receipt.
     counters: Vec<u32, A>,
 }
+
+/// The stamp of an event that no receipt of its node comes before: no event of another node is known.
+static NOTHING_RECEIVED: [u32; 64] = [0; 64];
 
 /// How many receipts a log has.
 fn receipts<A: Allocator>(log: &NodeLog<A>) -> usize
@@ -193,14 +196,21 @@ impl<A: Allocator> Stamps<A> {
         own.partition_point(|number| *number <= b)
     }
 
-    /// How many events of node `i` happened up to event `b` of another node `j`.
-    pub(crate) fn count(&self, logs: &Logs<A>, j: u8, b: u32, i: u8) -> u32
+    /// How many events of each node happened up to event `b` of node `j`, but of node `j` itself: the
+    /// stamp of its last receipt up to there, and all 0 where it has none.
+    pub(crate) fn counts(&self, logs: &Logs<A>, j: u8, b: u32) -> &[u32]
         requires stamps { AreStamps logs.now self.now.begins.items self.now.numbers.items self.now.counters.items }
-        requires places { (i < length logs.now) × (j < length logs.now) × (i ≢ j) }
+        requires place { j < length logs.now }
         requires position { b ≤ length (log_of logs.now j) }
-        ensures { IsCount logs.now j b i result }
+        ensures { AreCountsOfOthers logs.now j b result.now }
     {
-        self.counter(logs, j, self.received(logs, j, b), i)
+        let nodes = usize::from(logs.size().get());
+        let received = self.received(logs, j, b);
+        if received == 0 {
+            return &NOTHING_RECEIVED[..nodes];
+        }
+        let row = self.begins[usize::from(j)] + received - 1;
+        &self.counters[row * nodes..(row + 1) * nodes]
     }
 
     /// How many counters are kept.

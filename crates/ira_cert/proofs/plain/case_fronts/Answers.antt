@@ -1,6 +1,6 @@
 use Rattle.std.proofs.Common.{◌≡◌, ℕ, List, [], ◌∷◌, ◌++◌, Option, length, sym, subst, ap, arith, length-append}
 use Rattle.ira_cert.proofs.CaseFronts.{AllFound, found_more, found_all}
-use Rattle.ira_cert.proofs.plain.fronts_of.Goals as goal
+use Rattle.ira_cert.proofs.plain.case_fronts.Goals as goal
 
 pub loop-place-init : goal.loop-place-init
 loop-place-init g c = record {

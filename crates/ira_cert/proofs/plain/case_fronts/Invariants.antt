@@ -1,7 +1,7 @@
 use Rattle.std.proofs.Common.{◌≡◌, ◌<◌, length}
 use Rattle.ira_cert.specs.Asked.{HasDifferentPlaces}
 use Rattle.ira_cert.proofs.CaseFronts.{AllFound}
-use Rattle.ira_cert.proofs.plain.fronts_of.Given as goal
+use Rattle.ira_cert.proofs.plain.case_fronts.Given as goal
 
 abbrev pub invariant-loop-place : goal.invariant-loop-place
 invariant-loop-place g l = record {

@@ -1,7 +1,7 @@
 use Rattle.std.proofs.Common.{◌≡◌, ℕ, List, [], ◌∷◌, ◌++◌, Option, Some, length, slice_get, refl, sym, subst, ap, arith, rules, length-append}
 use Rattle.std.proofs.lemmas.Option.{slice_get_read}
 use Rattle.ira_cert.proofs.CaseFronts.{AllFound, found_more, found_all}
-use Rattle.ira_cert.proofs.profiled.found_fronts.Goals as goal
+use Rattle.ira_cert.proofs.profiled.profiled_fronts.Goals as goal
 
 pub loop-place-init : goal.loop-place-init
 loop-place-init g c = record {

@@ -1,0 +1,36 @@
+-- What is found for texts that should be those of a ring's logs, and for a question that should be asked of
+-- their ring; and the certificate that it makes.
+use Rattle.std.specs.Prelude.{◌≡◌, ℕ, List, Contains, length, map, ⊤}
+use Rattle.std.specs.List.{AllZip}
+use Rattle.ira_event.specs.Log.{Log}
+use Rattle.ira_pred.specs.Question.{Asked}
+use Rattle.ira_cert_text.specs.Certificate.{Certificate}
+use Rattle.ira_elim.specs.declared.found.Found.TheVariants.{Absent, Present}
+use Rattle.ira_elim.specs.Found.{IsFound}
+use Rattle.ira_audit.specs.declared.findings.Findings.{Findings}
+use Rattle.ira_audit.specs.declared.findings.Findings.TheVariants.{Refused, Cases}
+use Rattle.ira_audit.specs.Posed.{Posed, WhyNotPosed}
+use Rattle.ira_audit.specs.Report.{IsReportableReason}
+
+-- the findings of the texts: why the question isn't posed, or the ring's size and what is found for each
+-- case, in order
+abbrev pub AreFindings : {A : Type 0} → List (List ℕ) → List ℕ → Findings A → Type 0
+AreFindings texts question (Refused r) = WhyNotPosed texts question r
+AreFindings texts question (Cases nodes found) =
+    (logs : List Log) × (asked : Asked) × Posed texts question logs asked × (nodes ≡ length logs)
+    × AllZip (IsFound logs) asked.cases found.items
+
+-- their certificate: each case is absent, and these are the sections that were found, in order
+abbrev pub IsCertificateOf : {A : Type 0} → Findings A → Certificate → Type 0
+IsCertificateOf (Refused r) c = ⊥
+IsCertificateOf (Cases nodes found) c = (c.nodes ≡ nodes) × (found.items ≡ map Absent c.sections)
+
+-- they make none: they are a refusal, or a case is present
+abbrev pub MakeNoCertificate : {A : Type 0} → Findings A → Type 0
+MakeNoCertificate (Refused r) = ⊤
+MakeNoCertificate (Cases nodes found) = (cut : List ℕ) × Contains found.items (Present cut)
+
+-- they hold no want of memory
+abbrev pub AreReportable : {A : Type 0} → Findings A → Type 0
+AreReportable (Refused r) = IsReportableReason r
+AreReportable (Cases nodes found) = ⊤

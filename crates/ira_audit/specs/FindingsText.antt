@@ -1,0 +1,25 @@
+-- The lines that are written of findings.
+use Rattle.std.specs.Prelude.{ℕ, List, ◌++◌, codes, length}
+use Rattle.std.specs.List.{enumerate_from, flat_map}
+use Rattle.ira_elim.specs.declared.found.Found.{Found}
+use Rattle.ira_elim.specs.declared.found.Found.TheVariants.{Absent, Present}
+use Rattle.ira_audit.specs.declared.answer.Answer.TheVariants.{No}
+use Rattle.ira_audit.specs.declared.findings.Findings.{Findings}
+use Rattle.ira_audit.specs.declared.findings.Findings.TheVariants.{Refused, Cases}
+use Rattle.ira_audit.specs.Report.{numbered, report_line}
+
+-- what is found for a case, in words: how long its section is and which node it spends, or the position of
+-- each place
+abbrev pub found_words : {A : Type 0} → Found A → List ℕ
+found_words (Absent section) =
+    numbered (codes ": absent, ") (length section.steps) ++ numbered (codes " steps, node ") section.spent ++ codes " spent"
+found_words (Present cut) = codes ": present at" ++ flat_map (numbered (codes " ")) cut
+
+-- the line of a case: its number, from 0, and what is found for it
+abbrev pub case_line : {A : Type 0} → ℕ × Found A → List ℕ
+case_line case = numbered (codes "case ") case.0 ++ found_words case.1 ++ codes "\n"
+
+-- the line of a refusal's reason, or one of each case
+abbrev pub findings_text : {A : Type 0} → Findings A → List ℕ
+findings_text (Refused r) = report_line (No r)
+findings_text (Cases nodes found) = flat_map case_line (enumerate_from 0 found.items)

@@ -1,0 +1,31 @@
+-- Whether a question is posed: asked of the ring whose good logs the texts are; else the first reason against it.
+use Rattle.std.specs.Prelude.{◌≡◌, ◌≢◌, ℕ, List, length}
+use Rattle.ira_event.specs.Log.{Log}
+use Rattle.ira_pred.specs.declared.ask_fault.AskFault.{AskFault}
+use Rattle.ira_pred.specs.Question.{Asked}
+use Rattle.ira_pred.specs.QuestionText.{IsQuestionText}
+use Rattle.ira_pred.specs.QuestionTextFault.{QuestionTextFault}
+use Rattle.ira_audit.specs.declared.reason.Reason.{Reason}
+use Rattle.ira_audit.specs.declared.reason.Reason.TheVariants as reason
+use Rattle.ira_audit.specs.declared.answer.Answer.TheVariants.{No}
+use Rattle.ira_audit.specs.GoodLogs.{AreGoodLogs}
+use Rattle.ira_audit.specs.LogsAnswer.{IsLogsAnswer}
+
+-- the texts are those of good logs, and the question is asked of their ring
+pub record Posed (texts : List (List ℕ)) (question : List ℕ) (logs : List Log) (asked : Asked) : Type 0 where
+  pub logs_are : AreGoodLogs texts logs
+  pub question_is : IsQuestionText question asked
+  pub ring : asked.nodes ≡ length logs
+
+-- why the question isn't posed
+pub data WhyNotPosed (texts : List (List ℕ)) (question : List ℕ) (r : Reason) : Type 0 where
+  -- something is said against the logs
+  bad_logs : IsLogsAnswer texts (No r) → WhyNotPosed texts question r
+  -- the logs are good, but the question's text is none
+  no_question :
+      (logs : List Log) (f : AskFault) → AreGoodLogs texts logs → QuestionTextFault question f
+      → r ≡ reason.Question f → WhyNotPosed texts question r
+  -- the question is asked of another ring
+  other_ring :
+      (logs : List Log) (asked : Asked) → AreGoodLogs texts logs → IsQuestionText question asked → asked.nodes ≢ length logs
+      → r ≡ reason.QuestionSize → WhyNotPosed texts question r

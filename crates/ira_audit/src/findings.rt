@@ -1,0 +1,62 @@
+ghost use Rattle.std.specs.Prelude.{◌≡◌, ◌↔◌, ℕ, List, Ok, None, Some, MatchOption, IfOk, Contains, map};
+ghost use Rattle.ira_event.specs.Result.{UnlessErr};
+ghost use Rattle.ira_cert_text.specs.Certificate as certificate;
+ghost use Rattle.ira_cert_text.specs.CertText.{IsCertText};
+ghost use Rattle.ira_elim.specs.declared.found.Found.TheVariants.{Absent, Present};
+ghost use Rattle.ira_audit.specs.AuditAnswer.{IsAuditAnswer};
+ghost use Rattle.ira_audit.specs.Findings.{AreFindings, IsCertificateOf, MakeNoCertificate};
+ghost use Rattle.ira_audit.specs.declared.answer.Answer.{Answer};
+
+use crate::reason::Reason;
+use ira_cert_text::{Certificate, Section};
+use ira_elim::Found;
+use ira_event::{OutOfMemory, RingSize};
+use std::alloc::Allocator;
+
+/// What is found for a question about the logs of a ring.
+#[derive(Drop)]
+pub enum Findings<A: Allocator> {
+    /// The first reason against the logs or the question.
+    Refused(Reason),
+    /// The ring's size, and what is found for each case of the question, in order.
+    Cases {
+        nodes: RingSize,
+        found: Vec<Found<A>, A>,
+    },
+}
+
+impl<A: Allocator + Clone> Findings<A> {
+    /// The certificate of the sections that were found, if each case is absent. Where it is `readable`,
+    /// `audit` says yes of the same logs, the question and its text. It may be larger than that.
+    pub fn into_certificate(self) -> Result<Option<Certificate<A>>, OutOfMemory>
+        ensures some { (c : certificate.Certificate) → UnlessErr result (record {}) ((result ≡ Ok (Some c)) ↔ IsCertificateOf self c) }
+        ensures none { UnlessErr result (record {}) ((result ≡ Ok None) ↔ MakeNoCertificate self) }
+        ensures accepted { (texts : List (List ℕ)) (question text : List ℕ) (c : certificate.Certificate) → AreFindings texts question self → result ≡ Ok (Some c) → IsCertText text c → IsAuditAnswer texts question text Answer.Yes }
+    {
+        match self {
+            Findings::Refused(_) => Ok(None),
+            Findings::Cases { nodes, found } => {
+                let Some(sections) = into_sections(found)? else {
+                    return Ok(None);
+                };
+                Ok(Some(Certificate { nodes, sections }))
+            }
+        }
+    }
+}
+
+/// The sections that were found, if each case is absent.
+fn into_sections<A: Allocator + Clone>(
+    found: Vec<Found<A>, A>,
+) -> Result<Option<Vec<Section<A>, A>>, OutOfMemory>
+    ensures { IfOk result (λ sections. MatchOption sections ((cut : List ℕ) × Contains found.items (Present cut)) (λ sections. found.items ≡ map Absent sections.items)) }
+{
+    let mut sections = Vec::with_capacity(found.allocator().clone()?, found.len())?;
+    for found in found {
+        match found {
+            Found::Absent(section) => sections.push(section)?,
+            Found::Present(_) => return Ok(None),
+        }
+    }
+    Ok(Some(sections))
+}

@@ -1,0 +1,50 @@
+-- Helpers, no definitions: eliminations told by the candidates left of each node. That they are the sound
+-- steps of a section is proved.
+use Rattle.std.specs.Prelude.{◌≡◌, ◌≢◌, ℕ, ◌+◌, ◌<◌, ◌≤◌, ◌⊎◌, ◌↔◌, List, Option, Some, Contains, length, slice_get, slice_index}
+use Rattle.ira_event.specs.Log.{Log}
+use Rattle.ira_pred.specs.Case.{Conjunct}
+use Rattle.ira_order.specs.Ring.{log_of}
+use Rattle.ira_order.specs.Before.{Before}
+use Rattle.ira_order.specs.VectorClock.{IsCount}
+use Rattle.ira_cert_text.specs.declared.cert_step.CertStep.{CertStep}
+use Rattle.ira_cert.specs.Asked.{HasDifferentPlaces}
+use Rattle.ira_cert.specs.Fronts.{AreFronts}
+
+-- they are the candidates of some case that asks each node for one thing at most
+abbrev pub AreFrontsOfSomeCase : List Log → List (Option (List ℕ)) → Type 0
+AreFrontsOfSomeCase logs fronts = (case : List Conjunct) × HasDifferentPlaces case × AreFronts logs case fronts
+
+-- there is a list at place i
+abbrev pub HasList : List (Option (List ℕ)) → ℕ → Type 0
+HasList fronts i = (left : List ℕ) × (slice_get fronts i ≡ Some (Some left))
+
+-- these are the places at which there is a list
+abbrev pub ArePlaces : List (Option (List ℕ)) → List ℕ → Type 0
+ArePlaces fronts places = (i : ℕ) → Contains places i ↔ HasList fronts i
+
+-- p is the first candidate left of node i
+abbrev pub IsFirstLeft : List (Option (List ℕ)) → ℕ → ℕ → Type 0
+IsFirstLeft fronts i p = (left : List ℕ) × (slice_get fronts i ≡ Some (Some left)) × (slice_get left 0 ≡ Some p)
+
+-- the first candidates left are states of the logs
+abbrev pub AreWithin : List Log → List (Option (List ℕ)) → Type 0
+AreWithin logs fronts = (i p : ℕ) → IsFirstLeft fronts i p → (i < length logs) × (p ≤ length (log_of logs i))
+
+-- the step names the first candidates left of two different nodes, and the event that leads on from the one
+-- state happened before the event that led to the other
+pub record IsElimination (logs : List Log) (fronts : List (Option (List ℕ))) (s : CertStep) : Type 0 where
+  pub differ : s.node ≢ s.other
+  pub front : IsFirstLeft fronts s.node s.pos
+  pub other_front : IsFirstLeft fronts s.other s.other_pos
+  pub happened_before : Before logs s.node (s.pos + 1) s.other s.other_pos
+
+-- the greatest of the counts of node i at the events that led to the first candidates left, 0 where there are
+-- none; an event counts no more of its own node than its number
+pub record IsGreatestCount (logs : List Log) (fronts : List (Option (List ℕ))) (i c : ℕ) : Type 0 where
+  pub upper : (j q : ℕ) → IsFirstLeft fronts j q → (n : ℕ) × IsCount logs j q i n × (n ≤ c)
+  pub reached : (c ≡ 0) ⊎ ((j : ℕ) × (q : ℕ) × IsFirstLeft fronts j q × IsCount logs j q i c × (i ≡ j → c ≤ q))
+
+-- the greatest counts of all nodes
+pub record AreGreatestCounts (logs : List Log) (fronts : List (Option (List ℕ))) (cut : List ℕ) : Type 0 where
+  pub places : length cut ≡ length logs
+  pub counts : (i : ℕ) → i < length logs → IsGreatestCount logs fronts i (slice_index cut i)

@@ -1,0 +1,13 @@
+//! The maker: for a case either a section that shows that no consistent cut meets it, or the least consistent
+//! cut that does.
+#![tactic(auto)]
+
+mod cut;
+mod elimination;
+mod found;
+mod maker;
+
+pub use cut::Cut;
+pub use elimination::decide_fronts;
+pub use found::Found;
+pub use maker::{decide, decide_profiled};

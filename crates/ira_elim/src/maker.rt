@@ -1,0 +1,50 @@
+ghost use Rattle.std.specs.Prelude.{◌≡◌, IfOk};
+ghost use Rattle.ira_cert.specs.Asked.{HasPlacesOf};
+ghost use Rattle.ira_elim.specs.Found.{IsFound};
+
+use crate::elimination::decide_fronts;
+use crate::found::Found;
+use ira_cand::Profile;
+use ira_cert::{case_fronts, profiled_fronts};
+use ira_event::{Logs, OutOfMemory};
+use ira_order::Ordered;
+use ira_pred::Case;
+use std::alloc::Allocator;
+
+/// Decides whether a consistent cut of the logs meets the case, by eliminations (Garg and Waldecker,
+/// Detection of Weak Unstable Predicates in Distributed Programs, IEEE TPDS 5(3), 1994). Absent comes with
+/// a section that shows it, Present with the least of the consistent cuts that meet the case.
+///
+/// The least node without a candidate left is spent; as long as there is none, the least pair of nodes, by
+/// `node` and then by `other`, whose first candidates left allow a step gives the next one.
+pub fn decide<A: Allocator + Clone>(
+    alloc: A,
+    logs: &Logs<A>,
+    ordered: &Ordered<'_, A>,
+    case: &Case<A>,
+) -> Result<Found<A>, OutOfMemory>
+    requires order { ordered.now.logs ≡ logs.now }
+    requires places { HasPlacesOf logs.now case.now }
+    ensures { IfOk result (λ found. IsFound logs.now case.now found) }
+{
+    let fronts = case_fronts(alloc.clone()?, logs, case)?;
+    decide_fronts(alloc, ordered, fronts)
+}
+
+/// Decides a case as `decide` does, with the profiles of the logs, place by place: for many cases of the same
+/// logs no state is computed again. Of each node that the case asks it keeps a list of its candidates
+/// meanwhile.
+pub fn decide_profiled<A: Allocator + Clone>(
+    alloc: A,
+    profiles: &[Profile<'_, A>],
+    ordered: &Ordered<'_, A>,
+    case: &Case<A>,
+) -> Result<Found<A>, OutOfMemory>
+    requires order { ordered.now.logs ≡ profiles.now }
+    requires places { HasPlacesOf profiles.now case.now }
+    ensures { IfOk result (λ found. IsFound profiles.now case.now found) }
+{
+    let nodes = ordered.logs().size().get();
+    let fronts = profiled_fronts(alloc.clone()?, nodes, profiles, case)?;
+    decide_fronts(alloc, ordered, fronts)
+}
