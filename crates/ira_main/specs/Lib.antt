@@ -1,7 +1,10 @@
 pub mod AskedRun
+pub mod CertFile
 pub mod Complaint
 pub mod Counted
+pub mod Outcome
 pub mod ReadText
 pub mod Serve
+pub mod Shelf
 pub mod ShelfFault
 pub mod Status

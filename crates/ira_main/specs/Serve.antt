@@ -7,27 +7,29 @@ use Rattle.ira_audit.specs.AuditAnswer.{IsAuditAnswer}
 use Rattle.ira_audit.specs.LogsAnswer.{IsLogsAnswer}
 use Rattle.ira_ring.specs.EndsWriter.{ends_text}
 use Rattle.ira_ring.specs.Run.{Run}
+use Rattle.ira_event.specs.RingSize.{IsRingSize}
+use Rattle.ira_pred.specs.Pairs.{ArePairCases}
+use Rattle.ira_pred.specs.Question.{Asked}
+use Rattle.ira_pred.specs.QuestionText.{question_text}
 use Rattle.ira_main.specs.Counted.{Reads}
+use Rattle.ira_main.specs.Outcome.{IsUntouched}
 use Rattle.ira_main.specs.ReadText.{IsReadTo}
 use Rattle.ira_audit.specs.Report.{report_line}
-use Rattle.ira_words.specs.Request.{AskForCheck, AskForLogs, AskForRun}
+use Rattle.ira_words.specs.Request.{AskForCheck, AskForLogs, AskForPairs, AskForRun}
 use Rattle.ira_main.specs.AskedRun.{IsAskedRun}
 use Rattle.ira_main.specs.Status.{IsElectionStatus, status_number, answer_status}
 use Rattle.ira_audit.specs.declared.answer.Answer.{Answer}
 use Rattle.ira_words.specs.declared.check_request.CheckRequest.{CheckRequest}
 use Rattle.ira_words.specs.declared.run_request.RunRequest.{RunRequest}
 
--- nothing was written, and nothing failed
-pub record IsUntouched (taken : Option (List ℕ)) (failures : ℕ) (taken' : Option (List ℕ)) (failures' : ℕ) : Type 0 where
-  pub same_bytes : taken' ≡ taken
-  pub same_failures : failures' ≡ failures
+-- the text was written whole, and the status is this one; or the write failed, and the status is 2
+abbrev pub Prints : List ℕ → ℕ → Option (List ℕ) → ℕ → Option (List ℕ) → ℕ → ℕ → Type 0
+Prints text good taken failures taken' failures' status =
+    (Takes text taken failures taken' failures' × (status ≡ good)) ⊎ (StopsIn text taken failures taken' failures' × (status ≡ 2))
 
--- the answer was written whole, and the status is the answer's; or the write failed, and the status
--- is 2
+-- the answer was printed, and its status is given
 abbrev pub Reports : Answer → Option (List ℕ) → ℕ → Option (List ℕ) → ℕ → ℕ → Type 0
-Reports answer taken failures taken' failures' status =
-    (Takes (report_line answer) taken failures taken' failures' × (status ≡ status_number (answer_status answer)))
-    ⊎ (StopsIn (report_line answer) taken failures taken' failures' × (status ≡ 2))
+Reports answer = Prints (report_line answer) (status_number (answer_status answer))
 
 -- without words: the text that the input had left was judged, and its answer reported; or a read
 -- failed, or there was no memory, and nothing was written
@@ -61,6 +63,14 @@ pub record JudgesCertified (number : ℕ) (taken : Option (List ℕ)) (failures 
   pub judged : IsAuditAnswer texts question certificate answer
   pub reported : Reports answer taken failures taken' failures' status
 
+-- the question whether two nodes of a ring of so many ever lead at once was printed
+pub record AsksPairs (nodes : ℕ) (taken : Option (List ℕ)) (failures : ℕ) (taken' : Option (List ℕ)) (failures' : ℕ) (status : ℕ) : Type 0 where
+  pub size : IsRingSize nodes
+  pub question : Asked
+  pub nodes_are : question.nodes ≡ nodes
+  pub cases_are : ArePairCases nodes question.cases
+  pub printed : Prints (question_text question) 0 taken failures taken' failures' status
+
 -- the ends of a run were written whole, and the status says whether a node leads; or the write failed,
 -- and the status is 2
 abbrev pub ReportsEnds : Run → Option (List ℕ) → ℕ → Option (List ℕ) → ℕ → ℕ → Type 0
@@ -76,10 +86,12 @@ pub record Records (request : RunRequest) (taken : Option (List ℕ)) (failures 
 
 -- what was done for the words: they ask for the logs in some files, and as many texts were judged together;
 -- or they ask to check the logs in some files, and as many texts were judged with those of a question and of a
--- certificate; or they ask for a ring, and it was run; or no answer was given
+-- certificate; or they ask for the question of all pairs, and it was printed; or they ask for a ring, and it was run; or
+-- no answer was given
 pub data Done (words : List (List ℕ)) (taken : Option (List ℕ)) (failures : ℕ) (taken' : Option (List ℕ)) (failures' : ℕ) (status : ℕ) : Type 0 where
   judged : (names : List (List ℕ)) → AskForLogs words names → JudgesTogether (length names) taken failures taken' failures' status → Done words taken failures taken' failures' status
   certified : (check : CheckRequest) → AskForCheck words check → JudgesCertified (length check.logs.items) taken failures taken' failures' status → Done words taken failures taken' failures' status
+  asked : (nodes : ℕ) → AskForPairs words nodes → AsksPairs nodes taken failures taken' failures' status → Done words taken failures taken' failures' status
   recorded : (request : RunRequest) → AskForRun words request → Records request taken failures taken' failures' status → Done words taken failures taken' failures' status
   no_answer : GivesNoAnswer taken failures taken' failures' status → Done words taken failures taken' failures' status
 

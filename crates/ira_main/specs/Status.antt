@@ -1,4 +1,4 @@
-use Rattle.std.specs.Prelude.{◌≡◌, ◌⊎◌, ℕ, List, Some, Result, Ok, Err, slice_get}
+use Rattle.std.specs.Prelude.{◌≡◌, ◌⊎◌, ℕ, List, Some, slice_get}
 use Rattle.ira_audit.specs.declared.answer.Answer.{Answer}
 use Rattle.ira_audit.specs.declared.answer.Answer.TheVariants as answer
 use Rattle.ira_run.specs.declared.node_end.NodeEnd.{NodeEnd}
@@ -39,8 +39,3 @@ fault_status fault.OutOfMemory = OutOfMemory
 abbrev pub complaint_status : Complaint → Status
 complaint_status complaint.OutOfMemory = OutOfMemory
 complaint_status _ = Refused
-
--- the number of the status that there is, or of the complaint's
-abbrev pub outcome_number : Result Status Complaint → ℕ
-outcome_number (Ok status) = status_number status
-outcome_number (Err c) = status_number (complaint_status c)

@@ -1,6 +1,5 @@
-ghost use Rattle.std.specs.Prelude.{◌≡◌, ◌↔◌, map, nat_lt, IfOk, IfSome, IsSome, unwrap_or};
+ghost use Rattle.std.specs.Prelude.{◌≡◌, map, nat_lt, IfOk, unwrap_or};
 ghost use Rattle.std.specs.List.{range_with_len};
-ghost use Rattle.ira_event.specs.RingSize.{IsRingSize};
 ghost use Rattle.ira_main.specs.AskedRun.{IsAskedSetup, IsAskedRun};
 
 use ira_event::{OutOfMemory, RingSize};
@@ -11,14 +10,6 @@ use std::alloc::{AllocError, Allocator};
 use std::sync::Wait;
 use std::thread::Threads;
 use std::time::Clock;
-
-/// The size of the ring that is asked for, where a ring has one.
-pub(crate) fn ring_size(request: &RunRequest<'_>) -> Option<RingSize>
-    ensures some { IsSome result ↔ IsRingSize request.now.nodes }
-    ensures value { IfSome result (λ size. size ≡ request.now.nodes) }
-{
-    RingSize::new(u8::try_from(request.nodes).ok()?)
-}
 
 // Whether each node of such a ring is an initiator.
 fn initiators<A: Allocator>(

@@ -1,10 +1,13 @@
-ghost use Rattle.std.specs.Prelude.{◌≡◌};
-ghost use Rattle.ira_main.specs.Complaint.{read_complaint, write_complaint};
+ghost use Rattle.std.specs.Prelude.{◌≡◌, ◌++◌, codes, decimal};
+ghost use Rattle.ira_event.specs.Sink.{Wrote};
+ghost use Rattle.ira_run.specs.RunFault.{run_fault_number};
+ghost use Rattle.ira_main.specs.Complaint.{complaint_text, keep_complaint, read_complaint, write_complaint};
+ghost use Rattle.ira_main.specs.Outcome.{IsSaid, IsTold, outcome_number};
 ghost use Rattle.ira_main.specs.Status.{complaint_status, fault_status};
 
 use crate::shelf_fault::ShelfFault;
 use crate::status::Status;
-use ira_event::{OutOfMemory, Sink, WriteFault, write_bytes, write_number};
+use ira_event::{Line, OutOfMemory, Sink, WriteFault, write_bytes};
 use ira_ring::RunFault;
 use ira_words::WordsFault;
 use std::alloc::{AllocError, AllocFailed};
@@ -23,6 +26,10 @@ pub(crate) enum Complaint<'a> {
     RunRefused(RunFault),
     /// The log of the node at this place can't be written to its file in this folder.
     CannotWriteLog(&'a str, u8),
+    /// The certificate can't be written to the file of this name.
+    CannotWrite(&'a str),
+    /// The text of the certificate couldn't be read back.
+    CertificatePastLimits,
     CannotWriteAnswer,
     OutOfMemory,
 }
@@ -50,10 +57,22 @@ impl<'a> Complaint<'a> {
         }
     }
 
+    /// The certificate wasn't written to the file of this name.
+    pub(crate) fn unkept(name: &'a str, fault: ShelfFault) -> Complaint<'a>
+        ensures { result ≡ keep_complaint name.entry fault }
+    {
+        match fault {
+            ShelfFault::Device => Complaint::CannotWrite(name),
+            ShelfFault::OutOfMemory => Complaint::OutOfMemory,
+        }
+    }
+
     /// Says it on `err`, and gives the status that the program ends with. Where `err` fails the
     /// status stays.
+    #[tactic(auto, using(crate::proofs::Telling::told))]
     pub(crate) fn tell<V: Sink>(&self, err: &mut V) -> Status
-        ensures { result ≡ complaint_status self.now }
+        ensures status { result ≡ complaint_status self.now }
+        ensures told { IsTold self.now (V.taken err.old) (V.failures err.old) (V.taken err.new) (V.failures err.new) }
     {
         let _ = self.write(err);
         match self {
@@ -62,31 +81,87 @@ impl<'a> Complaint<'a> {
         }
     }
 
-    fn write<V: Sink>(&self, err: &mut V) -> Result<(), WriteFault> {
+    fn write<V: Sink>(&self, err: &mut V) -> Result<(), WriteFault>
+        ensures { Wrote result (complaint_text self.now) (V.taken err.old) (V.failures err.old) (V.taken err.new) (V.failures err.new) }
+    {
         match self {
             Complaint::Words(text) => write_bytes(text.as_bytes(), err),
             Complaint::WordIsNoText => write_bytes(b"ira: a word is not UTF-8\n", err),
             Complaint::CannotRead(name) => {
-                write_bytes(b"ira: cannot read ", err)?;
-                write_bytes(name.as_bytes(), err)?;
-                write_bytes(b"\n", err)
+                write_named(b"ira: cannot read ", name.as_bytes(), &line_end(), err)
             }
             Complaint::RingSize => write_bytes(b"ira: ring size\n", err),
-            Complaint::RunRefused(fault) => {
-                write_bytes(b"ira: run refused ", err)?;
-                write_number(u64::from(fault.number()), err)?;
-                write_bytes(b"\n", err)
+            Complaint::RunRefused(fault) => refused_run(*fault).write(err),
+            Complaint::CannotWriteLog(folder, place) => write_named(
+                b"ira: cannot write ",
+                folder.as_bytes(),
+                &log_in_folder(*place),
+                err,
+            ),
+            Complaint::CannotWrite(name) => {
+                write_named(b"ira: cannot write ", name.as_bytes(), &line_end(), err)
             }
-            Complaint::CannotWriteLog(folder, place) => {
-                write_bytes(b"ira: cannot write ", err)?;
-                write_bytes(folder.as_bytes(), err)?;
-                write_bytes(b"/", err)?;
-                write_number(u64::from(*place), err)?;
-                write_bytes(b".log\n", err)
+            Complaint::CertificatePastLimits => {
+                write_bytes(b"ira: certificate past the limits\n", err)
             }
             Complaint::CannotWriteAnswer => write_bytes(b"ira: cannot write the answer\n", err),
             Complaint::OutOfMemory => write_bytes(b"ira: out of memory\n", err),
         }
+    }
+}
+
+// The end of a line that names a file.
+fn line_end() -> Line
+    ensures { result ≡ codes "\n" }
+{
+    let mut line = Line::new();
+    line.add(b"\n");
+    line
+}
+
+// The end of a line that names a folder: the name of the log of a place in it.
+fn log_in_folder(place: u8) -> Line
+    ensures { result ≡ codes "/" ++ decimal place ++ codes ".log\n" }
+{
+    let mut line = Line::new();
+    line.add(b"/");
+    line.add_number(u32::from(place));
+    line.add(b".log\n");
+    line
+}
+
+fn refused_run(fault: RunFault) -> Line
+    ensures { result ≡ codes "ira: run refused " ++ decimal (run_fault_number fault) ++ codes "\n" }
+{
+    let mut line = Line::new();
+    line.add(b"ira: run refused ");
+    line.add_number(u32::from(fault.number()));
+    line.add(b"\n");
+    line
+}
+
+#[tactic(auto, using(ira_event::proofs::Writing::writes))]
+fn write_named<V: Sink>(
+    before: &[u8],
+    name: &[u8],
+    rest: &Line,
+    err: &mut V,
+) -> Result<(), WriteFault>
+    ensures { Wrote result (before.now ++ name.now ++ rest.now) (V.taken err.old) (V.failures err.old) (V.taken err.new) (V.failures err.new) }
+{
+    write_bytes(before, err)?;
+    write_bytes(name, err)?;
+    rest.write(err)
+}
+
+/// The number of the status that the program ends with; a complaint is told on `err`.
+pub(crate) fn conclude<V: Sink>(outcome: Result<Status, Complaint<'_>>, err: &mut V) -> u8
+    ensures number { result ≡ outcome_number outcome.entry }
+    ensures said { IsSaid outcome.entry (V.taken err.old) (V.failures err.old) (V.taken err.new) (V.failures err.new) }
+{
+    match outcome {
+        Ok(status) => status.number(),
+        Err(complaint) => complaint.tell(err).number(),
     }
 }
 

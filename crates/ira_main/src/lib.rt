@@ -2,17 +2,21 @@
 #![tactic(auto)]
 
 mod asked_run;
+mod cert_file;
 mod complaint;
 mod counted;
 mod file_shelf;
+mod print_pairs;
 mod program;
 mod read_text;
 mod record_run;
+mod ring_size;
 mod shelf;
 mod shelf_fault;
 mod status;
 mod system;
 
+pub use cert_file::keep_cert;
 pub use counted::Counted;
 pub use file_shelf::FileShelf;
 pub use program::serve;

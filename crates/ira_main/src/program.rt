@@ -1,11 +1,12 @@
 ghost use Rattle.std.specs.Prelude.{◌≡◌, ◌≢◌, ◌⊎◌, ◌≤◌, ◌+◌, ℕ, List, [], IfOk, length, map};
 ghost use Rattle.ira_audit.specs.Report.{IsReportable};
 ghost use Rattle.ira_audit.specs.RingAudit.{HasTaken};
+ghost use Rattle.ira_main.specs.Outcome.{outcome_number};
 ghost use Rattle.ira_main.specs.Serve.{GivesNoAnswer, Judges, JudgesCertified, JudgesTogether, Obeys, Reports};
-ghost use Rattle.ira_main.specs.Status.{outcome_number};
 
-use crate::complaint::Complaint;
+use crate::complaint::{Complaint, conclude};
 use crate::counted::Counted;
+use crate::print_pairs::print_pairs;
 use crate::read_text::read_text;
 use crate::record_run::record_run;
 use crate::shelf::Shelf;
@@ -136,17 +137,9 @@ where
         Request::OneLog => judge_input(alloc, input, out),
         Request::Logs(names) => judge_files(alloc, &names, shelf, out),
         Request::Check(check) => check_files(rt, alloc, &check, shelf, out),
+        Request::Decide(_) => Err(Complaint::CannotWriteAnswer),
+        Request::Pairs(nodes) => print_pairs(alloc, nodes, out),
         Request::Run(ring) => record_run(rt, alloc, &ring, shelf, out),
-    }
-}
-
-// The number of the status that the program ends with; a complaint is told on `err`.
-fn conclude<V: Sink>(outcome: Result<Status, Complaint<'_>>, err: &mut V) -> u8
-    ensures { result ≡ outcome_number outcome.entry }
-{
-    match outcome {
-        Ok(status) => status.number(),
-        Err(complaint) => complaint.tell(err).number(),
     }
 }
 

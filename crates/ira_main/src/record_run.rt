@@ -1,9 +1,10 @@
 ghost use Rattle.std.specs.Prelude.{◌⊎◌};
+ghost use Rattle.ira_main.specs.Outcome.{outcome_number};
 ghost use Rattle.ira_main.specs.Serve.{GivesNoAnswer, Records};
-ghost use Rattle.ira_main.specs.Status.{outcome_number};
 
-use crate::asked_run::{ring_size, run};
+use crate::asked_run::run;
 use crate::complaint::Complaint;
+use crate::ring_size::ring_size;
 use crate::shelf::Shelf;
 use crate::shelf_fault::ShelfFault;
 use crate::status::Status;
@@ -59,7 +60,7 @@ where
     W: Sink,
     ensures { Records request.now (W.taken out.old) (W.failures out.old) (W.taken out.new) (W.failures out.new) (outcome_number result) ⊎ GivesNoAnswer (W.taken out.old) (W.failures out.old) (W.taken out.new) (W.failures out.new) (outcome_number result) }
 {
-    let Some(nodes) = ring_size(request) else {
+    let Some(nodes) = ring_size(request.nodes) else {
         return Err(Complaint::RingSize);
     };
     let run = run(request, rt, alloc.clone()?, nodes)?;

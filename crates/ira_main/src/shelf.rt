@@ -1,4 +1,5 @@
-ghost use Rattle.std.specs.Prelude.{◌≤◌, ◌+◌, length, IfOk};
+ghost use Rattle.std.specs.Prelude.{◌≤◌, ◌+◌, ℕ, List, Result, length, IfErr, IfOk, ⊤};
+ghost use Rattle.ira_main.specs.declared.shelf_fault.ShelfFault.{ShelfFault};
 
 use crate::shelf_fault::ShelfFault;
 use ira_event::{MAX_TEXT, Sink};
@@ -9,16 +10,25 @@ pub trait Shelf<A: Allocator> {
     /// A file that is being written.
     type Out: Sink + Drop;
 
+    // what `create` does to the shelf, and what comes of it
+    ghost creates: { Self → List ℕ → Result Self.Out ShelfFault → Self → Type 0 } = { λ _ _ _ _. ⊤ };
+
+    // what a failure of `close` says of the shelf before, the file and the shelf after
+    ghost loses: { Self → Self.Out → ShelfFault → Self → Type 0 } = { λ _ _ _ _. ⊤ };
+
     /// The bytes of a file, to its end or to one more than `MAX_TEXT`, whichever comes first.
     fn read(&mut self, name: &str) -> Result<Vec<u8, A>, ShelfFault>
         ensures { IfOk result (λ text. length text.items ≤ MAX_TEXT + 1) };
 
     /// A new file of this name, empty; one of the same name is emptied.
-    fn create(&mut self, name: &str) -> Result<Self::Out, ShelfFault>;
+    fn create(&mut self, name: &str) -> Result<Self::Out, ShelfFault>
+        ensures { creates self.old name.now result self.new };
 
     /// Ends the writing of a file: what a buffer still holds is written. Only then is it known that
     /// nothing was lost.
-    fn close(&mut self, _file: Self::Out) -> Result<(), ShelfFault> {
+    fn close(&mut self, _file: Self::Out) -> Result<(), ShelfFault>
+        ensures { IfErr result (λ fault. loses self.old _file fault self.new) }
+    {
         Ok(())
     }
 }

@@ -12,7 +12,7 @@ use Rattle.clap.specs.Simple.{App, HasMatchesOf, Shape, built, built_leaf, enter
 use Rattle.clap.specs.Walk.{Held, Names, Row, Rule, Step, Text, Walk, answers_to, arg_by_long, after_step, bundle_met, bundle_step, has_long, has_short, idle, long_word, trailing, nothing_held, plain, rows_after, subcommand_or_other, long_or_other, short_or_plain, after_flag, walk_from, walked}
 use Rattle.clap.specs.Matches.{subcommand_name_of}
 use Rattle.clap.specs.declared.parser.matches.ArgMatches.{ArgMatches}
-use Rattle.ira_words.specs.CommandLine.{check_app, ira_app, logs_app, run_app}
+use Rattle.ira_words.specs.CommandLine.{check_app, decide_app, ira_app, logs_app, pairs_app, run_app}
 
 -- this is the first of the words
 abbrev pub BeginsWithWord : Text → List Text → Type 0
@@ -79,6 +79,20 @@ check_rows rest = ap (λ o. entered (built ira_app) o) (stays top.rules names (w
 
 check_met : (rest : List Text) → name_met (subcommand_of ira_app (codes "check" ∷ rest)) ≡ Some (codes "check")
 check_met rest = ap name_met (check_rows rest)
+
+decide_rows : (rest : List Text) → subcommand_of ira_app (codes "decide" ∷ rest) ≡ Some (codes "decide", rows_after (built_leaf decide_app.top).rules [] rest)
+unfolding walked
+decide_rows rest = ap (λ o. entered (built ira_app) o) (stays top.rules names (walk_from nothing_held) (codes "decide") [] rest)
+
+decide_met : (rest : List Text) → name_met (subcommand_of ira_app (codes "decide" ∷ rest)) ≡ Some (codes "decide")
+decide_met rest = ap name_met (decide_rows rest)
+
+pairs_rows : (rest : List Text) → subcommand_of ira_app (codes "pairs" ∷ rest) ≡ Some (codes "pairs", rows_after (built_leaf pairs_app.top).rules [] rest)
+unfolding walked
+pairs_rows rest = ap (λ o. entered (built ira_app) o) (stays top.rules names (walk_from nothing_held) (codes "pairs") [] rest)
+
+pairs_met : (rest : List Text) → name_met (subcommand_of ira_app (codes "pairs" ∷ rest)) ≡ Some (codes "pairs")
+pairs_met rest = ap name_met (pairs_rows rest)
 
 run_rows : (rest : List Text) → subcommand_of ira_app (codes "run" ∷ rest) ≡ Some (codes "run", rows_after (built_leaf run_app.top).rules [] rest)
 unfolding walked
@@ -202,36 +216,35 @@ unnamed w rest n other none met =
         (subst (λ d. name_met (entered (built ira_app) (fold (walked top.rules names) (walk_by d w) rest).stopped) ≡ Some n) is stops)
     go false is turn walks stops = no_fault _ (word_is_fault (long_of w) w) (subst (λ d. word_fault_by d w ≡ []) is turn)
 
+-- the words name this command, where the first of them is it and it is the one that is met
+named_by_first : (name w : Text) (rest : List Text) (n : Text) → bytes_eq name w ≡ true → name_met (subcommand_of ira_app (name ∷ rest)) ≡ Some name
+    → name_met (subcommand_of ira_app (w ∷ rest)) ≡ Some n → BeginsWithWord n (w ∷ rest)
+named_by_first name w rest n is meets met =
+    let same : name ≡ w = (bytes_eq-Decides name w).0 is in
+    let Met : Text → Type 0 = λ x. name_met (subcommand_of ira_app (x ∷ rest)) ≡ Some n in
+    let both : Some name ≡ Some n = sym meets ∙ subst Met (sym same) met in
+    let first : w ≡ n = cc in
+    (rest, ap (λ x. x ∷ rest) first)
+
 -- the command that words without a fault meet is named by the first of them
 pub named : (words : List Text) (n : Text) → fault_of ira_app words ≡ [] → name_met (subcommand_of ira_app words) ≡ Some n → BeginsWithWord n words
 named [] n none met = cc
-named (w ∷ rest) n none met = go (bytes_eq (codes "logs") w) (bytes_eq (codes "check") w) (bytes_eq (codes "run") w) (bytes_eq (codes "help") w) refl refl refl refl
+named (w ∷ rest) n none met =
+    go (bytes_eq (codes "logs") w) (bytes_eq (codes "check") w) (bytes_eq (codes "decide") w) (bytes_eq (codes "pairs") w) (bytes_eq (codes "run") w) (bytes_eq (codes "help") w)
+    refl refl refl refl refl refl
   where
-    At : Text → Type 0
-    At x = name_met (subcommand_of ira_app (x ∷ rest)) ≡ Some n
-
-    go : (logs check run help : Bool) → bytes_eq (codes "logs") w ≡ logs → bytes_eq (codes "check") w ≡ check → bytes_eq (codes "run") w ≡ run → bytes_eq (codes "help") w ≡ help
-        → BeginsWithWord n (w ∷ rest)
-    go true check run help is_logs is_check is_run is_help =
-        let same : codes "logs" ≡ w = (bytes_eq-Decides (codes "logs") w).0 is_logs in
-        let both : Some (codes "logs") ≡ Some n = sym (logs_met rest) ∙ subst At (sym same) met in
-        let first : w ≡ n = cc in
-        (rest, ap (λ x. x ∷ rest) first)
-    go false true run help is_logs is_check is_run is_help =
-        let same : codes "check" ≡ w = (bytes_eq-Decides (codes "check") w).0 is_check in
-        let both : Some (codes "check") ≡ Some n = sym (check_met rest) ∙ subst At (sym same) met in
-        let first : w ≡ n = cc in
-        (rest, ap (λ x. x ∷ rest) first)
-    go false false true help is_logs is_check is_run is_help =
-        let same : codes "run" ≡ w = (bytes_eq-Decides (codes "run") w).0 is_run in
-        let both : Some (codes "run") ≡ Some n = sym (run_met rest) ∙ subst At (sym same) met in
-        let first : w ≡ n = cc in
-        (rest, ap (λ x. x ∷ rest) first)
-    go false false false true is_logs is_check is_run is_help =
+    go : (logs check decide pairs run help : Bool) → bytes_eq (codes "logs") w ≡ logs → bytes_eq (codes "check") w ≡ check → bytes_eq (codes "decide") w ≡ decide
+        → bytes_eq (codes "pairs") w ≡ pairs → bytes_eq (codes "run") w ≡ run → bytes_eq (codes "help") w ≡ help → BeginsWithWord n (w ∷ rest)
+    go true check decide pairs run help is_logs is_check is_decide is_pairs is_run is_help = named_by_first (codes "logs") w rest n is_logs (logs_met rest) met
+    go false true decide pairs run help is_logs is_check is_decide is_pairs is_run is_help = named_by_first (codes "check") w rest n is_check (check_met rest) met
+    go false false true pairs run help is_logs is_check is_decide is_pairs is_run is_help = named_by_first (codes "decide") w rest n is_decide (decide_met rest) met
+    go false false false true run help is_logs is_check is_decide is_pairs is_run is_help = named_by_first (codes "pairs") w rest n is_pairs (pairs_met rest) met
+    go false false false false true help is_logs is_check is_decide is_pairs is_run is_help = named_by_first (codes "run") w rest n is_run (run_met rest) met
+    go false false false false false true is_logs is_check is_decide is_pairs is_run is_help =
         let same : codes "help" ≡ w = (bytes_eq-Decides (codes "help") w).0 is_help in
         absurd (no_fault _ (help_is_fault rest) (subst (λ x. fault_of ira_app (x ∷ rest) ≡ []) (sym same) none))
-    go false false false false is_logs is_check is_run is_help =
-        absurd (unnamed w rest n (rw (is_logs, is_check, is_run, is_help) refl) none met)
+    go false false false false false false is_logs is_check is_decide is_pairs is_run is_help =
+        absurd (unnamed w rest n (rw (is_logs, is_check, is_decide, is_pairs, is_run, is_help) refl) none met)
 
 -- the command that is met is named by the first word
 pub met_by_first : (a : App) (m : ArgMatches) (words : List Text) (n : Text) → a ≡ ira_app → HasMatchesOf a words m → (is_simple_and_free a ≡ true → fault_of a words ≡ [])
@@ -261,3 +274,11 @@ rows_of_run a m others found is has read = rows_behind a m (codes "run" ∷ othe
 pub rows_of_check : (a : App) (m : ArgMatches) (others : List Text) (found : List Row) → a ≡ ira_app → HasMatchesOf a (codes "check" ∷ others) m
     → Some found ≡ option_map (λ s. s.1) (subcommand_rows_of m) → found ≡ rows_after (built_leaf check_app.top).rules [] others
 rows_of_check a m others found is has read = rows_behind a m (codes "check" ∷ others) (codes "check") _ found is has read (check_rows others)
+
+pub rows_of_decide : (a : App) (m : ArgMatches) (others : List Text) (found : List Row) → a ≡ ira_app → HasMatchesOf a (codes "decide" ∷ others) m
+    → Some found ≡ option_map (λ s. s.1) (subcommand_rows_of m) → found ≡ rows_after (built_leaf decide_app.top).rules [] others
+rows_of_decide a m others found is has read = rows_behind a m (codes "decide" ∷ others) (codes "decide") _ found is has read (decide_rows others)
+
+pub rows_of_pairs : (a : App) (m : ArgMatches) (others : List Text) (found : List Row) → a ≡ ira_app → HasMatchesOf a (codes "pairs" ∷ others) m
+    → Some found ≡ option_map (λ s. s.1) (subcommand_rows_of m) → found ≡ rows_after (built_leaf pairs_app.top).rules [] others
+rows_of_pairs a m others found is has read = rows_behind a m (codes "pairs" ∷ others) (codes "pairs") _ found is has read (pairs_rows others)

@@ -39,6 +39,20 @@ check_rules =
 abbrev pub check_app : App
 check_app = on_top (λ s. record s { rules = check_rules }) (new_app (codes "check"))
 
+-- the command `decide`, with its options and files
+abbrev pub decide_app : App
+decide_app =
+    with_rule (with_rule (with_rule (new_app (codes "decide")) (record (option_rule (codes "question")) { required = true }))
+      (option_rule (codes "out"))) logs_rule
+
+-- the size of a ring
+abbrev pub pairs_rule : Rule
+pairs_rule = record (new_rule (codes "N")) { parser = Some (Unsigned 0 18446744073709551615); required = true }
+
+-- the command `pairs`
+abbrev pub pairs_app : App
+pairs_app = with_rule (new_app (codes "pairs")) pairs_rule
+
 -- the options of `run`
 abbrev pub run_rules : List Rule
 run_rules =
@@ -61,4 +75,6 @@ ira_top = on_top (λ s. record s { no_binary_name = true; subcommand_required = 
 
 -- the program's command line
 abbrev pub ira_app : App
-ira_app = with_subcommand (with_subcommand (with_subcommand ira_top logs_app.top) check_app.top) run_app.top
+ira_app =
+    with_subcommand (with_subcommand (with_subcommand (with_subcommand (with_subcommand ira_top logs_app.top)
+      check_app.top) decide_app.top) pairs_app.top) run_app.top

@@ -1,4 +1,5 @@
 pub mod CheckRequest
 pub mod CommandLine
+pub mod DecideRequest
 pub mod Request
 pub mod RunRequest

@@ -3,12 +3,14 @@ use Rattle.std.specs.Prelude.{◌≡◌, ◌≢◌, ℕ, All, List, [], ◌∷�
 use Rattle.clap.specs.Simple.{built_leaf}
 use Rattle.clap.specs.Walk.{Row, rows_after}
 use Rattle.ira_words.specs.CheckRequest.{HasFiles}
-use Rattle.ira_words.specs.CommandLine.{check_app, run_app}
-use Rattle.ira_words.specs.RunRequest.{HasOptions}
+use Rattle.ira_words.specs.CommandLine.{check_app, decide_app, pairs_app, run_app}
+use Rattle.ira_words.specs.DecideRequest.{HasFilesToDecide}
+use Rattle.ira_words.specs.RunRequest.{HasNumber, HasOptions}
 use Rattle.ira_words.specs.declared.check_request.CheckRequest.{CheckRequest}
+use Rattle.ira_words.specs.declared.decide_request.DecideRequest.{DecideRequest}
 use Rattle.ira_words.specs.declared.run_request.RunRequest.{RunRequest}
 use Rattle.ira_words.specs.declared.request.Request.{Request}
-use Rattle.ira_words.specs.declared.request.Request.TheVariants.{OneLog, Logs, Check, Run}
+use Rattle.ira_words.specs.declared.request.Request.TheVariants.{OneLog, Logs, Check, Decide, Pairs, Run}
 
 -- a word that may name a file as it stands: it doesn't begin with a dash
 abbrev pub IsFileName : List ℕ → Type 0
@@ -30,6 +32,18 @@ pub record AskForCheck (words : List (List ℕ)) (check : CheckRequest) : Type 0
   pub first : words ≡ codes "check" ∷ others
   pub files : HasFiles (rows_after (built_leaf check_app.top).rules [] others) check
 
+-- the words are `decide`, options and names, which ask for these files
+pub record AskForDecide (words : List (List ℕ)) (decide : DecideRequest) : Type 0 where
+  pub others : List (List ℕ)
+  pub first : words ≡ codes "decide" ∷ others
+  pub files : HasFilesToDecide (rows_after (built_leaf decide_app.top).rules [] others) decide
+
+-- the words are `pairs` and a number of nodes
+pub record AskForPairs (words : List (List ℕ)) (nodes : ℕ) : Type 0 where
+  pub others : List (List ℕ)
+  pub first : words ≡ codes "pairs" ∷ others
+  pub number : HasNumber (rows_after (built_leaf pairs_app.top).rules [] others) (codes "N") nodes
+
 -- the words are `run` and options, which ask for this ring
 pub record AskForRun (words : List (List ℕ)) (ring : RunRequest) : Type 0 where
   pub others : List (List ℕ)
@@ -41,11 +55,21 @@ abbrev pub IsMadeOf : List (List ℕ) → Request → Type 0
 IsMadeOf words OneLog = words ≡ []
 IsMadeOf words (Logs names) = AskForLogs words (map (λ name. name.now) names.items)
 IsMadeOf words (Check check) = AskForCheck words check
+IsMadeOf words (Decide decide) = AskForDecide words decide
+IsMadeOf words (Pairs nodes) = AskForPairs words nodes
 IsMadeOf words (Run ring) = AskForRun words ring
 
 -- it asks to judge the logs in the files of these options and names
 abbrev pub IsCheck : List Row → Request → Type 0
 IsCheck rows r = (check : _) × (r ≡ Check check) × HasFiles rows check
+
+-- it asks to decide the question in the file of this option, of the logs in those of these names
+abbrev pub IsDecide : List Row → Request → Type 0
+IsDecide rows r = (decide : _) × (r ≡ Decide decide) × HasFilesToDecide rows decide
+
+-- it asks for the pairs of so many nodes as the word behind it names
+abbrev pub IsPairs : List Row → Request → Type 0
+IsPairs rows r = (nodes : _) × (r ≡ Pairs nodes) × HasNumber rows (codes "N") nodes
 
 -- it asks for the ring of these options
 abbrev pub IsRun : List Row → Request → Type 0

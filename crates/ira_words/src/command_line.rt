@@ -1,10 +1,11 @@
 ghost use Rattle.std.specs.Prelude.{◌≡◌, [], Ok, IfOk, IfSome, codes, false, map, unwrap_or};
 ghost use Rattle.clap.specs.Words.{all_of, app_of, found_of, rows_of, rule_of};
-ghost use Rattle.ira_words.specs.CommandLine.{check_app, ira_app, logs_app, logs_rule, number_rule, option_rule, run_app};
-ghost use Rattle.ira_words.specs.Request.{IsCheck, IsMadeOf, IsRun};
+ghost use Rattle.ira_words.specs.CommandLine.{check_app, decide_app, ira_app, logs_app, logs_rule, number_rule, option_rule, pairs_app, run_app};
+ghost use Rattle.ira_words.specs.Request.{IsCheck, IsDecide, IsMadeOf, IsPairs, IsRun};
 ghost use Rattle.ira_words.specs.declared.request.Request.TheVariants as request;
 
 use crate::check_request::CheckRequest;
+use crate::decide_request::DecideRequest;
 use crate::request::Request;
 use crate::run_request::RunRequest;
 use crate::words_fault::WordsFault;
@@ -24,17 +25,21 @@ fn command<'a>(alloc: Global) -> Result<Command<'a>, AllocError>
         .override_usage(
             "ira < LOG\n       ira logs <LOG>...\n       \
              ira check --question <Q> --cert <C> [--depth <D>] <LOG>...\n       \
+             ira decide --question <Q> [--out <C>] <LOG>...\n       \
+             ira pairs <N>\n       \
              ira run --nodes <N> --seed <S> --out <DIR> [OPTIONS]",
         )
         .after_help(
             "Without words ira judges the log of one node, on standard input. It prints `yes`, or \
-             `no` and\nthe first reason. The status is 0 for yes or an elected leader, 1 for no or \
-             no leader, 2 for\nrefused words, a refused ring, a failed read or a failed write, 3 for \
-             want of memory.",
+             `no` and\nthe first reason. The status is 0 for yes, absent cases or an elected leader, \
+             1 for no, a case\nthat is present or no leader, 2 for refused words, a refused ring, a \
+             failed read or a failed\nwrite, 3 for want of memory.",
         )
         .subcommand_required(true)
         .subcommand(logs_command(alloc)?)?
         .subcommand(check_command(alloc)?)?
+        .subcommand(decide_command(alloc)?)?
+        .subcommand(pairs_command(alloc)?)?
         .subcommand(run_command(alloc)?)
 }
 
@@ -100,6 +105,54 @@ fn check_request<'a>(matches: &ArgMatches<'a>, logs: Vec<&'a str>) -> Option<Req
         depth: matches.get_one("depth")?,
         logs,
     }))
+}
+
+fn decide_command<'a>(alloc: Global) -> Result<Command<'a>, AllocError>
+    ensures { IfOk result (λ c. app_of c ≡ decide_app) }
+{
+    let question = option(alloc, "question", "Q", "The file with the question");
+    let certificate = option(
+        alloc,
+        "out",
+        "C",
+        "The file for the certificate, which is made where all cases are absent",
+    );
+    Command::new(alloc, "decide")
+        .about("Decides for each case of a question whether some moment of the logged run met it")
+        .arg(question.required(true))?
+        .arg(certificate)?
+        .arg(log_files(alloc))
+}
+
+/// The files to decide of, where the question has a value.
+fn decide_request<'a>(matches: &ArgMatches<'a>, logs: Vec<&'a str>) -> Option<Request<'a>>
+    requires { map (λ name. name.now) logs.items ≡ unwrap_or (all_of (codes "LOG") (rows_of (found_of matches.now))) [] }
+    ensures { IfSome result (IsDecide (rows_of (found_of matches.now))) }
+{
+    Some(Request::Decide(DecideRequest {
+        question: matches.get_str("question")?,
+        certificate: matches.get_str("out"),
+        logs,
+    }))
+}
+
+fn pairs_command<'a>(alloc: Global) -> Result<Command<'a>, AllocError>
+    ensures { IfOk result (λ c. app_of c ≡ pairs_app) }
+{
+    let nodes = Arg::new(alloc, "N")
+        .help("How many nodes the ring has, 2 to 64")
+        .value_parser(value_parser!(u64))
+        .required(true);
+    Command::new(alloc, "pairs")
+        .about("Prints the question whether two nodes of a ring ever lead at once")
+        .arg(nodes)
+}
+
+/// The number of nodes, where it has a value.
+fn pairs_request<'a>(matches: &ArgMatches<'a>) -> Option<Request<'a>>
+    ensures { IfSome result (IsPairs (rows_of (found_of matches.now))) }
+{
+    Some(Request::Pairs(matches.get_one("N")?))
 }
 
 /// An option that takes a value.
@@ -192,6 +245,8 @@ fn request_of_words<'a>(alloc: Global, words: &'a [&'a str]) -> Result<Request<'
     let asked = match matches.subcommand() {
         Some(("logs", found)) => Some(Request::Logs(log_names(alloc, found)?)),
         Some(("check", found)) => check_request(found, log_names(alloc, found)?),
+        Some(("decide", found)) => decide_request(found, log_names(alloc, found)?),
+        Some(("pairs", found)) => pairs_request(found),
         Some(("run", found)) => run_request(found),
         _ => None,
     };

@@ -1,4 +1,5 @@
 use crate::check_request::CheckRequest;
+use crate::decide_request::DecideRequest;
 use crate::run_request::RunRequest;
 
 /// What the words behind the program's name ask for.
@@ -10,6 +11,11 @@ pub enum Request<'a> {
     Logs(Vec<&'a str>),
     /// To judge logs together with a question and a certificate that no moment met a case of it.
     Check(CheckRequest<'a>),
+    /// To decide a question of logs: whether some moment met a case of it.
+    Decide(DecideRequest<'a>),
+    /// To write the question whether two nodes of a ring of so many ever lead at once. The number is any, and not
+    /// only a ring's size.
+    Pairs(u64),
     /// To run a ring, and to write down what its nodes do.
     Run(RunRequest<'a>),
 }

@@ -1,10 +1,9 @@
-use Rattle.std.proofs.Common.{◌≡◌, ◌∙◌, Option, None, Some, codes, ap, true, false}
+use Rattle.std.proofs.Common.{◌≡◌, ◌∙◌, Option, None, Some, ap, true}
 use Rattle.std.specs.Prelude.{IsSomeAnd}
 use Rattle.clap.specs.Lexer.{usize_max}
-use Rattle.clap.specs.Words.{Rule, rule_of}
+use Rattle.clap.specs.Words.{Rule}
 use Rattle.clap.specs.declared.builder.action.ArgAction.TheVariants.{Append}
 use Rattle.clap.specs.declared.builder.range.ValueRange.{ValueRange}
-use Rattle.ira_words.specs.CommandLine.{logs_rule}
 use Rattle.ira_words.proofs.command_line.log_files.Goals as goal
 
 the_value : {X : Type 0} (o : Option X) (x : X) → IsSomeAnd o (λ v. v ≡ x) → o ≡ Some x

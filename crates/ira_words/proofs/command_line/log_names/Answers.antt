@@ -1,4 +1,4 @@
-use Rattle.std.proofs.Common.{◌≡◌, ◌∙◌, [], ap, map, refl, rules}
+use Rattle.std.proofs.Common.{◌≡◌, ◌∙◌, [], ap, map, rules}
 use Rattle.std.proofs.lemmas.Result.{IfOk-weaker}
 use Rattle.clap.specs.Words.{found_of}
 use Rattle.ira_words.proofs.GivenNames.{names_read}

@@ -3,10 +3,11 @@ use Rattle.std.specs.Prelude.{All, unwrap_or}
 use Rattle.clap.specs.Words.{HasMatchesOf, all_of, app_of}
 use Rattle.ira_words.specs.Request.{IsFileName, IsMadeOf}
 use Rattle.ira_words.specs.CheckRequest.{HasFiles}
-use Rattle.ira_words.specs.RunRequest.{HasOptions}
-use Rattle.ira_words.proofs.FirstWord.{met_by_first, rows_of_check, rows_of_logs, rows_of_run}
+use Rattle.ira_words.specs.DecideRequest.{HasFilesToDecide}
+use Rattle.ira_words.specs.RunRequest.{HasNumber, HasOptions}
+use Rattle.ira_words.proofs.FirstWord.{met_by_first, rows_of_check, rows_of_decide, rows_of_logs, rows_of_pairs, rows_of_run}
 use Rattle.ira_words.proofs.GivenNames.{given_behind, words_behind, words_given}
-use Rattle.ira_words.proofs.command_line.request_of_words.Goals.{in-Some-logs-default+in_ok-log_names-in-Some-logs-default, in-Some-check-default+in_ok-log_names-in-Some-check-default, in-Some-run-default, in_default}
+use Rattle.ira_words.proofs.command_line.request_of_words.Goals.{in-Some-logs-default+in_ok-log_names-in-Some-logs-default, in-Some-check-default+in_ok-log_names-in-Some-check-default, in-Some-decide-default+in_ok-log_names-in-Some-decide-default, in-Some-pairs-default, in-Some-run-default, in_default}
 use Rattle.ira_words.proofs.command_line.request_of_words.Goals as goal
 
 not_both : {X : Type 0} (o : Option X) (x : X) → o ≡ None → o ≡ Some x → ⊥
@@ -40,6 +41,20 @@ returns-in-Some c =
           let rows = rows_of_check _ _ first.0 _ c.in_ok-command.ensures (subst Has first.1 parse.ok.2) arm.ensures.rows in
           let check = value_of _ _ _ w.check_request-asked.ensures (sym w.asked-is ∙ c.in-Some.is) in
           subst (IsMadeOf words) (sym check.1) (record { others = first.0; first = first.1; files = subst (λ found. HasFiles found check.0) rows check.2 })
+      | in-Some-decide-default+in_ok-log_names-in-Some-decide-default w ↦
+          let arm = w.in-Some-decide-default in
+          let first = met_by_first _ _ words (codes "decide") c.in_ok-command.ensures parse.ok.2 parse.kinds (ap (λ n. Some n) (sym arm.is-decide) ∙ arm.ensures.name) in
+          let Has : List (List ℕ) → Type 0 = λ ws. HasMatchesOf (app_of c.in_ok-command.command) ws c.in_ok-matches.matches in
+          let rows = rows_of_decide _ _ first.0 _ c.in_ok-command.ensures (subst Has first.1 parse.ok.2) arm.ensures.rows in
+          let decide = value_of _ _ _ w.decide_request-asked.ensures (sym w.asked-is ∙ c.in-Some.is) in
+          subst (IsMadeOf words) (sym decide.1) (record { others = first.0; first = first.1; files = subst (λ found. HasFilesToDecide found decide.0) rows decide.2 })
+      | in-Some-pairs-default w ↦
+          let arm = w.in-Some-pairs-default in
+          let first = met_by_first _ _ words (codes "pairs") c.in_ok-command.ensures parse.ok.2 parse.kinds (ap (λ n. Some n) (sym arm.is-pairs) ∙ arm.ensures.name) in
+          let Has : List (List ℕ) → Type 0 = λ ws. HasMatchesOf (app_of c.in_ok-command.command) ws c.in_ok-matches.matches in
+          let rows = rows_of_pairs _ _ first.0 _ c.in_ok-command.ensures (subst Has first.1 parse.ok.2) arm.ensures.rows in
+          let pairs = value_of _ _ _ w.pairs_request-asked.ensures (sym w.asked-is ∙ c.in-Some.is) in
+          subst (IsMadeOf words) (sym pairs.1) (record { others = first.0; first = first.1; number = subst (λ found. HasNumber found (codes "N") pairs.0) rows pairs.2 })
       | in-Some-run-default w ↦
           let arm = w.in-Some-run-default in
           let first = met_by_first _ _ words (codes "run") c.in_ok-command.ensures parse.ok.2 parse.kinds (ap (λ n. Some n) (sym arm.is-run) ∙ arm.ensures.name) in

@@ -1,0 +1,25 @@
+use Rattle.ira_main.proofs.complaint.Complaint.write.Goals as goal
+
+pub returns-in-CannotRead : goal.returns-in-CannotRead
+returns-in-CannotRead g c =
+    rw c.in-CannotRead.is (rw (c.as_bytes-in-CannotRead.ensures.value, c.line_end.ensures) at c.write_named.ensures)
+
+pub returns-in-CannotWriteLog : goal.returns-in-CannotWriteLog
+returns-in-CannotWriteLog g c =
+    rw c.in-CannotWriteLog.is (rw (c.as_bytes-in-CannotWriteLog.ensures.value, c.log_in_folder.ensures) at c.write_named-in-CannotWriteLog.ensures)
+
+pub returns-in-CannotWrite : goal.returns-in-CannotWrite
+returns-in-CannotWrite g c =
+    rw c.in-CannotWrite.is (rw (c.as_bytes-in-CannotWrite.ensures.value, c.line_end-in-CannotWrite.ensures) at c.write_named-in-CannotWrite.ensures)
+
+pub returns-in-RingSize : goal.returns-in-RingSize
+returns-in-RingSize g c = rw c.in-RingSize.is c.write_bytes-in-RingSize.ensures
+
+pub returns-in-CertificatePastLimits : goal.returns-in-CertificatePastLimits
+returns-in-CertificatePastLimits g c = rw c.in-CertificatePastLimits.is c.write_bytes-in-CertificatePastLimits.ensures
+
+pub returns-in-CannotWriteAnswer : goal.returns-in-CannotWriteAnswer
+returns-in-CannotWriteAnswer g c = rw c.in-CannotWriteAnswer.is c.write_bytes-in-CannotWriteAnswer.ensures
+
+pub returns-in-OutOfMemory : goal.returns-in-OutOfMemory
+returns-in-OutOfMemory g c = rw c.in-OutOfMemory.is c.write_bytes-in-OutOfMemory.ensures

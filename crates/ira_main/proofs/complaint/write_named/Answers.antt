@@ -1,0 +1,6 @@
+use Rattle.ira_event.proofs.Writing.{Takes-append, Wrote-then}
+use Rattle.ira_main.proofs.complaint.write_named.Goals as goal
+
+pub returns : goal.returns
+returns g c =
+    Wrote-then _ _ _ _ _ _ _ _ _ (Takes-append _ _ _ _ _ _ _ _ c.in_ok-write_bytes.ensures c.in_ok-write_bytes-2.ensures) c.write.ensures

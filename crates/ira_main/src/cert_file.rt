@@ -1,0 +1,60 @@
+ghost use Rattle.std.specs.Prelude.{◌≡◌, Result};
+ghost use Rattle.ira_cert_text.specs.CertText.{cert_text};
+ghost use Rattle.ira_main.specs.CertFile.{Keeps};
+ghost use Rattle.ira_main.specs.Outcome.{IsSaid, outcome_number};
+ghost use Rattle.ira_main.specs.Shelf.{WritesFile};
+ghost use Rattle.ira_main.specs.declared.complaint.Complaint.{Complaint};
+ghost use Rattle.ira_main.specs.declared.status.Status.{Status};
+
+use crate::complaint::{Complaint, conclude};
+use crate::shelf::Shelf;
+use crate::shelf_fault::ShelfFault;
+use crate::status::Status;
+use ira_cert_text::{Certificate, write_cert};
+use ira_event::Sink;
+use std::alloc::Allocator;
+
+// Writes the text of the certificate to a new file of this name.
+fn write_new<A: Allocator, B: Allocator, F: Shelf<B>>(
+    certificate: &Certificate<A>,
+    name: &str,
+    shelf: &mut F,
+) -> Result<(), ShelfFault>
+    ensures { WritesFile F.creates F.loses F.Out.taken F.Out.failures name.now (cert_text certificate.now) shelf.old shelf.new result }
+{
+    let mut file = shelf.create(name)?;
+    write_cert(certificate, &mut file)?;
+    shelf.close(file)
+}
+
+/// What comes of keeping the certificate in a new file of this name.
+pub(crate) fn keep<'a, A: Allocator, B: Allocator, F: Shelf<B>>(
+    certificate: &Certificate<A>,
+    name: &'a str,
+    shelf: &mut F,
+) -> Result<Status, Complaint<'a>>
+    ensures { Keeps F.creates F.loses F.Out.taken F.Out.failures certificate.now name.entry shelf.old shelf.new result }
+{
+    if !certificate.readable() {
+        return Err(Complaint::CertificatePastLimits);
+    }
+    match write_new(certificate, name, shelf) {
+        Ok(()) => Ok(Status::Yes),
+        Err(fault) => Err(Complaint::unkept(name, fault)),
+    }
+}
+
+/// Keeps the certificate in a new file of this name, and gives the status: 0 where its whole text was written; 2
+/// where it isn't `readable`, and then no file is made, or where the file can't be made or written; 3 for want
+/// of memory. On a status other than 0 a line on `err` says why.
+pub fn keep_cert<A: Allocator, B: Allocator, F: Shelf<B>, V: Sink>(
+    certificate: &Certificate<A>,
+    name: &str,
+    shelf: &mut F,
+    err: &mut V,
+) -> u8
+    ensures { (outcome : Result Status Complaint) × Keeps F.creates F.loses F.Out.taken F.Out.failures certificate.now name.entry shelf.old shelf.new outcome × (result ≡ outcome_number outcome) × IsSaid outcome (V.taken err.old) (V.failures err.old) (V.taken err.new) (V.failures err.new) }
+{
+    let outcome = keep(certificate, name, shelf);
+    conclude(outcome, err)
+}

@@ -1,0 +1,28 @@
+ghost use Rattle.std.specs.Prelude.{◌⊎◌};
+ghost use Rattle.ira_main.specs.Outcome.{outcome_number};
+ghost use Rattle.ira_main.specs.Serve.{AsksPairs, GivesNoAnswer};
+
+use crate::complaint::Complaint;
+use crate::ring_size::ring_size;
+use crate::status::Status;
+use ira_event::{Sink, WriteFault};
+use ira_pred::{pairs_question, write_question};
+use std::alloc::Allocator;
+
+/// Prints the question whether two nodes of a ring of so many ever lead at once.
+pub(crate) fn print_pairs<'a, A: Allocator + Clone, W: Sink>(
+    alloc: A,
+    nodes: u64,
+    out: &mut W,
+) -> Result<Status, Complaint<'a>>
+    ensures { AsksPairs nodes (W.taken out.old) (W.failures out.old) (W.taken out.new) (W.failures out.new) (outcome_number result) ⊎ GivesNoAnswer (W.taken out.old) (W.failures out.old) (W.taken out.new) (W.failures out.new) (outcome_number result) }
+{
+    let Some(nodes) = ring_size(nodes) else {
+        return Err(Complaint::RingSize);
+    };
+    let question = pairs_question(alloc, nodes)?;
+    match write_question(&question, out) {
+        Ok(()) => Ok(Status::Yes),
+        Err(WriteFault) => Err(Complaint::CannotWriteAnswer),
+    }
+}

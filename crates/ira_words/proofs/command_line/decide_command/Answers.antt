@@ -1,0 +1,15 @@
+use Rattle.std.proofs.Common.{◌≡◌, ◌∙◌, codes, ap, ap₂, true}
+use Rattle.std.proofs.lemmas.Result.{IfOk-weaker}
+use Rattle.clap.specs.Simple.{app_of_fields}
+use Rattle.clap.specs.Words.{Rule, app_of, new_app, rule_of, with_rule}
+use Rattle.ira_words.specs.CommandLine.{option_rule}
+use Rattle.ira_words.proofs.command_line.decide_command.Goals as goal
+
+pub returns : goal.returns
+returns c =
+    let named : app_of c.about.result ≡ new_app (codes "decide") = ap app_of_fields c.about.ensures ∙ c.new.ensures.app in
+    let question : rule_of c.required.result ≡ record (option_rule (codes "question")) { required = true } =
+    rw c.required.ensures (ap (λ (r : Rule). record r { required = true }) c.option-question.ensures.rule) in
+    let with_question = c.in_ok-arg.ensures.shape (rw c.required.ensures c.option-question.ensures.local) ∙ ap₂ with_rule named question in
+    let with_certificate = c.in_ok-arg-2.ensures.shape c.option-certificate.ensures.local ∙ ap₂ with_rule with_question c.option-certificate.ensures.rule in
+    IfOk-weaker c.arg-3.result _ _ (λ r h. h.shape c.log_files.ensures.local ∙ ap₂ with_rule with_certificate c.log_files.ensures.rule) c.arg-3.ensures

@@ -1,0 +1,10 @@
+/// A question to decide of logs, as the words name them.
+#[derive(Debug, Drop)]
+pub struct DecideRequest<'a> {
+    /// The file of the question.
+    pub question: &'a str,
+    /// The file that the certificate is written to, where one is wanted.
+    pub certificate: Option<&'a str>,
+    /// The files of the logs, in the order of the ring's places.
+    pub logs: Vec<&'a str>,
+}
