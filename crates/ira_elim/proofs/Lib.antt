@@ -1,7 +1,7 @@
-pub mod Decided
 pub mod Greatest
 pub mod Places
 pub mod Present
+pub mod SomeFound
 pub mod SomeFronts
 pub mod Steps
 pub mod Within

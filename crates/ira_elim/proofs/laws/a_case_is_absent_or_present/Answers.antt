@@ -1,5 +1,5 @@
 use Rattle.ira_cert.proofs.NoCut.{sound_leaves_no_cut}
-use Rattle.ira_elim.proofs.Decided.{case_decided, one_least}
+use Rattle.ira_elim.proofs.SomeFound.{case_decided, one_least}
 use Rattle.ira_elim.proofs.laws.a_case_is_absent_or_present.Goals as goal
 
 pub returns-clause-either : goal.returns-clause-either

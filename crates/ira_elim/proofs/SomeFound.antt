@@ -1,8 +1,11 @@
 -- Of logs that have an order each case is decided: as long as no node is spent and some elimination is
 -- left, it is made, and there are no more of them than candidates.
-use Rattle.std.proofs.Common.{◌≡◌, ◌≢◌, ℕ, zero, suc, ◌+◌, ◌<◌, ◌≤◌, ◌⊎◌, inl, inr, List, [], ◌∷◌, ◌++◌, Option, Some, None, length, slice_get, refl, sym, ◌∙◌, ap, arith}
+use Rattle.std.proofs.Common.{◌≡◌, ◌≢◌, ℕ, zero, suc, ◌+◌, ◌<◌, ◌≤◌, ◌⊎◌, inl, inr, List, [], ◌∷◌, ◌++◌, Option, Some, None, get_or, length, slice_get, refl, sym, ◌∙◌, ap, arith, add-one, nat_cmp}
 use Rattle.std.proofs.lemmas.List.{ext_get_or, length_push}
+use Rattle.std.proofs.lemmas.List.FromFn.{get_or-range_with_len}
 use Rattle.std.proofs.lemmas.Option.{slice_get_within}
+use Rattle.std.specs.List.{range_with_len}
+use Rattle.std.specs.Ordering.{ord_max}
 use Rattle.ira_event.specs.Log.{Log}
 use Rattle.ira_pred.specs.Case.{Conjunct}
 use Rattle.ira_order.specs.Ring.{log_of}
@@ -11,8 +14,7 @@ use Rattle.ira_order.specs.Circle.{HasOrder}
 use Rattle.ira_order.specs.Matching.{Matches}
 use Rattle.ira_order.specs.Order.{IsOrder}
 use Rattle.ira_order.specs.VectorClock.{IsCount}
-use Rattle.ira_order.proofs.Ranks.{lt_cases, eq_cases}
-use Rattle.ira_order.proofs.Acyclic.{before_own}
+use Rattle.ira_order.proofs.Ranks.{eq_cases}
 use Rattle.ira_order.proofs.HasCounts.{list_of, count_of, before_decided}
 use Rattle.ira_cert_text.specs.declared.cert_step.CertStep.{CertStep}
 use Rattle.ira_cert.specs.Asked.{HasDifferentPlaces, HasPlacesOf}
@@ -21,6 +23,7 @@ use Rattle.ira_cert.proofs.Behind.{one_fewer}
 use Rattle.ira_elim.specs.Elimination.{HasList, IsFirstLeft, IsElimination, IsGreatestCount, AreGreatestCounts}
 use Rattle.ira_elim.specs.LeastCut.{IsLeastCut}
 use Rattle.ira_elim.specs.Laws.{IsAbsent, IsPresent}
+use Rattle.ira_elim.proofs.Greatest.{IsUpper, IsReached, greatest_more, greatest_stays}
 use Rattle.ira_elim.proofs.Places.{one_first}
 use Rattle.ira_elim.proofs.SomeFronts.{some_fronts}
 use Rattle.ira_elim.proofs.Steps.{AreMade, none_made, made_more, total, total_less, absent}
@@ -110,79 +113,46 @@ module _ (logs : List Log) (order : List ℕ) (o : IsOrder logs order) (matches 
       | inr none ↦ inr (λ s is. none s.node (first_within fronts s.node s.pos is.front) (s, refl, is))
     ]
 
-    -- the greatest of the counts of node i
+    -- the greatest counts at the first candidates left
     module _ (inside : (j q : ℕ) → IsFirstLeft fronts j q → (j < length logs) × (q ≤ length (log_of logs j))) where
-      counted : (i j q : ℕ) → i < length logs → IsFirstLeft fronts j q → (n : ℕ) × IsCount logs j q i n × (i ≡ j → n ≤ q)
-      counted i j q li first =
-          let w = inside j q first in
-          let n = count_of logs order o matches j q i w.0 w.1 li in
-          (n.0, n.1, λ same. own_count i j q n.0 same n.1)
-        where
-          own_count : (i j q n : ℕ) → i ≡ j → IsCount logs j q i n → n ≤ q
-          own_count i j q zero same count = omega arith
-          own_count i j q (suc n) same count = elim ((count.events (suc n) (omega arith)).0 (omega arith)) [
-            | inl e ↦ omega (arith, e.1)
-            | inr before ↦ (let before' : Before logs j (suc n) j q = rw same at before in omega (arith, before_own logs order o j (suc n) q before'))
-          ]
+      places : List ℕ
+      places = range_with_len 0 (length fronts)
 
-      record IsGreatestBelow (m i c : ℕ) : Type 0 where
-        pub upper : (j q : ℕ) → j < m → IsFirstLeft fronts j q → (n : ℕ) × IsCount logs j q i n × (n ≤ c)
-        pub reached : (c ≡ 0) ⊎ ((j : ℕ) × (q : ℕ) × IsFirstLeft fronts j q × IsCount logs j q i c × (i ≡ j → c ≤ q))
+      place_is : (j : ℕ) → j < length fronts → get_or places j 0 ≡ j
+      unfolding places
+      place_is j l = get_or-range_with_len 0 (length fronts) j 0 l ∙ omega arith
 
-      greatest_below : (m i : ℕ) → i < length logs → (c : ℕ) × IsGreatestBelow m i c
-      greatest_below zero i li = (0, record { upper = λ j q l first. absurd (omega arith); reached = inl refl })
-      greatest_below (suc m) i li =
-          let before = greatest_below m i li in
-          elim (first_or_none fronts m) [
-            | inr none ↦ (
-              before.0,
-              record {
-                upper = λ j q l first. elim (eq_cases j m) [
-                  | inl same ↦ (let first' : IsFirstLeft fronts m q = rw same at first in absurd (none q first'))
-                  | inr other ↦ before.1.upper j q (omega arith) first
-                ];
-                reached = before.1.reached;
-              },
-            )
+      -- of node i, at those of the first k places
+      greatest_below : (i : ℕ) → i < length logs → (k : ℕ) → (c : ℕ) × IsUpper logs fronts places i k c × IsReached logs fronts places i c
+      greatest_below i li zero = (0, λ j l. absurd (omega arith), inl refl)
+      greatest_below i li (suc k) =
+          let before = greatest_below i li k in
+          rw (← add-one k) (elim (first_or_none fronts (get_or places k 0)) [
+            | inr none ↦ (let same = greatest_stays logs fronts places i k before.0 before.0 none refl before.1 before.2 in (before.0, same.0, same.1))
             | inl p ↦
-                let n = counted i m p.0 li p.1 in
-                elim (lt_cases before.0 n.0) [
-                  | inl more ↦ (
-                    n.0,
-                    record {
-                      upper = λ j q l first. elim (eq_cases j m) [
-                        | inl same ↦
-                            let e : q ≡ p.0 = one_first fronts j m q p.0 same first p.1 in
-                            rw (same, e) (n.0, n.1, omega arith)
-                        | inr other ↦ (let u = before.1.upper j q (omega arith) first in (u.0, u.1, omega (arith, u.2)))
-                      ];
-                      reached = inr (m, p.0, p.1, n.1, n.2);
-                    },
-                  )
-                  | inr less ↦ (
-                    before.0,
-                    record {
-                      upper = λ j q l first. elim (eq_cases j m) [
-                        | inl same ↦
-                            let e : q ≡ p.0 = one_first fronts j m q p.0 same first p.1 in
-                            rw (same, e) (n.0, n.1, less)
-                        | inr other ↦ before.1.upper j q (omega arith) first
-                      ];
-                      reached = before.1.reached;
-                    },
-                  )
-                ]
-          ]
+                let w = inside (get_or places k 0) p.0 p.1 in
+                let n = count_of logs order o matches (get_or places k 0) p.0 i w.0 w.1 li in
+                let more = greatest_more logs fronts places i k before.0 p.0 n.0 (ord_max nat_cmp before.0 n.0) order o p.1 n.1 refl before.1 before.2 in
+                (ord_max nat_cmp before.0 n.0, more.0, more.1)
+          ])
 
       greatest_counts : (cut : List ℕ) × AreGreatestCounts logs fronts cut
       greatest_counts =
           let cut = list_of (λ i c. IsGreatestCount logs fronts i c) (length logs) (λ i li.
-          let g = greatest_below (length fronts) i li in
-          (g.0, record { upper = λ j q first. g.1.upper j q (first_within fronts j q first) first; reached = g.1.reached })) in
+          let g = greatest_below i li (length fronts) in
+          (g.0, record { upper = λ j q first. at_place i g.0 g.1 j q first; reached = g.2 })) in
           (cut.0, record { places = cut.1; counts = cut.2 })
+        where
+          at_place : (i c : ℕ) → IsUpper logs fronts places i (length fronts) c → (j q : ℕ) → IsFirstLeft fronts j q → (n : ℕ) × IsCount logs j q i n × (n ≤ c)
+          at_place i c upper j q first =
+              let l : j < length fronts = first_within fronts j q first in
+              let e : get_or places j 0 ≡ j = place_is j l in
+              let first' : IsFirstLeft fronts (get_or places j 0) q = rw e first in
+              rw e at (upper j l q first')
 
   -- eliminations are made as long as there are any
   module _ (case : List Conjunct) (differ : HasDifferentPlaces case) (first : List (Option (List ℕ))) (first_are : AreFronts logs case first) where
+    -- n is above the number of candidates left
     eliminated : (n : ℕ) (steps : List CertStep) (fronts : List (Option (List ℕ))) → AreMade logs case steps fronts → length steps + total fronts ≡ total first → total fronts < n → IsAbsent logs case ⊎ IsPresent logs case
     eliminated zero steps fronts made count l = absurd (omega arith)
     eliminated (suc n) steps fronts made count l = elim (spent_or_not fronts) [
@@ -190,7 +160,6 @@ module _ (logs : List Log) (order : List ℕ) (o : IsOrder logs order) (matches 
       | inr left ↦ elim (elimination_or_not fronts) [
         | inl s ↦
             let fewer : total fronts ≡ total (one_fewer fronts s.0.node) + 1 = total_less fronts s.0.node s.0.pos s.1.front in
-            let more : List CertStep = steps ++ s.0 ∷ [] in
             eliminated n (steps ++ s.0 ∷ []) (one_fewer fronts s.0.node) (made_more logs case steps (steps ++ s.0 ∷ []) fronts (one_fewer fronts s.0.node) s.0 differ made s.1 refl refl)
             (omega (arith, length_push steps s.0, fewer)) (omega (arith, fewer))
         | inr none ↦
