@@ -1,4 +1,4 @@
-ghost use Rattle.std.specs.Prelude.{◌≡◌, ◌≢◌, ◌⊎◌, ◌≤◌, ◌+◌, ℕ, List, [], IfOk, length, map};
+ghost use Rattle.std.specs.Prelude.{◌≡◌, ◌≢◌, ◌⊎◌, ◌≤◌, ◌+◌, ℕ, List, [], IfOk, length, map, vec_len};
 ghost use Rattle.ira_audit.specs.Report.{IsReportable};
 ghost use Rattle.ira_audit.specs.RingAudit.{HasTaken};
 ghost use Rattle.ira_main.specs.Outcome.{outcome_number};
@@ -20,6 +20,9 @@ use std::io::Read;
 use std::sync::Wait;
 use std::thread::Threads;
 use std::time::Clock;
+
+/// How many texts of logs are in memory at a time, and are read side by side.
+const TEXTS_AT_ONCE: usize = 4;
 
 // Writes the answer's line, and gives the answer's status.
 fn report<'a, W: Sink>(answer: &Answer, out: &mut W) -> Result<Status, Complaint<'a>>
@@ -60,32 +63,58 @@ fn read_file<'a, A: Allocator, F: Shelf<A>>(
     }
 }
 
+// The texts of the files of these names, which are read in turn.
+fn read_files<'a, A: Allocator, F: Shelf<A>>(
+    alloc: A,
+    names: &[&'a str],
+    shelf: &mut F,
+) -> Result<Vec<Vec<u8, A>, A>, Complaint<'a>>
+    ensures { IfOk result (λ texts. vec_len texts ≡ length names.now) }
+{
+    let mut texts = Vec::with_capacity(alloc, names.len())?;
+    for name in names {
+        texts.push(read_file(name, shelf)?)?;
+    }
+    Ok(texts)
+}
+
 // The logs in the files of these names. Each text is given up once its log is read.
-fn read_logs<'a, A: Allocator + Clone, B: Allocator, F: Shelf<B>>(
+fn read_logs<'a, R, A, F>(
+    rt: &R,
     alloc: A,
     names: &[&'a str],
     shelf: &mut F,
 ) -> Result<RingAudit<A>, Complaint<'a>>
+where
+    R: Threads + Sync,
+    A: Allocator + Clone + Send + Sync,
+    F: Shelf<A>,
     ensures { IfOk result (λ audit. (texts : List (List ℕ)) × HasTaken audit texts × (length texts ≡ length names.now)) }
 {
-    let mut audit = RingAudit::new(alloc);
-    for name in names {
-        let text = read_file(name, shelf)?;
-        audit.take(&text)?;
+    let mut audit = RingAudit::new(alloc.clone()?);
+    for some in names.chunks(TEXTS_AT_ONCE) {
+        let texts = read_files(alloc.clone()?, some, shelf)?;
+        audit.take_all(rt, &texts)?;
     }
     Ok(audit)
 }
 
 // Judges the logs in the files of these names together. Each file is read before an answer is given.
-fn judge_files<'a, A: Allocator, F: Shelf<A>, W: Sink>(
+fn judge_files<'a, R, A, F, W>(
+    rt: &R,
     alloc: A,
     names: &[&'a str],
     shelf: &mut F,
     out: &mut W,
 ) -> Result<Status, Complaint<'a>>
+where
+    R: Threads + Sync,
+    A: Allocator + Clone + Send + Sync,
+    F: Shelf<A>,
+    W: Sink,
     ensures { JudgesTogether (length names.now) (W.taken out.old) (W.failures out.old) (W.taken out.new) (W.failures out.new) (outcome_number result) ⊎ GivesNoAnswer (W.taken out.old) (W.failures out.old) (W.taken out.new) (W.failures out.new) (outcome_number result) }
 {
-    let audit = read_logs(&alloc, names, shelf)?;
+    let audit = read_logs(rt, alloc, names, shelf)?;
     let answer = audit.finish()?;
     report(&answer, out)
 }
@@ -108,7 +137,7 @@ where
 {
     let question = read_file(check.question, shelf)?;
     let certificate = read_file(check.certificate, shelf)?;
-    let audit = read_logs(alloc, &check.logs, shelf)?;
+    let audit = read_logs(rt, alloc, &check.logs, shelf)?;
     let depth = check.depth.min(4) as u8;
     let answer = audit.finish_with(rt, &question, &certificate, depth, &OpenGate)?;
     report(&answer, out)
@@ -135,7 +164,7 @@ where
 {
     match read_words(rt.alloc(), words)? {
         Request::OneLog => judge_input(alloc, input, out),
-        Request::Logs(names) => judge_files(alloc, &names, shelf, out),
+        Request::Logs(names) => judge_files(rt, alloc, &names, shelf, out),
         Request::Check(check) => check_files(rt, alloc, &check, shelf, out),
         Request::Decide(_) => Err(Complaint::CannotWriteAnswer),
         Request::Pairs(nodes) => print_pairs(alloc, nodes, out),

@@ -1,6 +1,11 @@
-use Rattle.std.proofs.Common.{◌≡◌, ◌≤◌, ℕ, List, length}
+use Rattle.std.proofs.Common.{◌≡◌, ◌+◌, ℕ, List, length}
+use Rattle.std.specs.Slice.Iter.{chunks_rest}
 use Rattle.ira_audit.specs.RingAudit.{HasTaken}
 use Rattle.ira_main.proofs.program.read_logs.Given as goal
 
-abbrev pub invariant-loop-name : goal.invariant-loop-name
-invariant-loop-name g l = (texts : List (List ℕ)) × HasTaken l.audit texts × (length texts ≡ l.name-index) × (l.name-index ≤ length l.names)
+abbrev pub invariant-loop-some : goal.invariant-loop-some
+invariant-loop-some g l = record {
+  may_go_on : (goal.iterator-loop-some g).can_next l.some-iterator;
+  ends : (goal.iterator-loop-some g).is_finite l.some-iterator;
+  taken : (texts : List (List ℕ)) × HasTaken l.audit texts × (length texts + length (chunks_rest l.some-iterator) ≡ length l.names);
+}
