@@ -1,5 +1,5 @@
 use Rattle.std.proofs.Common.{refl, ◌∷◌, [], ◌∙◌, arith, length-append}
-use Rattle.ira_main.proofs.program.read_logs.Goals as goal
+use Rattle.ira_main.proofs.read_files.read_logs.Goals as goal
 
 pub loop-name-init : goal.loop-name-init
 loop-name-init g c = ([], c.new-audit.ensures, refl, omega arith)
