@@ -3,8 +3,9 @@
 #
 #     sh examples/check.sh bin/ira
 #
-# A row that names a folder is judged by `ira logs` on its logs, one that names a file by `ira` alone, and one that names
-# a question and its certificate by `ira check` on these and the logs of their folder.
+# A row that names a folder is judged by `ira logs` on its logs, one that names a file by `ira` alone, one that names
+# a question and its certificate by `ira check` on these and the logs of their folder, and one that names a question alone
+# by `ira decide` on it and these logs. The commands of from_run_to_check.txt run in a folder of their own.
 
 ira=$(realpath "$1") || exit 2
 [ -x "$ira" ] || { echo "examples: no program at $1"; exit 2; }
@@ -24,6 +25,8 @@ judge() {
         "$ira" logs $(logs_of "$1") < /dev/null
     elif [ -f "$1" ]; then
         "$ira" < "$1"
+    elif [ ! -f "$1.cert" ]; then
+        "$ira" decide --question "$1.ask" $(logs_of "${1%/*}") < /dev/null
     else
         "$ira" check --question "$1.ask" --cert "$1.cert" $(logs_of "${1%/*}") < /dev/null
     fi
@@ -65,10 +68,30 @@ if command -v python3 > /dev/null; then
     rm -r "$folder"
 fi
 
-# Each certificate has a row.
-for cert in */*.cert; do
-    echo "$rows" | grep -q "^${cert%.cert}$tab" || fail "$cert: no row in README.md"
+# Each question has a row.
+for ask in */*.ask; do
+    echo "$rows" | grep -q "^${ask%.ask}$tab" || fail "$ask: no row in README.md"
 done
+
+# Runs each line behind `$`, and prints it, what it prints and its status.
+replay() {
+    ira() { "$ira" "$@" < /dev/null; }
+    while read -r prompt line; do
+        [ "$prompt" = '$' ] || continue
+        echo "$ $line"
+        eval "$line" 2>&1
+        echo "status $?"
+    done
+}
+
+folder=$(mktemp -d)
+path=$PWD/from_run_to_check.txt
+if (cd "$folder" && replay < "$path") | diff "$path" -; then
+    passed=$((passed + 1))
+else
+    fail "from_run_to_check.txt: other lines than expected"
+fi
+rm -r "$folder"
 
 echo "examples: $passed as expected, $failed not"
 [ "$passed" -gt 0 ] && [ "$failed" -eq 0 ]

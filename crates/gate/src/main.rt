@@ -1,5 +1,5 @@
-//! The commands of `ira` in turn, on files: examples are judged, with questions and certificates too, and then what each way to run a ring
-//! wrote.
+//! The commands of `ira` in turn, on files: examples are judged, with questions and certificates too, one of which
+//! is made here, and then what each way to run a ring wrote.
 #![tactic(auto)]
 
 use ira_event::ToWriter;
@@ -67,6 +67,25 @@ fn commands(
         input,
         out,
         "check --question=elected/one_step_short.ask --cert=elected/one_step_short.cert elected/0.log elected/1.log",
+    )?;
+    ira(rt, input, out, "pairs 3")?;
+    ira(
+        rt,
+        input,
+        out,
+        "decide --question=elected/one_step_short.ask --out=made.cert elected/0.log elected/1.log",
+    )?;
+    ira(
+        rt,
+        input,
+        out,
+        "check --question=elected/one_step_short.ask --cert=made.cert elected/0.log elected/1.log",
+    )?;
+    ira(
+        rt,
+        input,
+        out,
+        "decide --question=elected/one_step_short.ask --out=/dev/full elected/0.log elected/1.log",
     )?;
     ira(rt, input, out, "run --nodes=5 --seed=7 --out=.")?;
     let by_threads = written(rt, 5);

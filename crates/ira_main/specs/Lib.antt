@@ -2,6 +2,7 @@ pub mod AskedRun
 pub mod CertFile
 pub mod Complaint
 pub mod Counted
+pub mod Decide
 pub mod Outcome
 pub mod ReadText
 pub mod Serve

@@ -1,5 +1,7 @@
 -- What the program does.
-use Rattle.std.specs.Prelude.{◌≡◌, ◌⊎◌, ℕ, ◌+◌, true, List, Option, length}
+use Rattle.std.specs.Prelude.{◌≡◌, ◌⊎◌, ℕ, ◌+◌, true, List, Option, Result, length}
+use Rattle.std.specs.Borrow.{Bor}
+use Rattle.ira_cert_text.specs.Certificate.{Certificate}
 use Rattle.ira_event.specs.declared.limits.TheConstants.{MAX_TEXT}
 use Rattle.ira_event.specs.Sink.{Takes, StopsIn}
 use Rattle.ira_audit.specs.Answer.{IsAnswer}
@@ -12,15 +14,19 @@ use Rattle.ira_pred.specs.Pairs.{ArePairCases}
 use Rattle.ira_pred.specs.Question.{Asked}
 use Rattle.ira_pred.specs.QuestionText.{question_text}
 use Rattle.ira_main.specs.Counted.{Reads}
-use Rattle.ira_main.specs.Outcome.{IsUntouched}
+use Rattle.ira_main.specs.Decide.{Decides}
+use Rattle.ira_main.specs.Outcome.{IsUntouched, outcome_number}
 use Rattle.ira_main.specs.ReadText.{IsReadTo}
 use Rattle.ira_audit.specs.Report.{report_line}
-use Rattle.ira_words.specs.Request.{AskForCheck, AskForLogs, AskForPairs, AskForRun}
+use Rattle.ira_words.specs.Request.{AskForCheck, AskForDecide, AskForLogs, AskForPairs, AskForRun}
 use Rattle.ira_main.specs.AskedRun.{IsAskedRun}
 use Rattle.ira_main.specs.Status.{IsElectionStatus, status_number, answer_status}
 use Rattle.ira_audit.specs.declared.answer.Answer.{Answer}
 use Rattle.ira_words.specs.declared.check_request.CheckRequest.{CheckRequest}
+use Rattle.ira_words.specs.declared.decide_request.DecideRequest.{DecideRequest}
 use Rattle.ira_words.specs.declared.run_request.RunRequest.{RunRequest}
+use Rattle.ira_main.specs.declared.complaint.Complaint.{Complaint}
+use Rattle.ira_main.specs.declared.status.Status.{Status}
 
 -- the text was written whole, and the status is this one; or the write failed, and the status is 2
 abbrev pub Prints : List ℕ → ℕ → Option (List ℕ) → ℕ → Option (List ℕ) → ℕ → ℕ → Type 0
@@ -86,16 +92,19 @@ pub record Records (request : RunRequest) (taken : Option (List ℕ)) (failures 
 
 -- what was done for the words: they ask for the logs in some files, and as many texts were judged together;
 -- or they ask to check the logs in some files, and as many texts were judged with those of a question and of a
--- certificate; or they ask for the question of all pairs, and it was printed; or they ask for a ring, and it was run; or
--- no answer was given
-pub data Done (words : List (List ℕ)) (taken : Option (List ℕ)) (failures : ℕ) (taken' : Option (List ℕ)) (failures' : ℕ) (status : ℕ) : Type 0 where
-  judged : (names : List (List ℕ)) → AskForLogs words names → JudgesTogether (length names) taken failures taken' failures' status → Done words taken failures taken' failures' status
-  certified : (check : CheckRequest) → AskForCheck words check → JudgesCertified (length check.logs.items) taken failures taken' failures' status → Done words taken failures taken' failures' status
-  asked : (nodes : ℕ) → AskForPairs words nodes → AsksPairs nodes taken failures taken' failures' status → Done words taken failures taken' failures' status
-  recorded : (request : RunRequest) → AskForRun words request → Records request taken failures taken' failures' status → Done words taken failures taken' failures' status
-  no_answer : GivesNoAnswer taken failures taken' failures' status → Done words taken failures taken' failures' status
+-- certificate; or they ask to decide a question of them, and it was decided of as many; or they ask for the question
+-- of all pairs, and it was printed; or they ask for a ring, and it was run; or no answer was given
+pub data Done (A : Type 0) (kept : Certificate → Bor (List ℕ) → Result Status Complaint → Type 0) (words : List (List ℕ))
+    (taken : Option (List ℕ)) (failures : ℕ) (taken' : Option (List ℕ)) (failures' : ℕ) (status : ℕ) : Type 0 where
+  judged : (names : List (List ℕ)) → AskForLogs words names → JudgesTogether (length names) taken failures taken' failures' status → Done A kept words taken failures taken' failures' status
+  certified : (check : CheckRequest) → AskForCheck words check → JudgesCertified (length check.logs.items) taken failures taken' failures' status → Done A kept words taken failures taken' failures' status
+  decided : (decide : DecideRequest) (outcome : Result Status Complaint) → AskForDecide words decide → Decides A kept (length decide.logs.items) decide.certificate taken failures taken' failures' outcome → status ≡ outcome_number outcome → Done A kept words taken failures taken' failures' status
+  asked : (nodes : ℕ) → AskForPairs words nodes → AsksPairs nodes taken failures taken' failures' status → Done A kept words taken failures taken' failures' status
+  recorded : (request : RunRequest) → AskForRun words request → Records request taken failures taken' failures' status → Done A kept words taken failures taken' failures' status
+  no_answer : GivesNoAnswer taken failures taken' failures' status → Done A kept words taken failures taken' failures' status
 
 -- with words: the input wasn't read, and the words were obeyed
-pub record Obeys (words : List (List ℕ)) (old new : Reads) (taken : Option (List ℕ)) (failures : ℕ) (taken' : Option (List ℕ)) (failures' : ℕ) (status : ℕ) : Type 0 where
+pub record Obeys (A : Type 0) (kept : Certificate → Bor (List ℕ) → Result Status Complaint → Type 0) (words : List (List ℕ)) (old new : Reads)
+    (taken : Option (List ℕ)) (failures : ℕ) (taken' : Option (List ℕ)) (failures' : ℕ) (status : ℕ) : Type 0 where
   pub unread : new ≡ old
-  pub done : Done words taken failures taken' failures' status
+  pub done : Done A kept words taken failures taken' failures' status

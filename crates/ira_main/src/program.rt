@@ -1,17 +1,19 @@
-ghost use Rattle.std.specs.Prelude.{◌≡◌, ◌≢◌, ◌⊎◌, ◌≤◌, ◌+◌, ℕ, List, [], IfOk, length, map, vec_len};
+ghost use Rattle.std.specs.Prelude.{◌≡◌, ◌≢◌, ◌⊎◌, ◌≤◌, ◌+◌, [], length, map};
 ghost use Rattle.ira_audit.specs.Report.{IsReportable};
-ghost use Rattle.ira_audit.specs.RingAudit.{HasTaken};
+ghost use Rattle.ira_main.specs.CertFile.{HasKept};
 ghost use Rattle.ira_main.specs.Outcome.{outcome_number};
 ghost use Rattle.ira_main.specs.Serve.{GivesNoAnswer, Judges, JudgesCertified, JudgesTogether, Obeys, Reports};
 
 use crate::complaint::{Complaint, conclude};
 use crate::counted::Counted;
+use crate::decide_files::decide_files;
 use crate::print_pairs::print_pairs;
+use crate::read_files::{read_file, read_logs};
 use crate::read_text::read_text;
 use crate::record_run::record_run;
 use crate::shelf::Shelf;
 use crate::status::Status;
-use ira_audit::{Answer, RingAudit, audit_one, write_report};
+use ira_audit::{Answer, audit_one, write_report};
 use ira_event::{MAX_TEXT, Sink, WriteFault};
 use ira_links::OpenGate;
 use ira_words::{CheckRequest, Request, read_words};
@@ -20,9 +22,6 @@ use std::io::Read;
 use std::sync::Wait;
 use std::thread::Threads;
 use std::time::Clock;
-
-/// How many texts of logs are in memory at a time, and are read side by side.
-const TEXTS_AT_ONCE: usize = 4;
 
 // Writes the answer's line, and gives the answer's status.
 fn report<'a, W: Sink>(answer: &Answer, out: &mut W) -> Result<Status, Complaint<'a>>
@@ -50,53 +49,6 @@ fn judge_input<'a, A: Allocator, I: Read, W: Sink>(
     };
     let answer = audit_one(&alloc, &text)?;
     report(&answer, out)
-}
-
-// The text of the file of this name.
-fn read_file<'a, A: Allocator, F: Shelf<A>>(
-    name: &'a str,
-    shelf: &mut F,
-) -> Result<Vec<u8, A>, Complaint<'a>> {
-    match shelf.read(name) {
-        Ok(text) => Ok(text),
-        Err(fault) => Err(Complaint::unread(name, fault)),
-    }
-}
-
-// The texts of the files of these names, which are read in turn.
-fn read_files<'a, A: Allocator, F: Shelf<A>>(
-    alloc: A,
-    names: &[&'a str],
-    shelf: &mut F,
-) -> Result<Vec<Vec<u8, A>, A>, Complaint<'a>>
-    ensures { IfOk result (λ texts. vec_len texts ≡ length names.now) }
-{
-    let mut texts = Vec::with_capacity(alloc, names.len())?;
-    for name in names {
-        texts.push(read_file(name, shelf)?)?;
-    }
-    Ok(texts)
-}
-
-// The logs in the files of these names. Each text is given up once its log is read.
-fn read_logs<'a, R, A, F>(
-    rt: &R,
-    alloc: A,
-    names: &[&'a str],
-    shelf: &mut F,
-) -> Result<RingAudit<A>, Complaint<'a>>
-where
-    R: Threads + Sync,
-    A: Allocator + Clone + Send + Sync,
-    F: Shelf<A>,
-    ensures { IfOk result (λ audit. (texts : List (List ℕ)) × HasTaken audit texts × (length texts ≡ length names.now)) }
-{
-    let mut audit = RingAudit::new(alloc.clone()?);
-    for some in names.chunks(TEXTS_AT_ONCE) {
-        let texts = read_files(alloc.clone()?, some, shelf)?;
-        audit.take_all(rt, &texts)?;
-    }
-    Ok(audit)
 }
 
 // Judges the logs in the files of these names together. Each file is read before an answer is given.
@@ -159,14 +111,14 @@ where
     F: Shelf<A>,
     W: Sink,
     ensures judged { words.now ≡ [] → Judges input.old input.new (W.taken out.old) (W.failures out.old) (W.taken out.new) (W.failures out.new) (outcome_number result) }
-    ensures obeyed { words.now ≢ [] → Obeys (map (λ word. word.now) words.now) input.old input.new (W.taken out.old) (W.failures out.old) (W.taken out.new) (W.failures out.new) (outcome_number result) }
+    ensures obeyed { words.now ≢ [] → Obeys A (HasKept F.creates F.loses F.Out.taken F.Out.failures shelf.new) (map (λ word. word.now) words.now) input.old input.new (W.taken out.old) (W.failures out.old) (W.taken out.new) (W.failures out.new) (outcome_number result) }
     ensures reads { input.new.reads ≤ input.old.reads + (MAX_TEXT + 1) }
 {
     match read_words(rt.alloc(), words)? {
         Request::OneLog => judge_input(alloc, input, out),
         Request::Logs(names) => judge_files(rt, alloc, &names, shelf, out),
         Request::Check(check) => check_files(rt, alloc, &check, shelf, out),
-        Request::Decide(_) => Err(Complaint::CannotWriteAnswer),
+        Request::Decide(decide) => decide_files(rt, alloc, &decide, shelf, out),
         Request::Pairs(nodes) => print_pairs(alloc, nodes, out),
         Request::Run(ring) => record_run(rt, alloc, &ring, shelf, out),
     }
@@ -179,9 +131,11 @@ where
 ///
 /// Without words it judges the log on `input`, of which it reads at most one byte more than
 /// `MAX_TEXT`. With words it reads nothing of `input`: `logs` and some names judges the logs in those
-/// files together; `check` judges them with the question and the certificate in the files of its options; `run`
-/// and its options runs a ring and writes the logs of its nodes to files; and all other words are refused. Only a
-/// run without `--alone` starts threads, and waits for them.
+/// files together; `check` judges them with the question and the certificate in the files of its options; `decide`
+/// decides the question of them, and writes a certificate to a file if one is named and all cases are absent;
+/// `pairs` and a number prints the question of all pairs of nodes; `run` and its options runs a ring and writes the
+/// logs of its nodes to files; and all other words are refused. Only a run without `--alone` starts threads, and
+/// waits for them.
 pub fn serve<R, A, I, F, W, V>(
     rt: &R,
     alloc: A,
@@ -201,7 +155,7 @@ where
     ensures status { result ≤ 3 }
     ensures reads { input.new.reads ≤ input.old.reads + (MAX_TEXT + 1) }
     ensures judged { words.now ≡ [] → Judges input.old input.new (W.taken out.old) (W.failures out.old) (W.taken out.new) (W.failures out.new) result }
-    ensures obeyed { words.now ≢ [] → Obeys (map (λ word. word.now) words.now) input.old input.new (W.taken out.old) (W.failures out.old) (W.taken out.new) (W.failures out.new) result }
+    ensures obeyed { words.now ≢ [] → Obeys A (HasKept F.creates F.loses F.Out.taken F.Out.failures shelf.new) (map (λ word. word.now) words.now) input.old input.new (W.taken out.old) (W.failures out.old) (W.taken out.new) (W.failures out.new) result }
 {
     let outcome = obey(rt, alloc, words, input, shelf, out);
     conclude(outcome, err)

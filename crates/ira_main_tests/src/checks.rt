@@ -1,7 +1,10 @@
 //! The command `check`: the logs of a ring in files, with a question and a certificate.
 
 use crate::fakes::{File, assert_served};
-use crate::samples::{ELECTED_0, ELECTED_1, LONE_0, LONE_1, LONE_2};
+use crate::samples::{
+    ELECTED_0, ELECTED_1, LEADER_AND_ACTIVE, LONE_0, LONE_1, LONE_2, NO_PAIR_OF_THREE,
+    PAIRS_OF_THREE, TIED_0, TIED_1, TWO_STEPS,
+};
 use ira_main::Counted;
 use std::io;
 use std::process::Abort;
@@ -11,13 +14,8 @@ use std::time::Clock;
 
 const BOTH_LEAD: &str = "irask 1\nnodes 2\ncase\n0: leader\n1: leader\nend\n";
 
-const LEADER_AND_ACTIVE: &str = "irask 1\nnodes 2\ncase\n0: leader\n1: active\nend\n";
-
 /// The certificate of one section without steps.
 const NODE_1_SPENT: &str = "ircert 1\nnodes 2\nsection\nspent 1\nend\n";
-
-const TWO_STEPS: &str =
-    "ircert 1\nnodes 2\nsection\ndrop 1 1 by 0 4\ndrop 1 2 by 0 4\nspent 1\nend\n";
 
 /// Serves `check` on these files and the logs of the two-node election.
 fn assert_checked<'a>(
@@ -108,16 +106,12 @@ fn certificate_faults(rt: HostRuntime) {
 
 #[test]
 fn pairs_of_three(rt: HostRuntime) {
-    let question = "irask 1\nnodes 3\ncase\n0: leader\n1: leader\ncase\n0: leader\n2: leader\n\
-                    case\n1: leader\n2: leader\nend\n";
-    let certificate =
-        "ircert 1\nnodes 3\nsection\nspent 1\nsection\nspent 2\nsection\nspent 1\nend\n";
     let files = [
         ("0", File::Text(LONE_0)),
         ("1", File::Text(LONE_1)),
         ("2", File::Text(LONE_2)),
-        ("q", File::Text(question)),
-        ("c", File::Text(certificate)),
+        ("q", File::Text(PAIRS_OF_THREE)),
+        ("c", File::Text(NO_PAIR_OF_THREE)),
     ];
     for depth in ["0", "1", "2", "3", "4"] {
         let words = [
@@ -134,6 +128,49 @@ fn pairs_of_three(rt: HostRuntime) {
         ];
         let mut input = Counted::new(io::empty());
         assert_served(&rt, &words, &files, &mut input, 0, "yes\n", "");
+    }
+}
+
+#[test]
+fn least_cut_after_one_step(rt: HostRuntime) {
+    let question = "irask 1\nnodes 2\ncase\n0: active\n1: passive\nend\n";
+    let certificate =
+        "ircert 1\nnodes 2\nsection\ndrop 0 1 by 1 3\ndrop 0 2 by 1 3\nspent 0\nend\n";
+    let line = "no: case 0: step 1: not before\n";
+    assert_answer(&rt, question, certificate, line);
+}
+
+#[test]
+fn eight_step_section(rt: HostRuntime) {
+    let question = "irask 1\nnodes 2\ncase\n0: leader\n1: (not passive)\nend\n";
+    let sound = "ircert 1\nnodes 2\nsection\ndrop 1 0 by 0 9\ndrop 1 1 by 0 9\ndrop 1 2 by 0 9\n\
+                 drop 1 3 by 0 9\ndrop 1 4 by 0 9\ndrop 1 5 by 0 9\ndrop 1 6 by 0 9\n\
+                 drop 1 7 by 0 9\nspent 1\nend\n";
+    let unsound = "ircert 1\nnodes 2\nsection\ndrop 1 0 by 0 9\ndrop 1 3 by 0 9\ndrop 1 2 by 0 9\n\
+                   drop 1 3 by 0 9\ndrop 1 4 by 0 9\ndrop 1 5 by 0 9\ndrop 1 6 by 0 9\n\
+                   drop 1 0 by 0 9\nspent 1\nend\n";
+    let files = [
+        ("0", File::Text(TIED_0)),
+        ("1", File::Text(TIED_1)),
+        ("q", File::Text(question)),
+        ("sound", File::Text(sound)),
+        ("unsound", File::Text(unsound)),
+    ];
+    for depth in [
+        "--depth=0",
+        "--depth=1",
+        "--depth=2",
+        "--depth=3",
+        "--depth=4",
+    ] {
+        for (certificate, status, line) in [
+            ("--cert=sound", 0, "yes\n"),
+            ("--cert=unsound", 1, "no: case 0: step 1: not front\n"),
+        ] {
+            let words = ["check", "--question=q", certificate, depth, "0", "1"];
+            let mut input = Counted::new(io::empty());
+            assert_served(&rt, &words, &files, &mut input, status, line, "");
+        }
     }
 }
 

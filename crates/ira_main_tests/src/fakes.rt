@@ -22,6 +22,8 @@ pub(crate) enum File<'a> {
     Locked,
     /// It is made, and takes no byte.
     Full,
+    /// There is no memory to make it.
+    NoMemory,
     /// It takes its bytes into a buffer, and fails when it is closed.
     Unflushed,
 }
@@ -106,8 +108,10 @@ impl Shelf<Global> for MemoryShelf<'_> {
 
     fn create(&mut self, name: &str) -> Result<NewFile, ShelfFault> {
         let file = self.file(name);
-        if matches!(file, Some(File::Locked)) {
-            return Err(ShelfFault::Device);
+        match file {
+            Some(File::Locked) => return Err(ShelfFault::Device),
+            Some(File::NoMemory) => return Err(ShelfFault::OutOfMemory),
+            _ => {}
         }
         Ok(NewFile {
             name: String::from_str(self.alloc, name)?,
@@ -168,6 +172,32 @@ impl Sink for FullSink {
 
 /// Serves these words over this shelf and input, and compares the status and what was written to both
 /// streams.
+pub(crate) fn assert_served_on<I: Read>(
+    rt: &(impl Abort + AllocGlobal + Threads + Wait + Clock + Sync),
+    words: &[&str],
+    shelf: &mut MemoryShelf<'_>,
+    input: &mut Counted<I>,
+    status: u8,
+    out: &str,
+    err: &str,
+) {
+    let mut on_out = MemorySink::new(rt.alloc());
+    let mut on_err = MemorySink::new(rt.alloc());
+    let found = serve(
+        rt,
+        rt.alloc(),
+        words,
+        input,
+        shelf,
+        &mut on_out,
+        &mut on_err,
+    );
+    assert_eq!(rt; on_out.bytes(), out.as_bytes());
+    assert_eq!(rt; on_err.bytes(), err.as_bytes());
+    assert_eq!(rt; found, status);
+}
+
+/// The same on a shelf with these files, where no file is written.
 pub(crate) fn assert_served<I: Read>(
     rt: &(impl Abort + AllocGlobal + Threads + Wait + Clock + Sync),
     words: &[&str],
@@ -178,19 +208,6 @@ pub(crate) fn assert_served<I: Read>(
     err: &str,
 ) {
     let mut shelf = MemoryShelf::new(rt.alloc(), files);
-    let mut on_out = MemorySink::new(rt.alloc());
-    let mut on_err = MemorySink::new(rt.alloc());
-    let found = serve(
-        rt,
-        rt.alloc(),
-        words,
-        input,
-        &mut shelf,
-        &mut on_out,
-        &mut on_err,
-    );
-    assert_eq!(rt; on_out.bytes(), out.as_bytes());
-    assert_eq!(rt; on_err.bytes(), err.as_bytes());
-    assert_eq!(rt; found, status);
+    assert_served_on(rt, words, &mut shelf, input, status, out, err);
     shelf.assert_written(rt, &[]);
 }

@@ -4,9 +4,13 @@
 #[cfg(test)]
 mod checks;
 #[cfg(test)]
+mod decides;
+#[cfg(test)]
 mod fakes;
 #[cfg(test)]
 mod files;
+#[cfg(test)]
+mod kept;
 #[cfg(test)]
 mod logs;
 #[cfg(test)]

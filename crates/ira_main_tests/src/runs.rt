@@ -1,6 +1,6 @@
 //! The command `run`: an election is run, and its logs are written to files.
 
-use crate::fakes::{File, FullSink, MemoryShelf, assert_served};
+use crate::fakes::{File, FullSink, MemoryShelf, assert_served, assert_served_on};
 use crate::samples::{ELECTED_0, ELECTED_1, LONE_0, LONE_1, LONE_2};
 use ira_event::MemorySink;
 use ira_main::{Counted, serve};
@@ -33,20 +33,7 @@ fn assert_run(
     let words = words_of(rt.alloc(), options)?;
     let mut input = Counted::new(io::empty());
     let mut shelf = MemoryShelf::new(rt.alloc(), broken);
-    let mut on_out = MemorySink::new(rt.alloc());
-    let mut on_err = MemorySink::new(rt.alloc());
-    let found = serve(
-        rt,
-        rt.alloc(),
-        &words,
-        &mut input,
-        &mut shelf,
-        &mut on_out,
-        &mut on_err,
-    );
-    assert_eq!(rt; on_out.bytes(), out.as_bytes());
-    assert_eq!(rt; on_err.bytes(), err.as_bytes());
-    assert_eq!(rt; found, status);
+    assert_served_on(rt, &words, &mut shelf, &mut input, status, out, err);
     assert_eq!(rt; input.reads(), 0);
     shelf.assert_written(rt, written);
     Ok(())

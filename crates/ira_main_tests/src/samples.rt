@@ -1,4 +1,4 @@
-//! The texts of logs that several commands are tested with.
+//! The texts of logs, questions and certificates that several commands are tested with.
 
 /// Two nodes that draw 2 and 1: node 0 is elected.
 pub(crate) const ELECTED_0: &str =
@@ -8,6 +8,17 @@ pub(crate) const ELECTED_0: &str =
 pub(crate) const ELECTED_1: &str =
     "irlog 1\nnodes 2\nplace 1\nstart initiator\ndraw 1\nsend 1 1 1 clean\n\
                          recv 1 2 1 clean\nsend 1 2 2 clean\nend 4\n";
+
+/// Both draw 1, and again in round 2: node 0 is elected.
+pub(crate) const TIED_0: &str =
+    "irlog 1\nnodes 2\nplace 0\nstart initiator\ndraw 1\nsend 1 1 1 clean\n\
+                      recv 1 1 1 clean\nsend 1 1 2 dirty\nrecv 1 1 2 dirty\ndraw 2\n\
+                      send 2 2 1 clean\nrecv 2 1 1 clean\nrecv 2 2 2 clean\nend 9\n";
+
+pub(crate) const TIED_1: &str =
+    "irlog 1\nnodes 2\nplace 1\nstart initiator\ndraw 1\nsend 1 1 1 clean\n\
+                      recv 1 1 1 clean\nsend 1 1 2 dirty\nrecv 1 1 2 dirty\ndraw 1\n\
+                      send 2 1 1 clean\nrecv 2 2 1 clean\nsend 2 2 2 clean\nend 9\n";
 
 /// Node 0 alone initiates in a ring of three.
 pub(crate) const LONE_0: &str =
@@ -19,3 +30,19 @@ pub(crate) const LONE_1: &str = "irlog 1\nnodes 3\nplace 1\nstart passive\nrecv 
 
 pub(crate) const LONE_2: &str = "irlog 1\nnodes 3\nplace 2\nstart passive\nrecv 1 1 2 clean\n\
                       send 1 1 3 clean\nend 2\n";
+
+/// The question whether node 1 is active while node 0 leads.
+pub(crate) const LEADER_AND_ACTIVE: &str = "irask 1\nnodes 2\ncase\n0: leader\n1: active\nend\n";
+
+/// The certificate that it wasn't in the election of two.
+pub(crate) const TWO_STEPS: &str =
+    "ircert 1\nnodes 2\nsection\ndrop 1 1 by 0 4\ndrop 1 2 by 0 4\nspent 1\nend\n";
+
+/// The question whether two nodes of a ring of three ever lead at once.
+pub(crate) const PAIRS_OF_THREE: &str =
+    "irask 1\nnodes 3\ncase\n0: leader\n1: leader\ncase\n0: leader\n2: leader\n\
+                      case\n1: leader\n2: leader\nend\n";
+
+/// The certificate that they didn't where node 0 alone initiated.
+pub(crate) const NO_PAIR_OF_THREE: &str =
+    "ircert 1\nnodes 3\nsection\nspent 1\nsection\nspent 2\nsection\nspent 1\nend\n";

@@ -11,6 +11,8 @@ use std::time::Clock;
 
 const USAGE: &str = "\n\nUsage: ira < LOG\n       ira logs <LOG>...\n       \
                      ira check --question <Q> --cert <C> [--depth <D>] <LOG>...\n       \
+                     ira decide --question <Q> [--out <C>] <LOG>...\n       \
+                     ira pairs <N>\n       \
                      ira run --nodes <N> --seed <S> --out <DIR> [OPTIONS]\n\n\
                      For more information, try '--help'.\n";
 
@@ -33,7 +35,7 @@ fn words_that_are_no_command(rt: HostRuntime) {
         (
             "--",
             "error: 'ira' requires a subcommand but one was not provided\n  \
-             [subcommands: logs, check, run, help]",
+             [subcommands: logs, check, decide, pairs, run, help]",
         ),
     ] {
         let text = format!(in rt.alloc(); "{first_line}{USAGE}").expect(&rt, "memory");
@@ -53,17 +55,21 @@ fn help_is_a_refused_word(rt: HostRuntime) {
     let help = "Judges and makes logs of Itai-Rodeh elections on anonymous rings.\n\n\
                 Usage: ira < LOG\n       ira logs <LOG>...\n       \
                 ira check --question <Q> --cert <C> [--depth <D>] <LOG>...\n       \
+                ira decide --question <Q> [--out <C>] <LOG>...\n       \
+                ira pairs <N>\n       \
                 ira run --nodes <N> --seed <S> --out <DIR> [OPTIONS]\n\n\
                 Commands:\n\
-                \x20 logs   Judges the logs of all nodes of a ring together\n\
-                \x20 check  Judges logs together with a certificate that no moment met a case of a question\n\
-                \x20 run    Runs an election, and writes the log of each node to a file\n\
-                \x20 help   Print this message or the help of the given subcommand(s)\n\n\
+                \x20 logs    Judges the logs of all nodes of a ring together\n\
+                \x20 check   Judges logs together with a certificate that no moment met a case of a question\n\
+                \x20 decide  Decides for each case of a question whether some moment of the logged run met it\n\
+                \x20 pairs   Prints the question whether two nodes of a ring ever lead at once\n\
+                \x20 run     Runs an election, and writes the log of each node to a file\n\
+                \x20 help    Print this message or the help of the given subcommand(s)\n\n\
                 Options:\n  -h, --help  Print help\n\n\
                 Without words ira judges the log of one node, on standard input. It prints \
-                `yes`, or `no` and\nthe first reason. The status is 0 for yes or an elected leader, \
-                1 for no or no leader, 2 for\nrefused words, a refused ring, a failed read or a failed \
-                write, 3 for want of memory.\n";
+                `yes`, or `no` and\nthe first reason. The status is 0 for yes, absent cases or an \
+                elected leader, 1 for no, a case\nthat is present or no leader, 2 for refused words, a \
+                refused ring, a failed read or a failed\nwrite, 3 for want of memory.\n";
     for words in [
         &["--help"].as_slice(),
         &["-h"].as_slice(),

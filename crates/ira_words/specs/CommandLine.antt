@@ -43,7 +43,7 @@ check_app = on_top (λ s. record s { rules = check_rules }) (new_app (codes "che
 abbrev pub decide_app : App
 decide_app =
     with_rule (with_rule (with_rule (new_app (codes "decide")) (record (option_rule (codes "question")) { required = true }))
-      (option_rule (codes "out"))) logs_rule
+    (option_rule (codes "out"))) logs_rule
 
 -- the size of a ring
 abbrev pub pairs_rule : Rule
@@ -77,4 +77,4 @@ ira_top = on_top (λ s. record s { no_binary_name = true; subcommand_required = 
 abbrev pub ira_app : App
 ira_app =
     with_subcommand (with_subcommand (with_subcommand (with_subcommand (with_subcommand ira_top logs_app.top)
-      check_app.top) decide_app.top) pairs_app.top) run_app.top
+    check_app.top) decide_app.top) pairs_app.top) run_app.top

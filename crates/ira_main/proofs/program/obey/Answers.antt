@@ -2,7 +2,7 @@ use Rattle.std.proofs.Common.{◌≡◌, ◌∙◌, ℕ, ap, sym, length, Option
 use Rattle.std.proofs.lemmas.List.{length-map}
 use Rattle.ira_words.specs.Request.{IsMadeOf}
 use Rattle.ira_main.specs.Serve.{JudgesTogether}
-use Rattle.ira_main.specs.Serve.Done.{asked, judged, certified, recorded, no_answer}
+use Rattle.ira_main.specs.Serve.Done.{asked, judged, certified, decided, recorded, no_answer}
 use Rattle.ira_main.proofs.program.obey.Goals as goal
 
 none_of_none : {X Y : Type 0} (f : X → Y) (xs : List X) → map f xs ≡ [] → xs ≡ []
@@ -35,6 +35,17 @@ returns-in-Check-clause-obeyed g c = λ some.
       unread = refl;
       done = elim c.check_files.ensures [
         | inl h ↦ certified _ made h
+        | inr h ↦ no_answer h
+      ];
+    }
+
+pub returns-in-Decide-clause-obeyed : goal.returns-in-Decide-clause-obeyed
+returns-in-Decide-clause-obeyed g c = λ some.
+    let made = subst (IsMadeOf (map (λ w. w.now) c.args.words.now)) c.in-Decide.is c.in_ok-read_words.ensures.made in
+    record {
+      unread = refl;
+      done = elim c.decide_files.ensures [
+        | inl h ↦ decided _ _ made h refl
         | inr h ↦ no_answer h
       ];
     }

@@ -1,7 +1,7 @@
 use Rattle.std.proofs.Common.{[], ap, length, length-append, arith, rules}
 use Rattle.std.proofs.lemmas.List.{length-map}
 use Rattle.std.specs.Slice.Iter.{chunks_size}
-use Rattle.ira_main.proofs.program.read_logs.Goals as goal
+use Rattle.ira_main.proofs.read_files.read_logs.Goals as goal
 
 pub loop-some-init : goal.loop-some-init
 loop-some-init g c =

@@ -1,7 +1,7 @@
 use Rattle.std.proofs.Common.{◌≡◌, ◌+◌, ℕ, List, length}
 use Rattle.std.specs.Slice.Iter.{chunks_rest}
 use Rattle.ira_audit.specs.RingAudit.{HasTaken}
-use Rattle.ira_main.proofs.program.read_logs.Given as goal
+use Rattle.ira_main.proofs.read_files.read_logs.Given as goal
 
 abbrev pub invariant-loop-some : goal.invariant-loop-some
 invariant-loop-some g l = record {

@@ -1,0 +1,58 @@
+ghost use Rattle.std.specs.Prelude.{◌⊎◌, length};
+ghost use Rattle.ira_main.specs.CertFile.{HasKept};
+ghost use Rattle.ira_main.specs.Decide.{Decides, EndsWith};
+ghost use Rattle.ira_main.specs.Outcome.{outcome_number};
+ghost use Rattle.ira_main.specs.Serve.{GivesNoAnswer};
+
+use crate::cert_file::keep;
+use crate::complaint::Complaint;
+use crate::read_files::{read_file, read_logs};
+use crate::shelf::Shelf;
+use crate::status::Status;
+use ira_audit::{Findings, write_findings};
+use ira_event::{Sink, WriteFault};
+use ira_words::DecideRequest;
+use std::alloc::Allocator;
+use std::thread::Threads;
+
+// Keeps the certificate of these findings in a new file of this name, if there are both.
+fn keep_findings<'a, A: Allocator + Clone, F: Shelf<A>>(
+    findings: Findings<A>,
+    name: Option<&'a str>,
+    shelf: &mut F,
+) -> Result<Status, Complaint<'a>>
+    ensures { EndsWith (HasKept F.creates F.loses F.Out.taken F.Out.failures shelf.new) findings name.entry result }
+{
+    let Some(certificate) = findings.into_certificate()? else {
+        return Ok(Status::No);
+    };
+    match name {
+        Some(name) => keep(&certificate, name, shelf),
+        None => Ok(Status::Yes),
+    }
+}
+
+/// Decides the question in its file of the logs in theirs, and prints what is found. The files are read in this
+/// order, all before one is judged: question, logs. Only behind the findings a certificate is kept.
+pub(crate) fn decide_files<'a, R, A, F, W>(
+    rt: &R,
+    alloc: A,
+    decide: &DecideRequest<'a>,
+    shelf: &mut F,
+    out: &mut W,
+) -> Result<Status, Complaint<'a>>
+where
+    R: Threads + Sync,
+    A: Allocator + Clone + Send + Sync,
+    F: Shelf<A>,
+    W: Sink,
+    ensures { Decides A (HasKept F.creates F.loses F.Out.taken F.Out.failures shelf.new) (length decide.now.logs.items) decide.now.certificate (W.taken out.old) (W.failures out.old) (W.taken out.new) (W.failures out.new) result ⊎ GivesNoAnswer (W.taken out.old) (W.failures out.old) (W.taken out.new) (W.failures out.new) (outcome_number result) }
+{
+    let question = read_file(decide.question, shelf)?;
+    let audit = read_logs(rt, alloc, &decide.logs, shelf)?;
+    let findings = audit.decide(&question)?;
+    match write_findings(&findings, out) {
+        Ok(()) => keep_findings(findings, decide.certificate, shelf),
+        Err(WriteFault) => Err(Complaint::CannotWriteAnswer),
+    }
+}

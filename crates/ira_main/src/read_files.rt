@@ -1,0 +1,58 @@
+ghost use Rattle.std.specs.Prelude.{◌≡◌, ℕ, List, IfOk, length, vec_len};
+ghost use Rattle.ira_audit.specs.RingAudit.{HasTaken};
+
+use crate::complaint::Complaint;
+use crate::shelf::Shelf;
+use ira_audit::RingAudit;
+use std::alloc::Allocator;
+use std::thread::Threads;
+
+/// How many texts of logs are in memory at a time, and are read side by side.
+const TEXTS_AT_ONCE: usize = 4;
+
+/// The text of the file of this name.
+pub(crate) fn read_file<'a, A: Allocator, F: Shelf<A>>(
+    name: &'a str,
+    shelf: &mut F,
+) -> Result<Vec<u8, A>, Complaint<'a>> {
+    match shelf.read(name) {
+        Ok(text) => Ok(text),
+        Err(fault) => Err(Complaint::unread(name, fault)),
+    }
+}
+
+/// The texts of the files of these names, which are read in turn.
+fn read_texts<'a, A: Allocator, F: Shelf<A>>(
+    alloc: A,
+    names: &[&'a str],
+    shelf: &mut F,
+) -> Result<Vec<Vec<u8, A>, A>, Complaint<'a>>
+    ensures { IfOk result (λ texts. vec_len texts ≡ length names.now) }
+{
+    let mut texts = Vec::with_capacity(alloc, names.len())?;
+    for name in names {
+        texts.push(read_file(name, shelf)?)?;
+    }
+    Ok(texts)
+}
+
+/// The logs in the files of these names. Each text is given up once its log is read.
+pub(crate) fn read_logs<'a, R, A, F>(
+    rt: &R,
+    alloc: A,
+    names: &[&'a str],
+    shelf: &mut F,
+) -> Result<RingAudit<A>, Complaint<'a>>
+where
+    R: Threads + Sync,
+    A: Allocator + Clone + Send + Sync,
+    F: Shelf<A>,
+    ensures { IfOk result (λ audit. (texts : List (List ℕ)) × HasTaken audit texts × (length texts ≡ length names.now)) }
+{
+    let mut audit = RingAudit::new(alloc.clone()?);
+    for some in names.chunks(TEXTS_AT_ONCE) {
+        let texts = read_texts(alloc.clone()?, some, shelf)?;
+        audit.take_all(rt, &texts)?;
+    }
+    Ok(audit)
+}

@@ -1,0 +1,44 @@
+//! Certificates that are kept in files.
+
+use crate::fakes::MemoryShelf;
+use ira_cert_text::{Certificate, Section};
+use ira_event::{MemorySink, RingSize};
+use ira_main::{Shelf, keep_cert};
+use std::alloc::Global;
+use std::process::Abort;
+use std::test::Fail;
+
+/// Keeps the certificate on a shelf without files, and compares the status and what was said. It gives the shelf.
+fn assert_kept(
+    rt: &(impl Abort + AllocGlobal),
+    certificate: &Certificate<Global>,
+    status: u8,
+    line: &str,
+) -> MemoryShelf<'static> {
+    let mut shelf = MemoryShelf::new(rt.alloc(), &[]);
+    let mut on_err = MemorySink::new(rt.alloc());
+    let found = keep_cert(certificate, "c", &mut shelf, &mut on_err);
+    assert_eq!(rt; on_err.bytes(), line.as_bytes());
+    assert_eq!(rt; found, status);
+    shelf
+}
+
+#[test]
+fn certificates_at_the_limit(rt: HostRuntime) -> Result<(), Fail> {
+    let mut sections = Vec::new(rt.alloc());
+    for _ in 0..2_017 {
+        sections.push(Section {
+            steps: Vec::new(rt.alloc()),
+            spent: 0,
+        })?;
+    }
+    let nodes = RingSize::new(2).ok_or("a ring of that size")?;
+    let mut certificate = Certificate { nodes, sections };
+    let line = "ira: certificate past the limits\n";
+    assert_kept(&rt, &certificate, 2, line).assert_written(&rt, &[]);
+    assert!(rt; certificate.sections.pop().is_some());
+    let text = assert_kept(&rt, &certificate, 0, "").read("c")?;
+    // the head, 2,016 sections of 16 bytes, and the last line
+    assert_eq!(rt; text.len(), 17 + 2_016 * 16 + 4);
+    Ok(())
+}
