@@ -41,7 +41,7 @@ Reports answer = Prints (report_line answer) (status_number (answer_status answe
 -- failed, or there was no memory, and nothing was written
 pub data Judges (old new : Reads) (taken : Option (List ℕ)) (failures : ℕ) (taken' : Option (List ℕ)) (failures' : ℕ) (status : ℕ) : Type 0 where
   judged : (text : List ℕ) (answer : Answer) → IsReadTo (MAX_TEXT + 1) old new text → IsAnswer text answer → Reports answer taken failures taken' failures' status → Judges old new taken failures taken' failures' status
-  unread : new.has_failed ≡ true → IsUntouched taken failures taken' failures' → status ≡ 2 → Judges old new taken failures taken' failures' status
+  unread : new.has_failed ≡ true → new.is_over ≡ true → IsUntouched taken failures taken' failures' → status ≡ 2 → Judges old new taken failures taken' failures' status
   no_memory : IsUntouched taken failures taken' failures' → status ≡ 3 → Judges old new taken failures taken' failures' status
 
 -- no answer was given: nothing was written to the output, whatever became of files, and the status is
