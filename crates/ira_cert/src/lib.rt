@@ -5,10 +5,12 @@
 mod fronts;
 mod kept;
 mod laws;
+mod left;
 mod plain;
 mod positions;
 mod profiled;
 mod section_fault;
+mod soundness;
 mod unsound;
 mod verdict;
 
@@ -17,9 +19,11 @@ pub use ira_cert_text::{
     CertFault, CertStep, Certificate, MAX_SECTIONS, MAX_STEPS, Section, read_cert, write_cert,
 };
 pub use laws::{a_section_has_one_verdict, sound_sections_leave_no_cut};
-pub use plain::check_plain;
+pub use left::Left;
+pub use plain::{check_plain, clause_at};
 pub use positions::Positions;
 pub use profiled::check_profiled;
 pub use section_fault::SectionFault;
+pub use soundness::judge_step;
 pub use unsound::Unsound;
 pub use verdict::Verdict;
