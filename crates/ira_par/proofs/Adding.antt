@@ -1,9 +1,8 @@
 -- The counts of ranges are added up from the left.
-use Rattle.std.proofs.Common.{◌≡◌, ℕ, ◌+◌, ◌^◌, ◌<◌, ◌≤◌, List, ◌∷◌, Option, length, slice_index, take, refl, sym, ◌∙◌, subst, arith}
+use Rattle.std.proofs.Common.{◌≡◌, ℕ, ◌+◌, ◌^◌, ◌<◌, List, ◌∷◌, length, slice_index, take, refl, sym, ◌∙◌, subst, arith}
 use Rattle.ira_cert_text.specs.declared.cert_step.CertStep.{CertStep}
-use Rattle.ira_cert.specs.declared.section_fault.SectionFault.{SectionFault}
 use Rattle.ira_cert.specs.Front.{made}
-use Rattle.ira_par.specs.Leaf.{Leaf, AreRanges, IsCounted, IsPlaced, AreCounted, ArePlaced}
+use Rattle.ira_par.specs.Leaf.{Leaf, AreRanges, IsCounted, AreCounted, ArePlaced}
 use Rattle.ira_par.specs.Ranges.{AreMade}
 use Rattle.ira_par.proofs.Counts.{made_few}
 

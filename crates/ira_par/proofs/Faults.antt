@@ -1,5 +1,5 @@
 -- Of ranges one after the other the leftmost fault is that of all the steps.
-use Rattle.std.proofs.Common.{◌≡◌, ℕ, List, [], ◌∷◌, Option, Some, None, length, take, refl, sym, ◌∙◌, subst}
+use Rattle.std.proofs.Common.{ℕ, List, [], ◌∷◌, Option, Some, None, take, subst}
 use Rattle.std.specs.Option.{option_or}
 use Rattle.ira_event.specs.Log.{Log}
 use Rattle.ira_pred.specs.Case.{Conjunct}
@@ -14,9 +14,9 @@ use Rattle.ira_par.specs.Ranges.{IsRangeFault}
 module _ (logs : List Log) (case : List Conjunct) (steps : List CertStep) where
   -- of two ranges it is the left one's, else the right one's
   pub left_then_right : (from middle to : ℕ) (left right : Option SectionFault) → IsRangeFault logs case steps from middle left → IsRangeFault logs case steps middle to right → IsRangeFault logs case steps from to (option_or left right)
-  left_then_right from middle to (Some fault) right a b before = a before
-  left_then_right from middle to None None a b before = b (a before)
-  left_then_right from middle to None (Some fault) a b before = b (a before)
+  left_then_right from middle to (Some fault) right a b = a
+  left_then_right from middle to None None a b = λ before. b (a before)
+  left_then_right from middle to None (Some fault) a b = λ before. b (a before)
 
   -- and of many
   pub leftmost : (tables : List (Option (List ℕ))) (differ : HasDifferentPlaces case) (fronts : AreFronts logs case tables) (from to : ℕ) (leaves : List Leaf) → AreRanges (IsJudged logs tables steps) from leaves to → IsRangeFault logs case steps from to (first_fault leaves)

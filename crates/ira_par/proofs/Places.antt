@@ -1,7 +1,7 @@
 -- What tables and counts tell of a node's candidates.
-use Rattle.std.proofs.Common.{◌≡◌, ◌≢◌, ℕ, ◌<◌, ◌≤◌, inl, inr, List, Option, Some, None, length, slice_get, slice_index, take, refl, sym, ◌∙◌, ap, subst, arith}
+use Rattle.std.proofs.Common.{◌≡◌, ◌≢◌, ℕ, ◌≤◌, inl, inr, List, Option, Some, None, length, slice_get, take, sym, ◌∙◌, subst, arith}
 use Rattle.std.proofs.lemmas.List.{take_all}
-use Rattle.std.proofs.lemmas.Option.{same_Some, slice_get_cases, slice_get_within}
+use Rattle.std.proofs.lemmas.Option.{slice_get_cases}
 use Rattle.ira_event.specs.Log.{Log}
 use Rattle.ira_pred.specs.Case.{Conjunct}
 use Rattle.ira_cert_text.specs.declared.cert_step.CertStep.{CertStep}
@@ -11,7 +11,6 @@ use Rattle.ira_cert.specs.Fronts.{AreFronts}
 use Rattle.ira_cert.specs.SoundSection.{AreSoundSteps}
 use Rattle.ira_cert.proofs.OneList.{one_list}
 use Rattle.ira_cert.proofs.SomeVerdict.{enough}
-use Rattle.ira_par.specs.Ranges.{AreMade}
 
 module _ (logs : List Log) (case : List Conjunct) (differ : HasDifferentPlaces case) (tables : List (Option (List ℕ))) (fronts : AreFronts logs case tables) where
   -- a node without a table isn't asked
@@ -36,7 +35,11 @@ module _ (logs : List Log) (case : List Conjunct) (differ : HasDifferentPlaces c
     first_at p first = (xs, fronts.lists i xs at, first)
 
     pub spent_at : AreSoundSteps logs case before → slice_get xs (made before i) ≡ None → IsSpent logs case before i
-    spent_at sound none = (xs, fronts.lists i xs at, elim (slice_get_cases xs (made before i)).1 [
-      | inl h ↦ absurd (let e = sym h.2 ∙ none in cc)
-      | inr h ↦ omega (arith, h.0, no_more before i xs sound at)
-    ])
+    spent_at sound none = (
+      xs,
+      fronts.lists i xs at,
+      elim (slice_get_cases xs (made before i)).1 [
+        | inl h ↦ absurd (let e = sym h.2 ∙ none in cc)
+        | inr h ↦ omega (arith, h.0, no_more before i xs sound at)
+      ],
+    )

@@ -1,10 +1,15 @@
 // The two rounds of threads: the steps of each range are counted, and then judged.
-ghost use Rattle.std.specs.Prelude.{◌≡◌, ◌^◌, ◌<◌, ◌≤◌, ℕ, length};
+ghost use Rattle.std.specs.Prelude.{◌≡◌, ◌^◌, ◌<◌, ◌≤◌, ℕ, List, [], length};
+ghost use Rattle.ira_pred.specs.Case.{Conjunct};
+ghost use Rattle.ira_cert.specs.Asked.{HasDifferentPlaces};
+ghost use Rattle.ira_cert.specs.Fronts.{AreFronts};
 ghost use Rattle.ira_par.specs.Leaf.{AreRanges, IsBlank, IsCounted, IsPlaced, IsJudged};
+ghost use Rattle.ira_par.specs.Ranges.{AreMade, IsRangeFault};
 
 use crate::leaf::Leaf;
+use crate::leaves::{add_up, first_fault};
 use crate::table::Table;
-use ira_cert::CertStep;
+use ira_cert::{CertStep, SectionFault};
 use ira_links::Gate;
 use ira_order::Ordered;
 use std::alloc::Allocator;
@@ -12,6 +17,34 @@ use std::sync::Wait;
 use std::thread;
 use std::thread::Threads;
 use std::time::Clock;
+
+/// Finds the first step that isn't sound, by the ranges of the steps in two rounds. The counts are 0 before
+/// and those of all steps behind it.
+pub(crate) fn judge_steps<R, G, A>(
+    rt: &R,
+    gate: &G,
+    ordered: &Ordered<'_, A>,
+    tables: &[Option<Table<A>>],
+    steps: &[CertStep],
+    leaves: &mut [Leaf<A>],
+    counts: &mut Vec<usize, A>,
+) -> Option<SectionFault>
+where
+    R: Threads + Wait + Clock + Sync,
+    G: Gate + Sync,
+    A: Allocator + Send + Sync,
+    requires few { length leaves.old ≤ 16 }
+    requires places { (length tables.now ≤ length ordered.now.logs) × (length counts.old.items ≡ length tables.now) }
+    requires blank { AreMade [] counts.old.items × AreRanges (IsBlank (length tables.now)) 0 leaves.old (length steps.now) }
+    ensures places { length counts.new.items ≡ length tables.now }
+    ensures counts { AreMade steps.now counts.new.items }
+    ensures fault { (case : List Conjunct) → HasDifferentPlaces case → AreFronts ordered.now.logs case tables.now → IsRangeFault ordered.now.logs case steps.now 0 (length steps.now) result }
+{
+    count_all(rt, steps, leaves);
+    add_up(leaves, counts);
+    judge_all(rt, gate, ordered, tables, steps, leaves);
+    first_fault(leaves)
+}
 
 /// How many threads are worth while for so many steps.
 fn threads(leaves: usize, steps: usize) -> usize
@@ -21,7 +54,7 @@ fn threads(leaves: usize, steps: usize) -> usize
 }
 
 /// Counts the steps of each range.
-pub(crate) fn count_all<R: Threads + Sync, A: Allocator + Send + Sync>(
+fn count_all<R: Threads + Sync, A: Allocator + Send + Sync>(
     rt: &R,
     steps: &[CertStep],
     leaves: &mut [Leaf<A>],
@@ -38,7 +71,7 @@ pub(crate) fn count_all<R: Threads + Sync, A: Allocator + Send + Sync>(
 }
 
 /// Judges the steps of each range. Each passes the gate first, with its number from the left.
-pub(crate) fn judge_all<R, G, A>(
+fn judge_all<R, G, A>(
     rt: &R,
     gate: &G,
     ordered: &Ordered<'_, A>,

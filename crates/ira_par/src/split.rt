@@ -8,9 +8,9 @@ ghost use Rattle.ira_cert.specs.SoundSection.{IsSoundSection};
 ghost use Rattle.ira_cert.specs.SectionFault.{IsSectionFault};
 ghost use Rattle.ira_cert.specs.Verdict.{IsVerdict};
 
-use crate::leaves::{add_up, all_leaves, first_fault};
+use crate::leaves::all_leaves;
 use crate::ranges::left_at;
-use crate::rounds::{count_all, judge_all};
+use crate::rounds::judge_steps;
 use crate::table::Table;
 use crate::tables::{case_tables, profiled_tables};
 use ira_cand::Profile;
@@ -107,14 +107,12 @@ where
     let steps = section.steps.as_slice();
     let mut leaves = all_leaves(alloc.clone()?, tables.len(), steps.len(), depth)?;
     let mut counts = vec![in alloc; 0; tables.len()]?;
-    count_all(rt, steps, &mut leaves);
-    add_up(&mut leaves, &mut counts);
-    judge_all(rt, gate, ordered, tables, steps, &mut leaves);
-    if let Some(fault) = first_fault(&leaves) {
+    let fault = judge_steps(rt, gate, ordered, tables, steps, &mut leaves, &mut counts);
+    if let Some(fault) = fault {
         return Ok(Verdict::No(fault));
     }
-    if left_at(tables, &counts, section.spent) != Left::Spent {
+    let Left::Spent = left_at(tables, &counts, section.spent) else {
         return Ok(Verdict::No(SectionFault::NotSpent(section.spent)));
-    }
+    };
     Ok(Verdict::Yes)
 }

@@ -1,4 +1,4 @@
-use Rattle.std.proofs.Common.{◌≡◌, ◌∷◌, ℕ, List, rules, subst}
+use Rattle.std.proofs.Common.{◌∷◌, ℕ, List, rules, subst}
 use Rattle.ira_cert_text.specs.declared.cert_step.CertStep.{CertStep}
 use Rattle.ira_par.specs.Leaf.{Leaf, AreCounted}
 use Rattle.ira_par.proofs.Adding.{first_long, first_small, others_counted, all_placed}

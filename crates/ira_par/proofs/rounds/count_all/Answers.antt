@@ -1,4 +1,4 @@
-use Rattle.std.proofs.Common.{◌≡◌, ℕ, length, slice_index_or, refl, ◌∙◌, subst}
+use Rattle.std.proofs.Common.{◌≡◌, ℕ, length, slice_index_or, refl, subst}
 use Rattle.std.proofs.lemmas.Option.{slice_get_read}
 use Rattle.ira_par.specs.Leaf.{Leaf, IsBlank, IsCounted}
 use Rattle.ira_par.proofs.Rows.{range_at, ranges_changed}
@@ -18,6 +18,6 @@ returns g c = λ places h.
     (λ old new blank is. (is.0, is.1, subst (λ (n : ℕ). IsCounted steps n new) blank.0 is.2))
     0 (length steps) olds news c.for_each_mut.auto.s
     (λ i d l.
-        let changed = (c.for_each_mut.ensures i d l).1 in
-        subst (λ (old : Leaf). Counted old (slice_index_or news i d)) changed.argument_is (subst (λ (new : Leaf). Counted changed.argument.now new) changed.left changed.call))
+    let changed = (c.for_each_mut.ensures i d l).1 in
+    subst (λ (old : Leaf). Counted old (slice_index_or news i d)) changed.argument_is (subst (λ (new : Leaf). Counted changed.argument.now new) changed.left changed.call))
     h

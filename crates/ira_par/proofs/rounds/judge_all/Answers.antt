@@ -17,6 +17,6 @@ returns g c =
     ranges_changed (IsPlaced steps (length c.args.tables.now)) (IsJudged c.args.ordered.now.logs c.args.tables.now steps) Judged (λ old new placed is. is)
     0 (length steps) olds news c.for_each_mut.auto.s
     (λ i d l.
-        let changed = (c.for_each_mut.ensures i d l).1 in
-        subst (λ (old : Leaf). Judged old (slice_index_or news i d)) changed.argument_is (subst (λ (new : Leaf). Judged changed.argument.now new) changed.left changed.call))
+    let changed = (c.for_each_mut.ensures i d l).1 in
+    subst (λ (old : Leaf). Judged old (slice_index_or news i d)) changed.argument_is (subst (λ (new : Leaf). Judged changed.argument.now new) changed.left changed.call))
     c.requires.placed
