@@ -25,7 +25,7 @@ use Rattle.ira_cert.proofs.Behind.{one_front}
 use Rattle.ira_cert.proofs.Made.{step_at}
 use Rattle.ira_cert.proofs.OneList.{one_list}
 use Rattle.ira_cert.proofs.Prefixes.{sound_more}
-use Rattle.ira_cert.proofs.SomeVerdict.{enough}
+use Rattle.ira_cert.proofs.SomeVerdict.{candidates_at, enough}
 
 -- the first conjunct of a longer case is another one, or this one
 asked_behind : (c : Conjunct) (case : List Conjunct) (i : ℕ) → c.place ≢ i → IsAsked (c ∷ case) i → IsAsked case i
@@ -62,8 +62,8 @@ module _ (logs : List Log) (case : List Conjunct)
       | inl other_asked ↦ elim (cases_eq s.node s.other) [
         | inl same ↦ inr (SameNode, same_node asked same refl)
         | inr apart ↦
-            let c = enough logs case places steps k l sound s.node asked in
-            let d = enough logs case places steps k l sound s.other other_asked in
+            let c = enough logs case (candidates_at logs case places) steps k l sound s.node asked in
+            let d = enough logs case (candidates_at logs case places) steps k l sound s.other other_asked in
             elim (slice_get_cases c.0 (made (take k steps) s.node)).1 [
               | inr past ↦ inr (NodeSpent, node_spent asked other_asked apart (inl (c.0, c.1, omega (arith, c.2, past.0))) refl)
               | inl first ↦ elim (slice_get_cases d.0 (made (take k steps) s.other)).1 [
@@ -107,7 +107,7 @@ module _ (logs : List Log) (case : List Conjunct)
     | inr isnt ↦ inr (λ spent. isnt (spent.1.formula, spent.1.asked))
     | inl asked ↦
         let whole : take (length steps) steps ≡ steps = take_all (length steps) steps (omega arith) in
-        let c = enough logs case places steps (length steps) (omega arith) (subst (AreSoundSteps logs case) (sym whole) sound) i asked in
+        let c = enough logs case (candidates_at logs case places) steps (length steps) (omega arith) (subst (AreSoundSteps logs case) (sym whole) sound) i asked in
         elim (cases_eq (made steps i) (length c.0)) [
           | inl all ↦ inl (c.0, c.1, all)
           | inr other ↦ inr (λ spent. other (subst (λ (xs : List ℕ). made steps i ≡ length xs) (one_list logs case i spent.0 c.0 differ spent.1 c.1) spent.2))

@@ -29,7 +29,7 @@ module _ (logs : List Log) (case : List Conjunct) (differ : HasDifferentPlaces c
   asked_from_spent i h = (h.1.formula, h.1.asked)
 
   -- a node has no candidate left, or a first one
-  front_unspent : (i p : ℕ) → IsFront logs case before i p → ¬ (IsSpent logs case before i)
+  pub front_unspent : (i p : ℕ) → IsFront logs case before i p → ¬ (IsSpent logs case before i)
   front_unspent i p front spent =
       let same : front.0 ≡ spent.0 = one_list logs case i front.0 spent.0 differ front.1 spent.1 in
       let within : made before i < length front.0 = slice_get_within front.0 (made before i) p front.2 in

@@ -23,17 +23,8 @@ use Rattle.ira_cert.specs.Verdict.{IsVerdict}
 use Rattle.ira_cert.proofs.Made.{step_at, made_own, made_other}
 use Rattle.ira_cert.proofs.Prefixes.{sound_below, sound_fewer, sound_more}
 
-module _ (logs : List Log) (case : List Conjunct) (places : HasPlacesOf logs case) where
-  -- a node that is asked has candidates
-  pub candidates_at : (i : ℕ) → IsAsked case i → (positions : List ℕ) × CandidatesOf logs case i positions
-  candidates_at i asked =
-      let within : i < length logs = All-contains (λ (c : Conjunct). c.place < length logs) case (record { place = i; formula = asked.0 }) places asked.1 in
-      elim (slice_get_cases logs i).1 [
-        | inl h ↦ (candidates_of h.0 asked.0, record { formula = asked.0; asked = asked.1; log = h.0; log_is = h.2; candidates_are = are_candidates h.0 asked.0 })
-        | inr h ↦ absurd (omega (arith, h.0))
-      ]
-
-  -- sound steps eliminate no more states of it than those
+module _ (logs : List Log) (case : List Conjunct) (candidates_at : (i : ℕ) → IsAsked case i → (positions : List ℕ) × CandidatesOf logs case i positions) where
+  -- sound steps eliminate no more states of a node than it has candidates
   pub enough : (steps : List CertStep) (k : ℕ) → k ≤ length steps → AreSoundSteps logs case (take k steps) → (i : ℕ) → IsAsked case i → (positions : List ℕ) × CandidatesOf logs case i positions × (made (take k steps) i ≤ length positions)
   enough steps zero l sound i asked = let c = candidates_at i asked in (c.0, c.1, omega arith)
   enough steps (suc k) l sound i asked =
@@ -53,6 +44,16 @@ module _ (logs : List Log) (case : List Conjunct) (places : HasPlacesOf logs cas
       ]) in
       at_next (suc k) (omega arith)
 
+module _ (logs : List Log) (case : List Conjunct) (places : HasPlacesOf logs case) where
+  -- a node that is asked has candidates
+  pub candidates_at : (i : ℕ) → IsAsked case i → (positions : List ℕ) × CandidatesOf logs case i positions
+  candidates_at i asked =
+      let within : i < length logs = All-contains (λ (c : Conjunct). c.place < length logs) case (record { place = i; formula = asked.0 }) places asked.1 in
+      elim (slice_get_cases logs i).1 [
+        | inl h ↦ (candidates_of h.0 asked.0, record { formula = asked.0; asked = asked.1; log = h.0; log_is = h.2; candidates_are = are_candidates h.0 asked.0 })
+        | inr h ↦ absurd (omega (arith, h.0))
+      ]
+
   -- a step isn't without a judgement behind sound ones: where it isn't sound, there is a reason
   judged : (steps : List CertStep) (k : ℕ) (s : CertStep) → k ≤ length steps → AreSoundSteps logs case (take k steps) → ¬ (IsSoundStep logs case (take k steps) s) → ¬ ((why : Unsound) → ¬ (WhyUnsound logs case (take k steps) s why))
   judged steps k s l sound not none =
@@ -60,8 +61,8 @@ module _ (logs : List Log) (case : List Conjunct) (places : HasPlacesOf logs cas
       let asks_other : ¬ (¬ (IsAsked case s.other)) = λ isnt. none NotAsked (not_asked (inr isnt) refl) in
       asks (λ asked. asks_other (λ other_asked.
       let differ : s.node ≢ s.other = λ same. none SameNode (same_node asked same refl) in
-      let c = enough steps k l sound s.node asked in
-      let d = enough steps k l sound s.other other_asked in
+      let c = enough logs case candidates_at steps k l sound s.node asked in
+      let d = enough logs case candidates_at steps k l sound s.other other_asked in
       elim (slice_get_cases c.0 (made (take k steps) s.node)).1 [
         | inr past ↦ none NodeSpent (node_spent asked other_asked differ (inl (c.0, c.1, omega (arith, c.2, past.0))) refl)
         | inl first ↦ elim (slice_get_cases d.0 (made (take k steps) s.other)).1 [

@@ -2,6 +2,7 @@ pub mod Asked
 pub mod Front
 pub mod Fronts
 pub mod Laws
+pub mod Left
 pub mod SectionFault
 pub mod SoundSection
 pub mod Verdict

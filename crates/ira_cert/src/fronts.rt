@@ -1,16 +1,20 @@
-ghost use Rattle.std.specs.Prelude.{◌≡◌, ◌≢◌, ◌↔◌, ◌+◌, ◌<◌, ◌≤◌, ℕ, List, [], IsTrue, MatchOption, MatchResult, OnOk, IfErr, Some, length, drop, slice_get, slice_index_or, slice_set, take};
+ghost use Rattle.std.specs.Prelude.{◌≡◌, ◌≢◌, ◌↔◌, ◌<◌, ◌≤◌, ℕ, List, [], IsTrue, MatchOption, MatchResult, OnOk, IfErr, Some, length, drop, slice_get, slice_index_or, slice_set, take};
 ghost use Rattle.std.specs.Option.{option_map};
+ghost use Rattle.ira_event.specs.Log.{Log};
 ghost use Rattle.ira_pred.specs.Case.{Conjunct};
-ghost use Rattle.ira_order.specs.Before.{Before};
 ghost use Rattle.ira_cert_text.specs.declared.cert_step.CertStep.{CertStep};
+ghost use Rattle.ira_cert.specs.declared.left.Left.{Left};
 ghost use Rattle.ira_cert.specs.declared.unsound.Unsound.{Unsound};
 ghost use Rattle.ira_cert.specs.Asked.{HasDifferentPlaces};
 ghost use Rattle.ira_cert.specs.Fronts.{AreFronts, AreFrontsBehind};
+ghost use Rattle.ira_cert.specs.Left.{IsLeft};
 ghost use Rattle.ira_cert.specs.SoundSection.{IsSoundStep, AreSoundSteps};
 ghost use Rattle.ira_cert.specs.SectionFault.{WhyUnsound, IsFirstUnsoundStep};
 ghost use Rattle.ira_cert.specs.Verdict.{IsVerdict};
 
+use crate::left::Left;
 use crate::section_fault::SectionFault;
+use crate::soundness::judge_step;
 use crate::unsound::Unsound;
 use crate::verdict::Verdict;
 use ira_cand::Ahead;
@@ -68,28 +72,23 @@ fn check_step<A: Allocator, I: Iterator<Item = u32> + Listed>(
     ensures place { OnOk result (step.now.node < length fronts.now) }
     ensures verdict { (case : List Conjunct) (before : List CertStep) → HasDifferentPlaces case → AreFrontsBehind ordered.now.logs case before fronts.now → MatchResult result (λ _. IsSoundStep ordered.now.logs case before step.now) (λ why. WhyUnsound ordered.now.logs case before step.now why) }
 {
-    let Some(left) = candidates_left(fronts, step.node) else {
-        return Err(Unsound::NotAsked);
+    let own = left_at(fronts, step.node);
+    let other = left_at(fronts, step.other);
+    judge_step(ordered, step, own, other)
+}
+
+/// What is left of the node's candidates.
+fn left_at<I: Iterator<Item = u32> + Listed>(fronts: &[Option<Ahead<I>>], place: u8) -> Left
+    ensures place { result ≢ Left.NotAsked → place < length fronts.now }
+    ensures left { (logs : List Log) (case : List Conjunct) (before : List CertStep) → AreFrontsBehind logs case before fronts.now → IsLeft logs case before place result }
+{
+    let Some(left) = candidates_left(fronts, place) else {
+        return Left::NotAsked;
     };
-    let Some(other_left) = candidates_left(fronts, step.other) else {
-        return Err(Unsound::NotAsked);
-    };
-    if step.node == step.other {
-        return Err(Unsound::SameNode);
+    match left.front() {
+        Some(position) => Left::First(position),
+        None => Left::Spent,
     }
-    let Some(front) = left.front() else {
-        return Err(Unsound::NodeSpent);
-    };
-    let Some(other_front) = other_left.front() else {
-        return Err(Unsound::NodeSpent);
-    };
-    if step.pos != front || step.other_pos != other_front {
-        return Err(Unsound::NotFront);
-    }
-    if !rules_out(ordered, step) {
-        return Err(Unsound::NotBefore);
-    }
-    Ok(())
 }
 
 /// The candidates left of the node, if it is asked.
@@ -100,22 +99,6 @@ fn candidates_left<I: Iterator<Item = u32> + Listed>(
     ensures { MatchOption result ((xs : List ℕ) → slice_get fronts.now place ≢ Some (Some xs)) (λ left. slice_get fronts.now place ≡ Some (Some left.now)) }
 {
     fronts.get(usize::from(place))?.as_ref()
-}
-
-/// Whether the event that leads on from the first state of the step happened before the one that led
-/// to the other. Where one of these events doesn't exist, it didn't.
-fn rules_out<A: Allocator>(ordered: &Ordered<'_, A>, step: &CertStep) -> bool
-    requires { (step.now.node < length ordered.now.logs) × (step.now.other < length ordered.now.logs) }
-    ensures { IsTrue result ↔ Before ordered.now.logs step.now.node (step.now.pos + 1) step.now.other step.now.other_pos }
-{
-    let logs = ordered.logs();
-    if step.pos as usize >= logs.log(step.node).len() {
-        return false;
-    }
-    if step.other_pos == 0 || step.other_pos as usize > logs.log(step.other).len() {
-        return false;
-    }
-    ordered.before(step.node, step.pos + 1, step.other, step.other_pos)
 }
 
 /// Removes the first candidate left of the node.

@@ -5,10 +5,12 @@
 mod fronts;
 mod kept;
 mod laws;
+mod left;
 mod plain;
 mod positions;
 mod profiled;
 mod section_fault;
+mod soundness;
 mod unsound;
 mod verdict;
 
@@ -18,9 +20,11 @@ pub use ira_cert_text::{
 };
 pub use kept::Kept;
 pub use laws::{a_section_has_one_verdict, sound_sections_leave_no_cut};
-pub use plain::{Candidates, case_fronts, check_plain};
+pub use left::Left;
+pub use plain::{Candidates, case_fronts, check_plain, clause_at};
 pub use positions::Positions;
 pub use profiled::{check_profiled, profiled_fronts};
 pub use section_fault::SectionFault;
+pub use soundness::judge_step;
 pub use unsound::Unsound;
 pub use verdict::Verdict;

@@ -78,7 +78,7 @@ fn candidates_at<'a, A: Allocator>(
 }
 
 /// What the case asks of the node, if anything.
-pub(crate) fn clause_at<A: Allocator>(case: &Case<A>, place: u8) -> Option<&Clause<A>>
+pub fn clause_at<A: Allocator>(case: &Case<A>, place: u8) -> Option<&Clause<A>>
     ensures different { HasDifferentPlaces case.now }
     ensures found { MatchOption result (¬ (IsAsked case.now place)) (λ clause. Contains case.now (record { place = place; formula = formula clause.now })) }
 {

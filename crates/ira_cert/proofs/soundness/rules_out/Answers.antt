@@ -1,8 +1,8 @@
 use Rattle.std.proofs.Common.{◌≡◌, ◌+◌, List, Some, slice_get, subst, arith}
 use Rattle.ira_event.specs.Log.{Log}
 use Rattle.ira_cert.proofs.Past.{first_exists, second_exists, second_is_numbered}
-use Rattle.ira_cert.proofs.fronts.rules_out.Goals as goal
-use Rattle.ira_cert.proofs.fronts.rules_out.Goals.{then-step-eq0-via-then-step-eq0, then-step-eq0-via-else-step-eq0+then-step-len-2}
+use Rattle.ira_cert.proofs.soundness.rules_out.Goals as goal
+use Rattle.ira_cert.proofs.soundness.rules_out.Goals.{then-step-eq0-via-then-step-eq0, then-step-eq0-via-else-step-eq0+then-step-len-2}
 
 pub returns-then-step-len : goal.returns-then-step-len
 returns-then-step-len g c =

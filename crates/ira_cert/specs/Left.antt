@@ -1,0 +1,15 @@
+-- What eliminations left of a node's candidates.
+use Rattle.std.specs.Prelude.{ℕ, List}
+use Rattle.ira_event.specs.Log.{Log}
+use Rattle.ira_pred.specs.Case.{Conjunct}
+use Rattle.ira_cert_text.specs.declared.cert_step.CertStep.{CertStep}
+use Rattle.ira_cert.specs.declared.left.Left.{Left}
+use Rattle.ira_cert.specs.declared.left.Left.TheVariants.{NotAsked, Spent, First}
+use Rattle.ira_cert.specs.Asked.{IsAsked}
+use Rattle.ira_cert.specs.Front.{IsFront, IsSpent}
+
+-- this is left of node i's behind these steps
+abbrev pub IsLeft : List Log → List Conjunct → List CertStep → ℕ → Left → Type 0
+IsLeft logs case before i NotAsked = ¬ (IsAsked case i)
+IsLeft logs case before i Spent = IsSpent logs case before i
+IsLeft logs case before i (First p) = IsFront logs case before i p

@@ -1,0 +1,66 @@
+ghost use Rattle.std.specs.Prelude.{◌≢◌, ◌↔◌, ◌+◌, ◌<◌, List, IsTrue, MatchResult, OnOk, length};
+ghost use Rattle.ira_pred.specs.Case.{Conjunct};
+ghost use Rattle.ira_order.specs.Before.{Before};
+ghost use Rattle.ira_cert_text.specs.declared.cert_step.CertStep.{CertStep};
+ghost use Rattle.ira_cert.specs.Asked.{HasDifferentPlaces};
+ghost use Rattle.ira_cert.specs.Left.{IsLeft};
+ghost use Rattle.ira_cert.specs.SoundSection.{IsSoundStep};
+ghost use Rattle.ira_cert.specs.SectionFault.{WhyUnsound};
+ghost use Rattle.ira_cert.specs.declared.left.Left.{Left};
+ghost use Rattle.ira_cert.specs.declared.unsound.Unsound.{Unsound};
+
+use crate::left::Left;
+use crate::unsound::Unsound;
+use ira_cert_text::CertStep;
+use ira_order::Ordered;
+use std::alloc::Allocator;
+
+/// Whether the step is sound behind those that were made, and why not, where it is known what they left of
+/// the candidates of its two nodes. It costs one look-up of a stamp.
+pub fn judge_step<A: Allocator>(
+    ordered: &Ordered<'_, A>,
+    step: &CertStep,
+    own: Left,
+    other: Left,
+) -> Result<(), Unsound>
+    requires own { own ≢ Left.NotAsked → step.now.node < length ordered.now.logs }
+    requires other { other ≢ Left.NotAsked → step.now.other < length ordered.now.logs }
+    ensures asked { OnOk result (own ≢ Left.NotAsked) }
+    ensures verdict { (case : List Conjunct) (before : List CertStep) → HasDifferentPlaces case → IsLeft ordered.now.logs case before step.now.node own → IsLeft ordered.now.logs case before step.now.other other → MatchResult result (λ _. IsSoundStep ordered.now.logs case before step.now) (λ why. WhyUnsound ordered.now.logs case before step.now why) }
+{
+    if own == Left::NotAsked || other == Left::NotAsked {
+        return Err(Unsound::NotAsked);
+    }
+    if step.node == step.other {
+        return Err(Unsound::SameNode);
+    }
+    let Left::First(front) = own else {
+        return Err(Unsound::NodeSpent);
+    };
+    let Left::First(other_front) = other else {
+        return Err(Unsound::NodeSpent);
+    };
+    if step.pos != front || step.other_pos != other_front {
+        return Err(Unsound::NotFront);
+    }
+    if !rules_out(ordered, step) {
+        return Err(Unsound::NotBefore);
+    }
+    Ok(())
+}
+
+/// Whether the event that leads on from the first state of the step happened before the one that led
+/// to the other. Where one of these events doesn't exist, it didn't.
+fn rules_out<A: Allocator>(ordered: &Ordered<'_, A>, step: &CertStep) -> bool
+    requires { (step.now.node < length ordered.now.logs) × (step.now.other < length ordered.now.logs) }
+    ensures { IsTrue result ↔ Before ordered.now.logs step.now.node (step.now.pos + 1) step.now.other step.now.other_pos }
+{
+    let logs = ordered.logs();
+    if step.pos as usize >= logs.log(step.node).len() {
+        return false;
+    }
+    if step.other_pos == 0 || step.other_pos as usize > logs.log(step.other).len() {
+        return false;
+    }
+    ordered.before(step.node, step.pos + 1, step.other, step.other_pos)
+}

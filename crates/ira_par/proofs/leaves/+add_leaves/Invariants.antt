@@ -1,0 +1,4 @@
+use Rattle.ira_par.proofs.leaves.+add_leaves.Given as goal
+
+abbrev pub decreases-add_leaves : goal.decreases-add_leaves
+decreases-add_leaves g l = l.depth

@@ -1,0 +1,34 @@
+use Rattle.std.proofs.Common.{rules, ◌≡◌, ◌+◌, get_or, slice_index, slice_set, refl, sym, subst, arith}
+use Rattle.std.proofs.lemmas.Option.{slice_get-get_or}
+use Rattle.ira_cert_text.specs.declared.cert_step.CertStep.{CertStep}
+use Rattle.ira_par.specs.Ranges.{AreMadeFrom}
+use Rattle.ira_par.proofs.Counts.{made_le, none_from, one_counted, none_counted}
+use Rattle.ira_par.proofs.ranges.count_range.Goals as goal
+use Rattle.ira_par.proofs.ranges.count_range.Goals.{then-place-counts, else-place-counts}
+
+-- what is read past the end of a list of steps
+none : CertStep
+none = record { node = 0; pos = 0; other = 0; other_pos = 0 }
+
+pub loop-k-init : goal.loop-k-init
+loop-k-init c = none_from c.args.steps.now c.args.from c.args.counts.now c.requires.blank
+
+pub overflow_add-counts : goal.overflow_add-counts
+overflow_add-counts c =
+    let so_far = c.loop-k.invariant c.from-place.result (search rules) in
+    omega (arith, so_far, made_le c.args.steps.now c.loop-k.k c.from-place.result, c.loop-k-test.true, c.ranges.to.fits)
+
+pub loop-k-preserved : goal.loop-k-preserved
+unfolding none
+loop-k-preserved c =
+    let steps = c.args.steps.now in let k = c.loop-k.k in let counts = c.loop-k.counts in let from = c.args.from in
+    let s : CertStep = get_or steps k none in
+    let at = slice_get-get_or steps k none (omega (arith, c.loop-k-test.true, c.requires.range)) in
+    let place : s.node ≡ c.from-place.result = sym c.from-place.ensures in
+    elim c.if-place-counts.branch [
+      | then-place-counts w ↦
+          subst (AreMadeFrom steps from (k + 1)) (sym w.counts-is)
+          (subst (λ j. AreMadeFrom steps from (k + 1) (slice_set counts j (slice_index counts j + 1))) place
+          (one_counted steps k s at from counts (slice_index counts s.node + 1) (omega (arith, place, w.if-place-counts.true)) refl c.loop-k.invariant))
+      | else-place-counts w ↦ subst (AreMadeFrom steps from (k + 1)) (sym w.counts-is) (none_counted steps k s at from counts (omega (arith, place, w.if-place-counts.false)) c.loop-k.invariant)
+    ]

@@ -1,0 +1,95 @@
+ghost use Rattle.std.specs.Prelude.{◌≡◌, ◌+◌, ◌^◌, ◌<◌, ◌≤◌, ℕ, None, IfOk, length, replicate, slice_index};
+ghost use Rattle.ira_par.specs.Leaf.{HasPlaces, IsBlank, IsCounted, IsPlaced, IsJudged};
+
+use crate::ranges::{add, count_range, judge_range};
+use crate::table::Table;
+use ira_cert::{CertStep, SectionFault};
+use ira_links::Gate;
+use ira_order::Ordered;
+use std::alloc::{AllocError, Allocator};
+use std::marker::Model;
+use std::mem;
+use std::sync::Wait;
+use std::time::Clock;
+
+/// A range of a section's steps that is judged by itself: the steps `from..to`, a count for each place of
+/// the ring, and what was found.
+#[derive(Drop)]
+pub struct Leaf<A: Allocator> {
+    pub(crate) from: usize,
+    pub(crate) to: usize,
+    pub(crate) counts: Vec<usize, A>,
+    pub(crate) fault: Option<SectionFault>,
+}
+
+impl<A: Allocator> Model for Leaf<A> {
+    ghost use Rattle.ira_par.specs.Leaf.{Leaf};
+
+    ghost Value = { Leaf };
+
+    ghost view = { λ l. record { from = l.from; to = l.to; counts = l.counts.items; fault = l.fault } };
+}
+
+impl<A: Allocator> Leaf<A> {
+    /// The range of the steps `from..to`, with nothing counted.
+    pub(crate) fn new(
+        alloc: A,
+        places: usize,
+        from: usize,
+        to: usize,
+    ) -> Result<Leaf<A>, AllocError>
+        ensures { IfOk result (λ leaf. leaf ≡ record { from = from; to = to; counts = replicate places 0; fault = None }) }
+    {
+        Ok(Leaf {
+            from,
+            to,
+            counts: vec![in alloc; 0; places]?,
+            fault: None,
+        })
+    }
+
+    /// Counts for each place the steps of the range that eliminate a state of it.
+    pub(crate) fn count(&mut self, steps: &[CertStep])
+        requires range { (self.old.from ≤ self.old.to) × (self.old.to ≤ length steps.now) }
+        requires blank { IsBlank (length self.old.counts) self.old }
+        ensures range { (self.new.from ≡ self.old.from) × (self.new.to ≡ self.old.to) }
+        ensures counted { IsCounted steps.now (length self.old.counts) self.new }
+    {
+        count_range(steps, self.from, self.to, &mut self.counts);
+    }
+
+    /// Takes the counts of the steps before the range, and leaves those of the steps before its end in their
+    /// place.
+    pub(crate) fn place(&mut self, counts: &mut Vec<usize, A>)
+        requires places { length self.old.counts ≡ length counts.old.items }
+        requires small { (i : ℕ) → i < length self.old.counts → slice_index self.old.counts i + slice_index counts.old.items i < 2 ^ 64 }
+        ensures leaf { self.new ≡ record { from = self.old.from; to = self.old.to; counts = counts.old.items; fault = self.old.fault } }
+        ensures places { length counts.new.items ≡ length counts.old.items }
+        ensures sums { (i : ℕ) → i < length self.old.counts → slice_index counts.new.items i ≡ slice_index self.old.counts i + slice_index counts.old.items i }
+    {
+        add(&mut self.counts, counts);
+        mem::swap(&mut self.counts, counts);
+    }
+
+    /// Passes the gate, and finds the first step of the range that isn't sound, if those before the range
+    /// are.
+    pub(crate) fn judge<R: Wait + Clock, G: Gate>(
+        &mut self,
+        rt: &R,
+        gate: &G,
+        number: usize,
+        ordered: &Ordered<'_, A>,
+        tables: &[Option<Table<A>>],
+        steps: &[CertStep],
+    )
+        requires number { number < 2 ^ 32 }
+        requires places { length tables.now ≤ length ordered.now.logs }
+        requires range { (self.old.from ≤ self.old.to) × (self.old.to ≤ length steps.now) }
+        requires placed { IsPlaced steps.now (length tables.now) self.old }
+        ensures range { (self.new.from ≡ self.old.from) × (self.new.to ≡ self.old.to) }
+        ensures judged { IsJudged ordered.now.logs tables.now steps.now self.new }
+    {
+        gate.pass(rt, number as u32);
+        self.fault = judge_range(ordered, tables, steps, self.from, self.to, &mut self.counts);
+    }
+}
