@@ -143,6 +143,45 @@ fn nothing_is_received_before_it_is_sent(rt: HostRuntime) -> Result<(), Fail> {
     Ok(())
 }
 
+/// Holds node 1 in its first pass until node 0 has entered its fifth, behind its second sending.
+#[derive(Drop)]
+struct LateReader {
+    of_node_0: AtomicU64,
+    of_node_1: AtomicU64,
+    missed: AtomicU64,
+}
+
+impl Gate for LateReader {
+    fn pass<R: Wait + Clock>(&self, rt: &R, who: u32) {
+        if who == 0 {
+            self.of_node_0.fetch_add(1, Ordering::SeqCst);
+        } else if who == 1
+            && self.of_node_1.fetch_add(1, Ordering::SeqCst) == 0
+            && !comes_to(rt, &self.of_node_0, 5)
+        {
+            self.missed.fetch_add(1, Ordering::SeqCst);
+        }
+    }
+
+    fn admit(&self, _who: u32) -> bool {
+        true
+    }
+}
+
+// On a link that held one frame, node 0 would wait in its second sending until node 1 is let go.
+#[test]
+fn a_link_holds_what_its_reader_is_late_for(rt: HostRuntime) -> Result<(), Fail> {
+    let setup = setup_of(rt.alloc(), 3, &[true, true, true], &[&[1], &[2], &[3]], 100)?;
+    let gate = LateReader {
+        of_node_0: AtomicU64::new(0),
+        of_node_1: AtomicU64::new(0),
+        missed: AtomicU64::new(0),
+    };
+    run_ring(&rt, rt.alloc(), &setup, &gate)?;
+    assert_eq!(rt; gate.missed.load(Ordering::SeqCst), 0);
+    Ok(())
+}
+
 /// Admits the nodes below a place, and keeps a node in each pass for a while.
 #[derive(Drop)]
 struct Below {
