@@ -58,12 +58,12 @@ one_front logs case before i p q differ a b =
     let same : a.0 ≡ b.0 = one_list logs case i a.0 b.0 differ a.1 b.1 in
     same_Some p q (sym a.2 ∙ ap (λ (xs : List ℕ). slice_get xs (made before i)) same ∙ b.2)
 
-slice_get-set_same : {X : Type 0} → (xs : List X) (i : ℕ) (x : X) → i < length xs → slice_get (slice_set xs i x) i ≡ Some x
+pub slice_get-set_same : {X : Type 0} → (xs : List X) (i : ℕ) (x : X) → i < length xs → slice_get (slice_set xs i x) i ≡ Some x
 slice_get-set_same [] i x l = absurd (omega arith)
 slice_get-set_same (y ∷ ys) zero x l = refl
 slice_get-set_same (y ∷ ys) (suc i) x l = slice_get-set_same ys i x (omega arith)
 
-slice_get-set_other : {X : Type 0} → (xs : List X) (i j : ℕ) (x : X) → i ≢ j → slice_get (slice_set xs i x) j ≡ slice_get xs j
+pub slice_get-set_other : {X : Type 0} → (xs : List X) (i j : ℕ) (x : X) → i ≢ j → slice_get (slice_set xs i x) j ≡ slice_get xs j
 slice_get-set_other [] i j x other = refl
 slice_get-set_other (y ∷ ys) zero zero x other = absurd (other refl)
 slice_get-set_other (y ∷ ys) zero (suc j) x other = refl

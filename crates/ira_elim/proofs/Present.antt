@@ -1,6 +1,6 @@
 -- Where no elimination is left, the greatest counts at the first candidates left are the least cut that meets
 -- the case.
-use Rattle.std.proofs.Common.{◌≡◌, ◌≢◌, ℕ, ◌+◌, ◌<◌, ◌≤◌, inl, inr, List, Option, Some, All, Contains, get_or, length, slice_get, slice_index, take, refl, sym, ◌∙◌, ap, subst, arith}
+use Rattle.std.proofs.Common.{◌≡◌, ◌≢◌, ℕ, ◌+◌, ◌<◌, ◌≤◌, inl, inr, List, Option, Some, Contains, length, slice_get, slice_index, take, refl, sym, subst, arith}
 use Rattle.std.proofs.lemmas.Bool.{cases_eq, cases_order}
 use Rattle.std.proofs.lemmas.List.{take_all}
 use Rattle.std.proofs.lemmas.List.Elements.{All-weaker, All-contains_itself}
@@ -9,18 +9,18 @@ use Rattle.ira_pred.specs.Case.{Conjunct}
 use Rattle.ira_pred.specs.Formula.{Formula}
 use Rattle.ira_order.specs.Ring.{log_of}
 use Rattle.ira_order.specs.Before.{Before, onward}
-use Rattle.ira_order.specs.Cut.{IsCut, HoldsAllBefore, IsConsistentCut}
-use Rattle.ira_order.specs.VectorClock.{AtOrBefore, IsCount}
+use Rattle.ira_order.specs.Cut.{HoldsAllBefore, IsConsistentCut}
+use Rattle.ira_order.specs.VectorClock.{IsCount}
 use Rattle.ira_order.proofs.Acyclic.{before_within}
 use Rattle.ira_order.proofs.Bridge.{before_places}
 use Rattle.ira_cand.specs.HoldsAt.{HoldsAt}
 use Rattle.ira_cand.specs.Meets.{Meets}
 use Rattle.ira_cert_text.specs.declared.cert_step.CertStep.{CertStep}
-use Rattle.ira_cert.specs.Asked.{HasDifferentPlaces, CandidatesOf}
+use Rattle.ira_cert.specs.Asked.{HasDifferentPlaces}
 use Rattle.ira_cert.specs.Front.{made}
 use Rattle.ira_cert.proofs.NoCut.{candidate_at, kept_all, rising_le}
 use Rattle.ira_cert.proofs.OneList.{one_formula}
-use Rattle.ira_elim.specs.Elimination.{HasList, IsFirstLeft, IsElimination, IsGreatestCount, AreGreatestCounts}
+use Rattle.ira_elim.specs.Elimination.{HasList, IsFirstLeft, IsElimination, AreGreatestCounts}
 use Rattle.ira_elim.specs.LeastCut.{IsLeastCut}
 use Rattle.ira_elim.proofs.Places.{one_first}
 use Rattle.ira_elim.proofs.Steps.{AreMade}

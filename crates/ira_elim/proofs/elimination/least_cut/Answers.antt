@@ -1,4 +1,3 @@
-use Rattle.std.proofs.Common.{arith}
 use Rattle.ira_elim.proofs.Greatest.{counts_more}
 use Rattle.ira_elim.proofs.elimination.least_cut.Goals as goal
 

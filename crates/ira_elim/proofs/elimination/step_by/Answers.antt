@@ -1,6 +1,6 @@
 use Rattle.std.proofs.Common.{◌≡◌, ℕ, Option, None, MatchOption, sym, subst}
 use Rattle.ira_cert_text.specs.declared.cert_step.CertStep.{CertStep}
-use Rattle.ira_elim.specs.Elimination.{IsElimination, IsFirstLeft}
+use Rattle.ira_elim.specs.Elimination.{IsFirstLeft}
 use Rattle.ira_elim.proofs.elimination.step_by.Goals as goal
 
 none_is : (found : Option CertStep) (N : Type 0) (P : CertStep → Type 0) → found ≡ None → N → MatchOption found N P
