@@ -9,12 +9,12 @@ use Rattle.ira_audit.specs.declared.findings.Findings.{Findings}
 use Rattle.ira_audit.specs.declared.findings.Findings.TheVariants.{Refused, Cases}
 use Rattle.ira_audit.specs.Findings.{AreFindings, AreReportable}
 use Rattle.ira_audit.specs.Posed.{WhyNotPosed}
-use Rattle.ira_audit.specs.Refusal.{MatchRefusal, IsPosedReason, decided_findings}
+use Rattle.ira_audit.specs.Refusal.{MatchRefusal, IsFindingsReason, decided_findings}
 use Rattle.ira_audit.proofs.OnePosed.{one_reason, posed_or_not}
 
 -- what is found, or why the question isn't posed
 abbrev pub IsDecided : {A : Type 0} → List (List ℕ) → List ℕ → Result (Findings A) Refusal → Type 0
-IsDecided texts question d = MatchRefusal d (λ findings. AreFindings texts question findings × AreReportable findings) (IsPosedReason texts question)
+IsDecided texts question d = MatchRefusal d (λ findings. AreFindings texts question findings × AreReportable findings) (IsFindingsReason texts question)
 
 reason_same : {A : Type 0} (r s : Reason) → ◌≡◌ {A = Result (Findings A) OutOfMemory} (Ok (Refused r)) (Ok (Refused s)) → r ≡ s
 reason_same r s e = cc

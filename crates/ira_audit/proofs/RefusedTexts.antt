@@ -23,7 +23,7 @@ use Rattle.ira_audit.specs.AuditAnswer as answer
 use Rattle.ira_audit.specs.GoodLogs.{AreGoodLogs}
 use Rattle.ira_audit.specs.LogsAnswer.{IsLogsAnswer, no_log}
 use Rattle.ira_audit.specs.Posed.{Posed, bad_logs, no_question, other_ring}
-use Rattle.ira_audit.specs.Refusal.{Judged, MatchRefusal, RefusesQuestion, RefusesCertificate, IsTextReason, IsLogsReason, IsPosedReason, IsQuestionRefusal, IsCertificateRefusal, no_certificate, other_size, other_number}
+use Rattle.ira_audit.specs.Refusal.{Judged, MatchRefusal, RefusesQuestion, RefusesCertificate, IsTextReason, IsLogsReason, IsFindingsReason, IsQuestionRefusal, IsCertificateRefusal, no_certificate, other_size, other_number}
 use Rattle.ira_audit.specs.Report.{IsReportableReason}
 use Rattle.ira_audit.proofs.Replaying.{text_fault_other}
 
@@ -48,18 +48,18 @@ judged_refused P texts (Ok v) s is h = absurd cc
 judged_refused P texts (Err (refusal.No x)) s is h = h
 judged_refused P texts (Err refusal.OutOfMemory) s is h = tt
 
-pub posed_refused : {T : Type 0} (P : T → Type 0) (texts : List (List ℕ)) (question : List ℕ) (r : Result T Refusal) (s : Refusal) → r ≡ Err s → Judged r (IsLogsAnswer texts) → MatchRefusal r P (IsPosedReason texts question)
-posed_refused P texts question (Ok v) s is h = absurd cc
-posed_refused P texts question (Err (refusal.No x)) s is h = (bad_logs h.0, h.1)
-posed_refused P texts question (Err refusal.OutOfMemory) s is h = tt
+pub findings_refused : {T : Type 0} (P : T → Type 0) (texts : List (List ℕ)) (question : List ℕ) (r : Result T Refusal) (s : Refusal) → r ≡ Err s → Judged r (IsLogsAnswer texts) → MatchRefusal r P (IsFindingsReason texts question)
+findings_refused P texts question (Ok v) s is h = absurd cc
+findings_refused P texts question (Err (refusal.No x)) s is h = (bad_logs h.0, h.1)
+findings_refused P texts question (Err refusal.OutOfMemory) s is h = tt
 
 -- a reason against the logs is one against a question about them
-pub logs_reason : (texts : List (List ℕ)) (question : List ℕ) (r : Reason) → IsLogsReason texts r → IsPosedReason texts question r
+pub logs_reason : (texts : List (List ℕ)) (question : List ℕ) (r : Reason) → IsLogsReason texts r → IsFindingsReason texts question r
 logs_reason texts question r h = (bad_logs h.0, h.1)
 
 -- why a question isn't posed is said of it with a certificate
-pub posed_reason : (texts : List (List ℕ)) (question certificate : List ℕ) (r : Reason) → IsPosedReason texts question r → IsAuditAnswer texts question certificate (No r) × IsReportableReason r
-posed_reason texts question certificate r h = (not_posed r h.0 refl, h.1)
+pub findings_reason : (texts : List (List ℕ)) (question certificate : List ℕ) (r : Reason) → IsFindingsReason texts question r → IsAuditAnswer texts question certificate (No r) × IsReportableReason r
+findings_reason texts question certificate r h = (not_posed r h.0 refl, h.1)
 
 -- a refusal that is handed on
 pub handed_on : {T U : Type 0} (P : T → Type 0) (Q : Reason → Type 0) (S : Answer → Type 0) (r : Result U Refusal) (s : Refusal) → r ≡ Err s → MatchRefusal {T = T} (Err s) P Q
@@ -91,7 +91,7 @@ abbrev pub SectionsJudged : List Log → List (List Conjunct) → List CertSecti
 SectionsJudged logs cases sections r =
     MatchRefusal r (λ _. AreSound logs cases sections) (λ x. (i : ℕ) × (f : SectionFault) × (x ≡ Section i f) × IsFirstUnsound logs cases sections i f)
 
-pub question_reason : (texts : List (List ℕ)) (question : List ℕ) (logs : List Log) → AreGoodLogs texts logs → (r : Reason) → IsQuestionRefusal question (length logs) r → IsPosedReason texts question r
+pub question_reason : (texts : List (List ℕ)) (question : List ℕ) (logs : List Log) → AreGoodLogs texts logs → (r : Reason) → IsQuestionRefusal question (length logs) r → IsFindingsReason texts question r
 question_reason texts question logs good r (inl h) = rw h.3 (no_question logs h.0 good h.1 refl, h.2)
 question_reason texts question logs good r (inr h) = rw h.3 (other_ring logs h.0 good h.1 h.2 refl, tt)
 

@@ -1,4 +1,5 @@
--- Whether a question is posed: asked of the ring whose good logs the texts are; else the first reason against it.
+-- Whether a question is posed: asked of the ring whose good logs the texts are. Else the first reason
+-- against it.
 use Rattle.std.specs.Prelude.{◌≡◌, ◌≢◌, ℕ, List, length}
 use Rattle.ira_event.specs.Log.{Log}
 use Rattle.ira_pred.specs.declared.ask_fault.AskFault.{AskFault}

@@ -76,8 +76,8 @@ abbrev pub IsLogsReason : List (List ℕ) → Reason → Type 0
 IsLogsReason texts r = IsLogsAnswer texts (answer.No r) × IsReportableReason r
 
 -- the reason is why the question isn't posed, and holds no want of memory
-abbrev pub IsPosedReason : List (List ℕ) → List ℕ → Reason → Type 0
-IsPosedReason texts question r = WhyNotPosed texts question r × IsReportableReason r
+abbrev pub IsFindingsReason : List (List ℕ) → List ℕ → Reason → Type 0
+IsFindingsReason texts question r = WhyNotPosed texts question r × IsReportableReason r
 
 -- why the text isn't that of a question asked of a ring of so many nodes
 abbrev pub IsQuestionRefusal : List ℕ → ℕ → Reason → Type 0

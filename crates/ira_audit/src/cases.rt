@@ -7,7 +7,7 @@ ghost use Rattle.ira_elim.specs.Found.{IsFound};
 ghost use Rattle.ira_audit.specs.Findings.{AreFindings, AreReportable};
 ghost use Rattle.ira_audit.specs.LogTexts.{AreLogTexts};
 ghost use Rattle.ira_audit.specs.Posed.{WhyNotPosed};
-ghost use Rattle.ira_audit.specs.Refusal.{IsPosedReason, MatchRefusal};
+ghost use Rattle.ira_audit.specs.Refusal.{IsFindingsReason, MatchRefusal};
 ghost use Rattle.ira_audit.specs.declared.reason.Reason.{Reason};
 
 use crate::certified::read_posed;
@@ -50,7 +50,7 @@ pub(crate) fn decide_posed<A: Allocator + Clone>(
     logs: Vec<NodeLog<A>, A>,
     question: &[u8],
 ) -> Result<Findings<A>, Refusal>
-    ensures { (texts : List (List ℕ)) → AreLogTexts texts logs.items → MatchRefusal result (λ findings. AreFindings texts question.now findings × AreReportable findings) (IsPosedReason texts question.now) }
+    ensures { (texts : List (List ℕ)) → AreLogTexts texts logs.items → MatchRefusal result (λ findings. AreFindings texts question.now findings × AreReportable findings) (IsFindingsReason texts question.now) }
 {
     let alloc = logs.allocator().clone()?;
     let logs = Logs::gather(logs)?;

@@ -9,7 +9,7 @@ ghost use Rattle.ira_audit.specs.LogsAnswer.{IsLogsAnswer};
 ghost use Rattle.ira_audit.specs.Never.{IsNeverMet};
 ghost use Rattle.ira_audit.specs.LogTexts.{AreLogTexts};
 ghost use Rattle.ira_audit.specs.Posed.{WhyNotPosed};
-ghost use Rattle.ira_audit.specs.Refusal.{Judged, MatchRefusal, IsTextReason, IsPosedReason};
+ghost use Rattle.ira_audit.specs.Refusal.{Judged, MatchRefusal, IsTextReason, IsFindingsReason};
 ghost use Rattle.ira_audit.specs.Report.{IsReportable};
 ghost use Rattle.ira_audit.specs.RingAudit.{HasTaken, IsReading};
 ghost use Rattle.ira_audit.specs.TextRuns.{AreTextsOfRuns, AreTextsWithoutRun};
@@ -199,7 +199,7 @@ impl<A: Allocator + Clone> RingAudit<A> {
     }
 
     fn decide_taken(self, question: &[u8]) -> Result<Findings<A>, Refusal>
-        ensures { (texts : List (List ℕ)) → HasTaken self texts → MatchRefusal result (λ findings. AreFindings texts question.now findings × AreReportable findings) (IsPosedReason texts question.now) }
+        ensures { (texts : List (List ℕ)) → HasTaken self texts → MatchRefusal result (λ findings. AreFindings texts question.now findings × AreReportable findings) (IsFindingsReason texts question.now) }
     {
         decide_posed(self.into_logs()?, question)
     }

@@ -8,7 +8,7 @@ use Rattle.ira_audit.specs.Posed.{Posed}
 use Rattle.ira_audit.specs.Refusal.{IsQuestionRefusal}
 use Rattle.ira_audit.proofs.Judging.{heads_refused}
 use Rattle.ira_audit.proofs.Places.{places_of_logs}
-use Rattle.ira_audit.proofs.RefusedTexts.{posed_refused, refused_again, logs_reason, question_reason}
+use Rattle.ira_audit.proofs.RefusedTexts.{findings_refused, refused_again, logs_reason, question_reason}
 use Rattle.ira_audit.proofs.cases.decide_posed.Goals as goal
 
 pub returns-in_err-logs : goal.returns-in_err-logs
@@ -16,7 +16,7 @@ returns-in_err-logs g c = λ texts are.
     let f = c.in_err-logs.field-0.0 in
     let r = c.from_residual-in_err-logs.result in
     let refused = err_from_is_err_and r c.from_residual-in_err-logs.ensures.1 in
-    posed_refused _ texts c.args.question.now r refused.0 refused.1 (heads_refused texts c.args.logs.items are r f (search rules) ((c.in_err-logs.ensures.err f).0 refl))
+    findings_refused _ texts c.args.question.now r refused.0 refused.1 (heads_refused texts c.args.logs.items are r f (search rules) ((c.in_err-logs.ensures.err f).0 refl))
 
 pub returns-in_err-ordered : goal.returns-in_err-ordered
 returns-in_err-ordered g c = λ texts are.

@@ -2,7 +2,7 @@ use Rattle.std.proofs.Common.{refl, sym, subst, rules}
 use Rattle.std.proofs.lemmas.Result.{err_from_is_err_and}
 use Rattle.ira_audit.specs.LogTexts.{AreLogTexts}
 use Rattle.ira_audit.proofs.Judging.{heads_refused}
-use Rattle.ira_audit.proofs.RefusedTexts.{handed_on, logs_refused, logs_reason, posed_reason}
+use Rattle.ira_audit.proofs.RefusedTexts.{handed_on, logs_refused, logs_reason, findings_reason}
 use Rattle.ira_audit.proofs.certified.judge_certified.Goals as goal
 
 pub returns-in_err-logs : goal.returns-in_err-logs
@@ -20,7 +20,7 @@ returns-in_err-ordered g c = λ texts are.
     let gathered = (c.in_ok-logs.ensures.ok c.in_ok-logs.logs).0 refl in
     let of = subst (AreLogTexts texts) (sym gathered.0) are in
     handed_on _ _ _ r s (search rules) (c.in_err-ordered.ensures.runs texts of gathered.1)
-    (λ x h. posed_reason texts c.args.question.now c.args.certificate.now x (logs_reason texts c.args.question.now x h))
+    (λ x h. findings_reason texts c.args.question.now c.args.certificate.now x (logs_reason texts c.args.question.now x h))
 
 pub returns : goal.returns
 returns g c = λ texts are.

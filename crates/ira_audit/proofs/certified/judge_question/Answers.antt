@@ -3,7 +3,7 @@ use Rattle.std.specs.Prelude.{slice_get}
 use Rattle.ira_audit.specs.Posed.{Posed}
 use Rattle.ira_audit.specs.Refusal.{IsQuestionRefusal, IsCertificateRefusal}
 use Rattle.ira_audit.proofs.Places.{places_of_logs}
-use Rattle.ira_audit.proofs.RefusedTexts.{handed_on, posed_reason, question_reason, certificate_reason, sections_judged, SectionsJudged}
+use Rattle.ira_audit.proofs.RefusedTexts.{handed_on, findings_reason, question_reason, certificate_reason, sections_judged, SectionsJudged}
 use Rattle.ira_audit.proofs.certified.judge_question.Goals as goal
 
 pub returns-in_err-question : goal.returns-in_err-question
@@ -12,7 +12,7 @@ returns-in_err-question g c = λ texts good.
     let s = c.in_err-question.field-0.0 in
     let is : r ≡ Err s = search rules in
     handed_on _ _ _ r s is c.in_err-question.ensures
-    (λ x h. posed_reason texts c.args.question.now c.args.certificate.now x
+    (λ x h. findings_reason texts c.args.question.now c.args.certificate.now x
     (question_reason texts c.args.question.now c.args.logs.now good x (subst (λ n. IsQuestionRefusal c.args.question.now n x) c.size.ensures.value h)))
 
 pub returns-in_err-certificate : goal.returns-in_err-certificate
