@@ -43,6 +43,9 @@ use std::time::Clock;
 /// recorded, and nothing that the question asks was ever met: no consistent cut of the logs meets any of
 /// its cases. The answer is the same at every depth, 0 to 4, and with every gate.
 ///
+/// The steps of each section are halved `depth` times, and their parts judged on up to `2^depth` threads, each
+/// behind the gate, which it passes with its number from the left.
+///
 /// Beside the logs it takes a counter of each node for each receipt, a byte for each event and, for one case
 /// after the other, a list of the candidates of each node that the case asks.
 pub fn audit<R, G, A>(
@@ -77,34 +80,60 @@ where
 
 /// Whether the logs are those of one ring, match and have an order, each event has a step, and the
 /// certificate answers the question.
-pub(crate) fn judge_certified<A: Allocator + Clone>(
+pub(crate) fn judge_certified<R, G, A>(
+    rt: &R,
     logs: Vec<NodeLog<A>, A>,
     question: &[u8],
     certificate: &[u8],
+    depth: u8,
+    gate: &G,
 ) -> Result<(), Refusal>
+where
+    R: Threads + Wait + Clock + Sync,
+    G: Gate + Sync,
+    A: Allocator + Clone + Send + Sync,
+    requires { depth ≤ 4 }
     ensures { (texts : List (List ℕ)) → AreLogTexts texts logs.items → Judged result (IsAuditAnswer texts question.now certificate.now) }
 {
     let alloc = logs.allocator().clone()?;
     let logs = Logs::gather(logs)?;
     let ordered = order_runs(alloc.clone()?, &logs)?;
-    judge_question(alloc, &logs, &ordered, question, certificate)
+    judge_question(
+        rt,
+        alloc,
+        &logs,
+        &ordered,
+        question,
+        certificate,
+        depth,
+        gate,
+    )
 }
 
 /// Whether the certificate answers the question, where nothing is said against the logs.
-fn judge_question<A: Allocator + Clone>(
+fn judge_question<R, G, A>(
+    rt: &R,
     alloc: A,
     logs: &Logs<A>,
     ordered: &Ordered<'_, A>,
     question: &[u8],
     certificate: &[u8],
+    depth: u8,
+    gate: &G,
 ) -> Result<(), Refusal>
-    requires { ordered.now.logs ≡ logs.now }
+where
+    R: Threads + Wait + Clock + Sync,
+    G: Gate + Sync,
+    A: Allocator + Clone + Send + Sync,
+    requires depth { depth ≤ 4 }
+    requires order { ordered.now.logs ≡ logs.now }
     ensures { (texts : List (List ℕ)) → AreGoodLogs texts logs.now → Judged result (IsAuditAnswer texts question.now certificate.now) }
 {
     let question = read_posed(alloc.clone()?, logs.size(), question)?;
     let cases = question.cases();
     let certificate = read_certificate(alloc.clone()?, logs.size(), cases.len(), certificate)?;
-    check_sections(alloc, logs, ordered, cases, &certificate.sections)
+    let sections = &certificate.sections;
+    check_sections(rt, alloc, logs, ordered, cases, sections, depth, gate)
 }
 
 /// The question of the text, which must be asked of a ring of this size.

@@ -185,7 +185,7 @@ impl<A: Allocator + Clone> RingAudit<A> {
         ensures reportable { (texts : List (List ℕ)) → HasTaken self texts → IfOk result IsReportable }
         ensures yes { (texts : List (List ℕ)) → HasTaken self texts → result ≡ Ok Answer.Yes → IsNeverMet texts question.now }
     {
-        answer_of(self.judge_with(question, certificate))
+        answer_of(self.judge_with(rt, question, certificate, depth, gate))
     }
 
     /// What is found for each case of a question about the logs that were taken, or the first reason against
@@ -204,10 +204,22 @@ impl<A: Allocator + Clone> RingAudit<A> {
         decide_posed(self.into_logs()?, question)
     }
 
-    fn judge_with(self, question: &[u8], certificate: &[u8]) -> Result<(), Refusal>
+    fn judge_with<R, G>(
+        self,
+        rt: &R,
+        question: &[u8],
+        certificate: &[u8],
+        depth: u8,
+        gate: &G,
+    ) -> Result<(), Refusal>
+    where
+        R: Threads + Wait + Clock + Sync,
+        G: Gate + Sync,
+        A: Send + Sync,
+        requires { depth ≤ 4 }
         ensures { (texts : List (List ℕ)) → HasTaken self texts → Judged result (IsAuditAnswer texts question.now certificate.now) }
     {
-        judge_certified(self.into_logs()?, question, certificate)
+        judge_certified(rt, self.into_logs()?, question, certificate, depth, gate)
     }
 
     fn judge(self) -> Result<(), Refusal>

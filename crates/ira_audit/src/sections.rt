@@ -1,4 +1,4 @@
-ghost use Rattle.std.specs.Prelude.{◌≡◌, ◌<◌, ℕ, List, IfOk, Some, length, slice_get};
+ghost use Rattle.std.specs.Prelude.{◌≡◌, ◌<◌, ◌≤◌, ℕ, List, IfOk, Some, length, slice_get};
 ghost use Rattle.ira_cert.specs.declared.section_fault.SectionFault.{SectionFault};
 ghost use Rattle.ira_cert.specs.Asked.{HasPlacesOf};
 ghost use Rattle.ira_pred.specs.Case.{Conjunct};
@@ -8,22 +8,35 @@ ghost use Rattle.ira_audit.specs.Refusal.{MatchRefusal};
 use crate::reason::Reason;
 use crate::refusal::Refusal;
 use ira_cand::Profile;
-use ira_cert::{Verdict, check_profiled};
+use ira_cert::Verdict;
 use ira_cert_text::Section;
 use ira_event::{Logs, OutOfMemory};
+use ira_links::Gate;
 use ira_order::Ordered;
+use ira_par::split_profiled;
 use ira_pred::Case;
 use std::alloc::Allocator;
+use std::sync::Wait;
+use std::thread::Threads;
+use std::time::Clock;
 
 /// Whether each section is sound for the case of its number. The states of each log are computed once,
 /// however many cases there are.
-pub(crate) fn check_sections<A: Allocator + Clone>(
+pub(crate) fn check_sections<R, G, A>(
+    rt: &R,
     alloc: A,
     logs: &Logs<A>,
     ordered: &Ordered<'_, A>,
     cases: &[Case<A>],
     sections: &[Section<A>],
+    depth: u8,
+    gate: &G,
 ) -> Result<(), Refusal>
+where
+    R: Threads + Wait + Clock + Sync,
+    G: Gate + Sync,
+    A: Allocator + Clone + Send + Sync,
+    requires depth { depth ≤ 4 }
     requires order { ordered.now.logs ≡ logs.now }
     requires places { (i : ℕ) (case : List Conjunct) → slice_get cases.now i ≡ Some case → HasPlacesOf logs.now case }
     requires number { length sections.now ≡ length cases.now }
@@ -32,7 +45,17 @@ pub(crate) fn check_sections<A: Allocator + Clone>(
     let profiles = all_profiles(alloc.clone()?, logs)?;
     for case in 0..cases.len() {
         let alloc = alloc.clone()?;
-        match check_profiled(alloc, &profiles, ordered, &cases[case], &sections[case])? {
+        let verdict = split_profiled(
+            rt,
+            alloc,
+            &profiles,
+            ordered,
+            &cases[case],
+            &sections[case],
+            depth,
+            gate,
+        )?;
+        match verdict {
             Verdict::Yes => {}
             Verdict::No(fault) => return Err(Refusal::No(Reason::Section { case, fault })),
         }

@@ -29,7 +29,7 @@ returns-in_err-certificate g c = λ texts good.
     (subst (λ n. IsCertificateRefusal c.args.certificate.now n (length c.cases-cases.result.now) x) c.size-2.ensures.value h)))
 
 pub check_sections-requires-clause-places : goal.check_sections-requires-clause-places
-check_sections-requires-clause-places g c = λ i case at.
+check_sections-requires-clause-places g c κs within = λ i case at.
     places_of_logs c.in_ok-question.question c.args.logs.now c.cases-cases.ensures.valid (c.in_ok-question.ensures.1 ∙ c.size.ensures.value) i case
     (subst (λ cases. slice_get cases i ≡ Some case) c.cases-cases.ensures.value at)
 

@@ -8,11 +8,11 @@ use Rattle.ira_cert.specs.SectionFault.{IsSectionFault}
 use Rattle.ira_audit.proofs.SoundSections.{sound_more}
 use Rattle.ira_audit.proofs.sections.check_sections.Goals as goal
 
-pub check_profiled-requires-clause-order : goal.check_profiled-requires-clause-order
-check_profiled-requires-clause-order g c = c.requires.order ∙ sym (c.deref.ensures.value ∙ c.in_ok-profiles.ensures)
+pub split_profiled-requires-clause-order : goal.split_profiled-requires-clause-order
+split_profiled-requires-clause-order g c κs within = c.requires.order ∙ sym (c.deref.ensures.value ∙ c.in_ok-profiles.ensures)
 
-pub check_profiled-requires-clause-places : goal.check_profiled-requires-clause-places
-check_profiled-requires-clause-places g c =
+pub split_profiled-requires-clause-places : goal.split_profiled-requires-clause-places
+split_profiled-requires-clause-places g c κs within =
     let case = c.index-cases-case.result in
     let case_at = slice_get_read c.args.cases.now _ c.loop-case.case case refl (search rules) c.index-cases-case.is in
     let same : c.deref.result.now ≡ c.args.logs.now = c.deref.ensures.value ∙ c.in_ok-profiles.ensures in
@@ -25,7 +25,7 @@ loop-case-preserved g c =
     let case_at = slice_get_read c.args.cases.now _ c.loop-case.case case refl (search rules) c.index-cases-case.is in
     let section_at = slice_get_read c.args.sections.now (length c.args.cases.now) c.loop-case.case section (sym c.requires.number) (search rules) c.index-sections-case.is in
     let same : c.deref.result.now ≡ c.args.logs.now = c.deref.ensures.value ∙ c.in_ok-profiles.ensures in
-    let sound = (unless_ok c.in_ok-check_profiled.field-0 _ _ c.in_ok-check_profiled.ensures.yes).0 (ap Ok c.in-Yes.is) in
+    let sound = (unless_ok c.in_ok-verdict.verdict _ _ c.in_ok-verdict.ensures.yes).0 (ap Ok c.in-Yes.is) in
     sound_more c.args.logs.now c.args.cases.now c.args.sections.now c.loop-case.case case section case_at section_at c.loop-case.invariant
     (subst (λ (ls : List Log). IsSoundSection ls case section) same sound)
 
@@ -45,6 +45,6 @@ returns-in-No g c =
         section = section;
         section_at = slice_get_read c.args.sections.now (length c.args.cases.now) c.loop-case.case section (sym c.requires.number) (search rules) c.index-sections-case.is;
         fault = subst (λ (ls : List Log). IsSectionFault ls case section fault) same
-            ((unless_ok c.in_ok-check_profiled.field-0 _ _ (c.in_ok-check_profiled.ensures.no fault)).0 (ap Ok c.in-No.is));
+            ((unless_ok c.in_ok-verdict.verdict _ _ (c.in_ok-verdict.ensures.no fault)).0 (ap Ok c.in-No.is));
       },
     )
