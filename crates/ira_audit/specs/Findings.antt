@@ -1,5 +1,5 @@
 -- What is found for texts that should be those of a ring's logs, and for a question that should be asked of
--- their ring; and the certificate that it makes.
+-- their ring; and the certificate that comes of what is found.
 use Rattle.std.specs.Prelude.{◌≡◌, ℕ, List, Contains, length, map, ⊤}
 use Rattle.std.specs.List.{AllZip}
 use Rattle.ira_event.specs.Log.{Log}
@@ -30,7 +30,7 @@ abbrev pub MakeNoCertificate : {A : Type 0} → Findings A → Type 0
 MakeNoCertificate (Refused r) = ⊤
 MakeNoCertificate (Cases nodes found) = (cut : List ℕ) × Contains found.items (Present cut)
 
--- they hold no want of memory
+-- they don't hold that memory ran out
 abbrev pub AreReportable : {A : Type 0} → Findings A → Type 0
 AreReportable (Refused r) = IsReportableReason r
 AreReportable (Cases nodes found) = ⊤

@@ -1,4 +1,4 @@
--- Texts of which nothing that was said of logs is amiss.
+-- Texts of logs against which there is no reason.
 use Rattle.std.specs.Prelude.{ℕ, List}
 use Rattle.ira_event.specs.Log.{Log}
 use Rattle.ira_event.specs.Logs.{AreLogs}

@@ -1,4 +1,4 @@
--- Whether a question is posed: asked of the ring whose good logs the texts are. Else the first reason
+-- Whether texts are those of good logs of a ring, and a question is asked of that ring; else the first reason
 -- against it.
 use Rattle.std.specs.Prelude.{◌≡◌, ◌≢◌, ℕ, List, length}
 use Rattle.ira_event.specs.Log.{Log}

@@ -39,7 +39,7 @@ pub record IsElimination (logs : List Log) (fronts : List (Option (List ℕ))) (
   pub happened_before : Before logs s.node (s.pos + 1) s.other s.other_pos
 
 -- the greatest of the counts of node i at the events that led to the first candidates left, 0 where there are
--- none; an event counts no more of its own node than its number
+-- none; where such an event is of node i itself, its number is no less
 pub record IsGreatestCount (logs : List Log) (fronts : List (Option (List ℕ))) (i c : ℕ) : Type 0 where
   pub upper : (j q : ℕ) → IsFirstLeft fronts j q → (n : ℕ) × IsCount logs j q i n × (n ≤ c)
   pub reached : (c ≡ 0) ⊎ ((j : ℕ) × (q : ℕ) × IsFirstLeft fronts j q × IsCount logs j q i c × (i ≡ j → c ≤ q))

@@ -3,11 +3,8 @@ use Rattle.std.specs.Prelude.{◌≡◌, ℕ, ◌⊎◌, List}
 use Rattle.ira_event.specs.Log.{Log}
 use Rattle.ira_pred.specs.Case.{Conjunct}
 use Rattle.ira_order.specs.Circle.{HasOrder}
-use Rattle.ira_order.specs.Cut.{IsConsistentCut}
-use Rattle.ira_cand.specs.Meets.{Meets}
 use Rattle.ira_cert_text.specs.Certificate.{Section}
 use Rattle.ira_cert.specs.Asked.{HasDifferentPlaces, HasPlacesOf}
-use Rattle.ira_cert.specs.SoundSection.{IsSoundSection}
 use Rattle.ira_elim.specs.Found.{IsAbsence}
 use Rattle.ira_elim.specs.LeastCut.{IsLeastCut}
 
@@ -19,17 +16,12 @@ IsAbsent logs case = (section : Section) × IsAbsence logs case section
 abbrev pub IsPresent : List Log → List Conjunct → Type 0
 IsPresent logs case = (cut : List ℕ) × IsLeastCut logs case cut
 
--- where the logs match and have an order, each case is one of the two
+-- where the logs match and have an order, each case that asks each node of theirs for one thing at most is one
+-- of the two
 abbrev pub CasesAreAbsentOrPresent : Type 0
 CasesAreAbsentOrPresent =
     (logs : List Log) (case : List Conjunct) → HasOrder logs → HasDifferentPlaces case → HasPlacesOf logs case
     → IsAbsent logs case ⊎ IsPresent logs case
-
--- no case has both a sound section and a consistent cut that meets it
-abbrev pub NoCaseIsBoth : Type 0
-NoCaseIsBoth =
-    (logs : List Log) (case : List Conjunct) (section : Section) (cut : List ℕ) → HasDifferentPlaces case
-    → IsSoundSection logs case section → IsConsistentCut logs cut → ¬ (Meets logs case cut)
 
 -- no case has two least cuts
 abbrev pub NoCaseHasTwoLeastCuts : Type 0

@@ -1,4 +1,4 @@
--- The least moment that meets a case (Garg and Waldecker 1994).
+-- The least consistent cut that meets a case (Garg and Waldecker 1994).
 use Rattle.std.specs.Prelude.{ℕ, ◌<◌, ◌≤◌, List, length, slice_index}
 use Rattle.ira_event.specs.Log.{Log}
 use Rattle.ira_pred.specs.Case.{Conjunct}

@@ -72,7 +72,7 @@ HappenedBeforeIsDecided = (logs : List Log) (i a j b : ℕ) → HasOrder logs �
 abbrev pub CountsAreCuts : Type 0
 CountsAreCuts = (logs : List Log) (j b : ℕ) (counts : List ℕ) → AreCounts logs j b counts → IsConsistentCut logs counts
 
--- and of those that hold the event it is the least
+-- and the least consistent cut that holds the event
 abbrev pub CountsAreLeast : Type 0
 CountsAreLeast =
     (logs : List Log) (j b : ℕ) (counts cut : List ℕ) → j < length logs → AreCounts logs j b counts → IsConsistentCut logs cut

@@ -21,7 +21,7 @@ pub record AreCounts (logs : List Log) (j b : ℕ) (counts : List ℕ) : Type 0 
   pub places : length counts ≡ length logs
   pub each : (i : ℕ) → i < length logs → IsCount logs j b i (slice_index counts i)
 
--- the same but for node j itself, whose number may be any
+-- the same but for node j itself, whose number is left open
 pub record AreCountsOfOthers (logs : List Log) (j b : ℕ) (counts : List ℕ) : Type 0 where
   pub places : length counts ≡ length logs
   pub others : (i : ℕ) → i < length logs → i ≢ j → IsCount logs j b i (slice_index counts i)

@@ -10,7 +10,7 @@ use Rattle.ira_cert.specs.Front.{made}
 use Rattle.ira_cert.specs.SoundSection.{AreSoundSteps}
 use Rattle.ira_cert.specs.SectionFault.{IsFirstUnsoundStep}
 
--- the counts say of each place how many of the steps eliminate a state of it
+-- the counts say of each place how many of the steps eliminate a state of the node there
 abbrev pub AreMade : List CertStep → List ℕ → Type 0
 AreMade steps counts = (i : ℕ) → i < length counts → slice_index counts i ≡ made steps i
 
@@ -18,8 +18,8 @@ AreMade steps counts = (i : ℕ) → i < length counts → slice_index counts i 
 abbrev pub AreMadeFrom : List CertStep → ℕ → ℕ → List ℕ → Type 0
 AreMadeFrom steps from to counts = (i : ℕ) → i < length counts → made (take from steps) i + slice_index counts i ≡ made (take to steps) i
 
--- what is answered of the steps from..to, where those before them are sound: the first of them that
--- isn't sound, if any
+-- what is answered of the steps from..to, where those before them are sound: nothing where these are
+-- sound, too; else the first step of all that isn't
 abbrev pub IsRangeFault : List Log → List Conjunct → List CertStep → ℕ → ℕ → Option SectionFault → Type 0
 IsRangeFault logs case steps from to None = AreSoundSteps logs case (take from steps) → AreSoundSteps logs case (take to steps)
 IsRangeFault logs case steps from to (Some fault) =
