@@ -23,16 +23,16 @@ where
     }
 }
 
-const ELECTION: &[&[u8]] = &[ELECTION_0, ELECTION_1];
+pub(crate) const ELECTION: &[&[u8]] = &[ELECTION_0, ELECTION_1];
 
 const BOTH_LEAD: &[u8] = b"irask 1\nnodes 2\ncase\n0: leader\n1: leader\nend\n";
 
-const LEADER_AND_ACTIVE: &[u8] = b"irask 1\nnodes 2\ncase\n0: leader\n1: active\nend\n";
+pub(crate) const LEADER_AND_ACTIVE: &[u8] = b"irask 1\nnodes 2\ncase\n0: leader\n1: active\nend\n";
 
 /// The certificate of one section without steps.
 const NODE_1_SPENT: &[u8] = b"ircert 1\nnodes 2\nsection\nspent 1\nend\n";
 
-const TWO_STEPS: &[u8] =
+pub(crate) const TWO_STEPS: &[u8] =
     b"ircert 1\nnodes 2\nsection\ndrop 1 1 by 0 4\ndrop 1 2 by 0 4\nspent 1\nend\n";
 
 #[test]
