@@ -13,7 +13,7 @@ uses = $(filter $(LIBRARIES),$(shell sed -n 's/^$(1):/ /p' crates.txt))
 # Says something, with the seconds since `make` began.
 say = printf '%4d s  %s\n' $$(($$(date +%s) - $(START)))
 
-.PHONY: help ira run install test clean $(LIBRARIES:%=library-%)
+.PHONY: help ira run install test sweep clean $(LIBRARIES:%=library-%)
 
 help:
 	@echo 'make ira        proves the program and the libraries that it stands on, and leaves it at bin/ira:'
@@ -22,6 +22,7 @@ help:
 	@echo 'make install    copies bin/ira to $$(PREFIX)/bin; PREFIX is $(PREFIX) if not given'
 	@echo 'make test       the gate: all proofs from nothing, the edits that must be refused, all tests and'
 	@echo '                programs: `N passed, 0 failed`; and all examples. See docs/ARCHITECTURE.md for its time'
+	@echo 'make sweep      makes ira, refuses each growth of its memory in turn, and looks at what it answers then'
 	@echo 'make clean      removes what was built and proved'
 
 # Three at a time: no library keeps all cores busy to its end. `make` begins with what it is told first, so
@@ -65,6 +66,11 @@ install:
 test:
 	rt ci
 	@sh examples/check.sh $(PROGRAM)
+
+# Each growth of the program is refused in turn, those of the command line's library and of the threads too. It needs
+# glibc and Python.
+sweep: ira
+	@python3 -B sweep/sweep.py bin/ira
 
 clean:
 	rm -rf bin crates/*/out

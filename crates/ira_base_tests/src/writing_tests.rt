@@ -1,41 +1,13 @@
 //! Texts of logs written to sinks, and logs gathered.
 
 use crate::samples::{ELECTION_0, ELECTION_1, dirty, log_of, loser, winner};
-use ira_event::{
-    Event, HeadFault, Logs, MemorySink, NodeLog, Sink, SinkFault, ToWriter, WriteFault, write_log,
-};
-use std::alloc::{Allocator, Global};
+use ira_event::{Event, HeadFault, Logs, MemorySink, NodeLog, ToWriter, WriteFault, write_log};
+use ira_pred::{read_question, write_question};
+use ira_refusing::FailingSink;
+use std::alloc::Global;
 use std::io::BufWriter;
 use std::process::Abort;
 use std::test::Fail;
-
-/// Takes at most `most` bytes at a time, fails once when `left` more are taken, and then goes on.
-#[derive(Drop)]
-struct FailsOnce<A: Allocator> {
-    kept: Vec<u8, A>,
-    most: usize,
-    left: usize,
-    failures: u64,
-}
-
-impl<A: Allocator> Sink for FailsOnce<A> {
-    ghost failures = { λ s. s.failures };
-
-    fn push(&mut self, bytes: &[u8]) -> Result<usize, SinkFault> {
-        let n = bytes.len().min(self.most).min(self.left);
-        if n == 0 && !bytes.is_empty() {
-            self.left = usize::MAX;
-            self.failures = self.failures.saturating_add(1);
-            return Err(SinkFault);
-        }
-        if self.kept.extend_from_slice(&bytes[..n]).is_err() {
-            self.failures = self.failures.saturating_add(1);
-            return Err(SinkFault);
-        }
-        self.left -= n;
-        Ok(n)
-    }
-}
 
 fn assert_written(rt: &(impl Abort + AllocGlobal), log: &NodeLog<Global>, text: &[u8]) {
     let mut sink = MemorySink::new(rt.alloc());
@@ -69,33 +41,31 @@ fn largest_numbers_and_dirty(rt: HostRuntime) -> Result<(), Fail> {
 
 #[test]
 fn sink_fails_after_ten_bytes(rt: HostRuntime) -> Result<(), Fail> {
-    let mut sink = FailsOnce {
-        kept: Vec::new(rt.alloc()),
-        most: usize::MAX,
-        left: 10,
-        failures: 0,
-    };
+    let mut sink = FailingSink::new(rt.alloc(), 10);
     let log = log_of(rt.alloc(), 2, 0, true, &winner())?;
     assert_eq!(rt; write_log(&log, &mut sink), Err(WriteFault));
-    assert_eq!(rt; sink.kept.as_slice(), b"irlog 1\nno".as_slice());
+    assert_eq!(rt; sink.bytes(), b"irlog 1\nno".as_slice());
     Ok(())
 }
 
 #[test]
-fn sink_fails_once_at_each_byte(rt: HostRuntime) -> Result<(), Fail> {
+fn sink_fails_behind_each_byte(rt: HostRuntime) -> Result<(), Fail> {
     let log = log_of(rt.alloc(), 2, 0, true, &winner())?;
     for k in 0..ELECTION_0.len() {
-        let mut sink = FailsOnce {
-            kept: Vec::new(rt.alloc()),
-            most: 3,
-            left: k,
-            failures: 0,
-        };
-        let answer = write_log(&log, &mut sink);
+        let mut sink = FailingSink::new(rt.alloc(), k);
+        let written = write_log(&log, &mut sink);
         assert!(rt;
-            answer == Err(WriteFault)
-                && sink.kept.as_slice() == &ELECTION_0[..k]
-                && sink.failures == 1,
+            written == Err(WriteFault) && sink.bytes() == &ELECTION_0[..k],
+            "after {k} bytes"
+        );
+    }
+    let text = b"irask 1\nnodes 2\ncase\n0: leader\n1: (leader or (not active))\nend\n";
+    let question = read_question(rt.alloc(), text)?;
+    for k in 0..text.len() {
+        let mut sink = FailingSink::new(rt.alloc(), k);
+        let written = write_question(&question, &mut sink);
+        assert!(rt;
+            written == Err(WriteFault) && sink.bytes() == &text[..k],
             "after {k} bytes"
         );
     }

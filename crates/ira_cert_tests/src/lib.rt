@@ -4,6 +4,8 @@
 #[cfg(test)]
 mod every_section_tests;
 #[cfg(test)]
+mod growth_tests;
+#[cfg(test)]
 mod samples;
 #[cfg(test)]
 mod section_tests;

@@ -5,7 +5,7 @@ ghost use Rattle.ira_cert.specs.Asked.{HasPlacesOf};
 use ira_cert::CertStep;
 use ira_event::{Logs, read_log};
 use ira_pred::{Case, Question};
-use std::alloc::Global;
+use std::alloc::{Allocator, Global};
 use std::test::Fail;
 
 /// An election of two nodes that both initiate.
@@ -69,10 +69,10 @@ pub const fn step(node: u8, pos: u32, other: u8, other_pos: u32) -> CertStep {
 }
 
 /// The logs of these texts.
-pub fn logs_of(alloc: Global, texts: &[&[u8]]) -> Result<Logs<Global>, Fail> {
-    let mut logs = Vec::new(alloc);
+pub fn logs_of<A: Allocator + Clone>(alloc: A, texts: &[&[u8]]) -> Result<Logs<A>, Fail> {
+    let mut logs = Vec::new(alloc.clone()?);
     for text in texts {
-        logs.push(read_log(alloc, text)?)?;
+        logs.push(read_log(alloc.clone()?, text)?)?;
     }
     Ok(Logs::gather(logs).ok().ok_or("the logs of one ring")?)
 }

@@ -73,13 +73,17 @@ impl<'a> MemoryShelf<'a> {
         Some(*file)
     }
 
+    /// Whether these files were written, in this order, and no other.
+    pub(crate) fn has_written(&self, files: &[(&str, &str)]) -> bool {
+        self.written.len() == files.len()
+            && self.written.iter().zip(files).all(|(file, (name, text))| {
+                file.name.as_str() == *name && file.bytes.as_slice() == text.as_bytes()
+            })
+    }
+
     /// Compares the files that were written, in their order.
     pub(crate) fn assert_written(&self, rt: &impl Abort, files: &[(&str, &str)]) {
-        assert_eq!(rt; self.written.len(), files.len());
-        for (file, (name, text)) in self.written.iter().zip(files) {
-            assert_eq!(rt; file.name.as_str(), *name);
-            assert_eq!(rt; file.bytes.as_slice(), text.as_bytes());
-        }
+        assert!(rt; self.has_written(files));
     }
 }
 

@@ -18,6 +18,8 @@ mod one_log;
 #[cfg(test)]
 mod recorded;
 #[cfg(test)]
+mod refusals;
+#[cfg(test)]
 mod requests;
 #[cfg(test)]
 mod runs;
