@@ -42,7 +42,7 @@ module _ (logs : List Log) (fronts : List (Option (List ℕ))) (places : List �
       let low : c ≤ d = elim either [ inl h ↦ omega (arith, h.0) | inr h ↦ omega (arith, h.0, h.1) ] in
       let high : n ≤ d = elim either [ inl h ↦ omega (arith, h.0, h.1) | inr h ↦ omega (arith, h.0) ] in (
         below_more (λ (i : ℕ). (q : ℕ) → IsFirstLeft fronts (get_or places i 0) q → (m : ℕ) × IsCount logs (get_or places i 0) q place m × (m ≤ d)) k (raised k c d low upper)
-        (λ q other. (let same : p ≡ q = one_first fronts j j p q refl first other in (n, subst (λ (r : ℕ). IsCount logs j r place n) same count, high))),
+            (λ q other. (let same : p ≡ q = one_first fronts j j p q refl first other in (n, subst (λ (r : ℕ). IsCount logs j r place n) same count, high))),
         elim either [
           | inl h ↦ subst IsReached (sym h.0) reached
           | inr h ↦ subst IsReached (sym h.0) (inr (j, p, first, count, λ own. own_count logs order j p place n is count own))
@@ -62,7 +62,7 @@ counts_more logs fronts cut more place c pushed long counts here =
     let last : get_or more place 0 ≡ c = ap (λ (xs : List ℕ). get_or xs place 0) pushed ∙ get_or_push cut c 0 place long in
     let Q : ℕ → Type 0 = λ i. IsGreatestCount logs fronts i (get_or more i 0) in
     let below : (i : ℕ) → i < place → Q i = λ i l.
-        let same : get_or more i 0 ≡ get_or cut i 0 = ap (λ (xs : List ℕ). get_or xs i 0) pushed ∙ get_or_append_left cut (c ∷ []) 0 i (omega arith) in
-        subst (IsGreatestCount logs fronts i) (sym same) (counts i l)
+    let same : get_or more i 0 ≡ get_or cut i 0 = ap (λ (xs : List ℕ). get_or xs i 0) pushed ∙ get_or_append_left cut (c ∷ []) 0 i (omega arith) in
+    subst (IsGreatestCount logs fronts i) (sym same) (counts i l)
     in
     (long_more, below_more Q place below (subst (IsGreatestCount logs fronts place) (sym last) here))

@@ -58,8 +58,8 @@ module _ (fronts : List (Option (List ℕ))) where
           | inr new ↦ subst (HasList fronts) (sym (only_member n i new)) has
         ],
         λ i l has_i. subst (λ (xs : List ℕ). Contains xs i) (sym e)
-        (below_more (λ (i : ℕ). HasList fronts i → Contains (places ++ first) i) n
-        (λ j below has_j. Contains-append_left places first j (all j below has_j)) (λ _. Contains-append_right places first n (0, omega arith, refl)) i l has_i),
+            (below_more (λ (i : ℕ). HasList fronts i → Contains (places ++ first) i) n
+            (λ j below has_j. Contains-append_left places first j (all j below has_j)) (λ _. Contains-append_right places first n (0, omega arith, refl)) i l has_i),
       )
 
   pub none_more : (places more : List ℕ) (n : ℕ) → ¬ (HasList fronts n) → more ≡ places → AreListed places → AreAllBelow n places → AreListed more × AreAllBelow (n + 1) more

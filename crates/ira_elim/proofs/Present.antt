@@ -106,11 +106,11 @@ module _ (logs : List Log) (case : List Conjunct) (steps : List CertStep) (front
                 | inr side ↦ elim side [
                   | inr above ↦ omega (arith, above)
                   | inl below ↦ absurd (none (record { node = i; pos = p; other = h.0; other_pos = h.1 }) (record {
-                      differ = other;
-                      front = first;
-                      other_front = h.2;
-                      happened_before = counts_before logs h.0 h.1 i (slice_index cut i) p other h.3 below;
-                    }))
+                    differ = other;
+                    front = first;
+                    other_front = h.2;
+                    happened_before = counts_before logs h.0 h.1 i (slice_index cut i) p other h.3 below;
+                  }))
                 ]
               ]
             ]

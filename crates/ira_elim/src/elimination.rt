@@ -72,10 +72,7 @@ fn candidates_left<I: Iterator<Item = u32> + Listed>(
 }
 
 /// The first candidate left of the node.
-fn front<I: Iterator<Item = u32> + Listed>(
-    fronts: &[Option<Ahead<I>>],
-    place: u8,
-) -> Option<u32>
+fn front<I: Iterator<Item = u32> + Listed>(fronts: &[Option<Ahead<I>>], place: u8) -> Option<u32>
     ensures { MatchOption result ((p : ℕ) → IsFirstLeft fronts.now place p → ⊥) (λ p. IsFirstLeft fronts.now place p) }
 {
     candidates_left(fronts, place)?.front()

@@ -112,7 +112,10 @@ fn election_as_searched(rt: HostRuntime) -> Result<(), Fail> {
     let ordered = order(rt.alloc(), &logs).ok().ok_or("an order")?;
     for a in &samples {
         for b in &samples {
-            let question = format!(in rt.alloc(); "irask 1\nnodes 2\ncase\n0: {}\n1: {}\nend\n", a.clause, b.clause)?;
+            let question = format!(in rt.alloc();
+                "irask 1\nnodes 2\ncase\n0: {}\n1: {}\nend\n",
+                a.clause, b.clause
+            )?;
             let least = least_of_two(a.first, b.last);
             let least = least.as_ref().map(|cut| cut.as_slice());
             let is = is_found(rt.alloc(), &logs, &ordered, question.as_bytes(), least)?;
@@ -138,7 +141,10 @@ fn lone_initiator_as_searched(rt: HostRuntime) -> Result<(), Fail> {
     let ordered = order(rt.alloc(), &logs).ok().ok_or("an order")?;
     for a in &samples {
         for b in &samples {
-            let question = format!(in rt.alloc(); "irask 1\nnodes 3\ncase\n0: {}\n2: {}\nend\n", a.clause, b.clause)?;
+            let question = format!(in rt.alloc();
+                "irask 1\nnodes 3\ncase\n0: {}\n2: {}\nend\n",
+                a.clause, b.clause
+            )?;
             let least = least_of_three(a.first, b.last);
             let least = least.as_ref().map(|cut| cut.as_slice());
             let is = is_found(rt.alloc(), &logs, &ordered, question.as_bytes(), least)?;
