@@ -187,8 +187,9 @@ fn conclude<V: Sink>(outcome: Result<Status, Complaint<'_>>, err: &mut V) -> u8
 /// Without words it judges the log on `input`, of which it reads at most one byte more than
 /// `MAX_TEXT`. With words it reads nothing of `input`: `logs` and some names judges the logs in those
 /// files together; `check` judges them with the question and the certificate in the files of its options; `run`
-/// and its options runs a ring and writes the logs of its nodes to files; and all other words are refused. Only a
-/// run without `--alone` starts threads, and waits for them.
+/// and its options runs a ring and writes the logs of its nodes to files; and all other words are refused. `logs`
+/// and `check` read some texts of logs at a time on threads, and a run without `--alone` has a thread for
+/// each node; all of them are waited for.
 pub fn serve<R, A, I, F, W, V>(
     rt: &R,
     alloc: A,
