@@ -31,8 +31,9 @@ use std::sync::Wait;
 use std::thread::{self, Threads};
 use std::time::Clock;
 
-/// Judges the texts of a ring's logs, which it takes one by one, in the order of the ring's places. Of
-/// a text it keeps the log alone, so that the texts needn't all be in memory at once.
+/// Judges the texts of a ring's logs, which it takes one by one or several at a time, in the order of
+/// the ring's places. Of a text it keeps the log alone, so that the texts needn't all be in memory at
+/// once.
 #[derive(Drop)]
 pub struct RingAudit<A: Allocator> {
     /// The logs of the texts, up to the first that is no log's.
@@ -103,8 +104,8 @@ impl<A: Allocator + Clone> RingAudit<A> {
     }
 
     /// Takes the texts that come next. They are read side by side, each by a thread of its own where one
-    /// can be started, and no text is looked at behind one that is no log's. Where memory is wanting the
-    /// audit is as it was.
+    /// can be started, and else by the caller's. Behind a text that is no log's none counts. Where memory
+    /// is wanting the audit is as it was.
     pub fn take_all<R, B>(&mut self, rt: &R, texts: &[Vec<u8, B>]) -> Result<(), OutOfMemory>
     where
         R: Threads + Sync,
@@ -122,7 +123,7 @@ impl<A: Allocator + Clone> RingAudit<A> {
         Ok(())
     }
 
-    /// These texts were taken.
+    /// An audit that has taken these texts alone.
     fn of_texts<R, B>(rt: &R, alloc: &A, texts: &[Vec<u8, B>]) -> Result<RingAudit<A>, OutOfMemory>
     where
         R: Threads + Sync,

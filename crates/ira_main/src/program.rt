@@ -134,8 +134,9 @@ where
 /// files together; `check` judges them with the question and the certificate in the files of its options; `decide`
 /// decides the question of them, and writes a certificate to a file if one is named and all cases are absent;
 /// `pairs` and a number prints the question of all pairs of nodes; `run` and its options runs a ring and writes the
-/// logs of its nodes to files; and all other words are refused. Only a run without `--alone` starts threads, and
-/// waits for them.
+/// logs of its nodes to files; and all other words are refused. `logs`, `check` and `decide` read some texts of logs
+/// at a time on threads, `check` judges a section on some, and a run without `--alone` has a thread for each node;
+/// all of them are waited for.
 pub fn serve<R, A, I, F, W, V>(
     rt: &R,
     alloc: A,

@@ -1,4 +1,4 @@
-use Rattle.std.proofs.Common.{◌≢◌, ◌∷◌, [], refl, sym, subst, rules, inl, inr}
+use Rattle.std.proofs.Common.{◌≢◌, ◌∷◌, [], sym, subst, rules, inl, inr}
 use Rattle.ira_audit.specs.RingAudit.{HasTaken, IsReading}
 use Rattle.ira_event.specs.declared.log_fault.LogFault.TheVariants.{OutOfMemory}
 use Rattle.ira_audit.proofs.LogTexts.{keeps_log, keeps_fault, keeps_first}
