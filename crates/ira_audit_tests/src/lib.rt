@@ -4,6 +4,8 @@
 #[cfg(test)]
 mod certified_tests;
 #[cfg(test)]
+mod gate_tests;
+#[cfg(test)]
 mod logs_tests;
 #[cfg(test)]
 mod samples;
