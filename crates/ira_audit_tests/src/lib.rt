@@ -6,6 +6,8 @@ mod certified_tests;
 #[cfg(test)]
 mod findings_tests;
 #[cfg(test)]
+mod gate_tests;
+#[cfg(test)]
 mod growth_tests;
 #[cfg(test)]
 mod logs_tests;

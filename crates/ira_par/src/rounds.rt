@@ -46,11 +46,14 @@ where
     first_fault(leaves)
 }
 
-/// How many threads are worth while for so many steps.
-fn threads(leaves: usize, steps: usize) -> usize
+/// Fewer steps are counted sooner than a thread is started.
+const STEPS_WORTH_A_THREAD: usize = 4_096;
+
+/// How many threads are worth while for so many ranges and pieces of work.
+fn threads(leaves: usize, pieces: usize) -> usize
     ensures { 1 ≤ result }
 {
-    leaves.min(steps).max(1)
+    leaves.min(pieces).max(1)
 }
 
 /// Counts the steps of each range.
@@ -62,7 +65,7 @@ fn count_all<R: Threads + Sync, A: Allocator + Send + Sync>(
     requires { (places : ℕ) × AreRanges (IsBlank places) 0 leaves.old (length steps.now) }
     ensures { (places : ℕ) → AreRanges (IsBlank places) 0 leaves.old (length steps.now) → AreRanges (IsCounted steps.now places) 0 leaves.new (length steps.now) }
 {
-    let threads = threads(leaves.len(), steps.len());
+    let threads = threads(leaves.len(), steps.len() / STEPS_WORTH_A_THREAD);
     let count = |_: usize, leaf: &mut Leaf<A>|
         requires { (leaf.old.from ≤ leaf.old.to) × (leaf.old.to ≤ length steps.now) × IsBlank (length leaf.old.counts) leaf.old }
         ensures { (leaf.new.from ≡ leaf.old.from) × (leaf.new.to ≡ leaf.old.to) × IsCounted steps.entry.now (length leaf.old.counts) leaf.new }

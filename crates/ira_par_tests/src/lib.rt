@@ -1,0 +1,11 @@
+//! Tests of the checker of certificates on several threads.
+#![tactic(auto)]
+
+#[cfg(test)]
+mod gate_tests;
+#[cfg(test)]
+mod random_tests;
+#[cfg(test)]
+mod samples;
+#[cfg(test)]
+mod section_tests;

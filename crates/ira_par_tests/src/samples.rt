@@ -1,0 +1,92 @@
+//! What several tests judge.
+ghost use Rattle.std.specs.Prelude.{IfOk};
+ghost use Rattle.ira_cert.specs.Asked.{HasPlacesOf};
+
+use ira_cert::CertStep;
+use ira_event::{Logs, read_log};
+use ira_pred::{Case, Question};
+use std::alloc::Global;
+use std::test::Fail;
+
+/// An election of two nodes that both initiate.
+pub const ELECTION: [&[u8]; 2] = [
+    b"irlog 1\nnodes 2\nplace 0\nstart initiator\n\
+    draw 2\n\
+    send 1 2 1 clean\n\
+    recv 1 1 1 clean\n\
+    recv 1 2 2 clean\n\
+    end 4\n",
+    b"irlog 1\nnodes 2\nplace 1\nstart initiator\n\
+    draw 1\n\
+    send 1 1 1 clean\n\
+    recv 1 2 1 clean\n\
+    send 1 2 2 clean\n\
+    end 4\n",
+];
+
+/// An election of two nodes that draw the same ID first.
+pub const TIE: [&[u8]; 2] = [
+    b"irlog 1\nnodes 2\nplace 0\nstart initiator\n\
+    draw 1\n\
+    send 1 1 1 clean\n\
+    recv 1 1 1 clean\n\
+    send 1 1 2 dirty\n\
+    recv 1 1 2 dirty\n\
+    draw 2\n\
+    send 2 2 1 clean\n\
+    recv 2 1 1 clean\n\
+    recv 2 2 2 clean\n\
+    end 9\n",
+    b"irlog 1\nnodes 2\nplace 1\nstart initiator\n\
+    draw 1\n\
+    send 1 1 1 clean\n\
+    recv 1 1 1 clean\n\
+    send 1 1 2 dirty\n\
+    recv 1 1 2 dirty\n\
+    draw 1\n\
+    send 2 1 1 clean\n\
+    recv 2 2 1 clean\n\
+    send 2 2 2 clean\n\
+    end 9\n",
+];
+
+pub const BOTH_LEAD: &[u8] = b"irask 1\nnodes 2\ncase\n0: leader\n1: leader\nend\n";
+
+pub const LEADER_AND_ACTIVE: &[u8] = b"irask 1\nnodes 2\ncase\n0: leader\n1: active\nend\n";
+
+pub const ACTIVE_AND_PASSIVE: &[u8] = b"irask 1\nnodes 2\ncase\n0: active\n1: passive\nend\n";
+
+pub const LEADER_AND_UNBEATEN: &[u8] =
+    b"irask 1\nnodes 2\ncase\n0: leader\n1: (not passive)\nend\n";
+
+/// State `pos` of `node` is ruled out by state `other_pos` of `other`.
+pub const fn step(node: u8, pos: u32, other: u8, other_pos: u32) -> CertStep {
+    CertStep {
+        node,
+        pos,
+        other,
+        other_pos,
+    }
+}
+
+/// The logs of these texts.
+pub fn logs_of(alloc: Global, texts: &[&[u8]]) -> Result<Logs<Global>, Fail> {
+    let mut logs = Vec::new(alloc);
+    for text in texts {
+        logs.push(read_log(alloc, text)?)?;
+    }
+    Ok(Logs::gather(logs).ok().ok_or("the logs of one ring")?)
+}
+
+/// The question's first case, which asks nodes of these logs.
+pub fn first_case<'a>(
+    question: &'a Question<Global>,
+    logs: &Logs<Global>,
+) -> Result<&'a Case<Global>, Fail>
+    ensures { IfOk result (λ case. HasPlacesOf logs.now case.now) }
+{
+    if question.nodes() != logs.size() {
+        return Err("a question of the same ring".into());
+    }
+    Ok(&question.cases()[0])
+}
