@@ -10,7 +10,7 @@ use crate::read_files::{read_file, read_logs};
 use crate::shelf::Shelf;
 use crate::status::Status;
 use ira_audit::{Findings, write_findings};
-use ira_event::{Sink, WriteFault};
+use ira_event::{MemorySink, Sink, WriteFault, write_bytes};
 use ira_words::DecideRequest;
 use std::alloc::Allocator;
 use std::thread::Threads;
@@ -33,7 +33,8 @@ fn keep_findings<'a, A: Allocator + Clone, F: Shelf<A>>(
 }
 
 /// Decides the question in its file of the logs in theirs, and prints what is found. The files are read in this
-/// order, all before one is judged: question, logs. Only behind the findings a certificate is kept.
+/// order, all before one is judged: question, logs. Only behind the findings a certificate is kept. Their lines are put
+/// together first, since the output isn't buffered.
 pub(crate) fn decide_files<'a, R, A, F, W>(
     rt: &R,
     alloc: A,
@@ -49,9 +50,13 @@ where
     ensures { Decides A (HasKept F.creates F.loses F.Out.taken F.Out.failures shelf.new) (length decide.now.logs.items) decide.now.certificate (W.taken out.old) (W.failures out.old) (W.taken out.new) (W.failures out.new) result ⊎ GivesNoAnswer (W.taken out.old) (W.failures out.old) (W.taken out.new) (W.failures out.new) (outcome_number result) }
 {
     let question = read_file(decide.question, shelf)?;
-    let audit = read_logs(rt, alloc, &decide.logs, shelf)?;
+    let audit = read_logs(rt, alloc.clone()?, &decide.logs, shelf)?;
     let findings = audit.decide(&question)?;
-    match write_findings(&findings, out) {
+    let mut text = MemorySink::new(alloc);
+    let Ok(()) = write_findings(&findings, &mut text) else {
+        return Err(Complaint::OutOfMemory);
+    };
+    match write_bytes(text.bytes(), out) {
         Ok(()) => keep_findings(findings, decide.certificate, shelf),
         Err(WriteFault) => Err(Complaint::CannotWriteAnswer),
     }

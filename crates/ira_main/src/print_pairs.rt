@@ -5,11 +5,12 @@ ghost use Rattle.ira_main.specs.Serve.{AsksPairs, GivesNoAnswer};
 use crate::complaint::Complaint;
 use crate::ring_size::ring_size;
 use crate::status::Status;
-use ira_event::{Sink, WriteFault};
+use ira_event::{MemorySink, Sink, WriteFault, write_bytes};
 use ira_pred::{pairs_question, write_question};
 use std::alloc::Allocator;
 
-/// Prints the question whether two nodes of a ring of so many ever lead at once.
+/// Prints the question whether two nodes of a ring of so many ever lead at once. Its text is put together first, since
+/// the output isn't buffered.
 pub(crate) fn print_pairs<'a, A: Allocator + Clone, W: Sink>(
     alloc: A,
     nodes: u64,
@@ -20,8 +21,12 @@ pub(crate) fn print_pairs<'a, A: Allocator + Clone, W: Sink>(
     let Some(nodes) = ring_size(nodes) else {
         return Err(Complaint::RingSize);
     };
-    let question = pairs_question(alloc, nodes)?;
-    match write_question(&question, out) {
+    let question = pairs_question(alloc.clone()?, nodes)?;
+    let mut text = MemorySink::new(alloc);
+    let Ok(()) = write_question(&question, &mut text) else {
+        return Err(Complaint::OutOfMemory);
+    };
+    match write_bytes(text.bytes(), out) {
         Ok(()) => Ok(Status::Yes),
         Err(WriteFault) => Err(Complaint::CannotWriteAnswer),
     }
