@@ -27,7 +27,7 @@ use Rattle.ira_order.specs.Ring.{log_of, next}
 use Rattle.ira_order.specs.Matching.{sent, got, IsPaired, LinkMatches, Matches}
 use Rattle.ira_order.specs.MatchFault.{IsLinkFault, IsMatchFault}
 use Rattle.ira_order.specs.Circle.{HasCircle, HasOrder}
-use Rattle.ira_order.specs.Counts.{CanStep}
+use Rattle.ira_order.specs.Counts.{IsReady}
 use Rattle.ira_order.specs.Order.{standings}
 use Rattle.ira_order.specs.Run.{AreLocalRuns}
 use Rattle.ira_order.specs.Scan.{IsScan, IsStuckAt, sent_by, got_by}
@@ -200,7 +200,7 @@ is_covered logs at i j = elim (eq_cases (next (length logs) j) i) [
   ]
 ]
 
-can_step : (logs : List Log) (at : ℕ → ℕ) (i : ℕ) → Decided (CanStep logs at i)
+can_step : (logs : List Log) (at : ℕ → ℕ) (i : ℕ) → Decided (IsReady logs at i)
 can_step logs at i = elim (lt_cases (at i) (length (log_of logs i))) [
   | inr past ↦ inr (λ can. omega (arith, can.0, past))
   | inl more ↦ elim (below_or_other _ (is_covered logs at i) (length logs)) [
