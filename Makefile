@@ -33,7 +33,7 @@ ira:
 	@$(MAKE) --no-print-directory -j 3 START=$(START) bin/ira
 
 $(LIBRARIES:%=library-%): library-%:
-	@(cd crates/$* && rt lib --jobs $(JOBS)) > bin/$*.log 2>&1 || { tail -20 bin/$*.log; $(say) 'failed: $*'; exit 1; }
+	@sh build/prove.sh $* $(JOBS) > bin/$*.log 2>&1 || { tail -20 bin/$*.log; $(say) 'failed: $*'; exit 1; }
 	@$(say) 'proved: $*'
 
 $(foreach it,$(LIBRARIES),$(eval library-$(it): $(addprefix library-,$(filter-out $(it),$(call uses,$(it))))))
