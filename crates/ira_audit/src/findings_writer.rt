@@ -16,7 +16,7 @@ use std::alloc::Allocator;
 
 #[tactic(auto, using(ira_event::proofs::Writing::writes))]
 fn write_absent<A: Allocator, W: Sink>(section: &Section<A>, sink: &mut W) -> Result<(), WriteFault>
-    ensures { Wrote result (found_words {A = A} (Absent section.now)) (W.taken sink.old) (W.failures sink.old) (W.taken sink.new) (W.failures sink.new) }
+    ensures { Wrote result (found_words {A = A} (Absent section.now)) (W.state sink.old) (W.state sink.new) }
 {
     write_numbered(b": absent, ", section.steps.len() as u64, sink)?;
     write_numbered(b" steps, node ", u64::from(section.spent), sink)?;
@@ -24,7 +24,7 @@ fn write_absent<A: Allocator, W: Sink>(section: &Section<A>, sink: &mut W) -> Re
 }
 
 fn write_positions<W: Sink>(positions: &[u32], sink: &mut W) -> Result<(), WriteFault>
-    ensures { Wrote result (flat_map (numbered (codes " ")) positions.now) (W.taken sink.old) (W.failures sink.old) (W.taken sink.new) (W.failures sink.new) }
+    ensures { Wrote result (flat_map (numbered (codes " ")) positions.now) (W.state sink.old) (W.state sink.new) }
 {
     for position in positions {
         write_numbered(b" ", u64::from(*position), sink)?;
@@ -34,14 +34,14 @@ fn write_positions<W: Sink>(positions: &[u32], sink: &mut W) -> Result<(), Write
 
 #[tactic(auto, using(ira_event::proofs::Writing::writes))]
 fn write_present<A: Allocator, W: Sink>(cut: &Cut<A>, sink: &mut W) -> Result<(), WriteFault>
-    ensures { Wrote result (found_words {A = A} (Present cut.now)) (W.taken sink.old) (W.failures sink.old) (W.taken sink.new) (W.failures sink.new) }
+    ensures { Wrote result (found_words {A = A} (Present cut.now)) (W.state sink.old) (W.state sink.new) }
 {
     write_bytes(b": present at", sink)?;
     write_positions(cut.positions(), sink)
 }
 
 fn write_found<A: Allocator, W: Sink>(found: &Found<A>, sink: &mut W) -> Result<(), WriteFault>
-    ensures { Wrote result (found_words found.now) (W.taken sink.old) (W.failures sink.old) (W.taken sink.new) (W.failures sink.new) }
+    ensures { Wrote result (found_words found.now) (W.state sink.old) (W.state sink.new) }
 {
     match found {
         Found::Absent(section) => write_absent(section, sink),
@@ -55,7 +55,7 @@ fn write_case<A: Allocator, W: Sink>(
     found: &Found<A>,
     sink: &mut W,
 ) -> Result<(), WriteFault>
-    ensures { Wrote result (case_line (case, found.now)) (W.taken sink.old) (W.failures sink.old) (W.taken sink.new) (W.failures sink.new) }
+    ensures { Wrote result (case_line (case, found.now)) (W.state sink.old) (W.state sink.new) }
 {
     write_numbered(b"case ", case, sink)?;
     write_found(found, sink)?;
@@ -63,7 +63,7 @@ fn write_case<A: Allocator, W: Sink>(
 }
 
 fn write_cases<A: Allocator, W: Sink>(found: &[Found<A>], sink: &mut W) -> Result<(), WriteFault>
-    ensures { Wrote result (flat_map case_line (enumerate_from 0 found.now)) (W.taken sink.old) (W.failures sink.old) (W.taken sink.new) (W.failures sink.new) }
+    ensures { Wrote result (flat_map case_line (enumerate_from 0 found.now)) (W.state sink.old) (W.state sink.new) }
 {
     for (case, found) in found.iter().enumerate() {
         write_case(case as u64, found, sink)?;
@@ -78,7 +78,7 @@ pub fn write_findings<A: Allocator, W: Sink>(
     sink: &mut W,
 ) -> Result<(), WriteFault>
     requires { AreReportable findings.now }
-    ensures { Wrote result (findings_text findings.now) (W.taken sink.old) (W.failures sink.old) (W.taken sink.new) (W.failures sink.new) }
+    ensures { Wrote result (findings_text findings.now) (W.state sink.old) (W.state sink.new) }
 {
     match findings {
         Findings::Refused(reason) => write_report(&Answer::No(*reason), sink),

@@ -13,7 +13,7 @@ use ira_pred::AskFault;
 
 #[tactic(auto, using(ira_event::proofs::Writing::writes))]
 pub(crate) fn write_numbered<W: Sink>(before: &[u8], n: u64, sink: &mut W) -> Result<(), WriteFault>
-    ensures { Wrote result (before.now ++ decimal n) (W.taken sink.old) (W.failures sink.old) (W.taken sink.new) (W.failures sink.new) }
+    ensures { Wrote result (before.now ++ decimal n) (W.state sink.old) (W.state sink.new) }
 {
     write_bytes(before, sink)?;
     write_number(n, sink)
@@ -21,7 +21,7 @@ pub(crate) fn write_numbered<W: Sink>(before: &[u8], n: u64, sink: &mut W) -> Re
 
 fn write_log_fault<W: Sink>(fault: LogFault, sink: &mut W) -> Result<(), WriteFault>
     requires { fault ≢ LogFault.OutOfMemory }
-    ensures { Wrote result (log_fault_words fault) (W.taken sink.old) (W.failures sink.old) (W.taken sink.new) (W.failures sink.new) }
+    ensures { Wrote result (log_fault_words fault) (W.state sink.old) (W.state sink.new) }
 {
     match fault {
         LogFault::TooLong => write_bytes(b"too long", sink),
@@ -38,7 +38,7 @@ fn write_log_fault<W: Sink>(fault: LogFault, sink: &mut W) -> Result<(), WriteFa
 
 fn write_ask_fault<W: Sink>(fault: AskFault, sink: &mut W) -> Result<(), WriteFault>
     requires { fault ≢ AskFault.OutOfMemory }
-    ensures { Wrote result (ask_fault_words fault) (W.taken sink.old) (W.failures sink.old) (W.taken sink.new) (W.failures sink.new) }
+    ensures { Wrote result (ask_fault_words fault) (W.state sink.old) (W.state sink.new) }
 {
     match fault {
         AskFault::TooLong => write_bytes(b"too long", sink),
@@ -56,7 +56,7 @@ fn write_ask_fault<W: Sink>(fault: AskFault, sink: &mut W) -> Result<(), WriteFa
 
 fn write_cert_fault<W: Sink>(fault: CertFault, sink: &mut W) -> Result<(), WriteFault>
     requires { fault ≢ CertFault.OutOfMemory }
-    ensures { Wrote result (cert_fault_words fault) (W.taken sink.old) (W.failures sink.old) (W.taken sink.new) (W.failures sink.new) }
+    ensures { Wrote result (cert_fault_words fault) (W.state sink.old) (W.state sink.new) }
 {
     match fault {
         CertFault::TooLong => write_bytes(b"too long", sink),
@@ -71,7 +71,7 @@ fn write_cert_fault<W: Sink>(fault: CertFault, sink: &mut W) -> Result<(), Write
 }
 
 fn write_head_fault<W: Sink>(fault: HeadFault, sink: &mut W) -> Result<(), WriteFault>
-    ensures { Wrote result (head_fault_words fault) (W.taken sink.old) (W.failures sink.old) (W.taken sink.new) (W.failures sink.new) }
+    ensures { Wrote result (head_fault_words fault) (W.state sink.old) (W.state sink.new) }
 {
     match fault {
         HeadFault::Number => write_bytes(b"number", sink),
@@ -82,7 +82,7 @@ fn write_head_fault<W: Sink>(fault: HeadFault, sink: &mut W) -> Result<(), Write
 
 #[tactic(auto, using(ira_event::proofs::Writing::writes))]
 fn write_receipt<W: Sink>(link: u64, k: u64, words: &[u8], sink: &mut W) -> Result<(), WriteFault>
-    ensures { Wrote result (receipt_words link k ++ words.now) (W.taken sink.old) (W.failures sink.old) (W.taken sink.new) (W.failures sink.new) }
+    ensures { Wrote result (receipt_words link k ++ words.now) (W.state sink.old) (W.state sink.new) }
 {
     write_numbered(b"link ", link, sink)?;
     write_numbered(b": receipt ", k, sink)?;
@@ -90,7 +90,7 @@ fn write_receipt<W: Sink>(link: u64, k: u64, words: &[u8], sink: &mut W) -> Resu
 }
 
 fn write_match_fault<W: Sink>(fault: MatchFault, sink: &mut W) -> Result<(), WriteFault>
-    ensures { Wrote result (match_fault_words fault) (W.taken sink.old) (W.failures sink.old) (W.taken sink.new) (W.failures sink.new) }
+    ensures { Wrote result (match_fault_words fault) (W.state sink.old) (W.state sink.new) }
 {
     match fault {
         MatchFault::NoSending { link, k } => {
@@ -124,7 +124,7 @@ fn step_fault_text(fault: StepFault) -> &'static [u8]
 #[tactic(auto, using(ira_event::proofs::Writing::writes))]
 fn write_log_reason<W: Sink>(number: u64, fault: LogFault, sink: &mut W) -> Result<(), WriteFault>
     requires { fault ≢ LogFault.OutOfMemory }
-    ensures { Wrote result (reason_words (Reason.Log number fault)) (W.taken sink.old) (W.failures sink.old) (W.taken sink.new) (W.failures sink.new) }
+    ensures { Wrote result (reason_words (Reason.Log number fault)) (W.state sink.old) (W.state sink.new) }
 {
     write_numbered(b"no: log ", number, sink)?;
     write_bytes(b": ", sink)?;
@@ -138,7 +138,7 @@ fn write_replay_reason<W: Sink>(
     fault: StepFault,
     sink: &mut W,
 ) -> Result<(), WriteFault>
-    ensures { Wrote result (reason_words (Reason.Replay place position fault)) (W.taken sink.old) (W.failures sink.old) (W.taken sink.new) (W.failures sink.new) }
+    ensures { Wrote result (reason_words (Reason.Replay place position fault)) (W.state sink.old) (W.state sink.new) }
 {
     write_numbered(b"no: node ", place, sink)?;
     write_numbered(b": event ", position, sink)?;
@@ -148,7 +148,7 @@ fn write_replay_reason<W: Sink>(
 
 #[tactic(auto, using(ira_event::proofs::Writing::writes))]
 fn write_heads_reason<W: Sink>(fault: HeadFault, sink: &mut W) -> Result<(), WriteFault>
-    ensures { Wrote result (reason_words (Reason.Heads fault)) (W.taken sink.old) (W.failures sink.old) (W.taken sink.new) (W.failures sink.new) }
+    ensures { Wrote result (reason_words (Reason.Heads fault)) (W.state sink.old) (W.state sink.new) }
 {
     write_bytes(b"no: heads: ", sink)?;
     write_head_fault(fault, sink)
@@ -156,7 +156,7 @@ fn write_heads_reason<W: Sink>(fault: HeadFault, sink: &mut W) -> Result<(), Wri
 
 #[tactic(auto, using(ira_event::proofs::Writing::writes))]
 fn write_match_reason<W: Sink>(fault: MatchFault, sink: &mut W) -> Result<(), WriteFault>
-    ensures { Wrote result (reason_words (Reason.Match fault)) (W.taken sink.old) (W.failures sink.old) (W.taken sink.new) (W.failures sink.new) }
+    ensures { Wrote result (reason_words (Reason.Match fault)) (W.state sink.old) (W.state sink.new) }
 {
     write_bytes(b"no: ", sink)?;
     write_match_fault(fault, sink)
@@ -165,7 +165,7 @@ fn write_match_reason<W: Sink>(fault: MatchFault, sink: &mut W) -> Result<(), Wr
 #[tactic(auto, using(ira_event::proofs::Writing::writes))]
 fn write_question_reason<W: Sink>(fault: AskFault, sink: &mut W) -> Result<(), WriteFault>
     requires { fault ≢ AskFault.OutOfMemory }
-    ensures { Wrote result (reason_words (Reason.Question fault)) (W.taken sink.old) (W.failures sink.old) (W.taken sink.new) (W.failures sink.new) }
+    ensures { Wrote result (reason_words (Reason.Question fault)) (W.state sink.old) (W.state sink.new) }
 {
     write_bytes(b"no: question: ", sink)?;
     write_ask_fault(fault, sink)
@@ -174,7 +174,7 @@ fn write_question_reason<W: Sink>(fault: AskFault, sink: &mut W) -> Result<(), W
 #[tactic(auto, using(ira_event::proofs::Writing::writes))]
 fn write_certificate_reason<W: Sink>(fault: CertFault, sink: &mut W) -> Result<(), WriteFault>
     requires { fault ≢ CertFault.OutOfMemory }
-    ensures { Wrote result (reason_words (Reason.Certificate fault)) (W.taken sink.old) (W.failures sink.old) (W.taken sink.new) (W.failures sink.new) }
+    ensures { Wrote result (reason_words (Reason.Certificate fault)) (W.state sink.old) (W.state sink.new) }
 {
     write_bytes(b"no: certificate: ", sink)?;
     write_cert_fault(fault, sink)
@@ -182,7 +182,7 @@ fn write_certificate_reason<W: Sink>(fault: CertFault, sink: &mut W) -> Result<(
 
 #[tactic(auto, using(ira_event::proofs::Writing::writes))]
 fn write_sections_reason<W: Sink>(wanted: u64, found: u64, sink: &mut W) -> Result<(), WriteFault>
-    ensures { Wrote result (reason_words (Reason.Sections wanted found)) (W.taken sink.old) (W.failures sink.old) (W.taken sink.new) (W.failures sink.new) }
+    ensures { Wrote result (reason_words (Reason.Sections wanted found)) (W.state sink.old) (W.state sink.new) }
 {
     write_numbered(b"no: sections: ", wanted, sink)?;
     write_numbered(b" wanted, ", found, sink)?;
@@ -203,7 +203,7 @@ fn unsound_text(why: Unsound) -> &'static [u8]
 
 #[tactic(auto, using(ira_event::proofs::Writing::writes))]
 fn write_step_fault<W: Sink>(k: u64, why: Unsound, sink: &mut W) -> Result<(), WriteFault>
-    ensures { Wrote result (section_fault_words (SectionFault.Step k why)) (W.taken sink.old) (W.failures sink.old) (W.taken sink.new) (W.failures sink.new) }
+    ensures { Wrote result (section_fault_words (SectionFault.Step k why)) (W.state sink.old) (W.state sink.new) }
 {
     write_numbered(b"step ", k, sink)?;
     write_bytes(b": ", sink)?;
@@ -212,14 +212,14 @@ fn write_step_fault<W: Sink>(k: u64, why: Unsound, sink: &mut W) -> Result<(), W
 
 #[tactic(auto, using(ira_event::proofs::Writing::writes))]
 fn write_unspent<W: Sink>(node: u64, sink: &mut W) -> Result<(), WriteFault>
-    ensures { Wrote result (section_fault_words (SectionFault.NotSpent node)) (W.taken sink.old) (W.failures sink.old) (W.taken sink.new) (W.failures sink.new) }
+    ensures { Wrote result (section_fault_words (SectionFault.NotSpent node)) (W.state sink.old) (W.state sink.new) }
 {
     write_numbered(b"node ", node, sink)?;
     write_bytes(b" not spent", sink)
 }
 
 fn write_section_fault<W: Sink>(fault: SectionFault, sink: &mut W) -> Result<(), WriteFault>
-    ensures { Wrote result (section_fault_words fault) (W.taken sink.old) (W.failures sink.old) (W.taken sink.new) (W.failures sink.new) }
+    ensures { Wrote result (section_fault_words fault) (W.state sink.old) (W.state sink.new) }
 {
     match fault {
         SectionFault::Step(k, why) => write_step_fault(k as u64, why, sink),
@@ -233,7 +233,7 @@ fn write_section_reason<W: Sink>(
     fault: SectionFault,
     sink: &mut W,
 ) -> Result<(), WriteFault>
-    ensures { Wrote result (reason_words (Reason.Section case fault)) (W.taken sink.old) (W.failures sink.old) (W.taken sink.new) (W.failures sink.new) }
+    ensures { Wrote result (reason_words (Reason.Section case fault)) (W.state sink.old) (W.state sink.new) }
 {
     write_numbered(b"no: case ", case, sink)?;
     write_bytes(b": ", sink)?;
@@ -242,7 +242,7 @@ fn write_section_reason<W: Sink>(
 
 fn write_reason<W: Sink>(reason: &Reason, sink: &mut W) -> Result<(), WriteFault>
     requires { IsReportableReason reason.now }
-    ensures { Wrote result (reason_words reason.now) (W.taken sink.old) (W.failures sink.old) (W.taken sink.new) (W.failures sink.new) }
+    ensures { Wrote result (reason_words reason.now) (W.state sink.old) (W.state sink.new) }
 {
     match *reason {
         Reason::Log { number, fault } => write_log_reason(number as u64, fault, sink),
@@ -270,7 +270,7 @@ fn write_reason<W: Sink>(reason: &Reason, sink: &mut W) -> Result<(), WriteFault
 #[tactic(auto, using(ira_event::proofs::Writing::writes))]
 pub fn write_report<W: Sink>(answer: &Answer, sink: &mut W) -> Result<(), WriteFault>
     requires { IsReportable answer.now }
-    ensures { Wrote result (report_line answer.now) (W.taken sink.old) (W.failures sink.old) (W.taken sink.new) (W.failures sink.new) }
+    ensures { Wrote result (report_line answer.now) (W.state sink.old) (W.state sink.new) }
 {
     match answer {
         Answer::Yes => write_bytes(b"yes\n", sink),

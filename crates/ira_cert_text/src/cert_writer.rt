@@ -46,7 +46,7 @@ fn head(nodes: RingSize) -> Line
 }
 
 fn write_steps<W: Sink>(steps: &[CertStep], sink: &mut W) -> Result<(), WriteFault>
-    ensures { Wrote result (flat_map step_text steps.now) (W.taken sink.old) (W.failures sink.old) (W.taken sink.new) (W.failures sink.new) }
+    ensures { Wrote result (flat_map step_text steps.now) (W.state sink.old) (W.state sink.new) }
 {
     for step in steps {
         step_line(step).write(sink)?;
@@ -58,7 +58,7 @@ fn write_section<A: Allocator, W: Sink>(
     section: &Section<A>,
     sink: &mut W,
 ) -> Result<(), WriteFault>
-    ensures { Wrote result (section_text section.now) (W.taken sink.old) (W.failures sink.old) (W.taken sink.new) (W.failures sink.new) }
+    ensures { Wrote result (section_text section.now) (W.state sink.old) (W.state sink.new) }
 {
     write_bytes(b"section\n", sink)?;
     write_steps(&section.steps, sink)?;
@@ -69,7 +69,7 @@ fn write_sections<A: Allocator, W: Sink>(
     sections: &[Section<A>],
     sink: &mut W,
 ) -> Result<(), WriteFault>
-    ensures { Wrote result (flat_map section_text sections.now) (W.taken sink.old) (W.failures sink.old) (W.taken sink.new) (W.failures sink.new) }
+    ensures { Wrote result (flat_map section_text sections.now) (W.state sink.old) (W.state sink.new) }
 {
     for section in sections {
         write_section(section, sink)?;
@@ -82,7 +82,7 @@ pub fn write_cert<A: Allocator, W: Sink>(
     certificate: &Certificate<A>,
     sink: &mut W,
 ) -> Result<(), WriteFault>
-    ensures { Wrote result (cert_text certificate.now) (W.taken sink.old) (W.failures sink.old) (W.taken sink.new) (W.failures sink.new) }
+    ensures { Wrote result (cert_text certificate.now) (W.state sink.old) (W.state sink.new) }
 {
     head(certificate.nodes).write(sink)?;
     write_sections(&certificate.sections, sink)?;

@@ -1,7 +1,7 @@
 use Rattle.std.proofs.Common.{◌≡◌, ℕ, List, [], ◌++◌, Option, Some, None, Result, Ok, Err, refl, sym, ◌∙◌, ap, subst, append_assoc}
 use Rattle.std.proofs.lemmas.List.{append-nil}
 use Rattle.std.specs.Io.KnownBytes.{Appends, Keeps}
-use Rattle.ira_event.specs.Sink.{Wrote, Takes, StopsIn, one_more}
+use Rattle.ira_event.specs.Sink.{SinkState, Wrote, Takes, StopsIn, one_more}
 
 -- nothing more is taken
 pub Appends-nothing : (t : Option (List ℕ)) → Appends t t []
@@ -22,21 +22,24 @@ Appends-Keeps (Some xs) (Some ys) None x p q = absurd q
 Appends-Keeps (Some xs) (Some ys) (Some zs) x p q = q ∙ p
 
 -- a text is written in two turns
-pub Takes-append : (t u v : Option (List ℕ)) (f g h : ℕ) (a b : List ℕ) → Takes a t f u g → Takes b u g v h → Takes (a ++ b) t f v h
-Takes-append t u v f g h a b p q = record { took = Appends-append t u v a b p.took q.took; same = q.same ∙ p.same }
+pub Takes-append : (s t u : SinkState) (a b : List ℕ) → Takes a s t → Takes b t u → Takes (a ++ b) s u
+Takes-append s t u a b p q = record {
+  took = Appends-append s.taken t.taken u.taken a b p.took q.took;
+  same = q.same ∙ p.same;
+}
 
-pub Takes-StopsIn : (t u v : Option (List ℕ)) (f g h : ℕ) (a b : List ℕ) → Takes a t f u g → StopsIn b u g v h → StopsIn (a ++ b) t f v h
-Takes-StopsIn t u v f g h a b p q = record {
+pub Takes-StopsIn : (s t u : SinkState) (a b : List ℕ) → Takes a s t → StopsIn b t u → StopsIn (a ++ b) s u
+Takes-StopsIn s t u a b p q = record {
   front = a ++ q.front;
   back = q.back;
   parts = append_assoc a q.front q.back ∙ ap (λ w. a ++ w) q.parts;
-  took = Appends-append t u v a q.front p.took q.took;
+  took = Appends-append s.taken t.taken u.taken a q.front p.took q.took;
   failed = q.failed ∙ ap one_more p.same;
 }
 
 -- a failure in the first part is one of the whole
-pub StopsIn-append : (t u : Option (List ℕ)) (f g : ℕ) (a b : List ℕ) → StopsIn a t f u g → StopsIn (a ++ b) t f u g
-StopsIn-append t u f g a b p = record {
+pub StopsIn-append : (s t : SinkState) (a b : List ℕ) → StopsIn a s t → StopsIn (a ++ b) s t
+StopsIn-append s t a b p = record {
   front = p.front;
   back = p.back ++ b;
   parts = sym (append_assoc p.front p.back b) ∙ ap (λ w. w ++ b) p.parts;
@@ -44,35 +47,35 @@ StopsIn-append t u f g a b p = record {
   failed = p.failed;
 }
 
-pub Wrote-then : {T E : Type 0} (r : Result T E) (t u v : Option (List ℕ)) (f g h : ℕ) (a b : List ℕ) → Takes a t f u g → Wrote r b u g v h → Wrote r (a ++ b) t f v h
-Wrote-then (Ok _) t u v f g h a b p q = Takes-append t u v f g h a b p q
-Wrote-then (Err _) t u v f g h a b p q = Takes-StopsIn t u v f g h a b p q
+pub Wrote-then : {T E : Type 0} (r : Result T E) (s t u : SinkState) (a b : List ℕ) → Takes a s t → Wrote r b t u → Wrote r (a ++ b) s u
+Wrote-then (Ok _) s t u a b p q = Takes-append s t u a b p q
+Wrote-then (Err _) s t u a b p q = Takes-StopsIn s t u a b p q
 
 -- a writer has written a front of its text, and this rest is left
-pub record HasWritten (text rest : List ℕ) (t : Option (List ℕ)) (f : ℕ) (u : Option (List ℕ)) (g : ℕ) : Type 0 where
+pub record HasWritten (text rest : List ℕ) (old new : SinkState) : Type 0 where
   pub front : List ℕ
   pub parts : front ++ rest ≡ text
-  pub takes : Takes front t f u g
+  pub takes : Takes front old new
 
-pub HasWritten-start : (text : List ℕ) (t : Option (List ℕ)) (f : ℕ) → HasWritten text text t f t f
-HasWritten-start text t f = record { front = []; parts = refl; takes = record { took = Appends-nothing t; same = refl } }
+pub HasWritten-start : (text : List ℕ) (s : SinkState) → HasWritten text text s s
+HasWritten-start text s = record { front = []; parts = refl; takes = record { took = Appends-nothing s.taken; same = refl } }
 
 -- a piece more is written
-pub HasWritten-more : (text left piece rest : List ℕ) (t u v : Option (List ℕ)) (f g h : ℕ) → HasWritten text left t f u g → piece ++ rest ≡ left → Takes piece u g v h → HasWritten text rest t f v h
-HasWritten-more text left piece rest t u v f g h p e q = record {
+pub HasWritten-more : (text left piece rest : List ℕ) (s t u : SinkState) → HasWritten text left s t → piece ++ rest ≡ left → Takes piece t u → HasWritten text rest s u
+HasWritten-more text left piece rest s t u p e q = record {
   front = p.front ++ piece;
   parts = append_assoc p.front piece rest ∙ ap (λ w. p.front ++ w) e ∙ p.parts;
-  takes = Takes-append t u v f g h p.front piece p.takes q;
+  takes = Takes-append s t u p.front piece p.takes q;
 }
 
 -- the sink fails in the next piece
-pub HasWritten-stops : {T E : Type 0} (r : Result T E) (y : E) → r ≡ Err y → (text left piece rest : List ℕ) (t u v : Option (List ℕ)) (f g h : ℕ) → HasWritten text left t f u g → piece ++ rest ≡ left → StopsIn piece u g v h → Wrote r text t f v h
-HasWritten-stops r y is text left piece rest t u v f g h p e q =
-    rw is (subst (λ (x : List ℕ). StopsIn x t f v h) (ap (λ w. p.front ++ w) e ∙ p.parts) (Takes-StopsIn t u v f g h p.front (piece ++ rest) p.takes (StopsIn-append u v g h piece rest q)))
+pub HasWritten-stops : {T E : Type 0} (r : Result T E) (y : E) → r ≡ Err y → (text left piece rest : List ℕ) (s t u : SinkState) → HasWritten text left s t → piece ++ rest ≡ left → StopsIn piece t u → Wrote r text s u
+HasWritten-stops r y is text left piece rest s t u p e q =
+    rw is (subst (λ (x : List ℕ). StopsIn x s u) (ap (λ w. p.front ++ w) e ∙ p.parts) (Takes-StopsIn s t u p.front (piece ++ rest) p.takes (StopsIn-append t u piece rest q)))
 
 -- the last piece is written, or the sink fails in it
-pub HasWritten-last : {T E : Type 0} (r : Result T E) (text left piece : List ℕ) (t u v : Option (List ℕ)) (f g h : ℕ) → HasWritten text left t f u g → piece ≡ left → Wrote r piece u g v h → Wrote r text t f v h
-HasWritten-last r text left piece t u v f g h p e q =
-    subst (λ (x : List ℕ). Wrote r x t f v h) (ap (λ w. p.front ++ w) e ∙ p.parts) (Wrote-then r t u v f g h p.front piece p.takes q)
+pub HasWritten-last : {T E : Type 0} (r : Result T E) (text left piece : List ℕ) (s t u : SinkState) → HasWritten text left s t → piece ≡ left → Wrote r piece t u → Wrote r text s u
+HasWritten-last r text left piece s t u p e q =
+    subst (λ (x : List ℕ). Wrote r x s u) (ap (λ w. p.front ++ w) e ∙ p.parts) (Wrote-then r s t u p.front piece p.takes q)
 
 pub ruleset writes = (Takes-append, Takes-StopsIn, StopsIn-append, Wrote-then)

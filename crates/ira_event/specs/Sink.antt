@@ -11,6 +11,16 @@ pub record Passing (W : Type 0) : Type 0 where
   pub writer : W
   pub failures : ℕ
 
+-- what a sink has taken, where it tells it, and how often it has failed; the last u64 stands for itself and everything
+-- above
+pub record SinkState : Type 0 where
+  pub taken : Option (List ℕ)
+  pub failures : ℕ
+
+-- the state of a sink that hands on to a writer whose contents are told so
+abbrev pub passing_state : {W : Type 0} → (W → Option (List ℕ)) → Passing W → SinkState
+passing_state contents sink = record { taken = contents sink.writer; failures = sink.failures }
+
 -- one failure more; the count stops at the last u64
 abbrev pub one_more : ℕ → ℕ
 one_more n = min (n + 1) (2 ^ 64 - 1)
@@ -21,20 +31,20 @@ failures_after (Ok n) bytes failures = if nat_eq n 0 && nat_lt 0 (length bytes) 
 failures_after (Err e) bytes failures = one_more failures
 
 -- the sink took the whole text, and its count of failures stayed
-pub record Takes (text : List ℕ) (taken : Option (List ℕ)) (failures : ℕ) (taken' : Option (List ℕ)) (failures' : ℕ) : Type 0 where
-  pub took : Appends taken taken' text
-  pub same : failures' ≡ failures
+pub record Takes (text : List ℕ) (old new : SinkState) : Type 0 where
+  pub took : Appends old.taken new.taken text
+  pub same : new.failures ≡ old.failures
 
 -- the sink took a first part of the text, and its count shows one failure more
-pub record StopsIn (text : List ℕ) (taken : Option (List ℕ)) (failures : ℕ) (taken' : Option (List ℕ)) (failures' : ℕ) : Type 0 where
+pub record StopsIn (text : List ℕ) (old new : SinkState) : Type 0 where
   pub front : List ℕ
   pub back : List ℕ
   pub parts : front ++ back ≡ text
-  pub took : Appends taken taken' front
-  pub failed : failures' ≡ one_more failures
+  pub took : Appends old.taken new.taken front
+  pub failed : new.failures ≡ one_more old.failures
 
 -- what a writer of the text does: Ok means that the sink took exactly the text, Err comes only where
 -- the sink failed, and then it took a first part of the text
-abbrev pub Wrote : {T E : Type 0} → Result T E → List ℕ → Option (List ℕ) → ℕ → Option (List ℕ) → ℕ → Type 0
-Wrote (Ok _) text taken failures taken' failures' = Takes text taken failures taken' failures'
-Wrote (Err _) text taken failures taken' failures' = StopsIn text taken failures taken' failures'
+abbrev pub Wrote : {T E : Type 0} → Result T E → List ℕ → SinkState → SinkState → Type 0
+Wrote (Ok _) text old new = Takes text old new
+Wrote (Err _) text old new = StopsIn text old new

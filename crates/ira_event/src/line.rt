@@ -61,7 +61,7 @@ impl Line {
 
     /// Writes the line.
     pub fn write<W: Sink>(&self, sink: &mut W) -> Result<(), WriteFault>
-        ensures { Wrote result self.now (W.taken sink.old) (W.failures sink.old) (W.taken sink.new) (W.failures sink.new) }
+        ensures { Wrote result self.now (W.state sink.old) (W.state sink.new) }
     {
         write_bytes(&self.bytes[..self.len], sink)
     }

@@ -77,7 +77,7 @@ fn write_records_and_end<A: Allocator, W: Sink>(
     log: &NodeLog<A>,
     sink: &mut W,
 ) -> Result<(), WriteFault>
-    ensures { Wrote result (flat_map record_text log.now.events ++ end_text (length log.now.events)) (W.taken sink.old) (W.failures sink.old) (W.taken sink.new) (W.failures sink.new) }
+    ensures { Wrote result (flat_map record_text log.now.events ++ end_text (length log.now.events)) (W.state sink.old) (W.state sink.new) }
 {
     for event in log.events() {
         record_line(&event).write(sink)?;
@@ -87,7 +87,7 @@ fn write_records_and_end<A: Allocator, W: Sink>(
 
 /// Writes the text of the log.
 pub fn write_log<A: Allocator, W: Sink>(log: &NodeLog<A>, sink: &mut W) -> Result<(), WriteFault>
-    ensures { Wrote result (log_text log.now) (W.taken sink.old) (W.failures sink.old) (W.taken sink.new) (W.failures sink.new) }
+    ensures { Wrote result (log_text log.now) (W.state sink.old) (W.state sink.new) }
 {
     head(log.nodes(), log.place(), log.initiator()).write(sink)?;
     write_records_and_end(log, sink)

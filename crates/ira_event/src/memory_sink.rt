@@ -42,9 +42,7 @@ impl<A: Allocator> MemorySink<A> {
 impl<A: Allocator> Sink for MemorySink<A> {
     ghost use Rattle.std.specs.Prelude.{Some};
 
-    ghost taken = { λ s. Some s.bytes };
-
-    ghost failures = { λ s. s.failures };
+    ghost state = { λ s. record { taken = Some s.bytes; failures = s.failures } };
 
     fn push(&mut self, bytes: &[u8]) -> Result<usize, SinkFault> {
         if self.bytes.extend_from_slice(bytes).is_err() {

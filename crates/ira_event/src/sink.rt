@@ -1,7 +1,7 @@
-ghost use Rattle.std.specs.Prelude.{◌≡◌, ℕ, List, Option, None};
+ghost use Rattle.std.specs.Prelude.{◌≡◌};
 ghost use Rattle.std.specs.Io.KnownBytes.{WriteAppends};
 ghost use Rattle.std.specs.Io.{WritesAtMost};
-ghost use Rattle.ira_event.specs.Sink.{failures_after};
+ghost use Rattle.ira_event.specs.Sink.{SinkState, failures_after};
 
 use thiserror::Error;
 
@@ -12,16 +12,13 @@ pub struct SinkFault;
 
 /// What takes bytes, and counts how often it failed.
 pub trait Sink {
-    // the bytes taken so far, where the sink tells them
-    ghost taken: { Self → Option (List ℕ) } = { λ _. None };
-
-    // how often the sink has failed; the last u64 stands for itself and everything above
-    ghost failures: { Self → ℕ };
+    // the bytes taken so far, where the sink tells them, and how often it has failed
+    ghost state: { Self → SinkState };
 
     /// Takes the first bytes of these and answers how many. `Ok(0)` for some bytes and `Err` take
     /// nothing, and are one failure.
     fn push(&mut self, bytes: &[u8]) -> Result<usize, SinkFault>
         ensures bound { WritesAtMost result bytes.now }
-        ensures bytes { WriteAppends (taken self.old) (taken self.new) result bytes.now }
-        ensures failures { failures self.new ≡ failures_after result bytes.now (failures self.old) };
+        ensures bytes { WriteAppends (state self.old).taken (state self.new).taken result bytes.now }
+        ensures failures { (state self.new).failures ≡ failures_after result bytes.now (state self.old).failures };
 }

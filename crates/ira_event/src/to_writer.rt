@@ -1,5 +1,5 @@
 ghost use Rattle.std.specs.Prelude.{◌≡◌, []};
-ghost use Rattle.ira_event.specs.Sink.{Wrote};
+ghost use Rattle.ira_event.specs.Sink.{Wrote, passing_state};
 
 use crate::sink::{Sink, SinkFault};
 use crate::write::WriteFault;
@@ -35,7 +35,7 @@ impl<W: Write> ToWriter<W> {
     /// Flushes the writer. It takes no byte more, and a writer that can't be flushed is a failure of
     /// the sink.
     pub fn flush(&mut self) -> Result<(), WriteFault>
-        ensures { Wrote result [] (W.contents self.old.writer) self.old.failures (W.contents self.new.writer) self.new.failures }
+        ensures { Wrote result [] (passing_state W.contents self.old) (passing_state W.contents self.new) }
     {
         if self.writer.flush().is_err() {
             self.failures = self.failures.saturating_add(1);
@@ -46,9 +46,7 @@ impl<W: Write> ToWriter<W> {
 }
 
 impl<W: Write> Sink for ToWriter<W> {
-    ghost taken = { λ s. W.contents s.writer };
-
-    ghost failures = { λ s. s.failures };
+    ghost state = { passing_state W.contents };
 
     fn push(&mut self, bytes: &[u8]) -> Result<usize, SinkFault> {
         match self.writer.write(bytes) {

@@ -12,7 +12,7 @@ pub struct WriteFault;
 
 /// Writes all of these bytes.
 pub fn write_bytes<W: Sink>(bytes: &[u8], sink: &mut W) -> Result<(), WriteFault>
-    ensures { Wrote result bytes.now (W.taken sink.old) (W.failures sink.old) (W.taken sink.new) (W.failures sink.new) }
+    ensures { Wrote result bytes.now (W.state sink.old) (W.state sink.new) }
 {
     let mut rest = bytes;
     while !rest.is_empty() {
@@ -29,7 +29,7 @@ pub fn write_bytes<W: Sink>(bytes: &[u8], sink: &mut W) -> Result<(), WriteFault
 
 /// Writes a number in plain decimal.
 pub fn write_number<W: Sink>(n: u64, sink: &mut W) -> Result<(), WriteFault>
-    ensures { Wrote result (decimal n) (W.taken sink.old) (W.failures sink.old) (W.taken sink.new) (W.failures sink.new) }
+    ensures { Wrote result (decimal n) (W.state sink.old) (W.state sink.new) }
 {
     write_bytes(Buffer::new().format(n).as_bytes(), sink)
 }

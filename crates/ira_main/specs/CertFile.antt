@@ -1,6 +1,7 @@
 -- How a certificate is kept in a file.
-use Rattle.std.specs.Prelude.{◌≡◌, ℕ, List, Option, Result, Ok, Err}
+use Rattle.std.specs.Prelude.{◌≡◌, ℕ, List, Result, Ok, Err}
 use Rattle.std.specs.Borrow.{Bor}
+use Rattle.ira_event.specs.Sink.{SinkState}
 use Rattle.ira_cert_text.specs.Certificate.{Certificate}
 use Rattle.ira_cert_text.specs.CertText.{IsCertText, cert_text}
 use Rattle.ira_main.specs.Complaint.{keep_complaint}
@@ -14,12 +15,12 @@ use Rattle.ira_main.specs.declared.status.Status.TheVariants.{Yes}
 -- what comes of keeping a certificate on a shelf, in a new file of this name: nothing is done where its text is past
 -- the limits; else its text is written, and a fault of that is complained of
 pub data Keeps {S F : Type 0} (creates : S → List ℕ → Result F ShelfFault → S → Type 0) (loses : S → F → ShelfFault → S → Type 0)
-    (taken : F → Option (List ℕ)) (failures : F → ℕ) (c : Certificate) (name : Bor (List ℕ)) (old new : S) (outcome : Result Status Complaint) : Type 0 where
-  past_limits : ¬ (IsCertText (cert_text c) c) → new ≡ old → outcome ≡ Err CertificatePastLimits → Keeps creates loses taken failures c name old new outcome
-  kept : IsCertText (cert_text c) c → WritesFile creates loses taken failures name.now (cert_text c) old new (Ok tt) → outcome ≡ Ok Yes → Keeps creates loses taken failures c name old new outcome
-  unwritten : (fault : ShelfFault) → IsCertText (cert_text c) c → WritesFile creates loses taken failures name.now (cert_text c) old new (Err fault) → outcome ≡ Err (keep_complaint name fault) → Keeps creates loses taken failures c name old new outcome
+    (state : F → SinkState) (c : Certificate) (name : Bor (List ℕ)) (old new : S) (outcome : Result Status Complaint) : Type 0 where
+  past_limits : ¬ (IsCertText (cert_text c) c) → new ≡ old → outcome ≡ Err CertificatePastLimits → Keeps creates loses state c name old new outcome
+  kept : IsCertText (cert_text c) c → WritesFile creates loses state name.now (cert_text c) old new (Ok tt) → outcome ≡ Ok Yes → Keeps creates loses state c name old new outcome
+  unwritten : (fault : ShelfFault) → IsCertText (cert_text c) c → WritesFile creates loses state name.now (cert_text c) old new (Err fault) → outcome ≡ Err (keep_complaint name fault) → Keeps creates loses state c name old new outcome
 
 -- this came of keeping a certificate on a shelf that is now as it is
 abbrev pub HasKept : {S F : Type 0} → (S → List ℕ → Result F ShelfFault → S → Type 0) → (S → F → ShelfFault → S → Type 0)
-    → (F → Option (List ℕ)) → (F → ℕ) → S → Certificate → Bor (List ℕ) → Result Status Complaint → Type 0
-HasKept {S} creates loses taken failures new c name outcome = (old : S) × Keeps creates loses taken failures c name old new outcome
+    → (F → SinkState) → S → Certificate → Bor (List ℕ) → Result Status Complaint → Type 0
+HasKept {S} creates loses state new c name outcome = (old : S) × Keeps creates loses state c name old new outcome

@@ -1,7 +1,7 @@
 -- What the program does that is asked to decide a question.
 use Rattle.std.specs.Prelude.{◌≡◌, ◌⊎◌, ℕ, List, Option, Some, None, Result, Ok, Err, length}
 use Rattle.std.specs.Borrow.{Bor}
-use Rattle.ira_event.specs.Sink.{Takes, StopsIn}
+use Rattle.ira_event.specs.Sink.{SinkState, Takes, StopsIn}
 use Rattle.ira_cert_text.specs.Certificate.{Certificate}
 use Rattle.ira_audit.specs.Findings.{AreFindings, IsCertificateOf, MakeNoCertificate}
 use Rattle.ira_audit.specs.FindingsText.{findings_text}
@@ -23,11 +23,11 @@ pub data EndsWith {A : Type 0} (kept : Certificate → Bor (List ℕ) → Result
 -- the findings of so many texts of logs and the text of a question were printed whole, and it ended with what comes of
 -- them; or the write failed
 pub record Decides (A : Type 0) (kept : Certificate → Bor (List ℕ) → Result Status Complaint → Type 0) (number : ℕ) (name : Option (Bor (List ℕ)))
-    (taken : Option (List ℕ)) (failures : ℕ) (taken' : Option (List ℕ)) (failures' : ℕ) (outcome : Result Status Complaint) : Type 0 where
+    (out out' : SinkState) (outcome : Result Status Complaint) : Type 0 where
   pub texts : List (List ℕ)
   pub many : length texts ≡ number
   pub question : List ℕ
   pub findings : Findings A
   pub found : AreFindings texts question findings
-  pub printed : (Takes (findings_text findings) taken failures taken' failures' × EndsWith kept findings name outcome)
-      ⊎ (StopsIn (findings_text findings) taken failures taken' failures' × (outcome ≡ Err CannotWriteAnswer))
+  pub printed : (Takes (findings_text findings) out out' × EndsWith kept findings name outcome)
+      ⊎ (StopsIn (findings_text findings) out out' × (outcome ≡ Err CannotWriteAnswer))

@@ -20,7 +20,7 @@ fn write_new<A: Allocator, B: Allocator, F: Shelf<B>>(
     name: &str,
     shelf: &mut F,
 ) -> Result<(), ShelfFault>
-    ensures { WritesFile F.creates F.loses F.Out.taken F.Out.failures name.now (cert_text certificate.now) shelf.old shelf.new result }
+    ensures { WritesFile F.creates F.loses F.Out.state name.now (cert_text certificate.now) shelf.old shelf.new result }
 {
     let mut file = shelf.create(name)?;
     write_cert(certificate, &mut file)?;
@@ -33,7 +33,7 @@ pub(crate) fn keep<'a, A: Allocator, B: Allocator, F: Shelf<B>>(
     name: &'a str,
     shelf: &mut F,
 ) -> Result<Status, Complaint<'a>>
-    ensures { Keeps F.creates F.loses F.Out.taken F.Out.failures certificate.now name.entry shelf.old shelf.new result }
+    ensures { Keeps F.creates F.loses F.Out.state certificate.now name.entry shelf.old shelf.new result }
 {
     if !certificate.readable() {
         return Err(Complaint::CertificatePastLimits);
@@ -53,7 +53,7 @@ pub fn keep_cert<A: Allocator, B: Allocator, F: Shelf<B>, V: Sink>(
     shelf: &mut F,
     err: &mut V,
 ) -> u8
-    ensures { (outcome : Result Status Complaint) × Keeps F.creates F.loses F.Out.taken F.Out.failures certificate.now name.entry shelf.old shelf.new outcome × (result ≡ outcome_number outcome) × IsSaid outcome (V.taken err.old) (V.failures err.old) (V.taken err.new) (V.failures err.new) }
+    ensures { (outcome : Result Status Complaint) × Keeps F.creates F.loses F.Out.state certificate.now name.entry shelf.old shelf.new outcome × (result ≡ outcome_number outcome) × IsSaid outcome (V.state err.old) (V.state err.new) }
 {
     let outcome = keep(certificate, name, shelf);
     conclude(outcome, err)

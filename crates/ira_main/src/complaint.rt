@@ -72,7 +72,7 @@ impl<'a> Complaint<'a> {
     #[tactic(auto, using(crate::proofs::Telling::told))]
     pub(crate) fn tell<V: Sink>(&self, err: &mut V) -> Status
         ensures status { result ≡ complaint_status self.now }
-        ensures told { IsTold self.now (V.taken err.old) (V.failures err.old) (V.taken err.new) (V.failures err.new) }
+        ensures told { IsTold self.now (V.state err.old) (V.state err.new) }
     {
         let _ = self.write(err);
         match self {
@@ -82,7 +82,7 @@ impl<'a> Complaint<'a> {
     }
 
     fn write<V: Sink>(&self, err: &mut V) -> Result<(), WriteFault>
-        ensures { Wrote result (complaint_text self.now) (V.taken err.old) (V.failures err.old) (V.taken err.new) (V.failures err.new) }
+        ensures { Wrote result (complaint_text self.now) (V.state err.old) (V.state err.new) }
     {
         match self {
             Complaint::Words(text) => write_bytes(text.as_bytes(), err),
@@ -147,7 +147,7 @@ fn write_named<V: Sink>(
     rest: &Line,
     err: &mut V,
 ) -> Result<(), WriteFault>
-    ensures { Wrote result (before.now ++ name.now ++ rest.now) (V.taken err.old) (V.failures err.old) (V.taken err.new) (V.failures err.new) }
+    ensures { Wrote result (before.now ++ name.now ++ rest.now) (V.state err.old) (V.state err.new) }
 {
     write_bytes(before, err)?;
     write_bytes(name, err)?;
@@ -157,7 +157,7 @@ fn write_named<V: Sink>(
 /// The number of the status that the program ends with; a complaint is told on `err`.
 pub(crate) fn conclude<V: Sink>(outcome: Result<Status, Complaint<'_>>, err: &mut V) -> u8
     ensures number { result ≡ outcome_number outcome.entry }
-    ensures said { IsSaid outcome.entry (V.taken err.old) (V.failures err.old) (V.taken err.new) (V.failures err.new) }
+    ensures said { IsSaid outcome.entry (V.state err.old) (V.state err.new) }
 {
     match outcome {
         Ok(status) => status.number(),

@@ -16,7 +16,7 @@ pub(crate) fn print_pairs<'a, A: Allocator + Clone, W: Sink>(
     nodes: u64,
     out: &mut W,
 ) -> Result<Status, Complaint<'a>>
-    ensures { AsksPairs nodes (W.taken out.old) (W.failures out.old) (W.taken out.new) (W.failures out.new) (outcome_number result) ⊎ GivesNoAnswer (W.taken out.old) (W.failures out.old) (W.taken out.new) (W.failures out.new) (outcome_number result) }
+    ensures { AsksPairs nodes (W.state out.old) (W.state out.new) (outcome_number result) ⊎ GivesNoAnswer (W.state out.old) (W.state out.new) (outcome_number result) }
 {
     let Some(nodes) = ring_size(nodes) else {
         return Err(Complaint::RingSize);

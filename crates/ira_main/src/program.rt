@@ -26,7 +26,7 @@ use std::time::Clock;
 // Writes the answer's line, and gives the answer's status.
 fn report<'a, W: Sink>(answer: &Answer, out: &mut W) -> Result<Status, Complaint<'a>>
     requires { IsReportable answer.now }
-    ensures { Reports answer.now (W.taken out.old) (W.failures out.old) (W.taken out.new) (W.failures out.new) (outcome_number result) }
+    ensures { Reports answer.now (W.state out.old) (W.state out.new) (outcome_number result) }
 {
     match write_report(answer, out) {
         Ok(()) => Ok(Status::of_answer(answer)),
@@ -40,7 +40,7 @@ fn judge_input<'a, A: Allocator, I: Read, W: Sink>(
     input: &mut Counted<I>,
     out: &mut W,
 ) -> Result<Status, Complaint<'a>>
-    ensures judged { Judges input.old input.new (W.taken out.old) (W.failures out.old) (W.taken out.new) (W.failures out.new) (outcome_number result) }
+    ensures judged { Judges input.old input.new (W.state out.old) (W.state out.new) (outcome_number result) }
     ensures reads { input.new.reads ≤ input.old.reads + (MAX_TEXT + 1) }
 {
     let text = match read_text(&alloc, input) {
@@ -64,7 +64,7 @@ where
     A: Allocator + Clone + Send + Sync,
     F: Shelf<A>,
     W: Sink,
-    ensures { JudgesTogether (length names.now) (W.taken out.old) (W.failures out.old) (W.taken out.new) (W.failures out.new) (outcome_number result) ⊎ GivesNoAnswer (W.taken out.old) (W.failures out.old) (W.taken out.new) (W.failures out.new) (outcome_number result) }
+    ensures { JudgesTogether (length names.now) (W.state out.old) (W.state out.new) (outcome_number result) ⊎ GivesNoAnswer (W.state out.old) (W.state out.new) (outcome_number result) }
 {
     let audit = read_logs(rt, alloc, names, shelf)?;
     let answer = audit.finish()?;
@@ -85,7 +85,7 @@ where
     A: Allocator + Clone + Send + Sync,
     F: Shelf<A>,
     W: Sink,
-    ensures { JudgesCertified (length check.now.logs.items) (W.taken out.old) (W.failures out.old) (W.taken out.new) (W.failures out.new) (outcome_number result) ⊎ GivesNoAnswer (W.taken out.old) (W.failures out.old) (W.taken out.new) (W.failures out.new) (outcome_number result) }
+    ensures { JudgesCertified (length check.now.logs.items) (W.state out.old) (W.state out.new) (outcome_number result) ⊎ GivesNoAnswer (W.state out.old) (W.state out.new) (outcome_number result) }
 {
     let question = read_file(check.question, shelf)?;
     let certificate = read_file(check.certificate, shelf)?;
@@ -110,8 +110,8 @@ where
     I: Read,
     F: Shelf<A>,
     W: Sink,
-    ensures judged { words.now ≡ [] → Judges input.old input.new (W.taken out.old) (W.failures out.old) (W.taken out.new) (W.failures out.new) (outcome_number result) }
-    ensures obeyed { words.now ≢ [] → Obeys A (HasKept F.creates F.loses F.Out.taken F.Out.failures shelf.new) (map (λ word. word.now) words.now) input.old input.new (W.taken out.old) (W.failures out.old) (W.taken out.new) (W.failures out.new) (outcome_number result) }
+    ensures judged { words.now ≡ [] → Judges input.old input.new (W.state out.old) (W.state out.new) (outcome_number result) }
+    ensures obeyed { words.now ≢ [] → Obeys A (HasKept F.creates F.loses F.Out.state shelf.new) (map (λ word. word.now) words.now) input.old input.new (W.state out.old) (W.state out.new) (outcome_number result) }
     ensures reads { input.new.reads ≤ input.old.reads + (MAX_TEXT + 1) }
 {
     match read_words(rt.alloc(), words)? {
@@ -155,8 +155,8 @@ where
     V: Sink,
     ensures status { result ≤ 3 }
     ensures reads { input.new.reads ≤ input.old.reads + (MAX_TEXT + 1) }
-    ensures judged { words.now ≡ [] → Judges input.old input.new (W.taken out.old) (W.failures out.old) (W.taken out.new) (W.failures out.new) result }
-    ensures obeyed { words.now ≢ [] → Obeys A (HasKept F.creates F.loses F.Out.taken F.Out.failures shelf.new) (map (λ word. word.now) words.now) input.old input.new (W.taken out.old) (W.failures out.old) (W.taken out.new) (W.failures out.new) result }
+    ensures judged { words.now ≡ [] → Judges input.old input.new (W.state out.old) (W.state out.new) result }
+    ensures obeyed { words.now ≢ [] → Obeys A (HasKept F.creates F.loses F.Out.state shelf.new) (map (λ word. word.now) words.now) input.old input.new (W.state out.old) (W.state out.new) result }
 {
     let outcome = obey(rt, alloc, words, input, shelf, out);
     conclude(outcome, err)

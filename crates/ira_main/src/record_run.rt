@@ -58,7 +58,7 @@ where
     A: Allocator + Clone + Send + Sync,
     F: Shelf<A>,
     W: Sink,
-    ensures { Records request.now (W.taken out.old) (W.failures out.old) (W.taken out.new) (W.failures out.new) (outcome_number result) ⊎ GivesNoAnswer (W.taken out.old) (W.failures out.old) (W.taken out.new) (W.failures out.new) (outcome_number result) }
+    ensures { Records request.now (W.state out.old) (W.state out.new) (outcome_number result) ⊎ GivesNoAnswer (W.state out.old) (W.state out.new) (outcome_number result) }
 {
     let Some(nodes) = ring_size(request.nodes) else {
         return Err(Complaint::RingSize);

@@ -39,7 +39,9 @@ pub(crate) struct NewFile {
 }
 
 impl Sink for NewFile {
-    ghost failures = { λ s. s.failures };
+    ghost use Rattle.std.specs.Prelude.{None};
+
+    ghost state = { λ s. record { taken = None; failures = s.failures } };
 
     fn push(&mut self, bytes: &[u8]) -> Result<usize, SinkFault> {
         if self.is_full || self.bytes.extend_from_slice(bytes).is_err() {
@@ -166,7 +168,9 @@ impl FullSink {
 }
 
 impl Sink for FullSink {
-    ghost failures = { λ s. s.failures };
+    ghost use Rattle.std.specs.Prelude.{None};
+
+    ghost state = { λ s. record { taken = None; failures = s.failures } };
 
     fn push(&mut self, _bytes: &[u8]) -> Result<usize, SinkFault> {
         self.failures = self.failures.saturating_add(1);

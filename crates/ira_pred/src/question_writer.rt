@@ -43,7 +43,7 @@ fn write_joined<A: Allocator, W: Sink>(
     right: &Clause<A>,
     sink: &mut W,
 ) -> Result<(), WriteFault>
-    ensures { Wrote result (codes "(" ++ clause_text (formula left.now) ++ word.now ++ clause_text (formula right.now) ++ codes ")") (W.taken sink.old) (W.failures sink.old) (W.taken sink.new) (W.failures sink.new) }
+    ensures { Wrote result (codes "(" ++ clause_text (formula left.now) ++ word.now ++ clause_text (formula right.now) ++ codes ")") (W.state sink.old) (W.state sink.new) }
 {
     write_bytes(b"(", sink)?;
     write_clause(left, sink)?;
@@ -55,7 +55,7 @@ fn write_joined<A: Allocator, W: Sink>(
 #[cycle(clauses)]
 #[tactic(auto, using(ira_event::proofs::Writing::writes))]
 fn write_negated<A: Allocator, W: Sink>(clause: &Clause<A>, sink: &mut W) -> Result<(), WriteFault>
-    ensures { Wrote result (codes "(not " ++ clause_text (formula clause.now) ++ codes ")") (W.taken sink.old) (W.failures sink.old) (W.taken sink.new) (W.failures sink.new) }
+    ensures { Wrote result (codes "(not " ++ clause_text (formula clause.now) ++ codes ")") (W.state sink.old) (W.state sink.new) }
 {
     write_bytes(b"(not ", sink)?;
     write_clause(clause, sink)?;
@@ -64,7 +64,7 @@ fn write_negated<A: Allocator, W: Sink>(clause: &Clause<A>, sink: &mut W) -> Res
 
 #[cycle(clauses)]
 fn write_clause<A: Allocator, W: Sink>(clause: &Clause<A>, sink: &mut W) -> Result<(), WriteFault>
-    ensures { Wrote result (clause_text (formula clause.now)) (W.taken sink.old) (W.failures sink.old) (W.taken sink.new) (W.failures sink.new) }
+    ensures { Wrote result (clause_text (formula clause.now)) (W.state sink.old) (W.state sink.new) }
 {
     match clause {
         Clause::Always => write_bytes(b"true", sink),
@@ -95,7 +95,7 @@ fn write_placed<A: Allocator, W: Sink>(
     placed: &PlacedClause<A>,
     sink: &mut W,
 ) -> Result<(), WriteFault>
-    ensures { Wrote result (conjunct_text (conjunct placed.now)) (W.taken sink.old) (W.failures sink.old) (W.taken sink.new) (W.failures sink.new) }
+    ensures { Wrote result (conjunct_text (conjunct placed.now)) (W.state sink.old) (W.state sink.new) }
 {
     place(placed.place).write(sink)?;
     write_clause(&placed.clause, sink)?;
@@ -106,7 +106,7 @@ fn write_all_placed<A: Allocator, W: Sink>(
     clauses: &[PlacedClause<A>],
     sink: &mut W,
 ) -> Result<(), WriteFault>
-    ensures { Wrote result (flat_map conjunct_text (conjuncts clauses.now)) (W.taken sink.old) (W.failures sink.old) (W.taken sink.new) (W.failures sink.new) }
+    ensures { Wrote result (flat_map conjunct_text (conjuncts clauses.now)) (W.state sink.old) (W.state sink.new) }
 {
     for placed in clauses {
         write_placed(placed, sink)?;
@@ -116,14 +116,14 @@ fn write_all_placed<A: Allocator, W: Sink>(
 
 #[tactic(auto, using(ira_event::proofs::Writing::writes))]
 fn write_case<A: Allocator, W: Sink>(case: &Case<A>, sink: &mut W) -> Result<(), WriteFault>
-    ensures { Wrote result (case_text case.now) (W.taken sink.old) (W.failures sink.old) (W.taken sink.new) (W.failures sink.new) }
+    ensures { Wrote result (case_text case.now) (W.state sink.old) (W.state sink.new) }
 {
     write_bytes(b"case\n", sink)?;
     write_all_placed(case.clauses(), sink)
 }
 
 fn write_cases<A: Allocator, W: Sink>(cases: &[Case<A>], sink: &mut W) -> Result<(), WriteFault>
-    ensures { Wrote result (flat_map case_text cases.now) (W.taken sink.old) (W.failures sink.old) (W.taken sink.new) (W.failures sink.new) }
+    ensures { Wrote result (flat_map case_text cases.now) (W.state sink.old) (W.state sink.new) }
 {
     for case in cases {
         write_case(case, sink)?;
@@ -147,7 +147,7 @@ pub fn write_question<A: Allocator, W: Sink>(
     question: &Question<A>,
     sink: &mut W,
 ) -> Result<(), WriteFault>
-    ensures { Wrote result (question_text question.now) (W.taken sink.old) (W.failures sink.old) (W.taken sink.new) (W.failures sink.new) }
+    ensures { Wrote result (question_text question.now) (W.state sink.old) (W.state sink.new) }
 {
     head(question.nodes()).write(sink)?;
     write_cases(question.cases(), sink)?;

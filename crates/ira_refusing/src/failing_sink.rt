@@ -32,9 +32,7 @@ impl<A: Allocator> FailingSink<A> {
 impl<A: Allocator> Sink for FailingSink<A> {
     ghost use Rattle.std.specs.Prelude.{Some};
 
-    ghost taken = { λ s. Some s.bytes.items };
-
-    ghost failures = { λ s. s.failures };
+    ghost state = { λ s. record { taken = Some s.bytes.items; failures = s.failures } };
 
     fn push(&mut self, bytes: &[u8]) -> Result<usize, SinkFault> {
         let taken = bytes.len().min(PIECE).min(self.left);

@@ -1,8 +1,8 @@
-use Rattle.std.proofs.Common.{◌≡◌, ℕ, zero, suc, ◌+◌, List, [], ◌∷◌, ◌++◌, drop, Option, Some, sym, ap, subst, ◌∙◌, add-one}
+use Rattle.std.proofs.Common.{◌≡◌, ℕ, zero, suc, ◌+◌, List, [], ◌∷◌, ◌++◌, drop, Some, sym, ap, subst, ◌∙◌, add-one}
 use Rattle.std.specs.Prelude.{slice_get}
 use Rattle.std.specs.List.{zip, flat_map}
 use Rattle.std.proofs.lemmas.List.{append-nil}
-use Rattle.ira_event.specs.Sink.{Takes}
+use Rattle.ira_event.specs.Sink.{SinkState, Takes}
 use Rattle.ira_event.proofs.Writing.{HasWritten}
 
 drop-zip-suc : {A B : Type 0} (xs : List A) (ys : List B) (i : ℕ) (x : A) (y : B) → slice_get xs i ≡ Some x → slice_get ys i ≡ Some y → drop i (zip xs ys) ≡ (x, y) ∷ drop (suc i) (zip xs ys)
@@ -24,6 +24,6 @@ next-text text line x xs others is first =
     ap (λ w. w ++ flat_map text others) is ∙ ap (λ ys. flat_map text ys) (sym first)
 
 -- nothing is left to write
-pub HasWritten-whole : (text rest : List ℕ) (t : Option (List ℕ)) (f : ℕ) (u : Option (List ℕ)) (g : ℕ) → rest ≡ [] → HasWritten text rest t f u g → Takes text t f u g
-HasWritten-whole text rest t f u g none p =
-    subst (λ (x : List ℕ). Takes x t f u g) (sym (append-nil p.front) ∙ ap (λ w. p.front ++ w) (sym none) ∙ p.parts) p.takes
+pub HasWritten-whole : (text rest : List ℕ) (s t : SinkState) → rest ≡ [] → HasWritten text rest s t → Takes text s t
+HasWritten-whole text rest s t none p =
+    subst (λ (x : List ℕ). Takes x s t) (sym (append-nil p.front) ∙ ap (λ w. p.front ++ w) (sym none) ∙ p.parts) p.takes

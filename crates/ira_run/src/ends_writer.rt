@@ -37,7 +37,7 @@ fn end_line<A: Allocator>(log: &NodeLog<A>, end: NodeEnd) -> Line
 
 /// Writes a line for each node, in the order of the places: its end, and how many events its log has.
 pub fn write_ends<A: Allocator, W: Sink>(run: &Run<A>, sink: &mut W) -> Result<(), WriteFault>
-    ensures { Wrote result (ends_text run.now) (W.taken sink.old) (W.failures sink.old) (W.taken sink.new) (W.failures sink.new) }
+    ensures { Wrote result (ends_text run.now) (W.state sink.old) (W.state sink.new) }
 {
     for i in 0..run.logs().size().get() {
         end_line(run.logs().log(i), run.ends()[usize::from(i)]).write(sink)?;

@@ -13,7 +13,7 @@ returns-in_err-write_numbered g c =
     let steps = numbered (codes ": absent, ") c.len.result in
     let node = numbered (codes " steps, node ") s.spent in
     let stop = err_from_is_err_and c.from_residual.result c.from_residual.ensures.1 in
-    rw (← long, stop.1) (StopsIn-append _ _ _ _ (steps ++ node) (codes " spent") (StopsIn-append _ _ _ _ steps node c.in_err-write_numbered.ensures))
+    rw (← long, stop.1) (StopsIn-append _ _ (steps ++ node) (codes " spent") (StopsIn-append _ _ steps node c.in_err-write_numbered.ensures))
 
 pub returns-in_err-write_numbered-2 : goal.returns-in_err-write_numbered-2
 returns-in_err-write_numbered-2 g c =
@@ -24,7 +24,7 @@ returns-in_err-write_numbered-2 g c =
     let steps = numbered (codes ": absent, ") c.len.result in
     let node = numbered (codes " steps, node ") c.from.result in
     let stop = err_from_is_err_and c.from_residual-in_err-write_numbered-2.result c.from_residual-in_err-write_numbered-2.ensures.1 in
-    rw (← long, ← spent, stop.1) (StopsIn-append _ _ _ _ (steps ++ node) (codes " spent") (Takes-StopsIn _ _ _ _ _ _ steps node c.in_ok-write_numbered.ensures c.in_err-write_numbered-2.ensures))
+    rw (← long, ← spent, stop.1) (StopsIn-append _ _ (steps ++ node) (codes " spent") (Takes-StopsIn _ _ _ steps node c.in_ok-write_numbered.ensures c.in_err-write_numbered-2.ensures))
 
 pub returns : goal.returns
 returns g c =
@@ -34,5 +34,5 @@ returns g c =
     let spent : c.from.result ≡ s.spent = c.from.ensures ∙ ap (λ (x : Section). x.spent) c.section.view_is in
     let steps = numbered (codes ": absent, ") c.len.result in
     let node = numbered (codes " steps, node ") c.from.result in
-    let front = Takes-append _ _ _ _ _ _ steps node c.in_ok-write_numbered.ensures c.in_ok-write_numbered-2.ensures in
-    rw (← long, ← spent) (Wrote-then c.write_bytes.result _ _ _ _ _ _ (steps ++ node) (codes " spent") front c.write_bytes.ensures)
+    let front = Takes-append _ _ _ steps node c.in_ok-write_numbered.ensures c.in_ok-write_numbered-2.ensures in
+    rw (← long, ← spent) (Wrote-then c.write_bytes.result _ _ _ (steps ++ node) (codes " spent") front c.write_bytes.ensures)

@@ -8,9 +8,9 @@ pub returns-in_err-write_numbered : goal.returns-in_err-write_numbered
 returns-in_err-write_numbered g c =
     let node = numbered (codes "node ") c.args.node in
     let stop = err_from_is_err_and c.from_residual.result c.from_residual.ensures.1 in
-    rw stop.1 (StopsIn-append _ _ _ _ node (codes " not spent") c.in_err-write_numbered.ensures)
+    rw stop.1 (StopsIn-append _ _ node (codes " not spent") c.in_err-write_numbered.ensures)
 
 pub returns : goal.returns
 returns g c =
     let node = numbered (codes "node ") c.args.node in
-    Wrote-then c.write_bytes.result _ _ _ _ _ _ node (codes " not spent") c.in_ok-write_numbered.ensures c.write_bytes.ensures
+    Wrote-then c.write_bytes.result _ _ _ node (codes " not spent") c.in_ok-write_numbered.ensures c.write_bytes.ensures

@@ -19,10 +19,10 @@ returns-in_err-write g c =
     let log = c.args.log.now in
     let p = err_from_is_err_and c.from_residual.result c.from_residual.ensures.1 in
     let whole = head-then-body log c.head.result c.nodes.result c.place.result c.initiator.result c.head.ensures c.nodes.ensures c.place.ensures.value c.initiator.ensures in
-    HasWritten-stops _ _ p.1 (log_text log) (log_text log) c.head.result (body_text log) _ _ _ _ _ _ (HasWritten-start (log_text log) _ _) whole c.in_err-write.ensures
+    HasWritten-stops _ _ p.1 (log_text log) (log_text log) c.head.result (body_text log) _ _ _ (HasWritten-start (log_text log) _) whole c.in_err-write.ensures
 
 pub returns : goal.returns
 returns g c =
     let log = c.args.log.now in
     let whole = head-then-body log c.head.result c.nodes.result c.place.result c.initiator.result c.head.ensures c.nodes.ensures c.place.ensures.value c.initiator.ensures in
-    HasWritten-last _ (log_text log) (body_text log) (body_text log) _ _ _ _ _ _ (HasWritten-more (log_text log) (log_text log) c.head.result (body_text log) _ _ _ _ _ _ (HasWritten-start (log_text log) _ _) whole c.in_ok-write.ensures) refl c.write_records_and_end.ensures
+    HasWritten-last _ (log_text log) (body_text log) (body_text log) _ _ _ (HasWritten-more (log_text log) (log_text log) c.head.result (body_text log) _ _ _ (HasWritten-start (log_text log) _) whole c.in_ok-write.ensures) refl c.write_records_and_end.ensures

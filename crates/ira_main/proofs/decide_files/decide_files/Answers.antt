@@ -19,7 +19,7 @@ returns-in-Ok-write_bytes g c =
       question = _;
       findings = findings;
       found = c.in_ok-findings.ensures.found taken.0 taken.1;
-      printed = inl (subst (λ t. Takes t (g.W.Sink.taken c.args.out.now) (g.W.Sink.failures c.args.out.now) (g.W.Sink.taken c.write_bytes.new.sink) (g.W.Sink.failures c.write_bytes.new.sink)) text_is c.in-Ok-write_bytes.ensures, c.keep_findings.ensures);
+      printed = inl (subst (λ t. Takes t (g.W.Sink.state c.args.out.now) (g.W.Sink.state c.write_bytes.new.sink)) text_is c.in-Ok-write_bytes.ensures, c.keep_findings.ensures);
     })
 
 pub returns : goal.returns
@@ -33,5 +33,5 @@ returns g c =
       question = _;
       findings = findings;
       found = c.in_ok-findings.ensures.found taken.0 taken.1;
-      printed = inr (subst (λ t. StopsIn t (g.W.Sink.taken c.args.out.now) (g.W.Sink.failures c.args.out.now) (g.W.Sink.taken c.write_bytes.new.sink) (g.W.Sink.failures c.write_bytes.new.sink)) text_is c.in-Err.ensures, refl);
+      printed = inr (subst (λ t. StopsIn t (g.W.Sink.state c.args.out.now) (g.W.Sink.state c.write_bytes.new.sink)) text_is c.in-Err.ensures, refl);
     })

@@ -12,5 +12,5 @@ returns-in-Ok-write_bytes g c =
       question = question;
       nodes_are = search rules;
       cases_are = search rules;
-      printed = inl (subst (λ t. Takes t (g.W.Sink.taken c.args.out.now) (g.W.Sink.failures c.args.out.now) (g.W.Sink.taken c.write_bytes.new.sink) (g.W.Sink.failures c.write_bytes.new.sink)) text_is c.in-Ok-write_bytes.ensures, refl);
+      printed = inl (subst (λ t. Takes t (g.W.Sink.state c.args.out.now) (g.W.Sink.state c.write_bytes.new.sink)) text_is c.in-Ok-write_bytes.ensures, refl);
     })

@@ -1,5 +1,6 @@
-use Rattle.std.proofs.Common.{◌≡◌, ◌∙◌, ℕ, ap, sym, length, Option, List, [], ◌∷◌, map, inl, inr, refl, subst}
+use Rattle.std.proofs.Common.{◌≡◌, ◌∙◌, ℕ, ap, sym, length, List, [], ◌∷◌, map, inl, inr, refl, subst}
 use Rattle.std.proofs.lemmas.List.{length-map}
+use Rattle.ira_event.specs.Sink.{SinkState}
 use Rattle.ira_words.specs.Request.{IsMadeOf}
 use Rattle.ira_main.specs.Serve.{JudgesTogether}
 use Rattle.ira_main.specs.Serve.Done.{asked, judged, certified, decided, recorded, no_answer}
@@ -9,8 +10,8 @@ none_of_none : {X Y : Type 0} (f : X → Y) (xs : List X) → map f xs ≡ [] �
 none_of_none f [] e = refl
 none_of_none f (x ∷ xs) e = cc
 
-same_number : {taken taken' : Option (List ℕ)} {failures failures' status : ℕ} (m n : ℕ) → m ≡ n
-    → JudgesTogether m taken failures taken' failures' status → JudgesTogether n taken failures taken' failures' status
+same_number : {out out' : SinkState} {status : ℕ} (m n : ℕ) → m ≡ n
+    → JudgesTogether m out out' status → JudgesTogether n out out' status
 same_number m n same h = record { texts = h.texts; many = h.many ∙ same; answer = h.answer; judged = h.judged; reported = h.reported }
 
 pub returns-in-OneLog-clause-obeyed : goal.returns-in-OneLog-clause-obeyed

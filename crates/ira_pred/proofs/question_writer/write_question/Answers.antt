@@ -23,7 +23,7 @@ returns-in_err-write g c =
     let stop = err_from_is_err_and c.from_residual.result c.from_residual.ensures.1 in
     let q = c.args.question.now in
     let whole = head-then-body q c.head.result c.nodes.result c.head.ensures c.nodes.ensures.value in
-    HasWritten-stops _ _ stop.1 (question_text q) (question_text q) c.head.result (body_text q) _ _ _ _ _ _ (HasWritten-start (question_text q) _ _) whole c.in_err-write.ensures
+    HasWritten-stops _ _ stop.1 (question_text q) (question_text q) c.head.result (body_text q) _ _ _ (HasWritten-start (question_text q) _) whole c.in_err-write.ensures
 
 pub returns-in_err-write_cases : goal.returns-in_err-write_cases
 returns-in_err-write_cases g c =
@@ -31,8 +31,8 @@ returns-in_err-write_cases g c =
     let q = c.args.question.now in
     let whole = head-then-body q c.head.result c.nodes.result c.head.ensures c.nodes.ensures.value in
     let next = ap (λ x. flat_map case_text x ++ codes "end\n") c.cases.ensures.value in
-    HasWritten-stops _ _ stop.1 (question_text q) (body_text q) (flat_map case_text c.cases.result.now) (codes "end\n") _ _ _ _ _ _
-    (HasWritten-more (question_text q) (question_text q) c.head.result (body_text q) _ _ _ _ _ _ (HasWritten-start (question_text q) _ _) whole c.in_ok-write.ensures)
+    HasWritten-stops _ _ stop.1 (question_text q) (body_text q) (flat_map case_text c.cases.result.now) (codes "end\n") _ _ _
+    (HasWritten-more (question_text q) (question_text q) c.head.result (body_text q) _ _ _ (HasWritten-start (question_text q) _) whole c.in_ok-write.ensures)
     next c.in_err-write_cases.ensures
 
 pub returns : goal.returns
@@ -40,7 +40,7 @@ returns g c =
     let q = c.args.question.now in
     let whole = head-then-body q c.head.result c.nodes.result c.head.ensures c.nodes.ensures.value in
     let next = ap (λ x. flat_map case_text x ++ codes "end\n") c.cases.ensures.value in
-    HasWritten-last _ (question_text q) (codes "end\n") (codes "end\n") _ _ _ _ _ _
-    (HasWritten-more (question_text q) (body_text q) (flat_map case_text c.cases.result.now) (codes "end\n") _ _ _ _ _ _
-    (HasWritten-more (question_text q) (question_text q) c.head.result (body_text q) _ _ _ _ _ _ (HasWritten-start (question_text q) _ _) whole c.in_ok-write.ensures)
+    HasWritten-last _ (question_text q) (codes "end\n") (codes "end\n") _ _ _
+    (HasWritten-more (question_text q) (body_text q) (flat_map case_text c.cases.result.now) (codes "end\n") _ _ _
+    (HasWritten-more (question_text q) (question_text q) c.head.result (body_text q) _ _ _ (HasWritten-start (question_text q) _) whole c.in_ok-write.ensures)
     next c.in_ok-write_cases.ensures) refl c.write_bytes.ensures
