@@ -45,7 +45,7 @@ pub data Judges (old new : Reads) (taken : Option (List ℕ)) (failures : ℕ) (
   no_memory : IsUntouched taken failures taken' failures' → status ≡ 3 → Judges old new taken failures taken' failures' status
 
 -- no answer was given: nothing was written to the output, whatever became of files, and the status is
--- that of a refusal or of want of memory
+-- that of a refusal or of memory that ran out
 abbrev pub GivesNoAnswer : Option (List ℕ) → ℕ → Option (List ℕ) → ℕ → ℕ → Type 0
 GivesNoAnswer taken failures taken' failures' status =
     IsUntouched taken failures taken' failures' × ((status ≡ 2) ⊎ (status ≡ 3))
