@@ -28,7 +28,7 @@ pub(crate) fn answer_of(judged: Result<(), Refusal>) -> Result<Answer, OutOfMemo
     }
 }
 
-/// The findings of a question that was looked at.
+/// The findings of a question, or the reason for which it was refused.
 pub(crate) fn findings_of<A: Allocator>(
     decided: Result<Findings<A>, Refusal>,
 ) -> Result<Findings<A>, OutOfMemory>

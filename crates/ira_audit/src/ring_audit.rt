@@ -81,7 +81,7 @@ where
 }
 
 impl<A: Allocator + Clone> RingAudit<A> {
-    /// No text was taken.
+    /// An audit that has taken no text.
     pub fn new(alloc: A) -> RingAudit<A>
         ensures { HasTaken result [] }
     {
