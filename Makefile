@@ -19,7 +19,8 @@ help:
 	@echo 'make ira        proves the program and the libraries that it stands on, and leaves it at bin/ira:'
 	@echo '                the first time some 31 minutes of processor time, over all cores; then only what has changed'
 	@echo 'make run        makes ira, judges examples with it, and compares its answers with those expected'
-	@echo 'make install    copies bin/ira to $$(PREFIX)/bin; PREFIX is $(PREFIX) if not given'
+	@echo 'make install    copies bin/ira to $$(PREFIX)/bin, and its manual to $$(PREFIX)/share/man/man1; PREFIX is'
+	@echo '                $(PREFIX) if not given'
 	@echo 'make test       the gate: all proofs from nothing, the edits that must be refused, all tests and'
 	@echo '                programs: `N passed, 0 failed`; and all examples. See docs/ARCHITECTURE.md for its time'
 	@echo 'make sweep      makes ira, refuses each growth of its memory in turn, and looks at what it answers then'
@@ -60,6 +61,7 @@ run: ira
 install:
 	@test -x bin/ira || { echo 'make ira first'; exit 1; }
 	install -D -m 755 bin/ira $(DESTDIR)$(PREFIX)/bin/ira
+	install -D -m 644 docs/ira.1 $(DESTDIR)$(PREFIX)/share/man/man1/ira.1
 
 # The merge gate: every proof from nothing, the edits that the prover must refuse, all tests, the programs as
 # two compilers build them, and the answers to all examples.

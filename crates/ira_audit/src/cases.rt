@@ -24,8 +24,8 @@ use std::alloc::Allocator;
 
 /// Finds, for each case of a question about the logs of a ring, whether a consistent cut of them meets it: a
 /// section that shows that none does, or the least one that does. The texts of the logs are given in the
-/// order of the ring's places. What `audit` has against the logs or the question is answered in place of
-/// that: its first reason. No answer holds out of memory.
+/// order of the ring's places. Where `audit` has reasons against the logs or the question, the first of them
+/// is answered instead. No answer says that memory ran out.
 ///
 /// Beside the logs it takes a counter of each node for each receipt, a byte for each event and, for one case
 /// after the other, a list of the candidates of each node that the case asks, and what is found.

@@ -36,8 +36,8 @@ use std::time::Clock;
 /// Judges the texts of a ring's logs, given in the order of its places, the text of a question, and that
 /// of a certificate, which may be anybody's. The first reason against them is answered: first those of
 /// `audit_logs`, then whether the question is one of this ring, whether the certificate is one for this
-/// ring and has a section for each case, and whether each section is sound for its case. No answer holds
-/// out of memory.
+/// ring and has a section for each case, and whether each section is sound for its case. No answer says
+/// that memory ran out.
 ///
 /// After a yes the logs have an order, each order of them is a run of the ring, with the draws that were
 /// recorded, and nothing that the question asks was ever met: no consistent cut of the logs meets any of

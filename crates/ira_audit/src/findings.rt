@@ -27,7 +27,7 @@ pub enum Findings<A: Allocator> {
 
 impl<A: Allocator + Clone> Findings<A> {
     /// The certificate of the sections that were found, if each case is absent. Where it is `readable`,
-    /// `audit` says yes of the same logs, the question and its text. It may be larger than that.
+    /// `audit` says yes of the same logs, the question and its text; else its text is past the limits.
     pub fn into_certificate(self) -> Result<Option<Certificate<A>>, OutOfMemory>
         ensures some { (c : certificate.Certificate) → UnlessErr result (record {}) ((result ≡ Ok (Some c)) ↔ IsCertificateOf self c) }
         ensures none { UnlessErr result (record {}) ((result ≡ Ok None) ↔ MakeNoCertificate self) }

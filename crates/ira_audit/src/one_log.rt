@@ -17,7 +17,7 @@ use ira_replay::ReplayFault;
 use std::alloc::Allocator;
 
 /// Judges the text of one log alone: whether it is a log's, and then whether each event has a step.
-/// It takes no memory, each event has its step as it is read, so it always answers.
+/// It takes no memory, since each event has its step as it is read, and so it always answers.
 pub fn audit_one<A: Allocator>(_alloc: A, text: &[u8]) -> Result<Answer, OutOfMemory>
     ensures answer { (a : Answer) → (result ≡ Ok a) ↔ IsAnswer text.now a }
     ensures answered { IsOk result }

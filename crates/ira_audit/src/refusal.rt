@@ -10,7 +10,7 @@ use ira_order::OrderFault;
 use ira_pred::AskFault;
 use std::alloc::{AllocError, AllocFailed, Allocator};
 
-/// Why there is no yes: a reason, which holds no want of memory, or a growth that was refused.
+/// Why there is no yes: a reason, which never says that memory ran out, or a growth that was refused.
 #[derive(Clone, Copy, Debug, PartialEq, Eq)]
 pub(crate) enum Refusal {
     No(Reason),
@@ -28,7 +28,7 @@ pub(crate) fn answer_of(judged: Result<(), Refusal>) -> Result<Answer, OutOfMemo
     }
 }
 
-/// The findings of a question that was looked at.
+/// The findings of a question, or the reason for which it was refused.
 pub(crate) fn findings_of<A: Allocator>(
     decided: Result<Findings<A>, Refusal>,
 ) -> Result<Findings<A>, OutOfMemory>

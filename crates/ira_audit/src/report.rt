@@ -265,8 +265,8 @@ fn write_reason<W: Sink>(reason: &Reason, sink: &mut W) -> Result<(), WriteFault
     }
 }
 
-/// Writes the line of an answer: `yes`, or `no` and the reason. The reason must hold no want of memory,
-/// which is no answer.
+/// Writes the line of an answer: `yes`, or `no` and the reason. The reason must not say that memory
+/// ran out, which is no answer.
 #[tactic(auto, using(ira_event::proofs::Writing::writes))]
 pub fn write_report<W: Sink>(answer: &Answer, sink: &mut W) -> Result<(), WriteFault>
     requires { IsReportable answer.now }

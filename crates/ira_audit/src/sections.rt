@@ -63,7 +63,7 @@ where
     Ok(())
 }
 
-/// The states of each log, told in short.
+/// The profile of each log.
 pub(crate) fn all_profiles<A: Allocator + Clone>(
     alloc: A,
     logs: &Logs<A>,

@@ -1,3 +1,4 @@
+-- Numbers that are read digit by digit, and kept as one value from the limit on.
 use Rattle.std.proofs.Common.{◌≡◌, ◌<◌, ℕ, ◌+◌, ◌*◌, ◌-◌, true, false, List, [], ◌∷◌, length, drop, slice_index_or, refl, sym, ap, ◌∙◌, cond, arith}
 use Rattle.std.specs.Char.{is_ascii_digit}
 use Rattle.ira_event.specs.Scan.{digits_from, kept}

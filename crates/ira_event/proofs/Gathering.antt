@@ -1,3 +1,4 @@
+-- Logs have at most one head fault, found log by log.
 use Rattle.std.proofs.Common.{◌≡◌, ◌↔◌, ℕ, ◌+◌, ◌<◌, List, [], ◌∷◌, length, Some, Result, Ok, Err, slice_get, refl, sym, ◌∙◌, ap, subst, arith}
 use Rattle.ira_event.specs.declared.head_fault.HeadFault.{HeadFault}
 use Rattle.ira_event.specs.Log.{Log, IsLog}

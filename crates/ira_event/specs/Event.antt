@@ -1,3 +1,4 @@
+-- Numbers, messages and events that a record may hold.
 use Rattle.std.specs.Prelude.{ℕ, Bool, nat_le, ◌&&◌}
 use Rattle.ira_event.specs.Limits.{MAX_NUMBER}
 use Rattle.ira_event.specs.declared.msg.Msg.{Msg}

@@ -1,3 +1,4 @@
+-- The log of one node.
 use Rattle.std.specs.Prelude.{◌≡◌, ℕ, ◌<◌, ◌≤◌, Bool, true, List, length}
 use Rattle.std.specs.List.{list_all}
 use Rattle.ira_event.specs.Limits.{MAX_RECORDS}

@@ -1,3 +1,4 @@
+-- How a number is spelled in decimal digits.
 use Rattle.std.specs.Prelude.{◌≡◌, ℕ, ◌+◌, ◌*◌, ◌-◌, ◌≤◌, true, List, [], ◌∷◌, ◌⊎◌}
 use Rattle.std.specs.Str.{all_ascii_digits}
 

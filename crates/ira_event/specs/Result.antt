@@ -1,3 +1,4 @@
+-- What is said of a result unless it is one error.
 use Rattle.std.specs.Prelude.{◌≡◌, ◌⊎◌, Result, Err}
 
 -- the result is this error, or the fact holds

@@ -1,3 +1,4 @@
+-- What a sink takes of a text, and how it fails.
 use Rattle.std.specs.Prelude.{◌≡◌, ℕ, ◌+◌, ◌-◌, ◌^◌, List, ◌++◌, length, min, Option, Result, Ok, Err, if◌then◌else◌, nat_eq, nat_lt, ◌&&◌}
 use Rattle.std.specs.Io.KnownBytes.{Appends}
 

@@ -1,3 +1,4 @@
+-- How many frames passed a link.
 use Rattle.std.specs.Prelude.{ℕ}
 
 -- how many frames a link accepted, and how many were taken from it

@@ -1,3 +1,4 @@
+-- Frames that a link may hold.
 use Rattle.std.specs.Prelude.{Bool, true}
 use Rattle.ira_event.specs.Event.{is_msg}
 use Rattle.ira_links.specs.declared.frame.Frame.{Frame}

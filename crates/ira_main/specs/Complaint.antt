@@ -22,7 +22,7 @@ abbrev pub write_complaint : Bor (List ℕ) → ℕ → ShelfFault → Complaint
 write_complaint folder place shelf.Device = CannotWriteLog folder place
 write_complaint folder place shelf.OutOfMemory = OutOfMemory
 
--- the complaint of a ring that wasn't run: want of memory, or the fault
+-- the complaint of a ring that wasn't run: that memory ran out, or the fault
 abbrev pub run_complaint : RunFault → Complaint
 run_complaint run.OutOfMemory = OutOfMemory
 run_complaint f = RunRefused f

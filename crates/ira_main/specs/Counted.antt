@@ -1,3 +1,4 @@
+-- A reader whose reads are counted.
 use Rattle.std.specs.Prelude.{ℕ, ◌+◌, ◌-◌, ◌^◌, min, Bool, true, List, Option, Result, Ok, Err, nat_eq}
 
 -- a reader: the bytes that it has left, where it tells them, how many reads were made of it, whether

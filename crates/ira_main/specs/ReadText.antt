@@ -1,3 +1,4 @@
+-- The text that a reader gives, read by read.
 use Rattle.std.specs.Prelude.{◌≡◌, ℕ, ◌<◌, ◌≤◌, true, false, List, [], length}
 use Rattle.std.specs.Io.KnownBytes.{Consumes, IsAtEnd}
 use Rattle.ira_main.specs.Counted.{Reads, one_more}

@@ -45,7 +45,7 @@ pub data Judges (old new : Reads) (out out' : SinkState) (status : ℕ) : Type 0
   no_memory : out' ≡ out → status ≡ 3 → Judges old new out out' status
 
 -- no answer was given: nothing was written to the output, whatever became of files, and the status is
--- that of a refusal or of want of memory
+-- that of a refusal or of memory that ran out
 abbrev pub GivesNoAnswer : SinkState → SinkState → ℕ → Type 0
 GivesNoAnswer out out' status = (out' ≡ out) × ((status ≡ 2) ⊎ (status ≡ 3))
 

@@ -1,3 +1,4 @@
+-- The fault of a file by the kind of the system's error.
 use Rattle.std.specs.declared.io.ErrorKind.{ErrorKind}
 use Rattle.std.specs.declared.io.ErrorKind.TheVariants as kind
 use Rattle.ira_main.specs.declared.shelf_fault.ShelfFault.{ShelfFault}

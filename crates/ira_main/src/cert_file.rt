@@ -45,8 +45,8 @@ pub(crate) fn keep<'a, A: Allocator, B: Allocator, F: Shelf<B>>(
 }
 
 /// Keeps the certificate in a new file of this name, and gives the status: 0 where its whole text was written; 2
-/// where it isn't `readable`, and then no file is made, or where the file can't be made or written; 3 for want
-/// of memory. On a status other than 0 a line on `err` says why.
+/// where it isn't `readable`, and then no file is made, or where the file can't be made or written; 3 where
+/// memory ran out. On a status other than 0 a line on `err` says why.
 pub fn keep_cert<A: Allocator, B: Allocator, F: Shelf<B>, V: Sink>(
     certificate: &Certificate<A>,
     name: &str,

@@ -21,7 +21,7 @@ pub(crate) enum Complaint<'a> {
     WordIsNoText,
     /// The file of this name can't be read; `-` stands for standard input.
     CannotRead(&'a str),
-    /// A ring of so many nodes is none.
+    /// There is no ring of so many nodes.
     RingSize,
     RunRefused(RunFault),
     /// The log of the node at this place can't be written to its file in this folder.

@@ -32,9 +32,8 @@ fn keep_findings<'a, A: Allocator + Clone, F: Shelf<A>>(
     }
 }
 
-/// Decides the question in its file of the logs in theirs, and prints what is found. The files are read in this
-/// order, all before one is judged: question, logs. Only behind the findings a certificate is kept. Their lines are put
-/// together first, since the output isn't buffered.
+/// Reads the question and then the logs, all before one is judged, decides the question, and prints what is found. A
+/// certificate is kept only once that is printed. The lines are put together first, since the output isn't buffered.
 pub(crate) fn decide_files<'a, R, A, F, W>(
     rt: &R,
     alloc: A,

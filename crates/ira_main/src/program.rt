@@ -126,7 +126,7 @@ where
 
 /// The program: `words` are those behind its name, `input` is its standard input, the files lie on
 /// `shelf`, and `out` and `err` are its standard streams. It gives the status: 0 yes, 1 no, 2 refused
-/// words, a refused ring, a failed read or a failed write, 3 want of memory. A failed write to `err`
+/// words, a refused ring, a failed read or a failed write, 3 out of memory. A failed write to `err`
 /// changes no status.
 ///
 /// Without words it judges the log on `input`, of which it reads at most one byte more than

@@ -1,3 +1,4 @@
+-- The states of a node: its phase, and the message that it owes.
 use Rattle.std.specs.Prelude.{Bool, true, false, ◌&&◌, Option, Some, None}
 use Rattle.ira_event.specs.declared.msg.Msg.{Msg}
 use Rattle.ira_event.specs.Event.{is_number, is_msg}

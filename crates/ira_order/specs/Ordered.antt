@@ -1,3 +1,4 @@
+-- Logs together with an order of their events.
 use Rattle.std.specs.Prelude.{ℕ, List}
 use Rattle.ira_event.specs.Log.{Log}
 use Rattle.ira_event.specs.Logs.{AreLogs}

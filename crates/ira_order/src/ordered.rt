@@ -79,9 +79,8 @@ impl<'a, A: Allocator> Ordered<'a, A> {
         self.stamps.counts(logs, j, b)[usize::from(i)]
     }
 
-    /// How many events of each node are event `b` of node `j` or happened before it, node by node, as
-    /// `count` says, but of node `j` itself, where what the list has is left open. It lends what is
-    /// stored, found by one search.
+    /// What `count` says of event `b` of node `j` for each other node, node by node; the entry of node `j`
+    /// itself is left open. It lends what is stored, found by one search.
     pub fn counts(&self, j: u8, b: u32) -> &[u32]
         requires place { j < length self.now.logs }
         requires position { b ≤ length (log_of self.now.logs j) }

@@ -9,14 +9,15 @@ use crate::tally::{Tally, receives, sends};
 use ira_event::{Event, Logs, NodeLog};
 use std::alloc::{AllocError, Allocator};
 
-/// A beginning of an order: the events that it holds of each node, and the places in their order.
+/// A beginning of an order: how many events of each node it holds, and the places of its events in order.
 #[derive(Drop)]
 pub(crate) struct Scan<A: Allocator> {
     tally: Tally<A>,
     places: Vec<u8, A>,
 }
 
-/// The event behind the first `at` of a log, where it may come: if it is a receipt, its sending came.
+/// The event that follows the first `at` of a log, unless it is a receipt whose sending isn't among the
+/// `sendings` so far.
 fn next_free<A: Allocator>(log: &NodeLog<A>, at: u32, got: u32, sendings: u32) -> Option<Event>
     requires { got ≤ at }
     ensures { MatchOption result ((e : Event) → slice_get log.now.events at ≡ Some e → sendings < got + got_by e) (λ e. (slice_get log.now.events at ≡ Some e) × (got + got_by e ≤ sendings)) }
@@ -104,7 +105,7 @@ impl<A: Allocator> Scan<A> {
         }
     }
 
-    /// Whether every event came.
+    /// Whether it holds every event.
     pub(crate) fn is_whole(&self, logs: &Logs<A>) -> bool
         requires { length self.now.tally.done.items ≡ length logs.now }
         ensures { MatchBool result ((i : ℕ) → i < length logs.now → length (log_of logs.now i) ≤ slice_index self.now.tally.done.items i) ((i : ℕ) × (i < length logs.now) × (slice_index self.now.tally.done.items i < length (log_of logs.now i))) }

@@ -196,8 +196,8 @@ impl<A: Allocator> Stamps<A> {
         own.partition_point(|number| *number <= b)
     }
 
-    /// How many events of each node happened up to event `b` of node `j`, but of node `j` itself: the
-    /// stamp of its last receipt up to there, and all 0 where it has none.
+    /// How many events of each other node happened up to event `b` of node `j`: the stamp of its last
+    /// receipt up to there, and all 0 where it has none. The entry of node `j` itself is left open.
     pub(crate) fn counts(&self, logs: &Logs<A>, j: u8, b: u32) -> &[u32]
         requires stamps { AreStamps logs.now self.now.begins.items self.now.numbers.items self.now.counters.items }
         requires place { j < length logs.now }

@@ -1,3 +1,4 @@
+-- How many parts a formula has.
 use Rattle.std.proofs.Common.{ℕ, ◌+◌}
 use Rattle.ira_pred.specs.Formula.{Formula, both, either, negated}
 

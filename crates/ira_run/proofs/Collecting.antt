@@ -1,3 +1,4 @@
+-- Parts that are collected place by place.
 use Rattle.std.proofs.Common.{◌≡◌, ◌≢◌, ℕ, zero, suc, ◌<◌, Bool, true, false, List, [], ◌∷◌, ◌++◌, length, replicate, set, Option, Some, None, Result, Ok, Err, inl, inr, refl, sym, ap, subst, ◌∙◌, arith, append_assoc, length-set}
 use Rattle.std.specs.Prelude.{◌⊎◌, ◌&&◌, slice_get, map, is_some}
 use Rattle.std.specs.List.{zip, list_all}

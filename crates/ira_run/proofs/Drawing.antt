@@ -1,3 +1,4 @@
+-- The draws of a node, one word of its generator after the other.
 use Rattle.std.proofs.Common.{◌≡◌, ℕ, zero, suc, ◌+◌, ◌-◌, ◌<◌, List, [], ◌∷◌, ◌++◌, length, sym, ap, subst, ◌∙◌, append_assoc, arith}
 use Rattle.std.specs.Prelude.{map, slice_get, IfSome}
 use Rattle.std.proofs.lemmas.List.{append-nil}

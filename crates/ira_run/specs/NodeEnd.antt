@@ -1,3 +1,4 @@
+-- How a node ended.
 use Rattle.std.specs.Prelude.{Bool, true, false}
 use Rattle.ira_run.specs.declared.node_end.NodeEnd.{NodeEnd}
 use Rattle.ira_run.specs.declared.node_end.NodeEnd.TheVariants.{Leader, Stopped, DrawsSpent, LogFull, NoStep, Quiet}

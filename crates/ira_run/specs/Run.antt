@@ -1,3 +1,4 @@
+-- The logs and the ends of a ring's nodes.
 use Rattle.std.specs.Prelude.{◌≡◌, List, length}
 use Rattle.ira_event.specs.Log.{Log}
 use Rattle.ira_event.specs.Logs.{AreLogs}

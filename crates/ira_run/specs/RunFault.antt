@@ -1,3 +1,4 @@
+-- The numbers by which the program names the faults of a run.
 use Rattle.std.specs.Prelude.{ℕ}
 use Rattle.ira_run.specs.declared.run_fault.RunFault.{RunFault}
 use Rattle.ira_run.specs.declared.run_fault.RunFault.TheVariants.{Setup, OutOfMemory, Thread, NoEnd, Stranger, Double, Closed}
