@@ -1,12 +1,12 @@
 ghost use Rattle.std.specs.Prelude.{◌≡◌};
 ghost use Rattle.ira_cert.specs.Asked.{HasPlacesOf};
 
-use crate::samples::{
+use ira_cert::{CertStep, Section, Verdict, check_plain};
+use ira_event::Logs;
+use ira_fixtures::{
     ACTIVE_AND_PASSIVE, BOTH_LEAD, CHOOSING_AND_PASSIVE, ELECTION, LEADER_AND_ACTIVE, first_case,
     logs_of, step,
 };
-use ira_cert::{CertStep, Section, Verdict, check_plain};
-use ira_event::Logs;
 use ira_order::{Ordered, order};
 use ira_pred::{Case, read_question};
 use std::alloc::Global;

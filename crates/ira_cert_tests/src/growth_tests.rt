@@ -2,9 +2,9 @@
 ghost use Rattle.std.specs.Prelude.{IfSome};
 ghost use Rattle.ira_cert.specs.Asked.{HasPlacesOf};
 
-use crate::samples::{ELECTION, LEADER_AND_ACTIVE, logs_of};
 use ira_cert::{CertFault, Verdict, check_plain, read_cert, write_cert};
 use ira_event::{Logs, WriteFault};
+use ira_fixtures::{ELECTION, LEADER_AND_ACTIVE, logs_of};
 use ira_order::order;
 use ira_pred::{Case, Question, read_question};
 use ira_refusing::{FailingSink, Outcome, Refusing, each_growth_refused};

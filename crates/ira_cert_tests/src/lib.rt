@@ -6,6 +6,4 @@ mod every_section_tests;
 #[cfg(test)]
 mod growth_tests;
 #[cfg(test)]
-mod samples;
-#[cfg(test)]
 mod section_tests;

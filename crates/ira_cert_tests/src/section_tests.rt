@@ -1,9 +1,9 @@
-use crate::samples::{
-    ACTIVE_AND_PASSIVE, BOTH_LEAD, ELECTION, LEADER_AND_ACTIVE, TIE, first_case, logs_of, step,
-};
 use ira_cand::Ahead;
 use ira_cert::{
     CertStep, Positions, Section, SectionFault, Unsound, Verdict, check_fronts, check_plain,
+};
+use ira_fixtures::{
+    ACTIVE_AND_PASSIVE, BOTH_LEAD, ELECTION, LEADER_AND_ACTIVE, TIE, first_case, logs_of, step,
 };
 use ira_order::order;
 use ira_pred::read_question;

@@ -1,9 +1,9 @@
 ghost use Rattle.std.specs.Prelude.{◌≡◌};
 
-use crate::samples::{ELECTION, LONE_INITIATOR, first_case, logs_of};
 use ira_cert::{Verdict, check_plain};
 use ira_elim::{Found, decide};
 use ira_event::Logs;
+use ira_fixtures::{ELECTION, LONE_INITIATOR, first_case, logs_of};
 use ira_order::{Ordered, order};
 use ira_pred::read_question;
 use std::alloc::Global;

@@ -1,8 +1,19 @@
-use crate::samples::{ELECTION, found};
 use ira_cert::CertStep;
-use ira_elim::Found;
+use ira_elim::{Found, decide};
+use ira_fixtures::{ELECTION, first_case, logs_of};
+use ira_order::order;
+use ira_pred::read_question;
 use std::alloc::Global;
 use std::test::Fail;
+
+/// What is found of the question's first case.
+fn found(alloc: Global, texts: &[&[u8]], question: &[u8]) -> Result<Found<Global>, Fail> {
+    let logs = logs_of(alloc, texts)?;
+    let ordered = order(alloc, &logs).ok().ok_or("an order")?;
+    let question = read_question(alloc, question)?;
+    let case = first_case(&question, &logs)?;
+    Ok(decide(alloc, &logs, &ordered, case)?)
+}
 
 /// Whether the case is absent by exactly these steps.
 fn is_absent_by(found: &Found<Global>, steps: &[CertStep], spent: u8) -> bool {

@@ -5,5 +5,3 @@
 mod every_cut_tests;
 #[cfg(test)]
 mod found_tests;
-#[cfg(test)]
-mod samples;

@@ -1,6 +1,6 @@
 // What the gate of the ranges sees: that two of them are judged at once, and that each passes it once.
-use crate::samples::{ELECTION, LEADER_AND_ACTIVE, first_case, logs_of, step};
 use ira_cert::{Section, Verdict};
+use ira_fixtures::{ELECTION, LEADER_AND_ACTIVE, Meeting, first_case, logs_of, step};
 use ira_links::Gate;
 use ira_order::order;
 use ira_par::check_split;
@@ -8,56 +8,7 @@ use ira_pred::read_question;
 use std::sync::Wait;
 use std::sync::atomic::{AtomicU64, Ordering};
 use std::test::Fail;
-use std::thread;
-use std::time::{Clock, Duration};
-
-// In milliseconds.
-const TURN: u64 = 5;
-
-// After so many turns a gate lets go.
-const MOST_TURNS: u32 = 2_000;
-
-/// Waits until a counter isn't 0. False where it is in all turns.
-fn comes<R: Clock>(rt: &R, counter: &AtomicU64) -> bool {
-    for _ in 0..MOST_TURNS {
-        if counter.load(Ordering::SeqCst) > 0 {
-            return true;
-        }
-        thread::sleep(rt, Duration::from_millis(TURN));
-    }
-    false
-}
-
-/// Holds ranges 0 and 1 in their pass until both have entered theirs.
-#[derive(Drop)]
-struct Meeting {
-    of_range_0: AtomicU64,
-    of_range_1: AtomicU64,
-    missed: AtomicU64,
-}
-
-impl Meeting {
-    fn hold<R: Clock>(&self, rt: &R, own: &AtomicU64, other: &AtomicU64) {
-        own.fetch_add(1, Ordering::SeqCst);
-        if !comes(rt, other) {
-            self.missed.fetch_add(1, Ordering::SeqCst);
-        }
-    }
-}
-
-impl Gate for Meeting {
-    fn pass<R: Wait + Clock>(&self, rt: &R, who: u32) {
-        if who == 0 {
-            self.hold(rt, &self.of_range_0, &self.of_range_1);
-        } else {
-            self.hold(rt, &self.of_range_1, &self.of_range_0);
-        }
-    }
-
-    fn admit(&self, _who: u32) -> bool {
-        true
-    }
-}
+use std::time::Clock;
 
 #[test]
 fn two_ranges_are_judged_at_once(rt: HostRuntime) -> Result<(), Fail> {
@@ -70,16 +21,11 @@ fn two_ranges_are_judged_at_once(rt: HostRuntime) -> Result<(), Fail> {
         steps: [step(1, 1, 0, 4), step(1, 2, 0, 4)].to_vec(alloc)?,
         spent: 1,
     };
-    let gate = Meeting {
-        of_range_0: AtomicU64::new(0),
-        of_range_1: AtomicU64::new(0),
-        missed: AtomicU64::new(0),
-    };
+    let gate = Meeting::new();
     let verdict = check_split(&rt, alloc, &logs, &ordered, case, &section, 1, &gate)?;
     assert!(rt; verdict == Verdict::Yes);
-    assert_eq!(rt; gate.missed.load(Ordering::SeqCst), 0);
-    assert_eq!(rt; gate.of_range_0.load(Ordering::SeqCst), 1);
-    assert_eq!(rt; gate.of_range_1.load(Ordering::SeqCst), 1);
+    assert_eq!(rt; gate.missed(), 0);
+    assert_eq!(rt; gate.passes(), (1, 1));
     Ok(())
 }
 

@@ -6,6 +6,4 @@ mod gate_tests;
 #[cfg(test)]
 mod random_tests;
 #[cfg(test)]
-mod samples;
-#[cfg(test)]
 mod section_tests;

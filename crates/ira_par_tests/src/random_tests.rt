@@ -1,8 +1,8 @@
 // Sections that are sound or broken at random places: the verdict is the plain checker's.
 ghost use Rattle.std.specs.Prelude.{◌<◌};
 
-use crate::samples::{LEADER_AND_UNBEATEN, TIE, first_case, logs_of, step};
 use ira_cert::{CertStep, Section, Verdict, check_plain};
+use ira_fixtures::{LEADER_AND_UNBEATEN, TIE, first_case, logs_of, step};
 use ira_links::OpenGate;
 use ira_order::order;
 use ira_par::check_split;
@@ -62,11 +62,12 @@ fn random_sections(rt: HostRuntime) -> Result<(), Fail> {
         let section = draws.section(alloc)?;
         let plain = check_plain(alloc, &logs, &ordered, case, &section)?;
         sound = sound.saturating_add(u32::from(plain == Verdict::Yes));
-        let depth = (number % 5) as u8;
-        let split = check_split(
-            &rt, alloc, &logs, &ordered, case, &section, depth, &OpenGate,
-        )?;
-        assert!(rt; split == plain, "section {number}");
+        for depth in 0..5 {
+            let split = check_split(
+                &rt, alloc, &logs, &ordered, case, &section, depth, &OpenGate,
+            )?;
+            assert!(rt; split == plain, "section {number}, depth {depth}");
+        }
     }
     // Both verdicts are there.
     assert!(rt; sound > 100 && sound < 1_900);

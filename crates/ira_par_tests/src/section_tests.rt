@@ -1,9 +1,9 @@
 // The worked sections at each depth.
-use crate::samples::{
+use ira_cert::{CertStep, Section, SectionFault, Unsound, Verdict};
+use ira_fixtures::{
     ACTIVE_AND_PASSIVE, BOTH_LEAD, ELECTION, LEADER_AND_ACTIVE, LEADER_AND_UNBEATEN, TIE,
     first_case, logs_of, step,
 };
-use ira_cert::{CertStep, Section, SectionFault, Unsound, Verdict};
 use ira_links::OpenGate;
 use ira_order::order;
 use ira_par::check_split;

@@ -2,6 +2,7 @@
 // and that each started thread has ended.
 use crate::samples::{assert_events, assert_run, clean, loser, setup_of, winner};
 use ira_event::{Event, NodeLog, RingSize};
+use ira_fixtures::{Meeting, TURN, comes_to};
 use ira_links::{Gate, OpenGate};
 use ira_ring::{NodeEnd, RunFault, Setup, run_ring};
 use std::alloc::Global;
@@ -13,65 +14,14 @@ use std::thread;
 use std::thread::Threads;
 use std::time::{Clock, Duration};
 
-// In milliseconds.
-const TURN: u64 = 5;
-
-// After so many turns a gate lets go.
-const MOST_TURNS: u32 = 2_000;
-
-/// Waits until a counter has come so far. False where it hasn't in all turns.
-fn comes_to<R: Clock>(rt: &R, counter: &AtomicU64, least: u64) -> bool {
-    for _ in 0..MOST_TURNS {
-        if counter.load(Ordering::SeqCst) >= least {
-            return true;
-        }
-        thread::sleep(rt, Duration::from_millis(TURN));
-    }
-    false
-}
-
-/// Holds nodes 0 and 1 in their first pass until both have entered theirs.
-#[derive(Drop)]
-struct Meeting {
-    of_node_0: AtomicU64,
-    of_node_1: AtomicU64,
-    missed: AtomicU64,
-}
-
-impl Meeting {
-    fn hold<R: Clock>(&self, rt: &R, own: &AtomicU64, other: &AtomicU64) {
-        if own.fetch_add(1, Ordering::SeqCst) == 0 && !comes_to(rt, other, 1) {
-            self.missed.fetch_add(1, Ordering::SeqCst);
-        }
-    }
-}
-
-impl Gate for Meeting {
-    fn pass<R: Wait + Clock>(&self, rt: &R, who: u32) {
-        if who == 0 {
-            self.hold(rt, &self.of_node_0, &self.of_node_1);
-        } else {
-            self.hold(rt, &self.of_node_1, &self.of_node_0);
-        }
-    }
-
-    fn admit(&self, _who: u32) -> bool {
-        true
-    }
-}
-
 #[test]
 fn two_nodes_run_at_once(rt: HostRuntime) -> Result<(), Fail> {
     let setup = setup_of(rt.alloc(), 2, &[true, true], &[&[2], &[1]], 100)?;
-    let gate = Meeting {
-        of_node_0: AtomicU64::new(0),
-        of_node_1: AtomicU64::new(0),
-        missed: AtomicU64::new(0),
-    };
+    let gate = Meeting::new();
     let run = run_ring(&rt, rt.alloc(), &setup, &gate)?;
-    assert_eq!(rt; gate.missed.load(Ordering::SeqCst), 0);
-    assert!(rt; gate.of_node_0.load(Ordering::SeqCst) > 0);
-    assert!(rt; gate.of_node_1.load(Ordering::SeqCst) > 0);
+    assert_eq!(rt; gate.missed(), 0);
+    let (of_node_0, of_node_1) = gate.passes();
+    assert!(rt; of_node_0 > 0 && of_node_1 > 0);
     assert_run(
         &rt,
         &run,

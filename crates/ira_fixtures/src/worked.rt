@@ -1,11 +1,9 @@
-//! What several tests judge.
-ghost use Rattle.std.specs.Prelude.{IfOk};
-ghost use Rattle.ira_cert.specs.Asked.{HasPlacesOf};
+ghost use Rattle.std.specs.Prelude.{◌<◌, All, IfOk, length};
 
-use ira_cert::CertStep;
+use ira_cert_text::CertStep;
 use ira_event::{Logs, read_log};
 use ira_pred::{Case, Question};
-use std::alloc::Global;
+use std::alloc::{Allocator, Global};
 use std::test::Fail;
 
 /// An election of two nodes that both initiate.
@@ -50,11 +48,30 @@ pub const TIE: [&[u8]; 2] = [
     end 9\n",
 ];
 
+/// An election of three nodes of which the first alone initiates.
+pub const LONE_INITIATOR: [&[u8]; 3] = [
+    b"irlog 1\nnodes 3\nplace 0\nstart initiator\n\
+    draw 1\n\
+    send 1 1 1 clean\n\
+    recv 1 1 3 clean\n\
+    end 3\n",
+    b"irlog 1\nnodes 3\nplace 1\nstart passive\n\
+    recv 1 1 1 clean\n\
+    send 1 1 2 clean\n\
+    end 2\n",
+    b"irlog 1\nnodes 3\nplace 2\nstart passive\n\
+    recv 1 1 2 clean\n\
+    send 1 1 3 clean\n\
+    end 2\n",
+];
+
 pub const BOTH_LEAD: &[u8] = b"irask 1\nnodes 2\ncase\n0: leader\n1: leader\nend\n";
 
 pub const LEADER_AND_ACTIVE: &[u8] = b"irask 1\nnodes 2\ncase\n0: leader\n1: active\nend\n";
 
 pub const ACTIVE_AND_PASSIVE: &[u8] = b"irask 1\nnodes 2\ncase\n0: active\n1: passive\nend\n";
+
+pub const CHOOSING_AND_PASSIVE: &[u8] = b"irask 1\nnodes 2\ncase\n0: choosing\n1: passive\nend\n";
 
 pub const LEADER_AND_UNBEATEN: &[u8] =
     b"irask 1\nnodes 2\ncase\n0: leader\n1: (not passive)\nend\n";
@@ -70,10 +87,10 @@ pub const fn step(node: u8, pos: u32, other: u8, other_pos: u32) -> CertStep {
 }
 
 /// The logs of these texts.
-pub fn logs_of(alloc: Global, texts: &[&[u8]]) -> Result<Logs<Global>, Fail> {
-    let mut logs = Vec::new(alloc);
+pub fn logs_of<A: Allocator + Clone>(alloc: A, texts: &[&[u8]]) -> Result<Logs<A>, Fail> {
+    let mut logs = Vec::new(alloc.clone()?);
     for text in texts {
-        logs.push(read_log(alloc, text)?)?;
+        logs.push(read_log(alloc.clone()?, text)?)?;
     }
     Ok(Logs::gather(logs).ok().ok_or("the logs of one ring")?)
 }
@@ -83,7 +100,7 @@ pub fn first_case<'a>(
     question: &'a Question<Global>,
     logs: &Logs<Global>,
 ) -> Result<&'a Case<Global>, Fail>
-    ensures { IfOk result (λ case. HasPlacesOf logs.now case.now) }
+    ensures { IfOk result (λ case. All (λ c. c.place < length logs.now) case.now) }
 {
     if question.nodes() != logs.size() {
         return Err("a question of the same ring".into());
