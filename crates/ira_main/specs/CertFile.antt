@@ -19,7 +19,8 @@ pub data Keeps {S F : Type 0} (creates : S → List ℕ → Result F ShelfFault 
   kept : IsCertText (cert_text c) c → WritesFile creates loses taken failures name.now (cert_text c) old new (Ok tt) → outcome ≡ Ok Yes → Keeps creates loses taken failures c name old new outcome
   unwritten : (fault : ShelfFault) → IsCertText (cert_text c) c → WritesFile creates loses taken failures name.now (cert_text c) old new (Err fault) → outcome ≡ Err (keep_complaint name fault) → Keeps creates loses taken failures c name old new outcome
 
--- this came of keeping a certificate on a shelf that is now as it is
+-- this came of keeping a certificate on a shelf that had the same files before as the old one, and is now the new one
 abbrev pub HasKept : {S F : Type 0} → (S → List ℕ → Result F ShelfFault → S → Type 0) → (S → F → ShelfFault → S → Type 0)
-    → (F → Option (List ℕ)) → (F → ℕ) → S → Certificate → Bor (List ℕ) → Result Status Complaint → Type 0
-HasKept {S} creates loses taken failures new c name outcome = (old : S) × Keeps creates loses taken failures c name old new outcome
+    → (F → Option (List ℕ)) → (F → ℕ) → (S → List (List ℕ)) → S → S → Certificate → Bor (List ℕ) → Result Status Complaint → Type 0
+HasKept {S} creates loses taken failures files old new c name outcome =
+    (before : S) × (files before ≡ files old) × Keeps creates loses taken failures c name before new outcome
