@@ -1,7 +1,9 @@
 -- Certificates of what was found: there is one where each case is absent, and it is accepted.
-use Rattle.std.proofs.Common.{◌≡◌, ◌↔◌, ℕ, zero, suc, List, [], ◌∷◌, Option, Some, Result, Ok, map, length, refl, sym, subst, ap, ◌∙◌}
-use Rattle.std.specs.List.{AllZip}
+use Rattle.std.proofs.Common.{◌≡◌, ◌↔◌, ℕ, zero, suc, Bool, true, false, List, [], ◌∷◌, ◌++◌, Option, Some, Result, Ok, Err, IfErr, map, length, refl, sym, subst, ap, ◌∙◌}
+use Rattle.std.specs.List.{AllZip, list_any}
 use Rattle.std.specs.Prelude.{Contains, slice_get}
+use Rattle.std.proofs.lemmas.List.Elements.{Contains-append_right, Contains-append_left, Contains-push}
+use Rattle.std.proofs.lemmas.List.Folds.{list_any_at}
 use Rattle.std.proofs.lemmas.Option.{slice_get_read}
 use Rattle.ira_event.specs.declared.out_of_memory.OutOfMemory.{OutOfMemory}
 use Rattle.ira_event.specs.Log.{Log}
@@ -16,7 +18,7 @@ use Rattle.ira_audit.specs.declared.answer.Answer.TheVariants.{Yes}
 use Rattle.ira_audit.specs.declared.findings.Findings.{Findings}
 use Rattle.ira_audit.specs.declared.findings.Findings.TheVariants.{Refused, Cases}
 use Rattle.ira_audit.specs.AuditAnswer.{AreSound, IsAuditAnswer, yes}
-use Rattle.ira_audit.specs.Findings.{AreFindings, IsCertificateOf, MakeNoCertificate}
+use Rattle.ira_audit.specs.Findings.{AreFindings, HasPresent, IsCertificateOf, MakeNoCertificate, is_present}
 
 -- what was found of cases that are all absent are sound sections
 all_sound : {A : Type 0} (logs : List Log) (cases : List (List Conjunct)) (found : List (Found A)) (sections : List Section) → found ≡ map Absent sections
@@ -81,3 +83,28 @@ made_exactly {A} (Cases nodes found) made is c = (
 pub made_or_none : {A : Type 0} (findings : Findings A) (made : Certificate) → IsCertificateOf findings made → MakeNoCertificate findings → ⊥
 made_or_none (Refused r) made is none = is
 made_or_none (Cases nodes found) made is none = absent_or_present found.items made.sections none.0 is.1 none.1
+
+-- a case that is looked for among the findings is found
+pub present_among : {A : Type 0} (found : List (Found A)) → list_any is_present found ≡ true → HasPresent found
+present_among [] e = absurd cc
+present_among (Absent s ∷ found) e =
+    let behind = present_among found e in
+    (behind.0, Contains-append_right (Absent s ∷ []) found _ behind.1)
+present_among (Present cut ∷ found) e = (cut, Contains-append_left (Present cut ∷ []) found _ (Contains-push [] (Present cut)))
+
+-- where none is found, none is present
+pub none_among : {A : Type 0} (found : List (Found A)) → list_any is_present found ≡ false → HasPresent found → ⊥
+none_among found e has =
+    let met : list_any is_present found ≡ true = list_any_at is_present found has.1.0 (Present has.0) has.1.1 (ap is_present has.1.2) in
+    cc
+
+-- a case that is present at some place is among the findings
+pub present_at : {A : Type 0} (found before behind : List (Found A)) (f : Found A) (cut : List ℕ) → found ≡ before ++ (f ∷ behind) → f ≡ Present cut → HasPresent found
+present_at found before behind f cut is present =
+    let here : Contains (before ++ (f ∷ behind)) f = Contains-append_right before (f ∷ behind) f (Contains-append_left (f ∷ []) behind f (Contains-push [] f)) in
+    (cut, subst (Contains found) present (subst (λ xs. Contains xs f) (sym is) here))
+
+-- what holds anyway holds where it is refused
+pub refused_anyway : {T E P : Type 0} (r : Result T E) → P → IfErr r (λ _. P)
+refused_anyway (Ok x) holds = tt
+refused_anyway (Err e) holds = holds

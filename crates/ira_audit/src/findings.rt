@@ -1,10 +1,11 @@
-ghost use Rattle.std.specs.Prelude.{◌≡◌, ◌↔◌, ℕ, List, Ok, None, Some, MatchOption, IfOk, Contains, map};
+ghost use Rattle.std.specs.Prelude.{◌≡◌, ◌↔◌, ℕ, List, Ok, None, Some, MatchOption, IfErr, IfOk, map};
+ghost use Rattle.std.specs.List.{list_any};
 ghost use Rattle.ira_event.specs.Result.{UnlessErr};
 ghost use Rattle.ira_cert_text.specs.Certificate as certificate;
 ghost use Rattle.ira_cert_text.specs.CertText.{IsCertText};
-ghost use Rattle.ira_elim.specs.declared.found.Found.TheVariants.{Absent, Present};
+ghost use Rattle.ira_elim.specs.declared.found.Found.TheVariants.{Absent};
 ghost use Rattle.ira_audit.specs.AuditAnswer.{IsAuditAnswer};
-ghost use Rattle.ira_audit.specs.Findings.{AreFindings, IsCertificateOf, MakeNoCertificate};
+ghost use Rattle.ira_audit.specs.Findings.{AreFindings, HasPresent, IsCertificateOf, MakeNoCertificate, is_present};
 ghost use Rattle.ira_audit.specs.declared.answer.Answer.{Answer};
 
 use crate::reason::Reason;
@@ -26,11 +27,12 @@ pub enum Findings<A: Allocator> {
 }
 
 impl<A: Allocator + Clone> Findings<A> {
-    /// The certificate of the sections that were found, if each case is absent. Where it is `readable`,
-    /// `audit` says yes of the same logs, the question and its text; else its text is past the limits.
+    /// The certificate of the sections that were found, if each case is absent; that there is none is answered
+    /// whatever memory does. Where it is `readable`, `audit` says yes of the same logs, the question and its
+    /// text; else its text is past the limits.
     pub fn into_certificate(self) -> Result<Option<Certificate<A>>, OutOfMemory>
         ensures some { (c : certificate.Certificate) → UnlessErr result (record {}) ((result ≡ Ok (Some c)) ↔ IsCertificateOf self c) }
-        ensures none { UnlessErr result (record {}) ((result ≡ Ok None) ↔ MakeNoCertificate self) }
+        ensures none { (result ≡ Ok None) ↔ MakeNoCertificate self }
         ensures accepted { (texts : List (List ℕ)) (question text : List ℕ) (c : certificate.Certificate) → AreFindings texts question self → result ≡ Ok (Some c) → IsCertText text c → IsAuditAnswer texts question text Answer.Yes }
     {
         match self {
@@ -45,17 +47,28 @@ impl<A: Allocator + Clone> Findings<A> {
     }
 }
 
+/// Whether some case is present.
+fn has_present<A: Allocator>(found: &[Found<A>]) -> bool
+    ensures { result ≡ list_any is_present found.now }
+{
+    found.iter().any(|found| matches!(found, Found::Present(_)))
+}
+
 /// The sections that were found, if each case is absent.
 fn into_sections<A: Allocator + Clone>(
     found: Vec<Found<A>, A>,
 ) -> Result<Option<Vec<Section<A>, A>>, OutOfMemory>
-    ensures { IfOk result (λ sections. MatchOption sections ((cut : List ℕ) × Contains found.items (Present cut)) (λ sections. found.items ≡ map Absent sections.items)) }
+    ensures sections { IfOk result (λ sections. MatchOption sections (HasPresent found.items) (λ sections. found.items ≡ map Absent sections.items)) }
+    ensures absent { IfErr result (λ _. ¬ (HasPresent found.items)) }
 {
+    if has_present(&found) {
+        return Ok(None);
+    }
     let mut sections = Vec::with_capacity(found.allocator().clone()?, found.len())?;
     for found in found {
         match found {
             Found::Absent(section) => sections.push(section)?,
-            Found::Present(_) => return Ok(None),
+            Found::Present(_) => unreachable!(),
         }
     }
     Ok(Some(sections))

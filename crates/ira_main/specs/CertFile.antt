@@ -20,7 +20,8 @@ pub data Keeps {S F : Type 0} (creates : S → List ℕ → Result F ShelfFault 
   kept : IsCertText (cert_text c) c → WritesFile creates loses state name.now (cert_text c) old new (Ok tt) → outcome ≡ Ok Yes → Keeps creates loses state c name old new outcome
   unwritten : (fault : ShelfFault) → IsCertText (cert_text c) c → WritesFile creates loses state name.now (cert_text c) old new (Err fault) → outcome ≡ Err (keep_complaint name fault) → Keeps creates loses state c name old new outcome
 
--- this came of keeping a certificate on a shelf that is now as it is
+-- this came of keeping a certificate on a shelf that had the same files before as the old one, and is now the new one
 abbrev pub HasKept : {S F : Type 0} → (S → List ℕ → Result F ShelfFault → S → Type 0) → (S → F → ShelfFault → S → Type 0)
-    → (F → SinkState) → S → Certificate → Bor (List ℕ) → Result Status Complaint → Type 0
-HasKept {S} creates loses state new c name outcome = (old : S) × Keeps creates loses state c name old new outcome
+    → (F → SinkState) → (S → List (List ℕ)) → S → S → Certificate → Bor (List ℕ) → Result Status Complaint → Type 0
+HasKept {S} creates loses state files old new c name outcome =
+    (before : S) × (files before ≡ files old) × Keeps creates loses state c name before new outcome

@@ -12,22 +12,23 @@ use Rattle.ira_main.specs.declared.status.Status.{Status}
 use Rattle.ira_main.specs.declared.status.Status.TheVariants.{Yes, No}
 
 -- what comes of findings that were printed: no, where a case is present or they are a refusal; else yes, and where a
--- file is named for their certificate what comes of keeping it there; or there was no memory for the certificate
-pub data EndsWith {A : Type 0} (kept : Certificate → Bor (List ℕ) → Result Status Complaint → Type 0) (findings : Findings A)
+-- file is named for their certificate what comes of keeping it there; or there was no memory for the certificate. The
+-- files are untouched but where it is kept
+pub data EndsWith {A : Type 0} (kept : Certificate → Bor (List ℕ) → Result Status Complaint → Type 0) (untouched : Type 0) (findings : Findings A)
     (name : Option (Bor (List ℕ))) (outcome : Result Status Complaint) : Type 0 where
-  refuted : MakeNoCertificate findings → outcome ≡ Ok No → EndsWith kept findings name outcome
-  absent : (c : Certificate) → IsCertificateOf findings c → name ≡ None → outcome ≡ Ok Yes → EndsWith kept findings name outcome
-  certified : (c : Certificate) (file : Bor (List ℕ)) → IsCertificateOf findings c → name ≡ Some file → kept c file outcome → EndsWith kept findings name outcome
-  no_memory : outcome ≡ Err OutOfMemory → EndsWith kept findings name outcome
+  refuted : MakeNoCertificate findings → untouched → outcome ≡ Ok No → EndsWith kept untouched findings name outcome
+  absent : (c : Certificate) → IsCertificateOf findings c → name ≡ None → untouched → outcome ≡ Ok Yes → EndsWith kept untouched findings name outcome
+  certified : (c : Certificate) (file : Bor (List ℕ)) → IsCertificateOf findings c → name ≡ Some file → kept c file outcome → EndsWith kept untouched findings name outcome
+  no_memory : ¬ (MakeNoCertificate findings) → untouched → outcome ≡ Err OutOfMemory → EndsWith kept untouched findings name outcome
 
 -- the findings of so many texts of logs and the text of a question were printed whole, and it ended with what comes of
--- them; or the write failed
-pub record Decides (A : Type 0) (kept : Certificate → Bor (List ℕ) → Result Status Complaint → Type 0) (number : ℕ) (name : Option (Bor (List ℕ)))
+-- them; or the write failed, and the files are untouched
+pub record Decides (A : Type 0) (kept : Certificate → Bor (List ℕ) → Result Status Complaint → Type 0) (untouched : Type 0) (number : ℕ) (name : Option (Bor (List ℕ)))
     (out out' : SinkState) (outcome : Result Status Complaint) : Type 0 where
   pub texts : List (List ℕ)
   pub many : length texts ≡ number
   pub question : List ℕ
   pub findings : Findings A
   pub found : AreFindings texts question findings
-  pub printed : (Takes (findings_text findings) out out' × EndsWith kept findings name outcome)
-      ⊎ (StopsIn (findings_text findings) out out' × (outcome ≡ Err CannotWriteAnswer))
+  pub printed : (Takes (findings_text findings) out out' × EndsWith kept untouched findings name outcome)
+      ⊎ (StopsIn (findings_text findings) out out' × untouched × (outcome ≡ Err CannotWriteAnswer))

@@ -92,18 +92,19 @@ pub record Records (request : RunRequest) (out out' : SinkState) (status : ℕ) 
 -- what was done for the words: they ask for the logs in some files, and as many texts were judged together;
 -- or they ask to check the logs in some files, and as many texts were judged with those of a question and of a
 -- certificate; or they ask to decide a question of them, and it was decided of as many; or they ask for the question
--- of all pairs, and it was printed; or they ask for a ring, and it was run; or no answer was given
-pub data Done (A : Type 0) (kept : Certificate → Bor (List ℕ) → Result Status Complaint → Type 0) (words : List (List ℕ))
+-- of all pairs, and it was printed; or they ask for a ring, and it was run; or no answer was given. An answer leaves
+-- the files untouched but for those of a run and a certificate's
+pub data Done (A : Type 0) (kept : Certificate → Bor (List ℕ) → Result Status Complaint → Type 0) (untouched : Type 0) (words : List (List ℕ))
     (out out' : SinkState) (status : ℕ) : Type 0 where
-  judged : (names : List (List ℕ)) → AskForLogs words names → JudgesTogether (length names) out out' status → Done A kept words out out' status
-  certified : (check : CheckRequest) → AskForCheck words check → JudgesCertified (length check.logs.items) out out' status → Done A kept words out out' status
-  decided : (decide : DecideRequest) (outcome : Result Status Complaint) → AskForDecide words decide → Decides A kept (length decide.logs.items) decide.certificate out out' outcome → status ≡ outcome_number outcome → Done A kept words out out' status
-  asked : (nodes : ℕ) → AskForPairs words nodes → AsksPairs nodes out out' status → Done A kept words out out' status
-  recorded : (request : RunRequest) → AskForRun words request → Records request out out' status → Done A kept words out out' status
-  no_answer : GivesNoAnswer out out' status → Done A kept words out out' status
+  judged : (names : List (List ℕ)) → AskForLogs words names → JudgesTogether (length names) out out' status → untouched → Done A kept untouched words out out' status
+  certified : (check : CheckRequest) → AskForCheck words check → JudgesCertified (length check.logs.items) out out' status → untouched → Done A kept untouched words out out' status
+  decided : (decide : DecideRequest) (outcome : Result Status Complaint) → AskForDecide words decide → Decides A kept untouched (length decide.logs.items) decide.certificate out out' outcome → status ≡ outcome_number outcome → Done A kept untouched words out out' status
+  asked : (nodes : ℕ) → AskForPairs words nodes → AsksPairs nodes out out' status → untouched → Done A kept untouched words out out' status
+  recorded : (request : RunRequest) → AskForRun words request → Records request out out' status → Done A kept untouched words out out' status
+  no_answer : GivesNoAnswer out out' status → Done A kept untouched words out out' status
 
 -- with words: the input wasn't read, and the words were obeyed
-pub record Obeys (A : Type 0) (kept : Certificate → Bor (List ℕ) → Result Status Complaint → Type 0) (words : List (List ℕ)) (old new : Reads)
+pub record Obeys (A : Type 0) (kept : Certificate → Bor (List ℕ) → Result Status Complaint → Type 0) (untouched : Type 0) (words : List (List ℕ)) (old new : Reads)
     (out out' : SinkState) (status : ℕ) : Type 0 where
   pub unread : new ≡ old
-  pub done : Done A kept words out out' status
+  pub done : Done A kept untouched words out out' status

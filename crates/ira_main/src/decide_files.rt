@@ -1,4 +1,4 @@
-ghost use Rattle.std.specs.Prelude.{◌⊎◌, length};
+ghost use Rattle.std.specs.Prelude.{◌≡◌, ◌⊎◌, length};
 ghost use Rattle.ira_main.specs.CertFile.{HasKept};
 ghost use Rattle.ira_main.specs.Decide.{Decides, EndsWith};
 ghost use Rattle.ira_main.specs.Outcome.{outcome_number};
@@ -21,7 +21,7 @@ fn keep_findings<'a, A: Allocator + Clone, F: Shelf<A>>(
     name: Option<&'a str>,
     shelf: &mut F,
 ) -> Result<Status, Complaint<'a>>
-    ensures { EndsWith (HasKept F.creates F.loses F.Out.state shelf.new) findings name.entry result }
+    ensures { EndsWith (HasKept F.creates F.loses F.Out.state F.files shelf.old shelf.new) (F.files shelf.new ≡ F.files shelf.old) findings name.entry result }
 {
     let Some(certificate) = findings.into_certificate()? else {
         return Ok(Status::No);
@@ -46,7 +46,7 @@ where
     A: Allocator + Clone + Send + Sync,
     F: Shelf<A>,
     W: Sink,
-    ensures { Decides A (HasKept F.creates F.loses F.Out.state shelf.new) (length decide.now.logs.items) decide.now.certificate (W.state out.old) (W.state out.new) result ⊎ GivesNoAnswer (W.state out.old) (W.state out.new) (outcome_number result) }
+    ensures { Decides A (HasKept F.creates F.loses F.Out.state F.files shelf.old shelf.new) (F.files shelf.new ≡ F.files shelf.old) (length decide.now.logs.items) decide.now.certificate (W.state out.old) (W.state out.new) result ⊎ GivesNoAnswer (W.state out.old) (W.state out.new) (outcome_number result) }
 {
     let question = read_file(decide.question, shelf)?;
     let audit = read_logs(rt, alloc.clone()?, &decide.logs, shelf)?;

@@ -64,7 +64,8 @@ where
     A: Allocator + Clone + Send + Sync,
     F: Shelf<A>,
     W: Sink,
-    ensures { JudgesTogether (length names.now) (W.state out.old) (W.state out.new) (outcome_number result) ⊎ GivesNoAnswer (W.state out.old) (W.state out.new) (outcome_number result) }
+    ensures judged { JudgesTogether (length names.now) (W.state out.old) (W.state out.new) (outcome_number result) ⊎ GivesNoAnswer (W.state out.old) (W.state out.new) (outcome_number result) }
+    ensures files { F.files shelf.new ≡ F.files shelf.old }
 {
     let audit = read_logs(rt, alloc, names, shelf)?;
     let answer = audit.finish()?;
@@ -85,7 +86,8 @@ where
     A: Allocator + Clone + Send + Sync,
     F: Shelf<A>,
     W: Sink,
-    ensures { JudgesCertified (length check.now.logs.items) (W.state out.old) (W.state out.new) (outcome_number result) ⊎ GivesNoAnswer (W.state out.old) (W.state out.new) (outcome_number result) }
+    ensures judged { JudgesCertified (length check.now.logs.items) (W.state out.old) (W.state out.new) (outcome_number result) ⊎ GivesNoAnswer (W.state out.old) (W.state out.new) (outcome_number result) }
+    ensures files { F.files shelf.new ≡ F.files shelf.old }
 {
     let question = read_file(check.question, shelf)?;
     let certificate = read_file(check.certificate, shelf)?;
@@ -111,7 +113,7 @@ where
     F: Shelf<A>,
     W: Sink,
     ensures judged { words.now ≡ [] → Judges input.old input.new (W.state out.old) (W.state out.new) (outcome_number result) }
-    ensures obeyed { words.now ≢ [] → Obeys A (HasKept F.creates F.loses F.Out.state shelf.new) (map (λ word. word.now) words.now) input.old input.new (W.state out.old) (W.state out.new) (outcome_number result) }
+    ensures obeyed { words.now ≢ [] → Obeys A (HasKept F.creates F.loses F.Out.state F.files shelf.old shelf.new) (F.files shelf.new ≡ F.files shelf.old) (map (λ word. word.now) words.now) input.old input.new (W.state out.old) (W.state out.new) (outcome_number result) }
     ensures reads { input.new.reads ≤ input.old.reads + (MAX_TEXT + 1) }
 {
     match read_words(rt.alloc(), words)? {
@@ -156,7 +158,7 @@ where
     ensures status { result ≤ 3 }
     ensures reads { input.new.reads ≤ input.old.reads + (MAX_TEXT + 1) }
     ensures judged { words.now ≡ [] → Judges input.old input.new (W.state out.old) (W.state out.new) result }
-    ensures obeyed { words.now ≢ [] → Obeys A (HasKept F.creates F.loses F.Out.state shelf.new) (map (λ word. word.now) words.now) input.old input.new (W.state out.old) (W.state out.new) result }
+    ensures obeyed { words.now ≢ [] → Obeys A (HasKept F.creates F.loses F.Out.state F.files shelf.old shelf.new) (F.files shelf.new ≡ F.files shelf.old) (map (λ word. word.now) words.now) input.old input.new (W.state out.old) (W.state out.new) result }
 {
     let outcome = obey(rt, alloc, words, input, shelf, out);
     conclude(outcome, err)

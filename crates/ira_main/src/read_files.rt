@@ -14,7 +14,9 @@ const TEXTS_AT_ONCE: usize = 4;
 pub(crate) fn read_file<'a, A: Allocator, F: Shelf<A>>(
     name: &'a str,
     shelf: &mut F,
-) -> Result<Vec<u8, A>, Complaint<'a>> {
+) -> Result<Vec<u8, A>, Complaint<'a>>
+    ensures { F.files shelf.new ≡ F.files shelf.old }
+{
     match shelf.read(name) {
         Ok(text) => Ok(text),
         Err(fault) => Err(Complaint::unread(name, fault)),
@@ -27,7 +29,8 @@ fn read_texts<'a, A: Allocator, F: Shelf<A>>(
     names: &[&'a str],
     shelf: &mut F,
 ) -> Result<Vec<Vec<u8, A>, A>, Complaint<'a>>
-    ensures { IfOk result (λ texts. vec_len texts ≡ length names.now) }
+    ensures number { IfOk result (λ texts. vec_len texts ≡ length names.now) }
+    ensures files { F.files shelf.new ≡ F.files shelf.old }
 {
     let mut texts = Vec::with_capacity(alloc, names.len())?;
     for name in names {
@@ -47,7 +50,8 @@ where
     R: Threads + Sync,
     A: Allocator + Clone + Send + Sync,
     F: Shelf<A>,
-    ensures { IfOk result (λ audit. (texts : List (List ℕ)) × HasTaken audit texts × (length texts ≡ length names.now)) }
+    ensures taken { IfOk result (λ audit. (texts : List (List ℕ)) × HasTaken audit texts × (length texts ≡ length names.now)) }
+    ensures files { F.files shelf.new ≡ F.files shelf.old }
 {
     let mut audit = RingAudit::new(alloc.clone()?);
     for some in names.chunks(TEXTS_AT_ONCE) {

@@ -1,4 +1,4 @@
-ghost use Rattle.std.specs.Prelude.{◌≤◌, ◌+◌, ℕ, List, Result, length, IfErr, IfOk, ⊤};
+ghost use Rattle.std.specs.Prelude.{◌≡◌, ◌≤◌, ◌+◌, ℕ, List, [], Result, length, IfErr, IfOk, ⊤};
 ghost use Rattle.ira_main.specs.declared.shelf_fault.ShelfFault.{ShelfFault};
 
 use crate::shelf_fault::ShelfFault;
@@ -10,6 +10,9 @@ pub trait Shelf<A: Allocator> {
     /// A file that is being written.
     type Out: Sink + Drop;
 
+    // the files that lie on it, where it tells them
+    ghost files: { Self → List (List ℕ) } = { λ _. [] };
+
     // what `create` does to the shelf, and what comes of it
     ghost creates: { Self → List ℕ → Result Self.Out ShelfFault → Self → Type 0 } = { λ _ _ _ _. ⊤ };
 
@@ -18,7 +21,8 @@ pub trait Shelf<A: Allocator> {
 
     /// The bytes of a file, to its end or to one more than `MAX_TEXT`, whichever comes first.
     fn read(&mut self, name: &str) -> Result<Vec<u8, A>, ShelfFault>
-        ensures { IfOk result (λ text. length text.items ≤ MAX_TEXT + 1) };
+        ensures size { IfOk result (λ text. length text.items ≤ MAX_TEXT + 1) }
+        ensures files { files self.new ≡ files self.old };
 
     /// A new file of this name, empty; one of the same name is emptied.
     fn create(&mut self, name: &str) -> Result<Self::Out, ShelfFault>

@@ -2,14 +2,15 @@
 
 use ira_event::write_bytes;
 use ira_main::{FileShelf, Shelf, ShelfFault};
-use std::alloc::Global;
+use ira_refusing::{Outcome, Refusing, each_growth_refused};
+use std::alloc::Allocator;
 use std::fs;
-use std::process::Abort;
 use std::rt::Files;
+use std::test::Fail;
 
 /// Writes a file whole.
-fn write(
-    shelf: &mut FileShelf<'_, impl Files, Global>,
+fn write<A: Allocator + Clone>(
+    shelf: &mut FileShelf<'_, impl Files, A>,
     name: &str,
     text: &str,
 ) -> Result<(), ShelfFault> {
@@ -38,4 +39,30 @@ fn files_that_cannot_be_used(rt: HostRuntime) {
     for name in ["nowhere/0.log", ".", "/dev/full"] {
         assert_eq!(rt; write(&mut shelf, name, "end 0\n"), Err(ShelfFault::Device));
     }
+}
+
+/// Writes a file, and reads it back.
+fn written_and_read<A: Allocator + Clone>(
+    shelf: &mut FileShelf<'_, impl Files, A>,
+    name: &str,
+) -> Outcome {
+    let text = "irlog 1\n";
+    let read = write(shelf, name, text).and_then(|()| shelf.read(name));
+    match read {
+        Ok(found) if found.as_slice() == text.as_bytes() => Outcome::Right,
+        Err(ShelfFault::OutOfMemory) => Outcome::GaveUp,
+        _ => Outcome::Wrong,
+    }
+}
+
+#[test]
+fn memory_refused_to_a_file(rt: HostRuntime) -> Result<(), Fail> {
+    let name = "memory_refused_to_a_file.log";
+    let memory = Refusing::new(rt.alloc())?;
+    let growths = each_growth_refused(&memory, |alloc| {
+        written_and_read(&mut FileShelf::new(&rt, alloc), name)
+    });
+    assert!(rt; matches!(growths, Ok(number) if 0 < number), "{growths:?}");
+    assert!(rt; fs::remove_file(&rt, name).is_ok());
+    Ok(())
 }

@@ -1,9 +1,9 @@
 -- What the words behind the program's name ask for.
-use Rattle.std.specs.Prelude.{◌≡◌, ◌≢◌, ℕ, All, List, [], ◌∷◌, ◌++◌, codes, map}
+use Rattle.std.specs.Prelude.{◌≡◌, ◌≢◌, ℕ, All, List, [], ◌∷◌, ◌++◌, codes, map, unwrap_or}
 use Rattle.clap.specs.Simple.{built_leaf}
-use Rattle.clap.specs.Walk.{Row, rows_after}
+use Rattle.clap.specs.Walk.{Row, all_of, rows_after}
 use Rattle.ira_words.specs.CheckRequest.{HasFiles}
-use Rattle.ira_words.specs.CommandLine.{check_app, decide_app, pairs_app, run_app}
+use Rattle.ira_words.specs.CommandLine.{check_app, decide_app, logs_app, pairs_app, run_app}
 use Rattle.ira_words.specs.DecideRequest.{HasFilesToDecide}
 use Rattle.ira_words.specs.RunRequest.{HasNumber, HasOptions}
 use Rattle.ira_words.specs.declared.check_request.CheckRequest.{CheckRequest}
@@ -17,12 +17,13 @@ abbrev pub IsFileName : List ℕ → Type 0
 IsFileName [] = Unit {0}
 IsFileName (b ∷ bs) = b ≢ 45
 
--- the words are `logs` and others, which ask for the files of these names: where none of the others begins
--- with a dash, they are the names; where one is the first that does, and is `--`, the words behind it are
--- names too
+-- the words are `logs` and others, which ask for the files of these names: they are the values that the others give to
+-- `LOG`. Where none of the others begins with a dash, they are these; where one is the first that does, and is `--`,
+-- the words behind it are names too
 pub record AskForLogs (words names : List (List ℕ)) : Type 0 where
   pub others : List (List ℕ)
   pub first : words ≡ codes "logs" ∷ others
+  pub given : names ≡ unwrap_or (all_of (codes "LOG") (rows_after (built_leaf logs_app.top).rules [] others)) []
   pub plain : All IsFileName others → names ≡ others
   pub marked : (front back : List (List ℕ)) → All IsFileName front → others ≡ front ++ codes "--" ∷ back → names ≡ front ++ back
 

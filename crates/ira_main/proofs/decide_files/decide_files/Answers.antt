@@ -5,12 +5,12 @@ use Rattle.ira_main.proofs.decide_files.decide_files.Goals as goal
 
 pub write_findings-requires : goal.write_findings-requires
 write_findings-requires g c =
-    let taken = c.in_ok-audit.ensures in
+    let taken = c.in_ok-audit.ensures.taken in
     c.in_ok-findings.ensures.reportable taken.0 taken.1
 
 pub returns-in-Ok-write_bytes : goal.returns-in-Ok-write_bytes
 returns-in-Ok-write_bytes g c =
-    let taken = c.in_ok-audit.ensures in
+    let taken = c.in_ok-audit.ensures.taken in
     let findings = c.in_ok-findings.findings in
     let text_is : c.bytes.result.now ≡ findings_text findings = c.bytes.ensures ∙ c.in-Ok.ensures.took ∙ ap (λ (m : Memory). m.bytes ++ findings_text findings) c.new-text.ensures in
     inl (record {
@@ -24,7 +24,7 @@ returns-in-Ok-write_bytes g c =
 
 pub returns : goal.returns
 returns g c =
-    let taken = c.in_ok-audit.ensures in
+    let taken = c.in_ok-audit.ensures.taken in
     let findings = c.in_ok-findings.findings in
     let text_is : c.bytes.result.now ≡ findings_text findings = c.bytes.ensures ∙ c.in-Ok.ensures.took ∙ ap (λ (m : Memory). m.bytes ++ findings_text findings) c.new-text.ensures in
     inl (record {

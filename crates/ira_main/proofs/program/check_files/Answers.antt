@@ -4,12 +4,12 @@ use Rattle.ira_main.proofs.program.check_files.Goals as goal
 
 pub report-requires : goal.report-requires
 report-requires g c =
-    let taken = c.in_ok-audit.ensures in
+    let taken = c.in_ok-audit.ensures.taken in
     c.in_ok-answer.ensures.reportable taken.0 taken.1
 
-pub returns : goal.returns
-returns g c =
-    let taken = c.in_ok-audit.ensures in
+pub returns-clause-judged : goal.returns-clause-judged
+returns-clause-judged g c =
+    let taken = c.in_ok-audit.ensures.taken in
     let answer = c.in_ok-answer.answer in
     let exact = unless_ok answer _ _ (c.in_ok-answer.ensures.answer taken.0 answer taken.1) in
     inl (record {

@@ -23,8 +23,8 @@ returns-in-Logs-clause-obeyed g c = λ some.
     let made = subst (IsMadeOf (map (λ w. w.now) c.args.words.now)) c.in-Logs.is c.in_ok-read_words.ensures.made in
     record {
       unread = refl;
-      done = elim c.judge_files.ensures [
-        | inl h ↦ judged _ made (same_number _ _ (ap length c.deref.ensures.value ∙ sym (length-map c.in-Logs.names.items (λ name. name.now))) h)
+      done = elim c.judge_files.ensures.judged [
+        | inl h ↦ judged _ made (same_number _ _ (ap length c.deref.ensures.value ∙ sym (length-map c.in-Logs.names.items (λ name. name.now))) h) c.judge_files.ensures.files
         | inr h ↦ no_answer h
       ];
     }
@@ -34,8 +34,8 @@ returns-in-Check-clause-obeyed g c = λ some.
     let made = subst (IsMadeOf (map (λ w. w.now) c.args.words.now)) c.in-Check.is c.in_ok-read_words.ensures.made in
     record {
       unread = refl;
-      done = elim c.check_files.ensures [
-        | inl h ↦ certified _ made h
+      done = elim c.check_files.ensures.judged [
+        | inl h ↦ certified _ made h c.check_files.ensures.files
         | inr h ↦ no_answer h
       ];
     }
@@ -57,7 +57,7 @@ returns-in-Pairs-clause-obeyed g c = λ some.
     record {
       unread = refl;
       done = elim c.print_pairs.ensures [
-        | inl h ↦ asked _ made h
+        | inl h ↦ asked _ made h refl
         | inr h ↦ no_answer h
       ];
     }

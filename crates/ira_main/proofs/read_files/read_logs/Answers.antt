@@ -1,4 +1,4 @@
-use Rattle.std.proofs.Common.{[], ap, length, length-append, arith, rules}
+use Rattle.std.proofs.Common.{◌∙◌, [], ap, length, length-append, arith, refl, rules}
 use Rattle.std.proofs.lemmas.List.{length-map}
 use Rattle.std.specs.Slice.Iter.{chunks_size}
 use Rattle.ira_main.proofs.read_files.read_logs.Goals as goal
@@ -9,6 +9,7 @@ loop-some-init g c =
     record {
       may_go_on = omega (arith, ap chunks_size same, c.chunks-some-items.ensures.size);
       ends = tt;
+      files = refl;
       taken = ([], c.new-audit.ensures, search rules);
     }
 
@@ -20,10 +21,11 @@ loop-some-preserved g c =
     record {
       may_go_on = omega (arith, steps.0, c.loop-some.invariant.may_go_on);
       ends = tt;
-      taken = (_, c.in_ok-take_all.ensures.ok taken.0 taken.1, simp (length-append, length-map) (omega (arith, taken.2, parts, c.deref.ensures.len, c.in_ok-texts.ensures)));
+      files = c.read_texts.ensures.files ∙ c.loop-some.invariant.files;
+      taken = (_, c.in_ok-take_all.ensures.ok taken.0 taken.1, simp (length-append, length-map) (omega (arith, taken.2, parts, c.deref.ensures.len, c.in_ok-texts.ensures.number)));
     }
 
-pub returns : goal.returns
-returns g c =
+pub returns-clause-taken : goal.returns-clause-taken
+returns-clause-taken g c =
     let taken = c.loop-some.invariant.taken in
     (taken.0, taken.1, omega (arith, taken.2, c.in-None.ensures.steps.1.0))

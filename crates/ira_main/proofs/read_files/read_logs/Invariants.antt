@@ -7,5 +7,6 @@ abbrev pub invariant-loop-some : goal.invariant-loop-some
 invariant-loop-some g l = record {
   may_go_on : (goal.iterator-loop-some g).can_next l.some-iterator;
   ends : (goal.iterator-loop-some g).is_finite l.some-iterator;
+  files : g.F.Shelf.files l.shelf ≡ g.F.Shelf.files l.fn.shelf;
   taken : (texts : List (List ℕ)) × HasTaken l.audit texts × (length texts + length (chunks_rest l.some-iterator) ≡ length l.names);
 }

@@ -33,7 +33,7 @@ returns-in-Some c =
           let read : map (λ name. name.now) names.field-0.items ≡ given_behind first.0 = names.ensures ∙ ap (λ r. unwrap_or (all_of (codes "LOG") r) []) rows in
           let marked : (front back : List (List ℕ)) → All IsFileName front → first.0 ≡ front ++ codes "--" ∷ back → map (λ name. name.now) names.field-0.items ≡ front ++ back =
           λ front back are apart. read ∙ ap given_behind apart ∙ words_behind front back are in
-          subst (IsMadeOf words) (sym (same_value _ _ _ c.in-Some.is w.asked-is)) (record { others = first.0; first = first.1; plain = λ are. read ∙ words_given first.0 are; marked = marked })
+          subst (IsMadeOf words) (sym (same_value _ _ _ c.in-Some.is w.asked-is)) (record { others = first.0; first = first.1; given = read; plain = λ are. read ∙ words_given first.0 are; marked = marked })
       | in-Some-check-default+in_ok-log_names-in-Some-check-default w ↦
           let arm = w.in-Some-check-default in
           let first = met_by_first _ _ words (codes "check") c.in_ok-command.ensures parse.ok.2 parse.kinds (ap (λ n. Some n) (sym arm.is-check) ∙ arm.ensures.name) in
