@@ -1,6 +1,7 @@
 -- What stands behind a head is one certificate's or has one fault, never two answers.
 use Rattle.std.proofs.Common.{◌≡◌, ◌≤◌, ◌<◌, ℕ, ◌+◌, suc, List, [], ◌++◌, Some, None, length, refl, sym, ap, subst, ◌∙◌, arith}
 use Rattle.std.specs.Prelude.{codes}
+use Rattle.ira_event.specs.Limits.{MAX_NODES}
 use Rattle.ira_event.specs.NextLine.{HasNoLineFeed, NextLineFault, cut, at_line}
 use Rattle.ira_event.proofs.NextLines.{next_faults_same}
 use Rattle.ira_event.proofs.Pieces.{line_same, line_has_feed, first_differs}
@@ -56,7 +57,7 @@ inside_same nodes k n line f g (spent_range m a b p) (spent_range m' a' b' q) = 
 
 -- ---- where a fault stands, the good lines end
 
-module _ (nodes : ℕ) (small : nodes ≤ 64) where
+module _ (nodes : ℕ) (small : nodes ≤ MAX_NODES) where
   outside_line_stops : (ss : List Section) (k : ℕ) (line more : List ℕ) (f : CertFault) (b : Stage nodes small) → OutsideFault k (length ss) line more f → Turn nodes small (ss, None) line b → ⊥
   outside_line_stops ss k line more f b (too_many_sections a many p) (opens e q r t) = r many
   outside_line_stops ss k line more f b (no_section_or_end a c p) (opens e q r t) = a q

@@ -3,13 +3,13 @@ use Rattle.std.proofs.Common.{◌≡◌, ◌≤◌, ℕ, List, [], ◌∷◌, �
 use Rattle.std.specs.Prelude.{codes, decimal}
 use Rattle.std.specs.List.{flat_map}
 use Rattle.std.proofs.lemmas.List.Elements.{All-head, All-tail}
-use Rattle.ira_event.specs.Limits.{MAX_TEXT}
+use Rattle.ira_event.specs.Limits.{MAX_NODES, MAX_TEXT}
 use Rattle.ira_event.proofs.Spelled.{numeral_is_decimal, decimal_is_numeral}
 use Rattle.ira_cert_text.specs.declared.cert_step.CertStep.{CertStep}
 use Rattle.ira_cert_text.specs.Certificate.{Section, Certificate, IsStep, IsSection, IsCertificate}
 use Rattle.ira_cert_text.specs.CertText.{IsStepLine, AreStepLines, IsSectionText, AreSectionTexts, IsCertText, step_text, section_text, cert_text}
 
-module _ (nodes : ℕ) (few : nodes ≤ 64) where
+module _ (nodes : ℕ) (few : nodes ≤ MAX_NODES) where
   step_line_spelled : (line : List ℕ) (s : CertStep) → IsStep nodes s → IsStepLine line s → line ++ codes "\n" ≡ step_text s
   step_line_spelled line s within h =
       let spelled : line ≡ codes "drop " ++ decimal s.node ++ codes " " ++ decimal s.pos ++ codes " by " ++ decimal s.other ++ codes " " ++ decimal s.other_pos =

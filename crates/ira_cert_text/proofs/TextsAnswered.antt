@@ -2,7 +2,7 @@
 use Rattle.std.proofs.Common.{◌≡◌, ◌≤◌, ◌<◌, ℕ, ◌+◌, zero, suc, Bool, true, false, List, [], ◌∷◌, ◌++◌, ◌⊎◌, length, take, Option, Some, None, Result, Ok, Err, refl, arith, inl, inr, nat_eq}
 use Rattle.std.specs.Prelude.{codes, position}
 use Rattle.std.proofs.lemmas.Bool.{cases_lt, cases_eq}
-use Rattle.ira_event.specs.Limits.{MAX_RECORDS, MAX_TEXT}
+use Rattle.ira_event.specs.Limits.{MAX_NODES, MAX_RECORDS, MAX_TEXT}
 use Rattle.ira_event.specs.RingSize.{IsRingSize}
 use Rattle.ira_event.specs.Scan.{after_word}
 use Rattle.ira_event.proofs.LogReading.{line_end_at}
@@ -175,7 +175,7 @@ sections_answered nodes small text = from_section (suc (length text)) nodes smal
 size_decided : (nodes : ℕ) → Decided (IsRingSize nodes)
 size_decided nodes = elim (cases_lt nodes 2) [
   | inl few ↦ inr (λ h. omega (arith, h.0, few))
-  | inr two ↦ elim (cases_lt 64 nodes) [ inl many ↦ inr (λ h. omega (arith, h.1, many)) | inr small ↦ inl (two, small) ]
+  | inr two ↦ elim (cases_lt MAX_NODES nodes) [ inl many ↦ inr (λ h. omega (arith, h.1, many)) | inr small ↦ inl (two, small) ]
 ]
 
 abbrev Answered : List ℕ → Type 0

@@ -3,6 +3,7 @@ use Rattle.std.proofs.Common.{◌≡◌, ◌≢◌, ◌≤◌, ◌<◌, ℕ, ◌
 use Rattle.std.specs.Prelude.{codes}
 use Rattle.std.proofs.lemmas.List.{append-nil}
 use Rattle.std.proofs.lemmas.List.Elements.{All-head, All-tail}
+use Rattle.ira_event.specs.Limits.{MAX_NODES}
 use Rattle.ira_event.specs.NextLine.{HasNoLineFeed}
 use Rattle.ira_event.specs.Scan.{kept}
 use Rattle.ira_event.proofs.Pieces.{line_same, first_differs}
@@ -36,7 +37,7 @@ step_no_spent line s n h k = first_differs 100 115 _ _ refl (sym h.parts ∙ k.1
 
 -- ---- from line to line
 
-module _ (nodes : ℕ) (small : nodes ≤ 64) where
+module _ (nodes : ℕ) (small : nodes ≤ MAX_NODES) where
   pub step_good : (line : List ℕ) (s t : CertStep) → IsStepLine line s → IsStepLine line t → IsStep nodes s → IsStep nodes t
   step_good line s t h k good =
       let keeps : IsStep nodes (as_step (kept_step s)) = subst (IsStep nodes) (sym (step_kept_same nodes s (omega (arith, small)) good)) good in

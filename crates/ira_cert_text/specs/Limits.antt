@@ -1,7 +1,7 @@
 -- The limits of certificates.
 use Rattle.std.specs.Prelude.{ℕ}
 
--- the most sections that a certificate has: one for each pair of 64 nodes
+-- the most sections that a certificate has: one for each pair of `MAX_NODES` nodes
 abbrev pub MAX_SECTIONS : ℕ
 MAX_SECTIONS = 2016
 

@@ -6,7 +6,7 @@ use Rattle.std.specs.Str.{all_ascii_digits}
 use Rattle.std.proofs.lemmas.Bool.Decides.{nat_tests}
 use Rattle.std.proofs.lemmas.Fmt.{decimal-digits_value, digits_decimal, digits_value-decimal, decimal_nonempty, first_decimal, length-decimal-le, decimal_digit}
 use Rattle.std.proofs.lemmas.Str.Parse.{IsNumeralModel, numerals_by_fold, tells_all_ascii_digits}
-use Rattle.ira_event.specs.Limits.{MAX_NUMBER, MAX_TEXT}
+use Rattle.ira_event.specs.Limits.{MAX_NODES, MAX_NUMBER, MAX_TEXT}
 use Rattle.ira_event.specs.declared.event.Event.{Event}
 use Rattle.ira_event.specs.declared.event.Event.TheVariants.{Draw, Sent, Got}
 use Rattle.ira_event.specs.declared.msg.Msg.{Msg}
@@ -106,11 +106,11 @@ records_are (Got m ∷ es) good =
 
 -- ---- whole texts
 
-head_spelled : (text : List ℕ) (nodes place : ℕ) (initiator : Bool) → nodes ≤ 64 → place < nodes → IsHead text nodes place initiator → text ≡ head_text nodes place initiator
+head_spelled : (text : List ℕ) (nodes place : ℕ) (initiator : Bool) → nodes ≤ MAX_NODES → place < nodes → IsHead text nodes place initiator → text ≡ head_text nodes place initiator
 head_spelled text nodes place initiator size in_ring h =
     h.parts ∙ rw (numeral_is_decimal h.nodes_text nodes h.nodes_is (omega (arith, size)), numeral_is_decimal h.place_text place h.place_is (omega (arith, size, in_ring))) refl
 
-head_is : (nodes place : ℕ) (initiator : Bool) → nodes ≤ 64 → place < nodes → IsHead (head_text nodes place initiator) nodes place initiator
+head_is : (nodes place : ℕ) (initiator : Bool) → nodes ≤ MAX_NODES → place < nodes → IsHead (head_text nodes place initiator) nodes place initiator
 head_is nodes place initiator size in_ring =
     record { nodes_text = decimal nodes; place_text = decimal place; nodes_is = decimal_is_numeral nodes (omega (arith, size)); place_is = decimal_is_numeral place (omega (arith, size, in_ring)); parts = refl }
 

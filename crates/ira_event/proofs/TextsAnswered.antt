@@ -2,7 +2,7 @@
 use Rattle.std.proofs.Common.{◌≡◌, ◌≤◌, ◌<◌, ℕ, ◌+◌, zero, suc, Bool, true, false, List, [], ◌∷◌, ◌++◌, ◌⊎◌, length, take, Option, Some, None, Result, Ok, Err, refl, sym, ap, ◌∙◌, arith, inl, inr, nat_eq}
 use Rattle.std.specs.Prelude.{codes, position}
 use Rattle.std.proofs.lemmas.Bool.{cases_lt, cases_eq}
-use Rattle.ira_event.specs.Limits.{MAX_RECORDS, MAX_TEXT}
+use Rattle.ira_event.specs.Limits.{MAX_NODES, MAX_RECORDS, MAX_TEXT}
 use Rattle.ira_event.specs.declared.event.Event.{Event}
 use Rattle.ira_event.specs.declared.log_fault.LogFault.{LogFault}
 use Rattle.ira_event.specs.declared.log_fault.LogFault.TheVariants as fault
@@ -121,7 +121,7 @@ records_answered text = from_record (suc (length text)) text [] (left_of text 0)
 head_decided : (nodes place : ℕ) → Decided (IsRingSize nodes × (place < nodes))
 head_decided nodes place = elim (cases_lt nodes 2) [
   | inl few ↦ inr (λ h. omega (arith, h.0.0, few))
-  | inr two ↦ elim (cases_lt 64 nodes) [
+  | inr two ↦ elim (cases_lt MAX_NODES nodes) [
     | inl many ↦ inr (λ h. omega (arith, h.0.1, many))
     | inr small ↦ elim (cases_lt place nodes) [ inl lt ↦ inl ((two, small), lt) | inr past ↦ inr (λ h. omega (arith, h.1, past)) ]
   ]

@@ -1,6 +1,10 @@
 -- The limits of logs and of texts.
 use Rattle.std.specs.Prelude.{ℕ}
 
+-- the most nodes that a ring has
+abbrev pub MAX_NODES : ℕ
+MAX_NODES = 64
+
 -- the largest round, ID, hop and draw that a record holds
 abbrev pub MAX_NUMBER : ℕ
 MAX_NUMBER = 1000000

@@ -31,7 +31,7 @@ pub use event::Event;
 pub use events::Events;
 pub use head_fault::HeadFault;
 pub use laws::{a_text_has_one_answer, each_log_has_one_text, no_text_is_two_logs};
-pub use limits::{MAX_NUMBER, MAX_RECORDS, MAX_TEXT};
+pub use limits::{MAX_NODES, MAX_NUMBER, MAX_RECORDS, MAX_TEXT};
 pub use line::{Line, MAX_LINE};
 pub use listed::Listed;
 pub use log_fault::LogFault;

@@ -1,6 +1,9 @@
 ghost use Rattle.std.specs.Prelude.{◌≡◌};
 ghost use Rattle.ira_event.specs.Event.{is_number as number_test};
 
+/// The most nodes that a ring has.
+pub const MAX_NODES: usize = 64;
+
 /// The largest round, ID, hop and draw that a record holds; the smallest is 1.
 pub const MAX_NUMBER: u32 = 1_000_000;
 

@@ -20,6 +20,7 @@ use Rattle.std.proofs.lemmas.Bool.{leb-true, le-leb}
 use Rattle.std.specs.List.Sorted.{IsPartitionPoint, IsPartitionedBy}
 use Rattle.std.proofs.lemmas.List.Elements.{All-from_get_or}
 use Rattle.std.proofs.lemmas.List.Sums.{sum_by_more, sum_by-take-le, sum_by-le}
+use Rattle.ira_event.specs.Limits.{MAX_NODES, MAX_RECORDS}
 
 abbrev received : Log → ℕ
 received log = length (got log.events)
@@ -70,13 +71,13 @@ apart logs i j r s li lj ne hr hs e = elim (lt_cases i j) [
 ]
 
 -- there are not too many to count
-pub few_receipts : (logs : List Log) → AreLogs logs → receipt_count logs ≤ 64 * 100000
+pub few_receipts : (logs : List Log) → AreLogs logs → receipt_count logs ≤ MAX_NODES * MAX_RECORDS
 few_receipts logs are =
     let each : All (λ log. received log ≤ 100000) logs =
     All-from_get_or (λ log. received log ≤ 100000) logs no_log (λ i l. (let v = (are.valid i (get_or logs i no_log) (slice_get-get_or logs i no_log l)).count in omega (arith, receipts_le (get_or logs i no_log).events, v))) in
     omega (arith, sum_by-le received 100000 logs each, are.ring.1)
 
-pub few_first : (logs : List Log) (j : ℕ) → AreLogs logs → first_receipt logs j ≤ 64 * 100000
+pub few_first : (logs : List Log) (j : ℕ) → AreLogs logs → first_receipt logs j ≤ MAX_NODES * MAX_RECORDS
 few_first logs j are = omega (arith, few_receipts logs are, sum_by-take-le received logs j)
 
 -- a receipt more or none, behind the first n events

@@ -21,6 +21,7 @@ use Rattle.ira_order.proofs.Receipts.{receipts_by_le, receipt_below, few_receipt
 use Rattle.std.proofs.lemmas.List.{get_or-take, get_or-drop, get_or-replicate, length-replicate, length-take-le}
 use Rattle.std.proofs.lemmas.Option.{get_or_from_slice_get, slice_get_within}
 use Rattle.std.proofs.lemmas.Nat.{mul-add-lt, mul-le, same_from_place}
+use Rattle.ira_event.specs.Limits.{MAX_NODES, MAX_RECORDS}
 
 -- the counter that is kept for a receipt
 pub counter_at : (logs : List Log) (counters : List ℕ) (j g i : ℕ) → 1 ≤ g → counter logs counters j g i ≡ slice_index counters ((first_receipt logs j + (g - 1)) * length logs + i)
@@ -31,9 +32,9 @@ counter_at logs counters j (suc r) i one = (let e : suc r - 1 ≡ r = omega arit
 pub in_table : (logs : List Log) (row i m : ℕ) → row < receipt_count logs → i < length logs → m ≡ length logs * receipt_count logs → row * length logs + i < m
 in_table logs row i m l li e = omega (arith, e, mul-add-lt row (length logs) i (receipt_count logs) l li)
 
-pub small_place : (logs : List Log) (row i : ℕ) → AreLogs logs → row < receipt_count logs → i < length logs → row * length logs + i < 64 * (64 * 100000)
+pub small_place : (logs : List Log) (row i : ℕ) → AreLogs logs → row < receipt_count logs → i < length logs → row * length logs + i < MAX_NODES * (MAX_NODES * MAX_RECORDS)
 small_place logs row i are l li =
-    omega (arith, mul-add-lt row (length logs) i (receipt_count logs) l li, mul-le (length logs) (receipt_count logs) 64 (64 * 100000) are.ring.1 (few_receipts logs are))
+    omega (arith, mul-add-lt row (length logs) i (receipt_count logs) l li, mul-le (length logs) (receipt_count logs) MAX_NODES (MAX_NODES * MAX_RECORDS) are.ring.1 (few_receipts logs are))
 
 -- the row of a receipt
 pub row_of : (logs : List Log) (j g v : ℕ) → j < length logs → 1 ≤ g → g ≤ length (got (log_of logs j)) → v ≡ first_receipt logs j → (v + g - 1 < receipt_count logs) × (v + g - 1 ≡ first_receipt logs j + (g - 1))

@@ -9,7 +9,7 @@ ghost use Rattle.ira_order.specs.Stamps.{receipts_by, AreReceipts, AreReceiptsOf
 
 use crate::links::reader_of;
 use crate::tally::Tally;
-use ira_event::{Event, Logs, NodeLog};
+use ira_event::{Event, Logs, MAX_NODES, NodeLog};
 use std::alloc::{AllocError, Allocator};
 
 /// A stamp for each receipt: for each node the number of its events that happened up to the receipt's
@@ -27,7 +27,7 @@ pub(crate) struct Stamps<A: Allocator> {
 }
 
 /// The stamp of an event that no receipt of its node comes before: no event of another node is known.
-static NOTHING_RECEIVED: [u32; 64] = [0; 64];
+static NOTHING_RECEIVED: [u32; MAX_NODES] = [0; MAX_NODES];
 
 /// How many receipts a log has.
 fn receipts<A: Allocator>(log: &NodeLog<A>) -> usize

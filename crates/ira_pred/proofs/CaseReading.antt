@@ -12,6 +12,7 @@ use Rattle.ira_pred.specs.declared.case.PlacedClause.{PlacedClause}
 use Rattle.ira_pred.specs.declared.question_line.QuestionLine.{QuestionLine}
 use Rattle.ira_pred.specs.declared.question_line.QuestionLine.TheVariants as line
 use Rattle.ira_pred.specs.Case.{Conjunct, IsConjunct, IsCase, IsCaseOfSomeRing}
+use Rattle.ira_pred.specs.Limits.{MAX_CASES}
 use Rattle.ira_pred.specs.PlacedClause.{conjunct, conjuncts}
 use Rattle.ira_pred.specs.QuestionLines.{LinesLeft, ReadsLine, ReadsInCase, AreAllCases}
 use Rattle.ira_pred.specs.QuestionText.{IsConjunctLine, AreConjunctLines, IsCaseText, AreCaseTexts}
@@ -75,7 +76,7 @@ closed_more : (text closed lines rest : List ℕ) → text ≡ closed ++ codes "
 closed_more text closed lines rest p = p ∙ ap (λ w. w ++ rest) (append_assoc closed (codes "case\n") lines)
 
 -- the line that begins one more case was read
-pub more_cases : (nodes : ℕ) (text : List ℕ) (cases : List (List Conjunct)) (cs : List Conjunct) (old new : LinesLeft) → HasRead nodes text cases cs old → ReadsLine old new (codes "case") → cs ≢ [] → length cases + 1 < 2016 → HasRead nodes text (cases ++ cs ∷ []) [] new
+pub more_cases : (nodes : ℕ) (text : List ℕ) (cases : List (List Conjunct)) (cs : List Conjunct) (old new : LinesLeft) → HasRead nodes text cases cs old → ReadsLine old new (codes "case") → cs ≢ [] → length cases + 1 < MAX_CASES → HasRead nodes text (cases ++ cs ∷ []) [] new
 more_cases nodes text cases cs old new h r some few = (
   record {
     closed = h.0.closed ++ (codes "case\n" ++ h.0.lines);

@@ -2,6 +2,7 @@
 use Rattle.std.proofs.Common.{◌≡◌, ◌≢◌, ◌≤◌, ◌<◌, ◌+◌, ℕ, zero, suc, List, [], ◌∷◌, ◌++◌, length, take, Option, Some, None, ◌⊎◌, refl, arith, inl, inr, nat_eq}
 use Rattle.std.specs.Prelude.{All, codes, position}
 use Rattle.std.proofs.lemmas.List.Elements.{All-nil, All-cons, All-head, All-tail}
+use Rattle.ira_event.specs.Limits.{MAX_NODES}
 use Rattle.ira_event.specs.RingSize.{IsRingSize}
 use Rattle.ira_event.specs.Scan.{after_word}
 use Rattle.ira_event.proofs.RecordLines.{word-takes}
@@ -10,6 +11,7 @@ use Rattle.ira_pred.specs.declared.ask_fault.AskFault.TheVariants.{TooLong, Head
 use Rattle.ira_pred.specs.Case.{Conjunct}
 use Rattle.ira_pred.specs.ClauseScan.{clause_at}
 use Rattle.ira_pred.specs.Formula.{Formula, depth}
+use Rattle.ira_pred.specs.Limits.{MAX_CASES}
 use Rattle.ira_pred.specs.Question.{Asked}
 use Rattle.ira_pred.specs.QuestionLines.{LinesLeft, ReadsLine, ClauseFault, AreAllCases}
 use Rattle.ira_pred.specs.QuestionScan.{head_at, place_at}
@@ -31,9 +33,9 @@ empty_or_not [] = inl refl
 empty_or_not (x ∷ xs) = inr (λ e. absurd cc)
 
 ring_or_not : (n : ℕ) → IsRingSize n ⊎ (¬ (IsRingSize n))
-ring_or_not n = by_least (below_or_not n 2) (below_or_not 64 n)
+ring_or_not n = by_least (below_or_not n 2) (below_or_not MAX_NODES n)
   where
-    by_least : (n < 2) ⊎ (2 ≤ n) → (64 < n) ⊎ (n ≤ 64) → IsRingSize n ⊎ (¬ (IsRingSize n))
+    by_least : (n < 2) ⊎ (2 ≤ n) → (MAX_NODES < n) ⊎ (n ≤ MAX_NODES) → IsRingSize n ⊎ (¬ (IsRingSize n))
     by_least (inl few) b = inr (λ h. omega (arith, few, h.0))
     by_least (inr least) (inl many) = inr (λ h. omega (arith, many, h.1))
     by_least (inr least) (inr most) = inl (least, most)
@@ -124,7 +126,7 @@ module _ (nodes : ℕ) (text : List ℕ) (small : nodes ≤ 255) (k : ℕ) (on :
     by_place (inl may) = by_clause (clause_at 32 t) may refl
     by_place (inr bad) = let d = complete_fault t (Place number) in refused d.0 (fault_place nodes here rest place t read small d.0 bad d.1)
 
-  by_count : (after : List ℕ) → after_word (codes "case\n") rest ≡ Some after → cs ≢ [] → (length cases + 1 < 2016) ⊎ (2016 ≤ length cases + 1) → CasesAnswer nodes text
+  by_count : (after : List ℕ) → after_word (codes "case\n") rest ≡ Some after → cs ≢ [] → (length cases + 1 < MAX_CASES) ⊎ (MAX_CASES ≤ length cases + 1) → CasesAnswer nodes text
   by_count after e some (inr many) = refused Cases (fault_cases nodes here rest after e some many)
   by_count after e some (inl less) =
       let line : ReadsLine (left_of rest number) (left_of after (number + 1)) (codes "case") = record { rest = word-takes (codes "case\n") rest after e; number = refl } in
@@ -137,7 +139,7 @@ module _ (nodes : ℕ) (text : List ℕ) (small : nodes ≤ 255) (k : ℕ) (on :
 
   by_word : (a b : Option (List ℕ)) → place_at rest ≡ None → after_word (codes "case\n") rest ≡ a → after_word (codes "end\n") rest ≡ b → (cs ≡ []) ⊎ (cs ≢ []) → CasesAnswer nodes text
   by_word (Some after) b unplaced ea eb (inl none) = refused (Empty number) (fault_empty_case nodes here rest after ea none)
-  by_word (Some after) b unplaced ea eb (inr some) = by_count after ea some (below_or_not (length cases + 1) 2016)
+  by_word (Some after) b unplaced ea eb (inr some) = by_count after ea some (below_or_not (length cases + 1) MAX_CASES)
   by_word None (Some after) unplaced ea eb (inl none) = refused (Empty number) (fault_empty_end nodes here rest after eb none)
   by_word None (Some after) unplaced ea eb (inr some) = by_more after eb some (empty_or_not after)
   by_word None None unplaced ea eb c =

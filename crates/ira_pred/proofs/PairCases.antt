@@ -5,9 +5,11 @@ use Rattle.std.specs.List.{flat_map}
 use Rattle.std.proofs.lemmas.List.Elements.{All-nil, All-cons, All-head, All-tail, All-append}
 use Rattle.std.proofs.lemmas.List.Kept.{AllPairs-cons}
 use Rattle.std.proofs.lemmas.Fmt.{length-decimal-le}
+use Rattle.ira_event.specs.Limits.{MAX_NODES}
 use Rattle.ira_event.specs.RingSize.{IsRingSize}
 use Rattle.ira_pred.specs.Formula.{leader}
 use Rattle.ira_pred.specs.Case.{Conjunct, IsConjunct, IsCase}
+use Rattle.ira_pred.specs.Limits.{MAX_CASES}
 use Rattle.ira_pred.specs.Question.{IsQuestion}
 use Rattle.ira_pred.specs.QuestionText.{conjunct_text, case_text, IsShort}
 use Rattle.ira_pred.specs.Pairs.{numbers_from, pair_case, cases_of_place, pairs_asked}
@@ -87,20 +89,20 @@ triangle-more k (suc d) =
     let before = triangle-more k d in
     omega arith
 
-triangle-64 : triangle 64 ≡ 2016
+triangle-all : triangle MAX_NODES ≡ MAX_CASES
 unfolding triangle
-triangle-64 = refl
+triangle-all = refl
 
 triangle-2 : triangle 2 ≡ 1
 unfolding triangle
 triangle-2 = refl
 
-pub pairs-count : (n : ℕ) → n ≤ 64 → length (pairs_asked n).cases ≤ 2016
+pub pairs-count : (n : ℕ) → n ≤ MAX_NODES → length (pairs_asked n).cases ≤ MAX_CASES
 pairs-count n h =
-    let e : triangle ((64 - n) + n) ≡ triangle 64 = ap triangle (omega arith) in
-    let most = triangle-more n (64 - n) in
+    let e : triangle ((MAX_NODES - n) + n) ≡ triangle MAX_NODES = ap triangle (omega arith) in
+    let most = triangle-more n (MAX_NODES - n) in
     let same = length-rows n 0 n (omega arith) in
-    let last = triangle-64 in
+    let last = triangle-all in
     omega arith
 
 pub pairs-some : (n : ℕ) → 2 ≤ n → 1 ≤ length (pairs_asked n).cases
@@ -113,7 +115,7 @@ pairs-some n h =
 
 -- ---- how long their text is
 
-place-short : (n : ℕ) → n < 64 → length (conjunct_text (record { place = n; formula = leader })) ≤ 11
+place-short : (n : ℕ) → n < MAX_NODES → length (conjunct_text (record { place = n; formula = leader })) ≤ 11
 place-short n h =
     let digits = length-decimal-le 2 n (omega arith) (omega arith) (omega arith) in
     let a = length-append (decimal n ++ codes ": " ++ codes "leader") (codes "\n") in
@@ -121,7 +123,7 @@ place-short n h =
     let c = length-append (decimal n) (codes ": ") in
     omega arith
 
-case-short : (i j : ℕ) → i < 64 → j < 64 → length (case_text (pair_case i j)) ≤ 27
+case-short : (i j : ℕ) → i < MAX_NODES → j < MAX_NODES → length (case_text (pair_case i j)) ≤ 27
 case-short i j low high =
     let one = conjunct_text (record { place = i; formula = leader }) in
     let two = conjunct_text (record { place = j; formula = leader }) in
@@ -140,7 +142,7 @@ texts-short (x ∷ xs) h =
     let both = length-append (case_text x) (flat_map case_text xs) in
     omega arith
 
-pub pairs-short : (n : ℕ) → n ≤ 64 → IsShort (pairs_asked n)
+pub pairs-short : (n : ℕ) → n ≤ MAX_NODES → IsShort (pairs_asked n)
 pairs-short n h =
     let cases = (pairs_asked n).cases in
     let each = texts-short cases (All-pairs (λ x. length (case_text x) ≤ 27) n (λ i j low high. case-short i j (omega arith) (omega arith))) in

@@ -11,6 +11,7 @@ use Rattle.ira_event.proofs.Pieces.{line_same, line_has_feed}
 use Rattle.ira_pred.specs.declared.ask_fault.AskFault.{AskFault}
 use Rattle.ira_pred.specs.declared.ask_fault.AskFault.TheVariants.{Line, Place, Depth, Empty, Cases, Cut, Trailing}
 use Rattle.ira_pred.specs.Case.{Conjunct, IsCase}
+use Rattle.ira_pred.specs.Limits.{MAX_CASES}
 use Rattle.ira_pred.specs.Question.{Asked}
 use Rattle.ira_pred.specs.QuestionText.{IsPlaced, AreConjunctLines, AreCaseTexts, IsQuestionText}
 use Rattle.ira_pred.specs.QuestionTextFault.{IsTooDeep, Spot, MayFollow, FirstLineFault, no_case, other_line, CaseLineFault, empty, too_many, no_place, wrong_place, too_deep, no_clause, trailing, NextLineFault, BeginsWithQuestionHead, BeginsInCase, spot, CasesFault, before_cases, in_case, QuestionLinesFault, no_head, behind_head, QuestionTextFault}
@@ -192,7 +193,7 @@ some_last : (nodes : ℕ) (text : List ℕ) (cases : List (List Conjunct)) → 1
 some_last nodes text [] some goods h = absurd (omega (arith, some))
 some_last nodes text (c ∷ cs) some goods h = last_case nodes text c cs goods h
 
-begins_last : (nodes : ℕ) (text : List ℕ) (cases : List (List Conjunct)) (r : LastCase nodes text cases) → length cases ≤ 2016 → BeginsInCase nodes (text ++ codes "end\n") r.before r.last (codes "end\n")
+begins_last : (nodes : ℕ) (text : List ℕ) (cases : List (List Conjunct)) (r : LastCase nodes text cases) → length cases ≤ MAX_CASES → BeginsInCase nodes (text ++ codes "end\n") r.before r.last (codes "end\n")
 begins_last nodes text cases r few = record {
   closed = r.closed;
   lines = r.lines;
@@ -218,7 +219,7 @@ ends_well nodes at f some (cut whole is) = line_has_feed (codes "end") [] whole
 ends_well nodes at f some (at_line line more p feed h) =
     let s = line_same (codes "end") line [] more refl feed p in end_line_well nodes at line more f (sym s.0) (sym s.1) some h
 
-no_cases_fault : (nodes : ℕ) (text : List ℕ) (cases : List (List Conjunct)) (f : AskFault) → 1 ≤ length cases → length cases ≤ 2016 → All (IsCase nodes) cases → AreCaseTexts text cases → CasesFault nodes (text ++ codes "end\n") f → ⊥
+no_cases_fault : (nodes : ℕ) (text : List ℕ) (cases : List (List Conjunct)) (f : AskFault) → 1 ≤ length cases → length cases ≤ MAX_CASES → All (IsCase nodes) cases → AreCaseTexts text cases → CasesFault nodes (text ++ codes "end\n") f → ⊥
 no_cases_fault nodes text cases f some few goods h (before_cases a) =
     let l = some_last nodes text cases some goods h in
     let r = reads_on nodes (text ++ codes "end\n") l.before l.last (codes "end\n") (begins_last nodes text cases l few) in

@@ -17,6 +17,7 @@ use Rattle.ira_pred.specs.declared.case.PlacedClause.{PlacedClause}
 use Rattle.ira_pred.specs.Case.{Conjunct, IsConjunct}
 use Rattle.ira_pred.specs.ClauseScan.{clause_at}
 use Rattle.ira_pred.specs.Formula.{Formula, depth}
+use Rattle.ira_pred.specs.Limits.{MAX_CASES}
 use Rattle.ira_pred.specs.PlacedClause.{conjunct, conjuncts}
 use Rattle.ira_pred.specs.QuestionLines.{LinesLeft, ReadsLine, ClauseFault}
 use Rattle.ira_pred.specs.QuestionScan.{place_at}
@@ -117,7 +118,7 @@ module _ (nodes : ℕ) (at : Spot) (text : List ℕ) where
   pub fault_empty_end : (after : List ℕ) → after_word (codes "end\n") text ≡ Some after → at.conjuncts ≡ [] → Fault (Empty at.number)
   fault_empty_end after e none = at_line (codes "end") after (word-takes (codes "end\n") text after e) refl (empty (inr refl) none refl)
 
-  pub fault_cases : (after : List ℕ) → after_word (codes "case\n") text ≡ Some after → at.conjuncts ≢ [] → 2016 ≤ at.cases + 1 → Fault Cases
+  pub fault_cases : (after : List ℕ) → after_word (codes "case\n") text ≡ Some after → at.conjuncts ≢ [] → MAX_CASES ≤ at.cases + 1 → Fault Cases
   fault_cases after e some many = at_line (codes "case") after (word-takes (codes "case\n") text after e) refl (too_many refl some many refl)
 
   pub fault_trailing : (after : List ℕ) → after_word (codes "end\n") text ≡ Some after → at.conjuncts ≢ [] → after ≢ [] → Fault Trailing

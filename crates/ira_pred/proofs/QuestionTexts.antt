@@ -4,6 +4,7 @@ use Rattle.std.specs.Prelude.{All, codes, decimal, ◌↔◌}
 use Rattle.std.specs.List.{flat_map}
 use Rattle.std.proofs.lemmas.List.{append_cancel_left}
 use Rattle.std.proofs.lemmas.List.Elements.{All-head, All-tail}
+use Rattle.ira_event.specs.Limits.{MAX_NODES}
 use Rattle.ira_event.specs.NextLine.{HasNoLineFeed}
 use Rattle.ira_event.specs.Numeral.{IsNumeral}
 use Rattle.ira_event.proofs.Numerals.{number-again, numeral_same, Lacks-numeral}
@@ -21,24 +22,24 @@ use Rattle.ira_pred.proofs.ClauseTexts.{clause_spelled, clause_is, clause_same}
 
 -- ---- one text
 
-conjunct_spelled : (nodes : ℕ) (line : List ℕ) (c : Conjunct) → nodes ≤ 64 → IsConjunct nodes c → IsConjunctLine line c → line ++ codes "\n" ≡ conjunct_text c
+conjunct_spelled : (nodes : ℕ) (line : List ℕ) (c : Conjunct) → nodes ≤ MAX_NODES → IsConjunct nodes c → IsConjunctLine line c → line ++ codes "\n" ≡ conjunct_text c
 conjunct_spelled nodes line c most good h =
     let place : h.1.0 ≡ decimal c.place = numeral_is_decimal h.1.0 c.place h.1.2 (omega (arith, good.in_ring)) in
     let clause : h.0 ≡ clause_text c.formula = clause_spelled h.0 c.formula h.2 in
     ap (λ w. w ++ codes "\n") (h.1.1 ∙ ap (λ w. w ++ codes ": " ++ h.0) place ∙ ap (λ w. decimal c.place ++ codes ": " ++ w) clause)
 
-conjunct_is : (nodes : ℕ) (c : Conjunct) → nodes ≤ 64 → IsConjunct nodes c → IsConjunctLine (decimal c.place ++ codes ": " ++ clause_text c.formula) c
+conjunct_is : (nodes : ℕ) (c : Conjunct) → nodes ≤ MAX_NODES → IsConjunct nodes c → IsConjunctLine (decimal c.place ++ codes ": " ++ clause_text c.formula) c
 conjunct_is nodes c most good =
     (clause_text c.formula, (decimal c.place, refl, decimal_is_numeral c.place (omega (arith, good.in_ring))), clause_is c.formula good.numbers)
 
-lines_spelled : (nodes : ℕ) (text : List ℕ) (cs : List Conjunct) → nodes ≤ 64 → All (IsConjunct nodes) cs → AreConjunctLines text cs → text ≡ flat_map conjunct_text cs
+lines_spelled : (nodes : ℕ) (text : List ℕ) (cs : List Conjunct) → nodes ≤ MAX_NODES → All (IsConjunct nodes) cs → AreConjunctLines text cs → text ≡ flat_map conjunct_text cs
 lines_spelled nodes text [] most good h = h
 lines_spelled nodes text (c ∷ cs) most good h =
     let first = conjunct_spelled nodes h.0 c most (All-head (IsConjunct nodes) c cs good) h.3 in
     let rest = lines_spelled nodes h.1 cs most (All-tail (IsConjunct nodes) c cs good) h.4 in
     h.2 ∙ ap (λ w. w ++ h.1) first ∙ ap (λ w. conjunct_text c ++ w) rest
 
-lines_are : (nodes : ℕ) (cs : List Conjunct) → nodes ≤ 64 → All (IsConjunct nodes) cs → AreConjunctLines (flat_map conjunct_text cs) cs
+lines_are : (nodes : ℕ) (cs : List Conjunct) → nodes ≤ MAX_NODES → All (IsConjunct nodes) cs → AreConjunctLines (flat_map conjunct_text cs) cs
 lines_are nodes [] most good = refl
 lines_are nodes (c ∷ cs) most good = (
   decimal c.place ++ codes ": " ++ clause_text c.formula,
@@ -48,7 +49,7 @@ lines_are nodes (c ∷ cs) most good = (
   lines_are nodes cs most (All-tail (IsConjunct nodes) c cs good),
 )
 
-cases_spelled : (nodes : ℕ) (text : List ℕ) (cases : List (List Conjunct)) → nodes ≤ 64 → All (IsCase nodes) cases → AreCaseTexts text cases → text ≡ flat_map case_text cases
+cases_spelled : (nodes : ℕ) (text : List ℕ) (cases : List (List Conjunct)) → nodes ≤ MAX_NODES → All (IsCase nodes) cases → AreCaseTexts text cases → text ≡ flat_map case_text cases
 cases_spelled nodes text [] most good h = h
 cases_spelled nodes text (c ∷ cs) most good h =
     let case = All-head (IsCase nodes) c cs good in
@@ -56,7 +57,7 @@ cases_spelled nodes text (c ∷ cs) most good h =
     let rest = cases_spelled nodes h.1 cs most (All-tail (IsCase nodes) c cs good) h.4 in
     h.2 ∙ ap (λ w. w ++ h.1) (h.3.1 ∙ ap (λ w. codes "case\n" ++ w) lines) ∙ ap (λ w. case_text c ++ w) rest
 
-cases_are : (nodes : ℕ) (cases : List (List Conjunct)) → nodes ≤ 64 → All (IsCase nodes) cases → AreCaseTexts (flat_map case_text cases) cases
+cases_are : (nodes : ℕ) (cases : List (List Conjunct)) → nodes ≤ MAX_NODES → All (IsCase nodes) cases → AreCaseTexts (flat_map case_text cases) cases
 cases_are nodes [] most good = refl
 cases_are nodes (c ∷ cs) most good = (
   case_text c,

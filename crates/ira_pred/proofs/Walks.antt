@@ -7,6 +7,7 @@ use Rattle.ira_event.specs.NextLine.{HasNoLineFeed, cut, at_line}
 use Rattle.ira_event.proofs.Pieces.{line_same, line_has_feed}
 use Rattle.ira_pred.specs.declared.ask_fault.AskFault.{AskFault}
 use Rattle.ira_pred.specs.Case.{Conjunct, IsConjunct, AreConjuncts, IsCase}
+use Rattle.ira_pred.specs.Limits.{MAX_CASES}
 use Rattle.ira_pred.specs.QuestionText.{IsClauseText, IsPlaced, IsConjunctLine, AreConjunctLines, AreCaseTexts}
 use Rattle.ira_pred.specs.QuestionTextFault.{IsTooDeep, MayFollow, CaseLineFault, empty, too_many, no_place, wrong_place, too_deep, no_clause, trailing, NextLineFault, BeginsInCase, spot}
 use Rattle.ira_pred.proofs.Depths.{clause_too_deep}
@@ -19,7 +20,7 @@ pub record Reading : Type 0 where
 
 -- a line that leads on
 pub data Next (nodes : ℕ) (a : Reading) (line : List ℕ) (b : Reading) : Type 0 where
-  closes : line ≡ codes "case" → a.conjuncts ≢ [] → length a.cases + 1 < 2016 → b ≡ record { cases = a.cases ++ a.conjuncts ∷ []; conjuncts = [] } → Next nodes a line b
+  closes : line ≡ codes "case" → a.conjuncts ≢ [] → length a.cases + 1 < MAX_CASES → b ≡ record { cases = a.cases ++ a.conjuncts ∷ []; conjuncts = [] } → Next nodes a line b
   asks : (c : Conjunct) → IsConjunctLine line c → IsConjunct nodes c → All (λ d. d.place < c.place) a.conjuncts → b ≡ record { cases = a.cases; conjuncts = a.conjuncts ++ c ∷ [] } → Next nodes a line b
 
 -- these lines lead on from what was read, and this is left of the text
@@ -112,7 +113,7 @@ pub record ReadsOn (nodes : ℕ) (done : List (List Conjunct)) (text : List ℕ)
 regrouped : (first lines closed tail text : List ℕ) → text ≡ first ++ closed → first ≡ codes "case\n" ++ lines → text ++ tail ≡ codes "case\n" ++ (lines ++ (closed ++ tail))
 regrouped first lines closed tail text p q = ap (λ w. w ++ tail) (p ∙ ap (λ w. w ++ closed) q) ∙ simp append_assoc
 
-walk_cases : (nodes : ℕ) (done cases : List (List Conjunct)) (conjuncts : List Conjunct) (closed lines rest : List ℕ) → length done + length cases < 2016 → All (IsCase nodes) cases → AreConjuncts nodes conjuncts
+walk_cases : (nodes : ℕ) (done cases : List (List Conjunct)) (conjuncts : List Conjunct) (closed lines rest : List ℕ) → length done + length cases < MAX_CASES → All (IsCase nodes) cases → AreConjuncts nodes conjuncts
     → AreCaseTexts closed cases → AreConjunctLines lines conjuncts → ReadsOn nodes done (closed ++ (codes "case\n" ++ (lines ++ rest))) (record { cases = done ++ cases; conjuncts = conjuncts }) rest
 walk_cases nodes done [] conjuncts closed lines rest few goods good h k =
     let w = walk_lines nodes done [] conjuncts lines rest good k in

@@ -2,7 +2,7 @@
 use Rattle.std.specs.Prelude.{ℕ}
 pub use Rattle.ira_event.specs.Limits.{MAX_NUMBER, MAX_TEXT}
 
--- the most cases that a question has: one for each pair of 64 nodes
+-- the most cases that a question has: one for each pair of `MAX_NODES` nodes
 abbrev pub MAX_CASES : ℕ
 MAX_CASES = 2016
 

@@ -1,4 +1,5 @@
 ghost use Rattle.std.specs.Prelude.{◌≡◌, ◌<◌, ◌++◌, IfOk, OnOk};
+ghost use Rattle.ira_event.specs.Limits.{MAX_NODES};
 ghost use Rattle.ira_pred.specs.Pairs.{pair_case as pair, ArePairCases, cases_of_place, pairs_asked};
 
 use crate::case::{Case, PlacedClause};
@@ -10,7 +11,7 @@ use std::alloc::Allocator;
 /// The case that asks whether both nodes lead.
 fn pair_case<A: Allocator + Clone>(alloc: &A, i: u8, j: u8) -> Result<Case<A>, OutOfMemory>
     requires order { i < j }
-    requires in_ring { j < 64 }
+    requires in_ring { j < MAX_NODES }
     ensures { IfOk result (λ case. case ≡ pair i j) }
 {
     let mut clauses = Vec::with_capacity(alloc.clone()?, 2)?;

@@ -1,4 +1,5 @@
 use Rattle.std.proofs.Common.{◌≡◌, [], ◌∷◌, ◌++◌, List, ℕ, refl, ap, ◌∙◌, arith, sym, subst}
+use Rattle.ira_event.specs.Limits.{MAX_NODES}
 use Rattle.ira_pred.specs.declared.case.PlacedClause.{PlacedClause}
 use Rattle.ira_pred.specs.Formula.{leader}
 use Rattle.ira_pred.specs.Case.{IsCaseOfSomeRing}
@@ -17,4 +18,4 @@ two-pushed xs ys zs p q i j none one two is_p is_q =
 pub of_parts-requires : goal.of_parts-requires
 of_parts-requires g c =
     let is = two-pushed _ _ _ _ _ c.args.i c.args.j c.in_ok-clauses.ensures.items c.in_ok-push.ensures.items c.in_ok-push-2.ensures.items refl refl in
-    subst IsCaseOfSomeRing (sym is) (64, (omega arith, omega arith), pair-is-case 64 c.args.i c.args.j c.requires.order c.requires.in_ring)
+    subst IsCaseOfSomeRing (sym is) (MAX_NODES, (omega arith, omega arith), pair-is-case MAX_NODES c.args.i c.args.j c.requires.order c.requires.in_ring)

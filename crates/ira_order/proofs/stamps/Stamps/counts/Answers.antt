@@ -1,4 +1,5 @@
 use Rattle.std.proofs.Common.{◌≡◌, ◌+◌, ◌-◌, ◌*◌, length, sym, ◌∙◌, arith, rules, subst, take, drop}
+use Rattle.ira_event.specs.Limits.{MAX_NODES}
 use Rattle.ira_order.specs.VectorClock.{AreCountsOfOthers}
 use Rattle.ira_order.specs.Stamps.{first_receipt}
 use Rattle.ira_order.proofs.Receipts.{few_first, first_more, begin_read, receipts_by_le}
@@ -8,7 +9,7 @@ use Rattle.ira_order.proofs.stamps.Stamps.counts.Goals as goal
 pub returns-then-received-eq0 : goal.returns-then-received-eq0
 returns-then-received-eq0 g c =
     let size : c.from-nodes.result ≡ length c.args.logs.now = c.from-nodes.ensures ∙ c.get.ensures.value ∙ c.size.ensures.value in
-    zeros_count c.args.logs.now _ _ _ c.args.j c.args.b c.requires.stamps c.requires.place c.requires.position c.from-nodes.result 64
+    zeros_count c.args.logs.now _ _ _ c.args.j c.args.b c.requires.stamps c.requires.place c.requires.position c.from-nodes.result MAX_NODES
     (omega (arith, c.received-received.ensures)) size (omega (arith, size, c.size.ensures.valid.ring.1))
 
 pub overflow_add-row : goal.overflow_add-row
