@@ -13,10 +13,10 @@ use std::alloc::Allocator;
 /// The candidates of a log for a clause: the positions at which the clause holds of the node's state,
 /// where position 0 and the last one count too (Garg and Waldecker, Detection of Weak Unstable
 /// Predicates in Distributed Programs, IEEE TPDS 5(3), 1994). They are found as they are asked for.
-pub fn candidates<'a, A: Allocator>(
+pub fn candidates<'a, 'b, A: Allocator>(
     log: &'a NodeLog<A>,
-    clause: &'a Clause<A>,
-) -> Ahead<Holding<States<Events<'a>>, &'a Clause<A>>>
+    clause: &'b Clause<A>,
+) -> Ahead<Holding<States<Events<'a>>, &'b Clause<A>>>
     ensures value { result ≡ candidates_of log.now (formula clause.now) }
     ensures list { AreCandidates log.now (formula clause.now) result }
 {
@@ -36,10 +36,10 @@ pub fn table<A: Allocator>(
 }
 
 /// The positions of those of the log's states of which the clause holds.
-fn passing<'a, A: Allocator>(
+fn passing<'a, 'b, A: Allocator>(
     log: &'a NodeLog<A>,
-    clause: &'a Clause<A>,
-) -> Holding<States<Events<'a>>, &'a Clause<A>>
+    clause: &'b Clause<A>,
+) -> Holding<States<Events<'a>>, &'b Clause<A>>
     ensures { result ≡ candidates_of log.now (formula clause.now) }
 {
     let states = States::new(log.nodes(), log.initiator(), log.events());

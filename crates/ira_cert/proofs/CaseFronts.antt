@@ -1,5 +1,5 @@
 -- The candidates of a case, found place by place.
-use Rattle.std.proofs.Common.{◌≡◌, ◌≢◌, ℕ, zero, suc, ◌<◌, ◌⊎◌, inl, inr, List, [], ◌∷◌, ◌++◌, Option, Some, None, MatchOption, Contains, length, slice_get, refl, sym, ◌∙◌, ap, subst, arith}
+use Rattle.std.proofs.Common.{◌≡◌, ◌≢◌, ℕ, zero, suc, ◌<◌, ◌⊎◌, inl, inr, List, [], ◌∷◌, ◌++◌, Option, Some, None, Contains, Result, Ok, Err, IfOk, length, slice_get, refl, sym, ◌∙◌, ap, subst, arith}
 use Rattle.std.specs.Option.{option_map}
 use Rattle.std.proofs.lemmas.List.Elements.{All-contains}
 use Rattle.std.proofs.lemmas.Option.{same_Some, slice_get-get_or, slice_get_cases}
@@ -7,7 +7,7 @@ use Rattle.ira_event.specs.Log.{Log}
 use Rattle.ira_pred.specs.Case.{Conjunct}
 use Rattle.ira_pred.specs.Formula.{Formula}
 use Rattle.ira_cert.specs.Asked.{IsAsked, CandidatesOf, HasPlacesOf}
-use Rattle.ira_cert.specs.Fronts.{AreFronts}
+use Rattle.ira_cert.specs.Fronts.{AreFronts, IsFoundFor, AreFoundFor, AreCandidatesFor}
 
 -- a conjunct of the case, told by its parts
 pub conjunct_at : (case : List Conjunct) (n p : ℕ) (f : Formula) → option_map (λ c. c.place) (slice_get case n) ≡ Some p → option_map (λ c. c.formula) (slice_get case n) ≡ Some f → Contains case (record { place = p; formula = f })
@@ -31,12 +31,10 @@ none_asked case p none asked =
     let c = asked.1 in
     none c.0 x c.1 (slice_get-get_or case c.0 x c.1 ∙ ap (λ (y : Conjunct). Some y) c.2) refl
 
--- what was found at a place is what it should be
-abbrev pub IsFound : List Log → List Conjunct → ℕ → Option (List ℕ) → Type 0
-IsFound logs case i found = MatchOption found (¬ (IsAsked case i)) (λ positions. CandidatesOf logs case i positions)
-
-abbrev pub AllFound : List Log → List Conjunct → List (Option (List ℕ)) → Type 0
-AllFound logs case fronts = (i : ℕ) (found : Option (List ℕ)) → slice_get fronts i ≡ Some found → IsFound logs case i found
+pub conjunct_there : (case : List Conjunct) (n p : ℕ) → option_map (λ c. c.place) (slice_get case n) ≡ Some p → (c : Conjunct) × (slice_get case n ≡ Some c) × (c.place ≡ p)
+conjunct_there [] n p place = cc
+conjunct_there (c ∷ case) zero p place = (c, refl, same_Some c.place p place)
+conjunct_there (c ∷ case) (suc n) p place = conjunct_there case n p place
 
 last_of : {X : Type 0} → (xs : List X) (x y : X) (i : ℕ) → slice_get (xs ++ x ∷ []) i ≡ Some y → (slice_get xs i ≡ Some y) ⊎ ((i ≡ length xs) × (x ≡ y))
 last_of [] x y zero at = inr (refl, same_Some x y at)
@@ -45,24 +43,36 @@ last_of (z ∷ xs) x y zero at = inl at
 last_of (z ∷ xs) x y (suc i) at = elim (last_of xs x y i at) [ inl h ↦ inl h | inr h ↦ inr (ap suc h.0, h.1) ]
 
 -- one place more
-pub found_more : (logs : List Log) (case : List Conjunct) (fronts : List (Option (List ℕ))) (place : ℕ) (found : Option (List ℕ)) → place ≡ length fronts → AllFound logs case fronts → IsFound logs case place found → AllFound logs case (fronts ++ found ∷ [])
-found_more logs case fronts place found e all here i next at = elim (last_of fronts found next i at) [
-  | inl h ↦ all i next h
-  | inr h ↦ subst (λ (o : Option (List ℕ)). IsFound logs case i o) h.1 (subst (λ (j : ℕ). IsFound logs case j found) (e ∙ sym h.0) here)
+pub found_more : {T : Type 0} → (P : ℕ → T → Type 0) (case : List Conjunct) (all : List (Option T)) (place : ℕ) (found : Option T) → place ≡ length all → AreFoundFor P case all → IsFoundFor P case place found → AreFoundFor P case (all ++ found ∷ [])
+found_more {T} P case all place found e h here i next at = elim (last_of all found next i at) [
+  | inl old ↦ h i next old
+  | inr new ↦ subst (λ (o : Option T). IsFoundFor P case i o) new.1 (subst (λ (j : ℕ). IsFoundFor P case j found) (e ∙ sym new.0) here)
 ]
 
-found_at : (logs : List Log) (case : List Conjunct) (i : ℕ) (found : Option (List ℕ)) → IsFound logs case i found → IsAsked case i → (positions : List ℕ) × (found ≡ Some positions)
-found_at logs case i None none asked = absurd (none asked)
-found_at logs case i (Some positions) h asked = (positions, refl)
+module _ (logs : List Log) (case : List Conjunct) (P : ℕ → List ℕ → Type 0) (lists : (n : ℕ) (positions : List ℕ) → P n positions → AreCandidatesFor logs case n positions) where
+  found_at : (i : ℕ) (found : Option (List ℕ)) → IsFoundFor P case i found → IsAsked case i → (positions : List ℕ) × (found ≡ Some positions)
+  found_at i None none asked = absurd (none asked)
+  found_at i (Some positions) h asked = (positions, refl)
 
--- all places
-pub found_all : (logs : List Log) (case : List Conjunct) (fronts : List (Option (List ℕ))) → HasPlacesOf logs case → length fronts ≡ length logs → AllFound logs case fronts → AreFronts logs case fronts
-found_all logs case fronts places long all = record {
-  asked = λ i asked.
-      let within : i < length logs = All-contains (λ (c : Conjunct). c.place < length logs) case (record { place = i; formula = asked.0 }) places asked.1 in
-      elim (slice_get_cases fronts i).1 [
-        | inl h ↦ (let p = found_at logs case i h.0 (all i h.0 h.2) asked in (p.0, h.2 ∙ ap (λ (o : Option (List ℕ)). Some o) p.1))
-        | inr h ↦ absurd (omega (arith, h.0))
-      ];
-  lists = λ i positions at. all i (Some positions) at;
-}
+  list_at : (i : ℕ) (positions : List ℕ) → IsFoundFor P case i (Some positions) → CandidatesOf logs case i positions
+  list_at i positions h =
+      let of = lists h.0 positions h.4 in
+      let same : of.0 ≡ h.1 = same_Some of.0 h.1 (sym of.1 ∙ h.2) in
+      subst (λ (j : ℕ). CandidatesOf logs case j positions) (ap (λ (c : Conjunct). c.place) same ∙ h.3) of.2
+
+  fronts_found : (all : List (Option (List ℕ))) → HasPlacesOf logs case → length all ≡ length logs → AreFoundFor P case all → AreFronts logs case all
+  fronts_found all places long h = record {
+    asked = λ i asked.
+        let within : i < length logs = All-contains (λ (c : Conjunct). c.place < length logs) case (record { place = i; formula = asked.0 }) places asked.1 in
+        elim (slice_get_cases all i).1 [
+          | inl o ↦ (let p = found_at i o.0 (h i o.0 o.2) asked in (p.0, o.2 ∙ ap (λ (x : Option (List ℕ)). Some x) p.1))
+          | inr o ↦ absurd (omega (arith, o.0))
+        ];
+    lists = λ i positions at. list_at i positions (h i (Some positions) at);
+  }
+
+  -- where they are found for each conjunct
+  pub fronts_if_found : {V E : Type 0} → (result : Result V E) (items : V → List (Option (List ℕ))) (n : ℕ) → HasPlacesOf logs case → length logs ≡ n
+      → IfOk result (λ all. length (items all) ≡ n) → IfOk result (λ all. AreFoundFor P case (items all)) → IfOk result (λ all. AreFronts logs case (items all))
+  fronts_if_found (Ok all) items n places long count h = fronts_found (items all) places (omega (arith, count, long)) h
+  fronts_if_found (Err e) items n places long count h = tt

@@ -1,5 +1,5 @@
 -- Helpers, no definitions: the candidates of a case, place by place.
-use Rattle.std.specs.Prelude.{◌≡◌, ℕ, ◌≤◌, List, Option, Some, length, slice_get, drop}
+use Rattle.std.specs.Prelude.{◌≡◌, ℕ, ◌≤◌, List, Option, Some, MatchOption, length, slice_get, drop}
 use Rattle.ira_event.specs.Log.{Log}
 use Rattle.ira_pred.specs.Case.{Conjunct}
 use Rattle.ira_cert_text.specs.declared.cert_step.CertStep.{CertStep}
@@ -10,6 +10,17 @@ use Rattle.ira_cert.specs.Front.{made}
 pub record AreFronts (logs : List Log) (case : List Conjunct) (fronts : List (Option (List ℕ))) : Type 0 where
   pub asked : (i : ℕ) → IsAsked case i → (positions : List ℕ) × (slice_get fronts i ≡ Some (Some positions))
   pub lists : (i : ℕ) (positions : List ℕ) → slice_get fronts i ≡ Some (Some positions) → CandidatesOf logs case i positions
+
+-- nothing where the case doesn't ask node i; else this holds of it for the number of the conjunct at i
+abbrev pub IsFoundFor : {T : Type 0} → (ℕ → T → Type 0) → List Conjunct → ℕ → Option T → Type 0
+IsFoundFor P case i found = MatchOption found (¬ (IsAsked case i)) (λ t. (n : ℕ) × (c : Conjunct) × (slice_get case n ≡ Some c) × (c.place ≡ i) × P n t)
+
+abbrev pub AreFoundFor : {T : Type 0} → (ℕ → T → Type 0) → List Conjunct → List (Option T) → Type 0
+AreFoundFor P case all = (i : ℕ) (found : Option _) → slice_get all i ≡ Some found → IsFoundFor P case i found
+
+-- these are the candidates for conjunct n of the case, at its place
+abbrev pub AreCandidatesFor : List Log → List Conjunct → ℕ → List ℕ → Type 0
+AreCandidatesFor logs case n positions = (c : Conjunct) × (slice_get case n ≡ Some c) × CandidatesOf logs case c.place positions
 
 -- The same behind these steps.
 

@@ -2,6 +2,7 @@
 //! law that makes this matter.
 #![tactic(auto)]
 
+mod asked;
 mod fronts;
 mod kept;
 mod laws;
@@ -14,6 +15,7 @@ mod soundness;
 mod unsound;
 mod verdict;
 
+pub use asked::find_asked;
 pub use fronts::check_fronts;
 pub use ira_cert_text::{
     CertFault, CertStep, Certificate, MAX_SECTIONS, MAX_STEPS, Section, read_cert, write_cert,
@@ -21,9 +23,9 @@ pub use ira_cert_text::{
 pub use kept::Kept;
 pub use laws::{a_section_has_one_verdict, sound_sections_leave_no_cut};
 pub use left::Left;
-pub use plain::{Candidates, case_fronts, check_plain, clause_at};
+pub use plain::{Candidates, case_fronts, check_plain};
 pub use positions::Positions;
-pub use profiled::{check_profiled, profiled_fronts};
+pub use profiled::profiled_fronts;
 pub use section_fault::SectionFault;
 pub use soundness::judge_step;
 pub use unsound::Unsound;

@@ -44,7 +44,7 @@ pub fn decide_profiled<A: Allocator + Clone>(
     requires places { HasPlacesOf profiles.now case.now }
     ensures { IfOk result (λ found. IsFound profiles.now case.now found) }
 {
-    let nodes = ordered.logs().size().get();
+    let nodes = ordered.logs().size();
     let fronts = profiled_fronts(alloc.clone()?, nodes, profiles, case)?;
     decide_fronts(alloc, ordered, fronts)
 }

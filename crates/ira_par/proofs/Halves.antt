@@ -3,15 +3,16 @@ use Rattle.std.proofs.Common.{◌≡◌, ◌≢◌, ℕ, zero, suc, ◌+◌, ◌
 use Rattle.std.proofs.Math.Nat.{two-pow-succ}
 
 -- twice as many as where it is halved once less
-pub twice_as_many : (depth : ℕ) → depth ≢ 0 → 2 ^ (depth - 1) + 2 ^ (depth - 1) ≡ 2 ^ depth
+twice_as_many : (depth : ℕ) → depth ≢ 0 → 2 ^ (depth - 1) + 2 ^ (depth - 1) ≡ 2 ^ depth
 twice_as_many zero some = absurd (some refl)
 twice_as_many (suc depth) some =
     let once_less : suc depth - 1 ≡ depth = omega arith in
     ap (λ (d : ℕ). 2 ^ d + 2 ^ d) once_less ∙ sym (two-pow-succ depth)
 
-pub if_ok : {T E : Type 0} {P Q : Type 0} (r : Result T E) → (P → Q) → OnOk r P → OnOk r Q
-if_ok (Ok x) f h = f h
-if_ok (Err e) f h = h
+-- the halves' ranges, added one half after the other
+pub two_halves : {T E : Type 0} → (result : Result T E) (depth old middle new : ℕ) → depth ≢ 0 → middle ≡ old + 2 ^ (depth - 1) → OnOk result (new ≡ middle + 2 ^ (depth - 1)) → OnOk result (new ≡ old + 2 ^ depth)
+two_halves (Ok x) depth old middle new some first second = omega (arith, first, second, twice_as_many depth some)
+two_halves (Err e) depth old middle new some first second = second
 
 -- at most 16
 pub few : (depth : ℕ) → depth ≤ 4 → 2 ^ depth ≤ 16

@@ -1,12 +1,23 @@
 -- Ranges one after the other, and what holds of each of them.
-use Rattle.std.proofs.Common.{◌≡◌, ℕ, zero, suc, ◌<◌, ◌≤◌, List, [], ◌∷◌, ◌++◌, Some, length, slice_get, slice_index_or, sym, ◌∙◌, subst, arith}
+use Rattle.std.proofs.Common.{◌≡◌, ℕ, zero, suc, ◌<◌, ◌≤◌, List, [], ◌∷◌, ◌++◌, Some, None, length, replicate, slice_get, slice_index, slice_index_or, sym, ◌∙◌, ap, subst, arith}
+use Rattle.std.proofs.lemmas.List.{length-replicate, get_or-replicate}
 use Rattle.std.proofs.lemmas.Option.{same_Some}
-use Rattle.ira_par.specs.Leaf.{Leaf, AreRanges}
+use Rattle.ira_par.specs.Leaf.{Leaf, AreRanges, IsBlank}
 
 -- one range more
 pub ranges_more : (P : Leaf → Type 0) (from middle to : ℕ) (leaves : List Leaf) (leaf : Leaf) → AreRanges P from leaves middle → leaf.from ≡ middle → leaf.to ≡ to → middle ≤ to → P leaf → AreRanges P from (leaves ++ leaf ∷ []) to
 ranges_more P from middle to [] leaf h begins ends l is = (begins ∙ sym h, omega (arith, begins, ends), is, ends)
 ranges_more P from middle to (x ∷ leaves) leaf h begins ends l is = (h.0, h.1, h.2, ranges_more P x.to middle to leaves leaf h.3 begins ends l is)
+
+-- one range more with nothing counted
+pub blank_more : (places from to : ℕ) (leaves added : List Leaf) (leaf : Leaf) → added ≡ leaves ++ leaf ∷ [] → leaf ≡ record { from = from; to = to; counts = replicate places 0; fault = None } → from ≤ to
+    → AreRanges (IsBlank places) 0 leaves from → AreRanges (IsBlank places) 0 added to
+blank_more places from to leaves added leaf pushed is l h =
+    let counts : leaf.counts ≡ replicate places 0 = ap (λ (x : Leaf). x.counts) is in
+    let long : length leaf.counts ≡ places = ap (λ (ns : List ℕ). length ns) counts ∙ length-replicate places 0 in
+    let zero : (i : ℕ) → i < length leaf.counts → slice_index leaf.counts i ≡ 0 = λ i l. ap (λ (ns : List ℕ). slice_index ns i) counts ∙ get_or-replicate places i 0 0 (omega (arith, l, long)) in
+    subst (λ (xs : List Leaf). AreRanges (IsBlank places) 0 xs to) (sym pushed)
+    (ranges_more (IsBlank places) 0 from to leaves leaf h (ap (λ (x : Leaf). x.from) is) (ap (λ (x : Leaf). x.to) is) l (long, zero))
 
 -- they end no sooner than they begin
 pub ranges_rise : (P : Leaf → Type 0) (from to : ℕ) (leaves : List Leaf) → AreRanges P from leaves to → from ≤ to

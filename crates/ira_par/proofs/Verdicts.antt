@@ -21,7 +21,9 @@ use Rattle.ira_par.specs.Ranges.{IsRangeFault}
 module _ (logs : List Log) (case : List Conjunct) (section : Section) (steps : List CertStep) (same : steps ≡ section.steps) where
   -- the first unsound step is the section's fault
   pub fault_is : (found : Option SectionFault) (f : SectionFault) → found ≡ Some f → IsRangeFault logs case steps 0 (length steps) found → IsSectionFault logs case section f
-  fault_is found f is h = first_is_fault logs case section steps same f (subst (IsRangeFault logs case steps 0 (length steps)) is h (λ k s at. cc))
+  fault_is found f is h =
+      let named = subst (IsRangeFault logs case steps 0 (length steps)) is h in
+      first_is_fault logs case section steps same f (named.0, named.1, named.2, named.5 (λ k s at. cc))
 
   -- where there is none all are sound
   pub all_sound : (found : Option SectionFault) → found ≡ None → IsRangeFault logs case steps 0 (length steps) found → AreSoundSteps logs case steps

@@ -1,5 +1,5 @@
 -- Helpers, no definitions: what holds of a range of steps, and of how many of each node come before it.
-use Rattle.std.specs.Prelude.{◌≡◌, ℕ, ◌+◌, ◌<◌, List, Option, Some, None, length, slice_index, take}
+use Rattle.std.specs.Prelude.{◌≡◌, ℕ, ◌+◌, ◌<◌, ◌≤◌, List, Option, Some, None, length, slice_index, take}
 use Rattle.ira_event.specs.Log.{Log}
 use Rattle.ira_pred.specs.Case.{Conjunct}
 use Rattle.ira_cert_text.specs.declared.cert_step.CertStep.{CertStep}
@@ -18,9 +18,9 @@ AreMade steps counts = (i : ℕ) → i < length counts → slice_index counts i 
 abbrev pub AreMadeFrom : List CertStep → ℕ → ℕ → List ℕ → Type 0
 AreMadeFrom steps from to counts = (i : ℕ) → i < length counts → made (take from steps) i + slice_index counts i ≡ made (take to steps) i
 
--- what is answered of the steps from..to, where those before them are sound: nothing where these are
--- sound, too; else the first step of all that isn't
+-- what is answered of the steps from..to: nothing, or one of them. Where those before them are sound, these
+-- are sound, too, or the one named is the first of all that isn't
 abbrev pub IsRangeFault : List Log → List Conjunct → List CertStep → ℕ → ℕ → Option SectionFault → Type 0
 IsRangeFault logs case steps from to None = AreSoundSteps logs case (take from steps) → AreSoundSteps logs case (take to steps)
 IsRangeFault logs case steps from to (Some fault) =
-    AreSoundSteps logs case (take from steps) → (k : ℕ) × (why : Unsound) × (fault ≡ Step k why) × IsFirstUnsoundStep logs case steps k why
+    (k : ℕ) × (why : Unsound) × (fault ≡ Step k why) × (from ≤ k) × (k < to) × (AreSoundSteps logs case (take from steps) → IsFirstUnsoundStep logs case steps k why)

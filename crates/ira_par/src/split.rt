@@ -80,7 +80,7 @@ where
     ensures yes { UnlessErr result (record {}) ((result ≡ Ok Verdict.Yes) ↔ IsSoundSection profiles.now case.now section.now) }
     ensures no { (f : SectionFault) → UnlessErr result (record {}) ((result ≡ Ok (Verdict.No f)) ↔ IsSectionFault profiles.now case.now section.now f) }
 {
-    let nodes = ordered.logs().size().get();
+    let nodes = ordered.logs().size();
     let tables = profiled_tables(alloc.clone()?, nodes, profiles, case)?;
     check_tables(rt, alloc, ordered, &tables, section, depth, gate)
 }

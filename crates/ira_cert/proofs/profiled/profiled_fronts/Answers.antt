@@ -1,32 +1,8 @@
-use Rattle.std.proofs.Common.{◌≡◌, ℕ, List, [], ◌∷◌, ◌++◌, Option, Some, length, slice_get, refl, sym, subst, ap, arith, rules, length-append}
-use Rattle.std.proofs.lemmas.Option.{slice_get_read}
-use Rattle.ira_cert.proofs.CaseFronts.{AllFound, found_more, found_all}
+use Rattle.std.proofs.Common.{rules}
+use Rattle.ira_cert.proofs.CaseFronts.{fronts_if_found}
 use Rattle.ira_cert.proofs.profiled.profiled_fronts.Goals as goal
 
-pub loop-place-init : goal.loop-place-init
-loop-place-init g c = record {
-  count = ap (λ xs. length xs) c.in_ok-fronts.ensures.items;
-  different = λ l. absurd (omega arith);
-  found = subst (λ (fronts : List (Option (List ℕ))). AllFound c.args.profiles.now c.args.case.now fronts) (sym c.in_ok-fronts.ensures.items) (λ i found at. cc);
-}
-
-pub loop-place-preserved : goal.loop-place-preserved
-loop-place-preserved g c =
-    let items = c.loop-place.fronts.items in
-    let found = c.in_ok-found_at.field-0 in
-    let log = c.index-profiles-from.result in
-    let place : c.from-in-loop-place.result ≡ c.loop-place.place = search rules in
-    let there = slice_get_read c.args.profiles.now _ c.from-in-loop-place.result log refl (omega (arith, place, c.requires.nodes, c.loop-place-test.true)) c.index-profiles-from.is in
-    let at : slice_get c.args.profiles.now c.loop-place.place ≡ Some log = subst (λ k. slice_get c.args.profiles.now k ≡ Some log) place there in
-    let pushed : c.push.new.self.items ≡ items ++ found ∷ [] = c.in_ok-push.ensures.items in
-    record {
-      count = omega (arith, ap (λ (xs : List (Option (List ℕ))). length xs) pushed, length-append items (found ∷ []), c.loop-place.invariant.count);
-      different = λ _. c.in_ok-found_at.ensures.different;
-      found = subst (λ (fronts : List (Option (List ℕ))). AllFound c.args.profiles.now c.args.case.now fronts) (sym pushed)
-          (found_more c.args.profiles.now c.args.case.now items c.loop-place.place found (sym c.loop-place.invariant.count) c.loop-place.invariant.found (c.in_ok-found_at.ensures.found c.args.profiles.now at));
-    }
-
-pub returns : goal.returns
-returns g c =
-    let count : length c.loop-place.fronts.items ≡ length c.args.profiles.now = omega (arith, c.loop-place.invariant.count, c.requires.nodes) in
-    record { different = c.loop-place.invariant.different (omega (arith, c.requires.some)); count = count; fronts = found_all c.args.profiles.now c.args.case.now c.loop-place.fronts.items c.requires.places count c.loop-place.invariant.found }
+pub returns-clause-fronts : goal.returns-clause-fronts
+returns-clause-fronts g c =
+    fronts_if_found c.args.profiles.now c.args.case.now _ (λ n positions found. search rules) c.find_asked.result (λ all. all.items) c.args.nodes c.requires.places c.requires.nodes
+    c.find_asked.ensures.count c.find_asked.ensures.found

@@ -14,20 +14,23 @@ none = record { node = 0; pos = 0; other = 0; other_pos = 0 }
 
 pub returns-in-Err : goal.returns-in-Err
 unfolding none
-returns-in-Err g c = λ case differ fronts before.
-    let logs = c.args.ordered.now.logs in let steps = c.args.steps.now in let k = c.loop-k.k in
-    let sound = c.loop-k.invariant.sound case differ fronts before in (
+returns-in-Err g c = λ case differ fronts.
+    let logs = c.args.ordered.now.logs in let steps = c.args.steps.now in let k = c.loop-k.k in (
       k,
       c.in-Err.why,
       refl,
-      record {
-        before = sound;
-        step = get_or steps k none;
-        at = slice_get-get_or steps k none (omega (arith, c.loop-k-test.true, c.requires.range));
-        reason = c.in-Err.ensures.verdict case (take k steps) differ
-            (c.left_at-own.ensures.left logs case (take k steps) differ fronts c.loop-k.invariant.counts sound)
-            (c.left_at-other.ensures.left logs case (take k steps) differ fronts c.loop-k.invariant.counts sound);
-      },
+      c.loop-k.auto.k,
+      c.loop-k-test.true,
+      λ before.
+          let sound = c.loop-k.invariant.sound case differ fronts before in
+          record {
+            before = sound;
+            step = get_or steps k none;
+            at = slice_get-get_or steps k none (omega (arith, c.loop-k-test.true, c.requires.range));
+            reason = c.in-Err.ensures.verdict case (take k steps) differ
+                (c.left_at-own.ensures.left logs case (take k steps) differ fronts c.loop-k.invariant.counts sound)
+                (c.left_at-other.ensures.left logs case (take k steps) differ fronts c.loop-k.invariant.counts sound);
+          },
     )
 
 pub loop-k-preserved : goal.loop-k-preserved

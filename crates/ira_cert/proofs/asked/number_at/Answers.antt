@@ -1,9 +1,8 @@
-use Rattle.std.proofs.Common.{◌≡◌, ◌∙◌, Some, inl, inr, slice_get, ap, subst, arith}
+use Rattle.std.proofs.Common.{◌≡◌, ◌∙◌, Some, inl, inr, slice_get, subst, arith}
 use Rattle.std.proofs.lemmas.Bool.{cases_eq}
-use Rattle.ira_pred.specs.Clause.{formula}
-use Rattle.ira_cert.proofs.CaseFronts.{conjunct_at, none_asked, place_at}
+use Rattle.ira_cert.proofs.CaseFronts.{conjunct_there, none_asked, place_at}
 use Rattle.ira_cert.proofs.Exactly.{rising_differ}
-use Rattle.ira_cert.proofs.plain.clause_at.Goals as goal
+use Rattle.ira_cert.proofs.asked.number_at.Goals as goal
 
 pub loop-n-preserved : goal.loop-n-preserved
 loop-n-preserved g c = λ k d l at here. elim (cases_eq k c.loop-n.n) [
@@ -15,8 +14,7 @@ pub returns-then-place-clause-different : goal.returns-then-place-clause-differe
 returns-then-place-clause-different g c = rising_differ c.args.case.now c.len-n-end.ensures.valid.2.conjuncts_are.rising
 
 pub returns-then-place-clause-found : goal.returns-then-place-clause-found
-returns-then-place-clause-found g c =
-    conjunct_at c.args.case.now c.loop-n.n c.args.place (formula c.clause.result.now) (c.place.ensures ∙ ap (λ p. Some p) c.if-place.true) c.clause.ensures
+returns-then-place-clause-found g c = let h = conjunct_there c.args.case.now c.loop-n.n c.place.result c.place.ensures in (h.0, h.1, h.2 ∙ c.if-place.true)
 
 pub returns-clause-different : goal.returns-clause-different
 returns-clause-different g c = rising_differ c.args.case.now c.len-n-end.ensures.valid.2.conjuncts_are.rising
