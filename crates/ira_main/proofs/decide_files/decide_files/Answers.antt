@@ -1,7 +1,24 @@
-use Rattle.std.proofs.Common.{◌≡◌, ◌∙◌, ◌++◌, ap, inl, inr, length, refl, subst}
+use Rattle.std.proofs.Common.{◌≡◌, ◌∙◌, ◌++◌, List, Option, Result, ap, inl, inr, length, refl, subst, ℕ}
+use Rattle.std.specs.Borrow.{Bor}
 use Rattle.ira_audit.specs.FindingsText.{findings_text}
+use Rattle.ira_audit.specs.declared.findings.Findings.{Findings}
+use Rattle.ira_cert_text.specs.Certificate.{Certificate}
 use Rattle.ira_event.specs.Sink.{Memory, StopsIn, Takes}
+use Rattle.ira_main.specs.Decide.{EndsWith}
+use Rattle.ira_main.specs.Decide.EndsWith.{absent, certified, no_memory, refuted}
+use Rattle.ira_main.specs.declared.complaint.Complaint.{Complaint}
+use Rattle.ira_main.specs.declared.status.Status.{Status}
 use Rattle.ira_main.proofs.decide_files.decide_files.Goals as goal
+
+-- what comes of findings, said of the files as they were before others were read
+ends_before : {A : Type 0} (kept kept' : Certificate → Bor (List ℕ) → Result Status Complaint → Type 0) (untouched untouched' : Type 0)
+    (findings : Findings A) (name : Option (Bor (List ℕ))) (outcome : Result Status Complaint)
+    → ((c : Certificate) (file : Bor (List ℕ)) → kept c file outcome → kept' c file outcome) → (untouched → untouched')
+    → EndsWith kept untouched findings name outcome → EndsWith kept' untouched' findings name outcome
+ends_before k k' u u' f n o keeps same (refuted none is said) = refuted none (same is) said
+ends_before k k' u u' f n o keeps same (absent c of unnamed is said) = absent c of unnamed (same is) said
+ends_before k k' u u' f n o keeps same (certified c file of some has) = certified c file of some (keeps c file has)
+ends_before k k' u u' f n o keeps same (no_memory some is said) = no_memory some (same is) said
 
 pub write_findings-requires : goal.write_findings-requires
 write_findings-requires g c =
@@ -11,6 +28,7 @@ write_findings-requires g c =
 pub returns-in-Ok-write_bytes : goal.returns-in-Ok-write_bytes
 returns-in-Ok-write_bytes g c =
     let taken = c.in_ok-audit.ensures.taken in
+    let same = c.read_logs.ensures.files ∙ c.read_file.ensures in
     let findings = c.in_ok-findings.findings in
     let text_is : c.bytes.result.now ≡ findings_text findings = c.bytes.ensures ∙ c.in-Ok.ensures.took ∙ ap (λ (m : Memory). m.bytes ++ findings_text findings) c.new-text.ensures in
     inl (record {
@@ -19,7 +37,7 @@ returns-in-Ok-write_bytes g c =
       question = _;
       findings = findings;
       found = c.in_ok-findings.ensures.found taken.0 taken.1;
-      printed = inl (subst (λ t. Takes t (g.W.Sink.state c.args.out.now) (g.W.Sink.state c.write_bytes.new.sink)) text_is c.in-Ok-write_bytes.ensures, c.keep_findings.ensures);
+      printed = inl (subst (λ t. Takes t (g.W.Sink.state c.args.out.now) (g.W.Sink.state c.write_bytes.new.sink)) text_is c.in-Ok-write_bytes.ensures, ends_before _ _ _ _ findings c.args.decide.now.certificate c.keep_findings.result (λ k file has. (has.0, has.1 ∙ same, has.2)) (λ is. is ∙ same) c.keep_findings.ensures);
     })
 
 pub returns : goal.returns
@@ -33,5 +51,5 @@ returns g c =
       question = _;
       findings = findings;
       found = c.in_ok-findings.ensures.found taken.0 taken.1;
-      printed = inr (subst (λ t. StopsIn t (g.W.Sink.state c.args.out.now) (g.W.Sink.state c.write_bytes.new.sink)) text_is c.in-Err.ensures, refl);
+      printed = inr (subst (λ t. StopsIn t (g.W.Sink.state c.args.out.now) (g.W.Sink.state c.write_bytes.new.sink)) text_is c.in-Err.ensures, c.read_logs.ensures.files ∙ c.read_file.ensures, refl);
     })

@@ -1,13 +1,14 @@
-use Rattle.std.proofs.Common.{Ok, ap, refl}
+use Rattle.std.proofs.Common.{Ok, ap, refl, rules}
 use Rattle.ira_event.proofs.Unless.{unless_ok}
 use Rattle.ira_main.specs.Decide.EndsWith.{absent, certified, no_memory, refuted}
 use Rattle.ira_main.proofs.decide_files.keep_findings.Goals as goal
 
 pub returns-in_err-certificate : goal.returns-in_err-certificate
-returns-in_err-certificate g c = ?
+returns-in_err-certificate g c =
+    no_memory (λ none. let never = c.in_err-certificate.ensures.none.1 none in cc) refl (search rules)
 
 pub returns-in_default : goal.returns-in_default
-returns-in_default g c = ?
+returns-in_default g c = refuted (c.in_ok-certificate.ensures.none.0 (ap (λ o. Ok o) c.in_default.is)) refl refl
 
 pub returns-in-Some-name : goal.returns-in-Some-name
 returns-in-Some-name g c =
