@@ -1,4 +1,6 @@
 pub mod Greatest
+pub mod NewEliminations
+pub mod PairSet
 pub mod Places
 pub mod Present
 pub mod SomeFound

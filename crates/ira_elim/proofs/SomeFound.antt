@@ -1,6 +1,6 @@
 -- Of logs that have an order each case is decided: as long as no node is spent and some elimination is
 -- left, it is made, and there are no more of them than candidates.
-use Rattle.std.proofs.Common.{◌≡◌, ◌≢◌, ℕ, zero, suc, ◌+◌, ◌<◌, ◌≤◌, ◌⊎◌, inl, inr, List, [], ◌∷◌, ◌++◌, Option, Some, None, get_or, length, slice_get, refl, sym, ◌∙◌, ap, arith, add-one, nat_cmp}
+use Rattle.std.proofs.Common.{◌≡◌, ℕ, zero, suc, ◌+◌, ◌<◌, ◌≤◌, ◌⊎◌, inl, inr, List, [], ◌∷◌, ◌++◌, Option, Some, None, get_or, length, slice_get, refl, sym, ◌∙◌, ap, arith, add-one, nat_cmp}
 use Rattle.std.proofs.lemmas.List.{ext_get_or, length_push}
 use Rattle.std.proofs.lemmas.List.FromFn.{get_or-range_with_len}
 use Rattle.std.proofs.lemmas.Option.{slice_get_within}

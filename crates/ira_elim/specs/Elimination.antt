@@ -9,6 +9,7 @@ use Rattle.ira_order.specs.VectorClock.{IsCount}
 use Rattle.ira_cert_text.specs.declared.cert_step.CertStep.{CertStep}
 use Rattle.ira_cert.specs.Asked.{HasDifferentPlaces}
 use Rattle.ira_cert.specs.Fronts.{AreFronts}
+use Rattle.ira_elim.specs.PairSet.{Has}
 
 -- they are the candidates of some case that asks each node for one thing at most
 abbrev pub AreFrontsOfSomeCase : List Log → List (Option (List ℕ)) → Type 0
@@ -37,6 +38,10 @@ pub record IsElimination (logs : List Log) (fronts : List (Option (List ℕ))) (
   pub front : IsFirstLeft fronts s.node s.pos
   pub other_front : IsFirstLeft fronts s.other s.other_pos
   pub happened_before : Before logs s.node (s.pos + 1) s.other s.other_pos
+
+-- these pairs have the nodes of each elimination, the eliminated one first
+abbrev pub HasEliminations : List Log → List (Option (List ℕ)) → List ℕ → Type 0
+HasEliminations logs fronts pairs = (s : CertStep) → IsElimination logs fronts s → Has pairs s.node s.other
 
 -- the greatest of the counts of node i at the events that led to the first candidates left, 0 where there are
 -- none; where such an event is of node i itself, its number is no less

@@ -2,3 +2,4 @@ pub mod Elimination
 pub mod Found
 pub mod Laws
 pub mod LeastCut
+pub mod PairSet

@@ -4,11 +4,13 @@ ghost use Rattle.ira_pred.specs.Case.{Conjunct};
 ghost use Rattle.ira_cert_text.specs.declared.cert_step.CertStep.{CertStep};
 ghost use Rattle.ira_cert.specs.Asked.{HasDifferentPlaces};
 ghost use Rattle.ira_cert.specs.Fronts.{AreFronts};
-ghost use Rattle.ira_elim.specs.Elimination.{AreFrontsOfSomeCase, AreGreatestCounts, ArePlaces, AreWithin, HasList, IsElimination, IsFirstLeft, IsGreatestCount};
+ghost use Rattle.ira_elim.specs.Elimination.{AreFrontsOfSomeCase, AreGreatestCounts, ArePlaces, AreWithin, HasEliminations, HasList, IsElimination, IsFirstLeft, IsGreatestCount};
 ghost use Rattle.ira_elim.specs.Found.{IsFound};
+ghost use Rattle.ira_elim.specs.PairSet.{Has};
 
 use crate::cut::Cut;
 use crate::found::Found;
+use crate::pair_set::PairSet;
 use ira_cand::Ahead;
 use ira_cert::{CertStep, Section};
 use ira_event::{Listed, OutOfMemory};
@@ -30,17 +32,21 @@ pub fn decide_fronts<A: Allocator + Clone, I: Iterator<Item = u32> + Listed + Dr
     let nodes = ordered.logs().size().get();
     let asked = asked_places(alloc.clone()?, nodes, &fronts)?;
     let mut steps = Vec::new(alloc.clone()?);
-    'steps: loop {
-        if let Some(spent) = first_spent(&fronts, &asked) {
-            return Ok(Found::Absent(Section { steps, spent }));
-        }
-        let Some(step) = next_step(ordered, &fronts, &asked) else {
-            let cut = least_cut(alloc, ordered, nodes, &fronts, &asked)?;
-            return Ok(Found::Present(Cut::of_positions(cut)));
-        };
+    if let Some(spent) = first_spent(&fronts, &asked) {
+        return Ok(Found::Absent(Section { steps, spent }));
+    }
+    let mut pairs = eliminating_pairs(alloc.clone()?, ordered, &fronts, &asked)?;
+    'steps: while let Some(step) = next_step(&mut pairs, ordered, &fronts) {
         steps.push(step)?;
         eliminate(&mut fronts, step.node);
+        if front(&fronts, step.node).is_none() {
+            let spent = step.node;
+            return Ok(Found::Absent(Section { steps, spent }));
+        }
+        add_eliminated_by(&mut pairs, ordered, &fronts, &asked, step.node);
     }
+    let cut = least_cut(alloc, ordered, nodes, &fronts, &asked)?;
+    Ok(Found::Present(Cut::of_positions(cut)))
 }
 
 /// The places at which there is a list.
@@ -94,39 +100,68 @@ fn first_spent<I: Iterator<Item = u32> + Listed>(
     None
 }
 
-/// The elimination of the least pair of nodes, by `node` and then by `other`.
-fn next_step<A: Allocator, I: Iterator<Item = u32> + Listed>(
+/// The pairs of nodes of which the second one's first candidate left eliminates the first one's.
+fn eliminating_pairs<A: Allocator, I: Iterator<Item = u32> + Listed>(
+    alloc: A,
     ordered: &Ordered<'_, A>,
     fronts: &[Option<Ahead<I>>],
     asked: &[u8],
-) -> Option<CertStep>
+) -> Result<PairSet<A>, OutOfMemory>
     requires asked { ArePlaces fronts.now asked.now }
     requires within { AreWithin ordered.now.logs fronts.now }
-    ensures { MatchOption result ((s : CertStep) → IsElimination ordered.now.logs fronts.now s → ⊥) (λ s. IsElimination ordered.now.logs fronts.now s) }
+    ensures { IfOk result (λ pairs. HasEliminations ordered.now.logs fronts.now pairs) }
 {
-    for node in asked {
-        if let Some(step) = step_of(ordered, fronts, asked, *node) {
-            return Some(step);
-        }
+    let mut pairs = PairSet::new(alloc)?;
+    for other in asked {
+        add_eliminated_by(&mut pairs, ordered, fronts, asked, *other);
     }
-    None
+    Ok(pairs)
 }
 
-/// The elimination of the node's first candidate left by the least other node.
-fn step_of<A: Allocator, I: Iterator<Item = u32> + Listed>(
+/// Adds the pairs of the nodes whose first candidates left are eliminated by that of the other.
+fn add_eliminated_by<A: Allocator, I: Iterator<Item = u32> + Listed>(
+    pairs: &mut PairSet<A>,
     ordered: &Ordered<'_, A>,
     fronts: &[Option<Ahead<I>>],
     asked: &[u8],
-    node: u8,
-) -> Option<CertStep>
+    other: u8,
+)
     requires asked { ArePlaces fronts.now asked.now }
     requires within { AreWithin ordered.now.logs fronts.now }
-    ensures { MatchOption result ((s : CertStep) → s.node ≡ node → IsElimination ordered.now.logs fronts.now s → ⊥) (λ s. IsElimination ordered.now.logs fronts.now s) }
+    ensures kept { (a b : ℕ) → Has pairs.old a b → Has pairs.new a b }
+    ensures added { (s : CertStep) → s.other ≡ other → IsElimination ordered.now.logs fronts.now s → Has pairs.new s.node s.other }
 {
-    for other in asked {
-        if let Some(step) = step_by(ordered, fronts, node, *other) {
+    let Some(other_pos) = front(fronts, other) else {
+        return;
+    };
+    let counts = ordered.counts(other, other_pos);
+    for node in asked {
+        let Some(pos) = front(fronts, *node) else {
+            continue;
+        };
+        if counts[usize::from(*node)] > pos {
+            pairs.insert(*node, other);
+        }
+    }
+}
+
+/// The elimination of the least pair that allows one, by `node` and then by `other`; the pairs before it
+/// are removed.
+fn next_step<A: Allocator, I: Iterator<Item = u32> + Listed>(
+    pairs: &mut PairSet<A>,
+    ordered: &Ordered<'_, A>,
+    fronts: &[Option<Ahead<I>>],
+) -> Option<CertStep>
+    requires within { AreWithin ordered.now.logs fronts.now }
+    requires pairs { HasEliminations ordered.now.logs fronts.now pairs.old }
+    ensures pairs { HasEliminations ordered.now.logs fronts.now pairs.new }
+    ensures step { MatchOption result ((s : CertStep) → IsElimination ordered.now.logs fronts.now s → ⊥) (λ s. IsElimination ordered.now.logs fronts.now s) }
+{
+    'pairs: while let Some((node, other)) = pairs.first() {
+        if let Some(step) = step_by(ordered, fronts, node, other) {
             return Some(step);
         }
+        pairs.remove(node, other);
     }
     None
 }

@@ -7,6 +7,7 @@ mod elimination;
 mod found;
 mod laws;
 mod maker;
+mod pair_set;
 
 pub use cut::Cut;
 pub use elimination::decide_fronts;

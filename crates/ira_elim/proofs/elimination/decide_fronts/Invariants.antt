@@ -1,7 +1,8 @@
-use Rattle.std.proofs.Common.{◌≡◌, ◌+◌, ◌≤◌, List, length}
+use Rattle.std.proofs.Common.{◌≡◌, ℕ, ◌+◌, ◌≤◌, List, length}
 use Rattle.ira_pred.specs.Case.{Conjunct}
 use Rattle.ira_cert.specs.Asked.{HasDifferentPlaces}
 use Rattle.ira_cert.specs.Fronts.{AreFronts}
+use Rattle.ira_elim.specs.Elimination.{HasEliminations, HasList, IsFirstLeft}
 use Rattle.ira_elim.proofs.Steps.{AreMade, total}
 use Rattle.ira_elim.proofs.elimination.decide_fronts.Given as goal
 
@@ -10,6 +11,8 @@ invariant-steps g l = record {
   made : (case : List Conjunct) → HasDifferentPlaces case → AreFronts l.ordered.logs case l.fn.fronts.items → AreMade l.ordered.logs case l.steps.items l.fronts.items;
   count : length l.steps.items + total l.fronts.items ≡ total l.fn.fronts.items;
   places : length l.fronts.items ≤ length l.ordered.logs;
+  left : (i : ℕ) → HasList l.fronts.items i → (p : ℕ) × IsFirstLeft l.fronts.items i p;
+  pairs : HasEliminations l.ordered.logs l.fronts.items l.pairs;
 }
 
 abbrev pub decreases-steps : goal.decreases-steps
