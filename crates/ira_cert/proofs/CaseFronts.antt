@@ -1,5 +1,5 @@
 -- The candidates of a case, found place by place.
-use Rattle.std.proofs.Common.{◌≡◌, ◌≢◌, ℕ, zero, suc, ◌<◌, ◌⊎◌, inl, inr, List, [], ◌∷◌, ◌++◌, Option, Some, None, Contains, Result, Ok, Err, IfOk, length, slice_get, refl, sym, ◌∙◌, ap, subst, arith}
+use Rattle.std.proofs.Common.{◌≡◌, ◌≢◌, ℕ, zero, suc, ◌<◌, ◌⊎◌, inl, inr, List, [], ◌∷◌, ◌++◌, Option, Some, None, MatchOption, Contains, Result, Ok, Err, IfOk, length, slice_get, refl, sym, ◌∙◌, ap, subst, arith}
 use Rattle.std.specs.Option.{option_map}
 use Rattle.std.proofs.lemmas.List.Elements.{All-contains}
 use Rattle.std.proofs.lemmas.Option.{same_Some, slice_get-get_or, slice_get_cases}
@@ -42,37 +42,48 @@ last_of [] x y (suc i) at = cc
 last_of (z ∷ xs) x y zero at = inl at
 last_of (z ∷ xs) x y (suc i) at = elim (last_of xs x y i at) [ inl h ↦ inl h | inr h ↦ inr (ap suc h.0, h.1) ]
 
+-- this holds of what was found at each place
+abbrev pub AllFound : {T : Type 0} → (ℕ → Option T → Type 0) → List (Option T) → Type 0
+AllFound Q all = (i : ℕ) (found : Option _) → slice_get all i ≡ Some found → Q i found
+
 -- one place more
-pub found_more : {T : Type 0} → (P : ℕ → T → Type 0) (case : List Conjunct) (all : List (Option T)) (place : ℕ) (found : Option T) → place ≡ length all → AreFoundFor P case all → IsFoundFor P case place found → AreFoundFor P case (all ++ found ∷ [])
-found_more {T} P case all place found e h here i next at = elim (last_of all found next i at) [
+pub found_more : {T : Type 0} → (Q : ℕ → Option T → Type 0) (all : List (Option T)) (place : ℕ) (found : Option T) → place ≡ length all → AllFound Q all → Q place found → AllFound Q (all ++ found ∷ [])
+found_more Q all place found e h here i next at = elim (last_of all found next i at) [
   | inl old ↦ h i next old
-  | inr new ↦ subst (λ (o : Option T). IsFoundFor P case i o) new.1 (subst (λ (j : ℕ). IsFoundFor P case j found) (e ∙ sym new.0) here)
+  | inr new ↦ subst (λ o. Q i o) new.1 (subst (λ (j : ℕ). Q j found) (e ∙ sym new.0) here)
 ]
 
-module _ (logs : List Log) (case : List Conjunct) (P : ℕ → List ℕ → Type 0) (lists : (n : ℕ) (positions : List ℕ) → P n positions → AreCandidatesFor logs case n positions) where
-  found_at : (i : ℕ) (found : Option (List ℕ)) → IsFoundFor P case i found → IsAsked case i → (positions : List ℕ) × (found ≡ Some positions)
+module _ (logs : List Log) (case : List Conjunct) where
+  -- what was found at a place is what it should be
+  abbrev pub IsFound : ℕ → Option (List ℕ) → Type 0
+  IsFound i found = MatchOption found (¬ (IsAsked case i)) (λ positions. CandidatesOf logs case i positions)
+
+  found_at : (i : ℕ) (found : Option (List ℕ)) → IsFound i found → IsAsked case i → (positions : List ℕ) × (found ≡ Some positions)
   found_at i None none asked = absurd (none asked)
   found_at i (Some positions) h asked = (positions, refl)
 
-  list_at : (i : ℕ) (positions : List ℕ) → IsFoundFor P case i (Some positions) → CandidatesOf logs case i positions
-  list_at i positions h =
-      let of = lists h.0 positions h.4 in
-      let same : of.0 ≡ h.1 = same_Some of.0 h.1 (sym of.1 ∙ h.2) in
-      subst (λ (j : ℕ). CandidatesOf logs case j positions) (ap (λ (c : Conjunct). c.place) same ∙ h.3) of.2
-
-  fronts_found : (all : List (Option (List ℕ))) → HasPlacesOf logs case → length all ≡ length logs → AreFoundFor P case all → AreFronts logs case all
-  fronts_found all places long h = record {
+  -- all places
+  pub found_all : (all : List (Option (List ℕ))) → HasPlacesOf logs case → length all ≡ length logs → AllFound IsFound all → AreFronts logs case all
+  found_all all places long h = record {
     asked = λ i asked.
         let within : i < length logs = All-contains (λ (c : Conjunct). c.place < length logs) case (record { place = i; formula = asked.0 }) places asked.1 in
         elim (slice_get_cases all i).1 [
           | inl o ↦ (let p = found_at i o.0 (h i o.0 o.2) asked in (p.0, o.2 ∙ ap (λ (x : Option (List ℕ)). Some x) p.1))
           | inr o ↦ absurd (omega (arith, o.0))
         ];
-    lists = λ i positions at. list_at i positions (h i (Some positions) at);
+    lists = λ i positions at. h i (Some positions) at;
   }
 
-  -- where they are found for each conjunct
-  pub fronts_if_found : {V E : Type 0} → (result : Result V E) (items : V → List (Option (List ℕ))) (n : ℕ) → HasPlacesOf logs case → length logs ≡ n
-      → IfOk result (λ all. length (items all) ≡ n) → IfOk result (λ all. AreFoundFor P case (items all)) → IfOk result (λ all. AreFronts logs case (items all))
-  fronts_if_found (Ok all) items n places long count h = fronts_found (items all) places (omega (arith, count, long)) h
-  fronts_if_found (Err e) items n places long count h = tt
+  module _ (P : ℕ → List ℕ → Type 0) (lists : (n : ℕ) (positions : List ℕ) → P n positions → AreCandidatesFor logs case n positions) where
+    for_place : (i : ℕ) (found : Option (List ℕ)) → IsFoundFor P case i found → IsFound i found
+    for_place i None none = none
+    for_place i (Some positions) h =
+        let of = lists h.0 positions h.4 in
+        let same : of.0 ≡ h.1 = same_Some of.0 h.1 (sym of.1 ∙ h.2) in
+        subst (λ (j : ℕ). CandidatesOf logs case j positions) (ap (λ (c : Conjunct). c.place) same ∙ h.3) of.2
+
+    -- where they are found for each conjunct
+    pub fronts_if_found : {V E : Type 0} → (result : Result V E) (items : V → List (Option (List ℕ))) (n : ℕ) → HasPlacesOf logs case → length logs ≡ n
+        → IfOk result (λ all. length (items all) ≡ n) → IfOk result (λ all. AreFoundFor P case (items all)) → IfOk result (λ all. AreFronts logs case (items all))
+    fronts_if_found (Ok all) items n places long count h = found_all (items all) places (omega (arith, count, long)) (λ i found at. for_place i found (h i found at))
+    fronts_if_found (Err e) items n places long count h = tt

@@ -6,7 +6,7 @@ use Rattle.ira_pred.specs.Case.{Conjunct}
 use Rattle.ira_order.proofs.Ranks.{eq_cases}
 use Rattle.ira_cert.specs.Asked.{IsAsked, HasPlacesOf}
 use Rattle.ira_cert.specs.Fronts.{AreFronts}
-use Rattle.ira_cert.proofs.CaseFronts.{AllFound, found_more, found_all}
+use Rattle.ira_cert.proofs.CaseFronts.{AllFound, IsFound, found_more, found_all}
 use Rattle.ira_cert.proofs.SomeVerdict.{candidates_at}
 
 -- where the first conjunct doesn't ask the node, the others do
@@ -29,15 +29,15 @@ asked_or_not (c ∷ case) i = elim (eq_cases c.place i) [
 ]
 
 -- what is found at the first n places
-fronts_below : (logs : List Log) (case : List Conjunct) (places : HasPlacesOf logs case) (n : ℕ) → (fronts : List (Option (List ℕ))) × (length fronts ≡ n) × AllFound logs case fronts
+fronts_below : (logs : List Log) (case : List Conjunct) (places : HasPlacesOf logs case) (n : ℕ) → (fronts : List (Option (List ℕ))) × (length fronts ≡ n) × AllFound (IsFound logs case) fronts
 fronts_below logs case places zero = ([], refl, λ i found at. cc)
 fronts_below logs case places (suc n) =
     let below = fronts_below logs case places n in
     elim (asked_or_not case n) [
       | inl asked ↦
           let c = candidates_at logs case places n asked in
-          (below.0 ++ Some c.0 ∷ [], omega (arith, length_push below.0 (Some c.0), below.1), found_more logs case below.0 n (Some c.0) (sym below.1) below.2 c.1)
-      | inr none ↦ (below.0 ++ None ∷ [], omega (arith, length_push below.0 None, below.1), found_more logs case below.0 n None (sym below.1) below.2 none)
+          (below.0 ++ Some c.0 ∷ [], omega (arith, length_push below.0 (Some c.0), below.1), found_more (IsFound logs case) below.0 n (Some c.0) (sym below.1) below.2 c.1)
+      | inr none ↦ (below.0 ++ None ∷ [], omega (arith, length_push below.0 None, below.1), found_more (IsFound logs case) below.0 n None (sym below.1) below.2 none)
     ]
 
 pub some_fronts : (logs : List Log) (case : List Conjunct) → HasPlacesOf logs case → (fronts : List (Option (List ℕ))) × AreFronts logs case fronts

@@ -1,5 +1,5 @@
 use Rattle.std.proofs.Common.{◌≡◌, [], ◌∷◌, ◌++◌, Ok, length, sym, subst, ap, arith, length-append}
-use Rattle.ira_cert.specs.Fronts.{AreFoundFor}
+use Rattle.ira_cert.specs.Fronts.{AreFoundFor, IsFoundFor}
 use Rattle.ira_cert.proofs.CaseFronts.{found_more}
 use Rattle.ira_cert.proofs.asked.find_asked.Goals as goal
 
@@ -18,7 +18,7 @@ loop-place-preserved g c =
       count = omega (arith, ap (λ xs. length xs) pushed, length-append items (found ∷ []), c.loop-place.invariant.count);
       different = λ _. c.in_ok-find_at.ensures.different;
       found = subst (λ all. AreFoundFor (λ n t. goal.F-post g c.args.find n (Ok t)) c.args.case.now all) (sym pushed)
-          (found_more (λ n t. goal.F-post g c.args.find n (Ok t)) c.args.case.now items c.loop-place.place found (sym c.loop-place.invariant.count) c.loop-place.invariant.found c.in_ok-find_at.ensures.found);
+          (found_more (IsFoundFor (λ n t. goal.F-post g c.args.find n (Ok t)) c.args.case.now) items c.loop-place.place found (sym c.loop-place.invariant.count) c.loop-place.invariant.found c.in_ok-find_at.ensures.found);
     }
 
 pub returns : goal.returns
