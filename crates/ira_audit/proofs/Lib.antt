@@ -8,6 +8,7 @@ pub mod OneAuditAnswer
 pub mod OnePosed
 pub mod Places
 pub mod RefusedTexts
+pub mod ReplayedLogs
 pub mod Replaying
 pub mod SomeAuditAnswer
 pub mod SomeLogsAnswer

@@ -60,7 +60,7 @@ taken_whole : (done left : List (List ℕ)) (audit : RingAudit) → HasTaken aud
 taken_whole done [] audit taken read = subst (HasTaken audit) (sym (append-nil done)) taken
 taken_whole done (t ∷ ts) audit taken read = absurd read
 
-none_left : {X : Type 0} (xs : List X) → length xs ≡ 0 → xs ≡ []
+pub none_left : {X : Type 0} (xs : List X) → length xs ≡ 0 → xs ≡ []
 none_left [] e = refl
 none_left (x ∷ xs) e = absurd (omega arith)
 

@@ -8,6 +8,7 @@ pub mod LogsAnswer
 pub mod Never
 pub mod Posed
 pub mod Refusal
+pub mod ReplayedLogs
 pub mod Replaying
 pub mod Report
 pub mod RingAudit

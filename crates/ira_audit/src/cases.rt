@@ -13,11 +13,12 @@ ghost use Rattle.ira_audit.specs.declared.reason.Reason.{Reason};
 use crate::certified::read_posed;
 use crate::findings::Findings;
 use crate::refusal::Refusal;
+use crate::replayed_log::{ReplayedLog, split_steps};
 use crate::ring_audit::RingAudit;
 use crate::ring_logs::order_runs;
 use crate::sections::all_profiles;
 use ira_elim::{Found, decide_profiled};
-use ira_event::{Logs, NodeLog, OutOfMemory};
+use ira_event::{Logs, OutOfMemory};
 use ira_order::Ordered;
 use ira_pred::Case;
 use std::alloc::Allocator;
@@ -47,14 +48,15 @@ pub fn decide_all<A: Allocator + Clone>(
 
 /// What is found for each case of the question, or why it isn't posed of the logs.
 pub(crate) fn decide_posed<A: Allocator + Clone>(
-    logs: Vec<NodeLog<A>, A>,
+    logs: Vec<ReplayedLog<A>, A>,
     question: &[u8],
 ) -> Result<Findings<A>, Refusal>
     ensures { (texts : List (List ℕ)) → AreLogTexts texts logs.items → MatchRefusal result (λ findings. AreFindings texts question.now findings × AreReportable findings) (IsFindingsReason texts question.now) }
 {
     let alloc = logs.allocator().clone()?;
-    let logs = Logs::gather(logs)?;
-    let ordered = order_runs(alloc.clone()?, &logs)?;
+    let (read, steps) = split_steps(logs)?;
+    let logs = Logs::gather(read)?;
+    let ordered = order_runs(alloc.clone()?, &logs, steps)?;
     let question = read_posed(alloc.clone()?, logs.size(), question)?;
     let found = decide_cases(alloc, &logs, &ordered, question.cases())?;
     Ok(Findings::Cases {

@@ -20,11 +20,12 @@ ghost use Rattle.ira_audit.specs.declared.answer.Answer.{Answer};
 use crate::answer::Answer;
 use crate::reason::Reason;
 use crate::refusal::Refusal;
+use crate::replayed_log::{ReplayedLog, split_steps};
 use crate::ring_audit::RingAudit;
 use crate::ring_logs::order_runs;
 use crate::sections::check_sections;
 use ira_cert_text::{Certificate, read_cert};
-use ira_event::{Logs, NodeLog, OutOfMemory, RingSize};
+use ira_event::{Logs, OutOfMemory, RingSize};
 use ira_links::Gate;
 use ira_order::Ordered;
 use ira_pred::{Question, read_question};
@@ -82,7 +83,7 @@ where
 /// certificate answers the question.
 pub(crate) fn judge_certified<R, G, A>(
     rt: &R,
-    logs: Vec<NodeLog<A>, A>,
+    logs: Vec<ReplayedLog<A>, A>,
     question: &[u8],
     certificate: &[u8],
     depth: u8,
@@ -96,8 +97,9 @@ where
     ensures { (texts : List (List ℕ)) → AreLogTexts texts logs.items → Judged result (IsAuditAnswer texts question.now certificate.now) }
 {
     let alloc = logs.allocator().clone()?;
-    let logs = Logs::gather(logs)?;
-    let ordered = order_runs(alloc.clone()?, &logs)?;
+    let (read, steps) = split_steps(logs)?;
+    let logs = Logs::gather(read)?;
+    let ordered = order_runs(alloc.clone()?, &logs, steps)?;
     judge_question(
         rt,
         alloc,

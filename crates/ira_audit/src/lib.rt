@@ -11,6 +11,7 @@ mod laws;
 mod one_log;
 mod reason;
 mod refusal;
+mod replayed_log;
 mod report;
 mod ring_audit;
 mod ring_logs;

@@ -22,8 +22,9 @@ use crate::certified::judge_certified;
 use crate::findings::Findings;
 use crate::reason::Reason;
 use crate::refusal::{Refusal, answer_of, findings_of};
+use crate::replayed_log::ReplayedLog;
 use crate::ring_logs::judge_logs;
-use ira_event::{LogFault, NodeLog, OutOfMemory, read_log};
+use ira_event::{LogFault, OutOfMemory, read_log};
 use ira_links::Gate;
 use std::alloc::{AllocError, Allocator};
 use std::marker::Model;
@@ -37,7 +38,7 @@ use std::time::Clock;
 #[derive(Drop)]
 pub struct RingAudit<A: Allocator> {
     /// The logs of the texts, up to the first that is no log's.
-    logs: Vec<NodeLog<A>, A>,
+    logs: Vec<ReplayedLog<A>, A>,
     /// What is wrong with the text behind these.
     fault: Option<LogFault>,
 }
@@ -50,11 +51,14 @@ impl<A: Allocator> Model for RingAudit<A> {
     ghost view = { λ a. record { logs = a.logs.items; fault = a.fault } };
 }
 
-/// The log of a text, or its fault.
-fn read_text<A: Allocator + Clone>(alloc: &A, text: &[u8]) -> Result<NodeLog<A>, LogFault>
+/// The log of a text, replayed while it is at hand, or the text's fault.
+fn read_text<A: Allocator + Clone>(alloc: &A, text: &[u8]) -> Result<ReplayedLog<A>, LogFault>
     ensures { IsReading text.now result }
 {
-    read_log(alloc.clone()?, text)
+    match read_log(alloc.clone()?, text) {
+        Ok(log) => Ok(ReplayedLog::new(log)),
+        Err(fault) => Err(fault),
+    }
 }
 
 /// The logs of the texts or their faults, read side by side.
@@ -62,7 +66,7 @@ fn read_texts<R, A, B>(
     rt: &R,
     alloc: &A,
     texts: &[Vec<u8, B>],
-) -> Result<Vec<Result<NodeLog<A>, LogFault>, A>, AllocError>
+) -> Result<Vec<Result<ReplayedLog<A>, LogFault>, A>, AllocError>
 where
     R: Threads + Sync,
     A: Allocator + Clone + Send + Sync,
@@ -73,7 +77,7 @@ where
         rt,
         alloc.clone()?,
         texts.len(),
-        &|i| -> Result<NodeLog<A>, LogFault>
+        &|i| -> Result<ReplayedLog<A>, LogFault>
             requires { i < length texts.now }
             ensures { IfSome (slice_get texts.entry.now i) (λ text. IsReading text.items result) }
         { read_text(alloc, &texts[i]) },
@@ -139,7 +143,7 @@ impl<A: Allocator + Clone> RingAudit<A> {
     }
 
     /// Keeps what was read of the text that comes next.
-    fn keep(&mut self, reading: Result<NodeLog<A>, LogFault>) -> Result<(), OutOfMemory>
+    fn keep(&mut self, reading: Result<ReplayedLog<A>, LogFault>) -> Result<(), OutOfMemory>
         ensures ok { OnOk result ((texts : List (List ℕ)) (text : List ℕ) → IsReading text reading → HasTaken self.old texts → HasTaken self.new (texts ++ text ∷ [])) }
         ensures err { OnErr result (self.new ≡ self.old) }
     {
@@ -230,7 +234,7 @@ impl<A: Allocator + Clone> RingAudit<A> {
     }
 
     /// The logs of the texts that were taken, or why the first text that is no log's is none.
-    fn into_logs(self) -> Result<Vec<NodeLog<A>, A>, Reason>
+    fn into_logs(self) -> Result<Vec<ReplayedLog<A>, A>, Reason>
         ensures { (texts : List (List ℕ)) → HasTaken self texts → MatchResult result (λ logs. AreLogTexts texts logs.items) (IsTextReason texts) }
     {
         let RingAudit { logs, fault } = self;

@@ -2,14 +2,12 @@ ghost use Rattle.std.specs.Prelude.{◌≡◌, ◌↔◌, ℕ, List, Ok, IfOk, M
 ghost use Rattle.ira_event.specs.Logs.{AreLogs};
 ghost use Rattle.ira_event.specs.Result.{UnlessErr};
 ghost use Rattle.ira_node.specs.declared.step_fault.StepFault.{StepFault};
-ghost use Rattle.ira_replay.specs.declared.replay_fault.ReplayFault.{ReplayFault};
 ghost use Rattle.ira_order.specs.declared.match_fault.MatchFault.{MatchFault};
-ghost use Rattle.ira_replay.specs.LocalRun.{IsLocalRun, IsFirstFault};
-ghost use Rattle.ira_order.specs.Run.{AreLocalRuns};
 ghost use Rattle.ira_audit.specs.GoodLogs.{AreGoodLogs};
 ghost use Rattle.ira_audit.specs.LogTexts.{AreLogTexts};
-ghost use Rattle.ira_audit.specs.LogsAnswer.{IsLogsAnswer, IsFirstStop};
+ghost use Rattle.ira_audit.specs.LogsAnswer.{IsLogsAnswer};
 ghost use Rattle.ira_audit.specs.Refusal.{Judged, IsLogsReason, MatchRefusal};
+ghost use Rattle.ira_audit.specs.ReplayedLogs.{AreReplayed};
 ghost use Rattle.ira_audit.specs.Report.{IsReportable};
 ghost use Rattle.ira_audit.specs.TextRuns.{AreTextsOfRuns, AreTextsWithoutRun};
 ghost use Rattle.ira_audit.specs.declared.answer.Answer.{Answer};
@@ -17,10 +15,10 @@ ghost use Rattle.ira_audit.specs.declared.answer.Answer.{Answer};
 use crate::answer::Answer;
 use crate::reason::Reason;
 use crate::refusal::Refusal;
+use crate::replayed_log::{ReplayedLog, split_steps};
 use crate::ring_audit::RingAudit;
-use ira_event::{Logs, NodeLog, OutOfMemory};
+use ira_event::{Logs, OutOfMemory};
 use ira_order::{Ordered, find_order, order};
-use ira_replay::{ReplayFault, replay};
 use std::alloc::Allocator;
 
 /// Judges the texts of a ring's logs, given in the order of its places: whether they are texts of
@@ -48,49 +46,28 @@ pub fn audit_logs<A: Allocator + Clone>(alloc: A, texts: &[&[u8]]) -> Result<Ans
 }
 
 /// Whether the logs are those of one ring, match and have an order, and each event has a step.
-pub(crate) fn judge_logs<A: Allocator + Clone>(logs: Vec<NodeLog<A>, A>) -> Result<(), Refusal>
+pub(crate) fn judge_logs<A: Allocator + Clone>(logs: Vec<ReplayedLog<A>, A>) -> Result<(), Refusal>
     ensures { (texts : List (List ℕ)) → AreLogTexts texts logs.items → Judged result (IsLogsAnswer texts) }
 {
     let alloc = logs.allocator().clone()?;
-    let logs = Logs::gather(logs)?;
+    let (read, steps) = split_steps(logs)?;
+    let logs = Logs::gather(read)?;
     find_order(alloc, &logs)?;
-    check_all_steps(&logs)?;
-    Ok(())
+    Ok(steps?)
 }
 
-/// The order of the logs of one ring, where they match and have one, and each event has a step.
+/// The order of the logs of one ring, where they match and have one, and each event has a step, as the
+/// logs' replay told.
 pub(crate) fn order_runs<A: Allocator + Clone>(
     alloc: A,
     logs: &Logs<A>,
+    steps: Result<(), Reason>,
 ) -> Result<Ordered<'_, A>, Refusal>
+    requires { AreReplayed logs.now steps }
     ensures logs { IfOk result (λ o. o.logs ≡ logs.now) }
     ensures runs { (texts : List (List ℕ)) → AreLogTexts texts logs.now → AreLogs logs.now → MatchRefusal result (λ _. AreGoodLogs texts logs.now) (IsLogsReason texts) }
 {
     let ordered = order(alloc, logs)?;
-    check_all_steps(logs)?;
+    steps?;
     Ok(ordered)
-}
-
-/// Whether each event of each log has a step.
-fn check_all_steps<A: Allocator>(logs: &Logs<A>) -> Result<(), Reason>
-    ensures { MatchResult result (λ _. AreLocalRuns logs.now) (λ r. (place : ℕ) × (f : ReplayFault) × (r ≡ Reason.Replay place f.position f.fault) × IsFirstStop logs.now place f) }
-{
-    for place in 0..logs.size().get() {
-        check_steps(logs.log(place))?;
-    }
-    Ok(())
-}
-
-/// Whether each event of a log has a step.
-fn check_steps<A: Allocator>(log: &NodeLog<A>) -> Result<(), Reason>
-    ensures { MatchResult result (λ _. IsLocalRun log.now) (λ r. (f : ReplayFault) × (r ≡ Reason.Replay log.now.place f.position f.fault) × IsFirstFault log.now f) }
-{
-    match replay(log) {
-        Ok(_) => Ok(()),
-        Err(ReplayFault { position, fault }) => Err(Reason::Replay {
-            place: log.place(),
-            position,
-            fault,
-        }),
-    }
 }

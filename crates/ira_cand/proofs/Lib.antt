@@ -1,4 +1,3 @@
-pub mod Clauses
 pub mod Passing
 pub mod Profiles
 pub mod Rising

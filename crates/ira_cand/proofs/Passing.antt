@@ -11,6 +11,7 @@ use Rattle.ira_node.specs.declared.node_state.NodeState.{NodeState}
 use Rattle.ira_node.specs.NodeState.{first_state}
 use Rattle.ira_pred.specs.ClauseAnswer.{holds_test}
 use Rattle.ira_pred.specs.Formula.{Formula}
+use Rattle.ira_pred.proofs.Meanings.{holds_exactly}
 use Rattle.ira_replay.specs.StatesOfLog.{AreStates, ArePlacedStates}
 use Rattle.ira_replay.proofs.Along.{are_placed_states}
 use Rattle.ira_replay.proofs.Reached.{one_list}
@@ -18,7 +19,6 @@ use Rattle.ira_cand.specs.Holding.{positions_passing}
 use Rattle.ira_cand.specs.HoldsAt.{HoldsAt}
 use Rattle.ira_cand.specs.Candidates.{AreCandidates}
 use Rattle.ira_cand.specs.CandidatesFound.{candidates_of}
-use Rattle.ira_cand.proofs.Clauses.{holds_exactly}
 use Rattle.ira_cand.proofs.Rising.{contains_behind, contains_first, same_rising}
 
 -- ---- they rise

@@ -10,6 +10,7 @@ use Rattle.ira_node.specs.NodeState.{free, IsLeader, Receives}
 use Rattle.ira_node.specs.NodeStep.{HasStep}
 use Rattle.ira_node.specs.Wanted.{wanted_of}
 use Rattle.ira_node.specs.declared.wanted.Wanted.TheVariants.{Draw as WantsDraw, Send, Receipt}
+use Rattle.ira_node.proofs.Wants.{wants_draw, wants_receipt, wants_send, receiving_leads_not, owing_leads_not}
 use Rattle.ira_run.specs.declared.node_end.NodeEnd.{NodeEnd}
 use Rattle.ira_run.specs.declared.node_end.NodeEnd.TheVariants.{Leader, Stopped, DrawsSpent, LogFull, NoStep, Quiet}
 use Rattle.ira_run.specs.Setup.{Setup, given}
@@ -17,7 +18,7 @@ use Rattle.ira_run.specs.FullRun.{events_at, drawn, HasEvent, owes, chooses, rec
 use Rattle.ira_lone.specs.LoneNode.{LoneNode, Ends, HasNoNext}
 use Rattle.ira_lone.specs.LoneRing.{node_at, IsReached, AreAtEnd, AreEndsOfNodes}
 use Rattle.ira_run.proofs.Choosing.{choosing_no_receipt, choosing_no_waiting}
-use Rattle.ira_lone.proofs.LoneNodes.{wants_draw, wants_receipt, wants_send, choosing_leads_not, receiving_leads_not, owing_leads_not, first_message, parts}
+use Rattle.ira_lone.proofs.LoneNodes.{choosing_leads_not, first_message, parts}
 use Rattle.ira_lone.proofs.LoneStarts.{each_more}
 use Rattle.ira_lone.proofs.LoneTurns.{read_at}
 

@@ -10,45 +10,12 @@ use Rattle.ira_node.specs.declared.wanted.Wanted.TheVariants.{Draw as WantsDraw,
 use Rattle.ira_node.specs.Wanted.{wanted_of}
 use Rattle.ira_node.specs.NodeStep.{NodeStep, HasStep}
 use Rattle.ira_node.specs.NodeState.{free, IsLeader, Receives}
+use Rattle.ira_node.proofs.Wants.{wants_draw, wants_receipt, owing_leads_not, receiving_leads_not}
 use Rattle.ira_run.specs.declared.node_end.NodeEnd.TheVariants.{Leader as Leads, DrawsSpent, LogFull, NoStep, Quiet}
 use Rattle.ira_lone.specs.LoneNode.{LoneNode, IsNext, HasNoNext, MakesOwn, MakesSending, GoesTo, drawn_by, after_event}
 
--- what a state's want says of it
-pub wants_draw : (phase : Phase) (owed : Option Msg) → WantsDraw ≡ wanted_of phase owed → (round : ℕ) × (record { phase = phase; owed = owed } ≡ free (Choosing round))
-wants_draw (Choosing round) None h = (round, refl)
-wants_draw (Active round id) None h = cc
-wants_draw Passive None h = cc
-wants_draw (Choosing round) (Some m) h = cc
-wants_draw (Active round id) (Some m) h = cc
-wants_draw Passive (Some m) h = cc
-wants_draw (Leader round id) owed h = cc
-
-pub wants_receipt : (phase : Phase) (owed : Option Msg) → Receipt ≡ wanted_of phase owed → (owed ≡ None) × Receives phase
-wants_receipt (Choosing round) None h = cc
-wants_receipt (Active round id) None h = (refl, tt)
-wants_receipt Passive None h = (refl, tt)
-wants_receipt (Choosing round) (Some m) h = cc
-wants_receipt (Active round id) (Some m) h = cc
-wants_receipt Passive (Some m) h = cc
-wants_receipt (Leader round id) owed h = cc
-
-pub wants_send : (phase : Phase) (owed : Option Msg) (m : Msg) → Send m ≡ wanted_of phase owed → owed ≡ Some m
-wants_send (Choosing round) None m h = cc
-wants_send (Active round id) None m h = cc
-wants_send Passive None m h = cc
-wants_send (Choosing round) (Some k) m h = cc
-wants_send (Active round id) (Some k) m h = cc
-wants_send Passive (Some k) m h = cc
-wants_send (Leader round id) owed m h = cc
-
 pub choosing_leads_not : (s : NodeState) (round : ℕ) → s ≡ free (Choosing round) → ¬ (IsLeader s.phase)
 choosing_leads_not s round is l = let P : NodeState → Type 0 = λ x. IsLeader x.phase in subst P is l
-
-pub receiving_leads_not : (phase : Phase) → Receives phase → ¬ (IsLeader phase)
-receiving_leads_not (Choosing round) r l = r
-receiving_leads_not (Active round id) r l = l
-receiving_leads_not Passive r l = l
-receiving_leads_not (Leader round id) r l = r
 
 no_number : (ids : List ℕ) → length ids ≡ 0 → ids ≡ []
 no_number [] h = refl
@@ -75,12 +42,6 @@ pub next_got : (n most : ℕ) (node : LoneNode) (m : Msg) (after : NodeState) �
 next_got n most node m after wants room some first step =
     let w : (node.state.owed ≡ None) × Receives node.state.phase = wants_receipt node.state.phase node.state.owed wants in
     record { not_leader = receiving_leads_not node.state.phase w.1; room = room; step = step; first = first_message node.input m some first }
-
-pub owing_leads_not : (phase : Phase) (owed : Option Msg) (m : Msg) → Send m ≡ wanted_of phase owed → ¬ (IsLeader phase)
-owing_leads_not (Choosing round) owed m wants l = l
-owing_leads_not (Active round id) owed m wants l = l
-owing_leads_not Passive owed m wants l = l
-owing_leads_not (Leader round id) owed m wants l = cc
 
 pub next_sent : (n most : ℕ) (node : LoneNode) (m : Msg) (after : NodeState) → Send m ≡ wanted_of node.state.phase node.state.owed → length node.events < most → NodeStep n node.state (Sent m) after → IsNext n most node (Sent m) after
 next_sent n most node m after wants room step = record { not_leader = owing_leads_not node.state.phase node.state.owed m wants; room = room; step = step; first = tt }

@@ -9,6 +9,7 @@ use Rattle.ira_event.specs.Logs.{AreLogs}
 use Rattle.ira_event.specs.RingSize.{IsRingSize}
 use Rattle.ira_node.specs.declared.node_state.NodeState.{NodeState}
 use Rattle.ira_node.specs.NodeState.{first_state}
+use Rattle.ira_node.proofs.Wants.{receiving_leads_not}
 use Rattle.ira_replay.specs.LocalRun.{LeadsTo}
 use Rattle.ira_order.specs.Ring.{next, prev, log_of, events_of}
 use Rattle.ira_order.specs.Matching.{sent, got}
@@ -25,7 +26,7 @@ use Rattle.ira_lone.specs.LoneRing.{node_at, IsReached, AreAtEnd, AreLogsOfNodes
 use Rattle.ira_lone.proofs.LoneEnds.{ended_no_step}
 use Rattle.ira_run.proofs.FullRuns.{no_log}
 use Rattle.ira_lone.proofs.LoneLogs.{is_log}
-use Rattle.ira_lone.proofs.LoneNodes.{choosing_leads_not, receiving_leads_not}
+use Rattle.ira_lone.proofs.LoneNodes.{choosing_leads_not}
 use Rattle.ira_run.proofs.Recordable.{run_within}
 use Rattle.ira_run.proofs.Walks.{walk_leads, walk_balanced}
 

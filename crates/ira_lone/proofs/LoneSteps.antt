@@ -8,7 +8,8 @@ use Rattle.ira_event.specs.declared.msg.Msg.{Msg}
 use Rattle.ira_node.specs.declared.phase.Phase.TheVariants.{Choosing}
 use Rattle.ira_node.specs.declared.node_state.NodeState.{NodeState}
 use Rattle.ira_node.specs.NodeState.{free, IsLeader}
-use Rattle.ira_node.specs.NodeStep.{NodeStep, sends, draws, passes, gives_in, purges, meets, ties, wins}
+use Rattle.ira_node.specs.NodeStep.{NodeStep}
+use Rattle.ira_node.proofs.Inversions.{drawing_chooses, sending_owes}
 use Rattle.ira_order.specs.Ring.{next, prev}
 use Rattle.ira_order.specs.Run.{Configuration, LinkStep, RingStep}
 use Rattle.ira_order.proofs.Ranks.{eq_cases, next_below}
@@ -21,34 +22,14 @@ use Rattle.ira_run.proofs.Walks.{walk_more, own_more, other_more, links_from}
 
 -- ---- a node with a next event can step
 
-drawing_chooses : (n : ℕ) (state after : NodeState) (id : ℕ) → NodeStep n state (Draw id) after → (round : ℕ) × (state ≡ free (Choosing round))
-drawing_chooses n s t x (sends m runs o ee et) = cc
-drawing_chooses n s t x (draws round id es ee lo hi et) = (round, es)
-drawing_chooses n s t x (passes m es ee h et) = cc
-drawing_chooses n s t x (gives_in round id m es ee g h et) = cc
-drawing_chooses n s t x (purges round id m es ee g et) = cc
-drawing_chooses n s t x (meets round id m es ee g h k et) = cc
-drawing_chooses n s t x (ties round id m es ee g h d k et) = cc
-drawing_chooses n s t x (wins round id m es ee g h d et) = cc
-
-sending_owes : (n : ℕ) (state after : NodeState) (k : Msg) → NodeStep n state (Sent k) after → state.owed ≡ Some k
-sending_owes n s t k (sends m runs o ee et) = let same : m ≡ k = cc in o ∙ ap Some same
-sending_owes n s t k (draws round id es ee lo hi et) = cc
-sending_owes n s t k (passes m es ee h et) = cc
-sending_owes n s t k (gives_in round id m es ee g h et) = cc
-sending_owes n s t k (purges round id m es ee g et) = cc
-sending_owes n s t k (meets round id m es ee g h j et) = cc
-sending_owes n s t k (ties round id m es ee g h d j et) = cc
-sending_owes n s t k (wins round id m es ee g h d et) = cc
-
 -- an ID that is left is unused
 unused : (ids used : List ℕ) (left : List ℕ) (id : ℕ) (rest : List ℕ) → ids ≡ used ++ left → left ≡ id ∷ rest → length used < length ids
 unused ids used left id rest is first = omega (arith, ap length is, ap length first, length-append used left)
 
 pub has_event : (n most : ℕ) (ids : List ℕ) (node : LoneNode) (e : Event) (after : NodeState) → IsNext n most node e after → ids ≡ drawn node.events ++ node.ids → HasEvent n ids node.state node.events node.input
 has_event n most ids node (Draw id) after step left =
-    let w : (round : ℕ) × (node.state ≡ free (Choosing round)) = drawing_chooses n node.state after id step.step in
-    chooses w.0 w.1 (unused ids (drawn node.events) node.ids id step.first.0 left step.first.1)
+    let before = drawing_chooses n node.state after id step.step in
+    chooses before.0 before.1 (unused ids (drawn node.events) node.ids id step.first.0 left step.first.1)
 has_event n most ids node (Sent m) after step left = owes m (sending_owes n node.state after m step.step)
 has_event n most ids node (Got m) after step left = receives m step.first.0 step.first.1 (after, step.step)
 

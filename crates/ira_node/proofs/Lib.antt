@@ -1,3 +1,4 @@
 pub mod Answers
+pub mod Inversions
 pub mod Ranges
 pub mod Wants

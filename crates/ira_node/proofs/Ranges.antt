@@ -11,6 +11,7 @@ use Rattle.ira_node.specs.declared.node_state.NodeState.{NodeState}
 use Rattle.ira_node.specs.Msg.{first_message, raised, dirtied}
 use Rattle.ira_node.specs.NodeState.{owing, is_debt, is_state}
 use Rattle.ira_node.specs.NodeStep.{NodeStep, sends, draws, passes, gives_in, purges, meets, ties, wins}
+use Rattle.ira_node.proofs.Inversions.{sending_owes}
 
 raised_stays : (m : Msg) → is_msg m ≡ true → m.hop < MAX_NUMBER → is_msg (raised m) ≡ true
 raised_stays m h low = grind (arith, nat_tests)
@@ -46,12 +47,4 @@ stays n s e t h k (ties round id m es ee g whole d low et) = rw et (both _ _ (ne
 stays n s e t h k (wins round id m es ee g whole d et) = rw et (subst (λ x. is_state x ≡ true) es h)
 
 pub sendings : (n : ℕ) (s : NodeState) (m : Msg) (t : NodeState) → is_state s ≡ true → NodeStep n s (Sent m) t → is_msg m ≡ true
-sendings n s m t h (sends k runs o ee et) =
-    let same : m ≡ k = cc in rw same (subst (λ x. is_debt x ≡ true) o (second_of_both _ _ h))
-sendings n s m t h (draws round id es ee lo hi et) = cc
-sendings n s m t h (passes k es ee low et) = cc
-sendings n s m t h (gives_in round id k es ee g low et) = cc
-sendings n s m t h (purges round id k es ee g et) = cc
-sendings n s m t h (meets round id k es ee g short low et) = cc
-sendings n s m t h (ties round id k es ee g whole d low et) = cc
-sendings n s m t h (wins round id k es ee g whole d et) = cc
+sendings n s m t h step = subst (λ x. is_debt x ≡ true) (sending_owes n s t m step) (second_of_both _ _ h)

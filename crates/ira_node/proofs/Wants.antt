@@ -1,4 +1,4 @@
--- Each step is of the kind that the state wants, and a step of that kind is there.
+-- Each step is of the kind that the state wants, a step of that kind is there, and what the want says of the state.
 use Rattle.std.proofs.Common.{◌≡◌, ℕ, ◌≤◌, ◌⊎◌, inl, inr, Option, Some, None, refl, arith}
 use Rattle.ira_event.specs.RingSize.{IsRingSize}
 use Rattle.ira_event.specs.declared.msg.Msg.{Msg}
@@ -8,8 +8,9 @@ use Rattle.ira_node.specs.declared.phase.Phase.{Phase}
 use Rattle.ira_node.specs.declared.phase.Phase.TheVariants.{Choosing, Active, Passive, Leader}
 use Rattle.ira_node.specs.declared.node_state.NodeState.{NodeState}
 use Rattle.ira_node.specs.declared.wanted.Wanted.{Wanted}
+use Rattle.ira_node.specs.declared.wanted.Wanted.TheVariants.{Draw as WantsDraw, Send, Receipt}
 use Rattle.ira_node.specs.Msg.{first_message, raised, dirtied, IsGreater, IsLess, IsEqual}
-use Rattle.ira_node.specs.NodeState.{free, owing, IsLeader}
+use Rattle.ira_node.specs.NodeState.{free, owing, IsLeader, Receives}
 use Rattle.ira_node.specs.NodeStep.{NodeStep, sends, draws, passes, gives_in, purges, meets, ties, wins, HasStep}
 use Rattle.ira_node.specs.Wanted.{IsOfKind, CanCome, wanted_of}
 
@@ -52,3 +53,49 @@ can_come_of n (Leader round id) owed size = λ e h. step_wanted n (record { phas
 
 pub can_come : (n : ℕ) (s : NodeState) (w : Wanted) → w ≡ wanted_of s.phase s.owed → IsRingSize n → CanCome n s w
 can_come n s w is size = rw is (can_come_of n s.phase s.owed size)
+
+-- ---- what a state's want says of it
+
+-- a node that is to draw chooses, and owes nothing
+pub wants_draw : (phase : Phase) (owed : Option Msg) → WantsDraw ≡ wanted_of phase owed → (round : ℕ) × (record { phase = phase; owed = owed } ≡ free (Choosing round))
+wants_draw (Choosing round) None h = (round, refl)
+wants_draw (Active round id) None h = cc
+wants_draw Passive None h = cc
+wants_draw (Choosing round) (Some m) h = cc
+wants_draw (Active round id) (Some m) h = cc
+wants_draw Passive (Some m) h = cc
+wants_draw (Leader round id) owed h = cc
+
+-- a node that is to receive owes nothing
+pub wants_receipt : (phase : Phase) (owed : Option Msg) → Receipt ≡ wanted_of phase owed → (owed ≡ None) × Receives phase
+wants_receipt (Choosing round) None h = cc
+wants_receipt (Active round id) None h = (refl, tt)
+wants_receipt Passive None h = (refl, tt)
+wants_receipt (Choosing round) (Some m) h = cc
+wants_receipt (Active round id) (Some m) h = cc
+wants_receipt Passive (Some m) h = cc
+wants_receipt (Leader round id) owed h = cc
+
+-- a node that is to send owes the message
+pub wants_send : (phase : Phase) (owed : Option Msg) (m : Msg) → Send m ≡ wanted_of phase owed → owed ≡ Some m
+wants_send (Choosing round) None m h = cc
+wants_send (Active round id) None m h = cc
+wants_send Passive None m h = cc
+wants_send (Choosing round) (Some k) m h = cc
+wants_send (Active round id) (Some k) m h = cc
+wants_send Passive (Some k) m h = cc
+wants_send (Leader round id) owed m h = cc
+
+-- a node that is to send doesn't lead
+pub owing_leads_not : (phase : Phase) (owed : Option Msg) (m : Msg) → Send m ≡ wanted_of phase owed → ¬ (IsLeader phase)
+owing_leads_not (Choosing round) owed m wants l = l
+owing_leads_not (Active round id) owed m wants l = l
+owing_leads_not Passive owed m wants l = l
+owing_leads_not (Leader round id) owed m wants l = cc
+
+-- a node that receives doesn't lead
+pub receiving_leads_not : (phase : Phase) → Receives phase → ¬ (IsLeader phase)
+receiving_leads_not (Choosing round) r l = r
+receiving_leads_not (Active round id) r l = l
+receiving_leads_not Passive r l = l
+receiving_leads_not (Leader round id) r l = r

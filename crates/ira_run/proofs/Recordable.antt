@@ -3,13 +3,15 @@ use Rattle.std.proofs.Common.{◌≡◌, ℕ, ◌<◌, ◌≤◌, Bool, true, fa
 use Rattle.std.specs.List.{list_all}
 use Rattle.std.proofs.lemmas.Bool.Decides.{nat_tests}
 use Rattle.std.proofs.lemmas.List.Folds.{list_all-append}
+use Rattle.ira_event.specs.Limits.{MAX_NODES}
 use Rattle.ira_event.specs.declared.event.Event.{Event}
 use Rattle.ira_event.specs.declared.event.Event.TheVariants.{Draw, Sent, Got}
 use Rattle.ira_event.specs.declared.msg.Msg.{Msg}
 use Rattle.ira_event.specs.Event.{is_number, is_msg, is_event}
 use Rattle.ira_node.specs.declared.node_state.NodeState.{NodeState}
 use Rattle.ira_node.specs.NodeState.{first_state, is_state}
-use Rattle.ira_node.specs.NodeStep.{NodeStep, sends, draws, passes, gives_in, purges, meets, ties, wins}
+use Rattle.ira_node.specs.NodeStep.{NodeStep}
+use Rattle.ira_node.proofs.Inversions.{drawing_chooses}
 use Rattle.ira_node.proofs.Ranges.{stays, sendings}
 use Rattle.ira_order.specs.Ring.{prev}
 use Rattle.ira_order.specs.Run.{Configuration, LinkStep, RingStep}
@@ -30,25 +32,18 @@ first_of a b h = grind (arith, nat_tests)
 second_of : (a b : Bool) → (a && b) ≡ true → b ≡ true
 second_of a b h = grind (arith, nat_tests)
 
-id_is_number : (n id : ℕ) → n ≤ 64 → 1 ≤ id → id ≤ n → is_number id ≡ true
+id_is_number : (n id : ℕ) → n ≤ MAX_NODES → 1 ≤ id → id ≤ n → is_number id ≡ true
 id_is_number n id few low high = grind (arith, nat_tests)
 
-draw_is_number : (n : ℕ) (s t : NodeState) (x : ℕ) → n ≤ 64 → NodeStep n s (Draw x) t → is_number x ≡ true
-draw_is_number n s t x few (sends m runs o ee et) = cc
-draw_is_number n s t x few (draws round id es ee lo hi et) = let same : id ≡ x = cc in subst (λ y. is_number y ≡ true) same (id_is_number n id few lo hi)
-draw_is_number n s t x few (passes m es ee h et) = cc
-draw_is_number n s t x few (gives_in round id m es ee g h et) = cc
-draw_is_number n s t x few (purges round id m es ee g et) = cc
-draw_is_number n s t x few (meets round id m es ee g h k et) = cc
-draw_is_number n s t x few (ties round id m es ee g h d k et) = cc
-draw_is_number n s t x few (wins round id m es ee g h d et) = cc
+draw_is_number : (n : ℕ) (s t : NodeState) (x : ℕ) → n ≤ MAX_NODES → NodeStep n s (Draw x) t → is_number x ≡ true
+draw_is_number n s t x few step = let before = drawing_chooses n s t x step in id_is_number n x few before.2 before.3
 
 -- a record may hold the numbers of all states and messages of the ring
 record IsRecordable (n : ℕ) (c : Configuration) : Type 0 where
   states : (i : ℕ) → i < n → is_state (c.state i) ≡ true
   links : (k : ℕ) → k < n → list_all is_msg (c.link k) ≡ true
 
-event_recordable : (n i : ℕ) (e : Event) (c d : Configuration) → n ≤ 64 → IsRecordable n c → RingStep n i e c d → is_event e ≡ true
+event_recordable : (n i : ℕ) (e : Event) (c d : Configuration) → n ≤ MAX_NODES → IsRecordable n c → RingStep n i e c d → is_event e ≡ true
 event_recordable n i (Draw id) c d few all step = draw_is_number n (c.state i) (d.state i) id few step.node
 event_recordable n i (Sent m) c d few all step = sendings n (c.state i) m (d.state i) (all.states i step.place) step.node
 event_recordable n i (Got m) c d few all step =
@@ -90,7 +85,7 @@ first_recordable : (b : Bool) → is_state (first_state b) ≡ true
 first_recordable true = refl
 first_recordable false = refl
 
-events_recordable : (s : Setup) (past : List (ℕ × Event)) (c : Configuration) (run : List (ℕ × Event)) (d : Configuration) (i : ℕ) → s.nodes ≤ 64 → IsRecordable s.nodes c → Walks s past c run d
+events_recordable : (s : Setup) (past : List (ℕ × Event)) (c : Configuration) (run : List (ℕ × Event)) (d : Configuration) (i : ℕ) → s.nodes ≤ MAX_NODES → IsRecordable s.nodes c → Walks s past c run d
     → list_all is_event (events_at run i) ≡ true
 events_recordable s past c [] d i few all walk = refl
 events_recordable s past c (x ∷ run) d i few all walk =

@@ -16,19 +16,19 @@ returns-in_err-logs g c = λ texts are.
     let f = c.in_err-logs.field-0.0 in
     let r = c.from_residual-in_err-logs.result in
     let refused = err_from_is_err_and r c.from_residual-in_err-logs.ensures.1 in
-    findings_refused _ texts c.args.question.now r refused.0 refused.1 (heads_refused texts c.args.logs.items are r f (search rules) ((c.in_err-logs.ensures.err f).0 refl))
+    findings_refused _ texts c.args.question.now r refused.0 refused.1 (heads_refused texts _ (subst (AreLogTexts texts) (sym c.in_ok-read.ensures.0) are) r f (search rules) ((c.in_err-logs.ensures.err f).0 refl))
 
 pub returns-in_err-ordered : goal.returns-in_err-ordered
 returns-in_err-ordered g c = λ texts are.
     let gathered = (c.in_ok-logs.ensures.ok c.in_ok-logs.logs).0 refl in
-    let of = subst (AreLogTexts texts) (sym gathered.0) are in
+    let of = subst (AreLogTexts texts) (sym (gathered.0 ∙ c.in_ok-read.ensures.0)) are in
     refused_again _ _ _ _ c.from_residual-in_err-ordered.result c.in_err-ordered.field-0.0 (search rules) (c.in_err-ordered.ensures.runs texts of gathered.1)
     (λ x h. logs_reason texts c.args.question.now x h)
 
 pub returns-in_err-question : goal.returns-in_err-question
 returns-in_err-question g c = λ texts are.
     let gathered = (c.in_ok-logs.ensures.ok c.in_ok-logs.logs).0 refl in
-    let of = subst (AreLogTexts texts) (sym gathered.0) are in
+    let of = subst (AreLogTexts texts) (sym (gathered.0 ∙ c.in_ok-read.ensures.0)) are in
     let good = c.in_ok-ordered.ensures.runs texts of gathered.1 in
     refused_again _ _ _ _ c.from_residual-in_err-question.result c.in_err-question.field-0.0 (search rules) c.in_err-question.ensures
     (λ x h. question_reason texts c.args.question.now c.in_ok-logs.logs good x (subst (λ n. IsQuestionRefusal c.args.question.now n x) c.size.ensures.value h))
@@ -46,7 +46,7 @@ returns-in_err-found g c = λ texts are.
 pub returns : goal.returns
 returns g c = λ texts are.
     let gathered = (c.in_ok-logs.ensures.ok c.in_ok-logs.logs).0 refl in
-    let of = subst (AreLogTexts texts) (sym gathered.0) are in
+    let of = subst (AreLogTexts texts) (sym (gathered.0 ∙ c.in_ok-read.ensures.0)) are in
     let good = c.in_ok-ordered.ensures.runs texts of gathered.1 in
     let asked = c.in_ok-question.question in
     let posed : Posed texts c.args.question.now c.in_ok-logs.logs asked =
