@@ -23,7 +23,8 @@ help:
 	@echo '                $(PREFIX) if not given'
 	@echo 'make test       the gate: all proofs from nothing, the edits that must be refused, all tests and'
 	@echo '                programs: `N passed, 0 failed`; and all examples. See docs/ARCHITECTURE.md for its time'
-	@echo 'make sweep      makes ira, refuses each growth of its memory in turn, and looks at what it answers then'
+	@echo 'make sweep      makes ira, refuses each growth of its memory and each start of a thread in turn, and looks at what'
+	@echo '                it answers then'
 	@echo 'make clean      removes what was built and proved'
 
 # Three at a time: no library keeps all cores busy to its end. `make` begins with what it is told first, so
@@ -69,8 +70,8 @@ test:
 	rt ci
 	@sh examples/check.sh $(PROGRAM)
 
-# Each growth of the program is refused in turn, those of the command line's library and of the threads too. It needs
-# glibc and Python.
+# Each growth of the program is refused in turn, those of the command line's library and of the threads too, and each
+# start of a thread. It needs glibc and Python.
 sweep: ira
 	@python3 -B sweep/sweep.py bin/ira
 

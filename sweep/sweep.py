@@ -1,8 +1,11 @@
-"""Refuses each growth of the program in turn: malloc and realloc, of all its threads and of the libraries in it.
+"""Refuses each growth of the program in turn: malloc and realloc, of all its threads and of the libraries in it; and
+then each start of a thread.
 
 python3 sweep/sweep.py IRA: runs each command line with its first growth refused, then with its second, and so on
 until no run meets a refusal. Each run must answer as with ample memory, or with status 3 and `ira: out of memory`,
-or with status 2 and `ira: run refused 3`, which says that a thread couldn't be started.
+or with status 2 and `ira: run refused 3`, which says that a thread couldn't be started. Where it gives up it has printed
+nothing, or all (`decide` makes the certificate behind its findings), and each file that it wrote is a first part of
+what it should be.
 
 It needs glibc, and the clang of the Rattle kit."""
 
@@ -11,11 +14,12 @@ import os, shutil, subprocess, sys, tempfile
 HERE = os.path.dirname(os.path.abspath(__file__))
 ELECTION = os.path.join(HERE, "..", "examples", "two_node_election")
 KIT = os.path.dirname(subprocess.run(["rt", "doc"], capture_output=True, text=True).stdout.strip())
-GAVE_UP = (3, b"", b"ira: out of memory\n"), (2, b"", b"ira: run refused 3\n")
+GAVE_UP = (3, b"ira: out of memory\n"), (2, b"ira: run refused 3\n")
 # So many runs in turn that answer as with ample memory end a command line.
 UNTOUCHED = 100
 
 CHECK = ["check", "--question", "two_leaders.ask", "--cert", "two_leaders.cert"]
+ABSENT = ["active_beside_leader.ask", "0.log", "1.log"]
 RUN = ["run", "--nodes", "2", "--seed", "7", "--out", "d"]
 LINES = [
     [],
@@ -25,6 +29,13 @@ LINES = [
     [*CHECK, "0.log", "1.log"],
     [*CHECK, "--depth", "4", "0.log", "1.log"],
     [*CHECK, "1.log", "0.log"],
+    ["check", "--cert", "active_beside_leader.cert", "--depth", "4", "--question", *ABSENT],
+    ["decide", "--question", *ABSENT],
+    ["decide", "--out", "d/c", "--question", *ABSENT],
+    ["decide", "--question", "active_beside_passive.ask", "0.log", "1.log"],
+    ["decide", "--question", "two_leaders.ask", "1.log", "0.log"],
+    ["pairs", "5"],
+    ["pairs", "1"],
     RUN,
     [*RUN, "--alone"],
     [*RUN, "--initiators", "1", "--draws", "0"],
@@ -45,34 +56,46 @@ def contents(folder):
     return found
 
 
-def served(ira, words, number, shim):
-    """What a run with the growth of this number refused answers and writes; with 0 none is."""
+def served(ira, words, refused, number, shim):
+    """What a run with the growth or the start of this number refused answers and writes; with 0 none is."""
     with tempfile.TemporaryDirectory() as room:
         shutil.copytree(ELECTION, room, dirs_exist_ok=True)
         os.mkdir(f"{room}/d")
         with open(f"{room}/0.log", "rb") as text:
-            env = {"LD_PRELOAD": shim, "REFUSE": str(number)}
+            env = {"LD_PRELOAD": shim, refused: str(number)}
             how = {"stdin": text, "cwd": room, "capture_output": True, "timeout": 60}
             ran = subprocess.run([ira, *words], env=env, **how)
         return (ran.returncode, ran.stdout, ran.stderr), contents(f"{room}/d")
 
 
-def swept(ira, words, shim):
+def has_given_up(found, ample):
+    """Whether a run told that it gave up, and printed and wrote nothing else than with ample memory."""
+    (status, out, err), files = found
+    (_, ample_out, _), ample_files = ample
+    return (
+        (status, err) in GAVE_UP
+        and out in (b"", ample_out)
+        and files.keys() <= ample_files.keys()
+        and all(ample_files[name].startswith(text) for name, text in files.items())
+    )
+
+
+def swept(ira, words, refused, shim):
     """How many runs of a command line told of a refusal, and how many gave a wrong answer."""
-    ample = served(ira, words, 0, shim)
+    ample = served(ira, words, refused, 0, shim)
     number = told = wrong = untouched = 0
     while untouched < UNTOUCHED:
         number += 1
-        found = served(ira, words, number, shim)
+        found = served(ira, words, refused, number, shim)
         if found == ample:
             untouched += 1
             continue
         untouched = 0
-        if found[0] in GAVE_UP:
+        if has_given_up(found, ample):
             told += 1
         else:
             wrong += 1
-            print(f"WRONG: ira {' '.join(words)}: growth {number}: {found[0]}")
+            print(f"WRONG: ira {' '.join(words)}: {refused} {number}: {found[0]}")
     return told, wrong
 
 
@@ -83,10 +106,11 @@ def main(ira):
         clang = [f"{KIT}/toolchain/bin/clang", "-shared", "-fPIC", "-nostdlib", "-fuse-ld=lld"]
         subprocess.run([*clang, "-o", shim, f"{HERE}/refuse_nth.c"], check=True)
         for words in LINES:
-            told, wrong = swept(ira, words, shim)
-            all_told += told
-            all_wrong += wrong
-            print(f"ira {' '.join(words)}: {told} refusals told", flush=True)
+            growths, wrong = swept(ira, words, "REFUSE", shim)
+            starts, also_wrong = swept(ira, words, "REFUSE_THREAD", shim)
+            all_told += growths + starts
+            all_wrong += wrong + also_wrong
+            print(f"ira {' '.join(words)}: {growths} growths and {starts} starts told", flush=True)
     print(f"sweep: {all_told} refusals told, {all_wrong} wrong answers")
     return min(all_wrong, 1)
 

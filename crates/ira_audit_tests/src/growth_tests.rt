@@ -1,13 +1,23 @@
 //! Each growth of a call is refused in turn, and a writer's sink fails behind each byte.
 
 use crate::samples::{ELECTION, ELECTION_0, ELECTION_1, LEADER_AND_ACTIVE, TWO_STEPS};
-use ira_audit::{Answer, Reason, RingAudit, audit, audit_logs, audit_one, write_report};
+use ira_audit::{
+    Answer, Reason, RingAudit, audit, audit_logs, audit_one, decide_all, write_findings,
+    write_report,
+};
 use ira_cert::CertFault;
-use ira_event::{OutOfMemory, WriteFault};
+use ira_cert_text::write_cert;
+use ira_event::{MemorySink, OutOfMemory, WriteFault};
 use ira_links::OpenGate;
 use ira_order::MatchFault;
 use ira_refusing::{FailingSink, Outcome, Refusing, each_growth_refused};
+use std::alloc::Global;
+use std::sync::Wait;
 use std::test::Fail;
+use std::thread::Threads;
+use std::time::Clock;
+
+type Memory = Refusing<Global>;
 
 const EXCHANGED_0: &[u8] = b"irlog 1\nnodes 2\nplace 0\nstart initiator\n\
     draw 2\n\
@@ -15,6 +25,8 @@ const EXCHANGED_0: &[u8] = b"irlog 1\nnodes 2\nplace 0\nstart initiator\n\
     recv 1 2 2 clean\n\
     recv 1 1 1 clean\n\
     end 4\n";
+
+const EXCHANGED: &[&[u8]] = &[EXCHANGED_0, ELECTION_1];
 
 const CIRCLE_0: &[u8] = b"irlog 1\nnodes 2\nplace 0\nstart passive\n\
     recv 1 1 1 clean\n\
@@ -29,8 +41,45 @@ const CIRCLE_1: &[u8] = b"irlog 1\nnodes 2\nplace 1\nstart passive\n\
 /// A certificate without its last line.
 const CUT: &[u8] = b"ircert 1\nnodes 2\nsection\ndrop 1 1 by 0 4\nspent 1\n";
 
+/// Whether node 0 of the election leads while node 1 is active, and whether it is active while node 1 is passive.
+const TWO_CASES: &[u8] = b"irask 1\nnodes 2\n\
+    case\n0: leader\n1: active\n\
+    case\n0: active\n1: passive\n\
+    end\n";
+
+/// What is found for these.
+const TWO_CASES_FOUND: &[u8] = b"case 0: absent, 2 steps, node 1 spent\ncase 1: present at 2 3\n";
+
+/// The calls whose growths are refused.
+#[derive(Clone, Copy, Debug)]
+enum Call {
+    JudgeElection,
+    JudgeCircle,
+    JudgeExchanged,
+    /// Each text is taken once more where it was refused.
+    TakeAgain,
+    /// At each depth.
+    Check,
+    CheckCut,
+    DecideTwoCases,
+    DecideExchanged,
+    MakeCertificate,
+}
+
+const CALLS: [Call; 9] = [
+    Call::JudgeElection,
+    Call::JudgeCircle,
+    Call::JudgeExchanged,
+    Call::TakeAgain,
+    Call::Check,
+    Call::CheckCut,
+    Call::DecideTwoCases,
+    Call::DecideExchanged,
+    Call::MakeCertificate,
+];
+
 /// What became of an audit that has this answer.
-fn outcome(found: Result<Answer, OutOfMemory>, answer: Answer) -> Outcome {
+fn answered(found: Result<Answer, OutOfMemory>, answer: Answer) -> Outcome {
     match found {
         Ok(found) if found == answer => Outcome::Right,
         Ok(_) => Outcome::Wrong,
@@ -38,72 +87,141 @@ fn outcome(found: Result<Answer, OutOfMemory>, answer: Answer) -> Outcome {
     }
 }
 
-#[test]
-fn logs_judged(rt: HostRuntime) -> Result<(), Fail> {
-    let memory = Refusing::new(rt.alloc())?;
+fn take_again(alloc: Memory) -> Outcome {
+    let mut audit = RingAudit::new(alloc);
+    for text in [ELECTION_0, ELECTION_1] {
+        if audit.take(text).is_err() && audit.take(text).is_err() {
+            return Outcome::Wrong;
+        }
+    }
+    answered(audit.finish(), Answer::Yes)
+}
+
+/// Judges the election with this certificate.
+fn check<R: Threads + Wait + Clock + Sync>(
+    rt: &R,
+    alloc: &Memory,
+    certificate: &[u8],
+    answer: Answer,
+) -> Outcome {
+    for depth in 0..5 {
+        let Ok(alloc) = alloc.clone() else {
+            return Outcome::GaveUp;
+        };
+        let question = LEADER_AND_ACTIVE;
+        let found = audit(rt, alloc, ELECTION, question, certificate, depth, &OpenGate);
+        let outcome = answered(found, answer);
+        if outcome != Outcome::Right {
+            return outcome;
+        }
+    }
+    Outcome::Right
+}
+
+/// Decides the question of these texts, and compares the lines of what is found.
+fn decide(ample: Global, alloc: Memory, texts: &[&[u8]], question: &[u8], lines: &[u8]) -> Outcome {
+    let Ok(findings) = decide_all(alloc, texts, question) else {
+        return Outcome::GaveUp;
+    };
+    let mut sink = MemorySink::new(ample);
+    if write_findings(&findings, &mut sink).is_ok() && sink.bytes() == lines {
+        Outcome::Right
+    } else {
+        Outcome::Wrong
+    }
+}
+
+/// Makes the certificate of two steps.
+fn certify(ample: Global, alloc: Memory) -> Outcome {
+    let Ok(findings) = decide_all(alloc, ELECTION, LEADER_AND_ACTIVE) else {
+        return Outcome::GaveUp;
+    };
+    let certificate = match findings.into_certificate() {
+        Ok(Some(certificate)) => certificate,
+        Ok(None) => return Outcome::Wrong,
+        Err(OutOfMemory) => return Outcome::GaveUp,
+    };
+    let mut sink = MemorySink::new(ample);
+    if write_cert(&certificate, &mut sink).is_ok() && sink.bytes() == TWO_STEPS {
+        Outcome::Right
+    } else {
+        Outcome::Wrong
+    }
+}
+
+/// What becomes of the call with this memory.
+fn outcome<R>(rt: &R, call: Call, alloc: Memory) -> Outcome
+where
+    R: AllocGlobal + Threads + Wait + Clock + Sync,
+{
     let exchanged = Reason::Match(MatchFault::Differs { link: 1, k: 1 });
-    for (texts, answer) in [
-        ([ELECTION_0, ELECTION_1], Answer::Yes),
-        ([CIRCLE_0, CIRCLE_1], Answer::No(Reason::Circle)),
-        ([EXCHANGED_0, ELECTION_1], Answer::No(exchanged)),
-    ] {
-        let growths = each_growth_refused(&memory, |alloc| {
-            outcome(audit_logs(alloc, &texts), answer)
-        });
-        assert!(rt; matches!(growths, Ok(number) if 0 < number), "{growths:?}");
+    match call {
+        Call::JudgeElection => answered(audit_logs(alloc, ELECTION), Answer::Yes),
+        Call::JudgeCircle => {
+            let circle = Answer::No(Reason::Circle);
+            answered(audit_logs(alloc, &[CIRCLE_0, CIRCLE_1]), circle)
+        }
+        Call::JudgeExchanged => answered(audit_logs(alloc, EXCHANGED), Answer::No(exchanged)),
+        Call::TakeAgain => take_again(alloc),
+        Call::Check => check(rt, &alloc, TWO_STEPS, Answer::Yes),
+        Call::CheckCut => {
+            let cut = Answer::No(Reason::Certificate(CertFault::Cut));
+            check(rt, &alloc, CUT, cut)
+        }
+        Call::DecideTwoCases => decide(rt.alloc(), alloc, ELECTION, TWO_CASES, TWO_CASES_FOUND),
+        Call::DecideExchanged => {
+            let line = b"no: link 1: receipt 1 differs\n";
+            decide(rt.alloc(), alloc, EXCHANGED, TWO_CASES, line)
+        }
+        Call::MakeCertificate => certify(rt.alloc(), alloc),
     }
-    let growths = each_growth_refused(&memory, |alloc| {
-        outcome(audit_one(alloc, ELECTION_0), Answer::Yes)
-    });
-    assert_eq!(rt; growths, Ok(0));
+}
+
+#[test]
+fn each_growth_is_refused(rt: HostRuntime) -> Result<(), Fail> {
+    let memory = Refusing::new(rt.alloc())?;
+    for call in CALLS {
+        let growths = each_growth_refused(&memory, |alloc| outcome(&rt, call, alloc));
+        assert!(rt;
+            matches!(growths, Ok(number) if 0 < number),
+            "{call:?}: {growths:?}"
+        );
+    }
     Ok(())
 }
 
 #[test]
-fn refused_text_taken_again(rt: HostRuntime) -> Result<(), Fail> {
+fn log_judged_alone_in_no_memory(rt: HostRuntime) -> Result<(), Fail> {
     let memory = Refusing::new(rt.alloc())?;
-    let growths = each_growth_refused(&memory, |alloc| {
-        let mut audit = RingAudit::new(alloc);
-        for text in [ELECTION_0, ELECTION_1] {
-            if audit.take(text).is_err() && audit.take(text).is_err() {
-                return Outcome::Wrong;
-            }
-        }
-        outcome(audit.finish(), Answer::Yes)
-    });
-    assert!(rt; matches!(growths, Ok(number) if 0 < number), "{growths:?}");
-    Ok(())
-}
-
-#[test]
-fn certificates_judged(rt: HostRuntime) -> Result<(), Fail> {
-    let memory = Refusing::new(rt.alloc())?;
-    let cut = Answer::No(Reason::Certificate(CertFault::Cut));
-    for (certificate, answer) in [(TWO_STEPS, Answer::Yes), (CUT, cut)] {
-        for depth in 0..5 {
-            let growths = each_growth_refused(&memory, |alloc| {
-                let question = LEADER_AND_ACTIVE;
-                let gate = &OpenGate;
-                outcome(
-                    audit(&rt, alloc, ELECTION, question, certificate, depth, gate),
-                    answer,
-                )
-            });
-            assert!(rt; matches!(growths, Ok(number) if 0 < number), "{growths:?}");
-        }
-    }
+    memory.refuse(1);
+    assert_eq!(rt; audit_one(memory.clone()?, ELECTION_0), Ok(Answer::Yes));
+    assert_eq!(rt; memory.asked(), 0);
     Ok(())
 }
 
 #[test]
 fn sink_fails_behind_each_byte(rt: HostRuntime) -> Result<(), Fail> {
-    let answer = audit_logs(rt.alloc(), &[EXCHANGED_0, ELECTION_1])?;
+    let answer = audit_logs(rt.alloc(), EXCHANGED)?;
     let line = b"no: link 1: receipt 1 differs\n";
     for k in 0..line.len() {
         let mut sink = FailingSink::new(rt.alloc(), k);
         let written = write_report(&answer, &mut sink);
         assert!(rt;
             written == Err(WriteFault) && sink.bytes() == &line[..k],
+            "after {k} bytes"
+        );
+    }
+    Ok(())
+}
+
+#[test]
+fn sink_of_findings_fails_behind_each_byte(rt: HostRuntime) -> Result<(), Fail> {
+    let findings = decide_all(rt.alloc(), ELECTION, TWO_CASES)?;
+    for k in 0..TWO_CASES_FOUND.len() {
+        let mut sink = FailingSink::new(rt.alloc(), k);
+        let written = write_findings(&findings, &mut sink);
+        assert!(rt;
+            written == Err(WriteFault) && sink.bytes() == &TWO_CASES_FOUND[..k],
             "after {k} bytes"
         );
     }

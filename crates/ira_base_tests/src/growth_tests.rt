@@ -5,14 +5,13 @@
 use crate::samples::{ELECTION_0, ELECTION_1};
 use ira_cand::{Profile, table};
 use ira_event::{
-    LogFault, Logs, MemorySink, OutOfMemory, RingSize, WriteFault, read_log, write_log,
+    LogFault, Logs, MemorySink, NodeLog, OutOfMemory, RingSize, WriteFault, read_log, write_log,
 };
 use ira_links::link;
 use ira_order::{OrderFault, find_order, order};
 use ira_pred::{AskFault, Clause, pairs_question, read_question};
-use ira_refusing::{Outcome, Refusing, TrialFault, each_growth_refused};
+use ira_refusing::{Outcome, Refusing, each_growth_refused};
 use std::alloc::Global;
-use std::process::Abort;
 use std::test::Fail;
 
 type Memory = Refusing<Global>;
@@ -39,88 +38,105 @@ const PAIRS_OF_THREE: &[u8] = b"irask 1\nnodes 3\n\
 /// A question whose clause nests.
 const NESTED: &[u8] = b"irask 1\nnodes 2\ncase\n0: (leader and (not (owes or true)))\nend\n";
 
-/// Asserts that the trial went well, and that some growth was refused in it.
-fn assert_refused(rt: &impl Abort, growths: Result<u64, TrialFault>) {
-    assert!(rt; matches!(growths, Ok(number) if 0 < number), "{growths:?}");
+/// The calls whose growths are refused.
+#[derive(Clone, Copy, Debug)]
+enum Call {
+    ReadLog,
+    ReadLongLog,
+    ReadLateFault,
+    WriteLog,
+    ReadNestedQuestion,
+    ReadPairs,
+    MakePairs,
+    FindOrder,
+    Order,
+    Link,
+    Table,
+    Profile,
 }
 
-/// The logs of the election.
-fn election(memory: &Memory) -> Result<Logs<Memory>, Fail> {
-    let mut logs = Vec::new(memory.clone()?);
-    for text in [ELECTION_0, ELECTION_1] {
-        logs.push(read_log(memory.clone()?, text)?)?;
+const CALLS: [Call; 12] = [
+    Call::ReadLog,
+    Call::ReadLongLog,
+    Call::ReadLateFault,
+    Call::WriteLog,
+    Call::ReadNestedQuestion,
+    Call::ReadPairs,
+    Call::MakePairs,
+    Call::FindOrder,
+    Call::Order,
+    Call::Link,
+    Call::Table,
+    Call::Profile,
+];
+
+fn read(alloc: Memory, text: &[u8], records: usize) -> Outcome {
+    match read_log(alloc, text) {
+        Ok(log) if log.len() == records => Outcome::Right,
+        Err(LogFault::OutOfMemory) => Outcome::GaveUp,
+        _ => Outcome::Wrong,
     }
-    Ok(Logs::gather(logs).ok().ok_or("the logs of one ring")?)
 }
 
-#[test]
-fn logs_read_and_kept(rt: HostRuntime) -> Result<(), Fail> {
-    let memory = Refusing::new(rt.alloc())?;
-    for (text, records) in [(ELECTION_0, 4), (MANY_DRAWS, 19), (LATE_FAULT, 0)] {
-        let growths = each_growth_refused(&memory, |alloc| match read_log(alloc, text) {
-            Ok(log) if log.len() == records => Outcome::Right,
-            Err(LogFault::Line(24)) if records == 0 => Outcome::Right,
-            Err(LogFault::OutOfMemory) => Outcome::GaveUp,
-            _ => Outcome::Wrong,
-        });
-        assert_refused(&rt, growths);
+fn read_late_fault(alloc: Memory) -> Outcome {
+    match read_log(alloc, LATE_FAULT) {
+        Err(LogFault::Line(24)) => Outcome::Right,
+        Err(LogFault::OutOfMemory) => Outcome::GaveUp,
+        _ => Outcome::Wrong,
     }
-    let log = read_log(rt.alloc(), ELECTION_0)?;
-    let growths = each_growth_refused(&memory, |alloc| {
-        let mut sink = MemorySink::new(alloc);
-        match write_log(&log, &mut sink) {
-            Ok(()) if sink.bytes() == ELECTION_0 => Outcome::Right,
-            Err(WriteFault) if ELECTION_0.starts_with(sink.bytes()) => Outcome::GaveUp,
-            _ => Outcome::Wrong,
-        }
-    });
-    assert_refused(&rt, growths);
-    Ok(())
 }
 
-#[test]
-fn questions_read_and_made(rt: HostRuntime) -> Result<(), Fail> {
-    let memory = Refusing::new(rt.alloc())?;
-    for (text, cases) in [(NESTED, 1), (PAIRS_OF_THREE, 3)] {
-        let growths = each_growth_refused(&memory, |alloc| match read_question(alloc, text) {
-            Ok(question) if question.cases().len() == cases => Outcome::Right,
-            Err(AskFault::OutOfMemory) => Outcome::GaveUp,
-            _ => Outcome::Wrong,
-        });
-        assert_refused(&rt, growths);
+fn write(alloc: Memory, log: &NodeLog<Memory>) -> Outcome {
+    let mut sink = MemorySink::new(alloc);
+    match write_log(log, &mut sink) {
+        Ok(()) if sink.bytes() == ELECTION_1 => Outcome::Right,
+        Err(WriteFault) if ELECTION_1.starts_with(sink.bytes()) => Outcome::GaveUp,
+        _ => Outcome::Wrong,
     }
-    let nodes = RingSize::new(3).ok_or("a ring of three")?;
-    let growths = each_growth_refused(&memory, |alloc| match pairs_question(alloc, nodes) {
+}
+
+fn ask(alloc: Memory, text: &[u8], cases: usize) -> Outcome {
+    match read_question(alloc, text) {
+        Ok(question) if question.cases().len() == cases => Outcome::Right,
+        Err(AskFault::OutOfMemory) => Outcome::GaveUp,
+        _ => Outcome::Wrong,
+    }
+}
+
+fn make_pairs(alloc: Memory, nodes: RingSize) -> Outcome {
+    match pairs_question(alloc, nodes) {
         Ok(question) if question.cases().len() == 3 => Outcome::Right,
         Err(OutOfMemory) => Outcome::GaveUp,
         _ => Outcome::Wrong,
-    });
-    assert_refused(&rt, growths);
-    Ok(())
+    }
 }
 
-#[test]
-fn events_ordered(rt: HostRuntime) -> Result<(), Fail> {
-    let memory = Refusing::new(rt.alloc())?;
-    let logs = election(&memory)?;
-    let growths = each_growth_refused(&memory, |alloc| match find_order(alloc, &logs) {
+fn order_events(alloc: Memory, logs: &Logs<Memory>) -> Outcome {
+    match find_order(alloc, logs) {
         Ok(places) if places.len() == 8 => Outcome::Right,
         Err(OrderFault::OutOfMemory) => Outcome::GaveUp,
         _ => Outcome::Wrong,
-    });
-    assert_refused(&rt, growths);
-    let growths = each_growth_refused(&memory, |alloc| match order(alloc, &logs) {
+    }
+}
+
+fn stamp_events(alloc: Memory, logs: &Logs<Memory>) -> Outcome {
+    match order(alloc, logs) {
         Ok(ordered) if ordered.schedule().len() == 8 && ordered.stored() == 6 => Outcome::Right,
         Err(OrderFault::OutOfMemory) => Outcome::GaveUp,
         _ => Outcome::Wrong,
-    });
-    assert_refused(&rt, growths);
-    let growths = each_growth_refused(&memory, |alloc| match link(alloc, 6) {
+    }
+}
+
+fn make_link(alloc: Memory) -> Outcome {
+    match link(alloc, 6) {
         Ok(_) => Outcome::Right,
         Err(OutOfMemory) => Outcome::GaveUp,
-    });
-    assert_refused(&rt, growths);
-    Ok(())
+    }
+}
+
+/// The states in which the node is active, by a profile.
+fn profiled(alloc: Memory, log: &NodeLog<Memory>) -> Result<Vec<u32, Memory>, OutOfMemory> {
+    Profile::new(alloc.clone()?, log)?.table(alloc, &Clause::Active)
 }
 
 /// What became of a list of the states in which node 1 of the election is active.
@@ -132,20 +148,57 @@ fn are_active(listed: Result<Vec<u32, Memory>, OutOfMemory>) -> Outcome {
     }
 }
 
+/// What the calls are made on.
+#[derive(Drop)]
+struct Election {
+    nodes: RingSize,
+    logs: Logs<Memory>,
+    /// Once more that of node 1.
+    log: NodeLog<Memory>,
+}
+
+impl Election {
+    fn new(memory: &Memory) -> Result<Election, Fail> {
+        let mut logs = Vec::new(memory.clone()?);
+        for text in [ELECTION_0, ELECTION_1] {
+            logs.push(read_log(memory.clone()?, text)?)?;
+        }
+        Ok(Election {
+            nodes: RingSize::new(3).ok_or("a ring of three")?,
+            logs: Logs::gather(logs).ok().ok_or("the logs of one ring")?,
+            log: read_log(memory.clone()?, ELECTION_1)?,
+        })
+    }
+
+    /// What becomes of the call with this memory.
+    fn outcome(&self, call: Call, alloc: Memory) -> Outcome {
+        match call {
+            Call::ReadLog => read(alloc, ELECTION_0, 4),
+            Call::ReadLongLog => read(alloc, MANY_DRAWS, 19),
+            Call::ReadLateFault => read_late_fault(alloc),
+            Call::WriteLog => write(alloc, &self.log),
+            Call::ReadNestedQuestion => ask(alloc, NESTED, 1),
+            Call::ReadPairs => ask(alloc, PAIRS_OF_THREE, 3),
+            Call::MakePairs => make_pairs(alloc, self.nodes),
+            Call::FindOrder => order_events(alloc, &self.logs),
+            Call::Order => stamp_events(alloc, &self.logs),
+            Call::Link => make_link(alloc),
+            Call::Table => are_active(table(alloc, &self.log, &Clause::Active)),
+            Call::Profile => are_active(profiled(alloc, &self.log)),
+        }
+    }
+}
+
 #[test]
-fn candidates_of_active(rt: HostRuntime) -> Result<(), Fail> {
+fn each_growth_is_refused(rt: HostRuntime) -> Result<(), Fail> {
     let memory = Refusing::new(rt.alloc())?;
-    let log = read_log(memory.clone()?, ELECTION_1)?;
-    let clause = Clause::Active;
-    let growths = each_growth_refused(&memory, |alloc| are_active(table(alloc, &log, &clause)));
-    assert_refused(&rt, growths);
-    let growths = each_growth_refused(&memory, |alloc| match Profile::new(alloc, &log) {
-        Ok(_) => Outcome::Right,
-        Err(OutOfMemory) => Outcome::GaveUp,
-    });
-    assert_refused(&rt, growths);
-    let profile = Profile::new(memory.clone()?, &log)?;
-    let growths = each_growth_refused(&memory, |alloc| are_active(profile.table(alloc, &clause)));
-    assert_refused(&rt, growths);
+    let election = Election::new(&memory)?;
+    for call in CALLS {
+        let growths = each_growth_refused(&memory, |alloc| election.outcome(call, alloc));
+        assert!(rt;
+            matches!(growths, Ok(number) if 0 < number),
+            "{call:?}: {growths:?}"
+        );
+    }
     Ok(())
 }

@@ -2,86 +2,123 @@
 
 use ira_event::{OutOfMemory, RingSize, WriteFault};
 use ira_links::OpenGate;
-use ira_refusing::{FailingSink, Outcome, Refusing, TrialFault, each_growth_refused};
+use ira_refusing::{FailingSink, Outcome, Refusing, each_growth_refused};
 use ira_ring::{
     Collector, NodeEnd, Run, RunFault, Setup, draw_lists, run_alone, run_alone_seeded, run_ring,
     write_ends,
 };
 use std::alloc::Global;
-use std::process::Abort;
+use std::sync::Wait;
 use std::test::Fail;
+use std::thread::Threads;
+use std::time::Clock;
 
 type Memory = Refusing<Global>;
 
-/// Asserts that the trial went well, and that some growth was refused in it.
-fn assert_refused(rt: &impl Abort, growths: Result<u64, TrialFault>) {
-    assert!(rt; matches!(growths, Ok(number) if 0 < number), "{growths:?}");
+/// The calls whose growths are refused.
+#[derive(Clone, Copy, Debug)]
+enum Call {
+    DrawLists,
+    NewCollector,
+    RunAlone,
+    RunAloneSeeded,
+    RunRing,
 }
 
-/// Whether the run is as long as the election, at whose end node 1 is so. That it is the ring's own run is proved.
-fn is_election(run: &Run<Memory>, end: NodeEnd) -> bool {
-    let logs = run.logs();
-    logs.size().get() == 2
-        && logs.log(0).len() == 4
-        && logs.log(1).len() == 4
-        && run.ends() == [NodeEnd::Leader, end].as_slice()
-}
+const CALLS: [Call; 5] = [
+    Call::DrawLists,
+    Call::NewCollector,
+    Call::RunAlone,
+    Call::RunAloneSeeded,
+    Call::RunRing,
+];
 
-/// The setup of the election: seed 7 gives the draws 2 and 1.
-fn election(memory: &Memory, nodes: RingSize) -> Result<Setup<Memory>, Fail> {
-    Ok(Setup {
-        nodes,
-        initiators: [true, true].to_vec(memory.clone()?)?,
-        draws: draw_lists(memory.clone()?, nodes, 7, 1)?,
-        cap: 100,
-    })
-}
-
-#[test]
-fn parts_made(rt: HostRuntime) -> Result<(), Fail> {
-    let memory = Refusing::new(rt.alloc())?;
-    let nodes = RingSize::new(64).ok_or("a ring of 64")?;
-    let growths = each_growth_refused(&memory, |alloc| match draw_lists(alloc, nodes, 42, 1) {
+fn draw_64_lists(alloc: Memory, nodes: RingSize) -> Outcome {
+    match draw_lists(alloc, nodes, 42, 1) {
         Ok(lists) if lists.len() == 64 => Outcome::Right,
         Err(OutOfMemory) => Outcome::GaveUp,
         _ => Outcome::Wrong,
-    });
-    assert_refused(&rt, growths);
-    let growths = each_growth_refused(&memory, |alloc| match Collector::new(alloc, nodes) {
-        Ok(_) => Outcome::Right,
-        Err(OutOfMemory) => Outcome::GaveUp,
-    });
-    assert_refused(&rt, growths);
-    Ok(())
+    }
+}
+
+/// What became of a run that is as long as the election, at whose end node 1 is so. That it is the ring's own run is
+/// proved.
+fn is_election(found: Result<Run<Memory>, RunFault>, end: NodeEnd) -> Outcome {
+    let run = match found {
+        Ok(run) => run,
+        Err(RunFault::OutOfMemory) => return Outcome::GaveUp,
+        Err(RunFault::Thread) if end == NodeEnd::Stopped => return Outcome::GaveUp,
+        Err(_) => return Outcome::Wrong,
+    };
+    let logs = run.logs();
+    if logs.size().get() == 2
+        && logs.log(0).len() == 4
+        && logs.log(1).len() == 4
+        && run.ends() == [NodeEnd::Leader, end].as_slice()
+    {
+        Outcome::Right
+    } else {
+        Outcome::Wrong
+    }
+}
+
+/// What the calls are made on.
+#[derive(Drop)]
+struct Given {
+    largest: RingSize,
+    /// The election's: seed 7 gives the draws 2 and 1.
+    setup: Setup<Memory>,
+}
+
+impl Given {
+    fn new(memory: &Memory) -> Result<Given, Fail> {
+        let nodes = RingSize::new(2).ok_or("a ring of two")?;
+        Ok(Given {
+            largest: RingSize::new(64).ok_or("a ring of 64")?,
+            setup: Setup {
+                nodes,
+                initiators: [true, true].to_vec(memory.clone()?)?,
+                draws: draw_lists(memory.clone()?, nodes, 7, 1)?,
+                cap: 100,
+            },
+        })
+    }
+
+    /// What becomes of the call with this memory.
+    fn outcome<R>(&self, rt: &R, call: Call, alloc: Memory) -> Outcome
+    where
+        R: Threads + Wait + Clock + Sync,
+    {
+        match call {
+            Call::DrawLists => draw_64_lists(alloc, self.largest),
+            Call::NewCollector => match Collector::new(alloc, self.largest) {
+                Ok(_) => Outcome::Right,
+                Err(OutOfMemory) => Outcome::GaveUp,
+            },
+            Call::RunAlone => is_election(run_alone(alloc, &self.setup), NodeEnd::Quiet),
+            Call::RunAloneSeeded => {
+                let found = run_alone_seeded(alloc, self.setup.nodes, &[true, true], 7, 100, 100);
+                is_election(found, NodeEnd::Quiet)
+            }
+            Call::RunRing => {
+                let found = run_ring(rt, alloc, &self.setup, &OpenGate);
+                is_election(found, NodeEnd::Stopped)
+            }
+        }
+    }
 }
 
 #[test]
-fn rings_run(rt: HostRuntime) -> Result<(), Fail> {
+fn each_growth_is_refused(rt: HostRuntime) -> Result<(), Fail> {
     let memory = Refusing::new(rt.alloc())?;
-    let nodes = RingSize::new(2).ok_or("a ring of two")?;
-    let setup = election(&memory, nodes)?;
-    let growths = each_growth_refused(&memory, |alloc| match run_alone(alloc, &setup) {
-        Ok(run) if is_election(&run, NodeEnd::Quiet) => Outcome::Right,
-        Err(RunFault::OutOfMemory) => Outcome::GaveUp,
-        _ => Outcome::Wrong,
-    });
-    assert_refused(&rt, growths);
-    let growths = each_growth_refused(&memory, |alloc| {
-        match run_alone_seeded(alloc, nodes, &[true, true], 7, 100, 100) {
-            Ok(run) if is_election(&run, NodeEnd::Quiet) => Outcome::Right,
-            Err(RunFault::OutOfMemory) => Outcome::GaveUp,
-            _ => Outcome::Wrong,
-        }
-    });
-    assert_refused(&rt, growths);
-    let growths = each_growth_refused(&memory, |alloc| {
-        match run_ring(&rt, alloc, &setup, &OpenGate) {
-            Ok(run) if is_election(&run, NodeEnd::Stopped) => Outcome::Right,
-            Err(RunFault::OutOfMemory | RunFault::Thread) => Outcome::GaveUp,
-            _ => Outcome::Wrong,
-        }
-    });
-    assert_refused(&rt, growths);
+    let given = Given::new(&memory)?;
+    for call in CALLS {
+        let growths = each_growth_refused(&memory, |alloc| given.outcome(&rt, call, alloc));
+        assert!(rt;
+            matches!(growths, Ok(number) if 0 < number),
+            "{call:?}: {growths:?}"
+        );
+    }
     Ok(())
 }
 
