@@ -1,6 +1,6 @@
 -- What a node wants, and what is known of it after one event more.
-use Rattle.std.proofs.Common.{◌≡◌, ◌<◌, ◌≤◌, ℕ, false, List, [], ◌∷◌, ◌++◌, suc, refl, sym, ◌∙◌, ap, subst, arith}
-use Rattle.std.specs.Prelude.{Option, Some, None, IsTrue}
+use Rattle.std.proofs.Common.{◌≡◌, ◌<◌, ◌≤◌, ℕ, false, List, [], ◌∷◌, ◌++◌, suc, sym, ◌∙◌, ap, subst, arith}
+use Rattle.std.specs.Prelude.{None, IsTrue}
 use Rattle.std.specs.List.{All}
 use Rattle.std.proofs.lemmas.List.{append_assoc}
 use Rattle.ira_event.specs.declared.msg.Msg.{Msg as Message}
@@ -9,8 +9,7 @@ use Rattle.ira_event.specs.declared.event.Event.TheVariants.{Draw, Sent, Got}
 use Rattle.ira_event.specs.Log.{Log}
 use Rattle.ira_links.specs.declared.frame.Frame.{Frame}
 use Rattle.ira_links.specs.declared.frame.Frame.TheVariants.{Msg}
-use Rattle.ira_node.specs.declared.phase.Phase.{Phase}
-use Rattle.ira_node.specs.declared.phase.Phase.TheVariants.{Choosing, Active, Passive, Leader}
+use Rattle.ira_node.specs.declared.phase.Phase.TheVariants.{Choosing}
 use Rattle.ira_node.specs.declared.wanted.Wanted.{Wanted}
 use Rattle.ira_node.specs.declared.wanted.Wanted.TheVariants.{Draw as WantsDraw, Receipt, Nothing}
 use Rattle.ira_node.specs.declared.node_state.NodeState.{NodeState}
