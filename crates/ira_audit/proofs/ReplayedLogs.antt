@@ -33,9 +33,6 @@ runs_more [] log all own (suc i) x e = absurd cc
 runs_more (l ∷ ls) log all own zero x e = all 0 x e
 runs_more (l ∷ ls) log all own (suc i) x e = runs_more ls log (λ j y h. all (suc j) y h) own i x e
 
-pub none_replayed : AreReplayed [] (Ok tt)
-none_replayed i log e = absurd cc
-
 -- one log more behind local runs
 pub more_runs : (logs : List Log) (log : Log) (steps own : Result (Unit {0}) Reason) → true ≡ is_ok steps → AreReplayed logs steps → IsReplayed log own → AreReplayed (logs ++ log ∷ []) own
 more_runs logs log (Ok done) (Ok own) good all is = runs_more logs log all is

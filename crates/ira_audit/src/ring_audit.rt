@@ -107,8 +107,8 @@ impl<A: Allocator + Clone> RingAudit<A> {
         self.keep(reading)
     }
 
-    /// Takes the texts that come next. They are read side by side, each by a thread of its own where one
-    /// can be started, and else by the caller's. Behind a text that is no log's none counts. Where memory
+    /// Takes the texts that come next. They are read and replayed side by side, each by a thread of its own
+    /// where one can be started, and else by the caller's. Behind a text that is no log's none counts. Where memory
     /// runs out the audit is as it was.
     pub fn take_all<R, B>(&mut self, rt: &R, texts: &[Vec<u8, B>]) -> Result<(), OutOfMemory>
     where

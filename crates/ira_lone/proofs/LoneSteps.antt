@@ -1,13 +1,12 @@
 -- A turn of the lone runner is a step of a run.
-use Rattle.std.proofs.Common.{◌≡◌, ◌≢◌, ℕ, ◌<◌, ◌≤◌, inl, inr, List, [], ◌∷◌, ◌++◌, Some, length, refl, sym, ◌∙◌, subst, ap, drop, append-nil, append_assoc, length-append, arith}
+use Rattle.std.proofs.Common.{◌≡◌, ◌≢◌, ℕ, ◌<◌, ◌≤◌, inl, inr, List, [], ◌∷◌, ◌++◌, length, refl, sym, ◌∙◌, subst, ap, drop, append-nil, append_assoc, length-append, arith}
 use Rattle.std.specs.List.{cons_option}
 use Rattle.std.proofs.lemmas.List.Elements.{filter_map-append}
 use Rattle.ira_event.specs.declared.event.Event.{Event}
 use Rattle.ira_event.specs.declared.event.Event.TheVariants.{Draw, Sent, Got}
 use Rattle.ira_event.specs.declared.msg.Msg.{Msg}
-use Rattle.ira_node.specs.declared.phase.Phase.TheVariants.{Choosing}
 use Rattle.ira_node.specs.declared.node_state.NodeState.{NodeState}
-use Rattle.ira_node.specs.NodeState.{free, IsLeader}
+use Rattle.ira_node.specs.NodeState.{IsLeader}
 use Rattle.ira_node.specs.NodeStep.{NodeStep}
 use Rattle.ira_node.proofs.Inversions.{drawing_chooses, sending_owes}
 use Rattle.ira_order.specs.Ring.{next, prev}

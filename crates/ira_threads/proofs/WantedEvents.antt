@@ -1,6 +1,6 @@
 -- What a node wants, and what is known of it after one event more.
-use Rattle.std.proofs.Common.{◌≡◌, ◌<◌, ◌≤◌, ℕ, false, List, [], ◌∷◌, ◌++◌, suc, refl, sym, ◌∙◌, ap, subst, arith}
-use Rattle.std.specs.Prelude.{Option, Some, None, IsTrue}
+use Rattle.std.proofs.Common.{◌≡◌, ◌<◌, ◌≤◌, ℕ, false, List, [], ◌∷◌, ◌++◌, suc, sym, ◌∙◌, ap, subst, arith}
+use Rattle.std.specs.Prelude.{None, IsTrue}
 use Rattle.std.specs.List.{All}
 use Rattle.std.proofs.lemmas.List.{append_assoc}
 use Rattle.ira_event.specs.declared.msg.Msg.{Msg as Message}
@@ -9,14 +9,14 @@ use Rattle.ira_event.specs.declared.event.Event.TheVariants.{Draw, Sent, Got}
 use Rattle.ira_event.specs.Log.{Log}
 use Rattle.ira_links.specs.declared.frame.Frame.{Frame}
 use Rattle.ira_links.specs.declared.frame.Frame.TheVariants.{Msg}
-use Rattle.ira_node.specs.declared.phase.Phase.{Phase}
-use Rattle.ira_node.specs.declared.phase.Phase.TheVariants.{Choosing, Active, Passive, Leader}
+use Rattle.ira_node.specs.declared.phase.Phase.TheVariants.{Choosing}
 use Rattle.ira_node.specs.declared.wanted.Wanted.{Wanted}
 use Rattle.ira_node.specs.declared.wanted.Wanted.TheVariants.{Draw as WantsDraw, Receipt, Nothing}
 use Rattle.ira_node.specs.declared.node_state.NodeState.{NodeState}
 use Rattle.ira_node.specs.NodeState.{first_state, free, IsLeader, Receives}
 use Rattle.ira_node.specs.NodeStep.{HasStep}
 use Rattle.ira_node.specs.Wanted.{wanted_of}
+use Rattle.ira_node.proofs.Wants.{wants_draw, wants_receipt}
 use Rattle.ira_order.specs.Matching.{sent, got}
 use Rattle.ira_run.specs.FullRun.{drawn, BeginsWith}
 use Rattle.ira_threads.specs.NodeFrames.{frames}
@@ -26,31 +26,13 @@ use Rattle.ira_run.specs.declared.node_end.NodeEnd.{NodeEnd}
 use Rattle.ira_replay.specs.LocalRun.{LeadsTo}
 use Rattle.ira_threads.proofs.FramesOfLongerLogs.{sent_draw, sent_sent, sent_got, got_draw, got_sent, got_got, drawn_draw, drawn_sent, drawn_got}
 
-choosing_free : (p : Phase) (o : Option Message) → WantsDraw ≡ wanted_of p o → (round : ℕ) × (record { phase = p; owed = o } ≡ free (Choosing round))
-choosing_free (Choosing round) None h = (round, refl)
-choosing_free (Choosing round) (Some m) h = cc
-choosing_free (Active round id) None h = cc
-choosing_free (Active round id) (Some m) h = cc
-choosing_free Passive None h = cc
-choosing_free Passive (Some m) h = cc
-choosing_free (Leader round id) o h = cc
-
 -- a node that is to draw chooses
 pub choosing : (r s : NodeState) → r ≡ s → WantsDraw ≡ wanted_of r.phase r.owed → (round : ℕ) × (s ≡ free (Choosing round))
-choosing r s same h = let P : NodeState → Type 0 = λ x. (round : ℕ) × (x ≡ free (Choosing round)) in subst P same (choosing_free r.phase r.owed h)
-
-listening : (p : Phase) (o : Option Message) → Receipt ≡ wanted_of p o → (o ≡ None) × Receives p
-listening (Choosing round) None h = cc
-listening (Choosing round) (Some m) h = cc
-listening (Active round id) None h = (refl, tt)
-listening (Active round id) (Some m) h = cc
-listening Passive None h = (refl, tt)
-listening Passive (Some m) h = cc
-listening (Leader round id) o h = cc
+choosing r s same h = let P : NodeState → Type 0 = λ x. (round : ℕ) × (x ≡ free (Choosing round)) in subst P same (wants_draw r.phase r.owed h)
 
 -- a node that is to receive owes nothing
 pub waiting : (r s : NodeState) → r ≡ s → Receipt ≡ wanted_of r.phase r.owed → (s.owed ≡ None) × Receives s.phase
-waiting r s same h = let P : NodeState → Type 0 = λ x. (x.owed ≡ None) × Receives x.phase in subst P same (listening r.phase r.owed h)
+waiting r s same h = let P : NodeState → Type 0 = λ x. (x.owed ≡ None) × Receives x.phase in subst P same (wants_receipt r.phase r.owed h)
 
 -- a node that is to do something doesn't lead
 pub no_leader : (r s : NodeState) (w : Wanted) → r ≡ s → (w ≡ Nothing → ⊥) → (IsLeader r.phase → w ≡ Nothing) → IsLeader s.phase → ⊥

@@ -1,4 +1,4 @@
-use Rattle.std.proofs.Common.{◌≡◌, Ok, Err, refl, subst, ap, ◌∙◌, rules}
+use Rattle.std.proofs.Common.{◌≡◌, Ok, Err, subst, ap, ◌∙◌, rules}
 use Rattle.std.proofs.lemmas.Result.{err_from_is_err_and}
 use Rattle.ira_order.specs.Circle.{HasOrder}
 use Rattle.ira_audit.proofs.Judging.{order_refused, stop_refused}
