@@ -3,7 +3,7 @@
 use crate::fakes::{File, FullSink, MemoryShelf, assert_served, assert_served_on};
 use crate::samples::{
     ELECTED_0, ELECTED_1, LEADER_AND_ACTIVE, LONE_0, LONE_1, LONE_2, NO_PAIR_OF_THREE,
-    PAIRS_OF_THREE, TWO_STEPS,
+    PAIRS_OF_THREE, TWO_CASES, TWO_STEPS,
 };
 use ira_event::MemorySink;
 use ira_main::{Counted, serve};
@@ -12,9 +12,6 @@ use std::process::Abort;
 use std::sync::Wait;
 use std::thread::Threads;
 use std::time::Clock;
-
-const TWO_CASES: &str =
-    "irask 1\nnodes 2\ncase\n0: leader\n1: active\ncase\n0: active\n1: passive\nend\n";
 
 const ABSENT: &str = "case 0: absent, 2 steps, node 1 spent\n";
 

@@ -34,6 +34,10 @@ pub(crate) const LONE_2: &str = "irlog 1\nnodes 3\nplace 2\nstart passive\nrecv 
 /// The question whether node 1 is active while node 0 leads.
 pub(crate) const LEADER_AND_ACTIVE: &str = "irask 1\nnodes 2\ncase\n0: leader\n1: active\nend\n";
 
+/// The same, and whether node 0 is active while node 1 is passive.
+pub(crate) const TWO_CASES: &str =
+    "irask 1\nnodes 2\ncase\n0: leader\n1: active\ncase\n0: active\n1: passive\nend\n";
+
 /// The certificate that it wasn't in the election of two.
 pub(crate) const TWO_STEPS: &str =
     "ircert 1\nnodes 2\nsection\ndrop 1 1 by 0 4\ndrop 1 2 by 0 4\nspent 1\nend\n";
