@@ -4,41 +4,71 @@ ghost use Rattle.std.specs.Iterator.{YieldsFirst, item_count};
 
 use crate::samples::{clean, free, log_of, loser, owing};
 use ira_cand::{Ahead, Holding, LocalTest, Profile, candidates, table};
-use ira_event::{Event, Listed};
+use ira_event::{Event, Listed, NodeLog, OutOfMemory};
 use ira_node::{NodeState, Phase};
 use ira_pred::Clause;
+use std::alloc::Global;
+use std::process::Abort;
 use std::test::Fail;
+
+/// How one goes on along the positions that are left.
+#[derive(Clone, Copy, Debug)]
+enum Going {
+    Advance,
+    SkipBelow(u32),
+}
+
+/// Compares the first position left, at first and after each way of going on.
+fn assert_fronts<I: Iterator<Item = u32> + Listed>(
+    rt: &impl Abort,
+    ahead: &mut Ahead<I>,
+    first: u32,
+    rows: &[(Going, Option<u32>)],
+) {
+    assert_eq!(rt; ahead.front(), Some(first));
+    for (going, front) in rows {
+        match going {
+            Going::Advance => ahead.advance(),
+            Going::SkipBelow(position) => ahead.skip_below(*position),
+        }
+        assert_eq!(rt; ahead.front(), *front, "after {going:?}");
+    }
+}
 
 #[test]
 fn candidates_of_active(rt: HostRuntime) -> Result<(), Fail> {
     let log = log_of(rt.alloc(), 2, 1, true, &loser())?;
     let clause = Clause::Active;
+    let rows = [
+        (Going::SkipBelow(2), Some(2)),
+        (Going::Advance, None),
+        (Going::Advance, None),
+    ];
+    assert_fronts(&rt, &mut candidates(&log, &clause), 1, &rows);
     let found = table(rt.alloc(), &log, &clause)?;
     assert_eq!(rt; found.as_slice(), [1, 2].as_slice());
-    let mut ahead = candidates(&log, &clause);
-    assert_eq!(rt; ahead.front(), Some(1));
-    ahead.skip_below(2);
-    assert_eq!(rt; ahead.front(), Some(2));
-    ahead.advance();
-    assert_eq!(rt; ahead.front(), None);
-    ahead.advance();
-    assert_eq!(rt; ahead.front(), None);
     Ok(())
 }
 
-/// A passive node that passes 2,000 messages on owes one behind each receipt.
+/// The log of a passive node that passes 2,000 messages on: it owes one behind each receipt.
+fn long_log(alloc: Global) -> Result<NodeLog<Global>, Fail> {
+    let passed_on = [Event::Got(clean(1, 1, 1)), Event::Sent(clean(1, 1, 2))];
+    log_of(alloc, 2, 1, false, &passed_on.repeat(alloc, 2_000)?)
+}
+
+/// The positions at which the node owes, by the log's profile.
+fn told_in_short(alloc: Global, log: &NodeLog<Global>) -> Result<Vec<u32>, OutOfMemory> {
+    let profile = Profile::new(alloc, log)?;
+    profile.table(alloc, &Clause::Owes)
+}
+
 #[test]
 fn candidates_of_a_long_log(rt: HostRuntime) -> Result<(), Fail> {
-    let passed_on = [Event::Got(clean(1, 1, 1)), Event::Sent(clean(1, 1, 2))];
-    let mut events = Vec::new(rt.alloc());
-    for _ in 0..2_000 {
-        events.extend_from_slice(&passed_on)?;
-    }
-    let log = log_of(rt.alloc(), 2, 1, false, &events)?;
+    let log = long_log(rt.alloc())?;
     let found = table(rt.alloc(), &log, &Clause::Owes)?;
-    assert_eq!(rt; found.len(), 2_000);
-    assert!(rt; found.iter().all(|position| *position % 2 == 1));
-    let told_in_short = Profile::new(rt.alloc(), &log)?.table(rt.alloc(), &Clause::Owes)?;
+    let are_odd = found.iter().all(|position| *position % 2 == 1);
+    assert_eq!(rt; (found.len(), are_odd), (2_000, true));
+    let told_in_short = told_in_short(rt.alloc(), &log)?;
     assert!(rt; told_in_short == found);
     Ok(())
 }
@@ -93,13 +123,11 @@ fn source_and_test_written_by_hand(rt: HostRuntime) {
     let one = owing(Phase::Passive, clean(1, 1, 1));
     let states = [(0, none), (1, one), (2, none), (4, none)];
     let mut ahead = Ahead::new(Holding::new(Shown { rest: &states }, OwesNothing));
-    assert_eq!(rt; ahead.front(), Some(0));
-    ahead.skip_below(1);
-    assert_eq!(rt; ahead.front(), Some(2));
-    ahead.skip_below(2);
-    assert_eq!(rt; ahead.front(), Some(2));
-    ahead.advance();
-    assert_eq!(rt; ahead.front(), Some(4));
-    ahead.skip_below(5);
-    assert_eq!(rt; ahead.front(), None);
+    let rows = [
+        (Going::SkipBelow(1), Some(2)),
+        (Going::SkipBelow(2), Some(2)),
+        (Going::Advance, Some(4)),
+        (Going::SkipBelow(5), None),
+    ];
+    assert_fronts(&rt, &mut ahead, 0, &rows);
 }

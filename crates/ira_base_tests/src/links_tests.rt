@@ -29,12 +29,12 @@ fn message(id: u32) -> Msg
 fn assert_in_order(rt: &(impl Abort + Wait + AllocGlobal)) -> Result<(), Fail> {
     let frame = Frame::Msg(message(1));
     let (mut output, mut input) = link(rt.alloc(), 2)?;
-    assert_eq!(rt; output.put(rt, frame), Ok(()));
-    assert_eq!(rt; output.put(rt, Frame::Stop), Ok(()));
-    assert_eq!(rt; input.take(rt), Ok(frame));
+    let puts = [output.put(rt, frame), output.put(rt, Frame::Stop)];
+    let taken = input.take(rt);
     let settled = settle(output, input);
-    assert_eq!(rt; settled.puts(), 2);
-    assert_eq!(rt; settled.takes(), 1);
+    assert_eq!(rt; puts, [Ok(()), Ok(())]);
+    assert_eq!(rt; taken, Ok(frame));
+    assert_eq!(rt; (settled.puts(), settled.takes()), (2, 1));
     Ok(())
 }
 
@@ -94,7 +94,7 @@ fn ends_wait_for_each_other(rt: HostRuntime) -> Result<(), Fail> {
 }
 
 #[test]
-fn dropped_end_wakes_the_other(rt: HostRuntime) -> Result<(), Fail> {
+fn dropped_output_wakes_the_input(rt: HostRuntime) -> Result<(), Fail> {
     let host = &rt;
     let (output, mut input) = link(rt.alloc(), 1)?;
     let (taken, ()) = join(
@@ -106,10 +106,15 @@ fn dropped_end_wakes_the_other(rt: HostRuntime) -> Result<(), Fail> {
         },
     );
     assert_eq!(rt; taken, Err(Closed));
+    Ok(())
+}
 
+#[test]
+fn dropped_input_wakes_the_output(rt: HostRuntime) -> Result<(), Fail> {
+    let host = &rt;
     let frame = Frame::Msg(message(1));
     let (mut output, input) = link(rt.alloc(), 1)?;
-    assert_eq!(rt; output.put(&rt, Frame::Stop), Ok(()));
+    let put = output.put(host, Frame::Stop);
     let (refused, ()) = join(
         host,
         move || output.put(host, frame),
@@ -118,7 +123,7 @@ fn dropped_end_wakes_the_other(rt: HostRuntime) -> Result<(), Fail> {
             drop(input);
         },
     );
-    assert_eq!(rt; refused, Err(frame));
+    assert_eq!(rt; (put, refused), (Ok(()), Err(frame)));
     Ok(())
 }
 

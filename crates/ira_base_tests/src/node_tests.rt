@@ -3,11 +3,14 @@
 use crate::samples::{clean, dirty, free, owing};
 use ira_event::{Event, RingSize};
 use ira_node::{NodeState, Phase, StepFault, Wanted};
+use std::process::Abort;
 use std::test::Fail;
 
 const CHOOSING: Phase = Phase::Choosing { round: 2 };
 
 const ACTIVE: Phase = Phase::Active { round: 2, id: 2 };
+
+const PASSIVE: Phase = Phase::Passive;
 
 const LEADER: Phase = Phase::Leader { round: 2, id: 2 };
 
@@ -34,155 +37,144 @@ fn wanted_by_phase_and_debt(rt: HostRuntime) {
     }
 }
 
+/// Compares what the step gives in a ring of so many nodes.
+fn assert_step(
+    rt: &impl Abort,
+    nodes: u8,
+    state: NodeState,
+    event: Event,
+    want: Result<NodeState, StepFault>,
+) -> Result<(), Fail> {
+    let nodes = RingSize::new(nodes).ok_or("no ring of that size")?;
+    assert_eq!(rt; state.step(nodes, &event), want, "{event:?} in {state:?}");
+    Ok(())
+}
+
+/// The state after such a draw in round 2.
+fn drew(id: u32) -> NodeState {
+    owing(Phase::Active { round: 2, id }, clean(2, id, 1))
+}
+
 #[test]
-fn step_table(rt: HostRuntime) -> Result<(), Fail> {
-    let nodes = RingSize::new(3).ok_or("no ring of three")?;
+fn draws_and_sendings(rt: HostRuntime) -> Result<(), Fail> {
     let debt = dirty(9, 3, 2);
     for (state, event, want) in [
-        (
-            free(CHOOSING),
-            Event::Draw(1),
-            owing(Phase::Active { round: 2, id: 1 }, clean(2, 1, 1)),
-        ),
-        (
-            free(CHOOSING),
-            Event::Draw(3),
-            owing(Phase::Active { round: 2, id: 3 }, clean(2, 3, 1)),
-        ),
-        (
-            free(Phase::Passive),
-            Event::Got(clean(1, 1, 3)),
-            owing(Phase::Passive, clean(1, 1, 4)),
-        ),
-        (
-            free(Phase::Passive),
-            Event::Got(dirty(2, 5, 7)),
-            owing(Phase::Passive, dirty(2, 5, 8)),
-        ),
-        (
-            free(ACTIVE),
-            Event::Got(clean(3, 1, 1)),
-            owing(Phase::Passive, clean(3, 1, 2)),
-        ),
-        (
-            free(ACTIVE),
-            Event::Got(dirty(2, 3, 2)),
-            owing(Phase::Passive, dirty(2, 3, 3)),
-        ),
-        (free(ACTIVE), Event::Got(clean(1, 3, 1)), free(ACTIVE)),
-        (free(ACTIVE), Event::Got(dirty(2, 1, 3)), free(ACTIVE)),
-        (
-            free(ACTIVE),
-            Event::Got(clean(2, 2, 1)),
-            owing(ACTIVE, dirty(2, 2, 2)),
-        ),
-        (
-            free(ACTIVE),
-            Event::Got(dirty(2, 2, 2)),
-            owing(ACTIVE, dirty(2, 2, 3)),
-        ),
-        (
-            free(ACTIVE),
-            Event::Got(dirty(2, 2, 3)),
-            free(Phase::Choosing { round: 3 }),
-        ),
-        (free(ACTIVE), Event::Got(clean(2, 2, 3)), free(LEADER)),
+        (free(CHOOSING), Event::Draw(1), drew(1)),
+        (free(CHOOSING), Event::Draw(3), drew(3)),
         (owing(CHOOSING, debt), Event::Sent(debt), free(CHOOSING)),
         (owing(ACTIVE, debt), Event::Sent(debt), free(ACTIVE)),
-        (
-            owing(Phase::Passive, debt),
-            Event::Sent(debt),
-            free(Phase::Passive),
-        ),
+        (owing(PASSIVE, debt), Event::Sent(debt), free(PASSIVE)),
     ] {
-        assert_eq!(rt;
-            state.step(nodes, &event),
-            Ok(want),
-            "{event:?} in {state:?}"
-        );
+        assert_step(&rt, 3, state, event, Ok(want))?;
+    }
+    Ok(())
+}
+
+/// What a node passes on.
+#[test]
+fn messages_passed_on(rt: HostRuntime) -> Result<(), Fail> {
+    for (phase, received, want) in [
+        (PASSIVE, clean(1, 1, 3), owing(PASSIVE, clean(1, 1, 4))),
+        (PASSIVE, dirty(2, 5, 7), owing(PASSIVE, dirty(2, 5, 8))),
+        (ACTIVE, clean(3, 1, 1), owing(PASSIVE, clean(3, 1, 2))),
+        (ACTIVE, dirty(2, 3, 2), owing(PASSIVE, dirty(2, 3, 3))),
+        (ACTIVE, clean(2, 2, 1), owing(ACTIVE, dirty(2, 2, 2))),
+        (ACTIVE, dirty(2, 2, 2), owing(ACTIVE, dirty(2, 2, 3))),
+    ] {
+        assert_step(&rt, 3, free(phase), Event::Got(received), Ok(want))?;
+    }
+    Ok(())
+}
+
+/// What an active node doesn't pass on.
+#[test]
+fn messages_kept(rt: HostRuntime) -> Result<(), Fail> {
+    for (received, want) in [
+        (clean(1, 3, 1), ACTIVE),
+        (dirty(2, 1, 3), ACTIVE),
+        (clean(1, 1, 1_000_000), ACTIVE),
+        (dirty(2, 2, 3), Phase::Choosing { round: 3 }),
+        (clean(2, 2, 3), LEADER),
+    ] {
+        assert_step(&rt, 3, free(ACTIVE), Event::Got(received), Ok(free(want)))?;
     }
     Ok(())
 }
 
 #[test]
-fn checks_in_order(rt: HostRuntime) -> Result<(), Fail> {
-    let nodes = RingSize::new(3).ok_or("no ring of three")?;
+fn checks_of_leaders_and_debts(rt: HostRuntime) -> Result<(), Fail> {
     let debt = clean(2, 2, 1);
-    let other = dirty(2, 2, 1);
     for (state, event, want) in [
         (free(LEADER), Event::Draw(1), StepFault::Ended),
         (free(LEADER), Event::Sent(debt), StepFault::Ended),
         (free(LEADER), Event::Got(debt), StepFault::Ended),
         (owing(LEADER, debt), Event::Sent(debt), StepFault::Ended),
-        (owing(ACTIVE, debt), Event::Sent(other), StepFault::NotOwed),
+        (
+            owing(ACTIVE, debt),
+            Event::Sent(dirty(2, 2, 1)),
+            StepFault::NotOwed,
+        ),
         (owing(CHOOSING, debt), Event::Draw(0), StepFault::Owes),
         (owing(CHOOSING, debt), Event::Got(debt), StepFault::Owes),
+        (owing(PASSIVE, debt), Event::Got(debt), StepFault::Owes),
+    ] {
+        assert_step(&rt, 3, state, event, Err(want))?;
+    }
+    Ok(())
+}
+
+#[test]
+fn checks_of_nodes_that_owe_nothing(rt: HostRuntime) -> Result<(), Fail> {
+    let message = clean(2, 2, 1);
+    for (phase, event, want) in [
+        (CHOOSING, Event::Sent(message), StepFault::NotOwed),
+        (ACTIVE, Event::Sent(message), StepFault::NotOwed),
+        (PASSIVE, Event::Sent(message), StepFault::NotOwed),
+        (CHOOSING, Event::Got(message), StepFault::MustDraw),
+        (CHOOSING, Event::Draw(0), StepFault::DrawRange),
+        (CHOOSING, Event::Draw(4), StepFault::DrawRange),
+        (ACTIVE, Event::Draw(1), StepFault::NotChoosing),
+        (PASSIVE, Event::Draw(0), StepFault::NotChoosing),
         (
-            owing(Phase::Passive, debt),
-            Event::Got(debt),
-            StepFault::Owes,
-        ),
-        (free(CHOOSING), Event::Sent(debt), StepFault::NotOwed),
-        (free(ACTIVE), Event::Sent(debt), StepFault::NotOwed),
-        (free(Phase::Passive), Event::Sent(debt), StepFault::NotOwed),
-        (free(CHOOSING), Event::Got(debt), StepFault::MustDraw),
-        (free(CHOOSING), Event::Draw(0), StepFault::DrawRange),
-        (free(CHOOSING), Event::Draw(4), StepFault::DrawRange),
-        (free(ACTIVE), Event::Draw(1), StepFault::NotChoosing),
-        (free(Phase::Passive), Event::Draw(0), StepFault::NotChoosing),
-        (
-            free(Phase::Passive),
+            PASSIVE,
             Event::Got(clean(1, 1, 1_000_000)),
             StepFault::HopLimit,
         ),
         (
-            free(ACTIVE),
+            ACTIVE,
             Event::Got(clean(3, 1, 1_000_000)),
             StepFault::HopLimit,
         ),
-        (free(ACTIVE), Event::Got(clean(2, 2, 4)), StepFault::HopPast),
+        (ACTIVE, Event::Got(clean(2, 2, 4)), StepFault::HopPast),
         (
-            free(ACTIVE),
+            ACTIVE,
             Event::Got(clean(2, 2, 1_000_000)),
             StepFault::HopPast,
         ),
     ] {
-        assert_eq!(rt;
-            state.step(nodes, &event),
-            Err(want),
-            "{event:?} in {state:?}"
-        );
+        assert_step(&rt, 3, free(phase), event, Err(want))?;
     }
-    let lesser = Event::Got(clean(1, 1, 1_000_000));
-    assert_eq!(rt; free(ACTIVE).step(nodes, &lesser), Ok(free(ACTIVE)));
     Ok(())
 }
 
 #[test]
 fn steps_at_the_limits(rt: HostRuntime) -> Result<(), Fail> {
-    let nodes = RingSize::new(2).ok_or("no ring of two")?;
     let one = free(Phase::Active { round: 1, id: 1 });
     let last = free(Phase::Active {
         round: 1_000_000,
         id: 1,
     });
-    for (state, message, want) in [
+    let leader = free(Phase::Leader { round: 1, id: 1 });
+    let again = free(Phase::Choosing { round: 2 });
+    for (state, received, want) in [
         (one, clean(1, 1, 3), Err(StepFault::HopPast)),
-        (
-            one,
-            clean(1, 1, 2),
-            Ok(free(Phase::Leader { round: 1, id: 1 })),
-        ),
-        (one, dirty(1, 1, 2), Ok(free(Phase::Choosing { round: 2 }))),
+        (one, clean(1, 1, 2), Ok(leader)),
+        (one, dirty(1, 1, 2), Ok(again)),
         (one, clean(1, 2, 1_000_000), Err(StepFault::HopLimit)),
         (one, clean(1, 2, 4_294_967_295), Err(StepFault::HopLimit)),
         (last, dirty(1_000_000, 1, 2), Err(StepFault::RoundLimit)),
     ] {
-        assert_eq!(rt;
-            state.step(nodes, &Event::Got(message)),
-            want,
-            "{message:?} in {state:?}"
-        );
+        assert_step(&rt, 2, state, Event::Got(received), want)?;
     }
     Ok(())
 }

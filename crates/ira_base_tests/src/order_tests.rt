@@ -208,26 +208,34 @@ fn counts_of_two_node_election(rt: HostRuntime) -> Result<(), Fail> {
         return Err(Fail::from("logs of four events"));
     }
     let ordered = order(rt.alloc(), &logs).ok().ok_or("an order")?;
-    assert_eq!(rt; ordered.count(0, 3, 1), 2);
-    assert_eq!(rt; ordered.count(0, 4, 1), 4);
-    assert_eq!(rt; ordered.count(1, 4, 0), 2);
-    assert_eq!(rt; ordered.count(1, 0, 0), 0);
-    assert!(rt; ordered.before(1, 3, 0, 4));
-    assert!(rt; !ordered.before(0, 3, 1, 4));
+    let counts = [
+        ordered.count(0, 3, 1),
+        ordered.count(0, 4, 1),
+        ordered.count(1, 4, 0),
+        ordered.count(1, 0, 0),
+    ];
+    assert_eq!(rt; counts, [2, 4, 2, 0]);
+    let order = [ordered.before(1, 3, 0, 4), ordered.before(0, 3, 1, 4)];
+    assert_eq!(rt; order, [true, false]);
     Ok(())
+}
+
+/// How many counters the order of these logs keeps.
+fn stored(alloc: Global, logs: &Logs<Global>) -> Result<usize, Fail> {
+    let ordered = order(alloc, logs).ok().ok_or("an order")?;
+    Ok(ordered.stored())
 }
 
 #[test]
 fn stored_counters(rt: HostRuntime) -> Result<(), Fail> {
-    for (logs, stored) in [
-        (two_node_logs(rt.alloc())?, 6),
-        (tie_logs(rt.alloc())?, 14),
-        (lone_initiator_logs(rt.alloc())?, 9),
-        (empty_logs(rt.alloc())?, 0),
-    ] {
-        let ordered = order(rt.alloc(), &logs).ok().ok_or("an order")?;
-        assert_eq!(rt; ordered.stored(), stored);
-    }
+    let alloc = rt.alloc();
+    let counters = [
+        stored(alloc, &two_node_logs(alloc)?)?,
+        stored(alloc, &tie_logs(alloc)?)?,
+        stored(alloc, &lone_initiator_logs(alloc)?)?,
+        stored(alloc, &empty_logs(alloc)?)?,
+    ];
+    assert_eq!(rt; counters, [6, 14, 9, 0]);
     Ok(())
 }
 

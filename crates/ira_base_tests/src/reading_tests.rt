@@ -43,16 +43,12 @@ fn assert_answer(rt: &(impl Abort + AllocGlobal), text: &[u8], wanted: Result<us
 fn two_node_election(rt: HostRuntime) -> Result<(), Fail> {
     assert_eq!(rt; ELECTION_0.len(), 104);
     let log = read_log(rt.alloc(), ELECTION_0)?;
-    assert_eq!(rt; log.nodes().get(), 2);
-    assert_eq!(rt; log.place(), 0);
-    assert!(rt; log.initiator());
-    let mut events = log.events();
-    for wanted in winner() {
-        assert_eq!(rt; events.next(), Some(wanted));
-    }
-    assert_eq!(rt; events.next(), None);
+    let head = (log.nodes().get(), log.place(), log.initiator());
+    assert_eq!(rt; head, (2, 0, true));
     assert_eq!(rt; log.len(), 4);
     assert_eq!(rt; log.event(4), Event::Got(clean(1, 2, 2)));
+    let events: Vec<Event> = log.events().collect(rt.alloc())?;
+    assert_eq!(rt; events.as_slice(), winner().as_slice());
     Ok(())
 }
 

@@ -3,123 +3,101 @@ ghost use Rattle.std.specs.Iterator.{YieldsFirst, item_count};
 
 use crate::samples::{clean, dirty, free, log_of, loser, owing, tie_loser, tie_winner, winner};
 use ira_event::{Event, Listed, RingSize};
-use ira_node::{Phase, StepFault};
+use ira_node::{NodeState, Phase, StepFault};
 use ira_replay::{ReplayFault, States, replay};
+use std::process::Abort;
 use std::test::Fail;
+
+/// Replays the log of these events, and compares its last state or its fault.
+fn assert_replayed(
+    rt: &(impl Abort + AllocGlobal),
+    nodes: u8,
+    place: u8,
+    initiator: bool,
+    events: &[Event],
+    want: Result<NodeState, ReplayFault>,
+) -> Result<(), Fail> {
+    let log = log_of(rt.alloc(), nodes, place, initiator, events)?;
+    assert_eq!(rt; replay(&log), want);
+    Ok(())
+}
 
 #[test]
 fn two_node_election(rt: HostRuntime) -> Result<(), Fail> {
     let log = log_of(rt.alloc(), 2, 0, true, &winner())?;
     let active = Phase::Active { round: 1, id: 2 };
+    let leader = free(Phase::Leader { round: 1, id: 2 });
     let mut states = States::new(log.nodes(), log.initiator(), log.events());
     for want in [
         (0, free(Phase::Choosing { round: 1 })),
         (1, owing(active, clean(1, 2, 1))),
         (2, free(active)),
         (3, free(active)),
-        (4, free(Phase::Leader { round: 1, id: 2 })),
+        (4, leader),
     ] {
         assert_eq!(rt; states.next(), Some(want));
     }
-    assert_eq!(rt; states.next(), None);
-    assert_eq!(rt; states.next(), None);
-    assert_eq!(rt; replay(&log), Ok(free(Phase::Leader { round: 1, id: 2 })));
-
-    let other = log_of(rt.alloc(), 2, 1, true, &loser())?;
-    assert_eq!(rt; replay(&other), Ok(free(Phase::Passive)));
-    Ok(())
+    let behind = [states.next(), states.next()];
+    assert_eq!(rt; behind, [None, None]);
+    assert_replayed(&rt, 2, 0, true, &winner(), Ok(leader))?;
+    assert_replayed(&rt, 2, 1, true, &loser(), Ok(free(Phase::Passive)))
 }
 
 #[test]
 fn tie_then_win(rt: HostRuntime) -> Result<(), Fail> {
-    let winner = log_of(rt.alloc(), 2, 0, true, &tie_winner())?;
-    assert_eq!(rt;
-        replay(&winner),
-        Ok(free(Phase::Leader { round: 2, id: 2 }))
-    );
-    let loser = log_of(rt.alloc(), 2, 1, true, &tie_loser())?;
-    assert_eq!(rt; replay(&loser), Ok(free(Phase::Passive)));
-    Ok(())
+    let leader = free(Phase::Leader { round: 2, id: 2 });
+    assert_replayed(&rt, 2, 0, true, &tie_winner(), Ok(leader))?;
+    assert_replayed(&rt, 2, 1, true, &tie_loser(), Ok(free(Phase::Passive)))
 }
 
 #[test]
 fn lone_initiator(rt: HostRuntime) -> Result<(), Fail> {
-    let leader = log_of(
-        rt.alloc(),
-        3,
-        0,
-        true,
-        &[
-            Event::Draw(1),
-            Event::Sent(clean(1, 1, 1)),
-            Event::Got(clean(1, 1, 3)),
-        ],
-    )?;
-    assert_eq!(rt;
-        replay(&leader),
-        Ok(free(Phase::Leader { round: 1, id: 1 }))
-    );
-    let first = log_of(
-        rt.alloc(),
-        3,
-        1,
-        false,
-        &[Event::Got(clean(1, 1, 1)), Event::Sent(clean(1, 1, 2))],
-    )?;
-    assert_eq!(rt; replay(&first), Ok(free(Phase::Passive)));
-    let second = log_of(
-        rt.alloc(),
-        3,
-        2,
-        false,
-        &[Event::Got(clean(1, 1, 2)), Event::Sent(clean(1, 1, 3))],
-    )?;
-    assert_eq!(rt; replay(&second), Ok(free(Phase::Passive)));
-    Ok(())
+    let events = [
+        Event::Draw(1),
+        Event::Sent(clean(1, 1, 1)),
+        Event::Got(clean(1, 1, 3)),
+    ];
+    let leader = free(Phase::Leader { round: 1, id: 1 });
+    assert_replayed(&rt, 3, 0, true, &events, Ok(leader))?;
+    let passive = free(Phase::Passive);
+    let events = [Event::Got(clean(1, 1, 1)), Event::Sent(clean(1, 1, 2))];
+    assert_replayed(&rt, 3, 1, false, &events, Ok(passive))?;
+    let events = [Event::Got(clean(1, 1, 2)), Event::Sent(clean(1, 1, 3))];
+    assert_replayed(&rt, 3, 2, false, &events, Ok(passive))
 }
 
 #[test]
 fn draw_out_of_range(rt: HostRuntime) -> Result<(), Fail> {
-    let high = log_of(rt.alloc(), 2, 0, true, &[Event::Draw(3)])?;
     let fault = ReplayFault {
         position: 1,
         fault: StepFault::DrawRange,
     };
-    assert_eq!(rt; replay(&high), Err(fault));
+    assert_replayed(&rt, 2, 0, true, &[Event::Draw(3)], Err(fault))?;
     let shown = format!(in rt.alloc(); "{fault}")?;
     assert_eq!(rt; shown.as_str(), "event 1: draw range");
 
-    let within = log_of(rt.alloc(), 2, 0, true, &[Event::Draw(2)])?;
     let state = owing(Phase::Active { round: 1, id: 2 }, clean(1, 2, 1));
-    assert_eq!(rt; replay(&within), Ok(state));
-    Ok(())
+    assert_replayed(&rt, 2, 0, true, &[Event::Draw(2)], Ok(state))
 }
 
 #[test]
 fn equal_pair_passed_on_clean(rt: HostRuntime) -> Result<(), Fail> {
-    let log = log_of(
-        rt.alloc(),
-        2,
-        0,
-        true,
-        &[
-            Event::Draw(1),
-            Event::Sent(clean(1, 1, 1)),
-            Event::Got(clean(1, 1, 1)),
-            Event::Sent(clean(1, 1, 2)),
-            Event::Got(dirty(1, 1, 2)),
-            Event::Draw(2),
-            Event::Sent(clean(2, 2, 1)),
-            Event::Got(clean(2, 1, 1)),
-            Event::Got(clean(2, 2, 2)),
-        ],
-    )?;
+    let events = [
+        Event::Draw(1),
+        Event::Sent(clean(1, 1, 1)),
+        Event::Got(clean(1, 1, 1)),
+        Event::Sent(clean(1, 1, 2)),
+        Event::Got(dirty(1, 1, 2)),
+        Event::Draw(2),
+        Event::Sent(clean(2, 2, 1)),
+        Event::Got(clean(2, 1, 1)),
+        Event::Got(clean(2, 2, 2)),
+    ];
     let fault = ReplayFault {
         position: 4,
         fault: StepFault::NotOwed,
     };
-    assert_eq!(rt; replay(&log), Err(fault));
-    Ok(())
+    assert_replayed(&rt, 2, 0, true, &events, Err(fault))
 }
 
 /// A source that is no log's.
@@ -167,9 +145,8 @@ fn states_end_before_a_fault(rt: HostRuntime) -> Result<(), Fail> {
     };
     let debtor = owing(Phase::Passive, clean(1, 1, 2));
     let mut states = States::new(nodes, false, source);
-    assert_eq!(rt; states.next(), Some((0, free(Phase::Passive))));
-    assert_eq!(rt; states.next(), Some((1, debtor)));
-    assert_eq!(rt; states.next(), None);
-    assert_eq!(rt; states.next(), None);
+    let found = [states.next(), states.next(), states.next(), states.next()];
+    let first = (0, free(Phase::Passive));
+    assert_eq!(rt; found, [Some(first), Some((1, debtor)), None, None]);
     Ok(())
 }

@@ -105,6 +105,20 @@ pub(crate) fn log_of(
     Ok(NodeLog::new(nodes, place, initiator, events).ok_or("no log")?)
 }
 
+/// The logs of the nodes of a ring, of which the first so many are initiators.
+fn log_list(
+    alloc: Global,
+    nodes: u8,
+    initiators: u8,
+    events: &[&[Event]],
+) -> Result<Vec<NodeLog<Global>>, Fail> {
+    let mut logs = Vec::new(alloc);
+    for (place, own) in (0..nodes).zip(events) {
+        logs.push(log_of(alloc, nodes, place, place < initiators, own)?)?;
+    }
+    Ok(logs)
+}
+
 /// The logs of a ring of as many nodes as there are lists of events, of which the first so many are initiators.
 pub(crate) fn logs_of(
     alloc: Global,
@@ -112,9 +126,5 @@ pub(crate) fn logs_of(
     events: &[&[Event]],
 ) -> Result<Logs<Global>, Fail> {
     let nodes = u8::try_from(events.len()).ok().ok_or("a smaller ring")?;
-    let mut logs = Vec::new(alloc);
-    for (place, own) in (0..nodes).zip(events) {
-        logs.push(log_of(alloc, nodes, place, place < initiators, own)?)?;
-    }
-    Ok(Logs::gather(logs).ok().ok_or("no logs of one ring")?)
+    Ok(Logs::gather(log_list(alloc, nodes, initiators, events)?)?)
 }

@@ -9,19 +9,28 @@ use std::io::BufWriter;
 use std::process::Abort;
 use std::test::Fail;
 
-fn assert_written(rt: &(impl Abort + AllocGlobal), log: &NodeLog<Global>, text: &[u8]) {
+/// Writes the log of these events to memory, and compares the text.
+fn assert_written(
+    rt: &(impl Abort + AllocGlobal),
+    nodes: u8,
+    place: u8,
+    initiator: bool,
+    events: &[Event],
+    text: &[u8],
+) -> Result<(), Fail> {
+    let log = log_of(rt.alloc(), nodes, place, initiator, events)?;
     let mut sink = MemorySink::new(rt.alloc());
-    assert_eq!(rt; sink.bytes(), b"".as_slice());
-    assert_eq!(rt; write_log(log, &mut sink), Ok(()));
-    assert_eq!(rt; sink.bytes(), text);
+    assert!(rt; sink.bytes().is_empty());
+    let written = write_log(&log, &mut sink);
+    assert_eq!(rt; (written, sink.bytes()), (Ok(()), text));
+    Ok(())
 }
 
 #[test]
 fn two_node_election(rt: HostRuntime) -> Result<(), Fail> {
     assert_eq!(rt; ELECTION_0.len(), 104);
-    assert_written(&rt, &log_of(rt.alloc(), 2, 0, true, &winner())?, ELECTION_0);
-    assert_written(&rt, &log_of(rt.alloc(), 2, 1, true, &loser())?, ELECTION_1);
-    Ok(())
+    assert_written(&rt, 2, 0, true, &winner(), ELECTION_0)?;
+    assert_written(&rt, 2, 1, true, &loser(), ELECTION_1)
 }
 
 #[test]
@@ -32,20 +41,9 @@ fn largest_numbers_and_dirty(rt: HostRuntime) -> Result<(), Fail> {
         Event::Draw(1_000_000),
         Event::Sent(message),
     ];
-    let log = log_of(rt.alloc(), 64, 63, false, &events)?;
     let text =
         b"irlog 1\nnodes 64\nplace 63\nstart passive\nrecv 1000000 999999 10 dirty\ndraw 1000000\nsend 1000000 999999 10 dirty\nend 3\n";
-    assert_written(&rt, &log, text);
-    Ok(())
-}
-
-#[test]
-fn sink_fails_after_ten_bytes(rt: HostRuntime) -> Result<(), Fail> {
-    let mut sink = FailingSink::new(rt.alloc(), 10);
-    let log = log_of(rt.alloc(), 2, 0, true, &winner())?;
-    assert_eq!(rt; write_log(&log, &mut sink), Err(WriteFault));
-    assert_eq!(rt; sink.bytes(), b"irlog 1\nno".as_slice());
-    Ok(())
+    assert_written(&rt, 64, 63, false, &events, text)
 }
 
 #[test]
@@ -77,9 +75,8 @@ fn to_a_writer(rt: HostRuntime) -> Result<(), Fail> {
     let log = log_of(rt.alloc(), 2, 1, true, &loser())?;
     let mut bytes = Vec::new(rt.alloc());
     let mut sink = ToWriter::new(&mut bytes);
-    assert_eq!(rt; write_log(&log, &mut sink), Ok(()));
-    assert_eq!(rt; sink.flush(), Ok(()));
-    assert_eq!(rt; bytes.as_slice(), ELECTION_1);
+    let written = (write_log(&log, &mut sink), sink.flush());
+    assert_eq!(rt; (written, bytes.as_slice()), ((Ok(()), Ok(())), ELECTION_1));
     Ok(())
 }
 
@@ -87,19 +84,22 @@ fn to_a_writer(rt: HostRuntime) -> Result<(), Fail> {
 fn full_writer(rt: HostRuntime) -> Result<(), Fail> {
     let log = log_of(rt.alloc(), 2, 1, true, &loser())?;
     let mut room = [0; 10];
-    assert_eq!(rt;
-        write_log(&log, &mut ToWriter::new(room.as_mut_slice())),
-        Err(WriteFault)
-    );
-    assert_eq!(rt; room.as_slice(), b"irlog 1\nno".as_slice());
+    let written = write_log(&log, &mut ToWriter::new(room.as_mut_slice()));
+    assert_eq!(rt; (written, room), (Err(WriteFault), *b"irlog 1\nno"));
+    Ok(())
+}
+
+#[test]
+fn full_writer_behind_a_buffer(rt: HostRuntime) -> Result<(), Fail> {
+    let log = log_of(rt.alloc(), 2, 1, true, &loser())?;
     let mut room = [0; 10];
     let mut sink = ToWriter::new(BufWriter::new(rt.alloc(), room.as_mut_slice())?);
+    let written = (write_log(&log, &mut sink), sink.flush());
     assert_eq!(rt;
-        write_log(&log, &mut sink),
-        Ok(()),
+        written,
+        (Ok(()), Err(WriteFault)),
         "all fits in the buffer"
     );
-    assert_eq!(rt; sink.flush(), Err(WriteFault));
     Ok(())
 }
 
