@@ -28,13 +28,13 @@ use Rattle.ira_order.specs.Matching.{sent, got, IsPaired, LinkMatches, Matches}
 use Rattle.ira_order.specs.MatchFault.{IsLinkFault, IsMatchFault}
 use Rattle.ira_order.specs.Circle.{HasCircle, HasOrder}
 use Rattle.ira_order.specs.Counts.{IsReady}
-use Rattle.ira_order.specs.Order.{standings}
+use Rattle.ira_order.specs.Order.{occurrences}
 use Rattle.ira_order.specs.Run.{AreLocalRuns}
-use Rattle.ira_order.specs.Scan.{IsScan, IsStuckAt, sent_by, got_by}
+use Rattle.ira_order.specs.OrderPrefix.{IsOrderPrefix, IsStuckAt, sent_by, got_by}
 use Rattle.ira_order.proofs.Pairing.{PairedSoFar, paired_at_first, paired_over, paired_more, paired_all, missing_at, other_at}
 use Rattle.ira_order.proofs.Ranks.{lt_cases, eq_cases}
 use Rattle.ira_order.proofs.Rounds.{event_count, few_places, whole_order, no_order, no_step_yet}
-use Rattle.ira_order.proofs.Scanning.{scan_step}
+use Rattle.ira_order.proofs.OrderPrefixes.{prefix_step}
 use Rattle.ira_audit.specs.declared.reason.Reason.{Reason}
 use Rattle.ira_audit.specs.declared.reason.Reason.TheVariants as reason
 use Rattle.ira_audit.specs.declared.answer.Answer.{Answer}
@@ -214,26 +214,26 @@ stuck_at logs at i = elim (can_step logs at i) [ inl can ↦ inr (λ stuck. stuc
 
 module _ (logs : List Log) (are : AreLogs logs) (matches : Matches logs) where
   -- a scan that is stuck at each node
-  stuck_scan : (done sents gots places : List ℕ) → IsScan logs done sents gots places → ((i : ℕ) → i < length logs → IsStuckAt logs (standings places) i) → HasOrder logs ⊎ HasCircle logs
+  stuck_scan : (done sents gots places : List ℕ) → IsOrderPrefix logs done sents gots places → ((i : ℕ) → i < length logs → IsStuckAt logs (occurrences places) i) → HasOrder logs ⊎ HasCircle logs
   stuck_scan done sents gots places scan stuck = elim (below_or_other (λ i. length (log_of logs i) ≤ get_or done i 0) (λ i. at_most (length (log_of logs i)) (get_or done i 0)) (length logs)) [
     | inl whole ↦ inl (matches, places, whole_order logs done sents gots places are.ring.0 matches scan whole)
     | inr short ↦ inr (matches, no_order logs done sents gots places are.ring.0 matches scan stuck short.0 short.1 (omega (arith, short.2)))
   ]
 
-  scan_on : (room : ℕ) (done sents gots places : List ℕ) → IsScan logs done sents gots places → sum_by event_count logs < room + length places → HasOrder logs ⊎ HasCircle logs
+  scan_on : (room : ℕ) (done sents gots places : List ℕ) → IsOrderPrefix logs done sents gots places → sum_by event_count logs < room + length places → HasOrder logs ⊎ HasCircle logs
   scan_on zero done sents gots places scan less = absurd (omega (arith, few_places logs done sents gots places scan, less))
-  scan_on (suc room) done sents gots places scan less = elim (below_or_other (IsStuckAt logs (standings places)) (stuck_at logs (standings places)) (length logs)) [
+  scan_on (suc room) done sents gots places scan less = elim (below_or_other (IsStuckAt logs (occurrences places)) (stuck_at logs (occurrences places)) (length logs)) [
     | inl stuck ↦ stuck_scan done sents gots places scan stuck
-    | inr free ↦ elim (can_step logs (standings places) free.0) [
+    | inr free ↦ elim (can_step logs (occurrences places) free.0) [
       | inr stuck ↦ absurd (free.2 stuck)
-      | inl can ↦ elim (slice_get_cases (log_of logs free.0) (standings places free.0)).1 [
+      | inl can ↦ elim (slice_get_cases (log_of logs free.0) (occurrences places free.0)).1 [
         | inr past ↦ absurd (omega (arith, past.0, can.0))
         | inl found ↦
             let i : ℕ = free.0 in
             let e : Event = found.0 in
-            let at_e : e ≡ get_or (log_of logs i) (standings places i) e = sym found.3 in
+            let at_e : e ≡ get_or (log_of logs i) (occurrences places i) e = sym found.3 in
             scan_on room (set done i (get_or done i 0 + 1)) (set sents i (get_or sents i 0 + sent_by e)) (set gots i (get_or gots i 0 + got_by e)) (places ++ i ∷ [])
-            (scan_step logs done sents gots places i e scan are.ring.0 free.1 can at_e) (omega (arith, length_push places i, less))
+            (prefix_step logs done sents gots places i e scan are.ring.0 free.1 can at_e) (omega (arith, length_push places i, less))
       ]
     ]
   ]

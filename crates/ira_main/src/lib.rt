@@ -3,7 +3,7 @@
 
 mod asked_run;
 mod cert_file;
-mod complaint;
+mod program_fault;
 mod counted;
 mod decide_files;
 mod file_shelf;

@@ -2,9 +2,9 @@ ghost use Rattle.std.specs.Prelude.{◌≡◌, ◌≢◌, ◌⊎◌, ◌≤◌, 
 ghost use Rattle.ira_audit.specs.Report.{IsReportable};
 ghost use Rattle.ira_main.specs.CertFile.{HasKept};
 ghost use Rattle.ira_main.specs.Outcome.{outcome_number};
-ghost use Rattle.ira_main.specs.Serve.{GivesNoAnswer, Judges, JudgesCertified, JudgesTogether, Obeys, Reports};
+ghost use Rattle.ira_main.specs.Serve.{GivesNoAnswer, Judges, JudgesCertified, JudgesTogether, Executes, Reports};
 
-use crate::complaint::{Complaint, conclude};
+use crate::program_fault::{ProgramFault, report_outcome};
 use crate::counted::Counted;
 use crate::decide_files::decide_files;
 use crate::print_pairs::print_pairs;
@@ -24,13 +24,13 @@ use std::thread::Threads;
 use std::time::Clock;
 
 // Writes the answer's line, and gives the answer's status.
-fn report<'a, W: Sink>(answer: &Answer, out: &mut W) -> Result<Status, Complaint<'a>>
+fn report<'a, W: Sink>(answer: &Answer, out: &mut W) -> Result<Status, ProgramFault<'a>>
     requires { IsReportable answer.now }
     ensures { Reports answer.now (W.state out.old) (W.state out.new) (outcome_number result) }
 {
     match write_report(answer, out) {
         Ok(()) => Ok(Status::of_answer(answer)),
-        Err(WriteFault) => Err(Complaint::CannotWriteAnswer),
+        Err(WriteFault) => Err(ProgramFault::CannotWriteAnswer),
     }
 }
 
@@ -39,13 +39,13 @@ fn judge_input<'a, A: Allocator, I: Read, W: Sink>(
     alloc: A,
     input: &mut Counted<I>,
     out: &mut W,
-) -> Result<Status, Complaint<'a>>
+) -> Result<Status, ProgramFault<'a>>
     ensures judged { Judges input.old input.new (W.state out.old) (W.state out.new) (outcome_number result) }
     ensures reads { input.new.reads ≤ input.old.reads + (MAX_TEXT + 1) }
 {
     let text = match read_text(&alloc, input) {
         Ok(text) => text,
-        Err(fault) => return Err(Complaint::unread("-", fault)),
+        Err(fault) => return Err(ProgramFault::cannot_read("-", fault)),
     };
     let answer = audit_one(&alloc, &text)?;
     report(&answer, out)
@@ -58,7 +58,7 @@ fn judge_files<'a, R, A, F, W>(
     names: &[&'a str],
     shelf: &mut F,
     out: &mut W,
-) -> Result<Status, Complaint<'a>>
+) -> Result<Status, ProgramFault<'a>>
 where
     R: Threads + Sync,
     A: Allocator + Clone + Send + Sync,
@@ -80,7 +80,7 @@ fn check_files<'a, R, A, F, W>(
     check: &CheckRequest<'a>,
     shelf: &mut F,
     out: &mut W,
-) -> Result<Status, Complaint<'a>>
+) -> Result<Status, ProgramFault<'a>>
 where
     R: Threads + Wait + Clock + Sync,
     A: Allocator + Clone + Send + Sync,
@@ -98,14 +98,14 @@ where
 }
 
 // Does what the words ask for.
-fn obey<'a, R, A, I, F, W>(
+fn execute<'a, R, A, I, F, W>(
     rt: &R,
     alloc: A,
     words: &'a [&'a str],
     input: &mut Counted<I>,
     shelf: &mut F,
     out: &mut W,
-) -> Result<Status, Complaint<'a>>
+) -> Result<Status, ProgramFault<'a>>
 where
     R: AllocGlobal + Threads + Wait + Clock + Sync,
     A: Allocator + Clone + Send + Sync,
@@ -113,7 +113,7 @@ where
     F: Shelf<A>,
     W: Sink,
     ensures judged { words.now ≡ [] → Judges input.old input.new (W.state out.old) (W.state out.new) (outcome_number result) }
-    ensures obeyed { words.now ≢ [] → Obeys A (HasKept F.creates F.loses F.Out.state F.files shelf.old shelf.new) (F.files shelf.new ≡ F.files shelf.old) (map (λ word. word.now) words.now) input.old input.new (W.state out.old) (W.state out.new) (outcome_number result) }
+    ensures executed { words.now ≢ [] → Executes A (HasKept F.creates F.loses F.Out.state F.files shelf.old shelf.new) (F.files shelf.new ≡ F.files shelf.old) (map (λ word. word.now) words.now) input.old input.new (W.state out.old) (W.state out.new) (outcome_number result) }
     ensures reads { input.new.reads ≤ input.old.reads + (MAX_TEXT + 1) }
 {
     match read_words(rt.alloc(), words)? {
@@ -158,8 +158,8 @@ where
     ensures status { result ≤ 3 }
     ensures reads { input.new.reads ≤ input.old.reads + (MAX_TEXT + 1) }
     ensures judged { words.now ≡ [] → Judges input.old input.new (W.state out.old) (W.state out.new) result }
-    ensures obeyed { words.now ≢ [] → Obeys A (HasKept F.creates F.loses F.Out.state F.files shelf.old shelf.new) (F.files shelf.new ≡ F.files shelf.old) (map (λ word. word.now) words.now) input.old input.new (W.state out.old) (W.state out.new) result }
+    ensures executed { words.now ≢ [] → Executes A (HasKept F.creates F.loses F.Out.state F.files shelf.old shelf.new) (F.files shelf.new ≡ F.files shelf.old) (map (λ word. word.now) words.now) input.old input.new (W.state out.old) (W.state out.new) result }
 {
-    let outcome = obey(rt, alloc, words, input, shelf, out);
-    conclude(outcome, err)
+    let outcome = execute(rt, alloc, words, input, shelf, out);
+    report_outcome(outcome, err)
 }

@@ -15,6 +15,6 @@ pub mod Receipts
 pub mod Rounds
 pub mod Runs
 pub mod RunsOfLogs
-pub mod Scanning
+pub mod OrderPrefixes
 pub mod Stamping
 pub mod Stuck

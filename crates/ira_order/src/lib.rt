@@ -7,7 +7,7 @@ mod links;
 mod match_fault;
 mod order_fault;
 mod ordered;
-mod scan;
+mod order_prefix;
 mod search;
 mod stamps;
 mod tally;

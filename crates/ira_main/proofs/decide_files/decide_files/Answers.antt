@@ -6,13 +6,13 @@ use Rattle.ira_cert_text.specs.Certificate.{Certificate}
 use Rattle.ira_event.specs.Sink.{Memory, StopsIn, Takes}
 use Rattle.ira_main.specs.Decide.{EndsWith}
 use Rattle.ira_main.specs.Decide.EndsWith.{absent, certified, no_memory, refuted}
-use Rattle.ira_main.specs.declared.complaint.Complaint.{Complaint}
+use Rattle.ira_main.specs.declared.program_fault.ProgramFault.{ProgramFault}
 use Rattle.ira_main.specs.declared.status.Status.{Status}
 use Rattle.ira_main.proofs.decide_files.decide_files.Goals as goal
 
 -- what comes of findings, said of the files as they were before others were read
-ends_before : {A : Type 0} (kept kept' : Certificate → Bor (List ℕ) → Result Status Complaint → Type 0) (untouched untouched' : Type 0)
-    (findings : Findings A) (name : Option (Bor (List ℕ))) (outcome : Result Status Complaint)
+ends_before : {A : Type 0} (kept kept' : Certificate → Bor (List ℕ) → Result Status ProgramFault → Type 0) (untouched untouched' : Type 0)
+    (findings : Findings A) (name : Option (Bor (List ℕ))) (outcome : Result Status ProgramFault)
     → ((c : Certificate) (file : Bor (List ℕ)) → kept c file outcome → kept' c file outcome) → (untouched → untouched')
     → EndsWith kept untouched findings name outcome → EndsWith kept' untouched' findings name outcome
 ends_before k k' u u' f n o keeps same (refuted none is said) = refuted none (same is) said

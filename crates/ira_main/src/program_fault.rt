@@ -1,9 +1,9 @@
 ghost use Rattle.std.specs.Prelude.{◌≡◌, ◌++◌, codes, decimal};
 ghost use Rattle.ira_event.specs.Sink.{Wrote};
 ghost use Rattle.ira_run.specs.RunFault.{run_fault_number};
-ghost use Rattle.ira_main.specs.Complaint.{complaint_text, keep_complaint, read_complaint, write_complaint};
-ghost use Rattle.ira_main.specs.Outcome.{IsSaid, IsTold, outcome_number};
-ghost use Rattle.ira_main.specs.Status.{complaint_status, fault_status};
+ghost use Rattle.ira_main.specs.ProgramFault.{program_fault_text, write_fault, read_fault, write_log_fault};
+ghost use Rattle.ira_main.specs.Outcome.{ReportsOutcome, IsTold, outcome_number};
+ghost use Rattle.ira_main.specs.Status.{program_fault_status, fault_status};
 
 use crate::shelf_fault::ShelfFault;
 use crate::status::Status;
@@ -14,7 +14,7 @@ use std::alloc::{AllocError, AllocFailed};
 
 /// Why the program ends with no answer, or with one that couldn't be written.
 #[derive(Debug, Drop)]
-pub(crate) enum Complaint<'a> {
+pub(crate) enum ProgramFault<'a> {
     /// The words were refused, with this text.
     Words(String),
     /// A word isn't UTF-8.
@@ -34,36 +34,36 @@ pub(crate) enum Complaint<'a> {
     OutOfMemory,
 }
 
-impl<'a> Complaint<'a> {
+impl<'a> ProgramFault<'a> {
     /// The file of this name, or standard input, wasn't read.
-    pub(crate) fn unread(name: &'a str, fault: ShelfFault) -> Complaint<'a>
-        ensures told { result ≡ read_complaint name.entry fault }
-        ensures status { complaint_status result ≡ fault_status fault }
+    pub(crate) fn unread(name: &'a str, fault: ShelfFault) -> ProgramFault<'a>
+        ensures told { result ≡ read_fault name.entry fault }
+        ensures status { program_fault_status result ≡ fault_status fault }
     {
         match fault {
-            ShelfFault::Device => Complaint::CannotRead(name),
-            ShelfFault::OutOfMemory => Complaint::OutOfMemory,
+            ShelfFault::Device => ProgramFault::CannotRead(name),
+            ShelfFault::OutOfMemory => ProgramFault::OutOfMemory,
         }
     }
 
     /// The log of the node at this place wasn't written to its file in this folder.
-    pub(crate) fn unwritten(folder: &'a str, place: u8, fault: ShelfFault) -> Complaint<'a>
-        ensures told { result ≡ write_complaint folder.entry place fault }
-        ensures status { complaint_status result ≡ fault_status fault }
+    pub(crate) fn unwritten(folder: &'a str, place: u8, fault: ShelfFault) -> ProgramFault<'a>
+        ensures told { result ≡ write_log_fault folder.entry place fault }
+        ensures status { program_fault_status result ≡ fault_status fault }
     {
         match fault {
-            ShelfFault::Device => Complaint::CannotWriteLog(folder, place),
-            ShelfFault::OutOfMemory => Complaint::OutOfMemory,
+            ShelfFault::Device => ProgramFault::CannotWriteLog(folder, place),
+            ShelfFault::OutOfMemory => ProgramFault::OutOfMemory,
         }
     }
 
     /// The certificate wasn't written to the file of this name.
-    pub(crate) fn unkept(name: &'a str, fault: ShelfFault) -> Complaint<'a>
-        ensures { result ≡ keep_complaint name.entry fault }
+    pub(crate) fn unkept(name: &'a str, fault: ShelfFault) -> ProgramFault<'a>
+        ensures { result ≡ write_fault name.entry fault }
     {
         match fault {
-            ShelfFault::Device => Complaint::CannotWrite(name),
-            ShelfFault::OutOfMemory => Complaint::OutOfMemory,
+            ShelfFault::Device => ProgramFault::CannotWrite(name),
+            ShelfFault::OutOfMemory => ProgramFault::OutOfMemory,
         }
     }
 
@@ -71,41 +71,41 @@ impl<'a> Complaint<'a> {
     /// status stays.
     #[tactic(auto, using(crate::proofs::Telling::told))]
     pub(crate) fn tell<V: Sink>(&self, err: &mut V) -> Status
-        ensures status { result ≡ complaint_status self.now }
+        ensures status { result ≡ program_fault_status self.now }
         ensures told { IsTold self.now (V.state err.old) (V.state err.new) }
     {
         let _ = self.write(err);
         match self {
-            Complaint::OutOfMemory => Status::OutOfMemory,
+            ProgramFault::OutOfMemory => Status::OutOfMemory,
             _ => Status::Refused,
         }
     }
 
     fn write<V: Sink>(&self, err: &mut V) -> Result<(), WriteFault>
-        ensures { Wrote result (complaint_text self.now) (V.state err.old) (V.state err.new) }
+        ensures { Wrote result (program_fault_text self.now) (V.state err.old) (V.state err.new) }
     {
         match self {
-            Complaint::Words(text) => write_bytes(text.as_bytes(), err),
-            Complaint::WordIsNoText => write_bytes(b"ira: a word is not UTF-8\n", err),
-            Complaint::CannotRead(name) => {
+            ProgramFault::Words(text) => write_bytes(text.as_bytes(), err),
+            ProgramFault::WordIsNoText => write_bytes(b"ira: a word is not UTF-8\n", err),
+            ProgramFault::CannotRead(name) => {
                 write_named(b"ira: cannot read ", name.as_bytes(), &line_end(), err)
             }
-            Complaint::RingSize => write_bytes(b"ira: ring size\n", err),
-            Complaint::RunRefused(fault) => refused_run(*fault).write(err),
-            Complaint::CannotWriteLog(folder, place) => write_named(
+            ProgramFault::RingSize => write_bytes(b"ira: ring size\n", err),
+            ProgramFault::RunRefused(fault) => refused_run(*fault).write(err),
+            ProgramFault::CannotWriteLog(folder, place) => write_named(
                 b"ira: cannot write ",
                 folder.as_bytes(),
                 &log_in_folder(*place),
                 err,
             ),
-            Complaint::CannotWrite(name) => {
+            ProgramFault::CannotWrite(name) => {
                 write_named(b"ira: cannot write ", name.as_bytes(), &line_end(), err)
             }
-            Complaint::CertificatePastLimits => {
+            ProgramFault::CertificatePastLimits => {
                 write_bytes(b"ira: certificate past the limits\n", err)
             }
-            Complaint::CannotWriteAnswer => write_bytes(b"ira: cannot write the answer\n", err),
-            Complaint::OutOfMemory => write_bytes(b"ira: out of memory\n", err),
+            ProgramFault::CannotWriteAnswer => write_bytes(b"ira: cannot write the answer\n", err),
+            ProgramFault::OutOfMemory => write_bytes(b"ira: out of memory\n", err),
         }
     }
 }
@@ -155,9 +155,9 @@ fn write_named<V: Sink>(
 }
 
 /// The number of the status that the program ends with; a complaint is told on `err`.
-pub(crate) fn conclude<V: Sink>(outcome: Result<Status, Complaint<'_>>, err: &mut V) -> u8
+pub(crate) fn report_outcome<V: Sink>(outcome: Result<Status, ProgramFault<'_>>, err: &mut V) -> u8
     ensures number { result ≡ outcome_number outcome.entry }
-    ensures said { IsSaid outcome.entry (V.state err.old) (V.state err.new) }
+    ensures said { ReportsOutcome outcome.entry (V.state err.old) (V.state err.new) }
 {
     match outcome {
         Ok(status) => status.number(),
@@ -165,63 +165,63 @@ pub(crate) fn conclude<V: Sink>(outcome: Result<Status, Complaint<'_>>, err: &mu
     }
 }
 
-impl<'a> From<OutOfMemory> for Complaint<'a> {
+impl<'a> From<OutOfMemory> for ProgramFault<'a> {
     ghost use Rattle.std.specs.Prelude.{◌≡◌};
-    ghost use Rattle.ira_main.specs.declared.complaint.Complaint.TheVariants as complaint;
+    ghost use Rattle.ira_main.specs.declared.program_fault.ProgramFault.TheVariants as program;
 
-    ghost from_gives = { λ _ c. c ≡ complaint.OutOfMemory };
+    ghost from_gives = { λ _ c. c ≡ program.OutOfMemory };
 
-    fn from(_refused: OutOfMemory) -> Complaint<'a> {
-        Complaint::OutOfMemory
+    fn from(_refused: OutOfMemory) -> ProgramFault<'a> {
+        ProgramFault::OutOfMemory
     }
 }
 
-impl<'a> From<AllocError> for Complaint<'a> {
+impl<'a> From<AllocError> for ProgramFault<'a> {
     ghost use Rattle.std.specs.Prelude.{◌≡◌};
-    ghost use Rattle.ira_main.specs.declared.complaint.Complaint.TheVariants as complaint;
+    ghost use Rattle.ira_main.specs.declared.program_fault.ProgramFault.TheVariants as program;
 
-    ghost from_gives = { λ _ c. c ≡ complaint.OutOfMemory };
+    ghost from_gives = { λ _ c. c ≡ program.OutOfMemory };
 
-    fn from(_refused: AllocError) -> Complaint<'a> {
-        Complaint::OutOfMemory
+    fn from(_refused: AllocError) -> ProgramFault<'a> {
+        ProgramFault::OutOfMemory
     }
 }
 
-impl<'a, T: Drop> From<AllocFailed<T>> for Complaint<'a> {
+impl<'a, T: Drop> From<AllocFailed<T>> for ProgramFault<'a> {
     ghost use Rattle.std.specs.Prelude.{◌≡◌};
-    ghost use Rattle.ira_main.specs.declared.complaint.Complaint.TheVariants as complaint;
+    ghost use Rattle.ira_main.specs.declared.program_fault.ProgramFault.TheVariants as program;
 
-    ghost from_gives = { λ _ c. c ≡ complaint.OutOfMemory };
+    ghost from_gives = { λ _ c. c ≡ program.OutOfMemory };
 
-    fn from(_refused: AllocFailed<T>) -> Complaint<'a> {
-        Complaint::OutOfMemory
+    fn from(_refused: AllocFailed<T>) -> ProgramFault<'a> {
+        ProgramFault::OutOfMemory
     }
 }
 
-impl<'a> From<RunFault> for Complaint<'a> {
+impl<'a> From<RunFault> for ProgramFault<'a> {
     ghost use Rattle.std.specs.Prelude.{◌≡◌};
-    ghost use Rattle.ira_main.specs.Complaint.{run_complaint};
+    ghost use Rattle.ira_main.specs.ProgramFault.{run_fault};
 
-    ghost from_gives = { λ f c. c ≡ run_complaint f };
+    ghost from_gives = { λ f c. c ≡ run_fault f };
 
-    fn from(fault: RunFault) -> Complaint<'a> {
+    fn from(fault: RunFault) -> ProgramFault<'a> {
         match fault {
-            RunFault::OutOfMemory => Complaint::OutOfMemory,
-            refused => Complaint::RunRefused(refused),
+            RunFault::OutOfMemory => ProgramFault::OutOfMemory,
+            refused => ProgramFault::RunRefused(refused),
         }
     }
 }
 
-impl<'a> From<WordsFault> for Complaint<'a> {
+impl<'a> From<WordsFault> for ProgramFault<'a> {
     ghost use Rattle.std.specs.Prelude.{◌≡◌};
-    ghost use Rattle.ira_main.specs.Complaint.{words_complaint};
+    ghost use Rattle.ira_main.specs.ProgramFault.{words_fault};
 
-    ghost from_gives = { λ f c. c ≡ words_complaint f };
+    ghost from_gives = { λ f c. c ≡ words_fault f };
 
-    fn from(fault: WordsFault) -> Complaint<'a> {
+    fn from(fault: WordsFault) -> ProgramFault<'a> {
         match fault {
-            WordsFault::Refused(text) => Complaint::Words(text),
-            WordsFault::OutOfMemory => Complaint::OutOfMemory,
+            WordsFault::Refused(text) => ProgramFault::Words(text),
+            WordsFault::OutOfMemory => ProgramFault::OutOfMemory,
         }
     }
 }
