@@ -103,7 +103,7 @@ text_judged text head rest (Err f) short b h = inr (short, behind_head head.node
 
 -- ---- the answer of the text
 
--- a fault of a text is no want of memory
+-- a fault of a text is not OutOfMemory
 pub text_fault_other : (text : List ℕ) (f : LogFault) → LogTextFault text f → f ≢ fault.OutOfMemory
 text_fault_other text f h e = not_out_of_memory text (subst (LogTextFault text) e h)
 

@@ -15,7 +15,7 @@ use Rattle.ira_audit.specs.RingAudit.{RingAudit, HasTaken, IsReading}
 -- what `read_log` promises is a reading
 pub is_reading : (text : List ℕ) (r : Result Log LogFault) → ((log : Log) → UnlessErr r OutOfMemory ((r ≡ Ok log) ↔ IsLogText text log)) → ((f : LogFault) → UnlessErr r OutOfMemory ((r ≡ Err f) ↔ LogTextFault text f)) → IsReading text r
 is_reading text (Ok log) ok err = (unless_ok log _ _ (ok log)).0 refl
-is_reading text (Err f) ok err = elim (err f) [ inl wanting ↦ inl (err_same f OutOfMemory wanting) | inr h ↦ inr (h.0 refl) ]
+is_reading text (Err f) ok err = elim (err f) [ inl refused ↦ inl (err_same f OutOfMemory refused) | inr h ↦ inr (h.0 refl) ]
 
 -- two facts of a value that is there
 pub both_ok : {T E : Type 0} (r : Result T E) (P Q S : T → Type 0) → IfOk r P → IfOk r Q → ((v : T) → P v → Q v → S v) → IfOk r S

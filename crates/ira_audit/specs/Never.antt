@@ -9,7 +9,7 @@ use Rattle.ira_pred.specs.QuestionText.{IsQuestionText}
 use Rattle.ira_pred.specs.Pairs.{ArePairCases}
 use Rattle.ira_order.specs.Circle.{HasOrder}
 use Rattle.ira_order.specs.Cut.{IsConsistentCut}
-use Rattle.ira_order.specs.Order.{IsOrder, standings}
+use Rattle.ira_order.specs.Order.{IsOrder, occurrences}
 use Rattle.ira_order.specs.RunsOfLogs.{EveryOrderIsRun}
 use Rattle.ira_cand.specs.HoldsAt.{HoldsAt}
 use Rattle.ira_cand.specs.Meets.{Meets}
@@ -37,7 +37,7 @@ pub record IsNeverMet (texts : List (List ℕ)) (question : List ℕ) : Type 0 w
 pub record IsMoment (logs : List Log) (order : List ℕ) (t : ℕ) (cut : List ℕ) : Type 0 where
   pub within : t ≤ length order
   pub places : length cut ≡ length logs
-  pub made : (i : ℕ) → i < length logs → slice_index cut i ≡ standings (take t order) i
+  pub made : (i : ℕ) → i < length logs → slice_index cut i ≡ occurrences (take t order) i
 
 -- after a yes no order of the logs meets an asked case at any of its moments
 abbrev pub NoMomentMeetsAny : Type 0

@@ -53,14 +53,14 @@ decided_findings (Ok findings) = Ok findings
 decided_findings (Err (No reason)) = Ok (Refused reason)
 decided_findings (Err OutOfMemory) = Err (record {})
 
--- where memory was wanting, nothing is said; else the fact holds of yes, or of the reason, and that
--- reason holds no want of memory
+-- where memory ran out, nothing is said; else the fact holds of yes, or of the reason, and that
+-- reason holds no OutOfMemory
 abbrev pub Judged : {T : Type 0} → Result T Refusal → (Answer → Type 0) → Type 0
 Judged (Ok _) P = P answer.Yes
 Judged (Err (No reason)) P = P (answer.No reason) × IsReportableReason reason
 Judged (Err OutOfMemory) P = ⊤
 
--- where memory was wanting, nothing is said; else the one fact holds of the value, or the other of the
+-- where memory ran out, nothing is said; else the one fact holds of the value, or the other of the
 -- reason
 abbrev pub MatchRefusal : {T : Type 0} → Result T Refusal → (T → Type 0) → (Reason → Type 0) → Type 0
 MatchRefusal (Ok v) P Q = P v
@@ -71,11 +71,11 @@ MatchRefusal (Err OutOfMemory) P Q = ⊤
 abbrev pub IsTextReason : List (List ℕ) → Reason → Type 0
 IsTextReason texts r = (number : ℕ) × (f : LogFault) × IsFirstTextFault texts number f × (r ≡ Log number f)
 
--- the reason is the answer of the texts of logs, and holds no want of memory
+-- the reason is the answer of the texts of logs, and holds no OutOfMemory
 abbrev pub IsLogsReason : List (List ℕ) → Reason → Type 0
 IsLogsReason texts r = IsLogsAnswer texts (answer.No r) × IsReportableReason r
 
--- the reason is why the question isn't posed, and holds no want of memory
+-- the reason is why the question isn't posed, and holds no OutOfMemory
 abbrev pub IsFindingsReason : List (List ℕ) → List ℕ → Reason → Type 0
 IsFindingsReason texts question r = WhyNotPosed texts question r × IsReportableReason r
 

@@ -25,7 +25,7 @@ use Rattle.ira_audit.specs.declared.answer.Answer.TheVariants.{Yes, No}
 abbrev pub numbered : List ℕ → ℕ → List ℕ
 numbered words n = words ++ decimal n
 
--- what is wrong with a text, in words; want of memory has none
+-- what is wrong with a text, in words; OutOfMemory has none
 abbrev pub log_fault_words : LogFault → List ℕ
 log_fault_words TooLong = codes "too long"
 log_fault_words Head = codes "head"
@@ -122,7 +122,7 @@ abbrev pub report_line : Answer → List ℕ
 report_line Yes = codes "yes\n"
 report_line (No reason) = reason_words reason ++ codes "\n"
 
--- the reason holds no want of memory
+-- the reason holds no OutOfMemory
 abbrev pub IsReportableReason : Reason → Type 0
 IsReportableReason (Log number fault) = fault ≢ OutOfMemory
 IsReportableReason (Heads fault) = ⊤
@@ -136,7 +136,7 @@ IsReportableReason CertificateSize = ⊤
 IsReportableReason (Sections wanted found) = ⊤
 IsReportableReason (Section case fault) = ⊤
 
--- the answer holds no want of memory
+-- the answer holds no OutOfMemory
 abbrev pub IsReportable : Answer → Type 0
 IsReportable Yes = ⊤
 IsReportable (No reason) = IsReportableReason reason

@@ -72,7 +72,7 @@ fn write_cases<A: Allocator, W: Sink>(found: &[Found<A>], sink: &mut W) -> Resul
 }
 
 /// Writes the lines of findings: for a refusal that of its reason, as `write_report` does, else one for each
-/// case. The reason must hold no want of memory.
+/// case. The reason must hold no `OutOfMemory`.
 pub fn write_findings<A: Allocator, W: Sink>(
     findings: &Findings<A>,
     sink: &mut W,

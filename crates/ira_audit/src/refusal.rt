@@ -10,7 +10,7 @@ use ira_order::OrderFault;
 use ira_pred::AskFault;
 use std::alloc::{AllocError, AllocFailed, Allocator};
 
-/// Why there is no yes: a reason, which holds no want of memory, or a growth that was refused.
+/// Why there is no yes: a reason, which holds no `OutOfMemory`, or a growth that was refused.
 #[derive(Clone, Copy, Debug, PartialEq, Eq)]
 pub(crate) enum Refusal {
     No(Reason),

@@ -265,7 +265,7 @@ fn write_reason<W: Sink>(reason: &Reason, sink: &mut W) -> Result<(), WriteFault
     }
 }
 
-/// Writes the line of an answer: `yes`, or `no` and the reason. The reason must hold no want of memory,
+/// Writes the line of an answer: `yes`, or `no` and the reason. The reason must hold no `OutOfMemory`,
 /// which is no answer.
 #[tactic(auto, using(ira_event::proofs::Writing::writes))]
 pub fn write_report<W: Sink>(answer: &Answer, sink: &mut W) -> Result<(), WriteFault>

@@ -91,7 +91,7 @@ impl<A: Allocator + Clone> RingAudit<A> {
         }
     }
 
-    /// Takes the text that comes next. Where memory is wanting the audit is as it was.
+    /// Takes the text that comes next. Where memory runs out the audit is as it was.
     pub fn take(&mut self, text: &[u8]) -> Result<(), OutOfMemory>
         ensures ok { OnOk result ((texts : List (List ℕ)) → HasTaken self.old texts → HasTaken self.new (texts ++ text.now ∷ [])) }
         ensures err { OnErr result (self.new ≡ self.old) }
@@ -105,7 +105,7 @@ impl<A: Allocator + Clone> RingAudit<A> {
 
     /// Takes the texts that come next. They are read side by side, each by a thread of its own where one
     /// can be started, and else by the caller's. Behind a text that is no log's none counts. Where memory
-    /// is wanting the audit is as it was.
+    /// runs out the audit is as it was.
     pub fn take_all<R, B>(&mut self, rt: &R, texts: &[Vec<u8, B>]) -> Result<(), OutOfMemory>
     where
         R: Threads + Sync,

@@ -25,7 +25,7 @@ use std::alloc::Allocator;
 
 /// Judges the texts of a ring's logs, given in the order of its places: whether they are texts of
 /// logs, whether these are the logs of one ring, match and have an order, and whether each event has a
-/// step. The first reason against them is answered. No answer holds want of memory.
+/// step. The first reason against them is answered. No answer holds `OutOfMemory`.
 ///
 /// After a yes the logs have an order, and each order of them is a run of the ring, with the draws that
 /// were recorded. Where they don't match, have no order, or have an event without a step, no run of the

@@ -7,10 +7,10 @@ use Rattle.ira_cert_text.specs.Certificate.{Certificate}
 use Rattle.ira_cert_text.specs.CertText.{IsCertText}
 use Rattle.ira_cert_text.specs.CertTextFault.{CertTextFault}
 
--- unless memory is wanting, a certificate is answered exactly where the text is its text
+-- unless memory runs out, a certificate is answered exactly where the text is its text
 abbrev pub AnswersCertificates : Result Certificate CertFault → List ℕ → Type 0
 AnswersCertificates result text = (c : Certificate) → UnlessErr result OutOfMemory ((result ≡ Ok c) ↔ IsCertText text c)
 
--- unless memory is wanting, a fault is answered exactly where it is the text's
+-- unless memory runs out, a fault is answered exactly where it is the text's
 abbrev pub AnswersFaults : Result Certificate CertFault → List ℕ → Type 0
 AnswersFaults result text = (f : CertFault) → UnlessErr result OutOfMemory ((result ≡ Err f) ↔ CertTextFault text f)

@@ -46,7 +46,7 @@ ReadsSection nodes old new (Err f) =
     ⊎ ((steps : List CertStep) × (before : LinesLeft) × HasSteps nodes old steps before
     × RestInsideFault nodes before.number (length steps) before.rest f)
 
--- a reader of what stands behind a head answered its sections, its fault, or want of memory
+-- a reader of what stands behind a head answered its sections, its fault, or that memory ran out
 abbrev pub SectionsRead : {X : Type 0} → ℕ → (X → List Section) → Result X CertFault → List ℕ → Type 0
 SectionsRead nodes view (Ok v) text = BeginsWithSections nodes text (view v) (codes "end\n")
 SectionsRead nodes view (Err f) text = (f ≡ OutOfMemory) ⊎ SectionsFault nodes text f

@@ -1,4 +1,4 @@
--- Results that are known to be `Ok` or `Err`, or to be no want of memory.
+-- Results that are known to be `Ok` or `Err`, or not to be `OutOfMemory`.
 use Rattle.std.proofs.Common.{◌≡◌, ◌≢◌, inl, inr, Result, Ok, Err, ap}
 use Rattle.ira_event.specs.Result.{UnlessErr}
 

@@ -83,7 +83,7 @@ pub record AreAllRecords (text : List ℕ) (events : List Event) : Type 0 where
   pub end_is : IsEnd end (length events)
   pub begins : BeginsWithRecords text events (end ++ codes "\n")
 
--- a reader of what stands behind a head answered its events, its fault, or want of memory
+-- a reader of what stands behind a head answered its events, its fault, or that memory ran out
 abbrev pub RecordsRead : {X : Type 0} → (X → List Event) → Result X LogFault → List ℕ → Type 0
 RecordsRead view (Ok v) text = AreAllRecords text (view v)
 RecordsRead view (Err f) text = (f ≡ OutOfMemory) ⊎ RecordsFault text f

@@ -7,10 +7,10 @@ use Rattle.ira_event.specs.declared.msg.Msg.{Msg}
 use Rattle.ira_event.specs.Log.{Log}
 use Rattle.ira_event.specs.declared.event.Event.TheVariants.{Got}
 use Rattle.ira_order.specs.Ring.{log_of, next, numbered}
-use Rattle.ira_order.specs.Order.{IsOrder, IsPair, StandsAt, standings}
+use Rattle.ira_order.specs.Order.{IsOrder, IsPair, StandsAt, occurrences}
 use Rattle.ira_order.specs.Before.{Before, own, message, onward}
 use Rattle.ira_order.specs.VectorClock.{AtOrBefore}
-use Rattle.ira_order.proofs.Ranks.{lt_cases, eq_cases, standings_same, standings_mono}
+use Rattle.ira_order.proofs.Ranks.{lt_cases, eq_cases, occurrences_same, occurrences_mono}
 use Rattle.ira_order.proofs.Places.{stands}
 use Rattle.ira_order.proofs.Bridge.{before_places}
 use Rattle.std.proofs.lemmas.Option.{slice_get-get_or, get_or_from_slice_get, slice_get_within}
@@ -52,14 +52,14 @@ module _ (logs : List Log) (order : List ℕ) (o : IsOrder logs order) where
   pub place_of : (j b : ℕ) → j < length logs → 1 ≤ b → b ≤ length (log_of logs j) → (t : ℕ) × StandsAt order t j b
   place_of j b lj one l =
       let whole : take (length order) order ≡ order = take_all (length order) order (omega arith) in
-      let room : b - 1 < standings (take (length order) order) j = rw whole (omega (arith, o.whole j lj)) in
+      let room : b - 1 < occurrences (take (length order) order) j = rw whole (omega (arith, o.whole j lj)) in
       let s = stands order (length order) j (b - 1) (omega arith) room in
       (s.0, (slice_get-get_or order s.0 0 s.1 ∙ ap Some s.2, omega (arith, s.3)))
 
   pub before_stands : (i a j b : ℕ) → Before logs i a j b → (s t : ℕ) → StandsAt order s i a → StandsAt order t j b → s < t
   before_stands i a j b (own e l one lower upper) s t si tj = elim (lt_cases s t) [
     | inl fine ↦ fine
-    | inr late ↦ (let tj' = rw (← e) at tj in absurd (omega (arith, standings_mono order t s i late, si.1, tj'.1)))
+    | inr late ↦ (let tj' = rw (← e) at tj in absurd (omega (arith, occurrences_mono order t s i late, si.1, tj'.1)))
   ]
   before_stands i a j b (message e pair) s t si tj = o.after i a b s t pair si (rw e tj)
   before_stands i a k c (onward {j = j} {b = b} f g) s t si tk =
@@ -77,8 +77,8 @@ module _ (logs : List Log) (order : List ℕ) (o : IsOrder logs order) where
       let t = place_of i b p.0 w.2 w.3 in
       let l : s.0 < t.0 = before_stands i a i b h s.0 t.0 s.1 t.1 in
       let here : s.0 < length order = slice_get_within order s.0 i s.1.0 in
-      let at_s = standings_same order s.0 i here (get_or_from_slice_get order s.0 i 0 s.1.0) in
-      omega (arith, at_s, standings_mono order (s.0 + 1) t.0 i (omega arith), s.1.1, t.1.1)
+      let at_s = occurrences_same order s.0 i here (get_or_from_slice_get order s.0 i 0 s.1.0) in
+      omega (arith, at_s, occurrences_mono order (s.0 + 1) t.0 i (omega arith), s.1.1, t.1.1)
 
   -- what comes from another node came with a receipt
   pub came_with : (i a j b : ℕ) → Before logs i a j b → i ≢ j → CameWith logs i a j b

@@ -7,12 +7,12 @@ use Rattle.ira_event.specs.Log.{Log}
 use Rattle.ira_event.specs.declared.event.Event.TheVariants.{Sent, Draw}
 use Rattle.ira_order.specs.Ring.{log_of, next, numbered}
 use Rattle.ira_order.specs.Matching.{sent, got, sending, receipt, Matches}
-use Rattle.ira_order.specs.Order.{standings, IsPair, IsOrder, StandsAt}
+use Rattle.ira_order.specs.Order.{occurrences, IsPair, IsOrder, StandsAt}
 use Rattle.ira_order.specs.Counts.{IsKept, Covers, IsWholeSchedule}
 use Rattle.ira_order.specs.Before.{Before, own, message, onward}
 use Rattle.ira_order.specs.Cut.{HoldsAllBefore}
-use Rattle.ira_order.proofs.Ranks.{lt_cases, rank_mono, standings_same, standings_other, standings_mono, standings-take-le, next_other, next_below}
-use Rattle.ira_order.proofs.Scanning.{rank_more}
+use Rattle.ira_order.proofs.Ranks.{lt_cases, rank_mono, occurrences_same, occurrences_other, occurrences_mono, occurrences-take-le, next_other, next_below}
+use Rattle.ira_order.proofs.OrderPrefixes.{rank_more}
 use Rattle.ira_order.proofs.Places.{Ranked, ranked, stands, is_sending, is_receipt, fewer_receipts}
 use Rattle.std.proofs.lemmas.Option.{slice_get-get_or, get_or_from_slice_get, slice_get_within}
 use Rattle.std.proofs.lemmas.List.{take_all}
@@ -96,22 +96,22 @@ covers_consistent logs at covers i a j b (onward first second) h =
 pub order_kept : (logs : List Log) (order : List ℕ) → 2 ≤ length logs → Matches logs → IsOrder logs order → IsKept logs order
 order_kept logs order two matches o t lt i l =
     let lj : next (length logs) i < length logs = next_below (length logs) i l in
-    let cj : standings (take t order) (next (length logs) i) ≤ length (log_of logs (next (length logs) i)) = omega (arith, standings-take-le order t (next (length logs) i), o.whole (next (length logs) i) lj) in
-    elim (lt_cases (length (sent (take (standings (take t order) i) (log_of logs i)))) (length (got (take (standings (take t order) (next (length logs) i)) (log_of logs (next (length logs) i)))))) [
+    let cj : occurrences (take t order) (next (length logs) i) ≤ length (log_of logs (next (length logs) i)) = omega (arith, occurrences-take-le order t (next (length logs) i), o.whole (next (length logs) i) lj) in
+    elim (lt_cases (length (sent (take (occurrences (take t order) i) (log_of logs i)))) (length (got (take (occurrences (take t order) (next (length logs) i)) (log_of logs (next (length logs) i)))))) [
       | inr fine ↦ fine
       | inl more ↦
-          let b : Ranked receipt (log_of logs (next (length logs) i)) (standings (take t order) (next (length logs) i)) (length (sent (take (standings (take t order) i) (log_of logs i)))) (Draw 0) =
-          ranked receipt (log_of logs (next (length logs) i)) (standings (take t order) (next (length logs) i)) (length (sent (take (standings (take t order) i) (log_of logs i)))) (Draw 0) cj more in
-          let p = pair_of logs i (standings (take t order) (next (length logs) i)) (length (sent (take (standings (take t order) i) (log_of logs i)))) matches l cj b in
+          let b : Ranked receipt (log_of logs (next (length logs) i)) (occurrences (take t order) (next (length logs) i)) (length (sent (take (occurrences (take t order) i) (log_of logs i)))) (Draw 0) =
+          ranked receipt (log_of logs (next (length logs) i)) (occurrences (take t order) (next (length logs) i)) (length (sent (take (occurrences (take t order) i) (log_of logs i)))) (Draw 0) cj more in
+          let p = pair_of logs i (occurrences (take t order) (next (length logs) i)) (length (sent (take (occurrences (take t order) i) (log_of logs i)))) matches l cj b in
           let tb = stands order t (next (length logs) i) b.place lt b.below in
           let whole : take (length order) order ≡ order = take_all (length order) order (omega arith) in
-          let room : p.0.place < standings (take (length order) order) i = rw whole (omega (arith, p.0.below, o.whole i l)) in
+          let room : p.0.place < occurrences (take (length order) order) i = rw whole (omega (arith, p.0.below, o.whole i l)) in
           let sa = stands order (length order) i p.0.place (omega arith) room in
           let sa_stands : StandsAt order sa.0 i (suc p.0.place) = (slice_get-get_or order sa.0 0 sa.1 ∙ ap Some sa.2, omega (arith, sa.3)) in
           let tb_stands : StandsAt order tb.0 (next (length logs) i) (suc b.place) = (slice_get-get_or order tb.0 0 (omega (arith, tb.1)) ∙ ap Some tb.2, omega (arith, tb.3)) in
           let before : sa.0 < tb.0 = o.after i (suc p.0.place) (suc b.place) sa.0 tb.0 p.1 sa_stands tb_stands in
-          let held : p.0.place + 1 ≤ standings (take t order) i = omega (arith, sa.4, standings_mono order (sa.0 + 1) t i (omega (arith, before, tb.1))) in
-          absurd (omega (arith, p.0.next_rank, rank_mono sending (log_of logs i) (p.0.place + 1) (standings (take t order) i) held))
+          let held : p.0.place + 1 ≤ occurrences (take t order) i = omega (arith, sa.4, occurrences_mono order (sa.0 + 1) t i (omega (arith, before, tb.1))) in
+          absurd (omega (arith, p.0.next_rank, rank_mono sending (log_of logs i) (p.0.place + 1) (occurrences (take t order) i) held))
     ]
 
 pub kept_order : (logs : List Log) (order : List ℕ) → 2 ≤ length logs → IsWholeSchedule logs order → IsOrder logs order
@@ -129,10 +129,10 @@ kept_order logs order two w = record {
         | inr late ↦
             let ne : get_or order t 0 ≢ i = λ q. next_other (length logs) i two pair.link (sym at_t ∙ q) in
             let c = w.schedule.kept (t + 1) (omega arith) i pair.link in
-            let is_b : standings (take (t + 1) order) (next (length logs) i) ≡ b = standings_same order t (next (length logs) i) lt at_t ∙ tj.1 in
-            let is_a : standings (take (t + 1) order) i ≤ k.place = omega (arith, standings_other order t i lt ne, standings_mono order t s i late, si.1, k.number) in
+            let is_b : occurrences (take (t + 1) order) (next (length logs) i) ≡ b = occurrences_same order t (next (length logs) i) lt at_t ∙ tj.1 in
+            let is_a : occurrences (take (t + 1) order) i ≤ k.place = omega (arith, occurrences_other order t i lt ne, occurrences_mono order t s i late, si.1, k.number) in
             let c' = rw is_b at c in
-            absurd (omega (arith, c', k.rank, pair.rank, rank_mono sending (log_of logs i) (standings (take (t + 1) order) i) k.place is_a))
+            absurd (omega (arith, c', k.rank, pair.rank, rank_mono sending (log_of logs i) (occurrences (take (t + 1) order) i) k.place is_a))
       ];
 }
 

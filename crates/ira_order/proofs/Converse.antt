@@ -7,10 +7,10 @@ use Rattle.ira_event.specs.Log.{Log}
 use Rattle.ira_event.specs.declared.event.Event.TheVariants.{Sent, Got, Draw}
 use Rattle.ira_order.specs.Ring.{log_of, next, prev}
 use Rattle.ira_order.specs.Matching.{sent, got, sending, receipt, Matches}
-use Rattle.ira_order.specs.Order.{standings}
+use Rattle.ira_order.specs.Order.{occurrences}
 use Rattle.ira_order.specs.Counts.{IsWhole, IsKept}
 use Rattle.ira_order.specs.Run.{Configuration, LinkStep, Chains, opening}
-use Rattle.ira_order.proofs.Ranks.{eq_cases, next_below, standings_same, standings_other}
+use Rattle.ira_order.proofs.Ranks.{eq_cases, next_below, occurrences_same, occurrences_other}
 use Rattle.ira_order.proofs.Runs.{next_prev, prev_next, Means}
 use Rattle.ira_order.proofs.Pairing.{all_begun}
 use Rattle.std.proofs.lemmas.List.Elements.{filter_map-append}
@@ -73,17 +73,17 @@ module _ (logs : List Log) (order : List ℕ) (run : List (ℕ × Event))
     (whole : IsWhole logs order) where
   -- what node j has done at point t
   abbrev pub past : ℕ → ℕ → List Event
-  past t j = take (standings (take t order) j) (log_of logs j)
+  past t j = take (occurrences (take t order) j) (log_of logs j)
 
   past_more : (t i : ℕ) (e : Event) → slice_get run t ≡ Some (i, e) → (past (t + 1) i ≡ past t i ++ e ∷ []) × ((j : ℕ) → j ≢ i → past (t + 1) j ≡ past t j)
   past_more t i e at =
       let m = means.each t i e at in
       let lt : t < length order = slice_get_within order t i m.0 in
       let at_t : get_or order t 0 ≡ i = get_or_from_slice_get order t i 0 m.0 in
-      let more : standings (take (t + 1) order) i ≡ standings (take t order) i + 1 = standings_same order t i lt at_t in (
-        rw more (take_more (log_of logs i) (standings (take t order) i) (Draw 0) (slice_get_within (log_of logs i) (standings (take t order) i) e m.1)
-            ∙ ap (λ (x : Event). take (standings (take t order) i) (log_of logs i) ++ x ∷ []) (get_or_from_slice_get (log_of logs i) (standings (take t order) i) e (Draw 0) m.1)),
-        λ j ne. ap (λ (x : ℕ). take x (log_of logs j)) (standings_other order t j lt (λ q. ne (sym q ∙ at_t))),
+      let more : occurrences (take (t + 1) order) i ≡ occurrences (take t order) i + 1 = occurrences_same order t i lt at_t in (
+        rw more (take_more (log_of logs i) (occurrences (take t order) i) (Draw 0) (slice_get_within (log_of logs i) (occurrences (take t order) i) e m.1)
+            ∙ ap (λ (x : Event). take (occurrences (take t order) i) (log_of logs i) ++ x ∷ []) (get_or_from_slice_get (log_of logs i) (occurrences (take t order) i) e (Draw 0) m.1)),
+        λ j ne. ap (λ (x : ℕ). take x (log_of logs j)) (occurrences_other order t j lt (λ q. ne (sym q ∙ at_t))),
       )
 
   -- the links are balanced at each point of a run

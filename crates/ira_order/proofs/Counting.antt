@@ -14,7 +14,7 @@ use Rattle.ira_order.specs.Before.{Before, own, message, onward}
 use Rattle.ira_order.specs.VectorClock.{AtOrBefore, IsCount}
 use Rattle.ira_order.specs.Stamps.{receipts_by, CountsAt, CountsSent}
 use Rattle.ira_order.proofs.Ranks.{lt_cases, eq_cases, rank_mono, next_below}
-use Rattle.ira_order.proofs.Scanning.{rank_more}
+use Rattle.ira_order.proofs.OrderPrefixes.{rank_more}
 use Rattle.ira_order.proofs.Places.{Ranked}
 use Rattle.ira_order.proofs.Bridge.{SendingOf, sending_of, pair_of, covers_consistent}
 use Rattle.ira_order.proofs.Runs.{prev_next, prev_below, next_prev}

@@ -4,24 +4,24 @@ use Rattle.std.specs.Prelude.{All, slice_index}
 use Rattle.ira_event.specs.Log.{Log}
 use Rattle.ira_order.specs.Ring.{log_of, next}
 use Rattle.ira_order.specs.Matching.{sending, receipt, Matches}
-use Rattle.ira_order.specs.Order.{standings, IsOrder}
+use Rattle.ira_order.specs.Order.{occurrences, IsOrder}
 use Rattle.ira_order.specs.Counts.{IsKept, Covers, IsWholeSchedule}
 use Rattle.ira_order.specs.Cut.{HoldsAllBefore, IsCut, IsConsistentCut}
-use Rattle.ira_order.proofs.Ranks.{lt_cases, eq_cases, rank_mono, next_below, standings-take-le}
+use Rattle.ira_order.proofs.Ranks.{lt_cases, eq_cases, rank_mono, next_below, occurrences-take-le}
 use Rattle.ira_order.proofs.Bridge.{consistent_covers, covers_consistent, order_schedule, order_kept, kept_order, before_places}
 use Rattle.std.proofs.lemmas.List.{take-append-le, take_at}
 use Rattle.std.proofs.lemmas.List.Elements.{All-cons, All-head, All-tail, All-append}
 use Rattle.std.proofs.lemmas.List.Sums.{sum_by-cons, sum_by-append}
 use Rattle.std.proofs.lemmas.Bool.{ne_eqb, eq-eqb}
 
-pub cons_same : (i j : ℕ) (s : List ℕ) → i ≡ j → standings (i ∷ s) j ≡ 1 + standings s j
+pub cons_same : (i j : ℕ) (s : List ℕ) → i ≡ j → occurrences (i ∷ s) j ≡ 1 + occurrences s j
 cons_same i j s e = sum_by-cons _ i s ∙ rw (eq-eqb i j e) refl
 
-pub cons_other : (i j : ℕ) (s : List ℕ) → i ≢ j → standings (i ∷ s) j ≡ standings s j
+pub cons_other : (i j : ℕ) (s : List ℕ) → i ≢ j → occurrences (i ∷ s) j ≡ occurrences s j
 cons_other i j s e = sum_by-cons _ i s ∙ rw (ne_eqb i j e) (omega arith)
 
-pub standings-append : (a b : List ℕ) (i : ℕ) → standings (a ++ b) i ≡ standings a i + standings b i
-standings-append a b i = sum_by-append _ a b
+pub occurrences-append : (a b : List ℕ) (i : ℕ) → occurrences (a ++ b) i ≡ occurrences a i + occurrences b i
+occurrences-append a b i = sum_by-append _ a b
 
 -- one fewer of place i
 unfoldable pub less : (ℕ → ℕ) → ℕ → ℕ → ℕ
@@ -39,7 +39,7 @@ abbrev pub pick : ℕ → List ℕ → List ℕ → List ℕ
 pick zero a b = b
 pick (suc n) a b = a
 
--- the standings of an order that a cut holds, and the others, each in their order
+-- the places of an order that a cut holds, and the others, each in their order
 abbrev pub inside : (ℕ → ℕ) → List ℕ → List ℕ
 inside c [] = []
 inside c (i ∷ s) = pick (c i) (i ∷ inside (less c i) s) (inside c s)
@@ -52,7 +52,7 @@ zero_cases : (n : ℕ) → (n ≡ 0) ⊎ ((m : ℕ) × (n ≡ suc m))
 zero_cases zero = inl refl
 zero_cases (suc m) = inr (m, refl)
 
-pub inside_count : (c : ℕ → ℕ) (s : List ℕ) (j : ℕ) → standings (inside c s) j ≡ min (c j) (standings s j)
+pub inside_count : (c : ℕ → ℕ) (s : List ℕ) (j : ℕ) → occurrences (inside c s) j ≡ min (c j) (occurrences s j)
 inside_count c [] j = omega arith
 inside_count c (i ∷ s) j = elim (zero_cases (c i)) [
   | inl none ↦ rw none (elim (eq_cases i j) [
@@ -66,7 +66,7 @@ inside_count c (i ∷ s) j = elim (zero_cases (c i)) [
   ])
 ]
 
-pub outside_count : (c : ℕ → ℕ) (s : List ℕ) (j : ℕ) → standings (outside c s) j ≡ standings s j - c j
+pub outside_count : (c : ℕ → ℕ) (s : List ℕ) (j : ℕ) → occurrences (outside c s) j ≡ occurrences s j - c j
 outside_count c [] j = omega arith
 outside_count c (i ∷ s) j = elim (zero_cases (c i)) [
   | inl none ↦ rw none (elim (eq_cases i j) [
@@ -132,17 +132,17 @@ outside_all n c (i ∷ s) h = elim (zero_cases (c i)) [
 ]
 
 -- each beginning of the rearranged order is kept
-moved_kept : (logs : List Log) (c : ℕ → ℕ) (s : List ℕ) → IsKept logs s → Covers logs c → ((i : ℕ) → i < length logs → c i ≤ standings s i) → IsKept logs (inside c s ++ outside c s)
+moved_kept : (logs : List Log) (c : ℕ → ℕ) (s : List ℕ) → IsKept logs s → Covers logs c → ((i : ℕ) → i < length logs → c i ≤ occurrences s i) → IsKept logs (inside c s ++ outside c s)
 moved_kept logs c s kept covers within t lt = elim (lt_cases (length (inside c s)) t) [
   | inr early ↦
       let u = inside_take c s t early in
       rw (take-append-le t (inside c s) (outside c s) early, u.2)
-      (covers_between logs c (standings (take u.0 s)) (standings (inside c (take u.0 s))) covers (kept u.0 u.1)
+      (covers_between logs c (occurrences (take u.0 s)) (occurrences (inside c (take u.0 s))) covers (kept u.0 u.1)
       (λ i l.
       let lj : next (length logs) i < length logs = next_below (length logs) i l in
       let a = inside_count c (take u.0 s) i in
       let b = inside_count c (take u.0 s) (next (length logs) i) in
-      elim (lt_cases (c i) (standings (take u.0 s) i)) [
+      elim (lt_cases (c i) (occurrences (take u.0 s) i)) [
         | inl x ↦ inl (omega (arith, b), omega (arith, a))
         | inr x ↦ inr (omega (arith, b), omega (arith, a))
       ]))
@@ -152,29 +152,29 @@ moved_kept logs c s kept covers within t lt = elim (lt_cases (length (inside c s
       let u = outside_take c s (t - length (inside c s)) (omega (arith, total)) in
       let parts : take t (inside c s ++ outside c s) ≡ inside c s ++ outside c (take u.0 s) = take_over (inside c s) (outside c s) t (omega arith) ∙ ap (λ (x : List ℕ). inside c s ++ x) u.2 in
       rw parts
-      (covers_between logs c (standings (take u.0 s)) (standings (inside c s ++ outside c (take u.0 s))) covers (kept u.0 u.1)
+      (covers_between logs c (occurrences (take u.0 s)) (occurrences (inside c s ++ outside c (take u.0 s))) covers (kept u.0 u.1)
       (λ i l.
       let lj : next (length logs) i < length logs = next_below (length logs) i l in
       let j : ℕ = next (length logs) i in
-      let a : standings (inside c s ++ outside c (take u.0 s)) i ≡ min (c i) (standings s i) + (standings (take u.0 s) i - c i) = standings-append (inside c s) (outside c (take u.0 s)) i ∙ omega (arith, inside_count c s i, outside_count c (take u.0 s) i) in
-      let b : standings (inside c s ++ outside c (take u.0 s)) (next (length logs) i) ≡ min (c (next (length logs) i)) (standings s (next (length logs) i)) + (standings (take u.0 s) (next (length logs) i) - c (next (length logs) i)) =
-      standings-append (inside c s) (outside c (take u.0 s)) (next (length logs) i) ∙ omega (arith, inside_count c s (next (length logs) i), outside_count c (take u.0 s) (next (length logs) i)) in
+      let a : occurrences (inside c s ++ outside c (take u.0 s)) i ≡ min (c i) (occurrences s i) + (occurrences (take u.0 s) i - c i) = occurrences-append (inside c s) (outside c (take u.0 s)) i ∙ omega (arith, inside_count c s i, outside_count c (take u.0 s) i) in
+      let b : occurrences (inside c s ++ outside c (take u.0 s)) (next (length logs) i) ≡ min (c (next (length logs) i)) (occurrences s (next (length logs) i)) + (occurrences (take u.0 s) (next (length logs) i) - c (next (length logs) i)) =
+      occurrences-append (inside c s) (outside c (take u.0 s)) (next (length logs) i) ∙ omega (arith, inside_count c s (next (length logs) i), outside_count c (take u.0 s) (next (length logs) i)) in
       let wi = within i l in
       let wj = within (next (length logs) i) lj in
-      elim (lt_cases (c (next (length logs) i)) (standings (take u.0 s) (next (length logs) i))) [
+      elim (lt_cases (c (next (length logs) i)) (occurrences (take u.0 s) (next (length logs) i))) [
         | inl x ↦ inr (omega (arith, b), omega (arith, a))
         | inr x ↦ inl (omega (arith, b), omega (arith, a))
       ]))
 ]
 
 -- a consistent cut of logs that have an order is the counts of a beginning of an order
-pub cut_moment : (logs : List Log) (s cut : List ℕ) → 2 ≤ length logs → Matches logs → IsOrder logs s → IsCut logs cut → HoldsAllBefore logs (slice_index cut) → (o : List ℕ) × (t : ℕ) × IsOrder logs o × (t ≤ length o) × ((i : ℕ) → i < length logs → standings (take t o) i ≡ slice_index cut i)
+pub cut_moment : (logs : List Log) (s cut : List ℕ) → 2 ≤ length logs → Matches logs → IsOrder logs s → IsCut logs cut → HoldsAllBefore logs (slice_index cut) → (o : List ℕ) × (t : ℕ) × IsOrder logs o × (t ≤ length o) × ((i : ℕ) → i < length logs → occurrences (take t o) i ≡ slice_index cut i)
 cut_moment logs s cut two matches order is consistent =
     let c : ℕ → ℕ = slice_index cut in
     let w : IsWholeSchedule logs s = order_schedule logs s two matches order in
     let covers : Covers logs c = consistent_covers logs c matches is.within consistent in
-    let within : (i : ℕ) → i < length logs → c i ≤ standings s i = λ i l. omega (arith, is.within i l, order.whole i l) in
-    let all_counts : (i : ℕ) → i < length logs → standings (inside c s ++ outside c s) i ≡ standings s i = λ i l. standings-append (inside c s) (outside c s) i ∙ omega (arith, inside_count c s i, outside_count c s i, within i l) in (
+    let within : (i : ℕ) → i < length logs → c i ≤ occurrences s i = λ i l. omega (arith, is.within i l, order.whole i l) in
+    let all_counts : (i : ℕ) → i < length logs → occurrences (inside c s ++ outside c s) i ≡ occurrences s i = λ i l. occurrences-append (inside c s) (outside c s) i ∙ omega (arith, inside_count c s i, outside_count c s i, within i l) in (
       inside c s ++ outside c s,
       length (inside c s),
       kept_order logs (inside c s ++ outside c s) two record {
@@ -187,15 +187,15 @@ cut_moment logs s cut two matches order is consistent =
         whole = λ i l. all_counts i l ∙ order.whole i l;
       },
       omega (arith, length-append (inside c s) (outside c s)),
-      λ i l. ap (λ (x : List ℕ). standings x i) (take_at (inside c s) (outside c s) (length (inside c s)) refl) ∙ inside_count c s i ∙ omega (arith, within i l),
+      λ i l. ap (λ (x : List ℕ). occurrences x i) (take_at (inside c s) (outside c s) (length (inside c s)) refl) ∙ inside_count c s i ∙ omega (arith, within i l),
     )
 
 -- the numbers of the places in a beginning of an order are a consistent cut
-pub moment_cut : (logs : List Log) (order cut : List ℕ) (t : ℕ) → 2 ≤ length logs → Matches logs → IsOrder logs order → t ≤ length order → length cut ≡ length logs → ((i : ℕ) → i < length logs → slice_index cut i ≡ standings (take t order) i) → IsConsistentCut logs cut
+pub moment_cut : (logs : List Log) (order cut : List ℕ) (t : ℕ) → 2 ≤ length logs → Matches logs → IsOrder logs order → t ≤ length order → length cut ≡ length logs → ((i : ℕ) → i < length logs → slice_index cut i ≡ occurrences (take t order) i) → IsConsistentCut logs cut
 moment_cut logs order cut t two matches o lt long are = (
-  record { places = long; within = λ i l. omega (arith, are i l, standings-take-le order t i, o.whole i l) },
+  record { places = long; within = λ i l. omega (arith, are i l, occurrences-take-le order t i, o.whole i l) },
   λ i a j b before held.
       let p = before_places logs i a j b before in
-      let h : b ≤ standings (take t order) j = omega (arith, held, are j p.1) in
-      omega (arith, are i p.0, covers_consistent logs (standings (take t order)) (order_kept logs order two matches o t lt) i a j b before h),
+      let h : b ≤ occurrences (take t order) j = omega (arith, held, are j p.1) in
+      omega (arith, are i p.0, covers_consistent logs (occurrences (take t order)) (order_kept logs order two matches o t lt) i a j b before h),
 )

@@ -8,10 +8,10 @@ use Rattle.ira_order.specs.declared.order_fault.OrderFault.TheVariants.{Match, C
 use Rattle.ira_order.specs.Ring.{log_of}
 use Rattle.ira_order.specs.Matching.{Matches}
 use Rattle.ira_order.specs.MatchFault.{IsMatchFault}
-use Rattle.ira_order.specs.Order.{standings, IsOrder}
+use Rattle.ira_order.specs.Order.{occurrences, IsOrder}
 use Rattle.ira_order.specs.Circle.{HasCircle}
 use Rattle.ira_order.specs.Ordered.{IsOrdered}
-use Rattle.ira_order.specs.Scan.{IsScan, IsStuckAt}
+use Rattle.ira_order.specs.OrderPrefix.{IsOrderPrefix, IsStuckAt}
 use Rattle.ira_order.proofs.Faults.{one_fault, unmatched}
 use Rattle.ira_order.proofs.Rounds.{no_order, whole_order}
 
@@ -52,15 +52,15 @@ module _ {S T : Type 0} (r : Result T OrderFault) (f : OrderFault) (is : r ≡ E
         λ h. (let e : ◌≡◌ {A = Result S OrderFault} (Err f) (Err Circle) = (told other).1 h in let same : f ≡ Circle = cc in is ∙ ap Err same),
       )
 
-pub is_ordered : (logs : List Log) (done sents gots places : List ℕ) → Matches logs → IsScan logs done sents gots places → ((i : ℕ) → i < length logs → length (log_of logs i) ≤ get_or done i 0) → IsOrdered (record { logs = logs; schedule = places })
-is_ordered logs done sents gots places matches scan whole = record {
-  logs = scan.logs_are;
+pub is_ordered : (logs : List Log) (done sents gots places : List ℕ) → Matches logs → IsOrderPrefix logs done sents gots places → ((i : ℕ) → i < length logs → length (log_of logs i) ≤ get_or done i 0) → IsOrdered (record { logs = logs; schedule = places })
+is_ordered logs done sents gots places matches prefix whole = record {
+  logs = prefix.logs_are;
   matches = matches;
-  order = whole_order logs done sents gots places scan.logs_are.ring.0 matches scan whole;
+  order = whole_order logs done sents gots places prefix.logs_are.ring.0 matches prefix whole;
 }
 
-pub has_circle : (logs : List Log) (done sents gots places : List ℕ) → Matches logs → IsScan logs done sents gots places → ((i : ℕ) → i < length logs → IsStuckAt logs (standings places) i) → (i : ℕ) × (i < length logs) × (get_or done i 0 < length (log_of logs i)) → HasCircle logs
-has_circle logs done sents gots places matches scan stuck short = (
+pub has_circle : (logs : List Log) (done sents gots places : List ℕ) → Matches logs → IsOrderPrefix logs done sents gots places → ((i : ℕ) → i < length logs → IsStuckAt logs (occurrences places) i) → (i : ℕ) × (i < length logs) × (get_or done i 0 < length (log_of logs i)) → HasCircle logs
+has_circle logs done sents gots places matches prefix stuck short = (
   matches,
-  no_order logs done sents gots places scan.logs_are.ring.0 matches scan stuck short.0 short.1 short.2,
+  no_order logs done sents gots places prefix.logs_are.ring.0 matches prefix stuck short.0 short.1 short.2,
 )

@@ -7,9 +7,9 @@ use Rattle.ira_event.specs.Log.{Log}
 use Rattle.ira_event.specs.declared.event.Event.TheVariants.{Sent, Got, Draw}
 use Rattle.ira_order.specs.Ring.{log_of, next, numbered}
 use Rattle.ira_order.specs.Matching.{sent, got, sending, receipt, Matches}
-use Rattle.ira_order.specs.Order.{standings}
-use Rattle.ira_order.proofs.Ranks.{lt_cases, eq_cases, standings_same, standings_other}
-use Rattle.ira_order.proofs.Scanning.{rank_more}
+use Rattle.ira_order.specs.Order.{occurrences}
+use Rattle.ira_order.proofs.Ranks.{lt_cases, eq_cases, occurrences_same, occurrences_other}
+use Rattle.ira_order.proofs.OrderPrefixes.{rank_more}
 use Rattle.ira_order.proofs.Pairing.{numbered-within}
 
 -- a number that begins at most at a and ends above it passes it in one step
@@ -42,13 +42,13 @@ ranked h es n r d within high =
     record { place = c.0; below = c.1; rank = s.2; next_rank = omega (arith, more, s.2, one); message = s.0; is = s.1 }
 
 -- where a place stands for a given time
-pub stands : (order : List ℕ) (n i a : ℕ) → n ≤ length order → a < standings (take n order) i → (t : ℕ) × (t < n) × (get_or order t 0 ≡ i) × (standings (take t order) i ≡ a) × (standings (take (t + 1) order) i ≡ a + 1)
+pub stands : (order : List ℕ) (n i a : ℕ) → n ≤ length order → a < occurrences (take n order) i → (t : ℕ) × (t < n) × (get_or order t 0 ≡ i) × (occurrences (take t order) i ≡ a) × (occurrences (take (t + 1) order) i ≡ a + 1)
 stands order n i a within high =
-    let c = crossing (λ t. standings (take t order) i) n a (omega arith) high in
+    let c = crossing (λ t. occurrences (take t order) i) n a (omega arith) high in
     let here : c.0 < length order = omega (arith, c.1) in
     elim (eq_cases (get_or order c.0 0) i) [
-      | inl same ↦ (let more = standings_same order c.0 i here same in (c.0, c.1, same, omega (arith, more, c.2, c.3), omega (arith, more, c.2, c.3)))
-      | inr other ↦ absurd (omega (arith, standings_other order c.0 i here other, c.2, c.3))
+      | inl same ↦ (let more = occurrences_same order c.0 i here same in (c.0, c.1, same, omega (arith, more, c.2, c.3), omega (arith, more, c.2, c.3)))
+      | inr other ↦ absurd (omega (arith, occurrences_other order c.0 i here other, c.2, c.3))
     ]
 
 pub is_sending : (e : Event) (x : Msg) → sending e ≡ Some x → e ≡ Sent x

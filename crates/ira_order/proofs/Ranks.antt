@@ -1,7 +1,7 @@
 -- How many receipts or sendings a beginning of a log has, and how often a beginning of an order names a place.
 use Rattle.std.proofs.Common.{◌≡◌, ◌≢◌, ℕ, zero, suc, ◌+◌, ◌<◌, ◌≤◌, ◌⊎◌, inl, inr, List, [], ◌∷◌, ◌++◌, length, sym, ◌∙◌, ap, arith, drop, Option, Some, None, get_or, take, ◌==◌}
 use Rattle.ira_order.specs.Ring.{next}
-use Rattle.ira_order.specs.Order.{standings}
+use Rattle.ira_order.specs.Order.{occurrences}
 use Rattle.ira_event.specs.declared.event.Event.{Event}
 use Rattle.ira_event.specs.declared.msg.Msg.{Msg}
 use Rattle.std.specs.List.{filter_map, cons_option}
@@ -41,19 +41,19 @@ rank_mono h (e ∷ es) (suc m) (suc n) l = longer (h e) _ _ (rank_mono h es m n 
     longer (Some x) xs ys q = omega (arith, q)
 
 -- one more standing
-pub standings_same : (order : List ℕ) (t i : ℕ) → t < length order → get_or order t 0 ≡ i → standings (take (t + 1) order) i ≡ standings (take t order) i + 1
-standings_same order t i l e = count_by_more_yes (λ p. p == i) order t 0 l (grind (arith, nat_tests))
+pub occurrences_same : (order : List ℕ) (t i : ℕ) → t < length order → get_or order t 0 ≡ i → occurrences (take (t + 1) order) i ≡ occurrences (take t order) i + 1
+occurrences_same order t i l e = count_by_more_yes (λ p. p == i) order t 0 l (grind (arith, nat_tests))
 
-pub standings_other : (order : List ℕ) (t i : ℕ) → t < length order → get_or order t 0 ≢ i → standings (take (t + 1) order) i ≡ standings (take t order) i
-standings_other order t i l e = count_by_more_no (λ p. p == i) order t 0 l (ne_eqb (get_or order t 0) i e)
+pub occurrences_other : (order : List ℕ) (t i : ℕ) → t < length order → get_or order t 0 ≢ i → occurrences (take (t + 1) order) i ≡ occurrences (take t order) i
+occurrences_other order t i l e = count_by_more_no (λ p. p == i) order t 0 l (ne_eqb (get_or order t 0) i e)
 
-pub standings-take-le : (order : List ℕ) (t i : ℕ) → standings (take t order) i ≤ standings order i
-standings-take-le order t i = sum_by-take-le _ order t
+pub occurrences-take-le : (order : List ℕ) (t i : ℕ) → occurrences (take t order) i ≤ occurrences order i
+occurrences-take-le order t i = sum_by-take-le _ order t
 
-pub standings_mono : (order : List ℕ) (s t i : ℕ) → s ≤ t → standings (take s order) i ≤ standings (take t order) i
-standings_mono order s t i l =
+pub occurrences_mono : (order : List ℕ) (s t i : ℕ) → s ≤ t → occurrences (take s order) i ≤ occurrences (take t order) i
+occurrences_mono order s t i l =
     let e : take s (take t order) ≡ take s order = take-take s t order l in
-    let le : standings (take s (take t order)) i ≤ standings (take t order) i = standings-take-le (take t order) s i in
+    let le : occurrences (take s (take t order)) i ≤ occurrences (take t order) i = occurrences-take-le (take t order) s i in
     rw e at le
 
 -- a ring of two or more has no link from a node to itself

@@ -10,7 +10,7 @@ use Rattle.ira_order.specs.Matching.{got, receipt}
 use Rattle.ira_order.specs.VectorClock.{receipt_count}
 use Rattle.ira_order.specs.Stamps.{receipts_by, first_receipt, AreReceipts, AreReceiptsOf, AreBegins}
 use Rattle.ira_order.proofs.Ranks.{lt_cases, eq_cases, rank_mono}
-use Rattle.ira_order.proofs.Scanning.{rank_le, rank_more}
+use Rattle.ira_order.proofs.OrderPrefixes.{rank_le, rank_more}
 use Rattle.std.specs.Prelude.{slice_get}
 use Rattle.ira_event.specs.declared.msg.Msg.{Msg}
 use Rattle.ira_event.specs.declared.event.Event.TheVariants.{Sent}

@@ -1,4 +1,4 @@
--- Rounds of a scan, and their end.
+-- Rounds that add events to the beginning of an order, and their end.
 use Rattle.std.proofs.Common.{◌≡◌, ℕ, zero, suc, ◌+◌, ◌<◌, ◌≤◌, inl, inr, List, [], ◌∷◌, ◌++◌, length, refl, sym, ◌∙◌, ap, arith, get_or, append_assoc, append-nil, length-append, sum, take, replicate, subst, zero-add}
 use Rattle.std.proofs.lemmas.List.{get_or-replicate, length-replicate}
 use Rattle.std.proofs.lemmas.List.Elements.{All-nil}
@@ -7,9 +7,9 @@ use Rattle.ira_event.specs.Log.{Log}
 use Rattle.ira_event.specs.Logs.{AreLogs}
 use Rattle.ira_order.specs.Ring.{log_of, next}
 use Rattle.ira_order.specs.Matching.{sent, got, Matches}
-use Rattle.ira_order.specs.Order.{standings, IsOrder}
+use Rattle.ira_order.specs.Order.{occurrences, IsOrder}
 use Rattle.ira_order.specs.Counts.{IsSchedule, IsWhole, IsWholeSchedule}
-use Rattle.ira_order.specs.Scan.{IsScan, HasGrown, IsStuckAt}
+use Rattle.ira_order.specs.OrderPrefix.{IsOrderPrefix, HasGrown, IsStuckAt}
 use Rattle.ira_order.proofs.Bridge.{kept_order, order_schedule}
 use Rattle.ira_order.proofs.Ranks.{lt_cases}
 use Rattle.ira_order.proofs.Stuck.{all_below}
@@ -31,14 +31,14 @@ has_grown_same a b g l =
     g.1 ∙ ap (λ (x : List ℕ). a ++ x) (nil_from_length g.0 none) ∙ append-nil a
 
 -- a place more without a step
-pub stuck_more : (logs : List Log) (first old new : List ℕ) (i : ℕ) → HasGrown first old → HasGrown old new → (length old ≡ length first → (j : ℕ) → j < i → IsStuckAt logs (standings old) j) → IsStuckAt logs (standings new) i → length new ≡ length first → (j : ℕ) → j < i + 1 → IsStuckAt logs (standings new) j
+pub stuck_more : (logs : List Log) (first old new : List ℕ) (i : ℕ) → HasGrown first old → HasGrown old new → (length old ≡ length first → (j : ℕ) → j < i → IsStuckAt logs (occurrences old) j) → IsStuckAt logs (occurrences new) i → length new ≡ length first → (j : ℕ) → j < i + 1 → IsStuckAt logs (occurrences new) j
 stuck_more logs first old new i f g before here e j l =
     let a = has_grown_length first old f in
     let b = has_grown_length old new g in
     let same : new ≡ old = has_grown_same old new g (omega arith) in
     elim (lt_cases j i) [
-      | inl lower ↦ (let P : List ℕ → Type 0 = λ x. IsStuckAt logs (standings x) j in subst P (sym same) (before (omega arith) j lower))
-      | inr top ↦ (let at : i ≡ j = omega arith in let P : ℕ → Type 0 = λ x. IsStuckAt logs (standings new) x in subst P at here)
+      | inl lower ↦ (let P : List ℕ → Type 0 = λ x. IsStuckAt logs (occurrences x) j in subst P (sym same) (before (omega arith) j lower))
+      | inr top ↦ (let at : i ≡ j = omega arith in let P : ℕ → Type 0 = λ x. IsStuckAt logs (occurrences new) x in subst P at here)
     ]
 
 -- how many events a log has
@@ -52,31 +52,31 @@ sum_within (d ∷ done) [] e w = absurd (omega arith)
 sum_within (d ∷ done) (log ∷ logs) e w =
     omega (arith, sum_by-cons (λ (x : ℕ). x) d done, sum_by-cons event_count log logs, w 0 (omega arith), sum_within done logs (omega arith) (λ i l. w (suc i) (omega arith)))
 
-pub few_places : (logs : List Log) (done sents gots places : List ℕ) → IsScan logs done sents gots places → length places ≤ sum_by event_count logs
-few_places logs done sents gots places scan =
-    omega (arith, scan.total, sum_within done logs scan.all_done (λ i l. omega (arith, scan.done_is i l, scan.schedule.within i l)))
+pub few_places : (logs : List Log) (done sents gots places : List ℕ) → IsOrderPrefix logs done sents gots places → length places ≤ sum_by event_count logs
+few_places logs done sents gots places prefix =
+    omega (arith, prefix.total, sum_within done logs prefix.all_done (λ i l. omega (arith, prefix.done_is i l, prefix.schedule.within i l)))
 
--- the end of a scan that went through every log
-pub whole_end : (logs : List Log) (done sents gots places : List ℕ) → IsScan logs done sents gots places → ((i : ℕ) → i < length logs → length (log_of logs i) ≤ get_or done i 0) → IsWhole logs places
-whole_end logs done sents gots places scan w i l = omega (arith, w i l, scan.done_is i l, scan.schedule.within i l)
+-- the beginning of an order that holds every log whole
+pub whole_end : (logs : List Log) (done sents gots places : List ℕ) → IsOrderPrefix logs done sents gots places → ((i : ℕ) → i < length logs → length (log_of logs i) ≤ get_or done i 0) → IsWhole logs places
+whole_end logs done sents gots places prefix w i l = omega (arith, w i l, prefix.done_is i l, prefix.schedule.within i l)
 
--- the end of a scan that is stuck before the end of a log
-pub circle_end : (logs : List Log) (done sents gots places : List ℕ) → 2 ≤ length logs → IsScan logs done sents gots places → ((i : ℕ) → i < length logs → IsStuckAt logs (standings places) i) → (i : ℕ) → i < length logs → get_or done i 0 < length (log_of logs i) → (order : List ℕ) → IsSchedule logs order → IsWhole logs order → ⊥
-circle_end logs done sents gots places two scan stuck i l short order schedule whole =
-    omega (arith, all_below logs order (standings places) two schedule.places schedule.within schedule.kept stuck i l, whole i l, scan.done_is i l)
+-- the beginning of an order that is stuck before the end of a log
+pub circle_end : (logs : List Log) (done sents gots places : List ℕ) → 2 ≤ length logs → IsOrderPrefix logs done sents gots places → ((i : ℕ) → i < length logs → IsStuckAt logs (occurrences places) i) → (i : ℕ) → i < length logs → get_or done i 0 < length (log_of logs i) → (order : List ℕ) → IsSchedule logs order → IsWhole logs order → ⊥
+circle_end logs done sents gots places two prefix stuck i l short order schedule whole =
+    omega (arith, all_below logs order (occurrences places) two schedule.places schedule.within schedule.kept stuck i l, whole i l, prefix.done_is i l)
 
 -- the same of orders as the contract says them
-pub whole_order : (logs : List Log) (done sents gots places : List ℕ) → 2 ≤ length logs → Matches logs → IsScan logs done sents gots places → ((i : ℕ) → i < length logs → length (log_of logs i) ≤ get_or done i 0) → IsOrder logs places
-whole_order logs done sents gots places two matches scan w =
-    kept_order logs places two record { matches = matches; schedule = scan.schedule; whole = whole_end logs done sents gots places scan w }
+pub whole_order : (logs : List Log) (done sents gots places : List ℕ) → 2 ≤ length logs → Matches logs → IsOrderPrefix logs done sents gots places → ((i : ℕ) → i < length logs → length (log_of logs i) ≤ get_or done i 0) → IsOrder logs places
+whole_order logs done sents gots places two matches prefix w =
+    kept_order logs places two record { matches = matches; schedule = prefix.schedule; whole = whole_end logs done sents gots places prefix w }
 
-pub no_order : (logs : List Log) (done sents gots places : List ℕ) → 2 ≤ length logs → Matches logs → IsScan logs done sents gots places → ((i : ℕ) → i < length logs → IsStuckAt logs (standings places) i) → (i : ℕ) → i < length logs → get_or done i 0 < length (log_of logs i) → (order : List ℕ) → IsOrder logs order → ⊥
-no_order logs done sents gots places two matches scan stuck i l short order o =
+pub no_order : (logs : List Log) (done sents gots places : List ℕ) → 2 ≤ length logs → Matches logs → IsOrderPrefix logs done sents gots places → ((i : ℕ) → i < length logs → IsStuckAt logs (occurrences places) i) → (i : ℕ) → i < length logs → get_or done i 0 < length (log_of logs i) → (order : List ℕ) → IsOrder logs order → ⊥
+no_order logs done sents gots places two matches prefix stuck i l short order o =
     (let w : IsWholeSchedule logs order = order_schedule logs order two matches o in
-    circle_end logs done sents gots places two scan stuck i l short order w.schedule w.whole)
+    circle_end logs done sents gots places two prefix stuck i l short order w.schedule w.whole)
 
--- a scan that has taken no step
-pub no_step_yet : (logs : List Log) → AreLogs logs → IsScan logs (replicate (length logs) 0) (replicate (length logs) 0) (replicate (length logs) 0) []
+-- the beginning of an order without an event
+pub no_step_yet : (logs : List Log) → AreLogs logs → IsOrderPrefix logs (replicate (length logs) 0) (replicate (length logs) 0) (replicate (length logs) 0) []
 no_step_yet logs are = record {
   logs_are = are;
   all_done = length-replicate (length logs) 0;
@@ -97,6 +97,6 @@ no_step_yet logs are = record {
     none zero = refl
     none (suc n) = sum_by-cons (λ (x : ℕ). x) 0 (replicate n 0) ∙ zero-add (sum (replicate n 0)) ∙ none n
 
-    empty : (t : ℕ) → t ≤ 0 → (i : ℕ) → length (got (take (standings (take t []) (next (length logs) i)) (log_of logs (next (length logs) i)))) ≤ length (sent (take (standings (take t []) i) (log_of logs i)))
+    empty : (t : ℕ) → t ≤ 0 → (i : ℕ) → length (got (take (occurrences (take t []) (next (length logs) i)) (log_of logs (next (length logs) i)))) ≤ length (sent (take (occurrences (take t []) i) (log_of logs i)))
     empty zero h i = omega arith
     empty (suc t) h i = absurd (omega arith)

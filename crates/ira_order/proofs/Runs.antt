@@ -8,11 +8,11 @@ use Rattle.ira_event.specs.Log.{Log}
 use Rattle.ira_event.specs.declared.event.Event.TheVariants.{Sent, Got, Draw}
 use Rattle.ira_order.specs.Ring.{log_of, next, prev, numbered}
 use Rattle.ira_order.specs.Matching.{sent, got, sending, receipt, Matches}
-use Rattle.ira_order.specs.Order.{standings}
+use Rattle.ira_order.specs.Order.{occurrences}
 use Rattle.ira_order.specs.Counts.{Covers, IsWholeSchedule}
 use Rattle.ira_order.specs.Run.{Configuration, LinkStep, RingStep, Chains}
-use Rattle.ira_order.proofs.Ranks.{filter_map_more, filter_map_split, lt_cases, eq_cases, standings_same, standings_other, next_other}
-use Rattle.ira_order.proofs.Scanning.{rank_more}
+use Rattle.ira_order.proofs.Ranks.{filter_map_more, filter_map_split, lt_cases, eq_cases, occurrences_same, occurrences_other, next_other}
+use Rattle.ira_order.proofs.OrderPrefixes.{rank_more}
 use Rattle.ira_order.proofs.Pairing.{numbered-append, numbered-after}
 use Rattle.ira_node.specs.declared.node_state.NodeState.{NodeState}
 use Rattle.ira_node.specs.NodeStep.{NodeStep}
@@ -118,7 +118,7 @@ cons_nil x r h = cc
 -- the run has the order's places, and each entry is the event that its place means there
 pub record Means (logs : List Log) (order : List ℕ) (run : List (ℕ × Event)) : Type 0 where
   pub many : length run ≡ length order
-  pub each : (t i : ℕ) (e : Event) → slice_get run t ≡ Some (i, e) → (slice_get order t ≡ Some i) × (slice_get (log_of logs i) (standings (take t order) i) ≡ Some e)
+  pub each : (t i : ℕ) (e : Event) → slice_get run t ≡ Some (i, e) → (slice_get order t ≡ Some i) × (slice_get (log_of logs i) (occurrences (take t order) i) ≡ Some e)
 
 module _ (logs : List Log) (order : List ℕ) (run : List (ℕ × Event)) (states : ℕ → ℕ → NodeState)
     (two : 2 ≤ length logs)
@@ -128,23 +128,23 @@ module _ (logs : List Log) (order : List ℕ) (run : List (ℕ × Event)) (state
   config : (ℕ → ℕ) → Configuration
   config at = record { state = λ j. states j (at j); link = on_link logs at }
 
-  ring_step : (t i : ℕ) (e : Event) → slice_get run t ≡ Some (i, e) → RingStep (length logs) i e (config (standings (take t order))) (config (standings (take (t + 1) order)))
+  ring_step : (t i : ℕ) (e : Event) → slice_get run t ≡ Some (i, e) → RingStep (length logs) i e (config (occurrences (take t order))) (config (occurrences (take (t + 1) order)))
   unfolding config
   ring_step t i e at =
       let m = means.each t i e at in
       let lt : t < length order = slice_get_within order t i m.0 in
       let at_t : get_or order t 0 ≡ i = get_or_from_slice_get order t i 0 m.0 in
       let here : i < length logs = rw at_t at (w.schedule.places t 0 lt) in
-      let more : standings (take (t + 1) order) i ≡ standings (take t order) i + 1 = standings_same order t i lt at_t in
-      let same : (j : ℕ) → j ≢ i → standings (take (t + 1) order) j ≡ standings (take t order) j = λ j ne. standings_other order t j lt (λ q. ne (sym q ∙ at_t)) in
+      let more : occurrences (take (t + 1) order) i ≡ occurrences (take t order) i + 1 = occurrences_same order t i lt at_t in
+      let same : (j : ℕ) → j ≢ i → occurrences (take (t + 1) order) j ≡ occurrences (take t order) j = λ j ne. occurrences_other order t j lt (λ q. ne (sym q ∙ at_t)) in
       record {
         place = here;
-        node = rw (more, add-one (standings (take t order) i)) (local i here (standings (take t order) i) e m.1);
+        node = rw (more, add-one (occurrences (take t order) i)) (local i here (occurrences (take t order) i) e m.1);
         others = λ j lj ne. ap (states j) (same j ne);
-        links = links logs (standings (take t order)) (standings (take (t + 1) order)) i e two here m.1 more same e refl w.matches (w.schedule.kept t (omega arith)) (w.schedule.kept (t + 1) (omega arith));
+        links = links logs (occurrences (take t order)) (occurrences (take (t + 1) order)) i e two here m.1 more same e refl w.matches (w.schedule.kept t (omega arith)) (w.schedule.kept (t + 1) (omega arith));
       }
 
-  chains : (r : List (ℕ × Event)) (t : ℕ) → r ≡ drop t run → Chains (length logs) (config (standings (take t order))) r
+  chains : (r : List (ℕ × Event)) (t : ℕ) → r ≡ drop t run → Chains (length logs) (config (occurrences (take t order))) r
   chains [] t is = tt
   chains (x ∷ r) t is = elim (lt_cases t (length run)) [
     | inr past ↦ (let none : drop t run ≡ [] = drop_all t run past in absurd (cons_nil x r (is ∙ none)))
@@ -154,7 +154,7 @@ module _ (logs : List Log) (order : List ℕ) (run : List (ℕ × Event)) (state
         let head : x ≡ get_or run t x = cc in
         let tail : r ≡ drop (t + 1) run = cc in
         let at : slice_get run t ≡ Some x = slice_get-get_or run t x here ∙ ap Some (sym head) in
-        (config (standings (take (t + 1) order)), ring_step t x.0 x.1 at, chains r (t + 1) tail)
+        (config (occurrences (take (t + 1) order)), ring_step t x.0 x.1 at, chains r (t + 1) tail)
   ]
 
   -- the run that an order means chains from the opening configuration

@@ -20,7 +20,7 @@ use Rattle.ira_order.specs.RunsOfLogs.{EveryOrderIsRun, HaveNoRun}
 use Rattle.ira_order.proofs.Faults.{unmatched}
 use Rattle.ira_order.specs.Ring.{log_of, events_of}
 use Rattle.ira_order.specs.Matching.{Matches}
-use Rattle.ira_order.specs.Order.{standings, IsOrder}
+use Rattle.ira_order.specs.Order.{occurrences, IsOrder}
 use Rattle.ira_order.specs.Counts.{IsWhole, IsWholeSchedule}
 use Rattle.ira_order.specs.Run.{Configuration, Chains, opening, is_initiator, event_of, IsRingRun, IsRunOfLogs, AreLocalRuns, places_of}
 use Rattle.ira_order.proofs.Ranks.{eq_cases}
@@ -49,7 +49,7 @@ other_cons : (x : ℕ × Event) (run : List (ℕ × Event)) (i : ℕ) → x.0 �
 other_cons x run i e = ap (λ (o : Option Event). cons_option o (filter_map (event_of i) run)) (event_no x.0 i x.1 e)
 
 -- a place stands as often as it has events
-counted : (run : List (ℕ × Event)) (i : ℕ) → standings (places_of run) i ≡ length (filter_map (event_of i) run)
+counted : (run : List (ℕ × Event)) (i : ℕ) → occurrences (places_of run) i ≡ length (filter_map (event_of i) run)
 counted [] i = refl
 counted (x ∷ run) i = elim (eq_cases x.0 i) [
   | inl e ↦ omega (arith, cons_same x.0 i (places_of run) e, counted run i, ap length (own_cons x run i e))
@@ -57,7 +57,7 @@ counted (x ∷ run) i = elim (eq_cases x.0 i) [
 ]
 
 -- an entry is the event of its number
-entry : (run : List (ℕ × Event)) (t i : ℕ) (e : Event) → slice_get run t ≡ Some (i, e) → slice_get (filter_map (event_of i) run) (standings (take t (places_of run)) i) ≡ Some e
+entry : (run : List (ℕ × Event)) (t i : ℕ) (e : Event) → slice_get run t ≡ Some (i, e) → slice_get (filter_map (event_of i) run) (occurrences (take t (places_of run)) i) ≡ Some e
 entry [] t i e h = cc
 entry (x ∷ run) zero i e h =
     let is : x ≡ (i, e) = cc in
@@ -66,7 +66,7 @@ entry (x ∷ run) zero i e h =
     rw (own_cons x run i own) (ap Some event)
 entry (x ∷ run) (suc t) i e h = elim (eq_cases x.0 i) [
   | inl own ↦
-      let more : standings (x.0 ∷ take t (places_of run)) i ≡ suc (standings (take t (places_of run)) i) = omega (arith, cons_same x.0 i (take t (places_of run)) own) in
+      let more : occurrences (x.0 ∷ take t (places_of run)) i ≡ suc (occurrences (take t (places_of run)) i) = omega (arith, cons_same x.0 i (take t (places_of run)) own) in
       rw (more, own_cons x run i own) (entry run t i e h)
   | inr ne ↦ rw (cons_other x.0 i (take t (places_of run)) ne, other_cons x run i ne) (entry run t i e h)
 ]
@@ -92,7 +92,7 @@ meant_places logs at [] = refl
 meant_places logs at (i ∷ order) = ap (λ (x : List ℕ). i ∷ x) (meant_places logs (more_of at i) order)
 
 -- the events of node j are those of its log from the one behind (at j) on
-meant_events : (logs : List Log) (at : ℕ → ℕ) (order : List ℕ) (j : ℕ) → at j + standings order j ≤ length (log_of logs j) → filter_map (event_of j) (meant logs at order) ≡ take (standings order j) (drop (at j) (log_of logs j))
+meant_events : (logs : List Log) (at : ℕ → ℕ) (order : List ℕ) (j : ℕ) → at j + occurrences order j ≤ length (log_of logs j) → filter_map (event_of j) (meant logs at order) ≡ take (occurrences order j) (drop (at j) (log_of logs j))
 meant_events logs at [] j fits = refl
 meant_events logs at (i ∷ order) j fits = elim (eq_cases i j) [
   | inl e ↦
@@ -100,20 +100,20 @@ meant_events logs at (i ∷ order) j fits = elim (eq_cases i j) [
       let next : more_of at i j ≡ at j + 1 = more_yes at i j e in
       let room : at j < length (log_of logs j) = omega (arith, more, fits) in
       let here : get_or (log_of logs i) (at i) (Draw 0) ≡ get_or (log_of logs j) (at j) (Draw 0) = ap (λ (x : ℕ). get_or (log_of logs x) (at x) (Draw 0)) e in
-      let rest : filter_map (event_of j) (meant logs (more_of at i) order) ≡ take (standings order j) (drop (at j + 1) (log_of logs j)) =
-      meant_events logs (more_of at i) order j (omega (arith, next, more, fits)) ∙ ap (λ (x : ℕ). take (standings order j) (drop x (log_of logs j))) next in
-      let number : standings (i ∷ order) j ≡ suc (standings order j) = omega (arith, more) in
+      let rest : filter_map (event_of j) (meant logs (more_of at i) order) ≡ take (occurrences order j) (drop (at j + 1) (log_of logs j)) =
+      meant_events logs (more_of at i) order j (omega (arith, next, more, fits)) ∙ ap (λ (x : ℕ). take (occurrences order j) (drop x (log_of logs j))) next in
+      let number : occurrences (i ∷ order) j ≡ suc (occurrences order j) = omega (arith, more) in
       own_cons (i, get_or (log_of logs i) (at i) (Draw 0)) (meant logs (more_of at i) order) j e
       ∙ ap (λ (x : List Event). get_or (log_of logs i) (at i) (Draw 0) ∷ x) rest
-      ∙ ap (λ (x : Event). x ∷ take (standings order j) (drop (at j + 1) (log_of logs j))) here
-      ∙ ap (take (suc (standings order j))) (sym (drop_more (log_of logs j) (at j) (Draw 0) room))
+      ∙ ap (λ (x : Event). x ∷ take (occurrences order j) (drop (at j + 1) (log_of logs j))) here
+      ∙ ap (take (suc (occurrences order j))) (sym (drop_more (log_of logs j) (at j) (Draw 0) room))
       ∙ ap (λ (x : ℕ). take x (drop (at j) (log_of logs j))) (sym number)
   | inr ne ↦
       let same : more_of at i j ≡ at j = more_no at i j ne in
       let number = cons_other i j order ne in
       other_cons (i, get_or (log_of logs i) (at i) (Draw 0)) (meant logs (more_of at i) order) j ne
       ∙ meant_events logs (more_of at i) order j (omega (arith, same, number, fits))
-      ∙ ap (λ (x : ℕ). take (standings order j) (drop x (log_of logs j))) same
+      ∙ ap (λ (x : ℕ). take (occurrences order j) (drop x (log_of logs j))) same
       ∙ ap (λ (x : ℕ). take x (drop (at j) (log_of logs j))) (sym number)
 ]
 
@@ -124,7 +124,7 @@ order_means logs order o = (
     meant_places logs (λ i. 0) order,
     λ i l.
         meant_events logs (λ i. 0) order i (omega (arith, o.whole i l))
-        ∙ take_all (standings order i) (log_of logs i) (omega (arith, o.whole i l)),
+        ∙ take_all (occurrences order i) (log_of logs i) (omega (arith, o.whole i l)),
   ),
 )
 

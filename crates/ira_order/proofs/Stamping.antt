@@ -14,7 +14,7 @@ use Rattle.ira_order.specs.Counts.{Covers}
 use Rattle.ira_order.specs.VectorClock.{IsCount, AreCountsOfOthers, receipt_count}
 use Rattle.ira_order.specs.Stamps.{receipts_by, first_receipt, counter, CountsAt, CountsSent, AreStamps, IsStamping}
 use Rattle.ira_order.proofs.Ranks.{lt_cases, eq_cases, rank_mono, next_below, next_other}
-use Rattle.ira_order.proofs.Scanning.{rank_more}
+use Rattle.ira_order.proofs.OrderPrefixes.{rank_more}
 use Rattle.ira_order.proofs.Runs.{prev_next}
 use Rattle.ira_order.proofs.Counting.{count_own, count_stays, count_taken, counts_all}
 use Rattle.ira_order.proofs.Receipts.{receipts_by_le, receipt_below, few_receipts, apart}

@@ -4,7 +4,7 @@ use Rattle.std.specs.Prelude.{◌≡◌, ℕ, ◌+◌, ◌<◌, ◌≤◌, List,
 use Rattle.ira_event.specs.Log.{Log}
 use Rattle.ira_order.specs.Ring.{next, log_of}
 use Rattle.ira_order.specs.Matching.{Matches, sent, got}
-use Rattle.ira_order.specs.Order.{standings}
+use Rattle.ira_order.specs.Order.{occurrences}
 
 -- on each link at most as many receipts as sendings, where node i has made (at i) events
 abbrev pub Covers : List Log → (ℕ → ℕ) → Type 0
@@ -13,12 +13,12 @@ Covers logs at =
 
 -- the same of each beginning of a list of places
 abbrev pub IsKept : List Log → List ℕ → Type 0
-IsKept logs order = (t : ℕ) → t ≤ length order → Covers logs (standings (take t order))
+IsKept logs order = (t : ℕ) → t ≤ length order → Covers logs (occurrences (take t order))
 
 -- a list of places that may be gone along, whether or not it is whole
 pub record IsSchedule (logs : List Log) (order : List ℕ) : Type 0 where
   pub places : All (λ p. p < length logs) order
-  pub within : (i : ℕ) → i < length logs → standings order i ≤ length (log_of logs i)
+  pub within : (i : ℕ) → i < length logs → occurrences order i ≤ length (log_of logs i)
   pub kept : IsKept logs order
 
 -- the next event of node i may come: there is one, and if it is a receipt, it is covered
@@ -28,7 +28,7 @@ IsReady logs at i =
 
 -- each place stands as often as its log has events
 abbrev pub IsWhole : List Log → List ℕ → Type 0
-IsWhole logs order = (i : ℕ) → i < length logs → standings order i ≡ length (log_of logs i)
+IsWhole logs order = (i : ℕ) → i < length logs → occurrences order i ≡ length (log_of logs i)
 
 -- an order of logs that match
 pub record IsWholeSchedule (logs : List Log) (order : List ℕ) : Type 0 where

@@ -11,7 +11,7 @@ use Rattle.ira_order.specs.MatchFault.{IsMatchFault}
 use Rattle.ira_order.specs.Circle.{HasOrder, HasCircle}
 use Rattle.ira_order.specs.Before.{Before}
 use Rattle.ira_order.specs.Ring.{log_of}
-use Rattle.ira_order.specs.Order.{IsOrder, standings}
+use Rattle.ira_order.specs.Order.{IsOrder, occurrences}
 use Rattle.ira_order.specs.Cut.{IsConsistentCut, IsJoin, IsMeet}
 use Rattle.ira_order.specs.VectorClock.{AreCounts}
 use Rattle.ira_order.specs.Run.{IsRingRun, IsRunOfLogs, AreLocalRuns, places_of}
@@ -50,7 +50,7 @@ FaultyLogsHaveNoRun =
 abbrev pub MomentsAreCuts : Type 0
 MomentsAreCuts =
     (logs : List Log) (order cut : List ℕ) (t : ℕ) → AreLogs logs → Matches logs → IsOrder logs order → t ≤ length order
-    → length cut ≡ length logs → ((i : ℕ) → i < length logs → slice_index cut i ≡ standings (take t order) i)
+    → length cut ≡ length logs → ((i : ℕ) → i < length logs → slice_index cut i ≡ occurrences (take t order) i)
     → IsConsistentCut logs cut
 
 -- each consistent cut of logs that have an order is how often each place stands in a beginning of
@@ -58,7 +58,7 @@ MomentsAreCuts =
 abbrev pub CutsAreMoments : Type 0
 CutsAreMoments =
     (logs : List Log) (order cut : List ℕ) → AreLogs logs → Matches logs → IsOrder logs order → IsConsistentCut logs cut
-    → (other : List ℕ) × (t : ℕ) × IsOrder logs other × (t ≤ length other) × ((i : ℕ) → i < length logs → slice_index cut i ≡ standings (take t other) i)
+    → (other : List ℕ) × (t : ℕ) × IsOrder logs other × (t ≤ length other) × ((i : ℕ) → i < length logs → slice_index cut i ≡ occurrences (take t other) i)
 
 -- in logs that have an order each event has its counts, and so has the beginning of each log
 abbrev pub EventsHaveCounts : Type 0

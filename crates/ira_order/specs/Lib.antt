@@ -10,6 +10,6 @@ pub mod Ordered
 pub mod Ring
 pub mod Run
 pub mod RunsOfLogs
-pub mod Scan
+pub mod OrderPrefix
 pub mod Stamps
 pub mod VectorClock

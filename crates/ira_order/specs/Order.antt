@@ -9,12 +9,12 @@ use Rattle.ira_order.specs.Ring.{next, log_of, numbered}
 use Rattle.ira_order.specs.Matching.{sent, got}
 
 -- how often place i stands in a list of places
-abbrev pub standings : List ℕ → ℕ → ℕ
-standings places i = count_by (λ p. p == i) places
+abbrev pub occurrences : List ℕ → ℕ → ℕ
+occurrences places i = count_by (λ p. p == i) places
 
 -- at position t, counted from 0, place i stands for the a-th time, and so means event a of node i
 abbrev pub StandsAt : List ℕ → ℕ → ℕ → ℕ → Type 0
-StandsAt places t i a = (slice_get places t ≡ Some i) × (standings (take t places) i + 1 ≡ a)
+StandsAt places t i a = (slice_get places t ≡ Some i) × (occurrences (take t places) i + 1 ≡ a)
 
 -- event a of node i is a sending, event b of the next node is a receipt, and each is the k-th of its
 -- kind in its log, for one k
@@ -30,5 +30,5 @@ pub record IsPair (logs : List Log) (i a b : ℕ) : Type 0 where
 -- its sending
 pub record IsOrder (logs : List Log) (order : List ℕ) : Type 0 where
   pub places : All (λ p. p < length logs) order
-  pub whole : (i : ℕ) → i < length logs → standings order i ≡ length (log_of logs i)
+  pub whole : (i : ℕ) → i < length logs → occurrences order i ≡ length (log_of logs i)
   pub after : (i a b s t : ℕ) → IsPair logs i a b → StandsAt order s i a → StandsAt order t (next (length logs) i) b → s < t

@@ -7,8 +7,8 @@ ghost use Rattle.ira_order.specs.Ordered.{IsOrdered};
 
 use crate::links::match_links;
 use crate::order_fault::OrderFault;
+use crate::order_prefix::OrderPrefix;
 use crate::ordered::Ordered;
-use crate::scan::Scan;
 use crate::stamps::Stamps;
 use ira_event::Logs;
 use std::alloc::Allocator;
@@ -23,12 +23,12 @@ pub fn find_order<A: Allocator + Clone>(alloc: A, logs: &Logs<A>) -> Result<Vec<
     ensures circle { result ≢ Err OutOfMemory → (result ≡ Err Circle) ↔ HasCircle logs.now }
 {
     match_links(logs)?;
-    let mut scan = Scan::start(alloc, logs)?;
-    scan.rounds(logs)?;
-    if !scan.is_whole(logs) {
+    let mut prefix = OrderPrefix::start(alloc, logs)?;
+    prefix.rounds(logs)?;
+    if !prefix.is_whole(logs) {
         return Err(OrderFault::Circle);
     }
-    Ok(scan.into_places())
+    Ok(prefix.into_places())
 }
 
 /// The logs with one order of all their events, and which of them happened before one another; or why

@@ -4,7 +4,7 @@ ghost use Rattle.ira_order.specs.Ring.{log_of, next};
 ghost use Rattle.ira_order.specs.Matching.{got};
 ghost use Rattle.ira_order.specs.Ordered.{IsOrdered};
 ghost use Rattle.ira_order.specs.VectorClock.{AreCountsOfOthers, receipt_count};
-ghost use Rattle.ira_order.specs.Scan.{IsScan};
+ghost use Rattle.ira_order.specs.OrderPrefix.{IsOrderPrefix};
 ghost use Rattle.ira_order.specs.Stamps.{receipts_by, AreReceipts, AreReceiptsOf, AreBegins, IsTable, AreStamps, IsStamping, counter as counter_of};
 
 use crate::links::reader_of;
@@ -127,7 +127,7 @@ impl<A: Allocator> Stamps<A> {
     fn fill(&mut self, logs: &Logs<A>, schedule: &[u8], mut tally: Tally<A>)
         requires table { IsTable logs.now self.old.begins.items self.old.numbers.items self.old.counters.items }
         requires ordered { IsOrdered (record { logs = logs.now; schedule = schedule.now }) }
-        requires start { IsScan logs.now tally.done.items tally.sent.items tally.got.items [] }
+        requires start { IsOrderPrefix logs.now tally.done.items tally.sent.items tally.got.items [] }
         ensures { AreStamps logs.now self.new.begins.items self.new.numbers.items self.new.counters.items }
     {
         for place in schedule {

@@ -1,6 +1,6 @@
 ghost use Rattle.std.specs.Prelude.{◌≡◌, ◌+◌, ◌<◌, [], IfOk, length, slice_index, slice_set};
 ghost use Rattle.ira_event.specs.Limits.{MAX_RECORDS};
-ghost use Rattle.ira_order.specs.Scan.{IsScan, sent_by, got_by};
+ghost use Rattle.ira_order.specs.OrderPrefix.{IsOrderPrefix, sent_by, got_by};
 
 use ira_event::{Event, Logs};
 use std::alloc::{AllocError, Allocator};
@@ -38,7 +38,7 @@ impl<A: Allocator> Tally<A> {
     pub(crate) fn start(alloc: A, logs: &Logs<A>) -> Result<Tally<A>, AllocError>
     where
         A: Clone,
-        ensures { IfOk result (λ tally. IsScan logs.now tally.done.items tally.sent.items tally.got.items []) }
+        ensures { IfOk result (λ tally. IsOrderPrefix logs.now tally.done.items tally.sent.items tally.got.items []) }
     {
         let nodes = usize::from(logs.size().get());
         Ok(Tally {

@@ -24,7 +24,7 @@ returns-in-Err g c =
           let kept = subst (λ a. HasTaken a texts) (sym c.self.view_is) taken in
           let read = subst (IsReading text) c.in-Err.is is in
           elim read [
-            | inl wanting ↦ absurd (other wanting)
+            | inl refused ↦ absurd (other refused)
             | inr fault ↦ keeps_fault texts c.self.inside.logs.items c.self.inside.fault text f c.if-is_some.ensures kept fault
           ];
       err = tt;

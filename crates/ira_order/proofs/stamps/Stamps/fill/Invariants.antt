@@ -1,6 +1,6 @@
 use Rattle.std.proofs.Common.{◌≡◌, length, take}
-use Rattle.ira_order.specs.Order.{standings}
-use Rattle.ira_order.specs.Scan.{IsScan}
+use Rattle.ira_order.specs.Order.{occurrences}
+use Rattle.ira_order.specs.OrderPrefix.{IsOrderPrefix}
 use Rattle.ira_order.specs.Stamps.{CountsSent}
 use Rattle.ira_order.proofs.stamps.Stamps.fill.Given as goal
 
@@ -9,6 +9,6 @@ invariant-loop-place g l = record {
   begins : l.self.begins.items ≡ l.fn.self.begins.items;
   numbers : l.self.numbers.items ≡ l.fn.self.numbers.items;
   room : length l.self.counters.items ≡ length l.fn.self.counters.items;
-  scan : IsScan l.logs l.tally.done.items l.tally.sent.items l.tally.got.items (take l.place-index l.schedule);
-  stamped : CountsSent l.logs l.self.counters.items (standings (take l.place-index l.schedule));
+  prefix : IsOrderPrefix l.logs l.tally.done.items l.tally.sent.items l.tally.got.items (take l.place-index l.schedule);
+  stamped : CountsSent l.logs l.self.counters.items (occurrences (take l.place-index l.schedule));
 }

@@ -1,9 +1,9 @@
 ghost use Rattle.std.specs.Prelude.{◌≡◌, ◌<◌, ◌≤◌, ◌+◌, ◌↔◌, length, ℕ, List, IfOk, [], ◌∷◌, ◌++◌, IsTrue, OnOk, slice_index, slice_get, MatchBool, MatchOption};
 ghost use Rattle.ira_event.specs.declared.event.Event.{Event};
 ghost use Rattle.ira_order.specs.Ring.{log_of};
-ghost use Rattle.ira_order.specs.Order.{standings};
+ghost use Rattle.ira_order.specs.Order.{occurrences};
 ghost use Rattle.ira_order.specs.Counts.{IsReady};
-ghost use Rattle.ira_order.specs.Scan.{IsScan, got_by, HasGrown, IsStuckAt};
+ghost use Rattle.ira_order.specs.OrderPrefix.{IsOrderPrefix, got_by, HasGrown, IsStuckAt};
 
 use crate::tally::{Tally, receives, sends};
 use ira_event::{Event, Logs, NodeLog};
@@ -11,7 +11,7 @@ use std::alloc::{AllocError, Allocator};
 
 /// A beginning of an order: the events that it holds of each node, and the places in their order.
 #[derive(Drop)]
-pub(crate) struct Scan<A: Allocator> {
+pub(crate) struct OrderPrefix<A: Allocator> {
     tally: Tally<A>,
     places: Vec<u8, A>,
 }
@@ -31,14 +31,14 @@ fn next_free<A: Allocator>(log: &NodeLog<A>, at: u32, got: u32, sendings: u32) -
     Some(event)
 }
 
-impl<A: Allocator> Scan<A> {
+impl<A: Allocator> OrderPrefix<A> {
     /// The beginning without an event.
-    pub(crate) fn start(alloc: A, logs: &Logs<A>) -> Result<Scan<A>, AllocError>
+    pub(crate) fn start(alloc: A, logs: &Logs<A>) -> Result<OrderPrefix<A>, AllocError>
     where
         A: Clone,
-        ensures { IfOk result (λ scan. IsScan logs.now scan.tally.done.items scan.tally.sent.items scan.tally.got.items scan.places.items) }
+        ensures { IfOk result (λ prefix. IsOrderPrefix logs.now prefix.tally.done.items prefix.tally.sent.items prefix.tally.got.items prefix.places.items) }
     {
-        Ok(Scan {
+        Ok(OrderPrefix {
             tally: Tally::start(alloc.clone()?, logs)?,
             places: Vec::new(alloc),
         })
@@ -47,11 +47,11 @@ impl<A: Allocator> Scan<A> {
     /// Adds the events of a node as far as they may come. The node before it makes none meanwhile, so
     /// the number of its sendings stays.
     fn run(&mut self, logs: &Logs<A>, i: u8) -> Result<(), AllocError>
-        requires scan { IsScan logs.now self.old.tally.done.items self.old.tally.sent.items self.old.tally.got.items self.old.places.items }
+        requires prefix { IsOrderPrefix logs.now self.old.tally.done.items self.old.tally.sent.items self.old.tally.got.items self.old.places.items }
         requires place { i < length logs.now }
-        ensures scan { OnOk result (IsScan logs.now self.new.tally.done.items self.new.tally.sent.items self.new.tally.got.items self.new.places.items) }
+        ensures prefix { OnOk result (IsOrderPrefix logs.now self.new.tally.done.items self.new.tally.sent.items self.new.tally.got.items self.new.places.items) }
         ensures further { OnOk result (HasGrown self.old.places.items self.new.places.items) }
-        ensures stuck { OnOk result (IsStuckAt logs.now (standings self.new.places.items) i) }
+        ensures stuck { OnOk result (IsStuckAt logs.now (occurrences self.new.places.items) i) }
     {
         let writer = if i == 0 { logs.size().get() - 1 } else { i - 1 };
         let sendings = self.tally.sent[usize::from(writer)];
@@ -78,10 +78,10 @@ impl<A: Allocator> Scan<A> {
     /// and node 0 only behind the last one; so every node gets on in each round but the first and the
     /// last two, and the rounds cost no more than the events and a few times the nodes.
     fn round(&mut self, logs: &Logs<A>) -> Result<(), AllocError>
-        requires scan { IsScan logs.now self.old.tally.done.items self.old.tally.sent.items self.old.tally.got.items self.old.places.items }
-        ensures scan { OnOk result (IsScan logs.now self.new.tally.done.items self.new.tally.sent.items self.new.tally.got.items self.new.places.items) }
+        requires prefix { IsOrderPrefix logs.now self.old.tally.done.items self.old.tally.sent.items self.old.tally.got.items self.old.places.items }
+        ensures prefix { OnOk result (IsOrderPrefix logs.now self.new.tally.done.items self.new.tally.sent.items self.new.tally.got.items self.new.places.items) }
         ensures further { OnOk result (HasGrown self.old.places.items self.new.places.items) }
-        ensures stuck { OnOk result (length self.new.places.items ≡ length self.old.places.items → (i : ℕ) → i < length logs.now → IsStuckAt logs.now (standings self.new.places.items) i) }
+        ensures stuck { OnOk result (length self.new.places.items ≡ length self.old.places.items → (i : ℕ) → i < length logs.now → IsStuckAt logs.now (occurrences self.new.places.items) i) }
     {
         for i in 0..logs.size().get() {
             self.run(logs, i)?;
@@ -91,9 +91,9 @@ impl<A: Allocator> Scan<A> {
 
     /// Goes on until no event may come.
     pub(crate) fn rounds(&mut self, logs: &Logs<A>) -> Result<(), AllocError>
-        requires scan { IsScan logs.now self.old.tally.done.items self.old.tally.sent.items self.old.tally.got.items self.old.places.items }
-        ensures scan { OnOk result (IsScan logs.now self.new.tally.done.items self.new.tally.sent.items self.new.tally.got.items self.new.places.items) }
-        ensures stuck { OnOk result ((i : ℕ) → i < length logs.now → IsStuckAt logs.now (standings self.new.places.items) i) }
+        requires prefix { IsOrderPrefix logs.now self.old.tally.done.items self.old.tally.sent.items self.old.tally.got.items self.old.places.items }
+        ensures prefix { OnOk result (IsOrderPrefix logs.now self.new.tally.done.items self.new.tally.sent.items self.new.tally.got.items self.new.places.items) }
+        ensures stuck { OnOk result ((i : ℕ) → i < length logs.now → IsStuckAt logs.now (occurrences self.new.places.items) i) }
     {
         loop {
             let before = self.places.len();

@@ -1,4 +1,4 @@
--- One step of a scan.
+-- One more event at the end of the beginning of an order.
 use Rattle.std.proofs.Common.{◌≡◌, ◌≢◌, ℕ, zero, suc, ◌+◌, ◌-◌, ◌<◌, ◌≤◌, inl, inr, ◌↔◌, List, [], ◌∷◌, ◌++◌, length, refl, sym, ◌∙◌, ap, arith, get_or, set, take, IsTrue, Option, Some, None, length-append, get_or-set_same, get_or-set_other, length-set, leb, replicate, append_assoc}
 use Rattle.ira_event.specs.declared.event.Event.{Event}
 use Rattle.ira_event.specs.declared.msg.Msg.{Msg}
@@ -7,9 +7,9 @@ use Rattle.ira_event.specs.declared.event.Event.TheVariants.{Sent, Got, Draw}
 use Rattle.std.specs.List.{filter_map, cons_option}
 use Rattle.ira_order.specs.Ring.{log_of, next, events_of}
 use Rattle.ira_order.specs.Matching.{sent, got, sending, receipt}
-use Rattle.ira_order.specs.Order.{standings}
+use Rattle.ira_order.specs.Order.{occurrences}
 use Rattle.ira_order.specs.Counts.{IsReady, Covers, IsSchedule}
-use Rattle.ira_order.specs.Scan.{IsScan, IsStuckAt, sent_by, got_by}
+use Rattle.ira_order.specs.OrderPrefix.{IsOrderPrefix, IsStuckAt, sent_by, got_by}
 use Rattle.ira_order.proofs.Ranks.{filter_map_more, lt_cases, eq_cases, rank_mono, next_other}
 use Rattle.ira_event.specs.Limits.{MAX_RECORDS}
 use Rattle.std.specs.Prelude.{slice_get}
@@ -40,46 +40,46 @@ only_link n i j li lj e = (λ z. grind (arith, nat_tests), λ z. grind (arith, n
 pub link_into : (n i : ℕ) → i < n → (i ≡ 0 → next n (n - 1) ≡ i) × (i ≢ 0 → next n (i - 1) ≡ i)
 link_into n i l = (λ z. grind (arith, nat_tests), λ z. grind (arith, nat_tests))
 
-standings_push_same : (places : List ℕ) (i : ℕ) → standings (places ++ i ∷ []) i ≡ standings places i + 1
-standings_push_same places i = sum_by_push _ places i ∙ rw (eq-eqb i i refl)
+occurrences_push_same : (places : List ℕ) (i : ℕ) → occurrences (places ++ i ∷ []) i ≡ occurrences places i + 1
+occurrences_push_same places i = sum_by_push _ places i ∙ rw (eq-eqb i i refl)
 
-standings_push_other : (places : List ℕ) (i j : ℕ) → i ≢ j → standings (places ++ i ∷ []) j ≡ standings places j
-standings_push_other places i j ne = sum_by_push _ places i ∙ rw (ne_eqb i j ne) (omega arith)
+occurrences_push_other : (places : List ℕ) (i j : ℕ) → i ≢ j → occurrences (places ++ i ∷ []) j ≡ occurrences places j
+occurrences_push_other places i j ne = sum_by_push _ places i ∙ rw (ne_eqb i j ne) (omega arith)
 
 module _ (logs : List Log) (places : List ℕ) (i : ℕ)
     (two : 2 ≤ length logs)
     (here : i < length logs)
     (so_far : IsSchedule logs places)
-    (free : IsReady logs (standings places) i) where
-  covers_push : Covers logs (standings (places ++ i ∷ []))
+    (free : IsReady logs (occurrences places) i) where
+  covers_push : Covers logs (occurrences (places ++ i ∷ []))
   covers_push k lk =
       let n : ℕ = length logs in
       let j : ℕ = next (length logs) k in
       elim (eq_cases i (next (length logs) k)) [
         | inl same ↦
             let ne : i ≢ k = λ q. next_other (length logs) k two lk (sym same ∙ q) in
-            let c : length (got (take (standings places i + 1) (log_of logs i))) ≤ length (sent (take (standings places k) (log_of logs k))) = free.1 k lk (sym same) in
-            let at_i = standings_push_same places i in
-            let at_k = standings_push_other places i k ne in
+            let c : length (got (take (occurrences places i + 1) (log_of logs i))) ≤ length (sent (take (occurrences places k) (log_of logs k))) = free.1 k lk (sym same) in
+            let at_i = occurrences_push_same places i in
+            let at_k = occurrences_push_other places i k ne in
             rw (← same, at_i, at_k) c
         | inr other ↦
-            let at_j = standings_push_other places i (next (length logs) k) other in
-            let before : length (got (take (standings places (next (length logs) k)) (log_of logs (next (length logs) k)))) ≤ length (sent (take (standings places k) (log_of logs k))) =
+            let at_j = occurrences_push_other places i (next (length logs) k) other in
+            let before : length (got (take (occurrences places (next (length logs) k)) (log_of logs (next (length logs) k)))) ≤ length (sent (take (occurrences places k) (log_of logs k))) =
             let whole : take (length places) places ≡ places = take_all (length places) places (omega arith) in
             rw whole at (so_far.kept (length places) (omega arith) k lk) in
-            let up : standings places k ≤ standings (places ++ i ∷ []) k = elim (eq_cases i k) [
-              | inl e ↦ rw (← e) (omega (arith, standings_push_same places i))
-              | inr ne ↦ omega (arith, standings_push_other places i k ne)
+            let up : occurrences places k ≤ occurrences (places ++ i ∷ []) k = elim (eq_cases i k) [
+              | inl e ↦ rw (← e) (omega (arith, occurrences_push_same places i))
+              | inr ne ↦ omega (arith, occurrences_push_other places i k ne)
             ] in
-            rw at_j (omega (arith, before, rank_mono sending (log_of logs k) (standings places k) (standings (places ++ i ∷ []) k) up))
+            rw at_j (omega (arith, before, rank_mono sending (log_of logs k) (occurrences places k) (occurrences (places ++ i ∷ []) k) up))
       ]
 
   pub schedule_push : IsSchedule logs (places ++ i ∷ [])
   schedule_push = record {
     places = All-push (λ p. p < length logs) places i so_far.places here;
     within = λ j lj. elim (eq_cases i j) [
-      | inl e ↦ rw (← e) (omega (arith, standings_push_same places i, free.0))
-      | inr ne ↦ omega (arith, standings_push_other places i j ne, so_far.within j lj)
+      | inl e ↦ rw (← e) (omega (arith, occurrences_push_same places i, free.0))
+      | inr ne ↦ omega (arith, occurrences_push_other places i j ne, so_far.within j lj)
     ];
     kept = λ t lt. elim (lt_cases (length places) t) [
       | inl past ↦
@@ -100,25 +100,25 @@ raised xs count count' n i by long here is same other j lj = elim (eq_cases i j)
       rw (get_or-set_other xs i j (get_or xs i 0 + by) 0 ne') (is j lj ∙ sym (other j ne))
 ]
 
-pub scan_step : (logs : List Log) (done sents gots places : List ℕ) (i : ℕ) (e : Event) → IsScan logs done sents gots places → 2 ≤ length logs → i < length logs → IsReady logs (standings places) i → e ≡ get_or (log_of logs i) (standings places i) e → IsScan logs (set done i (get_or done i 0 + 1)) (set sents i (get_or sents i 0 + sent_by e)) (set gots i (get_or gots i 0 + got_by e)) (places ++ i ∷ [])
-scan_step logs done sents gots places i e scan two here free is =
-    let at_i = standings_push_same places i in
+pub prefix_step : (logs : List Log) (done sents gots places : List ℕ) (i : ℕ) (e : Event) → IsOrderPrefix logs done sents gots places → 2 ≤ length logs → i < length logs → IsReady logs (occurrences places) i → e ≡ get_or (log_of logs i) (occurrences places i) e → IsOrderPrefix logs (set done i (get_or done i 0 + 1)) (set sents i (get_or sents i 0 + sent_by e)) (set gots i (get_or gots i 0 + got_by e)) (places ++ i ∷ [])
+prefix_step logs done sents gots places i e prefix two here free is =
+    let at_i = occurrences_push_same places i in
     let n : ℕ = length logs in
-    let at_e : get_or (log_of logs i) (standings places i) e ≡ e = sym is in
+    let at_e : get_or (log_of logs i) (occurrences places i) e ≡ e = sym is in
     record {
-      logs_are = scan.logs_are;
-      all_done = length-set done i _ ∙ scan.all_done;
-      all_sents = length-set sents i _ ∙ scan.all_sents;
-      all_gots = length-set gots i _ ∙ scan.all_gots;
-      done_is = raised done (standings places) (standings (places ++ i ∷ [])) (length logs) i 1 scan.all_done here scan.done_is at_i (λ j ne. standings_push_other places i j ne);
-      sents_is = raised sents (λ j. length (sent (take (standings places j) (log_of logs j)))) (λ j. length (sent (take (standings (places ++ i ∷ []) j) (log_of logs j)))) (length logs) i (sent_by e) scan.all_sents here scan.sents_is
-          (rw at_i (rank_more sending (log_of logs i) (standings places i) e free.0 ∙ ap (λ (x : Event). length (sent (take (standings places i) (log_of logs i))) + sent_by x) at_e))
-          (λ j ne. ap (λ (x : ℕ). length (sent (take x (log_of logs j)))) (standings_push_other places i j ne));
-      gots_is = raised gots (λ j. length (got (take (standings places j) (log_of logs j)))) (λ j. length (got (take (standings (places ++ i ∷ []) j) (log_of logs j)))) (length logs) i (got_by e) scan.all_gots here scan.gots_is
-          (rw at_i (rank_more receipt (log_of logs i) (standings places i) e free.0 ∙ ap (λ (x : Event). length (got (take (standings places i) (log_of logs i))) + got_by x) at_e))
-          (λ j ne. ap (λ (x : ℕ). length (got (take x (log_of logs j)))) (standings_push_other places i j ne));
-      total = omega (arith, sum_by-set (λ (x : ℕ). x) done i (get_or done i 0 + 1) 0 (omega (arith, scan.all_done)), scan.total, length_push places i);
-      schedule = schedule_push logs places i two here scan.schedule free;
+      logs_are = prefix.logs_are;
+      all_done = length-set done i _ ∙ prefix.all_done;
+      all_sents = length-set sents i _ ∙ prefix.all_sents;
+      all_gots = length-set gots i _ ∙ prefix.all_gots;
+      done_is = raised done (occurrences places) (occurrences (places ++ i ∷ [])) (length logs) i 1 prefix.all_done here prefix.done_is at_i (λ j ne. occurrences_push_other places i j ne);
+      sents_is = raised sents (λ j. length (sent (take (occurrences places j) (log_of logs j)))) (λ j. length (sent (take (occurrences (places ++ i ∷ []) j) (log_of logs j)))) (length logs) i (sent_by e) prefix.all_sents here prefix.sents_is
+          (rw at_i (rank_more sending (log_of logs i) (occurrences places i) e free.0 ∙ ap (λ (x : Event). length (sent (take (occurrences places i) (log_of logs i))) + sent_by x) at_e))
+          (λ j ne. ap (λ (x : ℕ). length (sent (take x (log_of logs j)))) (occurrences_push_other places i j ne));
+      gots_is = raised gots (λ j. length (got (take (occurrences places j) (log_of logs j)))) (λ j. length (got (take (occurrences (places ++ i ∷ []) j) (log_of logs j)))) (length logs) i (got_by e) prefix.all_gots here prefix.gots_is
+          (rw at_i (rank_more receipt (log_of logs i) (occurrences places i) e free.0 ∙ ap (λ (x : Event). length (got (take (occurrences places i) (log_of logs i))) + got_by x) at_e))
+          (λ j ne. ap (λ (x : ℕ). length (got (take x (log_of logs j)))) (occurrences_push_other places i j ne));
+      total = omega (arith, sum_by-set (λ (x : ℕ). x) done i (get_or done i 0 + 1) 0 (omega (arith, prefix.all_done)), prefix.total, length_push places i);
+      schedule = schedule_push logs places i two here prefix.schedule free;
     }
 
 -- the link into node i comes from this one
@@ -126,19 +126,19 @@ abbrev pub IsWriter : ℕ → ℕ → ℕ → Type 0
 IsWriter n i from = (i ≡ 0 → from ≡ n - 1) × (i ≢ 0 → from ≡ i - 1)
 
 -- what the test of a place finds
-pub can_step_iff : (logs : List Log) (done sents gots places : List ℕ) (i from g s : ℕ) (e : Event) → IsScan logs done sents gots places → i < length logs → standings places i < length (log_of logs i) → e ≡ get_or (log_of logs i) (standings places i) e → IsWriter (length logs) i from → g ≡ get_or gots i 0 → s ≡ get_or sents from 0 → IsTrue (leb (g + got_by e) s) ↔ IsReady logs (standings places) i
-can_step_iff logs done sents gots places i from g s e scan here more is source g_is s_is =
+pub can_step_iff : (logs : List Log) (done sents gots places : List ℕ) (i from g s : ℕ) (e : Event) → IsOrderPrefix logs done sents gots places → i < length logs → occurrences places i < length (log_of logs i) → e ≡ get_or (log_of logs i) (occurrences places i) e → IsWriter (length logs) i from → g ≡ get_or gots i 0 → s ≡ get_or sents from 0 → IsTrue (leb (g + got_by e) s) ↔ IsReady logs (occurrences places) i
+can_step_iff logs done sents gots places i from g s e prefix here more is source g_is s_is =
     let there : from < length logs = elim (eq_cases i 0) [ inl z ↦ omega (arith, source.0 z) | inr z ↦ omega (arith, source.1 z) ] in
     let into : next (length logs) from ≡ i = elim (eq_cases i 0) [
       | inl z ↦ ap (next (length logs)) (source.0 z) ∙ (link_into (length logs) i here).0 z
       | inr z ↦ ap (next (length logs)) (source.1 z) ∙ (link_into (length logs) i here).1 z
     ] in
-    let at_e : get_or (log_of logs i) (standings places i) e ≡ e = sym is in
-    let gots_then : length (got (take (standings places i + 1) (log_of logs i))) ≡ g + got_by e =
-    rank_more receipt (log_of logs i) (standings places i) e more
-    ∙ ap (λ (x : Event). length (got (take (standings places i) (log_of logs i))) + got_by x) at_e
-    ∙ ap (λ (x : ℕ). x + got_by e) (sym (scan.gots_is i here) ∙ sym g_is) in
-    let sents_now : length (sent (take (standings places from) (log_of logs from))) ≡ s = sym (scan.sents_is from there) ∙ sym s_is in (
+    let at_e : get_or (log_of logs i) (occurrences places i) e ≡ e = sym is in
+    let gots_then : length (got (take (occurrences places i + 1) (log_of logs i))) ≡ g + got_by e =
+    rank_more receipt (log_of logs i) (occurrences places i) e more
+    ∙ ap (λ (x : Event). length (got (take (occurrences places i) (log_of logs i))) + got_by x) at_e
+    ∙ ap (λ (x : ℕ). x + got_by e) (sym (prefix.gots_is i here) ∙ sym g_is) in
+    let sents_now : length (sent (take (occurrences places from) (log_of logs from))) ≡ s = sym (prefix.sents_is from there) ∙ sym s_is in (
       λ t. (
         more,
         λ j lj e'.
@@ -163,70 +163,70 @@ once_more places i before at l =
 
 -- the same where a node runs: the code reads its three counters, and writes them when no event may come
 module _ (logs : List Log) (done sents gots places : List ℕ) (i at sent got : ℕ) (log : Log)
-    (scan : IsScan logs (set done i at) (set sents i sent) (set gots i got) places)
+    (prefix : IsOrderPrefix logs (set done i at) (set sents i sent) (set gots i got) places)
     (here : i < length logs)
     (log_is : slice_get logs i ≡ Some log) where
   counter : (xs : List ℕ) (n : ℕ) → length (set xs i n) ≡ length logs → get_or (set xs i n) i 0 ≡ n
   counter xs n l = get_or-set_same xs i n 0 (omega (arith, l, here, length-set xs i n))
 
-  at_standings : at ≡ standings places i
-  at_standings = sym (counter done at scan.all_done) ∙ scan.done_is i here
+  at_occurrences : at ≡ occurrences places i
+  at_occurrences = sym (counter done at prefix.all_done) ∙ prefix.done_is i here
 
   events_are : log_of logs i ≡ log.events
   events_are = ap events_of log_is
 
-  e_here : (e : Event) → slice_get log.events at ≡ Some e → e ≡ get_or (log_of logs i) (standings places i) e
-  e_here e e_is = rw (← at_standings, events_are) (sym (get_or_from_slice_get log.events at e e e_is))
+  e_here : (e : Event) → slice_get log.events at ≡ Some e → e ≡ get_or (log_of logs i) (occurrences places i) e
+  e_here e e_is = rw (← at_occurrences, events_are) (sym (get_or_from_slice_get log.events at e e e_is))
 
-  more : (e : Event) → slice_get log.events at ≡ Some e → standings places i < length (log_of logs i)
-  more e e_is = omega (arith, at_standings, ap length events_are, slice_get_within log.events at e e_is)
+  more : (e : Event) → slice_get log.events at ≡ Some e → occurrences places i < length (log_of logs i)
+  more e e_is = omega (arith, at_occurrences, ap length events_are, slice_get_within log.events at e e_is)
 
   pub few_events : length log.events ≤ MAX_RECORDS
-  few_events = (scan.logs_are.valid i log log_is).count
+  few_events = (prefix.logs_are.valid i log log_is).count
 
   pub got_within : got ≤ at
   got_within =
-      omega (arith, counter gots got scan.all_gots, scan.gots_is i here, rank_le receipt (log_of logs i) (standings places i), at_standings)
+      omega (arith, counter gots got prefix.all_gots, prefix.gots_is i here, rank_le receipt (log_of logs i) (occurrences places i), at_occurrences)
 
   pub sent_within : sent ≤ at
   sent_within =
-      omega (arith, counter sents sent scan.all_sents, scan.sents_is i here, rank_le sending (log_of logs i) (standings places i), at_standings)
+      omega (arith, counter sents sent prefix.all_sents, prefix.sents_is i here, rank_le sending (log_of logs i) (occurrences places i), at_occurrences)
 
   -- the number of sendings of the node before it, which the code reads once
   sendings_are : (from s : ℕ) → IsWriter (length logs) i from → s ≡ get_or sents from s → s ≡ get_or (set sents i sent) from 0
   sendings_are from s source s_is =
-      let two : 2 ≤ length logs = scan.logs_are.ring.0 in
+      let two : 2 ≤ length logs = prefix.logs_are.ring.0 in
       let there : from < length logs = elim (eq_cases i 0) [ inl z ↦ omega (arith, source.0 z) | inr z ↦ omega (arith, source.1 z) ] in
       let other : from ≢ i = elim (eq_cases i 0) [ inl z ↦ omega (arith, source.0 z) | inr z ↦ omega (arith, source.1 z) ] in
-      let long : from < length sents = omega (arith, length-set sents i sent, scan.all_sents) in
+      let long : from < length sents = omega (arith, length-set sents i sent, prefix.all_sents) in
       get_or_read sents from s long s_is 0 ∙ sym (get_or-set_other sents i from sent 0 other)
 
-  free_iff : (from s : ℕ) (e : Event) → IsWriter (length logs) i from → s ≡ get_or sents from s → slice_get log.events at ≡ Some e → IsTrue (leb (got + got_by e) s) ↔ IsReady logs (standings places) i
+  free_iff : (from s : ℕ) (e : Event) → IsWriter (length logs) i from → s ≡ get_or sents from s → slice_get log.events at ≡ Some e → IsTrue (leb (got + got_by e) s) ↔ IsReady logs (occurrences places) i
   free_iff from s e source s_is e_is =
-      can_step_iff logs (set done i at) (set sents i sent) (set gots i got) places i from got s e scan here (more e e_is) (e_here e e_is) source
-      (sym (counter gots got scan.all_gots)) (sendings_are from s source s_is)
+      can_step_iff logs (set done i at) (set sents i sent) (set gots i got) places i from got s e prefix here (more e e_is) (e_here e e_is) source
+      (sym (counter gots got prefix.all_gots)) (sendings_are from s source s_is)
 
   -- the next event may come, and was added
-  pub run_on : (from s : ℕ) (e : Event) → IsWriter (length logs) i from → s ≡ get_or sents from s → slice_get log.events at ≡ Some e → got + got_by e ≤ s → IsScan logs (set done i (at + 1)) (set sents i (sent + sent_by e)) (set gots i (got + got_by e)) (places ++ i ∷ [])
+  pub run_on : (from s : ℕ) (e : Event) → IsWriter (length logs) i from → s ≡ get_or sents from s → slice_get log.events at ≡ Some e → got + got_by e ≤ s → IsOrderPrefix logs (set done i (at + 1)) (set sents i (sent + sent_by e)) (set gots i (got + got_by e)) (places ++ i ∷ [])
   run_on from s e source s_is e_is free =
       let can = (free_iff from s e source s_is e_is).0 (le-leb _ _ free) in
       rw (
-        counter done at scan.all_done,
-        counter sents sent scan.all_sents,
-        counter gots got scan.all_gots,
+        counter done at prefix.all_done,
+        counter sents sent prefix.all_sents,
+        counter gots got prefix.all_gots,
         set-set done i at (at + 1),
         set-set sents i sent (sent + sent_by e),
         set-set gots i got (got + got_by e),
-      ) at (scan_step logs (set done i at) (set sents i sent) (set gots i got) places i e scan scan.logs_are.ring.0 here can (e_here e e_is))
+      ) at (prefix_step logs (set done i at) (set sents i sent) (set gots i got) places i e prefix prefix.logs_are.ring.0 here can (e_here e e_is))
 
   -- no next event may come
-  pub run_ends : (from s : ℕ) → IsWriter (length logs) i from → s ≡ get_or sents from s → ((e : Event) → slice_get log.events at ≡ Some e → s < got + got_by e) → IsStuckAt logs (standings places) i
+  pub run_ends : (from s : ℕ) → IsWriter (length logs) i from → s ≡ get_or sents from s → ((e : Event) → slice_get log.events at ≡ Some e → s < got + got_by e) → IsStuckAt logs (occurrences places) i
   run_ends from s source s_is none can =
       elim (slice_get_cases log.events at).1 [
         | inl found ↦
             let free = leb-true _ _ ((free_iff from s found.0 source s_is found.2).1 can) in
             omega (arith, free, none found.0 found.2)
-        | inr past ↦ omega (arith, can.0, past.0, at_standings, ap length events_are)
+        | inr past ↦ omega (arith, can.0, past.0, at_occurrences, ap length events_are)
       ]
 
 pub got_by_le : (e : Event) → got_by e ≤ 1
