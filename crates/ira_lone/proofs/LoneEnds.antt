@@ -12,7 +12,7 @@ use Rattle.ira_node.specs.Wanted.{wanted_of}
 use Rattle.ira_node.specs.declared.wanted.Wanted.TheVariants.{Draw as WantsDraw, Send, Receipt}
 use Rattle.ira_run.specs.declared.node_end.NodeEnd.{NodeEnd}
 use Rattle.ira_run.specs.declared.node_end.NodeEnd.TheVariants.{Leader, Stopped, DrawsSpent, LogFull, NoStep, Quiet}
-use Rattle.ira_run.specs.Setup.{Setup, given}
+use Rattle.ira_run.specs.Setup.{Setup, node_draws}
 use Rattle.ira_run.specs.FullRun.{events_at, drawn, HasEvent, owes, chooses, receives, CanStep}
 use Rattle.ira_lone.specs.LoneNode.{LoneNode, Ends, HasNoNext}
 use Rattle.ira_lone.specs.LoneRing.{node_at, IsReached, AreAtEnd, AreEndsOfNodes}
@@ -45,10 +45,10 @@ pub ended_no_step : (s : Setup) (nodes : List LoneNode) (reached : IsReached s n
 ended_no_step s nodes reached i l ended can =
     let node : LoneNode = node_at nodes i in
     let P : NodeState → Type 0 = λ x. ¬ (IsLeader x.phase) in
-    let Q : NodeState → Type 0 = λ x. HasEvent s.nodes (given s i) x (node_at nodes i).events (node_at nodes i).input in
-    let R : List Event → Type 0 = λ x. HasEvent s.nodes (given s i) (reached.point.state i) x (node_at nodes i).input in
-    let S : List Msg → Type 0 = λ x. HasEvent s.nodes (given s i) (reached.point.state i) (events_at reached.run i) x in
-    ended_no_event s.nodes s.cap (given s i) (node_at nodes i) ended.0 (reached.draws i l) ended.1
+    let Q : NodeState → Type 0 = λ x. HasEvent s.nodes (node_draws s i) x (node_at nodes i).events (node_at nodes i).input in
+    let R : List Event → Type 0 = λ x. HasEvent s.nodes (node_draws s i) (reached.point.state i) x (node_at nodes i).input in
+    let S : List Msg → Type 0 = λ x. HasEvent s.nodes (node_draws s i) (reached.point.state i) (events_at reached.run i) x in
+    ended_no_event s.nodes s.cap (node_draws s i) (node_at nodes i) ended.0 (reached.draws i l) ended.1
     (subst P (reached.states i l) can.not_leader)
     (omega (arith, can.room, ap length (reached.events i l)))
     (subst Q (reached.states i l) (subst R (reached.events i l) (subst S (reached.links i l) can.event)))

@@ -16,7 +16,7 @@ use Rattle.ira_order.proofs.Runs.{next_prev, prev_below}
 use Rattle.ira_order.proofs.Converse.{Balanced}
 use Rattle.ira_run.specs.declared.node_end.NodeEnd.{NodeEnd}
 use Rattle.ira_run.specs.declared.node_end.NodeEnd.TheVariants.{Leader, Stopped, DrawsSpent, LogFull, NoStep, Quiet}
-use Rattle.ira_run.specs.Setup.{Setup, is_initiator, given, KeepsRules}
+use Rattle.ira_run.specs.Setup.{Setup, is_initiator, node_draws, KeepsRules}
 use Rattle.ira_run.specs.Run.{Run}
 use Rattle.ira_run.specs.FullRun.{opening_of, events_at, drawn, AreFullLogs}
 use Rattle.ira_run.specs.ShownEnd.{Says, IsShown, IsLoneRun}
@@ -68,7 +68,7 @@ full_logs s nodes logs rules done of_nodes =
 
 -- ---- the ends
 
-says_of : (s : Setup) (i : ℕ) (node : LoneNode) (input : List Msg) (end : NodeEnd) → length node.events ≤ s.cap → given s i ≡ drawn node.events ++ node.ids → got node.events ++ node.input ≡ input
+says_of : (s : Setup) (i : ℕ) (node : LoneNode) (input : List Msg) (end : NodeEnd) → length node.events ≤ s.cap → node_draws s i ≡ drawn node.events ++ node.ids → got node.events ++ node.input ≡ input
     → Ends s.nodes s.cap node end → Says s i node.state node.events input end
 says_of s i node input Leader within left links h = h
 says_of s i node input Stopped within left links h = absurd h

@@ -5,13 +5,13 @@ use Rattle.std.proofs.Math.Seq.{get_or-append_seam}
 use Rattle.std.proofs.lemmas.List.{get_or_append_left, get_or_read, get_or-map, length-map}
 use Rattle.ira_node.specs.NodeState.{first_state}
 use Rattle.ira_order.proofs.Ranks.{eq_cases}
-use Rattle.ira_run.specs.Setup.{Setup, is_initiator, given, KeepsRules}
+use Rattle.ira_run.specs.Setup.{Setup, is_initiator, node_draws, KeepsRules}
 use Rattle.ira_run.specs.FullRun.{opening_of, drawn}
 use Rattle.ira_lone.specs.LoneNode.{LoneNode}
 use Rattle.ira_lone.specs.LoneRing.{idle, node_at, IsReached}
 
 abbrev pub first_node : Setup → ℕ → LoneNode
-first_node s i = record { state = first_state (is_initiator s i); ids = given s i; input = []; events = [] }
+first_node s i = record { state = first_state (is_initiator s i); ids = node_draws s i; input = []; events = [] }
 
 -- they are where the empty run leads
 pub started : (s : Setup) (nodes : List LoneNode) → length nodes ≡ s.nodes → ((i : ℕ) → i < s.nodes → node_at nodes i ≡ first_node s i) → IsReached s nodes

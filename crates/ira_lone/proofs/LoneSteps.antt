@@ -13,7 +13,7 @@ use Rattle.ira_order.specs.Ring.{next, prev}
 use Rattle.ira_order.specs.Run.{Configuration, LinkStep, RingStep}
 use Rattle.ira_order.proofs.Ranks.{eq_cases, next_below}
 use Rattle.ira_order.proofs.Runs.{next_prev, prev_next, prev_below}
-use Rattle.ira_run.specs.Setup.{Setup, given}
+use Rattle.ira_run.specs.Setup.{Setup, node_draws}
 use Rattle.ira_run.specs.FullRun.{opening_of, events_at, drawing, drawn, HasEvent, owes, chooses, receives, CanStep}
 use Rattle.ira_lone.specs.LoneNode.{LoneNode, IsFirst, IsNext, drawn_by, after_event, after_put}
 use Rattle.ira_lone.specs.LoneRing.{node_at, IsMoved, IsReached}
@@ -53,12 +53,12 @@ has_event n most ids node (Sent m) after step left = owes m (sending_owes n node
 has_event n most ids node (Got m) after step left = receives m step.first.0 step.first.1 (after, step.step)
 
 pub can_step : (s : Setup) (run : List (ℕ × Event)) (c : Configuration) (i : ℕ) (node : LoneNode) → c.state i ≡ node.state → c.link (prev s.nodes i) ≡ node.input → events_at run i ≡ node.events
-    → ¬ (IsLeader node.state.phase) → length node.events < s.cap → HasEvent s.nodes (given s i) node.state node.events node.input → CanStep s run c i
+    → ¬ (IsLeader node.state.phase) → length node.events < s.cap → HasEvent s.nodes (node_draws s i) node.state node.events node.input → CanStep s run c i
 can_step s run c i node state link events not_leader room event =
     let P : NodeState → Type 0 = λ x. ¬ (IsLeader x.phase) in
-    let Q : NodeState → Type 0 = λ x. HasEvent s.nodes (given s i) x (events_at run i) (c.link (prev s.nodes i)) in
-    let R : List Event → Type 0 = λ x. HasEvent s.nodes (given s i) node.state x (c.link (prev s.nodes i)) in
-    let S : List Msg → Type 0 = λ x. HasEvent s.nodes (given s i) node.state node.events x in
+    let Q : NodeState → Type 0 = λ x. HasEvent s.nodes (node_draws s i) x (events_at run i) (c.link (prev s.nodes i)) in
+    let R : List Event → Type 0 = λ x. HasEvent s.nodes (node_draws s i) node.state x (c.link (prev s.nodes i)) in
+    let S : List Msg → Type 0 = λ x. HasEvent s.nodes (node_draws s i) node.state node.events x in
     record {
       not_leader = subst P (sym state) not_leader;
       room = omega (arith, ap length events);
@@ -165,7 +165,7 @@ module _ (s : Setup) (old new : List LoneNode) (i : ℕ) (e : Event) (after : No
   may_step : CanStep s reached.run reached.point i
   may_step =
       can_step s reached.run reached.point i (node_at old i) (reached.states i here) (reached.links i here) (reached.events i here) is_next.not_leader is_next.room
-      (has_event s.nodes s.cap (given s i) (node_at old i) e after is_next (reached.draws i here))
+      (has_event s.nodes s.cap (node_draws s i) (node_at old i) e after is_next (reached.draws i here))
 
   events_of : (j : ℕ) → j < s.nodes → events_at (reached.run ++ (i, e) ∷ []) j ≡ (node_at new j).events
   events_of j lj = elim (eq_cases i j) [
@@ -175,12 +175,12 @@ module _ (s : Setup) (old new : List LoneNode) (i : ℕ) (e : Event) (after : No
     | inr ne ↦ other_more reached.run i j e ne ∙ reached.events j lj ∙ sym (kept j (λ q. ne (sym q))).events
   ]
 
-  draws_of : (j : ℕ) → j < s.nodes → given s j ≡ drawn (node_at new j).events ++ (node_at new j).ids
+  draws_of : (j : ℕ) → j < s.nodes → node_draws s j ≡ drawn (node_at new j).events ++ (node_at new j).ids
   draws_of j lj = elim (eq_cases i j) [
     | inl q ↦
-        let P : ℕ → Type 0 = λ k. given s k ≡ drawn (node_at new k).events ++ (node_at new k).ids in
-        let Q : LoneNode → Type 0 = λ x. given s i ≡ drawn x.events ++ x.ids in
-        subst P q (subst Q (sym node_is) (left_after (node_at old i) e (given s i) is_next.first (reached.draws i here)))
+        let P : ℕ → Type 0 = λ k. node_draws s k ≡ drawn (node_at new k).events ++ (node_at new k).ids in
+        let Q : LoneNode → Type 0 = λ x. node_draws s i ≡ drawn x.events ++ x.ids in
+        subst P q (subst Q (sym node_is) (left_after (node_at old i) e (node_draws s i) is_next.first (reached.draws i here)))
     | inr ne ↦
         let k = kept j (λ q. ne (sym q)) in
         reached.draws j lj ∙ ap (λ (x : List Event). drawn x ++ (node_at old j).ids) (sym k.events) ∙ ap (λ (x : List ℕ). drawn (node_at new j).events ++ x) (sym k.ids)

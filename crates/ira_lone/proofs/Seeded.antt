@@ -13,7 +13,7 @@ use Rattle.ira_run.specs.declared.node_end.NodeEnd.{NodeEnd}
 use Rattle.ira_run.specs.declared.node_end.NodeEnd.TheVariants.{Leader, Stopped, DrawsSpent, LogFull, NoStep, Quiet}
 use Rattle.ira_run.specs.declared.run_fault.RunFault.{RunFault}
 use Rattle.ira_run.specs.NodeEnd.{is_draws_spent}
-use Rattle.ira_run.specs.Setup.{Setup, given, HasInitiator, KeepsRules}
+use Rattle.ira_run.specs.Setup.{Setup, node_draws, HasInitiator, KeepsRules}
 use Rattle.ira_run.specs.Draws.{draws, generator, id_of_word}
 use Rattle.ira_run.specs.Run.{Run}
 use Rattle.ira_run.specs.FullRun.{BeginsWith}
@@ -65,7 +65,7 @@ same_rules n kinds seed k m cap s t a b rules =
       size = subst IsRingSize (sym size) rules.size;
       lists = (ap length same ∙ rules.lists.0 ∙ sym size, b.many ∙ sym b.nodes);
       initiator = (rules.initiator.0, omega (arith, rules.initiator.1, size), subst P (sym same) rules.initiator.2);
-      ids = λ i l. subst (λ (x : ℕ). R x (given t i)) (sym b.nodes) (subst (R n) (sym (b.draws i (omega (arith, b.nodes)))) (ids_drawn n _ (omega (arith, a.nodes, rules.size.0))));
+      ids = λ i l. subst (λ (x : ℕ). R x (node_draws t i)) (sym b.nodes) (subst (R n) (sym (b.draws i (omega (arith, b.nodes)))) (ids_drawn n _ (omega (arith, a.nodes, rules.size.0))));
       cap = (omega (arith, rules.cap.0, a.limit, b.limit), omega (arith, rules.cap.1, a.limit, b.limit));
     }
 
@@ -91,7 +91,7 @@ begins n (suc k) (suc m) g l =
     let rest = begins n k m (pcg32 g).1 (omega arith) in
     (rest.0, ap (λ (ids : List ℕ). id_of_word n (pcg32 g).0 ∷ ids) rest.1)
 
-more : (n : ℕ) (kinds : List Bool) (seed k m cap : ℕ) (s t : Setup) → IsSeeded n kinds seed k cap s → IsSeeded n kinds seed m cap t → k ≤ m → (i : ℕ) → i < s.nodes → BeginsWith (given t i) (given s i)
+more : (n : ℕ) (kinds : List Bool) (seed k m cap : ℕ) (s t : Setup) → IsSeeded n kinds seed k cap s → IsSeeded n kinds seed m cap t → k ≤ m → (i : ℕ) → i < s.nodes → BeginsWith (node_draws t i) (node_draws s i)
 more n kinds seed k m cap s t a b l i here =
     let within : i < n = omega (arith, a.nodes) in
     let rest = begins n k m (generator seed i) l in

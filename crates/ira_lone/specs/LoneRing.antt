@@ -9,7 +9,7 @@ use Rattle.ira_node.specs.NodeState.{first_state}
 use Rattle.ira_order.specs.Ring.{next, prev}
 use Rattle.ira_order.specs.Run.{Configuration}
 use Rattle.ira_run.specs.declared.node_end.NodeEnd.{NodeEnd}
-use Rattle.ira_run.specs.Setup.{Setup, is_initiator, given}
+use Rattle.ira_run.specs.Setup.{Setup, is_initiator, node_draws}
 use Rattle.ira_run.specs.FullRun.{opening_of, events_at, drawn, Walks}
 use Rattle.ira_lone.specs.LoneNode.{LoneNode, Ends, HasNoNext, GoesToSending, after_event, after_put}
 
@@ -63,7 +63,7 @@ pub record IsReached (s : Setup) (nodes : List LoneNode) : Type 0 where
   pub states : (i : ℕ) → i < s.nodes → point.state i ≡ (node_at nodes i).state
   pub links : (i : ℕ) → i < s.nodes → point.link (prev s.nodes i) ≡ (node_at nodes i).input
   pub events : (i : ℕ) → i < s.nodes → events_at run i ≡ (node_at nodes i).events
-  pub draws : (i : ℕ) → i < s.nodes → given s i ≡ drawn (node_at nodes i).events ++ (node_at nodes i).ids
+  pub draws : (i : ℕ) → i < s.nodes → node_draws s i ≡ drawn (node_at nodes i).events ++ (node_at nodes i).ids
 
 -- the nodes are where such a run led them, and none of them has a next event
 abbrev pub AreAtEnd : Setup → List LoneNode → Type 0

@@ -1,7 +1,7 @@
 -- A ring whose nodes draw from a seed.
 use Rattle.std.specs.Prelude.{◌≡◌, ℕ, ◌<◌, Bool, List, length, map}
 use Rattle.std.specs.List.{range_with_len}
-use Rattle.ira_run.specs.Setup.{Setup, given}
+use Rattle.ira_run.specs.Setup.{Setup, node_draws}
 use Rattle.ira_run.specs.Draws.{draws}
 
 -- the setup of a ring of n nodes of these start kinds, each of which is given its first k draws
@@ -14,5 +14,5 @@ pub record IsSeeded (n : ℕ) (kinds : List Bool) (seed k cap : ℕ) (s : Setup)
   pub nodes : s.nodes ≡ n
   pub initiators : s.initiators ≡ kinds
   pub many : length s.draws ≡ n
-  pub draws : (i : ℕ) → i < n → given s i ≡ draws n seed i k
+  pub draws : (i : ℕ) → i < n → node_draws s i ≡ draws n seed i k
   pub limit : s.cap ≡ cap

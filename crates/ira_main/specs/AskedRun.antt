@@ -3,7 +3,7 @@ use Rattle.std.specs.Prelude.{◌≡◌, ℕ, ◌<◌, Bool, true, false, nat_lt
 use Rattle.ira_ring.specs.Draws.{draws}
 use Rattle.ira_ring.specs.Recording.{IsRecording, HasOwnEnd}
 use Rattle.ira_ring.specs.Run.{Run}
-use Rattle.ira_ring.specs.Setup.{Setup, KeepsRules, IsForEachNode, is_initiator, given}
+use Rattle.ira_ring.specs.Setup.{Setup, KeepsRules, IsForEachNode, is_initiator, node_draws}
 use Rattle.ira_ring.specs.ShownEnd.{IsLoneRun}
 use Rattle.ira_words.specs.declared.run_request.RunRequest.{RunRequest}
 
@@ -14,7 +14,7 @@ pub record IsAskedSetup (request : RunRequest) (s : Setup) : Type 0 where
   -- the first nodes are initiators, as many as were asked for, or all
   pub initiators : (i : ℕ) → i < s.nodes → is_initiator s i ≡ nat_lt i (unwrap_or request.initiators s.nodes)
   -- the draws of each node are those of the seed
-  pub draws : (i : ℕ) → i < s.nodes → given s i ≡ draws s.nodes request.seed i request.draws
+  pub draws : (i : ℕ) → i < s.nodes → node_draws s i ≡ draws s.nodes request.seed i request.draws
   pub cap : s.cap ≡ request.cap
 
 -- a run of a setup, on one thread or with a thread for each node

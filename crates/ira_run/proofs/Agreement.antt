@@ -18,7 +18,7 @@ use Rattle.ira_order.specs.Run.{Configuration, LinkStep, RingStep, event_of}
 use Rattle.ira_order.proofs.Ranks.{eq_cases}
 use Rattle.ira_order.proofs.Runs.{next_prev, prev_below}
 use Rattle.ira_order.proofs.Converse.{Balanced, balanced_step}
-use Rattle.ira_run.specs.Setup.{Setup, is_initiator, given}
+use Rattle.ira_run.specs.Setup.{Setup, is_initiator, node_draws}
 use Rattle.ira_run.specs.FullRun.{opening_of, events_at, drawing, drawn, HasEvent, owes, chooses, receives, CanStep, Walks, BeginsWith, IsFullRun}
 use Rattle.ira_run.proofs.Beginnings.{next_same, begin_each_other, sends_begin}
 use Rattle.ira_run.proofs.Walks.{own_more, other_more, walk_leads, walk_balanced}
@@ -28,9 +28,9 @@ use Rattle.ira_run.proofs.Walks.{own_more, other_more, walk_leads, walk_balanced
 pub record IsEnded (s : Setup) (i : ℕ) (events : List Event) (input : List Msg) : Type 0 where
   pub state : NodeState
   pub leads : LeadsTo s.nodes (first_state (is_initiator s i)) events state
-  pub draws : BeginsWith (given s i) (drawn events)
+  pub draws : BeginsWith (node_draws s i) (drawn events)
   pub receipts : BeginsWith input (got events)
-  pub stays : ¬ (IsLeader state.phase) → length events < s.cap → ¬ (HasEvent s.nodes (given s i) state events receipts.0)
+  pub stays : ¬ (IsLeader state.phase) → length events < s.cap → ¬ (HasEvent s.nodes (node_draws s i) state events receipts.0)
 
 -- that of each node, where these are their logs
 abbrev pub AreEnded : Setup → (ℕ → List Event) → Type 0
@@ -59,7 +59,7 @@ module _ (s : Setup) (i : ℕ) (past log : List Event) (state : NodeState) (link
     (ended : IsEnded s i log sendings)
     (not_leader : ¬ (IsLeader state.phase))
     (room : length past < s.cap)
-    (event : HasEvent s.nodes (given s i) state past link) where
+    (event : HasEvent s.nodes (node_draws s i) state past link) where
   -- so they are not all of the log
   not_all : log ≡ past → ⊥
   not_all same =
@@ -70,9 +70,9 @@ module _ (s : Setup) (i : ℕ) (past log : List Event) (state : NodeState) (link
       append_cancel_left (got past) here.receipts.0 (link ++ more.0)
       (sym here.receipts.1 ∙ more.1 ∙ ap (λ (x : List Msg). x ++ more.0) (sym balanced) ∙ append_assoc (got past) link more.0) in
       let Q : NodeState → Type 0 = λ x. ¬ (IsLeader x.phase) in
-      let R : NodeState → Type 0 = λ x. HasEvent s.nodes (given s i) x past (link ++ more.0) in
-      let S : List Msg → Type 0 = λ x. HasEvent s.nodes (given s i) here.state past x in
-      here.stays (subst Q (sym state_is) not_leader) room (subst S (sym left_is) (subst R (sym state_is) (has_event_still s.nodes (given s i) state past link more.0 event)))
+      let R : NodeState → Type 0 = λ x. HasEvent s.nodes (node_draws s i) x past (link ++ more.0) in
+      let S : List Msg → Type 0 = λ x. HasEvent s.nodes (node_draws s i) here.state past x in
+      here.stays (subst Q (sym state_is) not_leader) room (subst S (sym left_is) (subst R (sym state_is) (has_event_still s.nodes (node_draws s i) state past link more.0 event)))
 
   -- the next event of the log is of the same kind
   alike : (e f : Event) (rest : List Event) (after : NodeState) → NodeStep s.nodes state e after → log ≡ past ++ f ∷ rest → AreAlike e f
@@ -83,10 +83,10 @@ module _ (s : Setup) (i : ℕ) (past log : List Event) (state : NodeState) (link
       let Q : NodeState → Type 0 = λ x. NodeStep s.nodes x f parts.2.0 in
       steps_alike s.nodes state e f after parts.2.0 step (subst Q state_is parts.2.1)
 
-  same_draw : (d c : ℕ) (rest : List Event) → BeginsWith (given s i) (drawn (past ++ Draw d ∷ [])) → log ≡ past ++ Draw c ∷ rest → d ≡ c
+  same_draw : (d c : ℕ) (rest : List Event) → BeginsWith (node_draws s i) (drawn (past ++ Draw d ∷ [])) → log ≡ past ++ Draw c ∷ rest → d ≡ c
   same_draw d c rest draws is =
-      let a : given s i ≡ drawn past ++ d ∷ draws.0 = draws.1 ∙ ap (λ (x : List ℕ). x ++ draws.0) (filter_map-append drawing past (Draw d ∷ [])) ∙ append_assoc (drawn past) (d ∷ []) draws.0 in
-      let b : given s i ≡ drawn past ++ c ∷ (drawn rest ++ ended.draws.0) =
+      let a : node_draws s i ≡ drawn past ++ d ∷ draws.0 = draws.1 ∙ ap (λ (x : List ℕ). x ++ draws.0) (filter_map-append drawing past (Draw d ∷ [])) ∙ append_assoc (drawn past) (d ∷ []) draws.0 in
+      let b : node_draws s i ≡ drawn past ++ c ∷ (drawn rest ++ ended.draws.0) =
       ended.draws.1 ∙ ap (λ (x : List Event). drawn x ++ ended.draws.0) is ∙ ap (λ (x : List ℕ). x ++ ended.draws.0) (filter_map-append drawing past (Draw c ∷ rest)) ∙ append_assoc (drawn past) (c ∷ drawn rest) ended.draws.0 in
       next_same (drawn past) draws.0 (drawn rest ++ ended.draws.0) d c (sym a ∙ b)
 
@@ -99,7 +99,7 @@ module _ (s : Setup) (i : ℕ) (past log : List Event) (state : NodeState) (link
       next_same (got past) (first.0 ++ more.0) (got rest ++ ended.receipts.0) m k (sym a ∙ b)
 
   -- it is the same event
-  same_event : (e f : Event) (rest : List Event) → AreAlike e f → BeginsWith (given s i) (drawn (past ++ e ∷ [])) → ((m : Msg) → e ≡ Got m → BeginsWith link (m ∷ [])) → log ≡ past ++ f ∷ rest → e ≡ f
+  same_event : (e f : Event) (rest : List Event) → AreAlike e f → BeginsWith (node_draws s i) (drawn (past ++ e ∷ [])) → ((m : Msg) → e ≡ Got m → BeginsWith link (m ∷ [])) → log ≡ past ++ f ∷ rest → e ≡ f
   same_event (Draw d) (Draw c) rest both draws first is = ap Draw (same_draw d c rest draws is)
   same_event (Sent m) (Sent k) rest both draws first is = ap Sent both
   same_event (Got m) (Got k) rest both draws first is = ap Got (same_receipt m k rest (first m refl) is)
@@ -110,7 +110,7 @@ module _ (s : Setup) (i : ℕ) (past log : List Event) (state : NodeState) (link
   same_event (Got m) (Draw c) rest both draws first is = absurd both
   same_event (Got m) (Sent k) rest both draws first is = absurd both
 
-  held_on : (e : Event) (after : NodeState) (rest : List Event) → NodeStep s.nodes state e after → BeginsWith (given s i) (drawn (past ++ e ∷ [])) → ((m : Msg) → e ≡ Got m → BeginsWith link (m ∷ [])) → log ≡ past ++ rest → BeginsWith log (past ++ e ∷ [])
+  held_on : (e : Event) (after : NodeState) (rest : List Event) → NodeStep s.nodes state e after → BeginsWith (node_draws s i) (drawn (past ++ e ∷ [])) → ((m : Msg) → e ≡ Got m → BeginsWith link (m ∷ [])) → log ≡ past ++ rest → BeginsWith log (past ++ e ∷ [])
   held_on e after [] step draws first is = absurd (not_all (is ∙ append-nil past))
   held_on e after (f ∷ rest) step draws first is =
       let same : e ≡ f = same_event e f rest (alike e f rest after step is) draws first is in
@@ -125,7 +125,7 @@ record IsHeld (s : Setup) (logs : ℕ → List Event) (past : List (ℕ × Event
   begins : (i : ℕ) → i < s.nodes → BeginsWith (logs i) (events_at past i)
 
 held_more : (s : Setup) (logs : ℕ → List Event) (past : List (ℕ × Event)) (c b : Configuration) (i : ℕ) (e : Event) → 2 ≤ s.nodes → AreEnded s logs → IsHeld s logs past c → CanStep s past c i → RingStep s.nodes i e c b
-    → BeginsWith (given s i) (drawn (events_at (past ++ (i, e) ∷ []) i)) → IsHeld s logs (past ++ (i, e) ∷ []) b
+    → BeginsWith (node_draws s i) (drawn (events_at (past ++ (i, e) ∷ []) i)) → IsHeld s logs (past ++ (i, e) ∷ []) b
 held_more s logs past c b i e two ended held can step draws =
     let n : ℕ = s.nodes in
     let l : i < s.nodes = step.place in
@@ -133,7 +133,7 @@ held_more s logs past c b i e two ended held can step draws =
     let own : events_at (past ++ (i, e) ∷ []) i ≡ events_at past i ++ e ∷ [] = own_more past i i e refl in
     let link : got (events_at past i) ++ c.link (prev s.nodes i) ≡ sent (events_at past (prev s.nodes i)) =
     ap (λ (x : ℕ). got (events_at past x) ++ c.link (prev s.nodes i)) (sym (next_prev s.nodes i l)) ∙ held.balanced (prev s.nodes i) p in
-    let P : List Event → Type 0 = λ es. BeginsWith (given s i) (drawn es) in
+    let P : List Event → Type 0 = λ es. BeginsWith (node_draws s i) (drawn es) in
     let begins : BeginsWith (logs i) (events_at past i ++ e ∷ []) =
     held_on s i (events_at past i) (logs i) (c.state i) (c.link (prev s.nodes i)) (sent (events_at past (prev s.nodes i))) (sent (logs (prev s.nodes i)))
     (held.leads i l) link (sends_begin (logs (prev s.nodes i)) (events_at past (prev s.nodes i)) (held.begins (prev s.nodes i) p)) (ended i l) can.not_leader can.room can.event
@@ -166,18 +166,18 @@ fewer_drawn : (ids : List ℕ) (es fs : List Event) → BeginsWith ids (drawn (e
 fewer_drawn ids es fs h = (drawn fs ++ h.0, h.1 ∙ ap (λ (x : List ℕ). x ++ h.0) (filter_map-append drawing es fs) ∙ append_assoc (drawn es) (drawn fs) h.0)
 
 held : (s : Setup) (logs : ℕ → List Event) (past : List (ℕ × Event)) (c : Configuration) (run : List (ℕ × Event)) (d : Configuration) → 2 ≤ s.nodes → AreEnded s logs → IsHeld s logs past c → Walks s past c run d
-    → ((i : ℕ) → i < s.nodes → BeginsWith (given s i) (drawn (events_at (past ++ run) i))) → (i : ℕ) → i < s.nodes → BeginsWith (logs i) (events_at (past ++ run) i)
+    → ((i : ℕ) → i < s.nodes → BeginsWith (node_draws s i) (drawn (events_at (past ++ run) i))) → (i : ℕ) → i < s.nodes → BeginsWith (logs i) (events_at (past ++ run) i)
 held s logs past c [] d two ended so_far walk draws i l =
     let P : List (ℕ × Event) → Type 0 = λ xs. BeginsWith (logs i) (events_at xs i) in
     subst P (sym (append-nil past)) (so_far.begins i l)
 held s logs past c (x ∷ run) d two ended so_far walk draws i l =
     let all : (past ++ x ∷ []) ++ run ≡ past ++ x ∷ run = append_assoc past (x ∷ []) run in
-    let P : List (ℕ × Event) → Type 0 = λ xs. (j : ℕ) → j < s.nodes → BeginsWith (given s j) (drawn (events_at xs j)) in
+    let P : List (ℕ × Event) → Type 0 = λ xs. (j : ℕ) → j < s.nodes → BeginsWith (node_draws s j) (drawn (events_at xs j)) in
     let Q : List (ℕ × Event) → Type 0 = λ xs. BeginsWith (logs i) (events_at xs i) in
-    let drawn_all : (j : ℕ) → j < s.nodes → BeginsWith (given s j) (drawn (events_at ((past ++ x ∷ []) ++ run) j)) = subst P (sym all) draws in
-    let R : List Event → Type 0 = λ es. BeginsWith (given s x.0) (drawn es) in
-    let here : BeginsWith (given s x.0) (drawn (events_at (past ++ x ∷ []) x.0)) =
-    fewer_drawn (given s x.0) (events_at (past ++ x ∷ []) x.0) (events_at run x.0) (subst R (filter_map-append (event_of x.0) (past ++ x ∷ []) run) (drawn_all x.0 walk.1.1.place)) in
+    let drawn_all : (j : ℕ) → j < s.nodes → BeginsWith (node_draws s j) (drawn (events_at ((past ++ x ∷ []) ++ run) j)) = subst P (sym all) draws in
+    let R : List Event → Type 0 = λ es. BeginsWith (node_draws s x.0) (drawn es) in
+    let here : BeginsWith (node_draws s x.0) (drawn (events_at (past ++ x ∷ []) x.0)) =
+    fewer_drawn (node_draws s x.0) (events_at (past ++ x ∷ []) x.0) (events_at run x.0) (subst R (filter_map-append (event_of x.0) (past ++ x ∷ []) run) (drawn_all x.0 walk.1.1.place)) in
     subst Q all (held s logs (past ++ x ∷ []) walk.1.0 run d two ended (held_more s logs past c walk.1.0 x.0 x.1 two ended so_far walk.0 walk.1.1 here) walk.1.2 drawn_all i l)
 
 -- ---- full runs

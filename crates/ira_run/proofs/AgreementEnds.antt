@@ -13,7 +13,7 @@ use Rattle.ira_order.specs.Ring.{prev, log_of}
 use Rattle.ira_order.specs.Matching.{sent, got}
 use Rattle.ira_run.specs.declared.node_end.NodeEnd.{NodeEnd}
 use Rattle.ira_run.specs.declared.node_end.NodeEnd.TheVariants.{Leader, Stopped, DrawsSpent, LogFull, NoStep, Quiet}
-use Rattle.ira_run.specs.Setup.{Setup, is_initiator, given}
+use Rattle.ira_run.specs.Setup.{Setup, is_initiator, node_draws}
 use Rattle.ira_run.specs.FullRun.{drawn, HasEvent, owes, chooses, receives}
 use Rattle.ira_run.specs.ShownEnd.{Waits, Says, IsShown}
 use Rattle.ira_run.specs.Agreement.{stopped_for_quiet}
@@ -25,12 +25,12 @@ use Rattle.ira_run.proofs.MoreDraws.{must_have_spent}
 
 -- a node that waits makes no event but a receipt
 waiting_no_event : (s : Setup) (i cap : ℕ) (state : NodeState) (events : List Event) (left : List Msg) → Waits cap state events → ((m : Msg) (others : List Msg) → left ≡ m ∷ others → HasStep s.nodes state (Got m) → ⊥)
-    → ¬ (HasEvent s.nodes (given s i) state events left)
+    → ¬ (HasEvent s.nodes (node_draws s i) state events left)
 waiting_no_event s i cap state events left waits none (owes m o) = let free = waits.1 in cc
 waiting_no_event s i cap state events left waits none (chooses round is unused) = choosing_no_waiting round state is waits.2
 waiting_no_event s i cap state events left waits none (receives m others is step) = none m others is step
 
-spent_no_event : (s : Setup) (i round : ℕ) (state : NodeState) (events : List Event) (left : List Msg) → state ≡ free (Choosing round) → drawn events ≡ given s i → ¬ (HasEvent s.nodes (given s i) state events left)
+spent_no_event : (s : Setup) (i round : ℕ) (state : NodeState) (events : List Event) (left : List Msg) → state ≡ free (Choosing round) → drawn events ≡ node_draws s i → ¬ (HasEvent s.nodes (node_draws s i) state events left)
 spent_no_event s i round state events left is all (owes m o) = cc
 spent_no_event s i round state events left is all (chooses other other_is unused) = omega (arith, unused, ap length all)
 spent_no_event s i round state events left is all (receives m others there step) = choosing_no_receipt s.nodes round state m is step
@@ -40,7 +40,7 @@ none_left : (events : List Event) (input left others : List Msg) (m : Msg) → i
 none_left events input left others m all same is = omega (arith, ap length all, length-append (got events) left, ap length same, ap length is)
 
 pub shown_stays : (s : Setup) (i : ℕ) (state : NodeState) (events : List Event) (input left : List Msg) (end : NodeEnd) → input ≡ got events ++ left → Says s i state events input end → ¬ (IsLeader state.phase) → length events < s.cap
-    → ¬ (HasEvent s.nodes (given s i) state events left)
+    → ¬ (HasEvent s.nodes (node_draws s i) state events left)
 shown_stays s i state events input left Leader all says not_leader room = absurd (not_leader says)
 shown_stays s i state events input left LogFull all says not_leader room = absurd (omega (arith, says.1))
 shown_stays s i state events input left DrawsSpent all says not_leader room = spent_no_event s i says.1.0 state events left says.1.1 says.2

@@ -15,7 +15,7 @@ use Rattle.ira_order.proofs.RunsOfLogs.{run_is_order, every_order_is_run}
 use Rattle.ira_run.specs.declared.node_end.NodeEnd.{NodeEnd}
 use Rattle.ira_run.specs.declared.node_end.NodeEnd.TheVariants.{Leader, Stopped, DrawsSpent, LogFull, NoStep, Quiet}
 use Rattle.ira_run.specs.declared.run_fault.RunFault.{RunFault}
-use Rattle.ira_run.specs.Setup.{Setup, given}
+use Rattle.ira_run.specs.Setup.{Setup, node_draws}
 use Rattle.ira_run.specs.Run.{Run}
 use Rattle.ira_run.specs.FullRun.{drawn, BeginsWith, AreLogsOf, AreFullLogs}
 use Rattle.ira_run.specs.ShownEnd.{IsShown, IsLoneRun}
@@ -80,7 +80,7 @@ recording_ended s run rec i l =
     let log = log_at s run.logs i rec.logs l in
     let end = get_within run.ends i (omega (arith, rec.many)) in
     let shown = rec.ends i end.0 end.1 in
-    let P : List Event → Type 0 = λ es. BeginsWith (given s i) (drawn es) in
+    let P : List Event → Type 0 = λ es. BeginsWith (node_draws s i) (drawn es) in
     let Q : List Event → Type 0 = λ es. BeginsWith (sent (log_of run.logs (prev s.nodes i))) (got es) in
     let receipts : BeginsWith (sent (log_of run.logs (prev s.nodes i))) (got (log_of run.logs i)) = subst Q (sym log.2) (rec.links i log.0 log.1) in
     record {

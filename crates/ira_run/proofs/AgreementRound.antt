@@ -20,7 +20,7 @@ use Rattle.ira_order.specs.Matching.{receipt, got}
 use Rattle.ira_order.proofs.Ranks.{eq_cases}
 use Rattle.ira_run.specs.declared.node_end.NodeEnd.{NodeEnd}
 use Rattle.ira_run.specs.declared.node_end.NodeEnd.TheVariants.{Leader, Stopped, DrawsSpent, LogFull, NoStep, Quiet}
-use Rattle.ira_run.specs.Setup.{Setup, is_initiator, given}
+use Rattle.ira_run.specs.Setup.{Setup, is_initiator, node_draws}
 use Rattle.ira_run.specs.FullRun.{drawing, drawn, BeginsWith}
 use Rattle.ira_run.specs.ShownEnd.{Waits, Says}
 use Rattle.ira_run.proofs.Beginnings.{next_same}
@@ -92,7 +92,7 @@ module _ (s : Setup) (i : ℕ) (log events : List Event) (state last : NodeState
     (leads : LeadsTo s.nodes (first_state (is_initiator s i)) events state)
     (run : LeadsTo s.nodes (first_state (is_initiator s i)) log last)
     (count : length log ≤ s.cap)
-    (draws : BeginsWith (given s i) (drawn log))
+    (draws : BeginsWith (node_draws s i) (drawn log))
     (receipts : BeginsWith sendings (got log))
     (more : BeginsWith sendings input) where
   -- the next event of the log has a step
@@ -103,7 +103,7 @@ module _ (s : Setup) (i : ℕ) (log events : List Event) (state last : NodeState
       let Q : NodeState → Type 0 = λ x. NodeStep s.nodes x e parts.2.0 in
       (parts.2.0, subst Q (one_end s.nodes (first_state (is_initiator s i)) events parts.0 state parts.1 leads) parts.2.1)
 
-  no_draw : (d : ℕ) (rest : List Event) → drawn events ≡ given s i → log ≡ events ++ Draw d ∷ rest → ⊥
+  no_draw : (d : ℕ) (rest : List Event) → drawn events ≡ node_draws s i → log ≡ events ++ Draw d ∷ rest → ⊥
   no_draw d rest spent is =
       omega (
         arith,

@@ -15,7 +15,7 @@ use Rattle.ira_order.proofs.Ranks.{lt_cases}
 use Rattle.ira_order.proofs.Runs.{prev_below}
 use Rattle.ira_run.specs.declared.node_end.NodeEnd.{NodeEnd}
 use Rattle.ira_run.specs.declared.node_end.NodeEnd.TheVariants.{Leader, Stopped, DrawsSpent, LogFull, NoStep, Quiet}
-use Rattle.ira_run.specs.Setup.{Setup, is_initiator, given}
+use Rattle.ira_run.specs.Setup.{Setup, is_initiator, node_draws}
 use Rattle.ira_run.specs.FullRun.{events_at, drawn, HasEvent, owes, chooses, receives, BeginsWith, AreFullLogs}
 use Rattle.ira_run.specs.ShownEnd.{Waits, Says, IsShown, IsLoneRun}
 use Rattle.ira_run.proofs.Agreement.{IsEnded, full_run_ended}
@@ -25,15 +25,15 @@ use Rattle.ira_run.proofs.Recordable.{run_within}
 
 -- node i made these events, received the first of these messages, and can't go on from this state
 module _ (s : Setup) (i : ℕ) (events : List Event) (input : List Msg)
-    (draws : BeginsWith (given s i) (drawn events)) where
+    (draws : BeginsWith (node_draws s i) (drawn events)) where
   abbrev Stays : NodeState → List Msg → Type 0
-  Stays state left = ¬ (IsLeader state.phase) → length events < s.cap → ¬ (HasEvent s.nodes (given s i) state events left)
+  Stays state left = ¬ (IsLeader state.phase) → length events < s.cap → ¬ (HasEvent s.nodes (node_draws s i) state events left)
 
   -- it has an end
   abbrev Shows : NodeState → Type 0
   Shows state = (end : NodeEnd) × Says s i state events input end × (end ≢ Stopped)
 
-  all_drawn : (ids : List ℕ) → given s i ≡ drawn events ++ ids → (length (drawn events) < length (given s i) → ⊥) → drawn events ≡ given s i
+  all_drawn : (ids : List ℕ) → node_draws s i ≡ drawn events ++ ids → (length (drawn events) < length (node_draws s i) → ⊥) → drawn events ≡ node_draws s i
   all_drawn [] is none = sym (is ∙ append-nil (drawn events))
   all_drawn (d ∷ ids) is none = absurd (none (omega (arith, ap length is, length-append (drawn events) (d ∷ ids))))
 

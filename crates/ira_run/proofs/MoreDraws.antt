@@ -14,7 +14,7 @@ use Rattle.ira_order.specs.Matching.{sent}
 use Rattle.ira_order.specs.Run.{Configuration}
 use Rattle.ira_run.specs.declared.node_end.NodeEnd.{NodeEnd}
 use Rattle.ira_run.specs.declared.node_end.NodeEnd.TheVariants.{Leader, Stopped, DrawsSpent, LogFull, NoStep, Quiet}
-use Rattle.ira_run.specs.Setup.{Setup, is_initiator, given}
+use Rattle.ira_run.specs.Setup.{Setup, is_initiator, node_draws}
 use Rattle.ira_run.specs.Run.{Run}
 use Rattle.ira_run.specs.FullRun.{opening_of, events_at, drawn, HasEvent, owes, chooses, receives, CanStep, Walks, BeginsWith}
 use Rattle.ira_run.specs.ShownEnd.{Says, IsShown, IsLoneRun}
@@ -26,7 +26,7 @@ choosing_no_leader round state is l = let P : NodeState → Type 0 = λ x. IsLea
 
 -- a node that has to draw and may go on has spent its draws
 pub must_have_spent : (s : Setup) (i round : ℕ) (state : NodeState) (events : List Event) (input : List Msg) (end : NodeEnd) → state ≡ free (Choosing round) → length events < s.cap → Says s i state events input end
-    → (end ≡ DrawsSpent) × (drawn events ≡ given s i)
+    → (end ≡ DrawsSpent) × (drawn events ≡ node_draws s i)
 must_have_spent s i round state events input Leader is room says = absurd (choosing_no_leader round state is says)
 must_have_spent s i round state events input LogFull is room says = absurd (omega (arith, says.1))
 must_have_spent s i round state events input DrawsSpent is room says = (refl, says.2)
@@ -37,11 +37,11 @@ must_have_spent s i round state events input Stopped is room says = absurd (choo
 abbrev pub with_draws : Setup → List (List ℕ) → Setup
 with_draws s ds = record { nodes = s.nodes; initiators = s.initiators; draws = ds; cap = s.cap }
 
-module _ (s : Setup) (ds : List (List ℕ)) (more : (i : ℕ) → i < s.nodes → BeginsWith (given (with_draws s ds) i) (given s i)) where
-  longer : (i : ℕ) → i < s.nodes → length (given s i) ≤ length (given (with_draws s ds) i)
-  longer i l = omega (arith, ap length (more i l).1, length-append (given s i) (more i l).0)
+module _ (s : Setup) (ds : List (List ℕ)) (more : (i : ℕ) → i < s.nodes → BeginsWith (node_draws (with_draws s ds) i) (node_draws s i)) where
+  longer : (i : ℕ) → i < s.nodes → length (node_draws s i) ≤ length (node_draws (with_draws s ds) i)
+  longer i l = omega (arith, ap length (more i l).1, length-append (node_draws s i) (more i l).0)
 
-  has_event_still : (i : ℕ) → i < s.nodes → (state : NodeState) (events : List Event) (input : List Msg) → HasEvent s.nodes (given s i) state events input → HasEvent s.nodes (given (with_draws s ds) i) state events input
+  has_event_still : (i : ℕ) → i < s.nodes → (state : NodeState) (events : List Event) (input : List Msg) → HasEvent s.nodes (node_draws s i) state events input → HasEvent s.nodes (node_draws (with_draws s ds) i) state events input
   has_event_still i l state events input (owes m o) = owes m o
   has_event_still i l state events input (chooses round is unused) = chooses round is (omega (arith, unused, longer i l))
   has_event_still i l state events input (receives m others is step) = receives m others is step
@@ -58,9 +58,9 @@ module _ (s : Setup) (ds : List (List ℕ)) (more : (i : ℕ) → i < s.nodes �
   walks_still past c (x ∷ run) d walk =
       (can_step_still past c x.0 walk.1.1.place walk.0, (walk.1.0, walk.1.1, walks_still (past ++ x ∷ []) walk.1.0 run d walk.1.2))
 
-  module _ (run : Run) (alike : (i : ℕ) → i < s.nodes → slice_get run.ends i ≡ Some DrawsSpent → given (with_draws s ds) i ≡ given s i) (lone : IsLoneRun s run) where
+  module _ (run : Run) (alike : (i : ℕ) → i < s.nodes → slice_get run.ends i ≡ Some DrawsSpent → node_draws (with_draws s ds) i ≡ node_draws s i) (lone : IsLoneRun s run) where
     -- whoever has to draw at the end had all draws of the longer setup, too
-    none_unused : (i round : ℕ) → i < s.nodes → lone.logs.end.state i ≡ free (Choosing round) → length (events_at lone.logs.run i) < s.cap → length (drawn (events_at lone.logs.run i)) < length (given (with_draws s ds) i) → ⊥
+    none_unused : (i round : ℕ) → i < s.nodes → lone.logs.end.state i ≡ free (Choosing round) → length (events_at lone.logs.run i) < s.cap → length (drawn (events_at lone.logs.run i)) < length (node_draws (with_draws s ds) i) → ⊥
     none_unused i round l is room unused =
         let at : slice_get run.ends i ≡ Some (get_or run.ends i Quiet) = slice_get-get_or run.ends i Quiet (omega (arith, lone.many)) in
         let shown : IsShown s run.logs i (get_or run.ends i Quiet) = lone.ends i (get_or run.ends i Quiet) at in
@@ -69,20 +69,20 @@ module _ (s : Setup) (ds : List (List ℕ)) (more : (i : ℕ) → i < s.nodes �
         let P : List Event → Type 0 = λ es. LeadsTo s.nodes (first_state (is_initiator s i)) es (lone.logs.end.state i) in
         let same : shown.0 ≡ lone.logs.end.state i = one_end s.nodes (first_state (is_initiator s i)) (log_of run.logs i) shown.0 (lone.logs.end.state i) shown.1 (subst P log leads) in
         let spent = must_have_spent s i round shown.0 (log_of run.logs i) (sent (log_of run.logs (prev s.nodes i))) (get_or run.ends i Quiet) (same ∙ is) (omega (arith, room, ap length log)) shown.2 in
-        let all : given (with_draws s ds) i ≡ given s i = alike i l (at ∙ ap Some spent.0) in
+        let all : node_draws (with_draws s ds) i ≡ node_draws s i = alike i l (at ∙ ap Some spent.0) in
         omega (arith, unused, ap length all, ap length spent.1, ap (λ (es : List Event). length (drawn es)) log)
 
-    no_step_still : (i : ℕ) → i < s.nodes → CanStep (with_draws s ds) lone.logs.run lone.logs.end i → HasEvent s.nodes (given (with_draws s ds) i) (lone.logs.end.state i) (events_at lone.logs.run i) (lone.logs.end.link (prev s.nodes i)) → ⊥
+    no_step_still : (i : ℕ) → i < s.nodes → CanStep (with_draws s ds) lone.logs.run lone.logs.end i → HasEvent s.nodes (node_draws (with_draws s ds) i) (lone.logs.end.state i) (events_at lone.logs.run i) (lone.logs.end.link (prev s.nodes i)) → ⊥
     no_step_still i l can (owes m o) = lone.logs.full.whole i l (record { not_leader = can.not_leader; room = can.room; event = owes m o })
     no_step_still i l can (chooses round is unused) = none_unused i round l is can.room unused
     no_step_still i l can (receives m others is step) = lone.logs.full.whole i l (record { not_leader = can.not_leader; room = can.room; event = receives m others is step })
 
-    draws_still : (i : ℕ) → i < s.nodes → BeginsWith (given (with_draws s ds) i) (drawn (events_at lone.logs.run i))
+    draws_still : (i : ℕ) → i < s.nodes → BeginsWith (node_draws (with_draws s ds) i) (drawn (events_at lone.logs.run i))
     draws_still i l =
         let first = lone.logs.full.draws i l in
         (first.0 ++ (more i l).0, (more i l).1 ∙ ap (λ (ids : List ℕ). ids ++ (more i l).0) first.1 ∙ append_assoc (drawn (events_at lone.logs.run i)) first.0 (more i l).0)
 
-    says_still : (i : ℕ) (state : NodeState) (events : List Event) (input : List Msg) (end : NodeEnd) → (end ≡ DrawsSpent → given (with_draws s ds) i ≡ given s i) → Says s i state events input end → Says (with_draws s ds) i state events input end
+    says_still : (i : ℕ) (state : NodeState) (events : List Event) (input : List Msg) (end : NodeEnd) → (end ≡ DrawsSpent → node_draws (with_draws s ds) i ≡ node_draws s i) → Says s i state events input end → Says (with_draws s ds) i state events input end
     says_still i state events input Leader same says = says
     says_still i state events input LogFull same says = says
     says_still i state events input DrawsSpent same says = (says.0, says.1, says.2 ∙ sym (same refl))

@@ -2,7 +2,7 @@
 use Rattle.std.proofs.Common.{◌≡◌, ℕ, ◌<◌, ◌≤◌, ◌↔◌, Bool, false, List, [], ◌∷◌, All, IsTrue, length, get_or, sym, ap, ◌∙◌, subst, arith}
 use Rattle.std.specs.Prelude.{map}
 use Rattle.std.proofs.lemmas.List.{get_or-map, get_or_read, length-map}
-use Rattle.ira_run.specs.Setup.{Setup, is_initiator, given, IsForEachNode, GivesIds}
+use Rattle.ira_run.specs.Setup.{Setup, is_initiator, node_draws, IsForEachNode, GivesIds}
 
 -- what holds of each row holds of each list that is seen of it, and the other way round
 rows_seen : {V : Type 0} (see : V → List ℕ) (P : List ℕ → Type 0) (n : ℕ) (rows : List V) → length rows ≡ n → All (λ row. P (see row)) rows → (i : ℕ) → i < n → P (get_or (map see rows) i [])
@@ -31,11 +31,11 @@ seen_ids {V} see n kinds rows most stopped_for_quiet s is lists each =
 
 -- what the code reads of a setup for a place
 pub read_setup : {V : Type 0} (see : V → List ℕ) (n : ℕ) (kinds : List Bool) (rows : List V) (most : ℕ) (s : Setup) (i : ℕ) (kind : Bool) (row : V) → record { nodes = n; initiators = kinds; draws = map see rows; cap = most } ≡ s → IsForEachNode s → i < s.nodes
-    → kind ≡ get_or kinds i kind → row ≡ get_or rows i row → (kind ≡ is_initiator s i) × (see row ≡ given s i)
+    → kind ≡ get_or kinds i kind → row ≡ get_or rows i row → (kind ≡ is_initiator s i) × (see row ≡ node_draws s i)
 read_setup {V} see n kinds rows most s i kind row view lists l kind_is row_is =
     let nodes : n ≡ s.nodes = ap (λ (x : Setup). x.nodes) view in
     let kinds_are : length kinds ≡ s.nodes = ap (λ (x : Setup). length x.initiators) view ∙ lists.0 in
     let rows_are : length rows ≡ s.nodes = sym (length-map rows see) ∙ ap (λ (x : Setup). length x.draws) view ∙ lists.1 in (
       get_or_read kinds i kind (omega arith) kind_is false ∙ ap (λ (x : Setup). is_initiator x i) view,
-      ap see row_is ∙ sym (get_or-map see rows i row [] (omega arith)) ∙ ap (λ (x : Setup). given x i) view,
+      ap see row_is ∙ sym (get_or-map see rows i row [] (omega arith)) ∙ ap (λ (x : Setup). node_draws x i) view,
     )

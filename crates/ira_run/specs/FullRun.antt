@@ -12,7 +12,7 @@ use Rattle.ira_node.specs.NodeState.{first_state, free, IsLeader}
 use Rattle.ira_node.specs.NodeStep.{HasStep}
 use Rattle.ira_order.specs.Ring.{prev}
 use Rattle.ira_order.specs.Run.{Configuration, RingStep, event_of, IsRunOfLogs}
-use Rattle.ira_run.specs.Setup.{Setup, is_initiator, given}
+use Rattle.ira_run.specs.Setup.{Setup, is_initiator, node_draws}
 
 -- each node is in the first state of its kind, and the links are empty
 abbrev pub opening_of : Setup → Configuration
@@ -46,7 +46,7 @@ pub data HasEvent (n : ℕ) (ids : List ℕ) (state : NodeState) (events : List 
 pub record CanStep (s : Setup) (past : List (ℕ × Event)) (c : Configuration) (i : ℕ) : Type 0 where
   pub not_leader : ¬ (IsLeader (c.state i).phase)
   pub room : length (events_at past i) < s.cap
-  pub event : HasEvent s.nodes (given s i) (c.state i) (events_at past i) (c.link (prev s.nodes i))
+  pub event : HasEvent s.nodes (node_draws s i) (c.state i) (events_at past i) (c.link (prev s.nodes i))
 
 -- from configuration c, to which the events past led, these events, each with the place of its node,
 -- lead by ring steps to configuration d, and each is of a node that can step at its point
@@ -63,7 +63,7 @@ BeginsWith {X} whole part = (rest : List X) × (whole ≡ part ++ rest)
 -- no node can step
 pub record IsFullRun (s : Setup) (run : List (ℕ × Event)) (end : Configuration) : Type 0 where
   pub walk : Walks s [] (opening_of s) run end
-  pub draws : (i : ℕ) → i < s.nodes → BeginsWith (given s i) (drawn (events_at run i))
+  pub draws : (i : ℕ) → i < s.nodes → BeginsWith (node_draws s i) (drawn (events_at run i))
   pub whole : (i : ℕ) → i < s.nodes → ¬ (CanStep s run end i)
 
 -- logs of the setup's ring, each of its place and of its node's start kind

@@ -13,7 +13,7 @@ use Rattle.ira_order.specs.Ring.{prev, log_of}
 use Rattle.ira_order.specs.Matching.{sent, got}
 use Rattle.ira_run.specs.declared.node_end.NodeEnd.{NodeEnd}
 use Rattle.ira_run.specs.declared.node_end.NodeEnd.TheVariants.{Leader, Stopped, DrawsSpent, LogFull, NoStep, Quiet}
-use Rattle.ira_run.specs.Setup.{Setup, given}
+use Rattle.ira_run.specs.Setup.{Setup, node_draws}
 use Rattle.ira_run.specs.FullRun.{drawn, BeginsWith, AreLogsOf}
 use Rattle.ira_run.specs.Run.{Run}
 use Rattle.ira_run.specs.ShownEnd.{MayGoOn, Waits, AreShown}
@@ -61,7 +61,7 @@ pub record IsRecording (s : Setup) (run : Run) : Type 0 where
   -- it has at most as many events as the setup allows
   pub counts : EachLog run.logs (λ i log. length log.events ≤ s.cap)
   -- the IDs that its node drew are the first of those that it was given
-  pub draws : EachLog run.logs (λ i log. BeginsWith (given s i) (drawn log.events))
+  pub draws : EachLog run.logs (λ i log. BeginsWith (node_draws s i) (drawn log.events))
   -- the messages that it received are the first of those that the node before it sent
   pub links : EachLog run.logs (λ i log. BeginsWith (sent (log_of run.logs (prev s.nodes i))) (got log.events))
   -- there is an end for each node

@@ -16,8 +16,8 @@ abbrev pub is_initiator : Setup → ℕ → Bool
 is_initiator s i = slice_index_or s.initiators i false
 
 -- the IDs that node i is given to draw
-abbrev pub given : Setup → ℕ → List ℕ
-given s i = slice_index_or s.draws i []
+abbrev pub node_draws : Setup → ℕ → List ℕ
+node_draws s i = slice_index_or s.draws i []
 
 -- there is a start kind, and a list of IDs, for each node
 abbrev pub IsForEachNode : Setup → Type 0
@@ -29,7 +29,7 @@ HasInitiator s = (i : ℕ) × (i < s.nodes) × (is_initiator s i ≡ true)
 
 -- each node is given IDs of 1 to the number of nodes
 abbrev pub GivesIds : Setup → Type 0
-GivesIds s = (i : ℕ) → i < s.nodes → All (λ d. (1 ≤ d) × (d ≤ s.nodes)) (given s i)
+GivesIds s = (i : ℕ) → i < s.nodes → All (λ d. (1 ≤ d) × (d ≤ s.nodes)) (node_draws s i)
 
 -- a node may have at least one event, and at most as many as a log may have
 abbrev pub HasCap : Setup → Type 0

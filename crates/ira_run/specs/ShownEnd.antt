@@ -13,7 +13,7 @@ use Rattle.ira_order.specs.Ring.{prev, log_of}
 use Rattle.ira_order.specs.Matching.{sent, got}
 use Rattle.ira_run.specs.declared.node_end.NodeEnd.{NodeEnd}
 use Rattle.ira_run.specs.declared.node_end.NodeEnd.TheVariants.{Leader, Stopped, DrawsSpent, LogFull, NoStep, Quiet}
-use Rattle.ira_run.specs.Setup.{Setup, is_initiator, given}
+use Rattle.ira_run.specs.Setup.{Setup, is_initiator, node_draws}
 use Rattle.ira_run.specs.FullRun.{drawn, BeginsWith, AreFullLogs}
 use Rattle.ira_run.specs.Run.{Run}
 
@@ -33,7 +33,7 @@ Says s i state events input Leader = IsLeader state.phase
 -- it doesn't lead, and has made as many events as it may
 Says s i state events input LogFull = ¬ (IsLeader state.phase) × (length events ≡ s.cap)
 -- it may go on, has to draw, and has drawn all IDs that it was given
-Says s i state events input DrawsSpent = MayGoOn s.cap state events × ((round : ℕ) × (state ≡ free (Choosing round))) × (drawn events ≡ given s i)
+Says s i state events input DrawsSpent = MayGoOn s.cap state events × ((round : ℕ) × (state ≡ free (Choosing round))) × (drawn events ≡ node_draws s i)
 -- it waits, and the message has no step and is the next one sent to it behind those that it received
 Says s i state events input (NoStep m) = Waits s.cap state events × ¬ (HasStep s.nodes state (Got m)) × BeginsWith input (got events ++ m ∷ [])
 -- it waits, and has received all messages that were sent to it

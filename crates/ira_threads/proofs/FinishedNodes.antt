@@ -5,7 +5,7 @@ use mathlib.Core.List.{IsPrefix}
 use Rattle.ira_links.specs.declared.frame.Frame.{Frame}
 use Rattle.ira_links.specs.LinkEnd.{LinkName}
 use Rattle.ira_order.specs.Ring.{prev}
-use Rattle.ira_run.specs.Setup.{Setup, is_initiator, given}
+use Rattle.ira_run.specs.Setup.{Setup, is_initiator, node_draws}
 use Rattle.ira_threads.specs.NodeTask.{NodeTask, AreTasksOfPlaces}
 use Rattle.ira_threads.specs.TaskPromise.{TaskPromise, promise_of}
 use Rattle.ira_threads.specs.FinishedNode.{FinishedNode, KeepsPromise, KeepPromises, AreFinishedOnPlaces, FramesPass, FramesPassRoundRing}
@@ -21,7 +21,7 @@ finished_more (d ∷ ds) (x ∷ xs) promise finished h k = (h.0, finished_more d
 -- what a promise asks for, of the place and of the links that it turned out to be for
 moved : (s : Setup) (task : NodeTask) (k : ℕ) (a : LinkName) (finished : FinishedNode) → task.place ≡ k → task.input ≡ a → KeepsPromise (promise_of s task) finished → KeepsPromise (record { setup = s; place = k; input = a; output = finished.output.link }) finished
 moved s task k a finished place input h =
-    let P : ℕ → Type 0 = λ i. IsRecorded s.nodes i (is_initiator s i) (given s i) s.cap finished.log finished.end in
+    let P : ℕ → Type 0 = λ i. IsRecorded s.nodes i (is_initiator s i) (node_draws s i) s.cap finished.log finished.end in
     record {
       place = h.place ∙ place;
       recorded = subst P place h.recorded;

@@ -5,7 +5,7 @@ use Rattle.ira_event.specs.Log.{Log}
 use Rattle.ira_links.specs.declared.frame.Frame.{Frame}
 use Rattle.ira_links.specs.LinkEnd.{LinkName, LinkEnd}
 use Rattle.ira_run.specs.declared.node_end.NodeEnd.{NodeEnd}
-use Rattle.ira_run.specs.Setup.{Setup, is_initiator, given}
+use Rattle.ira_run.specs.Setup.{Setup, is_initiator, node_draws}
 use Rattle.ira_threads.specs.TaskPromise.{TaskPromise}
 use Rattle.ira_threads.specs.NodeFrames.{frames_put, frames_taken}
 use Rattle.ira_run.specs.Recording.{IsRecorded}
@@ -23,7 +23,7 @@ pub record FinishedNode : Type 0 where
 -- log and this end put and took
 pub record KeepsPromise (promise : TaskPromise) (finished : FinishedNode) : Type 0 where
   pub place : finished.place ≡ promise.place
-  pub recorded : IsRecorded promise.setup.nodes promise.place (is_initiator promise.setup promise.place) (given promise.setup promise.place) promise.setup.cap finished.log finished.end
+  pub recorded : IsRecorded promise.setup.nodes promise.place (is_initiator promise.setup promise.place) (node_draws promise.setup promise.place) promise.setup.cap finished.log finished.end
   pub input : finished.input.link ≡ promise.input
   pub output : finished.output.link ≡ promise.output
   pub put : finished.output.frames ≡ frames_put finished.log.events

@@ -1,6 +1,6 @@
 use Rattle.std.proofs.Common.{◌≡◌, ◌≤◌, ◌<◌, ◌∙◌, ℕ, Bool, List, All, ap, sym, subst, arith}
 use Rattle.ira_threads.specs.NodeTask.{NodeTask}
-use Rattle.ira_run.specs.Setup.{Setup, is_initiator, given}
+use Rattle.ira_run.specs.Setup.{Setup, is_initiator, node_draws}
 use Rattle.ira_run.specs.Recording.{IsRecorded}
 use Rattle.ira_run.proofs.Setups.{read_setup}
 use Rattle.ira_threads.proofs.node_task.NodeTask.run.Goals as goal
@@ -13,7 +13,7 @@ invariant_of-work g c =
     let nodes : c.setup.inside.nodes ≡ s.nodes = ap (λ (x : Setup). x.nodes) c.setup.view_is in
     let within : c.self.inside.place < s.nodes = omega (arith, place, c.requires.place) in
     let read = read_setup (λ v. v.items) c.setup.inside.nodes _ _ _ s c.self.inside.place c.index.result.now c.index-2.result.now c.setup.view_is c.requires.rules.lists within (rw c.from.ensures at c.index.ensures) (rw c.from-2.ensures at c.index-2.ensures) in
-    let ids : c.deref.result.now ≡ given s c.self.inside.place = c.deref.ensures.value ∙ read.1 in
+    let ids : c.deref.result.now ≡ node_draws s c.self.inside.place = c.deref.ensures.value ∙ read.1 in
     let P : ℕ × List ℕ → Type 0 = λ z. All (λ d. (1 ≤ d) × (d ≤ z.0)) z.1 in
     record {
       is_place = omega (arith, place, nodes, c.requires.place);
@@ -32,7 +32,7 @@ returns g c =
     let within : c.self.inside.place < s.nodes = omega (arith, place, c.requires.place) in
     let read = read_setup (λ v. v.items) c.setup.inside.nodes _ _ _ s c.self.inside.place c.index.result.now c.index-2.result.now c.setup.view_is c.requires.rules.lists within (rw c.from.ensures at c.index.ensures) (rw c.from-2.ensures at c.index-2.ensures) in
     let kind : c.index.result.now ≡ is_initiator s c.args.self.place = read.0 ∙ ap (λ (i : ℕ). is_initiator s i) place in
-    let ids : c.deref.result.now ≡ given s c.args.self.place = c.deref.ensures.value ∙ read.1 ∙ ap (λ (i : ℕ). given s i) place in
+    let ids : c.deref.result.now ≡ node_draws s c.args.self.place = c.deref.ensures.value ∙ read.1 ∙ ap (λ (i : ℕ). node_draws s i) place in
     let part = c.in_ok-part.part in
     let P : ℕ × ℕ × Bool × List ℕ × ℕ → Type 0 = λ z. IsRecorded z.0 z.1 z.2 z.3 z.4 part.log part.end in
     record {
