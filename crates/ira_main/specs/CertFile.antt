@@ -4,23 +4,23 @@ use Rattle.std.specs.Borrow.{Bor}
 use Rattle.ira_event.specs.Sink.{SinkState}
 use Rattle.ira_cert_text.specs.Certificate.{Certificate}
 use Rattle.ira_cert_text.specs.CertText.{IsCertText, cert_text}
-use Rattle.ira_main.specs.Complaint.{keep_complaint}
+use Rattle.ira_main.specs.ProgramFault.{write_fault}
 use Rattle.ira_main.specs.Shelf.{WritesFile}
-use Rattle.ira_main.specs.declared.complaint.Complaint.{Complaint}
-use Rattle.ira_main.specs.declared.complaint.Complaint.TheVariants.{CertificatePastLimits}
+use Rattle.ira_main.specs.declared.program_fault.ProgramFault.{ProgramFault}
+use Rattle.ira_main.specs.declared.program_fault.ProgramFault.TheVariants.{CertificatePastLimits}
 use Rattle.ira_main.specs.declared.shelf_fault.ShelfFault.{ShelfFault}
 use Rattle.ira_main.specs.declared.status.Status.{Status}
 use Rattle.ira_main.specs.declared.status.Status.TheVariants.{Yes}
 
 -- what comes of keeping a certificate on a shelf, in a new file of this name: nothing is done where its text is past
--- the limits; else its text is written, and a fault of that is complained of
+-- the limits; else its text is written, and a fault of that is the outcome
 pub data Keeps {S F : Type 0} (creates : S → List ℕ → Result F ShelfFault → S → Type 0) (loses : S → F → ShelfFault → S → Type 0)
-    (state : F → SinkState) (c : Certificate) (name : Bor (List ℕ)) (old new : S) (outcome : Result Status Complaint) : Type 0 where
+    (state : F → SinkState) (c : Certificate) (name : Bor (List ℕ)) (old new : S) (outcome : Result Status ProgramFault) : Type 0 where
   past_limits : ¬ (IsCertText (cert_text c) c) → new ≡ old → outcome ≡ Err CertificatePastLimits → Keeps creates loses state c name old new outcome
   kept : IsCertText (cert_text c) c → WritesFile creates loses state name.now (cert_text c) old new (Ok tt) → outcome ≡ Ok Yes → Keeps creates loses state c name old new outcome
-  unwritten : (fault : ShelfFault) → IsCertText (cert_text c) c → WritesFile creates loses state name.now (cert_text c) old new (Err fault) → outcome ≡ Err (keep_complaint name fault) → Keeps creates loses state c name old new outcome
+  unwritten : (fault : ShelfFault) → IsCertText (cert_text c) c → WritesFile creates loses state name.now (cert_text c) old new (Err fault) → outcome ≡ Err (write_fault name fault) → Keeps creates loses state c name old new outcome
 
 -- this came of keeping a certificate on a shelf that is now as it is
 abbrev pub HasKept : {S F : Type 0} → (S → List ℕ → Result F ShelfFault → S → Type 0) → (S → F → ShelfFault → S → Type 0)
-    → (F → SinkState) → S → Certificate → Bor (List ℕ) → Result Status Complaint → Type 0
+    → (F → SinkState) → S → Certificate → Bor (List ℕ) → Result Status ProgramFault → Type 0
 HasKept {S} creates loses state new c name outcome = (old : S) × Keeps creates loses state c name old new outcome

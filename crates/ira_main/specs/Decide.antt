@@ -6,15 +6,15 @@ use Rattle.ira_cert_text.specs.Certificate.{Certificate}
 use Rattle.ira_audit.specs.Findings.{AreFindings, IsCertificateOf, MakeNoCertificate}
 use Rattle.ira_audit.specs.FindingsText.{findings_text}
 use Rattle.ira_audit.specs.declared.findings.Findings.{Findings}
-use Rattle.ira_main.specs.declared.complaint.Complaint.{Complaint}
-use Rattle.ira_main.specs.declared.complaint.Complaint.TheVariants.{CannotWriteAnswer, OutOfMemory}
+use Rattle.ira_main.specs.declared.program_fault.ProgramFault.{ProgramFault}
+use Rattle.ira_main.specs.declared.program_fault.ProgramFault.TheVariants.{CannotWriteAnswer, OutOfMemory}
 use Rattle.ira_main.specs.declared.status.Status.{Status}
 use Rattle.ira_main.specs.declared.status.Status.TheVariants.{Yes, No}
 
 -- what comes of findings that were printed: no, where a case is present or they are a refusal; else yes, and where a
 -- file is named for their certificate what comes of keeping it there; or there was no memory for the certificate
-pub data EndsWith {A : Type 0} (kept : Certificate → Bor (List ℕ) → Result Status Complaint → Type 0) (findings : Findings A)
-    (name : Option (Bor (List ℕ))) (outcome : Result Status Complaint) : Type 0 where
+pub data EndsWith {A : Type 0} (kept : Certificate → Bor (List ℕ) → Result Status ProgramFault → Type 0) (findings : Findings A)
+    (name : Option (Bor (List ℕ))) (outcome : Result Status ProgramFault) : Type 0 where
   refuted : MakeNoCertificate findings → outcome ≡ Ok No → EndsWith kept findings name outcome
   absent : (c : Certificate) → IsCertificateOf findings c → name ≡ None → outcome ≡ Ok Yes → EndsWith kept findings name outcome
   certified : (c : Certificate) (file : Bor (List ℕ)) → IsCertificateOf findings c → name ≡ Some file → kept c file outcome → EndsWith kept findings name outcome
@@ -22,8 +22,8 @@ pub data EndsWith {A : Type 0} (kept : Certificate → Bor (List ℕ) → Result
 
 -- the findings of so many texts of logs and the text of a question were printed whole, and it ended with what comes of
 -- them; or the write failed
-pub record Decides (A : Type 0) (kept : Certificate → Bor (List ℕ) → Result Status Complaint → Type 0) (number : ℕ) (name : Option (Bor (List ℕ)))
-    (out out' : SinkState) (outcome : Result Status Complaint) : Type 0 where
+pub record Decides (A : Type 0) (kept : Certificate → Bor (List ℕ) → Result Status ProgramFault → Type 0) (number : ℕ) (name : Option (Bor (List ℕ)))
+    (out out' : SinkState) (outcome : Result Status ProgramFault) : Type 0 where
   pub texts : List (List ℕ)
   pub many : length texts ≡ number
   pub question : List ℕ

@@ -1,6 +1,6 @@
 pub mod AskedRun
 pub mod CertFile
-pub mod Complaint
+pub mod ProgramFault
 pub mod Counted
 pub mod Decide
 pub mod Outcome

@@ -25,7 +25,7 @@ use Rattle.ira_audit.specs.declared.answer.Answer.{Answer}
 use Rattle.ira_words.specs.declared.check_request.CheckRequest.{CheckRequest}
 use Rattle.ira_words.specs.declared.decide_request.DecideRequest.{DecideRequest}
 use Rattle.ira_words.specs.declared.run_request.RunRequest.{RunRequest}
-use Rattle.ira_main.specs.declared.complaint.Complaint.{Complaint}
+use Rattle.ira_main.specs.declared.program_fault.ProgramFault.{ProgramFault}
 use Rattle.ira_main.specs.declared.status.Status.{Status}
 
 -- the text was written whole, and the status is this one; or the write failed, and the status is 2
@@ -45,7 +45,7 @@ pub data Judges (old new : Reads) (out out' : SinkState) (status : ℕ) : Type 0
   no_memory : out' ≡ out → status ≡ 3 → Judges old new out out' status
 
 -- no answer was given: nothing was written to the output, whatever became of files, and the status is
--- that of a refusal or of want of memory
+-- that of a refusal or of memory that ran out
 abbrev pub GivesNoAnswer : SinkState → SinkState → ℕ → Type 0
 GivesNoAnswer out out' status = (out' ≡ out) × ((status ≡ 2) ⊎ (status ≡ 3))
 
@@ -93,17 +93,17 @@ pub record Records (request : RunRequest) (out out' : SinkState) (status : ℕ) 
 -- or they ask to check the logs in some files, and as many texts were judged with those of a question and of a
 -- certificate; or they ask to decide a question of them, and it was decided of as many; or they ask for the question
 -- of all pairs, and it was printed; or they ask for a ring, and it was run; or no answer was given
-pub data Done (A : Type 0) (kept : Certificate → Bor (List ℕ) → Result Status Complaint → Type 0) (words : List (List ℕ))
+pub data Done (A : Type 0) (kept : Certificate → Bor (List ℕ) → Result Status ProgramFault → Type 0) (words : List (List ℕ))
     (out out' : SinkState) (status : ℕ) : Type 0 where
   judged : (names : List (List ℕ)) → AskForLogs words names → JudgesTogether (length names) out out' status → Done A kept words out out' status
   certified : (check : CheckRequest) → AskForCheck words check → JudgesCertified (length check.logs.items) out out' status → Done A kept words out out' status
-  decided : (decide : DecideRequest) (outcome : Result Status Complaint) → AskForDecide words decide → Decides A kept (length decide.logs.items) decide.certificate out out' outcome → status ≡ outcome_number outcome → Done A kept words out out' status
+  decided : (decide : DecideRequest) (outcome : Result Status ProgramFault) → AskForDecide words decide → Decides A kept (length decide.logs.items) decide.certificate out out' outcome → status ≡ outcome_number outcome → Done A kept words out out' status
   asked : (nodes : ℕ) → AskForPairs words nodes → AsksPairs nodes out out' status → Done A kept words out out' status
   recorded : (request : RunRequest) → AskForRun words request → Records request out out' status → Done A kept words out out' status
   no_answer : GivesNoAnswer out out' status → Done A kept words out out' status
 
--- with words: the input wasn't read, and the words were obeyed
-pub record Obeys (A : Type 0) (kept : Certificate → Bor (List ℕ) → Result Status Complaint → Type 0) (words : List (List ℕ)) (old new : Reads)
+-- with words: the input wasn't read, and what they ask for was done
+pub record Executes (A : Type 0) (kept : Certificate → Bor (List ℕ) → Result Status ProgramFault → Type 0) (words : List (List ℕ)) (old new : Reads)
     (out out' : SinkState) (status : ℕ) : Type 0 where
   pub unread : new ≡ old
   pub done : Done A kept words out out' status

@@ -3,8 +3,8 @@ use Rattle.ira_audit.specs.declared.answer.Answer.{Answer}
 use Rattle.ira_audit.specs.declared.answer.Answer.TheVariants as answer
 use Rattle.ira_run.specs.declared.node_end.NodeEnd.{NodeEnd}
 use Rattle.ira_run.specs.declared.node_end.NodeEnd.TheVariants.{Leader}
-use Rattle.ira_main.specs.declared.complaint.Complaint.{Complaint}
-use Rattle.ira_main.specs.declared.complaint.Complaint.TheVariants as complaint
+use Rattle.ira_main.specs.declared.program_fault.ProgramFault.{ProgramFault}
+use Rattle.ira_main.specs.declared.program_fault.ProgramFault.TheVariants as program
 use Rattle.ira_main.specs.declared.shelf_fault.ShelfFault.{ShelfFault}
 use Rattle.ira_main.specs.declared.shelf_fault.ShelfFault.TheVariants as fault
 use Rattle.ira_main.specs.declared.status.Status.{Status}
@@ -35,7 +35,7 @@ abbrev pub fault_status : ShelfFault → Status
 fault_status fault.Device = Refused
 fault_status fault.OutOfMemory = OutOfMemory
 
--- the status of a complaint
-abbrev pub complaint_status : Complaint → Status
-complaint_status complaint.OutOfMemory = OutOfMemory
-complaint_status _ = Refused
+-- the status of a fault of the program
+abbrev pub program_fault_status : ProgramFault → Status
+program_fault_status program.OutOfMemory = OutOfMemory
+program_fault_status _ = Refused

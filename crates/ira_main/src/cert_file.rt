@@ -1,12 +1,12 @@
 ghost use Rattle.std.specs.Prelude.{◌≡◌, Result};
 ghost use Rattle.ira_cert_text.specs.CertText.{cert_text};
 ghost use Rattle.ira_main.specs.CertFile.{Keeps};
-ghost use Rattle.ira_main.specs.Outcome.{IsSaid, outcome_number};
+ghost use Rattle.ira_main.specs.Outcome.{ReportsOutcome, outcome_number};
 ghost use Rattle.ira_main.specs.Shelf.{WritesFile};
-ghost use Rattle.ira_main.specs.declared.complaint.Complaint.{Complaint};
+ghost use Rattle.ira_main.specs.declared.program_fault.ProgramFault.{ProgramFault};
 ghost use Rattle.ira_main.specs.declared.status.Status.{Status};
 
-use crate::complaint::{Complaint, conclude};
+use crate::program_fault::{ProgramFault, report_outcome};
 use crate::shelf::Shelf;
 use crate::shelf_fault::ShelfFault;
 use crate::status::Status;
@@ -32,29 +32,29 @@ pub(crate) fn keep<'a, A: Allocator, B: Allocator, F: Shelf<B>>(
     certificate: &Certificate<A>,
     name: &'a str,
     shelf: &mut F,
-) -> Result<Status, Complaint<'a>>
+) -> Result<Status, ProgramFault<'a>>
     ensures { Keeps F.creates F.loses F.Out.state certificate.now name.entry shelf.old shelf.new result }
 {
     if !certificate.readable() {
-        return Err(Complaint::CertificatePastLimits);
+        return Err(ProgramFault::CertificatePastLimits);
     }
     match write_new(certificate, name, shelf) {
         Ok(()) => Ok(Status::Yes),
-        Err(fault) => Err(Complaint::unkept(name, fault)),
+        Err(fault) => Err(ProgramFault::cannot_write(name, fault)),
     }
 }
 
 /// Keeps the certificate in a new file of this name, and gives the status: 0 where its whole text was written; 2
-/// where it isn't `readable`, and then no file is made, or where the file can't be made or written; 3 for want
-/// of memory. On a status other than 0 a line on `err` says why.
+/// where it isn't `readable`, and then no file is made, or where the file can't be made or written; 3 where memory
+/// runs out. On a status other than 0 a line on `err` says why.
 pub fn keep_cert<A: Allocator, B: Allocator, F: Shelf<B>, V: Sink>(
     certificate: &Certificate<A>,
     name: &str,
     shelf: &mut F,
     err: &mut V,
 ) -> u8
-    ensures { (outcome : Result Status Complaint) × Keeps F.creates F.loses F.Out.state certificate.now name.entry shelf.old shelf.new outcome × (result ≡ outcome_number outcome) × IsSaid outcome (V.state err.old) (V.state err.new) }
+    ensures { (outcome : Result Status ProgramFault) × Keeps F.creates F.loses F.Out.state certificate.now name.entry shelf.old shelf.new outcome × (result ≡ outcome_number outcome) × ReportsOutcome outcome (V.state err.old) (V.state err.new) }
 {
     let outcome = keep(certificate, name, shelf);
-    conclude(outcome, err)
+    report_outcome(outcome, err)
 }

@@ -5,7 +5,7 @@ ghost use Rattle.ira_main.specs.Outcome.{outcome_number};
 ghost use Rattle.ira_main.specs.Serve.{GivesNoAnswer};
 
 use crate::cert_file::keep;
-use crate::complaint::Complaint;
+use crate::program_fault::ProgramFault;
 use crate::read_files::{read_file, read_logs};
 use crate::shelf::Shelf;
 use crate::status::Status;
@@ -20,7 +20,7 @@ fn keep_findings<'a, A: Allocator + Clone, F: Shelf<A>>(
     findings: Findings<A>,
     name: Option<&'a str>,
     shelf: &mut F,
-) -> Result<Status, Complaint<'a>>
+) -> Result<Status, ProgramFault<'a>>
     ensures { EndsWith (HasKept F.creates F.loses F.Out.state shelf.new) findings name.entry result }
 {
     let Some(certificate) = findings.into_certificate()? else {
@@ -41,7 +41,7 @@ pub(crate) fn decide_files<'a, R, A, F, W>(
     decide: &DecideRequest<'a>,
     shelf: &mut F,
     out: &mut W,
-) -> Result<Status, Complaint<'a>>
+) -> Result<Status, ProgramFault<'a>>
 where
     R: Threads + Sync,
     A: Allocator + Clone + Send + Sync,
@@ -54,10 +54,10 @@ where
     let findings = audit.decide(&question)?;
     let mut text = MemorySink::new(alloc);
     let Ok(()) = write_findings(&findings, &mut text) else {
-        return Err(Complaint::OutOfMemory);
+        return Err(ProgramFault::OutOfMemory);
     };
     match write_bytes(text.bytes(), out) {
         Ok(()) => keep_findings(findings, decide.certificate, shelf),
-        Err(WriteFault) => Err(Complaint::CannotWriteAnswer),
+        Err(WriteFault) => Err(ProgramFault::CannotWriteAnswer),
     }
 }

@@ -2,7 +2,7 @@ ghost use Rattle.std.specs.Prelude.{◌⊎◌};
 ghost use Rattle.ira_main.specs.Outcome.{outcome_number};
 ghost use Rattle.ira_main.specs.Serve.{AsksPairs, GivesNoAnswer};
 
-use crate::complaint::Complaint;
+use crate::program_fault::ProgramFault;
 use crate::ring_size::ring_size;
 use crate::status::Status;
 use ira_event::{MemorySink, Sink, WriteFault, write_bytes};
@@ -15,19 +15,19 @@ pub(crate) fn print_pairs<'a, A: Allocator + Clone, W: Sink>(
     alloc: A,
     nodes: u64,
     out: &mut W,
-) -> Result<Status, Complaint<'a>>
+) -> Result<Status, ProgramFault<'a>>
     ensures { AsksPairs nodes (W.state out.old) (W.state out.new) (outcome_number result) ⊎ GivesNoAnswer (W.state out.old) (W.state out.new) (outcome_number result) }
 {
     let Some(nodes) = ring_size(nodes) else {
-        return Err(Complaint::RingSize);
+        return Err(ProgramFault::RingSize);
     };
     let question = pairs_question(alloc.clone()?, nodes)?;
     let mut text = MemorySink::new(alloc);
     let Ok(()) = write_question(&question, &mut text) else {
-        return Err(Complaint::OutOfMemory);
+        return Err(ProgramFault::OutOfMemory);
     };
     match write_bytes(text.bytes(), out) {
         Ok(()) => Ok(Status::Yes),
-        Err(WriteFault) => Err(Complaint::CannotWriteAnswer),
+        Err(WriteFault) => Err(ProgramFault::CannotWriteAnswer),
     }
 }

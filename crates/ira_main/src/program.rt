@@ -2,12 +2,12 @@ ghost use Rattle.std.specs.Prelude.{◌≡◌, ◌≢◌, ◌⊎◌, ◌≤◌, 
 ghost use Rattle.ira_audit.specs.Report.{IsReportable};
 ghost use Rattle.ira_main.specs.CertFile.{HasKept};
 ghost use Rattle.ira_main.specs.Outcome.{outcome_number};
-ghost use Rattle.ira_main.specs.Serve.{GivesNoAnswer, Judges, JudgesCertified, JudgesTogether, Obeys, Reports};
+ghost use Rattle.ira_main.specs.Serve.{GivesNoAnswer, Judges, JudgesCertified, JudgesTogether, Executes, Reports};
 
-use crate::complaint::{Complaint, conclude};
 use crate::counted::Counted;
 use crate::decide_files::decide_files;
 use crate::print_pairs::print_pairs;
+use crate::program_fault::{ProgramFault, report_outcome};
 use crate::read_files::{read_file, read_logs};
 use crate::read_text::read_text;
 use crate::record_run::record_run;
@@ -24,13 +24,13 @@ use std::thread::Threads;
 use std::time::Clock;
 
 // Writes the answer's line, and gives the answer's status.
-fn report<'a, W: Sink>(answer: &Answer, out: &mut W) -> Result<Status, Complaint<'a>>
+fn report<'a, W: Sink>(answer: &Answer, out: &mut W) -> Result<Status, ProgramFault<'a>>
     requires { IsReportable answer.now }
     ensures { Reports answer.now (W.state out.old) (W.state out.new) (outcome_number result) }
 {
     match write_report(answer, out) {
         Ok(()) => Ok(Status::of_answer(answer)),
-        Err(WriteFault) => Err(Complaint::CannotWriteAnswer),
+        Err(WriteFault) => Err(ProgramFault::CannotWriteAnswer),
     }
 }
 
@@ -39,13 +39,13 @@ fn judge_input<'a, A: Allocator, I: Read, W: Sink>(
     alloc: A,
     input: &mut Counted<I>,
     out: &mut W,
-) -> Result<Status, Complaint<'a>>
+) -> Result<Status, ProgramFault<'a>>
     ensures judged { Judges input.old input.new (W.state out.old) (W.state out.new) (outcome_number result) }
     ensures reads { input.new.reads ≤ input.old.reads + (MAX_TEXT + 1) }
 {
     let text = match read_text(&alloc, input) {
         Ok(text) => text,
-        Err(fault) => return Err(Complaint::unread("-", fault)),
+        Err(fault) => return Err(ProgramFault::cannot_read("-", fault)),
     };
     let answer = audit_one(&alloc, &text)?;
     report(&answer, out)
@@ -58,7 +58,7 @@ fn judge_files<'a, R, A, F, W>(
     names: &[&'a str],
     shelf: &mut F,
     out: &mut W,
-) -> Result<Status, Complaint<'a>>
+) -> Result<Status, ProgramFault<'a>>
 where
     R: Threads + Sync,
     A: Allocator + Clone + Send + Sync,
@@ -79,7 +79,7 @@ fn check_files<'a, R, A, F, W>(
     check: &CheckRequest<'a>,
     shelf: &mut F,
     out: &mut W,
-) -> Result<Status, Complaint<'a>>
+) -> Result<Status, ProgramFault<'a>>
 where
     R: Threads + Wait + Clock + Sync,
     A: Allocator + Clone + Send + Sync,
@@ -96,14 +96,14 @@ where
 }
 
 // Does what the words ask for.
-fn obey<'a, R, A, I, F, W>(
+fn execute<'a, R, A, I, F, W>(
     rt: &R,
     alloc: A,
     words: &'a [&'a str],
     input: &mut Counted<I>,
     shelf: &mut F,
     out: &mut W,
-) -> Result<Status, Complaint<'a>>
+) -> Result<Status, ProgramFault<'a>>
 where
     R: AllocGlobal + Threads + Wait + Clock + Sync,
     A: Allocator + Clone + Send + Sync,
@@ -111,7 +111,7 @@ where
     F: Shelf<A>,
     W: Sink,
     ensures judged { words.now ≡ [] → Judges input.old input.new (W.state out.old) (W.state out.new) (outcome_number result) }
-    ensures obeyed { words.now ≢ [] → Obeys A (HasKept F.creates F.loses F.Out.state shelf.new) (map (λ word. word.now) words.now) input.old input.new (W.state out.old) (W.state out.new) (outcome_number result) }
+    ensures executed { words.now ≢ [] → Executes A (HasKept F.creates F.loses F.Out.state shelf.new) (map (λ word. word.now) words.now) input.old input.new (W.state out.old) (W.state out.new) (outcome_number result) }
     ensures reads { input.new.reads ≤ input.old.reads + (MAX_TEXT + 1) }
 {
     match read_words(rt.alloc(), words)? {
@@ -126,7 +126,7 @@ where
 
 /// The program: `words` are those behind its name, `input` is its standard input, the files lie on
 /// `shelf`, and `out` and `err` are its standard streams. It gives the status: 0 yes, 1 no, 2 refused
-/// words, a refused ring, a failed read or a failed write, 3 want of memory. A failed write to `err`
+/// words, a refused ring, a failed read or a failed write, 3 out of memory. A failed write to `err`
 /// changes no status.
 ///
 /// Without words it judges the log on `input`, of which it reads at most one byte more than
@@ -156,8 +156,8 @@ where
     ensures status { result ≤ 3 }
     ensures reads { input.new.reads ≤ input.old.reads + (MAX_TEXT + 1) }
     ensures judged { words.now ≡ [] → Judges input.old input.new (W.state out.old) (W.state out.new) result }
-    ensures obeyed { words.now ≢ [] → Obeys A (HasKept F.creates F.loses F.Out.state shelf.new) (map (λ word. word.now) words.now) input.old input.new (W.state out.old) (W.state out.new) result }
+    ensures executed { words.now ≢ [] → Executes A (HasKept F.creates F.loses F.Out.state shelf.new) (map (λ word. word.now) words.now) input.old input.new (W.state out.old) (W.state out.new) result }
 {
-    let outcome = obey(rt, alloc, words, input, shelf, out);
-    conclude(outcome, err)
+    let outcome = execute(rt, alloc, words, input, shelf, out);
+    report_outcome(outcome, err)
 }

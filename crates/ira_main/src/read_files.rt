@@ -1,7 +1,7 @@
 ghost use Rattle.std.specs.Prelude.{◌≡◌, ℕ, List, IfOk, length, vec_len};
 ghost use Rattle.ira_audit.specs.RingAudit.{HasTaken};
 
-use crate::complaint::Complaint;
+use crate::program_fault::ProgramFault;
 use crate::shelf::Shelf;
 use ira_audit::RingAudit;
 use std::alloc::Allocator;
@@ -14,10 +14,10 @@ const TEXTS_AT_ONCE: usize = 4;
 pub(crate) fn read_file<'a, A: Allocator, F: Shelf<A>>(
     name: &'a str,
     shelf: &mut F,
-) -> Result<Vec<u8, A>, Complaint<'a>> {
+) -> Result<Vec<u8, A>, ProgramFault<'a>> {
     match shelf.read(name) {
         Ok(text) => Ok(text),
-        Err(fault) => Err(Complaint::unread(name, fault)),
+        Err(fault) => Err(ProgramFault::cannot_read(name, fault)),
     }
 }
 
@@ -26,7 +26,7 @@ fn read_texts<'a, A: Allocator, F: Shelf<A>>(
     alloc: A,
     names: &[&'a str],
     shelf: &mut F,
-) -> Result<Vec<Vec<u8, A>, A>, Complaint<'a>>
+) -> Result<Vec<Vec<u8, A>, A>, ProgramFault<'a>>
     ensures { IfOk result (λ texts. vec_len texts ≡ length names.now) }
 {
     let mut texts = Vec::with_capacity(alloc, names.len())?;
@@ -42,7 +42,7 @@ pub(crate) fn read_logs<'a, R, A, F>(
     alloc: A,
     names: &[&'a str],
     shelf: &mut F,
-) -> Result<RingAudit<A>, Complaint<'a>>
+) -> Result<RingAudit<A>, ProgramFault<'a>>
 where
     R: Threads + Sync,
     A: Allocator + Clone + Send + Sync,

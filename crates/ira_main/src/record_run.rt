@@ -3,7 +3,7 @@ ghost use Rattle.ira_main.specs.Outcome.{outcome_number};
 ghost use Rattle.ira_main.specs.Serve.{GivesNoAnswer, Records};
 
 use crate::asked_run::run;
-use crate::complaint::Complaint;
+use crate::program_fault::ProgramFault;
 use crate::ring_size::ring_size;
 use crate::shelf::Shelf;
 use crate::shelf_fault::ShelfFault;
@@ -36,10 +36,10 @@ fn write_files<'a, A: Allocator, B: Allocator, F: Shelf<B>>(
     folder: &'a str,
     logs: &Logs<B>,
     shelf: &mut F,
-) -> Result<(), Complaint<'a>> {
+) -> Result<(), ProgramFault<'a>> {
     for place in 0..logs.size().get() {
         if let Err(fault) = write_file(&alloc, folder, logs.log(place), shelf) {
-            return Err(Complaint::unwritten(folder, place, fault));
+            return Err(ProgramFault::cannot_write_log(folder, place, fault));
         }
     }
     Ok(())
@@ -52,7 +52,7 @@ pub(crate) fn record_run<'a, R, A, F, W>(
     request: &RunRequest<'a>,
     shelf: &mut F,
     out: &mut W,
-) -> Result<Status, Complaint<'a>>
+) -> Result<Status, ProgramFault<'a>>
 where
     R: Threads + Wait + Clock + Sync,
     A: Allocator + Clone + Send + Sync,
@@ -61,12 +61,12 @@ where
     ensures { Records request.now (W.state out.old) (W.state out.new) (outcome_number result) ⊎ GivesNoAnswer (W.state out.old) (W.state out.new) (outcome_number result) }
 {
     let Some(nodes) = ring_size(request.nodes) else {
-        return Err(Complaint::RingSize);
+        return Err(ProgramFault::RingSize);
     };
     let run = run(request, rt, alloc.clone()?, nodes)?;
     write_files(&alloc, request.folder, run.logs(), shelf)?;
     match write_ends(&run, out) {
         Ok(()) => Ok(Status::of_ends(run.ends())),
-        Err(WriteFault) => Err(Complaint::CannotWriteAnswer),
+        Err(WriteFault) => Err(ProgramFault::CannotWriteAnswer),
     }
 }

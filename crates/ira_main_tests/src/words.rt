@@ -69,7 +69,7 @@ fn help_is_a_refused_word(rt: HostRuntime) {
                 Without words ira judges the log of one node, on standard input. It prints \
                 `yes`, or `no` and\nthe first reason. The status is 0 for yes, absent cases or an \
                 elected leader, 1 for no, a case\nthat is present or no leader, 2 for refused words, a \
-                refused ring, a failed read or a failed\nwrite, 3 for want of memory.\n";
+                refused ring, a failed read or a failed\nwrite, 3 out of memory.\n";
     for words in [
         &["--help"].as_slice(),
         &["-h"].as_slice(),

@@ -60,17 +60,17 @@ IsMadeOf words (Pairs nodes) = AskForPairs words nodes
 IsMadeOf words (Run ring) = AskForRun words ring
 
 -- it asks to judge the logs in the files of these options and names
-abbrev pub IsCheck : List Row → Request → Type 0
-IsCheck rows r = (check : _) × (r ≡ Check check) × HasFiles rows check
+abbrev pub IsCheckRequest : List Row → Request → Type 0
+IsCheckRequest rows r = (check : _) × (r ≡ Check check) × HasFiles rows check
 
 -- it asks to decide the question in the file of this option, of the logs in those of these names
-abbrev pub IsDecide : List Row → Request → Type 0
-IsDecide rows r = (decide : _) × (r ≡ Decide decide) × HasFilesToDecide rows decide
+abbrev pub IsDecideRequest : List Row → Request → Type 0
+IsDecideRequest rows r = (decide : _) × (r ≡ Decide decide) × HasFilesToDecide rows decide
 
 -- it asks for the pairs of so many nodes as the word behind it names
-abbrev pub IsPairs : List Row → Request → Type 0
-IsPairs rows r = (nodes : _) × (r ≡ Pairs nodes) × HasNumber rows (codes "N") nodes
+abbrev pub IsPairsRequest : List Row → Request → Type 0
+IsPairsRequest rows r = (nodes : _) × (r ≡ Pairs nodes) × HasNumber rows (codes "N") nodes
 
 -- it asks for the ring of these options
-abbrev pub IsRun : List Row → Request → Type 0
-IsRun rows r = (ring : _) × (r ≡ Run ring) × HasOptions rows ring
+abbrev pub IsRunRequest : List Row → Request → Type 0
+IsRunRequest rows r = (ring : _) × (r ≡ Run ring) × HasOptions rows ring

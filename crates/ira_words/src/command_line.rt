@@ -1,7 +1,7 @@
 ghost use Rattle.std.specs.Prelude.{◌≡◌, [], Ok, IfOk, IfSome, codes, false, map, unwrap_or};
 ghost use Rattle.clap.specs.Words.{all_of, app_of, found_of, rows_of, rule_of};
 ghost use Rattle.ira_words.specs.CommandLine.{check_app, decide_app, ira_app, logs_app, logs_rule, number_rule, option_rule, pairs_app, run_app};
-ghost use Rattle.ira_words.specs.Request.{IsCheck, IsDecide, IsMadeOf, IsPairs, IsRun};
+ghost use Rattle.ira_words.specs.Request.{IsCheckRequest, IsDecideRequest, IsMadeOf, IsPairsRequest, IsRunRequest};
 ghost use Rattle.ira_words.specs.declared.request.Request.TheVariants as request;
 
 use crate::check_request::CheckRequest;
@@ -33,7 +33,7 @@ fn command<'a>(alloc: Global) -> Result<Command<'a>, AllocError>
             "Without words ira judges the log of one node, on standard input. It prints `yes`, or \
              `no` and\nthe first reason. The status is 0 for yes, absent cases or an elected leader, \
              1 for no, a case\nthat is present or no leader, 2 for refused words, a refused ring, a \
-             failed read or a failed\nwrite, 3 for want of memory.",
+             failed read or a failed\nwrite, 3 out of memory.",
         )
         .subcommand_required(true)
         .subcommand(logs_command(alloc)?)?
@@ -97,7 +97,7 @@ fn check_command<'a>(alloc: Global) -> Result<Command<'a>, AllocError>
 /// The files to judge, where all options have a value.
 fn check_request<'a>(matches: &ArgMatches<'a>, logs: Vec<&'a str>) -> Option<Request<'a>>
     requires { map (λ name. name.now) logs.items ≡ unwrap_or (all_of (codes "LOG") (rows_of (found_of matches.now))) [] }
-    ensures { IfSome result (IsCheck (rows_of (found_of matches.now))) }
+    ensures { IfSome result (IsCheckRequest (rows_of (found_of matches.now))) }
 {
     Some(Request::Check(CheckRequest {
         question: matches.get_str("question")?,
@@ -127,7 +127,7 @@ fn decide_command<'a>(alloc: Global) -> Result<Command<'a>, AllocError>
 /// The files to decide of, where the question has a value.
 fn decide_request<'a>(matches: &ArgMatches<'a>, logs: Vec<&'a str>) -> Option<Request<'a>>
     requires { map (λ name. name.now) logs.items ≡ unwrap_or (all_of (codes "LOG") (rows_of (found_of matches.now))) [] }
-    ensures { IfSome result (IsDecide (rows_of (found_of matches.now))) }
+    ensures { IfSome result (IsDecideRequest (rows_of (found_of matches.now))) }
 {
     Some(Request::Decide(DecideRequest {
         question: matches.get_str("question")?,
@@ -150,7 +150,7 @@ fn pairs_command<'a>(alloc: Global) -> Result<Command<'a>, AllocError>
 
 /// The number of nodes, where it has a value.
 fn pairs_request<'a>(matches: &ArgMatches<'a>) -> Option<Request<'a>>
-    ensures { IfSome result (IsPairs (rows_of (found_of matches.now))) }
+    ensures { IfSome result (IsPairsRequest (rows_of (found_of matches.now))) }
 {
     Some(Request::Pairs(matches.get_one("N")?))
 }
@@ -223,7 +223,7 @@ fn run_command<'a>(alloc: Global) -> Result<Command<'a>, AllocError>
 
 /// The ring to run, where all its options have a value.
 fn run_request<'a>(matches: &ArgMatches<'a>) -> Option<Request<'a>>
-    ensures { IfSome result (IsRun (rows_of (found_of matches.now))) }
+    ensures { IfSome result (IsRunRequest (rows_of (found_of matches.now))) }
 {
     Some(Request::Run(RunRequest {
         nodes: matches.get_one("nodes")?,

@@ -1,4 +1,4 @@
-use Rattle.ira_main.proofs.complaint.Complaint.write.Goals as goal
+use Rattle.ira_main.proofs.program_fault.ProgramFault.write.Goals as goal
 
 pub returns-in-CannotRead : goal.returns-in-CannotRead
 returns-in-CannotRead g c =

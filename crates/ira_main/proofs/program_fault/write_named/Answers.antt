@@ -1,5 +1,5 @@
 use Rattle.ira_event.proofs.Writing.{Takes-append, Wrote-then}
-use Rattle.ira_main.proofs.complaint.write_named.Goals as goal
+use Rattle.ira_main.proofs.program_fault.write_named.Goals as goal
 
 pub returns : goal.returns
 returns g c =

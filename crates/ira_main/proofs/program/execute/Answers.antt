@@ -4,7 +4,7 @@ use Rattle.ira_event.specs.Sink.{SinkState}
 use Rattle.ira_words.specs.Request.{IsMadeOf}
 use Rattle.ira_main.specs.Serve.{JudgesTogether}
 use Rattle.ira_main.specs.Serve.Done.{asked, judged, certified, decided, recorded, no_answer}
-use Rattle.ira_main.proofs.program.obey.Goals as goal
+use Rattle.ira_main.proofs.program.execute.Goals as goal
 
 none_of_none : {X Y : Type 0} (f : X → Y) (xs : List X) → map f xs ≡ [] → xs ≡ []
 none_of_none f [] e = refl
@@ -14,12 +14,12 @@ same_number : {out out' : SinkState} {status : ℕ} (m n : ℕ) → m ≡ n
     → JudgesTogether m out out' status → JudgesTogether n out out' status
 same_number m n same h = record { texts = h.texts; many = h.many ∙ same; answer = h.answer; judged = h.judged; reported = h.reported }
 
-pub returns-in-OneLog-clause-obeyed : goal.returns-in-OneLog-clause-obeyed
-returns-in-OneLog-clause-obeyed g c =
+pub returns-in-OneLog-clause-executed : goal.returns-in-OneLog-clause-executed
+returns-in-OneLog-clause-executed g c =
     λ some. absurd (some (none_of_none _ _ (subst (IsMadeOf (map (λ w. w.now) c.args.words.now)) c.in-OneLog.is c.in_ok-read_words.ensures.made)))
 
-pub returns-in-Logs-clause-obeyed : goal.returns-in-Logs-clause-obeyed
-returns-in-Logs-clause-obeyed g c = λ some.
+pub returns-in-Logs-clause-executed : goal.returns-in-Logs-clause-executed
+returns-in-Logs-clause-executed g c = λ some.
     let made = subst (IsMadeOf (map (λ w. w.now) c.args.words.now)) c.in-Logs.is c.in_ok-read_words.ensures.made in
     record {
       unread = refl;
@@ -29,8 +29,8 @@ returns-in-Logs-clause-obeyed g c = λ some.
       ];
     }
 
-pub returns-in-Check-clause-obeyed : goal.returns-in-Check-clause-obeyed
-returns-in-Check-clause-obeyed g c = λ some.
+pub returns-in-Check-clause-executed : goal.returns-in-Check-clause-executed
+returns-in-Check-clause-executed g c = λ some.
     let made = subst (IsMadeOf (map (λ w. w.now) c.args.words.now)) c.in-Check.is c.in_ok-read_words.ensures.made in
     record {
       unread = refl;
@@ -40,8 +40,8 @@ returns-in-Check-clause-obeyed g c = λ some.
       ];
     }
 
-pub returns-in-Decide-clause-obeyed : goal.returns-in-Decide-clause-obeyed
-returns-in-Decide-clause-obeyed g c = λ some.
+pub returns-in-Decide-clause-executed : goal.returns-in-Decide-clause-executed
+returns-in-Decide-clause-executed g c = λ some.
     let made = subst (IsMadeOf (map (λ w. w.now) c.args.words.now)) c.in-Decide.is c.in_ok-read_words.ensures.made in
     record {
       unread = refl;
@@ -51,8 +51,8 @@ returns-in-Decide-clause-obeyed g c = λ some.
       ];
     }
 
-pub returns-in-Pairs-clause-obeyed : goal.returns-in-Pairs-clause-obeyed
-returns-in-Pairs-clause-obeyed g c = λ some.
+pub returns-in-Pairs-clause-executed : goal.returns-in-Pairs-clause-executed
+returns-in-Pairs-clause-executed g c = λ some.
     let made = subst (IsMadeOf (map (λ w. w.now) c.args.words.now)) c.in-Pairs.is c.in_ok-read_words.ensures.made in
     record {
       unread = refl;
@@ -62,8 +62,8 @@ returns-in-Pairs-clause-obeyed g c = λ some.
       ];
     }
 
-pub returns-in-Run-clause-obeyed : goal.returns-in-Run-clause-obeyed
-returns-in-Run-clause-obeyed g c = λ some.
+pub returns-in-Run-clause-executed : goal.returns-in-Run-clause-executed
+returns-in-Run-clause-executed g c = λ some.
     let made = subst (IsMadeOf (map (λ w. w.now) c.args.words.now)) c.in-Run.is c.in_ok-read_words.ensures.made in
     record {
       unread = refl;

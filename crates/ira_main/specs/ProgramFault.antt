@@ -1,0 +1,51 @@
+-- Why the program ends with no answer.
+use Rattle.std.specs.Prelude.{ℕ, List, ◌++◌, codes, decimal}
+use Rattle.std.specs.Borrow.{Bor}
+use Rattle.std.specs.String.{string_bytes}
+use Rattle.ira_run.specs.RunFault.{run_fault_number}
+use Rattle.ira_run.specs.declared.run_fault.RunFault.{RunFault}
+use Rattle.ira_run.specs.declared.run_fault.RunFault.TheVariants as run
+use Rattle.ira_words.specs.declared.words_fault.WordsFault.{WordsFault}
+use Rattle.ira_words.specs.declared.words_fault.WordsFault.TheVariants as words
+use Rattle.ira_main.specs.declared.program_fault.ProgramFault.{ProgramFault}
+use Rattle.ira_main.specs.declared.program_fault.ProgramFault.TheVariants.{CannotRead, CannotWrite, CannotWriteAnswer, CannotWriteLog, CertificatePastLimits, OutOfMemory, RingSize, RunRefused, WordIsNoText, Words}
+use Rattle.ira_main.specs.declared.shelf_fault.ShelfFault.{ShelfFault}
+use Rattle.ira_main.specs.declared.shelf_fault.ShelfFault.TheVariants as shelf
+
+-- the fault where the file of this name wasn't read
+abbrev pub read_fault : Bor (List ℕ) → ShelfFault → ProgramFault
+read_fault name shelf.Device = CannotRead name
+read_fault name shelf.OutOfMemory = OutOfMemory
+
+-- the fault where a log wasn't written to the file of its place in this folder
+abbrev pub write_log_fault : Bor (List ℕ) → ℕ → ShelfFault → ProgramFault
+write_log_fault folder place shelf.Device = CannotWriteLog folder place
+write_log_fault folder place shelf.OutOfMemory = OutOfMemory
+
+-- the fault where a ring wasn't run: out of memory, or why the run was refused
+abbrev pub run_fault : RunFault → ProgramFault
+run_fault run.OutOfMemory = OutOfMemory
+run_fault f = RunRefused f
+
+-- the fault of words that ask for nothing: their refusal, or out of memory
+abbrev pub words_fault : WordsFault → ProgramFault
+words_fault (words.Refused text) = Words text
+words_fault words.OutOfMemory = OutOfMemory
+
+-- the fault where a certificate wasn't written to the file of this name
+abbrev pub write_fault : Bor (List ℕ) → ShelfFault → ProgramFault
+write_fault name shelf.Device = CannotWrite name
+write_fault name shelf.OutOfMemory = OutOfMemory
+
+-- what is written to standard error
+abbrev pub program_fault_text : ProgramFault → List ℕ
+program_fault_text (Words text) = string_bytes text
+program_fault_text WordIsNoText = codes "ira: a word is not UTF-8\n"
+program_fault_text (CannotRead name) = codes "ira: cannot read " ++ name.now ++ codes "\n"
+program_fault_text RingSize = codes "ira: ring size\n"
+program_fault_text (RunRefused fault) = codes "ira: run refused " ++ decimal (run_fault_number fault) ++ codes "\n"
+program_fault_text (CannotWriteLog folder place) = codes "ira: cannot write " ++ folder.now ++ (codes "/" ++ decimal place ++ codes ".log\n")
+program_fault_text (CannotWrite name) = codes "ira: cannot write " ++ name.now ++ codes "\n"
+program_fault_text CertificatePastLimits = codes "ira: certificate past the limits\n"
+program_fault_text CannotWriteAnswer = codes "ira: cannot write the answer\n"
+program_fault_text OutOfMemory = codes "ira: out of memory\n"

@@ -1,0 +1,233 @@
+ghost use Rattle.std.specs.Prelude.{◌≡◌, ◌++◌, codes, decimal};
+ghost use Rattle.ira_event.specs.Sink.{Wrote};
+ghost use Rattle.ira_run.specs.RunFault.{run_fault_number};
+ghost use Rattle.ira_main.specs.ProgramFault.{program_fault_text, read_fault, write_fault, write_log_fault};
+ghost use Rattle.ira_main.specs.Outcome.{ReportsOutcome, outcome_number};
+ghost use Rattle.ira_main.specs.Status.{fault_status, program_fault_status};
+
+use crate::shelf_fault::ShelfFault;
+use crate::status::Status;
+use ira_event::{Line, OutOfMemory, Sink, WriteFault, write_bytes};
+use ira_ring::RunFault;
+use ira_words::WordsFault;
+use std::alloc::{AllocError, AllocFailed};
+
+/// Why the program ends with no answer, or with one that couldn't be written.
+#[derive(Debug, Drop)]
+pub(crate) enum ProgramFault<'a> {
+    /// The words were refused, with this text.
+    Words(String),
+    /// A word isn't UTF-8.
+    WordIsNoText,
+    /// The file of this name can't be read; `-` stands for standard input.
+    CannotRead(&'a str),
+    /// A ring of so many nodes is none.
+    RingSize,
+    RunRefused(RunFault),
+    /// The log of the node at this place can't be written to its file in this folder.
+    CannotWriteLog(&'a str, u8),
+    /// The certificate can't be written to the file of this name.
+    CannotWrite(&'a str),
+    /// The text of the certificate couldn't be read back.
+    CertificatePastLimits,
+    CannotWriteAnswer,
+    OutOfMemory,
+}
+
+impl<'a> ProgramFault<'a> {
+    /// The file of this name, or standard input, wasn't read.
+    pub(crate) fn cannot_read(name: &'a str, fault: ShelfFault) -> ProgramFault<'a>
+        ensures fault { result ≡ read_fault name.entry fault }
+        ensures status { program_fault_status result ≡ fault_status fault }
+    {
+        match fault {
+            ShelfFault::Device => ProgramFault::CannotRead(name),
+            ShelfFault::OutOfMemory => ProgramFault::OutOfMemory,
+        }
+    }
+
+    /// The log of the node at this place wasn't written to its file in this folder.
+    pub(crate) fn cannot_write_log(
+        folder: &'a str,
+        place: u8,
+        fault: ShelfFault,
+    ) -> ProgramFault<'a>
+        ensures fault { result ≡ write_log_fault folder.entry place fault }
+        ensures status { program_fault_status result ≡ fault_status fault }
+    {
+        match fault {
+            ShelfFault::Device => ProgramFault::CannotWriteLog(folder, place),
+            ShelfFault::OutOfMemory => ProgramFault::OutOfMemory,
+        }
+    }
+
+    /// The certificate wasn't written to the file of this name.
+    pub(crate) fn cannot_write(name: &'a str, fault: ShelfFault) -> ProgramFault<'a>
+        ensures { result ≡ write_fault name.entry fault }
+    {
+        match fault {
+            ShelfFault::Device => ProgramFault::CannotWrite(name),
+            ShelfFault::OutOfMemory => ProgramFault::OutOfMemory,
+        }
+    }
+
+    /// The status that the program ends with.
+    fn status(&self) -> Status
+        ensures { result ≡ program_fault_status self.now }
+    {
+        match self {
+            ProgramFault::OutOfMemory => Status::OutOfMemory,
+            _ => Status::Refused,
+        }
+    }
+
+    /// Writes its line to `err`; of refused words their text.
+    fn write<V: Sink>(&self, err: &mut V) -> Result<(), WriteFault>
+        ensures { Wrote result (program_fault_text self.now) (V.state err.old) (V.state err.new) }
+    {
+        match self {
+            ProgramFault::Words(text) => write_bytes(text.as_bytes(), err),
+            ProgramFault::WordIsNoText => write_bytes(b"ira: a word is not UTF-8\n", err),
+            ProgramFault::CannotRead(name) => {
+                write_named(b"ira: cannot read ", name.as_bytes(), &line_end(), err)
+            }
+            ProgramFault::RingSize => write_bytes(b"ira: ring size\n", err),
+            ProgramFault::RunRefused(fault) => refused_run(*fault).write(err),
+            ProgramFault::CannotWriteLog(folder, place) => write_named(
+                b"ira: cannot write ",
+                folder.as_bytes(),
+                &log_in_folder(*place),
+                err,
+            ),
+            ProgramFault::CannotWrite(name) => {
+                write_named(b"ira: cannot write ", name.as_bytes(), &line_end(), err)
+            }
+            ProgramFault::CertificatePastLimits => {
+                write_bytes(b"ira: certificate past the limits\n", err)
+            }
+            ProgramFault::CannotWriteAnswer => write_bytes(b"ira: cannot write the answer\n", err),
+            ProgramFault::OutOfMemory => write_bytes(b"ira: out of memory\n", err),
+        }
+    }
+}
+
+// The end of a line that names a file.
+fn line_end() -> Line
+    ensures { result ≡ codes "\n" }
+{
+    let mut line = Line::new();
+    line.add(b"\n");
+    line
+}
+
+// The end of a line that names a folder: the name of the log of a place in it.
+fn log_in_folder(place: u8) -> Line
+    ensures { result ≡ codes "/" ++ decimal place ++ codes ".log\n" }
+{
+    let mut line = Line::new();
+    line.add(b"/");
+    line.add_number(u32::from(place));
+    line.add(b".log\n");
+    line
+}
+
+fn refused_run(fault: RunFault) -> Line
+    ensures { result ≡ codes "ira: run refused " ++ decimal (run_fault_number fault) ++ codes "\n" }
+{
+    let mut line = Line::new();
+    line.add(b"ira: run refused ");
+    line.add_number(u32::from(fault.number()));
+    line.add(b"\n");
+    line
+}
+
+#[tactic(auto, using(ira_event::proofs::Writing::writes))]
+fn write_named<V: Sink>(
+    before: &[u8],
+    name: &[u8],
+    rest: &Line,
+    err: &mut V,
+) -> Result<(), WriteFault>
+    ensures { Wrote result (before.now ++ name.now ++ rest.now) (V.state err.old) (V.state err.new) }
+{
+    write_bytes(before, err)?;
+    write_bytes(name, err)?;
+    rest.write(err)
+}
+
+/// The number of the status that the program ends with. A fault is written to `err`; where `err` fails the
+/// status stays.
+#[tactic(auto, using(crate::proofs::Reporting::reported))]
+pub(crate) fn report_outcome<V: Sink>(outcome: Result<Status, ProgramFault<'_>>, err: &mut V) -> u8
+    ensures number { result ≡ outcome_number outcome.entry }
+    ensures reported { ReportsOutcome outcome.entry (V.state err.old) (V.state err.new) }
+{
+    match outcome {
+        Ok(status) => status.number(),
+        Err(fault) => {
+            let _ = fault.write(err);
+            fault.status().number()
+        }
+    }
+}
+
+impl<'a> From<OutOfMemory> for ProgramFault<'a> {
+    ghost use Rattle.std.specs.Prelude.{◌≡◌};
+    ghost use Rattle.ira_main.specs.declared.program_fault.ProgramFault.TheVariants as program;
+
+    ghost from_gives = { λ _ c. c ≡ program.OutOfMemory };
+
+    fn from(_refused: OutOfMemory) -> ProgramFault<'a> {
+        ProgramFault::OutOfMemory
+    }
+}
+
+impl<'a> From<AllocError> for ProgramFault<'a> {
+    ghost use Rattle.std.specs.Prelude.{◌≡◌};
+    ghost use Rattle.ira_main.specs.declared.program_fault.ProgramFault.TheVariants as program;
+
+    ghost from_gives = { λ _ c. c ≡ program.OutOfMemory };
+
+    fn from(_refused: AllocError) -> ProgramFault<'a> {
+        ProgramFault::OutOfMemory
+    }
+}
+
+impl<'a, T: Drop> From<AllocFailed<T>> for ProgramFault<'a> {
+    ghost use Rattle.std.specs.Prelude.{◌≡◌};
+    ghost use Rattle.ira_main.specs.declared.program_fault.ProgramFault.TheVariants as program;
+
+    ghost from_gives = { λ _ c. c ≡ program.OutOfMemory };
+
+    fn from(_refused: AllocFailed<T>) -> ProgramFault<'a> {
+        ProgramFault::OutOfMemory
+    }
+}
+
+impl<'a> From<RunFault> for ProgramFault<'a> {
+    ghost use Rattle.std.specs.Prelude.{◌≡◌};
+    ghost use Rattle.ira_main.specs.ProgramFault.{run_fault};
+
+    ghost from_gives = { λ f c. c ≡ run_fault f };
+
+    fn from(fault: RunFault) -> ProgramFault<'a> {
+        match fault {
+            RunFault::OutOfMemory => ProgramFault::OutOfMemory,
+            refused => ProgramFault::RunRefused(refused),
+        }
+    }
+}
+
+impl<'a> From<WordsFault> for ProgramFault<'a> {
+    ghost use Rattle.std.specs.Prelude.{◌≡◌};
+    ghost use Rattle.ira_main.specs.ProgramFault.{words_fault};
+
+    ghost from_gives = { λ f c. c ≡ words_fault f };
+
+    fn from(fault: WordsFault) -> ProgramFault<'a> {
+        match fault {
+            WordsFault::Refused(text) => ProgramFault::Words(text),
+            WordsFault::OutOfMemory => ProgramFault::OutOfMemory,
+        }
+    }
+}
