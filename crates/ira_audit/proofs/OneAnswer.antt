@@ -1,18 +1,15 @@
 -- Texts have at most one answer.
-use Rattle.std.proofs.Common.{◌≡◌, ℕ, ◌<◌, List, Some, Ok, refl, sym, ap, subst, ◌∙◌, arith}
+use Rattle.std.proofs.Common.{◌≡◌, ℕ, ◌<◌, List, Some, sym, ap, subst, ◌∙◌, arith}
 use Rattle.std.specs.Prelude.{slice_get}
 use Rattle.ira_event.specs.declared.head_fault.HeadFault.{HeadFault}
 use Rattle.ira_event.specs.declared.log_fault.LogFault.{LogFault}
 use Rattle.ira_event.specs.Log.{Log}
 use Rattle.ira_event.specs.Logs.{AreLogs, HeadFaultOf}
 use Rattle.ira_event.proofs.Gathering.{no-fault, one-fault}
-use Rattle.ira_event.proofs.Unless.{err_same}
 use Rattle.ira_event.proofs.LogAnswers.{one_log, log_or_fault, one_fault}
-use Rattle.ira_node.specs.NodeState.{first_state}
 use Rattle.ira_replay.specs.declared.replay_fault.ReplayFault.{ReplayFault}
 use Rattle.ira_replay.specs.LocalRun.{IsLocalRun, IsFirstFault}
-use Rattle.ira_replay.specs.StatesLeft.{replayed}
-use Rattle.ira_replay.proofs.Along.{leads_exactly, stops_exactly}
+use Rattle.ira_replay.proofs.FirstFaults.{run_or_fault, one_stop}
 use Rattle.ira_order.specs.declared.match_fault.MatchFault.{MatchFault}
 use Rattle.ira_order.specs.Circle.{HasCircle, HasOrder}
 use Rattle.ira_order.specs.MatchFault.{IsMatchFault}
@@ -25,22 +22,6 @@ use Rattle.ira_audit.specs.Answer as single
 use Rattle.ira_audit.specs.LogTexts.{AreLogTexts, IsFirstTextFault}
 use Rattle.ira_audit.specs.LogsAnswer.{IsLogsAnswer, IsFirstStop, no_log, no_ring, unmatched, circled, stopped, yes}
 use Rattle.ira_audit.proofs.LogTexts.{one_list, logs_or_fault, one_first}
-
--- a log is a local run or has a first fault
-pub run_or_fault : (log : Log) (f : ReplayFault) → IsLocalRun log → IsFirstFault log f → ⊥
-run_or_fault log f local stops =
-    let r = replayed log.nodes 0 (Ok (first_state log.initiator)) log.events in
-    let good = (leads_exactly log.nodes (first_state log.initiator) log.events r refl local.0).1 local.1 in
-    let bad = (stops_exactly log.nodes (first_state log.initiator) log.events r refl f).1 stops in
-    cc
-
--- a log has one first fault
-pub one_stop : (log : Log) (f g : ReplayFault) → IsFirstFault log f → IsFirstFault log g → f ≡ g
-one_stop log f g a b =
-    let r = replayed log.nodes 0 (Ok (first_state log.initiator)) log.events in
-    let one = (stops_exactly log.nodes (first_state log.initiator) log.events r refl f).1 a in
-    let two = (stops_exactly log.nodes (first_state log.initiator) log.events r refl g).1 b in
-    err_same f g (sym one ∙ two)
 
 -- a text has one answer
 pub one_answer : (text : List ℕ) (a b : Answer) → single.IsAnswer text a → single.IsAnswer text b → a ≡ b

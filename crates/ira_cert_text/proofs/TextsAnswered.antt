@@ -50,14 +50,14 @@ step_decided nodes s = elim (cases_lt s.node nodes) [
 -- ---- a line of a section
 
 -- reading on in a section gives something
-abbrev GoesOn : ℕ → List ℕ → ℕ → ℕ → Type 0
-GoesOn nodes rest k steps = (new : LinesLeft) × (r : Result SectionLine CertFault) × ReadsInside nodes steps (left_of rest k) new r
+abbrev ReadsNextLine : ℕ → List ℕ → ℕ → ℕ → Type 0
+ReadsNextLine nodes rest k steps = (new : LinesLeft) × (r : Result SectionLine CertFault) × ReadsInside nodes steps (left_of rest k) new r
 
 module _ (nodes : ℕ) (small : nodes ≤ 255) (rest : List ℕ) (k steps : ℕ) where
-  refused : (f : CertFault) → RestInsideFault nodes k steps rest f → GoesOn nodes rest k steps
+  refused : (f : CertFault) → RestInsideFault nodes k steps rest f → ReadsNextLine nodes rest k steps
   refused f h = (left_of rest k, Err f, h)
 
-  at_step : (s : SpelledStep) (after : List ℕ) → section_line_at rest ≡ Some (spelled.Step s, after) → GoesOn nodes rest k steps
+  at_step : (s : SpelledStep) (after : List ℕ) → section_line_at rest ≡ Some (spelled.Step s, after) → ReadsNextLine nodes rest k steps
   at_step s after read = elim (cases_eq steps MAX_STEPS) [
     | inl full ↦ refused fault.TooMany (reading.fault_too_many_steps nodes k steps rest s after read full)
     | inr room ↦ elim (step_decided nodes (as_step s)) [
@@ -66,13 +66,13 @@ module _ (nodes : ℕ) (small : nodes ≤ 255) (rest : List ℕ) (k steps : ℕ)
     ]
   ]
 
-  at_spent : (n : ℕ) (after : List ℕ) → section_line_at rest ≡ Some (spelled.Spent n, after) → GoesOn nodes rest k steps
+  at_spent : (n : ℕ) (after : List ℕ) → section_line_at rest ≡ Some (spelled.Spent n, after) → ReadsNextLine nodes rest k steps
   at_spent n after read = elim (cases_lt n nodes) [
     | inl good ↦ (left_of after (k + 1), Ok (Spent n), reading.goes_on_spent nodes k steps rest n n after (left_of after (k + 1)) read small refl good refl)
     | inr bad ↦ refused (fault.Range k) (reading.fault_spent_range nodes k steps rest n after read (λ h. omega (arith, h, bad)))
   ]
 
-  at_other_line : (i : ℕ) → section_line_at rest ≡ None → position (λ c. nat_eq c 10) rest ≡ Some i → GoesOn nodes rest k steps
+  at_other_line : (i : ℕ) → section_line_at rest ≡ None → position (λ c. nat_eq c 10) rest ≡ Some i → ReadsNextLine nodes rest k steps
   at_other_line i unread e =
       let feed = line_end_at rest i e in
       elim (cases_eq steps MAX_STEPS) [
@@ -83,11 +83,11 @@ module _ (nodes : ℕ) (small : nodes ≤ 255) (rest : List ℕ) (k steps : ℕ)
         ]
       ]
 
-  at_no_line : (end : Option ℕ) → section_line_at rest ≡ None → position (λ c. nat_eq c 10) rest ≡ end → GoesOn nodes rest k steps
+  at_no_line : (end : Option ℕ) → section_line_at rest ≡ None → position (λ c. nat_eq c 10) rest ≡ end → ReadsNextLine nodes rest k steps
   at_no_line (Some i) unread e = at_other_line i unread e
   at_no_line None unread e = refused fault.Cut (reading.fault_inside_cut nodes k steps rest e)
 
-  goes_on : (line : Option (SpelledLine × List ℕ)) → section_line_at rest ≡ line → GoesOn nodes rest k steps
+  goes_on : (line : Option (SpelledLine × List ℕ)) → section_line_at rest ≡ line → ReadsNextLine nodes rest k steps
   goes_on (Some (spelled.Step s, after)) read = at_step s after read
   goes_on (Some (spelled.Spent n, after)) read = at_spent n after read
   goes_on None unread = at_no_line (position (λ c. nat_eq c 10) rest) unread refl

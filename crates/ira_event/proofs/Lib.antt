@@ -2,6 +2,7 @@ pub mod Digits
 pub mod EarlyFaults
 pub mod Gathering
 pub mod Heads
+pub mod HeadsAnswered
 pub mod LineWords
 pub mod LogAnswers
 pub mod LogReading

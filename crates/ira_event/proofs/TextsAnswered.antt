@@ -52,32 +52,32 @@ abbrev left_of : List ℕ → ℕ → RecordsLeft
 left_of rest k = record { rest = rest; count = k }
 
 -- reading on gives something
-abbrev GoesOn : List ℕ → ℕ → Type 0
-GoesOn rest k = (new : RecordsLeft) × (r : Result (Option Event) LogFault) × ReadsOn (left_of rest k) new r
+abbrev ReadsNextRecord : List ℕ → ℕ → Type 0
+ReadsNextRecord rest k = (new : RecordsLeft) × (r : Result (Option Event) LogFault) × ReadsOn (left_of rest k) new r
 
-refused : (rest : List ℕ) (k : ℕ) (f : LogFault) → RestFault k rest f → GoesOn rest k
+refused : (rest : List ℕ) (k : ℕ) (f : LogFault) → RestFault k rest f → ReadsNextRecord rest k
 refused rest k f h = (left_of rest k, Err f, h)
 
-at_record : (rest after : List ℕ) (k : ℕ) (e : Event) (good : Bool) → k ≤ MAX_RECORDS → line_at rest ≡ Some (Record e, after) → is_event e ≡ good → GoesOn rest k
+at_record : (rest after : List ℕ) (k : ℕ) (e : Event) (good : Bool) → k ≤ MAX_RECORDS → line_at rest ≡ Some (Record e, after) → is_event e ≡ good → ReadsNextRecord rest k
 at_record rest after k e good within read is = elim (cases_lt k MAX_RECORDS) [
   | inr full ↦ refused rest k fault.TooMany (fault_too_many rest after k e read (omega (arith, within, full)))
-  | inl room ↦ elim good as (λ b. is_event e ≡ b → GoesOn rest k) [
+  | inl room ↦ elim good as (λ b. is_event e ≡ b → ReadsNextRecord rest k) [
     | true ↦ λ t. (left_of after (k + 1), Ok (Some e), reads_record rest after k e read (λ q. omega (arith, q, room)) t)
     | false ↦ λ t. refused rest k (fault.Range (k + 5)) (fault_range rest after k e read (λ q. omega (arith, q, room)) t)
   ] is
 ]
 
-at_end_line : (rest after : List ℕ) (k n : ℕ) → k ≤ MAX_RECORDS → line_at rest ≡ Some (End n, after) → GoesOn rest k
+at_end_line : (rest after : List ℕ) (k n : ℕ) → k ≤ MAX_RECORDS → line_at rest ≡ Some (End n, after) → ReadsNextRecord rest k
 at_end_line rest after k n within read = elim (cases_eq n k) [
   | inr other ↦ refused rest k fault.Count (fault_count rest after k n read within other)
-  | inl same ↦ elim after as (λ xs. line_at rest ≡ Some (End n, xs) → GoesOn rest k) [
+  | inl same ↦ elim after as (λ xs. line_at rest ≡ Some (End n, xs) → ReadsNextRecord rest k) [
     | [] ↦ λ q. (left_of rest k, Ok None, at_end rest [] k n q within same refl)
     | x ∷ xs ↦ λ q. refused rest k fault.Trailing (fault_trailing rest (x ∷ xs) k n q within same (λ none. absurd cc))
   ] read
 ]
 
 -- no record and no end line was read, but a line there is
-at_other_line : (rest : List ℕ) (k i : ℕ) → line_at rest ≡ None → position (λ c. nat_eq c 10) rest ≡ Some i → GoesOn rest k
+at_other_line : (rest : List ℕ) (k i : ℕ) → line_at rest ≡ None → position (λ c. nat_eq c 10) rest ≡ Some i → ReadsNextRecord rest k
 at_other_line rest k i unread e =
     let feed = line_end_at rest i e in
     elim (cases_eq k MAX_RECORDS) [
@@ -88,11 +88,11 @@ at_other_line rest k i unread e =
       ]
     ]
 
-at_no_line : (rest : List ℕ) (k : ℕ) (end : Option ℕ) → line_at rest ≡ None → position (λ c. nat_eq c 10) rest ≡ end → GoesOn rest k
+at_no_line : (rest : List ℕ) (k : ℕ) (end : Option ℕ) → line_at rest ≡ None → position (λ c. nat_eq c 10) rest ≡ end → ReadsNextRecord rest k
 at_no_line rest k (Some i) unread e = at_other_line rest k i unread e
 at_no_line rest k None unread e = refused rest k fault.Cut (cut (no_line_end rest e) refl)
 
-at_any : (rest : List ℕ) (k : ℕ) (line : Option (LogLine × List ℕ)) → k ≤ MAX_RECORDS → line_at rest ≡ line → GoesOn rest k
+at_any : (rest : List ℕ) (k : ℕ) (line : Option (LogLine × List ℕ)) → k ≤ MAX_RECORDS → line_at rest ≡ line → ReadsNextRecord rest k
 at_any rest k (Some (Record e, after)) within read = at_record rest after k e (is_event e) within read refl
 at_any rest k (Some (End n, after)) within read = at_end_line rest after k n within read
 at_any rest k None within read = at_no_line rest k (position (λ c. nat_eq c 10) rest) read refl

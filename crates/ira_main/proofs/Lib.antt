@@ -1,3 +1,3 @@
 pub mod Asking
 pub mod Reading
-pub mod Telling
+pub mod Reporting

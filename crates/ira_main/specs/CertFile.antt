@@ -13,7 +13,7 @@ use Rattle.ira_main.specs.declared.status.Status.{Status}
 use Rattle.ira_main.specs.declared.status.Status.TheVariants.{Yes}
 
 -- what comes of keeping a certificate on a shelf, in a new file of this name: nothing is done where its text is past
--- the limits; else its text is written, and a fault of that is complained of
+-- the limits; else its text is written, and a fault of that is the outcome
 pub data Keeps {S F : Type 0} (creates : S → List ℕ → Result F ShelfFault → S → Type 0) (loses : S → F → ShelfFault → S → Type 0)
     (state : F → SinkState) (c : Certificate) (name : Bor (List ℕ)) (old new : S) (outcome : Result Status ProgramFault) : Type 0 where
   past_limits : ¬ (IsCertText (cert_text c) c) → new ≡ old → outcome ≡ Err CertificatePastLimits → Keeps creates loses state c name old new outcome

@@ -12,32 +12,32 @@ use Rattle.ira_main.specs.declared.program_fault.ProgramFault.TheVariants.{Canno
 use Rattle.ira_main.specs.declared.shelf_fault.ShelfFault.{ShelfFault}
 use Rattle.ira_main.specs.declared.shelf_fault.ShelfFault.TheVariants as shelf
 
--- the complaint of a file of this name that wasn't read
+-- the fault where the file of this name wasn't read
 abbrev pub read_fault : Bor (List ℕ) → ShelfFault → ProgramFault
 read_fault name shelf.Device = CannotRead name
 read_fault name shelf.OutOfMemory = OutOfMemory
 
--- the complaint of a log that wasn't written to the file of its place in this folder
+-- the fault where a log wasn't written to the file of its place in this folder
 abbrev pub write_log_fault : Bor (List ℕ) → ℕ → ShelfFault → ProgramFault
 write_log_fault folder place shelf.Device = CannotWriteLog folder place
 write_log_fault folder place shelf.OutOfMemory = OutOfMemory
 
--- the complaint of a ring that wasn't run: that memory ran out, or the fault
+-- the fault where a ring wasn't run: out of memory, or why the run was refused
 abbrev pub run_fault : RunFault → ProgramFault
 run_fault run.OutOfMemory = OutOfMemory
 run_fault f = RunRefused f
 
--- the complaint of words that ask for nothing: their refusal, or that memory ran out
+-- the fault of words that ask for nothing: their refusal, or out of memory
 abbrev pub words_fault : WordsFault → ProgramFault
 words_fault (words.Refused text) = Words text
 words_fault words.OutOfMemory = OutOfMemory
 
--- the complaint of a certificate that wasn't written to the file of this name
+-- the fault where a certificate wasn't written to the file of this name
 abbrev pub write_fault : Bor (List ℕ) → ShelfFault → ProgramFault
 write_fault name shelf.Device = CannotWrite name
 write_fault name shelf.OutOfMemory = OutOfMemory
 
--- what is said of it
+-- what is written to standard error
 abbrev pub program_fault_text : ProgramFault → List ℕ
 program_fault_text (Words text) = string_bytes text
 program_fault_text WordIsNoText = codes "ira: a word is not UTF-8\n"

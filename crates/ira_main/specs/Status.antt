@@ -36,7 +36,7 @@ abbrev pub fault_status : ShelfFault → Status
 fault_status fault.Device = Refused
 fault_status fault.OutOfMemory = OutOfMemory
 
--- the status of a complaint
+-- the status of a fault of the program
 abbrev pub program_fault_status : ProgramFault → Status
 program_fault_status program.OutOfMemory = OutOfMemory
 program_fault_status _ = Refused

@@ -3,12 +3,12 @@
 
 mod asked_run;
 mod cert_file;
-mod program_fault;
 mod counted;
 mod decide_files;
 mod file_shelf;
 mod print_pairs;
 mod program;
+mod program_fault;
 mod read_files;
 mod read_text;
 mod record_run;

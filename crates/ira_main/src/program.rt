@@ -4,10 +4,10 @@ ghost use Rattle.ira_main.specs.CertFile.{HasKept};
 ghost use Rattle.ira_main.specs.Outcome.{outcome_number};
 ghost use Rattle.ira_main.specs.Serve.{GivesNoAnswer, Judges, JudgesCertified, JudgesTogether, Executes, Reports};
 
-use crate::program_fault::{ProgramFault, report_outcome};
 use crate::counted::Counted;
 use crate::decide_files::decide_files;
 use crate::print_pairs::print_pairs;
+use crate::program_fault::{ProgramFault, report_outcome};
 use crate::read_files::{read_file, read_logs};
 use crate::read_text::read_text;
 use crate::record_run::record_run;

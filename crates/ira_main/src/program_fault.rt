@@ -1,9 +1,9 @@
 ghost use Rattle.std.specs.Prelude.{◌≡◌, ◌++◌, codes, decimal};
 ghost use Rattle.ira_event.specs.Sink.{Wrote};
 ghost use Rattle.ira_run.specs.RunFault.{run_fault_number};
-ghost use Rattle.ira_main.specs.ProgramFault.{program_fault_text, write_fault, read_fault, write_log_fault};
-ghost use Rattle.ira_main.specs.Outcome.{ReportsOutcome, IsTold, outcome_number};
-ghost use Rattle.ira_main.specs.Status.{program_fault_status, fault_status};
+ghost use Rattle.ira_main.specs.ProgramFault.{program_fault_text, read_fault, write_fault, write_log_fault};
+ghost use Rattle.ira_main.specs.Outcome.{ReportsOutcome, outcome_number};
+ghost use Rattle.ira_main.specs.Status.{fault_status, program_fault_status};
 
 use crate::shelf_fault::ShelfFault;
 use crate::status::Status;
@@ -21,7 +21,7 @@ pub(crate) enum ProgramFault<'a> {
     WordIsNoText,
     /// The file of this name can't be read; `-` stands for standard input.
     CannotRead(&'a str),
-    /// There is no ring of so many nodes.
+    /// A ring of so many nodes is none.
     RingSize,
     RunRefused(RunFault),
     /// The log of the node at this place can't be written to its file in this folder.
@@ -36,8 +36,8 @@ pub(crate) enum ProgramFault<'a> {
 
 impl<'a> ProgramFault<'a> {
     /// The file of this name, or standard input, wasn't read.
-    pub(crate) fn unread(name: &'a str, fault: ShelfFault) -> ProgramFault<'a>
-        ensures told { result ≡ read_fault name.entry fault }
+    pub(crate) fn cannot_read(name: &'a str, fault: ShelfFault) -> ProgramFault<'a>
+        ensures fault { result ≡ read_fault name.entry fault }
         ensures status { program_fault_status result ≡ fault_status fault }
     {
         match fault {
@@ -47,8 +47,12 @@ impl<'a> ProgramFault<'a> {
     }
 
     /// The log of the node at this place wasn't written to its file in this folder.
-    pub(crate) fn unwritten(folder: &'a str, place: u8, fault: ShelfFault) -> ProgramFault<'a>
-        ensures told { result ≡ write_log_fault folder.entry place fault }
+    pub(crate) fn cannot_write_log(
+        folder: &'a str,
+        place: u8,
+        fault: ShelfFault,
+    ) -> ProgramFault<'a>
+        ensures fault { result ≡ write_log_fault folder.entry place fault }
         ensures status { program_fault_status result ≡ fault_status fault }
     {
         match fault {
@@ -58,7 +62,7 @@ impl<'a> ProgramFault<'a> {
     }
 
     /// The certificate wasn't written to the file of this name.
-    pub(crate) fn unkept(name: &'a str, fault: ShelfFault) -> ProgramFault<'a>
+    pub(crate) fn cannot_write(name: &'a str, fault: ShelfFault) -> ProgramFault<'a>
         ensures { result ≡ write_fault name.entry fault }
     {
         match fault {
@@ -67,20 +71,17 @@ impl<'a> ProgramFault<'a> {
         }
     }
 
-    /// Says it on `err`, and gives the status that the program ends with. Where `err` fails the
-    /// status stays.
-    #[tactic(auto, using(crate::proofs::Telling::told))]
-    pub(crate) fn tell<V: Sink>(&self, err: &mut V) -> Status
-        ensures status { result ≡ program_fault_status self.now }
-        ensures told { IsTold self.now (V.state err.old) (V.state err.new) }
+    /// The status that the program ends with.
+    fn status(&self) -> Status
+        ensures { result ≡ program_fault_status self.now }
     {
-        let _ = self.write(err);
         match self {
             ProgramFault::OutOfMemory => Status::OutOfMemory,
             _ => Status::Refused,
         }
     }
 
+    /// Writes its line to `err`; of refused words their text.
     fn write<V: Sink>(&self, err: &mut V) -> Result<(), WriteFault>
         ensures { Wrote result (program_fault_text self.now) (V.state err.old) (V.state err.new) }
     {
@@ -154,14 +155,19 @@ fn write_named<V: Sink>(
     rest.write(err)
 }
 
-/// The number of the status that the program ends with; a complaint is told on `err`.
+/// The number of the status that the program ends with. A fault is written to `err`; where `err` fails the
+/// status stays.
+#[tactic(auto, using(crate::proofs::Reporting::reported))]
 pub(crate) fn report_outcome<V: Sink>(outcome: Result<Status, ProgramFault<'_>>, err: &mut V) -> u8
     ensures number { result ≡ outcome_number outcome.entry }
-    ensures said { ReportsOutcome outcome.entry (V.state err.old) (V.state err.new) }
+    ensures reported { ReportsOutcome outcome.entry (V.state err.old) (V.state err.new) }
 {
     match outcome {
         Ok(status) => status.number(),
-        Err(complaint) => complaint.tell(err).number(),
+        Err(fault) => {
+            let _ = fault.write(err);
+            fault.status().number()
+        }
     }
 }
 

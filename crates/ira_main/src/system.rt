@@ -1,10 +1,10 @@
 ghost use Rattle.std.specs.Prelude.{◌≤◌, IfOk};
 ghost use Rattle.std.specs.Process.{exit_status};
 
-use crate::program_fault::ProgramFault;
 use crate::counted::Counted;
 use crate::file_shelf::FileShelf;
 use crate::program::serve;
+use crate::program_fault::{ProgramFault, report_outcome};
 use ira_event::{Sink, ToWriter};
 use std::alloc::{AllocError, Global};
 use std::io::{ErrorKind, Read, Write};
@@ -27,7 +27,12 @@ fn borrowed(alloc: Global, words: &[String]) -> Result<Vec<&str>, AllocError> {
     words.iter().map(|word| word.as_str()).collect(alloc)
 }
 
-fn serve_system<R, I, W, V>(rt: &R, input: I, out: W, err: &mut V) -> Result<u8, ProgramFault<'static>>
+fn serve_system<R, I, W, V>(
+    rt: &R,
+    input: I,
+    out: W,
+    err: &mut V,
+) -> Result<u8, ProgramFault<'static>>
 where
     R: AllocGlobal + Env + Files + Threads + Wait + Clock + Sync,
     I: Read + Drop,
@@ -61,6 +66,6 @@ where
     let mut err = ToWriter::new(err);
     match serve_system(rt, input, out, &mut err) {
         Ok(status) => ExitCode::from(status),
-        Err(complaint) => ExitCode::from(complaint.tell(&mut err).number()),
+        Err(fault) => ExitCode::from(report_outcome(Err(fault), &mut err)),
     }
 }

@@ -39,7 +39,7 @@ abbrev pub pick : ℕ → List ℕ → List ℕ → List ℕ
 pick zero a b = b
 pick (suc n) a b = a
 
--- the standings of an order that a cut holds, and the others, each in their order
+-- the places of an order that a cut holds, and the others, each in their order
 abbrev pub inside : (ℕ → ℕ) → List ℕ → List ℕ
 inside c [] = []
 inside c (i ∷ s) = pick (c i) (i ∷ inside (less c i) s) (inside c s)

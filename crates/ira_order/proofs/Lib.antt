@@ -7,6 +7,9 @@ pub mod Cuts
 pub mod Faults
 pub mod Filling
 pub mod HasCounts
+pub mod MatchAnswered
+pub mod OrderOrCircle
+pub mod OrderPrefixes
 pub mod Orders
 pub mod Pairing
 pub mod Places
@@ -15,6 +18,5 @@ pub mod Receipts
 pub mod Rounds
 pub mod Runs
 pub mod RunsOfLogs
-pub mod OrderPrefixes
 pub mod Stamping
 pub mod Stuck

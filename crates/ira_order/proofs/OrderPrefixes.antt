@@ -1,4 +1,4 @@
--- One step of a scan.
+-- One more event at the end of the beginning of an order.
 use Rattle.std.proofs.Common.{◌≡◌, ◌≢◌, ℕ, zero, suc, ◌+◌, ◌-◌, ◌<◌, ◌≤◌, inl, inr, ◌↔◌, List, [], ◌∷◌, ◌++◌, length, refl, sym, ◌∙◌, ap, arith, get_or, set, take, IsTrue, Option, Some, None, length-append, get_or-set_same, get_or-set_other, length-set, leb, replicate, append_assoc}
 use Rattle.ira_event.specs.declared.event.Event.{Event}
 use Rattle.ira_event.specs.declared.msg.Msg.{Msg}

@@ -1,4 +1,4 @@
--- Rounds of a scan, and their end.
+-- Rounds that add events to the beginning of an order, and their end.
 use Rattle.std.proofs.Common.{◌≡◌, ℕ, zero, suc, ◌+◌, ◌<◌, ◌≤◌, inl, inr, List, [], ◌∷◌, ◌++◌, length, refl, sym, ◌∙◌, ap, arith, get_or, append_assoc, append-nil, length-append, sum, take, replicate, subst, zero-add}
 use Rattle.std.proofs.lemmas.List.{get_or-replicate, length-replicate}
 use Rattle.std.proofs.lemmas.List.Elements.{All-nil}
@@ -56,11 +56,11 @@ pub few_places : (logs : List Log) (done sents gots places : List ℕ) → IsOrd
 few_places logs done sents gots places prefix =
     omega (arith, prefix.total, sum_within done logs prefix.all_done (λ i l. omega (arith, prefix.done_is i l, prefix.schedule.within i l)))
 
--- the end of a scan that went through every log
+-- the beginning of an order that holds every log whole
 pub whole_end : (logs : List Log) (done sents gots places : List ℕ) → IsOrderPrefix logs done sents gots places → ((i : ℕ) → i < length logs → length (log_of logs i) ≤ get_or done i 0) → IsWhole logs places
 whole_end logs done sents gots places prefix w i l = omega (arith, w i l, prefix.done_is i l, prefix.schedule.within i l)
 
--- the end of a scan that is stuck before the end of a log
+-- the beginning of an order that is stuck before the end of a log
 pub circle_end : (logs : List Log) (done sents gots places : List ℕ) → 2 ≤ length logs → IsOrderPrefix logs done sents gots places → ((i : ℕ) → i < length logs → IsStuckAt logs (occurrences places) i) → (i : ℕ) → i < length logs → get_or done i 0 < length (log_of logs i) → (order : List ℕ) → IsSchedule logs order → IsWhole logs order → ⊥
 circle_end logs done sents gots places two prefix stuck i l short order schedule whole =
     omega (arith, all_below logs order (occurrences places) two schedule.places schedule.within schedule.kept stuck i l, whole i l, prefix.done_is i l)
@@ -75,7 +75,7 @@ no_order logs done sents gots places two matches prefix stuck i l short order o 
     (let w : IsWholeSchedule logs order = order_schedule logs order two matches o in
     circle_end logs done sents gots places two prefix stuck i l short order w.schedule w.whole)
 
--- a scan that has taken no step
+-- the beginning of an order without an event
 pub no_step_yet : (logs : List Log) → AreLogs logs → IsOrderPrefix logs (replicate (length logs) 0) (replicate (length logs) 0) (replicate (length logs) 0) []
 no_step_yet logs are = record {
   logs_are = are;

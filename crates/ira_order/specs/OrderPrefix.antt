@@ -1,4 +1,4 @@
--- Helpers, no definitions: what a scan for an order keeps.
+-- Helpers, no definitions: the beginning of an order, and what its counters keep.
 use Rattle.std.specs.Prelude.{◌≡◌, ℕ, ◌<◌, List, [], ◌++◌, length, slice_index, sum, take}
 use Rattle.std.specs.List.{cons_option}
 use Rattle.ira_event.specs.declared.event.Event.{Event}

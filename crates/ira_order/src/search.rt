@@ -7,8 +7,8 @@ ghost use Rattle.ira_order.specs.Ordered.{IsOrdered};
 
 use crate::links::match_links;
 use crate::order_fault::OrderFault;
-use crate::ordered::Ordered;
 use crate::order_prefix::OrderPrefix;
+use crate::ordered::Ordered;
 use crate::stamps::Stamps;
 use ira_event::Logs;
 use std::alloc::Allocator;

@@ -1,3 +1,4 @@
 pub mod Alike
 pub mod Along
+pub mod FirstFaults
 pub mod Reached
