@@ -1,12 +1,9 @@
 ghost use Rattle.std.specs.Prelude.{◌≡◌, ◌↔◌, ◌<◌, ◌⊎◌, ℕ, IfOk, MatchOption, sum};
 ghost use Rattle.ira_elim.specs.PairSet.{Has};
 
-use ira_event::OutOfMemory;
+use ira_event::{MAX_NODES, OutOfMemory};
 use std::alloc::Allocator;
 use std::marker::Model;
-
-/// How many places a ring has at most.
-const MAX_PLACES: usize = 64;
 
 /// A set of ordered pairs of places of a ring.
 #[derive(Drop)]
@@ -34,7 +31,7 @@ impl<A: Allocator> PairSet<A> {
         ensures { IfOk result (λ set. (a b : ℕ) → ¬ (Has set a b)) }
     {
         Ok(PairSet {
-            rows: vec![in alloc; 0; MAX_PLACES]?,
+            rows: vec![in alloc; 0; MAX_NODES]?,
             filled: 0,
         })
     }
