@@ -35,7 +35,9 @@ pub fn decide_all<A: Allocator + Clone>(
     texts: &[&[u8]],
     question: &[u8],
 ) -> Result<Findings<A>, OutOfMemory>
-    ensures refused { (r : Reason) → UnlessErr result (record {}) ((result ≡ Ok (Findings.Refused r)) ↔ WhyNotPosed (map (λ text. text.now) texts.now) question.now r) }
+    ensures refused { (r : Reason)
+        → UnlessErr result (record {})
+        ((result ≡ Ok (Findings.Refused r)) ↔ WhyNotPosed (map (λ text. text.now) texts.now) question.now r) }
     ensures found { IfOk result (AreFindings (map (λ text. text.now) texts.now) question.now) }
     ensures reportable { IfOk result AreReportable }
 {
@@ -51,7 +53,9 @@ pub(crate) fn decide_posed<A: Allocator + Clone>(
     logs: Vec<ReplayedLog<A>, A>,
     question: &[u8],
 ) -> Result<Findings<A>, Refusal>
-    ensures { (texts : List (List ℕ)) → AreLogTexts texts logs.items → MatchRefusal result (λ findings. AreFindings texts question.now findings × AreReportable findings) (IsFindingsReason texts question.now) }
+    ensures { (texts : List (List ℕ)) → AreLogTexts texts logs.items
+        → MatchRefusal result (λ findings. AreFindings texts question.now findings × AreReportable findings)
+        (IsFindingsReason texts question.now) }
 {
     let alloc = logs.allocator().clone()?;
     let (read, steps) = split_steps(logs)?;
@@ -73,7 +77,8 @@ fn decide_cases<A: Allocator + Clone>(
     cases: &[Case<A>],
 ) -> Result<Vec<Found<A>, A>, OutOfMemory>
     requires order { ordered.now.logs ≡ logs.now }
-    requires places { (i : ℕ) (case : List Conjunct) → slice_get cases.now i ≡ Some case → HasPlacesOf logs.now case }
+    requires places { (i : ℕ) (case : List Conjunct) → slice_get cases.now i ≡ Some case
+        → HasPlacesOf logs.now case }
     ensures { IfOk result (λ found. AllZip (IsFound logs.now) cases.now found.items) }
 {
     let profiles = all_profiles(alloc.clone()?, logs)?;

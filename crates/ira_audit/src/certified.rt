@@ -63,7 +63,9 @@ where
     G: Gate + Sync,
     A: Allocator + Clone + Send + Sync,
     requires { depth ≤ 4 }
-    ensures answer { (a : Answer) → UnlessErr result (record {}) ((result ≡ Ok a) ↔ IsAuditAnswer (map (λ text. text.now) texts.now) question.now certificate.now a) }
+    ensures answer { (a : Answer)
+        → UnlessErr result (record {})
+        ((result ≡ Ok a) ↔ IsAuditAnswer (map (λ text. text.now) texts.now) question.now certificate.now a) }
     ensures reportable { IfOk result IsReportable }
     // the headline
     ensures yes { result ≡ Ok Answer.Yes →
@@ -94,7 +96,8 @@ where
     G: Gate + Sync,
     A: Allocator + Clone + Send + Sync,
     requires { depth ≤ 4 }
-    ensures { (texts : List (List ℕ)) → AreLogTexts texts logs.items → Judged result (IsAuditAnswer texts question.now certificate.now) }
+    ensures { (texts : List (List ℕ)) → AreLogTexts texts logs.items
+        → Judged result (IsAuditAnswer texts question.now certificate.now) }
 {
     let alloc = logs.allocator().clone()?;
     let (read, steps) = split_steps(logs)?;
@@ -129,7 +132,8 @@ where
     A: Allocator + Clone + Send + Sync,
     requires depth { depth ≤ 4 }
     requires order { ordered.now.logs ≡ logs.now }
-    ensures { (texts : List (List ℕ)) → AreGoodLogs texts logs.now → Judged result (IsAuditAnswer texts question.now certificate.now) }
+    ensures { (texts : List (List ℕ)) → AreGoodLogs texts logs.now
+        → Judged result (IsAuditAnswer texts question.now certificate.now) }
 {
     let question = read_posed(alloc.clone()?, logs.size(), question)?;
     let cases = question.cases();
@@ -144,7 +148,8 @@ pub(crate) fn read_posed<A: Allocator + Clone>(
     nodes: RingSize,
     text: &[u8],
 ) -> Result<Question<A>, Refusal>
-    ensures { MatchRefusal result (λ asked. IsQuestionText text.now asked × (asked.nodes ≡ nodes)) (IsQuestionRefusal text.now nodes) }
+    ensures { MatchRefusal result (λ asked. IsQuestionText text.now asked × (asked.nodes ≡ nodes))
+        (IsQuestionRefusal text.now nodes) }
 {
     let question = read_question(alloc, text)?;
     if question.nodes().get() != nodes.get() {
@@ -160,7 +165,9 @@ fn read_certificate<A: Allocator + Clone>(
     cases: usize,
     text: &[u8],
 ) -> Result<Certificate<A>, Refusal>
-    ensures { MatchRefusal result (λ c. IsCertText text.now c × (c.nodes ≡ nodes) × (length c.sections ≡ cases)) (IsCertificateRefusal text.now nodes cases) }
+    ensures { MatchRefusal result
+        (λ c. IsCertText text.now c × (c.nodes ≡ nodes) × (length c.sections ≡ cases))
+        (IsCertificateRefusal text.now nodes cases) }
 {
     let certificate = read_cert(alloc, text)?;
     if certificate.nodes.get() != nodes.get() {

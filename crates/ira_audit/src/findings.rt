@@ -31,9 +31,12 @@ impl<A: Allocator + Clone> Findings<A> {
     /// whatever memory does. Where it is `readable`, `audit` says yes of the same logs, the question and its
     /// text; else its text is past the limits.
     pub fn into_certificate(self) -> Result<Option<Certificate<A>>, OutOfMemory>
-        ensures some { (c : certificate.Certificate) → UnlessErr result (record {}) ((result ≡ Ok (Some c)) ↔ IsCertificateOf self c) }
+        ensures some { (c : certificate.Certificate)
+            → UnlessErr result (record {}) ((result ≡ Ok (Some c)) ↔ IsCertificateOf self c) }
         ensures none { (result ≡ Ok None) ↔ MakeNoCertificate self }
-        ensures accepted { (texts : List (List ℕ)) (question text : List ℕ) (c : certificate.Certificate) → AreFindings texts question self → result ≡ Ok (Some c) → IsCertText text c → IsAuditAnswer texts question text Answer.Yes }
+        ensures accepted { (texts : List (List ℕ)) (question text : List ℕ) (c : certificate.Certificate)
+            → AreFindings texts question self → result ≡ Ok (Some c) → IsCertText text c
+            → IsAuditAnswer texts question text Answer.Yes }
     {
         match self {
             Findings::Refused(_) => Ok(None),
@@ -58,7 +61,9 @@ fn has_present<A: Allocator>(found: &[Found<A>]) -> bool
 fn into_sections<A: Allocator + Clone>(
     found: Vec<Found<A>, A>,
 ) -> Result<Option<Vec<Section<A>, A>>, OutOfMemory>
-    ensures sections { IfOk result (λ sections. MatchOption sections (HasPresent found.items) (λ sections. found.items ≡ map Absent sections.items)) }
+    ensures sections { IfOk result
+        (λ sections. MatchOption sections (HasPresent found.items)
+        (λ sections. found.items ≡ map Absent sections.items)) }
     ensures absent { IfErr result (λ _. ¬ (HasPresent found.items)) }
 {
     if has_present(&found) {

@@ -24,7 +24,8 @@ fn write_absent<A: Allocator, W: Sink>(section: &Section<A>, sink: &mut W) -> Re
 }
 
 fn write_positions<W: Sink>(positions: &[u32], sink: &mut W) -> Result<(), WriteFault>
-    ensures { Wrote result (flat_map (numbered (codes " ")) positions.now) (W.state sink.old) (W.state sink.new) }
+    ensures { Wrote result (flat_map (numbered (codes " ")) positions.now) (W.state sink.old)
+        (W.state sink.new) }
 {
     for position in positions {
         write_numbered(b" ", u64::from(*position), sink)?;
@@ -63,7 +64,8 @@ fn write_case<A: Allocator, W: Sink>(
 }
 
 fn write_cases<A: Allocator, W: Sink>(found: &[Found<A>], sink: &mut W) -> Result<(), WriteFault>
-    ensures { Wrote result (flat_map case_line (enumerate_from 0 found.now)) (W.state sink.old) (W.state sink.new) }
+    ensures { Wrote result (flat_map case_line (enumerate_from 0 found.now)) (W.state sink.old)
+        (W.state sink.new) }
 {
     for (case, found) in found.iter().enumerate() {
         write_case(case as u64, found, sink)?;

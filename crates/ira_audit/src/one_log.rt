@@ -31,7 +31,8 @@ pub fn audit_one<A: Allocator>(_alloc: A, text: &[u8]) -> Result<Answer, OutOfMe
 
 /// The answer of the text's log, or the text's fault.
 fn judge_text(text: &[u8]) -> Result<Answer, LogFault>
-    ensures { MatchResult result (λ a. (log : Log) × IsLogText text.now log × IsLogAnswer log a) (λ f. LogTextFault text.now f) }
+    ensures { MatchResult result (λ a. (log : Log) × IsLogText text.now log × IsLogAnswer log a)
+        (λ f. LogTextFault text.now f) }
 {
     let (head, records) = open_log(text)?;
     judge_records(head, records)

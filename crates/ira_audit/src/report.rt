@@ -138,7 +138,8 @@ fn write_replay_reason<W: Sink>(
     fault: StepFault,
     sink: &mut W,
 ) -> Result<(), WriteFault>
-    ensures { Wrote result (reason_words (Reason.Replay place position fault)) (W.state sink.old) (W.state sink.new) }
+    ensures { Wrote result (reason_words (Reason.Replay place position fault)) (W.state sink.old)
+        (W.state sink.new) }
 {
     write_numbered(b"no: node ", place, sink)?;
     write_numbered(b": event ", position, sink)?;
@@ -182,7 +183,8 @@ fn write_certificate_reason<W: Sink>(fault: CertFault, sink: &mut W) -> Result<(
 
 #[tactic(auto, using(ira_event::proofs::Writing::writes))]
 fn write_sections_reason<W: Sink>(wanted: u64, found: u64, sink: &mut W) -> Result<(), WriteFault>
-    ensures { Wrote result (reason_words (Reason.Sections wanted found)) (W.state sink.old) (W.state sink.new) }
+    ensures { Wrote result (reason_words (Reason.Sections wanted found)) (W.state sink.old)
+        (W.state sink.new) }
 {
     write_numbered(b"no: sections: ", wanted, sink)?;
     write_numbered(b" wanted, ", found, sink)?;
@@ -203,7 +205,8 @@ fn unsound_text(why: Unsound) -> &'static [u8]
 
 #[tactic(auto, using(ira_event::proofs::Writing::writes))]
 fn write_step_fault<W: Sink>(k: u64, why: Unsound, sink: &mut W) -> Result<(), WriteFault>
-    ensures { Wrote result (section_fault_words (SectionFault.Step k why)) (W.state sink.old) (W.state sink.new) }
+    ensures { Wrote result (section_fault_words (SectionFault.Step k why)) (W.state sink.old)
+        (W.state sink.new) }
 {
     write_numbered(b"step ", k, sink)?;
     write_bytes(b": ", sink)?;
@@ -212,7 +215,8 @@ fn write_step_fault<W: Sink>(k: u64, why: Unsound, sink: &mut W) -> Result<(), W
 
 #[tactic(auto, using(ira_event::proofs::Writing::writes))]
 fn write_unspent<W: Sink>(node: u64, sink: &mut W) -> Result<(), WriteFault>
-    ensures { Wrote result (section_fault_words (SectionFault.NotSpent node)) (W.state sink.old) (W.state sink.new) }
+    ensures { Wrote result (section_fault_words (SectionFault.NotSpent node)) (W.state sink.old)
+        (W.state sink.new) }
 {
     write_numbered(b"node ", node, sink)?;
     write_bytes(b" not spent", sink)

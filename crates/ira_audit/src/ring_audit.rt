@@ -97,7 +97,8 @@ impl<A: Allocator + Clone> RingAudit<A> {
 
     /// Takes the text that comes next. Where memory runs out the audit is as it was.
     pub fn take(&mut self, text: &[u8]) -> Result<(), OutOfMemory>
-        ensures ok { OnOk result ((texts : List (List ℕ)) → HasTaken self.old texts → HasTaken self.new (texts ++ text.now ∷ [])) }
+        ensures ok { OnOk result
+            ((texts : List (List ℕ)) → HasTaken self.old texts → HasTaken self.new (texts ++ text.now ∷ [])) }
         ensures err { OnErr result (self.new ≡ self.old) }
     {
         if self.fault.is_some() {
@@ -115,7 +116,9 @@ impl<A: Allocator + Clone> RingAudit<A> {
         R: Threads + Sync,
         A: Send + Sync,
         B: Allocator + Sync,
-        ensures ok { OnOk result ((before : List (List ℕ)) → HasTaken self.old before → HasTaken self.new (before ++ map (λ text. text.items) texts.now)) }
+        ensures ok { OnOk result
+            ((before : List (List ℕ)) → HasTaken self.old before
+            → HasTaken self.new (before ++ map (λ text. text.items) texts.now)) }
         ensures err { OnErr result (self.new ≡ self.old) }
     {
         if self.fault.is_some() {
@@ -144,7 +147,9 @@ impl<A: Allocator + Clone> RingAudit<A> {
 
     /// Keeps what was read of the text that comes next.
     fn keep(&mut self, reading: Result<ReplayedLog<A>, LogFault>) -> Result<(), OutOfMemory>
-        ensures ok { OnOk result ((texts : List (List ℕ)) (text : List ℕ) → IsReading text reading → HasTaken self.old texts → HasTaken self.new (texts ++ text ∷ [])) }
+        ensures ok { OnOk result
+            ((texts : List (List ℕ)) (text : List ℕ) → IsReading text reading → HasTaken self.old texts
+            → HasTaken self.new (texts ++ text ∷ [])) }
         ensures err { OnErr result (self.new ≡ self.old) }
     {
         if self.fault.is_some() {
@@ -161,12 +166,17 @@ impl<A: Allocator + Clone> RingAudit<A> {
     /// The answer of the texts that were taken: the first reason against them, or yes. It says of them
     /// what `audit_logs` says.
     pub fn finish(self) -> Result<Answer, OutOfMemory>
-        ensures answer { (texts : List (List ℕ)) (a : Answer) → HasTaken self texts → UnlessErr result (record {}) ((result ≡ Ok a) ↔ IsLogsAnswer texts a) }
+        ensures answer { (texts : List (List ℕ)) (a : Answer) → HasTaken self texts
+            → UnlessErr result (record {}) ((result ≡ Ok a) ↔ IsLogsAnswer texts a) }
         ensures reportable { (texts : List (List ℕ)) → HasTaken self texts → IfOk result IsReportable }
-        ensures runs { (texts : List (List ℕ)) → HasTaken self texts → result ≡ Ok Answer.Yes → AreTextsOfRuns texts }
-        ensures unmatched { (texts : List (List ℕ)) (f : MatchFault) → HasTaken self texts → result ≡ Ok (Answer.No (Reason.Match f)) → AreTextsWithoutRun texts }
-        ensures circled { (texts : List (List ℕ)) → HasTaken self texts → result ≡ Ok (Answer.No Reason.Circle) → AreTextsWithoutRun texts }
-        ensures stopped { (texts : List (List ℕ)) (place position : ℕ) (f : StepFault) → HasTaken self texts → result ≡ Ok (Answer.No (Reason.Replay place position f)) → AreTextsWithoutRun texts }
+        ensures runs { (texts : List (List ℕ)) → HasTaken self texts → result ≡ Ok Answer.Yes
+            → AreTextsOfRuns texts }
+        ensures unmatched { (texts : List (List ℕ)) (f : MatchFault) → HasTaken self texts
+            → result ≡ Ok (Answer.No (Reason.Match f)) → AreTextsWithoutRun texts }
+        ensures circled { (texts : List (List ℕ)) → HasTaken self texts
+            → result ≡ Ok (Answer.No Reason.Circle) → AreTextsWithoutRun texts }
+        ensures stopped { (texts : List (List ℕ)) (place position : ℕ) (f : StepFault) → HasTaken self texts
+            → result ≡ Ok (Answer.No (Reason.Replay place position f)) → AreTextsWithoutRun texts }
     {
         answer_of(self.judge())
     }
@@ -186,9 +196,12 @@ impl<A: Allocator + Clone> RingAudit<A> {
         G: Gate + Sync,
         A: Send + Sync,
         requires { depth ≤ 4 }
-        ensures answer { (texts : List (List ℕ)) (a : Answer) → HasTaken self texts → UnlessErr result (record {}) ((result ≡ Ok a) ↔ IsAuditAnswer texts question.now certificate.now a) }
+        ensures answer { (texts : List (List ℕ)) (a : Answer) → HasTaken self texts
+            → UnlessErr result (record {})
+            ((result ≡ Ok a) ↔ IsAuditAnswer texts question.now certificate.now a) }
         ensures reportable { (texts : List (List ℕ)) → HasTaken self texts → IfOk result IsReportable }
-        ensures yes { (texts : List (List ℕ)) → HasTaken self texts → result ≡ Ok Answer.Yes → IsNeverMet texts question.now }
+        ensures yes { (texts : List (List ℕ)) → HasTaken self texts → result ≡ Ok Answer.Yes
+            → IsNeverMet texts question.now }
     {
         answer_of(self.judge_with(rt, question, certificate, depth, gate))
     }
@@ -196,15 +209,21 @@ impl<A: Allocator + Clone> RingAudit<A> {
     /// What is found for each case of a question about the logs that were taken, or the first reason against
     /// them or the question. It says of them what `decide_all` says.
     pub fn decide(self, question: &[u8]) -> Result<Findings<A>, OutOfMemory>
-        ensures refused { (texts : List (List ℕ)) (r : Reason) → HasTaken self texts → UnlessErr result (record {}) ((result ≡ Ok (Findings.Refused r)) ↔ WhyNotPosed texts question.now r) }
-        ensures found { (texts : List (List ℕ)) → HasTaken self texts → IfOk result (AreFindings texts question.now) }
+        ensures refused { (texts : List (List ℕ)) (r : Reason) → HasTaken self texts
+            → UnlessErr result (record {})
+            ((result ≡ Ok (Findings.Refused r)) ↔ WhyNotPosed texts question.now r) }
+        ensures found { (texts : List (List ℕ)) → HasTaken self texts
+            → IfOk result (AreFindings texts question.now) }
         ensures reportable { (texts : List (List ℕ)) → HasTaken self texts → IfOk result AreReportable }
     {
         findings_of(self.decide_taken(question))
     }
 
     fn decide_taken(self, question: &[u8]) -> Result<Findings<A>, Refusal>
-        ensures { (texts : List (List ℕ)) → HasTaken self texts → MatchRefusal result (λ findings. AreFindings texts question.now findings × AreReportable findings) (IsFindingsReason texts question.now) }
+        ensures { (texts : List (List ℕ)) → HasTaken self texts
+            → MatchRefusal result
+            (λ findings. AreFindings texts question.now findings × AreReportable findings)
+            (IsFindingsReason texts question.now) }
     {
         decide_posed(self.into_logs()?, question)
     }
@@ -222,7 +241,8 @@ impl<A: Allocator + Clone> RingAudit<A> {
         G: Gate + Sync,
         A: Send + Sync,
         requires { depth ≤ 4 }
-        ensures { (texts : List (List ℕ)) → HasTaken self texts → Judged result (IsAuditAnswer texts question.now certificate.now) }
+        ensures { (texts : List (List ℕ)) → HasTaken self texts
+            → Judged result (IsAuditAnswer texts question.now certificate.now) }
     {
         judge_certified(rt, self.into_logs()?, question, certificate, depth, gate)
     }
@@ -235,7 +255,8 @@ impl<A: Allocator + Clone> RingAudit<A> {
 
     /// The logs of the texts that were taken, or why the first text that is no log's is none.
     fn into_logs(self) -> Result<Vec<ReplayedLog<A>, A>, Reason>
-        ensures { (texts : List (List ℕ)) → HasTaken self texts → MatchResult result (λ logs. AreLogTexts texts logs.items) (IsTextReason texts) }
+        ensures { (texts : List (List ℕ)) → HasTaken self texts
+            → MatchResult result (λ logs. AreLogTexts texts logs.items) (IsTextReason texts) }
     {
         let RingAudit { logs, fault } = self;
         match fault {

@@ -31,12 +31,17 @@ use std::alloc::Allocator;
 ///
 /// Beside the logs themselves it takes memory for one order of their events.
 pub fn audit_logs<A: Allocator + Clone>(alloc: A, texts: &[&[u8]]) -> Result<Answer, OutOfMemory>
-    ensures answer { (a : Answer) → UnlessErr result (record {}) ((result ≡ Ok a) ↔ IsLogsAnswer (map (λ text. text.now) texts.now) a) }
+    ensures answer { (a : Answer)
+        → UnlessErr result (record {}) ((result ≡ Ok a) ↔ IsLogsAnswer (map (λ text. text.now) texts.now) a) }
     ensures reportable { IfOk result IsReportable }
     ensures runs { result ≡ Ok Answer.Yes → AreTextsOfRuns (map (λ text. text.now) texts.now) }
-    ensures unmatched { (f : MatchFault) → result ≡ Ok (Answer.No (Reason.Match f)) → AreTextsWithoutRun (map (λ text. text.now) texts.now) }
-    ensures circled { result ≡ Ok (Answer.No Reason.Circle) → AreTextsWithoutRun (map (λ text. text.now) texts.now) }
-    ensures stopped { (place position : ℕ) (f : StepFault) → result ≡ Ok (Answer.No (Reason.Replay place position f)) → AreTextsWithoutRun (map (λ text. text.now) texts.now) }
+    ensures unmatched { (f : MatchFault) → result ≡ Ok (Answer.No (Reason.Match f))
+        → AreTextsWithoutRun (map (λ text. text.now) texts.now) }
+    ensures circled { result ≡ Ok (Answer.No Reason.Circle)
+        → AreTextsWithoutRun (map (λ text. text.now) texts.now) }
+    ensures stopped { (place position : ℕ) (f : StepFault)
+        → result ≡ Ok (Answer.No (Reason.Replay place position f))
+        → AreTextsWithoutRun (map (λ text. text.now) texts.now) }
 {
     let mut audit = RingAudit::new(alloc);
     for text in texts {
@@ -65,7 +70,8 @@ pub(crate) fn order_runs<A: Allocator + Clone>(
 ) -> Result<Ordered<'_, A>, Refusal>
     requires { AreReplayed logs.now steps }
     ensures logs { IfOk result (λ o. o.logs ≡ logs.now) }
-    ensures runs { (texts : List (List ℕ)) → AreLogTexts texts logs.now → AreLogs logs.now → MatchRefusal result (λ _. AreGoodLogs texts logs.now) (IsLogsReason texts) }
+    ensures runs { (texts : List (List ℕ)) → AreLogTexts texts logs.now → AreLogs logs.now
+        → MatchRefusal result (λ _. AreGoodLogs texts logs.now) (IsLogsReason texts) }
 {
     let ordered = order(alloc, logs)?;
     steps?;

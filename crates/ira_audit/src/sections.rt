@@ -38,9 +38,12 @@ where
     A: Allocator + Clone + Send + Sync,
     requires depth { depth ≤ 4 }
     requires order { ordered.now.logs ≡ logs.now }
-    requires places { (i : ℕ) (case : List Conjunct) → slice_get cases.now i ≡ Some case → HasPlacesOf logs.now case }
+    requires places { (i : ℕ) (case : List Conjunct) → slice_get cases.now i ≡ Some case
+        → HasPlacesOf logs.now case }
     requires number { length sections.now ≡ length cases.now }
-    ensures { MatchRefusal result (λ _. AreSound logs.now cases.now sections.now) (λ r. (i : ℕ) × (f : SectionFault) × (r ≡ Reason.Section i f) × IsFirstUnsound logs.now cases.now sections.now i f) }
+    ensures { MatchRefusal result (λ _. AreSound logs.now cases.now sections.now)
+        (λ r. (i : ℕ) × (f : SectionFault) × (r ≡ Reason.Section i f)
+        × IsFirstUnsound logs.now cases.now sections.now i f) }
 {
     let profiles = all_profiles(alloc.clone()?, logs)?;
     for case in 0..cases.len() {

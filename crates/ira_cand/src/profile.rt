@@ -76,7 +76,9 @@ fn add_state<A: Allocator + Clone>(
     run: &mut PhaseRun<A>,
     state: &NodeState,
 ) -> Result<(), OutOfMemory>
-    ensures { OnOk result (flat_map run_marks runs.new.items ++ run_marks run.new ≡ flat_map run_marks runs.old.items ++ run_marks run.old ++ mark state.now ∷ []) }
+    ensures { OnOk result
+        (flat_map run_marks runs.new.items ++ run_marks run.new
+        ≡ flat_map run_marks runs.old.items ++ run_marks run.old ++ mark state.now ∷ []) }
 {
     if state.phase != run.phase {
         let next = PhaseRun {

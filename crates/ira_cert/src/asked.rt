@@ -52,7 +52,8 @@ where
 /// The number of the clause at the place, if the case asks the node there.
 fn number_at<A: Allocator>(case: &Case<A>, place: u8) -> Option<usize>
     ensures different { HasDifferentPlaces case.now }
-    ensures found { MatchOption result (¬ (IsAsked case.now place)) (λ n. (c : Conjunct) × (slice_get case.now n ≡ Some c) × (c.place ≡ place)) }
+    ensures found { MatchOption result (¬ (IsAsked case.now place))
+        (λ n. (c : Conjunct) × (slice_get case.now n ≡ Some c) × (c.place ≡ place)) }
 {
     for n in 0..case.len() {
         if case.place(n) == place {

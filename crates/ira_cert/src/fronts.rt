@@ -32,7 +32,8 @@ pub fn check_fronts<A: Allocator, I: Iterator<Item = u32> + Listed + Drop>(
     section: &Section<A>,
 ) -> Verdict
     requires { length fronts.items ≤ length ordered.now.logs }
-    ensures { (case : List Conjunct) → HasDifferentPlaces case → AreFronts ordered.now.logs case fronts.items → IsVerdict ordered.now.logs case section.now result }
+    ensures { (case : List Conjunct) → HasDifferentPlaces case → AreFronts ordered.now.logs case fronts.items
+        → IsVerdict ordered.now.logs case section.now result }
 {
     if let Err(fault) = make_steps(ordered, &mut fronts, &section.steps) {
         return Verdict::No(fault);
@@ -50,8 +51,15 @@ fn make_steps<A: Allocator, I: Iterator<Item = u32> + Listed>(
     steps: &[CertStep],
 ) -> Result<(), SectionFault>
     requires { length fronts.old ≤ length ordered.now.logs }
-    ensures ok { (case : List Conjunct) → HasDifferentPlaces case → AreFronts ordered.now.logs case fronts.old → OnOk result (AreSoundSteps ordered.now.logs case steps.now × AreFrontsBehind ordered.now.logs case steps.now fronts.new) }
-    ensures err { (case : List Conjunct) → HasDifferentPlaces case → AreFronts ordered.now.logs case fronts.old → IfErr result (λ f. (k : ℕ) × (why : Unsound) × (f ≡ SectionFault.Step k why) × IsFirstUnsoundStep ordered.now.logs case steps.now k why) }
+    ensures ok { (case : List Conjunct) → HasDifferentPlaces case → AreFronts ordered.now.logs case fronts.old
+        → OnOk result
+        (AreSoundSteps ordered.now.logs case steps.now
+        × AreFrontsBehind ordered.now.logs case steps.now fronts.new) }
+    ensures err { (case : List Conjunct) → HasDifferentPlaces case
+        → AreFronts ordered.now.logs case fronts.old
+        → IfErr result
+        (λ f. (k : ℕ) × (why : Unsound) × (f ≡ SectionFault.Step k why)
+        × IsFirstUnsoundStep ordered.now.logs case steps.now k why) }
 {
     for (k, step) in steps.iter().enumerate() {
         if let Err(why) = check_step(ordered, fronts, step) {
@@ -70,7 +78,10 @@ fn check_step<A: Allocator, I: Iterator<Item = u32> + Listed>(
 ) -> Result<(), Unsound>
     requires { length fronts.now ≤ length ordered.now.logs }
     ensures place { OnOk result (step.now.node < length fronts.now) }
-    ensures verdict { (case : List Conjunct) (before : List CertStep) → HasDifferentPlaces case → AreFrontsBehind ordered.now.logs case before fronts.now → MatchResult result (λ _. IsSoundStep ordered.now.logs case before step.now) (λ why. WhyUnsound ordered.now.logs case before step.now why) }
+    ensures verdict { (case : List Conjunct) (before : List CertStep) → HasDifferentPlaces case
+        → AreFrontsBehind ordered.now.logs case before fronts.now
+        → MatchResult result (λ _. IsSoundStep ordered.now.logs case before step.now)
+        (λ why. WhyUnsound ordered.now.logs case before step.now why) }
 {
     let own = left_at(fronts, step.node);
     let other = left_at(fronts, step.other);
@@ -80,7 +91,8 @@ fn check_step<A: Allocator, I: Iterator<Item = u32> + Listed>(
 /// What is left of the node's candidates.
 fn left_at<I: Iterator<Item = u32> + Listed>(fronts: &[Option<Ahead<I>>], place: u8) -> Left
     ensures place { result ≢ Left.NotAsked → place < length fronts.now }
-    ensures left { (logs : List Log) (case : List Conjunct) (before : List CertStep) → AreFrontsBehind logs case before fronts.now → IsLeft logs case before place result }
+    ensures left { (logs : List Log) (case : List Conjunct) (before : List CertStep)
+        → AreFrontsBehind logs case before fronts.now → IsLeft logs case before place result }
 {
     let Some(left) = candidates_left(fronts, place) else {
         return Left::NotAsked;
@@ -96,7 +108,8 @@ fn candidates_left<I: Iterator<Item = u32> + Listed>(
     fronts: &[Option<Ahead<I>>],
     place: u8,
 ) -> Option<&Ahead<I>>
-    ensures { MatchOption result ((xs : List ℕ) → slice_get fronts.now place ≢ Some (Some xs)) (λ left. slice_get fronts.now place ≡ Some (Some left.now)) }
+    ensures { MatchOption result ((xs : List ℕ) → slice_get fronts.now place ≢ Some (Some xs))
+        (λ left. slice_get fronts.now place ≡ Some (Some left.now)) }
 {
     fronts.get(usize::from(place))?.as_ref()
 }
@@ -104,7 +117,8 @@ fn candidates_left<I: Iterator<Item = u32> + Listed>(
 /// Removes the first candidate left of the node.
 fn eliminate<I: Iterator<Item = u32> + Listed>(fronts: &mut [Option<Ahead<I>>], place: u8)
     requires { place < length fronts.old }
-    ensures { fronts.new ≡ slice_set fronts.old place (option_map (λ xs. drop 1 xs) (slice_index_or fronts.old place None)) }
+    ensures { fronts.new
+        ≡ slice_set fronts.old place (option_map (λ xs. drop 1 xs) (slice_index_or fronts.old place None)) }
 {
     if let Some(left) = &mut fronts[usize::from(place)] {
         left.advance();

@@ -36,8 +36,11 @@ pub fn check_plain<A: Allocator>(
 ) -> Result<Verdict, OutOfMemory>
     requires order { ordered.now.logs ≡ logs.now }
     requires places { HasPlacesOf logs.now case.now }
-    ensures yes { UnlessErr result (record {}) ((result ≡ Ok Verdict.Yes) ↔ IsSoundSection logs.now case.now section.now) }
-    ensures no { (f : SectionFault) → UnlessErr result (record {}) ((result ≡ Ok (Verdict.No f)) ↔ IsSectionFault logs.now case.now section.now f) }
+    ensures yes { UnlessErr result (record {})
+        ((result ≡ Ok Verdict.Yes) ↔ IsSoundSection logs.now case.now section.now) }
+    ensures no { (f : SectionFault)
+        → UnlessErr result (record {})
+        ((result ≡ Ok (Verdict.No f)) ↔ IsSectionFault logs.now case.now section.now f) }
 {
     let fronts = case_fronts(alloc, logs, case)?;
     Ok(check_fronts(ordered, fronts, section))

@@ -29,7 +29,8 @@ pub fn profiled_fronts<A: Allocator + Clone>(
         case,
         |n|
             requires { (n < length case.now) × HasPlacesOf profiles.now case.now }
-            ensures { IfOk result (λ positions. AreCandidatesFor profiles.entry.now case.entry.now n positions) }
+            ensures { IfOk result
+                (λ positions. AreCandidatesFor profiles.entry.now case.entry.now n positions) }
         {
             let profile = &profiles[usize::from(case.place(n))];
             Ok(Ahead::new(Kept::new(profile.table(alloc.clone()?, case.clause(n))?)))

@@ -26,7 +26,11 @@ pub fn judge_step<A: Allocator>(
     requires own { own ≢ Left.NotAsked → step.now.node < length ordered.now.logs }
     requires other { other ≢ Left.NotAsked → step.now.other < length ordered.now.logs }
     ensures asked { OnOk result (own ≢ Left.NotAsked) }
-    ensures verdict { (case : List Conjunct) (before : List CertStep) → HasDifferentPlaces case → IsLeft ordered.now.logs case before step.now.node own → IsLeft ordered.now.logs case before step.now.other other → MatchResult result (λ _. IsSoundStep ordered.now.logs case before step.now) (λ why. WhyUnsound ordered.now.logs case before step.now why) }
+    ensures verdict { (case : List Conjunct) (before : List CertStep) → HasDifferentPlaces case
+        → IsLeft ordered.now.logs case before step.now.node own
+        → IsLeft ordered.now.logs case before step.now.other other
+        → MatchResult result (λ _. IsSoundStep ordered.now.logs case before step.now)
+        (λ why. WhyUnsound ordered.now.logs case before step.now why) }
 {
     if own == Left::NotAsked || other == Left::NotAsked {
         return Err(Unsound::NotAsked);
@@ -53,7 +57,8 @@ pub fn judge_step<A: Allocator>(
 /// to the other. Where one of these events doesn't exist, it didn't.
 fn rules_out<A: Allocator>(ordered: &Ordered<'_, A>, step: &CertStep) -> bool
     requires { (step.now.node < length ordered.now.logs) × (step.now.other < length ordered.now.logs) }
-    ensures { IsTrue result ↔ Before ordered.now.logs step.now.node (step.now.pos + 1) step.now.other step.now.other_pos }
+    ensures { IsTrue result
+        ↔ Before ordered.now.logs step.now.node (step.now.pos + 1) step.now.other step.now.other_pos }
 {
     let logs = ordered.logs();
     if step.pos as usize >= logs.log(step.node).len() {

@@ -14,7 +14,8 @@ pub(crate) struct CertHead<'a> {
 
 /// The head that the text begins with.
 pub(crate) fn take_head(text: &[u8]) -> Option<CertHead<'_>>
-    ensures { MatchOption result ((nodes : ℕ) (rest : List ℕ) → ¬ (BeginsWithCertHead text.now nodes rest)) (λ head. BeginsWithCertHead text.now head.nodes head.rest.now) }
+    ensures { MatchOption result ((nodes : ℕ) (rest : List ℕ) → ¬ (BeginsWithCertHead text.now nodes rest))
+        (λ head. BeginsWithCertHead text.now head.nodes head.rest.now) }
 {
     let (nodes, rest) = take_head_lines(text)?;
     let nodes = RingSize::of_number(nodes)?;

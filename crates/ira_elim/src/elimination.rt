@@ -27,7 +27,8 @@ pub fn decide_fronts<A: Allocator + Clone, I: Iterator<Item = u32> + Listed + Dr
 ) -> Result<Found<A>, OutOfMemory>
     requires places { length fronts.items ≤ length ordered.now.logs }
     requires fronts { AreFrontsOfSomeCase ordered.now.logs fronts.items }
-    ensures { (case : List Conjunct) → HasDifferentPlaces case → AreFronts ordered.now.logs case fronts.items → IfOk result (λ found. IsFound ordered.now.logs case found) }
+    ensures { (case : List Conjunct) → HasDifferentPlaces case → AreFronts ordered.now.logs case fronts.items
+        → IfOk result (λ found. IsFound ordered.now.logs case found) }
 {
     let nodes = ordered.logs().size().get();
     let asked = asked_places(alloc.clone()?, nodes, &fronts)?;
@@ -72,14 +73,16 @@ fn candidates_left<I: Iterator<Item = u32> + Listed>(
     fronts: &[Option<Ahead<I>>],
     place: u8,
 ) -> Option<&Ahead<I>>
-    ensures { MatchOption result (HasList fronts.now place → ⊥) (λ left. slice_get fronts.now place ≡ Some (Some left.now)) }
+    ensures { MatchOption result (HasList fronts.now place → ⊥)
+        (λ left. slice_get fronts.now place ≡ Some (Some left.now)) }
 {
     fronts.get(usize::from(place))?.as_ref()
 }
 
 /// The first candidate left of the node.
 fn front<I: Iterator<Item = u32> + Listed>(fronts: &[Option<Ahead<I>>], place: u8) -> Option<u32>
-    ensures { MatchOption result ((p : ℕ) → IsFirstLeft fronts.now place p → ⊥) (λ p. IsFirstLeft fronts.now place p) }
+    ensures { MatchOption result ((p : ℕ) → IsFirstLeft fronts.now place p → ⊥)
+        (λ p. IsFirstLeft fronts.now place p) }
 {
     candidates_left(fronts, place)?.front()
 }
@@ -90,7 +93,8 @@ fn first_spent<I: Iterator<Item = u32> + Listed>(
     asked: &[u8],
 ) -> Option<u8>
     requires { ArePlaces fronts.now asked.now }
-    ensures { MatchOption result ((i : ℕ) → HasList fronts.now i → (p : ℕ) × IsFirstLeft fronts.now i p) (λ i. slice_get fronts.now i ≡ Some (Some [])) }
+    ensures { MatchOption result ((i : ℕ) → HasList fronts.now i → (p : ℕ) × IsFirstLeft fronts.now i p)
+        (λ i. slice_get fronts.now i ≡ Some (Some [])) }
 {
     for place in asked {
         if front(fronts, *place).is_none() {
@@ -129,7 +133,8 @@ fn add_eliminated_by<A: Allocator, I: Iterator<Item = u32> + Listed>(
     requires asked { ArePlaces fronts.now asked.now }
     requires within { AreWithin ordered.now.logs fronts.now }
     ensures kept { (a b : ℕ) → Has pairs.old a b → Has pairs.new a b }
-    ensures added { (s : CertStep) → s.other ≡ other → IsElimination ordered.now.logs fronts.now s → Has pairs.new s.node s.other }
+    ensures added { (s : CertStep) → s.other ≡ other → IsElimination ordered.now.logs fronts.now s
+        → Has pairs.new s.node s.other }
 {
     let Some(other_pos) = front(fronts, other) else {
         return;
@@ -155,7 +160,8 @@ fn next_step<A: Allocator, I: Iterator<Item = u32> + Listed>(
     requires within { AreWithin ordered.now.logs fronts.now }
     requires pairs { HasEliminations ordered.now.logs fronts.now pairs.old }
     ensures pairs { HasEliminations ordered.now.logs fronts.now pairs.new }
-    ensures step { MatchOption result ((s : CertStep) → IsElimination ordered.now.logs fronts.now s → ⊥) (λ s. IsElimination ordered.now.logs fronts.now s) }
+    ensures step { MatchOption result ((s : CertStep) → IsElimination ordered.now.logs fronts.now s → ⊥)
+        (λ s. IsElimination ordered.now.logs fronts.now s) }
 {
     'pairs: while let Some((node, other)) = pairs.first() {
         if let Some(step) = step_by(ordered, fronts, node, other) {
@@ -174,7 +180,9 @@ fn step_by<A: Allocator, I: Iterator<Item = u32> + Listed>(
     other: u8,
 ) -> Option<CertStep>
     requires { AreWithin ordered.now.logs fronts.now }
-    ensures { MatchOption result ((s : CertStep) → s.node ≡ node → s.other ≡ other → IsElimination ordered.now.logs fronts.now s → ⊥) (λ s. IsElimination ordered.now.logs fronts.now s) }
+    ensures { MatchOption result
+        ((s : CertStep) → s.node ≡ node → s.other ≡ other → IsElimination ordered.now.logs fronts.now s → ⊥)
+        (λ s. IsElimination ordered.now.logs fronts.now s) }
 {
     if node == other {
         return None;
@@ -195,7 +203,8 @@ fn step_by<A: Allocator, I: Iterator<Item = u32> + Listed>(
 /// Removes the first candidate left of the node.
 fn eliminate<I: Iterator<Item = u32> + Listed>(fronts: &mut [Option<Ahead<I>>], place: u8)
     requires { place < length fronts.old }
-    ensures { fronts.new ≡ slice_set fronts.old place (option_map (λ xs. drop 1 xs) (slice_index_or fronts.old place None)) }
+    ensures { fronts.new
+        ≡ slice_set fronts.old place (option_map (λ xs. drop 1 xs) (slice_index_or fronts.old place None)) }
 {
     if let Some(left) = &mut fronts[usize::from(place)] {
         left.advance();

@@ -11,7 +11,8 @@ pub trait Listed: Iterator {
     ghost may_go_on: { (s : Self) → Self.can_next s };
 
     // `next` gives the first item left and leaves the others
-    ghost gives_first: { (s : Self) (r : Option Self.Item) (t : Self) → Self.next_gives s r t → YieldsFirst left s r t };
+    ghost gives_first: { (s : Self) (r : Option Self.Item) (t : Self) → Self.next_gives s r t
+        → YieldsFirst left s r t };
 
     // exactly so many items are known to come
     ghost ends: { (s : Self) → Self.remaining s ≡ item_count left s };

@@ -25,7 +25,10 @@ struct HeadLines {
 
 /// The head that the text begins with, and what follows it.
 pub fn take_head(text: &[u8]) -> Option<(LogHead, &[u8])>
-    ensures { MatchOption result ((nodes place : ℕ) (initiator : Bool) (rest : List ℕ) → ¬ (BeginsWithHead text.now nodes place initiator rest)) (λ found. BeginsWithHead text.now found.0.nodes found.0.place found.0.initiator found.1.now) }
+    ensures { MatchOption result
+        ((nodes place : ℕ) (initiator : Bool) (rest : List ℕ)
+        → ¬ (BeginsWithHead text.now nodes place initiator rest))
+        (λ found. BeginsWithHead text.now found.0.nodes found.0.place found.0.initiator found.1.now) }
 {
     let (lines, rest) = take_head_lines(text)?;
     let head = lines.in_range()?;
@@ -36,7 +39,9 @@ impl HeadLines {
     /// The head of these numbers, where there is such a ring and it has the place.
     fn in_range(self) -> Option<LogHead>
         ensures some { IsSome result ↔ (IsRingSize self.nodes × (self.place < self.nodes)) }
-        ensures value { IfSome result (λ head. (head.nodes ≡ self.nodes) × (head.place ≡ self.place) × (head.initiator ≡ self.initiator)) }
+        ensures value { IfSome result
+            (λ head. (head.nodes ≡ self.nodes) × (head.place ≡ self.place)
+            × (head.initiator ≡ self.initiator)) }
     {
         let nodes = RingSize::of_number(self.nodes)?;
         let place = u8::try_from(self.place).ok()?;

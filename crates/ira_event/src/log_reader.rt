@@ -16,8 +16,10 @@ use std::alloc::Allocator;
 
 /// The log that a text is the text of, or the first fault of a text that is no log's.
 pub fn read_log<A: Allocator>(alloc: A, text: &[u8]) -> Result<NodeLog<A>, LogFault>
-    ensures ok { (log : Log) → UnlessErr result LogFault.OutOfMemory ((result ≡ Ok log) ↔ IsLogText text.now log) }
-    ensures err { (f : LogFault) → UnlessErr result LogFault.OutOfMemory ((result ≡ Err f) ↔ LogTextFault text.now f) }
+    ensures ok { (log : Log)
+        → UnlessErr result LogFault.OutOfMemory ((result ≡ Ok log) ↔ IsLogText text.now log) }
+    ensures err { (f : LogFault)
+        → UnlessErr result LogFault.OutOfMemory ((result ≡ Err f) ↔ LogTextFault text.now f) }
 
     // These two are answered whatever memory does.
     ensures too_long { (result ≡ Err LogFault.TooLong) ↔ LogTextFault text.now LogFault.TooLong }
@@ -31,7 +33,10 @@ pub fn read_log<A: Allocator>(alloc: A, text: &[u8]) -> Result<NodeLog<A>, LogFa
 /// The head of a log's text and the records behind it, none of them read, or the first fault of a
 /// text that is too long or begins with no head. It takes no memory.
 pub fn open_log(text: &[u8]) -> Result<(LogHead, Records<'_>), LogFault>
-    ensures { MatchResult result (λ p. (length text.now ≤ MAX_TEXT) × BeginsWithHead text.now p.0.nodes p.0.place p.0.initiator p.1.rest × (p.1.count ≡ 0)) (λ f. LogTextFault text.now f) }
+    ensures { MatchResult result
+        (λ p. (length text.now ≤ MAX_TEXT)
+        × BeginsWithHead text.now p.0.nodes p.0.place p.0.initiator p.1.rest × (p.1.count ≡ 0))
+        (λ f. LogTextFault text.now f) }
 {
     if text.len() > MAX_TEXT {
         return Err(LogFault::TooLong);

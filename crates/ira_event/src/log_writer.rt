@@ -77,7 +77,8 @@ fn write_records_and_end<A: Allocator, W: Sink>(
     log: &NodeLog<A>,
     sink: &mut W,
 ) -> Result<(), WriteFault>
-    ensures { Wrote result (flat_map record_text log.now.events ++ end_text (length log.now.events)) (W.state sink.old) (W.state sink.new) }
+    ensures { Wrote result (flat_map record_text log.now.events ++ end_text (length log.now.events))
+        (W.state sink.old) (W.state sink.new) }
 {
     for event in log.events() {
         record_line(&event).write(sink)?;

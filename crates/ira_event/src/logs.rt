@@ -31,7 +31,8 @@ impl<A: Allocator> Model for Logs<A> {
 
 /// The ring size that the first log names, where there are so many logs.
 fn common_size<A: Allocator>(logs: &[NodeLog<A>]) -> Result<RingSize, HeadFault>
-    ensures { MatchResult result (λ size. IsRingSize size × HasNumber logs.now size) (λ f. (f ≡ HeadFault.Number) × ((nodes : ℕ) → ¬ (HasNumber logs.now nodes))) }
+    ensures { MatchResult result (λ size. IsRingSize size × HasNumber logs.now size)
+        (λ f. (f ≡ HeadFault.Number) × ((nodes : ℕ) → ¬ (HasNumber logs.now nodes))) }
 {
     let Some(first) = logs.first() else {
         return Err(HeadFault::Number);
@@ -47,7 +48,8 @@ fn common_size<A: Allocator>(logs: &[NodeLog<A>]) -> Result<RingSize, HeadFault>
 fn check_sizes<A: Allocator>(logs: &[NodeLog<A>], size: RingSize) -> Result<(), HeadFault>
     requires { length logs.now ≡ size }
     ensures ok { OnOk result (EachLog logs.now (λ _ log. log.nodes ≡ size)) }
-    ensures err { IfErr result (λ f. (i : ℕ) × (f ≡ HeadFault.Size i) × IsFirstOther logs.now (λ _ log. log.nodes ≡ size) i) }
+    ensures err { IfErr result
+        (λ f. (i : ℕ) × (f ≡ HeadFault.Size i) × IsFirstOther logs.now (λ _ log. log.nodes ≡ size) i) }
 {
     for i in 0..size.get() {
         if logs[usize::from(i)].nodes() != size {
@@ -62,7 +64,8 @@ fn check_places<A: Allocator>(logs: &[NodeLog<A>], size: RingSize) -> Result<(),
     requires { length logs.now ≡ size }
     ensures ok { OnOk result (EachLog logs.now (λ i log. log.place ≡ i)) }
     ensures valid { OnOk result (EachLog logs.now (λ _ log. IsLog log)) }
-    ensures err { IfErr result (λ f. (i : ℕ) × (f ≡ HeadFault.Place i) × IsFirstOther logs.now (λ j log. log.place ≡ j) i) }
+    ensures err { IfErr result
+        (λ f. (i : ℕ) × (f ≡ HeadFault.Place i) × IsFirstOther logs.now (λ j log. log.place ≡ j) i) }
 {
     for i in 0..size.get() {
         if logs[usize::from(i)].place() != i {
@@ -76,7 +79,8 @@ impl<A: Allocator> Logs<A> {
     /// The logs as those of one ring, or their first fault: their number, then a ring size, then a
     /// place. It takes no memory.
     pub fn gather(logs: Vec<NodeLog<A>, A>) -> Result<Logs<A>, HeadFault>
-        ensures ok { (gathered : List Log) → (result ≡ Ok gathered) ↔ ((gathered ≡ logs.items) × AreLogs gathered) }
+        ensures ok { (gathered : List Log)
+            → (result ≡ Ok gathered) ↔ ((gathered ≡ logs.items) × AreLogs gathered) }
         ensures err { (f : HeadFault) → (result ≡ Err f) ↔ HeadFaultOf logs.items f }
     {
         let size = common_size(&logs)?;

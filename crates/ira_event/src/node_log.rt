@@ -28,9 +28,15 @@ impl<A: Allocator> Model for NodeLog<A> {
 
     ghost Value = { Log };
 
-    ghost view = { λ a. record { nodes = a.nodes; place = a.place; initiator = a.initiator; events = a.events } };
+    ghost view = { λ a. record {
+      nodes = a.nodes;
+      place = a.place;
+      initiator = a.initiator;
+      events = a.events;
+    } };
 
-    ghost invariant = { λ a. IsLog (record { nodes = a.nodes; place = a.place; initiator = a.initiator; events = a.events }) };
+    ghost invariant = { λ a. IsLog
+        (record { nodes = a.nodes; place = a.place; initiator = a.initiator; events = a.events }) };
 }
 
 fn are_in_range(events: &[Event]) -> bool
@@ -48,8 +54,11 @@ impl<A: Allocator> NodeLog<A> {
         initiator: bool,
         events: Vec<Event, A>,
     ) -> Option<NodeLog<A>>
-        ensures some { IsSome result ↔ IsLog (record { nodes = nodes; place = place; initiator = initiator; events = events.items }) }
-        ensures value { IfSome result (λ log. log ≡ record { nodes = nodes; place = place; initiator = initiator; events = events.items }) }
+        ensures some { IsSome result
+            ↔ IsLog (record { nodes = nodes; place = place; initiator = initiator; events = events.items }) }
+        ensures value { IfSome result
+            (λ log. log
+            ≡ record { nodes = nodes; place = place; initiator = initiator; events = events.items }) }
     {
         if place >= nodes.get() || events.len() > MAX_RECORDS || !are_in_range(&events) {
             return None;
@@ -69,8 +78,10 @@ impl<A: Allocator> NodeLog<A> {
         initiator: bool,
         events: Vec<Event, A>,
     ) -> NodeLog<A>
-        requires { IsLog (record { nodes = nodes; place = place; initiator = initiator; events = events.items }) }
-        ensures { result ≡ record { nodes = nodes; place = place; initiator = initiator; events = events.items } }
+        requires { IsLog
+            (record { nodes = nodes; place = place; initiator = initiator; events = events.items }) }
+        ensures { result
+            ≡ record { nodes = nodes; place = place; initiator = initiator; events = events.items } }
     {
         NodeLog {
             nodes,
@@ -82,8 +93,20 @@ impl<A: Allocator> NodeLog<A> {
 
     /// The log of a text's head and records, which are in range.
     pub(crate) fn of_packed(head: LogHead, events: Vec<PackedEvent, A>) -> NodeLog<A>
-        requires { IsLog (record { nodes = head.nodes; place = head.place; initiator = head.initiator; events = events.items }) }
-        ensures { result ≡ record { nodes = head.nodes; place = head.place; initiator = head.initiator; events = events.items } }
+        requires { IsLog
+            (record {
+              nodes = head.nodes;
+              place = head.place;
+              initiator = head.initiator;
+              events = events.items;
+            }) }
+        ensures { result
+            ≡ record {
+              nodes = head.nodes;
+              place = head.place;
+              initiator = head.initiator;
+              events = events.items;
+            } }
     {
         NodeLog {
             nodes: head.nodes,

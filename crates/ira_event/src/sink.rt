@@ -20,5 +20,6 @@ pub trait Sink {
     fn push(&mut self, bytes: &[u8]) -> Result<usize, SinkFault>
         ensures bound { WritesAtMost result bytes.now }
         ensures bytes { WriteAppends (state self.old).taken (state self.new).taken result bytes.now }
-        ensures failures { (state self.new).failures ≡ failures_after result bytes.now (state self.old).failures };
+        ensures failures { (state self.new).failures
+            ≡ failures_after result bytes.now (state self.old).failures };
 }

@@ -27,7 +27,12 @@ impl<'a, A: Allocator> Model for LoneNode<'a, A> {
 
     ghost Value = { LoneNode };
 
-    ghost view = { λ a. record { state = a.state; ids = a.ids.now; input = a.input.items; events = a.events.items } };
+    ghost view = { λ a. record {
+      state = a.state;
+      ids = a.ids.now;
+      input = a.input.items;
+      events = a.events.items;
+    } };
 }
 
 impl<'a, A: Allocator> LoneNode<'a, A> {
@@ -39,7 +44,9 @@ impl<'a, A: Allocator> LoneNode<'a, A> {
     ) -> Result<LoneNode<'a, A>, AllocError>
     where
         A: Clone,
-        ensures { IfOk result (λ node. node ≡ record { state = first_state initiator; ids = ids.now; input = []; events = [] }) }
+        ensures { IfOk result
+            (λ node. node
+            ≡ record { state = first_state initiator; ids = ids.now; input = []; events = [] }) }
     {
         Ok(LoneNode {
             state: NodeState::first(initiator),
@@ -81,7 +88,8 @@ impl<'a, A: Allocator> LoneNode<'a, A> {
     fn send(&mut self, state: NodeState, nodes: RingSize, message: Msg) -> Result<(), AllocError>
         requires state { state ≡ self.old.state }
         requires wanted { Send message ≡ wanted_of state.phase state.owed }
-        ensures { OnOk result ((most : ℕ) → length self.old.events < most → MakesSending nodes most self.old self.new message) }
+        ensures { OnOk result
+            ((most : ℕ) → length self.old.events < most → MakesSending nodes most self.old self.new message) }
     {
         let Ok(after) = state.step(nodes, &Event::Sent(message)) else {
             unreachable!();
@@ -97,7 +105,9 @@ impl<'a, A: Allocator> LoneNode<'a, A> {
         requires state { state ≡ self.old.state }
         requires wanted { WantsDraw ≡ wanted_of state.phase state.owed }
         requires ids { All (λ d. (1 ≤ d) × (d ≤ nodes)) self.old.ids }
-        ensures { IfOk result (λ next. (most : ℕ) → length self.old.events < most → MakesOwn nodes most self.old self.new next) }
+        ensures { IfOk result
+            (λ next. (most : ℕ) → length self.old.events < most
+            → MakesOwn nodes most self.old self.new next) }
     {
         let Some((&id, others)) = self.ids.split_first() else {
             return Ok(None);
@@ -120,7 +130,9 @@ impl<'a, A: Allocator> LoneNode<'a, A> {
     ) -> Result<Option<NodeState>, AllocError>
         requires state { state ≡ self.old.state }
         requires wanted { Receipt ≡ wanted_of state.phase state.owed }
-        ensures { IfOk result (λ next. (most : ℕ) → length self.old.events < most → MakesOwn nodes most self.old self.new next) }
+        ensures { IfOk result
+            (λ next. (most : ℕ) → length self.old.events < most
+            → MakesOwn nodes most self.old self.new next) }
     {
         let Some(&message) = self.input.front() else {
             return Ok(None);
@@ -162,8 +174,10 @@ impl<'a, A: Allocator> LoneNode<'a, A> {
 
     /// The node's log.
     pub(crate) fn into_log(self, nodes: RingSize, place: u8, initiator: bool) -> NodeLog<A>
-        requires { IsLog (record { nodes = nodes; place = place; initiator = initiator; events = self.events }) }
-        ensures { result ≡ record { nodes = nodes; place = place; initiator = initiator; events = self.entry.events } }
+        requires { IsLog
+            (record { nodes = nodes; place = place; initiator = initiator; events = self.events }) }
+        ensures { result
+            ≡ record { nodes = nodes; place = place; initiator = initiator; events = self.entry.events } }
     {
         NodeLog::of_parts(nodes, place, initiator, self.events)
     }

@@ -68,7 +68,9 @@ impl<'a, A: Allocator> LoneRing<'a, A> {
         requires reached { IsReached self.old.setup.now self.old.nodes.items }
         requires place { i < length self.old.nodes.items }
         ensures setup { OnOk result (self.new.setup.now ≡ self.old.setup.now) }
-        ensures turn { IfOk result (IsTurn self.old.setup.now.nodes self.old.setup.now.cap i self.old.nodes.items self.new.nodes.items) }
+        ensures turn { IfOk result
+            (IsTurn self.old.setup.now.nodes self.old.setup.now.cap i self.old.nodes.items
+            self.new.nodes.items) }
     {
         let setup = self.setup;
         let size = setup.nodes;
@@ -98,7 +100,8 @@ impl<'a, A: Allocator> LoneRing<'a, A> {
     pub(crate) fn into_logs(self, alloc: A) -> Result<Vec<NodeLog<A>, A>, AllocError>
         requires rules { KeepsRules self.setup.now }
         requires reached { IsReached self.setup.now self.nodes.items }
-        ensures { IfOk result (λ logs. AreLogsOfNodes self.entry.setup.now self.entry.nodes.items logs.items) }
+        ensures { IfOk result
+            (λ logs. AreLogsOfNodes self.entry.setup.now self.entry.nodes.items logs.items) }
     {
         let setup = self.setup;
         let mut logs = Vec::with_capacity(alloc, self.nodes.len())?;

@@ -17,7 +17,9 @@ fn initiators<A: Allocator>(
     alloc: A,
     nodes: RingSize,
 ) -> Result<Vec<bool, A>, AllocError>
-    ensures { IfOk result (λ kinds. kinds.items ≡ map (λ i. nat_lt i (unwrap_or request.now.initiators nodes)) (range_with_len 0 nodes)) }
+    ensures { IfOk result
+        (λ kinds. kinds.items
+        ≡ map (λ i. nat_lt i (unwrap_or request.now.initiators nodes)) (range_with_len 0 nodes)) }
 {
     let number = request.initiators.unwrap_or(u64::from(nodes.get()));
     (0..nodes.get())

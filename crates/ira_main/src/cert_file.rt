@@ -20,7 +20,8 @@ fn write_new<A: Allocator, B: Allocator, F: Shelf<B>>(
     name: &str,
     shelf: &mut F,
 ) -> Result<(), ShelfFault>
-    ensures { WritesFile F.creates F.loses F.Out.state name.now (cert_text certificate.now) shelf.old shelf.new result }
+    ensures { WritesFile F.creates F.loses F.Out.state name.now
+        (cert_text certificate.now) shelf.old shelf.new result }
 {
     let mut file = shelf.create(name)?;
     write_cert(certificate, &mut file)?;
@@ -53,7 +54,9 @@ pub fn keep_cert<A: Allocator, B: Allocator, F: Shelf<B>, V: Sink>(
     shelf: &mut F,
     err: &mut V,
 ) -> u8
-    ensures { (outcome : Result Status ProgramFault) × Keeps F.creates F.loses F.Out.state certificate.now name.entry shelf.old shelf.new outcome × (result ≡ outcome_number outcome) × ReportsOutcome outcome (V.state err.old) (V.state err.new) }
+    ensures { (outcome : Result Status ProgramFault)
+        × Keeps F.creates F.loses F.Out.state certificate.now name.entry shelf.old shelf.new outcome
+        × (result ≡ outcome_number outcome) × ReportsOutcome outcome (V.state err.old) (V.state err.new) }
 {
     let outcome = keep(certificate, name, shelf);
     report_outcome(outcome, err)

@@ -22,13 +22,19 @@ impl<I: Read> Model for Counted<I> {
 
     ghost Value = { Reads };
 
-    ghost view = { λ s. record { left = I.remaining s.reader; reads = s.reads; is_over = s.is_over; has_failed = s.has_failed } };
+    ghost view = { λ s. record {
+      left = I.remaining s.reader;
+      reads = s.reads;
+      is_over = s.is_over;
+      has_failed = s.has_failed;
+    } };
 }
 
 impl<I: Read> Counted<I> {
     /// A reader that wasn't read yet.
     pub fn new(reader: I) -> Counted<I>
-        ensures { result ≡ record { left = I.remaining reader; reads = 0; is_over = false; has_failed = false } }
+        ensures { result
+            ≡ record { left = I.remaining reader; reads = 0; is_over = false; has_failed = false } }
     {
         Counted {
             reader,

@@ -21,7 +21,8 @@ fn keep_findings<'a, A: Allocator + Clone, F: Shelf<A>>(
     name: Option<&'a str>,
     shelf: &mut F,
 ) -> Result<Status, ProgramFault<'a>>
-    ensures { EndsWith (HasKept F.creates F.loses F.Out.state F.files shelf.old shelf.new) (F.files shelf.new ≡ F.files shelf.old) findings name.entry result }
+    ensures { EndsWith (HasKept F.creates F.loses F.Out.state F.files shelf.old shelf.new)
+        (F.files shelf.new ≡ F.files shelf.old) findings name.entry result }
 {
     let Some(certificate) = findings.into_certificate()? else {
         return Ok(Status::No);
@@ -46,7 +47,10 @@ where
     A: Allocator + Clone + Send + Sync,
     F: Shelf<A>,
     W: Sink,
-    ensures { Decides A (HasKept F.creates F.loses F.Out.state F.files shelf.old shelf.new) (F.files shelf.new ≡ F.files shelf.old) (length decide.now.logs.items) decide.now.certificate (W.state out.old) (W.state out.new) result ⊎ GivesNoAnswer (W.state out.old) (W.state out.new) (outcome_number result) }
+    ensures { Decides A (HasKept F.creates F.loses F.Out.state F.files shelf.old shelf.new)
+        (F.files shelf.new ≡ F.files shelf.old) (length decide.now.logs.items) decide.now.certificate
+        (W.state out.old) (W.state out.new) result
+        ⊎ GivesNoAnswer (W.state out.old) (W.state out.new) (outcome_number result) }
 {
     let question = read_file(decide.question, shelf)?;
     let audit = read_logs(rt, alloc.clone()?, &decide.logs, shelf)?;

@@ -16,7 +16,8 @@ pub(crate) fn print_pairs<'a, A: Allocator + Clone, W: Sink>(
     nodes: u64,
     out: &mut W,
 ) -> Result<Status, ProgramFault<'a>>
-    ensures { AsksPairs nodes (W.state out.old) (W.state out.new) (outcome_number result) ⊎ GivesNoAnswer (W.state out.old) (W.state out.new) (outcome_number result) }
+    ensures { AsksPairs nodes (W.state out.old) (W.state out.new) (outcome_number result)
+        ⊎ GivesNoAnswer (W.state out.old) (W.state out.new) (outcome_number result) }
 {
     let Some(nodes) = ring_size(nodes) else {
         return Err(ProgramFault::RingSize);

@@ -64,7 +64,8 @@ where
     A: Allocator + Clone + Send + Sync,
     F: Shelf<A>,
     W: Sink,
-    ensures judged { JudgesTogether (length names.now) (W.state out.old) (W.state out.new) (outcome_number result) ⊎ GivesNoAnswer (W.state out.old) (W.state out.new) (outcome_number result) }
+    ensures judged { JudgesTogether (length names.now) (W.state out.old) (W.state out.new) (outcome_number result)
+        ⊎ GivesNoAnswer (W.state out.old) (W.state out.new) (outcome_number result) }
     ensures files { F.files shelf.new ≡ F.files shelf.old }
 {
     let audit = read_logs(rt, alloc, names, shelf)?;
@@ -86,7 +87,8 @@ where
     A: Allocator + Clone + Send + Sync,
     F: Shelf<A>,
     W: Sink,
-    ensures judged { JudgesCertified (length check.now.logs.items) (W.state out.old) (W.state out.new) (outcome_number result) ⊎ GivesNoAnswer (W.state out.old) (W.state out.new) (outcome_number result) }
+    ensures judged { JudgesCertified (length check.now.logs.items) (W.state out.old) (W.state out.new) (outcome_number result)
+        ⊎ GivesNoAnswer (W.state out.old) (W.state out.new) (outcome_number result) }
     ensures files { F.files shelf.new ≡ F.files shelf.old }
 {
     let question = read_file(check.question, shelf)?;
@@ -112,8 +114,12 @@ where
     I: Read,
     F: Shelf<A>,
     W: Sink,
-    ensures judged { words.now ≡ [] → Judges input.old input.new (W.state out.old) (W.state out.new) (outcome_number result) }
-    ensures executed { words.now ≢ [] → Executes A (HasKept F.creates F.loses F.Out.state F.files shelf.old shelf.new) (F.files shelf.new ≡ F.files shelf.old) (map (λ word. word.now) words.now) input.old input.new (W.state out.old) (W.state out.new) (outcome_number result) }
+    ensures judged { words.now ≡ []
+        → Judges input.old input.new (W.state out.old) (W.state out.new) (outcome_number result) }
+    ensures executed { words.now ≢ []
+        → Executes A (HasKept F.creates F.loses F.Out.state F.files shelf.old shelf.new)
+        (F.files shelf.new ≡ F.files shelf.old) (map (λ word. word.now) words.now) input.old input.new
+        (W.state out.old) (W.state out.new) (outcome_number result) }
     ensures reads { input.new.reads ≤ input.old.reads + (MAX_TEXT + 1) }
 {
     match read_words(rt.alloc(), words)? {
@@ -158,7 +164,10 @@ where
     ensures status { result ≤ 3 }
     ensures reads { input.new.reads ≤ input.old.reads + (MAX_TEXT + 1) }
     ensures judged { words.now ≡ [] → Judges input.old input.new (W.state out.old) (W.state out.new) result }
-    ensures executed { words.now ≢ [] → Executes A (HasKept F.creates F.loses F.Out.state F.files shelf.old shelf.new) (F.files shelf.new ≡ F.files shelf.old) (map (λ word. word.now) words.now) input.old input.new (W.state out.old) (W.state out.new) result }
+    ensures executed { words.now ≢ []
+        → Executes A (HasKept F.creates F.loses F.Out.state F.files shelf.old shelf.new)
+        (F.files shelf.new ≡ F.files shelf.old) (map (λ word. word.now) words.now) input.old input.new
+        (W.state out.old) (W.state out.new) result }
 {
     let outcome = execute(rt, alloc, words, input, shelf, out);
     report_outcome(outcome, err)

@@ -50,7 +50,8 @@ where
     R: Threads + Sync,
     A: Allocator + Clone + Send + Sync,
     F: Shelf<A>,
-    ensures taken { IfOk result (λ audit. (texts : List (List ℕ)) × HasTaken audit texts × (length texts ≡ length names.now)) }
+    ensures taken { IfOk result
+        (λ audit. (texts : List (List ℕ)) × HasTaken audit texts × (length texts ≡ length names.now)) }
     ensures files { F.files shelf.new ≡ F.files shelf.old }
 {
     let mut audit = RingAudit::new(alloc.clone()?);

@@ -41,7 +41,8 @@ fn read_more<A: Allocator, I: Read>(
     ensures bound { IfOk result (λ n. filled + n ≤ length text.new.items) }
     ensures once { IfOk result (λ n. IsReadOnce input.old input.new (take n (drop filled text.new.items))) }
     ensures count { input.new.reads ≤ input.old.reads + 1 }
-    ensures device { result ≡ Err ShelfFault.Device → (input.new.has_failed ≡ true) × (input.new.is_over ≡ true) }
+    ensures device { result ≡ Err ShelfFault.Device
+        → (input.new.has_failed ≡ true) × (input.new.is_over ≡ true) }
 {
     if filled == text.len() {
         let room = (filled + CHUNK).min(MAX_TEXT + 1);
@@ -63,7 +64,8 @@ pub(crate) fn read_text<A: Allocator, I: Read>(
 ) -> Result<Vec<u8, A>, ShelfFault>
     ensures text { IfOk result (λ text. IsReadTo (MAX_TEXT + 1) input.old input.new text.items) }
     ensures reads { input.new.reads ≤ input.old.reads + (MAX_TEXT + 1) }
-    ensures device { result ≡ Err ShelfFault.Device → (input.new.has_failed ≡ true) × (input.new.is_over ≡ true) }
+    ensures device { result ≡ Err ShelfFault.Device
+        → (input.new.has_failed ≡ true) × (input.new.is_over ≡ true) }
 {
     let mut text = Vec::new(alloc);
     let mut filled = 0;

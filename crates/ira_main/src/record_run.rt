@@ -58,7 +58,8 @@ where
     A: Allocator + Clone + Send + Sync,
     F: Shelf<A>,
     W: Sink,
-    ensures { Records request.now (W.state out.old) (W.state out.new) (outcome_number result) ⊎ GivesNoAnswer (W.state out.old) (W.state out.new) (outcome_number result) }
+    ensures { Records request.now (W.state out.old) (W.state out.new) (outcome_number result)
+        ⊎ GivesNoAnswer (W.state out.old) (W.state out.new) (outcome_number result) }
 {
     let Some(nodes) = ring_size(request.nodes) else {
         return Err(ProgramFault::RingSize);

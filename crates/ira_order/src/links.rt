@@ -11,7 +11,8 @@ use std::alloc::Allocator;
 
 /// The first message that these events send; the events up to it are passed over.
 fn next_sending(events: &mut Events<'_>) -> Option<Msg>
-    ensures { MatchOption result (sent events.old ≡ []) (λ message. sent events.old ≡ message ∷ sent events.new) }
+    ensures { MatchOption result (sent events.old ≡ [])
+        (λ message. sent events.old ≡ message ∷ sent events.new) }
 {
     while let Some(event) = events.next() {
         if let Event::Sent(message) = event {
@@ -27,7 +28,8 @@ fn match_link<A: Allocator>(
     writer: &NodeLog<A>,
     reader: &NodeLog<A>,
 ) -> Result<(), MatchFault>
-    ensures { MatchResult result (λ _. (k : ℕ) → IsPaired writer.now.events reader.now.events k) (IsLinkFault link writer.now.events reader.now.events) }
+    ensures { MatchResult result (λ _. (k : ℕ) → IsPaired writer.now.events reader.now.events k)
+        (IsLinkFault link writer.now.events reader.now.events) }
 {
     let mut sendings = writer.events();
     let mut k = 0;

@@ -20,7 +20,9 @@ pub(crate) struct OrderPrefix<A: Allocator> {
 /// `sendings` so far.
 fn next_free<A: Allocator>(log: &NodeLog<A>, at: u32, got: u32, sendings: u32) -> Option<Event>
     requires { got ≤ at }
-    ensures { MatchOption result ((e : Event) → slice_get log.now.events at ≡ Some e → sendings < got + got_by e) (λ e. (slice_get log.now.events at ≡ Some e) × (got + got_by e ≤ sendings)) }
+    ensures { MatchOption result
+        ((e : Event) → slice_get log.now.events at ≡ Some e → sendings < got + got_by e)
+        (λ e. (slice_get log.now.events at ≡ Some e) × (got + got_by e ≤ sendings)) }
 {
     if at as usize >= log.len() {
         return None;
@@ -37,7 +39,9 @@ impl<A: Allocator> OrderPrefix<A> {
     pub(crate) fn start(alloc: A, logs: &Logs<A>) -> Result<OrderPrefix<A>, AllocError>
     where
         A: Clone,
-        ensures { IfOk result (λ prefix. IsOrderPrefix logs.now prefix.tally.done.items prefix.tally.sent.items prefix.tally.got.items prefix.places.items) }
+        ensures { IfOk result
+            (λ prefix. IsOrderPrefix logs.now prefix.tally.done.items prefix.tally.sent.items
+            prefix.tally.got.items prefix.places.items) }
     {
         Ok(OrderPrefix {
             tally: Tally::start(alloc.clone()?, logs)?,
@@ -48,9 +52,12 @@ impl<A: Allocator> OrderPrefix<A> {
     /// Adds the events of a node as far as they may come. The node before it makes none meanwhile, so
     /// the number of its sendings stays.
     fn run(&mut self, logs: &Logs<A>, i: u8) -> Result<(), AllocError>
-        requires prefix { IsOrderPrefix logs.now self.old.tally.done.items self.old.tally.sent.items self.old.tally.got.items self.old.places.items }
+        requires prefix { IsOrderPrefix logs.now self.old.tally.done.items self.old.tally.sent.items
+            self.old.tally.got.items self.old.places.items }
         requires place { i < length logs.now }
-        ensures prefix { OnOk result (IsOrderPrefix logs.now self.new.tally.done.items self.new.tally.sent.items self.new.tally.got.items self.new.places.items) }
+        ensures prefix { OnOk result
+            (IsOrderPrefix logs.now self.new.tally.done.items self.new.tally.sent.items
+            self.new.tally.got.items self.new.places.items) }
         ensures further { OnOk result (HasGrown self.old.places.items self.new.places.items) }
         ensures stuck { OnOk result (IsStuckAt logs.now (occurrences self.new.places.items) i) }
     {
@@ -79,10 +86,15 @@ impl<A: Allocator> OrderPrefix<A> {
     /// and node 0 only behind the last one; so every node gets on in each round but the first and the
     /// last two, and the rounds cost no more than the events and a few times the nodes.
     fn round(&mut self, logs: &Logs<A>) -> Result<(), AllocError>
-        requires prefix { IsOrderPrefix logs.now self.old.tally.done.items self.old.tally.sent.items self.old.tally.got.items self.old.places.items }
-        ensures prefix { OnOk result (IsOrderPrefix logs.now self.new.tally.done.items self.new.tally.sent.items self.new.tally.got.items self.new.places.items) }
+        requires prefix { IsOrderPrefix logs.now self.old.tally.done.items self.old.tally.sent.items
+            self.old.tally.got.items self.old.places.items }
+        ensures prefix { OnOk result
+            (IsOrderPrefix logs.now self.new.tally.done.items self.new.tally.sent.items
+            self.new.tally.got.items self.new.places.items) }
         ensures further { OnOk result (HasGrown self.old.places.items self.new.places.items) }
-        ensures stuck { OnOk result (length self.new.places.items ≡ length self.old.places.items → (i : ℕ) → i < length logs.now → IsStuckAt logs.now (occurrences self.new.places.items) i) }
+        ensures stuck { OnOk result
+            (length self.new.places.items ≡ length self.old.places.items → (i : ℕ) → i < length logs.now
+            → IsStuckAt logs.now (occurrences self.new.places.items) i) }
     {
         for i in 0..logs.size().get() {
             self.run(logs, i)?;
@@ -92,9 +104,13 @@ impl<A: Allocator> OrderPrefix<A> {
 
     /// Goes on until no event may come.
     pub(crate) fn rounds(&mut self, logs: &Logs<A>) -> Result<(), AllocError>
-        requires prefix { IsOrderPrefix logs.now self.old.tally.done.items self.old.tally.sent.items self.old.tally.got.items self.old.places.items }
-        ensures prefix { OnOk result (IsOrderPrefix logs.now self.new.tally.done.items self.new.tally.sent.items self.new.tally.got.items self.new.places.items) }
-        ensures stuck { OnOk result ((i : ℕ) → i < length logs.now → IsStuckAt logs.now (occurrences self.new.places.items) i) }
+        requires prefix { IsOrderPrefix logs.now self.old.tally.done.items self.old.tally.sent.items
+            self.old.tally.got.items self.old.places.items }
+        ensures prefix { OnOk result
+            (IsOrderPrefix logs.now self.new.tally.done.items self.new.tally.sent.items
+            self.new.tally.got.items self.new.places.items) }
+        ensures stuck { OnOk result
+            ((i : ℕ) → i < length logs.now → IsStuckAt logs.now (occurrences self.new.places.items) i) }
     {
         loop {
             let before = self.places.len();
@@ -108,7 +124,11 @@ impl<A: Allocator> OrderPrefix<A> {
     /// Whether it holds every event.
     pub(crate) fn is_whole(&self, logs: &Logs<A>) -> bool
         requires { length self.now.tally.done.items ≡ length logs.now }
-        ensures { MatchBool result ((i : ℕ) → i < length logs.now → length (log_of logs.now i) ≤ slice_index self.now.tally.done.items i) ((i : ℕ) × (i < length logs.now) × (slice_index self.now.tally.done.items i < length (log_of logs.now i))) }
+        ensures { MatchBool result
+            ((i : ℕ) → i < length logs.now
+            → length (log_of logs.now i) ≤ slice_index self.now.tally.done.items i)
+            ((i : ℕ) × (i < length logs.now)
+            × (slice_index self.now.tally.done.items i < length (log_of logs.now i))) }
     {
         for i in 0..logs.size().get() {
             if (self.tally.done[usize::from(i)] as usize) < logs.log(i).len() {

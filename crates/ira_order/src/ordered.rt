@@ -26,7 +26,8 @@ impl<'a, A: Allocator> Model for Ordered<'a, A> {
 
     ghost view = { λ a. record { logs = a.logs.now; schedule = a.schedule.items } };
 
-    ghost invariant = { λ a. IsOrdered (record { logs = a.logs.now; schedule = a.schedule.items }) × AreStamps a.logs.now a.stamps.begins.items a.stamps.numbers.items a.stamps.counters.items };
+    ghost invariant = { λ a. IsOrdered (record { logs = a.logs.now; schedule = a.schedule.items })
+        × AreStamps a.logs.now a.stamps.begins.items a.stamps.numbers.items a.stamps.counters.items };
 }
 
 impl<'a, A: Allocator> Ordered<'a, A> {

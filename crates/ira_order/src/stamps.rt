@@ -60,7 +60,9 @@ fn begins_of<A: Allocator>(alloc: A, logs: &Logs<A>) -> Result<Vec<usize, A>, Al
 
 /// Adds the numbers of a log's receipts.
 fn add_numbers<A: Allocator>(numbers: &mut Vec<u32, A>, log: &NodeLog<A>) -> Result<(), AllocError>
-    ensures { OnOk result ((more : List ℕ) × (numbers.new.items ≡ numbers.old.items ++ more) × AreReceipts log.now.events more) }
+    ensures { OnOk result
+        ((more : List ℕ) × (numbers.new.items ≡ numbers.old.items ++ more)
+        × AreReceipts log.now.events more) }
 {
     let mut number = 0;
     for event in log.events() {
@@ -125,7 +127,8 @@ impl<A: Allocator> Stamps<A> {
 
     /// Goes along the order, and stamps each receipt where the order has its sending.
     fn fill(&mut self, logs: &Logs<A>, schedule: &[u8], mut tally: Tally<A>)
-        requires table { IsTable logs.now self.old.begins.items self.old.numbers.items self.old.counters.items }
+        requires table { IsTable logs.now self.old.begins.items self.old.numbers.items
+            self.old.counters.items }
         requires ordered { IsOrdered (record { logs = logs.now; schedule = schedule.now }) }
         requires start { IsOrderPrefix logs.now tally.done.items tally.sent.items tally.got.items [] }
         ensures { AreStamps logs.now self.new.begins.items self.new.numbers.items self.new.counters.items }
@@ -147,13 +150,15 @@ impl<A: Allocator> Stamps<A> {
     /// Stamps the receipt of the message that node `k` sends with its event `a`, if the next node has
     /// it: node `k` has received `received` messages by then and sent `sent` before.
     fn stamp(&mut self, logs: &Logs<A>, k: u8, a: u32, received: usize, sent: usize)
-        requires table { IsTable logs.now self.old.begins.items self.old.numbers.items self.old.counters.items }
+        requires table { IsTable logs.now self.old.begins.items self.old.numbers.items
+            self.old.counters.items }
         requires place { k < length logs.now }
         requires received { received ≤ length (got (log_of logs.now k)) }
         requires sent { sent < MAX_RECORDS }
         ensures begins { self.new.begins.items ≡ self.old.begins.items }
         ensures numbers { self.new.numbers.items ≡ self.old.numbers.items }
-        ensures stamping { IsStamping logs.now self.old.counters.items self.new.counters.items (next (length logs.now) k) (sent + 1) k received a }
+        ensures stamping { IsStamping logs.now self.old.counters.items self.new.counters.items
+            (next (length logs.now) k) (sent + 1) k received a }
     {
         let nodes = logs.size().get();
         let reader = usize::from(reader_of(nodes, k));
@@ -172,7 +177,8 @@ impl<A: Allocator> Stamps<A> {
 
     /// The counter of node `i` in the stamp of receipt `receipt` of node `j`; 0 before its first one.
     fn counter(&self, logs: &Logs<A>, j: u8, receipt: usize, i: u8) -> u32
-        requires table { IsTable logs.now self.now.begins.items self.now.numbers.items self.now.counters.items }
+        requires table { IsTable logs.now self.now.begins.items self.now.numbers.items
+            self.now.counters.items }
         requires places { (i < length logs.now) × (j < length logs.now) }
         requires receipt { receipt ≤ length (got (log_of logs.now j)) }
         ensures { result ≡ counter_of logs.now self.now.counters.items j receipt i }
@@ -187,7 +193,8 @@ impl<A: Allocator> Stamps<A> {
 
     /// How many messages node `j` has received with its event `b`.
     fn received(&self, logs: &Logs<A>, j: u8, b: u32) -> usize
-        requires table { IsTable logs.now self.now.begins.items self.now.numbers.items self.now.counters.items }
+        requires table { IsTable logs.now self.now.begins.items self.now.numbers.items
+            self.now.counters.items }
         requires place { j < length logs.now }
         ensures { result ≡ receipts_by logs.now j b }
     {
@@ -199,7 +206,8 @@ impl<A: Allocator> Stamps<A> {
     /// How many events of each other node happened up to event `b` of node `j`: the stamp of its last
     /// receipt up to there, and all 0 where it has none. The entry of node `j` itself is left open.
     pub(crate) fn counts(&self, logs: &Logs<A>, j: u8, b: u32) -> &[u32]
-        requires stamps { AreStamps logs.now self.now.begins.items self.now.numbers.items self.now.counters.items }
+        requires stamps { AreStamps logs.now self.now.begins.items self.now.numbers.items
+            self.now.counters.items }
         requires place { j < length logs.now }
         requires position { b ≤ length (log_of logs.now j) }
         ensures { AreCountsOfOthers logs.now j b result.now }

@@ -38,7 +38,8 @@ impl<A: Allocator> Tally<A> {
     pub(crate) fn start(alloc: A, logs: &Logs<A>) -> Result<Tally<A>, AllocError>
     where
         A: Clone,
-        ensures { IfOk result (λ tally. IsOrderPrefix logs.now tally.done.items tally.sent.items tally.got.items []) }
+        ensures { IfOk result
+            (λ tally. IsOrderPrefix logs.now tally.done.items tally.sent.items tally.got.items []) }
     {
         let nodes = usize::from(logs.size().get());
         Ok(Tally {
@@ -53,9 +54,12 @@ impl<A: Allocator> Tally<A> {
         requires done { (i < length self.old.done.items) × (slice_index self.old.done.items i < MAX_RECORDS) }
         requires sent { (i < length self.old.sent.items) × (slice_index self.old.sent.items i < MAX_RECORDS) }
         requires got { (i < length self.old.got.items) × (slice_index self.old.got.items i < MAX_RECORDS) }
-        ensures done { self.new.done.items ≡ slice_set self.old.done.items i (slice_index self.old.done.items i + 1) }
-        ensures sent { self.new.sent.items ≡ slice_set self.old.sent.items i (slice_index self.old.sent.items i + sent_by event) }
-        ensures got { self.new.got.items ≡ slice_set self.old.got.items i (slice_index self.old.got.items i + got_by event) }
+        ensures done { self.new.done.items
+            ≡ slice_set self.old.done.items i (slice_index self.old.done.items i + 1) }
+        ensures sent { self.new.sent.items
+            ≡ slice_set self.old.sent.items i (slice_index self.old.sent.items i + sent_by event) }
+        ensures got { self.new.got.items
+            ≡ slice_set self.old.got.items i (slice_index self.old.got.items i + got_by event) }
     {
         let node = usize::from(i);
         self.done[node] += 1;

@@ -38,7 +38,8 @@ impl<A: Allocator> Leaf<A> {
         from: usize,
         to: usize,
     ) -> Result<Leaf<A>, AllocError>
-        ensures { IfOk result (λ leaf. leaf ≡ record { from = from; to = to; counts = replicate places 0; fault = None }) }
+        ensures { IfOk result
+            (λ leaf. leaf ≡ record { from = from; to = to; counts = replicate places 0; fault = None }) }
     {
         Ok(Leaf {
             from,
@@ -62,10 +63,19 @@ impl<A: Allocator> Leaf<A> {
     /// place.
     pub(crate) fn place(&mut self, counts: &mut Vec<usize, A>)
         requires places { length self.old.counts ≡ length counts.old.items }
-        requires small { (i : ℕ) → i < length self.old.counts → slice_index self.old.counts i + slice_index counts.old.items i < 2 ^ 64 }
-        ensures leaf { self.new ≡ record { from = self.old.from; to = self.old.to; counts = counts.old.items; fault = self.old.fault } }
+        requires small { (i : ℕ) → i < length self.old.counts
+            → slice_index self.old.counts i + slice_index counts.old.items i < 2 ^ 64 }
+        ensures leaf { self.new
+            ≡ record {
+              from = self.old.from;
+              to = self.old.to;
+              counts = counts.old.items;
+              fault = self.old.fault;
+            } }
         ensures places { length counts.new.items ≡ length counts.old.items }
-        ensures sums { (i : ℕ) → i < length self.old.counts → slice_index counts.new.items i ≡ slice_index self.old.counts i + slice_index counts.old.items i }
+        ensures sums { (i : ℕ) → i < length self.old.counts
+            → slice_index counts.new.items i
+            ≡ slice_index self.old.counts i + slice_index counts.old.items i }
     {
         add(&mut self.counts, counts);
         mem::swap(&mut self.counts, counts);

@@ -36,7 +36,9 @@ fn add_leaves<A: Allocator + Clone>(
 ) -> Result<(), OutOfMemory>
     requires { from ≤ to }
     ensures count { OnOk result (length leaves.new.items ≡ length leaves.old.items + 2 ^ depth) }
-    ensures ranges { OnOk result (AreRanges (IsBlank places) 0 leaves.old.items from → AreRanges (IsBlank places) 0 leaves.new.items to) }
+    ensures ranges { OnOk result
+        (AreRanges (IsBlank places) 0 leaves.old.items from
+        → AreRanges (IsBlank places) 0 leaves.new.items to) }
 {
     if depth == 0 {
         leaves.push(Leaf::new(alloc.clone()?, places, from, to)?)?;
@@ -50,9 +52,12 @@ fn add_leaves<A: Allocator + Clone>(
 /// Puts in place of each range's counts those of the steps before it, from the left, where the counts are
 /// those of the steps before the first; at last the counts are those of all steps.
 pub(crate) fn add_up<A: Allocator>(leaves: &mut [Leaf<A>], counts: &mut Vec<usize, A>)
-    requires counted { (steps : List CertStep) × (from : ℕ) × (to : ℕ) × (length steps < 2 ^ 64) × AreCounted steps from to leaves.old counts.old.items }
+    requires counted { (steps : List CertStep) × (from : ℕ) × (to : ℕ) × (length steps < 2 ^ 64)
+        × AreCounted steps from to leaves.old counts.old.items }
     ensures places { length counts.new.items ≡ length counts.old.items }
-    ensures placed { (steps : List CertStep) (from to : ℕ) → AreCounted steps from to leaves.old counts.old.items → ArePlaced steps from to leaves.new counts.new.items }
+    ensures placed { (steps : List CertStep) (from to : ℕ)
+        → AreCounted steps from to leaves.old counts.old.items
+        → ArePlaced steps from to leaves.new counts.new.items }
 {
     let Some((leaf, others)) = leaves.split_first_mut() else {
         return;

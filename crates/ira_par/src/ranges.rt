@@ -33,9 +33,11 @@ pub(crate) fn count_range(steps: &[CertStep], from: usize, to: usize, counts: &m
 /// Adds one row of counts to another.
 pub(crate) fn add(sums: &mut [usize], counts: &[usize])
     requires places { length sums.old ≡ length counts.now }
-    requires small { (i : ℕ) → i < length sums.old → slice_index sums.old i + slice_index counts.now i < 2 ^ 64 }
+    requires small { (i : ℕ) → i < length sums.old
+        → slice_index sums.old i + slice_index counts.now i < 2 ^ 64 }
     ensures places { length sums.new ≡ length sums.old }
-    ensures sums { (i : ℕ) → i < length sums.old → slice_index sums.new i ≡ slice_index sums.old i + slice_index counts.now i }
+    ensures sums { (i : ℕ) → i < length sums.old
+        → slice_index sums.new i ≡ slice_index sums.old i + slice_index counts.now i }
 {
     for i in 0..sums.len() {
         sums[i] += counts[i];
@@ -52,10 +54,12 @@ pub(crate) fn judge_range<A: Allocator>(
     to: usize,
     counts: &mut [usize],
 ) -> Option<SectionFault>
-    requires places { (length tables.now ≤ length ordered.now.logs) × (length counts.old ≡ length tables.now) }
+    requires places { (length tables.now ≤ length ordered.now.logs)
+        × (length counts.old ≡ length tables.now) }
     requires range { (from ≤ to) × (to ≤ length steps.now) }
     requires counts { AreMade (take from steps.now) counts.old }
-    ensures { (case : List Conjunct) → HasDifferentPlaces case → AreFronts ordered.now.logs case tables.now → IsRangeFault ordered.now.logs case steps.now from to result }
+    ensures { (case : List Conjunct) → HasDifferentPlaces case → AreFronts ordered.now.logs case tables.now
+        → IsRangeFault ordered.now.logs case steps.now from to result }
 {
     for k in from..to {
         let step = &steps[k];
@@ -77,7 +81,9 @@ pub(crate) fn left_at<A: Allocator>(
 ) -> Left
     requires { length counts.now ≡ length tables.now }
     ensures place { result ≢ Left.NotAsked → place < length tables.now }
-    ensures left { (logs : List Log) (case : List Conjunct) (before : List CertStep) → HasDifferentPlaces case → AreFronts logs case tables.now → AreMade before counts.now → AreSoundSteps logs case before → IsLeft logs case before place result }
+    ensures left { (logs : List Log) (case : List Conjunct) (before : List CertStep) → HasDifferentPlaces case
+        → AreFronts logs case tables.now → AreMade before counts.now → AreSoundSteps logs case before
+        → IsLeft logs case before place result }
 {
     let Some(table) = table_at(tables, place) else {
         return Left::NotAsked;
@@ -90,7 +96,8 @@ pub(crate) fn left_at<A: Allocator>(
 
 /// The candidates of the node, if it is asked.
 fn table_at<A: Allocator>(tables: &[Option<Table<A>>], place: u8) -> Option<&Table<A>>
-    ensures { MatchOption result ((xs : List ℕ) → slice_get tables.now place ≢ Some (Some xs)) (λ table. slice_get tables.now place ≡ Some (Some table.now)) }
+    ensures { MatchOption result ((xs : List ℕ) → slice_get tables.now place ≢ Some (Some xs))
+        (λ table. slice_get tables.now place ≡ Some (Some table.now)) }
 {
     tables.get(usize::from(place))?.as_ref()
 }

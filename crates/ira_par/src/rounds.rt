@@ -34,11 +34,15 @@ where
     G: Gate + Sync,
     A: Allocator + Send + Sync,
     requires few { length leaves.old ≤ 16 }
-    requires places { (length tables.now ≤ length ordered.now.logs) × (length counts.old.items ≡ length tables.now) }
-    requires blank { AreMade [] counts.old.items × AreRanges (IsBlank (length tables.now)) 0 leaves.old (length steps.now) }
+    requires places { (length tables.now ≤ length ordered.now.logs)
+        × (length counts.old.items ≡ length tables.now) }
+    requires blank { AreMade [] counts.old.items
+        × AreRanges (IsBlank (length tables.now)) 0 leaves.old (length steps.now) }
     ensures places { length counts.new.items ≡ length tables.now }
     ensures counts { AreMade steps.now counts.new.items }
-    ensures fault { (case : List Conjunct) → HasDifferentPlaces case → AreFronts ordered.now.logs case tables.now → IsRangeFault ordered.now.logs case steps.now 0 (length steps.now) result }
+    ensures fault { (case : List Conjunct) → HasDifferentPlaces case
+        → AreFronts ordered.now.logs case tables.now
+        → IsRangeFault ordered.now.logs case steps.now 0 (length steps.now) result }
 {
     count_all(rt, steps, leaves);
     add_up(leaves, counts);
@@ -63,12 +67,15 @@ fn count_all<R: Threads + Sync, A: Allocator + Send + Sync>(
     leaves: &mut [Leaf<A>],
 )
     requires { (places : ℕ) × AreRanges (IsBlank places) 0 leaves.old (length steps.now) }
-    ensures { (places : ℕ) → AreRanges (IsBlank places) 0 leaves.old (length steps.now) → AreRanges (IsCounted steps.now places) 0 leaves.new (length steps.now) }
+    ensures { (places : ℕ) → AreRanges (IsBlank places) 0 leaves.old (length steps.now)
+        → AreRanges (IsCounted steps.now places) 0 leaves.new (length steps.now) }
 {
     let threads = threads(leaves.len(), steps.len() / STEPS_WORTH_A_THREAD);
     let count = |_: usize, leaf: &mut Leaf<A>|
-        requires { (leaf.old.from ≤ leaf.old.to) × (leaf.old.to ≤ length steps.now) × IsBlank (length leaf.old.counts) leaf.old }
-        ensures { (leaf.new.from ≡ leaf.old.from) × (leaf.new.to ≡ leaf.old.to) × IsCounted steps.entry.now (length leaf.old.counts) leaf.new }
+        requires { (leaf.old.from ≤ leaf.old.to) × (leaf.old.to ≤ length steps.now)
+            × IsBlank (length leaf.old.counts) leaf.old }
+        ensures { (leaf.new.from ≡ leaf.old.from) × (leaf.new.to ≡ leaf.old.to)
+            × IsCounted steps.entry.now (length leaf.old.counts) leaf.new }
     { leaf.count(steps) };
     thread::for_each_mut(rt, leaves, threads, &count);
 }
@@ -93,8 +100,11 @@ where
 {
     let threads = threads(leaves.len(), steps.len());
     let judge = |number: usize, leaf: &mut Leaf<A>|
-        requires { (number < 2 ^ 32) × (length tables.now ≤ length ordered.now.logs) × (leaf.old.from ≤ leaf.old.to) × (leaf.old.to ≤ length steps.now) × IsPlaced steps.now (length tables.now) leaf.old }
-        ensures { (leaf.new.from ≡ leaf.old.from) × (leaf.new.to ≡ leaf.old.to) × IsJudged ordered.entry.now.logs tables.entry.now steps.entry.now leaf.new }
+        requires { (number < 2 ^ 32) × (length tables.now ≤ length ordered.now.logs)
+            × (leaf.old.from ≤ leaf.old.to) × (leaf.old.to ≤ length steps.now)
+            × IsPlaced steps.now (length tables.now) leaf.old }
+        ensures { (leaf.new.from ≡ leaf.old.from) × (leaf.new.to ≡ leaf.old.to)
+            × IsJudged ordered.entry.now.logs tables.entry.now steps.entry.now leaf.new }
     { leaf.judge(rt, gate, number, ordered, tables, steps) };
     thread::for_each_mut(rt, leaves, threads, &judge);
 }

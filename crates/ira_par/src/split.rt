@@ -51,8 +51,11 @@ where
     requires depth { depth ≤ 4 }
     requires order { ordered.now.logs ≡ logs.now }
     requires places { HasPlacesOf logs.now case.now }
-    ensures yes { UnlessErr result (record {}) ((result ≡ Ok Verdict.Yes) ↔ IsSoundSection logs.now case.now section.now) }
-    ensures no { (f : SectionFault) → UnlessErr result (record {}) ((result ≡ Ok (Verdict.No f)) ↔ IsSectionFault logs.now case.now section.now f) }
+    ensures yes { UnlessErr result (record {})
+        ((result ≡ Ok Verdict.Yes) ↔ IsSoundSection logs.now case.now section.now) }
+    ensures no { (f : SectionFault)
+        → UnlessErr result (record {})
+        ((result ≡ Ok (Verdict.No f)) ↔ IsSectionFault logs.now case.now section.now f) }
 {
     let tables = case_tables(alloc.clone()?, logs, case)?;
     check_tables(rt, alloc, ordered, &tables, section, depth, gate)
@@ -77,8 +80,11 @@ where
     requires depth { depth ≤ 4 }
     requires order { ordered.now.logs ≡ profiles.now }
     requires places { HasPlacesOf profiles.now case.now }
-    ensures yes { UnlessErr result (record {}) ((result ≡ Ok Verdict.Yes) ↔ IsSoundSection profiles.now case.now section.now) }
-    ensures no { (f : SectionFault) → UnlessErr result (record {}) ((result ≡ Ok (Verdict.No f)) ↔ IsSectionFault profiles.now case.now section.now f) }
+    ensures yes { UnlessErr result (record {})
+        ((result ≡ Ok Verdict.Yes) ↔ IsSoundSection profiles.now case.now section.now) }
+    ensures no { (f : SectionFault)
+        → UnlessErr result (record {})
+        ((result ≡ Ok (Verdict.No f)) ↔ IsSectionFault profiles.now case.now section.now f) }
 {
     let nodes = ordered.logs().size();
     let tables = profiled_tables(alloc.clone()?, nodes, profiles, case)?;
@@ -102,7 +108,9 @@ where
     A: Allocator + Clone + Send + Sync,
     requires depth { depth ≤ 4 }
     requires places { length tables.now ≤ length ordered.now.logs }
-    ensures { IfOk result (λ verdict. (case : List Conjunct) → HasDifferentPlaces case → AreFronts ordered.now.logs case tables.now → IsVerdict ordered.now.logs case section.now verdict) }
+    ensures { IfOk result
+        (λ verdict. (case : List Conjunct) → HasDifferentPlaces case
+        → AreFronts ordered.now.logs case tables.now → IsVerdict ordered.now.logs case section.now verdict) }
 {
     let steps = section.steps.as_slice();
     let mut leaves = all_leaves(alloc.clone()?, tables.len(), steps.len(), depth)?;

@@ -54,7 +54,8 @@ pub(crate) fn profiled_tables<A: Allocator + Clone>(
         case,
         |n|
             requires { (n < length case.now) × HasPlacesOf profiles.now case.now }
-            ensures { IfOk result (λ positions. AreCandidatesFor profiles.entry.now case.entry.now n positions) }
+            ensures { IfOk result
+                (λ positions. AreCandidatesFor profiles.entry.now case.entry.now n positions) }
         {
             let profile = &profiles[usize::from(case.place(n))];
             Ok(Table::new(profile.table(alloc.clone()?, case.clause(n))?))

@@ -40,7 +40,8 @@ fn take_negated<'a, A: Allocator + Clone>(
     depth: usize,
     text: &'a [u8],
 ) -> Result<Option<Taken<'a, A>>, AllocError>
-    ensures { IfOk result (λ taken. Gives (λ t. (formula t.0, t.1.now)) taken (negated_at (clause_at depth) text.now)) }
+    ensures { IfOk result
+        (λ taken. Gives (λ t. (formula t.0, t.1.now)) taken (negated_at (clause_at depth) text.now)) }
 {
     let Some((clause, rest)) = take_clause(alloc, depth, text)? else {
         return Ok(None);
@@ -59,7 +60,8 @@ fn take_joined<'a, A: Allocator + Clone>(
     depth: usize,
     text: &'a [u8],
 ) -> Result<Option<Taken<'a, A>>, AllocError>
-    ensures { IfOk result (λ taken. Gives (λ t. (formula t.0, t.1.now)) taken (joined_at (clause_at depth) text.now)) }
+    ensures { IfOk result
+        (λ taken. Gives (λ t. (formula t.0, t.1.now)) taken (joined_at (clause_at depth) text.now)) }
 {
     let Some((left, rest)) = take_clause(alloc, depth, text)? else {
         return Ok(None);
@@ -125,7 +127,8 @@ fn take_atom<A: Allocator>(text: &[u8]) -> Option<Taken<'_, A>>
 
 /// A comparison with a number that an atom may hold, and what follows it.
 fn take_comparison(text: &[u8]) -> Option<(Rel, u32, &[u8])>
-    ensures { (f : Rel → ℕ → Formula) → Gives (λ found. (f found.0 found.1, found.2.now)) result (comparison_at f text.now) }
+    ensures { (f : Rel → ℕ → Formula)
+        → Gives (λ found. (f found.0 found.1, found.2.now)) result (comparison_at f text.now) }
 {
     let (rel, rest) = take_rel(text)?;
     let (n, rest) = take_number(rest)?;

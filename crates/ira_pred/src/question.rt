@@ -27,7 +27,8 @@ impl<A: Allocator> Model for Question<A> {
 
     ghost view = { λ q. record { nodes = q.nodes; cases = q.cases.items } };
 
-    ghost invariant = { λ q. IsQuestion (record { nodes = q.nodes; cases = q.cases.items }) × IsShort (record { nodes = q.nodes; cases = q.cases.items }) };
+    ghost invariant = { λ q. IsQuestion (record { nodes = q.nodes; cases = q.cases.items })
+        × IsShort (record { nodes = q.nodes; cases = q.cases.items }) };
 }
 
 impl<A: Allocator> Question<A> {

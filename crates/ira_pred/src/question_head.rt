@@ -14,7 +14,9 @@ pub(crate) struct QuestionHead<'a> {
 
 /// The head that the text begins with.
 pub(crate) fn take_head(text: &[u8]) -> Option<QuestionHead<'_>>
-    ensures { MatchOption result ((nodes : ℕ) (rest : List ℕ) → ¬ (BeginsWithQuestionHead text.now nodes rest)) (λ head. BeginsWithQuestionHead text.now head.nodes head.rest.now) }
+    ensures { MatchOption result
+        ((nodes : ℕ) (rest : List ℕ) → ¬ (BeginsWithQuestionHead text.now nodes rest))
+        (λ head. BeginsWithQuestionHead text.now head.nodes head.rest.now) }
 {
     let (nodes, rest) = take_head_lines(text)?;
     let nodes = RingSize::of_number(nodes)?;

@@ -78,7 +78,12 @@ impl<'a> QuestionLines<'a> {
     ) -> Result<QuestionLine<A>, AskFault>
         requires count { cases < MAX_CASES }
         requires rising { AllPairs (λ a b. a.place < b.place) (conjuncts asked.now) }
-        ensures { ReadsInCase nodes (record { number = self.old.number; cases = cases; conjuncts = conjuncts asked.now }) self.old self.new result }
+        ensures { ReadsInCase nodes
+            (record {
+              number = self.old.number;
+              cases = cases;
+              conjuncts = conjuncts asked.now;
+            }) self.old self.new result }
     {
         if let Some((place, text)) = take_place(self.rest) {
             return self.next_clause(alloc, nodes, place, text, asked);
@@ -116,7 +121,13 @@ impl<'a> QuestionLines<'a> {
     ) -> Result<QuestionLine<A>, AskFault>
         requires placed { place_at self.old.rest ≡ Some (place, text.now) }
         requires rising { AllPairs (λ a b. a.place < b.place) (conjuncts asked.now) }
-        ensures { (cases : ℕ) → ReadsInCase nodes (record { number = self.old.number; cases = cases; conjuncts = conjuncts asked.now }) self.old self.new result }
+        ensures { (cases : ℕ)
+            → ReadsInCase nodes
+            (record {
+              number = self.old.number;
+              cases = cases;
+              conjuncts = conjuncts asked.now;
+            }) self.old self.new result }
     {
         let Some(place) = place_that_follows(place, nodes, asked) else {
             return Err(complete(text, AskFault::Place(self.number)));

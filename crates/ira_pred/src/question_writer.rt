@@ -43,7 +43,9 @@ fn write_joined<A: Allocator, W: Sink>(
     right: &Clause<A>,
     sink: &mut W,
 ) -> Result<(), WriteFault>
-    ensures { Wrote result (codes "(" ++ clause_text (formula left.now) ++ word.now ++ clause_text (formula right.now) ++ codes ")") (W.state sink.old) (W.state sink.new) }
+    ensures { Wrote result
+        (codes "(" ++ clause_text (formula left.now) ++ word.now ++ clause_text (formula right.now)
+        ++ codes ")") (W.state sink.old) (W.state sink.new) }
 {
     write_bytes(b"(", sink)?;
     write_clause(left, sink)?;
@@ -55,7 +57,8 @@ fn write_joined<A: Allocator, W: Sink>(
 #[cycle(clauses)]
 #[tactic(auto, using(ira_event::proofs::Writing::writes))]
 fn write_negated<A: Allocator, W: Sink>(clause: &Clause<A>, sink: &mut W) -> Result<(), WriteFault>
-    ensures { Wrote result (codes "(not " ++ clause_text (formula clause.now) ++ codes ")") (W.state sink.old) (W.state sink.new) }
+    ensures { Wrote result (codes "(not " ++ clause_text (formula clause.now) ++ codes ")") (W.state sink.old)
+        (W.state sink.new) }
 {
     write_bytes(b"(not ", sink)?;
     write_clause(clause, sink)?;
@@ -106,7 +109,8 @@ fn write_all_placed<A: Allocator, W: Sink>(
     clauses: &[PlacedClause<A>],
     sink: &mut W,
 ) -> Result<(), WriteFault>
-    ensures { Wrote result (flat_map conjunct_text (conjuncts clauses.now)) (W.state sink.old) (W.state sink.new) }
+    ensures { Wrote result (flat_map conjunct_text (conjuncts clauses.now)) (W.state sink.old)
+        (W.state sink.new) }
 {
     for placed in clauses {
         write_placed(placed, sink)?;

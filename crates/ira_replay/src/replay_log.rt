@@ -9,7 +9,8 @@ use std::alloc::Allocator;
 
 /// The state in which a log ends, where all its events have steps, or its first event without one.
 pub fn replay<A: Allocator>(log: &NodeLog<A>) -> Result<NodeState, ReplayFault>
-    ensures ok { (t : NodeState) → (result ≡ Ok t) ↔ LeadsTo log.now.nodes (first_state log.now.initiator) log.now.events t }
+    ensures ok { (t : NodeState)
+        → (result ≡ Ok t) ↔ LeadsTo log.now.nodes (first_state log.now.initiator) log.now.events t }
     ensures err { (f : ReplayFault) → (result ≡ Err f) ↔ IsFirstFault log.now f }
 {
     let mut state = NodeState::first(log.initiator());

@@ -34,7 +34,8 @@ impl<A: Allocator> Model for Collector<A> {
 
     ghost view = { λ a. a.taken.items };
 
-    ghost invariant = { λ a. AreTaken a.nodes a.taken.items × (a.logs.items ≡ []) × (a.nodes ≤ vec_capacity a.logs) × (a.ends.items ≡ []) × (a.nodes ≤ vec_capacity a.ends) };
+    ghost invariant = { λ a. AreTaken a.nodes a.taken.items × (a.logs.items ≡ [])
+        × (a.nodes ≤ vec_capacity a.logs) × (a.ends.items ≡ []) × (a.nodes ≤ vec_capacity a.ends) };
 }
 
 /// Whether no node ended by itself.

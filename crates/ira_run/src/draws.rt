@@ -35,7 +35,9 @@ pub fn draw_lists<A: Allocator + Clone>(
     k: u32,
 ) -> Result<Vec<Vec<u32, A>, A>, OutOfMemory>
     ensures number { IfOk result (λ lists. length lists.items ≡ nodes) }
-    ensures lists { IfOk result (λ lists. (place : ℕ) → IfSome (slice_get lists.items place) (λ list. list.items ≡ draws nodes seed place k)) }
+    ensures lists { IfOk result
+        (λ lists. (place : ℕ)
+        → IfSome (slice_get lists.items place) (λ list. list.items ≡ draws nodes seed place k)) }
 {
     let mut lists = Vec::with_capacity(alloc.clone()?, usize::from(nodes.get()))?;
     for place in 0..nodes.get() {

@@ -28,7 +28,13 @@ impl<A: Allocator> Model for Setup<A> {
 
     ghost Value = { Setup };
 
-    ghost view = { λ a. record { nodes = a.nodes; initiators = a.initiators.items; draws = map (λ ids. ids.items) a.draws.items; cap = a.cap } };
+    ghost view = { λ a. record {
+      nodes = a.nodes;
+      initiators = a.initiators.items;
+      draws = map
+          (λ ids. ids.items) a.draws.items;
+      cap = a.cap;
+    } };
 }
 
 impl<A: Allocator> Setup<A> {

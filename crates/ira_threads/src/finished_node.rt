@@ -16,5 +16,11 @@ impl<A: Allocator> Model for FinishedNode<A> {
 
     ghost Value = { FinishedNode };
 
-    ghost view = { λ a. record { place = a.part.place; log = a.part.log; end = a.part.end; input = a.input; output = a.output } };
+    ghost view = { λ a. record {
+      place = a.part.place;
+      log = a.part.log;
+      end = a.part.end;
+      input = a.input;
+      output = a.output;
+    } };
 }

@@ -32,9 +32,15 @@ impl<A: Allocator> Model for NodeTask<A> {
 
     ghost Value = { NodeTask };
 
-    ghost view = { λ a. record { place = a.place; cap = a.cap; input = a.input.link; output = a.output.link } };
+    ghost view = { λ a. record {
+      place = a.place;
+      cap = a.cap;
+      input = a.input.link;
+      output = a.output.link;
+    } };
 
-    ghost invariant = { λ a. (a.room.items ≡ []) × (a.cap ≤ vec_capacity a.room) × (a.input.frames ≡ []) × (a.output.frames ≡ []) };
+    ghost invariant = { λ a. (a.room.items ≡ []) × (a.cap ≤ vec_capacity a.room) × (a.input.frames ≡ [])
+        × (a.output.frames ≡ []) };
 }
 
 impl<A: Allocator> NodeTask<A> {
@@ -47,7 +53,8 @@ impl<A: Allocator> NodeTask<A> {
         output: LinkOut<A>,
     ) -> Result<NodeTask<A>, AllocError>
         requires fresh { (input.frames ≡ []) × (output.frames ≡ []) }
-        ensures { IfOk result (λ task. task ≡ record { place = place; cap = cap; input = input.link; output = output.link }) }
+        ensures { IfOk result
+            (λ task. task ≡ record { place = place; cap = cap; input = input.link; output = output.link }) }
     {
         Ok(NodeTask {
             place,

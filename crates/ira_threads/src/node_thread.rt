@@ -34,7 +34,8 @@ fn turns<R: Wait + Clock, G: Gate, A: Allocator>(
     ensures put { OnOk result (output.new.frames ≡ frames (sent node.new.log.events)) }
     ensures taken { IfOk result (λ end. input.new.frames ≡ frames_taken node.new.log.events end) }
     ensures draws { OnOk result (BeginsWith draws.now (drawn node.new.log.events)) }
-    ensures end { IfOk result (λ end. EndsAs node.old.log.nodes node.old.cap draws.now node.new.state node.new.log.events end) }
+    ensures end { IfOk result
+        (λ end. EndsAs node.old.log.nodes node.old.cap draws.now node.new.state node.new.log.events end) }
 {
     let who = u32::from(node.place());
     let mut left = draws;
@@ -87,8 +88,11 @@ pub fn node_body<R: Wait + Clock, G: Gate, A: Allocator>(
     gate: &G,
 ) -> Result<(NodePart<A>, LinkIn<A>, LinkOut<A>), Closed>
     ensures place { IfOk result (λ r. r.0.place ≡ work.entry.place) }
-    ensures recorded { IfOk result (λ r. IsRecorded work.entry.nodes work.entry.place work.entry.initiator work.entry.draws.now work.entry.cap r.0.log r.0.end) }
-    ensures links { IfOk result (λ r. (r.1.link ≡ work.entry.input.link) × (r.2.link ≡ work.entry.output.link)) }
+    ensures recorded { IfOk result
+        (λ r. IsRecorded work.entry.nodes work.entry.place work.entry.initiator work.entry.draws.now
+        work.entry.cap r.0.log r.0.end) }
+    ensures links { IfOk result
+        (λ r. (r.1.link ≡ work.entry.input.link) × (r.2.link ≡ work.entry.output.link)) }
     ensures put { IfOk result (λ r. r.2.frames ≡ frames_put r.0.log.events) }
     ensures taken { IfOk result (λ r. r.1.frames ≡ frames_taken r.0.log.events r.0.end) }
 {

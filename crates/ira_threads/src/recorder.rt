@@ -27,9 +27,28 @@ impl<A: Allocator> Model for Recorder<A> {
 
     ghost Value = { Recorder };
 
-    ghost view = { λ a. record { log = record { nodes = a.nodes; place = a.place; initiator = a.initiator; events = a.events.items }; cap = a.cap; state = a.state } };
+    ghost view = { λ a. record {
+      log = record {
+        nodes = a.nodes;
+        place = a.place;
+        initiator = a.initiator;
+        events = a.events.items;
+      };
+      cap = a.cap;
+      state = a.state;
+    } };
 
-    ghost invariant = { λ a. IsRecorder (record { log = record { nodes = a.nodes; place = a.place; initiator = a.initiator; events = a.events.items }; cap = a.cap; state = a.state }) × (a.cap ≤ vec_capacity a.events) };
+    ghost invariant = { λ a. IsRecorder
+        (record {
+          log = record {
+            nodes = a.nodes;
+            place = a.place;
+            initiator = a.initiator;
+            events = a.events.items;
+          };
+          cap = a.cap;
+          state = a.state;
+        }) × (a.cap ≤ vec_capacity a.events) };
 }
 
 impl<A: Allocator> Recorder<A> {
@@ -42,7 +61,12 @@ impl<A: Allocator> Recorder<A> {
         room: Vec<Event, A>,
     ) -> Recorder<A>
         requires { (place < nodes) × (cap ≤ MAX_RECORDS) × (room.items ≡ []) × (cap ≤ vec_capacity room) }
-        ensures { result ≡ record { log = record { nodes = nodes; place = place; initiator = initiator; events = [] }; cap = cap; state = first_state initiator } }
+        ensures { result
+            ≡ record {
+              log = record { nodes = nodes; place = place; initiator = initiator; events = [] };
+              cap = cap;
+              state = first_state initiator;
+            } }
     {
         Recorder {
             nodes,
@@ -78,7 +102,8 @@ impl<A: Allocator> Recorder<A> {
     pub fn record(&mut self, event: Event) -> Result<(), StepFault>
         requires { (length self.old.log.events < self.old.cap) × (is_event event ≡ true) }
         ensures cap { self.new.cap ≡ self.old.cap }
-        ensures ok { OnOk result (self.new.log ≡ record self.old.log { events = self.old.log.events ++ event ∷ [] }) }
+        ensures ok { OnOk result
+            (self.new.log ≡ record self.old.log { events = self.old.log.events ++ event ∷ [] }) }
         ensures step { OnOk result (NodeStep self.old.log.nodes self.old.state event self.new.state) }
         ensures err { OnErr result (¬ (HasStep self.old.log.nodes self.old.state event)) }
         ensures unchanged { OnErr result (self.new ≡ self.old) }

@@ -101,8 +101,11 @@ where
         thread::scope_env(),
         rt,
         move |scope| -> Result<VecDeque<FinishedNode<A>, A>, RunFault>
-            requires { KeepsRules setup.now × AreTasksOfRing setup.now.cap setup.now.nodes tasks.items × (started_nodes.items ≡ []) × (setup.now.nodes ≤ deque_capacity started_nodes) × (finished_nodes.items ≡ []) × (setup.now.nodes ≤ deque_capacity finished_nodes) }
-            ensures { IfOk result (λ finished_nodes. AreFinishedOnRing setup.entry.now finished_nodes.items) × IfErr result (λ f. (f ≡ Thread) ⊎ (f ≡ ClosedFault)) }
+            requires { KeepsRules setup.now × AreTasksOfRing setup.now.cap setup.now.nodes tasks.items
+                × (started_nodes.items ≡ []) × (setup.now.nodes ≤ deque_capacity started_nodes)
+                × (finished_nodes.items ≡ []) × (setup.now.nodes ≤ deque_capacity finished_nodes) }
+            ensures { IfOk result (λ finished_nodes. AreFinishedOnRing setup.entry.now finished_nodes.items)
+                × IfErr result (λ f. (f ≡ Thread) ⊎ (f ≡ ClosedFault)) }
         { run_tasks(rt, setup, gate, scope, tasks, started_nodes, finished_nodes) },
     )?;
     settle_all(finished_nodes, collector)

@@ -38,7 +38,9 @@ fn most_tasks<A: Allocator + Clone>(
 ) -> Result<LinkIn<A>, OutOfMemory>
     requires none { tasks.old.items ≡ [] }
     requires fresh { first.frames ≡ [] }
-    ensures tasks { IfOk result (λ input. AreTasksOfPlaces setup.now.cap 0 first.link tasks.new.items (setup.now.nodes - 1) input.link) }
+    ensures tasks { IfOk result
+        (λ input. AreTasksOfPlaces setup.now.cap 0 first.link tasks.new.items
+        (setup.now.nodes - 1) input.link) }
     ensures fresh { IfOk result (λ input. input.frames ≡ []) }
 {
     let mut input = first;
@@ -72,8 +74,12 @@ impl<A: Allocator> Room<A> {
     where
         A: Clone,
         ensures tasks { IfOk result (λ room. AreTasksOfRing setup.now.cap setup.now.nodes room.tasks.items) }
-        ensures started_nodes { IfOk result (λ room. (room.started_nodes.items ≡ []) × (setup.now.nodes ≤ deque_capacity room.started_nodes)) }
-        ensures finished_nodes { IfOk result (λ room. (room.finished_nodes.items ≡ []) × (setup.now.nodes ≤ deque_capacity room.finished_nodes)) }
+        ensures started_nodes { IfOk result
+            (λ room. (room.started_nodes.items ≡ [])
+            × (setup.now.nodes ≤ deque_capacity room.started_nodes)) }
+        ensures finished_nodes { IfOk result
+            (λ room. (room.finished_nodes.items ≡ [])
+            × (setup.now.nodes ≤ deque_capacity room.finished_nodes)) }
         ensures collector { IfOk result (λ room. room.collector ≡ replicate setup.now.nodes None) }
     {
         let nodes = usize::from(setup.nodes.get());

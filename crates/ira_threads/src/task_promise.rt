@@ -25,7 +25,12 @@ impl<A: Allocator> Model for TaskPromise<A> {
 
     ghost Value = { TaskPromise };
 
-    ghost view = { λ a. record { setup = a.setup.value; place = a.place; input = a.input.value.link; output = a.output.value.link } };
+    ghost view = { λ a. record {
+      setup = a.setup.value;
+      place = a.place;
+      input = a.input.value.link;
+      output = a.output.value.link;
+    } };
 }
 
 impl<A: Allocator> TaskPromise<A> {

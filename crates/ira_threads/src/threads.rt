@@ -100,7 +100,8 @@ where
     requires rules { KeepsRules setup.now }
     requires tasks { AreTasksOfRing setup.now.cap setup.now.nodes tasks.items }
     requires started_nodes { (started_nodes.items ≡ []) × (setup.now.nodes ≤ deque_capacity started_nodes) }
-    requires finished_nodes { (finished_nodes.items ≡ []) × (setup.now.nodes ≤ deque_capacity finished_nodes) }
+    requires finished_nodes { (finished_nodes.items ≡ [])
+        × (setup.now.nodes ≤ deque_capacity finished_nodes) }
     ensures ok { IfOk result (λ finished_nodes. AreFinishedOnRing setup.now finished_nodes.items) }
     ensures err { IfErr result (λ f. (f ≡ Thread) ⊎ (f ≡ ClosedFault)) }
 {

@@ -57,7 +57,9 @@ fn log_files<'a>(alloc: Global) -> Arg<'a>
 
 /// The names of these files.
 fn log_names<'a>(alloc: Global, matches: &ArgMatches<'a>) -> Result<Vec<&'a str>, AllocError>
-    ensures { IfOk result (λ names. map (λ name. name.now) names.items ≡ unwrap_or (all_of (codes "LOG") (rows_of (found_of matches.now))) []) }
+    ensures { IfOk result
+        (λ names. map (λ name. name.now) names.items
+        ≡ unwrap_or (all_of (codes "LOG") (rows_of (found_of matches.now))) []) }
 {
     let names: &[&'a str] = matches.get_strs("LOG").unwrap_or([].as_slice());
     names.to_vec(alloc)
@@ -96,7 +98,8 @@ fn check_command<'a>(alloc: Global) -> Result<Command<'a>, AllocError>
 
 /// The files to judge, where all options have a value.
 fn check_request<'a>(matches: &ArgMatches<'a>, logs: Vec<&'a str>) -> Option<Request<'a>>
-    requires { map (λ name. name.now) logs.items ≡ unwrap_or (all_of (codes "LOG") (rows_of (found_of matches.now))) [] }
+    requires { map (λ name. name.now) logs.items
+        ≡ unwrap_or (all_of (codes "LOG") (rows_of (found_of matches.now))) [] }
     ensures { IfSome result (IsCheckRequest (rows_of (found_of matches.now))) }
 {
     Some(Request::Check(CheckRequest {
@@ -126,7 +129,8 @@ fn decide_command<'a>(alloc: Global) -> Result<Command<'a>, AllocError>
 
 /// The files to decide of, where the question has a value.
 fn decide_request<'a>(matches: &ArgMatches<'a>, logs: Vec<&'a str>) -> Option<Request<'a>>
-    requires { map (λ name. name.now) logs.items ≡ unwrap_or (all_of (codes "LOG") (rows_of (found_of matches.now))) [] }
+    requires { map (λ name. name.now) logs.items
+        ≡ unwrap_or (all_of (codes "LOG") (rows_of (found_of matches.now))) [] }
     ensures { IfSome result (IsDecideRequest (rows_of (found_of matches.now))) }
 {
     Some(Request::Decide(DecideRequest {
