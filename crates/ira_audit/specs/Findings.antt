@@ -26,12 +26,12 @@ abbrev pub IsCertificateOf : {A : Type 0} → Findings A → Certificate → Typ
 IsCertificateOf (Refused r) c = ⊥
 IsCertificateOf (Cases nodes found) c = (c.nodes ≡ nodes) × (found.items ≡ map Absent c.sections)
 
--- a case is present
+-- whether a case is present
 abbrev pub is_present : {A : Type 0} → Found A → Bool
 is_present (Absent section) = false
 is_present (Present cut) = true
 
--- some case is
+-- some case is present
 abbrev pub HasPresent : {A : Type 0} → List (Found A) → Type 0
 HasPresent found = (cut : List ℕ) × Contains found (Present cut)
 

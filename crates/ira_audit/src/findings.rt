@@ -28,7 +28,7 @@ pub enum Findings<A: Allocator> {
 
 impl<A: Allocator + Clone> Findings<A> {
     /// The certificate of the sections that were found, if each case is absent; that there is none is answered
-    /// whatever memory does. Where it is `readable`, `audit` says yes of the same logs, the question and its
+    /// whatever memory does. Where it is `readable`, `audit` says yes of the same logs, the question and the certificate's
     /// text; else its text is past the limits.
     pub fn into_certificate(self) -> Result<Option<Certificate<A>>, OutOfMemory>
         ensures some { (c : certificate.Certificate)

@@ -11,10 +11,11 @@ pub record AreFronts (logs : List Log) (case : List Conjunct) (fronts : List (Op
   pub asked : (i : ℕ) → IsAsked case i → (positions : List ℕ) × (slice_get fronts i ≡ Some (Some positions))
   pub lists : (i : ℕ) (positions : List ℕ) → slice_get fronts i ≡ Some (Some positions) → CandidatesOf logs case i positions
 
--- nothing where the case doesn't ask node i; else this holds of it for the number of the conjunct at i
+-- nothing where the case doesn't ask node i; else P holds of the number of node i's conjunct and of what was found
 abbrev pub IsFoundFor : {T : Type 0} → (ℕ → T → Type 0) → List Conjunct → ℕ → Option T → Type 0
 IsFoundFor P case i found = MatchOption found (¬ (IsAsked case i)) (λ t. (n : ℕ) × (c : Conjunct) × (slice_get case n ≡ Some c) × (c.place ≡ i) × P n t)
 
+-- so it is for each place
 abbrev pub AreFoundFor : {T : Type 0} → (ℕ → T → Type 0) → List Conjunct → List (Option T) → Type 0
 AreFoundFor P case all = (i : ℕ) (found : Option _) → slice_get all i ≡ Some found → IsFoundFor P case i found
 
@@ -24,7 +25,7 @@ AreCandidatesFor logs case n positions = (c : Conjunct) × (slice_get case n ≡
 
 -- The same behind these steps.
 
--- the list of a place has the candidates left: all but the first, one for each of its eliminations
+-- the list of a place has the candidates left: all but the first ones, one for each of its eliminations
 pub record AreFrontsBehind (logs : List Log) (case : List Conjunct) (before : List CertStep) (fronts : List (Option (List ℕ))) : Type 0 where
   pub asked : (i : ℕ) → IsAsked case i → (left : List ℕ) × (slice_get fronts i ≡ Some (Some left))
   pub lists :

@@ -6,7 +6,7 @@ use Rattle.std.specs.Int.{bit_at}
 abbrev pub Has : List ℕ → ℕ → ℕ → Type 0
 Has rows a b = (a < 64) × (b < 64) × (bit_at (slice_index rows a) b ≡ 1)
 
--- there is a row for each place, and these are the bits of the rows that aren't 0
+-- there is a row for each place, and bit a of `filled` is set exactly where row a isn't 0
 pub record AreRows (rows : List ℕ) (filled : ℕ) : Type 0 where
   pub places : length rows ≡ 64
   pub bits : (a : ℕ) → a < 64 → (bit_at filled a ≡ 1) ↔ (0 < slice_index rows a)

@@ -18,7 +18,7 @@ pub record SinkState : Type 0 where
   pub taken : Option (List ℕ)
   pub failures : ℕ
 
--- the state of a sink that hands on to a writer whose contents are told so
+-- the state of a sink that hands on to a writer whose contents this function tells
 abbrev pub passing_state : {W : Type 0} → (W → Option (List ℕ)) → Passing W → SinkState
 passing_state contents sink = record { taken = contents sink.writer; failures = sink.failures }
 

@@ -11,8 +11,8 @@ use Rattle.ira_main.specs.declared.program_fault.ProgramFault.TheVariants.{Canno
 use Rattle.ira_main.specs.declared.status.Status.{Status}
 use Rattle.ira_main.specs.declared.status.Status.TheVariants.{Yes, No}
 
--- what comes of findings that were printed: no, where a case is present or they are a refusal; else yes, and where a
--- file is named for their certificate what comes of keeping it there; or there was no memory for the certificate. The
+-- what comes of findings that were printed: no, where a case is present or they are a refusal; else, without a file's
+-- name, yes, and with one what comes of keeping the certificate there; or there was no memory for the certificate. The
 -- files are untouched but where it is kept
 pub data EndsWith {A : Type 0} (kept : Certificate → Bor (List ℕ) → Result Status ProgramFault → Type 0) (untouched : Type 0) (findings : Findings A)
     (name : Option (Bor (List ℕ))) (outcome : Result Status ProgramFault) : Type 0 where

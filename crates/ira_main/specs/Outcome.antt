@@ -6,7 +6,7 @@ use Rattle.ira_main.specs.Status.{program_fault_status, status_number}
 use Rattle.ira_main.specs.declared.program_fault.ProgramFault.{ProgramFault}
 use Rattle.ira_main.specs.declared.status.Status.{Status}
 
--- the number of the status that there is, or of the fault's
+-- the number of the status, or of the fault's status
 abbrev pub outcome_number : Result Status ProgramFault → ℕ
 outcome_number (Ok status) = status_number status
 outcome_number (Err f) = status_number (program_fault_status f)

@@ -1,4 +1,4 @@
--- Why the program ends with no answer.
+-- Why the program ends with neither yes nor no.
 use Rattle.std.specs.Prelude.{ℕ, List, ◌++◌, codes, decimal}
 use Rattle.std.specs.Borrow.{Bor}
 use Rattle.std.specs.String.{string_bytes}

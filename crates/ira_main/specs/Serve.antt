@@ -103,7 +103,7 @@ pub data Done (A : Type 0) (kept : Certificate → Bor (List ℕ) → Result Sta
   recorded : (request : RunRequest) → AskForRun words request → Records request out out' status → Done A kept untouched words out out' status
   no_answer : GivesNoAnswer out out' status → Done A kept untouched words out out' status
 
--- with words: the input wasn't read, and what they ask for was done
+-- with words: the input wasn't read, and one of these was done for them
 pub record Executes (A : Type 0) (kept : Certificate → Bor (List ℕ) → Result Status ProgramFault → Type 0) (untouched : Type 0) (words : List (List ℕ)) (old new : Reads)
     (out out' : SinkState) (status : ℕ) : Type 0 where
   pub unread : new ≡ old

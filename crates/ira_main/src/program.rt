@@ -133,9 +133,9 @@ where
 }
 
 /// The program: `words` are those behind its name, `input` is its standard input, the files lie on
-/// `shelf`, and `out` and `err` are its standard streams. It gives the status: 0 yes, 1 no, 2 refused
-/// words, a refused ring, a failed read or a failed write, 3 out of memory. A failed write to `err`
-/// changes no status.
+/// `shelf`, and `out` and `err` are its standard streams. It gives the status: 0 yes, every case absent,
+/// or a node elected; 1 no, a case present, or none elected; 2 refused words, a refused ring, a failed read or
+/// write, or a certificate past the limits; 3 out of memory. A failed write to `err` changes no status.
 ///
 /// Without words it judges the log on `input`, of which it reads at most one byte more than
 /// `MAX_TEXT`. With words it reads nothing of `input`: `logs` and some names judges the logs in those

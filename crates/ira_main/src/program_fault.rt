@@ -12,7 +12,7 @@ use ira_ring::RunFault;
 use ira_words::WordsFault;
 use std::alloc::{AllocError, AllocFailed};
 
-/// Why the program ends with no answer, or with one that couldn't be written.
+/// Why the program ends with neither yes nor no.
 #[derive(Debug, Drop)]
 pub(crate) enum ProgramFault<'a> {
     /// The words were refused, with this text.

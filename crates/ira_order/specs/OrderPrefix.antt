@@ -1,4 +1,4 @@
--- Helpers, no definitions: the beginning of an order, and what its counters keep.
+-- Helpers, no definitions: places along which events can come one after the other, and what their counters keep.
 use Rattle.std.specs.Prelude.{◌≡◌, ℕ, ◌<◌, List, [], ◌++◌, length, slice_index, sum, take}
 use Rattle.std.specs.List.{cons_option}
 use Rattle.ira_event.specs.declared.event.Event.{Event}
@@ -29,7 +29,7 @@ pub record IsOrderPrefix (logs : List Log) (done sents gots places : List ℕ) :
   pub total : sum done ≡ length places
   pub schedule : IsSchedule logs places
 
--- no step of this node may come
+-- no event of this node may come
 abbrev pub IsStuckAt : List Log → (ℕ → ℕ) → ℕ → Type 0
 IsStuckAt logs at i = IsReady logs at i → ⊥
 

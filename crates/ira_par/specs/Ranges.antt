@@ -18,8 +18,8 @@ AreMade steps counts = (i : ℕ) → i < length counts → slice_index counts i 
 abbrev pub AreMadeFrom : List CertStep → ℕ → ℕ → List ℕ → Type 0
 AreMadeFrom steps from to counts = (i : ℕ) → i < length counts → made (take from steps) i + slice_index counts i ≡ made (take to steps) i
 
--- what is answered of the steps from..to: nothing, or one of them. Where those before them are sound, these
--- are sound, too, or the one named is the first of all that isn't
+-- what is answered of the steps from..to. Nothing: where those before them are sound, these are, too. Step k: it is one
+-- of them, and where those before them are sound, it is the first of all that isn't
 abbrev pub IsRangeFault : List Log → List Conjunct → List CertStep → ℕ → ℕ → Option SectionFault → Type 0
 IsRangeFault logs case steps from to None = AreSoundSteps logs case (take from steps) → AreSoundSteps logs case (take to steps)
 IsRangeFault logs case steps from to (Some fault) =
