@@ -17,7 +17,7 @@ say = printf '%4d s  %s\n' $$(($$(date +%s) - $(START)))
 
 help:
 	@echo 'make ira        proves the program and the libraries that it stands on, and leaves it at bin/ira:'
-	@echo '                the first time some 31 minutes of processor time, over all cores; then only what has changed'
+	@echo '                the first time some 40 minutes of processor time, over all cores; then only what has changed'
 	@echo 'make run        makes ira, judges examples with it, and compares its answers with those expected'
 	@echo 'make install    copies bin/ira to $$(PREFIX)/bin, and its manual to $$(PREFIX)/share/man/man1; PREFIX is'
 	@echo '                $(PREFIX) if not given'
@@ -30,7 +30,7 @@ help:
 # Three at a time: no library keeps all cores busy to its end. `make` begins with what it is told first, so
 # the longest chain comes first: the program stands on ira_main alone, and that names ira_audit early.
 ira:
-	@echo 'Proving the $(words $(LIBRARIES)) libraries that ira stands on, and then ira: the first time some 31 minutes of processor time, over $(JOBS) cores.'
+	@echo 'Proving the $(words $(LIBRARIES)) libraries that ira stands on, and then ira: the first time some 40 minutes of processor time, over $(JOBS) cores.'
 	@mkdir -p bin
 	@$(MAKE) --no-print-directory -j 3 START=$(START) bin/ira
 
