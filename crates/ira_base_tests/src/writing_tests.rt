@@ -47,6 +47,15 @@ fn largest_numbers_and_dirty(rt: HostRuntime) -> Result<(), Fail> {
 }
 
 #[test]
+fn sink_fails_after_ten_bytes(rt: HostRuntime) -> Result<(), Fail> {
+    let mut sink = FailingSink::new(rt.alloc(), 10);
+    let log = log_of(rt.alloc(), 2, 0, true, &winner())?;
+    assert_eq!(rt; write_log(&log, &mut sink), Err(WriteFault));
+    assert_eq!(rt; sink.bytes(), b"irlog 1\nno".as_slice());
+    Ok(())
+}
+
+#[test]
 fn sink_fails_behind_each_byte(rt: HostRuntime) -> Result<(), Fail> {
     let log = log_of(rt.alloc(), 2, 0, true, &winner())?;
     for k in 0..ELECTION_0.len() {
