@@ -3,7 +3,7 @@ use Rattle.std.proofs.Common.{◌≡◌, ◌⊎◌, inl, inr, ℕ, suc, List, []
 use Rattle.std.specs.Prelude.{slice_get}
 use Rattle.ira_event.specs.Log.{Log}
 use Rattle.ira_order.specs.Circle.{HasOrder}
-use Rattle.ira_order.proofs.Ranks.{eq_cases}
+use Rattle.std.proofs.lemmas.Bool.{cases_eq}
 use Rattle.ira_pred.specs.Case.{Conjunct}
 use Rattle.ira_pred.specs.Question.{Asked}
 use Rattle.ira_pred.proofs.EachText.{each_text}
@@ -59,9 +59,9 @@ module _ (texts : List (List ℕ)) (question certificate : List ℕ) where
   unfolding HasAnswer
   of_certificate logs asked posed = elim (each_answered certificate) [
     | inr h ↦ (No (reason.Certificate h.0), no_certificate logs asked h.0 posed h.1 refl)
-    | inl c ↦ elim (eq_cases c.0.nodes (length logs)) [
+    | inl c ↦ elim (cases_eq c.0.nodes (length logs)) [
       | inr other ↦ (No reason.CertificateSize, other_size logs asked c.0 posed c.1 other refl)
-      | inl size ↦ elim (eq_cases (length c.0.sections) (length asked.cases)) [
+      | inl size ↦ elim (cases_eq (length c.0.sections) (length asked.cases)) [
         | inr other ↦ (No (reason.Sections (length asked.cases) (length c.0.sections)), other_number logs asked c.0 posed c.1 size other refl)
         | inl number ↦ elim (sound_or_first logs asked.cases c.0.sections posed.logs_are.order (different_places asked posed.question_is.valid) (places_of_logs asked logs posed.question_is.valid posed.ring) number) [
           | inr h ↦ (No (reason.Section h.0 h.1), unsound logs asked c.0 h.0 h.1 posed c.1 size number h.2 refl)
@@ -75,7 +75,7 @@ module _ (texts : List (List ℕ)) (question certificate : List ℕ) where
   unfolding HasAnswer
   of_question logs good = elim (each_text question) [
     | inr h ↦ (No (reason.Question h.0), not_posed (reason.Question h.0) (no_question logs h.0 good h.1 refl) refl)
-    | inl q ↦ elim (eq_cases q.0.nodes (length logs)) [
+    | inl q ↦ elim (cases_eq q.0.nodes (length logs)) [
       | inr other ↦ (No reason.QuestionSize, not_posed reason.QuestionSize (other_ring logs q.0 good q.1 other refl) refl)
       | inl ring ↦ of_certificate logs q.0 (record { logs_are = good; question_is = q.1; ring = ring })
     ]

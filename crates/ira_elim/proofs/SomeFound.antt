@@ -14,7 +14,7 @@ use Rattle.ira_order.specs.Circle.{HasOrder}
 use Rattle.ira_order.specs.Matching.{Matches}
 use Rattle.ira_order.specs.Order.{IsOrder}
 use Rattle.ira_order.specs.VectorClock.{IsCount}
-use Rattle.ira_order.proofs.Ranks.{eq_cases}
+use Rattle.std.proofs.lemmas.Bool.{cases_eq}
 use Rattle.ira_order.proofs.HasCounts.{list_of, count_of, before_decided}
 use Rattle.ira_cert_text.specs.declared.cert_step.CertStep.{CertStep}
 use Rattle.ira_cert.specs.Asked.{HasDifferentPlaces, HasPlacesOf}
@@ -37,7 +37,7 @@ search_below P (suc n) test = elim (test n) [
   | inl here ↦ inl (n, here)
   | inr not_here ↦ elim (search_below P n test) [
     | inl below ↦ inl below
-    | inr none ↦ inr (λ i l. elim (eq_cases i n) [
+    | inr none ↦ inr (λ i l. elim (cases_eq i n) [
       | inl e ↦ (let h : ¬ (P i) = rw e not_here in h)
       | inr other ↦ none i (omega arith)
     ])
@@ -78,7 +78,7 @@ module _ (logs : List Log) (order : List ℕ) (o : IsOrder logs order) (matches 
   -- some elimination is left, or none
   module _ (fronts : List (Option (List ℕ))) where
     eliminates : (i j : ℕ) → ((s : CertStep) × (s.node ≡ i) × (s.other ≡ j) × IsElimination logs fronts s) ⊎ ¬ ((s : CertStep) × (s.node ≡ i) × (s.other ≡ j) × IsElimination logs fronts s)
-    eliminates i j = elim (eq_cases i j) [
+    eliminates i j = elim (cases_eq i j) [
       | inl same ↦ inr (λ h. h.3.differ (h.1 ∙ same ∙ sym h.2))
       | inr differ ↦ elim (first_or_none fronts i) [
         | inr none ↦ inr (λ h. (let front : IsFirstLeft fronts i h.0.pos = rw h.1 at h.3.front in none h.0.pos front))

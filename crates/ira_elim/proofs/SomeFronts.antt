@@ -3,7 +3,7 @@ use Rattle.std.proofs.Common.{◌≡◌, ◌≢◌, ℕ, zero, suc, ◌<◌, ◌
 use Rattle.std.proofs.lemmas.List.{length_push}
 use Rattle.ira_event.specs.Log.{Log}
 use Rattle.ira_pred.specs.Case.{Conjunct}
-use Rattle.ira_order.proofs.Ranks.{eq_cases}
+use Rattle.std.proofs.lemmas.Bool.{cases_eq}
 use Rattle.ira_cert.specs.Asked.{IsAsked, HasPlacesOf}
 use Rattle.ira_cert.specs.Fronts.{AreFronts}
 use Rattle.ira_cert.proofs.CaseFronts.{AllFound, IsFound, found_more, found_all}
@@ -20,7 +20,7 @@ asked_behind c case i other asked = by_index asked.1.0 asked.1.1 asked.1.2
 -- whether a node is asked is decided
 asked_or_not : (case : List Conjunct) (i : ℕ) → IsAsked case i ⊎ ¬ (IsAsked case i)
 asked_or_not [] i = inr (λ h. absurd (omega (arith, h.1.1)))
-asked_or_not (c ∷ case) i = elim (eq_cases c.place i) [
+asked_or_not (c ∷ case) i = elim (cases_eq c.place i) [
   | inl same ↦ inl (c.formula, (0, omega arith, ap (λ (n : ℕ). record { place = n; formula = c.formula }) same))
   | inr other ↦ elim (asked_or_not case i) [
     | inl asked ↦ inl (asked.0, (suc asked.1.0, omega (arith, asked.1.1), asked.1.2))

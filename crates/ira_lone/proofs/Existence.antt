@@ -22,7 +22,8 @@ use Rattle.ira_node.specs.Wanted.{CanCome, wanted_of}
 use Rattle.ira_node.proofs.Answers.{a_step_or_a_fault, step_gives, fault_gives}
 use Rattle.ira_node.proofs.Wants.{can_come}
 use Rattle.ira_order.specs.Ring.{next}
-use Rattle.ira_order.proofs.Ranks.{eq_cases, lt_cases, next_below}
+use Rattle.ira_order.proofs.Ranks.{next_below}
+use Rattle.std.proofs.lemmas.Bool.{cases_eq, cases_lt}
 use Rattle.ira_run.specs.declared.node_end.NodeEnd.TheVariants.{Leader as Leads}
 use Rattle.ira_run.specs.Setup.{Setup, KeepsRules}
 use Rattle.ira_run.specs.FullRun.{AreFullLogs}
@@ -83,7 +84,7 @@ module _ (n most : ℕ) (node : LoneNode) (room : length node.events < most) whe
   by_want Receipt wants all can = receiving node.input refl wants
 
 next_or_none : (s : Setup) (node : LoneNode) → KeepsRules s → All (λ d. (1 ≤ d) × (d ≤ s.nodes)) node.ids → HasNext s.nodes s.cap node ⊎ HasNoNext s.nodes s.cap node
-next_or_none s node rules all = elim (lt_cases (length node.events) s.cap) [
+next_or_none s node rules all = elim (cases_lt (length node.events) s.cap) [
   | inl room ↦
       let w : Wanted = wanted_of node.state.phase node.state.owed in
       by_want s.nodes s.cap node room w refl all (can_come s.nodes node.state w refl rules.size)
@@ -136,7 +137,7 @@ module _ (s : Setup) (rules : KeepsRules s) where
     | inl found ↦ inl found
     | inr none ↦ elim (next_or_none s (node_at nodes k) rules (ids_of s nodes k rules reached (omega arith))) [
       | inl found ↦ inl (k, omega arith, found)
-      | inr ended ↦ inr (λ i l. elim (eq_cases i k) [
+      | inr ended ↦ inr (λ i l. elim (cases_eq i k) [
         | inl e ↦ subst (λ (x : ℕ). HasNoNext s.nodes s.cap (node_at nodes x)) (sym e) ended
         | inr ne ↦ none i (omega (arith, l))
       ])

@@ -7,7 +7,7 @@ use Rattle.std.proofs.lemmas.Option.{get_or_from_slice_get, slice_get_within}
 use Rattle.ira_event.specs.declared.event.Event.{Event}
 use Rattle.ira_event.specs.Event.{is_event}
 use Rattle.ira_event.specs.Log.{Log, IsLog}
-use Rattle.ira_order.proofs.Ranks.{lt_cases}
+use Rattle.std.proofs.lemmas.Bool.{cases_lt}
 use Rattle.ira_run.specs.Setup.{Setup, is_initiator, KeepsRules}
 use Rattle.ira_lone.specs.LoneNode.{LoneNode}
 use Rattle.ira_lone.specs.LoneRing.{idle, node_at, IsReached, AreLogsOfNodes}
@@ -31,7 +31,7 @@ is_log s nodes i rules reached l =
 
 -- the first of the nodes left
 pub first_left : (nodes : List LoneNode) (place : ℕ) (node : LoneNode) (rest : List LoneNode) → node ∷ rest ≡ drop place nodes → (place < length nodes) × (node ≡ node_at nodes place) × (rest ≡ drop (place + 1) nodes)
-first_left nodes place node rest is = elim (lt_cases place (length nodes)) [
+first_left nodes place node rest is = elim (cases_lt place (length nodes)) [
   | inl l ↦
       let both : node ∷ rest ≡ node_at nodes place ∷ drop (place + 1) nodes = is ∙ drop_more nodes place idle l in
       (l, cc, cc)

@@ -4,7 +4,7 @@ use Rattle.std.specs.Prelude.{map}
 use Rattle.std.proofs.Math.Seq.{get_or-append_seam}
 use Rattle.std.proofs.lemmas.List.{get_or_append_left, get_or_read, get_or-map, length-map}
 use Rattle.ira_node.specs.NodeState.{first_state}
-use Rattle.ira_order.proofs.Ranks.{eq_cases}
+use Rattle.std.proofs.lemmas.Bool.{cases_eq}
 use Rattle.ira_run.specs.Setup.{Setup, is_initiator, node_draws, KeepsRules}
 use Rattle.ira_run.specs.FullRun.{opening_of, drawn}
 use Rattle.ira_lone.specs.LoneNode.{LoneNode}
@@ -28,7 +28,7 @@ started s nodes many each = record {
 
 -- one item more, of which the fact holds
 pub each_more : {X : Type 0} (P : ℕ → X → Type 0) (d : X) (xs : List X) (x : X) (i : ℕ) → length xs ≡ i → ((j : ℕ) → j < i → P j (get_or xs j d)) → P i x → (j : ℕ) → j < i + 1 → P j (get_or (xs ++ x ∷ []) j d)
-each_more {X} P d xs x i many each here j l = elim (eq_cases j i) [
+each_more {X} P d xs x i many each here j l = elim (cases_eq j i) [
   | inl e ↦
       let last : get_or (xs ++ x ∷ []) i d ≡ x = ap (λ (k : ℕ). get_or (xs ++ x ∷ []) k d) (sym many) ∙ get_or-append_seam xs x [] d in
       let Q : ℕ → Type 0 = λ k. P k (get_or (xs ++ x ∷ []) k d) in

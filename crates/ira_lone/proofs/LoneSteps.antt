@@ -11,7 +11,8 @@ use Rattle.ira_node.specs.NodeStep.{NodeStep}
 use Rattle.ira_node.proofs.Inversions.{drawing_chooses, sending_owes}
 use Rattle.ira_order.specs.Ring.{next, prev}
 use Rattle.ira_order.specs.Run.{Configuration, LinkStep, RingStep}
-use Rattle.ira_order.proofs.Ranks.{eq_cases, next_below}
+use Rattle.ira_order.proofs.Ranks.{next_below}
+use Rattle.std.proofs.lemmas.Bool.{cases_eq}
 use Rattle.ira_order.proofs.Runs.{next_prev, prev_next, prev_below}
 use Rattle.ira_run.specs.Setup.{Setup, node_draws}
 use Rattle.ira_run.specs.FullRun.{opening_of, events_at, drawing, drawn, HasEvent, owes, chooses, receives, CanStep}
@@ -68,20 +69,20 @@ module _ (n i : ℕ) (after : NodeState) (old new : List LoneNode) where
   pub apart : (e : Event) → IsMoved n i e after old new → (j : ℕ) → j ≢ i → IsKept (node_at old j) (node_at new j)
   apart (Draw id) moved j ne = kept_same (node_at old j) (node_at new j) (moved.1 j ne)
   apart (Got m) moved j ne = kept_same (node_at old j) (node_at new j) (moved.1 j ne)
-  apart (Sent m) moved j ne = elim (eq_cases j (next n i)) [
+  apart (Sent m) moved j ne = elim (cases_eq j (next n i)) [
     | inl e ↦ (let P : ℕ → Type 0 = λ k. IsKept (node_at old k) (node_at new k) in subst P (sym e) (kept_put (node_at old (next n i)) (node_at new (next n i)) m moved.1))
     | inr other ↦ kept_same (node_at old j) (node_at new j) (moved.2 j ne other)
   ]
 
   -- the messages before each node
   link_step : (e : Event) → 2 ≤ n → i < n → IsMoved n i e after old new → IsFirst (node_at old i) e → LinkStep n i e (λ k. (node_at old (next n k)).input) (λ k. (node_at new (next n k)).input)
-  link_step (Draw id) two here moved first = λ j lj. elim (eq_cases (next n j) i) [
+  link_step (Draw id) two here moved first = λ j lj. elim (cases_eq (next n j) i) [
     | inl e ↦ (let P : ℕ → Type 0 = λ k. (node_at new k).input ≡ (node_at old k).input in subst P (sym e) (ap (λ (x : LoneNode). x.input) moved.0))
     | inr ne ↦ ap (λ (x : LoneNode). x.input) (moved.1 (next n j) ne)
   ]
   link_step (Sent m) two here moved first = (
     ap (λ (x : LoneNode). x.input) moved.1,
-    λ j lj ne. elim (eq_cases (next n j) i) [
+    λ j lj ne. elim (cases_eq (next n j) i) [
       | inl e ↦ (let P : ℕ → Type 0 = λ k. (node_at new k).input ≡ (node_at old k).input in subst P (sym e) (ap (λ (x : LoneNode). x.input) moved.0))
       | inr other ↦ ap (λ (x : LoneNode). x.input) (moved.2 (next n j) other (λ q. ne (prev_next n (next n i) j (next_below n i here) lj q ∙ sym (prev_next n (next n i) i (next_below n i here) here refl))))
     ],
@@ -148,7 +149,7 @@ module _ (s : Setup) (old new : List LoneNode) (i : ℕ) (e : Event) (after : No
       (has_event s.nodes s.cap (node_draws s i) (node_at old i) e after is_next (reached.draws i here))
 
   events_of : (j : ℕ) → j < s.nodes → events_at (reached.run ++ (i, e) ∷ []) j ≡ (node_at new j).events
-  events_of j lj = elim (eq_cases i j) [
+  events_of j lj = elim (cases_eq i j) [
     | inl q ↦
         let P : ℕ → Type 0 = λ k. events_at (reached.run ++ (i, e) ∷ []) k ≡ (node_at new k).events in
         subst P q (own_more reached.run i i e refl ∙ ap (λ (x : List Event). x ++ e ∷ []) (reached.events i here) ∙ sym (ap (λ (x : LoneNode). x.events) node_is))
@@ -156,7 +157,7 @@ module _ (s : Setup) (old new : List LoneNode) (i : ℕ) (e : Event) (after : No
   ]
 
   draws_of : (j : ℕ) → j < s.nodes → node_draws s j ≡ drawn (node_at new j).events ++ (node_at new j).ids
-  draws_of j lj = elim (eq_cases i j) [
+  draws_of j lj = elim (cases_eq i j) [
     | inl q ↦
         let P : ℕ → Type 0 = λ k. node_draws s k ≡ drawn (node_at new k).events ++ (node_at new k).ids in
         let Q : LoneNode → Type 0 = λ x. node_draws s i ≡ drawn x.events ++ x.ids in

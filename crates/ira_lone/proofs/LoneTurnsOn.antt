@@ -13,7 +13,7 @@ use Rattle.ira_run.specs.FullRun.{drawn}
 use Rattle.ira_lone.specs.LoneNode.{LoneNode, IsNext, HasNoNext, SendsNothing, MakesOwn, MakesSending, GoesTo, after_event, after_put}
 use Rattle.ira_lone.specs.LoneRing.{idle, node_at, IsMoved, IsPut, IsTurn, IsLeastAfter, IsReached}
 use Rattle.ira_run.specs.Setup.{Setup, KeepsRules}
-use Rattle.ira_order.proofs.Ranks.{eq_cases}
+use Rattle.std.proofs.lemmas.Bool.{cases_eq}
 use Rattle.ira_lone.proofs.LoneSteps.{apart, own, turn_reaches}
 use Rattle.ira_lone.proofs.LoneTurns.{next_above, next_not}
 
@@ -149,13 +149,13 @@ room_same : (most : ℕ) (old new : List LoneNode) → length new ≡ length old
 room_same most old new many same = sum_at_most (λ node. most - length node.events) old new many (λ j. omega (arith, ap (λ (x : LoneNode). length x.events) (same j)))
 
 less_past : (n most : ℕ) (old new : List LoneNode) (least : ℕ) → room_in most new ≤ room_in most old → least < n → measure n most new (least + 1) < measure n most old least
-less_past n most old new least room l = elim (eq_cases (room_in most new) (room_in most old)) [
+less_past n most old new least room l = elim (cases_eq (room_in most new) (room_in most old)) [
   | inl e ↦ (let P : ℕ → Type 0 = λ a. room_in most new * (n + 1) + (n - (least + 1)) < a * (n + 1) + (n - least) in subst P e (omega arith))
   | inr ne ↦ less_measure n most old new least (least + 1) (omega arith)
 ]
 
 le_measure : (n most : ℕ) (old new : List LoneNode) (least : ℕ) → room_in most new ≤ room_in most old → measure n most new least ≤ measure n most old least
-le_measure n most old new least room = elim (eq_cases (room_in most new) (room_in most old)) [
+le_measure n most old new least room = elim (cases_eq (room_in most new) (room_in most old)) [
   | inl e ↦ (let P : ℕ → Type 0 = λ a. room_in most new * (n + 1) + (n - least) ≤ a * (n + 1) + (n - least) in subst P e (omega arith))
   | inr ne ↦ (let less = less_measure n most old new least least (omega arith) in omega (arith, less))
 ]
@@ -169,7 +169,7 @@ module _ (s : Setup) (old new : List LoneNode) (least : ℕ)
   ends_on node k after goes now put many is =
       let before = way s old least k node rules reached here goes in
       let w : IsWay s old before.0 least node = before.1 in
-      let same : (j : ℕ) → node_at new j ≡ node_at before.0 j = λ j. elim (eq_cases j least) [
+      let same : (j : ℕ) → node_at new j ≡ node_at before.0 j = λ j. elim (cases_eq j least) [
         | inl e ↦ (let P : ℕ → Type 0 = λ x. node_at new x ≡ node_at before.0 x in subst P (sym e) (put.0 ∙ sym w.here))
         | inr ne ↦ put.1 j ne ∙ sym (w.others j ne)
       ] in
@@ -177,7 +177,7 @@ module _ (s : Setup) (old new : List LoneNode) (least : ℕ)
       subst P (sym is) record {
         reached = reached_same s before.0 new w.reached (many ∙ sym w.many) same;
         within = omega arith;
-        ended = λ j l. elim (eq_cases j least) [
+        ended = λ j l. elim (cases_eq j least) [
           | inl e ↦ (let Q : ℕ → Type 0 = λ x. HasNoNext s.nodes s.cap (node_at new x) in subst Q (sym e) (subst (HasNoNext s.nodes s.cap) (sym put.0) now))
           | inr ne ↦ subst (HasNoNext s.nodes s.cap) (sym (put.1 j ne)) (ended j (omega arith))
         ];

@@ -10,7 +10,8 @@ use Rattle.ira_order.specs.Ring.{log_of, next, numbered}
 use Rattle.ira_order.specs.Order.{IsOrder, IsPair, StandsAt, occurrences}
 use Rattle.ira_order.specs.Before.{Before, own, message, onward}
 use Rattle.ira_order.specs.VectorClock.{AtOrBefore}
-use Rattle.ira_order.proofs.Ranks.{lt_cases, eq_cases, occurrences_same, occurrences_mono}
+use Rattle.ira_order.proofs.Ranks.{occurrences_same, occurrences_mono}
+use Rattle.std.proofs.lemmas.Bool.{cases_lt, cases_eq}
 use Rattle.ira_order.proofs.Places.{stands}
 use Rattle.ira_order.proofs.Bridge.{before_places}
 use Rattle.std.proofs.lemmas.Option.{slice_get-get_or, get_or_from_slice_get, slice_get_within}
@@ -57,7 +58,7 @@ module _ (logs : List Log) (order : List ℕ) (o : IsOrder logs order) where
       (s.0, (slice_get-get_or order s.0 0 s.1 ∙ ap Some s.2, omega (arith, s.3)))
 
   pub before_stands : (i a j b : ℕ) → Before logs i a j b → (s t : ℕ) → StandsAt order s i a → StandsAt order t j b → s < t
-  before_stands i a j b (own e l one lower upper) s t si tj = elim (lt_cases s t) [
+  before_stands i a j b (own e l one lower upper) s t si tj = elim (cases_lt s t) [
     | inl fine ↦ fine
     | inr late ↦ (let tj' = rw (← e) at tj in absurd (omega (arith, occurrences_mono order t s i late, si.1, tj'.1)))
   ]
@@ -84,7 +85,7 @@ module _ (logs : List Log) (order : List ℕ) (o : IsOrder logs order) where
   pub came_with : (i a j b : ℕ) → Before logs i a j b → i ≢ j → CameWith logs i a j b
   came_with i a j b (own e l one lower upper) ne = absurd (ne e)
   came_with i a j b (message e pair) ne = record { receipt = b; sender = i; sending = a; upto = omega arith; link = e; pair = pair; known = inl (refl, refl) }
-  came_with i a j b (onward {j = x} {b = y} f g) ne = elim (eq_cases x j) [
+  came_with i a j b (onward {j = x} {b = y} f g) ne = elim (cases_eq x j) [
     | inr other ↦
         let c : CameWith logs x y j b = came_with x y j b g other in
         record {
@@ -118,9 +119,9 @@ module _ (logs : List Log) (order : List ℕ) (o : IsOrder logs order) where
       let at_j : numbered (log_of logs j) c.receipt ≡ Some (Got c.pair.taken) = rw c.link at c.pair.receives in
       let w = numbered_event (log_of logs j) c.receipt _ at_j in
       let arrived : Before logs i a j c.receipt = known_before logs i a c.sender c.sending j c.receipt c.known (message c.link c.pair) in
-      elim (eq_cases c.receipt (suc b)) [
+      elim (cases_eq c.receipt (suc b)) [
         | inl same ↦ (let r = rw same at at_j in absurd (quiet c.pair.taken r))
-        | inr lower ↦ elim (eq_cases c.receipt b) [
+        | inr lower ↦ elim (cases_eq c.receipt b) [
           | inl same ↦ rw (← same) arrived
           | inr below ↦
               let p = before_places logs i a j (suc b) h in

@@ -11,7 +11,8 @@ use Rattle.ira_order.specs.Order.{occurrences, IsPair, IsOrder, StandsAt}
 use Rattle.ira_order.specs.Counts.{IsKept, Covers, IsWholeSchedule}
 use Rattle.ira_order.specs.Before.{Before, own, message, onward}
 use Rattle.ira_order.specs.Cut.{HoldsAllBefore}
-use Rattle.ira_order.proofs.Ranks.{lt_cases, rank_mono, occurrences_same, occurrences_other, occurrences_mono, occurrences-take-le, next_other, next_below}
+use Rattle.ira_order.proofs.Ranks.{rank_mono, occurrences_same, occurrences_other, occurrences_mono, occurrences-take-le, next_other, next_below}
+use Rattle.std.proofs.lemmas.Bool.{cases_lt}
 use Rattle.ira_order.proofs.OrderPrefixes.{rank_more}
 use Rattle.ira_order.proofs.Places.{Ranked, ranked, stands, is_sending, is_receipt, fewer_receipts}
 use Rattle.std.proofs.lemmas.Option.{slice_get-get_or, get_or_from_slice_get, slice_get_within}
@@ -61,7 +62,7 @@ pair_of logs i n r matches l within b =
 pub consistent_covers : (logs : List Log) (at : ℕ → ℕ) → Matches logs → ((i : ℕ) → i < length logs → at i ≤ length (log_of logs i)) → HoldsAllBefore logs at → Covers logs at
 consistent_covers logs at matches within consistent i l =
     let lj : next (length logs) i < length logs = next_below (length logs) i l in
-    elim (lt_cases (length (sent (take (at i) (log_of logs i)))) (length (got (take (at (next (length logs) i)) (log_of logs (next (length logs) i)))))) [
+    elim (cases_lt (length (sent (take (at i) (log_of logs i)))) (length (got (take (at (next (length logs) i)) (log_of logs (next (length logs) i)))))) [
       | inr fine ↦ fine
       | inl more ↦
           let b : Ranked receipt (log_of logs (next (length logs) i)) (at (next (length logs) i)) (length (sent (take (at i) (log_of logs i)))) (Draw 0) =
@@ -78,7 +79,7 @@ covers_consistent logs at covers i a j b (message same pair) h =
     let s : SendingOf (log_of logs i) a = sending_of (log_of logs i) a pair.message pair.sends in
     let c = covers i pair.link in
     let h' : b ≤ at (next (length logs) i) = rw same h in
-    elim (lt_cases (at i) a) [
+    elim (cases_lt (at i) a) [
       | inr fine ↦ fine
       | inl short ↦ absurd (omega (
         arith,
@@ -97,7 +98,7 @@ pub order_kept : (logs : List Log) (order : List ℕ) → 2 ≤ length logs → 
 order_kept logs order two matches o t lt i l =
     let lj : next (length logs) i < length logs = next_below (length logs) i l in
     let cj : occurrences (take t order) (next (length logs) i) ≤ length (log_of logs (next (length logs) i)) = omega (arith, occurrences-take-le order t (next (length logs) i), o.whole (next (length logs) i) lj) in
-    elim (lt_cases (length (sent (take (occurrences (take t order) i) (log_of logs i)))) (length (got (take (occurrences (take t order) (next (length logs) i)) (log_of logs (next (length logs) i)))))) [
+    elim (cases_lt (length (sent (take (occurrences (take t order) i) (log_of logs i)))) (length (got (take (occurrences (take t order) (next (length logs) i)) (log_of logs (next (length logs) i)))))) [
       | inr fine ↦ fine
       | inl more ↦
           let b : Ranked receipt (log_of logs (next (length logs) i)) (occurrences (take t order) (next (length logs) i)) (length (sent (take (occurrences (take t order) i) (log_of logs i)))) (Draw 0) =
@@ -124,7 +125,7 @@ kept_order logs order two w = record {
       let lt : t < length order = slice_get_within order t (next (length logs) i) tj.0 in
       let at_s : get_or order s 0 ≡ i = get_or_from_slice_get order s i 0 si.0 in
       let at_t : get_or order t 0 ≡ next (length logs) i = get_or_from_slice_get order t (next (length logs) i) 0 tj.0 in
-      elim (lt_cases s t) [
+      elim (cases_lt s t) [
         | inl fine ↦ fine
         | inr late ↦
             let ne : get_or order t 0 ≢ i = λ q. next_other (length logs) i two pair.link (sym at_t ∙ q) in

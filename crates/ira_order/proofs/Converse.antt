@@ -10,7 +10,8 @@ use Rattle.ira_order.specs.Matching.{sent, got, sending, receipt, Matches}
 use Rattle.ira_order.specs.Order.{occurrences}
 use Rattle.ira_order.specs.Counts.{IsWhole, IsKept}
 use Rattle.ira_order.specs.Run.{Configuration, LinkStep, Chains, opening}
-use Rattle.ira_order.proofs.Ranks.{eq_cases, next_below, occurrences_same, occurrences_other}
+use Rattle.ira_order.proofs.Ranks.{next_below, occurrences_same, occurrences_other}
+use Rattle.std.proofs.lemmas.Bool.{cases_eq}
 use Rattle.ira_order.proofs.Runs.{next_prev, prev_next, Means}
 use Rattle.ira_order.proofs.Pairing.{all_begun}
 use Rattle.std.proofs.lemmas.List.Elements.{filter_map-append}
@@ -30,16 +31,16 @@ module _ (n i : ℕ) (past past' : ℕ → List Event) (old new : ℕ → List M
   balanced_step (Sent m) more step k lk =
       let sent_i : sent (past' i) ≡ sent (past i) ++ m ∷ [] = ap sent more ∙ filter_map-append sending (past i) (Sent m ∷ []) in
       let got_i : got (past' i) ≡ got (past i) = ap got more ∙ filter_map-append receipt (past i) (Sent m ∷ []) ∙ append-nil (got (past i)) in
-      let got_next : got (past' (next n k)) ≡ got (past (next n k)) = elim (eq_cases (next n k) i) [ inl e ↦ rw e got_i | inr ne ↦ ap got (same (next n k) ne) ] in
-      elim (eq_cases k i) [
+      let got_next : got (past' (next n k)) ≡ got (past (next n k)) = elim (cases_eq (next n k) i) [ inl e ↦ rw e got_i | inr ne ↦ ap got (same (next n k) ne) ] in
+      elim (cases_eq k i) [
         | inl e ↦ rw (got_next, e, step.0, sent_i) (let b : got (past (next n i)) ++ old i ≡ sent (past i) = balanced i here in sym (append_assoc (got (past (next n i))) (old i) (m ∷ [])) ∙ ap (λ (x : List Msg). x ++ m ∷ []) b)
         | inr ne ↦ rw (got_next, step.1 k lk ne, same k ne) (balanced k lk)
       ]
   balanced_step (Got m) more step k lk =
       let got_i : got (past' i) ≡ got (past i) ++ m ∷ [] = ap got more ∙ filter_map-append receipt (past i) (Got m ∷ []) in
       let sent_i : sent (past' i) ≡ sent (past i) = ap sent more ∙ filter_map-append sending (past i) (Got m ∷ []) ∙ append-nil (sent (past i)) in
-      let sent_k : sent (past' k) ≡ sent (past k) = elim (eq_cases k i) [ inl e ↦ rw e sent_i | inr ne ↦ ap sent (same k ne) ] in
-      elim (eq_cases (next n k) i) [
+      let sent_k : sent (past' k) ≡ sent (past k) = elim (cases_eq k i) [ inl e ↦ rw e sent_i | inr ne ↦ ap sent (same k ne) ] in
+      elim (cases_eq (next n k) i) [
         | inl e ↦
             let q : k ≡ prev n i = prev_next n i k here lk e in
             let first : old k ≡ m ∷ new k = rw q step.0 in
@@ -52,8 +53,8 @@ module _ (n i : ℕ) (past past' : ℕ → List Event) (old new : ℕ → List M
   balanced_step (Draw x) more step k lk =
       let got_i : got (past' i) ≡ got (past i) = ap got more ∙ filter_map-append receipt (past i) (Draw x ∷ []) ∙ append-nil (got (past i)) in
       let sent_i : sent (past' i) ≡ sent (past i) = ap sent more ∙ filter_map-append sending (past i) (Draw x ∷ []) ∙ append-nil (sent (past i)) in
-      let sent_k : sent (past' k) ≡ sent (past k) = elim (eq_cases k i) [ inl e ↦ rw e sent_i | inr ne ↦ ap sent (same k ne) ] in
-      let got_next : got (past' (next n k)) ≡ got (past (next n k)) = elim (eq_cases (next n k) i) [ inl e ↦ rw e got_i | inr ne ↦ ap got (same (next n k) ne) ] in
+      let sent_k : sent (past' k) ≡ sent (past k) = elim (cases_eq k i) [ inl e ↦ rw e sent_i | inr ne ↦ ap sent (same k ne) ] in
+      let got_next : got (past' (next n k)) ≡ got (past (next n k)) = elim (cases_eq (next n k) i) [ inl e ↦ rw e got_i | inr ne ↦ ap got (same (next n k) ne) ] in
       rw (got_next, sent_k, step k lk) (balanced k lk)
 
 -- where received, then held, is sent, the logs match
@@ -88,7 +89,7 @@ module _ (logs : List Log) (order : List ℕ) (run : List (ℕ × Event))
 
   -- the links are balanced at each point of a run
   walk : (r : List (ℕ × Event)) (t : ℕ) (c : Configuration) → r ≡ drop t run → Balanced (length logs) (past t) c.link → Chains (length logs) c r → (u : ℕ) → t ≤ u → u ≤ length run → (link : ℕ → List Msg) × Balanced (length logs) (past u) link
-  walk r t c is balanced chain u l lu = elim (eq_cases t u) [
+  walk r t c is balanced chain u l lu = elim (cases_eq t u) [
     | inl e ↦ (c.link, (let P : ℕ → Type 0 = λ x. Balanced (length logs) (past x) c.link in subst P e balanced))
     | inr ne ↦ on r t c is balanced chain u (omega arith) lu
   ]
@@ -105,7 +106,7 @@ module _ (logs : List Log) (order : List ℕ) (run : List (ℕ × Event))
           let p = past_more t x.0 x.1 at in
           let d = chain.0 in
           let next_balanced : Balanced (length logs) (past (t + 1)) d.link = balanced_step (length logs) x.0 (past t) (past (t + 1)) c.link d.link two chain.1.place p.1 balanced x.1 p.0 chain.1.links in
-          elim (eq_cases (t + 1) u) [
+          elim (cases_eq (t + 1) u) [
             | inl e ↦ (d.link, (let P : ℕ → Type 0 = λ y. Balanced (length logs) (past y) d.link in subst P e next_balanced))
             | inr ne ↦ on r (t + 1) d tail next_balanced chain.2 u (omega arith) lu
           ]

@@ -13,7 +13,8 @@ use Rattle.ira_order.specs.Counts.{Covers}
 use Rattle.ira_order.specs.Before.{Before, own, message, onward}
 use Rattle.ira_order.specs.VectorClock.{AtOrBefore, IsCount}
 use Rattle.ira_order.specs.Stamps.{receipts_by, CountsAt, CountsSent}
-use Rattle.ira_order.proofs.Ranks.{lt_cases, eq_cases, rank_mono, next_below}
+use Rattle.ira_order.proofs.Ranks.{rank_mono, next_below}
+use Rattle.std.proofs.lemmas.Bool.{cases_lt, cases_eq}
 use Rattle.ira_order.proofs.OrderPrefixes.{rank_more}
 use Rattle.ira_order.proofs.Places.{Ranked}
 use Rattle.ira_order.proofs.Bridge.{SendingOf, sending_of, pair_of, covers_consistent}
@@ -24,7 +25,7 @@ use Rattle.std.proofs.lemmas.Option.{slice_get-get_or, get_or_from_slice_get, sl
 
 -- of two receipts of a link, the later one's sending is the later
 pub sent_later : (logs : List Log) (k a b c d : ℕ) → IsPair logs k a b → IsPair logs k c d → b ≤ d → a ≤ c
-sent_later logs k a b c d first second l = elim (lt_cases c a) [
+sent_later logs k a b c d first second l = elim (cases_lt c a) [
   | inr fine ↦ fine
   | inl late ↦
       let s : SendingOf (log_of logs k) a = sending_of (log_of logs k) a first.message first.sends in
@@ -74,7 +75,7 @@ module _ (logs : List Log) (order : List ℕ) (o : IsOrder logs order) where
   count_own j b lj l = record {
     within = l;
     events = λ a one. (
-      λ h. elim (eq_cases a b) [ inl e ↦ inl (refl, e) | inr ne ↦ inr (own refl lj one (omega arith) l) ],
+      λ h. elim (cases_eq a b) [ inl e ↦ inl (refl, e) | inr ne ↦ inr (own refl lj one (omega arith) l) ],
       λ h. elim h [ inl e ↦ omega (arith, e.1) | inr before ↦ omega (arith, before_own logs order o j a b before) ],
     );
   }
@@ -119,7 +120,7 @@ module _ (logs : List Log) (order : List ℕ) (o : IsOrder logs order) where
           let pair' : IsPair logs k came.sending came.receipt = rw same at came.pair in
           let known' : AtOrBefore logs i c k came.sending = rw same at came.known in
           let l : came.sending ≤ a = sent_later logs k came.sending came.receipt a b pair' pair came.upto in
-          elim (eq_cases came.sending a) [
+          elim (cases_eq came.sending a) [
             | inl e ↦ rw (← e) known'
             | inr other ↦
                 let before : Before logs k came.sending k a = own refl pair.link (one_of logs k came.sending came.receipt pair').0 (omega arith) (one_of logs k a b pair).1 in

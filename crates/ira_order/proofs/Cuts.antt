@@ -7,12 +7,12 @@ use Rattle.ira_order.specs.Matching.{sending, receipt, Matches}
 use Rattle.ira_order.specs.Order.{occurrences, IsOrder}
 use Rattle.ira_order.specs.Counts.{IsKept, Covers, IsWholeSchedule}
 use Rattle.ira_order.specs.Cut.{HoldsAllBefore, IsCut, IsConsistentCut}
-use Rattle.ira_order.proofs.Ranks.{lt_cases, eq_cases, rank_mono, next_below, occurrences-take-le}
+use Rattle.ira_order.proofs.Ranks.{rank_mono, next_below, occurrences-take-le}
 use Rattle.ira_order.proofs.Bridge.{consistent_covers, covers_consistent, order_schedule, order_kept, kept_order, before_places}
 use Rattle.std.proofs.lemmas.List.{take-append-le, take_at}
 use Rattle.std.proofs.lemmas.List.Elements.{All-cons, All-head, All-tail, All-append}
 use Rattle.std.proofs.lemmas.List.Sums.{sum_by-cons, sum_by-append}
-use Rattle.std.proofs.lemmas.Bool.{ne_eqb, eq-eqb}
+use Rattle.std.proofs.lemmas.Bool.{ne_eqb, eq-eqb, cases_lt, cases_eq}
 
 pub cons_same : (i j : ℕ) (s : List ℕ) → i ≡ j → occurrences (i ∷ s) j ≡ 1 + occurrences s j
 cons_same i j s e = sum_by-cons _ i s ∙ rw (eq-eqb i j e) refl
@@ -55,11 +55,11 @@ zero_cases (suc m) = inr (m, refl)
 pub inside_count : (c : ℕ → ℕ) (s : List ℕ) (j : ℕ) → occurrences (inside c s) j ≡ min (c j) (occurrences s j)
 inside_count c [] j = omega arith
 inside_count c (i ∷ s) j = elim (zero_cases (c i)) [
-  | inl none ↦ rw none (elim (eq_cases i j) [
+  | inl none ↦ rw none (elim (cases_eq i j) [
     | inl e ↦ (let z : c j ≡ 0 = sym (ap c e) ∙ none in omega (arith, inside_count c s j, cons_same i j s e, z))
     | inr ne ↦ omega (arith, inside_count c s j, cons_other i j s ne)
   ])
-  | inr some ↦ rw some.1 (elim (eq_cases i j) [
+  | inr some ↦ rw some.1 (elim (cases_eq i j) [
     | inl e ↦ (let z : c j ≡ suc some.0 = sym (ap c e) ∙ some.1 in
         omega (arith, inside_count (less c i) s j, cons_same i j s e, cons_same i j (inside (less c i) s) e, less_same c i j e, z))
     | inr ne ↦ omega (arith, inside_count (less c i) s j, cons_other i j s ne, cons_other i j (inside (less c i) s) ne, less_other c i j ne)
@@ -69,11 +69,11 @@ inside_count c (i ∷ s) j = elim (zero_cases (c i)) [
 pub outside_count : (c : ℕ → ℕ) (s : List ℕ) (j : ℕ) → occurrences (outside c s) j ≡ occurrences s j - c j
 outside_count c [] j = omega arith
 outside_count c (i ∷ s) j = elim (zero_cases (c i)) [
-  | inl none ↦ rw none (elim (eq_cases i j) [
+  | inl none ↦ rw none (elim (cases_eq i j) [
     | inl e ↦ (let z : c j ≡ 0 = sym (ap c e) ∙ none in omega (arith, outside_count c s j, cons_same i j s e, cons_same i j (outside c s) e, z))
     | inr ne ↦ omega (arith, outside_count c s j, cons_other i j s ne, cons_other i j (outside c s) ne)
   ])
-  | inr some ↦ rw some.1 (elim (eq_cases i j) [
+  | inr some ↦ rw some.1 (elim (cases_eq i j) [
     | inl e ↦ (let z : c j ≡ suc some.0 = sym (ap c e) ∙ some.1 in
         omega (arith, outside_count (less c i) s j, cons_same i j s e, less_same c i j e, z))
     | inr ne ↦ omega (arith, outside_count (less c i) s j, cons_other i j s ne, less_other c i j ne)
@@ -133,7 +133,7 @@ outside_all n c (i ∷ s) h = elim (zero_cases (c i)) [
 
 -- each beginning of the rearranged order is kept
 moved_kept : (logs : List Log) (c : ℕ → ℕ) (s : List ℕ) → IsKept logs s → Covers logs c → ((i : ℕ) → i < length logs → c i ≤ occurrences s i) → IsKept logs (inside c s ++ outside c s)
-moved_kept logs c s kept covers within t lt = elim (lt_cases (length (inside c s)) t) [
+moved_kept logs c s kept covers within t lt = elim (cases_lt (length (inside c s)) t) [
   | inr early ↦
       let u = inside_take c s t early in
       rw (take-append-le t (inside c s) (outside c s) early, u.2)
@@ -142,7 +142,7 @@ moved_kept logs c s kept covers within t lt = elim (lt_cases (length (inside c s
       let lj : next (length logs) i < length logs = next_below (length logs) i l in
       let a = inside_count c (take u.0 s) i in
       let b = inside_count c (take u.0 s) (next (length logs) i) in
-      elim (lt_cases (c i) (occurrences (take u.0 s) i)) [
+      elim (cases_lt (c i) (occurrences (take u.0 s) i)) [
         | inl x ↦ inl (omega (arith, b), omega (arith, a))
         | inr x ↦ inr (omega (arith, b), omega (arith, a))
       ]))
@@ -161,7 +161,7 @@ moved_kept logs c s kept covers within t lt = elim (lt_cases (length (inside c s
       occurrences-append (inside c s) (outside c (take u.0 s)) (next (length logs) i) ∙ omega (arith, inside_count c s (next (length logs) i), outside_count c (take u.0 s) (next (length logs) i)) in
       let wi = within i l in
       let wj = within (next (length logs) i) lj in
-      elim (lt_cases (c (next (length logs) i)) (occurrences (take u.0 s) (next (length logs) i))) [
+      elim (cases_lt (c (next (length logs) i)) (occurrences (take u.0 s) (next (length logs) i))) [
         | inl x ↦ inr (omega (arith, b), omega (arith, a))
         | inr x ↦ inl (omega (arith, b), omega (arith, a))
       ]))

@@ -10,7 +10,7 @@ use Rattle.ira_order.specs.Matching.{Matches}
 use Rattle.ira_order.specs.Order.{IsOrder, StandsAt}
 use Rattle.ira_order.specs.Before.{Before, own, message}
 use Rattle.ira_order.specs.VectorClock.{IsCount, AreCounts}
-use Rattle.ira_order.proofs.Ranks.{lt_cases, eq_cases}
+use Rattle.std.proofs.lemmas.Bool.{cases_lt, cases_eq}
 use Rattle.ira_order.proofs.Runs.{prev_below, next_prev}
 use Rattle.ira_order.proofs.Acyclic.{place_of, before_stands, before_within, before_own}
 use Rattle.ira_order.proofs.Bridge.{before_places}
@@ -26,7 +26,7 @@ list_of P (suc n) each =
     let last = each n (omega arith) in (
       ms.0 ++ last.0 ∷ [],
       omega (arith, length_push ms.0 last.0, ms.1),
-      λ i l. elim (eq_cases i n) [
+      λ i l. elim (cases_eq i n) [
         | inl e ↦ (let here : slice_index (ms.0 ++ last.0 ∷ []) n ≡ last.0 = get_or_push ms.0 last.0 0 n ms.1 in rw (e, here) last.1)
         | inr ne ↦ (let there : slice_index (ms.0 ++ last.0 ∷ []) i ≡ slice_index ms.0 i = get_or_append_left ms.0 (last.0 ∷ []) 0 i (omega (arith, ms.1)) in rw there (ms.2 i (omega arith)))
       ],
@@ -49,7 +49,7 @@ module _ (logs : List Log) (order : List ℕ) (o : IsOrder logs order) (matches 
   -- and so does each event b + 1 of another node j, which stands at place t
   module _ (t j b i : ℕ) (stands : StandsAt order t j (suc b)) (lj : j < length logs) (l : suc b ≤ length (log_of logs j)) (other : i ≢ j) (earlier : Counted t i) where
     quiet : ((m : Msg) → numbered (log_of logs j) (suc b) ≡ Some (Got m) → ⊥) → (m : ℕ) × IsCount logs j (suc b) i m
-    quiet never = elim (eq_cases b 0) [
+    quiet never = elim (cases_eq b 0) [
       | inl none ↦ (0, count_stays logs order o j b i 0 lj other l never (rw none (count_first logs j i)))
       | inr some ↦
           let s = place_of logs order o j b lj (omega arith) (omega arith) in
@@ -73,7 +73,7 @@ module _ (logs : List Log) (order : List ℕ) (o : IsOrder logs order) (matches 
   by_place (suc t) i li s k zero lt stands lk l = (0, count_first logs k i)
   by_place (suc t) i li s k (suc a) lt stands lk l =
       let earlier = λ (r j b : ℕ) (le : r < s). by_place t i li r j b (omega arith) in
-      elim (eq_cases i k) [
+      elim (cases_eq i k) [
         | inl e ↦ rw e (suc a, count_own logs order o k (suc a) lk l)
         | inr other ↦ by_event s k a i stands lk l other earlier (get_or (log_of logs k) a (Draw 0)) (slice_get-get_or (log_of logs k) a (Draw 0) (omega arith))
       ]
@@ -92,13 +92,13 @@ module _ (logs : List Log) (order : List ℕ) (o : IsOrder logs order) (matches 
 
   -- whether one event happened before another is decided
   pub before_decided : (i a j b : ℕ) → Before logs i a j b ⊎ ¬ (Before logs i a j b)
-  before_decided i a j b = elim (lt_cases i (length logs)) [
+  before_decided i a j b = elim (cases_lt i (length logs)) [
     | inr none ↦ inr (λ h. (let p = before_places logs i a j b h in omega (arith, p)))
-    | inl li ↦ elim (lt_cases j (length logs)) [
+    | inl li ↦ elim (cases_lt j (length logs)) [
       | inr none ↦ inr (λ h. (let p = before_places logs i a j b h in omega (arith, p)))
-      | inl lj ↦ elim (lt_cases (length (log_of logs j)) b) [
+      | inl lj ↦ elim (cases_lt (length (log_of logs j)) b) [
         | inl none ↦ inr (λ h. (let w = before_within logs i a j b h in omega (arith, w)))
-        | inr l ↦ elim (eq_cases a 0) [
+        | inr l ↦ elim (cases_eq a 0) [
           | inl none ↦ inr (λ h. (let w = before_within logs i a j b h in omega (arith, w)))
           | inr some ↦ counted i a j b (omega arith) (count_of j b i lj l li)
         ]
@@ -107,7 +107,7 @@ module _ (logs : List Log) (order : List ℕ) (o : IsOrder logs order) (matches 
   ]
     where
       counted : (i a j b : ℕ) → 1 ≤ a → (m : ℕ) × IsCount logs j b i m → Before logs i a j b ⊎ ¬ (Before logs i a j b)
-      counted i a j b one m = elim (lt_cases m.0 a) [
+      counted i a j b one m = elim (cases_lt m.0 a) [
         | inl past ↦ inr (λ h. absurd (omega (arith, (m.1.events a one).1 (inr h))))
         | inr held ↦ elim ((m.1.events a one).0 held) [
           | inl e ↦ inr (λ h. (let h' : Before logs j a j b = rw e.0 at h in omega (arith, e.1, before_own logs order o j a b h')))

@@ -10,14 +10,14 @@ use Rattle.ira_order.specs.Matching.{sent, got, sending, receipt}
 use Rattle.ira_order.specs.Order.{occurrences}
 use Rattle.ira_order.specs.Counts.{IsReady, Covers, IsSchedule}
 use Rattle.ira_order.specs.OrderPrefix.{IsOrderPrefix, IsStuckAt, sent_by, got_by}
-use Rattle.ira_order.proofs.Ranks.{filter_map_more, lt_cases, eq_cases, rank_mono, next_other}
+use Rattle.ira_order.proofs.Ranks.{filter_map_more, rank_mono, next_other}
 use Rattle.ira_event.specs.Limits.{MAX_RECORDS}
 use Rattle.std.specs.Prelude.{slice_get}
 use Rattle.std.proofs.lemmas.Option.{get_or_from_slice_get, slice_get_cases, slice_get_within}
 use Rattle.std.proofs.lemmas.List.{take_all, take-append-le, length_push, get_or_read, set-get_or, set-set, replicate-append-replicate}
 use Rattle.std.proofs.lemmas.List.Elements.{All-push}
 use Rattle.std.proofs.lemmas.List.Sums.{sum_by_push, sum_by-set}
-use Rattle.std.proofs.lemmas.Bool.{leb-true, le-leb, ne_eqb, eq-eqb}
+use Rattle.std.proofs.lemmas.Bool.{leb-true, le-leb, ne_eqb, eq-eqb, cases_lt, cases_eq}
 use Rattle.std.proofs.lemmas.Bool.Decides.{nat_tests}
 
 pub rank_le : (h : Event → Option Msg) (es : List Event) (n : ℕ) → length (filter_map h (take n es)) ≤ n
@@ -55,7 +55,7 @@ module _ (logs : List Log) (places : List ℕ) (i : ℕ)
   covers_push k lk =
       let n : ℕ = length logs in
       let j : ℕ = next (length logs) k in
-      elim (eq_cases i (next (length logs) k)) [
+      elim (cases_eq i (next (length logs) k)) [
         | inl same ↦
             let ne : i ≢ k = λ q. next_other (length logs) k two lk (sym same ∙ q) in
             let c : length (got (take (occurrences places i + 1) (log_of logs i))) ≤ length (sent (take (occurrences places k) (log_of logs k))) = free.1 k lk (sym same) in
@@ -67,7 +67,7 @@ module _ (logs : List Log) (places : List ℕ) (i : ℕ)
             let before : length (got (take (occurrences places (next (length logs) k)) (log_of logs (next (length logs) k)))) ≤ length (sent (take (occurrences places k) (log_of logs k))) =
             let whole : take (length places) places ≡ places = take_all (length places) places (omega arith) in
             rw whole at (so_far.kept (length places) (omega arith) k lk) in
-            let up : occurrences places k ≤ occurrences (places ++ i ∷ []) k = elim (eq_cases i k) [
+            let up : occurrences places k ≤ occurrences (places ++ i ∷ []) k = elim (cases_eq i k) [
               | inl e ↦ rw (← e) (omega (arith, occurrences_push_same places i))
               | inr ne ↦ omega (arith, occurrences_push_other places i k ne)
             ] in
@@ -77,11 +77,11 @@ module _ (logs : List Log) (places : List ℕ) (i : ℕ)
   pub schedule_push : IsSchedule logs (places ++ i ∷ [])
   schedule_push = record {
     places = All-push (λ p. p < length logs) places i so_far.places here;
-    within = λ j lj. elim (eq_cases i j) [
+    within = λ j lj. elim (cases_eq i j) [
       | inl e ↦ rw (← e) (omega (arith, occurrences_push_same places i, free.0))
       | inr ne ↦ omega (arith, occurrences_push_other places i j ne, so_far.within j lj)
     ];
-    kept = λ t lt. elim (lt_cases (length places) t) [
+    kept = λ t lt. elim (cases_lt (length places) t) [
       | inl past ↦
           let whole : take t (places ++ i ∷ []) ≡ places ++ i ∷ [] = take_all t (places ++ i ∷ []) (omega (arith, length_push places i)) in
           rw whole covers_push
@@ -91,7 +91,7 @@ module _ (logs : List Log) (places : List ℕ) (i : ℕ)
 
 -- a list of counters after one of them was raised
 pub raised : (xs : List ℕ) (count : ℕ → ℕ) (count' : ℕ → ℕ) (n i by : ℕ) → length xs ≡ n → i < n → ((j : ℕ) → j < n → get_or xs j 0 ≡ count j) → count' i ≡ count i + by → ((j : ℕ) → i ≢ j → count' j ≡ count j) → (j : ℕ) → j < n → get_or (set xs i (get_or xs i 0 + by)) j 0 ≡ count' j
-raised xs count count' n i by long here is same other j lj = elim (eq_cases i j) [
+raised xs count count' n i by long here is same other j lj = elim (cases_eq i j) [
   | inl e ↦
       let fits : i < length xs = omega arith in
       rw (← e, get_or-set_same xs i (get_or xs i 0 + by) 0 fits) (ap (λ (x : ℕ). x + by) (is i here) ∙ sym same)
@@ -128,8 +128,8 @@ IsWriter n i from = (i ≡ 0 → from ≡ n - 1) × (i ≢ 0 → from ≡ i - 1)
 -- what the test of a place finds
 pub can_step_iff : (logs : List Log) (done sents gots places : List ℕ) (i from g s : ℕ) (e : Event) → IsOrderPrefix logs done sents gots places → i < length logs → occurrences places i < length (log_of logs i) → e ≡ get_or (log_of logs i) (occurrences places i) e → IsWriter (length logs) i from → g ≡ get_or gots i 0 → s ≡ get_or sents from 0 → IsTrue (leb (g + got_by e) s) ↔ IsReady logs (occurrences places) i
 can_step_iff logs done sents gots places i from g s e prefix here more is source g_is s_is =
-    let there : from < length logs = elim (eq_cases i 0) [ inl z ↦ omega (arith, source.0 z) | inr z ↦ omega (arith, source.1 z) ] in
-    let into : next (length logs) from ≡ i = elim (eq_cases i 0) [
+    let there : from < length logs = elim (cases_eq i 0) [ inl z ↦ omega (arith, source.0 z) | inr z ↦ omega (arith, source.1 z) ] in
+    let into : next (length logs) from ≡ i = elim (cases_eq i 0) [
       | inl z ↦ ap (next (length logs)) (source.0 z) ∙ (link_into (length logs) i here).0 z
       | inr z ↦ ap (next (length logs)) (source.1 z) ∙ (link_into (length logs) i here).1 z
     ] in
@@ -142,7 +142,7 @@ can_step_iff logs done sents gots places i from g s e prefix here more is source
       λ t. (
         more,
         λ j lj e'.
-            let same : j ≡ from = elim (eq_cases i 0) [
+            let same : j ≡ from = elim (cases_eq i 0) [
               | inl z ↦ (only_link (length logs) i j here lj e').0 z ∙ sym (source.0 z)
               | inr z ↦ (only_link (length logs) i j here lj e').1 z ∙ sym (source.1 z)
             ] in
@@ -196,8 +196,8 @@ module _ (logs : List Log) (done sents gots places : List ℕ) (i at sent got : 
   sendings_are : (from s : ℕ) → IsWriter (length logs) i from → s ≡ get_or sents from s → s ≡ get_or (set sents i sent) from 0
   sendings_are from s source s_is =
       let two : 2 ≤ length logs = prefix.logs_are.ring.0 in
-      let there : from < length logs = elim (eq_cases i 0) [ inl z ↦ omega (arith, source.0 z) | inr z ↦ omega (arith, source.1 z) ] in
-      let other : from ≢ i = elim (eq_cases i 0) [ inl z ↦ omega (arith, source.0 z) | inr z ↦ omega (arith, source.1 z) ] in
+      let there : from < length logs = elim (cases_eq i 0) [ inl z ↦ omega (arith, source.0 z) | inr z ↦ omega (arith, source.1 z) ] in
+      let other : from ≢ i = elim (cases_eq i 0) [ inl z ↦ omega (arith, source.0 z) | inr z ↦ omega (arith, source.1 z) ] in
       let long : from < length sents = omega (arith, length-set sents i sent, prefix.all_sents) in
       get_or_read sents from s long s_is 0 ∙ sym (get_or-set_other sents i from sent 0 other)
 

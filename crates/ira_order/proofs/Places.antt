@@ -8,14 +8,15 @@ use Rattle.ira_event.specs.declared.event.Event.TheVariants.{Sent, Got, Draw}
 use Rattle.ira_order.specs.Ring.{log_of, next, numbered}
 use Rattle.ira_order.specs.Matching.{sent, got, sending, receipt, Matches}
 use Rattle.ira_order.specs.Order.{occurrences}
-use Rattle.ira_order.proofs.Ranks.{lt_cases, eq_cases, occurrences_same, occurrences_other}
+use Rattle.ira_order.proofs.Ranks.{occurrences_same, occurrences_other}
+use Rattle.std.proofs.lemmas.Bool.{cases_lt, cases_eq}
 use Rattle.ira_order.proofs.OrderPrefixes.{rank_more}
 use Rattle.ira_order.proofs.Pairing.{numbered-within}
 
 -- a number that begins at most at a and ends above it passes it in one step
 pub crossing : (f : ℕ → ℕ) (n a : ℕ) → f 0 ≤ a → a < f n → (t : ℕ) × (t < n) × (f t ≤ a) × (a < f (t + 1))
 crossing f zero a low high = absurd (omega arith)
-crossing f (suc n) a low high = elim (lt_cases a (f n)) [
+crossing f (suc n) a low high = elim (cases_lt a (f n)) [
   | inl before ↦ (let r = crossing f n a low before in (r.0, (omega arith), r.2, r.3))
   | inr here ↦ (n, (omega arith), here, rw (add-one n) high)
 ]
@@ -46,7 +47,7 @@ pub stands : (order : List ℕ) (n i a : ℕ) → n ≤ length order → a < occ
 stands order n i a within high =
     let c = crossing (λ t. occurrences (take t order) i) n a (omega arith) high in
     let here : c.0 < length order = omega (arith, c.1) in
-    elim (eq_cases (get_or order c.0 0) i) [
+    elim (cases_eq (get_or order c.0 0) i) [
       | inl same ↦ (let more = occurrences_same order c.0 i here same in (c.0, c.1, same, omega (arith, more, c.2, c.3), omega (arith, more, c.2, c.3)))
       | inr other ↦ absurd (omega (arith, occurrences_other order c.0 i here other, c.2, c.3))
     ]
@@ -68,7 +69,7 @@ numbered_some (x ∷ xs) (suc k) h = numbered_some xs k (omega arith)
 
 -- where logs match, there are no more receipts than sendings
 pub fewer_receipts : (logs : List Log) (i : ℕ) → Matches logs → i < length logs → length (got (log_of logs (next (length logs) i))) ≤ length (sent (log_of logs i))
-fewer_receipts logs i matches l = elim (lt_cases (length (sent (log_of logs i))) (length (got (log_of logs (next (length logs) i))))) [
+fewer_receipts logs i matches l = elim (cases_lt (length (sent (log_of logs i))) (length (got (log_of logs (next (length logs) i))))) [
   | inr fine ↦ fine
   | inl more ↦
       let m = numbered_some (got (log_of logs (next (length logs) i))) (length (sent (log_of logs i))) more in

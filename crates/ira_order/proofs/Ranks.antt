@@ -1,21 +1,15 @@
 -- How many receipts or sendings a beginning of a log has, and how often a beginning of an order names a place.
-use Rattle.std.proofs.Common.{◌≡◌, ◌≢◌, ℕ, zero, suc, ◌+◌, ◌<◌, ◌≤◌, ◌⊎◌, inl, inr, List, [], ◌∷◌, ◌++◌, length, sym, ◌∙◌, ap, arith, drop, Option, Some, None, get_or, take, ◌==◌}
+use Rattle.std.proofs.Common.{◌≡◌, ◌≢◌, ℕ, zero, suc, ◌+◌, ◌<◌, ◌≤◌, List, [], ◌∷◌, ◌++◌, length, sym, ◌∙◌, ap, arith, drop, Option, Some, None, get_or, take, ◌==◌}
 use Rattle.ira_order.specs.Ring.{next}
 use Rattle.ira_order.specs.Order.{occurrences}
 use Rattle.ira_event.specs.declared.event.Event.{Event}
 use Rattle.ira_event.specs.declared.msg.Msg.{Msg}
 use Rattle.std.specs.List.{filter_map, cons_option}
 use Rattle.std.proofs.lemmas.Bool.{ne_eqb}
-use Rattle.std.proofs.lemmas.Bool.Decides.{eqb_tells, nat_tests}
+use Rattle.std.proofs.lemmas.Bool.Decides.{nat_tests}
 use Rattle.std.proofs.lemmas.List.{take-take, take_more, drop_more, take-append-drop}
 use Rattle.std.proofs.lemmas.List.Elements.{filter_map-append}
 use Rattle.std.proofs.lemmas.List.Sums.{sum_by-take-le, count_by_more_yes, count_by_more_no}
-
-pub lt_cases : (a b : ℕ) → (a < b) ⊎ (b ≤ a)
-lt_cases a b = grind arith
-
-pub eq_cases : (a b : ℕ) → (a ≡ b) ⊎ (a ≢ b)
-eq_cases a b = elim (eqb_tells a b) [ inl p ↦ inl p.1 | inr p ↦ inr p.1 ]
 
 -- what one more event adds
 pub filter_map_more : (h : Event → Option Msg) (es : List Event) (i : ℕ) (d : Event) → i < length es → filter_map h (take (i + 1) es) ≡ filter_map h (take i es) ++ cons_option (h (get_or es i d)) []

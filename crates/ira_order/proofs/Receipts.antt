@@ -9,14 +9,14 @@ use Rattle.ira_order.specs.Ring.{log_of, events_of}
 use Rattle.ira_order.specs.Matching.{got, receipt}
 use Rattle.ira_order.specs.VectorClock.{receipt_count}
 use Rattle.ira_order.specs.Stamps.{receipts_by, first_receipt, AreReceipts, AreReceiptsOf, AreBegins}
-use Rattle.ira_order.proofs.Ranks.{lt_cases, eq_cases, rank_mono}
+use Rattle.ira_order.proofs.Ranks.{rank_mono}
 use Rattle.ira_order.proofs.OrderPrefixes.{rank_le, rank_more}
 use Rattle.std.specs.Prelude.{slice_get}
 use Rattle.ira_event.specs.declared.msg.Msg.{Msg}
 use Rattle.ira_event.specs.declared.event.Event.TheVariants.{Sent}
 use Rattle.std.proofs.lemmas.Option.{slice_get-get_or, get_or_from_slice_get, slice_get_within}
 use Rattle.std.proofs.lemmas.List.{take_all, take-take, get_or_append_left, get_or-append_right, get_or-append-add, get_or_read, get_or_default, get_or-take, get_or-drop, length-drop, length-take-le}
-use Rattle.std.proofs.lemmas.Bool.{leb-true, le-leb}
+use Rattle.std.proofs.lemmas.Bool.{leb-true, le-leb, cases_lt, cases_eq}
 use Rattle.std.specs.List.Sorted.{IsPartitionPoint, IsPartitionedBy}
 use Rattle.std.proofs.lemmas.List.Elements.{All-from_get_or}
 use Rattle.std.proofs.lemmas.List.Sums.{sum_by_more, sum_by-take-le, sum_by-le}
@@ -38,7 +38,7 @@ receipts_le es =
     rw whole at (rank_le receipt es (length es))
 
 pub receipts_by_le : (logs : List Log) (j b : ℕ) → receipts_by logs j b ≤ length (got (log_of logs j))
-receipts_by_le logs j b = elim (lt_cases b (length (log_of logs j))) [
+receipts_by_le logs j b = elim (cases_lt b (length (log_of logs j))) [
   | inl below ↦
       let whole : take (length (log_of logs j)) (log_of logs j) ≡ log_of logs j = take_all (length (log_of logs j)) (log_of logs j) (omega arith) in
       rw whole at (rank_mono receipt (log_of logs j) b (length (log_of logs j)) (omega arith))
@@ -65,7 +65,7 @@ receipt_below logs j r l h = omega (arith, first_more logs j l, first_mono logs 
 
 -- receipts of two nodes have two places
 pub apart : (logs : List Log) (i j r s : ℕ) → i < length logs → j < length logs → i ≢ j → r < length (got (log_of logs i)) → s < length (got (log_of logs j)) → first_receipt logs i + r ≢ first_receipt logs j + s
-apart logs i j r s li lj ne hr hs e = elim (lt_cases i j) [
+apart logs i j r s li lj ne hr hs e = elim (cases_lt i j) [
   | inl below ↦ absurd (omega (arith, e, first_more logs i li, first_mono logs (i + 1) j (omega arith)))
   | inr above ↦ absurd (omega (arith, e, first_more logs j lj, first_mono logs (j + 1) i (omega arith)))
 ]
@@ -114,14 +114,14 @@ number_more es n m old new is h = record {
   more = h.more ++ (n + 1) ∷ [];
   items = ap (λ xs. xs ++ (n + 1) ∷ []) h.items ∙ append_assoc old h.more ((n + 1) ∷ []);
   count = omega (arith, length-append h.more ((n + 1) ∷ []), h.count, one_more);
-  upto = λ r x l. elim (lt_cases r (length h.more)) [
+  upto = λ r x l. elim (cases_lt r (length h.more)) [
     | inl below ↦ rw (get_or_append_left h.more ((n + 1) ∷ []) 0 r below) (h.upto r x below)
     | inr top ↦
         let here : r ≡ length h.more = omega (arith, length-append h.more ((n + 1) ∷ []), l) in
         let at : slice_index (h.more ++ (n + 1) ∷ []) r ≡ n + 1 = ap (slice_index (h.more ++ (n + 1) ∷ [])) here ∙ get_or-append_right h.more ((n + 1) ∷ []) (length h.more) (length h.more) 0 refl (omega arith) ∙ nothing_over in
         rw at (
           λ le. omega (arith, here, h.count, one_more, rank_mono receipt es (n + 1) x le),
-          λ more. elim (lt_cases n x) [
+          λ more. elim (cases_lt n x) [
             | inl fine ↦ omega arith
             | inr early ↦ absurd (omega (arith, here, h.count, rank_mono receipt es x n early))
           ],
@@ -142,7 +142,7 @@ numbers_end es n old new past h = (h.more, h.items, record { count = h.count ∙
 pub numbers_of_one_more : (logs : List Log) (j : ℕ) (old new more : List ℕ) → j < length logs → AreReceiptsOf logs j old → new ≡ old ++ more → AreReceipts (log_of logs j) more → AreReceiptsOf logs (j + 1) new
 numbers_of_one_more logs j old new more l are is its = record {
   count = omega (arith, ap length is, length-append old more, are.count, its.count, first_more logs j l);
-  upto = λ i r x li hr. elim (lt_cases i j) [
+  upto = λ i r x li hr. elim (cases_lt i j) [
     | inl below ↦
         let within : first_receipt logs i + r < length old = omega (arith, are.count, first_more logs i (omega arith), first_mono logs (i + 1) j (omega arith)) in
         rw (is, get_or_append_left old more 0 (first_receipt logs i + r) within) (are.upto i r x below hr)
@@ -158,7 +158,7 @@ numbers_of_one_more logs j old new more l are is its = record {
 pub begins_push : (logs : List Log) (n t : ℕ) (begins : List ℕ) → AreBegins logs n begins → t ≡ first_receipt logs n → AreBegins logs (n + 1) (begins ++ t ∷ [])
 begins_push logs n t begins are is = record {
   count = omega (arith, length-append begins (t ∷ []), are.count);
-  each = λ j l. elim (lt_cases j n) [
+  each = λ j l. elim (cases_lt j n) [
     | inl below ↦ get_or_append_left begins (t ∷ []) 0 j (omega (arith, are.count)) ∙ are.each j below
     | inr top ↦
         let here : j ≡ length begins + 0 = omega (arith, are.count) in
@@ -227,13 +227,13 @@ module _ (logs : List Log) (j b v w : ℕ) (numbers : List ℕ)
       rw (part_at i d li) (le-leb _ _ ((are.upto j i b lj li).1 (omega (arith, up, l))))
 
   pub part_point : (r : ℕ) → r ≤ length (take (w - v) (drop v numbers)) → IsPartitionPoint (λ y. leb y b ≡ true) (λ y. leb y b ≡ false) (take (w - v) (drop v numbers)) r → r ≡ receipts_by logs j b
-  part_point r bound point = elim (lt_cases r (receipts_by logs j b)) [
+  part_point r bound point = elim (cases_lt r (receipts_by logs j b)) [
     | inl less ↦
         let lr : r < length (got (log_of logs j)) = omega (arith, less, receipts_by_le logs j b) in
         let above : leb (slice_index numbers (first_receipt logs j + r)) b ≡ false = rw (part_at r 0 lr) at (point.1 r 0 (omega arith) (omega (arith, lr, part_length))) in
         let below : leb (slice_index numbers (first_receipt logs j + r)) b ≡ true = le-leb _ _ ((are.upto j r b lj lr).1 less) in
         absurd (let z : ⊥ = cc in z)
-    | inr more ↦ elim (eq_cases r (receipts_by logs j b)) [
+    | inr more ↦ elim (cases_eq r (receipts_by logs j b)) [
       | inl e ↦ e
       | inr ne ↦
           let less : receipts_by logs j b < r = omega arith in

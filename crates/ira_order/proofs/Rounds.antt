@@ -11,7 +11,7 @@ use Rattle.ira_order.specs.Order.{occurrences, IsOrder}
 use Rattle.ira_order.specs.Counts.{IsSchedule, IsWhole, IsWholeSchedule}
 use Rattle.ira_order.specs.OrderPrefix.{IsOrderPrefix, HasGrown, IsStuckAt}
 use Rattle.ira_order.proofs.Bridge.{kept_order, order_schedule}
-use Rattle.ira_order.proofs.Ranks.{lt_cases}
+use Rattle.std.proofs.lemmas.Bool.{cases_lt}
 use Rattle.ira_order.proofs.Stuck.{all_below}
 use Rattle.std.proofs.lemmas.List.Sums.{sum_by-cons}
 use Rattle.std.proofs.lemmas.List.{nil_from_length}
@@ -36,7 +36,7 @@ stuck_more logs first old new i f g before here e j l =
     let a = has_grown_length first old f in
     let b = has_grown_length old new g in
     let same : new ≡ old = has_grown_same old new g (omega arith) in
-    elim (lt_cases j i) [
+    elim (cases_lt j i) [
       | inl lower ↦ (let P : List ℕ → Type 0 = λ x. IsStuckAt logs (occurrences x) j in subst P (sym same) (before (omega arith) j lower))
       | inr top ↦ (let at : i ≡ j = omega arith in let P : ℕ → Type 0 = λ x. IsStuckAt logs (occurrences new) x in subst P at here)
     ]

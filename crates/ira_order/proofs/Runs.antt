@@ -11,7 +11,8 @@ use Rattle.ira_order.specs.Matching.{sent, got, sending, receipt, Matches}
 use Rattle.ira_order.specs.Order.{occurrences}
 use Rattle.ira_order.specs.Counts.{Covers, IsWholeSchedule}
 use Rattle.ira_order.specs.Run.{Configuration, LinkStep, RingStep, Chains}
-use Rattle.ira_order.proofs.Ranks.{filter_map_more, filter_map_split, lt_cases, eq_cases, occurrences_same, occurrences_other, next_other}
+use Rattle.ira_order.proofs.Ranks.{filter_map_more, filter_map_split, occurrences_same, occurrences_other, next_other}
+use Rattle.std.proofs.lemmas.Bool.{cases_lt, cases_eq}
 use Rattle.ira_order.proofs.OrderPrefixes.{rank_more}
 use Rattle.ira_order.proofs.Pairing.{numbered-append, numbered-after}
 use Rattle.ira_node.specs.declared.node_state.NodeState.{NodeState}
@@ -58,14 +59,14 @@ module _ (logs : List Log) (at at' : ℕ → ℕ) (i : ℕ) (e : Event)
   -- what a link's sender has sent stays the same
   sent_same : (k : ℕ) → (k ≢ i) ⊎ (sending e ≡ None) → sent (take (at' k) (log_of logs k)) ≡ sent (take (at k) (log_of logs k))
   sent_same k (inl ne) = ap (λ (x : ℕ). sent (take x (log_of logs k))) (same k ne)
-  sent_same k (inr quiet) = elim (eq_cases k i) [
+  sent_same k (inr quiet) = elim (cases_eq k i) [
     | inl e' ↦ rw e' (sent_here ∙ ap (λ (x : Option Msg). sent (take (at i) (log_of logs i)) ++ cons_option x []) quiet ∙ append-nil _)
     | inr ne ↦ ap (λ (x : ℕ). sent (take x (log_of logs k))) (same k ne)
   ]
 
   got_same : (j : ℕ) → (j ≢ i) ⊎ (receipt e ≡ None) → length (got (take (at' j) (log_of logs j))) ≡ length (got (take (at j) (log_of logs j)))
   got_same j (inl ne) = ap (λ (x : ℕ). length (got (take x (log_of logs j)))) (same j ne)
-  got_same j (inr quiet) = elim (eq_cases j i) [
+  got_same j (inr quiet) = elim (cases_eq j i) [
     | inl e' ↦ rw e' (got_here ∙ ap (λ (x : Option Msg). length (got (take (at i) (log_of logs i))) + length (cons_option x [])) quiet ∙ add-zero _)
     | inr ne ↦ ap (λ (x : ℕ). length (got (take x (log_of logs j)))) (same j ne)
   ]
@@ -146,7 +147,7 @@ module _ (logs : List Log) (order : List ℕ) (run : List (ℕ × Event)) (state
 
   chains : (r : List (ℕ × Event)) (t : ℕ) → r ≡ drop t run → Chains (length logs) (config (occurrences (take t order))) r
   chains [] t is = tt
-  chains (x ∷ r) t is = elim (lt_cases t (length run)) [
+  chains (x ∷ r) t is = elim (cases_lt t (length run)) [
     | inr past ↦ (let none : drop t run ≡ [] = drop_all t run past in absurd (cons_nil x r (is ∙ none)))
     | inl here ↦
         let more : drop t run ≡ get_or run t x ∷ drop (t + 1) run = drop_more run t x here in

@@ -23,12 +23,11 @@ use Rattle.ira_order.specs.Matching.{Matches}
 use Rattle.ira_order.specs.Order.{occurrences, IsOrder}
 use Rattle.ira_order.specs.Counts.{IsWhole, IsWholeSchedule}
 use Rattle.ira_order.specs.Run.{Configuration, Chains, opening, is_initiator, event_of, IsRingRun, IsRunOfLogs, AreLocalRuns, places_of}
-use Rattle.ira_order.proofs.Ranks.{eq_cases}
 use Rattle.ira_order.proofs.Cuts.{cons_same, cons_other}
 use Rattle.ira_order.proofs.Bridge.{kept_order, order_schedule}
 use Rattle.ira_order.proofs.Runs.{Means, order_runs}
 use Rattle.ira_order.proofs.Converse.{run_kept, run_matches}
-use Rattle.std.proofs.lemmas.Bool.{ne_eqb, eq-eqb}
+use Rattle.std.proofs.lemmas.Bool.{ne_eqb, eq-eqb, cases_eq}
 use Rattle.std.proofs.lemmas.List.{take_all, drop_more, length-map}
 use Rattle.std.specs.Option.{option_map}
 use Rattle.std.proofs.lemmas.List.Elements.{All-nil, All-cons}
@@ -51,7 +50,7 @@ other_cons x run i e = ap (λ (o : Option Event). cons_option o (filter_map (eve
 -- a place stands as often as it has events
 counted : (run : List (ℕ × Event)) (i : ℕ) → occurrences (places_of run) i ≡ length (filter_map (event_of i) run)
 counted [] i = refl
-counted (x ∷ run) i = elim (eq_cases x.0 i) [
+counted (x ∷ run) i = elim (cases_eq x.0 i) [
   | inl e ↦ omega (arith, cons_same x.0 i (places_of run) e, counted run i, ap length (own_cons x run i e))
   | inr ne ↦ omega (arith, cons_other x.0 i (places_of run) ne, counted run i, ap length (other_cons x run i ne))
 ]
@@ -64,7 +63,7 @@ entry (x ∷ run) zero i e h =
     let own : x.0 ≡ i = ap (λ (y : ℕ × Event). y.0) is in
     let event : x.1 ≡ e = ap (λ (y : ℕ × Event). y.1) is in
     rw (own_cons x run i own) (ap Some event)
-entry (x ∷ run) (suc t) i e h = elim (eq_cases x.0 i) [
+entry (x ∷ run) (suc t) i e h = elim (cases_eq x.0 i) [
   | inl own ↦
       let more : occurrences (x.0 ∷ take t (places_of run)) i ≡ suc (occurrences (take t (places_of run)) i) = omega (arith, cons_same x.0 i (take t (places_of run)) own) in
       rw (more, own_cons x run i own) (entry run t i e h)
@@ -94,7 +93,7 @@ meant_places logs at (i ∷ order) = ap (λ (x : List ℕ). i ∷ x) (meant_plac
 -- the events of node j are those of its log from the one behind (at j) on
 meant_events : (logs : List Log) (at : ℕ → ℕ) (order : List ℕ) (j : ℕ) → at j + occurrences order j ≤ length (log_of logs j) → filter_map (event_of j) (meant logs at order) ≡ take (occurrences order j) (drop (at j) (log_of logs j))
 meant_events logs at [] j fits = refl
-meant_events logs at (i ∷ order) j fits = elim (eq_cases i j) [
+meant_events logs at (i ∷ order) j fits = elim (cases_eq i j) [
   | inl e ↦
       let more = cons_same i j order e in
       let next : more_of at i j ≡ at j + 1 = more_yes at i j e in
@@ -204,7 +203,7 @@ chain_leads n c [] i l chain = (c.state i, refl)
 chain_leads n c (x ∷ run) i l chain =
     let d : Configuration = chain.0 in
     let r = chain_leads n chain.0 run i l chain.2 in
-    elim (eq_cases x.0 i) [
+    elim (cases_eq x.0 i) [
       | inl e ↦
           let P : ℕ → Type 0 = λ j. NodeStep n (c.state j) x.1 (chain.0.state j) in
           let step : NodeStep n (c.state i) x.1 (chain.0.state i) = subst P e chain.1.node in

@@ -1,5 +1,6 @@
 -- How a table of stamps is filled.
-use Rattle.std.proofs.Common.{◌≡◌, ◌≢◌, ℕ, zero, suc, ◌+◌, ◌-◌, ◌*◌, ◌<◌, ◌≤◌, ◌⊎◌, inl, inr, List, [], length, refl, sym, ◌∙◌, ap, arith, take, get_or, set, drop, replicate, Some, add-one, length-set, length-drop, get_or-set_same, get_or-set_other}
+use Rattle.std.proofs.Common.{◌≡◌, ◌≢◌, ℕ, zero, suc, ◌+◌, ◌-◌, ◌*◌, ◌<◌, ◌≤◌, ◌⊎◌, inl, inr, List, [], ◌++◌, length, refl, sym, ◌∙◌, ap, arith, take, get_or, set, drop, replicate, Some, add-one, length-set, length-append, length-drop, get_or-set_same, get_or-set_other}
+use Rattle.std.specs.List.{CopiedTo, SameBelow, SameFrom}
 use Rattle.std.specs.Prelude.{slice_get, slice_index}
 use Rattle.std.specs.List.{cons_option}
 use Rattle.ira_event.specs.declared.event.Event.{Event}
@@ -13,12 +14,13 @@ use Rattle.ira_order.specs.Order.{IsOrder, IsPair}
 use Rattle.ira_order.specs.Counts.{Covers}
 use Rattle.ira_order.specs.VectorClock.{IsCount, AreCountsOfOthers, receipt_count}
 use Rattle.ira_order.specs.Stamps.{receipts_by, first_receipt, counter, CountsAt, CountsSent, AreStamps, IsStamping}
-use Rattle.ira_order.proofs.Ranks.{lt_cases, eq_cases, rank_mono, next_below, next_other}
+use Rattle.ira_order.proofs.Ranks.{rank_mono, next_below}
+use Rattle.std.proofs.lemmas.Bool.{cases_lt, cases_eq}
 use Rattle.ira_order.proofs.OrderPrefixes.{rank_more}
 use Rattle.ira_order.proofs.Runs.{prev_next}
 use Rattle.ira_order.proofs.Counting.{count_own, count_stays, count_taken, counts_all}
 use Rattle.ira_order.proofs.Receipts.{receipts_by_le, receipt_below, few_receipts, apart}
-use Rattle.std.proofs.lemmas.List.{get_or-take, get_or-drop, get_or-replicate, length-replicate, length-take-le}
+use Rattle.std.proofs.lemmas.List.{get_or-take, get_or-drop, get_or-replicate, get_or-append_right, get_or_append_left, length-replicate, length-take-le}
 use Rattle.std.proofs.lemmas.Option.{get_or_from_slice_get, slice_get_within}
 use Rattle.std.proofs.lemmas.Nat.{mul-add-lt, mul-le, same_from_place}
 use Rattle.ira_event.specs.Limits.{MAX_NODES, MAX_RECORDS}
@@ -40,74 +42,133 @@ small_place logs row i are l li =
 pub row_of : (logs : List Log) (j g v : ℕ) → j < length logs → 1 ≤ g → g ≤ length (got (log_of logs j)) → v ≡ first_receipt logs j → (v + g - 1 < receipt_count logs) × (v + g - 1 ≡ first_receipt logs j + (g - 1))
 row_of logs j g v lj one within is = (omega (arith, is, receipt_below logs j (g - 1) lj (omega arith)), omega (arith, is))
 
--- the first i counters of a row are those of node k after its receipt h, with its own count a
-pub record IsFilling (logs : List Log) (old new : List ℕ) (k h a row i : ℕ) : Type 0 where
+-- the row of a receipt ends within the table
+pub row_fits : (logs : List Log) (j r m : ℕ) → j < length logs → r < length (got (log_of logs j)) → m ≡ length logs * receipt_count logs → (first_receipt logs j + r) * length logs + length logs ≤ m
+row_fits logs j r m lj lr e =
+    omega (arith, e, mul-le (first_receipt logs j + r + 1) (length logs) (receipt_count logs) (length logs) (omega (arith, receipt_below logs j r lj lr)) (omega arith))
+
+-- the counters of a row are those of node k after its receipt h, and the other rows stay
+pub record IsCopied (logs : List Log) (old new : List ℕ) (k h row : ℕ) : Type 0 where
   pub count : length new ≡ length old
-  pub own : k < i → get_or new (row * length logs + k) 0 ≡ a
-  pub sender : (x : ℕ) → x < i → x ≢ k → get_or new (row * length logs + x) 0 ≡ counter logs old k h x
+  pub here : (x : ℕ) → x < length logs → get_or new (row * length logs + x) 0 ≡ counter logs old k h x
   pub rest : (r x : ℕ) → x < length logs → r ≢ row → get_or new (r * length logs + x) 0 ≡ get_or old (r * length logs + x) 0
 
-pub not_filled : (logs : List Log) (old : List ℕ) (k h a row : ℕ) → IsFilling logs old old k h a row 0
-not_filled logs old k h a row = record { count = refl; own = λ l. absurd (omega arith); sender = λ x l. absurd (omega arith); rest = λ r x l ne. refl }
+-- where only one row changes, the others stay
+other_row : (old new : List ℕ) (n row r x : ℕ) → SameBelow old new (row * n) → SameFrom old new (row * n + n) → x < n → r ≢ row → get_or new (r * n + x) 0 ≡ get_or old (r * n + x) 0
+other_row old new n row r x below behind l ne = elim (cases_lt r row) [
+  | inl before ↦ below (r * n + x) 0 (omega (arith, mul-add-lt r n x row before l))
+  | inr after ↦ behind (r * n + x) 0 (omega (arith, mul-le (row + 1) n r n (omega arith) (omega arith)))
+]
 
-module _ (logs : List Log) (old new : List ℕ) (k h a s i : ℕ)
-    (two : 2 ≤ length logs)
+-- the row of the sender's last receipt is copied
+pub row_copied : (logs : List Log) (old new : List ℕ) (k h row from start n : ℕ) → n ≡ length logs → 1 ≤ h → from ≡ (first_receipt logs k + (h - 1)) * length logs → start ≡ row * length logs → length new ≡ length old
+    → CopiedTo old new from start n → SameBelow old new start → SameFrom old new (start + n) → IsCopied logs old new k h row
+row_copied logs old new k h row from start n n_is some from_is start_is long copied below behind =
+    let below' : SameBelow old new (row * length logs) = rw start_is at below in
+    let behind' : SameFrom old new (row * length logs + length logs) = rw (start_is, n_is) at behind in
+    record {
+      count = long;
+      here = λ x l.
+          copied (row * length logs + x) 0 (omega (arith, start_is)) (omega (arith, start_is, n_is))
+          ∙ ap (λ (y : ℕ). get_or old y 0) (let e : from + (row * length logs + x - start) ≡ (first_receipt logs k + (h - 1)) * length logs + x = omega (arith, from_is, start_is) in e)
+          ∙ sym (counter_at logs old k h x some);
+      rest = λ r x l ne. other_row old new (length logs) row r x below' behind' l ne;
+    }
+
+-- the row is zeroed where the sender has received nothing
+pub row_zeroed : (logs : List Log) (old was new zeros : List ℕ) (k row start n m : ℕ) → was ≡ old → n ≡ length logs → m ≡ n → start ≡ row * length logs → start + n ≤ length old
+    → zeros ≡ replicate (length (take m (drop start was))) 0 → new ≡ take start was ++ (zeros ++ drop m (drop start was)) → IsCopied logs old new k 0 row
+row_zeroed logs old was new zeros k row start n m was_is n_is m_is start_is fits zeros_are new_is = record {
+  count = same_length;
+  here = λ x l. rw (← start_is) (in_zeros x (omega (arith, l, n_is)));
+  rest = λ r x l ne. other_row old new (length logs) row r x (rw start_is at below) (rw (start_is, n_is) at behind) l ne;
+}
+  where
+    fits_was : start + n ≤ length was
+    fits_was = omega (arith, fits, ap (λ (xs : List ℕ). length xs) was_is)
+
+    before : length (take start was) ≡ start
+    before = length-take-le start was (omega (arith, fits_was))
+
+    middle : length zeros ≡ n
+    middle = ap (λ (xs : List ℕ). length xs) zeros_are ∙ length-replicate {A = ℕ} (length (take m (drop start was))) 0 ∙ length-take-le m (drop start was) (omega (arith, m_is, fits_was, length-drop start was)) ∙ m_is
+
+    after : length (drop m (drop start was)) ≡ length was - start - m
+    after = length-drop m (drop start was) ∙ ap (λ (x : ℕ). x - m) (length-drop start was)
+
+    same_length : length new ≡ length old
+    same_length = ap (λ (xs : List ℕ). length xs) new_is ∙ omega (arith, length-append (take start was) (zeros ++ drop m (drop start was)), length-append zeros (drop m (drop start was)), before, middle, after, m_is, fits_was, ap (λ (xs : List ℕ). length xs) was_is)
+
+    in_zeros : (x : ℕ) → x < n → get_or new (start + x) 0 ≡ 0
+    in_zeros x l =
+        ap (λ (xs : List ℕ). get_or xs (start + x) 0) new_is
+        ∙ get_or-append_right (take start was) (zeros ++ drop m (drop start was)) start (start + x) 0 before (omega arith)
+        ∙ get_or_append_left zeros (drop m (drop start was)) 0 (start + x - start) (omega (arith, l, middle))
+        ∙ ap (λ (xs : List ℕ). get_or xs (start + x - start) 0) zeros_are
+        ∙ get_or-replicate (length (take m (drop start was))) (start + x - start) 0 0 (omega (arith, l, middle, ap (λ (xs : List ℕ). length xs) zeros_are, length-replicate {A = ℕ} (length (take m (drop start was))) 0))
+
+    below : SameBelow old new start
+    below y d l =
+        ap (λ (xs : List ℕ). get_or xs y d) new_is
+        ∙ get_or_append_left (take start was) (zeros ++ drop m (drop start was)) d y (omega (arith, l, before))
+        ∙ get_or-take start was y d l
+        ∙ ap (λ (xs : List ℕ). get_or xs y d) was_is
+
+    behind : SameFrom old new (start + n)
+    behind y d l =
+        ap (λ (xs : List ℕ). get_or xs y d) new_is
+        ∙ get_or-append_right (take start was) (zeros ++ drop m (drop start was)) start y d before (omega (arith, l))
+        ∙ get_or-append_right zeros (drop m (drop start was)) n (y - start) d middle (omega (arith, l))
+        ∙ get_or-drop m (drop start was) (y - start - n) d
+        ∙ get_or-drop start was (m + (y - start - n)) d
+        ∙ ap (λ (x : ℕ). get_or was x d) (omega (arith, l, m_is))
+        ∙ ap (λ (xs : List ℕ). get_or xs y d) was_is
+
+module _ (logs : List Log) (old mid : List ℕ) (k h a s : ℕ)
     (lk : k < length logs)
     (room : length old ≡ length logs * receipt_count logs)
     (kept : s < length (got (log_of logs (next (length logs) k))))
-    (received : h ≤ length (got (log_of logs k)))
-    (filling : IsFilling logs old new k h a (first_receipt logs (next (length logs) k) + s) i) where
-  -- the counters that are read stay
-  pub reads_old : (x : ℕ) → x < length logs → counter logs new k h x ≡ counter logs old k h x
-  reads_old x lx = by_receipt h received
-    where
-      by_receipt : (h : ℕ) → h ≤ length (got (log_of logs k)) → counter logs new k h x ≡ counter logs old k h x
-      by_receipt zero l = refl
-      by_receipt (suc r) l = filling.rest (first_receipt logs k + r) x lx (apart logs k (next (length logs) k) r s lk (next_below (length logs) k lk) (λ q. next_other (length logs) k two lk (sym q)) (omega arith) kept)
+    (copied : IsCopied logs old mid k h (first_receipt logs (next (length logs) k) + s)) where
+  place : ℕ
+  place = (first_receipt logs (next (length logs) k) + s) * length logs + k
 
-  -- one counter more
-  pub one_filled : (v : ℕ) → i < length logs → (i ≡ k → v ≡ a) → (i ≢ k → v ≡ counter logs new k h i) → IsFilling logs old (set new ((first_receipt logs (next (length logs) k) + s) * length logs + i) v) k h a (first_receipt logs (next (length logs) k) + s) (i + 1)
-  one_filled v li v_own v_sender =
-      let row : ℕ = first_receipt logs (next (length logs) k) + s in
-      let n : ℕ = length logs in
-      let place : ℕ = (first_receipt logs (next (length logs) k) + s) * length logs + i in
-      let fits : place < length new = in_table logs row i (length new) (receipt_below logs (next (length logs) k) s (next_below (length logs) k lk) kept) li (filling.count ∙ room) in
-      let here : get_or (set new place v) place 0 ≡ v = get_or-set_same new place v 0 fits in
-      let there : (r x : ℕ) → x < length logs → (r ≡ row → x ≡ i → ⊥) → get_or (set new place v) (r * length logs + x) 0 ≡ get_or new (r * length logs + x) 0 =
-      λ r x lx ne. get_or-set_other new place (r * length logs + x) v 0 (λ q. (let p = same_from_place r x row i (length logs) lx li q in ne p.0 p.1)) in
-      record {
-        count = length-set new place v ∙ filling.count;
-        own = λ l. elim (eq_cases i k) [
-          | inl e ↦ ap (λ (x : ℕ). get_or (set new place v) (row * length logs + x) 0) (sym e) ∙ here ∙ v_own e
-          | inr ne ↦ there row k lk (λ p q. ne (sym q)) ∙ filling.own (omega arith)
-        ];
-        sender = λ x l ne. elim (eq_cases i x) [
-          | inl e ↦ (let ne' : i ≢ k = λ q. ne (sym e ∙ q) in rw (← e) (here ∙ v_sender ne' ∙ reads_old i li))
-          | inr other ↦ there row x (omega arith) (λ p q. other (sym q)) ∙ filling.sender x (omega arith) ne
-        ];
-        rest = λ r x lx ne. there r x lx (λ p q. ne p) ∙ filling.rest r x lx ne;
-      }
+  set_here : get_or (set mid place a) place 0 ≡ a
+  unfolding place
+  set_here =
+      get_or-set_same mid place a 0 (in_table logs (first_receipt logs (next (length logs) k) + s) k (length mid) (receipt_below logs (next (length logs) k) s (next_below (length logs) k lk) kept) lk (copied.count ∙ room))
 
-  -- a row that was filled
-  pub all_filled : length logs ≤ i → IsStamping logs old new (next (length logs) k) (s + 1) k h a
-  all_filled all =
+  set_there : (r x : ℕ) → x < length logs → (r ≡ first_receipt logs (next (length logs) k) + s → x ≡ k → ⊥) → get_or (set mid place a) (r * length logs + x) 0 ≡ get_or mid (r * length logs + x) 0
+  unfolding place
+  set_there r x lx ne =
+      get_or-set_other mid place (r * length logs + x) a 0 (λ q. (let p = same_from_place r x (first_receipt logs (next (length logs) k) + s) k (length logs) lx lk q in ne p.0 p.1))
+
+  -- two receipts have two rows
+  rows_differ : (l r : ℕ) → l < length logs → r < length (got (log_of logs l)) → (l ≢ next (length logs) k) ⊎ (suc r ≢ suc s) → first_receipt logs l + r ≢ first_receipt logs (next (length logs) k) + s
+  rows_differ l r ll lr ne = elim (cases_eq l (next (length logs) k)) [
+    | inr other ↦ apart logs l (next (length logs) k) r s ll (next_below (length logs) k lk) other lr kept
+    | inl same ↦ λ q. elim ne [
+      | inl other ↦ other same
+      | inr other ↦ (let q' : first_receipt logs (next (length logs) k) + r ≡ first_receipt logs (next (length logs) k) + s = ap (λ (y : ℕ). first_receipt logs y + r) (sym same) ∙ q in other (omega arith))
+    ]
+  ]
+
+  -- the copied row with the sender's own count
+  pub stamped : IsStamping logs old (set mid ((first_receipt logs (next (length logs) k) + s) * length logs + k) a) (next (length logs) k) (s + 1) k h a
+  unfolding place
+  stamped =
       let suc_s : s + 1 ≡ suc s = omega arith in
       rw suc_s record {
-        count = filling.count;
-        own = λ l. filling.own (omega arith);
-        sender = λ x l lx ne. filling.sender x (omega arith) ne;
-        others = λ l f x ll lf lx ne. by_receipt l f x ll lf lx ne;
+        count = length-set mid place a ∙ copied.count;
+        own = λ l. set_here;
+        sender = λ i l li ne. set_there (first_receipt logs (next (length logs) k) + s) i li (λ p q. ne q) ∙ copied.here i li;
+        others = λ l f i ll lf li ne. by_receipt l f i ll lf li ne;
       }
     where
-      by_receipt : (l f x : ℕ) → l < length logs → f ≤ length (got (log_of logs l)) → x < length logs → (l ≢ next (length logs) k) ⊎ (f ≢ suc s) → counter logs new l f x ≡ counter logs old l f x
+      by_receipt : (l f x : ℕ) → l < length logs → f ≤ length (got (log_of logs l)) → x < length logs → (l ≢ next (length logs) k) ⊎ (f ≢ suc s) → counter logs (set mid place a) l f x ≡ counter logs old l f x
       by_receipt l zero x ll lf lx ne = refl
-      by_receipt l (suc r) x ll lf lx ne = filling.rest (first_receipt logs l + r) x lx (elim (eq_cases l (next (length logs) k)) [
-        | inr other ↦ apart logs l (next (length logs) k) r s ll (next_below (length logs) k lk) other (omega arith) kept
-        | inl same ↦ λ q. elim ne [
-          | inl other ↦ other same
-          | inr other ↦ (let q' : first_receipt logs (next (length logs) k) + r ≡ first_receipt logs (next (length logs) k) + s = ap (λ (y : ℕ). first_receipt logs y + r) (sym same) ∙ q in other (omega arith))
-        ]
-      ])
+      by_receipt l (suc r) x ll lf lx ne =
+          let other = rows_differ l r ll (omega arith) ne in
+          set_there (first_receipt logs l + r) x lx (λ p q. other p) ∙ copied.rest (first_receipt logs l + r) x lx other
 
 -- where the next node hasn't recorded the message, nothing is stamped
 pub not_stamped : (logs : List Log) (old : List ℕ) (j s k h a : ℕ) → length (got (log_of logs j)) ≤ s → IsStamping logs old old j (s + 1) k h a
@@ -137,9 +198,9 @@ module _ (logs : List Log) (order : List ℕ) (o : IsOrder logs order) (matches 
     (covers : Covers logs at)
     (stamped : CountsSent logs old at) where
   up_to : (l a : ℕ) → a ≤ at' l → (a ≤ at l) ⊎ ((l ≡ k) × (a ≡ suc (at k)))
-  up_to l a h = elim (eq_cases l k) [
+  up_to l a h = elim (cases_eq l k) [
     | inr ne ↦ inl (omega (arith, same l ne))
-    | inl e ↦ elim (lt_cases (at l) a) [
+    | inl e ↦ elim (cases_lt (at l) a) [
       | inr fine ↦ inl fine
       | inl top ↦ (let h' : a ≤ at' k = rw (← e) h in let top' : at k < a = rw (← e) top in inr (e, omega (arith, one)))
     ]
@@ -180,7 +241,7 @@ module _ (logs : List Log) (order : List ℕ) (o : IsOrder logs order) (matches 
     new_pair b pair i li ne =
         let g : receipts_by logs (next (length logs) k) b ≡ suc s = sym pair.rank ∙ rank in
         let low : suc s ≤ length (got (log_of logs (next (length logs) k))) = omega (arith, g, receipts_by_le logs (next (length logs) k) b) in
-        rw g (elim (eq_cases i k) [
+        rw g (elim (cases_eq i k) [
           | inl e ↦
               let own : IsCount logs k (suc (at k)) k (suc (at k)) = count_own logs order o k (suc (at k)) lk (omega (arith, within)) in
               let v : counter logs new (next (length logs) k) (suc s) k ≡ suc (at k) = stamping.own low ∙ a_is in
@@ -192,7 +253,7 @@ module _ (logs : List Log) (order : List ℕ) (o : IsOrder logs order) (matches 
     old_pair : (l c b : ℕ) → c ≤ at l → IsPair logs l c b → CountsAt logs new (next (length logs) l) b
     old_pair l c b below pair i li ne =
         let lj : next (length logs) l < length logs = next_below (length logs) l pair.link in
-        let elsewhere : (next (length logs) l ≢ next (length logs) k) ⊎ (receipts_by logs (next (length logs) l) b ≢ suc s) = elim (eq_cases l k) [
+        let elsewhere : (next (length logs) l ≢ next (length logs) k) ⊎ (receipts_by logs (next (length logs) l) b ≢ suc s) = elim (cases_eq l k) [
           | inl e ↦ inr (λ q. (let below' : c ≤ at k = rw e at below in let r : length (sent (take c (log_of logs k))) ≡ suc s = rw e at (pair.rank ∙ q) in omega (arith, r, s_is, rank_mono sending (log_of logs k) c (at k) below')))
           | inr other ↦ inl (λ q. other (prev_next (length logs) (next (length logs) l) l lj pair.link refl ∙ sym (prev_next (length logs) (next (length logs) l) k lj lk (sym q))))
         ] in
@@ -217,22 +278,20 @@ module _ (logs : List Log) (begins numbers counters : List ℕ) (j b : ℕ) (are
   }
 
   -- the row of that receipt is within the table
-  pub row_within : (row n : ℕ) → 1 ≤ receipts_by logs j b → row ≡ first_receipt logs j + (receipts_by logs j b - 1) → n ≡ length logs → (row + 1) * n ≤ length counters
+  pub row_within : (row n : ℕ) → 1 ≤ receipts_by logs j b → row ≡ (first_receipt logs j + (receipts_by logs j b - 1)) * length logs → n ≡ length logs → row + n ≤ length counters
   row_within row n some at all =
-      let below : row < receipt_count logs = omega (arith, at, receipt_below logs j (receipts_by logs j b - 1) lj (omega (arith, receipts_by_le logs j b))) in
-      rw all (omega (arith, are.table.all_counters, mul-le (length logs) (row + 1) (length logs) (receipt_count logs) (omega arith) (omega arith)))
+      rw (at, all) (row_fits logs j (receipts_by logs j b - 1) (length counters) lj (omega (arith, receipts_by_le logs j b)) are.table.all_counters)
 
-  pub row_counts : (row n : ℕ) → 1 ≤ receipts_by logs j b → row ≡ first_receipt logs j + (receipts_by logs j b - 1) → n ≡ length logs → AreCountsOfOthers logs j b (take ((row + 1) * n - row * n) (drop (row * n) counters))
+  pub row_counts : (row n : ℕ) → 1 ≤ receipts_by logs j b → row ≡ (first_receipt logs j + (receipts_by logs j b - 1)) * length logs → n ≡ length logs → AreCountsOfOthers logs j b (take (row + n - row) (drop row counters))
   row_counts row n some at all =
-      let wide : (row + 1) * n - row * n ≡ n = omega arith in
+      let wide : row + n - row ≡ n = omega arith in
       rw wide record {
-        places = length-take-le n (drop (row * n) counters) (omega (arith, length-drop (row * n) counters, row_within row n some at all)) ∙ all;
+        places = length-take-le n (drop row counters) (omega (arith, length-drop row counters, row_within row n some at all)) ∙ all;
         others = λ i li ne.
-            let read : get_or (take n (drop (row * n) counters)) i 0 ≡ counter logs counters j (receipts_by logs j b) i =
-            get_or-take n (drop (row * n) counters) i 0 (omega arith)
-            ∙ get_or-drop (row * n) counters i 0
-            ∙ ap (λ (x : ℕ). get_or counters (x * n + i) 0) at
-            ∙ ap (λ (x : ℕ). get_or counters ((first_receipt logs j + (receipts_by logs j b - 1)) * x + i) 0) all
+            let read : get_or (take n (drop row counters)) i 0 ≡ counter logs counters j (receipts_by logs j b) i =
+            get_or-take n (drop row counters) i 0 (omega arith)
+            ∙ get_or-drop row counters i 0
+            ∙ ap (λ (x : ℕ). get_or counters (x + i) 0) at
             ∙ sym (counter_at logs counters j (receipts_by logs j b) i some) in
             rw read (are.counts j b lj l i li ne);
       }

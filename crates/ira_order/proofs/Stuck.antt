@@ -6,7 +6,8 @@ use Rattle.ira_order.specs.Ring.{log_of, next}
 use Rattle.ira_order.specs.Matching.{sent, got, sending}
 use Rattle.ira_order.specs.Order.{occurrences}
 use Rattle.ira_order.specs.Counts.{IsReady, IsKept}
-use Rattle.ira_order.proofs.Ranks.{lt_cases, eq_cases, rank_mono, occurrences_same, occurrences_other, occurrences-take-le, next_other}
+use Rattle.ira_order.proofs.Ranks.{rank_mono, occurrences_same, occurrences_other, occurrences-take-le, next_other}
+use Rattle.std.proofs.lemmas.Bool.{cases_lt, cases_eq}
 use Rattle.std.proofs.lemmas.List.{take_all}
 
 module _ (logs : List Log) (order : List ℕ) (at : ℕ → ℕ)
@@ -17,9 +18,9 @@ module _ (logs : List Log) (order : List ℕ) (at : ℕ → ℕ)
     (stuck : (i : ℕ) → i < length logs → IsReady logs at i → ⊥) where
   -- an order that has not yet passed the stuck cut doesn't pass it in one step
   step_below : (t : ℕ) → t < length order → ((j : ℕ) → j < length logs → occurrences (take t order) j ≤ at j) → (j : ℕ) → j < length logs → occurrences (take (t + 1) order) j ≤ at j
-  step_below t l before j lj = elim (eq_cases (get_or order t 0) j) [
+  step_below t l before j lj = elim (cases_eq (get_or order t 0) j) [
     | inr other ↦ omega (arith, occurrences_other order t j l other, before j lj)
-    | inl same ↦ elim (lt_cases (occurrences (take t order) j) (at j)) [
+    | inl same ↦ elim (cases_lt (occurrences (take t order) j) (at j)) [
       | inl room ↦ omega (arith, occurrences_same order t j l same)
       | inr full ↦
           let more : occurrences (take (t + 1) order) j ≡ at j + 1 = omega (arith, occurrences_same order t j l same, before j lj) in

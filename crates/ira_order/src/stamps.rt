@@ -1,11 +1,11 @@
-ghost use Rattle.std.specs.Prelude.{◌≡◌, ◌+◌, ◌*◌, ◌<◌, ◌≤◌, ◌++◌, ℕ, List, [], IfOk, OnOk, length};
+ghost use Rattle.std.specs.Prelude.{◌≡◌, ◌+◌, ◌-◌, ◌*◌, ◌<◌, ◌≤◌, ◌++◌, ℕ, List, [], IfOk, OnOk, length};
 ghost use Rattle.ira_event.specs.Limits.{MAX_RECORDS};
 ghost use Rattle.ira_order.specs.Ring.{log_of, next};
 ghost use Rattle.ira_order.specs.Matching.{got};
 ghost use Rattle.ira_order.specs.Ordered.{IsOrdered};
 ghost use Rattle.ira_order.specs.VectorClock.{AreCountsOfOthers, receipt_count};
 ghost use Rattle.ira_order.specs.OrderPrefix.{IsOrderPrefix};
-ghost use Rattle.ira_order.specs.Stamps.{receipts_by, AreReceipts, AreReceiptsOf, AreBegins, IsTable, AreStamps, IsStamping, counter as counter_of};
+ghost use Rattle.ira_order.specs.Stamps.{receipts_by, AreReceipts, AreReceiptsOf, AreBegins, IsTable, AreStamps, IsStamping, first_receipt};
 
 use crate::links::reader_of;
 use crate::tally::Tally;
@@ -161,34 +161,31 @@ impl<A: Allocator> Stamps<A> {
             (next (length logs.now) k) (sent + 1) k received a }
     {
         let nodes = logs.size().get();
-        let reader = usize::from(reader_of(nodes, k));
-        let row = self.begins[reader] + sent;
-        if row < self.begins[reader + 1] {
-            for i in 0..nodes {
-                let count = if i == k {
-                    a
-                } else {
-                    self.counter(logs, k, received, i)
-                };
-                self.counters[row * usize::from(nodes) + usize::from(i)] = count;
-            }
+        let reader = reader_of(nodes, k);
+        let node = usize::from(reader);
+        if self.begins[node] + sent >= self.begins[node + 1] {
+            return;
         }
+        let width = usize::from(nodes);
+        let row = self.row(logs, reader, sent + 1);
+        if received == 0 {
+            self.counters[row..row + width].fill(0);
+        } else {
+            let known = self.row(logs, k, received);
+            self.counters.copy_within(known..known + width, row);
+        }
+        self.counters[row + usize::from(k)] = a;
     }
 
-    /// The counter of node `i` in the stamp of receipt `receipt` of node `j`; 0 before its first one.
-    fn counter(&self, logs: &Logs<A>, j: u8, receipt: usize, i: u8) -> u32
-        requires table { IsTable logs.now self.now.begins.items self.now.numbers.items
-            self.now.counters.items }
-        requires places { (i < length logs.now) × (j < length logs.now) }
-        requires receipt { receipt ≤ length (got (log_of logs.now j)) }
-        ensures { result ≡ counter_of logs.now self.now.counters.items j receipt i }
+    /// Where the counters of receipt `receipt` of node `j` begin; receipts count from 1.
+    fn row(&self, logs: &Logs<A>, j: u8, receipt: usize) -> usize
+        requires begins { AreBegins logs.now (length logs.now + 1) self.now.begins.items }
+        requires place { j < length logs.now }
+        requires receipt { (1 ≤ receipt) × (receipt ≤ length (got (log_of logs.now j))) }
+        ensures { result ≡ (first_receipt logs.now j + (receipt - 1)) * length logs.now }
     {
-        if receipt == 0 {
-            return 0;
-        }
         let nodes = usize::from(logs.size().get());
-        let row = self.begins[usize::from(j)] + receipt - 1;
-        self.counters[row * nodes + usize::from(i)]
+        (self.begins[usize::from(j)] + receipt - 1) * nodes
     }
 
     /// How many messages node `j` has received with its event `b`.
@@ -217,8 +214,8 @@ impl<A: Allocator> Stamps<A> {
         if received == 0 {
             return &NOTHING_RECEIVED[..nodes];
         }
-        let row = self.begins[usize::from(j)] + received - 1;
-        &self.counters[row * nodes..(row + 1) * nodes]
+        let row = self.row(logs, j, received);
+        &self.counters[row..row + nodes]
     }
 
     /// How many counters are kept.

@@ -15,7 +15,7 @@ use Rattle.ira_replay.proofs.Along.{leads_further}
 use Rattle.ira_order.specs.Ring.{prev}
 use Rattle.ira_order.specs.Matching.{receipt, sent, got}
 use Rattle.ira_order.specs.Run.{Configuration, LinkStep, RingStep, event_of}
-use Rattle.ira_order.proofs.Ranks.{eq_cases}
+use Rattle.std.proofs.lemmas.Bool.{cases_eq}
 use Rattle.ira_order.proofs.Runs.{next_prev, prev_below}
 use Rattle.ira_order.proofs.Converse.{Balanced, balanced_step}
 use Rattle.ira_run.specs.Setup.{Setup, is_initiator, node_draws}
@@ -139,7 +139,7 @@ held_more s logs past c b i e two ended held can step draws =
     (held.leads i l) link (sends_begin (logs (prev s.nodes i)) (events_at past (prev s.nodes i)) (held.begins (prev s.nodes i) p)) (ended i l) can.not_leader can.room can.event
     e (b.state i) (held.begins i l).0 step.node (subst P own draws) (λ m is. taken_first s.nodes i e c.link b.link m step.links is) (held.begins i l).1 in
     record {
-      leads = λ j lj. elim (eq_cases i j) [
+      leads = λ j lj. elim (cases_eq i j) [
         | inl same ↦
             let Q : List Event → Type 0 = λ es. LeadsTo s.nodes (first_state (is_initiator s j)) es (b.state j) in
             let R : ℕ → Type 0 = λ k. NodeStep s.nodes (c.state k) e (b.state k) in
@@ -150,7 +150,7 @@ held_more s logs past c b i e two ended held can step draws =
             subst Q (sym (other_more past i j e ne)) (subst R (sym (step.others j lj (λ q. ne (sym q)))) (held.leads j lj))
       ];
       balanced = balanced_step s.nodes i (events_at past) (events_at (past ++ (i, e) ∷ [])) c.link b.link two l (λ j ne. other_more past i j e (λ q. ne (sym q))) held.balanced e own step.links;
-      begins = λ j lj. elim (eq_cases i j) [
+      begins = λ j lj. elim (cases_eq i j) [
         | inl same ↦
             let Q : List Event → Type 0 = λ es. BeginsWith (logs i) es in
             let R : ℕ → Type 0 = λ k. BeginsWith (logs k) (events_at (past ++ (i, e) ∷ []) k) in

@@ -17,7 +17,7 @@ use Rattle.ira_replay.specs.LocalRun.{LeadsTo}
 use Rattle.ira_replay.proofs.Alike.{one_end, leads_split}
 use Rattle.ira_order.specs.Ring.{prev}
 use Rattle.ira_order.specs.Matching.{receipt, got}
-use Rattle.ira_order.proofs.Ranks.{eq_cases}
+use Rattle.std.proofs.lemmas.Bool.{cases_eq}
 use Rattle.ira_run.specs.declared.node_end.NodeEnd.{NodeEnd}
 use Rattle.ira_run.specs.declared.node_end.NodeEnd.TheVariants.{Leader, Stopped, DrawsSpent, LogFull, NoStep, Quiet}
 use Rattle.ira_run.specs.Setup.{Setup, is_initiator, node_draws}
@@ -31,7 +31,7 @@ use Rattle.ira_run.proofs.Beginnings.{next_same}
 module _ (n : ℕ) (P : ℕ → Type 0) (round : (i : ℕ) → i < n → P (prev n i) → P i) where
   onward : (i j : ℕ) → i ≤ j → j < n → P i → P j
   onward i zero l here p = subst P (omega arith) p
-  onward i (suc j) l here p = elim (eq_cases i (suc j)) [
+  onward i (suc j) l here p = elim (cases_eq i (suc j)) [
     | inl e ↦ subst P e p
     | inr ne ↦ round (suc j) here (onward i j (omega arith) (omega arith) p)
   ]

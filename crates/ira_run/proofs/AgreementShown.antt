@@ -11,7 +11,7 @@ use Rattle.ira_node.specs.NodeState.{first_state, free, IsLeader}
 use Rattle.ira_replay.specs.LocalRun.{LeadsTo}
 use Rattle.ira_order.specs.Ring.{prev, log_of}
 use Rattle.ira_order.specs.Matching.{sent, got}
-use Rattle.ira_order.proofs.Ranks.{lt_cases}
+use Rattle.std.proofs.lemmas.Bool.{cases_lt}
 use Rattle.ira_order.proofs.Runs.{prev_below}
 use Rattle.ira_run.specs.declared.node_end.NodeEnd.{NodeEnd}
 use Rattle.ira_run.specs.declared.node_end.NodeEnd.TheVariants.{Leader, Stopped, DrawsSpent, LogFull, NoStep, Quiet}
@@ -65,7 +65,7 @@ module _ (s : Setup) (i : ℕ) (events : List Event) (input : List Msg)
   full Passive owed is = (LogFull, ((λ l. l), is), (λ e. cc))
 
   shows : (state : NodeState) (left : List Msg) → length events ≤ s.cap → input ≡ got events ++ left → Stays state left → Shows state
-  shows state left within is stays = elim (lt_cases (length events) s.cap) [
+  shows state left within is stays = elim (cases_lt (length events) s.cap) [
     | inl room ↦ goes_on state.phase state.owed left room is stays
     | inr past ↦ full state.phase state.owed (omega arith)
   ]

@@ -15,7 +15,7 @@ use Rattle.ira_node.proofs.Inversions.{drawing_chooses}
 use Rattle.ira_node.proofs.Ranges.{stays, sendings}
 use Rattle.ira_order.specs.Ring.{prev}
 use Rattle.ira_order.specs.Run.{Configuration, LinkStep, RingStep}
-use Rattle.ira_order.proofs.Ranks.{eq_cases}
+use Rattle.std.proofs.lemmas.Bool.{cases_eq}
 use Rattle.ira_order.proofs.Runs.{prev_below}
 use Rattle.ira_run.specs.Setup.{Setup, is_initiator, KeepsRules}
 use Rattle.ira_run.specs.FullRun.{opening_of, events_at, Walks}
@@ -52,7 +52,7 @@ event_recordable n i (Got m) c d few all step =
 
 links_recordable : (n i : ℕ) (e : Event) (old new : ℕ → List Msg) → i < n → is_event e ≡ true → ((k : ℕ) → k < n → list_all is_msg (old k) ≡ true) → LinkStep n i e old new → (k : ℕ) → k < n → list_all is_msg (new k) ≡ true
 links_recordable n i (Draw id) old new l event all step k lk = subst (λ (x : List Msg). list_all is_msg x ≡ true) (sym (step k lk)) (all k lk)
-links_recordable n i (Sent m) old new l event all step k lk = elim (eq_cases k i) [
+links_recordable n i (Sent m) old new l event all step k lk = elim (cases_eq k i) [
   | inl e ↦
       let P : ℕ → Type 0 = λ x. list_all is_msg (new x) ≡ true in
       let one : list_all is_msg (m ∷ []) ≡ true = both (is_msg m) true event refl in
@@ -60,7 +60,7 @@ links_recordable n i (Sent m) old new l event all step k lk = elim (eq_cases k i
       subst P (sym e) (subst (λ (x : List Msg). list_all is_msg x ≡ true) (sym step.0) whole)
   | inr ne ↦ subst (λ (x : List Msg). list_all is_msg x ≡ true) (sym (step.1 k lk ne)) (all k lk)
 ]
-links_recordable n i (Got m) old new l event all step k lk = elim (eq_cases k (prev n i)) [
+links_recordable n i (Got m) old new l event all step k lk = elim (cases_eq k (prev n i)) [
   | inl e ↦
       let P : ℕ → Type 0 = λ x. list_all is_msg (new x) ≡ true in
       let h : list_all is_msg (m ∷ new (prev n i)) ≡ true = subst (λ (x : List Msg). list_all is_msg x ≡ true) step.0 (all (prev n i) (prev_below n i l)) in
@@ -70,7 +70,7 @@ links_recordable n i (Got m) old new l event all step k lk = elim (eq_cases k (p
 
 step_recordable : (n i : ℕ) (e : Event) (c d : Configuration) → is_event e ≡ true → IsRecordable n c → RingStep n i e c d → IsRecordable n d
 step_recordable n i e c d event all step = record {
-  states = λ j l. elim (eq_cases j i) [
+  states = λ j l. elim (cases_eq j i) [
     | inl q ↦
         let P : ℕ → Type 0 = λ k. is_state (d.state k) ≡ true in
         subst P (sym q) (stays n (c.state i) e (d.state i) (all.states i step.place) event step.node)
@@ -92,7 +92,7 @@ events_recordable s past c (x ∷ run) d i few all walk =
     let here : is_event x.1 ≡ true = event_recordable s.nodes x.0 x.1 c walk.1.0 few all walk.1.1 in
     let rest : list_all is_event (events_at run i) ≡ true = events_recordable s (past ++ x ∷ []) walk.1.0 run d i few (step_recordable s.nodes x.0 x.1 c walk.1.0 here all walk.1.1) walk.1.2 in
     let P : List Event → Type 0 = λ es. list_all is_event es ≡ true in
-    elim (eq_cases x.0 i) [
+    elim (cases_eq x.0 i) [
       | inl e ↦ subst P (sym (own_first x run i e)) (both (is_event x.1) (list_all is_event (events_at run i)) here rest)
       | inr ne ↦ subst P (sym (other_first x run i ne)) rest
     ]
@@ -106,7 +106,7 @@ few_events : (s : Setup) (past : List (ℕ × Event)) (c : Configuration) (run :
 few_events s past c [] d i few walk = subst (λ (xs : List (ℕ × Event)). length (events_at xs i) ≤ s.cap) (sym (append-nil past)) few
 few_events s past c (x ∷ run) d i few walk =
     let P : List (ℕ × Event) → Type 0 = λ xs. length (events_at xs i) ≤ s.cap in
-    let more : length (events_at (past ++ x ∷ []) i) ≤ s.cap = elim (eq_cases x.0 i) [
+    let more : length (events_at (past ++ x ∷ []) i) ≤ s.cap = elim (cases_eq x.0 i) [
       | inl e ↦
           let Q : ℕ → Type 0 = λ j. length (events_at past j) < s.cap in
           let room : length (events_at past i) < s.cap = subst Q e walk.0.room in

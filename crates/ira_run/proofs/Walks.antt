@@ -10,7 +10,7 @@ use Rattle.ira_node.specs.NodeStep.{NodeStep}
 use Rattle.ira_replay.specs.LocalRun.{LeadsTo}
 use Rattle.ira_order.specs.Ring.{prev}
 use Rattle.ira_order.specs.Run.{Configuration, LinkStep, RingStep, Chains, event_of}
-use Rattle.ira_order.proofs.Ranks.{eq_cases}
+use Rattle.std.proofs.lemmas.Bool.{cases_eq}
 use Rattle.ira_order.proofs.Converse.{Balanced, balanced_step}
 use Rattle.ira_order.proofs.RunsOfLogs.{event_yes, event_no}
 use Rattle.ira_run.specs.Setup.{Setup}
@@ -56,7 +56,7 @@ walk_leads s past c (x ∷ run) d i l walk =
     let b : Configuration = walk.1.0 in
     let rest : LeadsTo s.nodes (walk.1.0.state i) (events_at run i) (d.state i) = walk_leads s (past ++ x ∷ []) walk.1.0 run d i l walk.1.2 in
     let Q : List Event → Type 0 = λ es. LeadsTo s.nodes (c.state i) es (d.state i) in
-    elim (eq_cases x.0 i) [
+    elim (cases_eq x.0 i) [
       | inl e ↦
           let P : ℕ → Type 0 = λ j. NodeStep s.nodes (c.state j) x.1 (walk.1.0.state j) in
           subst Q (sym (own_first x run i e)) (walk.1.0.state i, subst P e walk.1.1.node, rest)
