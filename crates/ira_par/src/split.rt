@@ -14,7 +14,7 @@ use crate::rounds::judge_steps;
 use crate::table::Table;
 use crate::tables::{case_tables, profiled_tables};
 use ira_cand::Profile;
-use ira_cert::{Left, Section, SectionFault, Verdict};
+use ira_cert::{Left, Section, SectionFault, Verdict, check_fronts, check_plain, profiled_fronts};
 use ira_event::{Logs, OutOfMemory};
 use ira_links::Gate;
 use ira_order::Ordered;
@@ -30,10 +30,10 @@ use std::time::Clock;
 ///
 /// The steps are halved `depth` times. In a first round the steps of each range are counted, node by
 /// node, so that it is known how many candidates of each node are eliminated before a range; in a second
-/// round each range is judged, behind the gate, which it passes with its number from the left. All memory
-/// is taken before the first thread starts: the list of the candidates of each node that is asked, and a
-/// counter of each node for each range. Where a thread can't be started, the one that asked for it does
-/// the work.
+/// round each range is judged, behind the gate, which it passes with its number from the left. At depth 0
+/// there is one range, which the plain checker judges. All memory is taken before the first thread starts:
+/// the list of the candidates of each node that is asked, and a counter of each node for each range. Where
+/// a thread can't be started, the one that asked for it does the work.
 pub fn check_split<R, G, A>(
     rt: &R,
     alloc: A,
@@ -57,6 +57,10 @@ where
         → UnlessErr result (record {})
         ((result ≡ Ok (Verdict.No f)) ↔ IsSectionFault logs.now case.now section.now f) }
 {
+    if depth == 0 {
+        gate.pass(rt, 0);
+        return check_plain(alloc, logs, ordered, case, section);
+    }
     let tables = case_tables(alloc.clone()?, logs, case)?;
     check_tables(rt, alloc, ordered, &tables, section, depth, gate)
 }
@@ -87,6 +91,11 @@ where
         ((result ≡ Ok (Verdict.No f)) ↔ IsSectionFault profiles.now case.now section.now f) }
 {
     let nodes = ordered.logs().size();
+    if depth == 0 {
+        gate.pass(rt, 0);
+        let fronts = profiled_fronts(alloc, nodes, profiles, case)?;
+        return Ok(check_fronts(ordered, fronts, section));
+    }
     let tables = profiled_tables(alloc.clone()?, nodes, profiles, case)?;
     check_tables(rt, alloc, ordered, &tables, section, depth, gate)
 }

@@ -1,6 +1,19 @@
+use Rattle.std.proofs.Common.{Ok, refl}
 use Rattle.ira_cert.specs.declared.verdict.Verdict.TheVariants.{Yes, No}
 use Rattle.ira_par.proofs.Answered.{answered}
 use Rattle.ira_par.proofs.split.split_profiled.Goals as goal
+
+pub returns-then-depth-eq0-clause-yes : goal.returns-then-depth-eq0-clause-yes
+returns-then-depth-eq0-clause-yes g c =
+    let fronts = c.in_ok-fronts.ensures in
+    answered c.args.ordered.now.logs c.args.profiles.now c.requires.order c.args.case.now fronts.different c.in_ok-fronts.fronts.items c.in_ok-fronts.fronts.items refl fronts.fronts c.args.section.now
+    (Ok c.check_fronts.result) c.check_fronts.ensures Yes
+
+pub returns-then-depth-eq0-clause-no : goal.returns-then-depth-eq0-clause-no
+returns-then-depth-eq0-clause-no g c = λ f.
+    let fronts = c.in_ok-fronts.ensures in
+    answered c.args.ordered.now.logs c.args.profiles.now c.requires.order c.args.case.now fronts.different c.in_ok-fronts.fronts.items c.in_ok-fronts.fronts.items refl fronts.fronts c.args.section.now
+    (Ok c.check_fronts.result) c.check_fronts.ensures (No f)
 
 pub returns-clause-yes : goal.returns-clause-yes
 returns-clause-yes g c =
