@@ -87,6 +87,7 @@ where
     A: Allocator + Clone + Send + Sync,
     F: Shelf<A>,
     W: Sink,
+    requires depth { check.now.depth ≤ 4 }
     ensures judged { JudgesCertified (length check.now.logs.items) (W.state out.old) (W.state out.new) (outcome_number result)
         ⊎ GivesNoAnswer (W.state out.old) (W.state out.new) (outcome_number result) }
     ensures files { F.files shelf.new ≡ F.files shelf.old }
@@ -94,8 +95,7 @@ where
     let question = read_file(check.question, shelf)?;
     let certificate = read_file(check.certificate, shelf)?;
     let audit = read_logs(rt, alloc, &check.logs, shelf)?;
-    let depth = check.depth.min(4) as u8;
-    let answer = audit.finish_with(rt, &question, &certificate, depth, &OpenGate)?;
+    let answer = audit.finish_with(rt, &question, &certificate, check.depth, &OpenGate)?;
     report(&answer, out)
 }
 

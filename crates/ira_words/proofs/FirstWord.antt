@@ -26,11 +26,11 @@ IsFault (k ∷ ks) = Unit {0}
 no_fault : (ks : Kinds) → IsFault ks → ks ≡ [] → ⊥
 no_fault ks is none = subst IsFault none is
 
-first_none : (a b : Kinds) → or_else a b ≡ [] → a ≡ []
+pub first_none : (a b : Kinds) → or_else a b ≡ [] → a ≡ []
 first_none [] b e = refl
 first_none (k ∷ ks) b e = e
 
-second_none : (a b : Kinds) → or_else a b ≡ [] → b ≡ []
+pub second_none : (a b : Kinds) → or_else a b ≡ [] → b ≡ []
 second_none [] b e = e
 second_none (k ∷ ks) b e = cc
 
@@ -39,7 +39,7 @@ first_is_fault [] b is = absurd is
 first_is_fault (k ∷ ks) b is = tt
 
 -- once a subcommand is met, the walk keeps the words behind it
-stays : (c : List Rule) (names : Names) (w : Walk) (n : Text) (ws rest : List Text)
+pub stays : (c : List Rule) (names : Names) (w : Walk) (n : Text) (ws rest : List Text)
     → (fold (walked c names) (record w { stopped = Some (n, ws) }) rest).stopped ≡ Some (n, ws ++ rest)
 unfolding walked
 stays c names w n ws [] = ap (λ (l : List Text). Some (n, l)) (sym (append-nil ws))
@@ -57,10 +57,10 @@ fused : {X Y Z : Type 0} (f : X → Y) (g : Y → Z) (o : Option X) → option_m
 fused f g None = refl
 fused f g (Some x) = refl
 
-abbrev top : Shape
+abbrev pub top : Shape
 top = (built ira_app).top
 
-abbrev names : Names
+abbrev pub names : Names
 names = names_of (built ira_app)
 
 abbrev name_met : Option (Text × List Row) → Option Text

@@ -1,3 +1,5 @@
+pub mod BehindCommands
 pub mod FirstWord
 pub mod GivenNames
 pub mod Options
+pub mod TakenValues

@@ -3,3 +3,4 @@ pub mod CommandLine
 pub mod DecideRequest
 pub mod Request
 pub mod RunRequest
+pub mod TakenValues

@@ -17,13 +17,14 @@ abbrev pub IsFileName : List ℕ → Type 0
 IsFileName [] = Unit {0}
 IsFileName (b ∷ bs) = b ≢ 45
 
--- the words are `logs` and others, which ask for the files of these names: they are the values that the others give to
--- `LOG`. Where none of the others begins with a dash, they are these; where one is the first that does, and is `--`,
--- the words behind it are names too
+-- the words are `logs` and others, which ask for the files of these names, at least one: they are the values that the
+-- others give to `LOG`. Where none of the others begins with a dash, they are these; where one is the first that does,
+-- and is `--`, the words behind it are names too
 pub record AskForLogs (words names : List (List ℕ)) : Type 0 where
   pub others : List (List ℕ)
   pub first : words ≡ codes "logs" ∷ others
   pub given : names ≡ unwrap_or (all_of (codes "LOG") (rows_after (built_leaf logs_app.top).rules [] others)) []
+  pub some : names ≢ []
   pub plain : All IsFileName others → names ≡ others
   pub marked : (front back : List (List ℕ)) → All IsFileName front → others ≡ front ++ codes "--" ∷ back → names ≡ front ++ back
 

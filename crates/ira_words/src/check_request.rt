@@ -6,7 +6,7 @@ pub struct CheckRequest<'a> {
     /// The file of the certificate.
     pub certificate: &'a str,
     /// How often the steps of a section are to be halved among threads, 0 to 4.
-    pub depth: u32,
+    pub depth: u8,
     /// The files of the logs, in the order of the ring's places.
     pub logs: Vec<&'a str>,
 }

@@ -1,7 +1,9 @@
-ghost use Rattle.std.specs.Prelude.{◌≡◌, [], Ok, IfOk, IfSome, codes, false, map, unwrap_or};
+ghost use Rattle.std.specs.Prelude.{◌≡◌, ◌≢◌, [], Ok, IfOk, IfSome, codes, false, map, unwrap_or};
+ghost use Rattle.clap.specs.Simple.{built_leaf};
 ghost use Rattle.clap.specs.Words.{all_of, app_of, found_of, rows_of, rule_of};
 ghost use Rattle.ira_words.specs.CommandLine.{check_app, decide_app, ira_app, logs_app, logs_rule, number_rule, option_rule, pairs_app, run_app};
 ghost use Rattle.ira_words.specs.Request.{IsCheckRequest, IsDecideRequest, IsMadeOf, IsPairsRequest, IsRunRequest};
+ghost use Rattle.ira_words.specs.TakenValues.{AreTaken};
 ghost use Rattle.ira_words.specs.declared.request.Request.TheVariants as request;
 
 use crate::check_request::CheckRequest;
@@ -90,7 +92,7 @@ fn check_command<'a>(alloc: Global) -> Result<Command<'a>, AllocError>
         .arg(certificate.required(true))?
         .arg(
             depth
-                .value_parser(value_parser!(u32).range(0..=4))
+                .value_parser(value_parser!(u8).range(0..=4))
                 .default_value("2"),
         )?
         .arg(log_files(alloc))
@@ -98,8 +100,10 @@ fn check_command<'a>(alloc: Global) -> Result<Command<'a>, AllocError>
 
 /// The files to judge, where all options have a value.
 fn check_request<'a>(matches: &ArgMatches<'a>, logs: Vec<&'a str>) -> Option<Request<'a>>
-    requires { map (λ name. name.now) logs.items
+    requires taken { AreTaken (built_leaf check_app.top).rules (rows_of (found_of matches.now)) }
+    requires names { map (λ name. name.now) logs.items
         ≡ unwrap_or (all_of (codes "LOG") (rows_of (found_of matches.now))) [] }
+    requires some { logs.items ≢ [] }
     ensures { IfSome result (IsCheckRequest (rows_of (found_of matches.now))) }
 {
     Some(Request::Check(CheckRequest {
@@ -129,8 +133,9 @@ fn decide_command<'a>(alloc: Global) -> Result<Command<'a>, AllocError>
 
 /// The files to decide of, where the question has a value.
 fn decide_request<'a>(matches: &ArgMatches<'a>, logs: Vec<&'a str>) -> Option<Request<'a>>
-    requires { map (λ name. name.now) logs.items
+    requires names { map (λ name. name.now) logs.items
         ≡ unwrap_or (all_of (codes "LOG") (rows_of (found_of matches.now))) [] }
+    requires some { logs.items ≢ [] }
     ensures { IfSome result (IsDecideRequest (rows_of (found_of matches.now))) }
 {
     Some(Request::Decide(DecideRequest {
@@ -227,6 +232,7 @@ fn run_command<'a>(alloc: Global) -> Result<Command<'a>, AllocError>
 
 /// The ring to run, where all its options have a value.
 fn run_request<'a>(matches: &ArgMatches<'a>) -> Option<Request<'a>>
+    requires { AreTaken (built_leaf run_app.top).rules (rows_of (found_of matches.now)) }
     ensures { IfSome result (IsRunRequest (rows_of (found_of matches.now))) }
 {
     Some(Request::Run(RunRequest {

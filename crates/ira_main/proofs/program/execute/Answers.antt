@@ -29,6 +29,11 @@ returns-in-Logs-clause-executed g c = λ some.
       ];
     }
 
+pub check_files-requires-clause-depth : goal.check_files-requires-clause-depth
+check_files-requires-clause-depth g c = λ lifetimes outlive.
+    let made = subst (IsMadeOf (map (λ w. w.now) c.args.words.now)) c.in-Check.is c.in_ok-read_words.ensures.made in
+    made.files.shallow
+
 pub returns-in-Check-clause-executed : goal.returns-in-Check-clause-executed
 returns-in-Check-clause-executed g c = λ some.
     let made = subst (IsMadeOf (map (λ w. w.now) c.args.words.now)) c.in-Check.is c.in_ok-read_words.ensures.made in

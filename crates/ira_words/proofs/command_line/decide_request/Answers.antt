@@ -11,6 +11,7 @@ returns c =
       record {
         question = sym (c.in_ok-get_str.ensures ∙ first_value-rows f (codes "question"));
         certificate = sym (c.get_str-2.ensures ∙ first_value-rows f (codes "out"));
-        logs = c.requires;
+        logs = c.requires.names;
+        some = c.requires.some;
       },
     )

@@ -5,6 +5,7 @@ use Rattle.ira_words.specs.Request.{IsFileName, IsMadeOf}
 use Rattle.ira_words.specs.CheckRequest.{HasFiles}
 use Rattle.ira_words.specs.DecideRequest.{HasFilesToDecide}
 use Rattle.ira_words.specs.RunRequest.{HasNumber, HasOptions}
+use Rattle.ira_words.proofs.BehindCommands.{check_named, check_taken, decide_named, logs_named, run_taken}
 use Rattle.ira_words.proofs.FirstWord.{met_by_first, rows_of_check, rows_of_decide, rows_of_logs, rows_of_pairs, rows_of_run}
 use Rattle.ira_words.proofs.GivenNames.{given_behind, words_behind, words_given}
 use Rattle.ira_words.proofs.command_line.request_of_words.Goals.{in-Some-logs-default+in_ok-log_names-in-Some-logs-default, in-Some-check-default+in_ok-log_names-in-Some-check-default, in-Some-decide-default+in_ok-log_names-in-Some-decide-default, in-Some-pairs-default, in-Some-run-default, in_default}
@@ -31,9 +32,10 @@ returns-in-Some c =
           let rows = rows_of_logs _ _ first.0 _ c.in_ok-command.ensures (subst Has first.1 parse.ok.2) arm.ensures.rows in
           let names = w.in_ok-log_names-in-Some-logs-default in
           let read : map (λ name. name.now) names.field-0.items ≡ given_behind first.0 = names.ensures ∙ ap (λ r. unwrap_or (all_of (codes "LOG") r) []) rows in
+          let some = logs_named _ _ words _ c.in_ok-command.ensures parse.ok.2 parse.kinds arm.ensures.rows (ap (λ n. Some n) (sym arm.is-logs) ∙ arm.ensures.name) in
           let marked : (front back : List (List ℕ)) → All IsFileName front → first.0 ≡ front ++ codes "--" ∷ back → map (λ name. name.now) names.field-0.items ≡ front ++ back =
           λ front back are apart. read ∙ ap given_behind apart ∙ words_behind front back are in
-          subst (IsMadeOf words) (sym (same_value _ _ _ c.in-Some.is w.asked-is)) (record { others = first.0; first = first.1; given = read; plain = λ are. read ∙ words_given first.0 are; marked = marked })
+          subst (IsMadeOf words) (sym (same_value _ _ _ c.in-Some.is w.asked-is)) (record { others = first.0; first = first.1; given = read; some = λ none. some (sym names.ensures ∙ none); plain = λ are. read ∙ words_given first.0 are; marked = marked })
       | in-Some-check-default+in_ok-log_names-in-Some-check-default w ↦
           let arm = w.in-Some-check-default in
           let first = met_by_first _ _ words (codes "check") c.in_ok-command.ensures parse.ok.2 parse.kinds (ap (λ n. Some n) (sym arm.is-check) ∙ arm.ensures.name) in
@@ -64,3 +66,35 @@ returns-in-Some c =
           subst (IsMadeOf words) (sym ring.1) (record { others = first.0; first = first.1; options = subst (λ found. HasOptions found ring.0) rows ring.2 })
       | in_default w ↦ absurd (not_both _ _ w.asked-is c.in-Some.is)
     ]
+
+pub check_request-asked-requires-clause-taken : goal.check_request-asked-requires-clause-taken
+check_request-asked-requires-clause-taken c =
+    let words = map (λ w. w.now) c.args.words.now in
+    let parse = c.in_ok-matches.ensures in
+    let arm = c.in-Some-check-default in
+    check_taken _ _ words _ c.in_ok-command.ensures parse.ok.2 parse.kinds arm.ensures.rows (ap (λ n. Some n) (sym arm.is-check) ∙ arm.ensures.name)
+
+pub check_request-asked-requires-clause-some : goal.check_request-asked-requires-clause-some
+check_request-asked-requires-clause-some c =
+    let words = map (λ w. w.now) c.args.words.now in
+    let parse = c.in_ok-matches.ensures in
+    let arm = c.in-Some-check-default in
+    let names = c.in_ok-log_names-in-Some-check-default in
+    λ none.
+    check_named _ _ words _ c.in_ok-command.ensures parse.ok.2 parse.kinds arm.ensures.rows (ap (λ n. Some n) (sym arm.is-check) ∙ arm.ensures.name) (sym names.ensures ∙ ap (map (λ name. name.now)) none)
+
+pub decide_request-asked-requires-clause-some : goal.decide_request-asked-requires-clause-some
+decide_request-asked-requires-clause-some c =
+    let words = map (λ w. w.now) c.args.words.now in
+    let parse = c.in_ok-matches.ensures in
+    let arm = c.in-Some-decide-default in
+    let names = c.in_ok-log_names-in-Some-decide-default in
+    λ none.
+    decide_named _ _ words _ c.in_ok-command.ensures parse.ok.2 parse.kinds arm.ensures.rows (ap (λ n. Some n) (sym arm.is-decide) ∙ arm.ensures.name) (sym names.ensures ∙ ap (map (λ name. name.now)) none)
+
+pub run_request-asked-requires : goal.run_request-asked-requires
+run_request-asked-requires c =
+    let words = map (λ w. w.now) c.args.words.now in
+    let parse = c.in_ok-matches.ensures in
+    let arm = c.in-Some-run-default in
+    run_taken _ _ words _ c.in_ok-command.ensures parse.ok.2 parse.kinds arm.ensures.rows (ap (λ n. Some n) (sym arm.is-run) ∙ arm.ensures.name)

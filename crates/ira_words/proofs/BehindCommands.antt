@@ -1,0 +1,121 @@
+-- What is found of the words behind a command, where they have no fault.
+use Rattle.std.proofs.Common.{◌≡◌, ◌≢◌, ◌∙◌, true, false, List, [], ◌∷◌, Some, refl, sym, ap, subst, codes}
+use Rattle.std.specs.Prelude.{find, option_map, unwrap_or}
+use Rattle.clap.specs.Faults.{entered_fault, fault_of, is_simple_and_free, level_fault, walk_fault}
+use Rattle.clap.specs.Simple.{App, HasMatchesOf, Shape, built, built_leaf, label_of, subcommand_rows_of}
+use Rattle.clap.specs.Takes.{is_given}
+use Rattle.clap.specs.Walk.{Row, Rule, Text, all_of, answers_to, arg_by_id, nothing_held, rows_after, walk_from, walked}
+use Rattle.clap.specs.Matches.{subcommand_name_of}
+use Rattle.clap.specs.declared.parser.matches.ArgMatches.{ArgMatches}
+use Rattle.ira_words.specs.CommandLine.{check_app, ira_app, run_app}
+use Rattle.ira_words.specs.TakenValues.{AreTaken}
+use Rattle.ira_words.proofs.FirstWord.{first_none, met_by_first, names, rows_of_check, rows_of_decide, rows_of_logs, rows_of_run, second_none, stays, top}
+use Rattle.ira_words.proofs.TakenValues.{AllFit, check_passes, given_some, required_given, rows_taken}
+
+-- a command as the program's has it
+abbrev command : Text → Shape
+command name = unwrap_or (find (λ s. answers_to name (label_of s)) (built ira_app).subs) top
+
+-- the arguments of each command are such that values are found of them
+logs_fit : AllFit (command (codes "logs")).rules (command (codes "logs")).rules
+logs_fit = ((refl, refl), ((refl, refl), tt))
+
+check_fit : AllFit (command (codes "check")).rules (command (codes "check")).rules
+check_fit = ((refl, refl), ((refl, refl), ((refl, refl), ((refl, refl), ((refl, refl), tt)))))
+
+decide_fit : AllFit (command (codes "decide")).rules (command (codes "decide")).rules
+decide_fit = ((refl, refl), ((refl, refl), ((refl, refl), ((refl, refl), tt))))
+
+run_fit : AllFit (command (codes "run")).rules (command (codes "run")).rules
+run_fit = ((refl, refl), ((refl, refl), ((refl, refl), ((refl, refl), ((refl, refl), ((refl, refl), ((refl, refl), ((refl, refl), tt))))))))
+
+-- the words behind it are read without a fault, where all are
+abbrev HasNoFault : Text → List Text → Type 0
+HasNoFault name others = level_fault (command name) [] nothing_held others false [] ≡ []
+
+logs_fine : (others : List Text) → fault_of ira_app (codes "logs" ∷ others) ≡ [] → HasNoFault (codes "logs") others
+unfolding walked
+logs_fine others none =
+    let stop = stays top.rules names (walk_from nothing_held) (codes "logs") [] others in
+    let behind = second_none (walk_fault top names (walk_from nothing_held) (codes "logs" ∷ others)) _ none in
+    subst (λ o. entered_fault (built ira_app) o ≡ []) stop (first_none _ _ behind)
+
+check_fine : (others : List Text) → fault_of ira_app (codes "check" ∷ others) ≡ [] → HasNoFault (codes "check") others
+unfolding walked
+check_fine others none =
+    let stop = stays top.rules names (walk_from nothing_held) (codes "check") [] others in
+    let behind = second_none (walk_fault top names (walk_from nothing_held) (codes "check" ∷ others)) _ none in
+    subst (λ o. entered_fault (built ira_app) o ≡ []) stop (first_none _ _ behind)
+
+decide_fine : (others : List Text) → fault_of ira_app (codes "decide" ∷ others) ≡ [] → HasNoFault (codes "decide") others
+unfolding walked
+decide_fine others none =
+    let stop = stays top.rules names (walk_from nothing_held) (codes "decide") [] others in
+    let behind = second_none (walk_fault top names (walk_from nothing_held) (codes "decide" ∷ others)) _ none in
+    subst (λ o. entered_fault (built ira_app) o ≡ []) stop (first_none _ _ behind)
+
+run_fine : (others : List Text) → fault_of ira_app (codes "run" ∷ others) ≡ [] → HasNoFault (codes "run") others
+unfolding walked
+run_fine others none =
+    let stop = stays top.rules names (walk_from nothing_held) (codes "run") [] others in
+    let behind = second_none (walk_fault top names (walk_from nothing_held) (codes "run" ∷ others)) _ none in
+    subst (λ o. entered_fault (built ira_app) o ≡ []) stop (first_none _ _ behind)
+
+-- there are names of logs, where the command has them as its required argument
+some_names : (s : Shape) (a : Rule) (others : List Text) → s.args_override_self ≡ false → AllFit s.rules s.rules → s.subcommand_required ≡ false → s.arg_required_else_help ≡ false
+    → s.subcommand_negates_reqs ≡ false → arg_by_id s.rules (codes "LOG") ≡ Some a → a.id ≡ codes "LOG" → a.required ≡ true
+    → level_fault s [] nothing_held others false [] ≡ [] → unwrap_or (all_of (codes "LOG") (rows_after s.rules [] others)) [] ≢ []
+some_names s a others once fit alone helpless asks its named required none =
+    let rows = rows_after s.rules [] others in
+    let its_own : arg_by_id s.rules a.id ≡ Some a = ap (arg_by_id s.rules) named ∙ its in
+    let given = required_given s a rows alone helpless asks its_own required (check_passes s once fit others none) in
+    given_some s.rules (codes "LOG") rows (rows_taken s once fit others none) (subst (λ id. is_given id rows ≡ true) named given)
+
+-- words that are read without a fault have none
+faultless : (a : App) (words : List Text) (name : Text) (others : List Text) → a ≡ ira_app → (is_simple_and_free a ≡ true → fault_of a words ≡ [])
+    → words ≡ name ∷ others → fault_of ira_app (name ∷ others) ≡ []
+faultless a words name others is none are =
+    let Fine : App → Type 0 = λ x. fault_of x words ≡ [] in
+    subst (λ ws. fault_of ira_app ws ≡ []) are (subst Fine is (none (ap is_simple_and_free is)))
+
+module _ (a : App) (m : ArgMatches) (words : List Text) (found : List Row) (is : a ≡ ira_app) (has : HasMatchesOf a words m)
+    (none : is_simple_and_free a ≡ true → fault_of a words ≡ []) (read : Some found ≡ option_map (λ s. s.1) (subcommand_rows_of m)) where
+  pub logs_named : Some (codes "logs") ≡ subcommand_name_of m → unwrap_or (all_of (codes "LOG") found) [] ≢ []
+  logs_named name =
+      let first = met_by_first a m words (codes "logs") is has none name in
+      let rows = rows_of_logs a m first.0 found is (subst (λ ws. HasMatchesOf a ws m) first.1 has) read in
+      let fine = logs_fine first.0 (faultless a words (codes "logs") first.0 is none first.1) in
+      subst (λ rs. unwrap_or (all_of (codes "LOG") rs) [] ≢ []) (sym rows)
+      (some_names (command (codes "logs")) _ first.0 refl logs_fit refl refl refl refl refl refl fine)
+
+  pub check_named : Some (codes "check") ≡ subcommand_name_of m → unwrap_or (all_of (codes "LOG") found) [] ≢ []
+  check_named name =
+      let first = met_by_first a m words (codes "check") is has none name in
+      let rows = rows_of_check a m first.0 found is (subst (λ ws. HasMatchesOf a ws m) first.1 has) read in
+      let fine = check_fine first.0 (faultless a words (codes "check") first.0 is none first.1) in
+      subst (λ rs. unwrap_or (all_of (codes "LOG") rs) [] ≢ []) (sym rows)
+      (some_names (command (codes "check")) _ first.0 refl check_fit refl refl refl refl refl refl fine)
+
+  pub check_taken : Some (codes "check") ≡ subcommand_name_of m → AreTaken (built_leaf check_app.top).rules found
+  check_taken name =
+      let first = met_by_first a m words (codes "check") is has none name in
+      let rows = rows_of_check a m first.0 found is (subst (λ ws. HasMatchesOf a ws m) first.1 has) read in
+      let fine = check_fine first.0 (faultless a words (codes "check") first.0 is none first.1) in
+      subst (AreTaken (built_leaf check_app.top).rules) (sym rows)
+      (rows_taken (command (codes "check")) refl check_fit first.0 fine)
+
+  pub decide_named : Some (codes "decide") ≡ subcommand_name_of m → unwrap_or (all_of (codes "LOG") found) [] ≢ []
+  decide_named name =
+      let first = met_by_first a m words (codes "decide") is has none name in
+      let rows = rows_of_decide a m first.0 found is (subst (λ ws. HasMatchesOf a ws m) first.1 has) read in
+      let fine = decide_fine first.0 (faultless a words (codes "decide") first.0 is none first.1) in
+      subst (λ rs. unwrap_or (all_of (codes "LOG") rs) [] ≢ []) (sym rows)
+      (some_names (command (codes "decide")) _ first.0 refl decide_fit refl refl refl refl refl refl fine)
+
+  pub run_taken : Some (codes "run") ≡ subcommand_name_of m → AreTaken (built_leaf run_app.top).rules found
+  run_taken name =
+      let first = met_by_first a m words (codes "run") is has none name in
+      let rows = rows_of_run a m first.0 found is (subst (λ ws. HasMatchesOf a ws m) first.1 has) read in
+      let fine = run_fine first.0 (faultless a words (codes "run") first.0 is none first.1) in
+      subst (AreTaken (built_leaf run_app.top).rules) (sym rows)
+      (rows_taken (command (codes "run")) refl run_fit first.0 fine)

@@ -1,0 +1,20 @@
+-- What a parse that succeeds has found: values that the arguments take.
+use Rattle.std.specs.Prelude.{◌≡◌, ◌≢◌, List, [], ◌∷◌, Some, if◌then◌else◌}
+use Rattle.clap.specs.Facts.{explicit_source}
+use Rattle.clap.specs.Faults.{values_fault}
+use Rattle.clap.specs.Walk.{Row, Rule, action_of, arg_by_id, reading_by}
+use Rattle.clap.specs.declared.builder.action.ArgAction.TheVariants.{SetTrue}
+
+-- an argument of these has values, of which its parser refuses none; those of a flag say whether it was given
+pub record IsTaken (rules : List Rule) (row : Row) : Type 0 where
+  pub rule : Rule
+  pub its : arg_by_id rules row.id ≡ Some rule
+  pub some : row.values ≢ []
+  pub passes : values_fault rule row.values ≡ []
+  pub reading : row.reading ≡ reading_by rule
+  pub flag : action_of rule ≡ SetTrue → row.values ≡ (if explicit_source row.source then rule.missing else rule.defaults)
+
+-- each of them does
+abbrev pub AreTaken : List Rule → List Row → Type 0
+AreTaken rules [] = Unit {0}
+AreTaken rules (row ∷ rows) = IsTaken rules row × AreTaken rules rows
