@@ -3,7 +3,7 @@ ghost use Rattle.std.specs.Prelude.{◌<◌, length};
 
 use crate::samples::{clean, dirty, log_of, logs_of, loser, tie_loser, tie_winner, winner};
 use ira_event::{Event, Logs};
-use ira_order::{MatchFault, OrderFault, find_order, match_links, order};
+use ira_order::{MatchFault, OrderFault, Ordered, find_order, match_links, order};
 use std::alloc::Global;
 use std::process::Abort;
 use std::test::Fail;
@@ -77,13 +77,29 @@ fn is_order(logs: &Logs<Global>, places: &[u8]) -> bool {
     kept
 }
 
-fn assert_ordered(rt: &impl Abort, alloc: Global, logs: &Logs<Global>) -> Result<(), Fail> {
-    assert_eq!(rt; match_links(logs), Ok(()));
-    let places = find_order(alloc, logs).ok().ok_or("a list of places")?;
-    assert!(rt; is_order(logs, &places));
-    let ordered = order(alloc, logs).ok().ok_or("an order")?;
-    assert!(rt; is_order(ordered.logs(), ordered.schedule()));
-    Ok(())
+/// Whether a list of places is found that is an order of the logs.
+fn are_listed(alloc: Global, logs: &Logs<Global>) -> bool {
+    match find_order(alloc, logs) {
+        Ok(places) => is_order(logs, &places),
+        Err(_) => false,
+    }
+}
+
+/// The same of the schedule.
+fn are_ordered(alloc: Global, logs: &Logs<Global>) -> bool {
+    match order(alloc, logs) {
+        Ok(ordered) => is_order(ordered.logs(), ordered.schedule()),
+        Err(_) => false,
+    }
+}
+
+fn assert_ordered(rt: &impl Abort, alloc: Global, logs: &Logs<Global>) {
+    let answers = (
+        match_links(logs),
+        are_listed(alloc, logs),
+        are_ordered(alloc, logs),
+    );
+    assert_eq!(rt; answers, (Ok(()), true, true));
 }
 
 fn assert_refused(
@@ -100,12 +116,14 @@ fn assert_refused(
 
 #[test]
 fn two_node_election(rt: HostRuntime) -> Result<(), Fail> {
-    assert_ordered(&rt, rt.alloc(), &two_node_logs(rt.alloc())?)
+    assert_ordered(&rt, rt.alloc(), &two_node_logs(rt.alloc())?);
+    Ok(())
 }
 
 #[test]
 fn tie_then_win(rt: HostRuntime) -> Result<(), Fail> {
-    assert_ordered(&rt, rt.alloc(), &tie_logs(rt.alloc())?)
+    assert_ordered(&rt, rt.alloc(), &tie_logs(rt.alloc())?);
+    Ok(())
 }
 
 #[test]
@@ -127,17 +145,20 @@ fn equal_pair_passed_on_clean(rt: HostRuntime) -> Result<(), Fail> {
         &rt,
         rt.alloc(),
         &logs_of(rt.alloc(), 2, &[&first, &second])?,
-    )
+    );
+    Ok(())
 }
 
 #[test]
 fn lone_initiator(rt: HostRuntime) -> Result<(), Fail> {
-    assert_ordered(&rt, rt.alloc(), &lone_initiator_logs(rt.alloc())?)
+    assert_ordered(&rt, rt.alloc(), &lone_initiator_logs(rt.alloc())?);
+    Ok(())
 }
 
 #[test]
 fn empty_logs_meet_at_start(rt: HostRuntime) -> Result<(), Fail> {
-    assert_ordered(&rt, rt.alloc(), &empty_logs(rt.alloc())?)
+    assert_ordered(&rt, rt.alloc(), &empty_logs(rt.alloc())?);
+    Ok(())
 }
 
 #[test]
@@ -201,22 +222,27 @@ fn receipt_without_sending(rt: HostRuntime) -> Result<(), Fail> {
     )
 }
 
-#[test]
-fn counts_of_two_node_election(rt: HostRuntime) -> Result<(), Fail> {
-    let logs = two_node_logs(rt.alloc())?;
+/// Of two logs of four events each: some counts, and which of some events happened before which.
+fn asked(ordered: &Ordered<'_, Global>) -> Result<([u32; 4], [bool; 2]), Fail> {
+    let logs = ordered.logs();
     if logs.size().get() != 2 || logs.log(0).len() != 4 || logs.log(1).len() != 4 {
         return Err(Fail::from("logs of four events"));
     }
-    let ordered = order(rt.alloc(), &logs).ok().ok_or("an order")?;
     let counts = [
         ordered.count(0, 3, 1),
         ordered.count(0, 4, 1),
         ordered.count(1, 4, 0),
         ordered.count(1, 0, 0),
     ];
-    assert_eq!(rt; counts, [2, 4, 2, 0]);
-    let order = [ordered.before(1, 3, 0, 4), ordered.before(0, 3, 1, 4)];
-    assert_eq!(rt; order, [true, false]);
+    let before = [ordered.before(1, 3, 0, 4), ordered.before(0, 3, 1, 4)];
+    Ok((counts, before))
+}
+
+#[test]
+fn counts_of_two_node_election(rt: HostRuntime) -> Result<(), Fail> {
+    let logs = two_node_logs(rt.alloc())?;
+    let ordered = order(rt.alloc(), &logs).ok().ok_or("an order")?;
+    assert_eq!(rt; asked(&ordered)?, ([2, 4, 2, 0], [true, false]));
     Ok(())
 }
 

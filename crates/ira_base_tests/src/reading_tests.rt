@@ -172,6 +172,12 @@ fn one_byte_too_long(rt: HostRuntime) -> Result<(), Fail> {
     Ok(())
 }
 
+/// Whether a node at this place may record this draw.
+fn is_log(alloc: Global, nodes: RingSize, place: u8, drawn: u32) -> Result<bool, Fail> {
+    let events = vec![in alloc; Event::Draw(drawn)]?;
+    Ok(NodeLog::new(nodes, place, true, events).is_some())
+}
+
 #[test]
 fn logs_out_of_range(rt: HostRuntime) -> Result<(), Fail> {
     let nodes = RingSize::new(2).ok_or("a ring of two")?;
@@ -185,12 +191,8 @@ fn logs_out_of_range(rt: HostRuntime) -> Result<(), Fail> {
         (0, 0, false),
         (0, 1_000_001, false),
     ] {
-        let events = vec![in rt.alloc(); Event::Draw(drawn)]?;
-        assert_eq!(rt;
-            NodeLog::new(nodes, place, true, events).is_some(),
-            wanted,
-            "{place} {drawn}"
-        );
+        let is = is_log(rt.alloc(), nodes, place, drawn)?;
+        assert!(rt; is == wanted, "{place} {drawn}");
     }
     Ok(())
 }

@@ -2,9 +2,10 @@
 ghost use Rattle.std.specs.Iterator.{YieldsFirst, item_count};
 
 use crate::samples::{clean, dirty, free, log_of, loser, owing, tie_loser, tie_winner, winner};
-use ira_event::{Event, Listed, RingSize};
+use ira_event::{Event, Listed, NodeLog, RingSize};
 use ira_node::{NodeState, Phase, StepFault};
 use ira_replay::{ReplayFault, States, replay};
+use std::alloc::Global;
 use std::process::Abort;
 use std::test::Fail;
 
@@ -22,23 +23,35 @@ fn assert_replayed(
     Ok(())
 }
 
+/// What the iterator of a log's states gives at first.
+fn first_states(log: &NodeLog<Global>) -> [Option<(u32, NodeState)>; 7] {
+    let mut states = States::new(log.nodes(), log.initiator(), log.events());
+    [
+        states.next(),
+        states.next(),
+        states.next(),
+        states.next(),
+        states.next(),
+        states.next(),
+        states.next(),
+    ]
+}
+
 #[test]
 fn two_node_election(rt: HostRuntime) -> Result<(), Fail> {
     let log = log_of(rt.alloc(), 2, 0, true, &winner())?;
     let active = Phase::Active { round: 1, id: 2 };
     let leader = free(Phase::Leader { round: 1, id: 2 });
-    let mut states = States::new(log.nodes(), log.initiator(), log.events());
-    for want in [
-        (0, free(Phase::Choosing { round: 1 })),
-        (1, owing(active, clean(1, 2, 1))),
-        (2, free(active)),
-        (3, free(active)),
-        (4, leader),
-    ] {
-        assert_eq!(rt; states.next(), Some(want));
-    }
-    let behind = [states.next(), states.next()];
-    assert_eq!(rt; behind, [None, None]);
+    let wanted = [
+        Some((0, free(Phase::Choosing { round: 1 }))),
+        Some((1, owing(active, clean(1, 2, 1)))),
+        Some((2, free(active))),
+        Some((3, free(active))),
+        Some((4, leader)),
+        None,
+        None,
+    ];
+    assert_eq!(rt; first_states(&log), wanted);
     assert_replayed(&rt, 2, 0, true, &winner(), Ok(leader))?;
     assert_replayed(&rt, 2, 1, true, &loser(), Ok(free(Phase::Passive)))
 }

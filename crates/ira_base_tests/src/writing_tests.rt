@@ -2,7 +2,7 @@
 
 use crate::samples::{ELECTION_0, ELECTION_1, dirty, log_of, loser, winner};
 use ira_event::{Event, HeadFault, Logs, MemorySink, NodeLog, ToWriter, WriteFault, write_log};
-use ira_pred::{read_question, write_question};
+use ira_pred::{Question, read_question, write_question};
 use ira_refusing::FailingSink;
 use std::alloc::Global;
 use std::io::BufWriter;
@@ -46,36 +46,59 @@ fn largest_numbers_and_dirty(rt: HostRuntime) -> Result<(), Fail> {
     assert_written(&rt, 64, 63, false, &events, text)
 }
 
+/// Whether the log, written to a sink that fails behind so many bytes, leaves these there.
+fn stops_behind(alloc: Global, log: &NodeLog<Global>, front: &[u8]) -> bool {
+    let mut sink = FailingSink::new(alloc, front.len());
+    write_log(log, &mut sink) == Err(WriteFault) && sink.bytes() == front
+}
+
 #[test]
 fn sink_fails_after_ten_bytes(rt: HostRuntime) -> Result<(), Fail> {
-    let mut sink = FailingSink::new(rt.alloc(), 10);
     let log = log_of(rt.alloc(), 2, 0, true, &winner())?;
-    assert_eq!(rt; write_log(&log, &mut sink), Err(WriteFault));
-    assert_eq!(rt; sink.bytes(), b"irlog 1\nno".as_slice());
+    assert!(rt; stops_behind(rt.alloc(), &log, b"irlog 1\nno"));
     Ok(())
+}
+
+/// Compares what is left in a sink that fails, behind each byte of the log's text.
+fn assert_stops(rt: &(impl Abort + AllocGlobal), log: &NodeLog<Global>, text: &[u8]) {
+    for k in 0..text.len() {
+        assert!(rt;
+            stops_behind(rt.alloc(), log, &text[..k]),
+            "after {k} bytes"
+        );
+    }
 }
 
 #[test]
 fn sink_fails_behind_each_byte(rt: HostRuntime) -> Result<(), Fail> {
     let log = log_of(rt.alloc(), 2, 0, true, &winner())?;
-    for k in 0..ELECTION_0.len() {
-        let mut sink = FailingSink::new(rt.alloc(), k);
-        let written = write_log(&log, &mut sink);
-        assert!(rt;
-            written == Err(WriteFault) && sink.bytes() == &ELECTION_0[..k],
-            "after {k} bytes"
-        );
+    assert_stops(&rt, &log, ELECTION_0);
+    Ok(())
+}
+
+/// Whether the question, written to a sink that fails behind so many bytes, leaves these there.
+fn question_stops_behind(alloc: Global, question: &Question<Global>, front: &[u8]) -> bool {
+    let mut sink = FailingSink::new(alloc, front.len());
+    write_question(question, &mut sink) == Err(WriteFault) && sink.bytes() == front
+}
+
+/// Compares what is left in a sink that fails, behind each byte of the question's text.
+fn assert_question_stops(
+    rt: &(impl Abort + AllocGlobal),
+    question: &Question<Global>,
+    text: &[u8],
+) {
+    for k in 0..text.len() {
+        let stops = question_stops_behind(rt.alloc(), question, &text[..k]);
+        assert!(rt; stops, "after {k} bytes");
     }
+}
+
+#[test]
+fn sink_of_a_question_fails_behind_each_byte(rt: HostRuntime) -> Result<(), Fail> {
     let text = b"irask 1\nnodes 2\ncase\n0: leader\n1: (leader or (not active))\nend\n";
     let question = read_question(rt.alloc(), text)?;
-    for k in 0..text.len() {
-        let mut sink = FailingSink::new(rt.alloc(), k);
-        let written = write_question(&question, &mut sink);
-        assert!(rt;
-            written == Err(WriteFault) && sink.bytes() == &text[..k],
-            "after {k} bytes"
-        );
-    }
+    assert_question_stops(&rt, &question, text);
     Ok(())
 }
 
@@ -98,12 +121,20 @@ fn full_writer(rt: HostRuntime) -> Result<(), Fail> {
     Ok(())
 }
 
+/// What writing to the buffer of a writer with room for ten bytes answers, and then flushing it.
+fn write_behind_a_buffer(
+    alloc: Global,
+    log: &NodeLog<Global>,
+) -> Result<(Result<(), WriteFault>, Result<(), WriteFault>), Fail> {
+    let mut room = [0; 10];
+    let mut sink = ToWriter::new(BufWriter::new(alloc, room.as_mut_slice())?);
+    Ok((write_log(log, &mut sink), sink.flush()))
+}
+
 #[test]
 fn full_writer_behind_a_buffer(rt: HostRuntime) -> Result<(), Fail> {
     let log = log_of(rt.alloc(), 2, 1, true, &loser())?;
-    let mut room = [0; 10];
-    let mut sink = ToWriter::new(BufWriter::new(rt.alloc(), room.as_mut_slice())?);
-    let written = (write_log(&log, &mut sink), sink.flush());
+    let written = write_behind_a_buffer(rt.alloc(), &log)?;
     assert_eq!(rt;
         written,
         (Ok(()), Err(WriteFault)),
@@ -112,22 +143,27 @@ fn full_writer_behind_a_buffer(rt: HostRuntime) -> Result<(), Fail> {
     Ok(())
 }
 
-// Logs of these ring sizes and places, gathered: how many there are.
-fn gather(
-    rt: &impl Abort,
-    alloc: Global,
-    heads: &[(u8, u8)],
-) -> Result<Result<u8, HeadFault>, Fail> {
+/// Whether each log stands at its place.
+fn are_in_place(logs: &Logs<Global>) -> bool {
+    for place in 0..logs.size().get() {
+        if logs.log(place).place() != place {
+            return false;
+        }
+    }
+    true
+}
+
+/// Logs of these ring sizes and places, gathered: how many there are.
+fn gather(alloc: Global, heads: &[(u8, u8)]) -> Result<Result<u8, HeadFault>, Fail> {
     let mut logs = Vec::new(alloc);
     for (nodes, place) in heads {
         logs.push(log_of(alloc, *nodes, *place, true, &[])?)?;
     }
-    Ok(Logs::gather(logs).map(|logs| {
-        for i in 0..logs.size().get() {
-            assert_eq!(rt; logs.log(i).place(), i);
-        }
-        logs.size().get()
-    }))
+    match Logs::gather(logs) {
+        Ok(logs) if are_in_place(&logs) => Ok(Ok(logs.size().get())),
+        Ok(_) => Err("each log at its place".into()),
+        Err(fault) => Ok(Err(fault)),
+    }
 }
 
 #[test]
@@ -146,7 +182,7 @@ fn heads_out_of_place(rt: HostRuntime) -> Result<(), Fail> {
         (&[(3, 2), (4, 1), (5, 0)], Err(HeadFault::Size(1))),
     ];
     for (heads, wanted) in rows {
-        assert_eq!(rt; gather(&rt, rt.alloc(), heads)?, wanted);
+        assert!(rt; gather(rt.alloc(), heads)? == wanted, "{heads:?}");
     }
     Ok(())
 }

@@ -23,12 +23,20 @@ fn sizes(alloc: Global, text: &[u8]) -> Result<(usize, usize), CertFault> {
     Ok((certificate.sections.len(), steps))
 }
 
+fn assert_sizes(
+    rt: &(impl Abort + AllocGlobal),
+    text: &[u8],
+    wanted: Result<(usize, usize), CertFault>,
+) {
+    assert_eq!(rt; sizes(rt.alloc(), text), wanted);
+}
+
 #[test]
 fn one_byte_too_long(rt: HostRuntime) -> Result<(), Fail> {
     let text = vec![in rt.alloc(); b'x'; 67_108_865]?;
-    assert_eq!(rt; sizes(rt.alloc(), &text), Err(CertFault::TooLong));
+    assert_sizes(&rt, &text, Err(CertFault::TooLong));
     let (longest, _) = text.split_at(67_108_864);
-    assert_eq!(rt; sizes(rt.alloc(), longest), Err(CertFault::Head));
+    assert_sizes(&rt, longest, Err(CertFault::Head));
     Ok(())
 }
 
@@ -42,10 +50,10 @@ fn too_many_steps(rt: HostRuntime) -> Result<(), Fail> {
     )?;
     let steps = text.len();
     text.extend_from_slice(b"spent 1\nend\n")?;
-    assert_eq!(rt; sizes(rt.alloc(), &text), Ok((1, 1_000_000)));
+    assert_sizes(&rt, &text, Ok((1, 1_000_000)));
     text.truncate(steps);
     text.extend_from_slice(b"drop \n")?;
-    assert_eq!(rt; sizes(rt.alloc(), &text), Err(CertFault::TooMany));
+    assert_sizes(&rt, &text, Err(CertFault::TooMany));
     Ok(())
 }
 
@@ -59,9 +67,9 @@ fn too_many_sections(rt: HostRuntime) -> Result<(), Fail> {
     )?;
     let sections = text.len();
     text.extend_from_slice(b"end\n")?;
-    assert_eq!(rt; sizes(rt.alloc(), &text), Ok((2_016, 0)));
+    assert_sizes(&rt, &text, Ok((2_016, 0)));
     text.truncate(sections);
     text.extend_from_slice(b"section\n")?;
-    assert_eq!(rt; sizes(rt.alloc(), &text), Err(CertFault::TooMany));
+    assert_sizes(&rt, &text, Err(CertFault::TooMany));
     Ok(())
 }

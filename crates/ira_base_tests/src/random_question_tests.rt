@@ -2,7 +2,7 @@
 
 ghost use Rattle.std.specs.Prelude.{◌≤◌, ◌<◌};
 
-use crate::samples::assert_read;
+use crate::question_samples::is_read;
 use std::alloc::Global;
 use std::mem;
 use std::test::Fail;
@@ -138,7 +138,7 @@ fn random_questions(rt: HostRuntime) -> Result<(), Fail> {
     let mut random = Random { state: 7 };
     for _ in 0..TEXTS {
         let text = question(&mut random, rt.alloc())?;
-        assert_read(&rt, text.as_bytes())?;
+        assert!(rt; is_read(rt.alloc(), text.as_bytes())?);
     }
     Ok(())
 }

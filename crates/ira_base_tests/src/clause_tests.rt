@@ -1,6 +1,7 @@
 //! What clauses say of states.
 
-use crate::samples::{ACTIVE, PHASES, free, owing};
+use crate::question_samples::{ACTIVE, PHASES};
+use crate::samples::{clean, free, owing};
 use ira_node::Phase;
 use ira_pred::{Clause, Rel};
 use std::alloc::{AllocError, Allocator, Global};
@@ -47,13 +48,13 @@ fn clauses_of_parts(rt: HostRuntime) -> Result<(), Fail> {
     assert!(rt; other.holds(&free(Phase::Passive)));
     let first = Box::new(rt.alloc(), Clause::Owes)?;
     let both = Clause::Both(first, Box::new(rt.alloc(), Clause::Active)?);
-    assert!(rt; both.holds(&owing(ACTIVE)));
+    assert!(rt; both.holds(&owing(ACTIVE, clean(2, 3, 1))));
     assert!(rt; !both.holds(&free(ACTIVE)));
-    assert!(rt; !both.holds(&owing(Phase::Passive)));
+    assert!(rt; !both.holds(&owing(Phase::Passive, clean(2, 3, 1))));
     let first = Box::new(rt.alloc(), Clause::Owes)?;
     let either = Clause::Either(first, Box::new(rt.alloc(), Clause::Active)?);
     assert!(rt; either.holds(&free(ACTIVE)));
-    assert!(rt; either.holds(&owing(Phase::Passive)));
+    assert!(rt; either.holds(&owing(Phase::Passive, clean(2, 3, 1))));
     assert!(rt; !either.holds(&free(Phase::Passive)));
     Ok(())
 }

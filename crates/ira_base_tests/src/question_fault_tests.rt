@@ -1,8 +1,10 @@
 //! Texts of questions that are read, and the faults of others.
 
-use crate::samples::{HEAD, PHASES, assert_answer, assert_read, free, owing};
+use crate::question_samples::{HEAD, PHASES, assert_answer, is_read};
+use crate::samples::{clean, free, owing};
 use ira_pred::{AskFault, read_question};
 use std::alloc::Global;
+use std::process::Abort;
 use std::test::Fail;
 
 /// The text of one case for node 0 of two: so many negations of `true`.
@@ -18,6 +20,19 @@ fn negations(alloc: Global, depth: usize) -> Result<Vec<u8>, Fail> {
     }
     text.extend_from_slice(b"\nend\n")?;
     Ok(text)
+}
+
+/// Compares what reading these lines behind the head answers. A text that is read is written as it was.
+fn assert_lines(
+    rt: &(impl Abort + AllocGlobal),
+    lines: &[u8],
+    wanted: Result<usize, AskFault>,
+) -> Result<(), Fail> {
+    let mut text = Vec::from_slice(rt.alloc(), HEAD)?;
+    text.extend_from_slice(lines)?;
+    assert_answer(rt, &text, wanted);
+    assert!(rt; wanted.is_err() || is_read(rt.alloc(), &text)?);
+    Ok(())
 }
 
 #[test]
@@ -54,19 +69,25 @@ fn question_faults(rt: HostRuntime) -> Result<(), Fail> {
             Err(AskFault::Trailing),
         ),
     ] {
-        let mut text = Vec::from_slice(rt.alloc(), HEAD)?;
-        text.extend_from_slice(lines)?;
-        assert_answer(&rt, &text, wanted);
-        if wanted.is_ok() {
-            assert_read(&rt, &text)?;
-        }
+        assert_lines(&rt, lines, wanted)?;
     }
+    Ok(())
+}
+
+/// Whether the text's first clause holds of each phase, whatever the node owes.
+fn always_holds(alloc: Global, text: &[u8]) -> Result<bool, Fail> {
+    let question = read_question(alloc, text)?;
+    let clause = question.cases()[0].clause(0);
+    Ok(
+        PHASES.iter().all(|phase| clause.holds(&free(*phase))
+            && clause.holds(&owing(*phase, clean(2, 3, 1)))),
+    )
+}
+
+#[test]
+fn depths_of_a_clause(rt: HostRuntime) -> Result<(), Fail> {
     assert_answer(&rt, &negations(rt.alloc(), 33)?, Err(AskFault::Depth(4)));
-    let deepest = read_question(rt.alloc(), &negations(rt.alloc(), 32)?)?;
-    for phase in PHASES {
-        assert!(rt; deepest.cases()[0].clause(0).holds(&free(phase)));
-        assert!(rt; deepest.cases()[0].clause(0).holds(&owing(phase)));
-    }
+    assert!(rt; always_holds(rt.alloc(), &negations(rt.alloc(), 32)?)?);
     Ok(())
 }
 
@@ -98,9 +119,7 @@ fn faults_of_one_line(rt: HostRuntime) -> Result<(), Fail> {
         (b"case\n7: true".as_slice(), AskFault::Cut),
         (b"case\nend".as_slice(), AskFault::Cut),
     ] {
-        let mut text = Vec::from_slice(rt.alloc(), HEAD)?;
-        text.extend_from_slice(lines)?;
-        assert_answer(&rt, &text, Err(wanted));
+        assert_lines(&rt, lines, Err(wanted))?;
     }
     Ok(())
 }

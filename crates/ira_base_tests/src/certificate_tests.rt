@@ -108,11 +108,8 @@ fn prefixes_of_two_step_section(rt: HostRuntime) -> Result<(), Fail> {
         } else {
             CertFault::Cut
         };
-        assert_eq!(rt;
-            answer(rt.alloc(), &TWO_STEP_SECTION[..n]),
-            Err(wanted),
-            "{n} bytes"
-        );
+        let found = answer(rt.alloc(), &TWO_STEP_SECTION[..n]);
+        assert!(rt; found == Err(wanted), "{n} bytes");
     }
     let mut twice = Vec::from_slice(rt.alloc(), TWO_STEP_SECTION)?;
     twice.extend_from_slice(TWO_STEP_SECTION)?;

@@ -1,6 +1,6 @@
 //! Texts of questions that are made to do harm.
 
-use crate::samples::{HEAD, PAIRS_OF_THREE, assert_answer};
+use crate::question_samples::{HEAD, PAIRS_OF_THREE, assert_answer};
 use ira_pred::AskFault;
 use std::alloc::Global;
 use std::test::Fail;
@@ -32,14 +32,34 @@ fn malicious_questions(rt: HostRuntime) -> Result<(), Fail> {
     let mut twice = Vec::from_slice(rt.alloc(), PAIRS_OF_THREE)?;
     twice.extend_from_slice(PAIRS_OF_THREE)?;
     assert_answer(&rt, &twice, Err(AskFault::Trailing));
-    let place = text_of(rt.alloc(), b"case\n4294967296: true\n", 1, b"end\n")?;
-    assert_answer(&rt, &place, Err(AskFault::Place(4)));
-    let zeros = text_of(rt.alloc(), b"case\n00: true\n", 1, b"end\n")?;
-    assert_answer(&rt, &zeros, Err(AskFault::Line(4)));
-    let most = text_of(rt.alloc(), b"case\n0: true\n", 2016, b"end\n")?;
-    assert_answer(&rt, &most, Ok(2016));
-    let more = text_of(rt.alloc(), b"case\n0: true\n", 2016, b"case\n")?;
-    assert_answer(&rt, &more, Err(AskFault::Cases));
+    for (lines, count, last, wanted) in [
+        (
+            b"case\n4294967296: true\n".as_slice(),
+            1,
+            b"end\n".as_slice(),
+            Err(AskFault::Place(4)),
+        ),
+        (
+            b"case\n00: true\n".as_slice(),
+            1,
+            b"end\n".as_slice(),
+            Err(AskFault::Line(4)),
+        ),
+        (
+            b"case\n0: true\n".as_slice(),
+            2016,
+            b"end\n".as_slice(),
+            Ok(2016),
+        ),
+        (
+            b"case\n0: true\n".as_slice(),
+            2016,
+            b"case\n".as_slice(),
+            Err(AskFault::Cases),
+        ),
+    ] {
+        assert_answer(&rt, &text_of(rt.alloc(), lines, count, last)?, wanted);
+    }
     Ok(())
 }
 
