@@ -41,7 +41,7 @@ module _ (logs : List Log) (case : List Conjunct) (before : List CertStep) (fron
   other_list : (i : ℕ) → i ≢ s.node → slice_get left i ≡ slice_get fronts i
   other_list i other = ap (λ (fs : List (Option (List ℕ))). slice_get fs i) moved ∙ slice_get-set_other fronts s.node i _ (λ e. other (sym e))
 
-  other_first : (i p : ℕ) → i ≢ s.node → IsFirstLeft left i p → IsFirstLeft fronts i p
+  pub other_first : (i p : ℕ) → i ≢ s.node → IsFirstLeft left i p → IsFirstLeft fronts i p
   other_first i p other first = (first.0, sym (other_list i other) ∙ first.1, first.2)
 
   pub own_list : slice_get left s.node ≡ Some (Some (drop 1 is.front.0))
@@ -51,7 +51,7 @@ module _ (logs : List Log) (case : List Conjunct) (before : List CertStep) (fron
       ∙ ap (λ (o : Option (List ℕ)). Some (option_map (λ xs. drop 1 xs) o)) (get_or_from_slice_get fronts s.node (Some is.front.0) None is.front.1)
 
   -- the node's first candidate left is now a later one
-  own_first : (p : ℕ) → IsFirstLeft left s.node p → s.pos ≤ p
+  pub own_first : (p : ℕ) → IsFirstLeft left s.node p → s.pos ≤ p
   own_first p first =
       let h = behind.lists s.node is.front.0 is.front.1 in
       let m : ℕ = made before s.node in

@@ -10,6 +10,7 @@ use Rattle.ira_cert_text.specs.declared.cert_step.CertStep.{CertStep}
 use Rattle.ira_cert.specs.Asked.{HasDifferentPlaces}
 use Rattle.ira_cert.specs.Fronts.{AreFronts}
 use Rattle.ira_elim.specs.PairSet.{Has}
+use Rattle.ira_elim.specs.Stand.{Stand, IsStand}
 
 -- they are the candidates of some case that asks each node for one thing at most
 abbrev pub AreFrontsOfSomeCase : List Log → List (Option (List ℕ)) → Type 0
@@ -30,6 +31,10 @@ IsFirstLeft fronts i p = (left : List ℕ) × (slice_get fronts i ≡ Some (Some
 -- the first candidates left are states of the logs
 abbrev pub AreWithin : List Log → List (Option (List ℕ)) → Type 0
 AreWithin logs fronts = (i p : ℕ) → IsFirstLeft fronts i p → (i < length logs) × (p ≤ length (log_of logs i))
+
+-- each node that has a first candidate left stands there
+abbrev pub AreStands : List Log → List (Option (List ℕ)) → List Stand → Type 0
+AreStands logs fronts stands = (j q : ℕ) → IsFirstLeft fronts j q → (s : Stand) × (slice_get stands j ≡ Some s) × IsStand logs j q s
 
 -- the step names the first candidates left of two different nodes, and the event that leads on from the one
 -- state happened before the event that led to the other
