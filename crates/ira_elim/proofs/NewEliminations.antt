@@ -13,10 +13,11 @@ use Rattle.ira_order.proofs.Acyclic.{before_within}
 use Rattle.ira_order.proofs.Bridge.{before_places}
 use Rattle.ira_cert_text.specs.declared.cert_step.CertStep.{CertStep}
 use Rattle.ira_cert.specs.Front.{made}
-use Rattle.ira_cert.specs.Fronts.{AreFrontsBehind}
+use Rattle.ira_cert.specs.FrontsBehind.{AreFrontsBehind}
 use Rattle.ira_cert.proofs.Behind.{one_fewer, slice_get-drop, slice_get-set_same, slice_get-set_other}
 use Rattle.ira_cert.proofs.NoCut.{rising_le}
-use Rattle.ira_elim.specs.Elimination.{HasEliminations, HasList, IsElimination, IsFirstLeft, AreWithin}
+use Rattle.ira_cert.specs.Fronts.{HasList}
+use Rattle.ira_elim.specs.Elimination.{HasEliminations, IsElimination, IsFirstLeft, AreWithin}
 use Rattle.ira_elim.specs.PairSet.{Has}
 use Rattle.ira_elim.proofs.Places.{one_first}
 use Rattle.ira_elim.proofs.Present.{before_counts}

@@ -3,7 +3,8 @@ use Rattle.std.proofs.Common.{◌≡◌, ℕ, zero, suc, ◌+◌, ◌<◌, inl, 
 use Rattle.std.proofs.lemmas.List.{get_or_default}
 use Rattle.std.proofs.lemmas.List.Elements.{Contains-append_left, Contains-append_right, Contains-append_cases}
 use Rattle.std.proofs.lemmas.Option.{same_Some}
-use Rattle.ira_elim.specs.Elimination.{HasList, ArePlaces, IsFirstLeft}
+use Rattle.ira_cert.specs.Fronts.{HasList}
+use Rattle.ira_elim.specs.Elimination.{ArePlaces, IsFirstLeft}
 
 pub at_place : (places : List ℕ) (k : ℕ) → k < length places → Contains places (get_or places k 0)
 at_place places k l = (k, l, get_or_default places k (get_or places k 0) 0 l)

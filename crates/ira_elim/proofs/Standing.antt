@@ -6,9 +6,10 @@ use Rattle.std.proofs.lemmas.Option.{same_Some, slice_get-get_or, slice_get_with
 use Rattle.ira_event.specs.Log.{Log}
 use Rattle.ira_pred.specs.Case.{Conjunct}
 use Rattle.ira_cert_text.specs.declared.cert_step.CertStep.{CertStep}
-use Rattle.ira_cert.specs.Fronts.{AreFrontsBehind}
+use Rattle.ira_cert.specs.FrontsBehind.{AreFrontsBehind}
 use Rattle.ira_cert.proofs.Behind.{one_fewer, slice_get-set_same, slice_get-set_other}
-use Rattle.ira_elim.specs.Elimination.{ArePlaces, AreStands, AreWithin, HasEliminations, HasList, IsElimination, IsFirstLeft}
+use Rattle.ira_cert.specs.Fronts.{HasList}
+use Rattle.ira_elim.specs.Elimination.{ArePlaces, AreStands, AreWithin, HasEliminations, IsElimination, IsFirstLeft}
 use Rattle.ira_elim.specs.PairSet.{Has}
 use Rattle.ira_elim.specs.Stand.{Stand, AreStanding, HasSameCounts, IsStand, KnowsNext}
 use Rattle.ira_elim.proofs.NewEliminations.{other_first}

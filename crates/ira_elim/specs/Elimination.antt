@@ -8,17 +8,13 @@ use Rattle.ira_order.specs.Before.{Before}
 use Rattle.ira_order.specs.VectorClock.{IsCount}
 use Rattle.ira_cert_text.specs.declared.cert_step.CertStep.{CertStep}
 use Rattle.ira_cert.specs.Asked.{HasDifferentPlaces}
-use Rattle.ira_cert.specs.Fronts.{AreFronts}
+use Rattle.ira_cert.specs.Fronts.{AreFronts, HasList}
 use Rattle.ira_elim.specs.PairSet.{Has}
 use Rattle.ira_elim.specs.Stand.{Stand, IsStand}
 
 -- they are the candidates of some case that asks each node for one thing at most
 abbrev pub AreFrontsOfSomeCase : List Log → List (Option (List ℕ)) → Type 0
 AreFrontsOfSomeCase logs fronts = (case : List Conjunct) × HasDifferentPlaces case × AreFronts logs case fronts
-
--- there is a list at place i
-abbrev pub HasList : List (Option (List ℕ)) → ℕ → Type 0
-HasList fronts i = (left : List ℕ) × (slice_get fronts i ≡ Some (Some left))
 
 -- these are the places at which there is a list
 abbrev pub ArePlaces : List (Option (List ℕ)) → List ℕ → Type 0

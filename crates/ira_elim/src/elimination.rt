@@ -1,22 +1,21 @@
-ghost use Rattle.std.specs.Prelude.{◌≡◌, ◌<◌, ◌≤◌, ◌⊎◌, ℕ, List, Some, [], Contains, IfOk, MatchOption, length, slice_get, slice_index_or, slice_set, drop};
-ghost use Rattle.std.specs.Option.{option_map};
+ghost use Rattle.std.specs.Prelude.{◌≡◌, ◌<◌, ◌≤◌, ◌⊎◌, ℕ, List, Some, [], Contains, IfOk, MatchOption, length, slice_get, slice_set};
+ghost use Rattle.ira_event.specs.Log.{Log};
 ghost use Rattle.ira_pred.specs.Case.{Conjunct};
+ghost use Rattle.ira_order.specs.Ring.{log_of};
 ghost use Rattle.ira_cert_text.specs.declared.cert_step.CertStep.{CertStep};
 ghost use Rattle.ira_cert.specs.Asked.{HasDifferentPlaces};
-ghost use Rattle.ira_cert.specs.Fronts.{AreFronts};
-ghost use Rattle.ira_elim.specs.Elimination.{AreFrontsOfSomeCase, AreGreatestCounts, ArePlaces, AreStands, AreWithin, HasEliminations, HasList, IsElimination, IsFirstLeft, IsGreatestCount};
+ghost use Rattle.ira_cert.specs.Fronts.{AreFronts, HasList};
+ghost use Rattle.ira_elim.specs.Elimination.{AreFrontsOfSomeCase, AreGreatestCounts, ArePlaces, AreStands, AreWithin, HasEliminations, IsElimination, IsFirstLeft, IsGreatestCount};
 ghost use Rattle.ira_elim.specs.Found.{IsFound};
 ghost use Rattle.ira_elim.specs.PairSet.{Has};
 ghost use Rattle.ira_elim.specs.Stand.{Stand, AreStanding, HasSameCounts, IsStand, KnowsNext};
-ghost use Rattle.ira_event.specs.Log.{Log};
-ghost use Rattle.ira_order.specs.Ring.{log_of};
 
 use crate::cut::Cut;
 use crate::found::Found;
 use crate::pair_set::PairSet;
 use crate::stand::Stand;
 use ira_cand::Ahead;
-use ira_cert::{CertStep, Section};
+use ira_cert::{CertStep, Section, candidates_left, eliminate};
 use ira_event::{Listed, OutOfMemory};
 use ira_order::Ordered;
 use std::alloc::Allocator;
@@ -78,17 +77,6 @@ fn asked_places<A: Allocator, I: Iterator<Item = u32> + Listed>(
         }
     }
     Ok(asked)
-}
-
-/// The candidates left of the node, if it is asked.
-fn candidates_left<I: Iterator<Item = u32> + Listed>(
-    fronts: &[Option<Ahead<I>>],
-    place: u8,
-) -> Option<&Ahead<I>>
-    ensures { MatchOption result (HasList fronts.now place → ⊥)
-        (λ left. slice_get fronts.now place ≡ Some (Some left.now)) }
-{
-    fronts.get(usize::from(place))?.as_ref()
 }
 
 /// The first candidate left of the node.
@@ -255,17 +243,6 @@ fn advance<'a, A: Allocator>(
 {
     if stands[usize::from(node)].advance(ordered, node, position) {
         add_eliminated_by(pairs, stands, asked, node);
-    }
-}
-
-/// Removes the first candidate left of the node.
-fn eliminate<I: Iterator<Item = u32> + Listed>(fronts: &mut [Option<Ahead<I>>], place: u8)
-    requires { place < length fronts.old }
-    ensures { fronts.new
-        ≡ slice_set fronts.old place (option_map (λ xs. drop 1 xs) (slice_index_or fronts.old place None)) }
-{
-    if let Some(left) = &mut fronts[usize::from(place)] {
-        left.advance();
     }
 }
 

@@ -4,7 +4,8 @@ use Rattle.std.proofs.lemmas.Option.{slice_get_within}
 use Rattle.ira_event.specs.Log.{Log}
 use Rattle.ira_cert_text.specs.declared.cert_step.CertStep.{CertStep}
 use Rattle.ira_cert.proofs.Behind.{all_left, one_fewer}
-use Rattle.ira_elim.specs.Elimination.{ArePlaces, AreStands, AreWithin, AreGreatestCounts, HasEliminations, HasList, IsElimination, IsFirstLeft}
+use Rattle.ira_cert.specs.Fronts.{HasList}
+use Rattle.ira_elim.specs.Elimination.{ArePlaces, AreStands, AreWithin, AreGreatestCounts, HasEliminations, IsElimination, IsFirstLeft}
 use Rattle.ira_elim.specs.LeastCut.{IsLeastCut}
 use Rattle.ira_elim.specs.PairSet.{Has}
 use Rattle.ira_elim.specs.Stand.{Stand, AreStanding, IsStand}

@@ -1,8 +1,8 @@
 use Rattle.std.proofs.Common.{◌≡◌, ℕ, ◌+◌, ◌≤◌, List, length}
 use Rattle.ira_pred.specs.Case.{Conjunct}
 use Rattle.ira_cert.specs.Asked.{HasDifferentPlaces}
-use Rattle.ira_cert.specs.Fronts.{AreFronts}
-use Rattle.ira_elim.specs.Elimination.{AreStands, HasEliminations, HasList, IsFirstLeft}
+use Rattle.ira_cert.specs.Fronts.{AreFronts, HasList}
+use Rattle.ira_elim.specs.Elimination.{AreStands, HasEliminations, IsFirstLeft}
 use Rattle.ira_elim.proofs.Steps.{AreMade, total}
 use Rattle.ira_elim.proofs.elimination.decide_fronts.Given as goal
 
