@@ -9,7 +9,8 @@ use Rattle.ira_pred.specs.Case.{Conjunct}
 use Rattle.ira_cert_text.specs.declared.cert_step.CertStep.{CertStep}
 use Rattle.ira_cert.specs.Asked.{IsAsked, CandidatesOf, HasDifferentPlaces}
 use Rattle.ira_cert.specs.Front.{made, IsFront, IsSpent}
-use Rattle.ira_cert.specs.Fronts.{AreFronts, AreFrontsBehind}
+use Rattle.ira_cert.specs.Fronts.{AreFronts}
+use Rattle.ira_cert.specs.FrontsBehind.{AreFrontsBehind}
 use Rattle.ira_cert.specs.SoundSection.{IsSoundStep}
 use Rattle.ira_cert.proofs.Made.{made_own, made_other}
 use Rattle.ira_cert.proofs.OneList.{one_list}

@@ -9,7 +9,7 @@ use Rattle.ira_cert.specs.declared.section_fault.SectionFault.TheVariants.{Step,
 use Rattle.ira_cert.specs.declared.unsound.Unsound.{Unsound}
 use Rattle.ira_cert.specs.Asked.{HasDifferentPlaces}
 use Rattle.ira_cert.specs.Front.{made, IsSpent}
-use Rattle.ira_cert.specs.Fronts.{AreFrontsBehind}
+use Rattle.ira_cert.specs.FrontsBehind.{AreFrontsBehind}
 use Rattle.ira_cert.specs.SoundSection.{AreSoundSteps, IsSoundSection}
 use Rattle.ira_cert.specs.SectionFault.{IsFirstUnsoundStep, IsSectionFault, unsound, not_spent}
 use Rattle.ira_cert.proofs.Behind.{spent_at}

@@ -1,14 +1,16 @@
--- Helpers, no definitions: the candidates of a case, place by place.
-use Rattle.std.specs.Prelude.{◌≡◌, ℕ, ◌≤◌, List, Option, Some, MatchOption, length, slice_get, drop}
+-- The candidates of a case, place by place, and what is found for its conjuncts.
+use Rattle.std.specs.Prelude.{◌≡◌, ℕ, List, Option, Some, MatchOption, slice_get}
 use Rattle.ira_event.specs.Log.{Log}
 use Rattle.ira_pred.specs.Case.{Conjunct}
-use Rattle.ira_cert_text.specs.declared.cert_step.CertStep.{CertStep}
 use Rattle.ira_cert.specs.Asked.{IsAsked, CandidatesOf}
-use Rattle.ira_cert.specs.Front.{made}
+
+-- there is a list at place i
+abbrev pub HasList : List (Option (List ℕ)) → ℕ → Type 0
+HasList fronts i = (positions : List ℕ) × (slice_get fronts i ≡ Some (Some positions))
 
 -- a list at each place that the case asks and at no other, and it has the candidates of that place
 pub record AreFronts (logs : List Log) (case : List Conjunct) (fronts : List (Option (List ℕ))) : Type 0 where
-  pub asked : (i : ℕ) → IsAsked case i → (positions : List ℕ) × (slice_get fronts i ≡ Some (Some positions))
+  pub asked : (i : ℕ) → IsAsked case i → HasList fronts i
   pub lists : (i : ℕ) (positions : List ℕ) → slice_get fronts i ≡ Some (Some positions) → CandidatesOf logs case i positions
 
 -- nothing where the case doesn't ask node i; else P holds of the number of node i's conjunct and of what was found
@@ -22,12 +24,3 @@ AreFoundFor P case all = (i : ℕ) (found : Option _) → slice_get all i ≡ So
 -- these are the candidates for conjunct n of the case, at its place
 abbrev pub AreCandidatesFor : List Log → List Conjunct → ℕ → List ℕ → Type 0
 AreCandidatesFor logs case n positions = (c : Conjunct) × (slice_get case n ≡ Some c) × CandidatesOf logs case c.place positions
-
--- The same behind these steps.
-
--- the list of a place has the candidates left: all but the first ones, one for each of its eliminations
-pub record AreFrontsBehind (logs : List Log) (case : List Conjunct) (before : List CertStep) (fronts : List (Option (List ℕ))) : Type 0 where
-  pub asked : (i : ℕ) → IsAsked case i → (left : List ℕ) × (slice_get fronts i ≡ Some (Some left))
-  pub lists :
-      (i : ℕ) (left : List ℕ) → slice_get fronts i ≡ Some (Some left)
-      → (positions : List ℕ) × CandidatesOf logs case i positions × (made before i ≤ length positions) × (left ≡ drop (made before i) positions)

@@ -1,6 +1,7 @@
 pub mod Asked
 pub mod Front
 pub mod Fronts
+pub mod FrontsBehind
 pub mod Laws
 pub mod Left
 pub mod SectionFault

@@ -6,7 +6,8 @@ ghost use Rattle.ira_cert_text.specs.declared.cert_step.CertStep.{CertStep};
 ghost use Rattle.ira_cert.specs.declared.left.Left.{Left};
 ghost use Rattle.ira_cert.specs.declared.unsound.Unsound.{Unsound};
 ghost use Rattle.ira_cert.specs.Asked.{HasDifferentPlaces};
-ghost use Rattle.ira_cert.specs.Fronts.{AreFronts, AreFrontsBehind};
+ghost use Rattle.ira_cert.specs.Fronts.{AreFronts, HasList};
+ghost use Rattle.ira_cert.specs.FrontsBehind.{AreFrontsBehind};
 ghost use Rattle.ira_cert.specs.Left.{IsLeft};
 ghost use Rattle.ira_cert.specs.SoundSection.{IsSoundStep, AreSoundSteps};
 ghost use Rattle.ira_cert.specs.SectionFault.{WhyUnsound, IsFirstUnsoundStep};
@@ -103,19 +104,19 @@ fn left_at<I: Iterator<Item = u32> + Listed>(fronts: &[Option<Ahead<I>>], place:
     }
 }
 
-/// The candidates left of the node, if it is asked.
-fn candidates_left<I: Iterator<Item = u32> + Listed>(
+/// The candidates left of the node at the place; nothing where none are listed.
+pub fn candidates_left<I: Iterator<Item = u32> + Listed>(
     fronts: &[Option<Ahead<I>>],
     place: u8,
 ) -> Option<&Ahead<I>>
-    ensures { MatchOption result ((xs : List ℕ) → slice_get fronts.now place ≢ Some (Some xs))
+    ensures { MatchOption result (¬ (HasList fronts.now place))
         (λ left. slice_get fronts.now place ≡ Some (Some left.now)) }
 {
     fronts.get(usize::from(place))?.as_ref()
 }
 
-/// Removes the first candidate left of the node.
-fn eliminate<I: Iterator<Item = u32> + Listed>(fronts: &mut [Option<Ahead<I>>], place: u8)
+/// Removes the first candidate left of the node at the place; where there is none nothing happens.
+pub fn eliminate<I: Iterator<Item = u32> + Listed>(fronts: &mut [Option<Ahead<I>>], place: u8)
     requires { place < length fronts.old }
     ensures { fronts.new
         ≡ slice_set fronts.old place (option_map (λ xs. drop 1 xs) (slice_index_or fronts.old place None)) }

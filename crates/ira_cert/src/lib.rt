@@ -8,7 +8,6 @@ mod kept;
 mod laws;
 mod left;
 mod plain;
-mod positions;
 mod profiled;
 mod section_fault;
 mod soundness;
@@ -16,7 +15,7 @@ mod unsound;
 mod verdict;
 
 pub use asked::find_asked;
-pub use fronts::check_fronts;
+pub use fronts::{candidates_left, check_fronts, eliminate};
 pub use ira_cert_text::{
     CertFault, CertStep, Certificate, MAX_SECTIONS, MAX_STEPS, Section, read_cert, write_cert,
 };
@@ -24,7 +23,6 @@ pub use kept::Kept;
 pub use laws::{a_section_has_one_verdict, sound_sections_leave_no_cut};
 pub use left::Left;
 pub use plain::{Candidates, case_fronts, check_plain};
-pub use positions::Positions;
 pub use profiled::profiled_fronts;
 pub use section_fault::SectionFault;
 pub use soundness::judge_step;

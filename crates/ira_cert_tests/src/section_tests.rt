@@ -1,6 +1,6 @@
-use ira_cand::Ahead;
 use ira_cert::{
-    CertStep, Positions, Section, SectionFault, Unsound, Verdict, check_fronts, check_plain,
+    CertStep, Section, SectionFault, Unsound, Verdict, candidates_left, case_fronts, check_fronts,
+    check_plain, eliminate,
 };
 use ira_fixtures::{
     ACTIVE_AND_PASSIVE, BOTH_LEAD, ELECTION, LEADER_AND_ACTIVE, TIE, first_case, logs_of, step,
@@ -55,17 +55,19 @@ fn two_step_section(rt: HostRuntime) -> Result<(), Fail> {
 }
 
 #[test]
-fn candidates_that_were_kept(rt: HostRuntime) -> Result<(), Fail> {
+fn candidates_behind_an_elimination(rt: HostRuntime) -> Result<(), Fail> {
     let logs = logs_of(rt.alloc(), &ELECTION)?;
     assert_eq!(rt; logs.size().get(), 2);
     let ordered = order(rt.alloc(), &logs).ok().ok_or("an order")?;
+    let question = read_question(rt.alloc(), LEADER_AND_ACTIVE)?;
+    let mut fronts = case_fronts(rt.alloc(), &logs, first_case(&question, &logs)?)?;
+    eliminate(&mut fronts, 1);
+    let left = candidates_left(&fronts, 1).ok_or("candidates")?;
+    assert_eq!(rt; left.front(), Some(2));
     let section = Section {
-        steps: [step(1, 1, 0, 4), step(1, 2, 0, 4)].to_vec(rt.alloc())?,
+        steps: [step(1, 2, 0, 4)].to_vec(rt.alloc())?,
         spent: 1,
     };
-    let mut fronts = Vec::new(rt.alloc());
-    fronts.push(Some(Ahead::new(Positions::new(&[4]))))?;
-    fronts.push(Some(Ahead::new(Positions::new(&[1, 2]))))?;
     assert_eq!(rt; check_fronts(&ordered, fronts, &section), Verdict::Yes);
     Ok(())
 }

@@ -1,9 +1,11 @@
 pub mod Greatest
 pub mod NewEliminations
+pub mod NoNews
 pub mod PairSet
 pub mod Places
 pub mod Present
 pub mod SomeFound
 pub mod SomeFronts
+pub mod Standing
 pub mod Steps
 pub mod Within

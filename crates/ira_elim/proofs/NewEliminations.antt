@@ -13,10 +13,11 @@ use Rattle.ira_order.proofs.Acyclic.{before_within}
 use Rattle.ira_order.proofs.Bridge.{before_places}
 use Rattle.ira_cert_text.specs.declared.cert_step.CertStep.{CertStep}
 use Rattle.ira_cert.specs.Front.{made}
-use Rattle.ira_cert.specs.Fronts.{AreFrontsBehind}
+use Rattle.ira_cert.specs.FrontsBehind.{AreFrontsBehind}
 use Rattle.ira_cert.proofs.Behind.{one_fewer, slice_get-drop, slice_get-set_same, slice_get-set_other}
 use Rattle.ira_cert.proofs.NoCut.{rising_le}
-use Rattle.ira_elim.specs.Elimination.{HasEliminations, HasList, IsElimination, IsFirstLeft, AreWithin}
+use Rattle.ira_cert.specs.Fronts.{HasList}
+use Rattle.ira_elim.specs.Elimination.{HasEliminations, IsElimination, IsFirstLeft, AreWithin}
 use Rattle.ira_elim.specs.PairSet.{Has}
 use Rattle.ira_elim.proofs.Places.{one_first}
 use Rattle.ira_elim.proofs.Present.{before_counts}
@@ -41,7 +42,7 @@ module _ (logs : List Log) (case : List Conjunct) (before : List CertStep) (fron
   other_list : (i : ℕ) → i ≢ s.node → slice_get left i ≡ slice_get fronts i
   other_list i other = ap (λ (fs : List (Option (List ℕ))). slice_get fs i) moved ∙ slice_get-set_other fronts s.node i _ (λ e. other (sym e))
 
-  other_first : (i p : ℕ) → i ≢ s.node → IsFirstLeft left i p → IsFirstLeft fronts i p
+  pub other_first : (i p : ℕ) → i ≢ s.node → IsFirstLeft left i p → IsFirstLeft fronts i p
   other_first i p other first = (first.0, sym (other_list i other) ∙ first.1, first.2)
 
   pub own_list : slice_get left s.node ≡ Some (Some (drop 1 is.front.0))
@@ -51,7 +52,7 @@ module _ (logs : List Log) (case : List Conjunct) (before : List CertStep) (fron
       ∙ ap (λ (o : Option (List ℕ)). Some (option_map (λ xs. drop 1 xs) o)) (get_or_from_slice_get fronts s.node (Some is.front.0) None is.front.1)
 
   -- the node's first candidate left is now a later one
-  own_first : (p : ℕ) → IsFirstLeft left s.node p → s.pos ≤ p
+  pub own_first : (p : ℕ) → IsFirstLeft left s.node p → s.pos ≤ p
   own_first p first =
       let h = behind.lists s.node is.front.0 is.front.1 in
       let m : ℕ = made before s.node in

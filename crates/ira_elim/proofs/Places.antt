@@ -3,7 +3,8 @@ use Rattle.std.proofs.Common.{◌≡◌, ℕ, zero, suc, ◌+◌, ◌<◌, inl, 
 use Rattle.std.proofs.lemmas.List.{get_or_default}
 use Rattle.std.proofs.lemmas.List.Elements.{Contains-append_left, Contains-append_right, Contains-append_cases}
 use Rattle.std.proofs.lemmas.Option.{same_Some}
-use Rattle.ira_elim.specs.Elimination.{HasList, ArePlaces, IsFirstLeft}
+use Rattle.ira_cert.specs.Fronts.{HasList}
+use Rattle.ira_elim.specs.Elimination.{ArePlaces, IsFirstLeft}
 
 pub at_place : (places : List ℕ) (k : ℕ) → k < length places → Contains places (get_or places k 0)
 at_place places k l = (k, l, get_or_default places k (get_or places k 0) 0 l)
@@ -22,9 +23,12 @@ empty_list : (left : List ℕ) → ((p : ℕ) → slice_get left 0 ≡ Some p �
 empty_list [] none = refl
 empty_list (x ∷ xs) none = absurd (none x refl)
 
--- a node with a list and without a front has an empty one
+-- a node with a list and without a first candidate left has an empty one
+pub none_left : (fronts : List (Option (List ℕ))) (i : ℕ) → ((p : ℕ) → IsFirstLeft fronts i p → ⊥) → HasList fronts i → slice_get fronts i ≡ Some (Some [])
+none_left fronts i none has = has.1 ∙ ap (λ (xs : List ℕ). Some (Some xs)) (empty_list has.0 (λ p at. none p (has.0, has.1, at)))
+
 pub no_front : (fronts : List (Option (List ℕ))) (i : ℕ) (front : Option ℕ) (none : Bool) → IsFront fronts i front → is_some front ≡ not none → none ≡ true → HasList fronts i → slice_get fronts i ≡ Some (Some [])
-no_front fronts i None none is tells e has = has.1 ∙ ap (λ (xs : List ℕ). Some (Some xs)) (empty_list has.0 (λ p at. is p (has.0, has.1, at)))
+no_front fronts i None none is tells e has = none_left fronts i is has
 no_front fronts i (Some p) none is tells e has = absurd (let no : not none ≡ false = ap not e in cc)
 
 pub some_front : (fronts : List (Option (List ℕ))) (i : ℕ) (front : Option ℕ) (none : Bool) → IsFront fronts i front → is_some front ≡ not none → none ≡ false → (p : ℕ) × IsFirstLeft fronts i p

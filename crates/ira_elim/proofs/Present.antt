@@ -20,7 +20,8 @@ use Rattle.ira_cert.specs.Asked.{HasDifferentPlaces}
 use Rattle.ira_cert.specs.Front.{made}
 use Rattle.ira_cert.proofs.NoCut.{candidate_at, kept_all, rising_le}
 use Rattle.ira_cert.proofs.OneList.{one_formula}
-use Rattle.ira_elim.specs.Elimination.{HasList, IsFirstLeft, IsElimination, AreGreatestCounts}
+use Rattle.ira_cert.specs.Fronts.{HasList}
+use Rattle.ira_elim.specs.Elimination.{IsFirstLeft, IsElimination, AreGreatestCounts}
 use Rattle.ira_elim.specs.LeastCut.{IsLeastCut}
 use Rattle.ira_elim.proofs.Places.{one_first}
 use Rattle.ira_elim.proofs.Steps.{AreMade}

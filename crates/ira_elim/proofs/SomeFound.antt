@@ -18,9 +18,9 @@ use Rattle.std.proofs.lemmas.Bool.{cases_eq}
 use Rattle.ira_order.proofs.HasCounts.{list_of, count_of, before_decided}
 use Rattle.ira_cert_text.specs.declared.cert_step.CertStep.{CertStep}
 use Rattle.ira_cert.specs.Asked.{HasDifferentPlaces, HasPlacesOf}
-use Rattle.ira_cert.specs.Fronts.{AreFronts}
+use Rattle.ira_cert.specs.Fronts.{AreFronts, HasList}
 use Rattle.ira_cert.proofs.Behind.{one_fewer}
-use Rattle.ira_elim.specs.Elimination.{HasList, IsFirstLeft, IsElimination, IsGreatestCount, AreGreatestCounts}
+use Rattle.ira_elim.specs.Elimination.{IsFirstLeft, IsElimination, IsGreatestCount, AreGreatestCounts}
 use Rattle.ira_elim.specs.LeastCut.{IsLeastCut}
 use Rattle.ira_elim.specs.Laws.{IsAbsent, IsPresent}
 use Rattle.ira_elim.proofs.Greatest.{IsUpper, IsReached, greatest_more, greatest_stays}

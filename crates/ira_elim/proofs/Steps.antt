@@ -9,7 +9,8 @@ use Rattle.ira_event.specs.Log.{Log}
 use Rattle.ira_pred.specs.Case.{Conjunct}
 use Rattle.ira_cert_text.specs.declared.cert_step.CertStep.{CertStep}
 use Rattle.ira_cert.specs.Asked.{HasDifferentPlaces}
-use Rattle.ira_cert.specs.Fronts.{AreFronts, AreFrontsBehind}
+use Rattle.ira_cert.specs.Fronts.{AreFronts}
+use Rattle.ira_cert.specs.FrontsBehind.{AreFrontsBehind}
 use Rattle.ira_cert.specs.SoundSection.{IsSoundStep, AreSoundSteps}
 use Rattle.ira_cert.proofs.Behind.{all_left, front_at, left_on, one_fewer, spent_at}
 use Rattle.ira_cert.proofs.Prefixes.{sound_more}
@@ -24,7 +25,7 @@ is_sound logs case before fronts s behind is = record {
   happened_before = is.happened_before;
 }
 
-last_at : {X : Type 0} → (xs : List X) (x : X) → slice_get (xs ++ x ∷ []) (length xs) ≡ Some x
+pub last_at : {X : Type 0} → (xs : List X) (x : X) → slice_get (xs ++ x ∷ []) (length xs) ≡ Some x
 last_at [] x = refl
 last_at (y ∷ xs) x = last_at xs x
 

@@ -11,9 +11,10 @@ use Rattle.ira_cand.specs.HoldsAt.{HoldsAt}
 use Rattle.ira_cert_text.specs.declared.cert_step.CertStep.{CertStep}
 use Rattle.ira_cert.specs.Asked.{CandidatesOf}
 use Rattle.ira_cert.specs.Front.{made}
-use Rattle.ira_cert.specs.Fronts.{AreFronts, AreFrontsBehind}
+use Rattle.ira_cert.specs.Fronts.{AreFronts, HasList}
+use Rattle.ira_cert.specs.FrontsBehind.{AreFrontsBehind}
 use Rattle.ira_cert.proofs.Behind.{slice_get-drop}
-use Rattle.ira_elim.specs.Elimination.{ArePlaces, HasList, IsFirstLeft, AreWithin}
+use Rattle.ira_elim.specs.Elimination.{ArePlaces, IsFirstLeft, AreWithin}
 
 holds_within : (log : Log) (f : Formula) (p : ℕ) → HoldsAt log f p → p ≤ length log.events
 holds_within log f p h = ((states_are_reached log.nodes (first_state log.initiator) log.events h.states h.states_are p h.state).0 h.at).0

@@ -8,16 +8,13 @@ use Rattle.ira_order.specs.Before.{Before}
 use Rattle.ira_order.specs.VectorClock.{IsCount}
 use Rattle.ira_cert_text.specs.declared.cert_step.CertStep.{CertStep}
 use Rattle.ira_cert.specs.Asked.{HasDifferentPlaces}
-use Rattle.ira_cert.specs.Fronts.{AreFronts}
+use Rattle.ira_cert.specs.Fronts.{AreFronts, HasList}
 use Rattle.ira_elim.specs.PairSet.{Has}
+use Rattle.ira_elim.specs.Stand.{Stand, IsStand}
 
 -- they are the candidates of some case that asks each node for one thing at most
 abbrev pub AreFrontsOfSomeCase : List Log → List (Option (List ℕ)) → Type 0
 AreFrontsOfSomeCase logs fronts = (case : List Conjunct) × HasDifferentPlaces case × AreFronts logs case fronts
-
--- there is a list at place i
-abbrev pub HasList : List (Option (List ℕ)) → ℕ → Type 0
-HasList fronts i = (left : List ℕ) × (slice_get fronts i ≡ Some (Some left))
 
 -- these are the places at which there is a list
 abbrev pub ArePlaces : List (Option (List ℕ)) → List ℕ → Type 0
@@ -30,6 +27,10 @@ IsFirstLeft fronts i p = (left : List ℕ) × (slice_get fronts i ≡ Some (Some
 -- the first candidates left are states of the logs
 abbrev pub AreWithin : List Log → List (Option (List ℕ)) → Type 0
 AreWithin logs fronts = (i p : ℕ) → IsFirstLeft fronts i p → (i < length logs) × (p ≤ length (log_of logs i))
+
+-- each node that has a first candidate left stands there
+abbrev pub AreStands : List Log → List (Option (List ℕ)) → List Stand → Type 0
+AreStands logs fronts stands = (j q : ℕ) → IsFirstLeft fronts j q → (s : Stand) × (slice_get stands j ≡ Some s) × IsStand logs j q s
 
 -- the step names the first candidates left of two different nodes, and the event that leads on from the one
 -- state happened before the event that led to the other

@@ -3,3 +3,4 @@ pub mod Found
 pub mod Laws
 pub mod LeastCut
 pub mod PairSet
+pub mod Stand

@@ -1,18 +1,21 @@
-ghost use Rattle.std.specs.Prelude.{◌≡◌, ◌<◌, ◌≤◌, ℕ, List, Some, [], IfOk, MatchOption, length, slice_get, slice_index_or, slice_set, drop};
-ghost use Rattle.std.specs.Option.{option_map};
+ghost use Rattle.std.specs.Prelude.{◌≡◌, ◌<◌, ◌≤◌, ◌⊎◌, ℕ, List, Some, [], Contains, IfOk, MatchOption, length, slice_get, slice_set};
+ghost use Rattle.ira_event.specs.Log.{Log};
 ghost use Rattle.ira_pred.specs.Case.{Conjunct};
+ghost use Rattle.ira_order.specs.Ring.{log_of};
 ghost use Rattle.ira_cert_text.specs.declared.cert_step.CertStep.{CertStep};
 ghost use Rattle.ira_cert.specs.Asked.{HasDifferentPlaces};
-ghost use Rattle.ira_cert.specs.Fronts.{AreFronts};
-ghost use Rattle.ira_elim.specs.Elimination.{AreFrontsOfSomeCase, AreGreatestCounts, ArePlaces, AreWithin, HasEliminations, HasList, IsElimination, IsFirstLeft, IsGreatestCount};
+ghost use Rattle.ira_cert.specs.Fronts.{AreFronts, HasList};
+ghost use Rattle.ira_elim.specs.Elimination.{AreFrontsOfSomeCase, AreGreatestCounts, ArePlaces, AreStands, AreWithin, HasEliminations, IsElimination, IsFirstLeft, IsGreatestCount};
 ghost use Rattle.ira_elim.specs.Found.{IsFound};
 ghost use Rattle.ira_elim.specs.PairSet.{Has};
+ghost use Rattle.ira_elim.specs.Stand.{Stand, AreStanding, HasSameCounts, IsStand, KnowsNext};
 
 use crate::cut::Cut;
 use crate::found::Found;
 use crate::pair_set::PairSet;
+use crate::stand::Stand;
 use ira_cand::Ahead;
-use ira_cert::{CertStep, Section};
+use ira_cert::{CertStep, Section, candidates_left, eliminate};
 use ira_event::{Listed, OutOfMemory};
 use ira_order::Ordered;
 use std::alloc::Allocator;
@@ -36,15 +39,23 @@ pub fn decide_fronts<A: Allocator + Clone, I: Iterator<Item = u32> + Listed + Dr
     if let Some(spent) = first_spent(&fronts, &asked) {
         return Ok(Found::Absent(Section { steps, spent }));
     }
-    let mut pairs = eliminating_pairs(alloc.clone()?, ordered, &fronts, &asked)?;
-    'steps: while let Some(step) = next_step(&mut pairs, ordered, &fronts) {
+    let mut stands = stands(alloc.clone()?, ordered, nodes, &fronts)?;
+    let mut pairs = eliminating_pairs(alloc.clone()?, &stands, &asked)?;
+    'steps: while let Some(step) = next_step(&mut pairs, &stands, &fronts) {
         steps.push(step)?;
         eliminate(&mut fronts, step.node);
-        if front(&fronts, step.node).is_none() {
+        let Some(position) = front(&fronts, step.node) else {
             let spent = step.node;
             return Ok(Found::Absent(Section { steps, spent }));
-        }
-        add_eliminated_by(&mut pairs, ordered, &fronts, &asked, step.node);
+        };
+        advance(
+            &mut stands,
+            &mut pairs,
+            ordered,
+            &asked,
+            step.node,
+            position,
+        );
     }
     let cut = least_cut(alloc, ordered, nodes, &fronts, &asked)?;
     Ok(Found::Present(Cut::of_positions(cut)))
@@ -66,17 +77,6 @@ fn asked_places<A: Allocator, I: Iterator<Item = u32> + Listed>(
         }
     }
     Ok(asked)
-}
-
-/// The candidates left of the node, if it is asked.
-fn candidates_left<I: Iterator<Item = u32> + Listed>(
-    fronts: &[Option<Ahead<I>>],
-    place: u8,
-) -> Option<&Ahead<I>>
-    ensures { MatchOption result (HasList fronts.now place → ⊥)
-        (λ left. slice_get fronts.now place ≡ Some (Some left.now)) }
-{
-    fronts.get(usize::from(place))?.as_ref()
 }
 
 /// The first candidate left of the node.
@@ -104,47 +104,64 @@ fn first_spent<I: Iterator<Item = u32> + Listed>(
     None
 }
 
-/// The pairs of nodes of which the second one's first candidate left eliminates the first one's.
-fn eliminating_pairs<A: Allocator, I: Iterator<Item = u32> + Listed>(
+/// Where each node stands, place by place.
+fn stands<'a, A: Allocator, I: Iterator<Item = u32> + Listed>(
     alloc: A,
-    ordered: &Ordered<'_, A>,
+    ordered: &'a Ordered<'_, A>,
+    nodes: u8,
     fronts: &[Option<Ahead<I>>],
+) -> Result<Vec<Stand<'a>, A>, OutOfMemory>
+    requires nodes { nodes ≡ length ordered.now.logs }
+    requires within { AreWithin ordered.now.logs fronts.now }
+    ensures count { IfOk result (λ stands. length stands.items ≡ nodes) }
+    ensures stands { IfOk result (λ stands. AreStands ordered.now.logs fronts.now stands.items) }
+{
+    let mut stands = Vec::with_capacity(alloc, usize::from(nodes))?;
+    for place in 0..nodes {
+        let stand = match front(fronts, place) {
+            Some(position) => Stand::at(ordered, place, position),
+            None => Stand::nowhere(),
+        };
+        stands.push(stand)?;
+    }
+    Ok(stands)
+}
+
+/// The pairs of nodes of which the second one's first candidate left eliminates the first one's.
+fn eliminating_pairs<A: Allocator>(
+    alloc: A,
+    stands: &[Stand<'_>],
     asked: &[u8],
 ) -> Result<PairSet<A>, OutOfMemory>
-    requires asked { ArePlaces fronts.now asked.now }
-    requires within { AreWithin ordered.now.logs fronts.now }
-    ensures { IfOk result (λ pairs. HasEliminations ordered.now.logs fronts.now pairs) }
+    requires few { length stands.now ≤ 64 }
+    requires asked { AreStanding stands.now asked.now }
+    ensures { IfOk result
+        (λ pairs. (i j : ℕ) → Contains asked.now i → Contains asked.now j → KnowsNext stands.now j i → Has pairs i j) }
 {
     let mut pairs = PairSet::new(alloc)?;
     for other in asked {
-        add_eliminated_by(&mut pairs, ordered, fronts, asked, *other);
+        add_eliminated_by(&mut pairs, stands, asked, *other);
     }
     Ok(pairs)
 }
 
 /// Adds the pairs of the nodes whose first candidates left are eliminated by that of the other.
-fn add_eliminated_by<A: Allocator, I: Iterator<Item = u32> + Listed>(
+fn add_eliminated_by<A: Allocator>(
     pairs: &mut PairSet<A>,
-    ordered: &Ordered<'_, A>,
-    fronts: &[Option<Ahead<I>>],
+    stands: &[Stand<'_>],
     asked: &[u8],
     other: u8,
 )
-    requires asked { ArePlaces fronts.now asked.now }
-    requires within { AreWithin ordered.now.logs fronts.now }
+    requires few { length stands.now ≤ 64 }
+    requires asked { AreStanding stands.now asked.now }
+    requires other { Contains asked.now other }
     ensures kept { (a b : ℕ) → Has pairs.old a b → Has pairs.new a b }
-    ensures added { (s : CertStep) → s.other ≡ other → IsElimination ordered.now.logs fronts.now s
-        → Has pairs.new s.node s.other }
+    ensures added { (i : ℕ) → Contains asked.now i → KnowsNext stands.now other i → Has pairs.new i other }
 {
-    let Some(other_pos) = front(fronts, other) else {
-        return;
-    };
-    let counts = ordered.counts(other, other_pos);
+    let counts = stands[usize::from(other)].counts();
     for node in asked {
-        let Some(pos) = front(fronts, *node) else {
-            continue;
-        };
-        if counts[usize::from(*node)] > pos {
+        let index = usize::from(*node);
+        if counts[index] > stands[index].position() {
             pairs.insert(*node, other);
         }
     }
@@ -154,17 +171,18 @@ fn add_eliminated_by<A: Allocator, I: Iterator<Item = u32> + Listed>(
 /// are removed.
 fn next_step<A: Allocator, I: Iterator<Item = u32> + Listed>(
     pairs: &mut PairSet<A>,
-    ordered: &Ordered<'_, A>,
+    stands: &[Stand<'_>],
     fronts: &[Option<Ahead<I>>],
 ) -> Option<CertStep>
-    requires within { AreWithin ordered.now.logs fronts.now }
-    requires pairs { HasEliminations ordered.now.logs fronts.now pairs.old }
-    ensures pairs { HasEliminations ordered.now.logs fronts.now pairs.new }
-    ensures step { MatchOption result ((s : CertStep) → IsElimination ordered.now.logs fronts.now s → ⊥)
-        (λ s. IsElimination ordered.now.logs fronts.now s) }
+    ensures pairs { (logs : List Log) → AreWithin logs fronts.now → AreStands logs fronts.now stands.now
+        → HasEliminations logs fronts.now pairs.old → HasEliminations logs fronts.now pairs.new }
+    ensures step { (logs : List Log) → AreWithin logs fronts.now → AreStands logs fronts.now stands.now
+        → HasEliminations logs fronts.now pairs.old
+        → MatchOption result ((s : CertStep) → IsElimination logs fronts.now s → ⊥)
+        (λ s. IsElimination logs fronts.now s) }
 {
     'pairs: while let Some((node, other)) = pairs.first() {
-        if let Some(step) = step_by(ordered, fronts, node, other) {
+        if let Some(step) = step_by(stands, fronts, node, other) {
             return Some(step);
         }
         pairs.remove(node, other);
@@ -173,23 +191,24 @@ fn next_step<A: Allocator, I: Iterator<Item = u32> + Listed>(
 }
 
 /// The elimination of the node's first candidate left by that of the other.
-fn step_by<A: Allocator, I: Iterator<Item = u32> + Listed>(
-    ordered: &Ordered<'_, A>,
+fn step_by<I: Iterator<Item = u32> + Listed>(
+    stands: &[Stand<'_>],
     fronts: &[Option<Ahead<I>>],
     node: u8,
     other: u8,
 ) -> Option<CertStep>
-    requires { AreWithin ordered.now.logs fronts.now }
-    ensures { MatchOption result
-        ((s : CertStep) → s.node ≡ node → s.other ≡ other → IsElimination ordered.now.logs fronts.now s → ⊥)
-        (λ s. IsElimination ordered.now.logs fronts.now s) }
+    ensures { (logs : List Log) → AreWithin logs fronts.now → AreStands logs fronts.now stands.now
+        → MatchOption result
+        ((s : CertStep) → s.node ≡ node → s.other ≡ other → IsElimination logs fronts.now s → ⊥)
+        (λ s. IsElimination logs fronts.now s) }
 {
-    if node == other {
-        return None;
-    }
     let pos = front(fronts, node)?;
     let other_pos = front(fronts, other)?;
-    if ordered.count(other, other_pos, node) <= pos {
+    let count = *stands
+        .get(usize::from(other))?
+        .counts()
+        .get(usize::from(node))?;
+    if node == other || count <= pos {
         return None;
     }
     Some(CertStep {
@@ -200,14 +219,30 @@ fn step_by<A: Allocator, I: Iterator<Item = u32> + Listed>(
     })
 }
 
-/// Removes the first candidate left of the node.
-fn eliminate<I: Iterator<Item = u32> + Listed>(fronts: &mut [Option<Ahead<I>>], place: u8)
-    requires { place < length fronts.old }
-    ensures { fronts.new
-        ≡ slice_set fronts.old place (option_map (λ xs. drop 1 xs) (slice_index_or fronts.old place None)) }
+/// Moves the node on to a position, and adds the pairs of the nodes that it eliminates there anew.
+fn advance<'a, A: Allocator>(
+    stands: &mut [Stand<'a>],
+    pairs: &mut PairSet<A>,
+    ordered: &'a Ordered<'_, A>,
+    asked: &[u8],
+    node: u8,
+    position: u32,
+)
+    requires few { length stands.old ≤ 64 }
+    requires asked { AreStanding stands.old asked.now }
+    requires node { Contains asked.now node }
+    requires place { node < length ordered.now.logs }
+    requires position { position ≤ length (log_of ordered.now.logs node) }
+    requires stand { (s : Stand) → slice_get stands.old node ≡ Some s
+        → (s.position ≤ position) × IsStand ordered.now.logs node s.position s }
+    ensures moved { (s : Stand) × (stands.new ≡ slice_set stands.old node s)
+        × IsStand ordered.now.logs node position s }
+    ensures kept { (a b : ℕ) → Has pairs.old a b → Has pairs.new a b }
+    ensures added { HasSameCounts stands.old stands.new node
+        ⊎ ((i : ℕ) → Contains asked.now i → KnowsNext stands.new node i → Has pairs.new i node) }
 {
-    if let Some(left) = &mut fronts[usize::from(place)] {
-        left.advance();
+    if stands[usize::from(node)].advance(ordered, node, position) {
+        add_eliminated_by(pairs, stands, asked, node);
     }
 }
 

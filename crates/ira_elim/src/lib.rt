@@ -8,6 +8,7 @@ mod found;
 mod laws;
 mod maker;
 mod pair_set;
+mod stand;
 
 pub use cut::Cut;
 pub use elimination::decide_fronts;

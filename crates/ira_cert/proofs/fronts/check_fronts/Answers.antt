@@ -1,7 +1,8 @@
 use Rattle.std.proofs.Common.{◌≡◌, ℕ, List, Option, sym, ◌∙◌, ap, subst, drop, length}
 use Rattle.std.proofs.lemmas.List.{take_at}
 use Rattle.ira_cert_text.specs.Certificate.{Section}
-use Rattle.ira_cert.specs.Fronts.{AreFronts, AreFrontsBehind}
+use Rattle.ira_cert.specs.Fronts.{AreFronts}
+use Rattle.ira_cert.specs.FrontsBehind.{AreFrontsBehind}
 use Rattle.ira_cert.proofs.Judged.{first_is_fault, left_is_fault, empty_is_sound}
 use Rattle.ira_cert.proofs.fronts.check_fronts.Goals as goal
 

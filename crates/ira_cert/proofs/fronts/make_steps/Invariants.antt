@@ -1,7 +1,8 @@
 use Rattle.std.proofs.Common.{List, take}
 use Rattle.ira_pred.specs.Case.{Conjunct}
 use Rattle.ira_cert.specs.Asked.{HasDifferentPlaces}
-use Rattle.ira_cert.specs.Fronts.{AreFronts, AreFrontsBehind}
+use Rattle.ira_cert.specs.Fronts.{AreFronts}
+use Rattle.ira_cert.specs.FrontsBehind.{AreFrontsBehind}
 use Rattle.ira_cert.specs.SoundSection.{AreSoundSteps}
 use Rattle.ira_cert.proofs.fronts.make_steps.Given as goal
 

@@ -1,60 +1,62 @@
-use Rattle.std.proofs.Common.{◌≡◌, ℕ, inl, inr, ap, below_more, get_or, refl, arith}
-use Rattle.ira_cert_text.specs.declared.cert_step.CertStep.{CertStep}
-use Rattle.ira_elim.specs.Elimination.{IsElimination}
+use Rattle.std.proofs.Common.{◌≡◌, ◌<◌, ℕ, Some, slice_get, inl, inr, ap, below_more, get_or, length, refl, sym, ◌∙◌, arith}
+use Rattle.std.proofs.lemmas.Option.{same_Some}
 use Rattle.ira_elim.specs.PairSet.{Has}
-use Rattle.ira_elim.proofs.NewEliminations.{is_counted}
-use Rattle.ira_elim.proofs.Places.{each_place}
+use Rattle.ira_elim.specs.Stand.{KnowsNext}
+use Rattle.ira_elim.proofs.Places.{at_place}
+use Rattle.ira_elim.proofs.Standing.{each_asked, found_at, is_within, long_counts}
 use Rattle.ira_elim.proofs.elimination.add_eliminated_by.Goals as goal
-use Rattle.ira_elim.proofs.elimination.add_eliminated_by.Goals.{then-counts-from, else-counts-from}
+use Rattle.ira_elim.proofs.elimination.add_eliminated_by.Goals.{then-counts-index, else-counts-index}
 
-pub returns-in_default-clause-added : goal.returns-in_default-clause-added
-returns-in_default-clause-added g c s by is = absurd (c.in_default.ensures s.other_pos (rw by at is.other_front))
+pub bounds-stands-from : goal.bounds-stands-from
+bounds-stands-from g c = omega (arith, c.from.ensures, is_within c.args.stands.now c.args.asked.now c.args.other c.requires.asked c.requires.other)
 
-pub counts-counts-requires-clause-place : goal.counts-counts-requires-clause-place
-counts-counts-requires-clause-place g c = (c.requires.within _ _ c.in-Some.ensures).0
+pub bounds-counts-index : goal.bounds-counts-index
+bounds-counts-index g c =
+    let stands = c.args.stands.now in let asked = c.args.asked.now in
+    let other : slice_get stands c.args.other ≡ Some c.index-stands-from.result = found_at stands c.from.result c.args.other c.index-stands-from.result c.from.ensures (omega (arith, c.from.ensures, is_within stands asked c.args.other c.requires.asked c.requires.other)) c.index-stands-from.is in
+    let long = long_counts stands asked c.args.other c.index-stands-from.result c.requires.asked c.requires.other other in
+    let few = is_within stands asked (get_or asked c.loop-node.node-index 0) c.requires.asked (at_place asked c.loop-node.node-index c.loop-node-test.true) in
+    omega (arith, few, long, c.from-index.ensures, ap (λ xs. length xs) c.counts-counts.ensures)
 
-pub counts-counts-requires-clause-position : goal.counts-counts-requires-clause-position
-counts-counts-requires-clause-position g c = (c.requires.within _ _ c.in-Some.ensures).1
-
-pub bounds-counts-from : goal.bounds-counts-from
-bounds-counts-from g c = omega (arith, c.from.ensures, (c.requires.within _ _ c.in-Some-front.ensures).0, c.counts-counts.ensures.counts.places)
+pub bounds-stands-index : goal.bounds-stands-index
+bounds-stands-index g c =
+    let asked = c.args.asked.now in
+    omega (arith, c.from-index.ensures, is_within c.args.stands.now asked (get_or asked c.loop-node.node-index 0) c.requires.asked (at_place asked c.loop-node.node-index c.loop-node-test.true))
 
 pub insert-requires : goal.insert-requires
 insert-requires g c =
-    let few = c.counts-counts.ensures.valid.logs.ring.1 in
-    (omega (arith, few, (c.requires.within _ _ c.in-Some-front.ensures).0), omega (arith, few, (c.requires.within _ _ c.in-Some.ensures).0))
-
-pub loop-node-preserved-in_default-front : goal.loop-node-preserved-in_default-front
-loop-node-preserved-in_default-front g c = record {
-  kept = c.loop-node.invariant.kept;
-  added = below_more _ _ c.loop-node.invariant.added (λ s at by is. absurd (c.in_default-front.ensures s.pos (rw at at is.front)));
-}
+    let stands = c.args.stands.now in let asked = c.args.asked.now in
+    (omega (arith, c.requires.few, is_within stands asked (get_or asked c.loop-node.node-index 0) c.requires.asked (at_place asked c.loop-node.node-index c.loop-node-test.true)), omega (arith, c.requires.few, is_within stands asked c.args.other c.requires.asked c.requires.other))
 
 pub loop-node-preserved : goal.loop-node-preserved
 loop-node-preserved g c =
-    let logs = c.args.ordered.now.logs in let fronts = c.args.fronts.now in let so_far = c.loop-node.invariant in
-    let i = get_or c.args.asked.now c.loop-node.node-index 0 in
-    elim c.if-counts-from.branch [
-      | then-counts-from w ↦
-          let kept : (a b : ℕ) → Has c.loop-node.pairs a b → Has c.if-counts-from.pairs a b = λ a b has. rw w.pairs-is ((w.insert.ensures a b).1 (inl has)) in
-          let here : Has c.if-counts-from.pairs i c.args.other = rw w.pairs-is ((w.insert.ensures i c.args.other).1 (inr (refl, refl))) in
+    let stands = c.args.stands.now in let asked = c.args.asked.now in let so_far = c.loop-node.invariant in
+    let i = get_or asked c.loop-node.node-index 0 in
+    elim c.if-counts-index.branch [
+      | then-counts-index w ↦
+          let kept : (a b : ℕ) → Has c.loop-node.pairs a b → Has c.if-counts-index.pairs a b = λ a b has. rw w.pairs-is ((w.insert.ensures a b).1 (inl has)) in
+          let here : Has c.if-counts-index.pairs i c.args.other = rw w.pairs-is ((w.insert.ensures i c.args.other).1 (inr (refl, refl))) in
           record {
             kept = λ a b has. kept a b (so_far.kept a b has);
-            added = below_more (λ (k : ℕ). (s : CertStep) → s.node ≡ get_or c.args.asked.now k 0 → s.other ≡ c.args.other → IsElimination logs fronts s → Has c.if-counts-from.pairs s.node s.other) c.loop-node.node-index (λ k l s at by is. kept s.node s.other (so_far.added k l s at by is)) (λ s at by is. rw (at, by) here);
+            added = below_more (λ (k : ℕ). KnowsNext stands c.args.other (get_or asked k 0) → Has c.if-counts-index.pairs (get_or asked k 0) c.args.other) c.loop-node.node-index (λ k l knows. kept (get_or asked k 0) c.args.other (so_far.added k l knows)) (λ knows. here);
           }
-      | else-counts-from w ↦
-          let none : (s : CertStep) → s.node ≡ i → s.other ≡ c.args.other → ¬ (IsElimination logs fronts s) = λ s at by is.
-          let more = is_counted logs fronts i c.in-Some-front.pos c.args.other c.in-Some.other_pos c.counts-counts.result.now c.counts-counts.ensures.counts c.requires.within c.in-Some-front.ensures c.in-Some.ensures s at by is in
-          omega (arith, ap (λ (k : ℕ). get_or c.counts-counts.result.now k 0) c.from.ensures, more, w.if-counts-from.false)
+      | else-counts-index w ↦
+          let few = is_within stands asked i c.requires.asked (at_place asked c.loop-node.node-index c.loop-node-test.true) in
+          let own : slice_get stands i ≡ Some c.index-stands-index.result = found_at stands c.from-index.result i c.index-stands-index.result c.from-index.ensures (omega (arith, c.from-index.ensures, few)) c.index-stands-index.is in
+          let other : slice_get stands c.args.other ≡ Some c.index-stands-from.result = found_at stands c.from.result c.args.other c.index-stands-from.result c.from.ensures (omega (arith, c.from.ensures, is_within stands asked c.args.other c.requires.asked c.requires.other)) c.index-stands-from.is in
+          let none : ¬ (KnowsNext stands c.args.other i) = λ knows.
+          let at : knows.0 ≡ c.index-stands-index.result = same_Some _ _ (sym knows.2 ∙ own) in
+          let by : knows.1 ≡ c.index-stands-from.result = same_Some _ _ (sym knows.3 ∙ other) in
+          let position : knows.0.position ≡ c.position.result = ap (λ s. s.position) at ∙ sym c.position.ensures in
+          let count : get_or knows.1.counts i 0 ≡ get_or c.counts-counts.result.now c.from-index.result 0 = rw (by, c.counts-counts.ensures, c.from-index.ensures) refl in
+          omega (arith, knows.4, position, count, w.if-counts-index.false)
           in
           record {
             kept = λ a b has. rw w.pairs-is (so_far.kept a b has);
-            added = below_more (λ (k : ℕ). (s : CertStep) → s.node ≡ get_or c.args.asked.now k 0 → s.other ≡ c.args.other → IsElimination logs fronts s → Has c.if-counts-from.pairs s.node s.other) c.loop-node.node-index (λ k l s at by is. rw w.pairs-is (so_far.added k l s at by is)) (λ s at by is. absurd (none s at by is));
+            added = below_more (λ (k : ℕ). KnowsNext stands c.args.other (get_or asked k 0) → Has c.if-counts-index.pairs (get_or asked k 0) c.args.other) c.loop-node.node-index (λ k l knows. rw w.pairs-is (so_far.added k l knows)) (λ knows. absurd (none knows));
           }
     ]
 
 pub returns-clause-added : goal.returns-clause-added
-returns-clause-added g c = λ s by is.
-    let logs = c.args.ordered.now.logs in let fronts = c.args.fronts.now in
-    each_place fronts c.args.asked.now (λ (i : ℕ). (s : CertStep) → s.node ≡ i → s.other ≡ c.args.other → IsElimination logs fronts s → Has c.loop-node.pairs s.node s.other) c.requires.asked
-    (λ k l. c.loop-node.invariant.added k (omega arith)) s.node (is.front.0, is.front.1) s refl by is
+returns-clause-added g c =
+    each_asked c.args.asked.now (λ (i : ℕ). KnowsNext c.args.stands.now c.args.other i → Has c.loop-node.pairs i c.args.other) (λ k l. c.loop-node.invariant.added k (omega arith))

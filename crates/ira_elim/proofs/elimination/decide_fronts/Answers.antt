@@ -1,14 +1,18 @@
-use Rattle.std.proofs.Common.{◌≡◌, ℕ, List, [], ◌∷◌, Option, Some, length, slice_get, drop, sym, ◌∙◌, ap, subst, arith, length-append}
+use Rattle.std.proofs.Common.{◌≡◌, ℕ, List, [], ◌∷◌, Option, Some, Contains, length, slice_get, slice_set, drop, sym, ◌∙◌, ap, subst, arith, length-append, length-set}
 use Rattle.std.proofs.lemmas.List.{take_at}
 use Rattle.std.proofs.lemmas.Option.{slice_get_within}
+use Rattle.ira_event.specs.Log.{Log}
 use Rattle.ira_cert_text.specs.declared.cert_step.CertStep.{CertStep}
 use Rattle.ira_cert.proofs.Behind.{all_left, one_fewer}
-use Rattle.ira_elim.specs.Elimination.{ArePlaces, AreWithin, AreGreatestCounts, HasEliminations, HasList, IsElimination, IsFirstLeft}
+use Rattle.ira_cert.specs.Fronts.{HasList}
+use Rattle.ira_elim.specs.Elimination.{ArePlaces, AreStands, AreWithin, AreGreatestCounts, HasEliminations, IsElimination, IsFirstLeft}
 use Rattle.ira_elim.specs.LeastCut.{IsLeastCut}
 use Rattle.ira_elim.specs.PairSet.{Has}
-use Rattle.ira_elim.proofs.NewEliminations.{all_again, own_list, still_left}
-use Rattle.ira_elim.proofs.Places.{no_front, some_front}
+use Rattle.ira_elim.specs.Stand.{Stand, AreStanding, IsStand}
+use Rattle.ira_elim.proofs.NewEliminations.{all_again, own_first, own_list, still_left}
+use Rattle.ira_elim.proofs.Places.{none_left}
 use Rattle.ira_elim.proofs.Present.{present}
+use Rattle.ira_elim.proofs.Standing.{adds, has_all, stand_is, standing, stands_again, viewed}
 use Rattle.ira_elim.proofs.Steps.{absent, none_made, one_fewer-length, made_more, total, total_less}
 use Rattle.ira_elim.proofs.Within.{within, places_stay}
 use Rattle.ira_elim.proofs.elimination.decide_fronts.Goals as goal
@@ -25,111 +29,189 @@ returns-in-Some g c = λ case differ fronts_are.
     absent logs case fronts fronts c.new-steps.result.items c.in-Some.spent fronts_are (none_made logs case c.new-steps.result.items fronts fronts_are c.new-steps.ensures.items)
     (omega (arith, ap (λ (ss : List CertStep). length ss) c.new-steps.ensures.items)) empty
 
-pub eliminating_pairs-requires-clause-asked : goal.eliminating_pairs-requires-clause-asked
-eliminating_pairs-requires-clause-asked g c =
-    let listed = subst (λ (fs : List (Option (List ℕ))). ArePlaces fs c.in_ok-asked.asked.items) c.deref.ensures.value c.in_ok-asked.ensures in
-    subst (λ (fs : List (Option (List ℕ))). ArePlaces fs c.deref-5.result.now) (sym c.deref-4.ensures.value) (subst (ArePlaces c.args.fronts.items) (sym c.deref-5.ensures.value) listed)
-
-pub eliminating_pairs-requires-clause-within : goal.eliminating_pairs-requires-clause-within
-eliminating_pairs-requires-clause-within g c =
-    let logs = c.args.ordered.now.logs in let some = c.requires.fronts in
-    subst (AreWithin logs) (sym c.deref-4.ensures.value) (within logs some.0 [] c.args.fronts.items (all_left logs some.0 c.args.fronts.items some.2))
-
-pub steps-init : goal.steps-init
-steps-init g c = record {
-  made = λ case differ fronts_are. none_made c.args.ordered.now.logs case c.new-steps.result.items c.args.fronts.items fronts_are c.new-steps.ensures.items;
-  count = omega (arith, ap (λ (ss : List CertStep). length ss) c.new-steps.ensures.items);
-  places = c.requires.places;
-  left = subst (λ (fs : List (Option (List ℕ))). (i : ℕ) → HasList fs i → (p : ℕ) × IsFirstLeft fs i p) c.deref-2.ensures.value c.in_default.ensures;
-  pairs = subst (λ (fs : List (Option (List ℕ))). HasEliminations c.args.ordered.now.logs fs c.in_ok-pairs.pairs) c.deref-4.ensures.value c.in_ok-pairs.ensures;
-}
-
-pub next_step-requires-clause-within : goal.next_step-requires-clause-within
-next_step-requires-clause-within g c =
+pub stands-requires-clause-within : goal.stands-requires-clause-within
+stands-requires-clause-within g c =
     let logs = c.args.ordered.now.logs in
     let some = c.requires.fronts in
-    let made = c.steps.invariant.made some.0 some.1 some.2 in
-    subst (AreWithin logs) (sym c.deref-in-steps.ensures.value) (within logs some.0 c.steps.steps.items c.steps.fronts.items made.behind)
+    subst (AreWithin logs) (sym c.deref-4.ensures.value) (within logs some.0 [] c.args.fronts.items (all_left logs some.0 c.args.fronts.items some.2))
 
-pub next_step-requires-clause-pairs : goal.next_step-requires-clause-pairs
-next_step-requires-clause-pairs g c =
-    subst (λ (fs : List (Option (List ℕ))). HasEliminations c.args.ordered.now.logs fs c.steps.pairs) (sym c.deref-in-steps.ensures.value) c.steps.invariant.pairs
+pub eliminating_pairs-requires-clause-asked : goal.eliminating_pairs-requires-clause-asked
+eliminating_pairs-requires-clause-asked g c =
+    let logs = c.args.ordered.now.logs in
+    let some = c.requires.fronts in
+    let listed = subst (λ (fs : List (Option (List ℕ))). ArePlaces fs c.in_ok-asked.asked.items) c.deref.ensures.value c.in_ok-asked.ensures in
+    let fronts = c.args.fronts.items in let stands = c.in_ok-stands.stands.items in
+    let inside = within logs some.0 [] fronts (all_left logs some.0 fronts some.2) in
+    let left = subst (λ (fs : List (Option (List ℕ))). (i : ℕ) → HasList fs i → (p : ℕ) × IsFirstLeft fs i p) c.deref-2.ensures.value c.in_default.ensures in
+    let are = subst (λ (fs : List (Option (List ℕ))). AreStands logs fs stands) c.deref-4.ensures.value c.in_ok-stands.ensures.stands in
+    let nodes : length stands ≡ length logs = c.in_ok-stands.ensures.count ∙ (c.get-nodes.ensures.value ∙ c.size.ensures.value ∙ ap (λ (ls : List Log). length ls) c.logs.ensures) in
+    subst (λ (ss : List Stand). AreStanding ss c.deref-6.result.now) (sym c.deref-5.ensures.value) (subst (AreStanding stands) (sym c.deref-6.ensures.value)
+    (standing logs fronts stands inside are c.in_ok-asked.asked.items listed left nodes))
+
+pub steps-init : goal.steps-init
+steps-init g c =
+    let logs = c.args.ordered.now.logs in
+    let some = c.requires.fronts in
+    let listed = subst (λ (fs : List (Option (List ℕ))). ArePlaces fs c.in_ok-asked.asked.items) c.deref.ensures.value c.in_ok-asked.ensures in
+    let fronts = c.args.fronts.items in let stands = c.in_ok-stands.stands.items in
+    let inside = within logs some.0 [] fronts (all_left logs some.0 fronts some.2) in
+    let left = subst (λ (fs : List (Option (List ℕ))). (i : ℕ) → HasList fs i → (p : ℕ) × IsFirstLeft fs i p) c.deref-2.ensures.value c.in_default.ensures in
+    let are = subst (λ (fs : List (Option (List ℕ))). AreStands logs fs stands) c.deref-4.ensures.value c.in_ok-stands.ensures.stands in
+    let nodes : length stands ≡ length logs = c.in_ok-stands.ensures.count ∙ (c.get-nodes.ensures.value ∙ c.size.ensures.value ∙ ap (λ (ls : List Log). length ls) c.logs.ensures) in
+    let asked = c.deref-6.ensures.value in
+    let known = rw (c.deref-5.ensures.value, asked) at c.in_ok-pairs.ensures in
+    record {
+      made = λ case differ fronts_are. none_made logs case c.new-steps.result.items fronts fronts_are c.new-steps.ensures.items;
+      count = omega (arith, ap (λ (ss : List CertStep). length ss) c.new-steps.ensures.items);
+      places = c.requires.places;
+      left = left;
+      nodes = nodes;
+      stands = are;
+      pairs = has_all logs fronts stands inside are c.in_ok-asked.asked.items c.in_ok-pairs.pairs listed known;
+    }
 
 pub eliminate-requires : goal.eliminate-requires
 eliminate-requires g c =
-    let is = subst (λ (fs : List (Option (List ℕ))). IsElimination c.args.ordered.now.logs fs c.in-Some-next_step.step) (c.deref-in-steps.ensures.value ∙ sym c.deref_mut.ensures.value) c.in-Some-next_step.ensures.step in
-    slice_get_within c.deref_mut.result.now c.in-Some-next_step.step.node (Some is.front.0) is.front.1
-
-pub returns-then-is_none : goal.returns-then-is_none
-returns-then-is_none g c = λ case differ fronts_are.
     let logs = c.args.ordered.now.logs in
-    let s = c.in-Some-next_step.step in let fronts = c.steps.fronts.items in
-    let is = subst (λ (fs : List (Option (List ℕ))). IsElimination logs fs s) c.deref-in-steps.ensures.value c.in-Some-next_step.ensures.step in
+    let some = c.requires.fronts in
+    let fronts = c.steps.fronts.items in let s = c.in-Some-next_step.step in let so_far = c.steps.invariant in
+    let made = so_far.made some.0 some.1 some.2 in
+    let inside = within logs some.0 c.steps.steps.items fronts made.behind in
+    let is : IsElimination logs fronts s = viewed logs fronts c.deref-in-steps-2.result.now c.steps.stands.items c.deref-in-steps.result.now c.steps.pairs (λ (fs : List (Option (List ℕ))). IsElimination logs fs s) c.deref-in-steps-2.ensures.value c.deref-in-steps.ensures.value (c.in-Some-next_step.ensures.step logs) inside so_far.stands so_far.pairs in
+    let at : slice_get c.deref_mut.result.now s.node ≡ Some (Some is.front.0) = ap (λ (fs : List (Option (List ℕ))). slice_get fs s.node) c.deref_mut.ensures.value ∙ is.front.1 in
+    slice_get_within c.deref_mut.result.now s.node (Some is.front.0) at
+
+pub returns-in_default-front : goal.returns-in_default-front
+returns-in_default-front g c = λ case differ fronts_are.
+    let logs = c.args.ordered.now.logs in
+    let some = c.requires.fronts in
+    let fronts = c.steps.fronts.items in let s = c.in-Some-next_step.step in let so_far = c.steps.invariant in
+    let made = so_far.made some.0 some.1 some.2 in
+    let inside = within logs some.0 c.steps.steps.items fronts made.behind in
+    let is : IsElimination logs fronts s = viewed logs fronts c.deref-in-steps-2.result.now c.steps.stands.items c.deref-in-steps.result.now c.steps.pairs (λ (fs : List (Option (List ℕ))). IsElimination logs fs s) c.deref-in-steps-2.ensures.value c.deref-in-steps.ensures.value (c.in-Some-next_step.ensures.step logs) inside so_far.stands so_far.pairs in
     let left = take_at c.eliminate.new.fronts (drop (length c.eliminate.new.fronts) fronts) c.steps.fronts.len (c.eliminate.auto.fronts ∙ c.deref_mut.ensures.len) ∙ c.eliminate.ensures ∙ ap (λ (fs : List (Option (List ℕ))). one_fewer fs s.node) c.deref_mut.ensures.value in
     let pushed = c.in_ok-push.ensures.items in
-    let made = c.steps.invariant.made case differ fronts_are in
-    let own = own_list logs case c.steps.steps.items fronts _ made.behind s is left in
-    let viewed = c.deref-in-Some-next_step.ensures.value in
-    let has : HasList c.deref-in-Some-next_step.result.now s.node = (drop 1 is.front.0, ap (λ (fs : List (Option (List ℕ))). slice_get fs s.node) viewed ∙ own) in
-    let empty = no_front c.deref-in-Some-next_step.result.now s.node c.front.result c.is_none.result c.front.ensures c.is_none.ensures c.if-is_none.true has in
+    let viewed_left = c.deref-in-Some-next_step.ensures.value in
+    let own = own_list logs some.0 c.steps.steps.items fronts _ made.behind s is left in
+    let none = subst (λ (fs : List (Option (List ℕ))). (p : ℕ) → IsFirstLeft fs s.node p → ⊥) viewed_left c.in_default-front.ensures in
     absent logs case c.args.fronts.items _ c.push.new.self.items s.node fronts_are
-    (made_more logs case c.steps.steps.items c.push.new.self.items fronts _ s differ made is pushed left)
-    (omega (arith, total_less fronts s.node s.pos is.front, ap total left, ap (λ (ss : List CertStep). length ss) pushed, length-append c.steps.steps.items (s ∷ []), c.steps.invariant.count))
-    (ap (λ (fs : List (Option (List ℕ))). slice_get fs s.node) (sym viewed) ∙ empty)
+    (made_more logs case c.steps.steps.items c.push.new.self.items fronts _ s differ (so_far.made case differ fronts_are) is pushed left)
+    (omega (arith, total_less fronts s.node s.pos is.front, ap total left, ap (λ (ss : List CertStep). length ss) pushed, length-append c.steps.steps.items (s ∷ []), so_far.count))
+    (none_left _ s.node none (drop 1 is.front.0, own))
 
-pub add_eliminated_by-requires-clause-asked : goal.add_eliminated_by-requires-clause-asked
-add_eliminated_by-requires-clause-asked g c =
+pub advance-requires-clause-few : goal.advance-requires-clause-few
+advance-requires-clause-few g c =
+    omega (arith, ap (λ (ss : List Stand). length ss) c.deref_mut-in-Some-next_step.ensures.value, c.steps.invariant.nodes, c.size.ensures.valid.ring.1, ap (λ (ls : List Log). length ls) c.logs.ensures)
+
+pub advance-requires-clause-asked : goal.advance-requires-clause-asked
+advance-requires-clause-asked g c =
     let logs = c.args.ordered.now.logs in
+    let some = c.requires.fronts in
+    let fronts = c.steps.fronts.items in let s = c.in-Some-next_step.step in let so_far = c.steps.invariant in
+    let made = so_far.made some.0 some.1 some.2 in
+    let inside = within logs some.0 c.steps.steps.items fronts made.behind in
+    let is : IsElimination logs fronts s = viewed logs fronts c.deref-in-steps-2.result.now c.steps.stands.items c.deref-in-steps.result.now c.steps.pairs (λ (fs : List (Option (List ℕ))). IsElimination logs fs s) c.deref-in-steps-2.ensures.value c.deref-in-steps.ensures.value (c.in-Some-next_step.ensures.step logs) inside so_far.stands so_far.pairs in
     let listed = subst (λ (fs : List (Option (List ℕ))). ArePlaces fs c.in_ok-asked.asked.items) c.deref.ensures.value c.in_ok-asked.ensures in
-    let some = c.requires.fronts in
-    let made = c.steps.invariant.made some.0 some.1 some.2 in
-    let s = c.in-Some-next_step.step in let fronts = c.steps.fronts.items in
-    let is = subst (λ (fs : List (Option (List ℕ))). IsElimination logs fs s) c.deref-in-steps.ensures.value c.in-Some-next_step.ensures.step in
-    let left = take_at c.eliminate.new.fronts (drop (length c.eliminate.new.fronts) fronts) c.steps.fronts.len (c.eliminate.auto.fronts ∙ c.deref_mut.ensures.len) ∙ c.eliminate.ensures ∙ ap (λ (fs : List (Option (List ℕ))). one_fewer fs s.node) c.deref_mut.ensures.value in
-    let pushed = c.in_ok-push.ensures.items in
-    let next = made_more logs some.0 c.steps.steps.items c.push.new.self.items fronts _ s some.1 made is pushed left in
-    let places = places_stay logs some.0 c.push.new.self.items _ next.behind c.args.fronts.items c.in_ok-asked.asked.items some.2 listed in
-    subst (λ (fs : List (Option (List ℕ))). ArePlaces fs c.deref-in-Some-next_step-3.result.now) (sym c.deref-in-Some-next_step-2.ensures.value) (subst (ArePlaces _) (sym c.deref-in-Some-next_step-3.ensures.value) places)
+    let places = places_stay logs some.0 c.steps.steps.items fronts made.behind c.args.fronts.items c.in_ok-asked.asked.items some.2 listed in
+    subst (λ (ss : List Stand). AreStanding ss c.deref-in-Some-next_step-2.result.now) (sym c.deref_mut-in-Some-next_step.ensures.value) (subst (AreStanding c.steps.stands.items) (sym c.deref-in-Some-next_step-2.ensures.value)
+    (standing logs fronts c.steps.stands.items inside so_far.stands c.in_ok-asked.asked.items places so_far.left so_far.nodes))
 
-pub add_eliminated_by-requires-clause-within : goal.add_eliminated_by-requires-clause-within
-add_eliminated_by-requires-clause-within g c =
+pub advance-requires-clause-node : goal.advance-requires-clause-node
+advance-requires-clause-node g c =
     let logs = c.args.ordered.now.logs in
     let some = c.requires.fronts in
-    let made = c.steps.invariant.made some.0 some.1 some.2 in
-    let s = c.in-Some-next_step.step in let fronts = c.steps.fronts.items in
-    let is = subst (λ (fs : List (Option (List ℕ))). IsElimination logs fs s) c.deref-in-steps.ensures.value c.in-Some-next_step.ensures.step in
+    let fronts = c.steps.fronts.items in let s = c.in-Some-next_step.step in let so_far = c.steps.invariant in
+    let made = so_far.made some.0 some.1 some.2 in
+    let inside = within logs some.0 c.steps.steps.items fronts made.behind in
+    let is : IsElimination logs fronts s = viewed logs fronts c.deref-in-steps-2.result.now c.steps.stands.items c.deref-in-steps.result.now c.steps.pairs (λ (fs : List (Option (List ℕ))). IsElimination logs fs s) c.deref-in-steps-2.ensures.value c.deref-in-steps.ensures.value (c.in-Some-next_step.ensures.step logs) inside so_far.stands so_far.pairs in
+    let listed = subst (λ (fs : List (Option (List ℕ))). ArePlaces fs c.in_ok-asked.asked.items) c.deref.ensures.value c.in_ok-asked.ensures in
+    let places = places_stay logs some.0 c.steps.steps.items fronts made.behind c.args.fronts.items c.in_ok-asked.asked.items some.2 listed in
+    subst (λ (xs : List ℕ). Contains xs s.node) (sym c.deref-in-Some-next_step-2.ensures.value) ((places s.node).1 (is.front.0, is.front.1))
+
+pub advance-requires-clause-place : goal.advance-requires-clause-place
+advance-requires-clause-place g c =
+    let logs = c.args.ordered.now.logs in
+    let some = c.requires.fronts in
+    let fronts = c.steps.fronts.items in let s = c.in-Some-next_step.step in let so_far = c.steps.invariant in
+    let made = so_far.made some.0 some.1 some.2 in
+    let inside = within logs some.0 c.steps.steps.items fronts made.behind in
+    let is : IsElimination logs fronts s = viewed logs fronts c.deref-in-steps-2.result.now c.steps.stands.items c.deref-in-steps.result.now c.steps.pairs (λ (fs : List (Option (List ℕ))). IsElimination logs fs s) c.deref-in-steps-2.ensures.value c.deref-in-steps.ensures.value (c.in-Some-next_step.ensures.step logs) inside so_far.stands so_far.pairs in
+    (inside s.node s.pos is.front).0
+
+pub advance-requires-clause-position : goal.advance-requires-clause-position
+advance-requires-clause-position g c =
+    let logs = c.args.ordered.now.logs in
+    let some = c.requires.fronts in
+    let fronts = c.steps.fronts.items in let s = c.in-Some-next_step.step in let so_far = c.steps.invariant in
+    let made = so_far.made some.0 some.1 some.2 in
+    let inside = within logs some.0 c.steps.steps.items fronts made.behind in
+    let is : IsElimination logs fronts s = viewed logs fronts c.deref-in-steps-2.result.now c.steps.stands.items c.deref-in-steps.result.now c.steps.pairs (λ (fs : List (Option (List ℕ))). IsElimination logs fs s) c.deref-in-steps-2.ensures.value c.deref-in-steps.ensures.value (c.in-Some-next_step.ensures.step logs) inside so_far.stands so_far.pairs in
     let left = take_at c.eliminate.new.fronts (drop (length c.eliminate.new.fronts) fronts) c.steps.fronts.len (c.eliminate.auto.fronts ∙ c.deref_mut.ensures.len) ∙ c.eliminate.ensures ∙ ap (λ (fs : List (Option (List ℕ))). one_fewer fs s.node) c.deref_mut.ensures.value in
     let pushed = c.in_ok-push.ensures.items in
     let next = made_more logs some.0 c.steps.steps.items c.push.new.self.items fronts _ s some.1 made is pushed left in
-    subst (AreWithin logs) (sym c.deref-in-Some-next_step-2.ensures.value) (within logs some.0 c.push.new.self.items _ next.behind)
+    let first = subst (λ (fs : List (Option (List ℕ))). IsFirstLeft fs s.node c.in-Some-front.position) c.deref-in-Some-next_step.ensures.value c.in-Some-front.ensures in
+    (within logs some.0 c.push.new.self.items _ next.behind s.node c.in-Some-front.position first).1
+
+pub advance-requires-clause-stand : goal.advance-requires-clause-stand
+advance-requires-clause-stand g c = λ t at.
+    let logs = c.args.ordered.now.logs in
+    let some = c.requires.fronts in
+    let fronts = c.steps.fronts.items in let s = c.in-Some-next_step.step in let so_far = c.steps.invariant in
+    let made = so_far.made some.0 some.1 some.2 in
+    let inside = within logs some.0 c.steps.steps.items fronts made.behind in
+    let is : IsElimination logs fronts s = viewed logs fronts c.deref-in-steps-2.result.now c.steps.stands.items c.deref-in-steps.result.now c.steps.pairs (λ (fs : List (Option (List ℕ))). IsElimination logs fs s) c.deref-in-steps-2.ensures.value c.deref-in-steps.ensures.value (c.in-Some-next_step.ensures.step logs) inside so_far.stands so_far.pairs in
+    let left = take_at c.eliminate.new.fronts (drop (length c.eliminate.new.fronts) fronts) c.steps.fronts.len (c.eliminate.auto.fronts ∙ c.deref_mut.ensures.len) ∙ c.eliminate.ensures ∙ ap (λ (fs : List (Option (List ℕ))). one_fewer fs s.node) c.deref_mut.ensures.value in
+    let pushed = c.in_ok-push.ensures.items in
+    let first = subst (λ (fs : List (Option (List ℕ))). IsFirstLeft fs s.node c.in-Some-front.position) c.deref-in-Some-next_step.ensures.value c.in-Some-front.ensures in
+    let stood = ap (λ (ss : List Stand). slice_get ss s.node) (sym c.deref_mut-in-Some-next_step.ensures.value) ∙ at in
+    let stand = stand_is logs fronts c.steps.stands.items inside so_far.stands s.node s.pos t is.front stood in
+    let onward = own_first logs some.0 c.steps.steps.items fronts _ made.behind s is left c.in-Some-front.position first in
+    (omega (arith, stand.position, onward), subst (λ (n : ℕ). IsStand logs s.node n t) (sym stand.position) stand)
 
 pub steps-smaller : goal.steps-smaller
 steps-smaller g c =
     let logs = c.args.ordered.now.logs in
-    let s = c.in-Some-next_step.step in let fronts = c.steps.fronts.items in
-    let is = subst (λ (fs : List (Option (List ℕ))). IsElimination logs fs s) c.deref-in-steps.ensures.value c.in-Some-next_step.ensures.step in
+    let some = c.requires.fronts in
+    let fronts = c.steps.fronts.items in let s = c.in-Some-next_step.step in let so_far = c.steps.invariant in
+    let made = so_far.made some.0 some.1 some.2 in
+    let inside = within logs some.0 c.steps.steps.items fronts made.behind in
+    let is : IsElimination logs fronts s = viewed logs fronts c.deref-in-steps-2.result.now c.steps.stands.items c.deref-in-steps.result.now c.steps.pairs (λ (fs : List (Option (List ℕ))). IsElimination logs fs s) c.deref-in-steps-2.ensures.value c.deref-in-steps.ensures.value (c.in-Some-next_step.ensures.step logs) inside so_far.stands so_far.pairs in
     let left = take_at c.eliminate.new.fronts (drop (length c.eliminate.new.fronts) fronts) c.steps.fronts.len (c.eliminate.auto.fronts ∙ c.deref_mut.ensures.len) ∙ c.eliminate.ensures ∙ ap (λ (fs : List (Option (List ℕ))). one_fewer fs s.node) c.deref_mut.ensures.value in
+    let pushed = c.in_ok-push.ensures.items in
     omega (arith, total_less fronts s.node s.pos is.front, ap total left)
 
 pub steps-preserved : goal.steps-preserved
 steps-preserved g c =
     let logs = c.args.ordered.now.logs in
     let some = c.requires.fronts in
-    let made = c.steps.invariant.made some.0 some.1 some.2 in
-    let s = c.in-Some-next_step.step in let fronts = c.steps.fronts.items in
-    let is = subst (λ (fs : List (Option (List ℕ))). IsElimination logs fs s) c.deref-in-steps.ensures.value c.in-Some-next_step.ensures.step in
+    let fronts = c.steps.fronts.items in let s = c.in-Some-next_step.step in let so_far = c.steps.invariant in
+    let made = so_far.made some.0 some.1 some.2 in
+    let inside = within logs some.0 c.steps.steps.items fronts made.behind in
+    let is : IsElimination logs fronts s = viewed logs fronts c.deref-in-steps-2.result.now c.steps.stands.items c.deref-in-steps.result.now c.steps.pairs (λ (fs : List (Option (List ℕ))). IsElimination logs fs s) c.deref-in-steps-2.ensures.value c.deref-in-steps.ensures.value (c.in-Some-next_step.ensures.step logs) inside so_far.stands so_far.pairs in
     let left = take_at c.eliminate.new.fronts (drop (length c.eliminate.new.fronts) fronts) c.steps.fronts.len (c.eliminate.auto.fronts ∙ c.deref_mut.ensures.len) ∙ c.eliminate.ensures ∙ ap (λ (fs : List (Option (List ℕ))). one_fewer fs s.node) c.deref_mut.ensures.value in
     let pushed = c.in_ok-push.ensures.items in
-    let first = some_front c.deref-in-Some-next_step.result.now s.node c.front.result c.is_none.result c.front.ensures c.is_none.ensures c.if-is_none.false in
+    let next = made_more logs some.0 c.steps.steps.items c.push.new.self.items fronts _ s some.1 made is pushed left in
+    let first = subst (λ (fs : List (Option (List ℕ))). IsFirstLeft fs s.node c.in-Some-front.position) c.deref-in-Some-next_step.ensures.value c.in-Some-front.ensures in
+    let listed = subst (λ (fs : List (Option (List ℕ))). ArePlaces fs c.in_ok-asked.asked.items) c.deref.ensures.value c.in_ok-asked.ensures in
+    let stands = c.steps.stands.items in let moved = c.advance.ensures.moved in
+    let new = take_at c.advance.new.stands (drop (length c.advance.new.stands) stands) c.steps.stands.len (c.advance.auto.stands ∙ c.deref_mut-in-Some-next_step.ensures.len) in
+    let set = new ∙ moved.1 ∙ ap (λ (ss : List Stand). slice_set ss s.node moved.0) c.deref_mut-in-Some-next_step.ensures.value in
+    let inside_left = within logs some.0 c.push.new.self.items _ next.behind in
+    let again = stands_again logs fronts stands inside so_far.stands some.0 c.steps.steps.items made.behind s is _ left _ moved.0 set c.in-Some-front.position first moved.2 in
+    let old = viewed logs fronts c.deref-in-steps-2.result.now stands c.deref-in-steps.result.now c.steps.pairs (λ (fs : List (Option (List ℕ))). HasEliminations logs fs c.next_step.new.pairs) c.deref-in-steps-2.ensures.value c.deref-in-steps.ensures.value (c.in-Some-next_step.ensures.pairs logs) inside so_far.stands so_far.pairs in
+    let places = places_stay logs some.0 c.push.new.self.items _ next.behind c.args.fronts.items c.in_ok-asked.asked.items some.2 listed in
+    let asked = c.deref-in-Some-next_step-2.ensures.value in
+    let added = rw (c.deref_mut-in-Some-next_step.ensures.value, asked, ← new) at c.advance.ensures.added in
     record {
-      made = λ case differ fronts_are. made_more logs case c.steps.steps.items c.push.new.self.items fronts _ s differ (c.steps.invariant.made case differ fronts_are) is pushed left;
-      count = omega (arith, total_less fronts s.node s.pos is.front, ap total left, ap (λ (ss : List CertStep). length ss) pushed, length-append c.steps.steps.items (s ∷ []), c.steps.invariant.count);
-      places = omega (arith, ap (λ (fs : List (Option (List ℕ))). length fs) left, one_fewer-length fronts s.node, c.steps.invariant.places);
-      left = still_left logs some.0 c.steps.steps.items fronts _ made.behind s is left c.steps.invariant.left first.0 (subst (λ (fs : List (Option (List ℕ))). IsFirstLeft fs s.node first.0) c.deref-in-Some-next_step.ensures.value first.1);
+      made = λ case differ fronts_are. made_more logs case c.steps.steps.items c.push.new.self.items fronts _ s differ (so_far.made case differ fronts_are) is pushed left;
+      count = omega (arith, total_less fronts s.node s.pos is.front, ap total left, ap (λ (ss : List CertStep). length ss) pushed, length-append c.steps.steps.items (s ∷ []), so_far.count);
+      places = omega (arith, ap (λ (fs : List (Option (List ℕ))). length fs) left, one_fewer-length fronts s.node, so_far.places);
+      left = still_left logs some.0 c.steps.steps.items fronts _ made.behind s is left so_far.left c.in-Some-front.position first;
+      nodes = ap (λ (ss : List Stand). length ss) set ∙ length-set stands s.node moved.0 ∙ so_far.nodes;
+      stands = again;
       pairs =
-          all_again logs some.0 c.steps.steps.items fronts _ made.behind s is left c.next_step.new.pairs c.add_eliminated_by.new.pairs
-          (subst (λ (fs : List (Option (List ℕ))). HasEliminations logs fs c.next_step.new.pairs) c.deref-in-steps.ensures.value c.in-Some-next_step.ensures.pairs) c.add_eliminated_by.ensures.kept
-          (subst (λ (fs : List (Option (List ℕ))). (t : CertStep) → t.other ≡ s.node → IsElimination logs fs t → Has c.add_eliminated_by.new.pairs t.node t.other) c.deref-in-Some-next_step-2.ensures.value c.add_eliminated_by.ensures.added);
+          all_again logs some.0 c.steps.steps.items fronts _ made.behind s is left c.next_step.new.pairs c.advance.new.pairs old c.advance.ensures.kept
+          (adds logs some.0 c.steps.steps.items fronts _ made.behind s is left stands _ inside so_far.stands inside_left again c.in_ok-asked.asked.items c.next_step.new.pairs c.advance.new.pairs places old c.advance.ensures.kept added);
     }
 
 pub least_cut-requires-clause-asked : goal.least_cut-requires-clause-asked
@@ -139,19 +221,21 @@ least_cut-requires-clause-asked g c =
     let some = c.requires.fronts in
     let made = c.steps.invariant.made some.0 some.1 some.2 in
     let places = places_stay logs some.0 c.steps.steps.items c.steps.fronts.items made.behind c.args.fronts.items c.in_ok-asked.asked.items some.2 listed in
-    subst (λ (fs : List (Option (List ℕ))). ArePlaces fs c.deref-7.result.now) (sym c.deref-6.ensures.value) (subst (ArePlaces c.steps.fronts.items) (sym c.deref-7.ensures.value) places)
+    subst (λ (fs : List (Option (List ℕ))). ArePlaces fs c.deref-8.result.now) (sym c.deref-7.ensures.value) (subst (ArePlaces c.steps.fronts.items) (sym c.deref-8.ensures.value) places)
 
 pub least_cut-requires-clause-within : goal.least_cut-requires-clause-within
 least_cut-requires-clause-within g c =
     let logs = c.args.ordered.now.logs in
     let some = c.requires.fronts in
     let made = c.steps.invariant.made some.0 some.1 some.2 in
-    subst (AreWithin logs) (sym c.deref-6.ensures.value) (within logs some.0 c.steps.steps.items c.steps.fronts.items made.behind)
+    subst (AreWithin logs) (sym c.deref-7.ensures.value) (within logs some.0 c.steps.steps.items c.steps.fronts.items made.behind)
 
 pub returns : goal.returns
 returns g c = λ case differ fronts_are.
-    let logs = c.args.ordered.now.logs in let fronts = c.steps.fronts.items in
-    let greatest = subst (λ (fs : List (Option (List ℕ))). AreGreatestCounts logs fs c.in_ok-cut.cut.items) c.deref-6.ensures.value c.in_ok-cut.ensures in
-    let none = subst (λ (fs : List (Option (List ℕ))). (s : CertStep) → IsElimination logs fs s → ⊥) c.deref-in-steps.ensures.value c.in_default-next_step.ensures.step in
+    let logs = c.args.ordered.now.logs in let fronts = c.steps.fronts.items in let so_far = c.steps.invariant in
+    let made = so_far.made case differ fronts_are in
+    let inside = within logs case c.steps.steps.items fronts made.behind in
+    let greatest = subst (λ (fs : List (Option (List ℕ))). AreGreatestCounts logs fs c.in_ok-cut.cut.items) c.deref-7.ensures.value c.in_ok-cut.ensures in
+    let none = viewed logs fronts c.deref-in-steps-2.result.now c.steps.stands.items c.deref-in-steps.result.now c.steps.pairs (λ (fs : List (Option (List ℕ))). (s : CertStep) → IsElimination logs fs s → ⊥) c.deref-in-steps-2.ensures.value c.deref-in-steps.ensures.value (c.in_default-next_step.ensures.step logs) inside so_far.stands so_far.pairs in
     subst (IsLeastCut logs case) (sym c.of_positions.ensures)
-    (present logs case c.steps.steps.items fronts differ (c.steps.invariant.made case differ fronts_are) c.in_ok-cut.cut.items greatest none c.steps.invariant.left)
+    (present logs case c.steps.steps.items fronts differ made c.in_ok-cut.cut.items greatest none so_far.left)

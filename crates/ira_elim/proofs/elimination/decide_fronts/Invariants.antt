@@ -1,8 +1,8 @@
 use Rattle.std.proofs.Common.{◌≡◌, ℕ, ◌+◌, ◌≤◌, List, length}
 use Rattle.ira_pred.specs.Case.{Conjunct}
 use Rattle.ira_cert.specs.Asked.{HasDifferentPlaces}
-use Rattle.ira_cert.specs.Fronts.{AreFronts}
-use Rattle.ira_elim.specs.Elimination.{HasEliminations, HasList, IsFirstLeft}
+use Rattle.ira_cert.specs.Fronts.{AreFronts, HasList}
+use Rattle.ira_elim.specs.Elimination.{AreStands, HasEliminations, IsFirstLeft}
 use Rattle.ira_elim.proofs.Steps.{AreMade, total}
 use Rattle.ira_elim.proofs.elimination.decide_fronts.Given as goal
 
@@ -12,6 +12,8 @@ invariant-steps g l = record {
   count : length l.steps.items + total l.fronts.items ≡ total l.fn.fronts.items;
   places : length l.fronts.items ≤ length l.ordered.logs;
   left : (i : ℕ) → HasList l.fronts.items i → (p : ℕ) × IsFirstLeft l.fronts.items i p;
+  nodes : length l.stands.items ≡ length l.ordered.logs;
+  stands : AreStands l.ordered.logs l.fronts.items l.stands.items;
   pairs : HasEliminations l.ordered.logs l.fronts.items l.pairs;
 }
 

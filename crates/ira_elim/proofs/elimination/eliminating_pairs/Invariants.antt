@@ -1,9 +1,8 @@
-use Rattle.std.proofs.Common.{◌≡◌, ℕ, ◌<◌, get_or}
-use Rattle.ira_cert_text.specs.declared.cert_step.CertStep.{CertStep}
-use Rattle.ira_elim.specs.Elimination.{IsElimination}
+use Rattle.std.proofs.Common.{◌≡◌, ℕ, ◌<◌, Contains, get_or}
 use Rattle.ira_elim.specs.PairSet.{Has}
+use Rattle.ira_elim.specs.Stand.{KnowsNext}
 use Rattle.ira_elim.proofs.elimination.eliminating_pairs.Given as goal
 
 abbrev pub invariant-loop-other : goal.invariant-loop-other
 invariant-loop-other g l =
-    (k : ℕ) → k < l.other-index → (s : CertStep) → s.other ≡ get_or l.asked k 0 → IsElimination l.ordered.logs l.fronts s → Has l.pairs s.node s.other
+    (k : ℕ) → k < l.other-index → (i : ℕ) → Contains l.asked i → KnowsNext l.stands (get_or l.asked k 0) i → Has l.pairs i (get_or l.asked k 0)

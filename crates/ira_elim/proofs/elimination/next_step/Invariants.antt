@@ -1,9 +1,11 @@
-use Rattle.std.proofs.Common.{sum}
-use Rattle.ira_elim.specs.Elimination.{HasEliminations}
+use Rattle.std.proofs.Common.{List, sum}
+use Rattle.ira_event.specs.Log.{Log}
+use Rattle.ira_elim.specs.Elimination.{AreStands, AreWithin, HasEliminations}
 use Rattle.ira_elim.proofs.elimination.next_step.Given as goal
 
 abbrev pub invariant-pairs : goal.invariant-pairs
-invariant-pairs g l = HasEliminations l.ordered.logs l.fronts l.pairs
+invariant-pairs g l =
+    (logs : List Log) → AreWithin logs l.fronts → AreStands logs l.fronts l.stands → HasEliminations logs l.fronts l.fn.pairs → HasEliminations logs l.fronts l.pairs
 
 abbrev pub decreases-pairs : goal.decreases-pairs
 decreases-pairs g l = sum l.pairs

@@ -1,0 +1,36 @@
+-- Helpers, no definitions: where the nodes stand while states are eliminated, and what they know there.
+use Rattle.std.specs.Prelude.{◌≡◌, ◌≢◌, ℕ, ◌<◌, ◌≤◌, List, Option, Some, Contains, length, slice_get, slice_index}
+use Rattle.ira_event.specs.declared.event.Event.TheVariants.{Got}
+use Rattle.ira_event.specs.declared.msg.Msg.{Msg}
+use Rattle.ira_event.specs.Log.{Log}
+use Rattle.ira_order.specs.Circle.{HasOrder}
+use Rattle.ira_order.specs.VectorClock.{AreCountsOfOthers}
+
+-- a position of a node, and a number for each node of the ring
+pub record Stand : Type 0 where
+  pub position : ℕ
+  pub counts : List ℕ
+
+-- node j stands at q, with its counts of the other nodes, in logs that have an order
+pub record IsStand (logs : List Log) (j q : ℕ) (s : Stand) : Type 0 where
+  pub position : s.position ≡ q
+  pub counts : AreCountsOfOthers logs j q s.counts
+  pub order : HasOrder logs
+
+-- none of the events behind the first `from`, up to the first `to`, is a receipt
+abbrev pub AreNoReceipts : Log → ℕ → ℕ → Type 0
+AreNoReceipts log from to = (k : ℕ) (m : Msg) → from ≤ k → k < to → slice_get log.events k ≢ Some (Got m)
+
+-- node j counts more events of node i than lie before i's position
+abbrev pub KnowsNext : List Stand → ℕ → ℕ → Type 0
+KnowsNext stands j i =
+    (s : Stand) × (t : Stand) × (slice_get stands i ≡ Some s) × (slice_get stands j ≡ Some t) × (s.position < slice_index t.counts i)
+
+-- at each of these places a node stands, with a number for each node
+abbrev pub AreStanding : List Stand → List ℕ → Type 0
+AreStanding stands places =
+    (i : ℕ) → Contains places i → (s : Stand) × (slice_get stands i ≡ Some s) × (length s.counts ≡ length stands)
+
+-- node j has the same numbers in both
+abbrev pub HasSameCounts : List Stand → List Stand → ℕ → Type 0
+HasSameCounts old new j = (s t : Stand) → slice_get old j ≡ Some s → slice_get new j ≡ Some t → t.counts ≡ s.counts
