@@ -1,14 +1,15 @@
 // Sections that are sound or broken at random places: the verdict is the plain checker's.
 ghost use Rattle.std.specs.Prelude.{◌<◌};
 
-use ira_cert::{CertStep, Section, Verdict, check_plain};
-use ira_fixtures::{LEADER_AND_UNBEATEN, TIE, first_case, logs_of, step};
+use crate::verdicts::{judge, judge_split};
+use ira_cert::{CertStep, Section, Verdict};
+use ira_fixtures::{LEADER_AND_UNBEATEN, TIE, step};
 use ira_links::OpenGate;
-use ira_order::order;
-use ira_par::check_split;
-use ira_pred::read_question;
 use std::alloc::Global;
+use std::sync::Wait;
 use std::test::Fail;
+use std::thread::Threads;
+use std::time::Clock;
 
 /// Numbers that look random (Knuth's linear congruential generator, MMIX).
 #[derive(Drop)]
@@ -49,25 +50,37 @@ impl Draws {
     }
 }
 
+/// The verdict on the section, where it is the same at each depth.
+fn verdict<R: AllocGlobal + Threads + Wait + Clock + Sync>(
+    rt: &R,
+    section: &Section<Global>,
+) -> Result<Verdict, Fail> {
+    let (steps, spent) = (section.steps.as_slice(), section.spent);
+    let plain = judge(rt.alloc(), &TIE, LEADER_AND_UNBEATEN, steps, spent)?;
+    for depth in 0..5 {
+        let split = judge_split(
+            rt,
+            &TIE,
+            LEADER_AND_UNBEATEN,
+            steps,
+            spent,
+            depth,
+            &OpenGate,
+        )?;
+        if split != plain {
+            return Err("another verdict".into());
+        }
+    }
+    Ok(plain)
+}
+
 #[test]
 fn random_sections(rt: HostRuntime) -> Result<(), Fail> {
-    let alloc = rt.alloc();
-    let logs = logs_of(alloc, &TIE)?;
-    let ordered = order(alloc, &logs).ok().ok_or("an order")?;
-    let question = read_question(alloc, LEADER_AND_UNBEATEN)?;
-    let case = first_case(&question, &logs)?;
     let mut draws = Draws { state: 1 };
     let mut sound = 0u32;
-    for number in 0..2_000u32 {
-        let section = draws.section(alloc)?;
-        let plain = check_plain(alloc, &logs, &ordered, case, &section)?;
-        sound = sound.saturating_add(u32::from(plain == Verdict::Yes));
-        for depth in 0..5 {
-            let split = check_split(
-                &rt, alloc, &logs, &ordered, case, &section, depth, &OpenGate,
-            )?;
-            assert!(rt; split == plain, "section {number}, depth {depth}");
-        }
+    for _ in 0..2_000 {
+        let section = draws.section(rt.alloc())?;
+        sound = sound.saturating_add(u32::from(verdict(&rt, &section)? == Verdict::Yes));
     }
     // Both verdicts are there.
     assert!(rt; sound > 100 && sound < 1_900);
