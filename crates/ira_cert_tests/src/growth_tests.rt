@@ -2,7 +2,9 @@
 ghost use Rattle.std.specs.Prelude.{IfSome};
 ghost use Rattle.ira_cert.specs.Asked.{HasPlacesOf};
 
-use ira_cert::{CertFault, SectionFault, Unsound, Verdict, check_plain, read_cert, write_cert};
+use ira_cert::{
+    CertFault, Certificate, SectionFault, Unsound, Verdict, check_plain, read_cert, write_cert,
+};
 use ira_elim::{Found, decide};
 use ira_event::{Logs, OutOfMemory, WriteFault};
 use ira_fixtures::{ACTIVE_AND_PASSIVE, ELECTION, LEADER_AND_ACTIVE, TIE, logs_of};
@@ -12,6 +14,7 @@ use ira_par::check_split;
 use ira_pred::{Case, Question, read_question};
 use ira_refusing::{FailingSink, Outcome, Refusing, each_growth_refused};
 use std::alloc::Global;
+use std::process::Abort;
 use std::sync::Wait;
 use std::test::Fail;
 use std::thread::Threads;
@@ -205,16 +208,25 @@ fn sections_judged_and_made(rt: HostRuntime) -> Result<(), Fail> {
     Ok(())
 }
 
-#[test]
-fn sink_fails_behind_each_byte(rt: HostRuntime) -> Result<(), Fail> {
-    let certificate = read_cert(rt.alloc(), TWO_STEPS)?;
-    for k in 0..TWO_STEPS.len() {
-        let mut sink = FailingSink::new(rt.alloc(), k);
-        let written = write_cert(&certificate, &mut sink);
+/// Whether the certificate, written to a sink that fails behind so many bytes, leaves these there.
+fn stops_behind(alloc: Global, certificate: &Certificate<Global>, front: &[u8]) -> bool {
+    let mut sink = FailingSink::new(alloc, front.len());
+    write_cert(certificate, &mut sink) == Err(WriteFault) && sink.bytes() == front
+}
+
+/// Compares what is left in a sink that fails, behind each byte of the certificate's text.
+fn assert_stops(rt: &(impl Abort + AllocGlobal), certificate: &Certificate<Global>, text: &[u8]) {
+    for k in 0..text.len() {
         assert!(rt;
-            written == Err(WriteFault) && sink.bytes() == &TWO_STEPS[..k],
+            stops_behind(rt.alloc(), certificate, &text[..k]),
             "after {k} bytes"
         );
     }
+}
+
+#[test]
+fn sink_fails_behind_each_byte(rt: HostRuntime) -> Result<(), Fail> {
+    let certificate = read_cert(rt.alloc(), TWO_STEPS)?;
+    assert_stops(&rt, &certificate, TWO_STEPS);
     Ok(())
 }

@@ -1,33 +1,13 @@
+use crate::verdicts::judge;
 use ira_cert::{
-    CertStep, Section, SectionFault, Unsound, Verdict, candidates_left, case_fronts, check_fronts,
-    check_plain, eliminate,
+    Section, SectionFault, Unsound, Verdict, candidates_left, case_fronts, check_fronts, eliminate,
 };
 use ira_fixtures::{
     ACTIVE_AND_PASSIVE, BOTH_LEAD, ELECTION, LEADER_AND_ACTIVE, TIE, first_case, logs_of, step,
 };
 use ira_order::order;
 use ira_pred::read_question;
-use std::alloc::Global;
 use std::test::Fail;
-
-/// The verdict on the section for the question's first case.
-fn judge(
-    alloc: Global,
-    texts: &[&[u8]],
-    question: &[u8],
-    steps: &[CertStep],
-    spent: u8,
-) -> Result<Verdict, Fail> {
-    let logs = logs_of(alloc, texts)?;
-    let ordered = order(alloc, &logs).ok().ok_or("an order")?;
-    let question = read_question(alloc, question)?;
-    let case = first_case(&question, &logs)?;
-    let section = Section {
-        steps: steps.to_vec(alloc)?,
-        spent,
-    };
-    Ok(check_plain(alloc, &logs, &ordered, case, &section)?)
-}
 
 const fn no(step: usize, why: Unsound) -> Verdict {
     Verdict::No(SectionFault::Step(step, why))

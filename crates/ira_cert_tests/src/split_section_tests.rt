@@ -1,13 +1,10 @@
 // The worked sections at each depth.
-use ira_cert::{CertStep, Section, SectionFault, Unsound, Verdict};
+use crate::verdicts::judge_split;
+use ira_cert::{CertStep, SectionFault, Unsound, Verdict};
 use ira_fixtures::{
-    ACTIVE_AND_PASSIVE, BOTH_LEAD, ELECTION, LEADER_AND_ACTIVE, LEADER_AND_UNBEATEN, TIE,
-    first_case, logs_of, step,
+    ACTIVE_AND_PASSIVE, BOTH_LEAD, ELECTION, LEADER_AND_ACTIVE, LEADER_AND_UNBEATEN, TIE, step,
 };
 use ira_links::OpenGate;
-use ira_order::order;
-use ira_par::check_split;
-use ira_pred::read_question;
 use std::process::Abort;
 use std::sync::Wait;
 use std::test::Fail;
@@ -23,17 +20,8 @@ fn assert_verdict<R: Abort + AllocGlobal + Threads + Wait + Clock + Sync>(
     spent: u8,
     verdict: Verdict,
 ) -> Result<(), Fail> {
-    let alloc = rt.alloc();
-    let logs = logs_of(alloc, texts)?;
-    let ordered = order(alloc, &logs).ok().ok_or("an order")?;
-    let question = read_question(alloc, question)?;
-    let case = first_case(&question, &logs)?;
-    let section = Section {
-        steps: steps.to_vec(alloc)?,
-        spent,
-    };
     for depth in 0..5 {
-        let found = check_split(rt, alloc, &logs, &ordered, case, &section, depth, &OpenGate)?;
+        let found = judge_split(rt, texts, question, steps, spent, depth, &OpenGate)?;
         assert!(rt; found == verdict, "depth {depth}");
     }
     Ok(())
