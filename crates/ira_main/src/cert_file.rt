@@ -20,7 +20,7 @@ fn write_new<A: Allocator, B: Allocator, F: Shelf<B>>(
     name: &str,
     shelf: &mut F,
 ) -> Result<(), ShelfFault>
-    ensures { WritesFile F.creates F.loses F.Out.state name.now
+    ensures { WritesFile F.creates F.closes F.Out.state name.now
         (cert_text certificate.now) shelf.old shelf.new result }
 {
     let mut file = shelf.create(name)?;
@@ -34,7 +34,8 @@ pub(crate) fn keep<'a, A: Allocator, B: Allocator, F: Shelf<B>>(
     name: &'a str,
     shelf: &mut F,
 ) -> Result<Status, ProgramFault<'a>>
-    ensures { Keeps F.creates F.loses F.Out.state certificate.now name.entry shelf.old shelf.new result }
+    ensures { Keeps (WritesFile F.creates F.closes F.Out.state) certificate.now name.entry
+        shelf.old shelf.new result }
 {
     if !certificate.readable() {
         return Err(ProgramFault::CertificatePastLimits);
@@ -55,7 +56,8 @@ pub fn keep_cert<A: Allocator, B: Allocator, F: Shelf<B>, V: Sink>(
     err: &mut V,
 ) -> u8
     ensures { (outcome : Result Status ProgramFault)
-        × Keeps F.creates F.loses F.Out.state certificate.now name.entry shelf.old shelf.new outcome
+        × Keeps (WritesFile F.creates F.closes F.Out.state) certificate.now name.entry
+        shelf.old shelf.new outcome
         × (result ≡ outcome_number outcome) × ReportsOutcome outcome (V.state err.old) (V.state err.new) }
 {
     let outcome = keep(certificate, name, shelf);

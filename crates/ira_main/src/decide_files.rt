@@ -3,6 +3,7 @@ ghost use Rattle.ira_main.specs.CertFile.{HasKept};
 ghost use Rattle.ira_main.specs.Decide.{Decides, EndsWith};
 ghost use Rattle.ira_main.specs.Outcome.{outcome_number};
 ghost use Rattle.ira_main.specs.Serve.{GivesNoAnswer};
+ghost use Rattle.ira_main.specs.Shelf.{WritesFile};
 
 use crate::cert_file::keep;
 use crate::program_fault::ProgramFault;
@@ -21,7 +22,7 @@ fn keep_findings<'a, A: Allocator + Clone, F: Shelf<A>>(
     name: Option<&'a str>,
     shelf: &mut F,
 ) -> Result<Status, ProgramFault<'a>>
-    ensures { EndsWith (HasKept F.creates F.loses F.Out.state F.files shelf.old shelf.new)
+    ensures { EndsWith (HasKept (WritesFile F.creates F.closes F.Out.state) F.files shelf.old shelf.new)
         (F.files shelf.new ≡ F.files shelf.old) findings name.entry result }
 {
     let Some(certificate) = findings.into_certificate()? else {
@@ -47,7 +48,7 @@ where
     A: Allocator + Clone + Send + Sync,
     F: Shelf<A>,
     W: Sink,
-    ensures { Decides A (HasKept F.creates F.loses F.Out.state F.files shelf.old shelf.new)
+    ensures { Decides A (HasKept (WritesFile F.creates F.closes F.Out.state) F.files shelf.old shelf.new)
         (F.files shelf.new ≡ F.files shelf.old) (length decide.now.logs.items) decide.now.certificate
         (W.state out.old) (W.state out.new) result
         ⊎ GivesNoAnswer (W.state out.old) (W.state out.new) (outcome_number result) }

@@ -3,6 +3,7 @@ ghost use Rattle.ira_audit.specs.Report.{IsReportable};
 ghost use Rattle.ira_main.specs.CertFile.{HasKept};
 ghost use Rattle.ira_main.specs.Outcome.{outcome_number};
 ghost use Rattle.ira_main.specs.Serve.{GivesNoAnswer, Judges, JudgesCertified, JudgesTogether, Executes, Reports};
+ghost use Rattle.ira_main.specs.Shelf.{WritesFile};
 
 use crate::counted::Counted;
 use crate::decide_files::decide_files;
@@ -117,7 +118,7 @@ where
     ensures judged { words.now ≡ []
         → Judges input.old input.new (W.state out.old) (W.state out.new) (outcome_number result) }
     ensures executed { words.now ≢ []
-        → Executes A (HasKept F.creates F.loses F.Out.state F.files shelf.old shelf.new)
+        → Executes A (HasKept (WritesFile F.creates F.closes F.Out.state) F.files shelf.old shelf.new)
         (F.files shelf.new ≡ F.files shelf.old) (map (λ word. word.now) words.now) input.old input.new
         (W.state out.old) (W.state out.new) (outcome_number result) }
     ensures reads { input.new.reads ≤ input.old.reads + (MAX_TEXT + 1) }
@@ -165,7 +166,7 @@ where
     ensures reads { input.new.reads ≤ input.old.reads + (MAX_TEXT + 1) }
     ensures judged { words.now ≡ [] → Judges input.old input.new (W.state out.old) (W.state out.new) result }
     ensures executed { words.now ≢ []
-        → Executes A (HasKept F.creates F.loses F.Out.state F.files shelf.old shelf.new)
+        → Executes A (HasKept (WritesFile F.creates F.closes F.Out.state) F.files shelf.old shelf.new)
         (F.files shelf.new ≡ F.files shelf.old) (map (λ word. word.now) words.now) input.old input.new
         (W.state out.old) (W.state out.new) result }
 {
