@@ -1,10 +1,8 @@
-ghost use Rattle.std.specs.Prelude.{◌≡◌, Result};
+ghost use Rattle.std.specs.Prelude.{◌≡◌};
 ghost use Rattle.ira_cert_text.specs.CertText.{cert_text};
 ghost use Rattle.ira_main.specs.CertFile.{Keeps};
-ghost use Rattle.ira_main.specs.Outcome.{ReportsOutcome, outcome_number};
+ghost use Rattle.ira_main.specs.Outcome.{Outcome, ReportsOutcome, outcome_number};
 ghost use Rattle.ira_main.specs.Shelf.{WritesFile};
-ghost use Rattle.ira_main.specs.declared.program_fault.ProgramFault.{ProgramFault};
-ghost use Rattle.ira_main.specs.declared.status.Status.{Status};
 
 use crate::program_fault::{ProgramFault, report_outcome};
 use crate::shelf::Shelf;
@@ -55,7 +53,7 @@ pub fn keep_cert<A: Allocator, B: Allocator, F: Shelf<B>, V: Sink>(
     shelf: &mut F,
     err: &mut V,
 ) -> u8
-    ensures { (outcome : Result Status ProgramFault)
+    ensures { (outcome : Outcome)
         × Keeps (WritesFile F.creates F.closes F.Out.state) certificate.now name.entry
         shelf.old shelf.new outcome
         × (result ≡ outcome_number outcome) × ReportsOutcome outcome (V.state err.old) (V.state err.new) }
