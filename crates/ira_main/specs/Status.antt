@@ -8,8 +8,6 @@ use Rattle.ira_run.specs.declared.node_end.NodeEnd.{NodeEnd}
 use Rattle.ira_run.specs.declared.node_end.NodeEnd.TheVariants.{Leader}
 use Rattle.ira_main.specs.declared.program_fault.ProgramFault.{ProgramFault}
 use Rattle.ira_main.specs.declared.program_fault.ProgramFault.TheVariants as program
-use Rattle.ira_main.specs.declared.shelf_fault.ShelfFault.{ShelfFault}
-use Rattle.ira_main.specs.declared.shelf_fault.ShelfFault.TheVariants as fault
 use Rattle.ira_main.specs.declared.status.Status.{Status}
 use Rattle.ira_main.specs.declared.status.Status.TheVariants.{Yes, No, Refused, OutOfMemory}
 
@@ -37,11 +35,6 @@ HasLeader ends = (i : ℕ) × (slice_get ends i ≡ Some Leader)
 -- the status of a run: yes where a node leads, else no
 abbrev pub IsElectionStatus : List NodeEnd → Status → Type 0
 IsElectionStatus ends status = (HasLeader ends × (status ≡ Yes)) ⊎ (¬ (HasLeader ends) × (status ≡ No))
-
--- the status of a file that wasn't read or written
-abbrev pub fault_status : ShelfFault → Status
-fault_status fault.Device = Refused
-fault_status fault.OutOfMemory = OutOfMemory
 
 -- the status of a fault of the program
 abbrev pub program_fault_status : ProgramFault → Status

@@ -110,8 +110,14 @@ impl Shelf<Global> for MemoryShelf<'_> {
     ghost use Rattle.std.specs.Prelude.{◌≡◌, ◌++◌, [], ◌∷◌, None, Some, IfOk, MatchResult, filter_map, map, string_bytes};
     ghost use Rattle.ira_main_tests.specs.declared.fakes.File.TheVariants as file;
 
-    ghost files = { λ s. Some (map (λ f. record { name = string_bytes f.name; bytes = f.bytes.items }) s.written.items
-        ++ filter_map (λ f. elim f.1 [ file.Text text ↦ Some (record { name = f.0.now; bytes = text.now }) | _ ↦ None ]) s.files.now) };
+    // those that were written, and those that are given with their text
+    ghost files = { λ s. Some
+        (map (λ f. record { name = string_bytes f.name; bytes = f.bytes.items }) s.written.items
+        ++ filter_map
+        (λ f. elim f.1 [
+          | file.Text text ↦ Some (record { name = f.0.now; bytes = text.now })
+          | _ ↦ None
+        ]) s.files.now) };
 
     ghost creates = { λ old name result new. (new ≡ old)
         × IfOk result (λ file. (string_bytes file.name ≡ name) × (file.bytes.items ≡ [])) };

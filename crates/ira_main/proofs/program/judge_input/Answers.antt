@@ -18,7 +18,7 @@ unjudged name OutOfMemory f old new out dash is failed = no_memory refl (ap (λ 
 
 pub returns-in-Err-clause-judged : goal.returns-in-Err-clause-judged
 returns-in-Err-clause-judged g c =
-    unjudged _ c.in-Err.fault _ _ _ _ refl c.cannot_read.ensures.fault (λ e. c.in-Err.ensures.device (ap (λ f. Err f) e))
+    unjudged _ c.in-Err.fault _ _ _ _ refl c.cannot_read.ensures (λ e. c.in-Err.ensures.device (ap (λ f. Err f) e))
 
 pub returns-clause-judged : goal.returns-clause-judged
 returns-clause-judged g c =

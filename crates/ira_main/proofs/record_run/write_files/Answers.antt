@@ -33,7 +33,7 @@ returns-in-Err g c =
         | inl wrote ↦ inl wrote
         | inr unnamed ↦ let told = unnamed.1 in inr (unnamed.0, cc)
       ];
-      told = c.cannot_write_log.ensures.fault ∙ ap (λ k. write_log_fault c.args.folder k c.in-Err.fault) (sym at_place);
+      told = c.cannot_write_log.ensures ∙ ap (λ k. write_log_fault c.args.folder k c.in-Err.fault) (sym at_place);
     }
 
 pub returns : goal.returns
