@@ -1,7 +1,7 @@
 -- Certificates of what was found: there is one where each case is absent, and it is accepted.
 use Rattle.std.proofs.Common.{◌≡◌, ◌↔◌, ℕ, zero, suc, Bool, true, false, List, [], ◌∷◌, ◌++◌, Option, Some, Result, Ok, Err, IfErr, map, length, refl, sym, subst, ap, ◌∙◌}
 use Rattle.std.specs.List.{AllZip, list_any}
-use Rattle.std.specs.Prelude.{Contains, slice_get}
+use Rattle.std.specs.Prelude.{Contains, IsFalse, not, slice_get}
 use Rattle.std.proofs.lemmas.List.Elements.{Contains-append_right, Contains-append_left, Contains-push}
 use Rattle.std.proofs.lemmas.List.Folds.{list_any_at}
 use Rattle.std.proofs.lemmas.Option.{slice_get_read}
@@ -108,3 +108,9 @@ present_at found before behind f cut is present =
 pub refused_anyway : {T E P : Type 0} (r : Result T E) → P → IfErr r (λ _. P)
 refused_anyway (Ok x) holds = tt
 refused_anyway (Err e) holds = holds
+
+-- not each case is absent exactly where one is present
+pub absent_exactly : {A : Type 0} (found : List (Found A)) (some : Bool) → some ≡ list_any is_present found
+    → IsFalse (not some) ↔ HasPresent found
+absent_exactly found true is = (λ _. present_among found (sym is), λ _. refl)
+absent_exactly found false is = (λ all. absurd cc, λ has. absurd (none_among found (sym is) has))

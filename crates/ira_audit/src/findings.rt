@@ -1,4 +1,4 @@
-ghost use Rattle.std.specs.Prelude.{◌≡◌, ◌↔◌, ℕ, List, Ok, None, Some, MatchOption, IfErr, IfOk, map};
+ghost use Rattle.std.specs.Prelude.{◌≡◌, ◌↔◌, ℕ, List, Ok, None, Some, MatchOption, IfErr, IfOk, IsFalse, map};
 ghost use Rattle.std.specs.List.{list_any};
 ghost use Rattle.ira_event.specs.Result.{UnlessErr};
 ghost use Rattle.ira_cert_text.specs.Certificate as certificate;
@@ -27,6 +27,16 @@ pub enum Findings<A: Allocator> {
 }
 
 impl<A: Allocator + Clone> Findings<A> {
+    /// Whether each case is absent.
+    pub fn are_absent(&self) -> bool
+        ensures { IsFalse result ↔ MakeNoCertificate self.now }
+    {
+        match self {
+            Findings::Refused(_) => false,
+            Findings::Cases { found, .. } => !has_present(found),
+        }
+    }
+
     /// The certificate of the sections that were found, if each case is absent; that there is none is answered
     /// whatever memory does. Where it is `readable`, `audit` says yes of the same logs, the question and the certificate's
     /// text; else its text is past the limits.

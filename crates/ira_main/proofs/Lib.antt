@@ -1,3 +1,5 @@
 pub mod Asking
+pub mod FilesFaults
+pub mod LogFiles
 pub mod Reading
 pub mod Reporting

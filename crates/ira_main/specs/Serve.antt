@@ -1,110 +1,150 @@
 -- What the program does.
-use Rattle.std.specs.Prelude.{◌≡◌, ◌⊎◌, ℕ, ◌+◌, true, List, Result, length}
+use Rattle.std.specs.Prelude.{◌≡◌, ◌≢◌, ◌⊎◌, ℕ, ◌+◌, true, List, [], ◌∷◌, Option, Ok, Err, codes, length, map}
 use Rattle.std.specs.Borrow.{Bor}
-use Rattle.ira_cert_text.specs.Certificate.{Certificate}
 use Rattle.ira_event.specs.declared.limits.TheConstants.{MAX_TEXT}
-use Rattle.ira_event.specs.Sink.{SinkState, Takes, StopsIn}
-use Rattle.ira_audit.specs.Answer.{IsAnswer}
-use Rattle.ira_audit.specs.AuditAnswer.{IsAuditAnswer}
-use Rattle.ira_audit.specs.LogsAnswer.{IsLogsAnswer}
-use Rattle.ira_ring.specs.EndsWriter.{ends_text}
-use Rattle.ira_ring.specs.Run.{Run}
 use Rattle.ira_event.specs.RingSize.{IsRingSize}
+use Rattle.ira_event.specs.Sink.{SinkState, Takes, StopsIn}
 use Rattle.ira_pred.specs.Pairs.{ArePairCases}
 use Rattle.ira_pred.specs.Question.{Asked}
 use Rattle.ira_pred.specs.QuestionText.{question_text}
-use Rattle.ira_main.specs.Counted.{Reads}
-use Rattle.ira_main.specs.Decide.{Decides}
-use Rattle.ira_main.specs.Outcome.{outcome_number}
-use Rattle.ira_main.specs.ReadText.{IsReadTo}
+use Rattle.ira_audit.specs.Answer.{IsAnswer}
+use Rattle.ira_audit.specs.AuditAnswer.{IsAuditAnswer}
+use Rattle.ira_audit.specs.LogsAnswer.{IsLogsAnswer}
 use Rattle.ira_audit.specs.Report.{report_line}
-use Rattle.ira_words.specs.Request.{AskForCheck, AskForDecide, AskForLogs, AskForPairs, AskForRun}
-use Rattle.ira_main.specs.AskedRun.{IsAskedRun}
-use Rattle.ira_main.specs.Status.{IsElectionStatus, status_number, answer_status}
 use Rattle.ira_audit.specs.declared.answer.Answer.{Answer}
+use Rattle.ira_ring.specs.EndsWriter.{ends_text}
+use Rattle.ira_ring.specs.Run.{Run}
+use Rattle.ira_run.specs.declared.run_fault.RunFault.{RunFault}
+use Rattle.ira_words.specs.Request.{AskForCheck, AskForDecide, AskForLogs, AskForPairs, AskForRun}
 use Rattle.ira_words.specs.declared.check_request.CheckRequest.{CheckRequest}
 use Rattle.ira_words.specs.declared.decide_request.DecideRequest.{DecideRequest}
 use Rattle.ira_words.specs.declared.run_request.RunRequest.{RunRequest}
+use Rattle.ira_words.specs.declared.words_fault.WordsFault.{WordsFault}
+use Rattle.ira_main.specs.AskedRun.{IsAskedRun}
+use Rattle.ira_main.specs.CertFile.{HasKept}
+use Rattle.ira_main.specs.Counted.{Reads}
+use Rattle.ira_main.specs.Decide.{Decides}
+use Rattle.ira_main.specs.LogFiles.{StopsInLogs, WritesLogs}
+use Rattle.ira_main.specs.Outcome.{GivesNoAnswer, Outcome, Prints}
+use Rattle.ira_main.specs.ProgramFault.{IsFilesFault, run_fault, words_fault}
+use Rattle.ira_main.specs.ReadText.{IsReadTo}
+use Rattle.ira_main.specs.Shelf.{File, Writing}
+use Rattle.ira_main.specs.Status.{IsElectionStatus, answer_status}
 use Rattle.ira_main.specs.declared.program_fault.ProgramFault.{ProgramFault}
+use Rattle.ira_main.specs.declared.program_fault.ProgramFault.TheVariants.{CannotRead, CannotWriteAnswer, OutOfMemory, RingSize}
 use Rattle.ira_main.specs.declared.status.Status.{Status}
+use Rattle.ira_main.specs.declared.status.Status.TheVariants.{Yes}
 
--- the text was written whole, and the status is this one; or the write failed, and the status is 2
-abbrev pub Prints : List ℕ → ℕ → SinkState → SinkState → ℕ → Type 0
-Prints text good out out' status =
-    (Takes text out out' × (status ≡ good)) ⊎ (StopsIn text out out' × (status ≡ 2))
-
--- the answer was printed, and its status is given
-abbrev pub Reports : Answer → SinkState → SinkState → ℕ → Type 0
-Reports answer = Prints (report_line answer) (status_number (answer_status answer))
+-- the line of the answer was printed, with the answer's status
+abbrev pub Reports : Answer → SinkState → SinkState → Outcome → Type 0
+Reports answer = Prints (report_line answer) (answer_status answer)
 
 -- without words: the text that the input had left was judged, and its answer reported; or a read
 -- failed, or there was no memory, and nothing was written
-pub data Judges (old new : Reads) (out out' : SinkState) (status : ℕ) : Type 0 where
-  judged : (text : List ℕ) (answer : Answer) → IsReadTo (MAX_TEXT + 1) old new text → IsAnswer text answer → Reports answer out out' status → Judges old new out out' status
-  unread : new.has_failed ≡ true → new.is_over ≡ true → out' ≡ out → status ≡ 2 → Judges old new out out' status
-  no_memory : out' ≡ out → status ≡ 3 → Judges old new out out' status
+pub data Judges (old new : Reads) (out out' : SinkState) (outcome : Outcome) : Type 0 where
+  judged : (text : List ℕ) (answer : Answer) → IsReadTo (MAX_TEXT + 1) old new text → IsAnswer text answer
+      → Reports answer out out' outcome → Judges old new out out' outcome
+  unread : (name : Bor (List ℕ)) → name.now ≡ codes "-" → new.has_failed ≡ true → new.is_over ≡ true
+      → out' ≡ out → outcome ≡ Err (CannotRead name) → Judges old new out out' outcome
+  no_memory : out' ≡ out → outcome ≡ Err OutOfMemory → Judges old new out out' outcome
 
--- no answer was given: nothing was written to the output, whatever became of files, and the status is
--- that of a refusal or of memory that ran out
-abbrev pub GivesNoAnswer : SinkState → SinkState → ℕ → Type 0
-GivesNoAnswer out out' status = (out' ≡ out) × ((status ≡ 2) ⊎ (status ≡ 3))
-
--- so many texts were judged together, and their answer reported
-pub record JudgesTogether (number : ℕ) (out out' : SinkState) (status : ℕ) : Type 0 where
+-- as many texts as there are names were judged together, and their answer reported
+pub record JudgesTogether (names : List (List ℕ)) (out out' : SinkState) (outcome : Outcome) : Type 0 where
   pub texts : List (List ℕ)
-  pub many : length texts ≡ number
+  pub many : length texts ≡ length names
   pub answer : Answer
   pub judged : IsLogsAnswer texts answer
-  pub reported : Reports answer out out' status
+  pub reported : Reports answer out out' outcome
 
--- so many texts of logs were judged together with the text of a question and the text of a certificate, and their
--- answer reported
-pub record JudgesCertified (number : ℕ) (out out' : SinkState) (status : ℕ) : Type 0 where
+-- as many texts of logs as were named were judged together with the text of a question and the text of a certificate,
+-- and their answer reported
+pub record JudgesCertified (check : CheckRequest) (out out' : SinkState) (outcome : Outcome) : Type 0 where
   pub texts : List (List ℕ)
-  pub many : length texts ≡ number
+  pub many : length texts ≡ length check.logs.items
   pub question : List ℕ
   pub certificate : List ℕ
   pub answer : Answer
   pub judged : IsAuditAnswer texts question certificate answer
-  pub reported : Reports answer out out' status
+  pub reported : Reports answer out out' outcome
+
+-- the names of the files to check: the question's, the certificate's and the logs'
+abbrev pub check_names : CheckRequest → List (List ℕ)
+check_names check = check.question.now ∷ check.certificate.now ∷ map (λ name. name.now) check.logs.items
+
+-- the names of the files to decide of: the question's and the logs'
+abbrev pub decide_names : DecideRequest → List (List ℕ)
+decide_names decide = decide.question.now ∷ map (λ name. name.now) decide.logs.items
 
 -- the question whether two nodes of a ring of so many ever lead at once was printed
-pub record AsksPairs (nodes : ℕ) (out out' : SinkState) (status : ℕ) : Type 0 where
+pub record AsksPairs (nodes : ℕ) (out out' : SinkState) (outcome : Outcome) : Type 0 where
   pub size : IsRingSize nodes
   pub question : Asked
   pub nodes_are : question.nodes ≡ nodes
   pub cases_are : ArePairCases nodes question.cases
-  pub printed : Prints (question_text question) 0 out out' status
+  pub printed : Prints (question_text question) Yes out out' outcome
 
--- the ends of a run were written whole, and the status says whether a node leads; or the write failed,
--- and the status is 2
-abbrev pub ReportsEnds : Run → SinkState → SinkState → ℕ → Type 0
-ReportsEnds run out out' status =
-    (Takes (ends_text run) out out' × IsElectionStatus run.ends status)
-    ⊎ (StopsIn (ends_text run) out out' × (status ≡ 2))
+-- why that question isn't printed: no ring has so many nodes, or memory ran out
+abbrev pub IsPairsFault : ℕ → ProgramFault → Type 0
+IsPairsFault nodes f = (¬ (IsRingSize nodes) × (f ≡ RingSize)) ⊎ (f ≡ OutOfMemory)
 
--- a run that the request asks for was made, and its ends were reported
-pub record Records (request : RunRequest) (out out' : SinkState) (status : ℕ) : Type 0 where
-  pub run : Run
-  pub asked : IsAskedRun request run
-  pub reported : ReportsEnds run out out' status
+-- the ends of a run were printed whole, and the status says whether a node leads; or the output stopped within them
+abbrev pub ReportsEnds : Run → SinkState → SinkState → Outcome → Type 0
+ReportsEnds run out out' outcome =
+    ((status : Status) × IsElectionStatus run.ends status × Takes (ends_text run) out out'
+    × (outcome ≡ Ok status))
+    ⊎ (StopsIn (ends_text run) out out' × (outcome ≡ Err CannotWriteAnswer))
 
--- what was done for the words: they ask for the logs in some files, and as many texts were judged together;
--- or they ask to check the logs in some files, and as many texts were judged with those of a question and of a
--- certificate; or they ask to decide a question of them, and it was decided of as many; or they ask for the question
--- of all pairs, and it was printed; or they ask for a ring, and it was run; or no answer was given. An answer leaves
--- the files untouched but for those of a run and a certificate's
-pub data Done (A : Type 0) (kept : Certificate → Bor (List ℕ) → Result Status ProgramFault → Type 0) (untouched : Type 0) (words : List (List ℕ))
-    (out out' : SinkState) (status : ℕ) : Type 0 where
-  judged : (names : List (List ℕ)) → AskForLogs words names → JudgesTogether (length names) out out' status → untouched → Done A kept untouched words out out' status
-  certified : (check : CheckRequest) → AskForCheck words check → JudgesCertified (length check.logs.items) out out' status → untouched → Done A kept untouched words out out' status
-  decided : (decide : DecideRequest) (outcome : Result Status ProgramFault) → AskForDecide words decide → Decides A kept untouched (length decide.logs.items) decide.certificate out out' outcome → status ≡ outcome_number outcome → Done A kept untouched words out out' status
-  asked : (nodes : ℕ) → AskForPairs words nodes → AsksPairs nodes out out' status → untouched → Done A kept untouched words out out' status
-  recorded : (request : RunRequest) → AskForRun words request → Records request out out' status → Done A kept untouched words out out' status
-  no_answer : GivesNoAnswer out out' status → Done A kept untouched words out out' status
+-- why a ring of so many nodes isn't run: no ring has so many nodes, or a fault of the run
+abbrev pub IsRunFault : ℕ → ProgramFault → Type 0
+IsRunFault nodes f = (¬ (IsRingSize nodes) × (f ≡ RingSize)) ⊎ ((fault : RunFault) × (f ≡ run_fault fault))
 
--- with words: the input wasn't read, and one of these was done for them
-pub record Executes (A : Type 0) (kept : Certificate → Bor (List ℕ) → Result Status ProgramFault → Type 0) (untouched : Type 0) (words : List (List ℕ)) (old new : Reads)
-    (out out' : SinkState) (status : ℕ) : Type 0 where
-  pub unread : new ≡ old
-  pub done : Done A kept untouched words out out' status
+-- a run that the request asks for was made: each log was written to its file, and then its ends were reported; or a
+-- log wasn't written, and nothing was printed. Or no run was made, and the shelf is as it was
+pub data Records {S : Type 0} (writes : Writing S) (request : RunRequest) (shelf shelf' : S)
+    (out out' : SinkState) (outcome : Outcome) : Type 0 where
+  recorded : (run : Run) → IsAskedRun request run → WritesLogs writes request.folder.now run.logs shelf shelf'
+      → ReportsEnds run out out' outcome → Records writes request shelf shelf' out out' outcome
+  unwritten : (run : Run) → IsAskedRun request run
+      → GivesNoAnswer (StopsInLogs writes request.folder run.logs shelf shelf') out out' outcome
+      → Records writes request shelf shelf' out out' outcome
+  not_run : shelf' ≡ shelf → GivesNoAnswer (IsRunFault request.nodes) out out' outcome
+      → Records writes request shelf shelf' out out' outcome
+
+-- what is done for words: they are refused; or they ask for the logs in some files, and as many texts are judged
+-- together; or to check the logs in some files, and as many texts are judged with those of a question and of a
+-- certificate; or to decide a question of them, and it is decided of as many; or for the question of all pairs, and it
+-- is printed; or for a ring, and it is run. Or no answer is given, for a fault that the command can have. The files are
+-- untouched but for those of a run and a certificate's
+pub data Done (A : Type 0) {S : Type 0} (writes : Writing S) (files : S → Option (List File))
+    (words : List (List ℕ)) (shelf shelf' : S) (out out' : SinkState) (outcome : Outcome) : Type 0 where
+  refused : (fault : WordsFault) → files shelf' ≡ files shelf → out' ≡ out → outcome ≡ Err (words_fault fault)
+      → Done A writes files words shelf shelf' out out' outcome
+  judged : (names : List (List ℕ)) → AskForLogs words names → files shelf' ≡ files shelf
+      → JudgesTogether names out out' outcome ⊎ GivesNoAnswer (IsFilesFault names) out out' outcome
+      → Done A writes files words shelf shelf' out out' outcome
+  certified : (check : CheckRequest) → AskForCheck words check → files shelf' ≡ files shelf
+      → JudgesCertified check out out' outcome
+      ⊎ GivesNoAnswer (IsFilesFault (check_names check)) out out' outcome
+      → Done A writes files words shelf shelf' out out' outcome
+  decided : (decide : DecideRequest) → AskForDecide words decide
+      → Decides A (HasKept writes files shelf shelf') (files shelf' ≡ files shelf) decide out out' outcome
+      → Done A writes files words shelf shelf' out out' outcome
+  undecided : (decide : DecideRequest) → AskForDecide words decide → files shelf' ≡ files shelf
+      → GivesNoAnswer (IsFilesFault (decide_names decide)) out out' outcome
+      → Done A writes files words shelf shelf' out out' outcome
+  asked : (nodes : ℕ) → AskForPairs words nodes → files shelf' ≡ files shelf
+      → AsksPairs nodes out out' outcome ⊎ GivesNoAnswer (IsPairsFault nodes) out out' outcome
+      → Done A writes files words shelf shelf' out out' outcome
+  recorded : (request : RunRequest) → AskForRun words request
+      → Records writes request shelf shelf' out out' outcome
+      → Done A writes files words shelf shelf' out out' outcome
+
+-- without words the input is judged, and the files are untouched; with words the input isn't read, and what they ask
+-- for is done
+pub data Serves (A : Type 0) {S : Type 0} (writes : Writing S) (files : S → Option (List File))
+    (words : List (List ℕ)) (input input' : Reads) (shelf shelf' : S) (out out' : SinkState)
+    (outcome : Outcome) : Type 0 where
+  without_words : words ≡ [] → files shelf' ≡ files shelf → Judges input input' out out' outcome
+      → Serves A writes files words input input' shelf shelf' out out' outcome
+  with_words : words ≢ [] → input' ≡ input → Done A writes files words shelf shelf' out out' outcome
+      → Serves A writes files words input input' shelf shelf' out out' outcome

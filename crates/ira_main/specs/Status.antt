@@ -1,13 +1,13 @@
 -- The statuses that the program ends with, and their numbers.
 use Rattle.std.specs.Prelude.{◌≡◌, ◌⊎◌, ℕ, List, Some, slice_get}
+use Rattle.ira_audit.specs.Findings.{MakeNoCertificate}
 use Rattle.ira_audit.specs.declared.answer.Answer.{Answer}
 use Rattle.ira_audit.specs.declared.answer.Answer.TheVariants as answer
+use Rattle.ira_audit.specs.declared.findings.Findings.{Findings}
 use Rattle.ira_run.specs.declared.node_end.NodeEnd.{NodeEnd}
 use Rattle.ira_run.specs.declared.node_end.NodeEnd.TheVariants.{Leader}
 use Rattle.ira_main.specs.declared.program_fault.ProgramFault.{ProgramFault}
 use Rattle.ira_main.specs.declared.program_fault.ProgramFault.TheVariants as program
-use Rattle.ira_main.specs.declared.shelf_fault.ShelfFault.{ShelfFault}
-use Rattle.ira_main.specs.declared.shelf_fault.ShelfFault.TheVariants as fault
 use Rattle.ira_main.specs.declared.status.Status.{Status}
 use Rattle.ira_main.specs.declared.status.Status.TheVariants.{Yes, No, Refused, OutOfMemory}
 
@@ -23,18 +23,18 @@ abbrev pub answer_status : Answer → Status
 answer_status answer.Yes = Yes
 answer_status (answer.No reason) = No
 
+-- the status of findings: no where they make no certificate, else yes
+abbrev pub IsFindingsStatus : {A : Type 0} → Findings A → Status → Type 0
+IsFindingsStatus findings status =
+    (MakeNoCertificate findings × (status ≡ No)) ⊎ (¬ (MakeNoCertificate findings) × (status ≡ Yes))
+
 -- a node ended as the leader
 abbrev pub HasLeader : List NodeEnd → Type 0
 HasLeader ends = (i : ℕ) × (slice_get ends i ≡ Some Leader)
 
--- the number of a run's status: 0 where a node leads, else 1
-abbrev pub IsElectionStatus : List NodeEnd → ℕ → Type 0
-IsElectionStatus ends status = (HasLeader ends × (status ≡ 0)) ⊎ (¬ (HasLeader ends) × (status ≡ 1))
-
--- the status of a file that wasn't read or written
-abbrev pub fault_status : ShelfFault → Status
-fault_status fault.Device = Refused
-fault_status fault.OutOfMemory = OutOfMemory
+-- the status of a run: yes where a node leads, else no
+abbrev pub IsElectionStatus : List NodeEnd → Status → Type 0
+IsElectionStatus ends status = (HasLeader ends × (status ≡ Yes)) ⊎ (¬ (HasLeader ends) × (status ≡ No))
 
 -- the status of a fault of the program
 abbrev pub program_fault_status : ProgramFault → Status

@@ -1,10 +1,8 @@
-ghost use Rattle.std.specs.Prelude.{◌≡◌, Result};
+ghost use Rattle.std.specs.Prelude.{◌≡◌};
 ghost use Rattle.ira_cert_text.specs.CertText.{cert_text};
 ghost use Rattle.ira_main.specs.CertFile.{Keeps};
-ghost use Rattle.ira_main.specs.Outcome.{ReportsOutcome, outcome_number};
+ghost use Rattle.ira_main.specs.Outcome.{Outcome, ReportsOutcome, outcome_number};
 ghost use Rattle.ira_main.specs.Shelf.{WritesFile};
-ghost use Rattle.ira_main.specs.declared.program_fault.ProgramFault.{ProgramFault};
-ghost use Rattle.ira_main.specs.declared.status.Status.{Status};
 
 use crate::program_fault::{ProgramFault, report_outcome};
 use crate::shelf::Shelf;
@@ -20,7 +18,7 @@ fn write_new<A: Allocator, B: Allocator, F: Shelf<B>>(
     name: &str,
     shelf: &mut F,
 ) -> Result<(), ShelfFault>
-    ensures { WritesFile F.creates F.loses F.Out.state name.now
+    ensures { WritesFile F.creates F.closes F.Out.state name.now
         (cert_text certificate.now) shelf.old shelf.new result }
 {
     let mut file = shelf.create(name)?;
@@ -34,7 +32,8 @@ pub(crate) fn keep<'a, A: Allocator, B: Allocator, F: Shelf<B>>(
     name: &'a str,
     shelf: &mut F,
 ) -> Result<Status, ProgramFault<'a>>
-    ensures { Keeps F.creates F.loses F.Out.state certificate.now name.entry shelf.old shelf.new result }
+    ensures { Keeps (WritesFile F.creates F.closes F.Out.state) certificate.now name.entry
+        shelf.old shelf.new result }
 {
     if !certificate.readable() {
         return Err(ProgramFault::CertificatePastLimits);
@@ -54,8 +53,9 @@ pub fn keep_cert<A: Allocator, B: Allocator, F: Shelf<B>, V: Sink>(
     shelf: &mut F,
     err: &mut V,
 ) -> u8
-    ensures { (outcome : Result Status ProgramFault)
-        × Keeps F.creates F.loses F.Out.state certificate.now name.entry shelf.old shelf.new outcome
+    ensures { (outcome : Outcome)
+        × Keeps (WritesFile F.creates F.closes F.Out.state) certificate.now name.entry
+        shelf.old shelf.new outcome
         × (result ≡ outcome_number outcome) × ReportsOutcome outcome (V.state err.old) (V.state err.new) }
 {
     let outcome = keep(certificate, name, shelf);

@@ -1,8 +1,10 @@
-ghost use Rattle.std.specs.Prelude.{◌≡◌, ◌⊎◌, length};
+ghost use Rattle.std.specs.Prelude.{◌≡◌, ◌⊎◌};
 ghost use Rattle.ira_main.specs.CertFile.{HasKept};
 ghost use Rattle.ira_main.specs.Decide.{Decides, EndsWith};
-ghost use Rattle.ira_main.specs.Outcome.{outcome_number};
-ghost use Rattle.ira_main.specs.Serve.{GivesNoAnswer};
+ghost use Rattle.ira_main.specs.Outcome.{GivesNoAnswer};
+ghost use Rattle.ira_main.specs.ProgramFault.{IsFilesFault};
+ghost use Rattle.ira_main.specs.Serve.{decide_names};
+ghost use Rattle.ira_main.specs.Shelf.{WritesFile};
 
 use crate::cert_file::keep;
 use crate::program_fault::ProgramFault;
@@ -15,21 +17,21 @@ use ira_words::DecideRequest;
 use std::alloc::Allocator;
 use std::thread::Threads;
 
-// Keeps the certificate of these findings in a new file of this name, if there are both.
+// Keeps the certificate of these findings, if there is one, in a new file of this name, if there is one.
 fn keep_findings<'a, A: Allocator + Clone, F: Shelf<A>>(
     findings: Findings<A>,
     name: Option<&'a str>,
     shelf: &mut F,
 ) -> Result<Status, ProgramFault<'a>>
-    ensures { EndsWith (HasKept F.creates F.loses F.Out.state F.files shelf.old shelf.new)
+    ensures { EndsWith (HasKept (WritesFile F.creates F.closes F.Out.state) F.files shelf.old shelf.new)
         (F.files shelf.new ≡ F.files shelf.old) findings name.entry result }
 {
-    let Some(certificate) = findings.into_certificate()? else {
-        return Ok(Status::No);
+    let Some(name) = name else {
+        return Ok(Status::of_findings(&findings));
     };
-    match name {
-        Some(name) => keep(&certificate, name, shelf),
-        None => Ok(Status::Yes),
+    match findings.into_certificate()? {
+        Some(certificate) => keep(&certificate, name, shelf),
+        None => Ok(Status::No),
     }
 }
 
@@ -47,10 +49,10 @@ where
     A: Allocator + Clone + Send + Sync,
     F: Shelf<A>,
     W: Sink,
-    ensures { Decides A (HasKept F.creates F.loses F.Out.state F.files shelf.old shelf.new)
-        (F.files shelf.new ≡ F.files shelf.old) (length decide.now.logs.items) decide.now.certificate
-        (W.state out.old) (W.state out.new) result
-        ⊎ GivesNoAnswer (W.state out.old) (W.state out.new) (outcome_number result) }
+    ensures { Decides A (HasKept (WritesFile F.creates F.closes F.Out.state) F.files shelf.old shelf.new)
+        (F.files shelf.new ≡ F.files shelf.old) decide.now (W.state out.old) (W.state out.new) result
+        ⊎ ((F.files shelf.new ≡ F.files shelf.old)
+        × GivesNoAnswer (IsFilesFault (decide_names decide.now)) (W.state out.old) (W.state out.new) result) }
 {
     let question = read_file(decide.question, shelf)?;
     let audit = read_logs(rt, alloc.clone()?, &decide.logs, shelf)?;

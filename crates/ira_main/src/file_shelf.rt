@@ -7,7 +7,8 @@ use std::alloc::Allocator;
 use std::fs::{self, Files};
 use std::io::BufWriter;
 
-/// The files of the system. They are written through a buffer.
+/// The files of the system. They are written through a buffer. No clause tells what they hold, since others may change
+/// them at any time.
 #[derive(Drop)]
 pub struct FileShelf<'a, R: Files, A: Allocator> {
     rt: &'a R,
@@ -22,6 +23,14 @@ impl<'a, R: Files, A: Allocator> FileShelf<'a, R, A> {
 
 impl<R: Files, A: Allocator + Clone> Shelf<A> for FileShelf<'_, R, A> {
     type Out = ToWriter<BufWriter<R::File, A>>;
+
+    ghost use Rattle.std.specs.Prelude.{None, ⊤};
+
+    ghost files = { λ _. None };
+
+    ghost creates = { λ _ _ _ _. ⊤ };
+
+    ghost closes = { λ _ _ _ _. ⊤ };
 
     fn read(&mut self, name: &str) -> Result<Vec<u8, A>, ShelfFault> {
         let alloc = self.alloc.clone()?;

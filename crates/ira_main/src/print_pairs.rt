@@ -1,6 +1,6 @@
 ghost use Rattle.std.specs.Prelude.{◌⊎◌};
-ghost use Rattle.ira_main.specs.Outcome.{outcome_number};
-ghost use Rattle.ira_main.specs.Serve.{AsksPairs, GivesNoAnswer};
+ghost use Rattle.ira_main.specs.Outcome.{GivesNoAnswer};
+ghost use Rattle.ira_main.specs.Serve.{AsksPairs, IsPairsFault};
 
 use crate::program_fault::ProgramFault;
 use crate::ring_size::ring_size;
@@ -16,8 +16,8 @@ pub(crate) fn print_pairs<'a, A: Allocator + Clone, W: Sink>(
     nodes: u64,
     out: &mut W,
 ) -> Result<Status, ProgramFault<'a>>
-    ensures { AsksPairs nodes (W.state out.old) (W.state out.new) (outcome_number result)
-        ⊎ GivesNoAnswer (W.state out.old) (W.state out.new) (outcome_number result) }
+    ensures { AsksPairs nodes (W.state out.old) (W.state out.new) result
+        ⊎ GivesNoAnswer (IsPairsFault nodes) (W.state out.old) (W.state out.new) result }
 {
     let Some(nodes) = ring_size(nodes) else {
         return Err(ProgramFault::RingSize);

@@ -1,8 +1,9 @@
-ghost use Rattle.std.specs.Prelude.{◌≡◌, ◌≢◌, ◌⊎◌, ◌≤◌, ◌+◌, [], length, map};
+ghost use Rattle.std.specs.Prelude.{◌≡◌, ◌⊎◌, ◌≤◌, ◌+◌, map};
 ghost use Rattle.ira_audit.specs.Report.{IsReportable};
-ghost use Rattle.ira_main.specs.CertFile.{HasKept};
-ghost use Rattle.ira_main.specs.Outcome.{outcome_number};
-ghost use Rattle.ira_main.specs.Serve.{GivesNoAnswer, Judges, JudgesCertified, JudgesTogether, Executes, Reports};
+ghost use Rattle.ira_main.specs.Outcome.{GivesNoAnswer, Outcome, ReportsOutcome, outcome_number};
+ghost use Rattle.ira_main.specs.ProgramFault.{IsFilesFault};
+ghost use Rattle.ira_main.specs.Serve.{Judges, JudgesCertified, JudgesTogether, Reports, Serves, check_names};
+ghost use Rattle.ira_main.specs.Shelf.{WritesFile};
 
 use crate::counted::Counted;
 use crate::decide_files::decide_files;
@@ -26,7 +27,7 @@ use std::time::Clock;
 // Writes the answer's line, and gives the answer's status.
 fn report<'a, W: Sink>(answer: &Answer, out: &mut W) -> Result<Status, ProgramFault<'a>>
     requires { IsReportable answer.now }
-    ensures { Reports answer.now (W.state out.old) (W.state out.new) (outcome_number result) }
+    ensures { Reports answer.now (W.state out.old) (W.state out.new) result }
 {
     match write_report(answer, out) {
         Ok(()) => Ok(Status::of_answer(answer)),
@@ -40,7 +41,7 @@ fn judge_input<'a, A: Allocator, I: Read, W: Sink>(
     input: &mut Counted<I>,
     out: &mut W,
 ) -> Result<Status, ProgramFault<'a>>
-    ensures judged { Judges input.old input.new (W.state out.old) (W.state out.new) (outcome_number result) }
+    ensures judged { Judges input.old input.new (W.state out.old) (W.state out.new) result }
     ensures reads { input.new.reads ≤ input.old.reads + (MAX_TEXT + 1) }
 {
     let text = match read_text(&alloc, input) {
@@ -64,8 +65,10 @@ where
     A: Allocator + Clone + Send + Sync,
     F: Shelf<A>,
     W: Sink,
-    ensures judged { JudgesTogether (length names.now) (W.state out.old) (W.state out.new) (outcome_number result)
-        ⊎ GivesNoAnswer (W.state out.old) (W.state out.new) (outcome_number result) }
+    ensures judged { JudgesTogether (map (λ name. name.now) names.now)
+        (W.state out.old) (W.state out.new) result
+        ⊎ GivesNoAnswer (IsFilesFault (map (λ name. name.now) names.now))
+        (W.state out.old) (W.state out.new) result }
     ensures files { F.files shelf.new ≡ F.files shelf.old }
 {
     let audit = read_logs(rt, alloc, names, shelf)?;
@@ -88,8 +91,8 @@ where
     F: Shelf<A>,
     W: Sink,
     requires depth { check.now.depth ≤ 4 }
-    ensures judged { JudgesCertified (length check.now.logs.items) (W.state out.old) (W.state out.new) (outcome_number result)
-        ⊎ GivesNoAnswer (W.state out.old) (W.state out.new) (outcome_number result) }
+    ensures judged { JudgesCertified check.now (W.state out.old) (W.state out.new) result
+        ⊎ GivesNoAnswer (IsFilesFault (check_names check.now)) (W.state out.old) (W.state out.new) result }
     ensures files { F.files shelf.new ≡ F.files shelf.old }
 {
     let question = read_file(check.question, shelf)?;
@@ -114,12 +117,9 @@ where
     I: Read,
     F: Shelf<A>,
     W: Sink,
-    ensures judged { words.now ≡ []
-        → Judges input.old input.new (W.state out.old) (W.state out.new) (outcome_number result) }
-    ensures executed { words.now ≢ []
-        → Executes A (HasKept F.creates F.loses F.Out.state F.files shelf.old shelf.new)
-        (F.files shelf.new ≡ F.files shelf.old) (map (λ word. word.now) words.now) input.old input.new
-        (W.state out.old) (W.state out.new) (outcome_number result) }
+    ensures executed { Serves A (WritesFile F.creates F.closes F.Out.state) F.files
+        (map (λ word. word.now) words.now) input.old input.new shelf.old shelf.new
+        (W.state out.old) (W.state out.new) result }
     ensures reads { input.new.reads ≤ input.old.reads + (MAX_TEXT + 1) }
 {
     match read_words(rt.alloc(), words)? {
@@ -163,11 +163,10 @@ where
     V: Sink,
     ensures status { result ≤ 3 }
     ensures reads { input.new.reads ≤ input.old.reads + (MAX_TEXT + 1) }
-    ensures judged { words.now ≡ [] → Judges input.old input.new (W.state out.old) (W.state out.new) result }
-    ensures executed { words.now ≢ []
-        → Executes A (HasKept F.creates F.loses F.Out.state F.files shelf.old shelf.new)
-        (F.files shelf.new ≡ F.files shelf.old) (map (λ word. word.now) words.now) input.old input.new
-        (W.state out.old) (W.state out.new) result }
+    ensures served { (outcome : Outcome) × Serves A (WritesFile F.creates F.closes F.Out.state) F.files
+        (map (λ word. word.now) words.now) input.old input.new shelf.old shelf.new
+        (W.state out.old) (W.state out.new) outcome
+        × (result ≡ outcome_number outcome) × ReportsOutcome outcome (V.state err.old) (V.state err.new) }
 {
     let outcome = execute(rt, alloc, words, input, shelf, out);
     report_outcome(outcome, err)

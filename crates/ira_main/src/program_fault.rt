@@ -3,7 +3,7 @@ ghost use Rattle.ira_event.specs.Sink.{Wrote};
 ghost use Rattle.ira_run.specs.RunFault.{run_fault_number};
 ghost use Rattle.ira_main.specs.ProgramFault.{program_fault_text, read_fault, write_fault, write_log_fault};
 ghost use Rattle.ira_main.specs.Outcome.{ReportsOutcome, outcome_number};
-ghost use Rattle.ira_main.specs.Status.{fault_status, program_fault_status};
+ghost use Rattle.ira_main.specs.Status.{program_fault_status};
 
 use crate::shelf_fault::ShelfFault;
 use crate::status::Status;
@@ -37,8 +37,7 @@ pub(crate) enum ProgramFault<'a> {
 impl<'a> ProgramFault<'a> {
     /// The file of this name, or standard input, wasn't read.
     pub(crate) fn cannot_read(name: &'a str, fault: ShelfFault) -> ProgramFault<'a>
-        ensures fault { result ≡ read_fault name.entry fault }
-        ensures status { program_fault_status result ≡ fault_status fault }
+        ensures { result ≡ read_fault name.entry fault }
     {
         match fault {
             ShelfFault::Device => ProgramFault::CannotRead(name),
@@ -52,8 +51,7 @@ impl<'a> ProgramFault<'a> {
         place: u8,
         fault: ShelfFault,
     ) -> ProgramFault<'a>
-        ensures fault { result ≡ write_log_fault folder.entry place fault }
-        ensures status { program_fault_status result ≡ fault_status fault }
+        ensures { result ≡ write_log_fault folder.entry place fault }
     {
         match fault {
             ShelfFault::Device => ProgramFault::CannotWriteLog(folder, place),

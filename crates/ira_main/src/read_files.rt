@@ -1,5 +1,6 @@
-ghost use Rattle.std.specs.Prelude.{◌≡◌, ℕ, List, IfOk, length, vec_len};
+ghost use Rattle.std.specs.Prelude.{◌≡◌, ℕ, List, [], ◌∷◌, IfErr, IfOk, length, map, vec_len};
 ghost use Rattle.ira_audit.specs.RingAudit.{HasTaken};
+ghost use Rattle.ira_main.specs.ProgramFault.{IsFilesFault};
 
 use crate::program_fault::ProgramFault;
 use crate::shelf::Shelf;
@@ -15,7 +16,8 @@ pub(crate) fn read_file<'a, A: Allocator, F: Shelf<A>>(
     name: &'a str,
     shelf: &mut F,
 ) -> Result<Vec<u8, A>, ProgramFault<'a>>
-    ensures { F.files shelf.new ≡ F.files shelf.old }
+    ensures fault { IfErr result (IsFilesFault (name.now ∷ [])) }
+    ensures files { F.files shelf.new ≡ F.files shelf.old }
 {
     match shelf.read(name) {
         Ok(text) => Ok(text),
@@ -30,6 +32,7 @@ fn read_texts<'a, A: Allocator, F: Shelf<A>>(
     shelf: &mut F,
 ) -> Result<Vec<Vec<u8, A>, A>, ProgramFault<'a>>
     ensures number { IfOk result (λ texts. vec_len texts ≡ length names.now) }
+    ensures fault { IfErr result (IsFilesFault (map (λ name. name.now) names.now)) }
     ensures files { F.files shelf.new ≡ F.files shelf.old }
 {
     let mut texts = Vec::with_capacity(alloc, names.len())?;
@@ -52,6 +55,7 @@ where
     F: Shelf<A>,
     ensures taken { IfOk result
         (λ audit. (texts : List (List ℕ)) × HasTaken audit texts × (length texts ≡ length names.now)) }
+    ensures fault { IfErr result (IsFilesFault (map (λ name. name.now) names.now)) }
     ensures files { F.files shelf.new ≡ F.files shelf.old }
 {
     let mut audit = RingAudit::new(alloc.clone()?);

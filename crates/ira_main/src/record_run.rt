@@ -1,6 +1,8 @@
-ghost use Rattle.std.specs.Prelude.{◌⊎◌};
-ghost use Rattle.ira_main.specs.Outcome.{outcome_number};
-ghost use Rattle.ira_main.specs.Serve.{GivesNoAnswer, Records};
+ghost use Rattle.std.specs.Prelude.{◌≡◌, ◌⊎◌, Err, MatchResult};
+ghost use Rattle.ira_event.specs.LogText.{log_text};
+ghost use Rattle.ira_main.specs.LogFiles.{StopsInLogs, WritesLogs, log_name};
+ghost use Rattle.ira_main.specs.Serve.{Records};
+ghost use Rattle.ira_main.specs.Shelf.{WritesFile};
 
 use crate::asked_run::run;
 use crate::program_fault::ProgramFault;
@@ -22,7 +24,11 @@ fn write_file<A: Allocator, B: Allocator, F: Shelf<B>>(
     folder: &str,
     log: &NodeLog<B>,
     shelf: &mut F,
-) -> Result<(), ShelfFault> {
+) -> Result<(), ShelfFault>
+    ensures { WritesFile F.creates F.closes F.Out.state (log_name folder.now log.now.place)
+        (log_text log.now) shelf.old shelf.new result
+        ⊎ ((shelf.new ≡ shelf.old) × (result ≡ Err ShelfFault.OutOfMemory)) }
+{
     let place = log.place();
     let name = format!(in alloc; "{folder}/{place}.log")?;
     let mut file = shelf.create(name.as_str())?;
@@ -36,7 +42,11 @@ fn write_files<'a, A: Allocator, B: Allocator, F: Shelf<B>>(
     folder: &'a str,
     logs: &Logs<B>,
     shelf: &mut F,
-) -> Result<(), ProgramFault<'a>> {
+) -> Result<(), ProgramFault<'a>>
+    ensures { MatchResult result
+        (λ _. WritesLogs (WritesFile F.creates F.closes F.Out.state) folder.now logs.now shelf.old shelf.new)
+        (StopsInLogs (WritesFile F.creates F.closes F.Out.state) folder.entry logs.now shelf.old shelf.new) }
+{
     for place in 0..logs.size().get() {
         if let Err(fault) = write_file(&alloc, folder, logs.log(place), shelf) {
             return Err(ProgramFault::cannot_write_log(folder, place, fault));
@@ -58,8 +68,8 @@ where
     A: Allocator + Clone + Send + Sync,
     F: Shelf<A>,
     W: Sink,
-    ensures { Records request.now (W.state out.old) (W.state out.new) (outcome_number result)
-        ⊎ GivesNoAnswer (W.state out.old) (W.state out.new) (outcome_number result) }
+    ensures { Records (WritesFile F.creates F.closes F.Out.state) request.now shelf.old shelf.new
+        (W.state out.old) (W.state out.new) result }
 {
     let Some(nodes) = ring_size(request.nodes) else {
         return Err(ProgramFault::RingSize);

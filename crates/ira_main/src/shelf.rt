@@ -1,4 +1,5 @@
-ghost use Rattle.std.specs.Prelude.{◌≡◌, ◌≤◌, ◌+◌, ℕ, List, [], Result, length, IfErr, IfOk, ⊤};
+ghost use Rattle.std.specs.Prelude.{◌≡◌, ◌≤◌, ◌+◌, ℕ, List, Option, Result, length, IfOk};
+ghost use Rattle.ira_main.specs.Shelf.{File};
 ghost use Rattle.ira_main.specs.declared.shelf_fault.ShelfFault.{ShelfFault};
 
 use crate::shelf_fault::ShelfFault;
@@ -11,13 +12,13 @@ pub trait Shelf<A: Allocator> {
     type Out: Sink + Drop;
 
     // the files that lie on it, where it tells them
-    ghost files: { Self → List (List ℕ) } = { λ _. [] };
+    ghost files: { Self → Option (List File) };
 
     // what `create` does to the shelf, and what comes of it
-    ghost creates: { Self → List ℕ → Result Self.Out ShelfFault → Self → Type 0 } = { λ _ _ _ _. ⊤ };
+    ghost creates: { Self → List ℕ → Result Self.Out ShelfFault → Self → Type 0 };
 
-    // what a failure of `close` says of the shelf before, the file and the shelf after
-    ghost loses: { Self → Self.Out → ShelfFault → Self → Type 0 } = { λ _ _ _ _. ⊤ };
+    // what `close` does to the shelf, and what comes of it
+    ghost closes: { Self → Self.Out → Result (Unit {0}) ShelfFault → Self → Type 0 };
 
     /// The bytes of a file, to its end or to one more than `MAX_TEXT`, whichever comes first.
     fn read(&mut self, name: &str) -> Result<Vec<u8, A>, ShelfFault>
@@ -30,9 +31,6 @@ pub trait Shelf<A: Allocator> {
 
     /// Ends the writing of a file: what a buffer still holds is written. Only then is it known that
     /// nothing was lost.
-    fn close(&mut self, _file: Self::Out) -> Result<(), ShelfFault>
-        ensures { IfErr result (λ fault. loses self.old _file fault self.new) }
-    {
-        Ok(())
-    }
+    fn close(&mut self, file: Self::Out) -> Result<(), ShelfFault>
+        ensures { closes self.old file result self.new };
 }

@@ -1,8 +1,9 @@
 ghost use Rattle.std.specs.Prelude.{◌≡◌};
-ghost use Rattle.ira_main.specs.Status.{IsElectionStatus, answer_status, status_number};
+ghost use Rattle.ira_main.specs.Status.{IsElectionStatus, IsFindingsStatus, answer_status, status_number};
 
-use ira_audit::Answer;
+use ira_audit::{Answer, Findings};
 use ira_ring::NodeEnd;
+use std::alloc::Allocator;
 
 /// What the program ends with.
 #[derive(Clone, Copy, Debug, PartialEq, Eq)]
@@ -26,9 +27,20 @@ impl Status {
         }
     }
 
+    /// Whether each case is absent.
+    pub(crate) fn of_findings<A: Allocator + Clone>(findings: &Findings<A>) -> Status
+        ensures { IsFindingsStatus findings.now result }
+    {
+        if findings.are_absent() {
+            Status::Yes
+        } else {
+            Status::No
+        }
+    }
+
     /// Whether a node leads.
     pub(crate) fn of_ends(ends: &[NodeEnd]) -> Status
-        ensures { IsElectionStatus ends.now (status_number result) }
+        ensures { IsElectionStatus ends.now result }
     {
         if ends.contains(&NodeEnd::Leader) {
             Status::Yes

@@ -39,9 +39,9 @@ pub(crate) struct NewFile {
 }
 
 impl Sink for NewFile {
-    ghost use Rattle.std.specs.Prelude.{None};
+    ghost use Rattle.std.specs.Prelude.{Some};
 
-    ghost state = { λ s. record { taken = None; failures = s.failures } };
+    ghost state = { λ s. record { taken = Some s.bytes.items; failures = s.failures } };
 
     fn push(&mut self, bytes: &[u8]) -> Result<usize, SinkFault> {
         if self.is_full || self.bytes.extend_from_slice(bytes).is_err() {
@@ -106,6 +106,25 @@ fn text_of(alloc: Global, bytes: &[u8]) -> Result<Vec<u8>, ShelfFault>
 
 impl Shelf<Global> for MemoryShelf<'_> {
     type Out = NewFile;
+
+    ghost use Rattle.std.specs.Prelude.{◌≡◌, ◌++◌, [], ◌∷◌, None, Some, IfOk, MatchResult, filter_map, map, string_bytes};
+    ghost use Rattle.ira_main_tests.specs.declared.fakes.File.TheVariants as file;
+
+    // those that were written, and those that are given with their text
+    ghost files = { λ s. Some
+        (map (λ f. record { name = string_bytes f.name; bytes = f.bytes.items }) s.written.items
+        ++ filter_map
+        (λ f. elim f.1 [
+          | file.Text text ↦ Some (record { name = f.0.now; bytes = text.now })
+          | _ ↦ None
+        ]) s.files.now) };
+
+    ghost creates = { λ old name result new. (new ≡ old)
+        × IfOk result (λ file. (string_bytes file.name ≡ name) × (file.bytes.items ≡ [])) };
+
+    ghost closes = { λ old file result new. (new.files ≡ old.files)
+        × MatchResult result (λ _. new.written.items ≡ old.written.items ++ file ∷ [])
+        (λ _. new.written.items ≡ old.written.items) };
 
     fn read(&mut self, name: &str) -> Result<Vec<u8>, ShelfFault> {
         if let Some(file) = self.written.iter().find(|file| file.name.as_str() == name) {

@@ -36,6 +36,14 @@ struct AmpleShelf<'a> {
 impl Shelf<Memory> for AmpleShelf<'_> {
     type Out = NewFile;
 
+    ghost files = { λ s. ⟦<MemoryShelf<'static> as Shelf<Global>>⟧.files s.shelf };
+
+    ghost creates = { λ old name result new.
+        ⟦<MemoryShelf<'static> as Shelf<Global>>⟧.creates old.shelf name result new.shelf };
+
+    ghost closes = { λ old file result new.
+        ⟦<MemoryShelf<'static> as Shelf<Global>>⟧.closes old.shelf file result new.shelf };
+
     fn read(&mut self, name: &str) -> Result<Vec<u8, Memory>, ShelfFault> {
         let text = self.shelf.read(name)?;
         Ok(text.to_vec(self.memory.clone()?)?)

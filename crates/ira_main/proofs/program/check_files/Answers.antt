@@ -1,5 +1,6 @@
-use Rattle.std.proofs.Common.{inl, refl, ap, length, ◌∙◌}
+use Rattle.std.proofs.Common.{inl, inr, refl, rules, ap, length, map, [], ◌∷◌, ◌∙◌}
 use Rattle.ira_event.proofs.Unless.{unless_ok}
+use Rattle.ira_main.proofs.FilesFaults.{of_back, of_front}
 use Rattle.ira_main.proofs.program.check_files.Goals as goal
 
 pub report-requires : goal.report-requires
@@ -21,3 +22,23 @@ returns-clause-judged g c =
       judged = exact.0 refl;
       reported = c.report.ensures;
     })
+
+pub returns-in_err-question-clause-judged : goal.returns-in_err-question-clause-judged
+returns-in_err-question-clause-judged g c =
+    let check = c.args.check.now in
+    let others = check.certificate.now ∷ map (λ name. name.now) check.logs.items in
+    inr (_, of_front (check.question.now ∷ []) others _ c.in_err-question.ensures.fault, refl, search rules)
+
+pub returns-in_err-certificate-clause-judged : goal.returns-in_err-certificate-clause-judged
+returns-in_err-certificate-clause-judged g c =
+    let check = c.args.check.now in
+    let logs = map (λ name. name.now) check.logs.items in
+    let others = of_front (check.certificate.now ∷ []) logs _ c.in_err-certificate.ensures.fault in
+    inr (_, of_back (check.question.now ∷ []) (check.certificate.now ∷ logs) _ others, refl, search rules)
+
+pub returns-in_err-audit-clause-judged : goal.returns-in_err-audit-clause-judged
+returns-in_err-audit-clause-judged g c =
+    let check = c.args.check.now in
+    let logs = map (λ name. name.now) check.logs.items in
+    let fault = rw c.deref.ensures.value at c.in_err-audit.ensures.fault in
+    inr (_, of_back (check.question.now ∷ check.certificate.now ∷ []) logs _ fault, refl, search rules)

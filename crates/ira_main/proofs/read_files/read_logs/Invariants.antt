@@ -1,4 +1,5 @@
-use Rattle.std.proofs.Common.{◌≡◌, ◌+◌, ℕ, List, length}
+use Rattle.std.proofs.Common.{◌≡◌, ◌+◌, ◌++◌, ℕ, List, length}
+use Rattle.std.specs.Borrow.{Bor}
 use Rattle.std.specs.Slice.Iter.{chunks_rest}
 use Rattle.ira_audit.specs.RingAudit.{HasTaken}
 use Rattle.ira_main.proofs.read_files.read_logs.Given as goal
@@ -8,5 +9,6 @@ invariant-loop-some g l = record {
   may_go_on : (goal.iterator-loop-some g).can_next l.some-iterator;
   ends : (goal.iterator-loop-some g).is_finite l.some-iterator;
   files : g.F.Shelf.files l.shelf ≡ g.F.Shelf.files l.fn.shelf;
+  parts : (before : List (Bor (List ℕ))) × (before ++ chunks_rest l.some-iterator ≡ l.names);
   taken : (texts : List (List ℕ)) × HasTaken l.audit texts × (length texts + length (chunks_rest l.some-iterator) ≡ length l.names);
 }

@@ -1,0 +1,34 @@
+-- Logs that are written to files, one after the other.
+use Rattle.std.proofs.Common.{◌≡◌, ◌∙◌, ℕ, ◌+◌, List, [], ◌∷◌, ◌++◌, Ok, Some, ap, drop, refl, subst, sym, take}
+use Rattle.std.specs.Prelude.{slice_get}
+use Rattle.std.proofs.lemmas.List.{take-append-drop, take_more}
+use Rattle.std.proofs.lemmas.Option.{get_or_from_slice_get, slice_get_within}
+use Rattle.ira_event.proofs.Rest.{drop-at}
+use Rattle.ira_event.specs.Log.{Log}
+use Rattle.ira_event.specs.LogText.{log_text}
+use Rattle.ira_main.specs.LogFiles.{WritesLogs, log_name}
+use Rattle.ira_main.specs.Shelf.{Writing}
+
+-- one log more was written
+written_more : {S : Type 0} (writes : Writing S) (folder : List ℕ) (logs : List Log) (log : Log) (a b c : S)
+    → WritesLogs writes folder logs a b → writes (log_name folder log.place) (log_text log) b c (Ok tt)
+    → WritesLogs writes folder (logs ++ log ∷ []) a c
+written_more writes folder [] log a b c same wrote =
+    (c, subst (λ s. writes (log_name folder log.place) (log_text log) s c (Ok tt)) same wrote, refl)
+written_more writes folder (x ∷ xs) log a b c before wrote =
+    (before.0, before.1, written_more writes folder xs log before.0 b c before.2 wrote)
+
+-- the logs up to a place were written, and then the one there
+pub written_next : {S : Type 0} (writes : Writing S) (folder : List ℕ) (logs : List Log) (i : ℕ) (log : Log) (a b c : S)
+    → slice_get logs i ≡ Some log → WritesLogs writes folder (take i logs) a b
+    → writes (log_name folder log.place) (log_text log) b c (Ok tt) → WritesLogs writes folder (take (i + 1) logs) a c
+written_next writes folder logs i log a b c at before wrote =
+    let next : take (i + 1) logs ≡ take i logs ++ log ∷ [] =
+    take_more logs i log (slice_get_within logs i log at) ∙ ap (λ x. take i logs ++ x ∷ []) (get_or_from_slice_get logs i log log at) in
+    subst (λ xs. WritesLogs writes folder xs a c) (sym next) (written_more writes folder (take i logs) log a b c before wrote)
+
+-- the logs are those before a place, the one there, and those behind it
+pub parts_at : (logs : List Log) (i : ℕ) (log : Log) → slice_get logs i ≡ Some log → take i logs ++ log ∷ drop (i + 1) logs ≡ logs
+parts_at logs i log at =
+    let left = drop-at logs i log log (slice_get_within logs i log at) (sym (get_or_from_slice_get logs i log log at)) in
+    ap (λ xs. take i logs ++ xs) (sym left) ∙ take-append-drop i logs
