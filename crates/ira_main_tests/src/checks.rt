@@ -5,6 +5,7 @@ use crate::samples::{
     ELECTED_0, ELECTED_1, LEADER_AND_ACTIVE, LONE_0, LONE_1, LONE_2, NO_PAIR_OF_THREE,
     PAIRS_OF_THREE, TIED_0, TIED_1, TWO_STEPS,
 };
+use crate::words::{TRY_HELP, assert_refused};
 use ira_main::Counted;
 use std::io;
 use std::process::Abort;
@@ -85,22 +86,33 @@ fn other_ring_sizes_and_asked_nodes(rt: HostRuntime) {
 
 #[test]
 fn certificate_faults(rt: HostRuntime) {
-    for (lines, line) in [
-        ("end\n", "no: sections: 1 wanted, 0 found\n"),
-        ("section\nend\n", "no: certificate: line 4\n"),
-        ("drop 1 1 by 0 4\nend\n", "no: certificate: line 3\n"),
+    for (certificate, line) in [
         (
-            "section\ndrop 2 1 by 0 4\nspent 1\nend\n",
+            "ircert 1\nnodes 2\nend\n",
+            "no: sections: 1 wanted, 0 found\n",
+        ),
+        (
+            "ircert 1\nnodes 2\nsection\nend\n",
+            "no: certificate: line 4\n",
+        ),
+        (
+            "ircert 1\nnodes 2\ndrop 1 1 by 0 4\nend\n",
+            "no: certificate: line 3\n",
+        ),
+        (
+            "ircert 1\nnodes 2\nsection\ndrop 2 1 by 0 4\nspent 1\nend\n",
             "no: certificate: range 4\n",
         ),
-        ("section\nspent 1\n", "no: certificate: cut\n"),
         (
-            "section\nspent 1\nend\nend\n",
+            "ircert 1\nnodes 2\nsection\nspent 1\n",
+            "no: certificate: cut\n",
+        ),
+        (
+            "ircert 1\nnodes 2\nsection\nspent 1\nend\nend\n",
             "no: certificate: trailing\n",
         ),
     ] {
-        let text = format!(in rt.alloc(); "ircert 1\nnodes 2\n{lines}").expect(&rt, "memory");
-        assert_answer(&rt, BOTH_LEAD, text.as_str(), line);
+        assert_answer(&rt, BOTH_LEAD, certificate, line);
     }
 }
 
@@ -200,26 +212,18 @@ fn files_that_cannot_be_read(rt: HostRuntime) {
 
 #[test]
 fn words_of_check(rt: HostRuntime) {
-    let usage = "\n\nUsage: ira check [OPTIONS] --question <Q> --cert <C> <LOG>...";
-    let whole = ["check", "--question=q", "--cert=c", "0.log"];
-    for (word, first_line, usage) in [
+    for (word, text) in [
         (
             "--depth=5",
             "error: invalid value '5' for '--depth <D>': 5 is not in 0..=4",
-            "",
         ),
         (
             "--cert=d",
-            "error: the argument '--cert <C>' cannot be used multiple times",
-            usage,
+            "error: the argument '--cert <C>' cannot be used multiple times\n\n\
+             Usage: ira check [OPTIONS] --question <Q> --cert <C> <LOG>...",
         ),
     ] {
-        let mut words = whole.to_vec(rt.alloc()).expect(&rt, "memory");
-        words.push(word).expect(&rt, "memory");
-        let text = format!(in rt.alloc();
-            "{first_line}{usage}\n\nFor more information, try '--help'.\n"
-        ).expect(&rt, "memory");
-        let mut input = Counted::new(io::empty());
-        assert_served(&rt, &words, &[], &mut input, 2, "", text.as_str());
+        let words = ["check", "--question=q", "--cert=c", "0.log", word];
+        assert_refused(&rt, &words, text, TRY_HELP);
     }
 }

@@ -1,12 +1,13 @@
 //! The commands `pairs` and `decide`: the question of all pairs, what is found, and the certificate of it.
 
-use crate::fakes::{File, FullSink, MemoryShelf, assert_served, assert_served_on};
+use crate::fakes::{File, MemoryShelf, assert_served, assert_served_on};
+use crate::full_device::assert_unanswered;
 use crate::samples::{
     ELECTED_0, ELECTED_1, LEADER_AND_ACTIVE, LONE_0, LONE_1, LONE_2, NO_PAIR_OF_THREE,
     PAIRS_OF_THREE, TWO_CASES, TWO_STEPS,
 };
-use ira_event::MemorySink;
-use ira_main::{Counted, serve};
+use crate::words::{TRY_HELP, assert_refused};
+use ira_main::Counted;
 use std::io;
 use std::process::Abort;
 use std::sync::Wait;
@@ -129,11 +130,7 @@ fn words_of_pairs_and_decide(rt: HostRuntime) {
              Usage: ira decide --question <Q> <LOG>...",
         ),
     ] {
-        let text = format!(in rt.alloc();
-            "{first_lines}\n\nFor more information, try '--help'.\n"
-        ).expect(&rt, "memory");
-        let mut input = Counted::new(io::empty());
-        assert_served(&rt, words, &[], &mut input, 2, "", text.as_str());
+        assert_refused(&rt, words, first_lines, TRY_HELP);
     }
 }
 
@@ -148,22 +145,6 @@ fn answers_on_a_full_device(rt: HostRuntime) {
         ["decide", "--question=q", "--out=c", "0", "1"].as_slice(),
         ["pairs", "2"].as_slice(),
     ] {
-        let mut shelf = MemoryShelf::new(rt.alloc(), &files);
-        let mut on_err = MemorySink::new(rt.alloc());
-        let status = serve(
-            &rt,
-            rt.alloc(),
-            words,
-            &mut Counted::new(io::empty()),
-            &mut shelf,
-            &mut FullSink::new(),
-            &mut on_err,
-        );
-        assert_eq!(rt; status, 2);
-        assert_eq!(rt;
-            on_err.bytes(),
-            b"ira: cannot write the answer\n".as_slice()
-        );
-        shelf.assert_written(&rt, &[]);
+        assert_unanswered(&rt, words, &files, &mut Counted::new(io::empty()), &[]);
     }
 }

@@ -1,9 +1,9 @@
 //! The command `logs`: the logs of a ring in files.
 
-use crate::fakes::{File, FullSink, MemoryShelf, assert_served};
+use crate::fakes::{File, assert_served};
+use crate::full_device::assert_unanswered;
 use crate::samples::{ELECTED_0, ELECTED_1, LONE_0, LONE_1, LONE_2};
-use ira_event::MemorySink;
-use ira_main::{Counted, serve};
+use ira_main::Counted;
 use std::io;
 use std::process::Abort;
 use std::sync::Wait;
@@ -12,46 +12,35 @@ use std::time::Clock;
 
 const EMPTY_1: &str = "irlog 1\nnodes 2\nplace 1\nstart initiator\nend 0\n";
 
-const NAMES: [&str; 2] = ["ring/0.log", "ring/1.log"];
-
 /// Serves `logs` with the names of these files, in their order.
 fn assert_logs(
     rt: &(impl Abort + AllocGlobal + Threads + Wait + Clock + Sync),
-    files: &[File<'_>],
+    [first, second]: [File<'_>; 2],
     status: u8,
     out: &str,
     err: &str,
 ) {
-    let mut named = Vec::new(rt.alloc());
-    let mut words = vec![in rt.alloc(); "logs"].expect(rt, "memory");
-    for (name, file) in NAMES.iter().zip(files) {
-        named.push((*name, *file)).expect(rt, "memory");
-        words.push(*name).expect(rt, "memory");
-    }
+    let files = [("ring/0.log", first), ("ring/1.log", second)];
+    let words = ["logs", "ring/0.log", "ring/1.log"];
     let mut input = Counted::new(io::empty());
-    assert_served(rt, &words, &named, &mut input, status, out, err);
+    assert_served(rt, &words, &files, &mut input, status, out, err);
     assert_eq!(rt; input.reads(), 0);
 }
 
 /// Judges the texts of these logs with no.
 fn assert_no(
     rt: &(impl Abort + AllocGlobal + Threads + Wait + Clock + Sync),
-    texts: [&str; 2],
+    [first, second]: [&str; 2],
     line: &str,
 ) {
-    assert_logs(
-        rt,
-        &[File::Text(texts[0]), File::Text(texts[1])],
-        1,
-        line,
-        "",
-    );
+    let files = [File::Text(first), File::Text(second)];
+    assert_logs(rt, files, 1, line, "");
 }
 
 #[test]
 fn two_node_election(rt: HostRuntime) {
     let files = [File::Text(ELECTED_0), File::Text(ELECTED_1)];
-    assert_logs(&rt, &files, 0, "yes\n", "");
+    assert_logs(&rt, files, 0, "yes\n", "");
 }
 
 #[test]
@@ -107,20 +96,18 @@ fn draw_out_of_range(rt: HostRuntime) {
         [drew_three, EMPTY_1],
         "no: node 0: event 1: draw range\n",
     );
-    assert_logs(
-        &rt,
-        &[File::Text(drew_two), File::Text(EMPTY_1)],
-        0,
-        "yes\n",
-        "",
-    );
+    let files = [File::Text(drew_two), File::Text(EMPTY_1)];
+    assert_logs(&rt, files, 0, "yes\n", "");
 }
 
 #[test]
 fn heads_out_of_place(rt: HostRuntime) {
     let of_three = "irlog 1\nnodes 3\nplace 1\nstart passive\nrecv 1 1 1 clean\nsend 1 1 2 clean\n\
                     end 2\n";
-    assert_logs(&rt, &[File::Text(ELECTED_0)], 1, "no: heads: number\n", "");
+    let alone = [("0.log", File::Text(ELECTED_0))];
+    let mut input = Counted::new(io::empty());
+    let line = "no: heads: number\n";
+    assert_served(&rt, &["logs", "0.log"], &alone, &mut input, 1, line, "");
     assert_no(&rt, [ELECTED_1, ELECTED_0], "no: heads: place 0\n");
     assert_no(&rt, [ELECTED_0, of_three], "no: heads: size 1\n");
 }
@@ -132,11 +119,11 @@ fn files_that_cannot_be_read(rt: HostRuntime) {
     let whole = File::Text(ELECTED_0);
     let unreadable = File::Unreadable;
     let no_log = File::Text("irlog 2\n");
-    assert_logs(&rt, &[unreadable, unreadable], 2, "", first);
-    assert_logs(&rt, &[whole, unreadable], 2, "", second);
-    assert_logs(&rt, &[unreadable, whole], 2, "", first);
-    assert_logs(&rt, &[no_log, unreadable], 2, "", second);
-    assert_logs(&rt, &[no_log, whole], 1, "no: log 0: head\n", "");
+    assert_logs(&rt, [unreadable, unreadable], 2, "", first);
+    assert_logs(&rt, [whole, unreadable], 2, "", second);
+    assert_logs(&rt, [unreadable, whole], 2, "", first);
+    assert_logs(&rt, [no_log, unreadable], 2, "", second);
+    assert_logs(&rt, [no_log, whole], 1, "no: log 0: head\n", "");
 }
 
 #[test]
@@ -177,20 +164,6 @@ fn answer_on_a_full_device(rt: HostRuntime) {
         ("0.log", File::Text(ELECTED_0)),
         ("1.log", File::Text(ELECTED_1)),
     ];
-    let mut shelf = MemoryShelf::new(rt.alloc(), &files);
-    let mut on_err = MemorySink::new(rt.alloc());
-    let status = serve(
-        &rt,
-        rt.alloc(),
-        &["logs", "0.log", "1.log"],
-        &mut Counted::new(io::empty()),
-        &mut shelf,
-        &mut FullSink::new(),
-        &mut on_err,
-    );
-    assert_eq!(rt; status, 2);
-    assert_eq!(rt;
-        on_err.bytes(),
-        b"ira: cannot write the answer\n".as_slice()
-    );
+    let words = ["logs", "0.log", "1.log"];
+    assert_unanswered(&rt, &words, &files, &mut Counted::new(io::empty()), &[]);
 }

@@ -1,8 +1,9 @@
 //! The program without words: one log on its input.
 
-use crate::fakes::{FailingReader, FullSink, MemoryShelf, assert_served};
-use ira_event::MemorySink;
-use ira_main::{Counted, serve};
+use crate::fakes::{FailingReader, assert_served};
+use crate::full_device::assert_unanswered;
+use ira_main::Counted;
+use std::alloc::Global;
 use std::io;
 use std::process::Abort;
 use std::sync::Wait;
@@ -15,38 +16,43 @@ const EMPTY_HEAD: &str = "irlog 1\nnodes 2\nplace 0\nstart initiator\n";
 const ELECTED: &str = "irlog 1\nnodes 2\nplace 0\nstart initiator\ndraw 2\nsend 1 2 1 clean\n\
                        recv 1 1 1 clean\nrecv 1 2 2 clean\n";
 
+/// Judges this text with so many reads.
+fn assert_read(
+    rt: &(impl Abort + AllocGlobal + Threads + Wait + Clock + Sync),
+    text: &[u8],
+    line: &str,
+    reads: u64,
+) {
+    let status = if line == "yes\n" { 0 } else { 1 };
+    let mut input = Counted::new(text);
+    assert_served(rt, &[], &[], &mut input, status, line, "");
+    assert!(rt; input.reads() == reads && !input.has_failed());
+}
+
 /// Judges the text that these parts make.
 fn assert_judged(
     rt: &(impl Abort + AllocGlobal + Threads + Wait + Clock + Sync),
-    parts: [&str; 2],
-    status: u8,
+    [first, second]: [&str; 2],
     line: &str,
 ) {
-    let mut text = Vec::new(rt.alloc());
-    for part in parts {
-        let grown = text.extend_from_slice(part.as_bytes());
-        assert!(rt; grown.is_ok());
-    }
-    let mut input = Counted::new(text.as_slice());
-    assert_served(rt, &[], &[], &mut input, status, line, "");
-    assert_eq!(rt; input.reads(), 2);
-    assert!(rt; !input.has_failed());
+    let text = format!(in rt.alloc(); "{first}{second}").expect(rt, "memory");
+    assert_read(rt, text.as_bytes(), line, 2);
 }
 
 #[test]
 fn first_words_of_the_program(rt: HostRuntime) {
-    assert_judged(&rt, [ELECTED, "end 4\n"], 0, "yes\n");
+    assert_judged(&rt, [ELECTED, "end 4\n"], "yes\n");
     let line = "no: node 0: event 1: draw range\n";
-    assert_judged(&rt, [EMPTY_HEAD, "draw 3\nend 1\n"], 1, line);
-    assert_judged(&rt, [EMPTY_HEAD, "draw 2\nend 1\n"], 0, "yes\n");
+    assert_judged(&rt, [EMPTY_HEAD, "draw 3\nend 1\n"], line);
+    assert_judged(&rt, [EMPTY_HEAD, "draw 2\nend 1\n"], "yes\n");
 }
 
 #[test]
 fn endings_of_a_log_text(rt: HostRuntime) {
-    assert_judged(&rt, [ELECTED, ""], 1, "no: log 0: cut\n");
-    assert_judged(&rt, [ELECTED, "end 3\n"], 1, "no: log 0: count\n");
-    assert_judged(&rt, [ELECTED, "end 4\nx"], 1, "no: log 0: trailing\n");
-    assert_judged(&rt, [ELECTED, "end 3\nx"], 1, "no: log 0: count\n");
+    assert_judged(&rt, [ELECTED, ""], "no: log 0: cut\n");
+    assert_judged(&rt, [ELECTED, "end 3\n"], "no: log 0: count\n");
+    assert_judged(&rt, [ELECTED, "end 4\nx"], "no: log 0: trailing\n");
+    assert_judged(&rt, [ELECTED, "end 3\nx"], "no: log 0: count\n");
 }
 
 #[test]
@@ -57,7 +63,7 @@ fn log_text_table(rt: HostRuntime) {
         "irlog 1\nnodes 65\nplace 0\nstart initiator\nend 0\n",
         "irlog 1\nnodes 2\nplace 2\nstart initiator\nend 0\n",
     ] {
-        assert_judged(&rt, [text, ""], 1, "no: log 0: head\n");
+        assert_judged(&rt, [text, ""], "no: log 0: head\n");
     }
     for (ending, line) in [
         ("draw 01\nend 0\n", "no: log 0: line 5\n"),
@@ -69,9 +75,9 @@ fn log_text_table(rt: HostRuntime) {
         ("end 0\r\n", "no: log 0: line 5\n"),
         ("end 0", "no: log 0: cut\n"),
     ] {
-        assert_judged(&rt, [EMPTY_HEAD, ending], 1, line);
+        assert_judged(&rt, [EMPTY_HEAD, ending], line);
     }
-    assert_judged(&rt, [EMPTY_HEAD, "end 0\n"], 0, "yes\n");
+    assert_judged(&rt, [EMPTY_HEAD, "end 0\n"], "yes\n");
 }
 
 #[test]
@@ -91,6 +97,16 @@ fn reader_fails_in_mid_text(rt: HostRuntime) {
     assert!(rt; input.has_failed());
 }
 
+/// A log of 20,000 draws with this end.
+fn long_text(alloc: Global, end: &str) -> Result<Vec<u8>, Fail> {
+    let mut text = EMPTY_HEAD.as_bytes().to_vec(alloc)?;
+    for _ in 0..20_000 {
+        text.extend_from_slice(b"draw 1\n")?;
+    }
+    text.extend_from_slice(end.as_bytes())?;
+    Ok(text)
+}
+
 #[test]
 fn input_of_several_reads(rt: HostRuntime) -> Result<(), Fail> {
     for (end, line) in [
@@ -98,15 +114,8 @@ fn input_of_several_reads(rt: HostRuntime) -> Result<(), Fail> {
         ("end 19999\n", "no: log 0: count\n"),
         ("end 20000\nx", "no: log 0: trailing\n"),
     ] {
-        let mut text = EMPTY_HEAD.as_bytes().to_vec(rt.alloc())?;
-        for _ in 0..20_000 {
-            text.extend_from_slice(b"draw 1\n")?;
-        }
-        text.extend_from_slice(end.as_bytes())?;
-        let mut input = Counted::new(text.as_slice());
-        assert_served(&rt, &[], &[], &mut input, 1, line, "");
-        assert_eq!(rt; input.reads(), 4);
-        assert!(rt; !input.has_failed());
+        let text = long_text(rt.alloc(), end)?;
+        assert_read(&rt, &text, line, 4);
     }
     Ok(())
 }
@@ -114,20 +123,5 @@ fn input_of_several_reads(rt: HostRuntime) -> Result<(), Fail> {
 #[test]
 fn answer_on_a_full_device(rt: HostRuntime) {
     let text = "irlog 1\nnodes 2\nplace 0\nstart initiator\nend 0\n".as_bytes();
-    let mut shelf = MemoryShelf::new(rt.alloc(), &[]);
-    let mut on_err = MemorySink::new(rt.alloc());
-    let status = serve(
-        &rt,
-        rt.alloc(),
-        &[],
-        &mut Counted::new(text),
-        &mut shelf,
-        &mut FullSink::new(),
-        &mut on_err,
-    );
-    assert_eq!(rt; status, 2);
-    assert_eq!(rt;
-        on_err.bytes(),
-        b"ira: cannot write the answer\n".as_slice()
-    );
+    assert_unanswered(&rt, &[], &[], &mut Counted::new(text), &[]);
 }

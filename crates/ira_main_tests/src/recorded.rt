@@ -3,7 +3,7 @@
 use ira_audit::{Answer, audit_logs};
 use ira_event::{Logs, MemorySink, RingSize, write_log};
 use ira_ring::{Setup, run_alone};
-use std::alloc::Global;
+use std::alloc::{AllocError, Global};
 use std::process::Abort;
 use std::test::Fail;
 
@@ -18,6 +18,36 @@ fn texts_of(alloc: Global, logs: &Logs<Global>) -> Result<Vec<MemorySink<Global>
     Ok(texts)
 }
 
+/// The answer to these logs, once they are written.
+fn answer_to(alloc: Global, logs: &Logs<Global>) -> Result<Answer, Fail> {
+    let sinks = texts_of(alloc, logs)?;
+    let texts: Vec<&[u8]> = sinks.iter().map(|sink| sink.bytes()).collect(alloc)?;
+    Ok(audit_logs(alloc, &texts)?)
+}
+
+fn lists_of(alloc: Global, draws: &[&[u32]]) -> Result<Vec<Vec<u32>>, AllocError> {
+    let mut lists = Vec::new(alloc);
+    for ids in draws {
+        lists.push(ids.to_vec(alloc)?)?;
+    }
+    Ok(lists)
+}
+
+fn setup_of(
+    alloc: Global,
+    nodes: u8,
+    initiators: &[bool],
+    draws: &[&[u32]],
+    cap: usize,
+) -> Result<Setup<Global>, Fail> {
+    Ok(Setup {
+        nodes: RingSize::new(nodes).ok_or("a ring of that size")?,
+        initiators: initiators.to_vec(alloc)?,
+        draws: lists_of(alloc, draws)?,
+        cap,
+    })
+}
+
 /// Runs a ring of so many nodes, and judges its logs.
 fn assert_is_run(
     rt: &impl Abort,
@@ -27,20 +57,9 @@ fn assert_is_run(
     draws: &[&[u32]],
     cap: usize,
 ) -> Result<(), Fail> {
-    let mut lists = Vec::new(alloc);
-    for ids in draws {
-        lists.push(ids.to_vec(alloc)?)?;
-    }
-    let setup = Setup {
-        nodes: RingSize::new(nodes).ok_or("a ring of that size")?,
-        initiators: initiators.to_vec(alloc)?,
-        draws: lists,
-        cap,
-    };
+    let setup = setup_of(alloc, nodes, initiators, draws, cap)?;
     let run = run_alone(alloc, &setup)?;
-    let sinks = texts_of(alloc, run.logs())?;
-    let texts: Vec<&[u8]> = sinks.iter().map(|sink| sink.bytes()).collect(alloc)?;
-    assert_eq!(rt; audit_logs(alloc, &texts)?, Answer::Yes);
+    assert_eq!(rt; answer_to(alloc, run.logs())?, Answer::Yes);
     Ok(())
 }
 

@@ -178,29 +178,36 @@ fn each_growth_is_refused(rt: HostRuntime) -> Result<(), Fail> {
     Ok(())
 }
 
+/// Whether the program says that it can't write its answer to a sink that takes as many bytes as these, and has
+/// written these.
+fn is_cut_behind(
+    rt: &(impl AllocGlobal + Threads + Wait + Clock + Sync),
+    words: &[&str],
+    taken: &[u8],
+) -> bool {
+    let mut shelf = MemoryShelf::new(rt.alloc(), &[]);
+    let mut input = Counted::new(io::empty());
+    let mut out = FailingSink::new(rt.alloc(), taken.len());
+    let mut err = MemorySink::new(rt.alloc());
+    let status = serve(
+        rt,
+        rt.alloc(),
+        words,
+        &mut input,
+        &mut shelf,
+        &mut out,
+        &mut err,
+    );
+    status == 2
+        && out.bytes() == taken
+        && err.bytes() == b"ira: cannot write the answer\n".as_slice()
+}
+
 #[test]
 fn answer_cut_at_each_byte(rt: HostRuntime) {
     let words = ["run", "--nodes=2", "--seed=7", "--out=d", "--alone"];
     let ends = b"node 0: leader, 4 events\nnode 1: quiet, 4 events\n";
     for k in 0..ends.len() {
-        let mut shelf = MemoryShelf::new(rt.alloc(), &[]);
-        let mut input = Counted::new(io::empty());
-        let mut out = FailingSink::new(rt.alloc(), k);
-        let mut err = MemorySink::new(rt.alloc());
-        let status = serve(
-            &rt,
-            rt.alloc(),
-            &words,
-            &mut input,
-            &mut shelf,
-            &mut out,
-            &mut err,
-        );
-        assert!(rt;
-            status == 2
-                && out.bytes() == &ends[..k]
-                && err.bytes() == b"ira: cannot write the answer\n".as_slice(),
-            "after {k} bytes"
-        );
+        assert!(rt; is_cut_behind(&rt, &words, &ends[..k]), "after {k} bytes");
     }
 }

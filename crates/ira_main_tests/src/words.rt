@@ -16,14 +16,19 @@ const USAGE: &str = "\n\nUsage: ira < LOG\n       ira logs <LOG>...\n       \
                      ira run --nodes <N> --seed <S> --out <DIR> [OPTIONS]\n\n\
                      For more information, try '--help'.\n";
 
-/// Refuses the words with this text, and reads nothing.
-fn assert_refused(
+/// What ends most refusals.
+pub(crate) const TRY_HELP: &str = "\n\nFor more information, try '--help'.\n";
+
+/// Refuses the words with a text of these two parts, and reads nothing.
+pub(crate) fn assert_refused(
     rt: &(impl Abort + AllocGlobal + Threads + Wait + Clock + Sync),
     words: &[&str],
-    text: &str,
+    first: &str,
+    rest: &str,
 ) {
+    let text = format!(in rt.alloc(); "{first}{rest}").expect(rt, "memory");
     let mut input = Counted::new(io::empty());
-    assert_served(rt, words, &[], &mut input, 2, "", text);
+    assert_served(rt, words, &[], &mut input, 2, "", text.as_str());
     assert_eq!(rt; input.reads(), 0);
 }
 
@@ -38,16 +43,15 @@ fn words_that_are_no_command(rt: HostRuntime) {
              [subcommands: logs, check, decide, pairs, run, help]",
         ),
     ] {
-        let text = format!(in rt.alloc(); "{first_line}{USAGE}").expect(&rt, "memory");
-        assert_refused(&rt, &[word], text.as_str());
+        assert_refused(&rt, &[word], first_line, USAGE);
     }
 }
 
 #[test]
 fn logs_without_a_file(rt: HostRuntime) {
     let text = "error: the following required arguments were not provided:\n  <LOG>...\n\n\
-                Usage: ira logs <LOG>...\n\nFor more information, try '--help'.\n";
-    assert_refused(&rt, &["logs"], text);
+                Usage: ira logs <LOG>...";
+    assert_refused(&rt, &["logs"], text, TRY_HELP);
 }
 
 #[test]
@@ -75,7 +79,7 @@ fn help_is_a_refused_word(rt: HostRuntime) {
         &["-h"].as_slice(),
         &["help"].as_slice(),
     ] {
-        assert_refused(&rt, words, help);
+        assert_refused(&rt, words, help, "");
     }
 }
 
@@ -98,67 +102,63 @@ fn refusal_on_a_full_device(rt: HostRuntime) {
 
 #[test]
 fn options_of_a_run(rt: HostRuntime) {
-    let usage = "\n\nUsage: ira run [OPTIONS] --nodes <N> --seed <S> --out <DIR>";
-    let whole = ["run", "--nodes=2", "--seed=7", "--out=d"];
-    for (word, first_line, usage) in [
+    for (word, text) in [
         (
             "--draws=100001",
-            "invalid value '100001' for '--draws <K>': 100001 is not in 0..=100000",
-            "",
+            "error: invalid value '100001' for '--draws <K>': 100001 is not in 0..=100000",
         ),
         (
             "--draws=",
-            "invalid value '' for '--draws <K>': cannot parse integer from empty string",
-            "",
+            "error: invalid value '' for '--draws <K>': cannot parse integer from empty string",
         ),
         (
             "--cap=x",
-            "invalid value 'x' for '--cap <C>': invalid digit found in string",
-            "",
+            "error: invalid value 'x' for '--cap <C>': invalid digit found in string",
         ),
         (
             "--cap=18446744073709551616",
-            "invalid value '18446744073709551616' for '--cap <C>': number too large to fit in target type",
-            "",
+            "error: invalid value '18446744073709551616' for '--cap <C>': number too large to fit in target type",
         ),
         (
             "--cap",
-            "a value is required for '--cap <C>' but none was supplied",
-            "",
+            "error: a value is required for '--cap <C>' but none was supplied",
         ),
         (
             "--seed=7",
-            "the argument '--seed <S>' cannot be used multiple times",
-            usage,
+            "error: the argument '--seed <S>' cannot be used multiple times\n\n\
+             Usage: ira run [OPTIONS] --nodes <N> --seed <S> --out <DIR>",
         ),
         (
             "--depth=2",
-            "unexpected argument '--depth' found",
-            "\n\nUsage: ira run --nodes <N> --seed <S> --out <DIR>",
+            "error: unexpected argument '--depth' found\n\n\
+             Usage: ira run --nodes <N> --seed <S> --out <DIR>",
         ),
-        ("-1", "unexpected argument '-1' found", usage),
-        ("0.log", "unexpected argument '0.log' found", usage),
+        (
+            "-1",
+            "error: unexpected argument '-1' found\n\n\
+             Usage: ira run [OPTIONS] --nodes <N> --seed <S> --out <DIR>",
+        ),
+        (
+            "0.log",
+            "error: unexpected argument '0.log' found\n\n\
+             Usage: ira run [OPTIONS] --nodes <N> --seed <S> --out <DIR>",
+        ),
         (
             "--alone=yes",
-            "unexpected value 'yes' for '--alone' found; no more were expected",
-            "\n\nUsage: ira run --nodes <N> --seed <S> --out <DIR> --alone",
+            "error: unexpected value 'yes' for '--alone' found; no more were expected\n\n\
+             Usage: ira run --nodes <N> --seed <S> --out <DIR> --alone",
         ),
     ] {
-        let text = format!(in rt.alloc();
-            "error: {first_line}{usage}\n\nFor more information, try '--help'.\n"
-        ).expect(&rt, "memory");
-        let words = [whole[0], whole[1], whole[2], whole[3], word];
-        assert_refused(&rt, &words, text.as_str());
+        let words = ["run", "--nodes=2", "--seed=7", "--out=d", word];
+        assert_refused(&rt, &words, text, TRY_HELP);
     }
     let words = ["run", "--nodes=2", "--seed=7", "--out="];
-    let text = "error: a value is required for '--out <DIR>' but none was supplied\n\n\
-                For more information, try '--help'.\n";
-    assert_refused(&rt, &words, text);
+    let text = "error: a value is required for '--out <DIR>' but none was supplied";
+    assert_refused(&rt, &words, text, TRY_HELP);
     let text = "error: the following required arguments were not provided:\n  --nodes <N>\n  \
                 --seed <S>\n  --out <DIR>\n\n\
-                Usage: ira run --nodes <N> --seed <S> --out <DIR>\n\n\
-                For more information, try '--help'.\n";
-    assert_refused(&rt, &["run"], text);
+                Usage: ira run --nodes <N> --seed <S> --out <DIR>";
+    assert_refused(&rt, &["run"], text, TRY_HELP);
 }
 
 #[test]
@@ -174,5 +174,5 @@ fn help_of_a_run(rt: HostRuntime) {
                 \x20     --cap <C>         The most records of a log, 1 to 100000 [default: 10000]\n\
                 \x20     --alone           Run all nodes on one thread\n\
                 \x20 -h, --help            Print help\n";
-    assert_refused(&rt, &["run", "--help"], help);
+    assert_refused(&rt, &["run", "--help"], help, "");
 }
