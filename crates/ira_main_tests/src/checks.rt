@@ -209,6 +209,11 @@ fn words_of_check(rt: HostRuntime) {
             "",
         ),
         (
+            "--depth=-0",
+            "error: invalid value '-0' for '--depth <D>': invalid digit found in string",
+            "",
+        ),
+        (
             "--cert=d",
             "error: the argument '--cert <C>' cannot be used multiple times",
             usage,

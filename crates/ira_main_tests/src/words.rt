@@ -107,6 +107,11 @@ fn options_of_a_run(rt: HostRuntime) {
             "",
         ),
         (
+            "--draws=-0",
+            "invalid value '-0' for '--draws <K>': invalid digit found in string",
+            "",
+        ),
+        (
             "--draws=",
             "invalid value '' for '--draws <K>': cannot parse integer from empty string",
             "",
