@@ -218,6 +218,11 @@ fn words_of_check(rt: HostRuntime) {
             "error: invalid value '5' for '--depth <D>': 5 is not in 0..=4",
         ),
         (
+            "--depth=-0",
+            "error: invalid value '-0' for '--depth <D>': invalid digit found in string",
+            "",
+        ),
+        (
             "--cert=d",
             "error: the argument '--cert <C>' cannot be used multiple times\n\n\
              Usage: ira check [OPTIONS] --question <Q> --cert <C> <LOG>...",

@@ -108,6 +108,11 @@ fn options_of_a_run(rt: HostRuntime) {
             "error: invalid value '100001' for '--draws <K>': 100001 is not in 0..=100000",
         ),
         (
+            "--draws=-0",
+            "invalid value '-0' for '--draws <K>': invalid digit found in string",
+            "",
+        ),
+        (
             "--draws=",
             "error: invalid value '' for '--draws <K>': cannot parse integer from empty string",
         ),

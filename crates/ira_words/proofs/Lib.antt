@@ -2,4 +2,5 @@ pub mod BehindCommands
 pub mod FirstWord
 pub mod GivenNames
 pub mod Options
+pub mod Ranges
 pub mod TakenValues

@@ -1,11 +1,10 @@
 -- What the getters read of an option.
-use Rattle.std.proofs.Common.{◌≡◌, ◌∙◌, ◌⊎◌, inl, inr, ℕ, ◌<◌, ◌≤◌, ◌^◌, Bool, true, false, List, [], ◌∷◌, Option, None, Some, Result, Ok, codes, refl, sym, ap, subst}
-use Rattle.std.specs.Prelude.{IsSomeAnd, find, if◌then◌else◌, option_and_then, option_map, pos, slice_get}
+use Rattle.std.proofs.Common.{◌≡◌, ◌∙◌, ◌⊎◌, inl, inr, ℕ, ◌≤◌, Bool, true, false, List, [], ◌∷◌, Option, None, Some, Result, Ok, codes, refl, sym, ap, subst}
+use Rattle.std.specs.Prelude.{IsSomeAnd, find, if◌then◌else◌, option_and_then, option_map, slice_get}
 use Rattle.std.specs.Option.{option_map_or}
 use Rattle.std.specs.Str.{bytes_eq}
 use Rattle.std.specs.Str.Parse.{ParsesUnsigned, ExplainsUnsignedError, HasUnsignedDigitsIfOk}
 use Rattle.std.specs.declared.num.ParseIntError.{ParseIntError}
-use Rattle.clap.proofs.CallerReads.{signed_reads}
 use Rattle.clap.proofs.ValueTestLemmas.{accepts-Accepts}
 use Rattle.clap.proofs.WalkLemmas.{one_text-rows}
 use Rattle.clap.specs.Facts.{explicit_source, parser_of_value}
@@ -88,19 +87,17 @@ missing_text : (id : Text) (rows : List Row) → find (λ r. bytes_eq r.id id) r
 missing_text id rows none = ap (option_and_then row_text) none
 
 -- a number that was read of an option with a range is in it
-pub number_in_range : (bits high : ℕ) (c : List Rule) (a : Rule) (f : Found) (id : Text) (n : ℕ) → arg_by_id c id ≡ Some a → a.parser ≡ Some (vp.Signed (pos 0) (pos high))
-    → high < 2 ^ bits → AreTaken c (rows_of f) → (one_text f id ≡ None → Some n ≡ None)
+pub number_in_range : (bits high : ℕ) (c : List Rule) (a : Rule) (f : Found) (id : Text) (n : ℕ) → arg_by_id c id ≡ Some a → a.parser ≡ Some (vp.Unsigned 0 high)
+    → AreTaken c (rows_of f) → (one_text f id ≡ None → Some n ≡ None)
     → ((t : Text) → one_text f id ≡ Some t → ReadsOne (reads_unsigned bits) t (Some n)) → n ≤ high
-number_in_range bits high c a f id n its parser fits are none value =
-    elim (text_read c a (vp.Signed (pos 0) (pos high)) id its parser (rows_of f) are) [
+number_in_range bits high c a f id n its parser are none value =
+    elim (text_read c a (vp.Unsigned 0 high) id its parser (rows_of f) are) [
       | inl missing ↦
           let bad : Some n ≡ None = none (one_text-rows f id ∙ missing_text id (rows_of f) missing) in
           cc
       | inr read ↦
-          let reads = value _ (one_text-rows f id ∙ read.1) in
-          let got = signed_reads ParseIntError (reads_unsigned bits) bits 0 high read.0 (Some n) reads (λ u x given. given.0) fits read.2 in
-          let same : n ≡ got.0 = cc in
-          subst (λ k. k ≤ high) (sym same) got.3
+          let reads : reads_unsigned bits read.0 (Ok n) = value _ (one_text-rows f id ∙ read.1) in
+          subst (λ k. k ≤ high) (sym reads.0.1) read.2.3
     ]
 
 -- and where none was read, the option isn't given

@@ -1,10 +1,10 @@
 -- The program's command line, as the parser of words reads it.
-use Rattle.std.specs.Prelude.{List, [], ◌∷◌, Some, codes, pos, true}
+use Rattle.std.specs.Prelude.{List, [], ◌∷◌, Some, codes, true}
 use Rattle.clap.specs.Lexer.{usize_max}
 use Rattle.clap.specs.Simple.{on_top}
 use Rattle.clap.specs.Words.{App, Rule, Text, new_app, new_rule, with_rule, with_subcommand}
 use Rattle.clap.specs.declared.builder.action.ArgAction.TheVariants.{Append, SetTrue}
-use Rattle.clap.specs.declared.builder.value_parser.ValueParser.TheVariants.{NonEmptyString, Signed, Unsigned}
+use Rattle.clap.specs.declared.builder.value_parser.ValueParser.TheVariants.{NonEmptyString, Unsigned}
 
 -- an option that takes a value
 abbrev pub option_rule : Text → Rule
@@ -31,7 +31,7 @@ abbrev pub check_rules : List Rule
 check_rules =
     record (option_rule (codes "question")) { required = true }
     ∷ record (option_rule (codes "cert")) { required = true }
-    ∷ record (option_rule (codes "depth")) { parser = Some (Signed (pos 0) (pos 4)); defaults = codes "2" ∷ [] }
+    ∷ record (option_rule (codes "depth")) { parser = Some (Unsigned 0 4); defaults = codes "2" ∷ [] }
     ∷ logs_rule
     ∷ []
 
@@ -60,7 +60,7 @@ run_rules =
     ∷ record (number_rule (codes "seed")) { required = true }
     ∷ record (option_rule (codes "out")) { parser = Some NonEmptyString; required = true }
     ∷ number_rule (codes "initiators")
-    ∷ record (option_rule (codes "draws")) { parser = Some (Signed (pos 0) (pos 100000)); defaults = codes "64" ∷ [] }
+    ∷ record (option_rule (codes "draws")) { parser = Some (Unsigned 0 100000); defaults = codes "64" ∷ [] }
     ∷ record (number_rule (codes "cap")) { defaults = codes "10000" ∷ [] }
     ∷ record (new_rule (codes "alone")) { long = Some (codes "alone"); action = Some SetTrue }
     ∷ []

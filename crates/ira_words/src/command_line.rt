@@ -92,7 +92,7 @@ fn check_command<'a>(alloc: Global) -> Result<Command<'a>, AllocError>
         .arg(certificate.required(true))?
         .arg(
             depth
-                .value_parser(value_parser!(u8).range(0..=4))
+                .value_parser(value_parser!(u64).range(0..=4))
                 .default_value("2"),
         )?
         .arg(log_files(alloc))
@@ -223,7 +223,7 @@ fn run_command<'a>(alloc: Global) -> Result<Command<'a>, AllocError>
         .arg(initiators)?
         .arg(
             draws
-                .value_parser(value_parser!(u32).range(0..=100_000))
+                .value_parser(value_parser!(u64).range(0..=100_000))
                 .default_value("64"),
         )?
         .arg(cap.default_value("10000"))?

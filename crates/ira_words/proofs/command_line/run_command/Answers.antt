@@ -1,11 +1,11 @@
 use Rattle.std.proofs.Common.{◌≡◌, ◌∙◌, codes, ap, ap₂, true, false, [], ◌∷◌, Some}
-use Rattle.std.specs.Prelude.{pos}
 use Rattle.std.proofs.lemmas.Result.{IfOk-weaker}
 use Rattle.clap.specs.Simple.{app_of_fields}
 use Rattle.clap.specs.Words.{Rule, app_of, new_app, new_rule, rule_of, with_rule}
 use Rattle.clap.specs.declared.builder.action.ArgAction.TheVariants.{SetTrue}
-use Rattle.clap.specs.declared.builder.value_parser.ValueParser.TheVariants.{NonEmptyString, Signed}
+use Rattle.clap.specs.declared.builder.value_parser.ValueParser.TheVariants.{NonEmptyString, Unsigned}
 use Rattle.ira_words.specs.CommandLine.{number_rule, option_rule}
+use Rattle.ira_words.proofs.Ranges.{narrowed}
 use Rattle.ira_words.proofs.command_line.run_command.Goals as goal
 
 pub returns : goal.returns
@@ -13,8 +13,8 @@ returns c =
     let text = c.value_parser.ensures.given in
     let folder_parser = c.value_parser.ensures.others ∙ ap (λ o. record c.option-folder.result { value_parser = o }) (text.1 ∙ ap (λ q. Some q) text.2) in
     let parser = c.value_parser-3.ensures.given in
-    let ranged : c.range.result ≡ Signed (pos 0) (pos 100000) = rw (c.value_parser-2.ensures, c.new-3.ensures.start, c.new-3.ensures.end) at c.range.ensures in
-    let is_ranged : parser.0 ≡ Signed (pos 0) (pos 100000) = parser.2 ∙ ranged in
+    let ranged : c.range.result ≡ Unsigned 0 100000 = narrowed _ _ _ _ 100000 c.value_parser-2.ensures c.new-3.ensures.start c.new-3.ensures.end c.range.ensures in
+    let is_ranged : parser.0 ≡ Unsigned 0 100000 = parser.2 ∙ ranged in
     let draws_parser = c.value_parser-3.ensures.others ∙ ap (λ o. record c.option-draws.result { value_parser = o }) (parser.1 ∙ ap (λ q. Some q) is_ranged) in
     let named : app_of c.about.result ≡ new_app (codes "run") = ap app_of_fields c.about.ensures ∙ c.new-2.ensures.app in
     let nodes : rule_of c.required.result ≡ record (number_rule (codes "nodes")) { required = true } =
@@ -23,8 +23,8 @@ returns c =
     rw c.required-2.ensures (ap (λ (r : Rule). record r { required = true }) c.number-seed.ensures.rule) in
     let folder : rule_of c.required-3.result ≡ record (option_rule (codes "out")) { parser = Some NonEmptyString; required = true } =
     rw (c.required-3.ensures, folder_parser) (ap (λ (r : Rule). record r { parser = Some NonEmptyString; required = true }) c.option-folder.ensures.rule) in
-    let draws : rule_of c.default_value.result ≡ record (option_rule (codes "draws")) { parser = Some (Signed (pos 0) (pos 100000)); defaults = codes "64" ∷ [] } =
-    rw (c.default_value.ensures, draws_parser) (ap (λ (r : Rule). record r { parser = Some (Signed (pos 0) (pos 100000)); defaults = codes "64" ∷ [] }) c.option-draws.ensures.rule) in
+    let draws : rule_of c.default_value.result ≡ record (option_rule (codes "draws")) { parser = Some (Unsigned 0 100000); defaults = codes "64" ∷ [] } =
+    rw (c.default_value.ensures, draws_parser) (ap (λ (r : Rule). record r { parser = Some (Unsigned 0 100000); defaults = codes "64" ∷ [] }) c.option-draws.ensures.rule) in
     let cap : rule_of c.default_value-2.result ≡ record (number_rule (codes "cap")) { defaults = codes "10000" ∷ [] } =
     rw c.default_value-2.ensures (ap (λ (r : Rule). record r { defaults = codes "10000" ∷ [] }) c.number-cap.ensures.rule) in
     let alone : rule_of c.help-alone.result ≡ record (new_rule (codes "alone")) { long = Some (codes "alone"); action = Some SetTrue } =
