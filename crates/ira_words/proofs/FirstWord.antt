@@ -1,11 +1,11 @@
 -- The command that a parse of words meets is named by their first one.
-use Rattle.std.proofs.Common.{◌≡◌, ℕ, zero, suc, Bool, true, false, not, ◌&&◌, List, [], ◌∷◌, ◌++◌, Option, None, Some, length, refl, sym, ap, subst, ◌∙◌, codes, append_assoc}
+use Rattle.std.proofs.Common.{◌≡◌, ◌⊎◌, inl, inr, ℕ, zero, suc, Bool, true, false, not, ◌&&◌, List, [], ◌∷◌, ◌++◌, Option, None, Some, length, refl, sym, ap, subst, ◌∙◌, codes, append_assoc}
 use Rattle.std.specs.Prelude.{option_map, find, fold, slice_get, if◌then◌else◌}
 use Rattle.std.specs.Str.{bytes_eq, chars}
 use Rattle.std.specs.Option.{option_map_or}
 use Rattle.std.proofs.lemmas.List.{append-nil}
 use Rattle.std.proofs.lemmas.Slice.Eq.{bytes_eq-Decides}
-use Rattle.clap.specs.Faults.{bundle_fault, bundle_step_fault, fault_of, flag_word_fault, flags_fault, is_simple_and_free, long_fault, other_fault, short_fault, step_fault, walk_fault}
+use Rattle.clap.specs.Faults.{bundle_fault, bundle_step_fault, defaults_fault, fault_of, flag_word_fault, flags_fault, is_simple_and_free, long_fault, other_fault, short_fault, step_fault, walk_fault}
 use Rattle.clap.specs.Kinds.{Kinds, or_else}
 use Rattle.clap.specs.Lexer.{long_of, short_of}
 use Rattle.clap.specs.Simple.{App, HasMatchesOf, Shape, built, built_leaf, entered, filled, help_rule, names_of, subcommand_of, subcommand_rows_of, with_index}
@@ -170,11 +170,10 @@ word_is_fault : (l : Option (Text × Option Text)) (w : Text)
 word_is_fault None w = option_is_fault None (short_of w) w
 word_is_fault (Some l) w = option_is_fault (Some l) None w
 
-after_dashes : (w : Text) (rest : List Text) (n : Text) → walk_fault top names (walk_by true w) rest ≡ []
-    → name_met (entered (built ira_app) (fold (walked top.rules names) (walk_by true w) rest).stopped) ≡ Some n → ⊥
-unfolding walk_fault
-after_dashes w [] n none met = cc
-after_dashes w (x ∷ rest) n none met = no_fault _ tt none
+after_dashes : (w : Text) (rest : List Text) → w ≡ 45 ∷ 45 ∷ [] → walk_fault top names (walk_by true w) rest ≡ [] → fault_of ira_app (w ∷ rest) ≡ [] → ⊥
+unfolding defaults_fault walk_fault walked
+after_dashes w [] is walks none = no_fault (fault_of ira_app ((45 ∷ 45 ∷ []) ∷ [])) tt (subst (λ x. fault_of ira_app (x ∷ []) ≡ []) is none)
+after_dashes w (x ∷ rest) is walks none = no_fault _ tt walks
 
 -- what a first word is, by the command that it names
 abbrev turn_by : Option (Text × List Text) → Text → Kinds
@@ -194,27 +193,18 @@ first_turn w rest none =
     let walk_none = first_none _ _ none in
     (first_none _ _ walk_none, second_none _ _ walk_none)
 
-first_walk : (w : Text) (rest : List Text)
-    → subcommand_of ira_app (w ∷ rest) ≡ entered (built ira_app) (fold (walked top.rules names) (start_by (find (answers_to w) names) w) rest).stopped
-unfolding walked
-first_walk w rest = refl
-
-unnamed : (w : Text) (rest : List Text) (n : Text) → find (answers_to w) names ≡ None → fault_of ira_app (w ∷ rest) ≡ []
-    → name_met (subcommand_of ira_app (w ∷ rest)) ≡ Some n → ⊥
-unnamed w rest n other none met =
+unnamed : (w : Text) (rest : List Text) → find (answers_to w) names ≡ None → fault_of ira_app (w ∷ rest) ≡ [] → ⊥
+unnamed w rest other none =
     let turn = first_turn w rest none in
     let Walks : Option (Text × List Text) → Type 0 = λ o. walk_fault top names (start_by o w) rest ≡ [] in
-    let Stops : Option (Text × List Text) → Type 0 = λ o. name_met (entered (built ira_app) (fold (walked top.rules names) (start_by o w) rest).stopped) ≡ Some n in
     let Turns : Option (Text × List Text) → Type 0 = λ o. turn_by o w ≡ [] in
-    go (bytes_eq w (45 ∷ 45 ∷ [])) refl (subst Turns other turn.0) (subst Walks other turn.1) (subst Stops other (sym (ap name_met (first_walk w rest)) ∙ met))
+    go (bytes_eq w (45 ∷ 45 ∷ [])) refl (subst Turns other turn.0) (subst Walks other turn.1)
   where
     go : (dashes : Bool) → bytes_eq w (45 ∷ 45 ∷ []) ≡ dashes → word_fault_by (bytes_eq w (45 ∷ 45 ∷ [])) w ≡ []
-        → walk_fault top names (walk_by (bytes_eq w (45 ∷ 45 ∷ [])) w) rest ≡ []
-        → name_met (entered (built ira_app) (fold (walked top.rules names) (walk_by (bytes_eq w (45 ∷ 45 ∷ [])) w) rest).stopped) ≡ Some n → ⊥
-    go true is turn walks stops =
-        after_dashes w rest n (subst (λ d. walk_fault top names (walk_by d w) rest ≡ []) is walks)
-        (subst (λ d. name_met (entered (built ira_app) (fold (walked top.rules names) (walk_by d w) rest).stopped) ≡ Some n) is stops)
-    go false is turn walks stops = no_fault _ (word_is_fault (long_of w) w) (subst (λ d. word_fault_by d w ≡ []) is turn)
+        → walk_fault top names (walk_by (bytes_eq w (45 ∷ 45 ∷ [])) w) rest ≡ [] → ⊥
+    go true is turn walks =
+        after_dashes w rest ((bytes_eq-Decides w (45 ∷ 45 ∷ [])).0 is) (subst (λ d. walk_fault top names (walk_by d w) rest ≡ []) is walks) none
+    go false is turn walks = no_fault _ (word_is_fault (long_of w) w) (subst (λ d. word_fault_by d w ≡ []) is turn)
 
 -- the words name this command, where the first of them is it and it is the one that is met
 named_by_first : (name w : Text) (rest : List Text) (n : Text) → bytes_eq name w ≡ true → name_met (subcommand_of ira_app (name ∷ rest)) ≡ Some name
@@ -244,7 +234,43 @@ named (w ∷ rest) n none met =
         let same : codes "help" ≡ w = (bytes_eq-Decides (codes "help") w).0 is_help in
         absurd (no_fault _ (help_is_fault rest) (subst (λ x. fault_of ira_app (x ∷ rest) ≡ []) (sym same) none))
     go false false false false false false is_logs is_check is_decide is_pairs is_run is_help =
-        absurd (unnamed w rest n (rw (is_logs, is_check, is_decide, is_pairs, is_run, is_help) refl) none met)
+        absurd (unnamed w rest (rw (is_logs, is_check, is_decide, is_pairs, is_run, is_help) refl) none)
+
+-- one of the program's commands
+abbrev pub IsCommand : Text → Type 0
+IsCommand n = (codes "logs" ≡ n) ⊎ ((codes "check" ≡ n) ⊎ ((codes "decide" ≡ n) ⊎ ((codes "pairs" ≡ n) ⊎ (codes "run" ≡ n))))
+
+-- and they do meet one
+meets : (words : List Text) → fault_of ira_app words ≡ [] → (n : Text) × (name_met (subcommand_of ira_app words) ≡ Some n) × IsCommand n
+unfolding defaults_fault walk_fault walked
+meets [] none = absurd (no_fault (fault_of ira_app []) tt none)
+meets (w ∷ rest) none =
+    go (bytes_eq (codes "logs") w) (bytes_eq (codes "check") w) (bytes_eq (codes "decide") w) (bytes_eq (codes "pairs") w) (bytes_eq (codes "run") w) (bytes_eq (codes "help") w)
+    refl refl refl refl refl refl
+  where
+    first : (name : Text) → bytes_eq name w ≡ true → name_met (subcommand_of ira_app (name ∷ rest)) ≡ Some name → name_met (subcommand_of ira_app (w ∷ rest)) ≡ Some name
+    first name is met = subst (λ x. name_met (subcommand_of ira_app (x ∷ rest)) ≡ Some name) ((bytes_eq-Decides name w).0 is) met
+
+    go : (logs check decide pairs run help : Bool) → bytes_eq (codes "logs") w ≡ logs → bytes_eq (codes "check") w ≡ check → bytes_eq (codes "decide") w ≡ decide
+        → bytes_eq (codes "pairs") w ≡ pairs → bytes_eq (codes "run") w ≡ run → bytes_eq (codes "help") w ≡ help
+        → (n : Text) × (name_met (subcommand_of ira_app (w ∷ rest)) ≡ Some n) × IsCommand n
+    go true check decide pairs run help is_logs is_check is_decide is_pairs is_run is_help = (codes "logs", first (codes "logs") is_logs (logs_met rest), inl refl)
+    go false true decide pairs run help is_logs is_check is_decide is_pairs is_run is_help = (codes "check", first (codes "check") is_check (check_met rest), inr (inl refl))
+    go false false true pairs run help is_logs is_check is_decide is_pairs is_run is_help = (codes "decide", first (codes "decide") is_decide (decide_met rest), inr (inr (inl refl)))
+    go false false false true run help is_logs is_check is_decide is_pairs is_run is_help = (codes "pairs", first (codes "pairs") is_pairs (pairs_met rest), inr (inr (inr (inl refl))))
+    go false false false false true help is_logs is_check is_decide is_pairs is_run is_help = (codes "run", first (codes "run") is_run (run_met rest), inr (inr (inr (inr refl))))
+    go false false false false false true is_logs is_check is_decide is_pairs is_run is_help =
+        let same : codes "help" ≡ w = (bytes_eq-Decides (codes "help") w).0 is_help in
+        absurd (no_fault _ (help_is_fault rest) (subst (λ x. fault_of ira_app (x ∷ rest) ≡ []) (sym same) none))
+    go false false false false false false is_logs is_check is_decide is_pairs is_run is_help =
+        absurd (unnamed w rest (rw (is_logs, is_check, is_decide, is_pairs, is_run, is_help) refl) none)
+
+pub command_met : (a : App) (m : ArgMatches) (words : List Text) → a ≡ ira_app → HasMatchesOf a words m → fault_of ira_app words ≡ []
+    → (n : Text) × (subcommand_name_of m ≡ Some n) × IsCommand n
+command_met a m words is has none =
+    let Has : App → Type 0 = λ x. HasMatchesOf x words m in
+    let met = meets words none in
+    (met.0, sym (sym (ap (option_map (λ s. s.0)) (subst Has is has refl).1) ∙ fused _ _ _) ∙ met.1, met.2)
 
 -- the command that is met is named by the first word
 pub met_by_first : (a : App) (m : ArgMatches) (words : List Text) (n : Text) → a ≡ ira_app → HasMatchesOf a words m → (is_simple_and_free a ≡ true → fault_of a words ≡ [])

@@ -1,5 +1,6 @@
 pub mod BehindCommands
 pub mod FirstWord
+pub mod FoundValues
 pub mod GivenNames
 pub mod Options
 pub mod Ranges

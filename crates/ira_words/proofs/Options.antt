@@ -41,7 +41,7 @@ number_read bits f id n none value = subst (λ x. IsSomeAnd x (IsNumber n)) (one
         (read.0.0.0, sym read.0.1)
 
 -- an argument that was found has a text that passed its parser
-abbrev IsRead : Rule → ValueParser → Text → List Row → Type 0
+abbrev pub IsRead : Rule → ValueParser → Text → List Row → Type 0
 IsRead a p id rows = (v : Text) × (one_of id rows ≡ Some (read_as (reading_of p) v)) × Accepts a.ignore_case p v
 
 accepted : (i : Bool) (p : ValueParser) (v : Text) (rest : Kinds) → or_else (value_kinds i p v) rest ≡ [] → Accepts i p v
@@ -73,7 +73,7 @@ module _ (c : List Rule) (a : Rule) (p : ValueParser) (id : Text) (its : arg_by_
           let as_p : values_kinds a.ignore_case p (v ∷ vs) ≡ [] = subst (λ q. values_kinds a.ignore_case (parser_of_value q) (v ∷ vs) ≡ []) parser as_a in
           (v, text ∙ ap (λ h. Some (read_as h v)) how, accepted a.ignore_case p v (values_kinds a.ignore_case p vs) as_p)
 
-  text_read : (rows : List Row) → AreTaken c rows → (find (λ r. bytes_eq r.id id) rows ≡ None) ⊎ IsRead a p id rows
+  pub text_read : (rows : List Row) → AreTaken c rows → (find (λ r. bytes_eq r.id id) rows ≡ None) ⊎ IsRead a p id rows
   text_read rows are = go (find (λ r. bytes_eq r.id id) rows) refl
     where
       go : (o : Option Row) → find (λ r. bytes_eq r.id id) rows ≡ o → (find (λ r. bytes_eq r.id id) rows ≡ None) ⊎ IsRead a p id rows

@@ -1,6 +1,6 @@
 -- The parser of numbers within a range.
 use Rattle.std.specs.Prelude.{◌≡◌, ℕ, ℤ, Some, pos}
-use Rattle.std.proofs.Common.{sym, subst}
+use Rattle.std.proofs.Common.{subst}
 use Rattle.clap.specs.Values.{NarrowsTo}
 use Rattle.clap.specs.declared.builder.value_parser.ValueParser.{ValueParser}
 use Rattle.clap.specs.declared.builder.value_parser.ValueParser.TheVariants.{Unsigned}

@@ -55,7 +55,7 @@ both_taken c [] more are also = also
 both_taken c (r ∷ rows) more are also = (are.0, both_taken c rows more are.1 also)
 
 -- a row that isn't there is added at the end
-added : (id : Text) (change : Row → List Row) (missing rows : List Row) → has_row id rows ≡ false → at_row id change missing rows ≡ rows ++ missing
+pub added : (id : Text) (change : Row → List Row) (missing rows : List Row) → has_row id rows ≡ false → at_row id change missing rows ≡ rows ++ missing
 added id change missing [] none = refl
 added id change missing (r ∷ rows) none = go (bytes_eq r.id id) (added id change missing rows) none
   where

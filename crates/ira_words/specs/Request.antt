@@ -1,9 +1,10 @@
 -- What the words behind the program's name ask for.
 use Rattle.std.specs.Prelude.{◌≡◌, ◌≢◌, ℕ, All, List, [], ◌∷◌, ◌++◌, codes, map, unwrap_or}
+use Rattle.clap.specs.Faults.{fault_of}
 use Rattle.clap.specs.Simple.{built_leaf}
 use Rattle.clap.specs.Walk.{Row, all_of, rows_after}
 use Rattle.ira_words.specs.CheckRequest.{HasFiles}
-use Rattle.ira_words.specs.CommandLine.{check_app, decide_app, logs_app, pairs_app, run_app}
+use Rattle.ira_words.specs.CommandLine.{check_app, decide_app, ira_app, logs_app, pairs_app, run_app}
 use Rattle.ira_words.specs.DecideRequest.{HasFilesToDecide}
 use Rattle.ira_words.specs.RunRequest.{HasNumber, HasOptions}
 use Rattle.ira_words.specs.declared.check_request.CheckRequest.{CheckRequest}
@@ -11,16 +12,23 @@ use Rattle.ira_words.specs.declared.decide_request.DecideRequest.{DecideRequest}
 use Rattle.ira_words.specs.declared.run_request.RunRequest.{RunRequest}
 use Rattle.ira_words.specs.declared.request.Request.{Request}
 use Rattle.ira_words.specs.declared.request.Request.TheVariants.{OneLog, Logs, Check, Decide, Pairs, Run}
+use Rattle.ira_words.specs.declared.words_fault.WordsFault.{WordsFault}
+use Rattle.ira_words.specs.declared.words_fault.WordsFault.TheVariants.{OutOfMemory, Refused}
+
+-- the command line takes the words: their parse has no fault, of which `fault_of` lists the kinds
+abbrev pub AreTakenWords : List (List ℕ) → Type 0
+AreTakenWords words = fault_of ira_app words ≡ []
 
 -- a word that may name a file as it stands: it doesn't begin with a dash
 abbrev pub IsFileName : List ℕ → Type 0
 IsFileName [] = Unit {0}
 IsFileName (b ∷ bs) = b ≢ 45
 
--- the words are `logs` and others, which ask for the files of these names, at least one: they are the values that the
--- others give to `LOG`. Where none of the others begins with a dash, they are these; where one is the first that does,
--- and is `--`, the words behind it are names too
+-- the command line takes the words. They are `logs` and others, which ask for the files of these names, at least one:
+-- they are the values that the others give to `LOG`. Where none of the others begins with a dash, they are these; where
+-- one is the first that does, and is `--`, the words behind it are names too
 pub record AskForLogs (words names : List (List ℕ)) : Type 0 where
+  pub taken : AreTakenWords words
   pub others : List (List ℕ)
   pub first : words ≡ codes "logs" ∷ others
   pub given : names ≡ unwrap_or (all_of (codes "LOG") (rows_after (built_leaf logs_app.top).rules [] others)) []
@@ -28,26 +36,30 @@ pub record AskForLogs (words names : List (List ℕ)) : Type 0 where
   pub plain : All IsFileName others → names ≡ others
   pub marked : (front back : List (List ℕ)) → All IsFileName front → others ≡ front ++ codes "--" ∷ back → names ≡ front ++ back
 
--- the words are `check`, options and names, which ask for these files
+-- the command line takes the words: `check`, options and names, which ask for these files
 pub record AskForCheck (words : List (List ℕ)) (check : CheckRequest) : Type 0 where
+  pub taken : AreTakenWords words
   pub others : List (List ℕ)
   pub first : words ≡ codes "check" ∷ others
   pub files : HasFiles (rows_after (built_leaf check_app.top).rules [] others) check
 
--- the words are `decide`, options and names, which ask for these files
+-- the command line takes the words: `decide`, options and names, which ask for these files
 pub record AskForDecide (words : List (List ℕ)) (decide : DecideRequest) : Type 0 where
+  pub taken : AreTakenWords words
   pub others : List (List ℕ)
   pub first : words ≡ codes "decide" ∷ others
   pub files : HasFilesToDecide (rows_after (built_leaf decide_app.top).rules [] others) decide
 
--- the words are `pairs` and a number of nodes
+-- the command line takes the words: `pairs` and a number of nodes
 pub record AskForPairs (words : List (List ℕ)) (nodes : ℕ) : Type 0 where
+  pub taken : AreTakenWords words
   pub others : List (List ℕ)
   pub first : words ≡ codes "pairs" ∷ others
   pub number : HasNumber (rows_after (built_leaf pairs_app.top).rules [] others) (codes "N") nodes
 
--- the words are `run` and options, which ask for this ring
+-- the command line takes the words: `run` and options, which ask for this ring
 pub record AskForRun (words : List (List ℕ)) (ring : RunRequest) : Type 0 where
+  pub taken : AreTakenWords words
   pub others : List (List ℕ)
   pub first : words ≡ codes "run" ∷ others
   pub options : HasOptions (rows_after (built_leaf run_app.top).rules [] others) ring
@@ -60,6 +72,13 @@ IsMadeOf words (Check check) = AskForCheck words check
 IsMadeOf words (Decide decide) = AskForDecide words decide
 IsMadeOf words (Pairs nodes) = AskForPairs words nodes
 IsMadeOf words (Run ring) = AskForRun words ring
+
+-- such words may be refused so: for want of memory any, and else only those that the command line doesn't take
+abbrev pub MayBeRefused : List (List ℕ) → WordsFault → Type 0
+MayBeRefused words (Refused text) = AreTakenWords words → ⊥
+MayBeRefused words OutOfMemory = Unit {0}
+
+-- What follows no public contract names: these are the contracts of the functions that make a request of what was found.
 
 -- it asks to judge the logs in the files of these options and names
 abbrev pub IsCheckRequest : List Row → Request → Type 0

@@ -1,8 +1,9 @@
--- What a parse that succeeds has found: values that the arguments take.
-use Rattle.std.specs.Prelude.{◌≡◌, ◌≢◌, List, [], ◌∷◌, Some, if◌then◌else◌}
+-- What a parse that succeeds has found: values that the arguments take. No public contract names these: `read_words`
+-- hands them to the functions that make a request of what a command found.
+use Rattle.std.specs.Prelude.{◌≡◌, ◌≢◌, ◌||◌, List, [], ◌∷◌, Some, if◌then◌else◌, not, true}
 use Rattle.clap.specs.Facts.{explicit_source}
 use Rattle.clap.specs.Faults.{values_fault}
-use Rattle.clap.specs.Walk.{Row, Rule, action_of, arg_by_id, reading_by}
+use Rattle.clap.specs.Walk.{Row, Rule, action_of, arg_by_id, has_row, is_empty, reading_by}
 use Rattle.clap.specs.declared.builder.action.ArgAction.TheVariants.{SetTrue}
 
 -- an argument of these has values, of which its parser refuses none; those of a flag say whether it was given
@@ -18,3 +19,8 @@ pub record IsTaken (rules : List Rule) (row : Row) : Type 0 where
 abbrev pub AreTaken : List Rule → List Row → Type 0
 AreTaken rules [] = Unit {0}
 AreTaken rules (row ∷ rows) = IsTaken rules row × AreTaken rules rows
+
+-- each argument that is required or has a default has values among them
+abbrev pub AreFound : List Rule → List Row → Type 0
+AreFound [] rows = Unit {0}
+AreFound (a ∷ rest) rows = ((a.required || not (is_empty a.defaults)) ≡ true → has_row a.id rows ≡ true) × AreFound rest rows

@@ -1,10 +1,12 @@
-ghost use Rattle.std.specs.Prelude.{◌≡◌, ◌≢◌, [], Ok, IfOk, IfSome, codes, false, map, unwrap_or};
+ghost use Rattle.std.specs.Prelude.{◌≡◌, ◌≢◌, [], Ok, IfErr, IfOk, IsSomeAnd, codes, false, map, unwrap_or};
 ghost use Rattle.clap.specs.Simple.{built_leaf};
-ghost use Rattle.clap.specs.Words.{all_of, app_of, found_of, rows_of, rule_of};
+ghost use Rattle.clap.specs.Words.{all_of, app_of, found_of, kind_of, rows_of, rule_of};
+ghost use Rattle.clap.specs.declared.error.kind.ErrorKind.TheVariants as kind;
 ghost use Rattle.ira_words.specs.CommandLine.{check_app, decide_app, ira_app, logs_app, logs_rule, number_rule, option_rule, pairs_app, run_app};
-ghost use Rattle.ira_words.specs.Request.{IsCheckRequest, IsDecideRequest, IsMadeOf, IsPairsRequest, IsRunRequest};
-ghost use Rattle.ira_words.specs.TakenValues.{AreTaken};
+ghost use Rattle.ira_words.specs.Request.{AreTakenWords, IsCheckRequest, IsDecideRequest, IsMadeOf, IsPairsRequest, IsRunRequest, MayBeRefused};
+ghost use Rattle.ira_words.specs.TakenValues.{AreFound, AreTaken};
 ghost use Rattle.ira_words.specs.declared.request.Request.TheVariants as request;
+ghost use Rattle.ira_words.specs.declared.words_fault.WordsFault.TheVariants as fault;
 
 use crate::check_request::CheckRequest;
 use crate::decide_request::DecideRequest;
@@ -98,13 +100,14 @@ fn check_command<'a>(alloc: Global) -> Result<Command<'a>, AllocError>
         .arg(log_files(alloc))
 }
 
-/// The files to judge, where all options have a value.
+/// The files to judge.
 fn check_request<'a>(matches: &ArgMatches<'a>, logs: Vec<&'a str>) -> Option<Request<'a>>
     requires taken { AreTaken (built_leaf check_app.top).rules (rows_of (found_of matches.now)) }
     requires names { map (λ name. name.now) logs.items
         ≡ unwrap_or (all_of (codes "LOG") (rows_of (found_of matches.now))) [] }
+    requires found { AreFound (built_leaf check_app.top).rules (rows_of (found_of matches.now)) }
     requires some { logs.items ≢ [] }
-    ensures { IfSome result (IsCheckRequest (rows_of (found_of matches.now))) }
+    ensures { IsSomeAnd result (IsCheckRequest (rows_of (found_of matches.now))) }
 {
     Some(Request::Check(CheckRequest {
         question: matches.get_str("question")?,
@@ -131,12 +134,14 @@ fn decide_command<'a>(alloc: Global) -> Result<Command<'a>, AllocError>
         .arg(log_files(alloc))
 }
 
-/// The files to decide of, where the question has a value.
+/// The files to decide of.
 fn decide_request<'a>(matches: &ArgMatches<'a>, logs: Vec<&'a str>) -> Option<Request<'a>>
+    requires taken { AreTaken (built_leaf decide_app.top).rules (rows_of (found_of matches.now)) }
+    requires found { AreFound (built_leaf decide_app.top).rules (rows_of (found_of matches.now)) }
     requires names { map (λ name. name.now) logs.items
         ≡ unwrap_or (all_of (codes "LOG") (rows_of (found_of matches.now))) [] }
     requires some { logs.items ≢ [] }
-    ensures { IfSome result (IsDecideRequest (rows_of (found_of matches.now))) }
+    ensures { IsSomeAnd result (IsDecideRequest (rows_of (found_of matches.now))) }
 {
     Some(Request::Decide(DecideRequest {
         question: matches.get_str("question")?,
@@ -157,9 +162,11 @@ fn pairs_command<'a>(alloc: Global) -> Result<Command<'a>, AllocError>
         .arg(nodes)
 }
 
-/// The number of nodes, where it has a value.
+/// The number of nodes.
 fn pairs_request<'a>(matches: &ArgMatches<'a>) -> Option<Request<'a>>
-    ensures { IfSome result (IsPairsRequest (rows_of (found_of matches.now))) }
+    requires taken { AreTaken (built_leaf pairs_app.top).rules (rows_of (found_of matches.now)) }
+    requires found { AreFound (built_leaf pairs_app.top).rules (rows_of (found_of matches.now)) }
+    ensures { IsSomeAnd result (IsPairsRequest (rows_of (found_of matches.now))) }
 {
     Some(Request::Pairs(matches.get_one("N")?))
 }
@@ -230,10 +237,11 @@ fn run_command<'a>(alloc: Global) -> Result<Command<'a>, AllocError>
         .arg(alone)
 }
 
-/// The ring to run, where all its options have a value.
+/// The ring to run.
 fn run_request<'a>(matches: &ArgMatches<'a>) -> Option<Request<'a>>
-    requires { AreTaken (built_leaf run_app.top).rules (rows_of (found_of matches.now)) }
-    ensures { IfSome result (IsRunRequest (rows_of (found_of matches.now))) }
+    requires taken { AreTaken (built_leaf run_app.top).rules (rows_of (found_of matches.now)) }
+    requires found { AreFound (built_leaf run_app.top).rules (rows_of (found_of matches.now)) }
+    ensures { IsSomeAnd result (IsRunRequest (rows_of (found_of matches.now))) }
 {
     Some(Request::Run(RunRequest {
         nodes: matches.get_one("nodes")?,
@@ -248,7 +256,9 @@ fn run_request<'a>(matches: &ArgMatches<'a>) -> Option<Request<'a>>
 
 // What some words ask for.
 fn request_of_words<'a>(alloc: Global, words: &'a [&'a str]) -> Result<Request<'a>, Error>
-    ensures { IfOk result (IsMadeOf (map (λ word. word.now) words.now)) }
+    ensures made { IfOk result (IsMadeOf (map (λ word. word.now) words.now)) }
+    ensures refused { IfErr result (λ e. AreTakenWords (map (λ word. word.now) words.now)
+        → kind_of e ≡ kind.OutOfMemory) }
 {
     let mut command = command(alloc)?;
     let matches = command.try_get_matches_from_mut(words)?;
@@ -267,7 +277,9 @@ fn request_of_words<'a>(alloc: Global, words: &'a [&'a str]) -> Result<Request<'
 }
 
 // The text of a refusal.
-fn refusal(alloc: Global, refused: &Error) -> WordsFault {
+fn refusal(alloc: Global, refused: &Error) -> WordsFault
+    ensures { kind_of refused.now ≡ kind.OutOfMemory → result ≡ fault.OutOfMemory }
+{
     if refused.kind() == ErrorKind::OutOfMemory {
         return WordsFault::OutOfMemory;
     }
@@ -281,6 +293,7 @@ fn refusal(alloc: Global, refused: &Error) -> WordsFault {
 pub fn read_words<'a>(alloc: Global, words: &'a [&'a str]) -> Result<Request<'a>, WordsFault>
     ensures none { words.now ≡ [] → result ≡ Ok request.OneLog }
     ensures made { IfOk result (IsMadeOf (map (λ word. word.now) words.now)) }
+    ensures refused { IfErr result (MayBeRefused (map (λ word. word.now) words.now)) }
 {
     if words.is_empty() {
         return Ok(Request::OneLog);
