@@ -220,7 +220,6 @@ fn words_of_check(rt: HostRuntime) {
         (
             "--depth=-0",
             "error: invalid value '-0' for '--depth <D>': invalid digit found in string",
-            "",
         ),
         (
             "--cert=d",

@@ -109,8 +109,7 @@ fn options_of_a_run(rt: HostRuntime) {
         ),
         (
             "--draws=-0",
-            "invalid value '-0' for '--draws <K>': invalid digit found in string",
-            "",
+            "error: invalid value '-0' for '--draws <K>': invalid digit found in string",
         ),
         (
             "--draws=",
