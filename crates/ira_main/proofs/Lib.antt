@@ -1,5 +1,6 @@
 pub mod Asking
-pub mod FilesFaults
+pub mod FilesRead
 pub mod LogFiles
+pub mod PartsAt
 pub mod Reading
 pub mod Reporting

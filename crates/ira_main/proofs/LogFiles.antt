@@ -1,11 +1,9 @@
 -- Logs that are written to files, one after the other.
-use Rattle.std.proofs.Common.{◌≡◌, ◌∙◌, ℕ, ◌+◌, List, [], ◌∷◌, ◌++◌, Ok, Some, ap, drop, refl, subst, sym, take}
+use Rattle.std.proofs.Common.{◌≡◌, ℕ, ◌+◌, List, [], ◌∷◌, ◌++◌, Ok, Some, refl, subst, sym, take}
 use Rattle.std.specs.Prelude.{slice_get}
-use Rattle.std.proofs.lemmas.List.{take-append-drop, take_more}
-use Rattle.std.proofs.lemmas.Option.{get_or_from_slice_get, slice_get_within}
-use Rattle.ira_event.proofs.Rest.{drop-at}
 use Rattle.ira_event.specs.Log.{Log}
 use Rattle.ira_event.specs.LogText.{log_text}
+use Rattle.ira_main.proofs.PartsAt.{take_next}
 use Rattle.ira_main.specs.LogFiles.{WritesLogs, log_name}
 use Rattle.ira_main.specs.Shelf.{Writing}
 
@@ -23,12 +21,4 @@ pub written_next : {S : Type 0} (writes : Writing S) (folder : List ℕ) (logs :
     → slice_get logs i ≡ Some log → WritesLogs writes folder (take i logs) a b
     → writes (log_name folder log.place) (log_text log) b c (Ok tt) → WritesLogs writes folder (take (i + 1) logs) a c
 written_next writes folder logs i log a b c at before wrote =
-    let next : take (i + 1) logs ≡ take i logs ++ log ∷ [] =
-    take_more logs i log (slice_get_within logs i log at) ∙ ap (λ x. take i logs ++ x ∷ []) (get_or_from_slice_get logs i log log at) in
-    subst (λ xs. WritesLogs writes folder xs a c) (sym next) (written_more writes folder (take i logs) log a b c before wrote)
-
--- the logs are those before a place, the one there, and those behind it
-pub parts_at : (logs : List Log) (i : ℕ) (log : Log) → slice_get logs i ≡ Some log → take i logs ++ log ∷ drop (i + 1) logs ≡ logs
-parts_at logs i log at =
-    let left = drop-at logs i log log (slice_get_within logs i log at) (sym (get_or_from_slice_get logs i log log at)) in
-    ap (λ xs. take i logs ++ xs) (sym left) ∙ take-append-drop i logs
+    subst (λ xs. WritesLogs writes folder xs a c) (sym (take_next logs i log at)) (written_more writes folder (take i logs) log a b c before wrote)

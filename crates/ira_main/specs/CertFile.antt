@@ -1,11 +1,11 @@
 -- How a certificate is kept in a file.
-use Rattle.std.specs.Prelude.{◌≡◌, ℕ, List, Option, Ok, Err}
+use Rattle.std.specs.Prelude.{◌≡◌, ℕ, List, Ok, Err}
 use Rattle.std.specs.Borrow.{Bor}
 use Rattle.ira_cert_text.specs.Certificate.{Certificate}
 use Rattle.ira_cert_text.specs.CertText.{IsCertText, cert_text}
 use Rattle.ira_main.specs.Outcome.{Outcome}
 use Rattle.ira_main.specs.ProgramFault.{write_fault}
-use Rattle.ira_main.specs.Shelf.{File, Writing}
+use Rattle.ira_main.specs.Shelf.{Writing}
 use Rattle.ira_main.specs.declared.program_fault.ProgramFault.TheVariants.{CertificatePastLimits}
 use Rattle.ira_main.specs.declared.shelf_fault.ShelfFault.{ShelfFault}
 use Rattle.ira_main.specs.declared.status.Status.TheVariants.{Yes}
@@ -21,9 +21,3 @@ pub data Keeps {S : Type 0} (writes : Writing S) (c : Certificate) (name : Bor (
   unwritten : (fault : ShelfFault) → IsCertText (cert_text c) c
       → writes name.now (cert_text c) old new (Err fault) → outcome ≡ Err (write_fault name fault)
       → Keeps writes c name old new outcome
-
--- this came of keeping a certificate on a shelf that had the same files before as the old one, and is now the new one
-abbrev pub HasKept : {S : Type 0} → Writing S → (S → Option (List File)) → S → S → Certificate → Bor (List ℕ)
-    → Outcome → Type 0
-HasKept {S} writes files old new c name outcome =
-    (before : S) × (files before ≡ files old) × Keeps writes c name before new outcome

@@ -1,5 +1,5 @@
 -- What the program does that is asked to decide a question.
-use Rattle.std.specs.Prelude.{◌≡◌, ◌⊎◌, ℕ, List, Option, Some, None, Ok, Err, length}
+use Rattle.std.specs.Prelude.{◌≡◌, ◌⊎◌, ℕ, List, ◌∷◌, Option, Some, None, Ok, Err, map}
 use Rattle.std.specs.Borrow.{Bor}
 use Rattle.ira_event.specs.Sink.{SinkState, Takes, StopsIn}
 use Rattle.ira_cert_text.specs.Certificate.{Certificate}
@@ -7,33 +7,44 @@ use Rattle.ira_audit.specs.Findings.{AreFindings, IsCertificateOf, MakeNoCertifi
 use Rattle.ira_audit.specs.FindingsText.{findings_text}
 use Rattle.ira_audit.specs.declared.findings.Findings.{Findings}
 use Rattle.ira_words.specs.declared.decide_request.DecideRequest.{DecideRequest}
+use Rattle.ira_main.specs.CertFile.{Keeps}
+use Rattle.ira_main.specs.FilesRead.{ReadsFiles}
 use Rattle.ira_main.specs.Outcome.{Outcome}
+use Rattle.ira_main.specs.Shelf.{File, Reading, Writing}
 use Rattle.ira_main.specs.declared.program_fault.ProgramFault.TheVariants.{CannotWriteAnswer, OutOfMemory}
 use Rattle.ira_main.specs.declared.status.Status.TheVariants.{Yes, No}
 
--- what comes of findings that were printed: no, where a case is present or they are a refusal; else, without a file's
--- name, yes, and with one what comes of keeping the certificate there, or there was no memory for it. The files are
--- untouched but where it is kept
-pub data EndsWith {A : Type 0} (kept : Certificate → Bor (List ℕ) → Outcome → Type 0) (untouched : Type 0)
-    (findings : Findings A) (name : Option (Bor (List ℕ))) (outcome : Outcome) : Type 0 where
-  refuted : MakeNoCertificate findings → untouched → outcome ≡ Ok No
-      → EndsWith kept untouched findings name outcome
-  absent : ¬ (MakeNoCertificate findings) → name ≡ None → untouched → outcome ≡ Ok Yes
-      → EndsWith kept untouched findings name outcome
-  certified : (c : Certificate) (file : Bor (List ℕ)) → IsCertificateOf findings c → name ≡ Some file
-      → kept c file outcome → EndsWith kept untouched findings name outcome
-  no_memory : (file : Bor (List ℕ)) → ¬ (MakeNoCertificate findings) → name ≡ Some file → untouched
-      → outcome ≡ Err OutOfMemory → EndsWith kept untouched findings name outcome
+-- the names of the files to decide of: the question's and the logs'
+abbrev pub decide_names : DecideRequest → List (List ℕ)
+decide_names decide = decide.question.now ∷ map (λ name. name.now) decide.logs.items
 
--- the findings of as many texts of logs as were named and of the text of a question were printed whole, and what comes
--- of them is the outcome; or the output stopped within them, and the files are untouched
-pub record Decides (A : Type 0) (kept : Certificate → Bor (List ℕ) → Outcome → Type 0) (untouched : Type 0)
-    (decide : DecideRequest) (out out' : SinkState) (outcome : Outcome) : Type 0 where
-  pub texts : List (List ℕ)
-  pub many : length texts ≡ length decide.logs.items
+-- what comes of findings that were printed: no, where a case is present or they are a refusal; else, without a file's
+-- name, yes, and with one what comes of keeping the certificate there, or there was no memory for it. The shelf is as
+-- it was but where it is kept
+pub data EndsWith {A S : Type 0} (writes : Writing S) (findings : Findings A) (name : Option (Bor (List ℕ)))
+    (old new : S) (outcome : Outcome) : Type 0 where
+  refuted : MakeNoCertificate findings → new ≡ old → outcome ≡ Ok No
+      → EndsWith writes findings name old new outcome
+  absent : ¬ (MakeNoCertificate findings) → name ≡ None → new ≡ old → outcome ≡ Ok Yes
+      → EndsWith writes findings name old new outcome
+  certified : (c : Certificate) (file : Bor (List ℕ)) → IsCertificateOf findings c → name ≡ Some file
+      → Keeps writes c file old new outcome → EndsWith writes findings name old new outcome
+  no_memory : (file : Bor (List ℕ)) → ¬ (MakeNoCertificate findings) → name ≡ Some file → new ≡ old
+      → outcome ≡ Err OutOfMemory → EndsWith writes findings name old new outcome
+
+-- the files that are named were read, which leaves the shelf's files; the findings of the texts of the logs and of the
+-- question were printed whole, and what comes of them on the shelf is the outcome; or the output stopped within them
+pub record Decides (A : Type 0) {S : Type 0} (reads : Reading S) (writes : Writing S)
+    (files : S → Option (List File)) (decide : DecideRequest) (shelf shelf' : S) (out out' : SinkState)
+    (outcome : Outcome) : Type 0 where
   pub question : List ℕ
+  pub texts : List (List ℕ)
+  pub between : S
+  pub given : ReadsFiles reads (decide_names decide) shelf between (question ∷ texts)
+  pub untouched : files between ≡ files shelf
   pub findings : Findings A
   pub found : AreFindings texts question findings
   pub printed :
-      (Takes (findings_text findings) out out' × EndsWith kept untouched findings decide.certificate outcome)
-      ⊎ (StopsIn (findings_text findings) out out' × untouched × (outcome ≡ Err CannotWriteAnswer))
+      (Takes (findings_text findings) out out'
+      × EndsWith writes findings decide.certificate between shelf' outcome)
+      ⊎ (StopsIn (findings_text findings) out out' × (shelf' ≡ between) × (outcome ≡ Err CannotWriteAnswer))

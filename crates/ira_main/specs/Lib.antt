@@ -3,6 +3,7 @@ pub mod CertFile
 pub mod ProgramFault
 pub mod Counted
 pub mod Decide
+pub mod FilesRead
 pub mod LogFiles
 pub mod Outcome
 pub mod ReadText

@@ -1,5 +1,5 @@
 -- Why the program ends with neither yes nor no.
-use Rattle.std.specs.Prelude.{◌≡◌, ℕ, List, ◌++◌, Contains, codes, decimal}
+use Rattle.std.specs.Prelude.{ℕ, List, ◌++◌, codes, decimal}
 use Rattle.std.specs.Borrow.{Bor}
 use Rattle.std.specs.String.{string_bytes}
 use Rattle.ira_run.specs.RunFault.{run_fault_number}
@@ -16,11 +16,6 @@ use Rattle.ira_main.specs.declared.shelf_fault.ShelfFault.TheVariants as shelf
 abbrev pub read_fault : Bor (List ℕ) → ShelfFault → ProgramFault
 read_fault name shelf.Device = CannotRead name
 read_fault name shelf.OutOfMemory = OutOfMemory
-
--- why texts in files of these names aren't judged: a file of one of these names can't be read, or memory ran out
-pub data IsFilesFault (names : List (List ℕ)) (f : ProgramFault) : Type 0 where
-  unread : (name : Bor (List ℕ)) → Contains names name.now → f ≡ CannotRead name → IsFilesFault names f
-  no_memory : f ≡ OutOfMemory → IsFilesFault names f
 
 -- the fault where a log wasn't written to the file of its place in this folder
 abbrev pub write_log_fault : Bor (List ℕ) → ℕ → ShelfFault → ProgramFault

@@ -1,5 +1,5 @@
 -- What the program does.
-use Rattle.std.specs.Prelude.{◌≡◌, ◌≢◌, ◌⊎◌, ℕ, ◌+◌, true, List, [], ◌∷◌, Option, Ok, Err, codes, length, map}
+use Rattle.std.specs.Prelude.{◌≡◌, ◌≢◌, ◌⊎◌, ℕ, ◌+◌, true, List, [], ◌∷◌, Option, Ok, Err, codes, map}
 use Rattle.std.specs.Borrow.{Bor}
 use Rattle.ira_event.specs.declared.limits.TheConstants.{MAX_TEXT}
 use Rattle.ira_event.specs.RingSize.{IsRingSize}
@@ -21,14 +21,14 @@ use Rattle.ira_words.specs.declared.decide_request.DecideRequest.{DecideRequest}
 use Rattle.ira_words.specs.declared.run_request.RunRequest.{RunRequest}
 use Rattle.ira_words.specs.declared.words_fault.WordsFault.{WordsFault}
 use Rattle.ira_main.specs.AskedRun.{IsAskedRun}
-use Rattle.ira_main.specs.CertFile.{HasKept}
 use Rattle.ira_main.specs.Counted.{Reads}
-use Rattle.ira_main.specs.Decide.{Decides}
+use Rattle.ira_main.specs.Decide.{Decides, decide_names}
+use Rattle.ira_main.specs.FilesRead.{IsFilesFault, ReadsFiles}
 use Rattle.ira_main.specs.LogFiles.{StopsInLogs, WritesLogs}
 use Rattle.ira_main.specs.Outcome.{GivesNoAnswer, Outcome, Prints}
-use Rattle.ira_main.specs.ProgramFault.{IsFilesFault, run_fault, words_fault}
+use Rattle.ira_main.specs.ProgramFault.{run_fault, words_fault}
 use Rattle.ira_main.specs.ReadText.{IsReadTo}
-use Rattle.ira_main.specs.Shelf.{File, Writing}
+use Rattle.ira_main.specs.Shelf.{File, Reading, Writing}
 use Rattle.ira_main.specs.Status.{IsElectionStatus, answer_status}
 use Rattle.ira_main.specs.declared.program_fault.ProgramFault.{ProgramFault}
 use Rattle.ira_main.specs.declared.program_fault.ProgramFault.TheVariants.{CannotRead, CannotWriteAnswer, OutOfMemory, RingSize}
@@ -48,32 +48,30 @@ pub data Judges (old new : Reads) (out out' : SinkState) (outcome : Outcome) : T
       → out' ≡ out → outcome ≡ Err (CannotRead name) → Judges old new out out' outcome
   no_memory : out' ≡ out → outcome ≡ Err OutOfMemory → Judges old new out out' outcome
 
--- as many texts as there are names were judged together, and their answer reported
-pub record JudgesTogether (names : List (List ℕ)) (out out' : SinkState) (outcome : Outcome) : Type 0 where
+-- the files of these names were read, their texts were judged together, and their answer reported
+pub record JudgesTogether {S : Type 0} (reads : Reading S) (names : List (List ℕ)) (shelf shelf' : S)
+    (out out' : SinkState) (outcome : Outcome) : Type 0 where
   pub texts : List (List ℕ)
-  pub many : length texts ≡ length names
+  pub given : ReadsFiles reads names shelf shelf' texts
   pub answer : Answer
   pub judged : IsLogsAnswer texts answer
-  pub reported : Reports answer out out' outcome
-
--- as many texts of logs as were named were judged together with the text of a question and the text of a certificate,
--- and their answer reported
-pub record JudgesCertified (check : CheckRequest) (out out' : SinkState) (outcome : Outcome) : Type 0 where
-  pub texts : List (List ℕ)
-  pub many : length texts ≡ length check.logs.items
-  pub question : List ℕ
-  pub certificate : List ℕ
-  pub answer : Answer
-  pub judged : IsAuditAnswer texts question certificate answer
   pub reported : Reports answer out out' outcome
 
 -- the names of the files to check: the question's, the certificate's and the logs'
 abbrev pub check_names : CheckRequest → List (List ℕ)
 check_names check = check.question.now ∷ check.certificate.now ∷ map (λ name. name.now) check.logs.items
 
--- the names of the files to decide of: the question's and the logs'
-abbrev pub decide_names : DecideRequest → List (List ℕ)
-decide_names decide = decide.question.now ∷ map (λ name. name.now) decide.logs.items
+-- the files that are named were read, the texts of the logs were judged together with the text of the question and the
+-- text of the certificate, and their answer reported
+pub record JudgesCertified {S : Type 0} (reads : Reading S) (check : CheckRequest) (shelf shelf' : S)
+    (out out' : SinkState) (outcome : Outcome) : Type 0 where
+  pub question : List ℕ
+  pub certificate : List ℕ
+  pub texts : List (List ℕ)
+  pub given : ReadsFiles reads (check_names check) shelf shelf' (question ∷ certificate ∷ texts)
+  pub answer : Answer
+  pub judged : IsAuditAnswer texts question certificate answer
+  pub reported : Reports answer out out' outcome
 
 -- the question whether two nodes of a ring of so many ever lead at once was printed
 pub record AsksPairs (nodes : ℕ) (out out' : SinkState) (outcome : Outcome) : Type 0 where
@@ -110,41 +108,43 @@ pub data Records {S : Type 0} (writes : Writing S) (request : RunRequest) (shelf
   not_run : shelf' ≡ shelf → GivesNoAnswer (IsRunFault request.nodes) out out' outcome
       → Records writes request shelf shelf' out out' outcome
 
--- what is done for words: they are refused; or they ask for the logs in some files, and as many texts are judged
--- together; or to check the logs in some files, and as many texts are judged with those of a question and of a
--- certificate; or to decide a question of them, and it is decided of as many; or for the question of all pairs, and it
--- is printed; or for a ring, and it is run. Or no answer is given, for a fault that the command can have. The files are
--- untouched but for those of a run and a certificate's
-pub data Done (A : Type 0) {S : Type 0} (writes : Writing S) (files : S → Option (List File))
-    (words : List (List ℕ)) (shelf shelf' : S) (out out' : SinkState) (outcome : Outcome) : Type 0 where
+-- what is done for words: they are refused; or they ask for the logs in some files, and the texts of these are judged
+-- together; or to check the logs in some files, and their texts are judged with those of a question and of a
+-- certificate; or to decide a question of them, and it is decided of their texts; or for the question of all pairs, and
+-- it is printed; or for a ring, and it is run. Or no answer is given, for a fault that the command can have. The files
+-- are untouched but for those of a run and a certificate's
+pub data Done (A : Type 0) {S : Type 0} (reads : Reading S) (writes : Writing S)
+    (files : S → Option (List File)) (words : List (List ℕ)) (shelf shelf' : S) (out out' : SinkState)
+    (outcome : Outcome) : Type 0 where
   refused : (fault : WordsFault) → files shelf' ≡ files shelf → out' ≡ out → outcome ≡ Err (words_fault fault)
-      → Done A writes files words shelf shelf' out out' outcome
+      → Done A reads writes files words shelf shelf' out out' outcome
   judged : (names : List (List ℕ)) → AskForLogs words names → files shelf' ≡ files shelf
-      → JudgesTogether names out out' outcome ⊎ GivesNoAnswer (IsFilesFault names) out out' outcome
-      → Done A writes files words shelf shelf' out out' outcome
+      → JudgesTogether reads names shelf shelf' out out' outcome
+      ⊎ GivesNoAnswer (IsFilesFault reads names shelf shelf') out out' outcome
+      → Done A reads writes files words shelf shelf' out out' outcome
   certified : (check : CheckRequest) → AskForCheck words check → files shelf' ≡ files shelf
-      → JudgesCertified check out out' outcome
-      ⊎ GivesNoAnswer (IsFilesFault (check_names check)) out out' outcome
-      → Done A writes files words shelf shelf' out out' outcome
+      → JudgesCertified reads check shelf shelf' out out' outcome
+      ⊎ GivesNoAnswer (IsFilesFault reads (check_names check) shelf shelf') out out' outcome
+      → Done A reads writes files words shelf shelf' out out' outcome
   decided : (decide : DecideRequest) → AskForDecide words decide
-      → Decides A (HasKept writes files shelf shelf') (files shelf' ≡ files shelf) decide out out' outcome
-      → Done A writes files words shelf shelf' out out' outcome
+      → Decides A reads writes files decide shelf shelf' out out' outcome
+      → Done A reads writes files words shelf shelf' out out' outcome
   undecided : (decide : DecideRequest) → AskForDecide words decide → files shelf' ≡ files shelf
-      → GivesNoAnswer (IsFilesFault (decide_names decide)) out out' outcome
-      → Done A writes files words shelf shelf' out out' outcome
+      → GivesNoAnswer (IsFilesFault reads (decide_names decide) shelf shelf') out out' outcome
+      → Done A reads writes files words shelf shelf' out out' outcome
   asked : (nodes : ℕ) → AskForPairs words nodes → files shelf' ≡ files shelf
       → AsksPairs nodes out out' outcome ⊎ GivesNoAnswer (IsPairsFault nodes) out out' outcome
-      → Done A writes files words shelf shelf' out out' outcome
+      → Done A reads writes files words shelf shelf' out out' outcome
   recorded : (request : RunRequest) → AskForRun words request
       → Records writes request shelf shelf' out out' outcome
-      → Done A writes files words shelf shelf' out out' outcome
+      → Done A reads writes files words shelf shelf' out out' outcome
 
 -- without words the input is judged, and the files are untouched; with words the input isn't read, and what they ask
 -- for is done
-pub data Serves (A : Type 0) {S : Type 0} (writes : Writing S) (files : S → Option (List File))
-    (words : List (List ℕ)) (input input' : Reads) (shelf shelf' : S) (out out' : SinkState)
-    (outcome : Outcome) : Type 0 where
+pub data Serves (A : Type 0) {S : Type 0} (reads : Reading S) (writes : Writing S)
+    (files : S → Option (List File)) (words : List (List ℕ)) (input input' : Reads) (shelf shelf' : S)
+    (out out' : SinkState) (outcome : Outcome) : Type 0 where
   without_words : words ≡ [] → files shelf' ≡ files shelf → Judges input input' out out' outcome
-      → Serves A writes files words input input' shelf shelf' out out' outcome
-  with_words : words ≢ [] → input' ≡ input → Done A writes files words shelf shelf' out out' outcome
-      → Serves A writes files words input input' shelf shelf' out out' outcome
+      → Serves A reads writes files words input input' shelf shelf' out out' outcome
+  with_words : words ≢ [] → input' ≡ input → Done A reads writes files words shelf shelf' out out' outcome
+      → Serves A reads writes files words input input' shelf shelf' out out' outcome

@@ -1,9 +1,7 @@
 ghost use Rattle.std.specs.Prelude.{◌≡◌, ◌⊎◌};
-ghost use Rattle.ira_main.specs.CertFile.{HasKept};
-ghost use Rattle.ira_main.specs.Decide.{Decides, EndsWith};
+ghost use Rattle.ira_main.specs.Decide.{Decides, EndsWith, decide_names};
+ghost use Rattle.ira_main.specs.FilesRead.{IsFilesFault};
 ghost use Rattle.ira_main.specs.Outcome.{GivesNoAnswer};
-ghost use Rattle.ira_main.specs.ProgramFault.{IsFilesFault};
-ghost use Rattle.ira_main.specs.Serve.{decide_names};
 ghost use Rattle.ira_main.specs.Shelf.{WritesFile};
 
 use crate::cert_file::keep;
@@ -23,8 +21,8 @@ fn keep_findings<'a, A: Allocator + Clone, F: Shelf<A>>(
     name: Option<&'a str>,
     shelf: &mut F,
 ) -> Result<Status, ProgramFault<'a>>
-    ensures { EndsWith (HasKept (WritesFile F.creates F.closes F.Out.state) F.files shelf.old shelf.new)
-        (F.files shelf.new ≡ F.files shelf.old) findings name.entry result }
+    ensures { EndsWith (WritesFile F.creates F.closes F.Out.state) findings name.entry
+        shelf.old shelf.new result }
 {
     let Some(name) = name else {
         return Ok(Status::of_findings(&findings));
@@ -49,10 +47,11 @@ where
     A: Allocator + Clone + Send + Sync,
     F: Shelf<A>,
     W: Sink,
-    ensures { Decides A (HasKept (WritesFile F.creates F.closes F.Out.state) F.files shelf.old shelf.new)
-        (F.files shelf.new ≡ F.files shelf.old) decide.now (W.state out.old) (W.state out.new) result
+    ensures { Decides A F.reads (WritesFile F.creates F.closes F.Out.state) F.files decide.now
+        shelf.old shelf.new (W.state out.old) (W.state out.new) result
         ⊎ ((F.files shelf.new ≡ F.files shelf.old)
-        × GivesNoAnswer (IsFilesFault (decide_names decide.now)) (W.state out.old) (W.state out.new) result) }
+        × GivesNoAnswer (IsFilesFault F.reads (decide_names decide.now) shelf.old shelf.new)
+        (W.state out.old) (W.state out.new) result) }
 {
     let question = read_file(decide.question, shelf)?;
     let audit = read_logs(rt, alloc.clone()?, &decide.logs, shelf)?;

@@ -7,8 +7,8 @@ use std::alloc::Allocator;
 use std::fs::{self, Files};
 use std::io::BufWriter;
 
-/// The files of the system. They are written through a buffer. No clause tells what they hold, since others may change
-/// them at any time.
+/// The files of the system. They are written through a buffer. No clause tells what they hold, nor what a read of
+/// one gives, since others may change them at any time.
 #[derive(Drop)]
 pub struct FileShelf<'a, R: Files, A: Allocator> {
     rt: &'a R,
@@ -27,6 +27,8 @@ impl<R: Files, A: Allocator + Clone> Shelf<A> for FileShelf<'_, R, A> {
     ghost use Rattle.std.specs.Prelude.{None, ⊤};
 
     ghost files = { λ _. None };
+
+    ghost reads = { λ _ _ _ _. ⊤ };
 
     ghost creates = { λ _ _ _ _. ⊤ };
 

@@ -1,7 +1,7 @@
 ghost use Rattle.std.specs.Prelude.{◌≡◌, ◌⊎◌, ◌≤◌, ◌+◌, map};
 ghost use Rattle.ira_audit.specs.Report.{IsReportable};
+ghost use Rattle.ira_main.specs.FilesRead.{IsFilesFault};
 ghost use Rattle.ira_main.specs.Outcome.{GivesNoAnswer, Outcome, ReportsOutcome, outcome_number};
-ghost use Rattle.ira_main.specs.ProgramFault.{IsFilesFault};
 ghost use Rattle.ira_main.specs.Serve.{Judges, JudgesCertified, JudgesTogether, Reports, Serves, check_names};
 ghost use Rattle.ira_main.specs.Shelf.{WritesFile};
 
@@ -65,9 +65,9 @@ where
     A: Allocator + Clone + Send + Sync,
     F: Shelf<A>,
     W: Sink,
-    ensures judged { JudgesTogether (map (λ name. name.now) names.now)
+    ensures judged { JudgesTogether F.reads (map (λ name. name.now) names.now) shelf.old shelf.new
         (W.state out.old) (W.state out.new) result
-        ⊎ GivesNoAnswer (IsFilesFault (map (λ name. name.now) names.now))
+        ⊎ GivesNoAnswer (IsFilesFault F.reads (map (λ name. name.now) names.now) shelf.old shelf.new)
         (W.state out.old) (W.state out.new) result }
     ensures files { F.files shelf.new ≡ F.files shelf.old }
 {
@@ -91,8 +91,10 @@ where
     F: Shelf<A>,
     W: Sink,
     requires depth { check.now.depth ≤ 4 }
-    ensures judged { JudgesCertified check.now (W.state out.old) (W.state out.new) result
-        ⊎ GivesNoAnswer (IsFilesFault (check_names check.now)) (W.state out.old) (W.state out.new) result }
+    ensures judged { JudgesCertified F.reads check.now shelf.old shelf.new
+        (W.state out.old) (W.state out.new) result
+        ⊎ GivesNoAnswer (IsFilesFault F.reads (check_names check.now) shelf.old shelf.new)
+        (W.state out.old) (W.state out.new) result }
     ensures files { F.files shelf.new ≡ F.files shelf.old }
 {
     let question = read_file(check.question, shelf)?;
@@ -117,7 +119,7 @@ where
     I: Read,
     F: Shelf<A>,
     W: Sink,
-    ensures executed { Serves A (WritesFile F.creates F.closes F.Out.state) F.files
+    ensures executed { Serves A F.reads (WritesFile F.creates F.closes F.Out.state) F.files
         (map (λ word. word.now) words.now) input.old input.new shelf.old shelf.new
         (W.state out.old) (W.state out.new) result }
     ensures reads { input.new.reads ≤ input.old.reads + (MAX_TEXT + 1) }
@@ -163,7 +165,8 @@ where
     V: Sink,
     ensures status { result ≤ 3 }
     ensures reads { input.new.reads ≤ input.old.reads + (MAX_TEXT + 1) }
-    ensures served { (outcome : Outcome) × Serves A (WritesFile F.creates F.closes F.Out.state) F.files
+    ensures served { (outcome : Outcome)
+        × Serves A F.reads (WritesFile F.creates F.closes F.Out.state) F.files
         (map (λ word. word.now) words.now) input.old input.new shelf.old shelf.new
         (W.state out.old) (W.state out.new) outcome
         × (result ≡ outcome_number outcome) × ReportsOutcome outcome (V.state err.old) (V.state err.new) }

@@ -1,6 +1,6 @@
-ghost use Rattle.std.specs.Prelude.{◌≡◌, ℕ, List, [], ◌∷◌, IfErr, IfOk, length, map, vec_len};
+ghost use Rattle.std.specs.Prelude.{◌≡◌, ℕ, List, Ok, [], ◌∷◌, IfErr, IfOk, map};
 ghost use Rattle.ira_audit.specs.RingAudit.{HasTaken};
-ghost use Rattle.ira_main.specs.ProgramFault.{IsFilesFault};
+ghost use Rattle.ira_main.specs.FilesRead.{IsFilesFault, ReadsFiles};
 
 use crate::program_fault::ProgramFault;
 use crate::shelf::Shelf;
@@ -16,7 +16,8 @@ pub(crate) fn read_file<'a, A: Allocator, F: Shelf<A>>(
     name: &'a str,
     shelf: &mut F,
 ) -> Result<Vec<u8, A>, ProgramFault<'a>>
-    ensures fault { IfErr result (IsFilesFault (name.now ∷ [])) }
+    ensures read { IfOk result (λ text. F.reads shelf.old name.now (Ok text.items) shelf.new) }
+    ensures fault { IfErr result (IsFilesFault F.reads (name.now ∷ []) shelf.old shelf.new) }
     ensures files { F.files shelf.new ≡ F.files shelf.old }
 {
     match shelf.read(name) {
@@ -31,8 +32,10 @@ fn read_texts<'a, A: Allocator, F: Shelf<A>>(
     names: &[&'a str],
     shelf: &mut F,
 ) -> Result<Vec<Vec<u8, A>, A>, ProgramFault<'a>>
-    ensures number { IfOk result (λ texts. vec_len texts ≡ length names.now) }
-    ensures fault { IfErr result (IsFilesFault (map (λ name. name.now) names.now)) }
+    ensures read { IfOk result (λ texts. ReadsFiles F.reads (map (λ name. name.now) names.now)
+        shelf.old shelf.new (map (λ text. text.items) texts.items)) }
+    ensures fault { IfErr result
+        (IsFilesFault F.reads (map (λ name. name.now) names.now) shelf.old shelf.new) }
     ensures files { F.files shelf.new ≡ F.files shelf.old }
 {
     let mut texts = Vec::with_capacity(alloc, names.len())?;
@@ -53,9 +56,10 @@ where
     R: Threads + Sync,
     A: Allocator + Clone + Send + Sync,
     F: Shelf<A>,
-    ensures taken { IfOk result
-        (λ audit. (texts : List (List ℕ)) × HasTaken audit texts × (length texts ≡ length names.now)) }
-    ensures fault { IfErr result (IsFilesFault (map (λ name. name.now) names.now)) }
+    ensures taken { IfOk result (λ audit. (texts : List (List ℕ)) × HasTaken audit texts
+        × ReadsFiles F.reads (map (λ name. name.now) names.now) shelf.old shelf.new texts) }
+    ensures fault { IfErr result
+        (IsFilesFault F.reads (map (λ name. name.now) names.now) shelf.old shelf.new) }
     ensures files { F.files shelf.new ≡ F.files shelf.old }
 {
     let mut audit = RingAudit::new(alloc.clone()?);

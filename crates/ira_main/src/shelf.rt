@@ -1,4 +1,4 @@
-ghost use Rattle.std.specs.Prelude.{◌≡◌, ◌≤◌, ◌+◌, ℕ, List, Option, Result, length, IfOk};
+ghost use Rattle.std.specs.Prelude.{◌≡◌, ◌≤◌, ◌+◌, ℕ, List, Option, Result, Ok, Err, length, IfOk, MatchResult};
 ghost use Rattle.ira_main.specs.Shelf.{File};
 ghost use Rattle.ira_main.specs.declared.shelf_fault.ShelfFault.{ShelfFault};
 
@@ -14,6 +14,9 @@ pub trait Shelf<A: Allocator> {
     // the files that lie on it, where it tells them
     ghost files: { Self → Option (List File) };
 
+    // what `read` does to the shelf, and the bytes or the fault that come of it
+    ghost reads: { Self → List ℕ → Result (List ℕ) ShelfFault → Self → Type 0 };
+
     // what `create` does to the shelf, and what comes of it
     ghost creates: { Self → List ℕ → Result Self.Out ShelfFault → Self → Type 0 };
 
@@ -23,6 +26,8 @@ pub trait Shelf<A: Allocator> {
     /// The bytes of a file, to its end or to one more than `MAX_TEXT`, whichever comes first.
     fn read(&mut self, name: &str) -> Result<Vec<u8, A>, ShelfFault>
         ensures size { IfOk result (λ text. length text.items ≤ MAX_TEXT + 1) }
+        ensures read { MatchResult result (λ text. reads self.old name.now (Ok text.items) self.new)
+            (λ fault. reads self.old name.now (Err fault) self.new) }
         ensures files { files self.new ≡ files self.old };
 
     /// A new file of this name, empty; one of the same name is emptied.

@@ -20,4 +20,4 @@ returns-in-None g c = refuted (c.in_ok-certificate.ensures.none.0 (ap (λ o. Ok 
 pub returns-in-Some-2 : goal.returns-in-Some-2
 returns-in-Some-2 g c =
     let exact = unless_ok _ _ _ (c.in_ok-certificate.ensures.some c.in-Some-2.certificate) in
-    certified _ _ (exact.0 (ap (λ o. Ok o) c.in-Some-2.is)) c.in-Some.is (_, refl, c.keep.ensures)
+    certified _ _ (exact.0 (ap (λ o. Ok o) c.in-Some-2.is)) c.in-Some.is c.keep.ensures

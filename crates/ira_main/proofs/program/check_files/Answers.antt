@@ -1,6 +1,6 @@
-use Rattle.std.proofs.Common.{inl, inr, refl, rules, ap, length, map, [], ◌∷◌, ◌∙◌}
+use Rattle.std.proofs.Common.{inl, inr, refl, rules, map, [], ◌∷◌}
 use Rattle.ira_event.proofs.Unless.{unless_ok}
-use Rattle.ira_main.proofs.FilesFaults.{of_back, of_front}
+use Rattle.ira_main.proofs.FilesRead.{of_back, of_front}
 use Rattle.ira_main.proofs.program.check_files.Goals as goal
 
 pub report-requires : goal.report-requires
@@ -13,13 +13,14 @@ returns-clause-judged g c =
     let taken = c.in_ok-audit.ensures.taken in
     let answer = c.in_ok-answer.answer in
     let exact = unless_ok answer _ _ (c.in_ok-answer.ensures.answer taken.0 answer taken.1) in
+    let is = exact.0 refl in
     inl (record {
+      question = c.in_ok-question.question.items;
+      certificate = c.in_ok-certificate.certificate.items;
       texts = taken.0;
-      many = taken.2 ∙ ap length c.deref.ensures.value;
-      question = _;
-      certificate = _;
+      given = (_, c.in_ok-question.ensures.read, (_, c.in_ok-certificate.ensures.read, rw c.deref.ensures.value at taken.2));
       answer = answer;
-      judged = exact.0 refl;
+      judged = rw (c.deref-2.ensures.value, c.deref-3.ensures.value) at is;
       reported = c.report.ensures;
     })
 
@@ -27,18 +28,20 @@ pub returns-in_err-question-clause-judged : goal.returns-in_err-question-clause-
 returns-in_err-question-clause-judged g c =
     let check = c.args.check.now in
     let others = check.certificate.now ∷ map (λ name. name.now) check.logs.items in
-    inr (_, of_front (check.question.now ∷ []) others _ c.in_err-question.ensures.fault, refl, search rules)
+    inr (_, of_front g.F.Shelf.reads (check.question.now ∷ []) others _ _ _ c.in_err-question.ensures.fault, refl, search rules)
 
 pub returns-in_err-certificate-clause-judged : goal.returns-in_err-certificate-clause-judged
 returns-in_err-certificate-clause-judged g c =
     let check = c.args.check.now in
+    let reads = g.F.Shelf.reads in
     let logs = map (λ name. name.now) check.logs.items in
-    let others = of_front (check.certificate.now ∷ []) logs _ c.in_err-certificate.ensures.fault in
-    inr (_, of_back (check.question.now ∷ []) (check.certificate.now ∷ logs) _ others, refl, search rules)
+    let others = of_front reads (check.certificate.now ∷ []) logs _ _ _ c.in_err-certificate.ensures.fault in
+    inr (_, of_back reads (check.question.now ∷ []) (check.certificate.now ∷ logs) _ _ _ (_ ∷ []) _ (_, c.in_ok-question.ensures.read, refl) others, refl, search rules)
 
 pub returns-in_err-audit-clause-judged : goal.returns-in_err-audit-clause-judged
 returns-in_err-audit-clause-judged g c =
     let check = c.args.check.now in
+    let reads = g.F.Shelf.reads in
     let logs = map (λ name. name.now) check.logs.items in
     let fault = rw c.deref.ensures.value at c.in_err-audit.ensures.fault in
-    inr (_, of_back (check.question.now ∷ check.certificate.now ∷ []) logs _ fault, refl, search rules)
+    inr (_, of_back reads (check.question.now ∷ check.certificate.now ∷ []) logs _ _ _ (_ ∷ _ ∷ []) _ (_, c.in_ok-question.ensures.read, (_, c.in_ok-certificate.ensures.read, refl)) fault, refl, search rules)

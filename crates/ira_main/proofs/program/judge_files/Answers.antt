@@ -1,5 +1,4 @@
-use Rattle.std.proofs.Common.{◌∙◌, inl, inr, refl, rules, sym}
-use Rattle.std.proofs.lemmas.List.{length-map}
+use Rattle.std.proofs.Common.{inl, inr, refl, rules}
 use Rattle.ira_event.proofs.Unless.{unless_ok}
 use Rattle.ira_main.proofs.program.judge_files.Goals as goal
 
@@ -13,7 +12,7 @@ returns-clause-judged g c =
     let taken = c.in_ok-audit.ensures.taken in
     let answer = c.in_ok-answer.answer in
     let exact = unless_ok answer _ _ (c.in_ok-answer.ensures.answer taken.0 answer taken.1) in
-    inl (record { texts = taken.0; many = taken.2 ∙ sym (length-map c.args.names.now (λ name. name.now)); answer = answer; judged = exact.0 refl; reported = c.report.ensures })
+    inl (record { texts = taken.0; given = taken.2; answer = answer; judged = exact.0 refl; reported = c.report.ensures })
 
 pub returns-in_err-audit-clause-judged : goal.returns-in_err-audit-clause-judged
 returns-in_err-audit-clause-judged g c = inr (_, c.in_err-audit.ensures.fault, refl, search rules)

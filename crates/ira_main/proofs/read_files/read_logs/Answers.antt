@@ -1,8 +1,9 @@
-use Rattle.std.proofs.Common.{◌∙◌, ◌++◌, [], ap, append_assoc, length, length-append, arith, refl, rules, sym}
-use Rattle.std.proofs.lemmas.List.{length-map}
+use Rattle.std.proofs.Common.{◌∙◌, ◌++◌, [], append-nil, append_assoc, ap, arith, map, refl, rules, subst, sym}
+use Rattle.std.proofs.lemmas.List.{map-append, nil_from_length}
 use Rattle.std.proofs.lemmas.Result.{err_from_is_err_and}
 use Rattle.std.specs.Slice.Iter.{chunks_size}
-use Rattle.ira_main.proofs.FilesFaults.{of_part}
+use Rattle.ira_main.proofs.FilesRead.{of_part, reads_both}
+use Rattle.ira_main.specs.FilesRead.{ReadsFiles}
 use Rattle.ira_main.proofs.read_files.read_logs.Goals as goal
 
 pub loop-some-init : goal.loop-some-init
@@ -12,31 +13,38 @@ loop-some-init g c =
       may_go_on = omega (arith, ap chunks_size same, c.chunks-some-items.ensures.size);
       ends = tt;
       files = refl;
-      parts = ([], search rules);
-      taken = ([], c.new-audit.ensures, search rules);
+      taken = ([], [], search rules, c.new-audit.ensures, refl);
     }
 
 pub loop-some-preserved : goal.loop-some-preserved
 loop-some-preserved g c =
     let taken = c.loop-some.invariant.taken in
+    let before = taken.0 in
+    let some = c.in-Some.some.now in
     let steps = c.in-Some.ensures.steps in
-    let parts = simp length-append at (ap length steps.1.0) in
+    let texts = taken.1 ++ map (λ text. text.items) c.deref.result.now in
+    let read = rw (← c.deref.ensures.value) at c.in_ok-texts.ensures.read in
+    let both = reads_both g.F.Shelf.reads (map (λ name. name.now) before) (map (λ name. name.now) some) _ _ _ taken.1 _ taken.4 read in
     record {
       may_go_on = omega (arith, steps.0, c.loop-some.invariant.may_go_on);
       ends = tt;
       files = c.read_texts.ensures.files ∙ c.loop-some.invariant.files;
-      parts = (_, append_assoc c.loop-some.invariant.parts.0 c.in-Some.some.now _ ∙ ap (λ ns. c.loop-some.invariant.parts.0 ++ ns) (sym steps.1.0) ∙ c.loop-some.invariant.parts.1);
-      taken = (_, c.in_ok-take_all.ensures.ok taken.0 taken.1, simp (length-append, length-map) (omega (arith, taken.2, parts, c.deref.ensures.len, c.in_ok-texts.ensures.number)));
+      taken = (before ++ some, texts, append_assoc before some _ ∙ ap (λ ns. before ++ ns) (sym steps.1.0) ∙ taken.2, c.in_ok-take_all.ensures.ok taken.1 taken.3, subst (λ ns. ReadsFiles g.F.Shelf.reads ns c.args.shelf.now c.read_texts.new.shelf texts) (sym (map-append (λ name. name.now) before some)) both);
     }
 
 pub returns-clause-taken : goal.returns-clause-taken
 returns-clause-taken g c =
     let taken = c.loop-some.invariant.taken in
-    (taken.0, taken.1, omega (arith, taken.2, c.in-None.ensures.steps.1.0))
+    let done = nil_from_length _ c.in-None.ensures.steps.1.0 in
+    let all = sym (append-nil taken.0) ∙ ap (λ ns. taken.0 ++ ns) (sym done) ∙ taken.2 in
+    (taken.1, taken.3, subst (λ ns. ReadsFiles g.F.Shelf.reads (map (λ name. name.now) ns) c.args.shelf.now c.loop-some.shelf taken.1) all taken.4)
 
 pub returns-in_err-texts-clause-fault : goal.returns-in_err-texts-clause-fault
 returns-in_err-texts-clause-fault g c =
     let p = err_from_is_err_and c.from_residual-in_err-texts.result c.from_residual-in_err-texts.ensures.1 in
-    let before = c.loop-some.invariant.parts in
+    let taken = c.loop-some.invariant.taken in
+    let before = taken.0 in
+    let some = c.in-Some.some.now in
     let steps = c.in-Some.ensures.steps in
-    rw (p.1, p.2) (of_part before.0 c.in-Some.some.now _ c.args.names.now _ (ap (λ ns. before.0 ++ ns) (sym steps.1.0) ∙ before.1) c.in_err-texts.ensures.fault)
+    let all = ap (λ ns. before ++ ns) (sym steps.1.0) ∙ taken.2 in
+    rw (p.1, p.2) (of_part g.F.Shelf.reads before some _ c.args.names.now _ _ _ _ _ all taken.4 c.in_err-texts.ensures.fault)

@@ -1,7 +1,8 @@
-use Rattle.std.proofs.Common.{◌≡◌, ◌+◌, ◌++◌, ℕ, List, length}
+use Rattle.std.proofs.Common.{◌≡◌, ◌++◌, ℕ, List, map}
 use Rattle.std.specs.Borrow.{Bor}
 use Rattle.std.specs.Slice.Iter.{chunks_rest}
 use Rattle.ira_audit.specs.RingAudit.{HasTaken}
+use Rattle.ira_main.specs.FilesRead.{ReadsFiles}
 use Rattle.ira_main.proofs.read_files.read_logs.Given as goal
 
 abbrev pub invariant-loop-some : goal.invariant-loop-some
@@ -9,6 +10,6 @@ invariant-loop-some g l = record {
   may_go_on : (goal.iterator-loop-some g).can_next l.some-iterator;
   ends : (goal.iterator-loop-some g).is_finite l.some-iterator;
   files : g.F.Shelf.files l.shelf ≡ g.F.Shelf.files l.fn.shelf;
-  parts : (before : List (Bor (List ℕ))) × (before ++ chunks_rest l.some-iterator ≡ l.names);
-  taken : (texts : List (List ℕ)) × HasTaken l.audit texts × (length texts + length (chunks_rest l.some-iterator) ≡ length l.names);
+  taken : (before : List (Bor (List ℕ))) × (texts : List (List ℕ)) × (before ++ chunks_rest l.some-iterator ≡ l.names) × HasTaken l.audit texts
+      × ReadsFiles g.F.Shelf.reads (map (λ name. name.now) before) l.fn.shelf l.shelf texts;
 }

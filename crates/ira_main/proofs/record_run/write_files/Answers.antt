@@ -1,6 +1,7 @@
 use Rattle.std.proofs.Common.{◌≡◌, ◌∙◌, ◌+◌, ◌≤◌, ap, arith, drop, inl, inr, length, subst, sym, take}
 use Rattle.std.proofs.lemmas.List.{take_all}
-use Rattle.ira_main.proofs.LogFiles.{parts_at, written_next}
+use Rattle.ira_main.proofs.LogFiles.{written_next}
+use Rattle.ira_main.proofs.PartsAt.{parts_at}
 use Rattle.ira_main.specs.LogFiles.{WritesLogs}
 use Rattle.ira_main.specs.ProgramFault.{write_log_fault}
 use Rattle.ira_main.specs.Shelf.{WritesFile}
