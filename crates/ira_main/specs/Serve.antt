@@ -15,7 +15,7 @@ use Rattle.ira_audit.specs.declared.answer.Answer.{Answer}
 use Rattle.ira_ring.specs.EndsWriter.{ends_text}
 use Rattle.ira_ring.specs.Run.{Run}
 use Rattle.ira_run.specs.declared.run_fault.RunFault.{RunFault}
-use Rattle.ira_words.specs.Request.{AskForCheck, AskForDecide, AskForLogs, AskForPairs, AskForRun}
+use Rattle.ira_words.specs.Request.{AskForCheck, AskForDecide, AskForLogs, AskForPairs, AskForRun, MayBeRefused}
 use Rattle.ira_words.specs.declared.check_request.CheckRequest.{CheckRequest}
 use Rattle.ira_words.specs.declared.decide_request.DecideRequest.{DecideRequest}
 use Rattle.ira_words.specs.declared.run_request.RunRequest.{RunRequest}
@@ -116,7 +116,8 @@ pub data Records {S : Type 0} (writes : Writing S) (request : RunRequest) (shelf
 pub data Done (A : Type 0) {S : Type 0} (reads : Reading S) (writes : Writing S)
     (files : S → Option (List File)) (words : List (List ℕ)) (shelf shelf' : S) (out out' : SinkState)
     (outcome : Outcome) : Type 0 where
-  refused : (fault : WordsFault) → files shelf' ≡ files shelf → out' ≡ out → outcome ≡ Err (words_fault fault)
+  refused : (fault : WordsFault) → MayBeRefused words fault → files shelf' ≡ files shelf → out' ≡ out
+      → outcome ≡ Err (words_fault fault)
       → Done A reads writes files words shelf shelf' out out' outcome
   judged : (names : List (List ℕ)) → AskForLogs words names → files shelf' ≡ files shelf
       → JudgesTogether reads names shelf shelf' out out' outcome

@@ -15,7 +15,7 @@ never_both x y both = cc
 pub returns-in_err-read_words-clause-executed : goal.returns-in_err-read_words-clause-executed
 returns-in_err-read_words-clause-executed g c =
     let p = err_from_is_err_and c.from_residual.result c.from_residual.ensures.1 in
-    with_words (λ none. never_both _ _ (sym (c.read_words.ensures.none (none_of_none _ _ none)) ∙ c.in_err-read_words.was)) refl (refused _ refl refl (p.1 ∙ ap (λ f. Err f) p.2))
+    with_words (λ none. never_both _ _ (sym (c.read_words.ensures.none (none_of_none _ _ none)) ∙ c.in_err-read_words.was)) refl (refused _ c.in_err-read_words.ensures.refused refl refl (p.1 ∙ ap (λ f. Err f) p.2))
 
 pub returns-in-OneLog-clause-executed : goal.returns-in-OneLog-clause-executed
 returns-in-OneLog-clause-executed g c =
