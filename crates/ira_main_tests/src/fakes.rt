@@ -107,10 +107,7 @@ fn text_of(alloc: Global, bytes: &[u8]) -> Result<Vec<u8>, ShelfFault>
 impl Shelf<Global> for MemoryShelf<'_> {
     type Out = NewFile;
 
-    ghost use Rattle.std.specs.Prelude.{◌≡◌, ◌++◌, ◌⊎◌, ℕ, List, [], ◌∷◌, Contains, None, Some, IfOk, MatchResult, filter_map, map, string_bytes};
-    ghost use Rattle.std.specs.Borrow.{Bor};
-    ghost use Rattle.ira_main_tests.specs.declared.fakes.NewFile.{NewFile};
-    ghost use Rattle.ira_main_tests.specs.declared.fakes.File.{File};
+    ghost use Rattle.std.specs.Prelude.{◌≡◌, ◌++◌, [], ◌∷◌, None, Some, IfOk, MatchResult, filter_map, map, string_bytes};
     ghost use Rattle.ira_main_tests.specs.declared.fakes.File.TheVariants as file;
 
     // those that were written, and those that are given with their text
@@ -122,11 +119,7 @@ impl Shelf<Global> for MemoryShelf<'_> {
           | _ ↦ None
         ]) s.files.now) };
 
-    // a text is that of a file of this name
-    ghost reads = { λ old name result new. (new ≡ old) × IfOk result (λ text.
-        ((f : NewFile) × Contains old.written.items f × (string_bytes f.name ≡ name) × (text ≡ f.bytes.items))
-        ⊎ ((given : Bor (List ℕ) × File) × Contains old.files.now given × (given.0.now ≡ name)
-        × ((held : Bor (List ℕ)) × (given.1 ≡ file.Text held) × (text ≡ held.now)))) };
+    ghost reads = { λ old _ _ new. new ≡ old };
 
     ghost creates = { λ old name result new. (new ≡ old)
         × IfOk result (λ file. (string_bytes file.name ≡ name) × (file.bytes.items ≡ [])) };

@@ -36,13 +36,10 @@ struct AmpleShelf<'a> {
 impl Shelf<Memory> for AmpleShelf<'_> {
     type Out = NewFile;
 
-    ghost use Rattle.std.specs.Prelude.{◌≡◌, IfOk};
-
     ghost files = { λ s. ⟦<MemoryShelf<'static> as Shelf<Global>>⟧.files s.shelf };
 
-    ghost reads = { λ old name result new. (new.shelf ≡ old.shelf)
-        × IfOk result
-        (λ _. ⟦<MemoryShelf<'static> as Shelf<Global>>⟧.reads old.shelf name result new.shelf) };
+    ghost reads = { λ old name result new.
+        ⟦<MemoryShelf<'static> as Shelf<Global>>⟧.reads old.shelf name result new.shelf };
 
     ghost creates = { λ old name result new.
         ⟦<MemoryShelf<'static> as Shelf<Global>>⟧.creates old.shelf name result new.shelf };
