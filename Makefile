@@ -35,6 +35,7 @@ ira:
 	@$(MAKE) --no-print-directory -j 3 START=$(START) bin/ira
 
 $(LIBRARIES:%=library-%): library-%:
+	@mkdir -p bin
 	@sh build/prove.sh $* $(JOBS) > bin/$*.log 2>&1 || { tail -20 bin/$*.log; $(say) 'failed: $*'; exit 1; }
 	@$(say) 'proved: $*'
 
