@@ -1,0 +1,111 @@
+ghost use Rattle.std.specs.Prelude.{◌≡◌, ◌≤◌, ◌+◌, true, Some, IfSome, length, take, drop};
+ghost use Rattle.std.specs.Int.{w64, to_le_bytes};
+ghost use Rattle.ira_event.specs.Event.{is_event};
+ghost use Rattle.ira_event.specs.LogScan.{line_at};
+ghost use Rattle.ira_event.specs.declared.event.Event.TheVariants.{Sent};
+ghost use Rattle.ira_event.specs.declared.log_line.LogLine.TheVariants.{Record};
+
+use crate::event::Event;
+use crate::msg::Msg;
+use std::marker::Model;
+
+/// The fewest bytes that a line has whose numbers end behind two words of eight bytes.
+const SHORTEST: usize = 20;
+
+/// The most bytes that a line has between whose word and last digit two words of eight bytes leave no gap.
+const LONGEST: usize = 28;
+
+/// A receipt that was read, and its line, from which the sending that hands it on differs in the
+/// word and the last digit of the hop. Contracts see the message.
+#[derive(Drop)]
+pub(crate) struct Receipt<'a> {
+    line: &'a [u8],
+    message: Msg,
+}
+
+impl<'a> Model for Receipt<'a> {
+    ghost use Rattle.ira_event.specs.declared.msg.Msg.{Msg};
+    ghost use Rattle.ira_event.specs.Receipt.{IsReceiptLine};
+
+    ghost Value = { Msg };
+
+    ghost view = { λ r. r.message };
+
+    ghost invariant = { λ r. IsReceiptLine r.line.now r.message };
+}
+
+impl<'a> Receipt<'a> {
+    /// The event, where it is a receipt, with the line that it was read from: what the text has before
+    /// the rest. None also where the line is too short or too long to be compared.
+    #[inline(always)]
+    pub(crate) fn of_line(event: Event, text: &'a [u8], rest: &[u8]) -> Option<Receipt<'a>>
+        requires line { line_at text.now ≡ Some (Record event, rest.now) }
+        requires numbers { is_event event ≡ true }
+    {
+        let Event::Got(message) = event else {
+            return None;
+        };
+        let (line, _) = text.split_at(text.len() - rest.len());
+        if line.len() < SHORTEST || line.len() > LONGEST {
+            return None;
+        }
+        Some(Receipt { line, message })
+    }
+
+    /// The message that hands this one on and what follows its line, where the text begins with its line. Some
+    /// such lines are left to `take_line`, as those whose hop ends in 0.
+    #[inline(always)]
+    pub(crate) fn handed_on<'b>(&self, text: &'b [u8]) -> Option<(Msg, &'b [u8])>
+        ensures { IfSome result (λ found. line_at text.now ≡ Some (Record (Sent found.0), found.1.now)) }
+    {
+        let line = self.line;
+        if text.len() < LONGEST || !text.starts_with(b"send") {
+            return None;
+        }
+        let last = line.len() - 8;
+        if word_at(text, 4) != word_at(line, 4)
+            || word_at(text, last - 8) != word_at(line, last - 8)
+        {
+            return None;
+        }
+        let digit_and_dirt = word_at(line, last);
+        if digit_and_dirt % 256 == u64::from(b'9') {
+            return None;
+        }
+        if word_at(text, last) != digit_and_dirt.wrapping_add(1) {
+            return None;
+        }
+        let Msg {
+            round,
+            id,
+            hop,
+            dirty,
+        } = self.message;
+        let message = Msg {
+            round,
+            id,
+            hop: hop + 1,
+            dirty,
+        };
+        let (_, rest) = text.split_at(line.len());
+        Some((message, rest))
+    }
+}
+
+/// Eight bytes of the text as one number, the first of them lowest.
+#[inline(always)]
+fn word_at(text: &[u8], at: usize) -> u64
+    requires { at + 8 ≤ length text.now }
+    ensures { to_le_bytes w64 result ≡ take 8 (drop at text.now) }
+{
+    u64::from_le_bytes([
+        text[at],
+        text[at + 1],
+        text[at + 2],
+        text[at + 3],
+        text[at + 4],
+        text[at + 5],
+        text[at + 6],
+        text[at + 7],
+    ])
+}
