@@ -1,12 +1,12 @@
 -- A line that is a receipt's with another word and the last digit of its hop raised is the sending that hands it on.
-use Rattle.std.proofs.Common.{◌≡◌, ◌≢◌, ◌≤◌, ◌<◌, ◌^◌, ◌+◌, ◌-◌, ◌/◌, ◌%◌, ℕ, Bool, true, false, List, [], ◌∷◌, ◌++◌, length, take, drop, Some, refl, sym, ap, ◌∙◌, arith, inl, inr, append_assoc, length-append}
+use Rattle.std.proofs.Common.{◌≡◌, ◌≢◌, ◌≤◌, ◌<◌, ◌^◌, ◌+◌, ◌-◌, ◌/◌, ◌%◌, ℕ, Bool, true, false, List, [], ◌∷◌, ◌++◌, length, take, drop, Some, refl, sym, ap, ◌∙◌, arith, inl, inr, append_assoc, length-append, get_or}
 use Rattle.std.specs.Prelude.{codes, decimal}
 use Rattle.std.specs.Int.{w64, to_le_bytes, bytes_low_first}
 use Rattle.std.proofs.Math.Nat.{div-div-eq-div-mul}
 use Rattle.std.proofs.Math.Seq.{take-add}
 use Rattle.std.proofs.lemmas.Bool.{cases_lt}
 use Rattle.std.proofs.lemmas.Fmt.{decimal_digit, decimal_step}
-use Rattle.std.proofs.lemmas.List.{take_at, drop_at, take_all, take-append-drop, drop-drop, drop-take}
+use Rattle.std.proofs.lemmas.List.{take_at, drop_at, take_all, take-append-drop, drop-drop, drop-take, get_or-append-add}
 use Rattle.ira_event.specs.declared.event.Event.{Event}
 use Rattle.ira_event.specs.declared.event.Event.TheVariants.{Sent, Got}
 use Rattle.ira_event.specs.declared.log_line.LogLine.TheVariants.{Record}
@@ -36,10 +36,6 @@ rest_within bs a b e = omega (arith, ap length e, length-append a b)
 front_is : (bs a b : List ℕ) → bs ≡ a ++ b → take (length bs - length b) bs ≡ a
 front_is bs a b e = ap (λ w. take (length bs - length b) w) e ∙ take_at a b (length bs - length b) (omega (arith, ap length e, length-append a b))
 
-pub receipt_line : (bs after line : List ℕ) (m : Msg) → line_at bs ≡ Some (Record (Got m), after) → is_msg m ≡ true → line ≡ take (length bs - length after) bs → 20 ≤ length line → length line ≤ 28 → IsReceiptLine line m
-receipt_line bs after line m read good front least most =
-    record { text = front ∙ front_is bs (record_text (Got m)) after (record_in_front bs after (Got m) read good); numbers = good; least = least; most = most }
-
 -- ---- a number raised by one
 
 -- what stands before the last digit
@@ -51,18 +47,18 @@ record LastDigit (n : ℕ) : Type 0 where
 last_digit : (n : ℕ) → n < 10 ^ 7 → LastDigit n
 last_digit n small = elim (cases_lt n 10) [
   | inl lt ↦ record {
-      front = [];
-      spelled = decimal_digit n lt ∙ ap (λ d. d ∷ []) (omega arith);
-      raised = λ less. decimal_digit (n + 1) (omega arith) ∙ ap (λ d. d ∷ []) (omega arith);
-    }
+    front = [];
+    spelled = decimal_digit n lt ∙ ap (λ d. d ∷ []) (omega arith);
+    raised = λ less. decimal_digit (n + 1) (omega arith) ∙ ap (λ d. d ∷ []) (omega arith);
+  }
   | inr le ↦ record {
-      front = decimal (n / 10);
-      spelled = decimal_step n le (omega arith);
-      raised = λ less.
-          let same : (n + 1) / 10 ≡ n / 10 = omega arith in
-          let next : 48 + (n + 1) % 10 ≡ 48 + n % 10 + 1 = omega arith in
-          decimal_step (n + 1) (omega arith) (omega arith) ∙ ap (λ t. decimal t ++ (48 + (n + 1) % 10) ∷ []) same ∙ ap (λ d. decimal (n / 10) ++ d ∷ []) next;
-    }
+    front = decimal (n / 10);
+    spelled = decimal_step n le (omega arith);
+    raised = λ less.
+        let same : (n + 1) / 10 ≡ n / 10 = omega arith in
+        let next : 48 + (n + 1) % 10 ≡ 48 + n % 10 + 1 = omega arith in
+        decimal_step (n + 1) (omega arith) (omega arith) ∙ ap (λ t. decimal t ++ (48 + (n + 1) % 10) ∷ []) same ∙ ap (λ d. decimal (n / 10) ++ d ∷ []) next;
+  }
 ]
 
 -- a word's lowest byte, and those above it
@@ -104,6 +100,38 @@ sending_parts r i f b d = simp append_assoc
 length-tail : (b : Bool) → length (tail (bit_word b)) ≡ 7
 length-tail true = refl
 length-tail false = refl
+
+hop_spelled : (m : Msg) (hop : List ℕ) (n : ℕ) → decimal n ≡ hop → message_text (record { round = m.round; id = m.id; hop = n; dirty = m.dirty }) ≡ decimal m.round ++ codes " " ++ decimal m.id ++ codes " " ++ hop ++ codes " " ++ bit_word m.dirty
+hop_spelled m hop n is = rw is refl
+
+-- a receipt's line, parted at the hop's last digit
+record ReceiptParts (line : List ℕ) (m : Msg) : Type 0 where
+  hop : LastDigit m.hop
+  is : line ≡ codes "recv" ++ (middle (decimal m.round) (decimal m.id) hop.front ++ ((48 + m.hop % 10) ∷ tail (bit_word m.dirty)))
+  long : length line ≡ 4 + (length (middle (decimal m.round) (decimal m.id) hop.front) + 8)
+
+parted : (line : List ℕ) (m : Msg) → line ≡ record_text (Got m) → is_msg m ≡ true → ReceiptParts line m
+parted line m text good =
+    let hop = last_digit m.hop (number_small m.hop (msg_parts m good).2) in
+    let d = 48 + m.hop % 10 in
+    let inner = middle (decimal m.round) (decimal m.id) hop.front in
+    let ds = tail (bit_word m.dirty) in
+    let is : line ≡ codes "recv" ++ (inner ++ (d ∷ ds)) =
+    text ∙ ap (λ t. codes "recv " ++ t ++ codes "\n") (hop_spelled m (hop.front ++ d ∷ []) m.hop hop.spelled) ∙ receipt_parts (decimal m.round) (decimal m.id) hop.front (bit_word m.dirty) d in
+    record { hop = hop; is = is; long = omega (arith, ap length is, length-append inner (d ∷ ds), length-tail m.dirty) }
+
+last_digit_at : (line m ds : List ℕ) (d : ℕ) → line ≡ codes "recv" ++ (m ++ (d ∷ ds)) → length line ≡ 4 + (length m + 8) → get_or line (length line - 8) 0 ≡ d
+last_digit_at line m ds d is long =
+    let place : length line - 8 ≡ length (codes "recv" ++ m) + 0 = omega (arith, long) in
+    ap (λ i. get_or line i 0) place ∙ ap (λ xs. get_or xs (length (codes "recv" ++ m) + 0) 0) is ∙ get_or-append-add (codes "recv" ++ m) (d ∷ ds) 0 0
+
+pub receipt_line : (bs after line : List ℕ) (m : Msg) → line_at bs ≡ Some (Record (Got m), after) → is_msg m ≡ true → line ≡ take (length bs - length after) bs → 20 ≤ length line → length line ≤ 28 → get_or line (length line - 8) 0 ≢ 57
+    → IsReceiptLine line m
+receipt_line bs after line m read good front least most digit =
+    let text = front ∙ front_is bs (record_text (Got m)) after (record_in_front bs after (Got m) read good) in
+    let p = parted line m text good in
+    let last = last_digit_at line (middle (decimal m.round) (decimal m.id) p.hop.front) (tail (bit_word m.dirty)) (48 + m.hop % 10) p.is p.long in
+    record { text = text; numbers = good; digit = λ e. digit (last ∙ ap (λ x. 48 + x) e); least = least; most = most }
 
 -- two words, which may overlap, cover all
 inner_part : (k j : ℕ) (w : List ℕ) → k + j ≡ 8 → take k (drop 8 w) ≡ drop j (take 8 (drop k w))
@@ -162,34 +190,27 @@ sending_read text rest m good is =
     let p = message_handed m good in
     ap line_at is ∙ record-again (codes "send " ++ message_text (handed m)) (Sent (handed m)) rest (message_text (handed m), refl, p.0) ∙ ap (λ x. Some (Record (Sent x), rest)) p.1
 
-hop_spelled : (m : Msg) (hop : List ℕ) (n : ℕ) → decimal n ≡ hop → message_text (record { round = m.round; id = m.id; hop = n; dirty = m.dirty }) ≡ decimal m.round ++ codes " " ++ decimal m.id ++ codes " " ++ hop ++ codes " " ++ bit_word m.dirty
-hop_spelled m hop n is = rw is refl
-
 -- a text of which these four words are known begins with the sending that hands the receipt on
 pub handed_on_read : (line text : List ℕ) (m : Msg) (w : ℕ) → IsReceiptLine line m → take 4 text ≡ codes "send" → take 8 (drop 4 text) ≡ take 8 (drop 4 line)
-    → take 8 (drop (length line - 8 - 8) text) ≡ take 8 (drop (length line - 8 - 8) line) → w < 2 ^ 64 → to_le_bytes w64 w ≡ take 8 (drop (length line - 8) line) → w % 256 ≢ 57
+    → take 8 (drop (length line - 8 - 8) text) ≡ take 8 (drop (length line - 8 - 8) line) → w < 2 ^ 64 → to_le_bytes w64 w ≡ take 8 (drop (length line - 8) line)
     → to_le_bytes w64 ((w + 1) % 2 ^ 64) ≡ take 8 (drop (length line - 8) text) → line_at text ≡ Some (Record (Sent (handed m)), drop (length line) text)
-handed_on_read line text m w known word first second fits old nine new =
-    let f = last_digit m.hop (number_small m.hop (msg_parts m known.numbers).2) in
-    let inner = middle (decimal m.round) (decimal m.id) f.front in
+handed_on_read line text m w known word first second fits old new =
+    let p = parted line m known.text known.numbers in
+    let inner = middle (decimal m.round) (decimal m.id) p.hop.front in
     let d = 48 + m.hop % 10 in
     let ds = tail (bit_word m.dirty) in
     let seven = length-tail m.dirty in
-    let is : line ≡ codes "recv" ++ (inner ++ (d ∷ ds)) =
-        known.text ∙ ap (λ t. codes "recv " ++ t ++ codes "\n") (hop_spelled m (f.front ++ d ∷ []) m.hop f.spelled) ∙ receipt_parts (decimal m.round) (decimal m.id) f.front (bit_word m.dirty) d in
-    let long : length line ≡ 4 + (length inner + 8) = omega (arith, ap length is, length-append inner (d ∷ ds), seven) in
+    let long = p.long in
     let k = length inner - 8 in
     let inner_long : length inner ≡ 8 + k = omega (arith, long, known.least) in
     let sum : k + (8 - k) ≡ 8 = omega (arith, long, known.most, known.least) in
     let at_last : length line - 8 ≡ 4 + (8 + k) = omega (arith, long, inner_long) in
     let at_second : length line - 8 - 8 ≡ 4 + k = omega (arith, long, inner_long) in
-    let word_is : to_le_bytes w64 w ≡ d ∷ ds = old ∙ ap (λ n. take 8 (drop n line)) at_last ∙ last_word line inner ds d k is inner_long seven in
-    let low : w % 256 ≡ d = cc in
-    let digit : m.hop % 10 ≢ 9 = λ e. nine (low ∙ ap (λ x. 48 + x) e) in
+    let word_is : to_le_bytes w64 w ≡ d ∷ ds = old ∙ ap (λ n. take 8 (drop n line)) at_last ∙ last_word line inner ds d k p.is inner_long seven in
     let below : d < 255 = omega arith in
     let last : take 8 (drop (4 + (8 + k)) text) ≡ (d + 1) ∷ ds = ap (λ n. take 8 (drop n text)) (sym at_last) ∙ sym new ∙ raised_word w d ds fits word_is below in
     let second' : take 8 (drop (4 + k) text) ≡ take 8 (drop (4 + k) line) = ap (λ n. take 8 (drop n text)) (sym at_second) ∙ second ∙ ap (λ n. take 8 (drop n line)) at_second in
-    let whole = other_word line text inner ds d k (8 - k) is inner_long sum seven word first second' last in
+    let whole = other_word line text inner ds d k (8 - k) p.is inner_long sum seven word first second' last in
     let sending : codes "send" ++ (inner ++ ((d + 1) ∷ ds)) ≡ record_text (Sent (handed m)) =
-        sym (sending_parts (decimal m.round) (decimal m.id) f.front (bit_word m.dirty) (d + 1)) ∙ ap (λ t. codes "send " ++ t ++ codes "\n") (sym (hop_spelled m (f.front ++ (d + 1) ∷ []) (m.hop + 1) (f.raised digit))) in
+    sym (sending_parts (decimal m.round) (decimal m.id) p.hop.front (bit_word m.dirty) (d + 1)) ∙ ap (λ t. codes "send " ++ t ++ codes "\n") (sym (hop_spelled m (p.hop.front ++ (d + 1) ∷ []) (m.hop + 1) (p.hop.raised known.digit))) in
     sending_read text (drop (length line) text) m known.numbers (whole ∙ ap (λ t. t ++ drop (length line) text) sending)

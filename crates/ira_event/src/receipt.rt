@@ -12,6 +12,9 @@ use std::marker::Model;
 /// The fewest bytes that a line has whose numbers end behind two words of eight bytes.
 const SHORTEST: usize = 20;
 
+/// How many bytes a message's line has from the last digit of its hop on.
+const TAIL: usize = 8;
+
 /// The most bytes that a line has between whose word and last digit two words of eight bytes leave no gap.
 const LONGEST: usize = 28;
 
@@ -49,6 +52,9 @@ impl<'a> Receipt<'a> {
         if line.len() < SHORTEST || line.len() > LONGEST {
             return None;
         }
+        if line[line.len() - TAIL] == b'9' {
+            return None;
+        }
         Some(Receipt { line, message })
     }
 
@@ -62,17 +68,14 @@ impl<'a> Receipt<'a> {
         if text.len() < LONGEST || !text.starts_with(b"send") {
             return None;
         }
-        let last = line.len() - 8;
+        let last = line.len() - TAIL;
         if word_at(text, 4) != word_at(line, 4)
             || word_at(text, last - 8) != word_at(line, last - 8)
         {
             return None;
         }
-        let digit_and_dirt = word_at(line, last);
-        if digit_and_dirt % 256 == u64::from(b'9') {
-            return None;
-        }
-        if word_at(text, last) != digit_and_dirt.wrapping_add(1) {
+        let raised = word_at(line, last).wrapping_add(1);
+        if word_at(text, last) != raised {
             return None;
         }
         let Msg {

@@ -11,7 +11,6 @@ returns c =
     let word = sym ((bytes_decides _ _).0 (sym c.starts_with.ensures.value ∙ c.if-not-starts_with.false)) in
     let first = sym c.word_at.ensures ∙ ap (λ w. to_le_bytes w64 w) c.if-word_at.false ∙ c.word_at-2.ensures in
     let second = sym c.word_at-else-word_at.ensures ∙ ap (λ w. to_le_bytes w64 w) c.if-word_at-2.false ∙ c.word_at-else-word_at-2.ensures in
-    let new = ap (λ w. to_le_bytes w64 w) (sym c.if-word_at-digit_and_dirt.false) ∙ c.word_at-3.ensures in
-    handed_on_read c.self.inside.line.now c.args.text.now c.self.inside.message c.word_at-digit_and_dirt.result c.self.invariant word first second
-    c.word_at-digit_and_dirt.type_inv c.word_at-digit_and_dirt.ensures (λ e. c.if-digit_and_dirt-from.false (e ∙ sym c.from.ensures)) new
+    let raised = ap (λ w. to_le_bytes w64 w) (sym c.if-word_at-raised.false) ∙ c.word_at-3.ensures in
+    handed_on_read c.self.inside.line.now c.args.text.now c.self.inside.message c.word_at-raised.result c.self.invariant word first second c.word_at-raised.type_inv c.word_at-raised.ensures raised
     ∙ ap (λ rest. Some (Record (Sent (handed c.self.inside.message)), rest)) (sym c.split_at.ensures.back)

@@ -11,4 +11,4 @@ pub invariant_of-result : goal.invariant_of-result
 invariant_of-result c =
     receipt_line c.args.text.now c.args.rest.now c.split_at.result.0.now c.in-Got.message
     (c.requires.line ∙ ap (λ e. Some (Record e, c.args.rest.now)) c.in-Got.is) (sym (ap is_event c.in-Got.is) ∙ c.requires.numbers)
-    c.split_at.ensures.front c.if-line-lt-SHORTEST.false c.if-line-gt-LONGEST.false
+    c.split_at.ensures.front c.if-line-lt-SHORTEST.false c.if-line-gt-LONGEST.false c.if-line-eq57.false
