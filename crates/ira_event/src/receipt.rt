@@ -2,24 +2,24 @@ ghost use Rattle.std.specs.Prelude.{◌≡◌, ◌≤◌, ◌+◌, true, Some, I
 ghost use Rattle.std.specs.Int.{w64, to_le_bytes};
 ghost use Rattle.ira_event.specs.Event.{is_event};
 ghost use Rattle.ira_event.specs.LogScan.{line_at};
-ghost use Rattle.ira_event.specs.declared.event.Event.TheVariants.{Sent};
+ghost use Rattle.ira_event.specs.declared.event.Event.TheVariants.{Sent, Got};
 ghost use Rattle.ira_event.specs.declared.log_line.LogLine.TheVariants.{Record};
 
 use crate::event::Event;
 use crate::msg::Msg;
 use std::marker::Model;
 
-/// The fewest bytes that a line has whose numbers end behind two words of eight bytes.
-const SHORTEST: usize = 20;
-
 /// How many bytes a message's line has from the last digit of its hop on.
 const TAIL: usize = 8;
 
-/// The most bytes that a line has between whose word and last digit two words of eight bytes leave no gap.
+/// The fewest bytes of a line in which a word of eight bytes fits between the first four and the tail.
+const SHORTEST: usize = 20;
+
+/// The most bytes of a line in which two such words, one from either end, leave no gap.
 const LONGEST: usize = 28;
 
-/// A receipt that was read, and its line, from which the sending that hands it on differs in the
-/// word and the last digit of the hop. Contracts see the message.
+/// A receipt that was read, with its line. The line of the sending that hands it on is the same but for
+/// the word and the last digit of the hop, unless that is a 9. Contracts see the message.
 #[derive(Drop)]
 pub(crate) struct Receipt<'a> {
     line: &'a [u8],
@@ -38,12 +38,13 @@ impl<'a> Model for Receipt<'a> {
 }
 
 impl<'a> Receipt<'a> {
-    /// The event, where it is a receipt, with the line that it was read from: what the text has before
-    /// the rest. None also where the line is too short or too long to be compared.
+    /// The event, if it is a receipt, with the line that it was read from. `None` also where the line is too
+    /// short or too long to be compared, or its hop ends in 9.
     #[inline(always)]
     pub(crate) fn of_line(event: Event, text: &'a [u8], rest: &[u8]) -> Option<Receipt<'a>>
         requires line { line_at text.now ≡ Some (Record event, rest.now) }
         requires numbers { is_event event ≡ true }
+        ensures { IfSome result (λ message. event ≡ Got message) }
     {
         let Event::Got(message) = event else {
             return None;
@@ -58,8 +59,8 @@ impl<'a> Receipt<'a> {
         Some(Receipt { line, message })
     }
 
-    /// The message that hands this one on and what follows its line, where the text begins with its line. Some
-    /// such lines are left to `take_line`, as those whose hop ends in 0.
+    /// The message that hands this one on and what follows its line, if the text begins with that line.
+    /// `None` says nothing of the text.
     #[inline(always)]
     pub(crate) fn handed_on<'b>(&self, text: &'b [u8]) -> Option<(Msg, &'b [u8])>
         ensures { IfSome result (λ found. line_at text.now ≡ Some (Record (Sent found.0), found.1.now)) }

@@ -94,7 +94,8 @@ impl<'a> Records<'a> {
     }
 }
 
-/// The line that the text begins with, and what follows it. The receipt is the record before it, if it is one.
+/// The line that the text begins with, and what follows it. Most sendings hand on the receipt before
+/// them, and are known by it at less cost.
 #[inline(always)]
 fn next_line<'a>(receipt: Option<&Receipt<'_>>, text: &'a [u8]) -> Option<(LogLine, &'a [u8])>
     ensures { Gives (λ found. (found.0, found.1.now)) result (line_at text.now) }
