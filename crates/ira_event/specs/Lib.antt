@@ -9,6 +9,7 @@ pub mod Logs
 pub mod NextLine
 pub mod Numeral
 pub mod PackedEvent
+pub mod Receipt
 pub mod Records
 pub mod Result
 pub mod RingSize
