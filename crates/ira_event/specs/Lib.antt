@@ -6,6 +6,7 @@ pub mod LogScan
 pub mod LogText
 pub mod LogTextFault
 pub mod Logs
+pub mod Messages
 pub mod NextLine
 pub mod Numeral
 pub mod PackedEvent

@@ -1,9 +1,12 @@
-ghost use Rattle.std.specs.Prelude.{◌≡◌};
+ghost use Rattle.std.specs.Prelude.{◌≡◌, ◌∷◌, [], true, MatchOption};
 ghost use Rattle.std.specs.Iterator.{YieldsFirst, item_count};
+ghost use Rattle.std.specs.List.{list_all};
+ghost use Rattle.ira_event.specs.Event.{is_event};
+ghost use Rattle.ira_event.specs.Messages.{sent, got};
 
 use crate::event::Event;
 use crate::listed::Listed;
-use crate::packed_event::PackedEvent;
+use crate::packed_event::{PackedEvent, PackedMsg};
 use std::marker::Model;
 
 /// The events of a log in their order; seen by contracts as the list of those that are left.
@@ -11,21 +14,26 @@ use std::marker::Model;
 pub struct Events<'a> {
     /// Those of a log that was read.
     packed: &'a [PackedEvent],
-    /// Those of a log that was handed its events.
+    /// Those of a log that was handed its events, whose numbers a record may hold.
     plain: &'a [Event],
 }
 
 impl<'a> Model for Events<'a> {
-    ghost use Rattle.std.specs.Prelude.{List, ◌++◌};
+    ghost use Rattle.std.specs.Prelude.{List, ◌++◌, ◌≡◌, true};
+    ghost use Rattle.std.specs.List.{list_all};
     ghost use Rattle.ira_event.specs.declared.event.Event.{Event};
+    ghost use Rattle.ira_event.specs.Event.{is_event};
 
     ghost Value = { List Event };
 
     ghost view = { λ s. s.packed.now ++ s.plain.now };
+
+    ghost invariant = { λ s. list_all is_event s.plain.now ≡ true };
 }
 
 impl<'a> Events<'a> {
     pub(crate) fn of_plain(events: &'a [Event]) -> Events<'a>
+        requires { list_all is_event events.now ≡ true }
         ensures { result ≡ events.now }
     {
         Events {
@@ -41,6 +49,46 @@ impl<'a> Events<'a> {
             packed: events,
             plain: &[],
         }
+    }
+
+    /// The first message that these events send; the events up to it are passed over.
+    pub fn next_sending(&mut self) -> Option<PackedMsg>
+        ensures { MatchOption result (sent self.old ≡ [])
+            (λ message. sent self.old ≡ message ∷ sent self.new) }
+    {
+        while let Some((first, others)) = self.packed.split_first() {
+            self.packed = others;
+            if let Some(message) = first.sending() {
+                return Some(message);
+            }
+        }
+        while let Some((first, others)) = self.plain.split_first() {
+            self.plain = others;
+            if let Event::Sent(message) = first {
+                return Some(PackedMsg::new(*message));
+            }
+        }
+        None
+    }
+
+    /// The first message that these events receive; the events up to it are passed over.
+    pub fn next_receipt(&mut self) -> Option<PackedMsg>
+        ensures { MatchOption result (got self.old ≡ [])
+            (λ message. got self.old ≡ message ∷ got self.new) }
+    {
+        while let Some((first, others)) = self.packed.split_first() {
+            self.packed = others;
+            if let Some(message) = first.receipt() {
+                return Some(message);
+            }
+        }
+        while let Some((first, others)) = self.plain.split_first() {
+            self.plain = others;
+            if let Event::Got(message) = first {
+                return Some(PackedMsg::new(*message));
+            }
+        }
+        None
     }
 }
 

@@ -44,6 +44,7 @@ pub use memory_sink::MemorySink;
 pub use msg::Msg;
 pub use node_log::NodeLog;
 pub use out_of_memory::OutOfMemory;
+pub use packed_event::PackedMsg;
 pub use records::{Records, line_end};
 pub use ring_size::RingSize;
 pub use scan::{skip_word, take_number};

@@ -1,5 +1,6 @@
-ghost use Rattle.std.specs.Prelude.{◌≡◌, ◌<◌, true};
+ghost use Rattle.std.specs.Prelude.{◌≡◌, ◌<◌, ◌↔◌, true, IsTrue};
 ghost use Rattle.ira_event.specs.Event.{is_event, is_msg};
+ghost use Rattle.ira_event.specs.Messages.{sending, receipt};
 ghost use Rattle.ira_event.specs.PackedEvent.{message_word, message_in};
 
 use crate::event::Event;
@@ -55,6 +56,63 @@ impl PackedEvent {
             SENT => Event::Sent(unpack(word)),
             _ => Event::Got(unpack(word)),
         }
+    }
+
+    /// The message that the event sends, as it stands in the word.
+    #[inline(always)]
+    pub(crate) fn sending(&self) -> Option<PackedMsg>
+        ensures { result ≡ sending self.now }
+    {
+        match self.word % 4 {
+            SENT => Some(PackedMsg { word: self.word }),
+            _ => None,
+        }
+    }
+
+    /// The message that the event receives, as it stands in the word.
+    #[inline(always)]
+    pub(crate) fn receipt(&self) -> Option<PackedMsg>
+        ensures { result ≡ receipt self.now }
+    {
+        match self.word % 4 {
+            DRAW | SENT => None,
+            _ => Some(PackedMsg { word: self.word }),
+        }
+    }
+}
+
+/// A message whose numbers a record may hold, in the word of an event. Contracts see it as the message.
+#[derive(Drop)]
+pub struct PackedMsg {
+    word: u64,
+}
+
+impl Model for PackedMsg {
+    ghost use Rattle.ira_event.specs.declared.msg.Msg.{Msg};
+    ghost use Rattle.ira_event.specs.PackedEvent.{message_in};
+
+    ghost Value = { Msg };
+
+    ghost view = { λ p. message_in p.word };
+}
+
+impl PackedMsg {
+    #[inline(always)]
+    pub(crate) fn new(message: Msg) -> PackedMsg
+        requires { is_msg message ≡ true }
+        ensures { result ≡ message }
+    {
+        PackedMsg {
+            word: pack(SENT, message),
+        }
+    }
+
+    /// Whether both are one message. Whether it was sent or received doesn't matter.
+    #[inline(always)]
+    pub fn is(&self, other: &PackedMsg) -> bool
+        ensures { IsTrue result ↔ (self.now ≡ other.now) }
+    {
+        self.word / 4 == other.word / 4
     }
 }
 

@@ -1,4 +1,6 @@
-ghost use Rattle.std.specs.Prelude.{◌≡◌, ◌≤◌, ◌-◌, Some, length, slice_get};
+ghost use Rattle.std.specs.Prelude.{◌≡◌, ◌≤◌, ◌-◌, Some, true, length, slice_get};
+ghost use Rattle.std.specs.List.{list_all};
+ghost use Rattle.ira_event.specs.Event.{is_event};
 
 use crate::event::Event;
 use crate::events::Events;
@@ -67,6 +69,7 @@ impl<A: Allocator> StoredEvents<A> {
     }
 
     pub(crate) fn iter(&self) -> Events<'_>
+        requires { list_all is_event self.now ≡ true }
         ensures { result ≡ self.now }
     {
         match &self.form {

@@ -47,14 +47,14 @@ next_sending (Draw id ∷ events) = next_sending events
 next_sending (Got m ∷ events) = next_sending events
 
 paired_or_fault : (i : ℕ) (writer reader ahead left : List Event) (k : ℕ) → PairedSoFar writer reader ahead left k → ((h : ℕ) → IsPaired writer reader h) ⊎ ((f : MatchFault) × IsLinkFault i writer reader f)
-paired_or_fault i writer reader ahead [] k p = inl (paired_all writer reader ahead k p)
+paired_or_fault i writer reader ahead [] k p = inl (paired_all writer reader ahead [] k p refl)
 paired_or_fault i writer reader ahead (Draw id ∷ left) k p = paired_or_fault i writer reader ahead left k (paired_over writer reader ahead left (Draw id) k (λ m e. cc) p)
 paired_or_fault i writer reader ahead (Sent n ∷ left) k p = paired_or_fault i writer reader ahead left k (paired_over writer reader ahead left (Sent n) k (λ m e. cc) p)
 paired_or_fault i writer reader ahead (Got m ∷ left) k p = elim (next_sending ahead) [
-  | inl none ↦ inr (NoSending i (k + 1), missing_at i writer reader ahead left m k p none)
+  | inl none ↦ inr (NoSending i (k + 1), missing_at i writer reader ahead (Got m ∷ left) left m k p refl none)
   | inr some ↦ elim (same_message some.0 m) [
-    | inl same ↦ paired_or_fault i writer reader some.1 left (k + 1) (paired_more writer reader ahead some.1 left m some.0 k p some.2 same)
-    | inr differ ↦ inr (Differs i (k + 1), other_at i writer reader ahead some.1 left m some.0 k p some.2 differ)
+    | inl same ↦ paired_or_fault i writer reader some.1 left (k + 1) (paired_more writer reader ahead some.1 (Got m ∷ left) left m some.0 k p refl some.2 same)
+    | inr differ ↦ inr (Differs i (k + 1), other_at i writer reader ahead some.1 (Got m ∷ left) left m some.0 k p refl some.2 differ)
   ]
 ]
 

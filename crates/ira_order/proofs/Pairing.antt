@@ -1,7 +1,5 @@
 -- Receipts and sendings, as lists of messages.
-use Rattle.std.proofs.Common.{◌≡◌, ◌≢◌, ℕ, zero, suc, ◌+◌, ◌<◌, ◌≤◌, List, [], ◌∷◌, ◌++◌, length, refl, sym, ◌∙◌, ap, arith, Some, None, append-nil, append_assoc, length-append, subst, Bool, true, false, not, ◌&&◌, nat_eq}
-use Rattle.std.proofs.lemmas.Bool.Decides.{nat_tests}
-use mathlib.Core.Bool.{beq}
+use Rattle.std.proofs.Common.{◌≡◌, ◌≢◌, ℕ, zero, suc, ◌+◌, ◌<◌, ◌≤◌, List, [], ◌∷◌, ◌++◌, length, refl, sym, ◌∙◌, ap, arith, Some, None, append-nil, append_assoc, length-append, subst}
 use Rattle.ira_event.specs.declared.msg.Msg.{Msg}
 use Rattle.ira_event.specs.declared.event.Event.{Event}
 use Rattle.ira_event.specs.declared.event.Event.TheVariants.{Draw, Sent, Got}
@@ -61,22 +59,6 @@ has_other from to begin gots sents m n g s d = (
   d,
 )
 
--- the test of two messages, and what it finds
-abbrev same_msg : Msg → Msg → Bool
-same_msg n m = nat_eq n.round m.round && (nat_eq n.id m.id && (nat_eq n.hop m.hop && beq n.dirty m.dirty))
-
-same_itself : (m : Msg) → same_msg m m ≡ true
-same_itself m = grind (arith, nat_tests)
-
-pub same_means : (n m : Msg) → false ≡ not (same_msg n m) → n ≡ m
-same_means n m h = grind (arith, nat_tests)
-
-pub differ_means : (n m : Msg) → true ≡ not (same_msg n m) → n ≢ m
-differ_means n m h e =
-    let P : Msg → Type 0 = λ x. same_msg x m ≡ true in
-    let same : same_msg n m ≡ true = subst P (sym e) (same_itself m) in
-    cc
-
 -- the receipts so far have their sendings, and what is left of the two logs begins behind them
 pub record PairedSoFar (writer reader ahead left : List Event) (k : ℕ) : Type 0 where
   pub messages : List Msg
@@ -94,36 +76,46 @@ paired_over writer reader ahead left (Sent m) k never p = record { messages = p.
 paired_over writer reader ahead left (Got m) k never p = absurd (never m refl)
 
 -- a receipt and its sending
-pub paired_more : (writer reader ahead ahead' left : List Event) (m n : Msg) (k : ℕ) → PairedSoFar writer reader ahead (Got m ∷ left) k → sent ahead ≡ n ∷ sent ahead' → n ≡ m → PairedSoFar writer reader ahead' left (k + 1)
-paired_more writer reader ahead ahead' left m n k p found same = record {
+pub paired_more : (writer reader ahead ahead' left left' : List Event) (m n : Msg) (k : ℕ) → PairedSoFar writer reader ahead left k → got left ≡ m ∷ got left' → sent ahead ≡ n ∷ sent ahead' → n ≡ m → PairedSoFar writer reader ahead' left' (k + 1)
+paired_more writer reader ahead ahead' left left' m n k p taken found same = record {
   messages = p.messages ++ m ∷ [];
-  receipts = p.receipts ∙ sym (append_assoc p.messages (m ∷ []) (got left));
+  receipts = p.receipts ∙ ap (λ (x : List Msg). p.messages ++ x) taken ∙ sym (append_assoc p.messages (m ∷ []) (got left'));
   sendings = p.sendings ∙ ap (λ (x : List Msg). p.messages ++ x) (found ∙ ap (λ (x : Msg). x ∷ sent ahead') same) ∙ sym (append_assoc p.messages (m ∷ []) (sent ahead'));
   count = omega (arith, p.count, length-append p.messages (m ∷ []));
 }
 
 -- every receipt was looked at
-pub paired_all : (writer reader ahead : List Event) (k : ℕ) → PairedSoFar writer reader ahead [] k → (h : ℕ) → IsPaired writer reader h
-paired_all writer reader ahead k p h m is =
-    let all : got reader ≡ p.messages = p.receipts ∙ append-nil p.messages in
-    paired_below writer reader p.messages [] (sent ahead) p.receipts p.sendings h (rw all at (numbered-within (got reader) h m is)) m is
+pub paired_all : (writer reader ahead left : List Event) (k : ℕ) → PairedSoFar writer reader ahead left k → got left ≡ [] → (h : ℕ) → IsPaired writer reader h
+paired_all writer reader ahead left k p none h m is =
+    let begun : got reader ≡ p.messages ++ [] = p.receipts ∙ ap (λ (x : List Msg). p.messages ++ x) none in
+    let all : got reader ≡ p.messages = begun ∙ append-nil p.messages in
+    paired_below writer reader p.messages [] (sent ahead) begun p.sendings h (rw all at (numbered-within (got reader) h m is)) m is
 
 -- the first fault of a link: no sending
-pub missing_at : (link : ℕ) (writer reader ahead left : List Event) (m : Msg) (k : ℕ) → PairedSoFar writer reader ahead (Got m ∷ left) k → sent ahead ≡ [] → IsLinkFault link writer reader (NoSending link (k + 1))
-missing_at link writer reader ahead left m k p none =
+pub missing_at : (link : ℕ) (writer reader ahead left left' : List Event) (m : Msg) (k : ℕ) → PairedSoFar writer reader ahead left k → got left ≡ m ∷ got left' → sent ahead ≡ [] → IsLinkFault link writer reader (NoSending link (k + 1))
+missing_at link writer reader ahead left left' m k p taken none =
+    let r : got reader ≡ p.messages ++ (m ∷ got left') = p.receipts ∙ ap (λ (x : List Msg). p.messages ++ x) taken in
     let s : sent writer ≡ p.messages = p.sendings ∙ ap (λ (x : List Msg). p.messages ++ x) none ∙ append-nil p.messages in
     let number : suc (length p.messages) ≡ k + 1 = omega (arith, p.count) in (
       refl,
       λ h b. paired_below writer reader p.messages _ (sent ahead) p.receipts p.sendings h (omega (arith, p.count)),
-      (let P : ℕ → Type 0 = HasNoSending writer reader in subst P number (no_sending writer reader p.messages (got left) m p.receipts s)),
+      (let P : ℕ → Type 0 = HasNoSending writer reader in subst P number (no_sending writer reader p.messages (got left') m r s)),
     )
 
 -- the first fault of a link: another message
-pub other_at : (link : ℕ) (writer reader ahead ahead' left : List Event) (m n : Msg) (k : ℕ) → PairedSoFar writer reader ahead (Got m ∷ left) k → sent ahead ≡ n ∷ sent ahead' → n ≢ m → IsLinkFault link writer reader (Differs link (k + 1))
-other_at link writer reader ahead ahead' left m n k p found differ =
+pub other_at : (link : ℕ) (writer reader ahead ahead' left left' : List Event) (m n : Msg) (k : ℕ) → PairedSoFar writer reader ahead left k → got left ≡ m ∷ got left' → sent ahead ≡ n ∷ sent ahead' → n ≢ m → IsLinkFault link writer reader (Differs link (k + 1))
+other_at link writer reader ahead ahead' left left' m n k p taken found differ =
+    let r : got reader ≡ p.messages ++ (m ∷ got left') = p.receipts ∙ ap (λ (x : List Msg). p.messages ++ x) taken in
     let s : sent writer ≡ p.messages ++ (n ∷ sent ahead') = p.sendings ∙ ap (λ (x : List Msg). p.messages ++ x) found in
     let number : suc (length p.messages) ≡ k + 1 = omega (arith, p.count) in (
       refl,
       λ h b. paired_below writer reader p.messages _ (sent ahead) p.receipts p.sendings h (omega (arith, p.count)),
-      (let P : ℕ → Type 0 = HasOther writer reader in subst P number (has_other writer reader p.messages (got left) (sent ahead') m n p.receipts s (λ q. differ (sym q)))),
+      (let P : ℕ → Type 0 = HasOther writer reader in subst P number (has_other writer reader p.messages (got left') (sent ahead') m n r s (λ q. differ (sym q)))),
     )
+
+-- no more was received than there are events
+pub few_receipts : (events : List Event) → length (got events) ≤ length events
+few_receipts [] = omega arith
+few_receipts (Draw id ∷ events) = omega (arith, few_receipts events)
+few_receipts (Sent m ∷ events) = omega (arith, few_receipts events)
+few_receipts (Got m ∷ events) = omega (arith, few_receipts events)

@@ -1,26 +1,12 @@
-ghost use Rattle.std.specs.Prelude.{◌≡◌, ◌<◌, ◌↔◌, ℕ, [], ◌∷◌, Err, IsOk, MatchOption, MatchResult, length};
-ghost use Rattle.ira_event.specs.declared.msg.Msg.{Msg};
+ghost use Rattle.std.specs.Prelude.{◌≡◌, ◌<◌, ◌↔◌, ℕ, Err, IsOk, MatchResult, length};
 ghost use Rattle.ira_order.specs.declared.match_fault.MatchFault.{MatchFault};
 ghost use Rattle.ira_order.specs.Ring.{next};
-ghost use Rattle.ira_order.specs.Matching.{sent, IsPaired, Matches};
+ghost use Rattle.ira_order.specs.Matching.{IsPaired, Matches};
 ghost use Rattle.ira_order.specs.MatchFault.{IsLinkFault, IsMatchFault};
 
 use crate::match_fault::MatchFault;
-use ira_event::{Event, Events, Logs, Msg, NodeLog};
+use ira_event::{Logs, NodeLog};
 use std::alloc::Allocator;
-
-/// The first message that these events send; the events up to it are passed over.
-fn next_sending(events: &mut Events<'_>) -> Option<Msg>
-    ensures { MatchOption result (sent events.old ≡ [])
-        (λ message. sent events.old ≡ message ∷ sent events.new) }
-{
-    while let Some(event) = events.next() {
-        if let Event::Sent(message) = event {
-            return Some(message);
-        }
-    }
-    None
-}
 
 /// Whether each receipt of a link has its sending, by one cursor for each of the two logs.
 fn match_link<A: Allocator>(
@@ -32,16 +18,15 @@ fn match_link<A: Allocator>(
         (IsLinkFault link writer.now.events reader.now.events) }
 {
     let mut sendings = writer.events();
+    let mut receipts = reader.events();
     let mut k = 0;
-    for event in reader.events() {
-        if let Event::Got(message) = event {
-            k += 1;
-            let Some(sending) = next_sending(&mut sendings) else {
-                return Err(MatchFault::NoSending { link, k });
-            };
-            if sending != message {
-                return Err(MatchFault::Differs { link, k });
-            }
+    while let Some(receipt) = receipts.next_receipt() {
+        k += 1;
+        let Some(sending) = sendings.next_sending() else {
+            return Err(MatchFault::NoSending { link, k });
+        };
+        if !sending.is(&receipt) {
+            return Err(MatchFault::Differs { link, k });
         }
     }
     Ok(())

@@ -1,27 +1,29 @@
-use Rattle.std.proofs.Common.{◌≡◌, ◌≢◌, [], ◌∷◌, rules}
-use Rattle.ira_event.specs.declared.event.Event.TheVariants.{Got}
-use Rattle.ira_order.proofs.Pairing.{PairedSoFar, same_means, differ_means, paired_more, paired_all, other_at}
+use Rattle.std.proofs.Common.{◌≡◌, ◌≢◌, arith, rules}
+use Rattle.ira_order.proofs.Pairing.{paired_at_first, paired_more, paired_all, missing_at, other_at, few_receipts}
 use Rattle.ira_order.proofs.links.match_link.Goals as goal
 
-pub returns-then-ne : goal.returns-then-ne
-returns-then-ne g c =
-    let ahead : c.loop-event.event-iterator ≡ Got c.in-Got.message ∷ c.next.new.self = search rules in
-    let p : PairedSoFar c.args.writer.now.events c.args.reader.now.events c.loop-event.sendings (Got c.in-Got.message ∷ c.next.new.self) c.loop-event.k = rw ahead at c.loop-event.invariant.paired in
-    let differ : c.in-Some-next_sending.sending ≢ c.in-Got.message = differ_means _ _ c.if-ne.ensures in
-    other_at _ _ _ c.loop-event.sendings c.next_sending.new.events c.next.new.self c.in-Got.message c.in-Some-next_sending.sending c.loop-event.k p c.in-Some-next_sending.ensures differ
+pub loop-receipt-init : goal.loop-receipt-init
+loop-receipt-init g c = rw (c.events-sendings.ensures.list, c.events-receipts.ensures.list) (record {
+  room = omega (arith, few_receipts c.args.reader.now.events, c.events-receipts.ensures.valid.count);
+  paired = paired_at_first c.args.writer.now.events c.args.reader.now.events;
+})
 
-pub loop-event-preserved-else-ne : goal.loop-event-preserved-else-ne
-loop-event-preserved-else-ne g c =
-    let ahead : c.loop-event.event-iterator ≡ Got c.in-Got.message ∷ c.next.new.self = search rules in
-    let p : PairedSoFar c.args.writer.now.events c.args.reader.now.events c.loop-event.sendings (Got c.in-Got.message ∷ c.next.new.self) c.loop-event.k = rw ahead at c.loop-event.invariant.paired in
-    let same : c.in-Some-next_sending.sending ≡ c.in-Got.message = same_means _ _ c.if-ne.ensures in
+pub returns-in_default-next_sending : goal.returns-in_default-next_sending
+returns-in_default-next_sending g c =
+    missing_at _ _ _ c.loop-receipt.sendings c.loop-receipt.receipts c.next_receipt.new.self c.in-Some.receipt c.loop-receipt.k c.loop-receipt.invariant.paired c.in-Some.ensures c.in_default-next_sending.ensures
+
+pub returns-then-not-is : goal.returns-then-not-is
+returns-then-not-is g c =
+    let differ : c.in-Some-next_sending.sending ≢ c.in-Some.receipt = λ e. let same = c.is.ensures.1 e in let not = c.if-not-is.true in cc in
+    other_at _ _ _ c.loop-receipt.sendings c.next_sending.new.self c.loop-receipt.receipts c.next_receipt.new.self c.in-Some.receipt c.in-Some-next_sending.sending c.loop-receipt.k c.loop-receipt.invariant.paired c.in-Some.ensures c.in-Some-next_sending.ensures differ
+
+pub loop-receipt-preserved : goal.loop-receipt-preserved
+loop-receipt-preserved g c =
+    let same : c.in-Some-next_sending.sending ≡ c.in-Some.receipt = c.is.ensures.0 (search rules) in
     record {
       room = search rules;
-      paired = paired_more _ _ c.loop-event.sendings c.next_sending.new.events c.next.new.self c.in-Got.message c.in-Some-next_sending.sending c.loop-event.k p c.in-Some-next_sending.ensures same;
+      paired = paired_more _ _ c.loop-receipt.sendings c.next_sending.new.self c.loop-receipt.receipts c.next_receipt.new.self c.in-Some.receipt c.in-Some-next_sending.sending c.loop-receipt.k c.loop-receipt.invariant.paired c.in-Some.ensures c.in-Some-next_sending.ensures same;
     }
 
 pub returns : goal.returns
-returns g c =
-    let ahead : c.loop-event.event-iterator ≡ [] = search rules in
-    let p : PairedSoFar c.args.writer.now.events c.args.reader.now.events c.loop-event.sendings [] c.loop-event.k = rw ahead at c.loop-event.invariant.paired in
-    paired_all _ _ c.loop-event.sendings c.loop-event.k p
+returns g c = paired_all _ _ c.loop-receipt.sendings c.loop-receipt.receipts c.loop-receipt.k c.loop-receipt.invariant.paired c.in_default.ensures
