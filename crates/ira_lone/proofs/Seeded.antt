@@ -1,6 +1,6 @@
 -- Setups whose nodes draw from a seed.
 use Rattle.std.proofs.Common.{◌≡◌, ℕ, zero, suc, ◌<◌, ◌≤◌, Bool, true, false, List, [], ◌∷◌, ◌++◌, Some, All, length, get_or, refl, sym, ◌∙◌, subst, ap, arith}
-use Rattle.std.specs.Prelude.{map, slice_get, IfSome, Result, Ok, Err, IfOk}
+use Rattle.std.specs.Prelude.{map, slice_get, IfSome}
 use Rattle.std.specs.List.{list_any}
 use Rattle.std.proofs.lemmas.List.{get_or-map, length-map}
 use Rattle.std.proofs.lemmas.List.FromFn.{length-map-range_with_len, get_or-map-range_with_len}
@@ -11,7 +11,6 @@ use Rattle.ira_event.specs.declared.limits.TheConstants.{MAX_RECORDS}
 use Rattle.ira_event.specs.RingSize.{IsRingSize}
 use Rattle.ira_run.specs.declared.node_end.NodeEnd.{NodeEnd}
 use Rattle.ira_run.specs.declared.node_end.NodeEnd.TheVariants.{Leader, Stopped, DrawsSpent, LogFull, NoStep, Quiet}
-use Rattle.ira_run.specs.declared.run_fault.RunFault.{RunFault}
 use Rattle.ira_run.specs.NodeEnd.{is_draws_spent}
 use Rattle.ira_run.specs.Setup.{Setup, node_draws, HasInitiator, KeepsRules}
 use Rattle.ira_run.specs.Draws.{draws, generator, id_of_word}
@@ -125,12 +124,8 @@ lone_of_more n kinds seed k m cap s t run a b l none lone =
     subst (λ (x : Setup). IsLoneRun x run) (same_but_draws n kinds seed k m cap s t a b)
     (lone_run_still s t.draws (more n kinds seed k m cap s t a b l) run (λ i here at. absurd (none_spent run.ends i none at)) lone)
 
-one_of_same : (n : ℕ) (kinds : List Bool) (seed k cap : ℕ) (s t : Setup) (run : Run) → IsSeeded n kinds seed k cap s → IsSeeded n kinds seed k cap t → IsLoneRun s run → IsLoneRun t run
-one_of_same n kinds seed k cap s t run a b lone =
+-- where the draws are the same
+pub lone_of_same : (n : ℕ) (kinds : List Bool) (seed k cap : ℕ) (s t : Setup) (run : Run) → IsSeeded n kinds seed k cap s → IsSeeded n kinds seed k cap t → IsLoneRun s run → IsLoneRun t run
+lone_of_same n kinds seed k cap s t run a b lone =
     subst (λ (x : Setup). IsLoneRun x run) (same_but_draws n kinds seed k k cap s t a b)
     (lone_run_still s t.draws (more n kinds seed k k cap s t a b (omega arith)) run (λ i here at. b.draws i (omega (arith, a.nodes)) ∙ sym (a.draws i (omega (arith, a.nodes)))) lone)
-
--- where the draws are the same
-pub lone_of_same : (n : ℕ) (kinds : List Bool) (seed k cap : ℕ) (s t : Setup) (r : Result Run RunFault) → IsSeeded n kinds seed k cap s → IsSeeded n kinds seed k cap t → IfOk r (IsLoneRun s) → IfOk r (IsLoneRun t)
-lone_of_same n kinds seed k cap s t (Ok run) a b lone = one_of_same n kinds seed k cap s t run a b lone
-lone_of_same n kinds seed k cap s t (Err f) a b lone = tt

@@ -7,7 +7,7 @@ ghost use Rattle.ira_run.specs.Agreement.{AreOfEachFullRun};
 use crate::lone_ring::LoneRing;
 use ira_event::Logs;
 use ira_run::{Run, RunFault, Setup};
-use std::alloc::Allocator;
+use std::alloc::{AllocError, Allocator};
 
 /// A full run of the setup on one thread, without links: always the least node that can step makes its
 /// next event, until none can. Whichever node had stepped first, the logs would be the same. `Setup` where
@@ -23,6 +23,17 @@ pub fn run_alone<A: Allocator + Clone>(alloc: A, setup: &Setup<A>) -> Result<Run
     if !setup.keeps_rules() {
         return Err(RunFault::Setup);
     }
+    Ok(run_to_end(alloc, setup)?)
+}
+
+/// The run of a setup that keeps the rules.
+pub(crate) fn run_to_end<A: Allocator + Clone>(
+    alloc: A,
+    setup: &Setup<A>,
+) -> Result<Run<A>, AllocError>
+    requires { KeepsRules setup.now }
+    ensures { IfOk result (IsLoneRun setup.now) }
+{
     let mut ring = LoneRing::start(alloc.clone()?, setup)?;
     ring.run()?;
     let ends = ring.ends(alloc.clone()?)?;

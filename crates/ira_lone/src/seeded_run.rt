@@ -7,7 +7,7 @@ ghost use Rattle.ira_run.specs.ShownEnd.{IsLoneRun};
 ghost use Rattle.ira_lone.specs.SeededRun.{seeded, IsSeeded};
 ghost use Rattle.ira_run.specs.Agreement.{AreOfEachFullRun};
 
-use crate::lone_run::run_alone;
+use crate::lone_run::run_to_end;
 use ira_event::{MAX_RECORDS, OutOfMemory, RingSize};
 use ira_run::{NodeEnd, Run, RunFault, Setup, draw_lists};
 use std::alloc::Allocator;
@@ -70,13 +70,28 @@ pub fn run_alone_seeded<A: Allocator + Clone>(
     if !keeps_rules(nodes, initiators, cap) {
         return Err(RunFault::Setup);
     }
+    Ok(run_seeded(alloc, nodes, initiators, seed, k, cap)?)
+}
+
+/// The run of a ring whose nodes draw from a seed, where its setup keeps the rules.
+fn run_seeded<A: Allocator + Clone>(
+    alloc: A,
+    nodes: RingSize,
+    initiators: &[bool],
+    seed: u64,
+    k: u32,
+    cap: usize,
+) -> Result<Run<A>, OutOfMemory>
+    requires { KeepsRules (seeded nodes initiators.now seed k cap) }
+    ensures { IfOk result (IsLoneRun (seeded nodes initiators.now seed k cap)) }
+{
     if k > FIRST_DRAWS {
         let few = seeded_setup(alloc.clone()?, nodes, initiators, seed, FIRST_DRAWS, cap)?;
-        let run = run_alone(alloc.clone()?, &few)?;
+        let run = run_to_end(alloc.clone()?, &few)?;
         if !lack_draws(run.ends()) {
             return Ok(run);
         }
     }
     let all = seeded_setup(alloc.clone()?, nodes, initiators, seed, k, cap)?;
-    run_alone(alloc, &all)
+    Ok(run_to_end(alloc, &all)?)
 }

@@ -68,10 +68,6 @@ full_logs_ordered s logs a =
 pub lone_logs_same : (s : Setup) (run : Run) → IsLoneRun s run → AreOfEachFullRun s run.logs
 lone_logs_same s run lone = full_logs_same s run.logs lone.logs
 
-pub lone_logs_same_if_ok : (s : Setup) (r : Result Run RunFault) → IfOk r (IsLoneRun s) → IfOk r (λ run. AreOfEachFullRun s run.logs)
-lone_logs_same_if_ok s (Ok run) lone = lone_logs_same s run lone
-lone_logs_same_if_ok s (Err f) lone = tt
-
 -- ---- what was recorded
 
 -- what the nodes recorded is ended

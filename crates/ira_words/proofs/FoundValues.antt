@@ -1,18 +1,18 @@
 -- A parse without a fault has found the arguments that are required or have a default, and their values are read.
 use Rattle.std.proofs.Common.{◌≡◌, ◌∙◌, inl, inr, ℕ, ◌<◌, ◌^◌, Bool, true, false, not, ◌&&◌, ◌||◌, List, [], ◌∷◌, ◌++◌, Option, None, Some, arith, true≢false, refl, sym, ap, subst}
-use Rattle.std.specs.Prelude.{find, fold, if◌then◌else◌, option_and_then, slice_get}
+use Rattle.std.specs.Prelude.{find, fold, if◌then◌else◌, option_and_then, option_map, slice_get}
 use Rattle.std.specs.List.{list_any}
-use Rattle.std.specs.Option.{option_map_or}
+use Rattle.std.specs.Option.{IsSome, option_map_or}
 use Rattle.std.specs.Str.{bytes_eq}
 use Rattle.std.proofs.lemmas.List.Folds.{list_any-append}
 use Rattle.std.proofs.lemmas.Slice.Eq.{bytes_eq-Decides}
-use Rattle.clap.proofs.WalkLemmas.{one_text-rows}
+use Rattle.clap.proofs.WalkLemmas.{first_value-rows, one_text-rows}
 use Rattle.clap.specs.Facts.{explicit_source}
 use Rattle.clap.specs.Faults.{level_fault}
 use Rattle.clap.specs.Simple.{Shape}
 use Rattle.clap.specs.Takes.{is_given}
 use Rattle.clap.specs.Walk.{Row, Rule, Text, arg_by_id, first_of, has_row, is_empty, more_values, nothing_held, default_rows, reading_by, rows_after, rows_of, settled, walk, with_default}
-use Rattle.clap.specs.Words.{ReadsOne, one_text}
+use Rattle.clap.specs.Words.{ReadsOne, first_value, one_text}
 use Rattle.clap.specs.declared.builder.value_parser.ValueParser.TheVariants as vp
 use Rattle.clap.specs.declared.error.kind.ErrorKind.TheVariants as kind
 use Rattle.clap.specs.declared.parser.matches.Found.{Found}
@@ -110,7 +110,7 @@ none_found id (r ∷ rows) is none = go (bytes_eq r.id id) (none_found id rows) 
     go false rest e f = rest e f
 
 -- an argument that was found has a value
-pub value_found : (c : List Rule) (id : Text) (rows : List Row) → AreTaken c rows → has_row id rows ≡ true → first_of id rows ≡ None → ⊥
+value_found : (c : List Rule) (id : Text) (rows : List Row) → AreTaken c rows → has_row id rows ≡ true → first_of id rows ≡ None → ⊥
 value_found c id rows are is none = go (find (λ r. bytes_eq r.id id) rows) refl
   where
     values : (vs : List Text) → (vs ≡ [] → ⊥) → slice_get vs 0 ≡ None → ⊥
@@ -123,15 +123,21 @@ value_found c id rows are is none = go (find (λ r. bytes_eq r.id id) rows) refl
         let first : slice_get r.values 0 ≡ None = sym (ap (option_and_then (λ (x : Row). slice_get x.values 0)) found) ∙ none in
         values r.values (row_found c id rows r are found).0.some first
 
--- and it is read, where it is a number that the type has
+-- its text, where that is asked for
+pub text_found : {X : Type 0} (c : List Rule) (f : Found) (id : Text) (o : Option X) (text : X → Text) → AreTaken c (rows_of f) → has_row id (rows_of f) ≡ true
+    → option_map text o ≡ first_value f id → IsSome o
+text_found c f id None text are is read = absurd (value_found c id (rows_of f) are is (sym (read ∙ first_value-rows f id)))
+text_found c f id (Some x) text are is read = refl
+
+-- and the number that it writes, where the type has that
 pub number_found : (bits high : ℕ) (c : List Rule) (a : Rule) (f : Found) (id : Text) (o : Option ℕ) → arg_by_id c id ≡ Some a → a.parser ≡ Some (vp.Unsigned 0 high)
     → high < 2 ^ bits → AreTaken c (rows_of f) → has_row id (rows_of f) ≡ true
-    → ((t : Text) → one_text f id ≡ Some t → ReadsOne (reads_unsigned bits) t o) → o ≡ None → ⊥
-number_found bits high c a f id (Some n) its parser fits are is value none = cc
-number_found bits high c a f id None its parser fits are is value none =
+    → ((t : Text) → one_text f id ≡ Some t → ReadsOne (reads_unsigned bits) t o) → IsSome o
+number_found bits high c a f id (Some n) its parser fits are is value = refl
+number_found bits high c a f id None its parser fits are is value =
     elim (text_read c a (vp.Unsigned 0 high) id its parser (rows_of f) are) [
-      | inl missing ↦ none_found id (rows_of f) is missing
+      | inl missing ↦ absurd (none_found id (rows_of f) is missing)
       | inr read ↦
           let reads = value _ (one_text-rows f id ∙ read.1) in
-          reads.1.0 (read.2.0, omega (arith, read.2.3, fits))
+          absurd (reads.1.0 (read.2.0, omega (arith, read.2.3, fits)))
     ]

@@ -26,12 +26,16 @@ logs_rule = record (new_rule (codes "LOG")) {
 abbrev pub logs_app : App
 logs_app = with_rule (new_app (codes "logs")) logs_rule
 
+-- the option `--depth` of `check`
+abbrev pub depth_rule : Rule
+depth_rule = record (option_rule (codes "depth")) { parser = Some (Unsigned 0 4); defaults = codes "2" ∷ [] }
+
 -- the options and files of `check`
 abbrev pub check_rules : List Rule
 check_rules =
     record (option_rule (codes "question")) { required = true }
     ∷ record (option_rule (codes "cert")) { required = true }
-    ∷ record (option_rule (codes "depth")) { parser = Some (Unsigned 0 4); defaults = codes "2" ∷ [] }
+    ∷ depth_rule
     ∷ logs_rule
     ∷ []
 
@@ -53,16 +57,32 @@ pairs_rule = record (new_rule (codes "N")) { parser = Some (Unsigned 0 184467440
 abbrev pub pairs_app : App
 pairs_app = with_rule (new_app (codes "pairs")) pairs_rule
 
+-- options of `run`
+abbrev pub folder_rule : Rule
+folder_rule = record (option_rule (codes "out")) { parser = Some NonEmptyString; required = true }
+
+abbrev pub draws_rule : Rule
+draws_rule = record (option_rule (codes "draws")) { parser = Some (Unsigned 0 100000); defaults = codes "64" ∷ [] }
+
+abbrev pub alone_rule : Rule
+alone_rule = record (new_rule (codes "alone")) { long = Some (codes "alone"); action = Some SetTrue }
+
+-- the command `run` with the options that it must have
+abbrev pub run_required_app : App
+run_required_app =
+    with_rule (with_rule (with_rule (new_app (codes "run")) (record (number_rule (codes "nodes")) { required = true }))
+    (record (number_rule (codes "seed")) { required = true })) folder_rule
+
 -- the options of `run`
 abbrev pub run_rules : List Rule
 run_rules =
     record (number_rule (codes "nodes")) { required = true }
     ∷ record (number_rule (codes "seed")) { required = true }
-    ∷ record (option_rule (codes "out")) { parser = Some NonEmptyString; required = true }
+    ∷ folder_rule
     ∷ number_rule (codes "initiators")
-    ∷ record (option_rule (codes "draws")) { parser = Some (Unsigned 0 100000); defaults = codes "64" ∷ [] }
+    ∷ draws_rule
     ∷ record (number_rule (codes "cap")) { defaults = codes "10000" ∷ [] }
-    ∷ record (new_rule (codes "alone")) { long = Some (codes "alone"); action = Some SetTrue }
+    ∷ alone_rule
     ∷ []
 
 -- the command `run`

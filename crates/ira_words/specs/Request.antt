@@ -1,8 +1,9 @@
 -- What the words behind the program's name ask for.
 use Rattle.std.specs.Prelude.{◌≡◌, ◌≢◌, ℕ, All, List, [], ◌∷◌, ◌++◌, codes, map, unwrap_or}
 use Rattle.clap.specs.Faults.{fault_of}
-use Rattle.clap.specs.Simple.{built_leaf}
-use Rattle.clap.specs.Walk.{Row, all_of, rows_after}
+use Rattle.clap.specs.Simple.{HasMatchesOf, built_leaf}
+use Rattle.clap.specs.Walk.{all_of, rows_after}
+use Rattle.clap.specs.declared.parser.matches.ArgMatches.{ArgMatches}
 use Rattle.ira_words.specs.CheckRequest.{HasFiles}
 use Rattle.ira_words.specs.CommandLine.{check_app, decide_app, ira_app, logs_app, pairs_app, run_app}
 use Rattle.ira_words.specs.DecideRequest.{HasFilesToDecide}
@@ -78,20 +79,9 @@ abbrev pub MayBeRefused : List (List ℕ) → WordsFault → Type 0
 MayBeRefused words (Refused text) = AreTakenWords words → ⊥
 MayBeRefused words OutOfMemory = Unit {0}
 
--- What follows no public contract names: these are the contracts of the functions that make a request of what was found.
+-- What follows no public contract names: a parse that succeeds hands it on.
 
--- it asks to judge the logs in the files of these options and names
-abbrev pub IsCheckRequest : List Row → Request → Type 0
-IsCheckRequest rows r = (check : _) × (r ≡ Check check) × HasFiles rows check
-
--- it asks to decide the question in the file of this option, of the logs in those of these names
-abbrev pub IsDecideRequest : List Row → Request → Type 0
-IsDecideRequest rows r = (decide : _) × (r ≡ Decide decide) × HasFilesToDecide rows decide
-
--- it asks for the pairs of so many nodes as the word behind it names
-abbrev pub IsPairsRequest : List Row → Request → Type 0
-IsPairsRequest rows r = (nodes : _) × (r ≡ Pairs nodes) × HasNumber rows (codes "N") nodes
-
--- it asks for the ring of these options
-abbrev pub IsRunRequest : List Row → Request → Type 0
-IsRunRequest rows r = (ring : _) × (r ≡ Run ring) × HasOptions rows ring
+-- the command line takes the words, and this is what it found of them
+pub record AreMatchesOf (words : List (List ℕ)) (matches : ArgMatches) : Type 0 where
+  pub taken : AreTakenWords words
+  pub found : HasMatchesOf ira_app words matches

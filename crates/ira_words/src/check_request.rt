@@ -1,5 +1,5 @@
 /// Logs to judge together with a question and a certificate, as the words name them.
-#[derive(Debug, Drop)]
+#[derive(Drop)]
 pub struct CheckRequest<'a> {
     /// The file of the question.
     pub question: &'a str,

@@ -1,9 +1,12 @@
-ghost use Rattle.std.specs.Prelude.{◌≡◌, ◌≢◌, [], Ok, IfErr, IfOk, IsSomeAnd, codes, false, map, unwrap_or};
+ghost use Rattle.std.specs.Prelude.{◌≡◌, ◌≢◌, ℕ, List, [], Ok, IfErr, IfOk, IsOkAnd, codes, false, map, unwrap_or};
 ghost use Rattle.clap.specs.Simple.{built_leaf};
-ghost use Rattle.clap.specs.Words.{all_of, app_of, found_of, kind_of, rows_of, rule_of};
+ghost use Rattle.clap.specs.Words.{AddsSubcommand, all_of, app_of, found_of, kind_of, rows_of, rule_of};
 ghost use Rattle.clap.specs.declared.error.kind.ErrorKind.TheVariants as kind;
-ghost use Rattle.ira_words.specs.CommandLine.{check_app, decide_app, ira_app, logs_app, logs_rule, number_rule, option_rule, pairs_app, run_app};
-ghost use Rattle.ira_words.specs.Request.{AreTakenWords, IsCheckRequest, IsDecideRequest, IsMadeOf, IsPairsRequest, IsRunRequest, MayBeRefused};
+ghost use Rattle.ira_words.specs.CommandLine.{alone_rule, check_app, decide_app, depth_rule, draws_rule, folder_rule, ira_app, ira_top, logs_app, logs_rule, number_rule, option_rule, pairs_app, run_app, run_required_app};
+ghost use Rattle.ira_words.specs.CheckRequest.{HasFiles};
+ghost use Rattle.ira_words.specs.DecideRequest.{HasFilesToDecide};
+ghost use Rattle.ira_words.specs.Request.{AreMatchesOf, AreTakenWords, IsMadeOf, MayBeRefused};
+ghost use Rattle.ira_words.specs.RunRequest.{HasNumber, HasOptions};
 ghost use Rattle.ira_words.specs.TakenValues.{AreFound, AreTaken};
 ghost use Rattle.ira_words.specs.declared.request.Request.TheVariants as request;
 ghost use Rattle.ira_words.specs.declared.words_fault.WordsFault.TheVariants as fault;
@@ -18,33 +21,54 @@ use clap::error::ErrorKind;
 use clap::{Arg, ArgAction, ArgMatches, Command, Error, value_parser};
 use std::alloc::{AllocError, Global};
 
+const USAGE: &str = "ira < LOG\n       ira logs <LOG>...\n       \
+    ira check --question <Q> --cert <C> [--depth <D>] <LOG>...\n       \
+    ira decide --question <Q> [--out <C>] <LOG>...\n       \
+    ira pairs <N>\n       \
+    ira run --nodes <N> --seed <S> --out <DIR> [OPTIONS]";
+
+const NOTE: &str =
+    "Without words ira judges the log of one node, on standard input. It prints `yes`, or \
+    `no` and\nthe first reason. The status is 0 for yes, absent cases or an elected leader, \
+    1 for no, a case\nthat is present or no leader, 2 for refused words, a refused ring, a \
+    failed read or a failed\nwrite, 3 out of memory.";
+
 /// The program's command line.
 fn command<'a>(alloc: Global) -> Result<Command<'a>, AllocError>
     ensures { IfOk result (λ c. app_of c ≡ ira_app) }
 {
-    Command::new(alloc, "ira")
+    let command = top_command(alloc)?;
+    let command = add_command(command, logs_command(alloc))?;
+    let command = add_command(command, check_command(alloc))?;
+    let command = add_command(command, decide_command(alloc))?;
+    let command = add_command(command, pairs_command(alloc))?;
+    add_command(command, run_command(alloc))
+}
+
+/// The command with this one below it, if that could be made.
+fn add_command<'a>(
+    command: Command<'a>,
+    below: Result<Command<'a>, AllocError>,
+) -> Result<Command<'a>, AllocError>
+    ensures { IfOk result (λ c. IsOkAnd below.entry (λ b. AddsSubcommand command.entry b c)) }
+{
+    command.subcommand(below?)
+}
+
+/// The program's command line without its commands.
+fn top_command<'a>(alloc: Global) -> Result<Command<'a>, AllocError>
+    ensures { IfOk result (λ c. app_of c ≡ ira_top) }
+{
+    let command = Command::new(alloc, "ira")
         .no_binary_name(true)
-        .bin_name("ira")?
-        .about("Judges and makes logs of Itai-Rodeh elections on anonymous rings.")
-        .override_usage(
-            "ira < LOG\n       ira logs <LOG>...\n       \
-             ira check --question <Q> --cert <C> [--depth <D>] <LOG>...\n       \
-             ira decide --question <Q> [--out <C>] <LOG>...\n       \
-             ira pairs <N>\n       \
-             ira run --nodes <N> --seed <S> --out <DIR> [OPTIONS]",
-        )
-        .after_help(
-            "Without words ira judges the log of one node, on standard input. It prints `yes`, or \
-             `no` and\nthe first reason. The status is 0 for yes, absent cases or an elected leader, \
-             1 for no, a case\nthat is present or no leader, 2 for refused words, a refused ring, a \
-             failed read or a failed\nwrite, 3 out of memory.",
-        )
-        .subcommand_required(true)
-        .subcommand(logs_command(alloc)?)?
-        .subcommand(check_command(alloc)?)?
-        .subcommand(decide_command(alloc)?)?
-        .subcommand(pairs_command(alloc)?)?
-        .subcommand(run_command(alloc)?)
+        .bin_name("ira")?;
+    Ok(
+        command
+            .about("Judges and makes logs of Itai-Rodeh elections on anonymous rings.")
+            .override_usage(USAGE)
+            .after_help(NOTE)
+            .subcommand_required(true),
+    )
 }
 
 /// The files with the logs of a ring.
@@ -80,74 +104,70 @@ fn logs_command<'a>(alloc: Global) -> Result<Command<'a>, AllocError>
 fn check_command<'a>(alloc: Global) -> Result<Command<'a>, AllocError>
     ensures { IfOk result (λ c. app_of c ≡ check_app) }
 {
-    let question = option(alloc, "question", "Q", "The file with the question");
-    let certificate = option(alloc, "cert", "C", "The file with the certificate");
-    let depth = option(
+    Command::new(alloc, "check")
+        .about("Judges logs together with a certificate that no moment met a case of a question")
+        .arg(option(alloc, "question", "Q", "The file with the question").required(true))?
+        .arg(option(alloc, "cert", "C", "The file with the certificate").required(true))?
+        .arg(depth(alloc))?
+        .arg(log_files(alloc))
+}
+
+fn depth<'a>(alloc: Global) -> Arg<'a>
+    ensures rule { rule_of result ≡ depth_rule }
+    ensures local { result.global ≡ false }
+{
+    option(
         alloc,
         "depth",
         "D",
         "How often the steps of a section are halved among threads, 0 to 4",
-    );
-    Command::new(alloc, "check")
-        .about("Judges logs together with a certificate that no moment met a case of a question")
-        .arg(question.required(true))?
-        .arg(certificate.required(true))?
-        .arg(
-            depth
-                .value_parser(value_parser!(u64).range(0..=4))
-                .default_value("2"),
-        )?
-        .arg(log_files(alloc))
+    )
+    .value_parser(value_parser!(u64).range(0..=4))
+    .default_value("2")
 }
 
 /// The files to judge.
-fn check_request<'a>(matches: &ArgMatches<'a>, logs: Vec<&'a str>) -> Option<Request<'a>>
+fn check_request<'a>(matches: &ArgMatches<'a>, logs: Vec<&'a str>) -> CheckRequest<'a>
     requires taken { AreTaken (built_leaf check_app.top).rules (rows_of (found_of matches.now)) }
     requires names { map (λ name. name.now) logs.items
         ≡ unwrap_or (all_of (codes "LOG") (rows_of (found_of matches.now))) [] }
     requires found { AreFound (built_leaf check_app.top).rules (rows_of (found_of matches.now)) }
     requires some { logs.items ≢ [] }
-    ensures { IsSomeAnd result (IsCheckRequest (rows_of (found_of matches.now))) }
+    ensures { HasFiles (rows_of (found_of matches.now)) result }
 {
-    Some(Request::Check(CheckRequest {
-        question: matches.get_str("question")?,
-        certificate: matches.get_str("cert")?,
-        depth: matches.get_one("depth")?,
+    CheckRequest {
+        question: matches.get_str("question").unwrap(),
+        certificate: matches.get_str("cert").unwrap(),
+        depth: matches.get_one("depth").unwrap(),
         logs,
-    }))
+    }
 }
 
 fn decide_command<'a>(alloc: Global) -> Result<Command<'a>, AllocError>
     ensures { IfOk result (λ c. app_of c ≡ decide_app) }
 {
-    let question = option(alloc, "question", "Q", "The file with the question");
-    let certificate = option(
-        alloc,
-        "out",
-        "C",
-        "The file for the certificate, which is made where all cases are absent",
-    );
+    let certificate = "The file for the certificate, which is made where all cases are absent";
     Command::new(alloc, "decide")
         .about("Decides for each case of a question whether some moment of the logged run met it")
-        .arg(question.required(true))?
-        .arg(certificate)?
+        .arg(option(alloc, "question", "Q", "The file with the question").required(true))?
+        .arg(option(alloc, "out", "C", certificate))?
         .arg(log_files(alloc))
 }
 
 /// The files to decide of.
-fn decide_request<'a>(matches: &ArgMatches<'a>, logs: Vec<&'a str>) -> Option<Request<'a>>
+fn decide_request<'a>(matches: &ArgMatches<'a>, logs: Vec<&'a str>) -> DecideRequest<'a>
     requires taken { AreTaken (built_leaf decide_app.top).rules (rows_of (found_of matches.now)) }
     requires found { AreFound (built_leaf decide_app.top).rules (rows_of (found_of matches.now)) }
     requires names { map (λ name. name.now) logs.items
         ≡ unwrap_or (all_of (codes "LOG") (rows_of (found_of matches.now))) [] }
     requires some { logs.items ≢ [] }
-    ensures { IsSomeAnd result (IsDecideRequest (rows_of (found_of matches.now))) }
+    ensures { HasFilesToDecide (rows_of (found_of matches.now)) result }
 {
-    Some(Request::Decide(DecideRequest {
-        question: matches.get_str("question")?,
+    DecideRequest {
+        question: matches.get_str("question").unwrap(),
         certificate: matches.get_str("out"),
         logs,
-    }))
+    }
 }
 
 fn pairs_command<'a>(alloc: Global) -> Result<Command<'a>, AllocError>
@@ -163,12 +183,12 @@ fn pairs_command<'a>(alloc: Global) -> Result<Command<'a>, AllocError>
 }
 
 /// The number of nodes.
-fn pairs_request<'a>(matches: &ArgMatches<'a>) -> Option<Request<'a>>
+fn pairs_nodes<'a>(matches: &ArgMatches<'a>) -> u64
     requires taken { AreTaken (built_leaf pairs_app.top).rules (rows_of (found_of matches.now)) }
     requires found { AreFound (built_leaf pairs_app.top).rules (rows_of (found_of matches.now)) }
-    ensures { IsSomeAnd result (IsPairsRequest (rows_of (found_of matches.now))) }
+    ensures { HasNumber (rows_of (found_of matches.now)) (codes "N") result }
 {
-    Some(Request::Pairs(matches.get_one("N")?))
+    matches.get_one("N").unwrap()
 }
 
 /// An option that takes a value.
@@ -193,65 +213,102 @@ fn number<'a>(alloc: Global, name: &'a str, value: &'a str, help: &'a str) -> Ar
 fn run_command<'a>(alloc: Global) -> Result<Command<'a>, AllocError>
     ensures { IfOk result (λ c. app_of c ≡ run_app) }
 {
-    let nodes = number(alloc, "nodes", "N", "How many nodes the ring has, 2 to 64");
-    let seed = number(alloc, "seed", "S", "The number that all draws come from");
-    let folder = option(
+    let initiators = "How many nodes begin, from node 0 on; all if not given";
+    let cap = "The most records of a log, 1 to 100000";
+    run_required(alloc)?
+        .arg(number(alloc, "initiators", "M", initiators))?
+        .arg(draws(alloc))?
+        .arg(number(alloc, "cap", "C", cap).default_value("10000"))?
+        .arg(alone(alloc))
+}
+
+/// The command `run` with the options that it must have.
+fn run_required<'a>(alloc: Global) -> Result<Command<'a>, AllocError>
+    ensures { IfOk result (λ c. app_of c ≡ run_required_app) }
+{
+    let nodes = "How many nodes the ring has, 2 to 64";
+    let seed = "The number that all draws come from";
+    Command::new(alloc, "run")
+        .about("Runs an election, and writes the log of each node to a file")
+        .arg(number(alloc, "nodes", "N", nodes).required(true))?
+        .arg(number(alloc, "seed", "S", seed).required(true))?
+        .arg(folder(alloc))
+}
+
+fn folder<'a>(alloc: Global) -> Arg<'a>
+    ensures rule { rule_of result ≡ folder_rule }
+    ensures local { result.global ≡ false }
+{
+    option(
         alloc,
         "out",
         "DIR",
         "The folder, which exists, for the logs 0.log, 1.log and so on",
-    );
-    let initiators = number(
-        alloc,
-        "initiators",
-        "M",
-        "How many nodes begin, from node 0 on; all if not given",
-    );
-    let draws = option(
+    )
+    .value_parser(ValueParser::NonEmptyString)
+    .required(true)
+}
+
+fn draws<'a>(alloc: Global) -> Arg<'a>
+    ensures rule { rule_of result ≡ draws_rule }
+    ensures local { result.global ≡ false }
+{
+    option(
         alloc,
         "draws",
         "K",
         "How many IDs each node is given to draw, 0 to 100000",
-    );
-    let cap = number(alloc, "cap", "C", "The most records of a log, 1 to 100000");
-    let alone = Arg::new(alloc, "alone")
+    )
+    .value_parser(value_parser!(u64).range(0..=100_000))
+    .default_value("64")
+}
+
+fn alone<'a>(alloc: Global) -> Arg<'a>
+    ensures rule { rule_of result ≡ alone_rule }
+    ensures local { result.global ≡ false }
+{
+    Arg::new(alloc, "alone")
         .long("alone")
         .action(ArgAction::SetTrue)
-        .help("Run all nodes on one thread");
-    Command::new(alloc, "run")
-        .about("Runs an election, and writes the log of each node to a file")
-        .arg(nodes.required(true))?
-        .arg(seed.required(true))?
-        .arg(
-            folder
-                .value_parser(ValueParser::NonEmptyString)
-                .required(true),
-        )?
-        .arg(initiators)?
-        .arg(
-            draws
-                .value_parser(value_parser!(u64).range(0..=100_000))
-                .default_value("64"),
-        )?
-        .arg(cap.default_value("10000"))?
-        .arg(alone)
+        .help("Run all nodes on one thread")
 }
 
 /// The ring to run.
-fn run_request<'a>(matches: &ArgMatches<'a>) -> Option<Request<'a>>
+fn run_request<'a>(matches: &ArgMatches<'a>) -> RunRequest<'a>
     requires taken { AreTaken (built_leaf run_app.top).rules (rows_of (found_of matches.now)) }
     requires found { AreFound (built_leaf run_app.top).rules (rows_of (found_of matches.now)) }
-    ensures { IsSomeAnd result (IsRunRequest (rows_of (found_of matches.now))) }
+    ensures { HasOptions (rows_of (found_of matches.now)) result }
 {
-    Some(Request::Run(RunRequest {
-        nodes: matches.get_one("nodes")?,
-        seed: matches.get_one("seed")?,
-        folder: matches.get_str("out")?,
+    RunRequest {
+        nodes: matches.get_one("nodes").unwrap(),
+        seed: matches.get_one("seed").unwrap(),
+        folder: matches.get_str("out").unwrap(),
         initiators: matches.get_one("initiators"),
-        draws: matches.get_one("draws")?,
-        cap: matches.get_one("cap")?,
+        draws: matches.get_one("draws").unwrap(),
+        cap: matches.get_one("cap").unwrap(),
         is_alone: matches.get_flag("alone"),
-    }))
+    }
+}
+
+// What words ask for, by what was found of them.
+fn found_request<'a>(alloc: Global, matches: &ArgMatches<'a>) -> Result<Request<'a>, AllocError>
+    requires { (words : List (List ℕ)) × AreMatchesOf words matches.now }
+    ensures { IfOk result (λ r. (words : List (List ℕ)) → AreMatchesOf words matches.now → IsMadeOf words r) }
+{
+    match matches.subcommand() {
+        Some(("logs", found)) => Ok(Request::Logs(log_names(alloc, found)?)),
+        Some(("check", found)) => Ok(Request::Check(check_request(
+            found,
+            log_names(alloc, found)?,
+        ))),
+        Some(("decide", found)) => Ok(Request::Decide(decide_request(
+            found,
+            log_names(alloc, found)?,
+        ))),
+        Some(("pairs", found)) => Ok(Request::Pairs(pairs_nodes(found))),
+        Some(("run", found)) => Ok(Request::Run(run_request(found))),
+        _ => unreachable!(),
+    }
 }
 
 // What some words ask for.
@@ -260,20 +317,8 @@ fn request_of_words<'a>(alloc: Global, words: &'a [&'a str]) -> Result<Request<'
     ensures refused { IfErr result (λ e. AreTakenWords (map (λ word. word.now) words.now)
         → kind_of e ≡ kind.OutOfMemory) }
 {
-    let mut command = command(alloc)?;
-    let matches = command.try_get_matches_from_mut(words)?;
-    let asked = match matches.subcommand() {
-        Some(("logs", found)) => Some(Request::Logs(log_names(alloc, found)?)),
-        Some(("check", found)) => check_request(found, log_names(alloc, found)?),
-        Some(("decide", found)) => decide_request(found, log_names(alloc, found)?),
-        Some(("pairs", found)) => pairs_request(found),
-        Some(("run", found)) => run_request(found),
-        _ => None,
-    };
-    match asked {
-        Some(request) => Ok(request),
-        None => Err(command.error(ErrorKind::MissingSubcommand, "a command is missing")?),
-    }
+    let matches = command(alloc)?.try_get_matches_from(words)?;
+    Ok(found_request(alloc, &matches)?)
 }
 
 // The text of a refusal.

@@ -1,5 +1,5 @@
 /// A question to decide of logs, as the words name them.
-#[derive(Debug, Drop)]
+#[derive(Drop)]
 pub struct DecideRequest<'a> {
     /// The file of the question.
     pub question: &'a str,

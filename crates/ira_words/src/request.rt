@@ -3,7 +3,7 @@ use crate::decide_request::DecideRequest;
 use crate::run_request::RunRequest;
 
 /// What the words behind the program's name ask for.
-#[derive(Debug, Drop)]
+#[derive(Drop)]
 pub enum Request<'a> {
     /// To judge the log on standard input.
     OneLog,

@@ -1,5 +1,5 @@
 /// A ring to run, as the words name it.
-#[derive(Clone, Copy, Debug)]
+#[derive(Clone, Copy)]
 pub struct RunRequest<'a> {
     /// How many nodes the ring is to have: any number, and not only a ring's size.
     pub nodes: u64,

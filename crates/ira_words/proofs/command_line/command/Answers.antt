@@ -1,30 +1,22 @@
-use Rattle.std.proofs.Common.{◌≡◌, ◌∙◌, ap, ap₂, true}
+use Rattle.std.proofs.Common.{◌≡◌, ◌∙◌, Err, IfOk, Ok, Result, ap, ap₂, refl, true}
 use Rattle.std.proofs.lemmas.Result.{IfOk-weaker}
-use Rattle.clap.specs.Simple.{app_of_fields, on_top}
-use Rattle.clap.specs.Words.{App, app_of, with_subcommand}
-use Rattle.ira_words.specs.CommandLine.{ira_top}
+use Rattle.std.specs.Prelude.{IsOkAnd}
+use Rattle.clap.specs.Words.{AddsSubcommand, App, app_of, with_subcommand}
+use Rattle.clap.specs.declared.builder.command.Command.{Command}
 use Rattle.ira_words.proofs.FirstWord.{plain_local}
 use Rattle.ira_words.proofs.command_line.command.Goals as goal
 
+-- a command of this shape, with one of that shape below it
+added : {E : Type 0} (above c : Command) (r : Result Command E) (shape other : App) → other.top.is_plain ≡ true
+    → IfOk r (λ b. app_of b ≡ other) → app_of above ≡ shape → IsOkAnd r (λ b. AddsSubcommand above b c) → app_of c ≡ with_subcommand shape other.top
+added above c (Ok below) shape other plain made has adds =
+    adds.shape (plain_local _ _ _ _ (ap (λ (a : App). a.top.is_plain) made ∙ plain)) ∙ ap₂ with_subcommand has (ap (λ (a : App). a.top) made)
+added above c (Err e) shape other plain made has adds = absurd adds
+
 pub returns : goal.returns
 returns c =
-    let logs_is = c.in_ok-logs_command.ensures in
-    let check_is = c.in_ok-check_command.ensures in
-    let decide_is = c.in_ok-decide_command.ensures in
-    let pairs_is = c.in_ok-pairs_command.ensures in
-    let run_is = c.in_ok-run_command.ensures in
-    let without_binary = ap app_of_fields c.no_binary_name.ensures ∙ ap (on_top (λ s. record s { no_binary_name = true })) c.new.ensures.app in
-    let with_texts =
-    ap app_of_fields c.after_help.ensures ∙ ap app_of_fields c.override_usage.ensures ∙ ap app_of_fields c.about.ensures ∙ ap app_of_fields c.in_ok-bin_name.ensures.0 ∙ without_binary in
-    let above : app_of c.subcommand_required.result ≡ ira_top =
-    ap app_of_fields c.subcommand_required.ensures ∙ ap (on_top (λ s. record s { subcommand_required = true })) with_texts in
-    let logs_local = plain_local _ _ _ _ (ap (λ (a : App). a.top.is_plain) logs_is) in
-    let check_local = plain_local _ _ _ _ (ap (λ (a : App). a.top.is_plain) check_is) in
-    let decide_local = plain_local _ _ _ _ (ap (λ (a : App). a.top.is_plain) decide_is) in
-    let pairs_local = plain_local _ _ _ _ (ap (λ (a : App). a.top.is_plain) pairs_is) in
-    let run_local = plain_local _ _ _ _ (ap (λ (a : App). a.top.is_plain) run_is) in
-    let with_logs = c.in_ok-subcommand.ensures.shape logs_local ∙ ap₂ with_subcommand above (ap (λ (a : App). a.top) logs_is) in
-    let with_check = c.in_ok-subcommand-2.ensures.shape check_local ∙ ap₂ with_subcommand with_logs (ap (λ (a : App). a.top) check_is) in
-    let with_decide = c.in_ok-subcommand-3.ensures.shape decide_local ∙ ap₂ with_subcommand with_check (ap (λ (a : App). a.top) decide_is) in
-    let with_pairs = c.in_ok-subcommand-4.ensures.shape pairs_local ∙ ap₂ with_subcommand with_decide (ap (λ (a : App). a.top) pairs_is) in
-    IfOk-weaker c.subcommand-5.result _ _ (λ r h. h.shape run_local ∙ ap₂ with_subcommand with_pairs (ap (λ (a : App). a.top) run_is)) c.subcommand-5.ensures
+    let with_logs = added _ _ _ _ _ refl c.logs_command.ensures c.in_ok-command.ensures c.in_ok-command-2.ensures in
+    let with_check = added _ _ _ _ _ refl c.check_command.ensures with_logs c.in_ok-command-3.ensures in
+    let with_decide = added _ _ _ _ _ refl c.decide_command.ensures with_check c.in_ok-command-4.ensures in
+    let with_pairs = added _ _ _ _ _ refl c.pairs_command.ensures with_decide c.in_ok-command-5.ensures in
+    IfOk-weaker c.add_command-5.result _ _ (λ r h. added _ _ _ _ _ refl c.run_command.ensures with_pairs h) c.add_command-5.ensures

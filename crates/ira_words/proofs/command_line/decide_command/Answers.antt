@@ -9,7 +9,7 @@ pub returns : goal.returns
 returns c =
     let named : app_of c.about.result ≡ new_app (codes "decide") = ap app_of_fields c.about.ensures ∙ c.new.ensures.app in
     let question : rule_of c.required.result ≡ record (option_rule (codes "question")) { required = true } =
-    rw c.required.ensures (ap (λ (r : Rule). record r { required = true }) c.option-question.ensures.rule) in
-    let with_question = c.in_ok-arg.ensures.shape (rw c.required.ensures c.option-question.ensures.local) ∙ ap₂ with_rule named question in
-    let with_certificate = c.in_ok-arg-2.ensures.shape c.option-certificate.ensures.local ∙ ap₂ with_rule with_question c.option-certificate.ensures.rule in
+    rw c.required.ensures (ap (λ (r : Rule). record r { required = true }) c.option.ensures.rule) in
+    let with_question = c.in_ok-arg.ensures.shape (rw c.required.ensures c.option.ensures.local) ∙ ap₂ with_rule named question in
+    let with_certificate = c.in_ok-arg-2.ensures.shape c.option-2.ensures.local ∙ ap₂ with_rule with_question c.option-2.ensures.rule in
     IfOk-weaker c.arg-3.result _ _ (λ r h. h.shape c.log_files.ensures.local ∙ ap₂ with_rule with_certificate c.log_files.ensures.rule) c.arg-3.ensures

@@ -1,44 +1,43 @@
-use Rattle.std.proofs.Common.{◌∙◌, None, arith, codes, refl, sym}
+use Rattle.std.proofs.Common.{◌∙◌, ap, arith, codes, refl, sym}
+use Rattle.std.specs.Prelude.{option_map}
 use Rattle.clap.proofs.WalkLemmas.{first_value-rows}
 use Rattle.clap.specs.Words.{found_of}
-use Rattle.ira_words.proofs.FoundValues.{number_found, value_found}
+use Rattle.ira_words.proofs.FoundValues.{number_found, text_found}
 use Rattle.ira_words.proofs.Options.{flag_read, number_in_range, number_missed, number_read}
 use Rattle.ira_words.proofs.command_line.run_request.Goals as goal
 
+pub unwrap-requires : goal.unwrap-requires
+unwrap-requires c =
+    number_found 64 18446744073709551615 _ _ (found_of c.args.matches.now) (codes "nodes") _ refl refl (omega arith) c.requires.taken (c.requires.found.0 refl) c.get_one.ensures.value
+
+pub unwrap-requires-2 : goal.unwrap-requires-2
+unwrap-requires-2 c =
+    number_found 64 18446744073709551615 _ _ (found_of c.args.matches.now) (codes "seed") _ refl refl (omega arith) c.requires.taken (c.requires.found.1.0 refl) c.get_one-2.ensures.value
+
+pub unwrap-requires-3 : goal.unwrap-requires-3
+unwrap-requires-3 c =
+    text_found _ (found_of c.args.matches.now) (codes "out") _ _ c.requires.taken (c.requires.found.1.1.0 refl) c.get_str.ensures
+
+pub unwrap-requires-4 : goal.unwrap-requires-4
+unwrap-requires-4 c =
+    number_found 32 100000 _ _ (found_of c.args.matches.now) (codes "draws") _ refl refl (omega arith) c.requires.taken (c.requires.found.1.1.1.1.0 refl) c.get_one-4.ensures.value
+
+pub unwrap-requires-5 : goal.unwrap-requires-5
+unwrap-requires-5 c =
+    number_found 64 18446744073709551615 _ _ (found_of c.args.matches.now) (codes "cap") _ refl refl (omega arith) c.requires.taken (c.requires.found.1.1.1.1.1.0 refl) c.get_one-5.ensures.value
+
 pub returns : goal.returns
 returns c =
-    let f = found_of c.args.matches.now in (
-      _,
-      refl,
-      record {
-        nodes = number_read 64 f (codes "nodes") _ c.in_ok-get_one.ensures.none c.in_ok-get_one.ensures.value;
-        seed = number_read 64 f (codes "seed") _ c.in_ok-get_one-2.ensures.none c.in_ok-get_one-2.ensures.value;
-        folder = sym (c.in_ok-get_str.ensures ∙ first_value-rows f (codes "out"));
-        initiators = number_missed _ _ f (codes "initiators") c.get_one-3.result refl refl c.requires.taken c.get_one-3.ensures.none c.get_one-3.ensures.value;
-        draws = number_read 32 f (codes "draws") _ c.in_ok-get_one-3.ensures.none c.in_ok-get_one-3.ensures.value;
-        few = number_in_range 32 100000 _ _ f (codes "draws") _ refl refl c.requires.taken c.in_ok-get_one-3.ensures.none c.in_ok-get_one-3.ensures.value;
-        cap = number_read 64 f (codes "cap") _ c.in_ok-get_one-4.ensures.none c.in_ok-get_one-4.ensures.value;
-        alone = flag_read _ _ f (codes "alone") _ refl refl refl refl refl c.requires.taken c.get_flag.ensures.none c.get_flag.ensures.value c.get_flag.ensures.other;
-      },
-    )
-
-pub returns-in_err-get_one : goal.returns-in_err-get_one
-returns-in_err-get_one c =
-    absurd (number_found 64 18446744073709551615 _ _ (found_of c.args.matches.now) (codes "nodes") None refl refl (omega arith) c.requires.taken (c.requires.found.0 refl) c.in_err-get_one.ensures.value refl)
-
-pub returns-in_err-get_one-2 : goal.returns-in_err-get_one-2
-returns-in_err-get_one-2 c =
-    absurd (number_found 64 18446744073709551615 _ _ (found_of c.args.matches.now) (codes "seed") None refl refl (omega arith) c.requires.taken (c.requires.found.1.0 refl) c.in_err-get_one-2.ensures.value refl)
-
-pub returns-in_err-get_str : goal.returns-in_err-get_str
-returns-in_err-get_str c =
     let f = found_of c.args.matches.now in
-    absurd (value_found _ (codes "out") _ c.requires.taken (c.requires.found.1.1.0 refl) (sym (c.in_err-get_str.ensures ∙ first_value-rows f (codes "out"))))
-
-pub returns-in_err-get_one-3 : goal.returns-in_err-get_one-3
-returns-in_err-get_one-3 c =
-    absurd (number_found 32 100000 _ _ (found_of c.args.matches.now) (codes "draws") None refl refl (omega arith) c.requires.taken (c.requires.found.1.1.1.1.0 refl) c.in_err-get_one-3.ensures.value refl)
-
-pub returns-in_err-get_one-4 : goal.returns-in_err-get_one-4
-returns-in_err-get_one-4 c =
-    absurd (number_found 64 18446744073709551615 _ _ (found_of c.args.matches.now) (codes "cap") None refl refl (omega arith) c.requires.taken (c.requires.found.1.1.1.1.1.0 refl) c.in_err-get_one-4.ensures.value refl)
+    let no_draws = rw c.unwrap-4.ensures at c.get_one-4.ensures.none in
+    let draws = rw c.unwrap-4.ensures at c.get_one-4.ensures.value in
+    record {
+      nodes = number_read 64 f (codes "nodes") _ (rw c.unwrap.ensures at c.get_one.ensures.none) (rw c.unwrap.ensures at c.get_one.ensures.value);
+      seed = number_read 64 f (codes "seed") _ (rw c.unwrap-2.ensures at c.get_one-2.ensures.none) (rw c.unwrap-2.ensures at c.get_one-2.ensures.value);
+      folder = sym (c.get_str.ensures ∙ first_value-rows f (codes "out")) ∙ ap (option_map (λ s. s.now)) c.unwrap-3.ensures;
+      initiators = number_missed _ _ f (codes "initiators") _ refl refl c.requires.taken c.get_one-3.ensures.none c.get_one-3.ensures.value;
+      draws = number_read 32 f (codes "draws") _ no_draws draws;
+      few = number_in_range 32 100000 _ _ f (codes "draws") _ refl refl c.requires.taken no_draws draws;
+      cap = number_read 64 f (codes "cap") _ (rw c.unwrap-5.ensures at c.get_one-5.ensures.none) (rw c.unwrap-5.ensures at c.get_one-5.ensures.value);
+      alone = flag_read _ _ f (codes "alone") _ refl refl refl refl refl c.requires.taken c.get_flag.ensures.none c.get_flag.ensures.value c.get_flag.ensures.other;
+    }

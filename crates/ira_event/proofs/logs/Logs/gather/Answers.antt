@@ -2,7 +2,7 @@ use Rattle.std.proofs.Common.{◌≡◌, ℕ, List, Ok, sym, ◌∙◌, ap, subs
 use Rattle.std.proofs.lemmas.Result.{err_from_is_err_and}
 use Rattle.ira_event.specs.Log.{Log, IsLog}
 use Rattle.ira_event.specs.Logs.{AreLogs, EachLog, HasNumber, IsFirstOther, wrong_number, wrong_size, wrong_place}
-use Rattle.ira_event.proofs.Gathering.{answers-fault, answers-no-logs, logs-built}
+use Rattle.ira_event.proofs.Gathering.{answers-fault, answers-no-logs, logs-built, no-fault}
 use Rattle.ira_event.proofs.logs.Logs.gather.Goals as goal
 
 pub returns-in_err-size-clause-ok : goal.returns-in_err-size-clause-ok
@@ -63,3 +63,6 @@ pub returns-clause-ok : goal.returns-clause-ok
 returns-clause-ok g c = λ gathered.
     let logs : AreLogs c.args.logs.items = (invariant_of-result g c).1 in
     (λ e. let same : c.args.logs.items ≡ gathered = cc in (sym same, subst (λ (x : List Log). AreLogs x) same logs), λ h. ap Ok (sym h.0))
+
+pub returns-clause-err : goal.returns-clause-err
+returns-clause-err g c = λ f. (λ e. absurd cc, λ h. absurd (no-fault c.args.logs.items f (invariant_of-result g c).1 h))

@@ -1,6 +1,8 @@
-use Rattle.std.proofs.Common.{◌∙◌, sym, inr}
+use Rattle.std.proofs.Common.{◌∙◌, ◌++◌, ap, arith, codes, inr, length, sym}
 use Rattle.ira_event.proofs.LogReading.{empty_is, not_empty}
+use Rattle.ira_event.proofs.RecordLines.{word-takes}
 use Rattle.ira_pred.specs.PlacedClause.{conjuncts}
+use Rattle.ira_pred.specs.QuestionLines.{LinesLeft}
 use Rattle.ira_pred.specs.QuestionTextFault.{Spot}
 use Rattle.ira_pred.proofs.QuestionReading.{fault_empty_case, fault_empty_end, fault_cases, fault_trailing, fault_no_place, none_asked, some_asked, last_line}
 use Rattle.ira_pred.proofs.question_lines.QuestionLines.next_in_case.Goals as goal
@@ -36,3 +38,14 @@ returns-then-not-is_empty g c =
 pub returns : goal.returns
 returns g c =
     rw (← c.self.view_is) (last_line c.self.inside.rest.now c.in-Some-skip_word-2.after.now c.in-Some-skip_word-2.ensures (empty_is c.in-Some-skip_word-2.after.now (sym c.is_empty-3.ensures ∙ c.if-not-is_empty.false)), some_asked c.args.asked.now (sym c.if-is_empty-2.ensures))
+
+pub go_on-requires : goal.go_on-requires
+go_on-requires g c =
+    let text = word-takes (codes "case\n") c.self.inside.rest.now c.in-Some-skip_word.after.now c.in-Some-skip_word.ensures in
+    rw (← c.self.view_is) (omega (arith, ap length text))
+
+pub returns-in-Some-skip_word : goal.returns-in-Some-skip_word
+returns-in-Some-skip_word g c =
+    let text = word-takes (codes "case\n") c.self.inside.rest.now c.in-Some-skip_word.after.now c.in-Some-skip_word.ensures in
+    let on = rw (← c.self.view_is) at c.go_on.ensures in
+    rw (← c.self.view_is) (record { rest = text ∙ ap (λ (x : LinesLeft). codes "case\n" ++ x.rest) (sym on); number = ap (λ (x : LinesLeft). x.number) on }, some_asked c.args.asked.now (sym c.if-is_empty.ensures), c.if-cases-ge-MAX_CASES.false)

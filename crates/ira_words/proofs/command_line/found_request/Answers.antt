@@ -1,0 +1,158 @@
+use Rattle.std.proofs.Common.{inl, inr, rules, ◌≡◌, ◌∙◌, sym, ap, refl, subst, List, [], ◌∷◌, ◌++◌, ℕ, Option, None, Some, map, codes}
+use Rattle.std.specs.Prelude.{All, option_map, unwrap_or}
+use Rattle.clap.specs.Words.{HasMatchesOf, all_of}
+use Rattle.ira_words.specs.CommandLine.{ira_app}
+use Rattle.ira_words.specs.CheckRequest.{HasFiles}
+use Rattle.ira_words.specs.DecideRequest.{HasFilesToDecide}
+use Rattle.ira_words.specs.Request.{IsFileName}
+use Rattle.ira_words.specs.RunRequest.{HasNumber, HasOptions}
+use Rattle.ira_words.proofs.BehindCommands.{check_found, check_named, check_taken, decide_found, decide_named, decide_taken, logs_named, pairs_found, pairs_taken, run_found, run_taken}
+use Rattle.ira_words.proofs.FirstWord.{IsCommand, command_met, met_by_first, rows_of_check, rows_of_decide, rows_of_logs, rows_of_pairs, rows_of_run}
+use Rattle.ira_words.proofs.GivenNames.{given_behind, words_behind, words_given}
+use Rattle.ira_words.proofs.command_line.found_request.Goals.{in_default-via-in-Some+in_default, in_default-via-in_default}
+use Rattle.ira_words.proofs.command_line.found_request.Goals as goal
+
+pub check_request-requires-clause-taken : goal.check_request-requires-clause-taken
+check_request-requires-clause-taken c =
+    let parse = c.requires.1 in
+    let arm = c.in-Some-check-default in
+    check_taken _ _ c.requires.0 _ refl parse.found (λ _. parse.taken) arm.ensures.rows (ap (λ n. Some n) (sym arm.is-check) ∙ arm.ensures.name)
+
+pub check_request-requires-clause-found : goal.check_request-requires-clause-found
+check_request-requires-clause-found c =
+    let parse = c.requires.1 in
+    let arm = c.in-Some-check-default in
+    check_found _ _ c.requires.0 _ refl parse.found (λ _. parse.taken) arm.ensures.rows (ap (λ n. Some n) (sym arm.is-check) ∙ arm.ensures.name)
+
+pub check_request-requires-clause-some : goal.check_request-requires-clause-some
+check_request-requires-clause-some c =
+    let parse = c.requires.1 in
+    let arm = c.in-Some-check-default in
+    let names = c.in_ok-log_names-in-Some-check-default in
+    λ none.
+    check_named _ _ c.requires.0 _ refl parse.found (λ _. parse.taken) arm.ensures.rows (ap (λ n. Some n) (sym arm.is-check) ∙ arm.ensures.name) (sym names.ensures ∙ ap (map (λ name. name.now)) none)
+
+pub decide_request-requires-clause-taken : goal.decide_request-requires-clause-taken
+decide_request-requires-clause-taken c =
+    let parse = c.requires.1 in
+    let arm = c.in-Some-decide-default in
+    decide_taken _ _ c.requires.0 _ refl parse.found (λ _. parse.taken) arm.ensures.rows (ap (λ n. Some n) (sym arm.is-decide) ∙ arm.ensures.name)
+
+pub decide_request-requires-clause-found : goal.decide_request-requires-clause-found
+decide_request-requires-clause-found c =
+    let parse = c.requires.1 in
+    let arm = c.in-Some-decide-default in
+    decide_found _ _ c.requires.0 _ refl parse.found (λ _. parse.taken) arm.ensures.rows (ap (λ n. Some n) (sym arm.is-decide) ∙ arm.ensures.name)
+
+pub decide_request-requires-clause-some : goal.decide_request-requires-clause-some
+decide_request-requires-clause-some c =
+    let parse = c.requires.1 in
+    let arm = c.in-Some-decide-default in
+    let names = c.in_ok-log_names-in-Some-decide-default in
+    λ none.
+    decide_named _ _ c.requires.0 _ refl parse.found (λ _. parse.taken) arm.ensures.rows (ap (λ n. Some n) (sym arm.is-decide) ∙ arm.ensures.name) (sym names.ensures ∙ ap (map (λ name. name.now)) none)
+
+pub pairs_nodes-requires-clause-taken : goal.pairs_nodes-requires-clause-taken
+pairs_nodes-requires-clause-taken c =
+    let parse = c.requires.1 in
+    let arm = c.in-Some-pairs-default in
+    pairs_taken _ _ c.requires.0 _ refl parse.found (λ _. parse.taken) arm.ensures.rows (ap (λ n. Some n) (sym arm.is-pairs) ∙ arm.ensures.name)
+
+pub pairs_nodes-requires-clause-found : goal.pairs_nodes-requires-clause-found
+pairs_nodes-requires-clause-found c =
+    let parse = c.requires.1 in
+    let arm = c.in-Some-pairs-default in
+    pairs_found _ _ c.requires.0 _ refl parse.found (λ _. parse.taken) arm.ensures.rows (ap (λ n. Some n) (sym arm.is-pairs) ∙ arm.ensures.name)
+
+pub run_request-requires-clause-taken : goal.run_request-requires-clause-taken
+run_request-requires-clause-taken c =
+    let parse = c.requires.1 in
+    let arm = c.in-Some-run-default in
+    run_taken _ _ c.requires.0 _ refl parse.found (λ _. parse.taken) arm.ensures.rows (ap (λ n. Some n) (sym arm.is-run) ∙ arm.ensures.name)
+
+pub run_request-requires-clause-found : goal.run_request-requires-clause-found
+run_request-requires-clause-found c =
+    let parse = c.requires.1 in
+    let arm = c.in-Some-run-default in
+    run_found _ _ c.requires.0 _ refl parse.found (λ _. parse.taken) arm.ensures.rows (ap (λ n. Some n) (sym arm.is-run) ∙ arm.ensures.name)
+
+pub returns-in_ok-log_names-in-Some-logs-default : goal.returns-in_ok-log_names-in-Some-logs-default
+returns-in_ok-log_names-in-Some-logs-default c = λ words parse.
+    let arm = c.in-Some-logs-default in
+    let name = ap (λ n. Some n) (sym arm.is-logs) ∙ arm.ensures.name in
+    let first = met_by_first _ _ words (codes "logs") refl parse.found (λ _. parse.taken) name in
+    let Has : List (List ℕ) → Type 0 = λ ws. HasMatchesOf ira_app ws c.args.matches.now in
+    let rows = rows_of_logs _ _ first.0 _ refl (subst Has first.1 parse.found) arm.ensures.rows in
+    let names = c.in_ok-log_names-in-Some-logs-default in
+    let read : map (λ name. name.now) names.field-0.items ≡ given_behind first.0 = names.ensures ∙ ap (λ r. unwrap_or (all_of (codes "LOG") r) []) rows in
+    let some = logs_named _ _ words _ refl parse.found (λ _. parse.taken) arm.ensures.rows name in
+    let marked : (front back : List (List ℕ)) → All IsFileName front → first.0 ≡ front ++ codes "--" ∷ back → map (λ name. name.now) names.field-0.items ≡ front ++ back =
+    λ front back are apart. read ∙ ap given_behind apart ∙ words_behind front back are in
+    record { others = first.0; first = first.1; taken = parse.taken; given = read; some = λ none. some (sym names.ensures ∙ none); plain = λ are. read ∙ words_given first.0 are; marked = marked }
+
+pub returns-in_ok-log_names-in-Some-check-default : goal.returns-in_ok-log_names-in-Some-check-default
+returns-in_ok-log_names-in-Some-check-default c = λ words parse.
+    let arm = c.in-Some-check-default in
+    let name = ap (λ n. Some n) (sym arm.is-check) ∙ arm.ensures.name in
+    let first = met_by_first _ _ words (codes "check") refl parse.found (λ _. parse.taken) name in
+    let Has : List (List ℕ) → Type 0 = λ ws. HasMatchesOf ira_app ws c.args.matches.now in
+    let rows = rows_of_check _ _ first.0 _ refl (subst Has first.1 parse.found) arm.ensures.rows in
+    record { others = first.0; first = first.1; taken = parse.taken; files = subst (λ found. HasFiles found c.check_request.result) rows c.check_request.ensures }
+
+pub returns-in_ok-log_names-in-Some-decide-default : goal.returns-in_ok-log_names-in-Some-decide-default
+returns-in_ok-log_names-in-Some-decide-default c = λ words parse.
+    let arm = c.in-Some-decide-default in
+    let name = ap (λ n. Some n) (sym arm.is-decide) ∙ arm.ensures.name in
+    let first = met_by_first _ _ words (codes "decide") refl parse.found (λ _. parse.taken) name in
+    let Has : List (List ℕ) → Type 0 = λ ws. HasMatchesOf ira_app ws c.args.matches.now in
+    let rows = rows_of_decide _ _ first.0 _ refl (subst Has first.1 parse.found) arm.ensures.rows in
+    record { others = first.0; first = first.1; taken = parse.taken; files = subst (λ found. HasFilesToDecide found c.decide_request.result) rows c.decide_request.ensures }
+
+pub returns-in-Some-pairs-default : goal.returns-in-Some-pairs-default
+returns-in-Some-pairs-default c = λ words parse.
+    let arm = c.in-Some-pairs-default in
+    let name = ap (λ n. Some n) (sym arm.is-pairs) ∙ arm.ensures.name in
+    let first = met_by_first _ _ words (codes "pairs") refl parse.found (λ _. parse.taken) name in
+    let Has : List (List ℕ) → Type 0 = λ ws. HasMatchesOf ira_app ws c.args.matches.now in
+    let rows = rows_of_pairs _ _ first.0 _ refl (subst Has first.1 parse.found) arm.ensures.rows in
+    record { others = first.0; first = first.1; taken = parse.taken; number = subst (λ found. HasNumber found (codes "N") c.pairs_nodes.result) rows c.pairs_nodes.ensures }
+
+pub returns-in-Some-run-default : goal.returns-in-Some-run-default
+returns-in-Some-run-default c = λ words parse.
+    let arm = c.in-Some-run-default in
+    let name = ap (λ n. Some n) (sym arm.is-run) ∙ arm.ensures.name in
+    let first = met_by_first _ _ words (codes "run") refl parse.found (λ _. parse.taken) name in
+    let Has : List (List ℕ) → Type 0 = λ ws. HasMatchesOf ira_app ws c.args.matches.now in
+    let rows = rows_of_run _ _ first.0 _ refl (subst Has first.1 parse.found) arm.ensures.rows in
+    record { others = first.0; first = first.1; taken = parse.taken; options = subst (λ found. HasOptions found c.run_request.result) rows c.run_request.ensures }
+
+not_both : {X : Type 0} (o : Option X) (x : X) → o ≡ None → o ≡ Some x → ⊥
+not_both o x none some = cc
+
+same_text : (n m : List ℕ) → Some n ≡ Some m → n ≡ m
+same_text n m same = cc
+
+no_command : (n m : List ℕ) → Some n ≡ Some m → IsCommand m → (n ≡ codes "logs" → ⊥) → (n ≡ codes "check" → ⊥) → (n ≡ codes "decide" → ⊥) → (n ≡ codes "pairs" → ⊥) → (n ≡ codes "run" → ⊥) → ⊥
+no_command n m same (inl is) logs check decide pairs run = logs (same_text n m same ∙ sym is)
+no_command n m same (inr (inl is)) logs check decide pairs run = check (same_text n m same ∙ sym is)
+no_command n m same (inr (inr (inl is))) logs check decide pairs run = decide (same_text n m same ∙ sym is)
+no_command n m same (inr (inr (inr (inl is)))) logs check decide pairs run = pairs (same_text n m same ∙ sym is)
+no_command n m same (inr (inr (inr (inr is)))) logs check decide pairs run = run (same_text n m same ∙ sym is)
+
+pub unreachable-requires : goal.unreachable-requires
+unreachable-requires c =
+    let met = command_met _ _ c.requires.0 refl c.requires.1.found c.requires.1.taken in
+    elim c.in_default.branch [
+      | in_default-via-in-Some+in_default v ↦
+          let n = v.in_default.field-0.0.now in
+          let is : Some n ≡ Some met.0 = sym (ap (option_map (λ p. p.0.now)) v.in_default.is) ∙ c.subcommand.ensures.name ∙ met.1 in
+          let other_than_logs : n ≡ codes "logs" → ⊥ = search rules in
+          let other_than_check : n ≡ codes "check" → ⊥ = search rules in
+          let other_than_decide : n ≡ codes "decide" → ⊥ = search rules in
+          let other_than_pairs : n ≡ codes "pairs" → ⊥ = search rules in
+          let other_than_run : n ≡ codes "run" → ⊥ = search rules in
+          no_command n met.0 is met.2 other_than_logs other_than_check other_than_decide other_than_pairs other_than_run
+      | in_default-via-in_default v ↦
+          let none = sym (ap (option_map (λ p. p.0.now)) v.in_default.is) ∙ c.subcommand.ensures.name in
+          not_both _ _ (sym none) met.1
+    ]
