@@ -12,7 +12,7 @@ use Rattle.ira_order.specs.Order.{IsOrder, IsPair}
 use Rattle.ira_order.specs.Counts.{Covers}
 use Rattle.ira_order.specs.Before.{Before, own, message, onward}
 use Rattle.ira_order.specs.VectorClock.{AtOrBefore, IsCount}
-use Rattle.ira_order.specs.Stamps.{receipts_by, CountsAt, CountsSent}
+use Rattle.ira_order.specs.Stamps.{NodeStamps, receipts_by, CountsAt, CountsSent}
 use Rattle.ira_order.proofs.Ranks.{rank_mono, next_below}
 use Rattle.std.proofs.lemmas.Bool.{cases_lt, cases_eq}
 use Rattle.ira_order.proofs.OrderPrefixes.{rank_more}
@@ -127,17 +127,17 @@ module _ (logs : List Log) (order : List ℕ) (o : IsOrder logs order) where
                 inr (known_before logs i c k came.sending k a known' before)
           ]
 
-  module _ (counters : List ℕ) (at : ℕ → ℕ)
+  module _ (stamps : List NodeStamps) (at : ℕ → ℕ)
       (matches : Matches logs)
       (covers : Covers logs at)
-      (stamped : CountsSent logs counters at) where
+      (stamped : CountsSent logs stamps at) where
     -- a receipt up to there counts as its sending
-    counts_receipt : (k b : ℕ) (m : Msg) → k < length logs → suc b ≤ at (next (length logs) k) → slice_get (log_of logs (next (length logs) k)) b ≡ Some (Got m) → CountsAt logs counters (next (length logs) k) (suc b)
+    counts_receipt : (k b : ℕ) (m : Msg) → k < length logs → suc b ≤ at (next (length logs) k) → slice_get (log_of logs (next (length logs) k)) b ≡ Some (Got m) → CountsAt logs stamps (next (length logs) k) (suc b)
     counts_receipt k b m lk l is =
         let p = sending_before logs matches k b m lk is in
         stamped k p.0 (suc b) p.1 (covers_consistent logs at covers k p.0 (next (length logs) k) (suc b) (message refl p.1) l)
 
-    counts_other : (j b : ℕ) (e : Event) → j < length logs → slice_get (log_of logs j) b ≡ Some e → ((m : Msg) → e ≡ Got m → ⊥) → CountsAt logs counters j b → CountsAt logs counters j (suc b)
+    counts_other : (j b : ℕ) (e : Event) → j < length logs → slice_get (log_of logs j) b ≡ Some e → ((m : Msg) → e ≡ Got m → ⊥) → CountsAt logs stamps j b → CountsAt logs stamps j (suc b)
     counts_other j b e lj is never before i li ne =
         let within : b < length (log_of logs j) = slice_get_within (log_of logs j) b e is in
         let same : receipts_by logs j (suc b) ≡ receipts_by logs j b = no_more e (get_or_from_slice_get (log_of logs j) b e (Draw 0) is) never within in
@@ -149,12 +149,12 @@ module _ (logs : List Log) (order : List ℕ) (o : IsOrder logs order) where
         no_more (Draw m) at_e never l = rw (← add-one b) (rank_more receipt (log_of logs j) b (Draw 0) l ∙ ap (λ (x : Event). receipts_by logs j b + length (cons_option (receipt x) [])) at_e ∙ add-zero (receipts_by logs j b))
 
     -- where each receipt counts as its sending, each event's counters count
-    pub counts_all : (j b : ℕ) → j < length logs → b ≤ at j → b ≤ length (log_of logs j) → CountsAt logs counters j b
+    pub counts_all : (j b : ℕ) → j < length logs → b ≤ at j → b ≤ length (log_of logs j) → CountsAt logs stamps j b
     counts_all j zero lj l within = λ i li ne. count_first logs j i
     counts_all j (suc b) lj l within =
         by_event (get_or (log_of logs j) b (Draw 0)) (slice_get-get_or (log_of logs j) b (Draw 0) (omega arith)) (counts_all j b lj (omega arith) (omega arith))
       where
-        by_event : (e : Event) → slice_get (log_of logs j) b ≡ Some e → CountsAt logs counters j b → CountsAt logs counters j (suc b)
+        by_event : (e : Event) → slice_get (log_of logs j) b ≡ Some e → CountsAt logs stamps j b → CountsAt logs stamps j (suc b)
         by_event (Got m) is before =
             let e : next (length logs) (prev (length logs) j) ≡ j = next_prev (length logs) j lj in
             let is' : slice_get (log_of logs (next (length logs) (prev (length logs) j))) b ≡ Some (Got m) = rw e is in

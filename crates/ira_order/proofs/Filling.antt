@@ -1,38 +1,92 @@
 -- Going along an order while its receipts are stamped.
-use Rattle.std.proofs.Common.{◌≡◌, ◌≢◌, ℕ, suc, ◌+◌, ◌-◌, ◌<◌, ◌≤◌, List, length, refl, sym, ◌∙◌, ap, arith, take, get_or, set, Option, Some, None, add-one, subst}
+use Rattle.std.proofs.Common.{◌≡◌, ◌≢◌, ℕ, suc, ◌+◌, ◌-◌, ◌<◌, ◌≤◌, List, [], ◌∷◌, ◌++◌, inl, inr, length, refl, sym, ◌∙◌, ap, arith, take, get_or, set, Option, Some, None, subst, ◌*◌, min}
 use Rattle.std.specs.Prelude.{slice_get}
 use Rattle.ira_event.specs.declared.event.Event.{Event}
 use Rattle.ira_event.specs.declared.event.Event.TheVariants.{Sent}
 use Rattle.ira_event.specs.declared.msg.Msg.{Msg}
 use Rattle.ira_event.specs.Log.{Log}
-use Rattle.ira_order.specs.Ring.{log_of, next, events_of}
+use Rattle.ira_order.specs.Ring.{log_of, next, prev, events_of}
 use Rattle.ira_order.specs.Matching.{sent, got, sending, receipt}
 use Rattle.ira_order.specs.Order.{occurrences}
 use Rattle.ira_order.specs.Counts.{Covers, IsReady}
 use Rattle.ira_order.specs.OrderPrefix.{IsOrderPrefix, sent_by, got_by}
 use Rattle.ira_order.specs.Ordered.{IsOrdered}
-use Rattle.ira_order.specs.Stamps.{receipts_by, CountsAt, CountsSent, IsStamping}
-use Rattle.ira_order.proofs.Ranks.{occurrences_same, occurrences_other, occurrences-take-le, next_other}
+use Rattle.ira_order.specs.Stamps.{NodeStamps, receipts_by, CountsSent, HaveStamps, IsTable, AreUnstamped, AreStamps, IsStamping, AreReceipts, stamps_at, numbers_at, counters_at}
+use Rattle.ira_order.proofs.Ranks.{occurrences_same, occurrences_other, occurrences-take-le, next_other, next_below}
 use Rattle.ira_order.proofs.OrderPrefixes.{prefix_step, rank_le}
 use Rattle.ira_order.proofs.Bridge.{order_kept}
 use Rattle.ira_order.proofs.Counting.{counts_all}
-use Rattle.ira_order.proofs.Stamping.{sent_stays, sent_more}
+use Rattle.ira_order.specs.Before.{message}
+use Rattle.ira_order.proofs.Acyclic.{before_within}
+use Rattle.ira_order.proofs.Runs.{prev_below, next_prev}
+use Rattle.ira_order.proofs.Places.{fewer_receipts}
+use Rattle.ira_order.proofs.Receipts.{receipts_by_le}
+use Rattle.ira_order.proofs.Stamping.{sent_stays, sent_more, stamps_same, stamps_have}
+use Rattle.std.proofs.lemmas.Nat.{mul-le}
+use Rattle.std.proofs.lemmas.Bool.{cases_eq}
 use Rattle.std.proofs.lemmas.Option.{get_or_from_slice_get}
-use Rattle.std.proofs.lemmas.List.{take_all, take_more, get_or_read}
+use Rattle.std.proofs.lemmas.List.{take_all, take_more, get_or_read, get_or_push, length_push, get_or_append_left}
 use Rattle.std.proofs.lemmas.List.Elements.{All-get_or}
+
+-- the first n nodes, and no stamp
+pub record AreFirst (logs : List Log) (n : ℕ) (stamps : List NodeStamps) : Type 0 where
+  pub many : length stamps ≡ n
+  pub receipts : (j : ℕ) → j < n → AreReceipts (log_of logs j) (numbers_at stamps j)
+  pub none : (j : ℕ) → j < n → counters_at stamps j ≡ []
+
+pub one_node_more : (logs : List Log) (n : ℕ) (stamps : List NodeStamps) (node : NodeStamps) → AreFirst logs n stamps → AreReceipts (log_of logs n) node.numbers → node.counters ≡ [] → AreFirst logs (n + 1) (stamps ++ node ∷ [])
+one_node_more logs n stamps node are its none = record {
+  many = omega (arith, length_push stamps node, are.many);
+  receipts = λ j l. elim (cases_eq j n) [
+    | inl e ↦ subst (λ (x : ℕ). AreReceipts (log_of logs x) (numbers_at (stamps ++ node ∷ []) x)) (sym e) (subst (λ (s : NodeStamps). AreReceipts (log_of logs n) s.numbers) (sym new) its)
+    | inr ne ↦ (let lj : j < n = omega arith in subst (λ (s : NodeStamps). AreReceipts (log_of logs j) s.numbers) (sym (old j lj)) (are.receipts j lj))
+  ];
+  none = λ j l. elim (cases_eq j n) [
+    | inl e ↦ ap (counters_at (stamps ++ node ∷ [])) e ∙ ap (λ (s : NodeStamps). s.counters) new ∙ none
+    | inr ne ↦ (let lj : j < n = omega arith in ap (λ (s : NodeStamps). s.counters) (old j lj) ∙ are.none j lj)
+  ];
+}
+  where
+    new : stamps_at (stamps ++ node ∷ []) n ≡ node
+    new = get_or_push stamps node (record { numbers = []; counters = [] }) n are.many
+
+    old : (j : ℕ) → j < n → stamps_at (stamps ++ node ∷ []) j ≡ stamps_at stamps j
+    old j l = get_or_append_left stamps (node ∷ []) (record { numbers = []; counters = [] }) j (omega (arith, are.many))
 
 module _ (logs : List Log) (schedule : List ℕ) (ordered : IsOrdered (record { logs = logs; schedule = schedule })) where
   covers_at : (t : ℕ) → t ≤ length schedule → Covers logs (occurrences (take t schedule))
   covers_at t l = order_kept logs schedule ordered.logs.ring.0 ordered.matches ordered.order t l
 
-  -- at the end each event's counters count
-  pub filled_all : (counters : List ℕ) (t : ℕ) → length schedule ≤ t → CountsSent logs counters (occurrences (take t schedule)) → (j b : ℕ) → j < length logs → b ≤ length (log_of logs j) → CountsAt logs counters j b
-  filled_all counters t past stamped j b lj l =
+  -- at the end each receipt has its stamp, and each event's counters count
+  pub filled_all : (stamps : List NodeStamps) (t : ℕ) → length schedule ≤ t → IsTable logs stamps → HaveStamps logs stamps (occurrences (take t schedule)) → CountsSent logs stamps (occurrences (take t schedule)) → AreStamps logs stamps
+  filled_all stamps t past table have stamped =
       let whole : take t schedule ≡ schedule = take_all t schedule past in
       let all : take (length schedule) schedule ≡ schedule = take_all (length schedule) schedule (omega arith) in
       let covers : Covers logs (occurrences schedule) = rw all at (covers_at (length schedule) (omega arith)) in
-      let stamped' : CountsSent logs counters (occurrences schedule) = rw whole at stamped in
-      counts_all logs schedule ordered.order counters (occurrences schedule) ordered.matches covers stamped' j b lj (omega (arith, ordered.order.whole j lj)) l
+      let stamped' : CountsSent logs stamps (occurrences schedule) = rw whole at stamped in
+      let have' : HaveStamps logs stamps (occurrences schedule) = rw whole at have in
+      record {
+        table = table;
+        whole = λ j lj.
+            let k = prev (length logs) j in
+            let lk : k < length logs = prev_below (length logs) j lj in
+            let link : next (length logs) k ≡ j = next_prev (length logs) j lj in
+            let every : take (occurrences schedule k) (log_of logs k) ≡ log_of logs k = take_all (occurrences schedule k) (log_of logs k) (omega (arith, ordered.order.whole k lk)) in
+            let fewer : length (got (log_of logs (next (length logs) k))) ≤ length (sent (take (occurrences schedule k) (log_of logs k))) = rw every (fewer_receipts logs k ordered.matches lk) in
+            let least : min (length (sent (take (occurrences schedule k) (log_of logs k)))) (length (got (log_of logs (next (length logs) k)))) ≡ length (got (log_of logs (next (length logs) k))) = omega (arith, fewer) in
+            rw (least, link) at (have' k lk);
+        counts = λ j b lj l. counts_all logs schedule ordered.order stamps (occurrences schedule) ordered.matches covers stamped' j b lj (omega (arith, ordered.order.whole j lj)) l;
+      }
+
+  -- in the beginning none has one
+  pub filled_none : (stamps : List NodeStamps) → AreUnstamped logs stamps → HaveStamps logs stamps (occurrences (take 0 schedule))
+  filled_none stamps un k lk =
+      let none : counters_at stamps (next (length logs) k) ≡ [] = un.none (next (length logs) k) (next_below (length logs) k lk) in
+      let least : min 0 (length (got (log_of logs (next (length logs) k)))) ≡ 0 = omega arith in
+      rw none (omega (arith, ap (λ (x : ℕ). x * length logs) least))
+
+  pub counts_none : (stamps : List NodeStamps) → CountsSent logs stamps (occurrences (take 0 schedule))
+  counts_none stamps k a b pair l = absurd (omega (arith, l, (before_within logs k a _ b (message refl pair)).0))
 
   module _ (t : ℕ) (here : t < length schedule) (done sents gots : List ℕ) (prefix : IsOrderPrefix logs done sents gots (take t schedule)) where
     pub in_ring : get_or schedule t 0 < length logs
@@ -98,16 +152,43 @@ module _ (logs : List Log) (schedule : List ℕ) (ordered : IsOrdered (record { 
           (prefix_step logs done sents gots (take t schedule) (get_or schedule t 0) e prefix ordered.logs.ring.0 in_ring can_go (sym (get_or_from_slice_get (log_of logs (get_or schedule t 0)) (occurrences (take t schedule) (get_or schedule t 0)) e e is)))
 
       -- an event that is no sending
-      pub stamps_stay : (counters : List ℕ) → ((m : Msg) → e ≡ Sent m → ⊥) → CountsSent logs counters (occurrences (take t schedule)) → CountsSent logs counters (occurrences (take (t + 1) schedule))
-      stamps_stay counters never stamped =
-          sent_stays logs schedule ordered.order ordered.matches (occurrences (take t schedule)) (occurrences (take (t + 1) schedule)) (get_or schedule t 0) counters counters in_ring one_on others_stay (covers_at t (omega arith)) stamped e is never
+      pub stamps_stay : (stamps : List NodeStamps) → ((m : Msg) → e ≡ Sent m → ⊥) → CountsSent logs stamps (occurrences (take t schedule)) → CountsSent logs stamps (occurrences (take (t + 1) schedule))
+      stamps_stay stamps never stamped =
+          sent_stays logs schedule ordered.order ordered.matches (occurrences (take t schedule)) (occurrences (take (t + 1) schedule)) (get_or schedule t 0) stamps in_ring one_on others_stay (covers_at t (omega arith)) stamped e is never
+
+      pub stamps_kept : (stamps : List NodeStamps) → ((m : Msg) → e ≡ Sent m → ⊥) → CountsSent logs stamps (occurrences (take t schedule)) → HaveStamps logs stamps (occurrences (take t schedule)) → HaveStamps logs stamps (occurrences (take (t + 1) schedule))
+      stamps_kept stamps never stamped have =
+          stamps_same logs schedule ordered.order ordered.matches (occurrences (take t schedule)) (occurrences (take (t + 1) schedule)) (get_or schedule t 0) stamps in_ring one_on others_stay (covers_at t (omega arith)) stamped e is never have
+
+    -- what the node has received has stamps
+    pub received_stamped : (stamps : List NodeStamps) (h : ℕ) → h ≡ receipts_by logs (get_or schedule t 0) (occurrences (take t schedule) (get_or schedule t 0)) → HaveStamps logs stamps (occurrences (take t schedule)) → h * length logs ≤ length (counters_at stamps (get_or schedule t 0))
+    received_stamped stamps h h_is have =
+        let k = prev (length logs) (get_or schedule t 0) in
+        let lk : k < length logs = prev_below (length logs) (get_or schedule t 0) in_ring in
+        let link : next (length logs) k ≡ get_or schedule t 0 = next_prev (length logs) (get_or schedule t 0) in_ring in
+        let kept = rw link at (have k lk) in
+        let covered = rw link at (covers_at t (omega arith) k lk) in
+        let low : h ≤ min (length (sent (take (occurrences (take t schedule) k) (log_of logs k)))) (length (got (log_of logs (get_or schedule t 0)))) = omega (arith, h_is, covered, receipts_by_le logs (get_or schedule t 0) (occurrences (take t schedule) (get_or schedule t 0))) in
+        omega (arith, kept, mul-le h (length logs) (min (length (sent (take (occurrences (take t schedule) k) (log_of logs k)))) (length (got (log_of logs (get_or schedule t 0))))) (length logs) low (omega arith))
 
     -- a sending
-    pub stamps_more : (old new : List ℕ) (m : Msg) (a h s : ℕ) → slice_get (log_of logs (get_or schedule t 0)) (occurrences (take t schedule) (get_or schedule t 0)) ≡ Some (Sent m)
-        → a ≡ occurrences (take t schedule) (get_or schedule t 0) → h ≡ receipts_by logs (get_or schedule t 0) (occurrences (take t schedule) (get_or schedule t 0)) → s ≡ length (sent (take (occurrences (take t schedule) (get_or schedule t 0)) (log_of logs (get_or schedule t 0))))
-        → IsStamping logs old new (next (length logs) (get_or schedule t 0)) (s + 1) (get_or schedule t 0) h (a + 1)
-        → CountsSent logs old (occurrences (take t schedule)) → CountsSent logs new (occurrences (take (t + 1) schedule))
-    stamps_more old new m a h s is a_is h_is s_is stamping stamped =
-        let number : a + 1 ≡ suc (occurrences (take t schedule) (get_or schedule t 0)) = omega (arith, a_is) in
-        sent_more logs schedule ordered.order ordered.matches (occurrences (take t schedule)) (occurrences (take (t + 1) schedule)) (get_or schedule t 0) old new in_ring one_on others_stay (covers_at t (omega arith)) stamped
-        m (a + 1) h s is number h_is s_is (subst (λ (x : ℕ). IsStamping logs old new (next (length logs) (get_or schedule t 0)) x (get_or schedule t 0) h (a + 1)) (add-one s) stamping)
+    module _ (old new : List NodeStamps) (m : Msg) (a h s : ℕ)
+        (is : slice_get (log_of logs (get_or schedule t 0)) (occurrences (take t schedule) (get_or schedule t 0)) ≡ Some (Sent m))
+        (a_is : a ≡ occurrences (take t schedule) (get_or schedule t 0))
+        (h_is : h ≡ receipts_by logs (get_or schedule t 0) (occurrences (take t schedule) (get_or schedule t 0)))
+        (s_is : s ≡ length (sent (take (occurrences (take t schedule) (get_or schedule t 0)) (log_of logs (get_or schedule t 0)))))
+        (stamping : IsStamping logs old new (get_or schedule t 0) h s (a + 1))
+        (stamped : CountsSent logs old (occurrences (take t schedule)))
+        (have : HaveStamps logs old (occurrences (take t schedule))) where
+      number : a + 1 ≡ suc (occurrences (take t schedule) (get_or schedule t 0))
+      number = omega (arith, a_is)
+
+      pub stamps_more : CountsSent logs new (occurrences (take (t + 1) schedule))
+      stamps_more =
+          sent_more logs schedule ordered.order ordered.matches (occurrences (take t schedule)) (occurrences (take (t + 1) schedule)) (get_or schedule t 0) old in_ring one_on others_stay (covers_at t (omega arith)) stamped
+          new m (a + 1) h s is number h_is s_is have stamping
+
+      pub one_stamp_more : HaveStamps logs new (occurrences (take (t + 1) schedule))
+      one_stamp_more =
+          stamps_have logs schedule ordered.order ordered.matches (occurrences (take t schedule)) (occurrences (take (t + 1) schedule)) (get_or schedule t 0) old in_ring one_on others_stay (covers_at t (omega arith)) stamped
+          new m (a + 1) h s is number h_is s_is have stamping

@@ -16,6 +16,7 @@ pub mod Places
 pub mod Ranks
 pub mod Receipts
 pub mod Rounds
+pub mod Rows
 pub mod Runs
 pub mod RunsOfLogs
 pub mod Stamping

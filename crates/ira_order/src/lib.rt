@@ -5,6 +5,7 @@
 mod laws;
 mod links;
 mod match_fault;
+mod node_stamps;
 mod order_fault;
 mod order_prefix;
 mod ordered;

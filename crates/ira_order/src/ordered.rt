@@ -27,7 +27,7 @@ impl<'a, A: Allocator> Model for Ordered<'a, A> {
     ghost view = { λ a. record { logs = a.logs.now; schedule = a.schedule.items } };
 
     ghost invariant = { λ a. IsOrdered (record { logs = a.logs.now; schedule = a.schedule.items })
-        × AreStamps a.logs.now a.stamps.begins.items a.stamps.numbers.items a.stamps.counters.items };
+        × AreStamps a.logs.now a.stamps.nodes.items };
 }
 
 impl<'a, A: Allocator> Ordered<'a, A> {
@@ -38,7 +38,7 @@ impl<'a, A: Allocator> Ordered<'a, A> {
         stamps: Stamps<A>,
     ) -> Ordered<'a, A>
         requires order { IsOrdered (record { logs = logs.now; schedule = schedule.items }) }
-        requires stamps { AreStamps logs.now stamps.begins.items stamps.numbers.items stamps.counters.items }
+        requires stamps { AreStamps logs.now stamps.nodes.items }
         ensures { result ≡ record { logs = logs.now; schedule = schedule.items } }
     {
         Ordered {
@@ -107,6 +107,6 @@ impl<'a, A: Allocator> Ordered<'a, A> {
     pub fn stored(&self) -> usize
         ensures { result ≡ length self.now.logs * receipt_count self.now.logs }
     {
-        self.stamps.stored()
+        self.stamps.stored(self.logs)
     }
 }

@@ -1,44 +1,46 @@
-use Rattle.std.proofs.Common.{ℕ, ◌≡◌, ◌+◌, ◌-◌, ◌*◌, ◌≤◌, length, sym, ◌∙◌, ap, arith, subst, take, drop}
-use Rattle.ira_event.specs.Limits.{MAX_NODES}
-use Rattle.ira_order.specs.VectorClock.{AreCountsOfOthers}
-use Rattle.ira_order.specs.Stamps.{first_receipt, receipts_by}
+use Rattle.std.proofs.Common.{ℕ, ◌≡◌, length, [], sym, ◌∙◌, ap, subst, arith}
+use Rattle.std.specs.Prelude.{slice_index}
+use Rattle.std.proofs.lemmas.List.{get_or_read}
+use Rattle.std.proofs.lemmas.Nat.{mul-le}
+use Rattle.ira_order.specs.Ring.{log_of}
+use Rattle.ira_order.specs.Matching.{got}
+use Rattle.ira_order.specs.Stamps.{NodeStamps, AreReceipts, stamps_at, counters_at, counter, receipts_by}
 use Rattle.ira_order.proofs.Receipts.{receipts_by_le}
-use Rattle.ira_order.proofs.Stamping.{zeros_count, row_within, row_counts}
 use Rattle.ira_order.proofs.stamps.Stamps.counts.Goals as goal
-use Rattle.ira_order.proofs.stamps.Stamps.counts.Goals.{After-row-row}
+use Rattle.ira_order.proofs.stamps.Stamps.counts.Goals.{After-received}
 
-pub returns-then-received-eq0 : goal.returns-then-received-eq0
-returns-then-received-eq0 g c =
-    let size : c.from-nodes.result ≡ length c.args.logs.now = c.from-nodes.ensures ∙ c.get.ensures.value ∙ c.size.ensures.value in
-    zeros_count c.args.logs.now _ _ _ c.args.j c.args.b c.requires.stamps c.requires.place c.requires.position c.from-nodes.result MAX_NODES
-    (omega (arith, c.received-received.ensures)) size (omega (arith, size, c.size.ensures.valid.ring.1))
+-- the node that is read
+node_is : (g : _) (c : After-received g) → c.index-node.result.now ≡ stamps_at c.args.self.now.nodes.items c.args.j
+node_is g c =
+    get_or_read c.args.self.now.nodes.items c.from.result c.index-node.result.now (omega (arith, c.from.ensures, c.requires.place, c.requires.stamps.table.places)) c.index-node.ensures (record { numbers = []; counters = [] })
+    ∙ ap (stamps_at c.args.self.now.nodes.items) c.from.ensures
 
-pub row-row-requires-clause-receipt : goal.row-row-requires-clause-receipt
-row-row-requires-clause-receipt g c = (omega arith, omega (arith, c.received-received.ensures, receipts_by_le c.args.logs.now c.args.j c.args.b))
+-- and how many messages it has received
+received_is : (g : _) (c : After-received g) → c.received.result ≡ receipts_by c.args.logs.now c.args.j c.args.b
+received_is g c =
+    c.received.ensures (log_of c.args.logs.now c.args.j)
+    (subst (λ (s : NodeStamps). AreReceipts (log_of c.args.logs.now c.args.j) s.numbers) (sym (node_is g c)) (c.requires.stamps.table.receipts c.args.j c.requires.place))
 
--- where the row begins
-row_at : (g : _) (c : After-row-row g) → c.row-row.result ≡ (first_receipt c.args.logs.now c.args.j + (receipts_by c.args.logs.now c.args.j c.args.b - 1)) * length c.args.logs.now
-row_at g c = c.row-row.ensures ∙ ap (λ (x : ℕ). (first_receipt c.args.logs.now c.args.j + (x - 1)) * length c.args.logs.now) c.received-received.ensures
+size : (g : _) (c : After-received g) → c.from-2.result ≡ length c.args.logs.now
+size g c = c.from-2.ensures ∙ c.get.ensures.value ∙ c.size.ensures.value
 
--- and that it ends within the table
-row_ends : (g : _) (c : After-row-row g) → c.row-row.result + c.from-nodes.result ≤ length c.args.self.now.counters.items
-row_ends g c =
-    row_within c.args.logs.now _ _ _ c.args.j c.args.b c.requires.stamps c.requires.place c.requires.position c.row-row.result c.from-nodes.result
-    (omega (arith, c.received-received.ensures, c.if-received-eq0.false)) (row_at g c) (c.from-nodes.ensures ∙ c.get.ensures.value ∙ c.size.ensures.value)
-
-pub overflow_add-result : goal.overflow_add-result
-overflow_add-result g c = omega (arith, row_ends g (goal.at.overflow_add-result g c).After-row-row, c.deref.ensures.len)
-
-pub offset_bounds-deref-row : goal.offset_bounds-deref-row
-offset_bounds-deref-row g c = omega (arith, row_ends g (goal.at.offset_bounds-deref-row g c).After-row-row, c.deref.ensures.len)
-
-pub slice_bounds-result-end-2 : goal.slice_bounds-result-end-2
-slice_bounds-result-end-2 g c = omega (arith, row_ends g (goal.at.slice_bounds-result-end-2 g c).After-row-row, c.deref.ensures.len)
+pub row-requires-clause-receipt : goal.row-requires-clause-receipt
+row-requires-clause-receipt g c =
+    let logs = c.args.logs.now in
+    let within = mul-le c.received.result c.from-2.result (length (got (log_of logs c.args.j))) (length logs) (omega (arith, received_is g c, receipts_by_le logs c.args.j c.args.b)) (omega (arith, size g c)) in
+    omega (arith, within, ap (λ (s : NodeStamps). length s.counters) (node_is g c), c.requires.stamps.whole c.args.j c.requires.place)
 
 pub returns : goal.returns
 returns g c =
     let logs = c.args.logs.now in
-    let counted =
-    row_counts logs _ _ _ c.args.j c.args.b c.requires.stamps c.requires.place c.requires.position c.row-row.result c.from-nodes.result
-    (omega (arith, c.received-received.ensures, c.if-received-eq0.false)) (row_at g (goal.at.returns g c).After-row-row) (c.from-nodes.ensures ∙ c.get.ensures.value ∙ c.size.ensures.value) in
-    subst (λ counters. AreCountsOfOthers logs c.args.j c.args.b (take (c.row-row.result + c.from-nodes.result - c.row-row.result) (drop c.row-row.result counters))) (sym c.deref.ensures.value) counted
+    let at = (goal.at.returns g c).After-received in
+    record {
+      places = c.row.ensures.wide ∙ size g at;
+      others = λ i li ne.
+          let read : slice_index c.row.result.now i ≡ counter (length logs) (counters_at c.args.self.now.nodes.items c.args.j) (receipts_by logs c.args.j c.args.b) i =
+          c.row.ensures.each i (omega (arith, li, size g at))
+          ∙ ap (λ (n : ℕ). counter n c.index-node.result.now.counters c.received.result i) (size g at)
+          ∙ ap (λ (s : NodeStamps). counter (length logs) s.counters c.received.result i) (node_is g at)
+          ∙ ap (λ (r : ℕ). counter (length logs) (counters_at c.args.self.now.nodes.items c.args.j) r i) (received_is g at) in
+          rw read (c.requires.stamps.counts c.args.j c.args.b c.requires.place c.requires.position i li ne);
+    }

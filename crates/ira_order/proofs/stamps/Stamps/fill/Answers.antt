@@ -1,12 +1,10 @@
-use Rattle.std.proofs.Common.{◌≡◌, ◌+◌, get_or, length, sym, ◌∙◌, ap, arith, rules, subst, take, Some, slice_get}
+use Rattle.std.proofs.Common.{◌≡◌, get_or, length, ◌∙◌, ap, arith, rules, take, Some, slice_get}
 use Rattle.ira_event.specs.declared.event.Event.TheVariants.{Sent}
 use Rattle.ira_order.specs.Ring.{log_of, events_of}
 use Rattle.ira_order.specs.Order.{occurrences}
-use Rattle.ira_order.specs.Stamps.{CountsSent}
-use Rattle.ira_order.proofs.Receipts.{receipts_by_le}
-use Rattle.ira_order.proofs.Filling.{filled_all, in_ring, goes_on, done_read, sent_read, got_read, few, event_read, next_prefix, stamps_stay, stamps_more}
+use Rattle.ira_order.proofs.Filling.{filled_all, filled_none, counts_none, received_stamped, stamps_kept, one_stamp_more, in_ring, goes_on, done_read, sent_read, got_read, few, event_read, next_prefix, stamps_stay, stamps_more}
 use Rattle.ira_order.proofs.stamps.Stamps.fill.Goals as goal
-use Rattle.ira_order.proofs.stamps.Stamps.fill.Goals.{in-Sent, in_default}
+use Rattle.ira_order.proofs.stamps.Stamps.fill.Goals.{in-Sent+in_ok-stamp, in_default}
 
 pub overflow_add-number : goal.overflow_add-number
 overflow_add-number g c =
@@ -25,14 +23,7 @@ event-event-requires g c =
 pub stamp-requires-clause-received : goal.stamp-requires-clause-received
 stamp-requires-clause-received g c =
     let got = got_read c.args.logs.now c.args.schedule.now c.requires.ordered c.loop-place.place-index (search rules) _ _ _ c.loop-place.invariant.prefix c.index-in-Sent.result.now (search rules) in
-    omega (arith, got, receipts_by_le c.args.logs.now (get_or c.args.schedule.now c.loop-place.place-index 0) (occurrences (take c.loop-place.place-index c.args.schedule.now) (get_or c.args.schedule.now c.loop-place.place-index 0)))
-
-pub stamp-requires-clause-sent : goal.stamp-requires-clause-sent
-stamp-requires-clause-sent g c =
-    let low = few c.args.logs.now c.args.schedule.now c.requires.ordered c.loop-place.place-index (search rules) _ _ _ c.loop-place.invariant.prefix in
-    let here = in_ring c.args.logs.now c.args.schedule.now c.requires.ordered c.loop-place.place-index (search rules) _ _ _ c.loop-place.invariant.prefix in
-    let sent = sent_read c.args.logs.now c.args.schedule.now c.requires.ordered c.loop-place.place-index (search rules) _ _ _ c.loop-place.invariant.prefix c.index-in-Sent-2.result.now (search rules) in
-    omega (arith, sent, low.1, c.loop-place.invariant.prefix.sents_is _ here)
+    received_stamped c.args.logs.now c.args.schedule.now c.requires.ordered c.loop-place.place-index (search rules) _ _ _ c.loop-place.invariant.prefix c.loop-place.self.nodes.items _ got c.loop-place.invariant.have
 
 pub add-requires-clause-done : goal.add-requires-clause-done
 add-requires-clause-done g c =
@@ -58,43 +49,46 @@ loop-place-preserved g c =
     let is : slice_get (log_of c.args.logs.now (get_or c.args.schedule.now c.loop-place.place-index 0)) (occurrences (take c.loop-place.place-index c.args.schedule.now) (get_or c.args.schedule.now c.loop-place.place-index 0)) ≡ Some c.event-event.result =
     event_read c.args.logs.now c.args.schedule.now c.requires.ordered c.loop-place.place-index (search rules) _ _ _ c.loop-place.invariant.prefix c.index.result.now c.log.result.now c.event-event.result c.log.ensures.value done c.event-event.ensures in
     record {
-      begins = elim c.match-event.branch [
-        | in-Sent w ↦ ap (λ s. s.begins.items) w.self-is ∙ w.stamp.ensures.begins ∙ c.loop-place.invariant.begins
-        | in_default w ↦ ap (λ s. s.begins.items) w.self-is ∙ c.loop-place.invariant.begins
-      ];
-      numbers = elim c.match-event.branch [
-        | in-Sent w ↦ ap (λ s. s.numbers.items) w.self-is ∙ w.stamp.ensures.numbers ∙ c.loop-place.invariant.numbers
-        | in_default w ↦ ap (λ s. s.numbers.items) w.self-is ∙ c.loop-place.invariant.numbers
-      ];
-      room = elim c.match-event.branch [
-        | in-Sent w ↦ ap (λ s. length s.counters.items) w.self-is ∙ w.stamp.ensures.stamping.count ∙ c.loop-place.invariant.room
-        | in_default w ↦ ap (λ s. length s.counters.items) w.self-is ∙ c.loop-place.invariant.room
+      table = elim c.match-event.branch [
+        | in-Sent+in_ok-stamp w ↦ rw w.self-is w.in_ok-stamp.ensures.table
+        | in_default w ↦ rw w.self-is c.loop-place.invariant.table
       ];
       prefix = rw (c.add.ensures.done, c.add.ensures.sent, c.add.ensures.got)
           (next_prefix c.args.logs.now c.args.schedule.now c.requires.ordered c.loop-place.place-index (search rules) _ _ _ c.loop-place.invariant.prefix c.event-event.result is);
-      stamped = elim c.match-event.branch [
-        | in-Sent w ↦
+      have = elim c.match-event.branch [
+        | in-Sent+in_ok-stamp w ↦
             let sending : c.event-event.result ≡ Sent w.in-Sent.field-0 = search rules in
             let got = got_read c.args.logs.now c.args.schedule.now c.requires.ordered c.loop-place.place-index (search rules) _ _ _ c.loop-place.invariant.prefix w.index-in-Sent.result.now (search rules) in
             let sent = sent_read c.args.logs.now c.args.schedule.now c.requires.ordered c.loop-place.place-index (search rules) _ _ _ c.loop-place.invariant.prefix w.index-in-Sent-2.result.now (search rules) in
-            subst (λ s. CountsSent c.args.logs.now s.counters.items (occurrences (take (c.loop-place.place-index + 1) c.args.schedule.now))) (sym w.self-is)
-            (stamps_more c.args.logs.now c.args.schedule.now c.requires.ordered c.loop-place.place-index (search rules) _ _ _ c.loop-place.invariant.prefix
-            c.loop-place.self.counters.items w.stamp.new.self.counters.items w.in-Sent.field-0 c.index.result.now w.index-in-Sent.result.now w.index-in-Sent-2.result.now
-            (is ∙ ap Some sending) done got sent w.stamp.ensures.stamping c.loop-place.invariant.stamped)
+            rw w.self-is (one_stamp_more c.args.logs.now c.args.schedule.now c.requires.ordered c.loop-place.place-index (search rules) _ _ _ c.loop-place.invariant.prefix
+            c.loop-place.self.nodes.items _ w.in-Sent.field-0 c.index.result.now w.index-in-Sent.result.now w.index-in-Sent-2.result.now
+            (is ∙ ap Some sending) done got sent w.in_ok-stamp.ensures c.loop-place.invariant.stamped c.loop-place.invariant.have)
         | in_default w ↦
-            subst (λ s. CountsSent c.args.logs.now s.counters.items (occurrences (take (c.loop-place.place-index + 1) c.args.schedule.now))) (sym w.self-is)
-            (stamps_stay c.args.logs.now c.args.schedule.now c.requires.ordered c.loop-place.place-index (search rules) _ _ _ c.loop-place.invariant.prefix
-            c.event-event.result is c.loop-place.self.counters.items (search rules) c.loop-place.invariant.stamped)
+            rw w.self-is (stamps_kept c.args.logs.now c.args.schedule.now c.requires.ordered c.loop-place.place-index (search rules) _ _ _ c.loop-place.invariant.prefix
+            c.event-event.result is c.loop-place.self.nodes.items (search rules) c.loop-place.invariant.stamped c.loop-place.invariant.have)
+      ];
+      stamped = elim c.match-event.branch [
+        | in-Sent+in_ok-stamp w ↦
+            let sending : c.event-event.result ≡ Sent w.in-Sent.field-0 = search rules in
+            let got = got_read c.args.logs.now c.args.schedule.now c.requires.ordered c.loop-place.place-index (search rules) _ _ _ c.loop-place.invariant.prefix w.index-in-Sent.result.now (search rules) in
+            let sent = sent_read c.args.logs.now c.args.schedule.now c.requires.ordered c.loop-place.place-index (search rules) _ _ _ c.loop-place.invariant.prefix w.index-in-Sent-2.result.now (search rules) in
+            rw w.self-is (stamps_more c.args.logs.now c.args.schedule.now c.requires.ordered c.loop-place.place-index (search rules) _ _ _ c.loop-place.invariant.prefix
+            c.loop-place.self.nodes.items _ w.in-Sent.field-0 c.index.result.now w.index-in-Sent.result.now w.index-in-Sent-2.result.now
+            (is ∙ ap Some sending) done got sent w.in_ok-stamp.ensures c.loop-place.invariant.stamped c.loop-place.invariant.have)
+        | in_default w ↦
+            rw w.self-is (stamps_stay c.args.logs.now c.args.schedule.now c.requires.ordered c.loop-place.place-index (search rules) _ _ _ c.loop-place.invariant.prefix
+            c.event-event.result is c.loop-place.self.nodes.items (search rules) c.loop-place.invariant.stamped)
       ];
     }
 
 pub returns : goal.returns
 returns g c =
-    record {
-      table = record {
-        begins_are = rw c.loop-place.invariant.begins c.requires.table.begins_are;
-        numbers_are = rw c.loop-place.invariant.numbers c.requires.table.numbers_are;
-        all_counters = c.loop-place.invariant.room ∙ c.requires.table.all_counters;
-      };
-      counts = filled_all c.args.logs.now c.args.schedule.now c.requires.ordered c.loop-place.self.counters.items c.loop-place.place-index (search rules) c.loop-place.invariant.stamped;
-    }
+    filled_all c.args.logs.now c.args.schedule.now c.requires.ordered c.loop-place.self.nodes.items c.loop-place.place-index (search rules) c.loop-place.invariant.table c.loop-place.invariant.have c.loop-place.invariant.stamped
+
+pub loop-place-init : goal.loop-place-init
+loop-place-init g c = record {
+  table = c.requires.unstamped.table;
+  prefix = c.requires.start;
+  have = filled_none c.args.logs.now c.args.schedule.now c.requires.ordered c.args.self.now.nodes.items c.requires.unstamped;
+  stamped = counts_none c.args.logs.now c.args.schedule.now c.requires.ordered c.args.self.now.nodes.items;
+}

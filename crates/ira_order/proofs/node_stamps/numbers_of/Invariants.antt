@@ -1,10 +1,10 @@
 use Rattle.std.proofs.Common.{◌≡◌, ◌≤◌, drop, length}
 use Rattle.ira_order.proofs.Receipts.{HasNumbers}
-use Rattle.ira_order.proofs.stamps.add_numbers.Given as goal
+use Rattle.ira_order.proofs.node_stamps.numbers_of.Given as goal
 
 abbrev pub invariant-loop-event : goal.invariant-loop-event
 invariant-loop-event g l = record {
   ahead : l.event-iterator ≡ drop l.number l.log.events;
   within : l.number ≤ length l.log.events;
-  numbers : HasNumbers l.log.events l.number l.fn.numbers.items l.numbers.items;
+  numbers : HasNumbers l.log.events l.number l.numbers.items;
 }
