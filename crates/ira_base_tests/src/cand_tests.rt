@@ -9,7 +9,6 @@ use ira_node::{NodeState, Phase};
 use ira_pred::Clause;
 use std::alloc::Global;
 use std::process::Abort;
-use std::test::Fail;
 
 /// How one goes on along the positions that are left.
 #[derive(Clone, Copy, Debug)]
@@ -43,8 +42,8 @@ fn assert_fronts<I: Iterator<Item = u32> + Listed>(
 }
 
 #[test]
-fn candidates_of_active(rt: HostRuntime) -> Result<(), Fail> {
-    let log = log_of(rt.alloc(), 2, 1, true, &loser())?;
+fn candidates_of_active(rt: HostRuntime) {
+    let log = log_of(&rt, 2, 1, true, &loser());
     let clause = Clause::Active;
     let rows = [
         (Going::SkipBelow(2), Some(2)),
@@ -52,14 +51,15 @@ fn candidates_of_active(rt: HostRuntime) -> Result<(), Fail> {
         (Going::Advance, None),
     ];
     assert_fronts(&rt, &mut candidates(&log, &clause), 1, &rows);
-    assert!(rt; table(rt.alloc(), &log, &clause)?.as_slice() == [1, 2].as_slice());
-    Ok(())
+    let positions = table(rt.alloc(), &log, &clause).expect(&rt, "memory");
+    assert!(rt; positions.as_slice() == [1, 2].as_slice());
 }
 
 /// The log of a passive node that passes 2,000 messages on: it owes one behind each receipt.
-fn long_log(alloc: Global) -> Result<NodeLog<Global>, Fail> {
+fn long_log(rt: &(impl Abort + AllocGlobal)) -> NodeLog<Global> {
     let passed_on = [Event::Got(clean(1, 1, 1)), Event::Sent(clean(1, 1, 2))];
-    log_of(alloc, 2, 1, false, &passed_on.repeat(alloc, 2_000)?)
+    let events = passed_on.repeat(rt.alloc(), 2_000).expect(rt, "memory");
+    log_of(rt, 2, 1, false, &events)
 }
 
 /// The positions at which the node owes, by the log's profile.
@@ -68,26 +68,28 @@ fn told_in_short(alloc: Global, log: &NodeLog<Global>) -> Result<Vec<u32>, OutOf
     profile.table(alloc, &Clause::Owes)
 }
 
-/// How many positions there are, where all are odd.
-fn count_odd(positions: &[u32]) -> usize {
-    for position in positions {
+/// How many positions are listed, where all are odd.
+fn count_odd(
+    rt: &(impl Abort + AllocGlobal),
+    positions: Result<Vec<u32>, OutOfMemory>,
+) -> Option<usize> {
+    let positions = positions.expect(rt, "memory");
+    for position in &positions {
         if *position % 2 == 0 {
-            return 0;
+            return None;
         }
     }
-    positions.len()
+    Some(positions.len())
 }
 
 #[test]
-fn candidates_of_a_long_log(rt: HostRuntime) -> Result<(), Fail> {
-    let log = long_log(rt.alloc())?;
-    let found = table(rt.alloc(), &log, &Clause::Owes)?;
-    let told_in_short = told_in_short(rt.alloc(), &log)?;
-    assert_eq!(rt;
-        (count_odd(&found), count_odd(&told_in_short)),
-        (2_000, 2_000)
+fn candidates_of_a_long_log(rt: HostRuntime) {
+    let log = long_log(&rt);
+    let counts = (
+        count_odd(&rt, table(rt.alloc(), &log, &Clause::Owes)),
+        count_odd(&rt, told_in_short(rt.alloc(), &log)),
     );
-    Ok(())
+    assert!(rt; counts == (Some(2_000), Some(2_000)));
 }
 
 /// A test written by hand.

@@ -1,8 +1,8 @@
+use crate::samples::text_of;
 use ira_cert_text::{CertFault, CertStep, Certificate, Section, read_cert, write_cert};
 use ira_event::{MemorySink, RingSize};
 use std::alloc::Global;
 use std::process::Abort;
-use std::test::Fail;
 
 /// The certificate of two steps, 69 bytes.
 const TWO_STEP_SECTION: &[u8] =
@@ -18,36 +18,42 @@ const fn step(node: u8, pos: u32, other: u8, other_pos: u32) -> CertStep {
 }
 
 /// A certificate of a ring of two with a section of these steps, which spends node 1.
-fn one_section(alloc: Global, steps: &[CertStep]) -> Result<Certificate<Global>, Fail> {
-    let section = Section {
-        steps: Vec::from_slice(alloc, steps)?,
-        spent: 1,
-    };
-    let mut sections = Vec::new(alloc);
-    sections.push(section)?;
-    Ok(Certificate {
-        nodes: RingSize::new(2).ok_or("a ring of two")?,
+fn one_section(rt: &(impl Abort + AllocGlobal), steps: &[CertStep]) -> Certificate<Global> {
+    let steps = Vec::from_slice(rt.alloc(), steps).expect(rt, "memory");
+    let mut sections = Vec::new(rt.alloc());
+    sections
+        .push(Section { steps, spent: 1 })
+        .expect(rt, "memory");
+    Certificate {
+        nodes: RingSize::new(2).expect(rt, "a ring of two"),
         sections,
-    })
+    }
+}
+
+/// Whether the certificate can be read, and is written as this text.
+fn is_written_as(alloc: Global, certificate: &Certificate<Global>, text: &[u8]) -> bool {
+    let mut sink = MemorySink::new(alloc);
+    certificate.readable() && write_cert(certificate, &mut sink) == Ok(()) && sink.bytes() == text
+}
+
+/// Whether the certificate is one of a ring of two with one section, which has these steps and spends node 1.
+fn is_one_section(certificate: &Certificate<Global>, steps: &[CertStep]) -> bool {
+    match certificate.sections.as_slice() {
+        [section] => {
+            certificate.nodes.get() == 2 && section.steps.as_slice() == steps && section.spent == 1
+        }
+        _ => false,
+    }
 }
 
 #[test]
-fn two_step_section(rt: HostRuntime) -> Result<(), Fail> {
+fn two_step_section(rt: HostRuntime) {
     assert_eq!(rt; TWO_STEP_SECTION.len(), 69);
-    let certificate = one_section(rt.alloc(), &[step(1, 1, 0, 4), step(1, 2, 0, 4)])?;
-    assert!(rt; certificate.readable());
-    let mut sink = MemorySink::new(rt.alloc());
-    assert_eq!(rt; write_cert(&certificate, &mut sink), Ok(()));
-    assert_eq!(rt; sink.bytes(), TWO_STEP_SECTION);
-    let read = read_cert(rt.alloc(), TWO_STEP_SECTION)?;
-    assert_eq!(rt; read.nodes.get(), 2);
-    assert_eq!(rt; read.sections.len(), 1);
-    assert_eq!(rt;
-        read.sections[0].steps.as_slice(),
-        certificate.sections[0].steps.as_slice()
-    );
-    assert_eq!(rt; read.sections[0].spent, 1);
-    Ok(())
+    let steps = [step(1, 1, 0, 4), step(1, 2, 0, 4)];
+    let certificate = one_section(&rt, &steps);
+    let is_written = is_written_as(rt.alloc(), &certificate, TWO_STEP_SECTION);
+    let read = read_cert(rt.alloc(), TWO_STEP_SECTION).expect(&rt, "a certificate");
+    assert!(rt; is_written && is_one_section(&read, &steps));
 }
 
 /// What reading the text answers: the number of its sections, or its fault.
@@ -55,15 +61,26 @@ fn answer(alloc: Global, text: &[u8]) -> Result<usize, CertFault> {
     Ok(read_cert(alloc, text)?.sections.len())
 }
 
-/// What reading a certificate of a ring of two with these lines answers.
-fn answer_lines(alloc: Global, lines: &[u8]) -> Result<Result<usize, CertFault>, Fail> {
-    let mut text = Vec::from_slice(alloc, b"ircert 1\nnodes 2\n")?;
-    text.extend_from_slice(lines)?;
-    Ok(answer(alloc, &text))
+fn assert_answer(rt: &(impl Abort + AllocGlobal), text: &[u8], wanted: Result<usize, CertFault>) {
+    let text_len = text.len();
+    assert_eq!(rt;
+        answer(rt.alloc(), text),
+        wanted,
+        "a text of {text_len} bytes"
+    );
+}
+
+/// Compares what reading a certificate of a ring of two with these lines answers.
+fn assert_lines(rt: &(impl Abort + AllocGlobal), lines: &[u8], wanted: Result<usize, CertFault>) {
+    assert_answer(
+        rt,
+        &text_of(rt, b"ircert 1\nnodes 2\n", lines, 1, b""),
+        wanted,
+    );
 }
 
 #[test]
-fn certificate_table(rt: HostRuntime) -> Result<(), Fail> {
+fn certificate_table(rt: HostRuntime) {
     let rows: [(&[u8], Result<usize, CertFault>); 13] = [
         (b"end\n", Ok(0)),
         (b"section\nspent 1\nend\n", Ok(1)),
@@ -95,24 +112,20 @@ fn certificate_table(rt: HostRuntime) -> Result<(), Fail> {
         ),
     ];
     for (lines, wanted) in rows {
-        assert_eq!(rt; answer_lines(rt.alloc(), lines)?, wanted);
+        assert_lines(&rt, lines, wanted);
     }
-    Ok(())
 }
 
 #[test]
-fn prefixes_of_two_step_section(rt: HostRuntime) -> Result<(), Fail> {
+fn prefixes_of_two_step_section(rt: HostRuntime) {
     for n in 0..TWO_STEP_SECTION.len() {
         let wanted = if n <= 16 {
             CertFault::Head
         } else {
             CertFault::Cut
         };
-        let found = answer(rt.alloc(), &TWO_STEP_SECTION[..n]);
-        assert!(rt; found == Err(wanted), "{n} bytes");
+        assert_answer(&rt, &TWO_STEP_SECTION[..n], Err(wanted));
     }
-    let mut twice = Vec::from_slice(rt.alloc(), TWO_STEP_SECTION)?;
-    twice.extend_from_slice(TWO_STEP_SECTION)?;
-    assert_eq!(rt; answer(rt.alloc(), &twice), Err(CertFault::Trailing));
-    Ok(())
+    let twice = text_of(&rt, b"", TWO_STEP_SECTION, 2, b"");
+    assert_answer(&rt, &twice, Err(CertFault::Trailing));
 }

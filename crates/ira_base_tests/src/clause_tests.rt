@@ -1,60 +1,84 @@
 //! What clauses say of states.
 
-use crate::question_samples::{ACTIVE, PHASES};
+use crate::question_samples::{ACTIVE, CHOOSING, LEADER};
 use crate::samples::{clean, free, owing};
-use ira_node::Phase;
+use ira_node::{NodeState, Phase};
 use ira_pred::{Clause, Rel};
-use std::alloc::{AllocError, Allocator, Global};
-use std::test::Fail;
+use std::alloc::Global;
+use std::process::Abort;
 
-fn negated<A: Allocator>(alloc: A, clause: Clause<A>) -> Result<Clause<A>, AllocError> {
-    Ok(Clause::Negated(Box::new(alloc, clause)?))
+/// Compares of which of the states the clause holds.
+fn assert_holds(rt: &impl Abort, clause: Clause<Global>, rows: &[(NodeState, bool)]) {
+    for (state, want) in rows {
+        let holds = clause.holds(state);
+        assert!(rt; holds == *want, "{clause:?} in {state:?}");
+    }
+}
+
+/// Compares in which phases the clause holds: of a node that chooses, is active, passive or the leader.
+fn assert_phases(
+    rt: &impl Abort,
+    clause: Clause<Global>,
+    [choosing, active, passive, leader]: [bool; 4],
+) {
+    let rows = [
+        (free(CHOOSING), choosing),
+        (free(ACTIVE), active),
+        (free(Phase::Passive), passive),
+        (free(LEADER), leader),
+    ];
+    assert_holds(rt, clause, &rows);
 }
 
 #[test]
 fn clauses_of_one_fact(rt: HostRuntime) {
-    for (clause, want) in [
-        (Clause::Always, [true, true, true, true]),
-        (Clause::Leader, [false, false, false, true]),
-        (Clause::Active, [false, true, false, false]),
-        (Clause::Passive, [false, false, true, false]),
-        (Clause::Choosing, [true, false, false, false]),
-        (Clause::Owes, [false, false, false, false]),
-        (Clause::Round(Rel::Less, 3), [true, true, false, true]),
-        (Clause::Round(Rel::Less, 2), [false, false, false, false]),
-        (Clause::Round(Rel::Equal, 2), [true, true, false, true]),
-        (Clause::Round(Rel::Greater, 1), [true, true, false, true]),
-        (Clause::Round(Rel::Greater, 2), [false, false, false, false]),
-        (Clause::Id(Rel::Less, 4), [false, true, false, true]),
-        (Clause::Id(Rel::Equal, 3), [false, true, false, true]),
-        (Clause::Id(Rel::Greater, 2), [false, true, false, true]),
-        (Clause::Id(Rel::Greater, 3), [false, false, false, false]),
-    ] {
-        let clause: Clause<Global> = clause;
-        for i in 0..PHASES.len() {
-            assert_eq!(rt;
-                clause.holds(&free(PHASES[i])),
-                want[i],
-                "{clause:?} at {i}"
-            );
-        }
-    }
+    let all_but_passive = [true, true, false, true];
+    let with_id = [false, true, false, true];
+    let none = [false, false, false, false];
+    assert_phases(&rt, Clause::Always, [true, true, true, true]);
+    assert_phases(&rt, Clause::Leader, [false, false, false, true]);
+    assert_phases(&rt, Clause::Active, [false, true, false, false]);
+    assert_phases(&rt, Clause::Passive, [false, false, true, false]);
+    assert_phases(&rt, Clause::Choosing, [true, false, false, false]);
+    assert_phases(&rt, Clause::Owes, none);
+    assert_phases(&rt, Clause::Round(Rel::Less, 3), all_but_passive);
+    assert_phases(&rt, Clause::Round(Rel::Less, 2), none);
+    assert_phases(&rt, Clause::Round(Rel::Equal, 2), all_but_passive);
+    assert_phases(&rt, Clause::Round(Rel::Greater, 1), all_but_passive);
+    assert_phases(&rt, Clause::Round(Rel::Greater, 2), none);
+    assert_phases(&rt, Clause::Id(Rel::Less, 4), with_id);
+    assert_phases(&rt, Clause::Id(Rel::Equal, 3), with_id);
+    assert_phases(&rt, Clause::Id(Rel::Greater, 2), with_id);
+    assert_phases(&rt, Clause::Id(Rel::Greater, 3), none);
+}
+
+fn boxed(rt: &(impl Abort + AllocGlobal), clause: Clause<Global>) -> Box<Clause<Global>> {
+    Box::new(rt.alloc(), clause).expect(rt, "memory")
 }
 
 #[test]
-fn clauses_of_parts(rt: HostRuntime) -> Result<(), Fail> {
+fn clauses_of_parts(rt: HostRuntime) {
+    let passive = free(Phase::Passive);
+    let active = free(ACTIVE);
+    let passive_debtor = owing(Phase::Passive, clean(2, 3, 1));
+    let active_debtor = owing(ACTIVE, clean(2, 3, 1));
     // A passive node has no ID, so that it isn't 1.
-    let other = negated(rt.alloc(), Clause::Id(Rel::Equal, 1))?;
-    assert!(rt; other.holds(&free(Phase::Passive)));
-    let first = Box::new(rt.alloc(), Clause::Owes)?;
-    let both = Clause::Both(first, Box::new(rt.alloc(), Clause::Active)?);
-    assert!(rt; both.holds(&owing(ACTIVE, clean(2, 3, 1))));
-    assert!(rt; !both.holds(&free(ACTIVE)));
-    assert!(rt; !both.holds(&owing(Phase::Passive, clean(2, 3, 1))));
-    let first = Box::new(rt.alloc(), Clause::Owes)?;
-    let either = Clause::Either(first, Box::new(rt.alloc(), Clause::Active)?);
-    assert!(rt; either.holds(&free(ACTIVE)));
-    assert!(rt; either.holds(&owing(Phase::Passive, clean(2, 3, 1))));
-    assert!(rt; !either.holds(&free(Phase::Passive)));
-    Ok(())
+    let other = Clause::Negated(boxed(&rt, Clause::Id(Rel::Equal, 1)));
+    assert_holds(&rt, other, &[(passive, true)]);
+    let both = Clause::Both(boxed(&rt, Clause::Owes), boxed(&rt, Clause::Active));
+    assert_holds(
+        &rt,
+        both,
+        &[
+            (active_debtor, true),
+            (active, false),
+            (passive_debtor, false),
+        ],
+    );
+    let either = Clause::Either(boxed(&rt, Clause::Owes), boxed(&rt, Clause::Active));
+    assert_holds(
+        &rt,
+        either,
+        &[(active, true), (passive_debtor, true), (passive, false)],
+    );
 }

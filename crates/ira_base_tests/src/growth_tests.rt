@@ -10,9 +10,9 @@ use ira_event::{
 use ira_links::link;
 use ira_order::{OrderFault, find_order, order};
 use ira_pred::{AskFault, Clause, pairs_question, read_question};
-use ira_refusing::{Outcome, Refusing, each_growth_refused};
+use ira_refusing::{Outcome, Refusing, TrialFault, each_growth_refused};
 use std::alloc::Global;
-use std::test::Fail;
+use std::process::Abort;
 
 type Memory = Refusing<Global>;
 
@@ -148,6 +148,10 @@ fn are_active(listed: Result<Vec<u32, Memory>, OutOfMemory>) -> Outcome {
     }
 }
 
+fn handle(rt: &impl Abort, memory: &Memory) -> Memory {
+    memory.clone().expect(rt, "memory")
+}
+
 /// What the calls are made on.
 #[derive(Drop)]
 struct Election {
@@ -158,16 +162,17 @@ struct Election {
 }
 
 impl Election {
-    fn new(memory: &Memory) -> Result<Election, Fail> {
-        let mut logs = Vec::new(memory.clone()?);
+    fn new(rt: &(impl Abort + AllocGlobal), memory: &Memory) -> Election {
+        let mut logs = Vec::new(handle(rt, memory));
         for text in [ELECTION_0, ELECTION_1] {
-            logs.push(read_log(memory.clone()?, text)?)?;
+            let log = read_log(handle(rt, memory), text).expect(rt, "a log");
+            logs.push(log).expect(rt, "memory");
         }
-        Ok(Election {
-            nodes: RingSize::new(3).ok_or("a ring of three")?,
-            logs: Logs::gather(logs).ok().ok_or("the logs of one ring")?,
-            log: read_log(memory.clone()?, ELECTION_1)?,
-        })
+        Election {
+            nodes: RingSize::new(3).expect(rt, "a ring of three"),
+            logs: Logs::gather(logs).expect(rt, "the logs of one ring"),
+            log: read_log(handle(rt, memory), ELECTION_1).expect(rt, "a log"),
+        }
     }
 
     /// What becomes of the call with this memory.
@@ -189,16 +194,20 @@ impl Election {
     }
 }
 
+/// Compares that the call passed its trial, and that some of its growths were refused.
+fn assert_refused(rt: &impl Abort, call: Call, growths: Result<u64, TrialFault>) {
+    assert!(rt;
+        matches!(growths, Ok(number) if 0 < number),
+        "{call:?}: {growths:?}"
+    );
+}
+
 #[test]
-fn each_growth_is_refused(rt: HostRuntime) -> Result<(), Fail> {
-    let memory = Refusing::new(rt.alloc())?;
-    let election = Election::new(&memory)?;
+fn each_growth_is_refused(rt: HostRuntime) {
+    let memory = Refusing::new(rt.alloc()).expect(&rt, "memory");
+    let election = Election::new(&rt, &memory);
     for call in CALLS {
         let growths = each_growth_refused(&memory, |alloc| election.outcome(call, alloc));
-        assert!(rt;
-            matches!(growths, Ok(number) if 0 < number),
-            "{call:?}: {growths:?}"
-        );
+        assert_refused(&rt, call, growths);
     }
-    Ok(())
 }

@@ -26,38 +26,34 @@ fn message(id: u32) -> Msg
     }
 }
 
-fn assert_in_order(rt: &(impl Abort + Wait + AllocGlobal)) -> Result<(), Fail> {
+fn assert_in_order(rt: &(impl Abort + Wait + AllocGlobal)) {
     let frame = Frame::Msg(message(1));
-    let (mut output, mut input) = link(rt.alloc(), 2)?;
+    let (mut output, mut input) = link(rt.alloc(), 2).expect(rt, "memory");
     let puts = [output.put(rt, frame), output.put(rt, Frame::Stop)];
     let taken = input.take(rt);
     let settled = settle(output, input);
-    assert_eq!(rt; puts, [Ok(()), Ok(())]);
-    assert_eq!(rt; taken, Ok(frame));
-    assert_eq!(rt; (settled.puts(), settled.takes()), (2, 1));
-    Ok(())
+    let counts = (settled.puts(), settled.takes());
+    assert!(rt; (puts, taken, counts) == ([Ok(()), Ok(())], Ok(frame), (2, 1)));
 }
 
-fn assert_exhausted(rt: &(impl Abort + Wait + AllocGlobal)) -> Result<(), Fail> {
-    let (mut output, mut input) = link(rt.alloc(), 1)?;
+fn assert_exhausted(rt: &(impl Abort + Wait + AllocGlobal)) {
+    let (mut output, mut input) = link(rt.alloc(), 1).expect(rt, "memory");
     let mut are_equal = true;
     for id in 1..=1_000_000 {
         let frame = Frame::Msg(message(id));
         are_equal = are_equal && output.put(rt, frame) == Ok(()) && input.take(rt) == Ok(frame);
     }
-    assert!(rt; are_equal);
     let frame = Frame::Msg(message(1));
-    assert_eq!(rt; output.put(rt, frame), Err(frame));
+    let refused = output.put(rt, frame);
     let settled = settle(output, input);
-    assert_eq!(rt; settled.puts(), 1_000_000);
-    assert_eq!(rt; settled.takes(), 1_000_000);
-    Ok(())
+    let counts = (settled.puts(), settled.takes());
+    assert!(rt; are_equal && refused == Err(frame) && counts == (1_000_000, 1_000_000));
 }
 
 #[test]
-fn link_order_and_exhaustion(rt: HostRuntime) -> Result<(), Fail> {
-    assert_in_order(&rt)?;
-    assert_exhausted(&rt)
+fn link_order_and_exhaustion(rt: HostRuntime) {
+    assert_in_order(&rt);
+    assert_exhausted(&rt);
 }
 
 // Puts three frames at once, and a Stop a while after.
@@ -81,22 +77,21 @@ fn take_four<R: Wait + Clock>(rt: &R, mut input: LinkIn<Global>) -> bool {
 }
 
 #[test]
-fn ends_wait_for_each_other(rt: HostRuntime) -> Result<(), Fail> {
+fn ends_wait_for_each_other(rt: HostRuntime) {
     let host = &rt;
-    let (output, input) = link(rt.alloc(), 1)?;
+    let (output, input) = link(rt.alloc(), 1).expect(host, "memory");
     let both = join(
         host,
         move || put_four(host, output),
         move || take_four(host, input),
     );
     assert_eq!(rt; both, (true, true));
-    Ok(())
 }
 
 #[test]
-fn dropped_output_wakes_the_input(rt: HostRuntime) -> Result<(), Fail> {
+fn dropped_output_wakes_the_input(rt: HostRuntime) {
     let host = &rt;
-    let (output, mut input) = link(rt.alloc(), 1)?;
+    let (output, mut input) = link(rt.alloc(), 1).expect(host, "memory");
     let (taken, ()) = join(
         host,
         move || input.take(host),
@@ -106,14 +101,13 @@ fn dropped_output_wakes_the_input(rt: HostRuntime) -> Result<(), Fail> {
         },
     );
     assert_eq!(rt; taken, Err(Closed));
-    Ok(())
 }
 
 #[test]
-fn dropped_input_wakes_the_output(rt: HostRuntime) -> Result<(), Fail> {
+fn dropped_input_wakes_the_output(rt: HostRuntime) {
     let host = &rt;
     let frame = Frame::Msg(message(1));
-    let (mut output, input) = link(rt.alloc(), 1)?;
+    let (mut output, input) = link(rt.alloc(), 1).expect(host, "memory");
     let put = output.put(host, Frame::Stop);
     let (refused, ()) = join(
         host,
@@ -124,7 +118,6 @@ fn dropped_input_wakes_the_output(rt: HostRuntime) -> Result<(), Fail> {
         },
     );
     assert_eq!(rt; (put, refused), (Ok(()), Err(frame)));
-    Ok(())
 }
 
 fn enters<R: Wait + Clock, G: Gate>(rt: &R, gate: &G, who: u32) -> bool {

@@ -1,18 +1,20 @@
 //! Texts of questions that are made to do harm.
 
 use crate::question_samples::{HEAD, PAIRS_OF_THREE, assert_answer};
+use crate::samples::text_of;
 use ira_pred::AskFault;
-use std::alloc::Global;
-use std::test::Fail;
+use std::process::Abort;
 
-/// The text behind the head of a ring of two: these lines so often, and then the last bytes.
-fn text_of(alloc: Global, lines: &[u8], count: usize, last: &[u8]) -> Result<Vec<u8>, Fail> {
-    let mut text = Vec::from_slice(alloc, HEAD)?;
-    for _ in 0..count {
-        text.extend_from_slice(lines)?;
-    }
-    text.extend_from_slice(last)?;
-    Ok(text)
+/// Compares what reading the text behind the head of a ring of two answers: these lines so often, and then the last
+/// bytes.
+fn assert_lines(
+    rt: &(impl Abort + AllocGlobal),
+    lines: &[u8],
+    count: usize,
+    last: &[u8],
+    wanted: Result<usize, AskFault>,
+) {
+    assert_answer(rt, &text_of(rt, HEAD, lines, count, last), wanted);
 }
 
 #[test]
@@ -28,9 +30,8 @@ fn fronts_of_a_question(rt: HostRuntime) {
 }
 
 #[test]
-fn malicious_questions(rt: HostRuntime) -> Result<(), Fail> {
-    let mut twice = Vec::from_slice(rt.alloc(), PAIRS_OF_THREE)?;
-    twice.extend_from_slice(PAIRS_OF_THREE)?;
+fn malicious_questions(rt: HostRuntime) {
+    let twice = text_of(&rt, b"", PAIRS_OF_THREE, 2, b"");
     assert_answer(&rt, &twice, Err(AskFault::Trailing));
     for (lines, count, last, wanted) in [
         (
@@ -58,28 +59,25 @@ fn malicious_questions(rt: HostRuntime) -> Result<(), Fail> {
             Err(AskFault::Cases),
         ),
     ] {
-        assert_answer(&rt, &text_of(rt.alloc(), lines, count, last)?, wanted);
+        assert_lines(&rt, lines, count, last, wanted);
     }
-    Ok(())
 }
 
 #[test]
-fn a_million_parentheses(rt: HostRuntime) -> Result<(), Fail> {
-    let mut text = text_of(rt.alloc(), b"case\n0: ", 1, b"")?;
-    for _ in 0..1_000_000 {
-        text.push(b'(')?;
-    }
-    text.extend_from_slice(b"\nend\n")?;
+fn a_million_parentheses(rt: HostRuntime) {
+    let text = text_of(
+        &rt,
+        b"irask 1\nnodes 2\ncase\n0: ",
+        b"(",
+        1_000_000,
+        b"\nend\n",
+    );
     assert_answer(&rt, &text, Err(AskFault::Depth(4)));
-    Ok(())
 }
 
 #[test]
-fn a_question_too_long(rt: HostRuntime) -> Result<(), Fail> {
-    let mut text = Vec::from_slice(rt.alloc(), HEAD)?;
-    text.resize(67_108_864, b'\n')?;
-    assert_answer(&rt, &text, Err(AskFault::Line(3)));
-    text.push(b'\n')?;
-    assert_answer(&rt, &text, Err(AskFault::TooLong));
-    Ok(())
+fn a_question_too_long(rt: HostRuntime) {
+    let left = 67_108_864 - HEAD.len();
+    assert_lines(&rt, b"\n", left, b"", Err(AskFault::Line(3)));
+    assert_lines(&rt, b"\n", left, b"\n", Err(AskFault::TooLong));
 }

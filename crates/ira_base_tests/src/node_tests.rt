@@ -1,10 +1,9 @@
 //! The node's automaton.
 
-use crate::samples::{clean, dirty, free, owing};
+use crate::samples::{assert_shown, clean, dirty, free, owing};
 use ira_event::{Event, RingSize};
 use ira_node::{NodeState, Phase, StepFault, Wanted};
 use std::process::Abort;
-use std::test::Fail;
 
 const CHOOSING: Phase = Phase::Choosing { round: 2 };
 
@@ -16,8 +15,15 @@ const LEADER: Phase = Phase::Leader { round: 2, id: 2 };
 
 #[test]
 fn first_states(rt: HostRuntime) {
-    assert_eq!(rt; NodeState::first(true), free(Phase::Choosing { round: 1 }));
-    assert_eq!(rt; NodeState::first(false), free(Phase::Passive));
+    let first = [NodeState::first(true), NodeState::first(false)];
+    assert_eq!(rt;
+        first,
+        [free(Phase::Choosing { round: 1 }), free(Phase::Passive)]
+    );
+}
+
+fn assert_wanted(rt: &impl Abort, state: NodeState, want: Wanted) {
+    assert_eq!(rt; state.wanted(), want, "in {state:?}");
 }
 
 #[test]
@@ -33,7 +39,7 @@ fn wanted_by_phase_and_debt(rt: HostRuntime) {
         (owing(Phase::Passive, debt), Wanted::Send(debt)),
         (owing(LEADER, debt), Wanted::Nothing),
     ] {
-        assert_eq!(rt; state.wanted(), want, "in {state:?}");
+        assert_wanted(&rt, state, want);
     }
 }
 
@@ -44,10 +50,9 @@ fn assert_step(
     state: NodeState,
     event: Event,
     want: Result<NodeState, StepFault>,
-) -> Result<(), Fail> {
-    let nodes = RingSize::new(nodes).ok_or("no ring of that size")?;
+) {
+    let nodes = RingSize::new(nodes).expect(rt, "a ring of that size");
     assert_eq!(rt; state.step(nodes, &event), want, "{event:?} in {state:?}");
-    Ok(())
 }
 
 /// The state after such a draw in round 2.
@@ -56,7 +61,7 @@ fn drew(id: u32) -> NodeState {
 }
 
 #[test]
-fn draws_and_sendings(rt: HostRuntime) -> Result<(), Fail> {
+fn draws_and_sendings(rt: HostRuntime) {
     let debt = dirty(9, 3, 2);
     for (state, event, want) in [
         (free(CHOOSING), Event::Draw(1), drew(1)),
@@ -65,14 +70,13 @@ fn draws_and_sendings(rt: HostRuntime) -> Result<(), Fail> {
         (owing(ACTIVE, debt), Event::Sent(debt), free(ACTIVE)),
         (owing(PASSIVE, debt), Event::Sent(debt), free(PASSIVE)),
     ] {
-        assert_step(&rt, 3, state, event, Ok(want))?;
+        assert_step(&rt, 3, state, event, Ok(want));
     }
-    Ok(())
 }
 
 /// What a node passes on.
 #[test]
-fn messages_passed_on(rt: HostRuntime) -> Result<(), Fail> {
+fn messages_passed_on(rt: HostRuntime) {
     for (phase, received, want) in [
         (PASSIVE, clean(1, 1, 3), owing(PASSIVE, clean(1, 1, 4))),
         (PASSIVE, dirty(2, 5, 7), owing(PASSIVE, dirty(2, 5, 8))),
@@ -81,14 +85,13 @@ fn messages_passed_on(rt: HostRuntime) -> Result<(), Fail> {
         (ACTIVE, clean(2, 2, 1), owing(ACTIVE, dirty(2, 2, 2))),
         (ACTIVE, dirty(2, 2, 2), owing(ACTIVE, dirty(2, 2, 3))),
     ] {
-        assert_step(&rt, 3, free(phase), Event::Got(received), Ok(want))?;
+        assert_step(&rt, 3, free(phase), Event::Got(received), Ok(want));
     }
-    Ok(())
 }
 
 /// What an active node doesn't pass on.
 #[test]
-fn messages_kept(rt: HostRuntime) -> Result<(), Fail> {
+fn messages_kept(rt: HostRuntime) {
     for (received, want) in [
         (clean(1, 3, 1), ACTIVE),
         (dirty(2, 1, 3), ACTIVE),
@@ -96,13 +99,12 @@ fn messages_kept(rt: HostRuntime) -> Result<(), Fail> {
         (dirty(2, 2, 3), Phase::Choosing { round: 3 }),
         (clean(2, 2, 3), LEADER),
     ] {
-        assert_step(&rt, 3, free(ACTIVE), Event::Got(received), Ok(free(want)))?;
+        assert_step(&rt, 3, free(ACTIVE), Event::Got(received), Ok(free(want)));
     }
-    Ok(())
 }
 
 #[test]
-fn checks_of_leaders_and_debts(rt: HostRuntime) -> Result<(), Fail> {
+fn checks_of_leaders_and_debts(rt: HostRuntime) {
     let debt = clean(2, 2, 1);
     for (state, event, want) in [
         (free(LEADER), Event::Draw(1), StepFault::Ended),
@@ -118,13 +120,12 @@ fn checks_of_leaders_and_debts(rt: HostRuntime) -> Result<(), Fail> {
         (owing(CHOOSING, debt), Event::Got(debt), StepFault::Owes),
         (owing(PASSIVE, debt), Event::Got(debt), StepFault::Owes),
     ] {
-        assert_step(&rt, 3, state, event, Err(want))?;
+        assert_step(&rt, 3, state, event, Err(want));
     }
-    Ok(())
 }
 
 #[test]
-fn checks_of_nodes_that_owe_nothing(rt: HostRuntime) -> Result<(), Fail> {
+fn checks_of_nodes_that_owe_nothing(rt: HostRuntime) {
     let message = clean(2, 2, 1);
     for (phase, event, want) in [
         (CHOOSING, Event::Sent(message), StepFault::NotOwed),
@@ -152,13 +153,12 @@ fn checks_of_nodes_that_owe_nothing(rt: HostRuntime) -> Result<(), Fail> {
             StepFault::HopPast,
         ),
     ] {
-        assert_step(&rt, 3, free(phase), event, Err(want))?;
+        assert_step(&rt, 3, free(phase), event, Err(want));
     }
-    Ok(())
 }
 
 #[test]
-fn steps_at_the_limits(rt: HostRuntime) -> Result<(), Fail> {
+fn steps_at_the_limits(rt: HostRuntime) {
     let one = free(Phase::Active { round: 1, id: 1 });
     let last = free(Phase::Active {
         round: 1_000_000,
@@ -174,13 +174,12 @@ fn steps_at_the_limits(rt: HostRuntime) -> Result<(), Fail> {
         (one, clean(1, 2, 4_294_967_295), Err(StepFault::HopLimit)),
         (last, dirty(1_000_000, 1, 2), Err(StepFault::RoundLimit)),
     ] {
-        assert_step(&rt, 2, state, Event::Got(received), want)?;
+        assert_step(&rt, 2, state, Event::Got(received), want);
     }
-    Ok(())
 }
 
 #[test]
-fn words_of_faults(rt: HostRuntime) -> Result<(), Fail> {
+fn words_of_faults(rt: HostRuntime) {
     for (fault, word) in [
         (StepFault::Owes, "owes"),
         (StepFault::NotOwed, "not owed"),
@@ -192,8 +191,6 @@ fn words_of_faults(rt: HostRuntime) -> Result<(), Fail> {
         (StepFault::RoundLimit, "round limit"),
         (StepFault::HopLimit, "hop limit"),
     ] {
-        let shown = format!(in rt.alloc(); "{fault}")?;
-        assert_eq!(rt; shown.as_str(), word);
+        assert_shown(&rt, &fault, word);
     }
-    Ok(())
 }

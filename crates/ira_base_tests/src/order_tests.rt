@@ -1,43 +1,26 @@
 //! Whether logs match, and their orders.
 ghost use Rattle.std.specs.Prelude.{◌<◌, length};
 
-use crate::samples::{clean, dirty, log_of, logs_of, loser, tie_loser, tie_winner, winner};
-use ira_event::{Event, Logs};
+use crate::samples::{
+    assert_shown, clean, dirty, log_of, logs_of, loser, tie_loser, tie_winner, winner,
+};
+use ira_event::{Event, Logs, NodeLog};
 use ira_order::{MatchFault, OrderFault, Ordered, find_order, match_links, order};
 use std::alloc::Global;
 use std::process::Abort;
-use std::test::Fail;
 
-/// The logs of two nodes that both begin; the greater draw wins.
-fn two_node_logs(alloc: Global) -> Result<Logs<Global>, Fail> {
-    logs_of(alloc, 2, &[&winner(), &loser()])
+/// The events of the node that begins alone in a ring of three.
+fn lone_initiator_events() -> [Event; 3] {
+    [
+        Event::Draw(1),
+        Event::Sent(clean(1, 1, 1)),
+        Event::Got(clean(1, 1, 3)),
+    ]
 }
 
-/// The logs of two nodes that draw the same first, and then not.
-fn tie_logs(alloc: Global) -> Result<Logs<Global>, Fail> {
-    logs_of(alloc, 2, &[&tie_winner(), &tie_loser()])
-}
-
-/// The logs of three nodes of which one begins.
-fn lone_initiator_logs(alloc: Global) -> Result<Logs<Global>, Fail> {
-    logs_of(
-        alloc,
-        1,
-        &[
-            &[
-                Event::Draw(1),
-                Event::Sent(clean(1, 1, 1)),
-                Event::Got(clean(1, 1, 3)),
-            ],
-            &[Event::Got(clean(1, 1, 1)), Event::Sent(clean(1, 1, 2))],
-            &[Event::Got(clean(1, 1, 2)), Event::Sent(clean(1, 1, 3))],
-        ],
-    )
-}
-
-/// The logs of two nodes without an event.
-fn empty_logs(alloc: Global) -> Result<Logs<Global>, Fail> {
-    logs_of(alloc, 2, &[&[], &[]])
+/// The events of another node of that ring, which passes the message on.
+fn passing(hop: u32, next: u32) -> [Event; 2] {
+    [Event::Got(clean(1, 1, hop)), Event::Sent(clean(1, 1, next))]
 }
 
 /// Whether the places have each event of the reader once, and each receipt after its sending.
@@ -93,41 +76,42 @@ fn are_ordered(alloc: Global, logs: &Logs<Global>) -> bool {
     }
 }
 
-fn assert_ordered(rt: &impl Abort, alloc: Global, logs: &Logs<Global>) {
+/// Compares that the logs match and have an order, for a ring of which the first so many nodes are initiators.
+fn assert_ordered(rt: &(impl Abort + AllocGlobal), initiators: u8, events: &[&[Event]]) {
+    let logs = logs_of(rt, initiators, events);
     let answers = (
-        match_links(logs),
-        are_listed(alloc, logs),
-        are_ordered(alloc, logs),
+        match_links(&logs),
+        are_listed(rt.alloc(), &logs),
+        are_ordered(rt.alloc(), &logs),
     );
-    assert_eq!(rt; answers, (Ok(()), true, true));
+    assert!(rt; answers == (Ok(()), true, true));
 }
 
 fn assert_refused(
-    rt: &impl Abort,
-    alloc: Global,
+    rt: &(impl Abort + AllocGlobal),
     initiators: u8,
     events: &[&[Event]],
     fault: OrderFault,
-) -> Result<(), Fail> {
-    let logs = logs_of(alloc, initiators, events)?;
-    assert_eq!(rt; order(alloc, &logs).err(), Some(fault));
-    Ok(())
+) {
+    let logs = logs_of(rt, initiators, events);
+    let refused = order(rt.alloc(), &logs).err();
+    assert_eq!(rt; refused, Some(fault));
+}
+
+// Two nodes that both begin; the greater draw wins.
+#[test]
+fn two_node_election(rt: HostRuntime) {
+    assert_ordered(&rt, 2, &[&winner(), &loser()]);
+}
+
+// Two nodes that draw the same first, and then not.
+#[test]
+fn tie_then_win(rt: HostRuntime) {
+    assert_ordered(&rt, 2, &[&tie_winner(), &tie_loser()]);
 }
 
 #[test]
-fn two_node_election(rt: HostRuntime) -> Result<(), Fail> {
-    assert_ordered(&rt, rt.alloc(), &two_node_logs(rt.alloc())?);
-    Ok(())
-}
-
-#[test]
-fn tie_then_win(rt: HostRuntime) -> Result<(), Fail> {
-    assert_ordered(&rt, rt.alloc(), &tie_logs(rt.alloc())?);
-    Ok(())
-}
-
-#[test]
-fn equal_pair_passed_on_clean(rt: HostRuntime) -> Result<(), Fail> {
+fn equal_pair_passed_on_clean(rt: HostRuntime) {
     let first = [
         Event::Draw(1),
         Event::Sent(clean(1, 1, 1)),
@@ -141,45 +125,37 @@ fn equal_pair_passed_on_clean(rt: HostRuntime) -> Result<(), Fail> {
         Event::Sent(dirty(1, 1, 2)),
         Event::Got(clean(1, 1, 2)),
     ];
-    assert_ordered(
-        &rt,
-        rt.alloc(),
-        &logs_of(rt.alloc(), 2, &[&first, &second])?,
-    );
-    Ok(())
+    assert_ordered(&rt, 2, &[&first, &second]);
 }
 
 #[test]
-fn lone_initiator(rt: HostRuntime) -> Result<(), Fail> {
-    assert_ordered(&rt, rt.alloc(), &lone_initiator_logs(rt.alloc())?);
-    Ok(())
+fn lone_initiator(rt: HostRuntime) {
+    let events = lone_initiator_events();
+    assert_ordered(&rt, 1, &[&events, &passing(1, 2), &passing(2, 3)]);
 }
 
 #[test]
-fn empty_logs_meet_at_start(rt: HostRuntime) -> Result<(), Fail> {
-    assert_ordered(&rt, rt.alloc(), &empty_logs(rt.alloc())?);
-    Ok(())
+fn empty_logs_meet_at_start(rt: HostRuntime) {
+    assert_ordered(&rt, 2, &[&[], &[]]);
 }
 
 #[test]
-fn circle_of_two(rt: HostRuntime) -> Result<(), Fail> {
+fn circle_of_two(rt: HostRuntime) {
     assert_refused(
         &rt,
-        rt.alloc(),
         0,
         &[
             &[Event::Got(clean(1, 1, 1)), Event::Sent(clean(1, 1, 2))],
             &[Event::Got(clean(1, 1, 2)), Event::Sent(clean(1, 1, 1))],
         ],
         OrderFault::Circle,
-    )
+    );
 }
 
 #[test]
-fn receipts_exchanged(rt: HostRuntime) -> Result<(), Fail> {
+fn receipts_exchanged(rt: HostRuntime) {
     assert_refused(
         &rt,
-        rt.alloc(),
         2,
         &[
             &[
@@ -196,14 +172,13 @@ fn receipts_exchanged(rt: HostRuntime) -> Result<(), Fail> {
             ],
         ],
         OrderFault::Match(MatchFault::Differs { link: 1, k: 1 }),
-    )
+    );
 }
 
 #[test]
-fn receipt_without_sending(rt: HostRuntime) -> Result<(), Fail> {
+fn receipt_without_sending(rt: HostRuntime) {
     assert_refused(
         &rt,
-        rt.alloc(),
         2,
         &[
             &[
@@ -219,14 +194,14 @@ fn receipt_without_sending(rt: HostRuntime) -> Result<(), Fail> {
             ],
         ],
         OrderFault::Match(MatchFault::NoSending { link: 1, k: 2 }),
-    )
+    );
 }
 
 /// Of two logs of four events each: some counts, and which of some events happened before which.
-fn asked(ordered: &Ordered<'_, Global>) -> Result<([u32; 4], [bool; 2]), Fail> {
+fn asked(ordered: &Ordered<'_, Global>) -> Option<([u32; 4], [bool; 2])> {
     let logs = ordered.logs();
     if logs.size().get() != 2 || logs.log(0).len() != 4 || logs.log(1).len() != 4 {
-        return Err(Fail::from("logs of four events"));
+        return None;
     }
     let counts = [
         ordered.count(0, 3, 1),
@@ -235,71 +210,80 @@ fn asked(ordered: &Ordered<'_, Global>) -> Result<([u32; 4], [bool; 2]), Fail> {
         ordered.count(1, 0, 0),
     ];
     let before = [ordered.before(1, 3, 0, 4), ordered.before(0, 3, 1, 4)];
-    Ok((counts, before))
+    Some((counts, before))
 }
 
 #[test]
-fn counts_of_two_node_election(rt: HostRuntime) -> Result<(), Fail> {
-    let logs = two_node_logs(rt.alloc())?;
-    let ordered = order(rt.alloc(), &logs).ok().ok_or("an order")?;
-    assert_eq!(rt; asked(&ordered)?, ([2, 4, 2, 0], [true, false]));
-    Ok(())
+fn counts_of_two_node_election(rt: HostRuntime) {
+    let logs = logs_of(&rt, 2, &[&winner(), &loser()]);
+    let ordered = order(rt.alloc(), &logs).expect(&rt, "an order");
+    assert!(rt; asked(&ordered) == Some(([2, 4, 2, 0], [true, false])));
 }
 
 /// How many counters the order of these logs keeps.
-fn stored(alloc: Global, logs: &Logs<Global>) -> Result<usize, Fail> {
-    let ordered = order(alloc, logs).ok().ok_or("an order")?;
-    Ok(ordered.stored())
+fn stored(rt: &(impl Abort + AllocGlobal), initiators: u8, events: &[&[Event]]) -> usize {
+    let logs = logs_of(rt, initiators, events);
+    let ordered = order(rt.alloc(), &logs).expect(rt, "an order");
+    ordered.stored()
 }
 
 #[test]
-fn stored_counters(rt: HostRuntime) -> Result<(), Fail> {
-    let alloc = rt.alloc();
+fn stored_counters(rt: HostRuntime) {
     let counters = [
-        stored(alloc, &two_node_logs(alloc)?)?,
-        stored(alloc, &tie_logs(alloc)?)?,
-        stored(alloc, &lone_initiator_logs(alloc)?)?,
-        stored(alloc, &empty_logs(alloc)?)?,
+        stored(&rt, 2, &[&winner(), &loser()]),
+        stored(&rt, 2, &[&tie_winner(), &tie_loser()]),
+        stored(
+            &rt,
+            1,
+            &[&lone_initiator_events(), &passing(1, 2), &passing(2, 3)],
+        ),
+        stored(&rt, 2, &[&[], &[]]),
     ];
     assert_eq!(rt; counters, [6, 14, 9, 0]);
-    Ok(())
+}
+
+/// The log of a passive node of a ring of 64 that does so 500 times.
+fn long_log(rt: &(impl Abort + AllocGlobal), place: u8, turn: [Event; 2]) -> NodeLog<Global> {
+    let events = turn.repeat(rt.alloc(), 500).expect(rt, "memory");
+    log_of(rt, 64, place, false, &events)
 }
 
 /// The logs of a ring of 64 nodes, each of 1,000 events: one message goes round 500 times. Where node
 /// 0 receives it first, nobody can begin.
-fn long_logs(alloc: Global, begins: bool) -> Result<Logs<Global>, Fail> {
+fn long_logs(rt: &(impl Abort + AllocGlobal), begins: bool) -> Logs<Global> {
     let message = clean(1, 1, 1);
-    let mut logs = Vec::new(alloc);
+    let (got, sent) = (Event::Got(message), Event::Sent(message));
+    let first = if begins { [sent, got] } else { [got, sent] };
+    let mut logs = Vec::new(rt.alloc());
     for place in 0..64 {
-        let mut events = Vec::new(alloc);
-        for _ in 0..500 {
-            if begins && place == 0 {
-                events.push(Event::Sent(message))?;
-                events.push(Event::Got(message))?;
-            } else {
-                events.push(Event::Got(message))?;
-                events.push(Event::Sent(message))?;
-            }
-        }
-        logs.push(log_of(alloc, 64, place, false, &events)?)?;
+        let turn = if place == 0 { first } else { [got, sent] };
+        logs.push(long_log(rt, place, turn)).expect(rt, "memory");
     }
-    Ok(Logs::gather(logs).ok().ok_or("the logs of a ring")?)
+    Logs::gather(logs).expect(rt, "the logs of one ring")
+}
+
+/// How many events the order of these logs has.
+fn count_ordered(alloc: Global, logs: &Logs<Global>) -> Option<usize> {
+    let ordered = order(alloc, logs).ok()?;
+    let places = ordered.schedule();
+    if is_order(logs, places) {
+        Some(places.len())
+    } else {
+        None
+    }
 }
 
 #[test]
-fn ring_of_64_with_1000_events_a_node(rt: HostRuntime) -> Result<(), Fail> {
-    let logs = long_logs(rt.alloc(), true)?;
-    let ordered = order(rt.alloc(), &logs).ok().ok_or("an order")?;
-    assert_eq!(rt; ordered.schedule().len(), 64_000);
-    assert!(rt; is_order(&logs, ordered.schedule()));
-    let stuck = long_logs(rt.alloc(), false)?;
-    assert_eq!(rt; match_links(&stuck), Ok(()));
-    assert_eq!(rt; order(rt.alloc(), &stuck).err(), Some(OrderFault::Circle));
-    Ok(())
+fn ring_of_64_with_1000_events_a_node(rt: HostRuntime) {
+    let logs = long_logs(&rt, true);
+    assert!(rt; count_ordered(rt.alloc(), &logs) == Some(64_000));
+    let stuck = long_logs(&rt, false);
+    let answers = (match_links(&stuck), order(rt.alloc(), &stuck).err());
+    assert!(rt; answers == (Ok(()), Some(OrderFault::Circle)));
 }
 
 #[test]
-fn words_of_faults(rt: HostRuntime) -> Result<(), Fail> {
+fn words_of_faults(rt: HostRuntime) {
     for (fault, words) in [
         (
             OrderFault::Match(MatchFault::NoSending { link: 1, k: 2 }),
@@ -312,7 +296,6 @@ fn words_of_faults(rt: HostRuntime) -> Result<(), Fail> {
         (OrderFault::Circle, "circle"),
         (OrderFault::OutOfMemory, "out of memory"),
     ] {
-        assert_eq!(rt; format!(in rt.alloc(); "{fault}")?.as_str(), words);
+        assert_shown(&rt, &fault, words);
     }
-    Ok(())
 }

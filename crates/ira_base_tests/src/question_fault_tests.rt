@@ -1,42 +1,26 @@
 //! Texts of questions that are read, and the faults of others.
 
 use crate::question_samples::{HEAD, PHASES, assert_answer, is_read};
-use crate::samples::{clean, free, owing};
+use crate::samples::{clean, free, owing, text_of};
 use ira_pred::{AskFault, read_question};
 use std::alloc::Global;
 use std::process::Abort;
-use std::test::Fail;
 
 /// The text of one case for node 0 of two: so many negations of `true`.
-fn negations(alloc: Global, depth: usize) -> Result<Vec<u8>, Fail> {
-    let mut text = Vec::from_slice(alloc, HEAD)?;
-    text.extend_from_slice(b"case\n0: ")?;
-    for _ in 0..depth {
-        text.extend_from_slice(b"(not ")?;
-    }
-    text.extend_from_slice(b"true")?;
-    for _ in 0..depth {
-        text.push(b')')?;
-    }
-    text.extend_from_slice(b"\nend\n")?;
-    Ok(text)
+fn negations(rt: &(impl Abort + AllocGlobal), depth: usize) -> Vec<u8> {
+    let front = text_of(rt, b"irask 1\nnodes 2\ncase\n0: ", b"(not ", depth, b"true");
+    text_of(rt, &front, b")", depth, b"\nend\n")
 }
 
 /// Compares what reading these lines behind the head answers. A text that is read is written as it was.
-fn assert_lines(
-    rt: &(impl Abort + AllocGlobal),
-    lines: &[u8],
-    wanted: Result<usize, AskFault>,
-) -> Result<(), Fail> {
-    let mut text = Vec::from_slice(rt.alloc(), HEAD)?;
-    text.extend_from_slice(lines)?;
+fn assert_lines(rt: &(impl Abort + AllocGlobal), lines: &[u8], wanted: Result<usize, AskFault>) {
+    let text = text_of(rt, HEAD, lines, 1, b"");
     assert_answer(rt, &text, wanted);
-    assert!(rt; wanted.is_err() || is_read(rt.alloc(), &text)?);
-    Ok(())
+    assert!(rt; wanted.is_err() || is_read(rt.alloc(), &text));
 }
 
 #[test]
-fn question_faults(rt: HostRuntime) -> Result<(), Fail> {
+fn question_faults(rt: HostRuntime) {
     for (lines, wanted) in [
         (b"case\n0: leader\nend\n".as_slice(), Ok(1)),
         (b"end\n".as_slice(), Err(AskFault::Cases)),
@@ -69,13 +53,12 @@ fn question_faults(rt: HostRuntime) -> Result<(), Fail> {
             Err(AskFault::Trailing),
         ),
     ] {
-        assert_lines(&rt, lines, wanted)?;
+        assert_lines(&rt, lines, wanted);
     }
-    Ok(())
 }
 
 /// Whether the text's first clause holds of each phase, whatever the node owes.
-fn always_holds(alloc: Global, text: &[u8]) -> Result<bool, Fail> {
+fn always_holds(alloc: Global, text: &[u8]) -> Result<bool, AskFault> {
     let question = read_question(alloc, text)?;
     let clause = question.cases()[0].clause(0);
     Ok(
@@ -85,15 +68,14 @@ fn always_holds(alloc: Global, text: &[u8]) -> Result<bool, Fail> {
 }
 
 #[test]
-fn depths_of_a_clause(rt: HostRuntime) -> Result<(), Fail> {
-    assert_answer(&rt, &negations(rt.alloc(), 33)?, Err(AskFault::Depth(4)));
-    assert!(rt; always_holds(rt.alloc(), &negations(rt.alloc(), 32)?)?);
-    Ok(())
+fn depths_of_a_clause(rt: HostRuntime) {
+    assert_answer(&rt, &negations(&rt, 33), Err(AskFault::Depth(4)));
+    assert!(rt; always_holds(rt.alloc(), &negations(&rt, 32)) == Ok(true));
 }
 
 /// Faults of one line: each line has that of its answer, and a later one of the list too.
 #[test]
-fn faults_of_one_line(rt: HostRuntime) -> Result<(), Fail> {
+fn faults_of_one_line(rt: HostRuntime) {
     for (lines, wanted) in [
         (
             b"case\n0: true\ncase\nend\nend\n".as_slice(),
@@ -119,7 +101,6 @@ fn faults_of_one_line(rt: HostRuntime) -> Result<(), Fail> {
         (b"case\n7: true".as_slice(), AskFault::Cut),
         (b"case\nend".as_slice(), AskFault::Cut),
     ] {
-        assert_lines(&rt, lines, Err(wanted))?;
+        assert_lines(&rt, lines, Err(wanted));
     }
-    Ok(())
 }

@@ -3,9 +3,8 @@
 ghost use Rattle.std.specs.Prelude.{◌≤◌, ◌<◌};
 
 use crate::question_samples::is_read;
-use std::alloc::Global;
 use std::mem;
-use std::test::Fail;
+use std::process::Abort;
 
 /// How many texts are read.
 const TEXTS: u32 = 100_000;
@@ -48,48 +47,39 @@ fn mostly_few(random: &mut Random, most: usize) -> usize
 }
 
 /// The text of a clause without parentheses.
-fn atom(random: &mut Random, alloc: Global) -> Result<String, Fail> {
-    let mut text = String::new(alloc);
+fn atom(rt: &(impl Abort + AllocGlobal), random: &mut Random) -> String {
     let kind = random.below(8);
     if kind < 6 {
-        text.push_str(ATOMS[kind])?;
-        return Ok(text);
+        return ATOMS[kind].to_string(rt.alloc()).expect(rt, "memory");
     }
     let word = COMPARED[kind - 6];
     let sign = SIGNS[random.below(3)];
     let most = [2, 10, 1_000_001][random.below(3)];
     let n = random.below(most);
-    write!(text, "{word} {sign} {n}")?;
-    Ok(text)
+    format!(in rt.alloc(); "{word} {sign} {n}").expect(rt, "memory")
 }
 
 /// The two clauses with `and` or `or` between them.
-fn joined(random: &mut Random, alloc: Global, left: &str, right: &str) -> Result<String, Fail> {
+fn joined(rt: &(impl Abort + AllocGlobal), random: &mut Random, left: &str, right: &str) -> String {
     let word = ["and", "or"][random.below(2)];
-    let mut text = String::new(alloc);
-    write!(text, "({left} {word} {right})")?;
-    Ok(text)
+    format!(in rt.alloc(); "({left} {word} {right})").expect(rt, "memory")
 }
 
 /// The text of a clause that is nested no deeper than `turns`: each turn makes one more clause, or a
 /// larger one of those that were made, and at last all are joined.
-fn clause(random: &mut Random, alloc: Global, turns: usize) -> Result<String, Fail> {
-    let mut made = Vec::new(alloc);
-    let mut last = atom(random, alloc)?;
+fn clause(rt: &(impl Abort + AllocGlobal), random: &mut Random, turns: usize) -> String {
+    let mut made = Vec::new(rt.alloc());
+    let mut last = atom(rt, random);
     for _ in 0..turns {
         match random.below(3) {
             0 => {
-                let next = atom(random, alloc)?;
-                made.push(mem::replace(&mut last, next))?;
+                let left = mem::replace(&mut last, atom(rt, random));
+                made.push(left).expect(rt, "memory");
             }
-            1 => {
-                let mut text = String::new(alloc);
-                write!(text, "(not {last})")?;
-                last = text;
-            }
+            1 => last = format!(in rt.alloc(); "(not {last})").expect(rt, "memory"),
             _ => {
                 if let Some(left) = made.pop() {
-                    last = joined(random, alloc, &left, &last)?;
+                    last = joined(rt, random, &left, &last);
                 }
             }
         }
@@ -97,48 +87,45 @@ fn clause(random: &mut Random, alloc: Global, turns: usize) -> Result<String, Fa
     // No turn made more than one clause.
     for _ in 0..turns {
         if let Some(left) = made.pop() {
-            last = joined(random, alloc, &left, &last)?;
+            last = joined(rt, random, &left, &last);
         }
     }
-    Ok(last)
+    last
 }
 
 /// Adds the lines of a case of a ring of so many nodes.
 fn push_case(
+    rt: &(impl Abort + AllocGlobal),
     random: &mut Random,
-    alloc: Global,
     nodes: usize,
     text: &mut String,
-) -> Result<(), Fail> {
-    text.push_str("case\n")?;
+) {
+    text.push_str("case\n").expect(rt, "memory");
     let sure = random.below(2);
     for place in 0..nodes {
         if place == sure || random.below(8) == 0 {
             let turns = mostly_few(random, 32);
-            let clause = clause(random, alloc, turns)?;
-            write!(text, "{place}: {clause}\n")?;
+            let clause = clause(rt, random, turns);
+            write!(text, "{place}: {clause}\n").expect(rt, "memory");
         }
     }
-    Ok(())
 }
 
-fn question(random: &mut Random, alloc: Global) -> Result<String, Fail> {
+fn question(rt: &(impl Abort + AllocGlobal), random: &mut Random) -> String {
     let nodes = mostly_few(random, 62) + 2;
-    let mut text = String::new(alloc);
-    write!(text, "irask 1\nnodes {nodes}\n")?;
+    let mut text = format!(in rt.alloc(); "irask 1\nnodes {nodes}\n").expect(rt, "memory");
     for _ in 0..1 + random.below(3) {
-        push_case(random, alloc, nodes, &mut text)?;
+        push_case(rt, random, nodes, &mut text);
     }
-    text.push_str("end\n")?;
-    Ok(text)
+    text.push_str("end\n").expect(rt, "memory");
+    text
 }
 
 #[test]
-fn random_questions(rt: HostRuntime) -> Result<(), Fail> {
+fn random_questions(rt: HostRuntime) {
     let mut random = Random { state: 7 };
     for _ in 0..TEXTS {
-        let text = question(&mut random, rt.alloc())?;
-        assert!(rt; is_read(rt.alloc(), text.as_bytes())?);
+        let text = question(&rt, &mut random);
+        assert!(rt; is_read(rt.alloc(), text.as_bytes()));
     }
-    Ok(())
 }

@@ -1,29 +1,12 @@
 //! Texts of logs that are read.
 
-use crate::samples::{ELECTION_0, clean, winner};
+use crate::samples::{ELECTION_0, clean, text_of, winner};
 use ira_event::{Event, LogFault, NodeLog, RingSize, read_log};
 use std::alloc::Global;
 use std::process::Abort;
-use std::test::Fail;
 
 /// The head of an initiator at place 0 in a ring of two.
 const HEAD: &[u8] = b"irlog 1\nnodes 2\nplace 0\nstart initiator\n";
-
-/// The text after the parts: so many lines, and then the last bytes.
-fn text_of(
-    alloc: Global,
-    head: &[u8],
-    line: &[u8],
-    lines: u32,
-    last: &[u8],
-) -> Result<Vec<u8>, Fail> {
-    let mut text = Vec::from_slice(alloc, head)?;
-    for _ in 0..lines {
-        text.extend_from_slice(line)?;
-    }
-    text.extend_from_slice(last)?;
-    Ok(text)
-}
 
 /// What reading the text answers: the number of its events, or its fault.
 fn answer(alloc: Global, text: &[u8]) -> Result<usize, LogFault> {
@@ -39,21 +22,39 @@ fn assert_answer(rt: &(impl Abort + AllocGlobal), text: &[u8], wanted: Result<us
     );
 }
 
-#[test]
-fn two_node_election(rt: HostRuntime) -> Result<(), Fail> {
-    assert_eq!(rt; ELECTION_0.len(), 104);
-    let log = read_log(rt.alloc(), ELECTION_0)?;
-    let head = (log.nodes().get(), log.place(), log.initiator());
-    assert_eq!(rt; head, (2, 0, true));
-    assert_eq!(rt; log.len(), 4);
-    assert_eq!(rt; log.event(4), Event::Got(clean(1, 2, 2)));
-    let events: Vec<Event> = log.events().collect(rt.alloc())?;
-    assert_eq!(rt; events.as_slice(), winner().as_slice());
-    Ok(())
+/// Compares what reading the text of these parts answers, of which the second stands there so many times.
+fn assert_parts(
+    rt: &(impl Abort + AllocGlobal),
+    first: &[u8],
+    line: &[u8],
+    lines: usize,
+    last: &[u8],
+    wanted: Result<usize, LogFault>,
+) {
+    assert_answer(rt, &text_of(rt, first, line, lines, last), wanted);
+}
+
+/// The head of a log of four events, and the last of them.
+fn head_and_last(log: &NodeLog<Global>) -> Option<(u8, u8, bool, Event)> {
+    if log.len() != 4 {
+        return None;
+    }
+    let nodes = log.nodes().get();
+    Some((nodes, log.place(), log.initiator(), log.event(4)))
 }
 
 #[test]
-fn log_text_table(rt: HostRuntime) -> Result<(), Fail> {
+fn two_node_election(rt: HostRuntime) {
+    assert_eq!(rt; ELECTION_0.len(), 104);
+    let log = read_log(rt.alloc(), ELECTION_0).expect(&rt, "a log");
+    let last = Event::Got(clean(1, 2, 2));
+    let is_read = head_and_last(&log) == Some((2, 0, true, last));
+    let events: Vec<Event> = log.events().collect(rt.alloc()).expect(&rt, "memory");
+    assert!(rt; is_read && events.as_slice() == winner().as_slice());
+}
+
+#[test]
+fn log_text_table(rt: HostRuntime) {
     for (head, lines, wanted) in [
         (
             b"irlog 2\nnodes 2\nplace 0\nstart initiator\n".as_slice(),
@@ -109,13 +110,12 @@ fn log_text_table(rt: HostRuntime) -> Result<(), Fail> {
             Err(LogFault::Count),
         ),
     ] {
-        assert_answer(&rt, &text_of(rt.alloc(), head, b"", 0, lines)?, wanted);
+        assert_parts(&rt, head, b"", 0, lines, wanted);
     }
-    Ok(())
 }
 
 #[test]
-fn endings_of_a_log_text(rt: HostRuntime) -> Result<(), Fail> {
+fn endings_of_a_log_text(rt: HostRuntime) {
     let (front, _) = ELECTION_0.split_at(98);
     for (last, wanted) in [
         (b"".as_slice(), Err(LogFault::Cut)),
@@ -124,13 +124,12 @@ fn endings_of_a_log_text(rt: HostRuntime) -> Result<(), Fail> {
         (b"end 3\nx".as_slice(), Err(LogFault::Count)),
         (b"end 4\n".as_slice(), Ok(4)),
     ] {
-        assert_answer(&rt, &text_of(rt.alloc(), front, b"", 0, last)?, wanted);
+        assert_parts(&rt, front, b"", 0, last, wanted);
     }
-    Ok(())
 }
 
 #[test]
-fn prefixes_and_repetition(rt: HostRuntime) -> Result<(), Fail> {
+fn prefixes_and_repetition(rt: HostRuntime) {
     for n in 0..104 {
         let (front, _) = ELECTION_0.split_at(n);
         let wanted = if n < 40 {
@@ -140,13 +139,11 @@ fn prefixes_and_repetition(rt: HostRuntime) -> Result<(), Fail> {
         };
         assert_answer(&rt, front, Err(wanted));
     }
-    let twice = text_of(rt.alloc(), b"", ELECTION_0, 2, b"")?;
-    assert_answer(&rt, &twice, Err(LogFault::Trailing));
-    Ok(())
+    assert_parts(&rt, b"", ELECTION_0, 2, b"", Err(LogFault::Trailing));
 }
 
 #[test]
-fn as_many_records_as_a_log_has(rt: HostRuntime) -> Result<(), Fail> {
+fn as_many_records_as_a_log_has(rt: HostRuntime) {
     for (last, wanted) in [
         (b"end 100000\n".as_slice(), Ok(100_000)),
         (b"draw 1\n".as_slice(), Err(LogFault::TooMany)),
@@ -154,33 +151,27 @@ fn as_many_records_as_a_log_has(rt: HostRuntime) -> Result<(), Fail> {
         (b"draw x".as_slice(), Err(LogFault::Cut)),
         (b"drop\n".as_slice(), Err(LogFault::Line(100_005))),
     ] {
-        assert_answer(
-            &rt,
-            &text_of(rt.alloc(), HEAD, b"draw 1\n", 100_000, last)?,
-            wanted,
-        );
+        assert_parts(&rt, HEAD, b"draw 1\n", 100_000, last, wanted);
     }
-    Ok(())
 }
 
 #[test]
-fn one_byte_too_long(rt: HostRuntime) -> Result<(), Fail> {
-    let text = vec![in rt.alloc(); b'x'; 67_108_865]?;
-    assert_answer(&rt, &text, Err(LogFault::TooLong));
-    let (longest, _) = text.split_at(67_108_864);
-    assert_answer(&rt, longest, Err(LogFault::Head));
-    Ok(())
+fn one_byte_too_long(rt: HostRuntime) {
+    let longest = 67_108_864;
+    assert_parts(&rt, b"", b"x", longest + 1, b"", Err(LogFault::TooLong));
+    assert_parts(&rt, b"", b"x", longest, b"", Err(LogFault::Head));
 }
 
-/// Whether a node at this place may record this draw.
-fn is_log(alloc: Global, nodes: RingSize, place: u8, drawn: u32) -> Result<bool, Fail> {
-    let events = vec![in alloc; Event::Draw(drawn)]?;
-    Ok(NodeLog::new(nodes, place, true, events).is_some())
+/// Compares whether a node at this place of a ring of two may record this draw.
+fn assert_log(rt: &(impl Abort + AllocGlobal), place: u8, drawn: u32, wanted: bool) {
+    let nodes = RingSize::new(2).expect(rt, "a ring of two");
+    let events = vec![in rt.alloc(); Event::Draw(drawn)].expect(rt, "memory");
+    let is_log = NodeLog::new(nodes, place, true, events).is_some();
+    assert!(rt; is_log == wanted, "{place} {drawn}");
 }
 
 #[test]
-fn logs_out_of_range(rt: HostRuntime) -> Result<(), Fail> {
-    let nodes = RingSize::new(2).ok_or("a ring of two")?;
+fn logs_out_of_range(rt: HostRuntime) {
     assert!(rt;
         RingSize::new(1).is_none() && RingSize::new(65).is_none() && RingSize::new(64).is_some()
     );
@@ -191,8 +182,6 @@ fn logs_out_of_range(rt: HostRuntime) -> Result<(), Fail> {
         (0, 0, false),
         (0, 1_000_001, false),
     ] {
-        let is = is_log(rt.alloc(), nodes, place, drawn)?;
-        assert!(rt; is == wanted, "{place} {drawn}");
+        assert_log(&rt, place, drawn, wanted);
     }
-    Ok(())
 }

@@ -1,13 +1,14 @@
 //! The states along a log.
 ghost use Rattle.std.specs.Iterator.{YieldsFirst, item_count};
 
-use crate::samples::{clean, dirty, free, log_of, loser, owing, tie_loser, tie_winner, winner};
+use crate::samples::{
+    assert_shown, clean, dirty, free, log_of, loser, owing, tie_loser, tie_winner, winner,
+};
 use ira_event::{Event, Listed, NodeLog, RingSize};
 use ira_node::{NodeState, Phase, StepFault};
 use ira_replay::{ReplayFault, States, replay};
 use std::alloc::Global;
 use std::process::Abort;
-use std::test::Fail;
 
 /// Replays the log of these events, and compares its last state or its fault.
 fn assert_replayed(
@@ -17,10 +18,10 @@ fn assert_replayed(
     initiator: bool,
     events: &[Event],
     want: Result<NodeState, ReplayFault>,
-) -> Result<(), Fail> {
-    let log = log_of(rt.alloc(), nodes, place, initiator, events)?;
-    assert_eq!(rt; replay(&log), want);
-    Ok(())
+) {
+    let log = log_of(rt, nodes, place, initiator, events);
+    let replayed = replay(&log);
+    assert_eq!(rt; replayed, want);
 }
 
 /// What the iterator of a log's states gives at first.
@@ -38,8 +39,8 @@ fn first_states(log: &NodeLog<Global>) -> [Option<(u32, NodeState)>; 7] {
 }
 
 #[test]
-fn two_node_election(rt: HostRuntime) -> Result<(), Fail> {
-    let log = log_of(rt.alloc(), 2, 0, true, &winner())?;
+fn two_node_election(rt: HostRuntime) {
+    let log = log_of(&rt, 2, 0, true, &winner());
     let active = Phase::Active { round: 1, id: 2 };
     let leader = free(Phase::Leader { round: 1, id: 2 });
     let wanted = [
@@ -51,50 +52,48 @@ fn two_node_election(rt: HostRuntime) -> Result<(), Fail> {
         None,
         None,
     ];
-    assert_eq!(rt; first_states(&log), wanted);
-    assert_replayed(&rt, 2, 0, true, &winner(), Ok(leader))?;
-    assert_replayed(&rt, 2, 1, true, &loser(), Ok(free(Phase::Passive)))
+    assert!(rt; first_states(&log) == wanted);
+    assert_replayed(&rt, 2, 0, true, &winner(), Ok(leader));
+    assert_replayed(&rt, 2, 1, true, &loser(), Ok(free(Phase::Passive)));
 }
 
 #[test]
-fn tie_then_win(rt: HostRuntime) -> Result<(), Fail> {
+fn tie_then_win(rt: HostRuntime) {
     let leader = free(Phase::Leader { round: 2, id: 2 });
-    assert_replayed(&rt, 2, 0, true, &tie_winner(), Ok(leader))?;
-    assert_replayed(&rt, 2, 1, true, &tie_loser(), Ok(free(Phase::Passive)))
+    assert_replayed(&rt, 2, 0, true, &tie_winner(), Ok(leader));
+    assert_replayed(&rt, 2, 1, true, &tie_loser(), Ok(free(Phase::Passive)));
 }
 
 #[test]
-fn lone_initiator(rt: HostRuntime) -> Result<(), Fail> {
+fn lone_initiator(rt: HostRuntime) {
     let events = [
         Event::Draw(1),
         Event::Sent(clean(1, 1, 1)),
         Event::Got(clean(1, 1, 3)),
     ];
     let leader = free(Phase::Leader { round: 1, id: 1 });
-    assert_replayed(&rt, 3, 0, true, &events, Ok(leader))?;
+    assert_replayed(&rt, 3, 0, true, &events, Ok(leader));
     let passive = free(Phase::Passive);
     let events = [Event::Got(clean(1, 1, 1)), Event::Sent(clean(1, 1, 2))];
-    assert_replayed(&rt, 3, 1, false, &events, Ok(passive))?;
+    assert_replayed(&rt, 3, 1, false, &events, Ok(passive));
     let events = [Event::Got(clean(1, 1, 2)), Event::Sent(clean(1, 1, 3))];
-    assert_replayed(&rt, 3, 2, false, &events, Ok(passive))
+    assert_replayed(&rt, 3, 2, false, &events, Ok(passive));
 }
 
 #[test]
-fn draw_out_of_range(rt: HostRuntime) -> Result<(), Fail> {
+fn draw_out_of_range(rt: HostRuntime) {
     let fault = ReplayFault {
         position: 1,
         fault: StepFault::DrawRange,
     };
-    assert_replayed(&rt, 2, 0, true, &[Event::Draw(3)], Err(fault))?;
-    let shown = format!(in rt.alloc(); "{fault}")?;
-    assert_eq!(rt; shown.as_str(), "event 1: draw range");
-
+    assert_replayed(&rt, 2, 0, true, &[Event::Draw(3)], Err(fault));
+    assert_shown(&rt, &fault, "event 1: draw range");
     let state = owing(Phase::Active { round: 1, id: 2 }, clean(1, 2, 1));
-    assert_replayed(&rt, 2, 0, true, &[Event::Draw(2)], Ok(state))
+    assert_replayed(&rt, 2, 0, true, &[Event::Draw(2)], Ok(state));
 }
 
 #[test]
-fn equal_pair_passed_on_clean(rt: HostRuntime) -> Result<(), Fail> {
+fn equal_pair_passed_on_clean(rt: HostRuntime) {
     let events = [
         Event::Draw(1),
         Event::Sent(clean(1, 1, 1)),
@@ -110,7 +109,7 @@ fn equal_pair_passed_on_clean(rt: HostRuntime) -> Result<(), Fail> {
         position: 4,
         fault: StepFault::NotOwed,
     };
-    assert_replayed(&rt, 2, 0, true, &events, Err(fault))
+    assert_replayed(&rt, 2, 0, true, &events, Err(fault));
 }
 
 /// A source that is no log's.
@@ -146,8 +145,8 @@ impl<'a> Listed for Shown<'a> {
 }
 
 #[test]
-fn states_end_before_a_fault(rt: HostRuntime) -> Result<(), Fail> {
-    let nodes = RingSize::new(3).ok_or("no ring of three")?;
+fn states_end_before_a_fault(rt: HostRuntime) {
+    let nodes = RingSize::new(3).expect(&rt, "a ring of three");
     let received = clean(1, 1, 1);
     let source = Shown {
         rest: &[
@@ -160,6 +159,5 @@ fn states_end_before_a_fault(rt: HostRuntime) -> Result<(), Fail> {
     let mut states = States::new(nodes, false, source);
     let found = [states.next(), states.next(), states.next(), states.next()];
     let first = (0, free(Phase::Passive));
-    assert_eq!(rt; found, [Some(first), Some((1, debtor)), None, None]);
-    Ok(())
+    assert!(rt; found == [Some(first), Some((1, debtor)), None, None]);
 }

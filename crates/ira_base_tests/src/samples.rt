@@ -3,7 +3,8 @@
 use ira_event::{Event, Logs, Msg, NodeLog, RingSize};
 use ira_node::{NodeState, Phase};
 use std::alloc::Global;
-use std::test::Fail;
+use std::fmt::Display;
+use std::process::Abort;
 
 pub(crate) const fn clean(round: u32, id: u32, hop: u32) -> Msg {
     Msg {
@@ -94,37 +95,50 @@ pub(crate) fn tie_loser() -> [Event; 9] {
 
 /// The log of these parts.
 pub(crate) fn log_of(
-    alloc: Global,
+    rt: &(impl Abort + AllocGlobal),
     nodes: u8,
     place: u8,
     initiator: bool,
     events: &[Event],
-) -> Result<NodeLog<Global>, Fail> {
-    let nodes = RingSize::new(nodes).ok_or("no ring of that size")?;
-    let events = events.to_vec(alloc)?;
-    Ok(NodeLog::new(nodes, place, initiator, events).ok_or("no log")?)
-}
-
-/// The logs of the nodes of a ring, of which the first so many are initiators.
-fn log_list(
-    alloc: Global,
-    nodes: u8,
-    initiators: u8,
-    events: &[&[Event]],
-) -> Result<Vec<NodeLog<Global>>, Fail> {
-    let mut logs = Vec::new(alloc);
-    for (place, own) in (0..nodes).zip(events) {
-        logs.push(log_of(alloc, nodes, place, place < initiators, own)?)?;
-    }
-    Ok(logs)
+) -> NodeLog<Global> {
+    let nodes = RingSize::new(nodes).expect(rt, "a ring of that size");
+    let events = events.to_vec(rt.alloc()).expect(rt, "memory");
+    NodeLog::new(nodes, place, initiator, events).expect(rt, "a log")
 }
 
 /// The logs of a ring of as many nodes as there are lists of events, of which the first so many are initiators.
 pub(crate) fn logs_of(
-    alloc: Global,
+    rt: &(impl Abort + AllocGlobal),
     initiators: u8,
     events: &[&[Event]],
-) -> Result<Logs<Global>, Fail> {
-    let nodes = u8::try_from(events.len()).ok().ok_or("a smaller ring")?;
-    Ok(Logs::gather(log_list(alloc, nodes, initiators, events)?)?)
+) -> Logs<Global> {
+    let nodes = u8::try_from(events.len()).expect(rt, "a smaller ring");
+    let mut logs = Vec::new(rt.alloc());
+    for (place, own) in (0..nodes).zip(events) {
+        let log = log_of(rt, nodes, place, place < initiators, own);
+        logs.push(log).expect(rt, "memory");
+    }
+    Logs::gather(logs).expect(rt, "the logs of one ring")
+}
+
+/// The text of these parts, of which the second stands there so many times.
+pub(crate) fn text_of(
+    rt: &(impl Abort + AllocGlobal),
+    first: &[u8],
+    line: &[u8],
+    lines: usize,
+    last: &[u8],
+) -> Vec<u8> {
+    let mut text = Vec::from_slice(rt.alloc(), first).expect(rt, "memory");
+    for _ in 0..lines {
+        text.extend_from_slice(line).expect(rt, "memory");
+    }
+    text.extend_from_slice(last).expect(rt, "memory");
+    text
+}
+
+/// Compares how a value is shown.
+pub(crate) fn assert_shown(rt: &(impl Abort + AllocGlobal), value: &impl Display, words: &str) {
+    let shown = format!(in rt.alloc(); "{value}").expect(rt, "memory");
+    assert_eq!(rt; shown.as_str(), words);
 }

@@ -3,7 +3,6 @@
 use ira_refusing::{Outcome, Refusing, TrialFault, each_growth_refused};
 use std::alloc::Global;
 use std::cell::Cell;
-use std::test::Fail;
 use std::thread;
 
 type Memory = Refusing<Global>;
@@ -17,20 +16,18 @@ fn has_room(memory: &Memory) -> bool {
 }
 
 #[test]
-fn one_growth_is_refused_and_all_are_counted(rt: HostRuntime) -> Result<(), Fail> {
-    let memory = Refusing::new(rt.alloc())?;
+fn one_growth_is_refused_and_all_are_counted(rt: HostRuntime) {
+    let memory = Refusing::new(rt.alloc()).expect(&rt, "memory");
     memory.refuse(2);
     let first = has_room(&memory);
     // two threads, one of which is refused
     let (one, other) = thread::join(&rt, || has_room(&memory), || has_room(&memory));
-    assert!(rt; first && one != other);
-    assert!(rt; has_room(&memory));
-    assert_eq!(rt; memory.asked(), 4);
-    Ok(())
+    let again = has_room(&memory);
+    assert!(rt; first && one != other && again && memory.asked() == 4);
 }
 
 /// What is wrong with a call that asks for room.
-#[derive(Clone, Copy, Debug)]
+#[derive(Clone, Copy)]
 enum Flaw {
     TakesItForAnother,
     GivesUpUnasked,
@@ -54,20 +51,27 @@ impl Flaw {
     }
 }
 
+/// What the trial says of a call with this flaw.
+fn tried(memory: &Memory, flaw: Flaw) -> Result<u64, TrialFault> {
+    let calls = Cell::new(0u8);
+    each_growth_refused(memory, |alloc| {
+        calls.set(calls.get().saturating_add(1));
+        flaw.outcome(alloc, calls.get())
+    })
+}
+
 #[test]
-fn a_wrong_answer_is_seen(rt: HostRuntime) -> Result<(), Fail> {
-    let memory = Refusing::new(rt.alloc())?;
-    for (flaw, fault) in [
-        (Flaw::TakesItForAnother, TrialFault::Wrong(1)),
-        (Flaw::GivesUpUnasked, TrialFault::Unfounded(1)),
-        (Flaw::StaysBroken, TrialFault::Lasting(1)),
-    ] {
-        let calls = Cell::new(0u8);
-        let growths = each_growth_refused(&memory, |alloc| {
-            calls.set(calls.get().saturating_add(1));
-            flaw.outcome(alloc, calls.get())
-        });
-        assert_eq!(rt; growths, Err(fault), "{flaw:?}");
-    }
-    Ok(())
+fn a_wrong_answer_is_seen(rt: HostRuntime) {
+    let memory = Refusing::new(rt.alloc()).expect(&rt, "memory");
+    let found = [
+        tried(&memory, Flaw::TakesItForAnother),
+        tried(&memory, Flaw::GivesUpUnasked),
+        tried(&memory, Flaw::StaysBroken),
+    ];
+    let wanted = [
+        Err(TrialFault::Wrong(1)),
+        Err(TrialFault::Unfounded(1)),
+        Err(TrialFault::Lasting(1)),
+    ];
+    assert_eq!(rt; found, wanted);
 }

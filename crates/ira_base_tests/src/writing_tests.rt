@@ -7,7 +7,6 @@ use ira_refusing::FailingSink;
 use std::alloc::Global;
 use std::io::BufWriter;
 use std::process::Abort;
-use std::test::Fail;
 
 /// Writes the log of these events to memory, and compares the text.
 fn assert_written(
@@ -17,24 +16,23 @@ fn assert_written(
     initiator: bool,
     events: &[Event],
     text: &[u8],
-) -> Result<(), Fail> {
-    let log = log_of(rt.alloc(), nodes, place, initiator, events)?;
+) {
+    let log = log_of(rt, nodes, place, initiator, events);
     let mut sink = MemorySink::new(rt.alloc());
-    assert!(rt; sink.bytes().is_empty());
+    let is_empty = sink.bytes().is_empty();
     let written = write_log(&log, &mut sink);
-    assert_eq!(rt; (written, sink.bytes()), (Ok(()), text));
-    Ok(())
+    assert!(rt; is_empty && written == Ok(()) && sink.bytes() == text);
 }
 
 #[test]
-fn two_node_election(rt: HostRuntime) -> Result<(), Fail> {
+fn two_node_election(rt: HostRuntime) {
     assert_eq!(rt; ELECTION_0.len(), 104);
-    assert_written(&rt, 2, 0, true, &winner(), ELECTION_0)?;
-    assert_written(&rt, 2, 1, true, &loser(), ELECTION_1)
+    assert_written(&rt, 2, 0, true, &winner(), ELECTION_0);
+    assert_written(&rt, 2, 1, true, &loser(), ELECTION_1);
 }
 
 #[test]
-fn largest_numbers_and_dirty(rt: HostRuntime) -> Result<(), Fail> {
+fn largest_numbers_and_dirty(rt: HostRuntime) {
     let message = dirty(1_000_000, 999_999, 10);
     let events = [
         Event::Got(message),
@@ -43,7 +41,7 @@ fn largest_numbers_and_dirty(rt: HostRuntime) -> Result<(), Fail> {
     ];
     let text =
         b"irlog 1\nnodes 64\nplace 63\nstart passive\nrecv 1000000 999999 10 dirty\ndraw 1000000\nsend 1000000 999999 10 dirty\nend 3\n";
-    assert_written(&rt, 64, 63, false, &events, text)
+    assert_written(&rt, 64, 63, false, &events, text);
 }
 
 /// Whether the log, written to a sink that fails behind so many bytes, leaves these there.
@@ -53,10 +51,9 @@ fn stops_behind(alloc: Global, log: &NodeLog<Global>, front: &[u8]) -> bool {
 }
 
 #[test]
-fn sink_fails_after_ten_bytes(rt: HostRuntime) -> Result<(), Fail> {
-    let log = log_of(rt.alloc(), 2, 0, true, &winner())?;
+fn sink_fails_after_ten_bytes(rt: HostRuntime) {
+    let log = log_of(&rt, 2, 0, true, &winner());
     assert!(rt; stops_behind(rt.alloc(), &log, b"irlog 1\nno"));
-    Ok(())
 }
 
 /// Compares what is left in a sink that fails, behind each byte of the log's text.
@@ -70,10 +67,9 @@ fn assert_stops(rt: &(impl Abort + AllocGlobal), log: &NodeLog<Global>, text: &[
 }
 
 #[test]
-fn sink_fails_behind_each_byte(rt: HostRuntime) -> Result<(), Fail> {
-    let log = log_of(rt.alloc(), 2, 0, true, &winner())?;
+fn sink_fails_behind_each_byte(rt: HostRuntime) {
+    let log = log_of(&rt, 2, 0, true, &winner());
     assert_stops(&rt, &log, ELECTION_0);
-    Ok(())
 }
 
 /// Whether the question, written to a sink that fails behind so many bytes, leaves these there.
@@ -95,52 +91,48 @@ fn assert_question_stops(
 }
 
 #[test]
-fn sink_of_a_question_fails_behind_each_byte(rt: HostRuntime) -> Result<(), Fail> {
+fn sink_of_a_question_fails_behind_each_byte(rt: HostRuntime) {
     let text = b"irask 1\nnodes 2\ncase\n0: leader\n1: (leader or (not active))\nend\n";
-    let question = read_question(rt.alloc(), text)?;
+    let question = read_question(rt.alloc(), text).expect(&rt, "a question");
     assert_question_stops(&rt, &question, text);
-    Ok(())
 }
 
 #[test]
-fn to_a_writer(rt: HostRuntime) -> Result<(), Fail> {
-    let log = log_of(rt.alloc(), 2, 1, true, &loser())?;
+fn to_a_writer(rt: HostRuntime) {
+    let log = log_of(&rt, 2, 1, true, &loser());
     let mut bytes = Vec::new(rt.alloc());
     let mut sink = ToWriter::new(&mut bytes);
     let written = (write_log(&log, &mut sink), sink.flush());
-    assert_eq!(rt; (written, bytes.as_slice()), ((Ok(()), Ok(())), ELECTION_1));
-    Ok(())
+    assert!(rt; written == (Ok(()), Ok(())) && bytes.as_slice() == ELECTION_1);
 }
 
 #[test]
-fn full_writer(rt: HostRuntime) -> Result<(), Fail> {
-    let log = log_of(rt.alloc(), 2, 1, true, &loser())?;
+fn full_writer(rt: HostRuntime) {
+    let log = log_of(&rt, 2, 1, true, &loser());
     let mut room = [0; 10];
     let written = write_log(&log, &mut ToWriter::new(room.as_mut_slice()));
-    assert_eq!(rt; (written, room), (Err(WriteFault), *b"irlog 1\nno"));
-    Ok(())
+    assert!(rt; (written, room) == (Err(WriteFault), *b"irlog 1\nno"));
 }
 
 /// What writing to the buffer of a writer with room for ten bytes answers, and then flushing it.
 fn write_behind_a_buffer(
-    alloc: Global,
+    rt: &(impl Abort + AllocGlobal),
     log: &NodeLog<Global>,
-) -> Result<(Result<(), WriteFault>, Result<(), WriteFault>), Fail> {
+) -> (Result<(), WriteFault>, Result<(), WriteFault>) {
     let mut room = [0; 10];
-    let mut sink = ToWriter::new(BufWriter::new(alloc, room.as_mut_slice())?);
-    Ok((write_log(log, &mut sink), sink.flush()))
+    let buffer = BufWriter::new(rt.alloc(), room.as_mut_slice()).expect(rt, "memory");
+    let mut sink = ToWriter::new(buffer);
+    (write_log(log, &mut sink), sink.flush())
 }
 
 #[test]
-fn full_writer_behind_a_buffer(rt: HostRuntime) -> Result<(), Fail> {
-    let log = log_of(rt.alloc(), 2, 1, true, &loser())?;
-    let written = write_behind_a_buffer(rt.alloc(), &log)?;
-    assert_eq!(rt;
-        written,
-        (Ok(()), Err(WriteFault)),
+fn full_writer_behind_a_buffer(rt: HostRuntime) {
+    let log = log_of(&rt, 2, 1, true, &loser());
+    let written = write_behind_a_buffer(&rt, &log);
+    assert!(rt;
+        written == (Ok(()), Err(WriteFault)),
         "all fits in the buffer"
     );
-    Ok(())
 }
 
 /// Whether each log stands at its place.
@@ -153,21 +145,26 @@ fn are_in_place(logs: &Logs<Global>) -> bool {
     true
 }
 
-/// Logs of these ring sizes and places, gathered: how many there are.
-fn gather(alloc: Global, heads: &[(u8, u8)]) -> Result<Result<u8, HeadFault>, Fail> {
-    let mut logs = Vec::new(alloc);
+/// Compares how many logs of these ring sizes and places are gathered, or why none are.
+fn assert_gathered(
+    rt: &(impl Abort + AllocGlobal),
+    heads: &[(u8, u8)],
+    wanted: Result<u8, HeadFault>,
+) {
+    let mut logs = Vec::new(rt.alloc());
     for (nodes, place) in heads {
-        logs.push(log_of(alloc, *nodes, *place, true, &[])?)?;
+        let log = log_of(rt, *nodes, *place, true, &[]);
+        logs.push(log).expect(rt, "memory");
     }
-    match Logs::gather(logs) {
-        Ok(logs) if are_in_place(&logs) => Ok(Ok(logs.size().get())),
-        Ok(_) => Err("each log at its place".into()),
-        Err(fault) => Ok(Err(fault)),
-    }
+    let is_wanted = match Logs::gather(logs) {
+        Ok(logs) => are_in_place(&logs) && wanted == Ok(logs.size().get()),
+        Err(fault) => wanted == Err(fault),
+    };
+    assert!(rt; is_wanted, "{heads:?}");
 }
 
 #[test]
-fn heads_out_of_place(rt: HostRuntime) -> Result<(), Fail> {
+fn heads_out_of_place(rt: HostRuntime) {
     let rows: [(&[(u8, u8)], Result<u8, HeadFault>); 11] = [
         (&[(2, 0), (2, 1)], Ok(2)),
         (&[(3, 0), (3, 1), (3, 2)], Ok(3)),
@@ -182,7 +179,6 @@ fn heads_out_of_place(rt: HostRuntime) -> Result<(), Fail> {
         (&[(3, 2), (4, 1), (5, 0)], Err(HeadFault::Size(1))),
     ];
     for (heads, wanted) in rows {
-        assert!(rt; gather(rt.alloc(), heads)? == wanted, "{heads:?}");
+        assert_gathered(&rt, heads, wanted);
     }
-    Ok(())
 }

@@ -1,34 +1,39 @@
 // What the gate of a ring's threads sees: that the nodes run at once, that a message comes after its sending,
 // and that each started thread has ended.
-use crate::samples::{assert_events, assert_run, clean, loser, setup_of, winner};
+use crate::samples::{assert_run, clean, has_events, loser, setup_of, winner};
 use ira_event::{Event, NodeLog, RingSize};
 use ira_fixtures::{Meeting, TURN, comes_to};
 use ira_links::{Gate, OpenGate};
-use ira_ring::{NodeEnd, RunFault, Setup, run_ring};
+use ira_ring::{NodeEnd, Run, RunFault, Setup, run_ring};
 use std::alloc::Global;
 use std::process::Abort;
 use std::sync::Wait;
 use std::sync::atomic::{AtomicU64, Ordering};
-use std::test::Fail;
 use std::thread;
 use std::thread::Threads;
 use std::time::{Clock, Duration};
 
+/// The election of two nodes at this gate.
+fn elect<R, G>(rt: &R, gate: &G) -> Run<Global>
+where
+    R: Abort + AllocGlobal + Threads + Wait + Clock + Sync,
+    G: Gate + Sync,
+{
+    let setup = setup_of(rt, 2, &[true, true], &[&[2], &[1]], 100);
+    run_ring(rt, rt.alloc(), &setup, gate).expect(rt, "a run")
+}
+
+fn assert_elected(rt: &impl Abort, run: &Run<Global>) {
+    let ends = [NodeEnd::Leader, NodeEnd::Stopped];
+    assert_run(rt, run, &[&winner(), &loser()], &ends);
+}
+
 #[test]
-fn two_nodes_run_at_once(rt: HostRuntime) -> Result<(), Fail> {
-    let setup = setup_of(rt.alloc(), 2, &[true, true], &[&[2], &[1]], 100)?;
+fn two_nodes_run_at_once(rt: HostRuntime) {
     let gate = Meeting::new();
-    let run = run_ring(&rt, rt.alloc(), &setup, &gate)?;
-    assert_eq!(rt; gate.missed(), 0);
+    assert_elected(&rt, &elect(&rt, &gate));
     let (of_node_0, of_node_1) = gate.passes();
-    assert!(rt; of_node_0 > 0 && of_node_1 > 0);
-    assert_run(
-        &rt,
-        &run,
-        &[&winner(), &loser()],
-        &[NodeEnd::Leader, NodeEnd::Stopped],
-    );
-    Ok(())
+    assert!(rt; gate.missed() == 0 && of_node_0 > 0 && of_node_1 > 0);
 }
 
 /// Holds node 0 in its second pass until node 1 has entered its third, and then for `A_WHILE` turns more.
@@ -43,6 +48,25 @@ struct Sending {
 const A_WHILE: u32 = 200;
 
 impl Sending {
+    fn new() -> Sending {
+        Sending {
+            of_node_0: AtomicU64::new(0),
+            of_node_1: AtomicU64::new(0),
+            missed: AtomicU64::new(0),
+            early: AtomicU64::new(0),
+        }
+    }
+
+    /// How often the nodes passed, and of the one that was held: how often the other one didn't come, and came early.
+    fn counts(&self) -> [u64; 4] {
+        [
+            self.of_node_0.load(Ordering::SeqCst),
+            self.of_node_1.load(Ordering::SeqCst),
+            self.missed.load(Ordering::SeqCst),
+            self.early.load(Ordering::SeqCst),
+        ]
+    }
+
     fn hold<R: Clock>(&self, rt: &R) {
         if !comes_to(rt, &self.of_node_1, 3) {
             self.missed.fetch_add(1, Ordering::SeqCst);
@@ -71,26 +95,10 @@ impl Gate for Sending {
 }
 
 #[test]
-fn nothing_is_received_before_it_is_sent(rt: HostRuntime) -> Result<(), Fail> {
-    let setup = setup_of(rt.alloc(), 2, &[true, true], &[&[2], &[1]], 100)?;
-    let gate = Sending {
-        of_node_0: AtomicU64::new(0),
-        of_node_1: AtomicU64::new(0),
-        missed: AtomicU64::new(0),
-        early: AtomicU64::new(0),
-    };
-    let run = run_ring(&rt, rt.alloc(), &setup, &gate)?;
-    assert_eq!(rt; gate.missed.load(Ordering::SeqCst), 0);
-    assert_eq!(rt; gate.early.load(Ordering::SeqCst), 0);
-    assert_eq!(rt; gate.of_node_0.load(Ordering::SeqCst), 4);
-    assert_eq!(rt; gate.of_node_1.load(Ordering::SeqCst), 5);
-    assert_run(
-        &rt,
-        &run,
-        &[&winner(), &loser()],
-        &[NodeEnd::Leader, NodeEnd::Stopped],
-    );
-    Ok(())
+fn nothing_is_received_before_it_is_sent(rt: HostRuntime) {
+    let gate = Sending::new();
+    assert_elected(&rt, &elect(&rt, &gate));
+    assert_eq!(rt; gate.counts(), [4, 5, 0, 0]);
 }
 
 /// Holds node 1 in its first pass until node 0 has entered its fifth, behind its second sending.
@@ -120,25 +128,47 @@ impl Gate for LateReader {
 
 // On a link that held one frame, node 0 would wait in its second sending until node 1 is let go.
 #[test]
-fn a_link_holds_what_its_reader_is_late_for(rt: HostRuntime) -> Result<(), Fail> {
-    let setup = setup_of(rt.alloc(), 3, &[true, true, true], &[&[1], &[2], &[3]], 100)?;
+fn a_link_holds_what_its_reader_is_late_for(rt: HostRuntime) {
+    let setup = setup_of(&rt, 3, &[true, true, true], &[&[1], &[2], &[3]], 100);
     let gate = LateReader {
         of_node_0: AtomicU64::new(0),
         of_node_1: AtomicU64::new(0),
         missed: AtomicU64::new(0),
     };
-    run_ring(&rt, rt.alloc(), &setup, &gate)?;
-    assert_eq!(rt; gate.missed.load(Ordering::SeqCst), 0);
-    Ok(())
+    let has_run = run_ring(&rt, rt.alloc(), &setup, &gate).is_ok();
+    assert!(rt; has_run && gate.missed.load(Ordering::SeqCst) == 0);
 }
 
-/// Admits the nodes below a place, and keeps a node in each pass for a while.
+/// Admits the nodes below a place of a ring of three, and keeps a node in each pass for a while.
 #[derive(Drop)]
 struct Below {
     place: u32,
     asked: AtomicU64,
-    entered: Vec<AtomicU64>,
+    entered: [AtomicU64; 3],
     inside: AtomicU64,
+}
+
+impl Below {
+    fn new(place: u32) -> Below {
+        Below {
+            place,
+            asked: AtomicU64::new(0),
+            entered: [AtomicU64::new(0), AtomicU64::new(0), AtomicU64::new(0)],
+            inside: AtomicU64::new(0),
+        }
+    }
+
+    /// Whether no node is left in a pass, and each was asked for and came to its draw where it was admitted.
+    fn has_ended_all(&self) -> bool {
+        let [first, second, third] = &self.entered;
+        for (node, entered) in [(0, first), (1, second), (2, third)] {
+            if (entered.load(Ordering::SeqCst) > 0) != (node < self.place) {
+                return false;
+            }
+        }
+        self.inside.load(Ordering::SeqCst) == 0
+            && self.asked.load(Ordering::SeqCst) == u64::from(self.place) + 1
+    }
 }
 
 impl Gate for Below {
@@ -157,94 +187,79 @@ impl Gate for Below {
     }
 }
 
-/// A ring of three of which the gate admits the nodes below a place.
-fn assert_refused_from<R: Abort + Threads + Wait + Clock + Sync>(
+/// Runs a ring of three of which the gate admits the nodes below a place.
+fn assert_refused_from<R: Abort + AllocGlobal + Threads + Wait + Clock + Sync>(
     rt: &R,
-    alloc: Global,
     setup: &Setup<Global>,
     place: u32,
-) -> Result<(), Fail> {
-    let mut entered = Vec::new(alloc);
-    for _ in 0..3 {
-        entered.push(AtomicU64::new(0))?;
-    }
-    let gate = Below {
-        place,
-        asked: AtomicU64::new(0),
-        entered,
-        inside: AtomicU64::new(0),
-    };
-    let refused = run_ring(rt, alloc, setup, &gate).err();
-    assert_eq!(rt; refused, Some(RunFault::Thread), "place {place}");
-    // Each started node came to its draw, and none is left in a pass.
-    assert_eq!(rt; gate.inside.load(Ordering::SeqCst), 0, "place {place}");
-    assert_eq!(rt; gate.asked.load(Ordering::SeqCst), u64::from(place) + 1);
-    for (node, entered) in (0..).zip(&gate.entered) {
-        assert_eq!(rt;
-            entered.load(Ordering::SeqCst) > 0,
-            node < place,
-            "node {node} of place {place}"
-        );
-    }
-    Ok(())
+) {
+    let gate = Below::new(place);
+    let refused = run_ring(rt, rt.alloc(), setup, &gate).err();
+    let has_ended_all = gate.has_ended_all();
+    assert!(rt;
+        refused == Some(RunFault::Thread) && has_ended_all,
+        "place {place}"
+    );
 }
 
 #[test]
-fn refused_start_ends_all(rt: HostRuntime) -> Result<(), Fail> {
-    let alloc = rt.alloc();
-    let setup = setup_of(alloc, 3, &[true, true, true], &[&[3], &[1], &[2]], 100)?;
+fn refused_start_ends_all(rt: HostRuntime) {
+    let setup = setup_of(&rt, 3, &[true, true, true], &[&[3], &[1], &[2]], 100);
     for place in 0..3 {
-        assert_refused_from(&rt, alloc, &setup, place)?;
+        assert_refused_from(&rt, &setup, place);
     }
-    Ok(())
 }
 
 /// The setup of a ring of 64 in which each node but the last draws less than the next one.
-fn rising_setup(alloc: Global) -> Result<Setup<Global>, Fail> {
-    let mut draws = Vec::new(alloc);
+fn rising_setup(rt: &(impl Abort + AllocGlobal)) -> Setup<Global> {
+    let mut draws = Vec::new(rt.alloc());
     for id in 1..=64_u32 {
-        draws.push(vec![in alloc; id]?)?;
+        let list = vec![in rt.alloc(); id].expect(rt, "memory");
+        draws.push(list).expect(rt, "memory");
     }
-    Ok(Setup {
-        nodes: RingSize::new(64).ok_or("a ring of 64")?,
-        initiators: vec![in alloc; true; 64]?,
+    Setup {
+        nodes: RingSize::new(64).expect(rt, "a ring of 64"),
+        initiators: vec![in rt.alloc(); true; 64].expect(rt, "memory"),
         draws,
         cap: 100,
-    })
+    }
 }
 
-/// Each node but the last passes on the message of the last one.
-fn assert_passed_on(rt: &impl Abort, log: &NodeLog<Global>, place: u8) {
+/// Whether a node but the last passed on the message of the last one.
+fn has_passed_on(log: &NodeLog<Global>, place: u8) -> bool {
     let id = u32::from(place) + 1;
     let drawn = Event::Draw(id);
     let sent = Event::Sent(clean(1, id, 1));
     let last = Event::Got(clean(1, 64, id));
     let passed = Event::Sent(clean(1, 64, id + 1));
     match place {
-        0 => assert_events(rt, log, &[drawn, sent, last, passed]),
-        63 => assert_events(rt, log, &[drawn, sent, Event::Got(clean(1, 63, 1)), last]),
+        0 => has_events(log, &[drawn, sent, last, passed]),
+        63 => has_events(log, &[drawn, sent, Event::Got(clean(1, 63, 1)), last]),
         _ => {
             let less = Event::Got(clean(1, id - 1, 1));
-            assert_events(rt, log, &[drawn, sent, less, last, passed]);
+            has_events(log, &[drawn, sent, less, last, passed])
         }
     }
 }
 
-#[test]
-fn sixty_four_nodes(rt: HostRuntime) -> Result<(), Fail> {
-    let alloc = rt.alloc();
-    let setup = rising_setup(alloc)?;
-    let run = run_ring(&rt, alloc, &setup, &OpenGate)?;
-    assert_eq!(rt; run.logs().size().get(), 64);
+/// Whether each node but the last of 64 passed on its message, and the last one leads.
+fn has_elected_last(run: &Run<Global>) -> bool {
     for place in 0..run.logs().size().get() {
-        assert_passed_on(&rt, run.logs().log(place), place);
-    }
-    for (place, end) in (0..).zip(run.ends()) {
+        let end = run.ends().get(usize::from(place)).copied();
         let expected = match place {
             63 => NodeEnd::Leader,
             _ => NodeEnd::Stopped,
         };
-        assert_eq!(rt; *end, expected, "node {place}");
+        if end != Some(expected) || !has_passed_on(run.logs().log(place), place) {
+            return false;
+        }
     }
-    Ok(())
+    run.logs().size().get() == 64
+}
+
+#[test]
+fn sixty_four_nodes(rt: HostRuntime) {
+    let setup = rising_setup(&rt);
+    let run = run_ring(&rt, rt.alloc(), &setup, &OpenGate).expect(&rt, "a run");
+    assert!(rt; has_elected_last(&run));
 }

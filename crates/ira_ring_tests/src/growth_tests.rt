@@ -2,14 +2,14 @@
 
 use ira_event::{OutOfMemory, RingSize, WriteFault};
 use ira_links::OpenGate;
-use ira_refusing::{FailingSink, Outcome, Refusing, each_growth_refused};
+use ira_refusing::{FailingSink, Outcome, Refusing, TrialFault, each_growth_refused};
 use ira_ring::{
     Collector, NodeEnd, Run, RunFault, Setup, draw_lists, run_alone, run_alone_seeded, run_ring,
     write_ends,
 };
 use std::alloc::Global;
+use std::process::Abort;
 use std::sync::Wait;
-use std::test::Fail;
 use std::thread::Threads;
 use std::time::Clock;
 
@@ -62,6 +62,10 @@ fn is_election(found: Result<Run<Memory>, RunFault>, end: NodeEnd) -> Outcome {
     }
 }
 
+fn handle(rt: &impl Abort, memory: &Memory) -> Memory {
+    memory.clone().expect(rt, "memory")
+}
+
 /// What the calls are made on.
 #[derive(Drop)]
 struct Given {
@@ -71,17 +75,19 @@ struct Given {
 }
 
 impl Given {
-    fn new(memory: &Memory) -> Result<Given, Fail> {
-        let nodes = RingSize::new(2).ok_or("a ring of two")?;
-        Ok(Given {
-            largest: RingSize::new(64).ok_or("a ring of 64")?,
+    fn new(rt: &impl Abort, memory: &Memory) -> Given {
+        let nodes = RingSize::new(2).expect(rt, "a ring of two");
+        let initiators = [true, true].to_vec(handle(rt, memory));
+        let draws = draw_lists(handle(rt, memory), nodes, 7, 1);
+        Given {
+            largest: RingSize::new(64).expect(rt, "a ring of 64"),
             setup: Setup {
                 nodes,
-                initiators: [true, true].to_vec(memory.clone()?)?,
-                draws: draw_lists(memory.clone()?, nodes, 7, 1)?,
+                initiators: initiators.expect(rt, "memory"),
+                draws: draws.expect(rt, "memory"),
                 cap: 100,
             },
-        })
+        }
     }
 
     /// What becomes of the call with this memory.
@@ -108,32 +114,39 @@ impl Given {
     }
 }
 
-#[test]
-fn each_growth_is_refused(rt: HostRuntime) -> Result<(), Fail> {
-    let memory = Refusing::new(rt.alloc())?;
-    let given = Given::new(&memory)?;
-    for call in CALLS {
-        let growths = each_growth_refused(&memory, |alloc| given.outcome(&rt, call, alloc));
-        assert!(rt;
-            matches!(growths, Ok(number) if 0 < number),
-            "{call:?}: {growths:?}"
-        );
-    }
-    Ok(())
+/// Compares that the call passed its trial, and that some of its growths were refused.
+fn assert_refused(rt: &impl Abort, call: Call, growths: Result<u64, TrialFault>) {
+    assert!(rt;
+        matches!(growths, Ok(number) if 0 < number),
+        "{call:?}: {growths:?}"
+    );
 }
 
 #[test]
-fn sink_fails_behind_each_byte(rt: HostRuntime) -> Result<(), Fail> {
-    let nodes = RingSize::new(2).ok_or("a ring of two")?;
-    let run = run_alone_seeded(rt.alloc(), nodes, &[true, true], 7, 1, 100)?;
+fn each_growth_is_refused(rt: HostRuntime) {
+    let memory = Refusing::new(rt.alloc()).expect(&rt, "memory");
+    let given = Given::new(&rt, &memory);
+    for call in CALLS {
+        let growths = each_growth_refused(&memory, |alloc| given.outcome(&rt, call, alloc));
+        assert_refused(&rt, call, growths);
+    }
+}
+
+/// Whether the ends, written to a sink that fails behind so many bytes, leave these there.
+fn stops_behind(alloc: Global, run: &Run<Global>, front: &[u8]) -> bool {
+    let mut sink = FailingSink::new(alloc, front.len());
+    write_ends(run, &mut sink) == Err(WriteFault) && sink.bytes() == front
+}
+
+#[test]
+fn sink_fails_behind_each_byte(rt: HostRuntime) {
+    let nodes = RingSize::new(2).expect(&rt, "a ring of two");
+    let run = run_alone_seeded(rt.alloc(), nodes, &[true, true], 7, 1, 100).expect(&rt, "a run");
     let ends = b"node 0: leader, 4 events\nnode 1: quiet, 4 events\n";
     for k in 0..ends.len() {
-        let mut sink = FailingSink::new(rt.alloc(), k);
-        let written = write_ends(&run, &mut sink);
         assert!(rt;
-            written == Err(WriteFault) && sink.bytes() == &ends[..k],
+            stops_behind(rt.alloc(), &run, &ends[..k]),
             "after {k} bytes"
         );
     }
-    Ok(())
 }

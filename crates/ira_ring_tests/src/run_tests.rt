@@ -6,47 +6,39 @@ use ira_ring::{NodeEnd, RunFault, Setup, run_alone, run_ring};
 use std::alloc::Global;
 use std::process::Abort;
 use std::sync::Wait;
-use std::test::Fail;
 use std::thread::Threads;
 use std::time::Clock;
 
-fn assert_runs<R: Abort + Threads + Wait + Clock + Sync>(
+fn assert_runs<R: Abort + AllocGlobal + Threads + Wait + Clock + Sync>(
     rt: &R,
-    alloc: Global,
     setup: &Setup<Global>,
     logs: &[&[Event]],
     ends_alone: &[NodeEnd],
     ends_in_ring: &[NodeEnd],
-) -> Result<(), Fail> {
-    assert_run(rt, &run_alone(alloc, setup)?, logs, ends_alone);
-    assert_run(
-        rt,
-        &run_ring(rt, alloc, setup, &OpenGate)?,
-        logs,
-        ends_in_ring,
-    );
-    Ok(())
+) {
+    let alone = run_alone(rt.alloc(), setup).expect(rt, "a run on one thread");
+    assert_run(rt, &alone, logs, ends_alone);
+    let in_ring = run_ring(rt, rt.alloc(), setup, &OpenGate).expect(rt, "a run");
+    assert_run(rt, &in_ring, logs, ends_in_ring);
 }
 
 #[test]
-fn two_node_election(rt: HostRuntime) -> Result<(), Fail> {
-    let setup = setup_of(rt.alloc(), 2, &[true, true], &[&[2], &[1]], 100)?;
+fn two_node_election(rt: HostRuntime) {
+    let setup = setup_of(&rt, 2, &[true, true], &[&[2], &[1]], 100);
     assert_runs(
         &rt,
-        rt.alloc(),
         &setup,
         &[&winner(), &loser()],
         &[NodeEnd::Leader, NodeEnd::Quiet],
         &[NodeEnd::Leader, NodeEnd::Stopped],
-    )
+    );
 }
 
 #[test]
-fn tie_then_win(rt: HostRuntime) -> Result<(), Fail> {
-    let setup = setup_of(rt.alloc(), 2, &[true, true], &[&[1, 2], &[1, 1]], 100)?;
+fn tie_then_win(rt: HostRuntime) {
+    let setup = setup_of(&rt, 2, &[true, true], &[&[1, 2], &[1, 1]], 100);
     assert_runs(
         &rt,
-        rt.alloc(),
         &setup,
         &[
             &[
@@ -74,15 +66,14 @@ fn tie_then_win(rt: HostRuntime) -> Result<(), Fail> {
         ],
         &[NodeEnd::Leader, NodeEnd::Quiet],
         &[NodeEnd::Leader, NodeEnd::Stopped],
-    )
+    );
 }
 
 #[test]
-fn lone_initiator(rt: HostRuntime) -> Result<(), Fail> {
-    let setup = setup_of(rt.alloc(), 3, &[true, false, false], &[&[1], &[], &[]], 100)?;
+fn lone_initiator(rt: HostRuntime) {
+    let setup = setup_of(&rt, 3, &[true, false, false], &[&[1], &[], &[]], 100);
     assert_runs(
         &rt,
-        rt.alloc(),
         &setup,
         &[
             &[
@@ -95,7 +86,7 @@ fn lone_initiator(rt: HostRuntime) -> Result<(), Fail> {
         ],
         &[NodeEnd::Leader, NodeEnd::Quiet, NodeEnd::Quiet],
         &[NodeEnd::Leader, NodeEnd::Stopped, NodeEnd::Stopped],
-    )
+    );
 }
 
 /// The events of a node of a ring of two in which both nodes draw 1.
@@ -110,44 +101,41 @@ fn tied() -> [Event; 5] {
 }
 
 #[test]
-fn draws_spent_on_both(rt: HostRuntime) -> Result<(), Fail> {
-    let setup = setup_of(rt.alloc(), 2, &[true, true], &[&[1], &[1]], 100)?;
+fn draws_spent_on_both(rt: HostRuntime) {
+    let setup = setup_of(&rt, 2, &[true, true], &[&[1], &[1]], 100);
     let spent = [NodeEnd::DrawsSpent, NodeEnd::DrawsSpent];
-    assert_runs(&rt, rt.alloc(), &setup, &[&tied(), &tied()], &spent, &spent)
+    assert_runs(&rt, &setup, &[&tied(), &tied()], &spent, &spent);
 }
 
-fn assert_refused<R: Abort + Threads + Wait + Clock + Sync>(
+/// Compares that neither runner takes this setup of a ring of two.
+fn assert_refused<R: Abort + AllocGlobal + Threads + Wait + Clock + Sync>(
     rt: &R,
-    alloc: Global,
-    setup: &Setup<Global>,
+    initiators: &[bool],
+    first: u32,
+    cap: usize,
 ) {
-    assert_eq!(rt; run_alone(alloc, setup).err(), Some(RunFault::Setup));
-    assert_eq!(rt;
-        run_ring(rt, alloc, setup, &OpenGate).err(),
-        Some(RunFault::Setup)
-    );
+    let setup = setup_of(rt, 2, initiators, &[&[first], &[1]], cap);
+    let refused = [
+        run_alone(rt.alloc(), &setup).err(),
+        run_ring(rt, rt.alloc(), &setup, &OpenGate).err(),
+    ];
+    assert_eq!(rt; refused, [Some(RunFault::Setup), Some(RunFault::Setup)]);
 }
 
 #[test]
-fn full_logs_and_bad_setups(rt: HostRuntime) -> Result<(), Fail> {
-    let both = &[true, true];
-    let setup = setup_of(rt.alloc(), 2, both, &[&[2], &[1]], 3)?;
+fn full_logs_and_bad_setups(rt: HostRuntime) {
+    let setup = setup_of(&rt, 2, &[true, true], &[&[2], &[1]], 3);
     let full = [NodeEnd::LogFull, NodeEnd::LogFull];
     let logs = [&winner()[..3], &loser()[..3]];
-    assert_runs(&rt, rt.alloc(), &setup, &logs, &full, &full)?;
-    for setup in [
-        setup_of(rt.alloc(), 2, &[false, false], &[&[2], &[1]], 100)?,
-        setup_of(rt.alloc(), 2, both, &[&[2], &[1]], 0)?,
-        setup_of(rt.alloc(), 2, both, &[&[3], &[1]], 100)?,
-    ] {
-        assert_refused(&rt, rt.alloc(), &setup);
-    }
-    Ok(())
+    assert_runs(&rt, &setup, &logs, &full, &full);
+    assert_refused(&rt, &[false, false], 2, 100);
+    assert_refused(&rt, &[true, true], 2, 0);
+    assert_refused(&rt, &[true, true], 3, 100);
 }
 
 #[test]
-fn waiting_for_a_spent_node(rt: HostRuntime) -> Result<(), Fail> {
-    let setup = setup_of(rt.alloc(), 2, &[true, true], &[&[1], &[1, 1]], 100)?;
+fn waiting_for_a_spent_node(rt: HostRuntime) {
+    let setup = setup_of(&rt, 2, &[true, true], &[&[1], &[1, 1]], 100);
     let [drawn, sent, met, passed, back] = tied();
     let again = [
         drawn,
@@ -160,24 +148,16 @@ fn waiting_for_a_spent_node(rt: HostRuntime) -> Result<(), Fail> {
     ];
     assert_runs(
         &rt,
-        rt.alloc(),
         &setup,
         &[&tied(), &again],
         &[NodeEnd::DrawsSpent, NodeEnd::Quiet],
         &[NodeEnd::DrawsSpent, NodeEnd::Stopped],
-    )
+    );
 }
 
 #[test]
-fn leader_beside_a_full_log(rt: HostRuntime) -> Result<(), Fail> {
-    let setup = setup_of(rt.alloc(), 2, &[true, true], &[&[2], &[1]], 4)?;
+fn leader_beside_a_full_log(rt: HostRuntime) {
+    let setup = setup_of(&rt, 2, &[true, true], &[&[2], &[1]], 4);
     let ends = [NodeEnd::Leader, NodeEnd::LogFull];
-    assert_runs(
-        &rt,
-        rt.alloc(),
-        &setup,
-        &[&winner(), &loser()],
-        &ends,
-        &ends,
-    )
+    assert_runs(&rt, &setup, &[&winner(), &loser()], &ends, &ends);
 }

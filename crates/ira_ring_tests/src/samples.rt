@@ -6,7 +6,6 @@ use ira_event::{Event, Msg, NodeLog, RingSize};
 use ira_ring::{NodeEnd, Run, Setup};
 use std::alloc::Global;
 use std::process::Abort;
-use std::test::Fail;
 
 pub fn clean(round: u32, id: u32, hop: u32) -> Msg
     requires { (1 ≤ round) × (round ≤ 1000000) × (1 ≤ id) × (id ≤ 1000000) × (1 ≤ hop) × (hop ≤ 1000000) }
@@ -51,37 +50,52 @@ pub fn loser() -> [Event; 4] {
 
 /// A setup of a ring of so many nodes.
 pub fn setup_of(
-    alloc: Global,
+    rt: &(impl Abort + AllocGlobal),
     nodes: u8,
     initiators: &[bool],
     draws: &[&[u32]],
     cap: usize,
-) -> Result<Setup<Global>, Fail> {
-    let mut lists = Vec::new(alloc);
+) -> Setup<Global> {
+    let mut lists = Vec::new(rt.alloc());
     for ids in draws {
-        lists.push(ids.to_vec(alloc)?)?;
+        let list = ids.to_vec(rt.alloc()).expect(rt, "memory");
+        lists.push(list).expect(rt, "memory");
     }
-    Ok(Setup {
-        nodes: RingSize::new(nodes).ok_or("a ring of that size")?,
-        initiators: initiators.to_vec(alloc)?,
+    Setup {
+        nodes: RingSize::new(nodes).expect(rt, "a ring of that size"),
+        initiators: initiators.to_vec(rt.alloc()).expect(rt, "memory"),
         draws: lists,
         cap,
-    })
+    }
 }
 
-pub fn assert_events(rt: &impl Abort, log: &NodeLog<Global>, expected: &[Event]) {
+/// Whether these are the events of the log.
+pub fn has_events(log: &NodeLog<Global>, expected: &[Event]) -> bool {
     let mut events = log.events();
     for event in expected {
-        assert_eq!(rt; events.next(), Some(*event));
+        if events.next() != Some(*event) {
+            return false;
+        }
     }
-    assert_eq!(rt; events.next(), None);
+    events.next().is_none()
+}
+
+/// Whether these are the logs of the nodes, in their order.
+fn has_logs(run: &Run<Global>, logs: &[&[Event]]) -> bool {
+    let size = run.logs().size().get();
+    if usize::from(size) != logs.len() {
+        return false;
+    }
+    for place in 0..size {
+        if !has_events(run.logs().log(place), logs[usize::from(place)]) {
+            return false;
+        }
+    }
+    true
 }
 
 pub fn assert_run(rt: &impl Abort, run: &Run<Global>, logs: &[&[Event]], ends: &[NodeEnd]) {
-    assert_eq!(rt; run.ends(), ends);
-    let size = run.logs().size().get();
-    assert_eq!(rt; usize::from(size), logs.len());
-    for place in 0..size {
-        assert_events(rt, run.logs().log(place), logs[usize::from(place)]);
-    }
+    let has_logs = has_logs(run, logs);
+    let found = run.ends();
+    assert!(rt; has_logs && found == ends, "{found:?}");
 }
