@@ -20,7 +20,7 @@ use std::marker::Model;
 pub struct Records<'a> {
     rest: &'a [u8],
     count: usize,
-    /// The last record that was read, where it is a receipt.
+    /// The last receipt that was read, if its line can be compared.
     receipt: Option<Receipt<'a>>,
 }
 
