@@ -3,7 +3,7 @@
 #![tactic(auto)]
 
 use ira_event::ToWriter;
-use ira_main::{Counted, FileShelf, Shelf, ShelfFault, serve, start};
+use ira_main::{Counted, FileShelf, Shelf, ShelfFault, TextBuffer, serve, start};
 use std::alloc::AllocError;
 use std::io;
 use std::io::{Stdin, Stdout};
@@ -40,8 +40,9 @@ fn written(rt: &(impl AllocGlobal + Files), nodes: u8) -> Result<Vec<Vec<u8>>, S
     let mut files = Vec::new(rt.alloc());
     for place in 0..nodes {
         let name = format!(in rt.alloc(); "{place}.log")?;
-        let text = shelf.read(name.as_str())?;
-        if files.push(text).is_err() {
+        let mut text = TextBuffer::new(rt.alloc());
+        shelf.read(name.as_str(), &mut text)?;
+        if files.push(text.bytes().to_vec(rt.alloc())?).is_err() {
             return Err(AllocError.into());
         }
     }

@@ -62,16 +62,15 @@ fn read_text<A: Allocator + Clone>(alloc: &A, text: &[u8]) -> Result<ReplayedLog
 }
 
 /// The logs of the texts or their faults, read side by side.
-fn read_texts<R, A, B>(
+fn read_texts<R, A>(
     rt: &R,
     alloc: &A,
-    texts: &[Vec<u8, B>],
+    texts: &[&[u8]],
 ) -> Result<Vec<Result<ReplayedLog<A>, LogFault>, A>, AllocError>
 where
     R: Threads + Sync,
     A: Allocator + Clone + Send + Sync,
-    B: Allocator + Sync,
-    ensures { IfOk result (λ readings. AllZip IsReading (map (λ text. text.items) texts.now) readings.items) }
+    ensures { IfOk result (λ readings. AllZip IsReading (map (λ text. text.now) texts.now) readings.items) }
 {
     thread::map_indices(
         rt,
@@ -79,8 +78,8 @@ where
         texts.len(),
         &|i| -> Result<ReplayedLog<A>, LogFault>
             requires { i < length texts.now }
-            ensures { IfSome (slice_get texts.entry.now i) (λ text. IsReading text.items result) }
-        { read_text(alloc, &texts[i]) },
+            ensures { IfSome (slice_get texts.entry.now i) (λ text. IsReading text.now result) }
+        { read_text(alloc, texts[i]) },
     )
 }
 
@@ -111,14 +110,13 @@ impl<A: Allocator + Clone> RingAudit<A> {
     /// Takes the texts that come next. They are read and replayed side by side, each by a thread of its own
     /// where one can be started, and else by the caller's. Behind a text that is no log's none counts. Where memory
     /// runs out the audit is as it was.
-    pub fn take_all<R, B>(&mut self, rt: &R, texts: &[Vec<u8, B>]) -> Result<(), OutOfMemory>
+    pub fn take_all<R>(&mut self, rt: &R, texts: &[&[u8]]) -> Result<(), OutOfMemory>
     where
         R: Threads + Sync,
         A: Send + Sync,
-        B: Allocator + Sync,
         ensures ok { OnOk result
             ((before : List (List ℕ)) → HasTaken self.old before
-            → HasTaken self.new (before ++ map (λ text. text.items) texts.now)) }
+            → HasTaken self.new (before ++ map (λ text. text.now) texts.now)) }
         ensures err { OnErr result (self.new ≡ self.old) }
     {
         if self.fault.is_some() {
@@ -131,12 +129,11 @@ impl<A: Allocator + Clone> RingAudit<A> {
     }
 
     /// An audit that has taken these texts alone.
-    fn of_texts<R, B>(rt: &R, alloc: &A, texts: &[Vec<u8, B>]) -> Result<RingAudit<A>, OutOfMemory>
+    fn of_texts<R>(rt: &R, alloc: &A, texts: &[&[u8]]) -> Result<RingAudit<A>, OutOfMemory>
     where
         R: Threads + Sync,
         A: Send + Sync,
-        B: Allocator + Sync,
-        ensures { IfOk result (λ audit. HasTaken audit (map (λ text. text.items) texts.now)) }
+        ensures { IfOk result (λ audit. HasTaken audit (map (λ text. text.now) texts.now)) }
     {
         let mut audit = RingAudit::new(alloc.clone()?);
         for reading in read_texts(rt, alloc, texts)? {

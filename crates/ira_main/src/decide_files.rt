@@ -53,9 +53,9 @@ where
         × GivesNoAnswer (IsFilesFault F.reads (decide_names decide.now) shelf.old shelf.new)
         (W.state out.old) (W.state out.new) result) }
 {
-    let question = read_file(decide.question, shelf)?;
+    let question = read_file(&alloc, decide.question, shelf)?;
     let audit = read_logs(rt, alloc.clone()?, &decide.logs, shelf)?;
-    let findings = audit.decide(&question)?;
+    let findings = audit.decide(question.bytes())?;
     let mut text = MemorySink::new(alloc);
     let Ok(()) = write_findings(&findings, &mut text) else {
         return Err(ProgramFault::OutOfMemory);

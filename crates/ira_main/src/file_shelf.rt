@@ -1,7 +1,7 @@
 use crate::counted::Counted;
-use crate::read_text::read_text;
 use crate::shelf::Shelf;
 use crate::shelf_fault::ShelfFault;
+use crate::text_buffer::TextBuffer;
 use ira_event::ToWriter;
 use std::alloc::Allocator;
 use std::fs::{self, Files};
@@ -34,10 +34,9 @@ impl<R: Files, A: Allocator + Clone> Shelf<A> for FileShelf<'_, R, A> {
 
     ghost closes = { λ _ _ _ _. ⊤ };
 
-    fn read(&mut self, name: &str) -> Result<Vec<u8, A>, ShelfFault> {
-        let alloc = self.alloc.clone()?;
+    fn read(&mut self, name: &str, text: &mut TextBuffer<A>) -> Result<(), ShelfFault> {
         let file = fs::open(self.rt, name)?;
-        read_text(alloc, &mut Counted::new(file))
+        text.fill(&mut Counted::new(file))
     }
 
     fn create(&mut self, name: &str) -> Result<Self::Out, ShelfFault> {

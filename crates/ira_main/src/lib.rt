@@ -17,6 +17,7 @@ mod shelf;
 mod shelf_fault;
 mod status;
 mod system;
+mod text_buffer;
 
 pub use cert_file::keep_cert;
 pub use counted::Counted;
@@ -25,3 +26,4 @@ pub use program::serve;
 pub use shelf::Shelf;
 pub use shelf_fault::ShelfFault;
 pub use system::start;
+pub use text_buffer::TextBuffer;

@@ -10,10 +10,10 @@ use crate::decide_files::decide_files;
 use crate::print_pairs::print_pairs;
 use crate::program_fault::{ProgramFault, report_outcome};
 use crate::read_files::{read_file, read_logs};
-use crate::read_text::read_text;
 use crate::record_run::record_run;
 use crate::shelf::Shelf;
 use crate::status::Status;
+use crate::text_buffer::TextBuffer;
 use ira_audit::{Answer, audit_one, write_report};
 use ira_event::{MAX_TEXT, Sink, WriteFault};
 use ira_links::OpenGate;
@@ -44,11 +44,11 @@ fn judge_input<'a, A: Allocator, I: Read, W: Sink>(
     ensures judged { Judges input.old input.new (W.state out.old) (W.state out.new) result }
     ensures reads { input.new.reads ≤ input.old.reads + (MAX_TEXT + 1) }
 {
-    let text = match read_text(&alloc, input) {
-        Ok(text) => text,
-        Err(fault) => return Err(ProgramFault::cannot_read("-", fault)),
-    };
-    let answer = audit_one(&alloc, &text)?;
+    let mut text = TextBuffer::new(&alloc);
+    if let Err(fault) = text.fill(input) {
+        return Err(ProgramFault::cannot_read("-", fault));
+    }
+    let answer = audit_one(&alloc, text.bytes())?;
     report(&answer, out)
 }
 
@@ -97,10 +97,11 @@ where
         (W.state out.old) (W.state out.new) result }
     ensures files { F.files shelf.new ≡ F.files shelf.old }
 {
-    let question = read_file(check.question, shelf)?;
-    let certificate = read_file(check.certificate, shelf)?;
+    let question = read_file(&alloc, check.question, shelf)?;
+    let certificate = read_file(&alloc, check.certificate, shelf)?;
     let audit = read_logs(rt, alloc, &check.logs, shelf)?;
-    let answer = audit.finish_with(rt, &question, &certificate, check.depth, &OpenGate)?;
+    let (question, certificate) = (question.bytes(), certificate.bytes());
+    let answer = audit.finish_with(rt, question, certificate, check.depth, &OpenGate)?;
     report(&answer, out)
 }
 

@@ -1,51 +1,94 @@
-ghost use Rattle.std.specs.Prelude.{◌≡◌, ℕ, List, Ok, [], ◌∷◌, IfErr, IfOk, map};
+ghost use Rattle.std.specs.Prelude.{◌≡◌, ◌≤◌, ℕ, List, Ok, [], ◌∷◌, IfErr, IfOk, length, map, take};
 ghost use Rattle.ira_audit.specs.RingAudit.{HasTaken};
 ghost use Rattle.ira_main.specs.FilesRead.{IsFilesFault, ReadsFiles};
 
 use crate::program_fault::ProgramFault;
 use crate::shelf::Shelf;
+use crate::text_buffer::TextBuffer;
 use ira_audit::RingAudit;
-use std::alloc::Allocator;
+use std::alloc::{AllocError, Allocator};
 use std::thread::Threads;
 
 /// How many texts of logs are in memory at a time, and are read side by side.
 const TEXTS_AT_ONCE: usize = 4;
 
-/// The text of the file of this name.
-pub(crate) fn read_file<'a, A: Allocator, F: Shelf<A>>(
+/// Reads the text of the file of this name.
+fn read_into<'a, A: Allocator, F: Shelf<A>>(
     name: &'a str,
+    text: &mut TextBuffer<A>,
     shelf: &mut F,
-) -> Result<Vec<u8, A>, ProgramFault<'a>>
-    ensures read { IfOk result (λ text. F.reads shelf.old name.now (Ok text.items) shelf.new) }
+) -> Result<(), ProgramFault<'a>>
+    ensures read { IfOk result (λ _. F.reads shelf.old name.now (Ok text.new) shelf.new) }
     ensures fault { IfErr result (IsFilesFault F.reads (name.now ∷ []) shelf.old shelf.new) }
     ensures files { F.files shelf.new ≡ F.files shelf.old }
 {
-    match shelf.read(name) {
-        Ok(text) => Ok(text),
+    match shelf.read(name, text) {
+        Ok(()) => Ok(()),
         Err(fault) => Err(ProgramFault::cannot_read(name, fault)),
     }
 }
 
-/// The texts of the files of these names, which are read in turn.
-fn read_texts<'a, A: Allocator, F: Shelf<A>>(
-    alloc: A,
-    names: &[&'a str],
+/// The text of the file of this name.
+pub(crate) fn read_file<'a, A: Allocator + Clone, F: Shelf<A>>(
+    alloc: &A,
+    name: &'a str,
     shelf: &mut F,
-) -> Result<Vec<Vec<u8, A>, A>, ProgramFault<'a>>
-    ensures read { IfOk result (λ texts. ReadsFiles F.reads (map (λ name. name.now) names.now)
-        shelf.old shelf.new (map (λ text. text.items) texts.items)) }
+) -> Result<TextBuffer<A>, ProgramFault<'a>>
+    ensures read { IfOk result (λ text. F.reads shelf.old name.now (Ok text) shelf.new) }
+    ensures fault { IfErr result (IsFilesFault F.reads (name.now ∷ []) shelf.old shelf.new) }
+    ensures files { F.files shelf.new ≡ F.files shelf.old }
+{
+    let mut text = TextBuffer::new(alloc.clone()?);
+    read_into(name, &mut text, shelf)?;
+    Ok(text)
+}
+
+/// Reads the texts of the files of these names, in turn, into the first of the buffers.
+fn read_texts<'a, A: Allocator, F: Shelf<A>>(
+    names: &[&'a str],
+    texts: &mut [TextBuffer<A>],
+    shelf: &mut F,
+) -> Result<(), ProgramFault<'a>>
+    requires { length names.now ≤ length texts.old }
+    ensures read { IfOk result (λ _. ReadsFiles F.reads (map (λ name. name.now) names.now)
+        shelf.old shelf.new (take (length names.now) texts.new)) }
     ensures fault { IfErr result
         (IsFilesFault F.reads (map (λ name. name.now) names.now) shelf.old shelf.new) }
     ensures files { F.files shelf.new ≡ F.files shelf.old }
+    ensures size { length texts.new ≡ length texts.old }
 {
-    let mut texts = Vec::with_capacity(alloc, names.len())?;
-    for name in names {
-        texts.push(read_file(name, shelf)?)?;
+    for place in 0..names.len() {
+        read_into(names[place], &mut texts[place], shelf)?;
+    }
+    Ok(())
+}
+
+/// Buffers for the texts that are read side by side, which take no memory of their own yet.
+fn text_buffers<A: Allocator + Clone>(alloc: &A) -> Result<Vec<TextBuffer<A>, A>, AllocError>
+    ensures { IfOk result (λ texts. length texts.items ≡ TEXTS_AT_ONCE) }
+{
+    let mut texts = Vec::with_capacity(alloc.clone()?, TEXTS_AT_ONCE)?;
+    for _ in 0..TEXTS_AT_ONCE {
+        texts.push(TextBuffer::new(alloc.clone()?))?;
     }
     Ok(texts)
 }
 
-/// The logs in the files of these names. Each text is given up once its log is read.
+/// The bytes of these texts.
+fn bytes_of<A: Allocator, B: Allocator>(
+    alloc: B,
+    texts: &[TextBuffer<A>],
+) -> Result<Vec<&[u8], B>, AllocError>
+    ensures { IfOk result (λ all. map (λ bytes. bytes.now) all.items ≡ texts.now) }
+{
+    let mut all = Vec::with_capacity(alloc, texts.len())?;
+    for text in texts {
+        all.push(text.bytes())?;
+    }
+    Ok(all)
+}
+
+/// The logs in the files of these names. The texts of a few files are read at a time, over those before them.
 pub(crate) fn read_logs<'a, R, A, F>(
     rt: &R,
     alloc: A,
@@ -63,9 +106,11 @@ where
     ensures files { F.files shelf.new ≡ F.files shelf.old }
 {
     let mut audit = RingAudit::new(alloc.clone()?);
+    let mut buffers = text_buffers(&alloc)?;
+    let texts = buffers.as_mut_slice();
     for some in names.chunks(TEXTS_AT_ONCE) {
-        let texts = read_texts(alloc.clone()?, some, shelf)?;
-        audit.take_all(rt, &texts)?;
+        read_texts(some, texts, shelf)?;
+        audit.take_all(rt, &bytes_of(&alloc, &texts[..some.len()])?)?;
     }
     Ok(audit)
 }

@@ -3,6 +3,7 @@ ghost use Rattle.ira_main.specs.Shelf.{File};
 ghost use Rattle.ira_main.specs.declared.shelf_fault.ShelfFault.{ShelfFault};
 
 use crate::shelf_fault::ShelfFault;
+use crate::text_buffer::TextBuffer;
 use ira_event::{MAX_TEXT, Sink};
 use std::alloc::Allocator;
 
@@ -23,10 +24,11 @@ pub trait Shelf<A: Allocator> {
     // what `close` does to the shelf, and what comes of it
     ghost closes: { Self → Self.Out → Result (Unit {0}) ShelfFault → Self → Type 0 };
 
-    /// The bytes of a file, to its end or to one more than `MAX_TEXT`, whichever comes first.
-    fn read(&mut self, name: &str) -> Result<Vec<u8, A>, ShelfFault>
-        ensures size { IfOk result (λ text. length text.items ≤ MAX_TEXT + 1) }
-        ensures read { MatchResult result (λ text. reads self.old name.now (Ok text.items) self.new)
+    /// Reads the bytes of a file, to its end or to one more than `MAX_TEXT`, whichever comes first. They are the
+    /// text then.
+    fn read(&mut self, name: &str, text: &mut TextBuffer<A>) -> Result<(), ShelfFault>
+        ensures size { IfOk result (λ _. length text.new ≤ MAX_TEXT + 1) }
+        ensures read { MatchResult result (λ _. reads self.old name.now (Ok text.new) self.new)
             (λ fault. reads self.old name.now (Err fault) self.new) }
         ensures files { files self.new ≡ files self.old };
 

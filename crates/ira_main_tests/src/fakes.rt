@@ -1,10 +1,8 @@
 //! Files, readers and sinks in memory, some of them broken, and the program run over them.
 
-ghost use Rattle.std.specs.Prelude.{◌≤◌, IfOk, length};
-
-use ira_event::{MAX_TEXT, MemorySink, Sink, SinkFault};
-use ira_main::{Counted, Shelf, ShelfFault, serve};
-use std::alloc::Global;
+use ira_event::{MemorySink, Sink, SinkFault};
+use ira_main::{Counted, Shelf, ShelfFault, TextBuffer, serve};
+use std::alloc::{Allocator, Global};
 use std::io;
 use std::io::{ErrorKind, Read};
 use std::process::Abort;
@@ -94,17 +92,7 @@ impl<'a> MemoryShelf<'a> {
     }
 }
 
-/// These bytes as a file's, where a file may be as long.
-fn text_of(alloc: Global, bytes: &[u8]) -> Result<Vec<u8>, ShelfFault>
-    ensures { IfOk result (λ text. length text.items ≤ MAX_TEXT) }
-{
-    if bytes.len() > MAX_TEXT {
-        return Err(ShelfFault::Device);
-    }
-    Ok(bytes.to_vec(alloc)?)
-}
-
-impl Shelf<Global> for MemoryShelf<'_> {
+impl<A: Allocator> Shelf<A> for MemoryShelf<'_> {
     type Out = NewFile;
 
     ghost use Rattle.std.specs.Prelude.{◌≡◌, ◌++◌, [], ◌∷◌, None, Some, IfOk, MatchResult, filter_map, map, string_bytes};
@@ -128,12 +116,12 @@ impl Shelf<Global> for MemoryShelf<'_> {
         × MatchResult result (λ _. new.written.items ≡ old.written.items ++ file ∷ [])
         (λ _. new.written.items ≡ old.written.items) };
 
-    fn read(&mut self, name: &str) -> Result<Vec<u8>, ShelfFault> {
+    fn read(&mut self, name: &str, text: &mut TextBuffer<A>) -> Result<(), ShelfFault> {
         if let Some(file) = self.written.iter().find(|file| file.name.as_str() == name) {
-            return text_of(self.alloc, &file.bytes);
+            return text.fill(&mut Counted::new(file.bytes.as_slice()));
         }
         match self.file(name) {
-            Some(File::Text(text)) => text_of(self.alloc, text.as_bytes()),
+            Some(File::Text(given)) => text.fill(&mut Counted::new(given.as_bytes())),
             _ => Err(ShelfFault::Device),
         }
     }

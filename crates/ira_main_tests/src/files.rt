@@ -1,7 +1,7 @@
 //! The files of the system.
 
 use ira_event::write_bytes;
-use ira_main::{FileShelf, Shelf, ShelfFault};
+use ira_main::{FileShelf, Shelf, ShelfFault, TextBuffer};
 use ira_refusing::{Outcome, Refusing, each_growth_refused};
 use std::alloc::Allocator;
 use std::fs;
@@ -23,11 +23,12 @@ fn write<A: Allocator + Clone>(
 fn file_written_and_read(rt: HostRuntime) {
     let name = "file_written_and_read.log";
     let mut shelf = FileShelf::new(&rt, rt.alloc());
-    assert_eq!(rt; shelf.read(name), Err(ShelfFault::Device));
+    let mut found = TextBuffer::new(rt.alloc());
+    assert_eq!(rt; shelf.read(name, &mut found), Err(ShelfFault::Device));
     for text in ["irlog 1\nnodes 2\n", "", "end 0\n"] {
         assert_eq!(rt; write(&mut shelf, name, text), Ok(()));
-        let found = shelf.read(name).expect(&rt, "the file");
-        assert_eq!(rt; found.as_slice(), text.as_bytes());
+        assert_eq!(rt; shelf.read(name, &mut found), Ok(()));
+        assert_eq!(rt; found.bytes(), text.as_bytes());
     }
     assert!(rt; fs::remove_file(&rt, name).is_ok());
 }
@@ -35,21 +36,21 @@ fn file_written_and_read(rt: HostRuntime) {
 #[test]
 fn files_that_cannot_be_used(rt: HostRuntime) {
     let mut shelf = FileShelf::new(&rt, rt.alloc());
-    assert_eq!(rt; shelf.read("."), Err(ShelfFault::Device));
+    let mut found = TextBuffer::new(rt.alloc());
+    assert_eq!(rt; shelf.read(".", &mut found), Err(ShelfFault::Device));
     for name in ["nowhere/0.log", ".", "/dev/full"] {
         assert_eq!(rt; write(&mut shelf, name, "end 0\n"), Err(ShelfFault::Device));
     }
 }
 
 /// Writes a file, and reads it back.
-fn written_and_read<A: Allocator + Clone>(
-    shelf: &mut FileShelf<'_, impl Files, A>,
-    name: &str,
-) -> Outcome {
+fn written_and_read(rt: &impl Files, alloc: &(impl Allocator + Clone), name: &str) -> Outcome {
     let text = "irlog 1\n";
-    let read = write(shelf, name, text).and_then(|()| shelf.read(name));
+    let mut shelf = FileShelf::new(rt, alloc);
+    let mut found = TextBuffer::new(alloc);
+    let read = write(&mut shelf, name, text).and_then(|()| shelf.read(name, &mut found));
     match read {
-        Ok(found) if found.as_slice() == text.as_bytes() => Outcome::Right,
+        Ok(()) if found.bytes() == text.as_bytes() => Outcome::Right,
         Err(ShelfFault::OutOfMemory) => Outcome::GaveUp,
         _ => Outcome::Wrong,
     }
@@ -59,9 +60,7 @@ fn written_and_read<A: Allocator + Clone>(
 fn memory_refused_to_a_file(rt: HostRuntime) -> Result<(), Fail> {
     let name = "memory_refused_to_a_file.log";
     let memory = Refusing::new(rt.alloc())?;
-    let growths = each_growth_refused(&memory, |alloc| {
-        written_and_read(&mut FileShelf::new(&rt, alloc), name)
-    });
+    let growths = each_growth_refused(&memory, |alloc| written_and_read(&rt, &alloc, name));
     assert!(rt; matches!(growths, Ok(number) if 0 < number), "{growths:?}");
     assert!(rt; fs::remove_file(&rt, name).is_ok());
     Ok(())

@@ -3,7 +3,7 @@
 use crate::fakes::MemoryShelf;
 use ira_cert_text::{Certificate, Section};
 use ira_event::{MemorySink, RingSize};
-use ira_main::{Shelf, keep_cert};
+use ira_main::{Shelf, TextBuffer, keep_cert};
 use std::alloc::Global;
 use std::process::Abort;
 use std::test::Fail;
@@ -17,7 +17,7 @@ fn assert_kept(
 ) -> MemoryShelf<'static> {
     let mut shelf = MemoryShelf::new(rt.alloc(), &[]);
     let mut on_err = MemorySink::new(rt.alloc());
-    let found = keep_cert(certificate, "c", &mut shelf, &mut on_err);
+    let found = keep_cert::<_, Global, _, _>(certificate, "c", &mut shelf, &mut on_err);
     assert_eq!(rt; on_err.bytes(), line.as_bytes());
     assert_eq!(rt; found, status);
     shelf
@@ -37,8 +37,9 @@ fn certificates_at_the_limit(rt: HostRuntime) -> Result<(), Fail> {
     let line = "ira: certificate past the limits\n";
     assert_kept(&rt, &certificate, 2, line).assert_written(&rt, &[]);
     assert!(rt; certificate.sections.pop().is_some());
-    let text = assert_kept(&rt, &certificate, 0, "").read("c")?;
+    let mut text = TextBuffer::new(rt.alloc());
+    assert_kept(&rt, &certificate, 0, "").read("c", &mut text)?;
     // the head, 2,016 sections of 16 bytes, and the last line
-    assert_eq!(rt; text.len(), 17 + 2_016 * 16 + 4);
+    assert_eq!(rt; text.bytes().len(), 17 + 2_016 * 16 + 4);
     Ok(())
 }

@@ -1,12 +1,12 @@
 //! What the program answers where a growth is refused, or a write of its answer fails. What the library of its
 //! command line allocates comes from the system's allocator alone, and is never refused here.
 
-use crate::fakes::{File, MemoryShelf, NewFile};
+use crate::fakes::{File, MemoryShelf};
 use crate::samples::{
     ELECTED_0, ELECTED_1, LEADER_AND_ACTIVE, PAIRS_OF_THREE, TWO_CASES, TWO_STEPS,
 };
 use ira_event::MemorySink;
-use ira_main::{Counted, Shelf, ShelfFault, serve};
+use ira_main::{Counted, serve};
 use ira_refusing::{FailingSink, Outcome, Refusing, each_growth_refused};
 use std::alloc::Global;
 use std::io;
@@ -26,41 +26,6 @@ struct Case<'a> {
     written: &'a [(&'a str, &'a str)],
 }
 
-/// The files of a shelf, whose texts are given in memory that is never refused.
-#[derive(Drop)]
-struct AmpleShelf<'a> {
-    shelf: MemoryShelf<'a>,
-    memory: Memory,
-}
-
-impl Shelf<Memory> for AmpleShelf<'_> {
-    type Out = NewFile;
-
-    ghost files = { λ s. ⟦<MemoryShelf<'static> as Shelf<Global>>⟧.files s.shelf };
-
-    ghost reads = { λ old name result new.
-        ⟦<MemoryShelf<'static> as Shelf<Global>>⟧.reads old.shelf name result new.shelf };
-
-    ghost creates = { λ old name result new.
-        ⟦<MemoryShelf<'static> as Shelf<Global>>⟧.creates old.shelf name result new.shelf };
-
-    ghost closes = { λ old file result new.
-        ⟦<MemoryShelf<'static> as Shelf<Global>>⟧.closes old.shelf file result new.shelf };
-
-    fn read(&mut self, name: &str) -> Result<Vec<u8, Memory>, ShelfFault> {
-        let text = self.shelf.read(name)?;
-        Ok(text.to_vec(self.memory.clone()?)?)
-    }
-
-    fn create(&mut self, name: &str) -> Result<NewFile, ShelfFault> {
-        self.shelf.create(name)
-    }
-
-    fn close(&mut self, file: NewFile) -> Result<(), ShelfFault> {
-        self.shelf.close(file)
-    }
-}
-
 const FILES: &[(&str, File<'static>)] = &[
     ("0.log", File::Text(ELECTED_0)),
     ("1.log", File::Text(ELECTED_1)),
@@ -71,14 +36,11 @@ const FILES: &[(&str, File<'static>)] = &[
 
 /// Serves the case with this memory. A call that gives up has printed nothing, and written the first of its files at
 /// most; but `decide` may give up behind its findings, while it makes the certificate of them.
-fn served<R>(rt: &R, alloc: Memory, ample: Memory, case: Case<'_>) -> Outcome
+fn served<R>(rt: &R, alloc: Memory, case: Case<'_>) -> Outcome
 where
     R: AllocGlobal + Threads + Wait + Clock + Sync,
 {
-    let mut shelf = AmpleShelf {
-        shelf: MemoryShelf::new(rt.alloc(), FILES),
-        memory: ample,
-    };
+    let mut shelf = MemoryShelf::new(rt.alloc(), FILES);
     let mut input = Counted::new(ELECTED_0.as_bytes());
     let mut out = MemorySink::new(rt.alloc());
     let mut err = MemorySink::new(rt.alloc());
@@ -90,7 +52,7 @@ where
     if status == case.status
         && err.is_empty()
         && out == case.out.as_bytes()
-        && shelf.shelf.has_written(case.written)
+        && shelf.has_written(case.written)
     {
         return Outcome::Right;
     }
@@ -99,7 +61,7 @@ where
     let has_printed = case.words.first() == Some(&"decide") && out == case.out.as_bytes();
     if (tells_memory || tells_thread)
         && (out.is_empty() || has_printed)
-        && shelf.shelf.has_written_first(case.written)
+        && shelf.has_written_first(case.written)
     {
         Outcome::GaveUp
     } else {
@@ -110,7 +72,6 @@ where
 #[test]
 fn each_growth_is_refused(rt: HostRuntime) -> Result<(), Fail> {
     let memory = Refusing::new(rt.alloc())?;
-    let ample = Refusing::new(rt.alloc())?;
     let election = [("d/0.log", ELECTED_0), ("d/1.log", ELECTED_1)];
     for case in [
         Case {
@@ -168,10 +129,7 @@ fn each_growth_is_refused(rt: HostRuntime) -> Result<(), Fail> {
             written: &election,
         },
     ] {
-        let growths = each_growth_refused(&memory, |alloc| match ample.clone() {
-            Ok(ample) => served(&rt, alloc, ample, case),
-            Err(_) => Outcome::Wrong,
-        });
+        let growths = each_growth_refused(&memory, |alloc| served(&rt, alloc, case));
         let words = case.words;
         assert!(rt;
             matches!(growths, Ok(number) if 0 < number),

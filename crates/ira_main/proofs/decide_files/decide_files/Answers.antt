@@ -15,15 +15,15 @@ returns-in-Ok-write_bytes g c =
     let taken = c.in_ok-audit.ensures.taken in
     let findings = c.in_ok-findings.findings in
     let found = c.in_ok-findings.ensures.found taken.0 taken.1 in
-    let text_is : c.bytes.result.now ≡ findings_text findings = c.bytes.ensures ∙ c.in-Ok.ensures.took ∙ ap (λ (m : Memory). m.bytes ++ findings_text findings) c.new-text.ensures in
+    let text_is : c.bytes-2.result.now ≡ findings_text findings = c.bytes-2.ensures ∙ c.in-Ok.ensures.took ∙ ap (λ (m : Memory). m.bytes ++ findings_text findings) c.new-text.ensures in
     inl (record {
-      question = c.in_ok-question.question.items;
+      question = c.in_ok-question.question;
       texts = taken.0;
       between = c.read_logs.new.shelf;
       given = (_, c.in_ok-question.ensures.read, rw c.deref.ensures.value at taken.2);
       untouched = c.read_logs.ensures.files ∙ c.read_file.ensures.files;
       findings = findings;
-      found = rw c.deref-2.ensures.value at found;
+      found = rw c.bytes.ensures at found;
       printed = inl (subst (λ t. Takes t (g.W.Sink.state c.args.out.now) (g.W.Sink.state c.write_bytes.new.sink)) text_is c.in-Ok-write_bytes.ensures, c.keep_findings.ensures);
     })
 
@@ -32,15 +32,15 @@ returns g c =
     let taken = c.in_ok-audit.ensures.taken in
     let findings = c.in_ok-findings.findings in
     let found = c.in_ok-findings.ensures.found taken.0 taken.1 in
-    let text_is : c.bytes.result.now ≡ findings_text findings = c.bytes.ensures ∙ c.in-Ok.ensures.took ∙ ap (λ (m : Memory). m.bytes ++ findings_text findings) c.new-text.ensures in
+    let text_is : c.bytes-2.result.now ≡ findings_text findings = c.bytes-2.ensures ∙ c.in-Ok.ensures.took ∙ ap (λ (m : Memory). m.bytes ++ findings_text findings) c.new-text.ensures in
     inl (record {
-      question = c.in_ok-question.question.items;
+      question = c.in_ok-question.question;
       texts = taken.0;
       between = c.read_logs.new.shelf;
       given = (_, c.in_ok-question.ensures.read, rw c.deref.ensures.value at taken.2);
       untouched = c.read_logs.ensures.files ∙ c.read_file.ensures.files;
       findings = findings;
-      found = rw c.deref-2.ensures.value at found;
+      found = rw c.bytes.ensures at found;
       printed = inr (subst (λ t. StopsIn t (g.W.Sink.state c.args.out.now) (g.W.Sink.state c.write_bytes.new.sink)) text_is c.in-Err.ensures, refl, refl);
     })
 

@@ -15,12 +15,12 @@ returns-clause-judged g c =
     let exact = unless_ok answer _ _ (c.in_ok-answer.ensures.answer taken.0 answer taken.1) in
     let is = exact.0 refl in
     inl (record {
-      question = c.in_ok-question.question.items;
-      certificate = c.in_ok-certificate.certificate.items;
+      question = c.in_ok-question.question;
+      certificate = c.in_ok-certificate.certificate;
       texts = taken.0;
       given = (_, c.in_ok-question.ensures.read, (_, c.in_ok-certificate.ensures.read, rw c.deref.ensures.value at taken.2));
       answer = answer;
-      judged = rw (c.deref-2.ensures.value, c.deref-3.ensures.value) at is;
+      judged = rw (c.bytes-question.ensures, c.bytes-certificate.ensures) at is;
       reported = c.report.ensures;
     })
 

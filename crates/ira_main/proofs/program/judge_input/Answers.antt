@@ -24,4 +24,4 @@ pub returns-clause-judged : goal.returns-clause-judged
 returns-clause-judged g c =
     let answer = c.in_ok-answer.answer in
     let is = (c.in_ok-answer.ensures.answer answer).0 refl in
-    judged c.in-Ok.text.items answer c.in-Ok.ensures.text (rw c.deref.ensures.value at is) c.report.ensures
+    judged c.fill.new.self answer c.in_default.ensures.text (rw c.bytes.ensures at is) c.report.ensures

@@ -5,7 +5,7 @@ use Rattle.ira_audit.proofs.ring_audit.RingAudit.of_texts.Goals as goal
 
 pub loop-reading-init : goal.loop-reading-init
 loop-reading-init g c =
-    let texts = map (λ text. text.items) c.args.texts.now in
+    let texts = map (λ text. text.now) c.args.texts.now in
     let rest : into_iter_items c.into_iter-reading-iterator.result ≡ c.in_ok-reading-items.reading-items.items = search rules in
     record {
       may_go_on = tt;
@@ -16,7 +16,7 @@ loop-reading-init g c =
 
 pub loop-reading-preserved : goal.loop-reading-preserved
 loop-reading-preserved g c =
-    let texts = map (λ text. text.items) c.args.texts.now in
+    let texts = map (λ text. text.now) c.args.texts.now in
     let steps = c.in-Some.ensures.steps in
     let rest : into_iter_items c.loop-reading.reading-iterator ≡ c.in-Some.reading ∷ into_iter_items c.next.new.self = steps.0 in
     record {
@@ -28,6 +28,6 @@ loop-reading-preserved g c =
 
 pub returns : goal.returns
 returns g c =
-    let texts = map (λ text. text.items) c.args.texts.now in
+    let texts = map (λ text. text.now) c.args.texts.now in
     let done = c.in-None.ensures.steps.0 in
     taking_all texts _ _ c.loop-reading.invariant.taking (omega arith)

@@ -8,5 +8,5 @@ invariant-loop-reading g l = record {
   may_go_on : (goal.iterator-loop-reading g).can_next l.reading-iterator;
   ends : (goal.iterator-loop-reading g).is_finite l.reading-iterator;
   left : into_iter_len l.reading-iterator ≡ length (into_iter_items l.reading-iterator);
-  taking : IsTaking (map (λ text. text.items) l.fn.texts) l.audit (into_iter_items l.reading-iterator);
+  taking : IsTaking (map (λ text. text.now) l.fn.texts) l.audit (into_iter_items l.reading-iterator);
 }
