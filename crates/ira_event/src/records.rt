@@ -1,11 +1,9 @@
-ghost use Rattle.std.specs.Prelude.{◌≡◌, ◌≤◌, ◌↔◌, ◌==◌, true, None, Some, IsTrue, position};
+ghost use Rattle.std.specs.Prelude.{◌≡◌, ◌≤◌, ◌↔◌, ◌==◌, None, IsTrue, position};
 ghost use Rattle.ira_event.specs.Scan.{Gives};
 ghost use Rattle.ira_event.specs.LogScan.{line_at};
 ghost use Rattle.ira_event.specs.LogTextFault.{BeginsAsRecord, RestFault};
 ghost use Rattle.ira_event.specs.Records.{ReadsOn, ReadsThrough};
 ghost use Rattle.ira_event.specs.Limits.{MAX_RECORDS};
-ghost use Rattle.ira_event.specs.Event.{is_event};
-ghost use Rattle.ira_event.specs.declared.log_line.LogLine.TheVariants.{Record};
 
 use crate::event::Event;
 use crate::limits::MAX_RECORDS;
@@ -20,7 +18,7 @@ use std::marker::Model;
 pub struct Records<'a> {
     rest: &'a [u8],
     count: usize,
-    /// The last receipt that was read, if its line can be compared.
+    /// The last record that was read, where it is a receipt.
     receipt: Option<Receipt<'a>>,
 }
 
@@ -70,7 +68,7 @@ impl<'a> Records<'a> {
                 if !event.is_in_range() {
                     return Err(LogFault::Range(self.count as u32 + 5));
                 }
-                keep_receipt(&mut self.receipt, event, self.rest, after);
+                self.receipt = Receipt::of_line(event, self.rest, after);
                 self.count += 1;
                 self.rest = after;
                 Ok(Some(event))
@@ -108,18 +106,6 @@ fn next_line<'a>(receipt: Option<&Receipt<'_>>, text: &'a [u8]) -> Option<(LogLi
         }
     }
     take_line(text)
-}
-
-/// Keeps the event, if it is a receipt, in place of the one before; a sending leaves what is kept untouched,
-/// which costs nothing.
-#[inline(always)]
-fn keep_receipt<'a>(kept: &mut Option<Receipt<'a>>, event: Event, text: &'a [u8], rest: &[u8])
-    requires line { line_at text.now ≡ Some (Record event, rest.now) }
-    requires numbers { is_event event ≡ true }
-{
-    if let Event::Got(_) = event {
-        *kept = Receipt::of_line(event, text, rest);
-    }
 }
 
 /// The fault behind so many records, where neither a record's line nor the end line follows.
