@@ -1,7 +1,6 @@
 pub mod Digits
 pub mod EarlyFaults
 pub mod Gathering
-pub mod HandedOn
 pub mod Heads
 pub mod HeadsAnswered
 pub mod LineWords

@@ -56,10 +56,10 @@ decimal_is_numeral n small = numeral_cases n small (zero_or_more n)
 
 -- ---- records
 
-pub number_small : (n : ℕ) → is_number n ≡ true → n < 10 ^ 7
+number_small : (n : ℕ) → is_number n ≡ true → n < 10 ^ 7
 number_small n h = let p = and_parts (nat_le 1 n) (nat_le n MAX_NUMBER) h in let le : n ≤ 1000000 = grind (arith, nat_tests, p.1) in omega arith
 
-pub msg_parts : (m : Msg) → is_msg m ≡ true → (is_number m.round ≡ true) × (is_number m.id ≡ true) × (is_number m.hop ≡ true)
+msg_parts : (m : Msg) → is_msg m ≡ true → (is_number m.round ≡ true) × (is_number m.id ≡ true) × (is_number m.hop ≡ true)
 msg_parts m h =
     let p = and_parts (is_number m.round && is_number m.id) (is_number m.hop) h in
     let q = and_parts (is_number m.round) (is_number m.id) p.0 in
@@ -81,7 +81,7 @@ message_is m good =
     let p = msg_parts m good in
     record { round = decimal m.round; id = decimal m.id; hop = decimal m.hop; round_is = numeral m.round p.0; id_is = numeral m.id p.1; hop_is = numeral m.hop p.2; parts = refl }
 
-pub record_spelled : (line : List ℕ) (e : Event) → is_event e ≡ true → IsRecord line e → line ++ codes "\n" ≡ record_text e
+record_spelled : (line : List ℕ) (e : Event) → is_event e ≡ true → IsRecord line e → line ++ codes "\n" ≡ record_text e
 record_spelled line (Draw d) good h = ap (λ w. w ++ codes "\n") (h.1 ∙ ap (λ t. codes "draw " ++ t) (spelled h.0 d good h.2))
 record_spelled line (Sent m) good h = ap (λ w. w ++ codes "\n") (h.1 ∙ ap (λ t. codes "send " ++ t) (message_spelled h.0 m good h.2))
 record_spelled line (Got m) good h = ap (λ w. w ++ codes "\n") (h.1 ∙ ap (λ t. codes "recv " ++ t) (message_spelled h.0 m good h.2))

@@ -10,7 +10,6 @@ pub mod Messages
 pub mod NextLine
 pub mod Numeral
 pub mod PackedEvent
-pub mod Receipt
 pub mod Records
 pub mod Result
 pub mod RingSize

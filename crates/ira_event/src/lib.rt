@@ -19,7 +19,6 @@ mod msg;
 mod node_log;
 mod out_of_memory;
 mod packed_event;
-mod receipt;
 mod records;
 mod ring_size;
 mod scan;

@@ -1,5 +1,4 @@
 ghost use Rattle.std.specs.Prelude.{◌≡◌, ◌≤◌, ◌↔◌, ◌==◌, None, IsTrue, position};
-ghost use Rattle.ira_event.specs.Scan.{Gives};
 ghost use Rattle.ira_event.specs.LogScan.{line_at};
 ghost use Rattle.ira_event.specs.LogTextFault.{BeginsAsRecord, RestFault};
 ghost use Rattle.ira_event.specs.Records.{ReadsOn, ReadsThrough};
@@ -9,7 +8,6 @@ use crate::event::Event;
 use crate::limits::MAX_RECORDS;
 use crate::log_fault::LogFault;
 use crate::log_line::{LogLine, take_line};
-use crate::receipt::Receipt;
 use std::marker::Model;
 
 /// What stands behind the head of a log text, read record by record; nothing is kept of those that
@@ -18,8 +16,6 @@ use std::marker::Model;
 pub struct Records<'a> {
     rest: &'a [u8],
     count: usize,
-    /// The last record that was read, where it is a receipt.
-    receipt: Option<Receipt<'a>>,
 }
 
 impl<'a> Model for Records<'a> {
@@ -42,7 +38,6 @@ impl<'a> Records<'a> {
         Records {
             rest: text,
             count: 0,
-            receipt: None,
         }
     }
 
@@ -57,7 +52,7 @@ impl<'a> Records<'a> {
     pub fn next_event(&mut self) -> Result<Option<Event>, LogFault>
         ensures { ReadsOn self.old self.new result }
     {
-        let Some((line, after)) = next_line(self.receipt.as_ref(), self.rest) else {
+        let Some((line, after)) = take_line(self.rest) else {
             return Err(unread_fault(self.rest, self.count));
         };
         match line {
@@ -68,7 +63,6 @@ impl<'a> Records<'a> {
                 if !event.is_in_range() {
                     return Err(LogFault::Range(self.count as u32 + 5));
                 }
-                self.receipt = Receipt::of_line(event, self.rest, after);
                 self.count += 1;
                 self.rest = after;
                 Ok(Some(event))
@@ -92,20 +86,6 @@ impl<'a> Records<'a> {
         while self.next_event()?.is_some() {}
         Ok(())
     }
-}
-
-/// The line that the text begins with, and what follows it. Most sendings hand on the receipt before
-/// them, and are known by it at less cost.
-#[inline(always)]
-fn next_line<'a>(receipt: Option<&Receipt<'_>>, text: &'a [u8]) -> Option<(LogLine, &'a [u8])>
-    ensures { Gives (λ found. (found.0, found.1.now)) result (line_at text.now) }
-{
-    if let Some(receipt) = receipt {
-        if let Some((message, rest)) = receipt.handed_on(text) {
-            return Some((LogLine::Record(Event::Sent(message)), rest));
-        }
-    }
-    take_line(text)
 }
 
 /// The fault behind so many records, where neither a record's line nor the end line follows.
