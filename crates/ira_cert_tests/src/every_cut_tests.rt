@@ -7,7 +7,7 @@ use ira_fixtures::{ELECTION, LONE_INITIATOR, first_case, logs_of};
 use ira_order::{Ordered, order};
 use ira_pred::read_question;
 use std::alloc::Global;
-use std::test::Fail;
+use std::process::Abort;
 
 /// A clause, and the positions at which it holds of the first and of the last node.
 #[derive(Clone, Copy)]
@@ -70,30 +70,39 @@ fn least_of_three(first: &[u32], last: &[u32]) -> Option<[u32; 3]> {
     least
 }
 
-/// Whether the question's first case is found present at this cut, or absent with a section that the
-/// checker takes.
-fn is_found(
-    alloc: Global,
+/// Compares what is found of the case that the first and the last node are as in these samples: that it is present at
+/// this cut, or else absent with a section that the checker takes.
+fn assert_found<const N: usize>(
+    rt: &(impl Abort + AllocGlobal),
     logs: &Logs<Global>,
     ordered: &Ordered<'_, Global>,
-    question: &[u8],
-    least: Option<&[u32]>,
-) -> Result<bool, Fail>
+    first: &str,
+    last: &str,
+    least: Option<[u32; N]>,
+)
     requires { ordered.now.logs ≡ logs.now }
 {
-    let question = read_question(alloc, question)?;
-    let case = first_case(&question, logs)?;
-    match decide(alloc, logs, ordered, case)? {
-        Found::Absent(section) => {
-            let verdict = check_plain(alloc, logs, ordered, case, &section)?;
-            Ok(least.is_none() && verdict == Verdict::Yes)
+    let alloc = rt.alloc();
+    let text = format!(in alloc;
+        "irask 1\nnodes {N}\ncase\n0: {first}\n{}: {last}\nend\n",
+        logs.size().get() - 1
+    )
+    .expect(rt, "memory");
+    let question = read_question(alloc, text.as_bytes()).expect(rt, "a question");
+    let case = first_case(&question, logs).expect(rt, "a question of the same ring");
+    let found = decide(alloc, logs, ordered, case).expect(rt, "memory");
+    let is_found = match (&found, least) {
+        (Found::Absent(section), None) => {
+            check_plain(alloc, logs, ordered, case, section) == Ok(Verdict::Yes)
         }
-        Found::Present(cut) => Ok(least == Some(cut.positions())),
-    }
+        (Found::Present(cut), Some(least)) => cut.positions() == least.as_slice(),
+        _ => false,
+    };
+    assert!(rt; is_found, "{first} and {last}");
 }
 
 #[test]
-fn election_as_searched(rt: HostRuntime) -> Result<(), Fail> {
+fn election_as_searched(rt: HostRuntime) {
     let samples = [
         holding("true", &[0, 1, 2, 3, 4], &[0, 1, 2, 3, 4]),
         holding("choosing", &[0], &[0]),
@@ -108,25 +117,18 @@ fn election_as_searched(rt: HostRuntime) -> Result<(), Fail> {
         holding("(not active)", &[0, 4], &[0, 3, 4]),
         holding("(passive or choosing)", &[0], &[0, 3, 4]),
     ];
-    let logs = logs_of(rt.alloc(), &ELECTION)?;
-    let ordered = order(rt.alloc(), &logs).ok().ok_or("an order")?;
+    let logs = logs_of(rt.alloc(), &ELECTION).expect(&rt, "the logs of one ring");
+    let ordered = order(rt.alloc(), &logs).expect(&rt, "an order");
     for a in &samples {
         for b in &samples {
-            let question = format!(in rt.alloc();
-                "irask 1\nnodes 2\ncase\n0: {}\n1: {}\nend\n",
-                a.clause, b.clause
-            )?;
             let least = least_of_two(a.first, b.last);
-            let least = least.as_ref().map(|cut| cut.as_slice());
-            let is = is_found(rt.alloc(), &logs, &ordered, question.as_bytes(), least)?;
-            assert!(rt; is);
+            assert_found(&rt, &logs, &ordered, a.clause, b.clause, least);
         }
     }
-    Ok(())
 }
 
 #[test]
-fn lone_initiator_as_searched(rt: HostRuntime) -> Result<(), Fail> {
+fn lone_initiator_as_searched(rt: HostRuntime) {
     let samples = [
         holding("true", &[0, 1, 2, 3], &[0, 1, 2]),
         holding("choosing", &[0], &[]),
@@ -137,19 +139,12 @@ fn lone_initiator_as_searched(rt: HostRuntime) -> Result<(), Fail> {
         holding("(not owes)", &[0, 2, 3], &[0, 2]),
         holding("(not active)", &[0, 3], &[0, 1, 2]),
     ];
-    let logs = logs_of(rt.alloc(), &LONE_INITIATOR)?;
-    let ordered = order(rt.alloc(), &logs).ok().ok_or("an order")?;
+    let logs = logs_of(rt.alloc(), &LONE_INITIATOR).expect(&rt, "the logs of one ring");
+    let ordered = order(rt.alloc(), &logs).expect(&rt, "an order");
     for a in &samples {
         for b in &samples {
-            let question = format!(in rt.alloc();
-                "irask 1\nnodes 3\ncase\n0: {}\n2: {}\nend\n",
-                a.clause, b.clause
-            )?;
             let least = least_of_three(a.first, b.last);
-            let least = least.as_ref().map(|cut| cut.as_slice());
-            let is = is_found(rt.alloc(), &logs, &ordered, question.as_bytes(), least)?;
-            assert!(rt; is);
+            assert_found(&rt, &logs, &ordered, a.clause, b.clause, least);
         }
     }
-    Ok(())
 }

@@ -1,18 +1,19 @@
 use ira_cert::CertStep;
 use ira_elim::{Found, decide};
-use ira_fixtures::{ELECTION, first_case, logs_of};
+use ira_fixtures::{ELECTION, first_case, logs_of, step};
 use ira_order::order;
 use ira_pred::read_question;
 use std::alloc::Global;
-use std::test::Fail;
+use std::process::Abort;
 
 /// What is found of the question's first case.
-fn found(alloc: Global, texts: &[&[u8]], question: &[u8]) -> Result<Found<Global>, Fail> {
-    let logs = logs_of(alloc, texts)?;
-    let ordered = order(alloc, &logs).ok().ok_or("an order")?;
-    let question = read_question(alloc, question)?;
-    let case = first_case(&question, &logs)?;
-    Ok(decide(alloc, &logs, &ordered, case)?)
+fn found(rt: &(impl Abort + AllocGlobal), texts: &[&[u8]], question: &[u8]) -> Found<Global> {
+    let alloc = rt.alloc();
+    let logs = logs_of(alloc, texts).expect(rt, "the logs of one ring");
+    let ordered = order(alloc, &logs).expect(rt, "an order");
+    let question = read_question(alloc, question).expect(rt, "a question");
+    let case = first_case(&question, &logs).expect(rt, "a question of the same ring");
+    decide(alloc, &logs, &ordered, case).expect(rt, "memory")
 }
 
 /// Whether the case is absent by exactly these steps.
@@ -32,44 +33,26 @@ fn is_present_at(found: &Found<Global>, positions: &[u32]) -> bool {
 }
 
 #[test]
-fn least_cut_after_one_step(rt: HostRuntime) -> Result<(), Fail> {
+fn least_cut_after_one_step(rt: HostRuntime) {
     let question = b"irask 1\nnodes 2\ncase\n0: active\n1: passive\nend\n";
-    let met = found(rt.alloc(), &ELECTION, question)?;
-    assert!(rt; is_present_at(&met, &[2, 3]));
+    assert!(rt; is_present_at(&found(&rt, &ELECTION, question), &[2, 3]));
     let question = b"irask 1\nnodes 2\ncase\n1: passive\nend\n";
-    let met = found(rt.alloc(), &ELECTION, question)?;
-    assert!(rt; is_present_at(&met, &[2, 3]));
-    Ok(())
+    assert!(rt; is_present_at(&found(&rt, &ELECTION, question), &[2, 3]));
 }
 
 #[test]
-fn empty_logs_meet_at_start(rt: HostRuntime) -> Result<(), Fail> {
+fn empty_logs_meet_at_start(rt: HostRuntime) {
     let logs: [&[u8]; 2] = [
         b"irlog 1\nnodes 2\nplace 0\nstart initiator\nend 0\n",
         b"irlog 1\nnodes 2\nplace 1\nstart initiator\nend 0\n",
     ];
     let question = b"irask 1\nnodes 2\ncase\n0: choosing\n1: choosing\nend\n";
-    let met = found(rt.alloc(), &logs, question)?;
-    assert!(rt; is_present_at(&met, &[0, 0]));
-    Ok(())
+    assert!(rt; is_present_at(&found(&rt, &logs, question), &[0, 0]));
 }
 
 #[test]
-fn made_certificate(rt: HostRuntime) -> Result<(), Fail> {
+fn made_certificate(rt: HostRuntime) {
     let question = b"irask 1\nnodes 2\ncase\n0: leader\n1: active\nend\n";
-    let made = found(rt.alloc(), &ELECTION, question)?;
-    let first = CertStep {
-        node: 1,
-        pos: 1,
-        other: 0,
-        other_pos: 4,
-    };
-    let second = CertStep {
-        node: 1,
-        pos: 2,
-        other: 0,
-        other_pos: 4,
-    };
-    assert!(rt; is_absent_by(&made, &[first, second], 1));
-    Ok(())
+    let steps = [step(1, 1, 0, 4), step(1, 2, 0, 4)];
+    assert!(rt; is_absent_by(&found(&rt, &ELECTION, question), &steps, 1));
 }

@@ -5,9 +5,9 @@ use crate::verdicts::judge_split;
 use ira_cert::{CertStep, Verdict};
 use ira_fixtures::{ELECTION, LEADER_AND_ACTIVE, Meeting, step};
 use ira_links::Gate;
+use std::process::Abort;
 use std::sync::Wait;
 use std::sync::atomic::{AtomicU64, Ordering};
-use std::test::Fail;
 use std::thread::Threads;
 use std::time::Clock;
 
@@ -17,12 +17,11 @@ const fn steps() -> [CertStep; 2] {
 }
 
 #[test]
-fn two_ranges_are_judged_at_once(rt: HostRuntime) -> Result<(), Fail> {
+fn two_ranges_are_judged_at_once(rt: HostRuntime) {
     let gate = Meeting::new();
-    let verdict = judge_split(&rt, &ELECTION, LEADER_AND_ACTIVE, &steps(), 1, 1, &gate)?;
+    let verdict = judge_split(&rt, &ELECTION, LEADER_AND_ACTIVE, &steps(), 1, 1, &gate);
     let seen = (verdict == Verdict::Yes, gate.missed(), gate.passes());
     assert_eq!(rt; seen, (true, 0, (1, 1)));
-    Ok(())
 }
 
 /// Notes which numbers passed: for number k it adds 2^k.
@@ -42,29 +41,29 @@ impl Gate for Numbers {
     }
 }
 
-/// The numbers that pass while these steps are judged at this depth.
-fn passed<R: AllocGlobal + Threads + Wait + Clock + Sync>(
+/// Compares the numbers that pass while these steps are judged at this depth.
+fn assert_passed<R: Abort + AllocGlobal + Threads + Wait + Clock + Sync>(
     rt: &R,
     steps: &[CertStep],
     depth: u8,
-) -> Result<u64, Fail>
+    numbers: u64,
+)
     requires { depth ≤ 4 }
 {
     let gate = Numbers {
         passed: AtomicU64::new(0),
     };
-    judge_split(rt, &ELECTION, LEADER_AND_ACTIVE, steps, 1, depth, &gate)?;
-    Ok(gate.passed.load(Ordering::SeqCst))
+    let verdict = judge_split(rt, &ELECTION, LEADER_AND_ACTIVE, steps, 1, depth, &gate);
+    let passed = gate.passed.load(Ordering::SeqCst);
+    assert_eq!(rt; passed, numbers, "{verdict:?} at depth {depth}");
 }
 
 #[test]
-fn each_range_passes_once(rt: HostRuntime) -> Result<(), Fail> {
+fn each_range_passes_once(rt: HostRuntime) {
     let all = steps();
     for steps in 0..3 {
         for (depth, numbers) in [(0, 1), (1, 3), (2, 15), (3, 255), (4, 65_535)] {
-            let passed = passed(&rt, &all[..steps], depth)?;
-            assert_eq!(rt; passed, numbers, "{steps}, {depth}");
+            assert_passed(&rt, &all[..steps], depth, numbers);
         }
     }
-    Ok(())
 }

@@ -1,22 +1,23 @@
 //! Each growth of a call is refused in turn, and a writer's sink fails behind each byte.
-ghost use Rattle.std.specs.Prelude.{IfSome};
 ghost use Rattle.ira_cert.specs.Asked.{HasPlacesOf};
 
 use ira_cert::{
-    CertFault, Certificate, SectionFault, Unsound, Verdict, check_plain, read_cert, write_cert,
+    CertFault, Certificate, Section, SectionFault, Unsound, Verdict, check_plain, read_cert,
+    write_cert,
 };
 use ira_elim::{Found, decide};
 use ira_event::{Logs, OutOfMemory, WriteFault};
-use ira_fixtures::{ACTIVE_AND_PASSIVE, ELECTION, LEADER_AND_ACTIVE, TIE, logs_of};
+use ira_fixtures::{
+    ACTIVE_AND_PASSIVE, ELECTION, LEADER_AND_ACTIVE, LEADER_AND_UNBEATEN, TIE, first_case, logs_of,
+};
 use ira_links::OpenGate;
-use ira_order::order;
+use ira_order::{Ordered, order};
 use ira_par::check_split;
-use ira_pred::{Case, Question, read_question};
-use ira_refusing::{FailingSink, Outcome, Refusing, each_growth_refused};
+use ira_pred::{Case, read_question};
+use ira_refusing::{FailingSink, Outcome, Refusing, TrialFault, each_growth_refused};
 use std::alloc::Global;
 use std::process::Abort;
 use std::sync::Wait;
-use std::test::Fail;
 use std::thread::Threads;
 use std::time::Clock;
 
@@ -33,8 +34,6 @@ const CUT: &[u8] = b"ircert 1\nnodes 2\nsection\ndrop 1 1 by 0 4\ndrop 1 2 by 0 
 const NOT_BEFORE: &[u8] =
     b"ircert 1\nnodes 2\nsection\ndrop 0 1 by 1 3\ndrop 0 2 by 1 3\nspent 0\nend\n";
 
-const LEADER_AND_UNBEATEN: &[u8] = b"irask 1\nnodes 2\ncase\n0: leader\n1: (not passive)\nend\n";
-
 /// That node 0 never leads in the tie unless node 1 is passive.
 const EIGHT_STEPS: &[u8] = b"ircert 1\nnodes 2\nsection\n\
     drop 1 0 by 0 9\ndrop 1 1 by 0 9\ndrop 1 2 by 0 9\ndrop 1 3 by 0 9\n\
@@ -47,19 +46,28 @@ const NOT_FRONT: &[u8] = b"ircert 1\nnodes 2\nsection\n\
     drop 1 4 by 0 9\ndrop 1 5 by 0 9\ndrop 1 6 by 0 9\ndrop 1 0 by 0 9\n\
     spent 1\nend\n";
 
-#[test]
-fn certificates_read(rt: HostRuntime) -> Result<(), Fail> {
-    let memory = Refusing::new(rt.alloc())?;
-    for (text, sections) in [(TWO_STEPS, 1), (CUT, 0)] {
-        let growths = each_growth_refused(&memory, |alloc| match read_cert(alloc, text) {
-            Ok(certificate) if certificate.sections.len() == sections => Outcome::Right,
-            Err(CertFault::Cut) if sections == 0 => Outcome::Right,
-            Err(CertFault::OutOfMemory) => Outcome::GaveUp,
-            _ => Outcome::Wrong,
-        });
-        assert!(rt; matches!(growths, Ok(number) if 0 < number), "{growths:?}");
+/// Compares that the call passed its trial, and that some of its growths were refused.
+fn assert_refused(rt: &impl Abort, growths: Result<u64, TrialFault>) {
+    assert!(rt; matches!(growths, Ok(number) if 0 < number), "{growths:?}");
+}
+
+/// What becomes of a reading with this memory, where the text has so many sections; where it has none, it is cut.
+fn read(alloc: Memory, text: &[u8], sections: usize) -> Outcome {
+    match read_cert(alloc, text) {
+        Ok(certificate) if certificate.sections.len() == sections => Outcome::Right,
+        Err(CertFault::Cut) if sections == 0 => Outcome::Right,
+        Err(CertFault::OutOfMemory) => Outcome::GaveUp,
+        _ => Outcome::Wrong,
     }
-    Ok(())
+}
+
+#[test]
+fn certificates_read(rt: HostRuntime) {
+    let memory = Refusing::new(rt.alloc()).expect(&rt, "memory");
+    for (text, sections) in [(TWO_STEPS, 1), (CUT, 0)] {
+        let growths = each_growth_refused(&memory, |alloc| read(alloc, text, sections));
+        assert_refused(&rt, growths);
+    }
 }
 
 /// What is judged or decided, and what comes of it.
@@ -121,16 +129,6 @@ const CALLS: [Call; 4] = [
     Call::Decide,
 ];
 
-/// The question's first case, which asks nodes of these logs.
-fn asked<'a>(question: &'a Question<Memory>, logs: &Logs<Memory>) -> Option<&'a Case<Memory>>
-    ensures { IfSome result (λ case. HasPlacesOf logs.now case.now) }
-{
-    if question.nodes() != logs.size() {
-        return None;
-    }
-    Some(&question.cases()[0])
-}
-
 fn judged(found: Result<Verdict, OutOfMemory>, verdict: Verdict) -> Outcome {
     match found {
         Ok(found) if found == verdict => Outcome::Right,
@@ -158,54 +156,70 @@ fn decided(
     }
 }
 
+/// What becomes of the call on this row and its case with this memory.
+fn called<R: Threads + Wait + Clock + Sync>(
+    rt: &R,
+    call: Call,
+    row: &Row,
+    ordered: &Ordered<'_, Memory>,
+    case: &Case<Memory>,
+    section: &Section<Memory>,
+    alloc: Memory,
+) -> Outcome
+    requires { HasPlacesOf ordered.now.logs case.now }
+{
+    let logs = ordered.logs();
+    match call {
+        Call::CheckPlain => {
+            let found = check_plain(alloc, logs, ordered, case, section);
+            judged(found, row.verdict)
+        }
+        Call::CheckSplit(depth) => {
+            let depth = depth.min(4);
+            let found = check_split(rt, alloc, logs, ordered, case, section, depth, &OpenGate);
+            judged(found, row.verdict)
+        }
+        Call::Decide => {
+            let found = decide(alloc, logs, ordered, case);
+            decided(found, row.least, section.steps.len())
+        }
+    }
+}
+
+fn handle(rt: &impl Abort, memory: &Memory) -> Memory {
+    memory.clone().expect(rt, "memory")
+}
+
 /// What becomes of the call on this row and its logs with `alloc`. What else it is made on lies in ample memory.
-fn outcome<R: Threads + Wait + Clock + Sync>(
+fn outcome<R: Abort + Threads + Wait + Clock + Sync>(
     rt: &R,
     call: Call,
     row: &Row,
     logs: &Logs<Memory>,
     alloc: Memory,
     ample: &Memory,
-) -> Option<Outcome> {
-    let ordered = order(ample.clone().ok()?, logs).ok()?;
-    let question = read_question(ample.clone().ok()?, row.question).ok()?;
-    let case = asked(&question, logs)?;
-    let certificate = read_cert(ample.clone().ok()?, row.certificate).ok()?;
-    let section = certificate.sections.first()?;
-    match call {
-        Call::CheckPlain => {
-            let found = check_plain(alloc, logs, &ordered, case, section);
-            Some(judged(found, row.verdict))
-        }
-        Call::CheckSplit(depth) => {
-            let depth = depth.min(4);
-            let found = check_split(rt, alloc, logs, &ordered, case, section, depth, &OpenGate);
-            Some(judged(found, row.verdict))
-        }
-        Call::Decide => {
-            let found = decide(alloc, logs, &ordered, case);
-            Some(decided(found, row.least, section.steps.len()))
-        }
-    }
+) -> Outcome {
+    let ordered = order(handle(rt, ample), logs).expect(rt, "an order");
+    let question = read_question(handle(rt, ample), row.question).expect(rt, "a question");
+    let case = first_case(&question, logs).expect(rt, "a question of the same ring");
+    let certificate = read_cert(handle(rt, ample), row.certificate).expect(rt, "a certificate");
+    let section = certificate.sections.first().expect(rt, "a section");
+    called(rt, call, row, &ordered, case, section, alloc)
 }
 
 #[test]
-fn sections_judged_and_made(rt: HostRuntime) -> Result<(), Fail> {
-    let memory = Refusing::new(rt.alloc())?;
-    let ample = Refusing::new(rt.alloc())?;
+fn sections_judged_and_made(rt: HostRuntime) {
+    let memory = Refusing::new(rt.alloc()).expect(&rt, "memory");
+    let ample = Refusing::new(rt.alloc()).expect(&rt, "memory");
     for row in &ROWS {
-        let logs = logs_of(ample.clone()?, &row.logs)?;
+        let logs = logs_of(handle(&rt, &ample), &row.logs).expect(&rt, "the logs of one ring");
         for call in CALLS {
             let growths = each_growth_refused(&memory, |alloc| {
-                outcome(&rt, call, row, &logs, alloc, &ample).unwrap_or(Outcome::Wrong)
+                outcome(&rt, call, row, &logs, alloc, &ample)
             });
-            assert!(rt;
-                matches!(growths, Ok(number) if 0 < number),
-                "{call:?}: {growths:?}"
-            );
+            assert_refused(&rt, growths);
         }
     }
-    Ok(())
 }
 
 /// Whether the certificate, written to a sink that fails behind so many bytes, leaves these there.
@@ -225,8 +239,7 @@ fn assert_stops(rt: &(impl Abort + AllocGlobal), certificate: &Certificate<Globa
 }
 
 #[test]
-fn sink_fails_behind_each_byte(rt: HostRuntime) -> Result<(), Fail> {
-    let certificate = read_cert(rt.alloc(), TWO_STEPS)?;
+fn sink_fails_behind_each_byte(rt: HostRuntime) {
+    let certificate = read_cert(rt.alloc(), TWO_STEPS).expect(&rt, "a certificate");
     assert_stops(&rt, &certificate, TWO_STEPS);
-    Ok(())
 }

@@ -2,13 +2,11 @@
 ghost use Rattle.std.specs.Prelude.{◌<◌};
 
 use crate::verdicts::{judge, judge_split};
-use ira_cert::{CertStep, Section, Verdict};
+use ira_cert::{CertStep, Verdict};
 use ira_fixtures::{LEADER_AND_UNBEATEN, TIE, step};
 use ira_links::OpenGate;
-use std::alloc::Global;
 use std::process::Abort;
 use std::sync::Wait;
-use std::test::Fail;
 use std::thread::Threads;
 use std::time::Clock;
 
@@ -40,24 +38,28 @@ impl Draws {
         step(node, pos, other, self.below(10))
     }
 
-    /// A section of up to nine steps.
-    fn section(&mut self, alloc: Global) -> Result<Section<Global>, Fail> {
-        let mut steps = Vec::new(alloc);
+    /// The steps of a section, nine at the most.
+    fn steps(&mut self, rt: &(impl Abort + AllocGlobal)) -> Vec<CertStep> {
+        let mut steps = Vec::new(rt.alloc());
         for k in 0..self.below(4) + 6 {
-            steps.push(self.step(k))?;
+            steps.push(self.step(k)).expect(rt, "memory");
         }
-        let spent = if self.below(8) > 0 { 1 } else { 0 };
-        Ok(Section { steps, spent })
+        steps
+    }
+
+    /// The node that a section spends.
+    fn spent(&mut self) -> u8 {
+        if self.below(8) > 0 { 1 } else { 0 }
     }
 }
 
-/// The verdict on the section, where it is the same at each depth.
-fn verdict<R: AllocGlobal + Threads + Wait + Clock + Sync>(
+/// Whether the section of these steps is sound, where the verdict is the same at each depth.
+fn is_sound<R: Abort + AllocGlobal + Threads + Wait + Clock + Sync>(
     rt: &R,
-    section: &Section<Global>,
-) -> Result<Verdict, Fail> {
-    let (steps, spent) = (section.steps.as_slice(), section.spent);
-    let plain = judge(rt.alloc(), &TIE, LEADER_AND_UNBEATEN, steps, spent)?;
+    steps: &[CertStep],
+    spent: u8,
+) -> bool {
+    let plain = judge(rt, &TIE, LEADER_AND_UNBEATEN, steps, spent);
     for depth in 0..5 {
         let split = judge_split(
             rt,
@@ -67,47 +69,43 @@ fn verdict<R: AllocGlobal + Threads + Wait + Clock + Sync>(
             spent,
             depth,
             &OpenGate,
-        )?;
-        if split != plain {
-            return Err("another verdict".into());
-        }
+        );
+        assert!(rt; split == plain, "depth {depth}");
     }
-    Ok(plain)
+    plain == Verdict::Yes
 }
 
 /// Compares the verdicts on 500 sections, among which both verdicts are.
-fn compare_sections<R: AllocGlobal + Abort + Threads + Wait + Clock + Sync>(
-    rt: &R,
-    seed: u64,
-) -> Result<(), Fail> {
+fn compare_sections<R: Abort + AllocGlobal + Threads + Wait + Clock + Sync>(rt: &R, seed: u64) {
     let mut draws = Draws { state: seed };
     let mut sound = 0u32;
     for _ in 0..500 {
-        let section = draws.section(rt.alloc())?;
-        sound = sound.saturating_add(u32::from(verdict(rt, &section)? == Verdict::Yes));
+        let steps = draws.steps(rt);
+        if is_sound(rt, &steps, draws.spent()) {
+            sound = sound.saturating_add(1);
+        }
     }
     assert!(rt; sound > 20 && sound < 480);
-    Ok(())
 }
 
 // 2,000 sections in four parts: each starts thousands of threads.
 
 #[test]
-fn random_sections_of_seed_1(rt: HostRuntime) -> Result<(), Fail> {
-    compare_sections(&rt, 1)
+fn random_sections_of_seed_1(rt: HostRuntime) {
+    compare_sections(&rt, 1);
 }
 
 #[test]
-fn random_sections_of_seed_2(rt: HostRuntime) -> Result<(), Fail> {
-    compare_sections(&rt, 2)
+fn random_sections_of_seed_2(rt: HostRuntime) {
+    compare_sections(&rt, 2);
 }
 
 #[test]
-fn random_sections_of_seed_3(rt: HostRuntime) -> Result<(), Fail> {
-    compare_sections(&rt, 3)
+fn random_sections_of_seed_3(rt: HostRuntime) {
+    compare_sections(&rt, 3);
 }
 
 #[test]
-fn random_sections_of_seed_4(rt: HostRuntime) -> Result<(), Fail> {
-    compare_sections(&rt, 4)
+fn random_sections_of_seed_4(rt: HostRuntime) {
+    compare_sections(&rt, 4);
 }

@@ -7,7 +7,6 @@ use ira_fixtures::{
 use ira_links::OpenGate;
 use std::process::Abort;
 use std::sync::Wait;
-use std::test::Fail;
 use std::thread::Threads;
 use std::time::Clock;
 
@@ -19,12 +18,11 @@ fn assert_verdict<R: Abort + AllocGlobal + Threads + Wait + Clock + Sync>(
     steps: &[CertStep],
     spent: u8,
     verdict: Verdict,
-) -> Result<(), Fail> {
+) {
     for depth in 0..5 {
-        let found = judge_split(rt, texts, question, steps, spent, depth, &OpenGate)?;
+        let found = judge_split(rt, texts, question, steps, spent, depth, &OpenGate);
         assert!(rt; found == verdict, "depth {depth}");
     }
-    Ok(())
 }
 
 const fn no(step: usize, why: Unsound) -> Verdict {
@@ -32,35 +30,35 @@ const fn no(step: usize, why: Unsound) -> Verdict {
 }
 
 #[test]
-fn section_without_steps(rt: HostRuntime) -> Result<(), Fail> {
-    assert_verdict(&rt, &ELECTION, BOTH_LEAD, &[], 1, Verdict::Yes)
+fn section_without_steps(rt: HostRuntime) {
+    assert_verdict(&rt, &ELECTION, BOTH_LEAD, &[], 1, Verdict::Yes);
 }
 
 #[test]
-fn two_step_section(rt: HostRuntime) -> Result<(), Fail> {
+fn two_step_section(rt: HostRuntime) {
     let steps = [step(1, 1, 0, 4), step(1, 2, 0, 4)];
-    assert_verdict(&rt, &ELECTION, LEADER_AND_ACTIVE, &steps, 1, Verdict::Yes)
+    assert_verdict(&rt, &ELECTION, LEADER_AND_ACTIVE, &steps, 1, Verdict::Yes);
 }
 
 #[test]
-fn section_cut_and_swapped(rt: HostRuntime) -> Result<(), Fail> {
+fn section_cut_and_swapped(rt: HostRuntime) {
     let cut = [step(1, 1, 0, 4)];
     let not_spent = Verdict::No(SectionFault::NotSpent(1));
-    assert_verdict(&rt, &ELECTION, LEADER_AND_ACTIVE, &cut, 1, not_spent)?;
+    assert_verdict(&rt, &ELECTION, LEADER_AND_ACTIVE, &cut, 1, not_spent);
     let swapped = [step(1, 2, 0, 4), step(1, 1, 0, 4)];
     let not_front = no(0, Unsound::NotFront);
-    assert_verdict(&rt, &ELECTION, LEADER_AND_ACTIVE, &swapped, 1, not_front)
+    assert_verdict(&rt, &ELECTION, LEADER_AND_ACTIVE, &swapped, 1, not_front);
 }
 
 #[test]
-fn least_cut_after_one_step(rt: HostRuntime) -> Result<(), Fail> {
+fn least_cut_after_one_step(rt: HostRuntime) {
     let steps = [step(0, 1, 1, 3), step(0, 2, 1, 3)];
     let not_before = no(1, Unsound::NotBefore);
-    assert_verdict(&rt, &ELECTION, ACTIVE_AND_PASSIVE, &steps, 0, not_before)
+    assert_verdict(&rt, &ELECTION, ACTIVE_AND_PASSIVE, &steps, 0, not_before);
 }
 
 #[test]
-fn eight_step_section(rt: HostRuntime) -> Result<(), Fail> {
+fn eight_step_section(rt: HostRuntime) {
     let mut steps = [
         step(1, 0, 0, 9),
         step(1, 1, 0, 9),
@@ -71,9 +69,9 @@ fn eight_step_section(rt: HostRuntime) -> Result<(), Fail> {
         step(1, 6, 0, 9),
         step(1, 7, 0, 9),
     ];
-    assert_verdict(&rt, &TIE, LEADER_AND_UNBEATEN, &steps, 1, Verdict::Yes)?;
+    assert_verdict(&rt, &TIE, LEADER_AND_UNBEATEN, &steps, 1, Verdict::Yes);
     steps[1] = step(1, 3, 0, 9);
     steps[7] = step(1, 0, 0, 9);
     let not_front = no(1, Unsound::NotFront);
-    assert_verdict(&rt, &TIE, LEADER_AND_UNBEATEN, &steps, 1, not_front)
+    assert_verdict(&rt, &TIE, LEADER_AND_UNBEATEN, &steps, 1, not_front);
 }

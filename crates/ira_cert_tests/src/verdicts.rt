@@ -7,33 +7,31 @@ use ira_links::Gate;
 use ira_order::order;
 use ira_par::check_split;
 use ira_pred::read_question;
-use std::alloc::Global;
+use std::process::Abort;
 use std::sync::Wait;
-use std::test::Fail;
 use std::thread::Threads;
 use std::time::Clock;
 
 /// The plain checker's verdict.
 pub(crate) fn judge(
-    alloc: Global,
+    rt: &(impl Abort + AllocGlobal),
     texts: &[&[u8]],
     question: &[u8],
     steps: &[CertStep],
     spent: u8,
-) -> Result<Verdict, Fail> {
-    let logs = logs_of(alloc, texts)?;
-    let ordered = order(alloc, &logs).ok().ok_or("an order")?;
-    let question = read_question(alloc, question)?;
-    let case = first_case(&question, &logs)?;
-    let section = Section {
-        steps: steps.to_vec(alloc)?,
-        spent,
-    };
-    Ok(check_plain(alloc, &logs, &ordered, case, &section)?)
+) -> Verdict {
+    let alloc = rt.alloc();
+    let logs = logs_of(alloc, texts).expect(rt, "the logs of one ring");
+    let ordered = order(alloc, &logs).expect(rt, "an order");
+    let question = read_question(alloc, question).expect(rt, "a question");
+    let case = first_case(&question, &logs).expect(rt, "a question of the same ring");
+    let steps = steps.to_vec(alloc).expect(rt, "memory");
+    let section = Section { steps, spent };
+    check_plain(alloc, &logs, &ordered, case, &section).expect(rt, "memory")
 }
 
 /// The verdict at this depth, where the ranges pass this gate.
-pub(crate) fn judge_split<R: AllocGlobal + Threads + Wait + Clock + Sync, G: Gate + Sync>(
+pub(crate) fn judge_split<R: Abort + AllocGlobal + Threads + Wait + Clock + Sync, G: Gate + Sync>(
     rt: &R,
     texts: &[&[u8]],
     question: &[u8],
@@ -41,17 +39,15 @@ pub(crate) fn judge_split<R: AllocGlobal + Threads + Wait + Clock + Sync, G: Gat
     spent: u8,
     depth: u8,
     gate: &G,
-) -> Result<Verdict, Fail>
+) -> Verdict
     requires { depth ≤ 4 }
 {
     let alloc = rt.alloc();
-    let logs = logs_of(alloc, texts)?;
-    let ordered = order(alloc, &logs).ok().ok_or("an order")?;
-    let question = read_question(alloc, question)?;
-    let case = first_case(&question, &logs)?;
-    let section = Section {
-        steps: steps.to_vec(alloc)?,
-        spent,
-    };
-    Ok(check_split(rt, alloc, &logs, &ordered, case, &section, depth, gate)?)
+    let logs = logs_of(alloc, texts).expect(rt, "the logs of one ring");
+    let ordered = order(alloc, &logs).expect(rt, "an order");
+    let question = read_question(alloc, question).expect(rt, "a question");
+    let case = first_case(&question, &logs).expect(rt, "a question of the same ring");
+    let steps = steps.to_vec(alloc).expect(rt, "memory");
+    let section = Section { steps, spent };
+    check_split(rt, alloc, &logs, &ordered, case, &section, depth, gate).expect(rt, "memory")
 }

@@ -1,10 +1,9 @@
-ghost use Rattle.std.specs.Prelude.{◌<◌, All, IfOk, length};
+ghost use Rattle.std.specs.Prelude.{◌<◌, All, IfSome, length};
 
 use ira_cert_text::CertStep;
 use ira_event::{Logs, read_log};
 use ira_pred::{Case, Question};
-use std::alloc::{Allocator, Global};
-use std::test::Fail;
+use std::alloc::Allocator;
 
 /// An election of two nodes that both initiate.
 pub const ELECTION: [&[u8]; 2] = [
@@ -86,24 +85,25 @@ pub const fn step(node: u8, pos: u32, other: u8, other_pos: u32) -> CertStep {
     }
 }
 
-/// The logs of these texts.
-pub fn logs_of<A: Allocator + Clone>(alloc: A, texts: &[&[u8]]) -> Result<Logs<A>, Fail> {
-    let mut logs = Vec::new(alloc.clone()?);
+/// The logs of these texts, where they are those of one ring and memory is left.
+pub fn logs_of<A: Allocator + Clone>(alloc: A, texts: &[&[u8]]) -> Option<Logs<A>> {
+    let mut logs = Vec::new(alloc.clone().ok()?);
     for text in texts {
-        logs.push(read_log(alloc.clone()?, text)?)?;
+        let log = read_log(alloc.clone().ok()?, text).ok()?;
+        logs.push(log).ok()?;
     }
-    Ok(Logs::gather(logs).ok().ok_or("the logs of one ring")?)
+    Logs::gather(logs).ok()
 }
 
-/// The question's first case, which asks nodes of these logs.
-pub fn first_case<'a>(
-    question: &'a Question<Global>,
-    logs: &Logs<Global>,
-) -> Result<&'a Case<Global>, Fail>
-    ensures { IfOk result (λ case. All (λ c. c.place < length logs.now) case.now) }
+/// The question's first case, which asks nodes of these logs, where they are of a ring of the same size.
+pub fn first_case<'a, A: Allocator>(
+    question: &'a Question<A>,
+    logs: &Logs<A>,
+) -> Option<&'a Case<A>>
+    ensures { IfSome result (λ case. All (λ c. c.place < length logs.now) case.now) }
 {
     if question.nodes() != logs.size() {
-        return Err("a question of the same ring".into());
+        return None;
     }
-    Ok(&question.cases()[0])
+    Some(&question.cases()[0])
 }
