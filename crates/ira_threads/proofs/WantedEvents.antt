@@ -1,5 +1,5 @@
 -- What a node wants, and what is known of it after one event more.
-use Rattle.std.proofs.Common.{◌≡◌, ◌<◌, ◌≤◌, ℕ, false, List, [], ◌∷◌, ◌++◌, suc, sym, ◌∙◌, ap, subst, arith}
+use Rattle.std.proofs.Common.{◌≡◌, ◌<◌, ◌≤◌, ℕ, false, List, [], ◌∷◌, ◌++◌, suc, refl, sym, ◌∙◌, ap, subst, arith}
 use Rattle.std.specs.Prelude.{None, IsTrue}
 use Rattle.std.specs.List.{All}
 use Rattle.std.proofs.lemmas.List.{append_assoc}
@@ -62,6 +62,13 @@ pub record SoFar (log : Log) (put taken : List Frame) (ids left : List ℕ) : Ty
   pub puts : put ≡ frames (sent log.events)
   pub takes : taken ≡ frames (got log.events)
   pub draws : ids ≡ drawn log.events ++ left
+
+pub so_far_first : (log : Log) (put taken : List Frame) (ids : List ℕ) → log.events ≡ [] → taken ≡ [] → put ≡ [] → SoFar log put taken ids ids
+so_far_first log put taken ids empty none_taken none_put = record {
+  puts = rw empty none_put;
+  takes = rw empty none_taken;
+  draws = rw empty refl;
+}
 
 pub so_far_draw : (a b : Log) (put taken : List Frame) (ids left rest : List ℕ) (d : ℕ) → SoFar a put taken ids left → left ≡ d ∷ rest → b ≡ record a { events = a.events ++ Draw d ∷ [] } → SoFar b put taken ids rest
 so_far_draw a b put taken ids left rest d h first more = record {

@@ -1,11 +1,12 @@
 use Rattle.std.proofs.Common.{◌≤◌, ℕ, [], ◌∷◌, ◌++◌, ◌∙◌, refl, sym, subst, ap, rules, arith}
 use Rattle.std.proofs.lemmas.List.{append-nil}
-use Rattle.ira_event.specs.declared.event.Event.TheVariants.{Got}
+use Rattle.std.proofs.lemmas.Result.{IfOk-from_err}
+use Rattle.ira_event.specs.declared.event.Event.TheVariants.{Draw, Got}
 use Rattle.ira_links.specs.declared.frame.Frame.TheVariants.{Msg, Stop}
 use Rattle.ira_node.specs.NodeStep.{HasStep}
 use Rattle.ira_run.specs.FullRun.{drawn}
 use Rattle.ira_threads.proofs.NodeTasks.{none_left}
-use Rattle.ira_threads.proofs.WantedEvents.{no_leader, choosing, waiting, has_room, has_step, all_first, all_rest, one_node, so_far_draw, so_far_sent, so_far_got}
+use Rattle.ira_threads.proofs.WantedEvents.{no_leader, choosing, waiting, has_room, has_step, all_first, all_rest, one_node, so_far_first, so_far_draw, so_far_sent, so_far_got}
 use Rattle.ira_threads.proofs.node_thread.turns.Goals as goal
 
 pub unreachable-requires : goal.unreachable-requires
@@ -24,9 +25,9 @@ loop-preserved-in-Draw-this g c =
     let first = c.in-Some-split_first.ensures.cases.0 in
     record {
       links = was.links;
-      node = one_node c.loop.node.log c.record.new.self.log c.args.node.now.log _ longer.ok was.node;
+      node = one_node c.loop.node.log c.record.new.self.log c.args.node.now.log (c.loop.node.log.events ++ Draw c.in-Some-split_first.id.now ∷ []) longer.ok was.node;
       cap = longer.cap ∙ was.cap;
-      so_far = so_far_draw _ _ _ _ _ _ _ _ was.so_far first longer.ok;
+      so_far = so_far_draw _ _ _ _ _ _ _ c.in-Some-split_first.id.now was.so_far first longer.ok;
       ids = all_rest P _ _ _ first was.ids;
     }
 
@@ -133,4 +134,38 @@ returns-in-Stop g c =
       taken = took.taken ∙ ap (λ f. c.loop.input.frames ++ f ∷ []) c.in-Stop.is ∙ ap (λ fs. fs ++ Stop ∷ []) was.so_far.takes;
       draws = (c.loop.left.now, was.so_far.draws);
       end = ((follows, has_room _ _ _ c.state.ensures.valid.count was.cap c.if-is_full.ensures.1), waits.0, waits.1);
+    }
+
+pub loop-init : goal.loop-init
+loop-init g c = record {
+  links = (refl, refl);
+  node = (refl, refl, refl);
+  cap = refl;
+  so_far = so_far_first _ _ _ _ c.requires.empty c.requires.fresh.0 c.requires.fresh.1;
+  ids = c.requires.ids;
+}
+
+pub returns-in_default-put : goal.returns-in_default-put
+returns-in_default-put g c =
+    let was = c.loop.invariant in
+    record {
+      node = (was.node, was.cap);
+      links = (was.links.0, c.in_default-put.ensures.link ∙ was.links.1);
+      put = tt;
+      taken = tt;
+      draws = tt;
+      end = tt;
+    }
+
+pub returns-in_err-take-in-Receipt : goal.returns-in_err-take-in-Receipt
+returns-in_err-take-in-Receipt g c =
+    let was = c.loop.invariant in
+    let closed = c.from_residual.ensures.0 in
+    record {
+      node = (was.node, was.cap);
+      links = (c.in_err-take-in-Receipt.ensures.link ∙ was.links.0, was.links.1);
+      put = IfOk-from_err _ _ closed;
+      taken = IfOk-from_err _ _ closed;
+      draws = IfOk-from_err _ _ closed;
+      end = IfOk-from_err _ _ closed;
     }

@@ -1,4 +1,5 @@
 use Rattle.std.proofs.Common.{◌<◌, length, ap, arith}
+use Rattle.std.proofs.lemmas.Result.{IfOk-from_err}
 use Rattle.ira_lone.specs.LoneNode.{LoneNode, MakesOwn}
 use Rattle.ira_lone.proofs.LoneNodes.{stopped, further, full_ends}
 use Rattle.ira_lone.proofs.lone_node.LoneNode.go_on.Goals as goal
@@ -29,3 +30,17 @@ pub returns : goal.returns
 returns g c =
     let was = c.loop-nodes.invariant in
     (was.goes, full_ends _ _ c.loop-nodes.self (omega (arith, ap (λ (x : LoneNode). length x.events) c.self-in-loop-nodes.view_is)))
+
+pub returns-in_err-next-in-Draw : goal.returns-in_err-next-in-Draw
+returns-in_err-next-in-Draw g c = IfOk-from_err _ _ c.from_residual-in_err-next-in-Draw.ensures.0
+
+pub returns-in_err-next-in-Receipt : goal.returns-in_err-next-in-Receipt
+returns-in_err-next-in-Receipt g c = IfOk-from_err _ _ c.from_residual-in_err-next-in-Receipt.ensures.0
+
+pub returns-in_err-send-in-Send : goal.returns-in_err-send-in-Send
+returns-in_err-send-in-Send g c = IfOk-from_err _ _ c.from_residual.ensures.0
+
+pub returns-in-Send : goal.returns-in-Send
+returns-in-Send g c =
+    let room : length c.loop-nodes.self.events < c.args.cap = omega (arith, ap (λ (x : LoneNode). length x.events) c.self-in-loop-nodes.view_is) in
+    (c.loop-nodes.self, c.loop-nodes.invariant.goes, c.in_ok-send-in-Send.ensures c.args.cap room)

@@ -1,4 +1,6 @@
-use Rattle.std.proofs.Common.{◌≡◌, ◌≤◌, ◌<◌, ◌∙◌, ℕ, Bool, List, All, ap, sym, subst, arith}
+use Rattle.std.proofs.Common.{◌≡◌, ◌≤◌, ◌<◌, ◌∙◌, ℕ, Bool, List, length, All, ap, sym, subst, arith}
+use Rattle.std.proofs.lemmas.List.{length-map}
+use Rattle.std.proofs.lemmas.Result.{IfOk-from_err}
 use Rattle.ira_threads.specs.NodeTask.{NodeTask}
 use Rattle.ira_run.specs.Setup.{Setup, is_initiator, node_draws}
 use Rattle.ira_run.specs.Recording.{IsRecorded}
@@ -43,3 +45,18 @@ returns g c =
       put = c.in_ok-part.ensures.put;
       taken = c.in_ok-part.ensures.taken;
     }
+
+pub returns-in_err-part : goal.returns-in_err-part
+returns-in_err-part g c = IfOk-from_err _ _ c.from_residual.ensures.0
+
+pub index-requires : goal.index-requires
+index-requires g c =
+    let place : c.self.inside.place ≡ c.args.self.place = ap (λ (x : NodeTask). x.place) c.self.view_is in
+    let kinds : length c.setup.inside.initiators.items ≡ c.args.setup.now.nodes = ap (λ (x : Setup). length x.initiators) c.setup.view_is ∙ c.requires.rules.lists.0 in
+    omega (arith, c.from.ensures, place, kinds, c.setup.inside.initiators.ok.0, c.requires.place)
+
+pub index-requires-2 : goal.index-requires-2
+index-requires-2 g c =
+    let place : c.self.inside.place ≡ c.args.self.place = ap (λ (x : NodeTask). x.place) c.self.view_is in
+    let rows : length c.setup.inside.draws.items ≡ c.args.setup.now.nodes = sym (length-map c.setup.inside.draws.items (λ v. v.items)) ∙ ap (λ (x : Setup). length x.draws) c.setup.view_is ∙ c.requires.rules.lists.1 in
+    omega (arith, c.from-2.ensures, place, rows, c.setup.inside.draws.ok.0, c.requires.place)
