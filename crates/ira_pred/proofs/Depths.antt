@@ -161,6 +161,29 @@ module _ (text : List ℕ) (i o k : ℕ) (there : i < length text) (h : Counted 
       let no_close : nat_eq (get_or text i 0) 41 ≡ false = grind (arith, nat_tests) in
       (h.opens ∙ sym (count_by_more_no (λ x. nat_eq x 40) text i 0 there no_open), h.closes ∙ sym (count_by_more_no (λ x. nat_eq x 41) text i 0 there no_close))
 
+-- before the first byte
+pub counts_none : (text : List ℕ) → Counted text 0 0 0
+counts_none text = record {
+  opens = refl;
+  closes = refl;
+  shallow = λ j low deep. (let none : j ≡ 0 = omega arith in let first = subst (λ x. closed (take x text) + 32 < opened (take x text)) none deep in absurd (omega (arith, first)));
+}
+
+up_to : (j i : ℕ) → j ≤ i + 1 → (j ≤ i) ⊎ (j ≡ i + 1)
+up_to j i low = grind arith
+
+shallow_more : (text : List ℕ) (i o k j : ℕ) → ((l : ℕ) → l ≤ i → ¬ (closed (take l text) + 32 < opened (take l text))) → (o ≡ opened (take (i + 1) text)) × (k ≡ closed (take (i + 1) text)) → o ≤ k + 32 → (j ≤ i) ⊎ (j ≡ i + 1) → ¬ (closed (take j text) + 32 < opened (take j text))
+shallow_more text i o k j h p few (inl low) = h j low
+shallow_more text i o k j h p few (inr e) = λ deep. (let last = subst (λ x. closed (take x text) + 32 < opened (take x text)) e deep in absurd (omega (arith, p.0, p.1, few, last)))
+
+-- one byte more, at which the text goes no deeper than it may
+pub counts_more : (text : List ℕ) (i o k p q : ℕ) → Counted text i o k → (p ≡ opened (take (i + 1) text)) × (q ≡ closed (take (i + 1) text)) → p ≤ q + 32 → Counted text (i + 1) p q
+counts_more text i o k p q h turn few = record {
+  opens = turn.0;
+  closes = turn.1;
+  shallow = λ j low. shallow_more text i p q j h.shallow turn few (up_to j i low);
+}
+
 pub counted_deep : (text : List ℕ) (i o k : ℕ) → (o ≡ opened (take i text)) × (k ≡ closed (take i text)) → k + 32 < o → IsTooDeep text
 counted_deep text i o k p deep = (take i text, drop i text, sym (take-append-drop i text), omega (arith, p.0, p.1, deep))
 
