@@ -10,7 +10,7 @@ use crate::ring_size::ring_size;
 use crate::shelf::Shelf;
 use crate::shelf_fault::ShelfFault;
 use crate::status::Status;
-use ira_event::{Logs, NodeLog, Sink, WriteFault, write_log};
+use ira_event::{Logs, MemorySink, NodeLog, Sink, WriteFault, write_bytes, write_log};
 use ira_ring::write_ends;
 use ira_words::RunRequest;
 use std::alloc::Allocator;
@@ -55,7 +55,8 @@ fn write_files<'a, A: Allocator, B: Allocator, F: Shelf<B>>(
     Ok(())
 }
 
-/// Runs the ring that is asked for, writes the log of each node to a file, and then how each node ended.
+/// Runs the ring that is asked for, writes the log of each node to a file, and then how each node ended. How they ended is
+/// put together before a file is made, since the output isn't buffered and memory may run out.
 pub(crate) fn record_run<'a, R, A, F, W>(
     rt: &R,
     alloc: A,
@@ -75,8 +76,12 @@ where
         return Err(ProgramFault::RingSize);
     };
     let run = run(request, rt, alloc.clone()?, nodes)?;
+    let mut text = MemorySink::new(alloc.clone()?);
+    let Ok(()) = write_ends(&run, &mut text) else {
+        return Err(ProgramFault::OutOfMemory);
+    };
     write_files(&alloc, request.folder, run.logs(), shelf)?;
-    match write_ends(&run, out) {
+    match write_bytes(text.bytes(), out) {
         Ok(()) => Ok(Status::of_ends(run.ends())),
         Err(WriteFault) => Err(ProgramFault::CannotWriteAnswer),
     }
