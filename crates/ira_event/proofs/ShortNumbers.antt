@@ -1,9 +1,10 @@
 -- A number of a few digits that is read digit by digit is the one that stands there.
-use Rattle.std.proofs.Common.{◌≡◌, ◌≤◌, ◌<◌, ℕ, ◌+◌, ◌*◌, ◌-◌, ◌^◌, suc, true, false, List, ◌∷◌, length, drop, slice_index_or, Some, None, refl, sym, ap, ◌∙◌, arith, nat_eq}
+use Rattle.std.proofs.Common.{◌≡◌, ◌≤◌, ◌<◌, ℕ, ◌+◌, ◌*◌, ◌-◌, ◌^◌, suc, Bool, true, false, List, ◌∷◌, length, drop, slice_index_or, Some, None, refl, sym, ap, ◌∙◌, arith, nat_eq}
 use Rattle.std.specs.Char.{is_ascii_digit}
 use Rattle.std.proofs.Math.Nat.{pow-le-pow_right, pow-succ'}
 use Rattle.std.proofs.lemmas.Bool.Decides.{nat_tests}
 use Rattle.std.specs.Prelude.{codes}
+use Rattle.ira_event.specs.LogScan.{bit_at, message_at, number_line}
 use Rattle.ira_event.specs.Scan.{digits_from, kept, kept_at, after_word}
 use Rattle.ira_event.proofs.Rest.{drop-at}
 
@@ -54,3 +55,14 @@ pub space-there : (text : List ℕ) (i : ℕ) → i < length text → slice_inde
 space-there text i there space =
     let cons : drop i text ≡ 32 ∷ drop (i + 1) text = drop-at text i 32 0 there (sym space) in
     ap (after_word (codes " ")) cons ∙ refl
+
+-- a number to its line's end
+pub number-line-there : (text : List ℕ) (end n : ℕ) (rest : List ℕ) → kept_at text ≡ Some (n, drop end text) → after_word (codes "\n") (drop end text) ≡ Some rest → number_line text ≡ Some (n, rest)
+number-line-there text end n rest number feed = rw (number, feed) refl
+
+-- a message of three numbers, each where the one before it ends
+pub message-there : (text : List ℕ) (a b c round id hop : ℕ) (dirty : Bool) (rest : List ℕ) → kept_at text ≡ Some (round, drop a text) → after_word (codes " ") (drop a text) ≡ Some (drop (a + 1) text)
+    → kept_at (drop (a + 1) text) ≡ Some (id, drop b text) → after_word (codes " ") (drop b text) ≡ Some (drop (b + 1) text) → kept_at (drop (b + 1) text) ≡ Some (hop, drop c text)
+    → bit_at (drop c text) ≡ Some (dirty, rest) → message_at text ≡ Some (record { round = round; id = id; hop = hop; dirty = dirty }, rest)
+unfolding message_at
+message-there text a b c round id hop dirty rest first one second two third bit = rw (first, one, second, two, third, bit) refl
