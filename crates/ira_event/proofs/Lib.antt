@@ -12,6 +12,7 @@ pub mod Numerals
 pub mod Pieces
 pub mod RecordLines
 pub mod Rest
+pub mod ShortNumbers
 pub mod Spelled
 pub mod TextsAnswered
 pub mod Unless

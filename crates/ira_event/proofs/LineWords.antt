@@ -1,5 +1,5 @@
 -- A line, read by the word that it begins with.
-use Rattle.std.proofs.Common.{◌≡◌, ℕ, List, Option, Some, None, refl}
+use Rattle.std.proofs.Common.{◌≡◌, ◌∙◌, ℕ, List, Option, Some, None, refl}
 use Rattle.std.specs.Option.{option_map}
 use Rattle.std.specs.Prelude.{codes}
 use Rattle.ira_event.specs.declared.event.Event.TheVariants.{Draw, Sent, Got}
@@ -37,3 +37,6 @@ by_word None None None None = refl
 pub line_by_word : (text : List ℕ) → line_at text ≡ (word_at text >>= (λ p. line_behind p.0 p.1))
 unfolding line_at
 line_by_word text = by_word (after_word (codes "draw ") text) (after_word (codes "send ") text) (after_word (codes "recv ") text) (after_word (codes "end ") text)
+
+pub line-of-word : (text rest : List ℕ) (w : LineWord) → word_at text ≡ Some (w, rest) → line_at text ≡ line_behind w rest
+line-of-word text rest w e = line_by_word text ∙ rw e refl

@@ -45,7 +45,7 @@ pub record Number (bs : List ℕ) (p : ℕ × List ℕ) : Type 0 where
   pub parts : bs ≡ text ++ p.1
   pub is : IsNumeral text p.0
 
-digit_range : (c : ℕ) → is_ascii_digit c ≡ true → (48 ≤ c) × (c ≤ 57)
+pub digit_range : (c : ℕ) → is_ascii_digit c ≡ true → (48 ≤ c) × (c ≤ 57)
 digit_range c h = (grind (arith, nat_tests), grind (arith, nat_tests))
 
 number-cons : (c : ℕ) (cs : List ℕ) (p : ℕ × List ℕ) (z d : Bool) → nat_eq c 48 ≡ z → is_ascii_digit c ≡ d

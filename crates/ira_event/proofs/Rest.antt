@@ -1,6 +1,7 @@
 -- What is left of a list at an index, and what is spelled out of it.
-use Rattle.std.proofs.Common.{◌≡◌, ℕ, suc, ◌+◌, ◌<◌, List, ◌∷◌, ◌++◌, drop, get_or, length, sym, ap, ◌∙◌, arith}
+use Rattle.std.proofs.Common.{◌≡◌, ℕ, suc, ◌+◌, ◌-◌, ◌<◌, List, ◌∷◌, ◌++◌, drop, take, get_or, length, sym, ap, ◌∙◌, arith}
 use Rattle.std.proofs.Math.Seq.{drop-cons}
+use Rattle.std.proofs.lemmas.List.{take_all, length-drop}
 use Rattle.std.specs.List.{flat_map}
 
 -- the element there, and then those behind it
@@ -12,3 +13,7 @@ drop-at xs i x d there is =
 -- the text of the element there, and then the texts of those behind it
 pub next_text : {X : Type 0} (f : X → List ℕ) (xs : List X) (i : ℕ) (x d : X) → i < length xs → x ≡ get_or xs i d → f x ++ flat_map f (drop (i + 1) xs) ≡ flat_map f (drop i xs)
 next_text f xs i x d there is = ap (λ ys. flat_map f ys) (sym (drop-at xs i x d there is))
+
+-- the slice that begins there
+pub slice-from : {X : Type 0} (xs : List X) (i : ℕ) → take (length xs - i) (drop i xs) ≡ drop i xs
+slice-from xs i = let rest = length-drop i xs in take_all (length xs - i) (drop i xs) (omega (arith, rest))

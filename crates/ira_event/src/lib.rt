@@ -22,6 +22,7 @@ mod packed_event;
 mod records;
 mod ring_size;
 mod scan;
+mod short_record;
 mod sink;
 mod stored_events;
 mod to_writer;

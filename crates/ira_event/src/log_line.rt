@@ -15,7 +15,7 @@ pub enum LogLine {
 
 /// The word that a line begins with.
 #[derive(Clone, Copy)]
-enum LineWord {
+pub(crate) enum LineWord {
     Draw,
     Send,
     Recv,
@@ -24,7 +24,8 @@ enum LineWord {
 
 /// The line that the text begins with, and what follows its line feed. Its numbers are as spelled,
 /// in range or not.
-#[inline(always)]
+#[cold]
+#[inline(never)]
 #[tactic(auto, using(crate::proofs::LineWords::line_by_word))]
 pub fn take_line(text: &[u8]) -> Option<(LogLine, &[u8])>
     ensures { Gives (λ found. (found.0, found.1.now)) result (line_at text.now) }
@@ -52,7 +53,7 @@ pub fn take_line(text: &[u8]) -> Option<(LogLine, &[u8])>
 
 /// The word and the space that the line begins with.
 #[inline(always)]
-fn take_word(text: &[u8]) -> Option<(LineWord, &[u8])>
+pub(crate) fn take_word(text: &[u8]) -> Option<(LineWord, &[u8])>
     ensures { Gives (λ found. (found.0, found.1.now)) result (word_at text.now) }
 {
     match text {
@@ -85,7 +86,7 @@ fn take_message_line(text: &[u8]) -> Option<(Msg, &[u8])>
 }
 
 #[inline(always)]
-fn take_bit(text: &[u8]) -> Option<(bool, &[u8])>
+pub(crate) fn take_bit(text: &[u8]) -> Option<(bool, &[u8])>
     ensures { Gives (λ found. (found.0, found.1.now)) result (bit_at text.now) }
 {
     match text {

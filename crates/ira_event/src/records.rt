@@ -8,6 +8,7 @@ use crate::event::Event;
 use crate::limits::MAX_RECORDS;
 use crate::log_fault::LogFault;
 use crate::log_line::{LogLine, take_line};
+use crate::short_record::take_short_record;
 use std::marker::Model;
 
 /// What stands behind the head of a log text, read record by record; nothing is kept of those that
@@ -52,6 +53,13 @@ impl<'a> Records<'a> {
     pub fn next_event(&mut self) -> Result<Option<Event>, LogFault>
         ensures { ReadsOn self.old self.new result }
     {
+        if self.count < MAX_RECORDS
+            && let Some((event, after)) = take_short_record(self.rest)
+        {
+            self.count += 1;
+            self.rest = after;
+            return Ok(Some(event));
+        }
         let Some((line, after)) = take_line(self.rest) else {
             return Err(unread_fault(self.rest, self.count));
         };

@@ -8,29 +8,34 @@ returns-in_default c = rw (← c.self.view_is) c.unread_fault.ensures
 
 pub returns-then-self-eq-MAX_RECORDS : goal.returns-then-self-eq-MAX_RECORDS
 returns-then-self-eq-MAX_RECORDS c =
-    rw (← c.self.view_is) (fault_too_many c.self.inside.rest.now c.in-Some.after.now c.self.inside.count c.in-Record.event (c.in-Some.ensures ∙ ap (λ x. Some (x, c.in-Some.after.now)) c.in-Record.is) c.if-self-eq-MAX_RECORDS.true)
+    rw (← c.self.view_is) (fault_too_many c.self.inside.rest.now c.in-Some-take_line.after.now c.self.inside.count c.in-Record.event (c.in-Some-take_line.ensures ∙ ap (λ x. Some (x, c.in-Some-take_line.after.now)) c.in-Record.is) c.if-self-eq-MAX_RECORDS.true)
 
 pub returns-then-not-is_in_range : goal.returns-then-not-is_in_range
 returns-then-not-is_in_range c =
     let few : c.self.inside.count ≢ MAX_RECORDS = omega arith in
-    rw (← c.self.view_is) (fault_range c.self.inside.rest.now c.in-Some.after.now c.self.inside.count c.in-Record.event (c.in-Some.ensures ∙ ap (λ x. Some (x, c.in-Some.after.now)) c.in-Record.is) few (sym c.is_in_range.ensures ∙ c.if-not-is_in_range.true))
+    rw (← c.self.view_is) (fault_range c.self.inside.rest.now c.in-Some-take_line.after.now c.self.inside.count c.in-Record.event (c.in-Some-take_line.ensures ∙ ap (λ x. Some (x, c.in-Some-take_line.after.now)) c.in-Record.is) few (sym c.is_in_range.ensures ∙ c.if-not-is_in_range.true))
 
 pub returns-then-count-self : goal.returns-then-count-self
 returns-then-count-self c =
     let other : c.in-End.count ≢ c.self.inside.count = omega arith in
-    rw (← c.self.view_is) (fault_count c.self.inside.rest.now c.in-Some.after.now c.self.inside.count c.in-End.count (c.in-Some.ensures ∙ ap (λ x. Some (x, c.in-Some.after.now)) c.in-End.is) c.self.invariant other)
+    rw (← c.self.view_is) (fault_count c.self.inside.rest.now c.in-Some-take_line.after.now c.self.inside.count c.in-End.count (c.in-Some-take_line.ensures ∙ ap (λ x. Some (x, c.in-Some-take_line.after.now)) c.in-End.is) c.self.invariant other)
 
 pub returns-then-not-is_empty : goal.returns-then-not-is_empty
 returns-then-not-is_empty c =
     let same : c.in-End.count ≡ c.self.inside.count = omega arith in
-    rw (← c.self.view_is) (fault_trailing c.self.inside.rest.now c.in-Some.after.now c.self.inside.count c.in-End.count (c.in-Some.ensures ∙ ap (λ x. Some (x, c.in-Some.after.now)) c.in-End.is) c.self.invariant same (not_empty c.in-Some.after.now (sym c.is_empty.ensures ∙ c.if-not-is_empty.true)))
+    rw (← c.self.view_is) (fault_trailing c.self.inside.rest.now c.in-Some-take_line.after.now c.self.inside.count c.in-End.count (c.in-Some-take_line.ensures ∙ ap (λ x. Some (x, c.in-Some-take_line.after.now)) c.in-End.is) c.self.invariant same (not_empty c.in-Some-take_line.after.now (sym c.is_empty.ensures ∙ c.if-not-is_empty.true)))
 
 pub returns-else-not-is_in_range : goal.returns-else-not-is_in_range
 returns-else-not-is_in_range c =
     let few : c.self.inside.count ≢ MAX_RECORDS = omega arith in
-    rw (← c.self.view_is) (reads_record c.self.inside.rest.now c.in-Some.after.now c.self.inside.count c.in-Record.event (c.in-Some.ensures ∙ ap (λ x. Some (x, c.in-Some.after.now)) c.in-Record.is) few (sym c.is_in_range.ensures ∙ c.if-not-is_in_range.false))
+    rw (← c.self.view_is) (reads_record c.self.inside.rest.now c.in-Some-take_line.after.now c.self.inside.count c.in-Record.event (c.in-Some-take_line.ensures ∙ ap (λ x. Some (x, c.in-Some-take_line.after.now)) c.in-Record.is) few (sym c.is_in_range.ensures ∙ c.if-not-is_in_range.false))
 
 pub returns-else-not-is_empty : goal.returns-else-not-is_empty
 returns-else-not-is_empty c =
     let same : c.in-End.count ≡ c.self.inside.count = omega arith in
-    rw (← c.self.view_is) (at_end c.self.inside.rest.now c.in-Some.after.now c.self.inside.count c.in-End.count (c.in-Some.ensures ∙ ap (λ x. Some (x, c.in-Some.after.now)) c.in-End.is) c.self.invariant same (empty_is c.in-Some.after.now (sym c.is_empty.ensures ∙ c.if-not-is_empty.false)))
+    rw (← c.self.view_is) (at_end c.self.inside.rest.now c.in-Some-take_line.after.now c.self.inside.count c.in-End.count (c.in-Some-take_line.ensures ∙ ap (λ x. Some (x, c.in-Some-take_line.after.now)) c.in-End.is) c.self.invariant same (empty_is c.in-Some-take_line.after.now (sym c.is_empty.ensures ∙ c.if-not-is_empty.false)))
+
+pub returns : goal.returns
+returns c =
+    let few : c.self.inside.count ≢ MAX_RECORDS = omega arith in
+    rw (← c.self.view_is) (reads_record c.self.inside.rest.now c.in-Some.after.now c.self.inside.count c.in-Some.event c.in-Some.ensures.line few c.in-Some.ensures.in_range)

@@ -1,0 +1,100 @@
+ghost use Rattle.std.specs.Prelude.{◌≡◌, ◌+◌, ◌≤◌, ◌<◌, true, Some, IfSome, drop, length};
+ghost use Rattle.ira_event.specs.Event.{is_event, is_msg, is_number};
+ghost use Rattle.ira_event.specs.LogScan.{line_at, message_at};
+ghost use Rattle.ira_event.specs.Scan.{kept_at};
+ghost use Rattle.ira_event.specs.declared.log_line.LogLine.TheVariants.{Record};
+ghost use Rattle.ira_event.specs.declared.short_record.TheConstants.{NUMBER_ROOM, MESSAGE_ROOM};
+
+use crate::event::Event;
+use crate::log_line::{LineWord, take_bit, take_word};
+use crate::msg::Msg;
+use crate::scan::skip_word;
+
+/// The six digits that a short number has at most, and the byte behind it. Each number of so many
+/// digits that isn't 0 is within the limits.
+const NUMBER_ROOM: usize = 7;
+
+/// Three short numbers, each with the byte behind it.
+const MESSAGE_ROOM: usize = 21;
+
+/// The same behind a word of a record.
+const RECORD_ROOM: usize = 26;
+
+/// The record on the line that the text begins with, within the limits, and what follows its line
+/// feed. A line is only read where the text leaves room for numbers that are short, so that no digit
+/// asks whether the text goes on: 125 instructions a line in place of 162. `None` says nothing of it.
+#[inline(always)]
+pub(crate) fn take_short_record(text: &[u8]) -> Option<(Event, &[u8])>
+    ensures line { IfSome result (λ found. line_at text.now ≡ Some (Record found.0, found.1.now)) }
+    ensures in_range { IfSome result (λ found. is_event found.0 ≡ true) }
+{
+    if text.len() < RECORD_ROOM {
+        return None;
+    }
+    let (word, rest) = take_word(text)?;
+    match word {
+        LineWord::Draw => {
+            let (drawn, end) = short_number(rest, 0)?;
+            let rest = skip_word(&rest[end..], b"\n")?;
+            Some((Event::Draw(drawn), rest))
+        }
+        LineWord::Send => {
+            let (message, rest) = take_short_message(rest)?;
+            Some((Event::Sent(message), rest))
+        }
+        LineWord::Recv => {
+            let (message, rest) = take_short_message(rest)?;
+            Some((Event::Got(message), rest))
+        }
+        LineWord::End => None,
+    }
+}
+
+/// The message of short numbers that the text begins with, and what follows its line.
+#[inline(always)]
+fn take_short_message(text: &[u8]) -> Option<(Msg, &[u8])>
+    requires { MESSAGE_ROOM ≤ length text.now }
+    ensures message { IfSome result (λ found. message_at text.now ≡ Some (found.0, found.1.now)) }
+    ensures in_range { IfSome result (λ found. is_msg found.0 ≡ true) }
+{
+    let (round, end) = short_number(text, 0)?;
+    if text[end] != b' ' {
+        return None;
+    }
+    let (id, end) = short_number(text, end + 1)?;
+    if text[end] != b' ' {
+        return None;
+    }
+    let (hop, end) = short_number(text, end + 1)?;
+    let (dirty, rest) = take_bit(&text[end..])?;
+    let message = Msg {
+        round,
+        id,
+        hop,
+        dirty,
+    };
+    Some((message, rest))
+}
+
+/// The short number that stands there, and where it ends.
+#[inline(always)]
+fn short_number(text: &[u8], start: usize) -> Option<(u32, usize)>
+    requires { start + NUMBER_ROOM ≤ length text.now }
+    ensures number { IfSome result
+        (λ found. kept_at (drop start text.now) ≡ Some (found.0, drop found.1 text.now)) }
+    ensures in_range { IfSome result (λ found. is_number found.0 ≡ true) }
+    ensures end { IfSome result (λ found. found.1 < start + NUMBER_ROOM) }
+{
+    let first @ b'1'..=b'9' = text[start] else {
+        return None;
+    };
+    let mut value = u32::from(first - b'0');
+    for i in 1..NUMBER_ROOM {
+        let byte = text[start + i];
+        if !byte.is_ascii_digit() {
+            return Some((value, start + i));
+        }
+        value = 10 * value + u32::from(byte - b'0');
+    }
+    None
+}
