@@ -15,7 +15,7 @@ use Rattle.ira_node.specs.Msg.{first_message, raised, dirtied, IsGreater, IsLess
 use Rattle.ira_node.specs.NodeState.{free, owing, IsLeader, Receives}
 use Rattle.ira_node.specs.NodeStep.{NodeStep, sends, draws, passes, gives_in, purges, meets, ties, wins, HasStep}
 use Rattle.ira_node.specs.NodeStepFault.{IsSending, PassesOn, NodeStepFault, ended, owes, another, nothing_owed, must_draw, draw_range, not_choosing, hop_limit, hop_past, round_limit}
-use Rattle.ira_node.specs.StepAnswer.{same_msg, is_greater, is_less, own_pair_answer, passed, compared, drawn_answer, free_answer, sent_answer, step_answer, answer}
+use Rattle.ira_node.specs.StepAnswer.{same_msg, is_greater, is_less, own_pair_answer, passed, compared, drawn_answer, free_answer, sent_answer, step_answer, answer, advance_answer}
 
 -- an answer is a step or a fault of the relations
 abbrev Judged : ℕ → NodeState → Event → Result NodeState StepFault → Type 0
@@ -250,6 +250,11 @@ fault_exactly n s e r a f = (
   λ h. let J : Result NodeState StepFault → Type 0 = Judged n s e in subst J (sym a ∙ h) (judged n s e),
   λ h. a ∙ fault_gives n s e f h,
 )
+
+-- so does the answer of a step that changes the state itself
+pub advances : (n : ℕ) (s : NodeState) (e : Event) (r : Result (Unit {0}) StepFault) (t : NodeState) → advance_answer r t ≡ answer n s e → MatchResult r (λ _. NodeStep n s e t) (λ f. NodeStepFault n s e f)
+advances n s e (Ok _) t a = (step_exactly n s e (Ok t) a t).0 refl
+advances n s e (Err f) t a = (fault_exactly n s e (Err f) a f).0 refl
 
 -- each event has a step or a fault
 step_or_fault : (n : ℕ) (s : NodeState) (e : Event) (r : Result NodeState StepFault) → Judged n s e r → HasStep n s e ⊎ ((f : StepFault) × NodeStepFault n s e f)

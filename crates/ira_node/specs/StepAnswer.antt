@@ -83,3 +83,8 @@ step_answer n phase (Some m) e = sent_answer phase m e
 -- the answer in a state
 abbrev pub answer : ℕ → NodeState → Event → Result NodeState StepFault
 answer n s e = step_answer n s.phase s.owed e
+
+-- the answer of a step that changes the state itself
+abbrev pub advance_answer : Result (Unit {0}) StepFault → NodeState → Result NodeState StepFault
+advance_answer (Ok _) after = Ok after
+advance_answer (Err f) after = Err f

@@ -1,9 +1,9 @@
-ghost use Rattle.std.specs.Prelude.{◌≡◌, ◌↔◌, ℕ};
+ghost use Rattle.std.specs.Prelude.{◌≡◌, ◌↔◌, ℕ, None, MatchResult, OnErr};
 ghost use Rattle.ira_event.specs.RingSize.{IsRingSize};
-ghost use Rattle.ira_node.specs.NodeState.{first_state, IsLeader, owing};
+ghost use Rattle.ira_node.specs.NodeState.{first_state, free, IsLeader};
 ghost use Rattle.ira_node.specs.NodeStep.{NodeStep};
 ghost use Rattle.ira_node.specs.NodeStepFault.{NodeStepFault};
-ghost use Rattle.ira_node.specs.StepAnswer.{step_answer, sent_answer, free_answer, drawn_answer, got_answer, compared, own_pair_answer, passed};
+ghost use Rattle.ira_node.specs.StepAnswer.{advance_answer, step_answer, sent_answer, free_answer, drawn_answer, got_answer, compared, own_pair_answer, passed};
 ghost use Rattle.ira_node.specs.Wanted.{wanted_of, IsOfKind, CanCome};
 
 use crate::phase::Phase;
@@ -61,12 +61,25 @@ impl NodeState {
         ensures ok { (t : NodeState) → (result ≡ Ok t) ↔ NodeStep nodes self.now event.now t }
         ensures err { (f : StepFault) → (result ≡ Err f) ↔ NodeStepFault nodes self.now event.now f }
     {
+        let mut after = *self;
+        after.advance(nodes, event)?;
+        Ok(after)
+    }
+
+    /// Goes on to the state after the event in a ring of so many nodes, or stays and says why the event has no step.
+    #[inline(always)]
+    pub fn advance(&mut self, nodes: RingSize, event: &Event) -> Result<(), StepFault>
+        ensures value { advance_answer result self.new ≡ step_answer nodes self.old.phase self.old.owed event.now }
+        ensures steps { MatchResult result (λ _. NodeStep nodes self.old event.now self.new)
+            (λ f. NodeStepFault nodes self.old event.now f) }
+        ensures err { OnErr result (self.new ≡ self.old) }
+    {
         if let Phase::Leader { .. } = self.phase {
             return Err(StepFault::Ended);
         }
         match self.owed {
-            Some(message) => step_owing(self.phase, message, event),
-            None => step_owing_nothing(self.phase, nodes, event),
+            Some(message) => self.step_owing(message, event),
+            None => self.step_owing_nothing(nodes, event),
         }
     }
 
@@ -77,132 +90,147 @@ impl NodeState {
         NodeState { phase, owed: None }
     }
 
+    /// The step of a node that owes the message and doesn't lead.
     #[inline(always)]
-    fn owing(phase: Phase, message: Msg) -> NodeState
-        ensures { result ≡ owing phase message }
+    fn step_owing(&mut self, message: Msg, event: &Event) -> Result<(), StepFault>
+        ensures value { advance_answer result self.new ≡ sent_answer self.old.phase message event.now }
+        ensures err { OnErr result (self.new ≡ self.old) }
     {
-        NodeState {
-            phase,
-            owed: Some(message),
-        }
-    }
-}
-
-/// The step of a node that owes the message and doesn't lead.
-#[inline(always)]
-fn step_owing(phase: Phase, message: Msg, event: &Event) -> Result<NodeState, StepFault>
-    ensures { result ≡ sent_answer phase message event.now }
-{
-    match event {
-        Event::Sent(sent) if *sent == message => Ok(NodeState::free(phase)),
-        Event::Sent(_) => Err(StepFault::NotOwed),
-        Event::Draw(_) | Event::Got(_) => Err(StepFault::Owes),
-    }
-}
-
-/// The step of a node that owes nothing and doesn't lead.
-#[inline(always)]
-fn step_owing_nothing(phase: Phase, nodes: RingSize, event: &Event) -> Result<NodeState, StepFault>
-    ensures { result ≡ free_answer nodes phase event.now }
-{
-    match event {
-        Event::Sent(_) => Err(StepFault::NotOwed),
-        Event::Draw(id) => draw(phase, nodes, *id),
-        Event::Got(message) => receive(phase, nodes, message),
-    }
-}
-
-#[inline(always)]
-fn draw(phase: Phase, nodes: RingSize, id: u32) -> Result<NodeState, StepFault>
-    ensures { result ≡ drawn_answer nodes phase id }
-{
-    match phase {
-        Phase::Choosing { round } => {
-            if id < 1 || id > u32::from(nodes.get()) {
-                return Err(StepFault::DrawRange);
+        match event {
+            Event::Sent(sent) if *sent == message => {
+                self.owed = None;
+                Ok(())
             }
-            let message = Msg {
-                round,
-                id,
-                hop: 1,
-                dirty: false,
-            };
-            Ok(NodeState::owing(Phase::Active { round, id }, message))
+            Event::Sent(_) => Err(StepFault::NotOwed),
+            Event::Draw(_) | Event::Got(_) => Err(StepFault::Owes),
         }
-        Phase::Active { .. } | Phase::Passive => Err(StepFault::NotChoosing),
-        Phase::Leader { .. } => Err(StepFault::Ended),
     }
-}
 
-#[inline(always)]
-fn receive(phase: Phase, nodes: RingSize, message: &Msg) -> Result<NodeState, StepFault>
-    ensures { result ≡ got_answer nodes phase message.now }
-{
-    match phase {
-        Phase::Choosing { .. } => Err(StepFault::MustDraw),
-        Phase::Active { round, id } => compare(nodes, round, id, message),
-        Phase::Passive => pass(message),
-        Phase::Leader { .. } => Err(StepFault::Ended),
+    /// The step of a node that owes nothing and doesn't lead.
+    #[inline(always)]
+    fn step_owing_nothing(&mut self, nodes: RingSize, event: &Event) -> Result<(), StepFault>
+        requires { self.old.owed ≡ None }
+        ensures value { advance_answer result self.new ≡ free_answer nodes self.old.phase event.now }
+        ensures err { OnErr result (self.new ≡ self.old) }
+    {
+        match event {
+            Event::Sent(_) => Err(StepFault::NotOwed),
+            Event::Draw(id) => self.draw(nodes, *id),
+            Event::Got(message) => self.receive(nodes, message),
+        }
     }
-}
 
-/// What an active node does with a message: pairs are compared by round, then by ID.
-#[inline(always)]
-fn compare(nodes: RingSize, round: u32, id: u32, message: &Msg) -> Result<NodeState, StepFault>
-    ensures { result ≡ compared nodes round id message.now }
-{
-    let (met, own) = ((message.round, message.id), (round, id));
-    if met == own {
-        return receive_own_pair(nodes, round, id, message);
+    #[inline(always)]
+    fn draw(&mut self, nodes: RingSize, id: u32) -> Result<(), StepFault>
+        ensures value { advance_answer result self.new ≡ drawn_answer nodes self.old.phase id }
+        ensures err { OnErr result (self.new ≡ self.old) }
+    {
+        match self.phase {
+            Phase::Choosing { round } => {
+                if id < 1 || id > u32::from(nodes.get()) {
+                    return Err(StepFault::DrawRange);
+                }
+                self.phase = Phase::Active { round, id };
+                self.owed = Some(Msg {
+                    round,
+                    id,
+                    hop: 1,
+                    dirty: false,
+                });
+                Ok(())
+            }
+            Phase::Active { .. } | Phase::Passive => Err(StepFault::NotChoosing),
+            Phase::Leader { .. } => Err(StepFault::Ended),
+        }
     }
-    if met > own {
-        return pass(message);
-    }
-    Ok(NodeState::free(Phase::Active { round, id }))
-}
 
-/// What a node does with a message that it passes on as a passive one.
-#[inline(always)]
-fn pass(message: &Msg) -> Result<NodeState, StepFault>
-    ensures { result ≡ passed message.now }
-{
-    if message.hop >= MAX_NUMBER {
-        return Err(StepFault::HopLimit);
+    #[inline(always)]
+    fn receive(&mut self, nodes: RingSize, message: &Msg) -> Result<(), StepFault>
+        requires { self.old.owed ≡ None }
+        ensures value { advance_answer result self.new ≡ got_answer nodes self.old.phase message.now }
+        ensures err { OnErr result (self.new ≡ self.old) }
+    {
+        match self.phase {
+            Phase::Choosing { .. } => Err(StepFault::MustDraw),
+            Phase::Active { round, id } => self.compare(nodes, round, id, message),
+            Phase::Passive => self.pass(message),
+            Phase::Leader { .. } => Err(StepFault::Ended),
+        }
     }
-    let raised = Msg {
-        hop: message.hop + 1,
-        ..*message
-    };
-    Ok(NodeState::owing(Phase::Passive, raised))
-}
 
-/// What an active node does with a message that has its own pair.
-#[inline(always)]
-fn receive_own_pair(
-    nodes: RingSize,
-    round: u32,
-    id: u32,
-    message: &Msg,
-) -> Result<NodeState, StepFault>
-    ensures { result ≡ own_pair_answer nodes round id message.now }
-{
-    let whole_ring = u32::from(nodes.get());
-    if message.hop > whole_ring {
-        return Err(StepFault::HopPast);
+    /// What an active node does with a message: pairs are compared by round, then by ID.
+    #[inline(always)]
+    fn compare(
+        &mut self,
+        nodes: RingSize,
+        round: u32,
+        id: u32,
+        message: &Msg,
+    ) -> Result<(), StepFault>
+        requires { self.old ≡ free (Phase.Active round id) }
+        ensures value { advance_answer result self.new ≡ compared nodes round id message.now }
+        ensures err { OnErr result (self.new ≡ self.old) }
+    {
+        let (met, own) = ((message.round, message.id), (round, id));
+        if met == own {
+            return self.receive_own_pair(nodes, round, id, message);
+        }
+        if met > own {
+            return self.pass(message);
+        }
+        Ok(())
     }
-    if message.hop < whole_ring {
-        let met = Msg {
+
+    /// What a node does with a message that it passes on as a passive one.
+    #[inline(always)]
+    fn pass(&mut self, message: &Msg) -> Result<(), StepFault>
+        ensures value { advance_answer result self.new ≡ passed message.now }
+        ensures err { OnErr result (self.new ≡ self.old) }
+    {
+        if message.hop >= MAX_NUMBER {
+            return Err(StepFault::HopLimit);
+        }
+        self.phase = Phase::Passive;
+        self.owed = Some(Msg {
             hop: message.hop + 1,
-            dirty: true,
             ..*message
-        };
-        return Ok(NodeState::owing(Phase::Active { round, id }, met));
+        });
+        Ok(())
     }
-    if !message.dirty {
-        return Ok(NodeState::free(Phase::Leader { round, id }));
+
+    /// What an active node does with a message that has its own pair.
+    #[inline(always)]
+    fn receive_own_pair(
+        &mut self,
+        nodes: RingSize,
+        round: u32,
+        id: u32,
+        message: &Msg,
+    ) -> Result<(), StepFault>
+        requires { self.old ≡ free (Phase.Active round id) }
+        ensures value { advance_answer result self.new ≡ own_pair_answer nodes round id message.now }
+        ensures err { OnErr result (self.new ≡ self.old) }
+    {
+        let whole_ring = u32::from(nodes.get());
+        if message.hop > whole_ring {
+            return Err(StepFault::HopPast);
+        }
+        if message.hop < whole_ring {
+            self.owed = Some(Msg {
+                hop: message.hop + 1,
+                dirty: true,
+                ..*message
+            });
+            return Ok(());
+        }
+        if !message.dirty {
+            self.phase = Phase::Leader { round, id };
+            return Ok(());
+        }
+        if round >= MAX_NUMBER {
+            return Err(StepFault::RoundLimit);
+        }
+        self.phase = Phase::Choosing { round: round + 1 };
+        Ok(())
     }
-    if round >= MAX_NUMBER {
-        return Err(StepFault::RoundLimit);
-    }
-    Ok(NodeState::free(Phase::Choosing { round: round + 1 }))
 }

@@ -17,8 +17,8 @@ pub fn replay<A: Allocator>(log: &NodeLog<A>) -> Result<NodeState, ReplayFault>
     let mut position = 0;
     for event in log.events() {
         position += 1;
-        state = state
-            .step(log.nodes(), &event)
+        state
+            .advance(log.nodes(), &event)
             .map_err(|fault| ReplayFault { position, fault })?;
     }
     Ok(state)

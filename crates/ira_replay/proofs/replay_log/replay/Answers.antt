@@ -4,13 +4,13 @@ use Rattle.ira_replay.specs.StatesLeft.{replayed}
 use Rattle.ira_replay.proofs.Along.{leads_exactly, stops_exactly}
 use Rattle.ira_replay.proofs.replay_log.replay.Goals as goal
 
-pub returns-in_err-state-clause-ok : goal.returns-in_err-state-clause-ok
-returns-in_err-state-clause-ok g c =
+pub returns-in_err-map_err-clause-ok : goal.returns-in_err-map_err-clause-ok
+returns-in_err-map_err-clause-ok g c =
     let value : c.from_residual.result ≡ replayed c.args.log.now.nodes 0 (Ok (first_state c.args.log.now.initiator)) c.args.log.now.events = search rules in
     leads_exactly _ _ _ _ value
 
-pub returns-in_err-state-clause-err : goal.returns-in_err-state-clause-err
-returns-in_err-state-clause-err g c =
+pub returns-in_err-map_err-clause-err : goal.returns-in_err-map_err-clause-err
+returns-in_err-map_err-clause-err g c =
     let value : c.from_residual.result ≡ replayed c.args.log.now.nodes 0 (Ok (first_state c.args.log.now.initiator)) c.args.log.now.events = search rules in
     stops_exactly _ _ _ _ value
 
