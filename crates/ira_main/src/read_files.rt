@@ -1,4 +1,4 @@
-ghost use Rattle.std.specs.Prelude.{◌≡◌, ◌≤◌, ℕ, List, Ok, [], ◌∷◌, IfErr, IfOk, length, map, take};
+ghost use Rattle.std.specs.Prelude.{◌≡◌, ◌≤◌, ◌++◌, ℕ, List, Ok, [], ◌∷◌, IfErr, IfOk, OnOk, length, map, take};
 ghost use Rattle.ira_audit.specs.RingAudit.{HasTaken};
 ghost use Rattle.ira_main.specs.FilesRead.{IsFilesFault, ReadsFiles};
 
@@ -6,10 +6,12 @@ use crate::program_fault::ProgramFault;
 use crate::shelf::Shelf;
 use crate::text_buffer::TextBuffer;
 use ira_audit::RingAudit;
+use ira_event::OutOfMemory;
 use std::alloc::{AllocError, Allocator};
-use std::thread::Threads;
+use std::mem;
+use std::thread::{self, Threads};
 
-/// How many texts of logs are in memory at a time, and are read side by side.
+/// How many texts of logs are judged side by side, while those of so many files behind them are read.
 const TEXTS_AT_ONCE: usize = 4;
 
 /// Reads the text of the file of this name.
@@ -88,6 +90,50 @@ fn bytes_of<A: Allocator, B: Allocator>(
     Ok(all)
 }
 
+/// Takes these texts, and meanwhile reads those of the files of these names, in turn, into the first of the
+/// buffers.
+fn take_and_read<'a, R, A, F>(
+    rt: &R,
+    audit: &mut RingAudit<A>,
+    texts: &[&[u8]],
+    names: &[&'a str],
+    next: &mut [TextBuffer<A>],
+    shelf: &mut F,
+) -> Result<(), ProgramFault<'a>>
+where
+    R: Threads + Sync,
+    A: Allocator + Clone + Send + Sync,
+    F: Shelf<A>,
+    requires { length names.now ≤ length next.old }
+    ensures taken { OnOk result ((before : List (List ℕ)) → HasTaken audit.old before
+        → HasTaken audit.new (before ++ map (λ text. text.now) texts.now)) }
+    ensures read { IfOk result (λ _. ReadsFiles F.reads (map (λ name. name.now) names.now)
+        shelf.old shelf.new (take (length names.now) next.new)) }
+    ensures fault { IfErr result
+        (IsFilesFault F.reads (map (λ name. name.now) names.now) shelf.old shelf.new) }
+    ensures files { F.files shelf.new ≡ F.files shelf.old }
+    ensures size { length next.new ≡ length next.old }
+{
+    let (taken, read) = thread::join_mut(
+        rt,
+        &mut || -> Result<(), OutOfMemory>
+            ensures { OnOk result ((before : List (List ℕ)) → HasTaken audit.entry.now before
+                → HasTaken audit.exit.now (before ++ map (λ text. text.now) texts.entry.now)) }
+        { audit.take_all(rt, texts) },
+        &mut || -> Result<(), ProgramFault>
+            requires { length names.now ≤ length next.now }
+            ensures read { IfOk result (λ _. ReadsFiles F.reads (map (λ name. name.now) names.entry.now)
+                shelf.entry.now shelf.exit.now (take (length names.entry.now) next.exit.now)) }
+            ensures fault { IfErr result
+                (IsFilesFault F.reads (map (λ name. name.now) names.entry.now) shelf.entry.now shelf.exit.now) }
+            ensures files { F.files shelf.exit.now ≡ F.files shelf.entry.now }
+            ensures size { length next.exit.now ≡ length next.entry.now }
+        { read_texts(names, next, shelf) },
+    );
+    taken?;
+    read
+}
+
 /// The logs in the files of these names. The texts of a few files are read at a time, over those before them.
 pub(crate) fn read_logs<'a, R, A, F>(
     rt: &R,
@@ -106,11 +152,21 @@ where
     ensures files { F.files shelf.new ≡ F.files shelf.old }
 {
     let mut audit = RingAudit::new(alloc.clone()?);
-    let mut buffers = text_buffers(&alloc)?;
-    let texts = buffers.as_mut_slice();
+    let mut texts = text_buffers(&alloc)?;
+    let mut next = text_buffers(&alloc)?;
+    let mut ready = 0;
     for some in names.chunks(TEXTS_AT_ONCE) {
-        read_texts(some, texts, shelf)?;
-        audit.take_all(rt, &bytes_of(&alloc, &texts[..some.len()])?)?;
+        take_and_read(
+            rt,
+            &mut audit,
+            &bytes_of(&alloc, &texts[..ready])?,
+            some,
+            &mut next,
+            shelf,
+        )?;
+        mem::swap(&mut texts, &mut next);
+        ready = some.len();
     }
+    audit.take_all(rt, &bytes_of(&alloc, &texts[..ready])?)?;
     Ok(audit)
 }
