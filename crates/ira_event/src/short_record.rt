@@ -10,19 +10,17 @@ use crate::log_line::{LineWord, take_bit, take_word};
 use crate::msg::Msg;
 use crate::scan::skip_word;
 
-/// The six digits that a short number has at most, and the byte behind it. Each number of so many
-/// digits that isn't 0 is within the limits.
+/// A short number has at most six digits and isn't 0, so it is within the limits. This is room for
+/// its digits and the byte behind them.
 const NUMBER_ROOM: usize = 7;
 
-/// Three short numbers, each with the byte behind it.
-const MESSAGE_ROOM: usize = 21;
+const MESSAGE_ROOM: usize = 3 * NUMBER_ROOM;
 
-/// The same behind a word of a record.
-const RECORD_ROOM: usize = 26;
+const RECORD_ROOM: usize = 5 + MESSAGE_ROOM;
 
-/// The record on the line that the text begins with, within the limits, and what follows its line
-/// feed. A line is only read where the text leaves room for numbers that are short, so that no digit
-/// asks whether the text goes on: 125 instructions a line in place of 162. `None` says nothing of it.
+/// The record of short numbers whose line the text begins with, and what follows its line feed.
+/// `None` tells nothing of the text. Nearly all records are read here: with room for each number, no
+/// digit asks whether the text goes on, so that a line takes 126 instructions and not 161.
 #[inline(always)]
 pub(crate) fn take_short_record(text: &[u8]) -> Option<(Event, &[u8])>
     ensures line { IfSome result (λ found. line_at text.now ≡ Some (Record found.0, found.1.now)) }
@@ -50,7 +48,7 @@ pub(crate) fn take_short_record(text: &[u8]) -> Option<(Event, &[u8])>
     }
 }
 
-/// The message of short numbers that the text begins with, and what follows its line.
+/// The message of short numbers that the text begins with, to its line's end, and what follows it.
 #[inline(always)]
 fn take_short_message(text: &[u8]) -> Option<(Msg, &[u8])>
     requires { MESSAGE_ROOM ≤ length text.now }
