@@ -125,14 +125,29 @@ prefix_step logs done sents gots places i e prefix two here free is =
 abbrev pub IsWriter : ℕ → ℕ → ℕ → Type 0
 IsWriter n i from = (i ≡ 0 → from ≡ n - 1) × (i ≢ 0 → from ≡ i - 1)
 
+-- it comes from a node of the ring and leads to node i
+writes_into : (n i from : ℕ) → i < n → IsWriter n i from → (from < n) × (next n from ≡ i)
+writes_into n i from here source = elim (cases_eq i 0) [
+  | inl z ↦ (omega (arith, source.0 z), ap (next n) (source.0 z) ∙ (link_into n i here).0 z)
+  | inr z ↦ (omega (arith, source.1 z), ap (next n) (source.1 z) ∙ (link_into n i here).1 z)
+]
+
+-- a node has received no more messages than the node before it sent
+gots_covered : (logs : List Log) (done sents gots places : List ℕ) (i from : ℕ) → IsOrderPrefix logs done sents gots places → i < length logs → IsWriter (length logs) i from → get_or gots i 0 ≤ get_or sents from 0
+gots_covered logs done sents gots places i from prefix here source =
+    let there : from < length logs = (writes_into (length logs) i from here source).0 in
+    let into : next (length logs) from ≡ i = (writes_into (length logs) i from here source).1 in
+    let whole : take (length places) places ≡ places = take_all (length places) places (omega arith) in
+    let covered : length (got (take (occurrences places (next (length logs) from)) (log_of logs (next (length logs) from)))) ≤ length (sent (take (occurrences places from) (log_of logs from))) =
+    rw whole at (prefix.schedule.kept (length places) (omega arith) from there) in
+    let covered_here : length (got (take (occurrences places i) (log_of logs i))) ≤ length (sent (take (occurrences places from) (log_of logs from))) = rw into at covered in
+    omega (arith, covered_here, prefix.gots_is i here, prefix.sents_is from there)
+
 -- what the test of a place finds
 pub can_step_iff : (logs : List Log) (done sents gots places : List ℕ) (i from g s : ℕ) (e : Event) → IsOrderPrefix logs done sents gots places → i < length logs → occurrences places i < length (log_of logs i) → e ≡ get_or (log_of logs i) (occurrences places i) e → IsWriter (length logs) i from → g ≡ get_or gots i 0 → s ≡ get_or sents from 0 → IsTrue (leb (g + got_by e) s) ↔ IsReady logs (occurrences places) i
 can_step_iff logs done sents gots places i from g s e prefix here more is source g_is s_is =
-    let there : from < length logs = elim (cases_eq i 0) [ inl z ↦ omega (arith, source.0 z) | inr z ↦ omega (arith, source.1 z) ] in
-    let into : next (length logs) from ≡ i = elim (cases_eq i 0) [
-      | inl z ↦ ap (next (length logs)) (source.0 z) ∙ (link_into (length logs) i here).0 z
-      | inr z ↦ ap (next (length logs)) (source.1 z) ∙ (link_into (length logs) i here).1 z
-    ] in
+    let there : from < length logs = (writes_into (length logs) i from here source).0 in
+    let into : next (length logs) from ≡ i = (writes_into (length logs) i from here source).1 in
     let at_e : get_or (log_of logs i) (occurrences places i) e ≡ e = sym is in
     let gots_then : length (got (take (occurrences places i + 1) (log_of logs i))) ≡ g + got_by e =
     rank_more receipt (log_of logs i) (occurrences places i) e more
@@ -196,10 +211,20 @@ module _ (logs : List Log) (done sents gots places : List ℕ) (i at sent got : 
   sendings_are : (from s : ℕ) → IsWriter (length logs) i from → s ≡ get_or sents from s → s ≡ get_or (set sents i sent) from 0
   sendings_are from s source s_is =
       let two : 2 ≤ length logs = prefix.logs_are.ring.0 in
-      let there : from < length logs = elim (cases_eq i 0) [ inl z ↦ omega (arith, source.0 z) | inr z ↦ omega (arith, source.1 z) ] in
+      let there : from < length logs = (writes_into (length logs) i from here source).0 in
       let other : from ≢ i = elim (cases_eq i 0) [ inl z ↦ omega (arith, source.0 z) | inr z ↦ omega (arith, source.1 z) ] in
       let long : from < length sents = omega (arith, length-set sents i sent, prefix.all_sents) in
       get_or_read sents from s long s_is 0 ∙ sym (get_or-set_other sents i from sent 0 other)
+
+  -- the node has received no more messages than the node before it sent
+  pub got_covered : (from s : ℕ) → IsWriter (length logs) i from → s ≡ get_or sents from s → got ≤ s
+  got_covered from s source s_is =
+      omega (
+        arith,
+        gots_covered logs (set done i at) (set sents i sent) (set gots i got) places i from prefix here source,
+        counter gots got prefix.all_gots,
+        sendings_are from s source s_is,
+      )
 
   free_iff : (from s : ℕ) (e : Event) → IsWriter (length logs) i from → s ≡ get_or sents from s → slice_get log.events at ≡ Some e → IsTrue (leb (got + got_by e) s) ↔ IsReady logs (occurrences places) i
   free_iff from s e source s_is e_is =
@@ -229,12 +254,14 @@ module _ (logs : List Log) (done sents gots places : List ℕ) (i at sent got : 
         | inr past ↦ omega (arith, can.0, past.0, at_occurrences, ap length events_are)
       ]
 
-pub got_by_le : (e : Event) → got_by e ≤ 1
-got_by_le (Sent m) = omega arith
-got_by_le (Got m) = omega arith
-got_by_le (Draw m) = omega arith
+-- an event that is no sending
+pub sends_nothing : (e : Event) → ((m : Msg) → e ≡ Sent m → ⊥) → sent_by e ≡ 0
+sends_nothing (Draw id) never = refl
+sends_nothing (Sent m) never = absurd (never m refl)
+sends_nothing (Got m) never = refl
 
-pub sent_by_le : (e : Event) → sent_by e ≤ 1
-sent_by_le (Sent m) = omega arith
-sent_by_le (Got m) = omega arith
-sent_by_le (Draw m) = omega arith
+-- an event that is no receipt
+pub receives_nothing : (e : Event) → ((m : Msg) → e ≡ Got m → ⊥) → got_by e ≡ 0
+receives_nothing (Draw id) never = refl
+receives_nothing (Sent m) never = refl
+receives_nothing (Got m) never = absurd (never m refl)

@@ -10,10 +10,9 @@ use Rattle.ira_order.specs.Matching.{got, receipt}
 use Rattle.ira_order.specs.VectorClock.{receipt_count}
 use Rattle.ira_order.specs.Stamps.{receipts_by, AreReceipts}
 use Rattle.ira_order.proofs.Ranks.{rank_mono}
-use Rattle.ira_order.proofs.OrderPrefixes.{rank_le, rank_more}
+use Rattle.ira_order.proofs.OrderPrefixes.{rank_le, rank_more, receives_nothing}
 use Rattle.std.specs.Prelude.{slice_get}
 use Rattle.ira_event.specs.declared.msg.Msg.{Msg}
-use Rattle.ira_event.specs.declared.event.Event.TheVariants.{Sent}
 use Rattle.std.proofs.lemmas.Option.{slice_get-get_or, get_or_from_slice_get, slice_get_within}
 use Rattle.std.proofs.lemmas.List.{take_all, get_or_append_left, get_or-append_right, get_or_default}
 use Rattle.std.proofs.lemmas.Bool.{leb-true, le-leb, cases_lt, cases_eq}
@@ -84,14 +83,9 @@ pub record HasNumbers (es : List Event) (n : ℕ) (numbers : List ℕ) : Type 0 
 
 pub number_over : (es : List Event) (n : ℕ) (e : Event) (numbers : List ℕ) → slice_get es n ≡ Some e → ((m : Msg) → e ≡ Got m → ⊥) → HasNumbers es n numbers → HasNumbers es (n + 1) numbers
 number_over es n e numbers is never h = record {
-  count = omega (arith, h.count, got_more es n e is, none e never);
+  count = omega (arith, h.count, got_more es n e is, receives_nothing e never);
   upto = h.upto;
 }
-  where
-    none : (e : Event) → ((m : Msg) → e ≡ Got m → ⊥) → length (cons_option (receipt e) []) ≡ 0
-    none (Got m) never = absurd (never m refl)
-    none (Sent m) never = refl
-    none (Draw m) never = refl
 
 pub number_more : (es : List Event) (n : ℕ) (m : Msg) (numbers : List ℕ) → slice_get es n ≡ Some (Got m) → HasNumbers es n numbers → HasNumbers es (n + 1) (numbers ++ (n + 1) ∷ [])
 number_more es n m numbers is h = record {

@@ -1,12 +1,11 @@
-ghost use Rattle.std.specs.Prelude.{◌≡◌, ◌<◌, ◌≤◌, ◌+◌, ◌↔◌, length, ℕ, List, IfOk, [], ◌∷◌, ◌++◌, IsTrue, OnOk, slice_index, slice_get, MatchBool, MatchOption};
-ghost use Rattle.ira_event.specs.declared.event.Event.{Event};
+ghost use Rattle.std.specs.Prelude.{◌≡◌, ◌<◌, ◌≤◌, length, ℕ, IfOk, OnOk, slice_index, MatchBool};
 ghost use Rattle.ira_order.specs.Ring.{log_of};
 ghost use Rattle.ira_order.specs.Order.{occurrences};
 ghost use Rattle.ira_order.specs.Counts.{IsReady};
-ghost use Rattle.ira_order.specs.OrderPrefix.{IsOrderPrefix, got_by, HasGrown, IsStuckAt};
+ghost use Rattle.ira_order.specs.OrderPrefix.{IsOrderPrefix, HasGrown, IsStuckAt};
 
-use crate::tally::{Tally, receives, sends};
-use ira_event::{Event, Logs, NodeLog};
+use crate::tally::Tally;
+use ira_event::{Event, Logs};
 use std::alloc::{AllocError, Allocator};
 
 /// A beginning of an order: how many events of each node it holds, and the places of its events in order.
@@ -14,24 +13,6 @@ use std::alloc::{AllocError, Allocator};
 pub(crate) struct OrderPrefix<A: Allocator> {
     tally: Tally<A>,
     places: Vec<u8, A>,
-}
-
-/// The event that follows the first `at` of a log, unless it is a receipt whose sending isn't among the
-/// `sendings` so far.
-fn next_free<A: Allocator>(log: &NodeLog<A>, at: u32, got: u32, sendings: u32) -> Option<Event>
-    requires { got ≤ at }
-    ensures { MatchOption result
-        ((e : Event) → slice_get log.now.events at ≡ Some e → sendings < got + got_by e)
-        (λ e. (slice_get log.now.events at ≡ Some e) × (got + got_by e ≤ sendings)) }
-{
-    if at as usize >= log.len() {
-        return None;
-    }
-    let event = log.event(at + 1);
-    if got + receives(event) > sendings {
-        return None;
-    }
-    Some(event)
 }
 
 impl<A: Allocator> OrderPrefix<A> {
@@ -69,10 +50,18 @@ impl<A: Allocator> OrderPrefix<A> {
         let mut at = before;
         let mut sent = self.tally.sent[node];
         let mut got = self.tally.got[node];
-        while let Some(event) = next_free(log, at, got, sendings) {
+        while (at as usize) < log.len() {
+            let event = log.event(at + 1);
+            // Two tests of the packed kind; a `match` would first make the event's own tag of it.
+            if let Event::Got(_) = event {
+                if got == sendings {
+                    break;
+                }
+                got += 1;
+            } else if let Event::Sent(_) = event {
+                sent += 1;
+            }
             at += 1;
-            sent += sends(event);
-            got += receives(event);
         }
         let places = self.places.len() + (at - before) as usize;
         self.places.resize(places, i)?;

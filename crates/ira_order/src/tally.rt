@@ -14,7 +14,7 @@ pub(crate) struct Tally<A: Allocator> {
 }
 
 /// How many messages an event sends.
-pub(crate) fn sends(event: Event) -> u32
+fn sends(event: Event) -> u32
     ensures { result ≡ sent_by event }
 {
     match event {
@@ -24,7 +24,7 @@ pub(crate) fn sends(event: Event) -> u32
 }
 
 /// How many messages an event receives.
-pub(crate) fn receives(event: Event) -> u32
+fn receives(event: Event) -> u32
     ensures { result ≡ got_by event }
 {
     match event {
