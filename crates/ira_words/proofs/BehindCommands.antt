@@ -87,8 +87,8 @@ some_names s a others once fit alone helpless asks its named required none =
     given_some s.rules (codes "LOG") rows (rows_taken s once fit others none) (subst (λ id. is_given id rows ≡ true) named given)
 
 -- words that are read without a fault have none
-pub words_taken : (a : App) (words : List Text) → a ≡ ira_app → (is_simple_and_free a ≡ true → fault_of a words ≡ []) → fault_of ira_app words ≡ []
-words_taken a words is none =
+pub words_accepted : (a : App) (words : List Text) → a ≡ ira_app → (is_simple_and_free a ≡ true → fault_of a words ≡ []) → fault_of ira_app words ≡ []
+words_accepted a words is none =
     let Fine : App → Type 0 = λ x. fault_of x words ≡ [] in
     subst Fine is (none (ap is_simple_and_free is))
 
@@ -104,7 +104,7 @@ out_of_memory a words e is fails none =
 
 faultless : (a : App) (words : List Text) (name : Text) (others : List Text) → a ≡ ira_app → (is_simple_and_free a ≡ true → fault_of a words ≡ [])
     → words ≡ name ∷ others → fault_of ira_app (name ∷ others) ≡ []
-faultless a words name others is none are = subst (λ ws. fault_of ira_app ws ≡ []) are (words_taken a words is none)
+faultless a words name others is none are = subst (λ ws. fault_of ira_app ws ≡ []) are (words_accepted a words is none)
 
 module _ (a : App) (m : ArgMatches) (words : List Text) (found : List Row) (is : a ≡ ira_app) (has : HasMatchesOf a words m)
     (none : is_simple_and_free a ≡ true → fault_of a words ≡ []) (read : Some found ≡ option_map (λ s. s.1) (subcommand_rows_of m)) where

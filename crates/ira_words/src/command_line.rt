@@ -5,7 +5,7 @@ ghost use Rattle.clap.specs.declared.error.kind.ErrorKind.TheVariants as kind;
 ghost use Rattle.ira_words.specs.CommandLine.{alone_rule, check_app, decide_app, depth_rule, draws_rule, folder_rule, ira_app, ira_top, logs_app, logs_rule, number_rule, option_rule, pairs_app, run_app, run_required_app};
 ghost use Rattle.ira_words.specs.CheckRequest.{HasFiles};
 ghost use Rattle.ira_words.specs.DecideRequest.{HasFilesToDecide};
-ghost use Rattle.ira_words.specs.Request.{AreMatchesOf, AreTakenWords, IsMadeOf, MayBeRefused};
+ghost use Rattle.ira_words.specs.Request.{AreMatchesOf, AreAcceptedWords, IsMadeOf, MayBeRefused};
 ghost use Rattle.ira_words.specs.RunRequest.{HasNumber, HasOptions};
 ghost use Rattle.ira_words.specs.TakenValues.{AreFound, AreTaken};
 ghost use Rattle.ira_words.specs.declared.request.Request.TheVariants as request;
@@ -314,7 +314,7 @@ fn found_request<'a>(alloc: Global, matches: &ArgMatches<'a>) -> Result<Request<
 // What some words ask for.
 fn request_of_words<'a>(alloc: Global, words: &'a [&'a str]) -> Result<Request<'a>, Error>
     ensures made { IfOk result (IsMadeOf (map (λ word. word.now) words.now)) }
-    ensures refused { IfErr result (λ e. AreTakenWords (map (λ word. word.now) words.now)
+    ensures refused { IfErr result (λ e. AreAcceptedWords (map (λ word. word.now) words.now)
         → kind_of e ≡ kind.OutOfMemory) }
 {
     let matches = command(alloc)?.try_get_matches_from(words)?;

@@ -16,13 +16,13 @@ pub check_request-requires-clause-taken : goal.check_request-requires-clause-tak
 check_request-requires-clause-taken c =
     let parse = c.requires.1 in
     let arm = c.in-Some-check-default in
-    check_taken _ _ c.requires.0 _ refl parse.found (λ _. parse.taken) arm.ensures.rows (ap (λ n. Some n) (sym arm.is-check) ∙ arm.ensures.name)
+    check_taken _ _ c.requires.0 _ refl parse.found (λ _. parse.accepted) arm.ensures.rows (ap (λ n. Some n) (sym arm.is-check) ∙ arm.ensures.name)
 
 pub check_request-requires-clause-found : goal.check_request-requires-clause-found
 check_request-requires-clause-found c =
     let parse = c.requires.1 in
     let arm = c.in-Some-check-default in
-    check_found _ _ c.requires.0 _ refl parse.found (λ _. parse.taken) arm.ensures.rows (ap (λ n. Some n) (sym arm.is-check) ∙ arm.ensures.name)
+    check_found _ _ c.requires.0 _ refl parse.found (λ _. parse.accepted) arm.ensures.rows (ap (λ n. Some n) (sym arm.is-check) ∙ arm.ensures.name)
 
 pub check_request-requires-clause-some : goal.check_request-requires-clause-some
 check_request-requires-clause-some c =
@@ -30,19 +30,19 @@ check_request-requires-clause-some c =
     let arm = c.in-Some-check-default in
     let names = c.in_ok-log_names-in-Some-check-default in
     λ none.
-    check_named _ _ c.requires.0 _ refl parse.found (λ _. parse.taken) arm.ensures.rows (ap (λ n. Some n) (sym arm.is-check) ∙ arm.ensures.name) (sym names.ensures ∙ ap (map (λ name. name.now)) none)
+    check_named _ _ c.requires.0 _ refl parse.found (λ _. parse.accepted) arm.ensures.rows (ap (λ n. Some n) (sym arm.is-check) ∙ arm.ensures.name) (sym names.ensures ∙ ap (map (λ name. name.now)) none)
 
 pub decide_request-requires-clause-taken : goal.decide_request-requires-clause-taken
 decide_request-requires-clause-taken c =
     let parse = c.requires.1 in
     let arm = c.in-Some-decide-default in
-    decide_taken _ _ c.requires.0 _ refl parse.found (λ _. parse.taken) arm.ensures.rows (ap (λ n. Some n) (sym arm.is-decide) ∙ arm.ensures.name)
+    decide_taken _ _ c.requires.0 _ refl parse.found (λ _. parse.accepted) arm.ensures.rows (ap (λ n. Some n) (sym arm.is-decide) ∙ arm.ensures.name)
 
 pub decide_request-requires-clause-found : goal.decide_request-requires-clause-found
 decide_request-requires-clause-found c =
     let parse = c.requires.1 in
     let arm = c.in-Some-decide-default in
-    decide_found _ _ c.requires.0 _ refl parse.found (λ _. parse.taken) arm.ensures.rows (ap (λ n. Some n) (sym arm.is-decide) ∙ arm.ensures.name)
+    decide_found _ _ c.requires.0 _ refl parse.found (λ _. parse.accepted) arm.ensures.rows (ap (λ n. Some n) (sym arm.is-decide) ∙ arm.ensures.name)
 
 pub decide_request-requires-clause-some : goal.decide_request-requires-clause-some
 decide_request-requires-clause-some c =
@@ -50,81 +50,81 @@ decide_request-requires-clause-some c =
     let arm = c.in-Some-decide-default in
     let names = c.in_ok-log_names-in-Some-decide-default in
     λ none.
-    decide_named _ _ c.requires.0 _ refl parse.found (λ _. parse.taken) arm.ensures.rows (ap (λ n. Some n) (sym arm.is-decide) ∙ arm.ensures.name) (sym names.ensures ∙ ap (map (λ name. name.now)) none)
+    decide_named _ _ c.requires.0 _ refl parse.found (λ _. parse.accepted) arm.ensures.rows (ap (λ n. Some n) (sym arm.is-decide) ∙ arm.ensures.name) (sym names.ensures ∙ ap (map (λ name. name.now)) none)
 
 pub pairs_nodes-requires-clause-taken : goal.pairs_nodes-requires-clause-taken
 pairs_nodes-requires-clause-taken c =
     let parse = c.requires.1 in
     let arm = c.in-Some-pairs-default in
-    pairs_taken _ _ c.requires.0 _ refl parse.found (λ _. parse.taken) arm.ensures.rows (ap (λ n. Some n) (sym arm.is-pairs) ∙ arm.ensures.name)
+    pairs_taken _ _ c.requires.0 _ refl parse.found (λ _. parse.accepted) arm.ensures.rows (ap (λ n. Some n) (sym arm.is-pairs) ∙ arm.ensures.name)
 
 pub pairs_nodes-requires-clause-found : goal.pairs_nodes-requires-clause-found
 pairs_nodes-requires-clause-found c =
     let parse = c.requires.1 in
     let arm = c.in-Some-pairs-default in
-    pairs_found _ _ c.requires.0 _ refl parse.found (λ _. parse.taken) arm.ensures.rows (ap (λ n. Some n) (sym arm.is-pairs) ∙ arm.ensures.name)
+    pairs_found _ _ c.requires.0 _ refl parse.found (λ _. parse.accepted) arm.ensures.rows (ap (λ n. Some n) (sym arm.is-pairs) ∙ arm.ensures.name)
 
 pub run_request-requires-clause-taken : goal.run_request-requires-clause-taken
 run_request-requires-clause-taken c =
     let parse = c.requires.1 in
     let arm = c.in-Some-run-default in
-    run_taken _ _ c.requires.0 _ refl parse.found (λ _. parse.taken) arm.ensures.rows (ap (λ n. Some n) (sym arm.is-run) ∙ arm.ensures.name)
+    run_taken _ _ c.requires.0 _ refl parse.found (λ _. parse.accepted) arm.ensures.rows (ap (λ n. Some n) (sym arm.is-run) ∙ arm.ensures.name)
 
 pub run_request-requires-clause-found : goal.run_request-requires-clause-found
 run_request-requires-clause-found c =
     let parse = c.requires.1 in
     let arm = c.in-Some-run-default in
-    run_found _ _ c.requires.0 _ refl parse.found (λ _. parse.taken) arm.ensures.rows (ap (λ n. Some n) (sym arm.is-run) ∙ arm.ensures.name)
+    run_found _ _ c.requires.0 _ refl parse.found (λ _. parse.accepted) arm.ensures.rows (ap (λ n. Some n) (sym arm.is-run) ∙ arm.ensures.name)
 
 pub returns-in_ok-log_names-in-Some-logs-default : goal.returns-in_ok-log_names-in-Some-logs-default
 returns-in_ok-log_names-in-Some-logs-default c = λ words parse.
     let arm = c.in-Some-logs-default in
     let name = ap (λ n. Some n) (sym arm.is-logs) ∙ arm.ensures.name in
-    let first = met_by_first _ _ words (codes "logs") refl parse.found (λ _. parse.taken) name in
+    let first = met_by_first _ _ words (codes "logs") refl parse.found (λ _. parse.accepted) name in
     let Has : List (List ℕ) → Type 0 = λ ws. HasMatchesOf ira_app ws c.args.matches.now in
     let rows = rows_of_logs _ _ first.0 _ refl (subst Has first.1 parse.found) arm.ensures.rows in
     let names = c.in_ok-log_names-in-Some-logs-default in
     let read : map (λ name. name.now) names.field-0.items ≡ given_behind first.0 = names.ensures ∙ ap (λ r. unwrap_or (all_of (codes "LOG") r) []) rows in
-    let some = logs_named _ _ words _ refl parse.found (λ _. parse.taken) arm.ensures.rows name in
+    let some = logs_named _ _ words _ refl parse.found (λ _. parse.accepted) arm.ensures.rows name in
     let marked : (front back : List (List ℕ)) → All IsFileName front → first.0 ≡ front ++ codes "--" ∷ back → map (λ name. name.now) names.field-0.items ≡ front ++ back =
     λ front back are apart. read ∙ ap given_behind apart ∙ words_behind front back are in
-    record { others = first.0; first = first.1; taken = parse.taken; given = read; some = λ none. some (sym names.ensures ∙ none); plain = λ are. read ∙ words_given first.0 are; marked = marked }
+    record { others = first.0; first = first.1; accepted = parse.accepted; given = read; some = λ none. some (sym names.ensures ∙ none); plain = λ are. read ∙ words_given first.0 are; marked = marked }
 
 pub returns-in_ok-log_names-in-Some-check-default : goal.returns-in_ok-log_names-in-Some-check-default
 returns-in_ok-log_names-in-Some-check-default c = λ words parse.
     let arm = c.in-Some-check-default in
     let name = ap (λ n. Some n) (sym arm.is-check) ∙ arm.ensures.name in
-    let first = met_by_first _ _ words (codes "check") refl parse.found (λ _. parse.taken) name in
+    let first = met_by_first _ _ words (codes "check") refl parse.found (λ _. parse.accepted) name in
     let Has : List (List ℕ) → Type 0 = λ ws. HasMatchesOf ira_app ws c.args.matches.now in
     let rows = rows_of_check _ _ first.0 _ refl (subst Has first.1 parse.found) arm.ensures.rows in
-    record { others = first.0; first = first.1; taken = parse.taken; files = subst (λ found. HasFiles found c.check_request.result) rows c.check_request.ensures }
+    record { others = first.0; first = first.1; accepted = parse.accepted; files = subst (λ found. HasFiles found c.check_request.result) rows c.check_request.ensures }
 
 pub returns-in_ok-log_names-in-Some-decide-default : goal.returns-in_ok-log_names-in-Some-decide-default
 returns-in_ok-log_names-in-Some-decide-default c = λ words parse.
     let arm = c.in-Some-decide-default in
     let name = ap (λ n. Some n) (sym arm.is-decide) ∙ arm.ensures.name in
-    let first = met_by_first _ _ words (codes "decide") refl parse.found (λ _. parse.taken) name in
+    let first = met_by_first _ _ words (codes "decide") refl parse.found (λ _. parse.accepted) name in
     let Has : List (List ℕ) → Type 0 = λ ws. HasMatchesOf ira_app ws c.args.matches.now in
     let rows = rows_of_decide _ _ first.0 _ refl (subst Has first.1 parse.found) arm.ensures.rows in
-    record { others = first.0; first = first.1; taken = parse.taken; files = subst (λ found. HasFilesToDecide found c.decide_request.result) rows c.decide_request.ensures }
+    record { others = first.0; first = first.1; accepted = parse.accepted; files = subst (λ found. HasFilesToDecide found c.decide_request.result) rows c.decide_request.ensures }
 
 pub returns-in-Some-pairs-default : goal.returns-in-Some-pairs-default
 returns-in-Some-pairs-default c = λ words parse.
     let arm = c.in-Some-pairs-default in
     let name = ap (λ n. Some n) (sym arm.is-pairs) ∙ arm.ensures.name in
-    let first = met_by_first _ _ words (codes "pairs") refl parse.found (λ _. parse.taken) name in
+    let first = met_by_first _ _ words (codes "pairs") refl parse.found (λ _. parse.accepted) name in
     let Has : List (List ℕ) → Type 0 = λ ws. HasMatchesOf ira_app ws c.args.matches.now in
     let rows = rows_of_pairs _ _ first.0 _ refl (subst Has first.1 parse.found) arm.ensures.rows in
-    record { others = first.0; first = first.1; taken = parse.taken; number = subst (λ found. HasNumber found (codes "N") c.pairs_nodes.result) rows c.pairs_nodes.ensures }
+    record { others = first.0; first = first.1; accepted = parse.accepted; number = subst (λ found. HasNumber found (codes "N") c.pairs_nodes.result) rows c.pairs_nodes.ensures }
 
 pub returns-in-Some-run-default : goal.returns-in-Some-run-default
 returns-in-Some-run-default c = λ words parse.
     let arm = c.in-Some-run-default in
     let name = ap (λ n. Some n) (sym arm.is-run) ∙ arm.ensures.name in
-    let first = met_by_first _ _ words (codes "run") refl parse.found (λ _. parse.taken) name in
+    let first = met_by_first _ _ words (codes "run") refl parse.found (λ _. parse.accepted) name in
     let Has : List (List ℕ) → Type 0 = λ ws. HasMatchesOf ira_app ws c.args.matches.now in
     let rows = rows_of_run _ _ first.0 _ refl (subst Has first.1 parse.found) arm.ensures.rows in
-    record { others = first.0; first = first.1; taken = parse.taken; options = subst (λ found. HasOptions found c.run_request.result) rows c.run_request.ensures }
+    record { others = first.0; first = first.1; accepted = parse.accepted; options = subst (λ found. HasOptions found c.run_request.result) rows c.run_request.ensures }
 
 not_both : {X : Type 0} (o : Option X) (x : X) → o ≡ None → o ≡ Some x → ⊥
 not_both o x none some = cc
@@ -141,7 +141,7 @@ no_command n m same (inr (inr (inr (inr is)))) logs check decide pairs run = run
 
 pub unreachable-requires : goal.unreachable-requires
 unreachable-requires c =
-    let met = command_met _ _ c.requires.0 refl c.requires.1.found c.requires.1.taken in
+    let met = command_met _ _ c.requires.0 refl c.requires.1.found c.requires.1.accepted in
     elim c.in_default.branch [
       | in_default-via-in-Some+in_default v ↦
           let n = v.in_default.field-0.0.now in
