@@ -1,6 +1,6 @@
 -- What is made for a request.
 use Rattle.std.proofs.Common.{◌≡◌, ℕ, ◌<◌, Bool, true, false, List, [], Result, Ok, Err, IfOk, OnOk, length, get_or, inl, inr, refl, sym, ap, subst, ◌∙◌, arith}
-use Rattle.std.specs.Prelude.{Option, IfSome, map, nat_lt, unwrap_or, slice_get}
+use Rattle.std.specs.Prelude.{Option, IfSome, MatchResult, map, nat_lt, unwrap_or, slice_get}
 use Rattle.std.specs.List.{range_with_len}
 use Rattle.std.specs.Option.{option_map}
 use Rattle.std.proofs.lemmas.List.{length-map}
@@ -10,11 +10,12 @@ use Rattle.ira_ring.specs.Draws.{draws}
 use Rattle.ira_ring.specs.SeededRun.{seeded}
 use Rattle.ira_words.specs.declared.run_request.RunRequest.{RunRequest}
 use Rattle.ira_run.specs.declared.run_fault.RunFault.{RunFault}
+use Rattle.ira_run.specs.declared.run_fault.RunFault.TheVariants as variants
 use Rattle.ira_ring.specs.Recording.{IsRecording, HasOwnEnd}
 use Rattle.ira_ring.specs.Run.{Run}
 use Rattle.ira_ring.specs.Setup.{Setup, KeepsRules}
 use Rattle.ira_ring.specs.ShownEnd.{IsLoneRun}
-use Rattle.ira_main.specs.AskedRun.{IsAskedSetup, IsAskedRun, IsRunOf}
+use Rattle.ira_main.specs.AskedRun.{IsAskedRun, IsAskedRunFault, IsAskedSetup, IsRunOf}
 
 -- what holds of the member at a place holds of what is seen of it there
 seen_at : {V : Type 0} (see : V → List ℕ) (rows : List V) (i : ℕ) (ids : List ℕ) → i < length rows → IfSome (slice_get rows i) (λ row. see row ≡ ids) → get_or (map see rows) i [] ≡ ids
@@ -55,11 +56,15 @@ asked_seeded request n kinds size first =
       cap = refl;
     }
 
--- a run of the setup that is asked for is the run that is asked for
-pub asked_alone : (request : RunRequest) (s : Setup) (r : Result Run RunFault) → request.is_alone ≡ true → IsAskedSetup request s → OnOk r (KeepsRules s) → IfOk r (IsLoneRun s) → IfOk r (IsAskedRun request)
-asked_alone request s (Ok run) alone asked keeps is = (s, asked, keeps, subst (λ b. IsRunOf b s run) (sym alone) is)
-asked_alone request s (Err f) alone asked keeps is = tt
+-- what comes of the setup that is asked for is what comes of the request: its run, or its fault
+pub asked_alone : (request : RunRequest) (s : Setup) (r : Result Run RunFault) → request.is_alone ≡ true → IsAskedSetup request s
+    → (r ≡ Err variants.Setup → ¬ (KeepsRules s)) → OnOk r (KeepsRules s) → IfOk r (IsLoneRun s)
+    → MatchResult r (IsAskedRun request) (IsAskedRunFault request)
+asked_alone request s (Ok run) alone asked breaks keeps is = (s, asked, keeps, subst (λ b. IsRunOf b s run) (sym alone) is)
+asked_alone request s (Err f) alone asked breaks keeps is = λ setup. (s, asked, breaks (ap (λ x. Err x) setup))
 
-pub asked_ring : (request : RunRequest) (s : Setup) (r : Result Run RunFault) → request.is_alone ≡ false → IsAskedSetup request s → OnOk r (KeepsRules s) → IfOk r (IsRecording s) → IfOk r HasOwnEnd → IfOk r (IsAskedRun request)
-asked_ring request s (Ok run) threads asked keeps is ended = (s, asked, keeps, subst (λ b. IsRunOf b s run) (sym threads) (is, ended))
-asked_ring request s (Err f) threads asked keeps is ended = tt
+pub asked_ring : (request : RunRequest) (s : Setup) (r : Result Run RunFault) → request.is_alone ≡ false → IsAskedSetup request s
+    → (r ≡ Err variants.Setup → ¬ (KeepsRules s)) → OnOk r (KeepsRules s) → IfOk r (IsRecording s) → IfOk r HasOwnEnd
+    → MatchResult r (IsAskedRun request) (IsAskedRunFault request)
+asked_ring request s (Ok run) threads asked breaks keeps is ended = (s, asked, keeps, subst (λ b. IsRunOf b s run) (sym threads) (is, ended))
+asked_ring request s (Err f) threads asked breaks keeps is ended = λ setup. (s, asked, breaks (ap (λ x. Err x) setup))

@@ -5,6 +5,8 @@ use Rattle.ira_ring.specs.Recording.{IsRecording, HasOwnEnd}
 use Rattle.ira_ring.specs.Run.{Run}
 use Rattle.ira_ring.specs.Setup.{Setup, KeepsRules, IsForEachNode, is_initiator, node_draws}
 use Rattle.ira_ring.specs.ShownEnd.{IsLoneRun}
+use Rattle.ira_run.specs.declared.run_fault.RunFault.{RunFault}
+use Rattle.ira_run.specs.declared.run_fault.RunFault.TheVariants as run
 use Rattle.ira_words.specs.declared.run_request.RunRequest.{RunRequest}
 
 -- the setup that a request names
@@ -25,3 +27,7 @@ IsRunOf false s run = IsRecording s run × HasOwnEnd run
 -- a run of the setup that a request names, which keeps the rules
 abbrev pub IsAskedRun : RunRequest → Run → Type 0
 IsAskedRun request run = (s : Setup) × IsAskedSetup request s × KeepsRules s × IsRunOf request.is_alone s run
+
+-- a fault of the run that a request names: it is that of a setup only where the setup that is named breaks the rules
+abbrev pub IsAskedRunFault : RunRequest → RunFault → Type 0
+IsAskedRunFault request fault = fault ≡ run.Setup → (s : Setup) × IsAskedSetup request s × ¬ (KeepsRules s)

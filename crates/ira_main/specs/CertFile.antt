@@ -12,12 +12,12 @@ use Rattle.ira_main.specs.declared.status.Status.TheVariants.{Yes}
 
 -- what comes of keeping a certificate on a shelf, in a new file of this name: nothing is done where its text is past
 -- the limits; else its text is written, and a fault of that is the outcome
-pub data Keeps {S : Type 0} (writes : Writing S) (c : Certificate) (name : Bor (List ℕ)) (old new : S)
+pub data KeepsCertificate {S : Type 0} (writes : Writing S) (c : Certificate) (name : Bor (List ℕ)) (old new : S)
     (outcome : Outcome) : Type 0 where
   past_limits : ¬ (IsCertText (cert_text c) c) → new ≡ old → outcome ≡ Err CertificatePastLimits
-      → Keeps writes c name old new outcome
+      → KeepsCertificate writes c name old new outcome
   kept : IsCertText (cert_text c) c → writes name.now (cert_text c) old new (Ok tt) → outcome ≡ Ok Yes
-      → Keeps writes c name old new outcome
+      → KeepsCertificate writes c name old new outcome
   unwritten : (fault : ShelfFault) → IsCertText (cert_text c) c
       → writes name.now (cert_text c) old new (Err fault) → outcome ≡ Err (write_fault name fault)
-      → Keeps writes c name old new outcome
+      → KeepsCertificate writes c name old new outcome

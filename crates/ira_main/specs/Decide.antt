@@ -7,7 +7,7 @@ use Rattle.ira_audit.specs.Findings.{AreFindings, IsCertificateOf, MakeNoCertifi
 use Rattle.ira_audit.specs.FindingsText.{findings_text}
 use Rattle.ira_audit.specs.declared.findings.Findings.{Findings}
 use Rattle.ira_words.specs.declared.decide_request.DecideRequest.{DecideRequest}
-use Rattle.ira_main.specs.CertFile.{Keeps}
+use Rattle.ira_main.specs.CertFile.{KeepsCertificate}
 use Rattle.ira_main.specs.FilesRead.{ReadsFiles}
 use Rattle.ira_main.specs.Outcome.{Outcome}
 use Rattle.ira_main.specs.Shelf.{File, Reading, Writing}
@@ -21,16 +21,16 @@ decide_names decide = decide.question.now ∷ map (λ name. name.now) decide.log
 -- what comes of findings that were printed: no, where a case is present or they are a refusal; else, without a file's
 -- name, yes, and with one what comes of keeping the certificate there, or there was no memory for it. The shelf is as
 -- it was but where it is kept
-pub data EndsWith {A S : Type 0} (writes : Writing S) (findings : Findings A) (name : Option (Bor (List ℕ)))
+pub data KeepsFindings {A S : Type 0} (writes : Writing S) (findings : Findings A) (name : Option (Bor (List ℕ)))
     (old new : S) (outcome : Outcome) : Type 0 where
   refuted : MakeNoCertificate findings → new ≡ old → outcome ≡ Ok No
-      → EndsWith writes findings name old new outcome
+      → KeepsFindings writes findings name old new outcome
   absent : ¬ (MakeNoCertificate findings) → name ≡ None → new ≡ old → outcome ≡ Ok Yes
-      → EndsWith writes findings name old new outcome
+      → KeepsFindings writes findings name old new outcome
   certified : (c : Certificate) (file : Bor (List ℕ)) → IsCertificateOf findings c → name ≡ Some file
-      → Keeps writes c file old new outcome → EndsWith writes findings name old new outcome
+      → KeepsCertificate writes c file old new outcome → KeepsFindings writes findings name old new outcome
   no_memory : (file : Bor (List ℕ)) → ¬ (MakeNoCertificate findings) → name ≡ Some file → new ≡ old
-      → outcome ≡ Err OutOfMemory → EndsWith writes findings name old new outcome
+      → outcome ≡ Err OutOfMemory → KeepsFindings writes findings name old new outcome
 
 -- the files that are named were read, which leaves the shelf's files; the findings of the texts of the logs and of the
 -- question were printed whole, and what comes of them on the shelf is the outcome; or the output stopped within them
@@ -46,5 +46,5 @@ pub record Decides (A : Type 0) {S : Type 0} (reads : Reading S) (writes : Writi
   pub found : AreFindings texts question findings
   pub printed :
       (Takes (findings_text findings) out out'
-      × EndsWith writes findings decide.certificate between shelf' outcome)
+      × KeepsFindings writes findings decide.certificate between shelf' outcome)
       ⊎ (StopsIn (findings_text findings) out out' × (shelf' ≡ between) × (outcome ≡ Err CannotWriteAnswer))

@@ -20,7 +20,7 @@ use Rattle.ira_words.specs.declared.check_request.CheckRequest.{CheckRequest}
 use Rattle.ira_words.specs.declared.decide_request.DecideRequest.{DecideRequest}
 use Rattle.ira_words.specs.declared.run_request.RunRequest.{RunRequest}
 use Rattle.ira_words.specs.declared.words_fault.WordsFault.{WordsFault}
-use Rattle.ira_main.specs.AskedRun.{IsAskedRun}
+use Rattle.ira_main.specs.AskedRun.{IsAskedRun, IsAskedRunFault}
 use Rattle.ira_main.specs.Counted.{Reads}
 use Rattle.ira_main.specs.Decide.{Decides, decide_names}
 use Rattle.ira_main.specs.FilesRead.{IsFilesFault, ReadsFiles}
@@ -92,9 +92,11 @@ ReportsEnds run out out' outcome =
     × (outcome ≡ Ok status))
     ⊎ (StopsIn (ends_text run) out out' × (outcome ≡ Err CannotWriteAnswer))
 
--- why a ring of so many nodes isn't run: no ring has so many nodes, or a fault of the run
-abbrev pub IsRunFault : ℕ → ProgramFault → Type 0
-IsRunFault nodes f = (¬ (IsRingSize nodes) × (f ≡ RingSize)) ⊎ ((fault : RunFault) × (f ≡ run_fault fault))
+-- why the ring that a request names isn't run: no ring has so many nodes, or a fault of the run
+abbrev pub IsRunFault : RunRequest → ProgramFault → Type 0
+IsRunFault request f =
+    (¬ (IsRingSize request.nodes) × (f ≡ RingSize))
+    ⊎ ((fault : RunFault) × IsAskedRunFault request fault × (f ≡ run_fault fault))
 
 -- a run that the request asks for was made: each log was written to its file, and then its ends were reported; or a
 -- log wasn't written, and nothing was printed. Or no run was made, and the shelf is as it was
@@ -105,7 +107,7 @@ pub data Records {S : Type 0} (writes : Writing S) (request : RunRequest) (shelf
   unwritten : (run : Run) → IsAskedRun request run
       → GivesNoAnswer (StopsInLogs writes request.folder run.logs shelf shelf') out out' outcome
       → Records writes request shelf shelf' out out' outcome
-  not_run : shelf' ≡ shelf → GivesNoAnswer (IsRunFault request.nodes) out out' outcome
+  not_run : shelf' ≡ shelf → GivesNoAnswer (IsRunFault request) out out' outcome
       → Records writes request shelf shelf' out out' outcome
 
 -- what is done for words: they are refused; or they ask for the logs in some files, and the texts of these are judged
@@ -133,7 +135,7 @@ pub data Done (A : Type 0) {S : Type 0} (reads : Reading S) (writes : Writing S)
   undecided : (decide : DecideRequest) → AskForDecide words decide → files shelf' ≡ files shelf
       → GivesNoAnswer (IsFilesFault reads (decide_names decide) shelf shelf') out out' outcome
       → Done A reads writes files words shelf shelf' out out' outcome
-  asked : (nodes : ℕ) → AskForPairs words nodes → files shelf' ≡ files shelf
+  pairs : (nodes : ℕ) → AskForPairs words nodes → files shelf' ≡ files shelf
       → AsksPairs nodes out out' outcome ⊎ GivesNoAnswer (IsPairsFault nodes) out out' outcome
       → Done A reads writes files words shelf shelf' out out' outcome
   recorded : (request : RunRequest) → AskForRun words request

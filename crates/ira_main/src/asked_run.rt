@@ -1,6 +1,6 @@
-ghost use Rattle.std.specs.Prelude.{◌≡◌, map, nat_lt, IfOk, unwrap_or};
+ghost use Rattle.std.specs.Prelude.{◌≡◌, map, nat_lt, IfOk, MatchResult, unwrap_or};
 ghost use Rattle.std.specs.List.{range_with_len};
-ghost use Rattle.ira_main.specs.AskedRun.{IsAskedSetup, IsAskedRun};
+ghost use Rattle.ira_main.specs.AskedRun.{IsAskedSetup, IsAskedRun, IsAskedRunFault};
 
 use ira_event::{OutOfMemory, RingSize};
 use ira_links::OpenGate;
@@ -55,7 +55,7 @@ where
     R: Threads + Wait + Clock + Sync,
     A: Allocator + Clone + Send + Sync,
     requires { nodes ≡ request.now.nodes }
-    ensures { IfOk result (IsAskedRun request.now) }
+    ensures { MatchResult result (IsAskedRun request.now) (IsAskedRunFault request.now) }
 {
     if request.is_alone {
         let initiators = initiators(request, alloc.clone()?, nodes)?;

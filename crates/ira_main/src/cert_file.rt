@@ -1,6 +1,6 @@
 ghost use Rattle.std.specs.Prelude.{◌≡◌};
 ghost use Rattle.ira_cert_text.specs.CertText.{cert_text};
-ghost use Rattle.ira_main.specs.CertFile.{Keeps};
+ghost use Rattle.ira_main.specs.CertFile.{KeepsCertificate};
 ghost use Rattle.ira_main.specs.Outcome.{Outcome, ReportsOutcome, outcome_number};
 ghost use Rattle.ira_main.specs.Shelf.{WritesFile};
 
@@ -13,7 +13,7 @@ use ira_event::Sink;
 use std::alloc::Allocator;
 
 // Writes the text of the certificate to a new file of this name.
-fn write_new<A: Allocator, B: Allocator, F: Shelf<B>>(
+fn write_new<A: Allocator, F: Shelf>(
     certificate: &Certificate<A>,
     name: &str,
     shelf: &mut F,
@@ -27,12 +27,12 @@ fn write_new<A: Allocator, B: Allocator, F: Shelf<B>>(
 }
 
 /// What comes of keeping the certificate in a new file of this name.
-pub(crate) fn keep<'a, A: Allocator, B: Allocator, F: Shelf<B>>(
+pub(crate) fn keep<'a, A: Allocator, F: Shelf>(
     certificate: &Certificate<A>,
     name: &'a str,
     shelf: &mut F,
 ) -> Result<Status, ProgramFault<'a>>
-    ensures { Keeps (WritesFile F.creates F.closes F.Out.state) certificate.now name.entry
+    ensures { KeepsCertificate (WritesFile F.creates F.closes F.Out.state) certificate.now name.entry
         shelf.old shelf.new result }
 {
     if !certificate.readable() {
@@ -47,14 +47,14 @@ pub(crate) fn keep<'a, A: Allocator, B: Allocator, F: Shelf<B>>(
 /// Keeps the certificate in a new file of this name, and gives the status: 0 where its whole text was written; 2
 /// where it isn't `readable`, and then no file is made, or where the file can't be made or written; 3 where
 /// memory ran out. On a status other than 0 a line on `err` says why.
-pub fn keep_cert<A: Allocator, B: Allocator, F: Shelf<B>, V: Sink>(
+pub fn keep_cert<A: Allocator, F: Shelf, V: Sink>(
     certificate: &Certificate<A>,
     name: &str,
     shelf: &mut F,
     err: &mut V,
 ) -> u8
     ensures { (outcome : Outcome)
-        × Keeps (WritesFile F.creates F.closes F.Out.state) certificate.now name.entry
+        × KeepsCertificate (WritesFile F.creates F.closes F.Out.state) certificate.now name.entry
         shelf.old shelf.new outcome
         × (result ≡ outcome_number outcome) × ReportsOutcome outcome (V.state err.old) (V.state err.new) }
 {

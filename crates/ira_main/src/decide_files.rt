@@ -1,5 +1,5 @@
 ghost use Rattle.std.specs.Prelude.{◌≡◌, ◌⊎◌};
-ghost use Rattle.ira_main.specs.Decide.{Decides, EndsWith, decide_names};
+ghost use Rattle.ira_main.specs.Decide.{Decides, KeepsFindings, decide_names};
 ghost use Rattle.ira_main.specs.FilesRead.{IsFilesFault};
 ghost use Rattle.ira_main.specs.Outcome.{GivesNoAnswer};
 ghost use Rattle.ira_main.specs.Shelf.{WritesFile};
@@ -16,12 +16,12 @@ use std::alloc::Allocator;
 use std::thread::Threads;
 
 // Keeps the certificate of these findings, if there is one, in a new file of this name, if there is one.
-fn keep_findings<'a, A: Allocator + Clone, F: Shelf<A>>(
+fn keep_findings<'a, A: Allocator + Clone, F: Shelf>(
     findings: Findings<A>,
     name: Option<&'a str>,
     shelf: &mut F,
 ) -> Result<Status, ProgramFault<'a>>
-    ensures { EndsWith (WritesFile F.creates F.closes F.Out.state) findings name.entry
+    ensures { KeepsFindings (WritesFile F.creates F.closes F.Out.state) findings name.entry
         shelf.old shelf.new result }
 {
     let Some(name) = name else {
@@ -45,7 +45,7 @@ pub(crate) fn decide_files<'a, R, A, F, W>(
 where
     R: Threads + Sync,
     A: Allocator + Clone + Send + Sync,
-    F: Shelf<A>,
+    F: Shelf,
     W: Sink,
     ensures { Decides A F.reads (WritesFile F.creates F.closes F.Out.state) F.files decide.now
         shelf.old shelf.new (W.state out.old) (W.state out.new) result

@@ -21,7 +21,7 @@ impl<'a, R: Files, A: Allocator> FileShelf<'a, R, A> {
     }
 }
 
-impl<R: Files, A: Allocator + Clone> Shelf<A> for FileShelf<'_, R, A> {
+impl<R: Files, A: Allocator + Clone> Shelf for FileShelf<'_, R, A> {
     type Out = ToWriter<BufWriter<R::File, A>>;
 
     ghost use Rattle.std.specs.Prelude.{None, ⊤};
@@ -34,7 +34,11 @@ impl<R: Files, A: Allocator + Clone> Shelf<A> for FileShelf<'_, R, A> {
 
     ghost closes = { λ _ _ _ _. ⊤ };
 
-    fn read(&mut self, name: &str, text: &mut TextBuffer<A>) -> Result<(), ShelfFault> {
+    fn read<B: Allocator>(
+        &mut self,
+        name: &str,
+        text: &mut TextBuffer<B>,
+    ) -> Result<(), ShelfFault> {
         let file = fs::open(self.rt, name)?;
         text.fill(&mut Counted::new(file))
     }

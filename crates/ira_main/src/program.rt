@@ -63,7 +63,7 @@ fn judge_files<'a, R, A, F, W>(
 where
     R: Threads + Sync,
     A: Allocator + Clone + Send + Sync,
-    F: Shelf<A>,
+    F: Shelf,
     W: Sink,
     ensures judged { JudgesTogether F.reads (map (λ name. name.now) names.now) shelf.old shelf.new
         (W.state out.old) (W.state out.new) result
@@ -88,7 +88,7 @@ fn check_files<'a, R, A, F, W>(
 where
     R: Threads + Wait + Clock + Sync,
     A: Allocator + Clone + Send + Sync,
-    F: Shelf<A>,
+    F: Shelf,
     W: Sink,
     requires depth { check.now.depth ≤ 4 }
     ensures judged { JudgesCertified F.reads check.now shelf.old shelf.new
@@ -118,7 +118,7 @@ where
     R: AllocGlobal + Threads + Wait + Clock + Sync,
     A: Allocator + Clone + Send + Sync,
     I: Read,
-    F: Shelf<A>,
+    F: Shelf,
     W: Sink,
     ensures executed { Serves A F.reads (WritesFile F.creates F.closes F.Out.state) F.files
         (map (λ word. word.now) words.now) input.old input.new shelf.old shelf.new
@@ -161,7 +161,7 @@ where
     R: AllocGlobal + Threads + Wait + Clock + Sync,
     A: Allocator + Clone + Send + Sync,
     I: Read,
-    F: Shelf<A>,
+    F: Shelf,
     W: Sink,
     V: Sink,
     ensures status { result ≤ 3 }

@@ -15,7 +15,7 @@ use std::thread::{self, Threads};
 const TEXTS_AT_ONCE: usize = 4;
 
 /// Reads the text of the file of this name.
-fn read_into<'a, A: Allocator, F: Shelf<A>>(
+fn read_into<'a, A: Allocator, F: Shelf>(
     name: &'a str,
     text: &mut TextBuffer<A>,
     shelf: &mut F,
@@ -31,7 +31,7 @@ fn read_into<'a, A: Allocator, F: Shelf<A>>(
 }
 
 /// The text of the file of this name.
-pub(crate) fn read_file<'a, A: Allocator + Clone, F: Shelf<A>>(
+pub(crate) fn read_file<'a, A: Allocator + Clone, F: Shelf>(
     alloc: &A,
     name: &'a str,
     shelf: &mut F,
@@ -46,7 +46,7 @@ pub(crate) fn read_file<'a, A: Allocator + Clone, F: Shelf<A>>(
 }
 
 /// Reads the texts of the files of these names, in turn, into the first of the buffers.
-fn read_texts<'a, A: Allocator, F: Shelf<A>>(
+fn read_texts<'a, A: Allocator, F: Shelf>(
     names: &[&'a str],
     texts: &mut [TextBuffer<A>],
     shelf: &mut F,
@@ -144,7 +144,7 @@ pub(crate) fn read_logs<'a, R, A, F>(
 where
     R: Threads + Sync,
     A: Allocator + Clone + Send + Sync,
-    F: Shelf<A>,
+    F: Shelf,
     ensures taken { IfOk result (λ audit. (texts : List (List ℕ)) × HasTaken audit texts
         × ReadsFiles F.reads (map (λ name. name.now) names.now) shelf.old shelf.new texts) }
     ensures fault { IfErr result

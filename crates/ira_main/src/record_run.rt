@@ -19,7 +19,7 @@ use std::thread::Threads;
 use std::time::Clock;
 
 // Writes a log to the file of its place.
-fn write_file<A: Allocator, B: Allocator, F: Shelf<B>>(
+fn write_file<A: Allocator, B: Allocator, F: Shelf>(
     alloc: A,
     folder: &str,
     log: &NodeLog<B>,
@@ -37,7 +37,7 @@ fn write_file<A: Allocator, B: Allocator, F: Shelf<B>>(
 }
 
 // Writes the logs, each to a file of its own, in the order of the places.
-fn write_files<'a, A: Allocator, B: Allocator, F: Shelf<B>>(
+fn write_files<'a, A: Allocator, B: Allocator, F: Shelf>(
     alloc: A,
     folder: &'a str,
     logs: &Logs<B>,
@@ -67,7 +67,7 @@ pub(crate) fn record_run<'a, R, A, F, W>(
 where
     R: Threads + Wait + Clock + Sync,
     A: Allocator + Clone + Send + Sync,
-    F: Shelf<A>,
+    F: Shelf,
     W: Sink,
     ensures { Records (WritesFile F.creates F.closes F.Out.state) request.now shelf.old shelf.new
         (W.state out.old) (W.state out.new) result }

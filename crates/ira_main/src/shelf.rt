@@ -1,4 +1,4 @@
-ghost use Rattle.std.specs.Prelude.{◌≡◌, ◌≤◌, ◌+◌, ℕ, List, Option, Result, Ok, Err, length, IfOk, MatchResult};
+ghost use Rattle.std.specs.Prelude.{◌≡◌, ◌≤◌, ◌+◌, ℕ, List, [], Option, Some, Result, Ok, Err, length, IfOk, IfSome, MatchResult};
 ghost use Rattle.ira_main.specs.Shelf.{File};
 ghost use Rattle.ira_main.specs.declared.shelf_fault.ShelfFault.{ShelfFault};
 
@@ -8,7 +8,7 @@ use ira_event::{MAX_TEXT, Sink};
 use std::alloc::Allocator;
 
 /// Where the program's files lie: each is read whole, or made anew.
-pub trait Shelf<A: Allocator> {
+pub trait Shelf {
     /// A file that is being written.
     type Out: Sink + Drop;
 
@@ -26,15 +26,17 @@ pub trait Shelf<A: Allocator> {
 
     /// Reads the bytes of a file, to its end or to one more than `MAX_TEXT`, whichever comes first. They are the
     /// text then.
-    fn read(&mut self, name: &str, text: &mut TextBuffer<A>) -> Result<(), ShelfFault>
+    fn read<A: Allocator>(&mut self, name: &str, text: &mut TextBuffer<A>) -> Result<(), ShelfFault>
         ensures size { IfOk result (λ _. length text.new ≤ MAX_TEXT + 1) }
         ensures read { MatchResult result (λ _. reads self.old name.now (Ok text.new) self.new)
             (λ fault. reads self.old name.now (Err fault) self.new) }
         ensures files { files self.new ≡ files self.old };
 
-    /// A new file of this name, empty; one of the same name is emptied.
+    /// A new file of this name, empty; one of the same name is emptied. Where the shelf tells its files, the new one has
+    /// taken nothing yet.
     fn create(&mut self, name: &str) -> Result<Self::Out, ShelfFault>
-        ensures { creates self.old name.now result self.new };
+        ensures made { creates self.old name.now result self.new }
+        ensures fresh { IfSome (files self.new) (λ _. IfOk result (λ file. (Self.Out.state file).taken ≡ Some [])) };
 
     /// Ends the writing of a file: what a buffer still holds is written. Only then is it known that
     /// nothing was lost.

@@ -92,7 +92,7 @@ impl<'a> MemoryShelf<'a> {
     }
 }
 
-impl<A: Allocator> Shelf<A> for MemoryShelf<'_> {
+impl Shelf for MemoryShelf<'_> {
     type Out = NewFile;
 
     ghost use Rattle.std.specs.Prelude.{◌≡◌, ◌++◌, [], ◌∷◌, None, Some, IfOk, MatchResult, filter_map, map, string_bytes};
@@ -116,7 +116,11 @@ impl<A: Allocator> Shelf<A> for MemoryShelf<'_> {
         × MatchResult result (λ _. new.written.items ≡ old.written.items ++ file ∷ [])
         (λ _. new.written.items ≡ old.written.items) };
 
-    fn read(&mut self, name: &str, text: &mut TextBuffer<A>) -> Result<(), ShelfFault> {
+    fn read<A: Allocator>(
+        &mut self,
+        name: &str,
+        text: &mut TextBuffer<A>,
+    ) -> Result<(), ShelfFault> {
         if let Some(file) = self.written.iter().find(|file| file.name.as_str() == name) {
             return text.fill(&mut Counted::new(file.bytes.as_slice()));
         }

@@ -17,7 +17,7 @@ fn assert_kept(
 ) -> MemoryShelf<'static> {
     let mut shelf = MemoryShelf::new(rt.alloc(), &[]);
     let mut on_err = MemorySink::new(rt.alloc());
-    let found = keep_cert::<_, Global, _, _>(certificate, "c", &mut shelf, &mut on_err);
+    let found = keep_cert(certificate, "c", &mut shelf, &mut on_err);
     assert_eq!(rt; on_err.bytes(), line.as_bytes());
     assert_eq!(rt; found, status);
     shelf

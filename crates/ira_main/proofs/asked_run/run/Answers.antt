@@ -9,10 +9,10 @@ returns-then-request g c =
     let kinds = c.deref.result.now in
     let alone : request.is_alone ≡ true = search rules in
     let asked = asked_seeded request c.args.nodes kinds c.requires (c.deref.ensures.value ∙ c.in_ok-initiators.ensures) in
-    asked_alone request (seeded c.args.nodes kinds request.seed request.draws request.cap) c.run_alone_seeded.result alone asked c.run_alone_seeded.ensures.kept c.run_alone_seeded.ensures.ok
+    asked_alone request (seeded c.args.nodes kinds request.seed request.draws request.cap) c.run_alone_seeded.result alone asked c.run_alone_seeded.ensures.rules.0 c.run_alone_seeded.ensures.kept c.run_alone_seeded.ensures.ok
 
 pub returns : goal.returns
 returns g c =
     let request = c.args.request.now in
     let threads : request.is_alone ≡ false = search rules in
-    asked_ring request c.in_ok-setup.setup c.run_ring.result threads c.in_ok-setup.ensures c.run_ring.ensures.kept c.run_ring.ensures.recording c.run_ring.ensures.ended
+    asked_ring request c.in_ok-setup.setup c.run_ring.result threads c.in_ok-setup.ensures c.run_ring.ensures.rules.0 c.run_ring.ensures.kept c.run_ring.ensures.recording c.run_ring.ensures.ended

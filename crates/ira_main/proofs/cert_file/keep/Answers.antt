@@ -1,5 +1,5 @@
 use Rattle.std.proofs.Common.{Err, ap, refl}
-use Rattle.ira_main.specs.CertFile.Keeps.{kept, unwritten}
+use Rattle.ira_main.specs.CertFile.KeepsCertificate.{kept, unwritten}
 use Rattle.ira_main.proofs.cert_file.keep.Goals as goal
 
 pub returns-in-Ok : goal.returns-in-Ok

@@ -1,6 +1,6 @@
 use Rattle.std.proofs.Common.{Ok, ap, inl, inr, refl, rules}
 use Rattle.ira_event.proofs.Unless.{unless_ok}
-use Rattle.ira_main.specs.Decide.EndsWith.{absent, certified, no_memory, refuted}
+use Rattle.ira_main.specs.Decide.KeepsFindings.{absent, certified, no_memory, refuted}
 use Rattle.ira_main.proofs.decide_files.keep_findings.Goals as goal
 
 pub returns-in_default : goal.returns-in_default

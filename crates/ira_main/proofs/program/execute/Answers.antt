@@ -1,7 +1,7 @@
 use Rattle.std.proofs.Common.{◌≡◌, ◌∙◌, Err, List, [], ◌∷◌, Ok, Result, ap, map, inl, inr, refl, subst, sym}
 use Rattle.std.proofs.lemmas.Result.{err_from_is_err_and}
 use Rattle.ira_words.specs.Request.{IsMadeOf}
-use Rattle.ira_main.specs.Serve.Done.{asked, certified, decided, judged, recorded, refused, undecided}
+use Rattle.ira_main.specs.Serve.Done.{certified, decided, judged, pairs, recorded, refused, undecided}
 use Rattle.ira_main.specs.Serve.Serves.{with_words, without_words}
 use Rattle.ira_main.proofs.program.execute.Goals as goal
 
@@ -52,7 +52,7 @@ pub returns-in-Pairs-clause-executed : goal.returns-in-Pairs-clause-executed
 returns-in-Pairs-clause-executed g c =
     let made = subst (IsMadeOf (map (λ w. w.now) c.args.words.now)) c.in-Pairs.is c.in_ok-read_words.ensures.made in
     let first = made.first in
-    with_words (λ none. cc) refl (asked _ made refl c.print_pairs.ensures)
+    with_words (λ none. cc) refl (pairs _ made refl c.print_pairs.ensures)
 
 pub returns-in-Run-clause-executed : goal.returns-in-Run-clause-executed
 returns-in-Run-clause-executed g c =

@@ -9,7 +9,7 @@ use Rattle.ira_main.proofs.record_run.record_run.Goals as goal
 pub returns-in_err-clone : goal.returns-in_err-clone
 returns-in_err-clone g c =
     let p = err_from_is_err_and c.from_residual.result c.from_residual.ensures.1 in
-    not_run refl (p.0, inr (run.OutOfMemory, p.2), refl, p.1)
+    not_run refl (p.0, inr (run.OutOfMemory, (λ is. cc), p.2), refl, p.1)
 
 pub returns-in_err-clone-2 : goal.returns-in_err-clone-2
 returns-in_err-clone-2 g c =
@@ -22,7 +22,7 @@ returns-in_default-write_ends g c = not_run refl (_, inr (run.OutOfMemory, refl)
 pub returns-in_err-run : goal.returns-in_err-run
 returns-in_err-run g c =
     let p = err_from_is_err_and c.from_residual-in_err-run.result c.from_residual-in_err-run.ensures.1 in
-    not_run refl (p.0, inr (_, p.2), refl, p.1)
+    not_run refl (p.0, inr (_, c.in_err-run.ensures, p.2), refl, p.1)
 
 pub returns-in_err-write_files : goal.returns-in_err-write_files
 returns-in_err-write_files g c =
