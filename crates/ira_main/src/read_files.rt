@@ -103,7 +103,7 @@ fn take_and_read<'a, R, A, F>(
 where
     R: Threads + Sync,
     A: Allocator + Clone + Send + Sync,
-    F: Shelf<A>,
+    F: Shelf,
     requires { length names.now ≤ length next.old }
     ensures taken { OnOk result ((before : List (List ℕ)) → HasTaken audit.old before
         → HasTaken audit.new (before ++ map (λ text. text.now) texts.now)) }

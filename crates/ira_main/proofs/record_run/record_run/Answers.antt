@@ -14,10 +14,10 @@ returns-in_err-clone g c =
 pub returns-in_err-clone-2 : goal.returns-in_err-clone-2
 returns-in_err-clone-2 g c =
     let p = err_from_is_err_and c.from_residual-in_err-clone-2.result c.from_residual-in_err-clone-2.ensures.1 in
-    not_run refl (p.0, inr (run.OutOfMemory, p.2), refl, p.1)
+    not_run refl (p.0, inr (run.OutOfMemory, (λ is. cc), p.2), refl, p.1)
 
 pub returns-in_default-write_ends : goal.returns-in_default-write_ends
-returns-in_default-write_ends g c = not_run refl (_, inr (run.OutOfMemory, refl), refl, refl)
+returns-in_default-write_ends g c = not_run refl (_, inr (run.OutOfMemory, (λ is. cc), refl), refl, refl)
 
 pub returns-in_err-run : goal.returns-in_err-run
 returns-in_err-run g c =
