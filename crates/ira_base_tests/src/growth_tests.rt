@@ -7,10 +7,11 @@ use ira_cand::{Profile, table};
 use ira_event::{
     LogFault, Logs, MemorySink, NodeLog, OutOfMemory, RingSize, WriteFault, read_log, write_log,
 };
+use ira_fixtures::logs_of;
 use ira_links::link;
 use ira_order::{OrderFault, find_order, order};
 use ira_pred::{AskFault, Clause, pairs_question, read_question};
-use ira_refusing::{Outcome, Refusing, TrialFault, each_growth_refused};
+use ira_refusing::{Outcome, Refusing, Subject, each_growth_of_calls_refused};
 use std::alloc::Global;
 use std::process::Abort;
 
@@ -39,7 +40,7 @@ const PAIRS_OF_THREE: &[u8] = b"irask 1\nnodes 3\n\
 const NESTED: &[u8] = b"irask 1\nnodes 2\ncase\n0: (leader and (not (owes or true)))\nend\n";
 
 /// The calls whose growths are refused.
-#[derive(Clone, Copy, Debug)]
+#[derive(Clone, Copy)]
 enum Call {
     ReadLog,
     ReadLongLog,
@@ -72,9 +73,8 @@ const CALLS: [Call; 12] = [
 
 fn read(alloc: Memory, text: &[u8], records: usize) -> Outcome {
     match read_log(alloc, text) {
-        Ok(log) if log.len() == records => Outcome::Right,
-        Err(LogFault::OutOfMemory) => Outcome::GaveUp,
-        _ => Outcome::Wrong,
+        Ok(log) => Outcome::of_answer(log.len() == records),
+        Err(fault) => Outcome::of_fault(fault == LogFault::OutOfMemory),
     }
 }
 
@@ -89,41 +89,39 @@ fn read_late_fault(alloc: Memory) -> Outcome {
 fn write(alloc: Memory, log: &NodeLog<Memory>) -> Outcome {
     let mut sink = MemorySink::new(alloc);
     match write_log(log, &mut sink) {
-        Ok(()) if sink.bytes() == ELECTION_1 => Outcome::Right,
-        Err(WriteFault) if ELECTION_1.starts_with(sink.bytes()) => Outcome::GaveUp,
-        _ => Outcome::Wrong,
+        Ok(()) => Outcome::of_answer(sink.bytes() == ELECTION_1),
+        Err(WriteFault) => Outcome::of_fault(ELECTION_1.starts_with(sink.bytes())),
     }
 }
 
 fn ask(alloc: Memory, text: &[u8], cases: usize) -> Outcome {
     match read_question(alloc, text) {
-        Ok(question) if question.cases().len() == cases => Outcome::Right,
-        Err(AskFault::OutOfMemory) => Outcome::GaveUp,
-        _ => Outcome::Wrong,
+        Ok(question) => Outcome::of_answer(question.cases().len() == cases),
+        Err(fault) => Outcome::of_fault(fault == AskFault::OutOfMemory),
     }
 }
 
-fn make_pairs(alloc: Memory, nodes: RingSize) -> Outcome {
-    match pairs_question(alloc, nodes) {
-        Ok(question) if question.cases().len() == 3 => Outcome::Right,
+fn make_pairs(alloc: Memory) -> Outcome {
+    match pairs_question(alloc, RingSize::new(3).unwrap()) {
+        Ok(question) => Outcome::of_answer(question.cases().len() == 3),
         Err(OutOfMemory) => Outcome::GaveUp,
-        _ => Outcome::Wrong,
     }
 }
 
 fn order_events(alloc: Memory, logs: &Logs<Memory>) -> Outcome {
     match find_order(alloc, logs) {
-        Ok(places) if places.len() == 8 => Outcome::Right,
-        Err(OrderFault::OutOfMemory) => Outcome::GaveUp,
-        _ => Outcome::Wrong,
+        Ok(places) => Outcome::of_answer(places.len() == 8),
+        Err(fault) => Outcome::of_fault(fault == OrderFault::OutOfMemory),
     }
 }
 
 fn stamp_events(alloc: Memory, logs: &Logs<Memory>) -> Outcome {
     match order(alloc, logs) {
-        Ok(ordered) if ordered.schedule().len() == 8 && ordered.stored() == 6 => Outcome::Right,
-        Err(OrderFault::OutOfMemory) => Outcome::GaveUp,
-        _ => Outcome::Wrong,
+        Ok(ordered) => {
+            let counts = (ordered.schedule().len(), ordered.stored());
+            Outcome::of_answer(counts == (8, 6))
+        }
+        Err(fault) => Outcome::of_fault(fault == OrderFault::OutOfMemory),
     }
 }
 
@@ -142,40 +140,33 @@ fn profiled(alloc: Memory, log: &NodeLog<Memory>) -> Result<Vec<u32, Memory>, Ou
 /// What became of a list of the states in which node 1 of the election is active.
 fn are_active(listed: Result<Vec<u32, Memory>, OutOfMemory>) -> Outcome {
     match listed {
-        Ok(positions) if positions.as_slice() == [1, 2].as_slice() => Outcome::Right,
-        Ok(_) => Outcome::Wrong,
+        Ok(positions) => Outcome::of_answer(positions.as_slice() == [1, 2].as_slice()),
         Err(OutOfMemory) => Outcome::GaveUp,
     }
-}
-
-fn handle(rt: &impl Abort, memory: &Memory) -> Memory {
-    memory.clone().expect(rt, "memory")
 }
 
 /// What the calls are made on.
 #[derive(Drop)]
 struct Election {
-    nodes: RingSize,
     logs: Logs<Memory>,
     /// Once more that of node 1.
     log: NodeLog<Memory>,
 }
 
 impl Election {
-    fn new(rt: &(impl Abort + AllocGlobal), memory: &Memory) -> Election {
-        let mut logs = Vec::new(handle(rt, memory));
-        for text in [ELECTION_0, ELECTION_1] {
-            let log = read_log(handle(rt, memory), text).expect(rt, "a log");
-            logs.push(log).expect(rt, "memory");
-        }
+    fn new(rt: &(impl Abort + AllocGlobal)) -> Election {
+        let memory = Refusing::new(rt.alloc()).expect(rt, "memory");
+        let texts = [ELECTION_0, ELECTION_1];
         Election {
-            nodes: RingSize::new(3).expect(rt, "a ring of three"),
-            logs: Logs::gather(logs).expect(rt, "the logs of one ring"),
-            log: read_log(handle(rt, memory), ELECTION_1).expect(rt, "a log"),
+            logs: logs_of(memory.clone().expect(rt, "memory"), &texts).expect(rt, "two logs"),
+            log: read_log(memory, ELECTION_1).expect(rt, "a log"),
         }
     }
+}
 
-    /// What becomes of the call with this memory.
+impl Subject for Election {
+    type Call = Call;
+
     fn outcome(&self, call: Call, alloc: Memory) -> Outcome {
         match call {
             Call::ReadLog => read(alloc, ELECTION_0, 4),
@@ -184,7 +175,7 @@ impl Election {
             Call::WriteLog => write(alloc, &self.log),
             Call::ReadNestedQuestion => ask(alloc, NESTED, 1),
             Call::ReadPairs => ask(alloc, PAIRS_OF_THREE, 3),
-            Call::MakePairs => make_pairs(alloc, self.nodes),
+            Call::MakePairs => make_pairs(alloc),
             Call::FindOrder => order_events(alloc, &self.logs),
             Call::Order => stamp_events(alloc, &self.logs),
             Call::Link => make_link(alloc),
@@ -194,20 +185,8 @@ impl Election {
     }
 }
 
-/// Compares that the call passed its trial, and that some of its growths were refused.
-fn assert_refused(rt: &impl Abort, call: Call, growths: Result<u64, TrialFault>) {
-    assert!(rt;
-        matches!(growths, Ok(number) if 0 < number),
-        "{call:?}: {growths:?}"
-    );
-}
-
 #[test]
 fn each_growth_is_refused(rt: HostRuntime) {
-    let memory = Refusing::new(rt.alloc()).expect(&rt, "memory");
-    let election = Election::new(&rt, &memory);
-    for call in CALLS {
-        let growths = each_growth_refused(&memory, |alloc| election.outcome(call, alloc));
-        assert_refused(&rt, call, growths);
-    }
+    let refused = each_growth_of_calls_refused(rt.alloc(), &Election::new(&rt), &CALLS);
+    assert!(rt; refused.is_ok(), "{refused:?}");
 }

@@ -1,6 +1,10 @@
-//! The trial itself, and the memory that refuses.
+//! The trials themselves, and the memory that refuses.
 
-use ira_refusing::{Outcome, Refusing, TrialFault, each_growth_refused};
+use ira_event::write_bytes;
+use ira_refusing::{
+    FailingSink, Outcome, Refusing, Subject, TrialFault, Writer, each_byte_refused,
+    each_growth_of_calls_refused,
+};
 use std::alloc::Global;
 use std::cell::Cell;
 use std::thread;
@@ -33,45 +37,79 @@ enum Flaw {
     GivesUpUnasked,
     /// It answers the first call alone.
     StaysBroken,
+    AsksForNothing,
 }
 
-impl Flaw {
-    /// What becomes of the call with this memory, and of which call it is.
-    fn outcome(self, alloc: Memory, number: u8) -> Outcome {
-        let is_answered = match self {
-            Flaw::TakesItForAnother => has_room(&alloc),
-            Flaw::GivesUpUnasked => false,
-            Flaw::StaysBroken => number < 2 && has_room(&alloc),
-        };
-        match self {
-            _ if is_answered => Outcome::Right,
-            Flaw::TakesItForAnother => Outcome::Wrong,
-            Flaw::GivesUpUnasked | Flaw::StaysBroken => Outcome::GaveUp,
+/// Counts the calls that are made.
+#[derive(Drop)]
+struct Counting {
+    calls: Cell<u8>,
+}
+
+impl Subject for Counting {
+    type Call = Flaw;
+
+    fn outcome(&self, flaw: Flaw, alloc: Memory) -> Outcome {
+        self.calls.set(self.calls.get().saturating_add(1));
+        match flaw {
+            Flaw::TakesItForAnother => Outcome::of_answer(has_room(&alloc)),
+            Flaw::GivesUpUnasked => Outcome::GaveUp,
+            Flaw::StaysBroken if self.calls.get() > 1 => Outcome::GaveUp,
+            Flaw::StaysBroken if !has_room(&alloc) => Outcome::GaveUp,
+            Flaw::StaysBroken | Flaw::AsksForNothing => Outcome::Right,
         }
     }
 }
 
 /// What the trial says of a call with this flaw.
-fn tried(memory: &Memory, flaw: Flaw) -> Result<u64, TrialFault> {
-    let calls = Cell::new(0u8);
-    each_growth_refused(memory, |alloc| {
-        calls.set(calls.get().saturating_add(1));
-        flaw.outcome(alloc, calls.get())
-    })
+fn tried(heap: Global, flaw: Flaw) -> Option<TrialFault> {
+    let counting = Counting {
+        calls: Cell::new(0),
+    };
+    match each_growth_of_calls_refused(heap, &counting, &[flaw]) {
+        Err((0, fault)) => Some(fault),
+        _ => None,
+    }
 }
 
 #[test]
 fn a_wrong_answer_is_seen(rt: HostRuntime) {
-    let memory = Refusing::new(rt.alloc()).expect(&rt, "memory");
     let found = [
-        tried(&memory, Flaw::TakesItForAnother),
-        tried(&memory, Flaw::GivesUpUnasked),
-        tried(&memory, Flaw::StaysBroken),
+        tried(rt.alloc(), Flaw::TakesItForAnother),
+        tried(rt.alloc(), Flaw::GivesUpUnasked),
+        tried(rt.alloc(), Flaw::StaysBroken),
+        tried(rt.alloc(), Flaw::AsksForNothing),
     ];
     let wanted = [
-        Err(TrialFault::Wrong(1)),
-        Err(TrialFault::Unfounded(1)),
-        Err(TrialFault::Lasting(1)),
+        Some(TrialFault::Wrong(1)),
+        Some(TrialFault::Unfounded(1)),
+        Some(TrialFault::Lasting(1)),
+        Some(TrialFault::Unasked),
     ];
-    assert_eq!(rt; found, wanted);
+    assert!(rt; found == wanted, "{found:?}");
+}
+
+/// What is wrong with a writer of a text.
+#[derive(Drop)]
+enum BadWriter {
+    SaysNothing,
+    WritesNothing,
+}
+
+impl Writer for BadWriter {
+    fn is_refused(&self, sink: &mut FailingSink<Global>) -> bool {
+        match self {
+            BadWriter::SaysNothing => write_bytes(b"ab", sink).is_ok(),
+            BadWriter::WritesNothing => true,
+        }
+    }
+}
+
+#[test]
+fn a_wrong_text_is_seen(rt: HostRuntime) {
+    let found = [
+        each_byte_refused(rt.alloc(), &BadWriter::SaysNothing, b"ab"),
+        each_byte_refused(rt.alloc(), &BadWriter::WritesNothing, b"ab"),
+    ];
+    assert!(rt; found == [Err(0), Err(1)], "{found:?}");
 }

@@ -3,7 +3,7 @@
 use crate::samples::{ELECTION_0, ELECTION_1, dirty, log_of, loser, winner};
 use ira_event::{Event, HeadFault, Logs, MemorySink, NodeLog, ToWriter, WriteFault, write_log};
 use ira_pred::{Question, read_question, write_question};
-use ira_refusing::FailingSink;
+use ira_refusing::{FailingSink, Writer, each_byte_refused};
 use std::alloc::Global;
 use std::io::BufWriter;
 use std::process::Abort;
@@ -44,49 +44,38 @@ fn largest_numbers_and_dirty(rt: HostRuntime) {
     assert_written(&rt, 64, 63, false, &events, text);
 }
 
-/// Whether the log, written to a sink that fails behind so many bytes, leaves these there.
-fn stops_behind(alloc: Global, log: &NodeLog<Global>, front: &[u8]) -> bool {
-    let mut sink = FailingSink::new(alloc, front.len());
-    write_log(log, &mut sink) == Err(WriteFault) && sink.bytes() == front
-}
-
 #[test]
 fn sink_fails_after_ten_bytes(rt: HostRuntime) {
     let log = log_of(&rt, 2, 0, true, &winner());
-    assert!(rt; stops_behind(rt.alloc(), &log, b"irlog 1\nno"));
+    let mut sink = FailingSink::new(rt.alloc(), 10);
+    let written = write_log(&log, &mut sink);
+    assert!(rt; written == Err(WriteFault) && sink.bytes() == b"irlog 1\nno".as_slice());
 }
 
-/// Compares what is left in a sink that fails, behind each byte of the log's text.
-fn assert_stops(rt: &(impl Abort + AllocGlobal), log: &NodeLog<Global>, text: &[u8]) {
-    for k in 0..text.len() {
-        assert!(rt;
-            stops_behind(rt.alloc(), log, &text[..k]),
-            "after {k} bytes"
-        );
+/// The log's text.
+#[derive(Drop)]
+struct LogText<'a>(&'a NodeLog<Global>);
+
+impl Writer for LogText<'_> {
+    fn is_refused(&self, sink: &mut FailingSink<Global>) -> bool {
+        write_log(self.0, sink) == Err(WriteFault)
     }
 }
 
 #[test]
 fn sink_fails_behind_each_byte(rt: HostRuntime) {
     let log = log_of(&rt, 2, 0, true, &winner());
-    assert_stops(&rt, &log, ELECTION_0);
+    let refused = each_byte_refused(rt.alloc(), &LogText(&log), ELECTION_0);
+    assert!(rt; refused == Ok(()), "{refused:?}");
 }
 
-/// Whether the question, written to a sink that fails behind so many bytes, leaves these there.
-fn question_stops_behind(alloc: Global, question: &Question<Global>, front: &[u8]) -> bool {
-    let mut sink = FailingSink::new(alloc, front.len());
-    write_question(question, &mut sink) == Err(WriteFault) && sink.bytes() == front
-}
+/// The question's text.
+#[derive(Drop)]
+struct QuestionText<'a>(&'a Question<Global>);
 
-/// Compares what is left in a sink that fails, behind each byte of the question's text.
-fn assert_question_stops(
-    rt: &(impl Abort + AllocGlobal),
-    question: &Question<Global>,
-    text: &[u8],
-) {
-    for k in 0..text.len() {
-        let stops = question_stops_behind(rt.alloc(), question, &text[..k]);
-        assert!(rt; stops, "after {k} bytes");
+impl Writer for QuestionText<'_> {
+    fn is_refused(&self, sink: &mut FailingSink<Global>) -> bool {
+        write_question(self.0, sink) == Err(WriteFault)
     }
 }
 
@@ -94,7 +83,8 @@ fn assert_question_stops(
 fn sink_of_a_question_fails_behind_each_byte(rt: HostRuntime) {
     let text = b"irask 1\nnodes 2\ncase\n0: leader\n1: (leader or (not active))\nend\n";
     let question = read_question(rt.alloc(), text).expect(&rt, "a question");
-    assert_question_stops(&rt, &question, text);
+    let refused = each_byte_refused(rt.alloc(), &QuestionText(&question), text);
+    assert!(rt; refused == Ok(()), "{refused:?}");
 }
 
 #[test]

@@ -1,7 +1,7 @@
 use crate::outcome::Outcome;
 use crate::refusing::Refusing;
 use crate::trial_fault::TrialFault;
-use std::alloc::Allocator;
+use std::alloc::{Allocator, Global};
 
 /// More growths than any call asks for.
 const MOST: u64 = 10_000;
@@ -33,4 +33,36 @@ where
         }
     }
     Err(TrialFault::Endless)
+}
+
+/// What calls are made on.
+pub trait Subject {
+    /// Which call is made.
+    type Call: Copy;
+
+    /// What becomes of the call with this memory.
+    fn outcome(&self, call: Self::Call, alloc: Refusing<Global>) -> Outcome;
+}
+
+/// Has each growth of each of the calls refused. Gives how many these were in all, or the place of the first call that
+/// failed its trial. One that asks for no growth fails it.
+pub fn each_growth_of_calls_refused<S: Subject>(
+    heap: Global,
+    subject: &S,
+    calls: &[S::Call],
+) -> Result<u64, (usize, TrialFault)> {
+    let mut refused = 0_u64;
+    for (place, call) in calls.iter().enumerate() {
+        match refused_of(heap, subject, *call) {
+            Ok(0) => return Err((place, TrialFault::Unasked)),
+            Ok(growths) => refused = refused.saturating_add(growths),
+            Err(fault) => return Err((place, fault)),
+        }
+    }
+    Ok(refused)
+}
+
+fn refused_of<S: Subject>(heap: Global, subject: &S, call: S::Call) -> Result<u64, TrialFault> {
+    let memory = Refusing::new(heap)?;
+    each_growth_refused(&memory, |alloc| subject.outcome(call, alloc))
 }

@@ -3,6 +3,8 @@ use std::alloc::AllocError;
 /// Why a call failed its trial, with the number of the growth that was to be refused.
 #[derive(Debug, Clone, Copy, PartialEq, Eq)]
 pub enum TrialFault {
+    /// It asked for no growth.
+    Unasked,
     /// It gave a wrong answer.
     Wrong(u64),
     /// It gave up though nothing was refused.
@@ -11,7 +13,7 @@ pub enum TrialFault {
     Lasting(u64),
     /// It met a refusal each time.
     Endless,
-    /// The memory itself couldn't be shared with the call.
+    /// The memory itself couldn't be made or shared with the call.
     NoHandle,
 }
 
