@@ -16,8 +16,7 @@ use std::marker::Model;
 pub struct States<E: Iterator<Item = Event> + Listed> {
     nodes: RingSize,
     /// The position and the state that come next, unless they have ended.
-    position: u32,
-    state: NodeState,
+    ahead: (u32, NodeState),
     has_ended: bool,
     source: E,
 }
@@ -30,9 +29,9 @@ impl<E: Iterator<Item = Event> + Listed> Model for States<E> {
 
     ghost Value = { List (ℕ × NodeState) };
 
-    ghost view = { λ s. states_left s.nodes (unless_ended s.has_ended s.position s.state) (E.left s.source) };
+    ghost view = { λ s. states_left s.nodes (unless_ended s.has_ended s.ahead.0 s.ahead.1) (E.left s.source) };
 
-    ghost invariant = { λ s. s.has_ended ≡ false → s.position + length (E.left s.source) ≤ MAX_RECORDS };
+    ghost invariant = { λ s. s.has_ended ≡ false → s.ahead.0 + length (E.left s.source) ≤ MAX_RECORDS };
 }
 
 impl<E: Iterator<Item = Event> + Listed> States<E> {
@@ -44,8 +43,7 @@ impl<E: Iterator<Item = Event> + Listed> States<E> {
     {
         States {
             nodes,
-            position: 0,
-            state: NodeState::first(initiator),
+            ahead: (0, NodeState::first(initiator)),
             has_ended: false,
             source,
         }
@@ -63,15 +61,15 @@ impl<E: Iterator<Item = Event> + Listed> Iterator for States<E> {
         if self.has_ended {
             return None;
         }
-        let (position, state) = (self.position, self.state);
+        let now = self.ahead;
         match self.source.next() {
             None => self.has_ended = true,
             Some(event) => {
-                self.position += 1;
-                self.has_ended = self.state.advance(self.nodes, &event).is_err();
+                self.ahead.0 += 1;
+                self.has_ended = self.ahead.1.advance(self.nodes, &event).is_err();
             }
         }
-        Some((position, state))
+        Some(now)
     }
 }
 
