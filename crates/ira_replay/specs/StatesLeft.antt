@@ -1,6 +1,6 @@
 -- Helpers, no definitions: what the iterator still gives and what a replay answers, as functions by
 -- cases, to which proofs tie the code. That they agree with StatesOfLog and LocalRun is proved.
-use Rattle.std.specs.Prelude.{ℕ, ◌+◌, List, [], ◌∷◌, Option, Some, None, Result, Ok, Err}
+use Rattle.std.specs.Prelude.{ℕ, ◌+◌, Bool, true, false, List, [], ◌∷◌, Option, Some, None, Result, Ok, Err}
 use Rattle.ira_event.specs.declared.event.Event.{Event}
 use Rattle.ira_node.specs.declared.node_state.NodeState.{NodeState}
 use Rattle.ira_node.specs.declared.step_fault.StepFault.{StepFault}
@@ -11,6 +11,11 @@ use Rattle.ira_replay.specs.declared.replay_fault.ReplayFault.{ReplayFault}
 abbrev pub advanced : ℕ → Result NodeState StepFault → Option (ℕ × NodeState)
 advanced p (Ok t) = Some (p + 1, t)
 advanced p (Err f) = None
+
+-- the state that comes next, with its position, unless they have ended
+abbrev pub unless_ended : Bool → ℕ → NodeState → Option (ℕ × NodeState)
+unless_ended true p s = None
+unless_ended false p s = Some (p, s)
 
 -- the states from the next one on, where there is one, along the events behind it
 abbrev pub states_left : ℕ → Option (ℕ × NodeState) → List Event → List (ℕ × NodeState)

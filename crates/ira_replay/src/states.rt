@@ -15,21 +15,23 @@ use std::marker::Model;
 #[derive(Drop)]
 pub struct States<E: Iterator<Item = Event> + Listed> {
     nodes: RingSize,
-    ahead: Option<(u32, NodeState)>,
+    /// The position and the state that come next, unless they have ended.
+    ahead: (u32, NodeState),
+    has_ended: bool,
     source: E,
 }
 
 impl<E: Iterator<Item = Event> + Listed> Model for States<E> {
-    ghost use Rattle.std.specs.Prelude.{List, ℕ, ◌+◌, ◌≤◌, length, IfSome};
+    ghost use Rattle.std.specs.Prelude.{List, ℕ, ◌≡◌, ◌+◌, ◌≤◌, length, false};
     ghost use Rattle.ira_event.specs.Limits.{MAX_RECORDS};
     ghost use Rattle.ira_node.specs.declared.node_state.NodeState.{NodeState};
-    ghost use Rattle.ira_replay.specs.StatesLeft.{states_left};
+    ghost use Rattle.ira_replay.specs.StatesLeft.{states_left, unless_ended};
 
     ghost Value = { List (ℕ × NodeState) };
 
-    ghost view = { λ s. states_left s.nodes s.ahead (E.left s.source) };
+    ghost view = { λ s. states_left s.nodes (unless_ended s.has_ended s.ahead.0 s.ahead.1) (E.left s.source) };
 
-    ghost invariant = { λ s. IfSome s.ahead (λ x. x.0 + length (E.left s.source) ≤ MAX_RECORDS) };
+    ghost invariant = { λ s. s.has_ended ≡ false → s.ahead.0 + length (E.left s.source) ≤ MAX_RECORDS };
 }
 
 impl<E: Iterator<Item = Event> + Listed> States<E> {
@@ -41,7 +43,8 @@ impl<E: Iterator<Item = Event> + Listed> States<E> {
     {
         States {
             nodes,
-            ahead: Some((0, NodeState::first(initiator))),
+            ahead: (0, NodeState::first(initiator)),
+            has_ended: false,
             source,
         }
     }
@@ -55,15 +58,18 @@ impl<E: Iterator<Item = Event> + Listed> Iterator for States<E> {
     ghost remaining = { item_count (λ s. s) };
 
     fn next(&mut self) -> Option<(u32, NodeState)> {
-        let (position, state) = self.ahead?;
-        self.ahead = match self.source.next() {
-            None => None,
-            Some(event) => match state.step(self.nodes, &event) {
-                Ok(after) => Some((position + 1, after)),
-                Err(_) => None,
-            },
-        };
-        Some((position, state))
+        if self.has_ended {
+            return None;
+        }
+        let now = self.ahead;
+        match self.source.next() {
+            None => self.has_ended = true,
+            Some(event) => {
+                self.ahead.0 += 1;
+                self.has_ended = self.ahead.1.advance(self.nodes, &event).is_err();
+            }
+        }
+        Some(now)
     }
 }
 
