@@ -11,8 +11,8 @@ use std::alloc::{AllocError, Allocator};
 use std::mem;
 use std::thread::{self, Threads};
 
-/// How many texts of logs are judged side by side, while those of so many files behind them are read.
-const TEXTS_AT_ONCE: usize = 4;
+/// How many texts of logs are taken side by side. Meanwhile as many are read by one thread more.
+const TEXTS_AT_ONCE: usize = 3;
 
 /// Reads the text of the file of this name.
 fn read_into<'a, A: Allocator, F: Shelf>(
@@ -90,8 +90,8 @@ fn bytes_of<A: Allocator, B: Allocator>(
     Ok(all)
 }
 
-/// Takes these texts, and meanwhile reads those of the files of these names, in turn, into the first of the
-/// buffers.
+/// Takes these texts, and meanwhile reads those of the files of these names into the first of the buffers. Where both
+/// fail, the fault is that of the taking.
 fn take_and_read<'a, R, A, F>(
     rt: &R,
     audit: &mut RingAudit<A>,
@@ -134,7 +134,7 @@ where
     read
 }
 
-/// The logs in the files of these names. The texts of a few files are read at a time, over those before them.
+/// The logs in the files of these names. While the texts of a few files are taken, those of the next few are read.
 pub(crate) fn read_logs<'a, R, A, F>(
     rt: &R,
     alloc: A,
@@ -154,6 +154,7 @@ where
     let mut audit = RingAudit::new(alloc.clone()?);
     let mut texts = text_buffers(&alloc)?;
     let mut next = text_buffers(&alloc)?;
+    // How many texts were read and aren't taken yet.
     let mut ready = 0;
     for some in names.chunks(TEXTS_AT_ONCE) {
         take_and_read(

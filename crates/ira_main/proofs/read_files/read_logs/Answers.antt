@@ -35,7 +35,7 @@ loop-some-preserved g c =
     let swapped = ap (λ v. v.items) c.swap.ensures.x_after ∙ take_at read (drop (length read) c.loop-some.next.items) c.loop-some.next.len (c.take_and_read.auto.next ∙ c.deref_mut.ensures.len) in
     let next = take (length some) read in
     let both = reads_both reads (map (λ name. name.now) before) (map (λ name. name.now) some) _ _ _ texts next taken.4 c.in_ok-take_and_read.ensures.read in
-    let few : length some ≤ 4 = omega (arith, steps.1.1, c.loop-some.invariant.size) in
+    let few : length some ≤ 3 = omega (arith, steps.1.1, c.loop-some.invariant.size) in
     record {
       may_go_on = omega (arith, steps.0, c.loop-some.invariant.may_go_on);
       size = steps.0 ∙ c.loop-some.invariant.size;
@@ -50,7 +50,7 @@ loop-some-preserved g c =
         append_assoc before some _ ∙ ap (λ ns. before ++ ns) (sym steps.1.0) ∙ taken.2,
         subst (λ ts. HasTaken c.take_and_read.new.audit (taken.1 ++ ts)) lent (c.in_ok-take_and_read.ensures.taken taken.1 taken.3),
         subst (λ ts. ReadsFiles reads (map (λ name. name.now) (before ++ some)) c.args.shelf.now c.take_and_read.new.shelf (texts ++ take (length some) ts)) (sym swapped)
-        (subst (λ ns. ReadsFiles reads ns c.args.shelf.now c.take_and_read.new.shelf (texts ++ next)) (sym (map-append (λ name. name.now) before some)) both),
+            (subst (λ ns. ReadsFiles reads ns c.args.shelf.now c.take_and_read.new.shelf (texts ++ next)) (sym (map-append (λ name. name.now) before some)) both),
       );
     }
 
@@ -60,8 +60,7 @@ returns-clause-taken g c =
     let done = nil_from_length _ c.in-None.ensures.steps.1.0 in
     let all = sym (append-nil taken.0) ∙ ap (λ ns. taken.0 ++ ns) (sym done) ∙ taken.2 in
     let ready = take c.loop-some.ready c.loop-some.texts.items in
-    let lent : map (λ text. text.now) c.deref-3.result.now ≡ ready = ap (map (λ text. text.now)) c.deref-3.ensures.value ∙ c.in_ok-bytes_of-2.ensures ∙ ap (take c.loop-some.ready) c.deref-2.ensures.value in
-    (
+    let lent : map (λ text. text.now) c.deref-3.result.now ≡ ready = ap (map (λ text. text.now)) c.deref-3.ensures.value ∙ c.in_ok-bytes_of-2.ensures ∙ ap (take c.loop-some.ready) c.deref-2.ensures.value in (
       taken.1 ++ ready,
       subst (λ ts. HasTaken c.take_all.new.self (taken.1 ++ ts)) lent (c.in_ok-take_all.ensures.ok taken.1 taken.3),
       subst (λ ns. ReadsFiles g.F.Shelf.reads (map (λ name. name.now) ns) c.args.shelf.now c.loop-some.shelf (taken.1 ++ ready)) all taken.4,
