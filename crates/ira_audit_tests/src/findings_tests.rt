@@ -1,5 +1,6 @@
+use crate::lines::has_lines;
 use crate::samples::{ELECTION, ELECTION_0, LEADER_AND_ACTIVE, LONE_0, LONE_1, LONE_2, TWO_STEPS};
-use ira_audit::{Answer, Findings, audit, decide_all, write_findings};
+use ira_audit::{Answer, Findings, audit, decide_all};
 use ira_cert_text::write_cert;
 use ira_event::{MemorySink, RingSize};
 use ira_links::OpenGate;
@@ -8,16 +9,17 @@ use std::alloc::Global;
 use std::process::Abort;
 
 /// Decides the question of the texts, and compares the lines of what is found.
-fn assert_found(
+fn found(
     rt: &(impl Abort + AllocGlobal),
     texts: &[&[u8]],
     question: &[u8],
     lines: &str,
 ) -> Findings<Global> {
     let findings = decide_all(rt.alloc(), texts, question).expect(rt, "memory");
-    let mut sink = MemorySink::new(rt.alloc());
-    assert_eq!(rt; write_findings(&findings, &mut sink), Ok(()));
-    assert_eq!(rt; sink.bytes(), lines.as_bytes());
+    assert!(rt;
+        has_lines(rt.alloc(), &findings, lines.as_bytes()),
+        "not {lines}"
+    );
     findings
 }
 
@@ -28,8 +30,8 @@ fn assert_uncertified(
     question: &[u8],
     lines: &str,
 ) {
-    let findings = assert_found(rt, texts, question, lines);
-    assert!(rt; findings.into_certificate().expect(rt, "memory").is_none());
+    let findings = found(rt, texts, question, lines);
+    assert!(rt; matches!(findings.into_certificate(), Ok(None)), "{lines}");
 }
 
 /// The text of the certificate that is made of the findings.
@@ -40,15 +42,25 @@ fn certificate_text(
     let made = findings.into_certificate().expect(rt, "memory");
     let certificate = made.expect(rt, "each case is absent");
     let mut sink = MemorySink::new(rt.alloc());
-    assert_eq!(rt; write_cert(&certificate, &mut sink), Ok(()));
+    let written = write_cert(&certificate, &mut sink);
+    assert!(rt; written == Ok(()));
+    sink
+}
+
+/// The text of the question of all pairs of three.
+fn pairs_text(rt: &(impl Abort + AllocGlobal)) -> MemorySink<Global> {
+    let pairs = pairs_question(rt.alloc(), RingSize::new(3).unwrap()).expect(rt, "memory");
+    let mut sink = MemorySink::new(rt.alloc());
+    let written = write_question(&pairs, &mut sink);
+    assert!(rt; written == Ok(()));
     sink
 }
 
 #[test]
 fn made_certificate(rt: HostRuntime) {
     let line = "case 0: absent, 2 steps, node 1 spent\n";
-    let findings = assert_found(&rt, ELECTION, LEADER_AND_ACTIVE, line);
-    assert_eq!(rt; certificate_text(&rt, findings).bytes(), TWO_STEPS);
+    let findings = found(&rt, ELECTION, LEADER_AND_ACTIVE, line);
+    assert!(rt; certificate_text(&rt, findings).bytes() == TWO_STEPS);
 }
 
 #[test]
@@ -64,13 +76,11 @@ fn two_cases(rt: HostRuntime) {
 #[test]
 fn pairs_of_three(rt: HostRuntime) {
     let texts: &[&[u8]] = &[LONE_0, LONE_1, LONE_2];
-    let pairs = pairs_question(rt.alloc(), RingSize::new(3).unwrap()).expect(&rt, "memory");
-    let mut question = MemorySink::new(rt.alloc());
-    assert_eq!(rt; write_question(&pairs, &mut question), Ok(()));
+    let question = pairs_text(&rt);
     let lines = "case 0: absent, 0 steps, node 1 spent\n\
         case 1: absent, 0 steps, node 2 spent\n\
         case 2: absent, 0 steps, node 1 spent\n";
-    let findings = assert_found(&rt, texts, question.bytes(), lines);
+    let findings = found(&rt, texts, question.bytes(), lines);
     let text = certificate_text(&rt, findings);
     let answer = audit(
         &rt,
@@ -81,7 +91,7 @@ fn pairs_of_three(rt: HostRuntime) {
         2,
         &OpenGate,
     );
-    assert_eq!(rt; answer, Ok(Answer::Yes));
+    assert!(rt; answer == Ok(Answer::Yes));
 }
 
 #[test]

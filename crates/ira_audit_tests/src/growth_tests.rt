@@ -1,19 +1,22 @@
 //! Each growth of a call is refused in turn, and a writer's sink fails behind each byte.
+ghost use Rattle.ira_audit.specs.Findings.{AreReportable};
+ghost use Rattle.ira_audit.specs.Report.{IsReportable};
 
+use crate::lines::has_lines;
 use crate::samples::{ELECTION, ELECTION_0, ELECTION_1, LEADER_AND_ACTIVE, TWO_STEPS};
 use ira_audit::{
-    Answer, Reason, RingAudit, audit, audit_logs, audit_one, decide_all, write_findings,
+    Answer, Findings, Reason, RingAudit, audit, audit_logs, audit_one, decide_all, write_findings,
     write_report,
 };
 use ira_cert::CertFault;
-use ira_cert_text::write_cert;
+use ira_cert_text::{Certificate, write_cert};
 use ira_event::{MemorySink, OutOfMemory, WriteFault};
 use ira_links::OpenGate;
 use ira_order::MatchFault;
-use ira_refusing::{FailingSink, Outcome, Refusing, each_growth_refused};
+use ira_refusing::{FailingSink, Outcome, Refusing, TrialFault, each_growth_refused};
 use std::alloc::Global;
+use std::process::Abort;
 use std::sync::Wait;
-use std::test::Fail;
 use std::thread::Threads;
 use std::time::Clock;
 
@@ -27,6 +30,8 @@ const EXCHANGED_0: &[u8] = b"irlog 1\nnodes 2\nplace 0\nstart initiator\n\
     end 4\n";
 
 const EXCHANGED: &[&[u8]] = &[EXCHANGED_0, ELECTION_1];
+
+const EXCHANGED_LINE: &[u8] = b"no: link 1: receipt 1 differs\n";
 
 const CIRCLE_0: &[u8] = b"irlog 1\nnodes 2\nplace 0\nstart passive\n\
     recv 1 1 1 clean\n\
@@ -81,8 +86,7 @@ const CALLS: [Call; 9] = [
 /// What became of an audit that has this answer.
 fn answered(found: Result<Answer, OutOfMemory>, answer: Answer) -> Outcome {
     match found {
-        Ok(found) if found == answer => Outcome::Right,
-        Ok(_) => Outcome::Wrong,
+        Ok(found) => Outcome::of_answer(found == answer),
         Err(OutOfMemory) => Outcome::GaveUp,
     }
 }
@@ -120,15 +124,16 @@ fn check<R: Threads + Wait + Clock + Sync>(
 
 /// Decides the question of these texts, and compares the lines of what is found.
 fn decide(ample: Global, alloc: Memory, texts: &[&[u8]], question: &[u8], lines: &[u8]) -> Outcome {
-    let Ok(findings) = decide_all(alloc, texts, question) else {
-        return Outcome::GaveUp;
-    };
-    let mut sink = MemorySink::new(ample);
-    if write_findings(&findings, &mut sink).is_ok() && sink.bytes() == lines {
-        Outcome::Right
-    } else {
-        Outcome::Wrong
+    match decide_all(alloc, texts, question) {
+        Ok(findings) => Outcome::of_answer(has_lines(ample, &findings, lines)),
+        Err(OutOfMemory) => Outcome::GaveUp,
     }
+}
+
+/// Whether the certificate is that of two steps.
+fn is_two_steps(ample: Global, certificate: &Certificate<Memory>) -> bool {
+    let mut sink = MemorySink::new(ample);
+    write_cert(certificate, &mut sink).is_ok() && sink.bytes() == TWO_STEPS
 }
 
 /// Makes the certificate of two steps.
@@ -136,16 +141,10 @@ fn certify(ample: Global, alloc: Memory) -> Outcome {
     let Ok(findings) = decide_all(alloc, ELECTION, LEADER_AND_ACTIVE) else {
         return Outcome::GaveUp;
     };
-    let certificate = match findings.into_certificate() {
-        Ok(Some(certificate)) => certificate,
-        Ok(None) => return Outcome::Wrong,
-        Err(OutOfMemory) => return Outcome::GaveUp,
-    };
-    let mut sink = MemorySink::new(ample);
-    if write_cert(&certificate, &mut sink).is_ok() && sink.bytes() == TWO_STEPS {
-        Outcome::Right
-    } else {
-        Outcome::Wrong
+    match findings.into_certificate() {
+        Ok(Some(certificate)) => Outcome::of_answer(is_two_steps(ample, &certificate)),
+        Ok(None) => Outcome::Wrong,
+        Err(OutOfMemory) => Outcome::GaveUp,
     }
 }
 
@@ -169,61 +168,66 @@ where
             check(rt, &alloc, CUT, cut)
         }
         Call::DecideTwoCases => decide(rt.alloc(), alloc, ELECTION, TWO_CASES, TWO_CASES_FOUND),
-        Call::DecideExchanged => {
-            let line = b"no: link 1: receipt 1 differs\n";
-            decide(rt.alloc(), alloc, EXCHANGED, TWO_CASES, line)
-        }
+        Call::DecideExchanged => { decide(rt.alloc(), alloc, EXCHANGED, TWO_CASES, EXCHANGED_LINE) }
         Call::MakeCertificate => certify(rt.alloc(), alloc),
     }
 }
 
+/// Compares that the call passed its trial, and that some of its growths were refused.
+fn assert_refused(rt: &impl Abort, call: Call, growths: Result<u64, TrialFault>) {
+    assert!(rt;
+        matches!(growths, Ok(number) if 0 < number),
+        "{call:?}: {growths:?}"
+    );
+}
+
 #[test]
-fn each_growth_is_refused(rt: HostRuntime) -> Result<(), Fail> {
-    let memory = Refusing::new(rt.alloc())?;
+fn each_growth_is_refused(rt: HostRuntime) {
+    let memory = Refusing::new(rt.alloc()).expect(&rt, "memory");
     for call in CALLS {
         let growths = each_growth_refused(&memory, |alloc| outcome(&rt, call, alloc));
-        assert!(rt;
-            matches!(growths, Ok(number) if 0 < number),
-            "{call:?}: {growths:?}"
-        );
+        assert_refused(&rt, call, growths);
     }
-    Ok(())
 }
 
 #[test]
-fn log_judged_alone_in_no_memory(rt: HostRuntime) -> Result<(), Fail> {
-    let memory = Refusing::new(rt.alloc())?;
+fn log_judged_alone_in_no_memory(rt: HostRuntime) {
+    let memory = Refusing::new(rt.alloc()).expect(&rt, "memory");
     memory.refuse(1);
-    assert_eq!(rt; audit_one(memory.clone()?, ELECTION_0), Ok(Answer::Yes));
-    assert_eq!(rt; memory.asked(), 0);
-    Ok(())
+    let answer = audit_one(memory.clone().expect(&rt, "memory"), ELECTION_0);
+    assert!(rt; answer == Ok(Answer::Yes) && memory.asked() == 0);
+}
+
+/// Whether the answer's line, written to a sink that fails behind so many bytes, leaves these there.
+fn line_stops_behind(alloc: Global, answer: &Answer, front: &[u8]) -> bool
+    requires { IsReportable answer.now }
+{
+    let mut sink = FailingSink::new(alloc, front.len());
+    write_report(answer, &mut sink) == Err(WriteFault) && sink.bytes() == front
 }
 
 #[test]
-fn sink_fails_behind_each_byte(rt: HostRuntime) -> Result<(), Fail> {
-    let answer = audit_logs(rt.alloc(), EXCHANGED)?;
-    let line = b"no: link 1: receipt 1 differs\n";
-    for k in 0..line.len() {
-        let mut sink = FailingSink::new(rt.alloc(), k);
-        let written = write_report(&answer, &mut sink);
-        assert!(rt;
-            written == Err(WriteFault) && sink.bytes() == &line[..k],
-            "after {k} bytes"
-        );
+fn sink_fails_behind_each_byte(rt: HostRuntime) {
+    let answer = audit_logs(rt.alloc(), EXCHANGED).expect(&rt, "memory");
+    for k in 0..EXCHANGED_LINE.len() {
+        let stops = line_stops_behind(rt.alloc(), &answer, &EXCHANGED_LINE[..k]);
+        assert!(rt; stops, "after {k} bytes");
     }
-    Ok(())
+}
+
+/// The same of the lines of what is found.
+fn lines_stop_behind(alloc: Global, findings: &Findings<Global>, front: &[u8]) -> bool
+    requires { AreReportable findings.now }
+{
+    let mut sink = FailingSink::new(alloc, front.len());
+    write_findings(findings, &mut sink) == Err(WriteFault) && sink.bytes() == front
 }
 
 #[test]
-fn sink_of_findings_fails_behind_each_byte(rt: HostRuntime) -> Result<(), Fail> {
-    let findings = decide_all(rt.alloc(), ELECTION, TWO_CASES)?;
+fn sink_of_findings_fails_behind_each_byte(rt: HostRuntime) {
+    let findings = decide_all(rt.alloc(), ELECTION, TWO_CASES).expect(&rt, "memory");
     for k in 0..TWO_CASES_FOUND.len() {
-        let mut sink = FailingSink::new(rt.alloc(), k);
-        let written = write_findings(&findings, &mut sink);
-        assert!(rt;
-            written == Err(WriteFault) && sink.bytes() == &TWO_CASES_FOUND[..k],
-            "after {k} bytes"
-        );
+        let stops = lines_stop_behind(rt.alloc(), &findings, &TWO_CASES_FOUND[..k]);
+        assert!(rt; stops, "after {k} bytes");
     }
-    Ok(())
 }

@@ -10,6 +10,8 @@ mod gate_tests;
 #[cfg(test)]
 mod growth_tests;
 #[cfg(test)]
+mod lines;
+#[cfg(test)]
 mod logs_tests;
 #[cfg(test)]
 mod samples;

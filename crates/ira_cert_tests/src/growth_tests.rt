@@ -14,7 +14,10 @@ use ira_links::OpenGate;
 use ira_order::{Ordered, order};
 use ira_par::check_split;
 use ira_pred::{Case, read_question};
-use ira_refusing::{FailingSink, Outcome, Refusing, TrialFault, each_growth_refused};
+use ira_refusing::{
+    FailingSink, Outcome, Refusing, Subject, TrialFault, Writer, each_byte_refused,
+    each_growth_of_calls_refused, each_growth_refused,
+};
 use std::alloc::Global;
 use std::process::Abort;
 use std::sync::Wait;
@@ -46,28 +49,27 @@ const NOT_FRONT: &[u8] = b"ircert 1\nnodes 2\nsection\n\
     drop 1 4 by 0 9\ndrop 1 5 by 0 9\ndrop 1 6 by 0 9\ndrop 1 0 by 0 9\n\
     spent 1\nend\n";
 
-/// Compares that the call passed its trial, and that some of its growths were refused.
-fn assert_refused(rt: &impl Abort, growths: Result<u64, TrialFault>) {
-    assert!(rt; matches!(growths, Ok(number) if 0 < number), "{growths:?}");
-}
+/// Reads a text that has so many sections; one that has none is cut.
+#[derive(Drop)]
+struct Reader;
 
-/// What becomes of a reading with this memory, where the text has so many sections; where it has none, it is cut.
-fn read(alloc: Memory, text: &[u8], sections: usize) -> Outcome {
-    match read_cert(alloc, text) {
-        Ok(certificate) if certificate.sections.len() == sections => Outcome::Right,
-        Err(CertFault::Cut) if sections == 0 => Outcome::Right,
-        Err(CertFault::OutOfMemory) => Outcome::GaveUp,
-        _ => Outcome::Wrong,
+impl Subject for Reader {
+    type Call = (&'static [u8], usize);
+
+    fn outcome(&self, (text, sections): (&'static [u8], usize), alloc: Memory) -> Outcome {
+        match read_cert(alloc, text) {
+            Ok(certificate) => Outcome::of_answer(certificate.sections.len() == sections),
+            Err(CertFault::Cut) => Outcome::of_answer(sections == 0),
+            Err(fault) => Outcome::of_fault(fault == CertFault::OutOfMemory),
+        }
     }
 }
 
 #[test]
 fn certificates_read(rt: HostRuntime) {
-    let memory = Refusing::new(rt.alloc()).expect(&rt, "memory");
-    for (text, sections) in [(TWO_STEPS, 1), (CUT, 0)] {
-        let growths = each_growth_refused(&memory, |alloc| read(alloc, text, sections));
-        assert_refused(&rt, growths);
-    }
+    let texts = [(TWO_STEPS, 1), (CUT, 0)];
+    let refused = each_growth_of_calls_refused(rt.alloc(), &Reader, &texts);
+    assert!(rt; refused.is_ok(), "{refused:?}");
 }
 
 /// What is judged or decided, and what comes of it.
@@ -114,7 +116,7 @@ const ROWS: [Row; 4] = [
 ];
 
 /// The calls whose growths are refused.
-#[derive(Clone, Copy, Debug)]
+#[derive(Clone, Copy)]
 enum Call {
     CheckPlain,
     /// At this depth.
@@ -131,28 +133,17 @@ const CALLS: [Call; 4] = [
 
 fn judged(found: Result<Verdict, OutOfMemory>, verdict: Verdict) -> Outcome {
     match found {
-        Ok(found) if found == verdict => Outcome::Right,
-        Ok(_) => Outcome::Wrong,
+        Ok(found) => Outcome::of_answer(found == verdict),
         Err(OutOfMemory) => Outcome::GaveUp,
     }
 }
 
-/// What became of a decision: the least cut, or else a section of so many steps.
-fn decided(
-    found: Result<Found<Memory>, OutOfMemory>,
-    least: Option<[u32; 2]>,
-    steps: usize,
-) -> Outcome {
-    let is_right = match (found, least) {
-        (Ok(Found::Present(cut)), Some(least)) => cut.positions() == least.as_slice(),
-        (Ok(Found::Absent(section)), None) => section.steps.len() == steps,
-        (Ok(_), _) => false,
-        (Err(OutOfMemory), _) => return Outcome::GaveUp,
-    };
-    if is_right {
-        Outcome::Right
-    } else {
-        Outcome::Wrong
+/// Whether this is the least cut, or else a section of so many steps.
+fn is_found(found: &Found<Memory>, least: Option<[u32; 2]>, steps: usize) -> bool {
+    match (found, least) {
+        (Found::Present(cut), Some(least)) => cut.positions() == least.as_slice(),
+        (Found::Absent(section), None) => section.steps.len() == steps,
+        _ => false,
     }
 }
 
@@ -180,14 +171,22 @@ fn called<R: Threads + Wait + Clock + Sync>(
             judged(found, row.verdict)
         }
         Call::Decide => {
-            let found = decide(alloc, logs, ordered, case);
-            decided(found, row.least, section.steps.len())
+            let steps = section.steps.len();
+            match decide(alloc, logs, ordered, case) {
+                Ok(found) => Outcome::of_answer(is_found(&found, row.least, steps)),
+                Err(OutOfMemory) => Outcome::GaveUp,
+            }
         }
     }
 }
 
 fn handle(rt: &impl Abort, memory: &Memory) -> Memory {
     memory.clone().expect(rt, "memory")
+}
+
+/// Compares that the call passed its trial, and that some of its growths were refused.
+fn assert_refused(rt: &impl Abort, growths: Result<u64, TrialFault>) {
+    assert!(rt; matches!(growths, Ok(number) if 0 < number), "{growths:?}");
 }
 
 /// What becomes of the call on this row and its logs with `alloc`. What else it is made on lies in ample memory.
@@ -222,24 +221,19 @@ fn sections_judged_and_made(rt: HostRuntime) {
     }
 }
 
-/// Whether the certificate, written to a sink that fails behind so many bytes, leaves these there.
-fn stops_behind(alloc: Global, certificate: &Certificate<Global>, front: &[u8]) -> bool {
-    let mut sink = FailingSink::new(alloc, front.len());
-    write_cert(certificate, &mut sink) == Err(WriteFault) && sink.bytes() == front
-}
+/// The text of a certificate.
+#[derive(Drop)]
+struct CertText<'a>(&'a Certificate<Global>);
 
-/// Compares what is left in a sink that fails, behind each byte of the certificate's text.
-fn assert_stops(rt: &(impl Abort + AllocGlobal), certificate: &Certificate<Global>, text: &[u8]) {
-    for k in 0..text.len() {
-        assert!(rt;
-            stops_behind(rt.alloc(), certificate, &text[..k]),
-            "after {k} bytes"
-        );
+impl Writer for CertText<'_> {
+    fn is_refused(&self, sink: &mut FailingSink<Global>) -> bool {
+        write_cert(self.0, sink) == Err(WriteFault)
     }
 }
 
 #[test]
 fn sink_fails_behind_each_byte(rt: HostRuntime) {
     let certificate = read_cert(rt.alloc(), TWO_STEPS).expect(&rt, "a certificate");
-    assert_stops(&rt, &certificate, TWO_STEPS);
+    let refused = each_byte_refused(rt.alloc(), &CertText(&certificate), TWO_STEPS);
+    assert!(rt; refused == Ok(()), "{refused:?}");
 }

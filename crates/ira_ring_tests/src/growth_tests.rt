@@ -2,7 +2,9 @@
 
 use ira_event::{OutOfMemory, RingSize, WriteFault};
 use ira_links::OpenGate;
-use ira_refusing::{FailingSink, Outcome, Refusing, TrialFault, each_growth_refused};
+use ira_refusing::{
+    FailingSink, Outcome, Refusing, TrialFault, Writer, each_byte_refused, each_growth_refused,
+};
 use ira_ring::{
     Collector, NodeEnd, Run, RunFault, Setup, draw_lists, run_alone, run_alone_seeded, run_ring,
     write_ends,
@@ -35,30 +37,40 @@ const CALLS: [Call; 5] = [
 
 fn draw_64_lists(alloc: Memory, nodes: RingSize) -> Outcome {
     match draw_lists(alloc, nodes, 42, 1) {
-        Ok(lists) if lists.len() == 64 => Outcome::Right,
+        Ok(lists) => Outcome::of_answer(lists.len() == 64),
         Err(OutOfMemory) => Outcome::GaveUp,
-        _ => Outcome::Wrong,
     }
 }
 
-/// What became of a run that is as long as the election, at whose end node 1 is so. That it is the ring's own run is
-/// proved.
-fn is_election(found: Result<Run<Memory>, RunFault>, end: NodeEnd) -> Outcome {
-    let run = match found {
-        Ok(run) => run,
-        Err(RunFault::OutOfMemory) => return Outcome::GaveUp,
-        Err(RunFault::Thread) if end == NodeEnd::Stopped => return Outcome::GaveUp,
-        Err(_) => return Outcome::Wrong,
-    };
+fn make_collector(alloc: Memory, nodes: RingSize) -> Outcome {
+    match Collector::new(alloc, nodes) {
+        Ok(_) => Outcome::Right,
+        Err(OutOfMemory) => Outcome::GaveUp,
+    }
+}
+
+/// Whether the run is as long as the election, and node 1 ends so. That it is the ring's own run is proved.
+fn is_election(run: &Run<Memory>, end: NodeEnd) -> bool {
     let logs = run.logs();
-    if logs.size().get() == 2
-        && logs.log(0).len() == 4
-        && logs.log(1).len() == 4
+    logs.size().get() == 2
+        && (logs.log(0).len(), logs.log(1).len()) == (4, 4)
         && run.ends() == [NodeEnd::Leader, end].as_slice()
-    {
-        Outcome::Right
-    } else {
-        Outcome::Wrong
+}
+
+fn has_run_alone(found: Result<Run<Memory>, RunFault>) -> Outcome {
+    match found {
+        Ok(run) => Outcome::of_answer(is_election(&run, NodeEnd::Quiet)),
+        Err(fault) => Outcome::of_fault(fault == RunFault::OutOfMemory),
+    }
+}
+
+/// A thread that isn't started is told as such.
+fn has_run_on_threads(found: Result<Run<Memory>, RunFault>) -> Outcome {
+    match found {
+        Ok(run) => Outcome::of_answer(is_election(&run, NodeEnd::Stopped)),
+        Err(fault) => {
+            Outcome::of_fault(matches!(fault, RunFault::OutOfMemory | RunFault::Thread))
+        }
     }
 }
 
@@ -97,19 +109,14 @@ impl Given {
     {
         match call {
             Call::DrawLists => draw_64_lists(alloc, self.largest),
-            Call::NewCollector => match Collector::new(alloc, self.largest) {
-                Ok(_) => Outcome::Right,
-                Err(OutOfMemory) => Outcome::GaveUp,
-            },
-            Call::RunAlone => is_election(run_alone(alloc, &self.setup), NodeEnd::Quiet),
+            Call::NewCollector => make_collector(alloc, self.largest),
+            Call::RunAlone => has_run_alone(run_alone(alloc, &self.setup)),
             Call::RunAloneSeeded => {
-                let found = run_alone_seeded(alloc, self.setup.nodes, &[true, true], 7, 100, 100);
-                is_election(found, NodeEnd::Quiet)
+                let nodes = self.setup.nodes;
+                let found = run_alone_seeded(alloc, nodes, &[true, true], 7, 100, 100);
+                has_run_alone(found)
             }
-            Call::RunRing => {
-                let found = run_ring(rt, alloc, &self.setup, &OpenGate);
-                is_election(found, NodeEnd::Stopped)
-            }
+            Call::RunRing => has_run_on_threads(run_ring(rt, alloc, &self.setup, &OpenGate)),
         }
     }
 }
@@ -132,10 +139,14 @@ fn each_growth_is_refused(rt: HostRuntime) {
     }
 }
 
-/// Whether the ends, written to a sink that fails behind so many bytes, leave these there.
-fn stops_behind(alloc: Global, run: &Run<Global>, front: &[u8]) -> bool {
-    let mut sink = FailingSink::new(alloc, front.len());
-    write_ends(run, &mut sink) == Err(WriteFault) && sink.bytes() == front
+/// The text of a run's ends.
+#[derive(Drop)]
+struct Ends<'a>(&'a Run<Global>);
+
+impl Writer for Ends<'_> {
+    fn is_refused(&self, sink: &mut FailingSink<Global>) -> bool {
+        write_ends(self.0, sink) == Err(WriteFault)
+    }
 }
 
 #[test]
@@ -143,10 +154,6 @@ fn sink_fails_behind_each_byte(rt: HostRuntime) {
     let nodes = RingSize::new(2).expect(&rt, "a ring of two");
     let run = run_alone_seeded(rt.alloc(), nodes, &[true, true], 7, 1, 100).expect(&rt, "a run");
     let ends = b"node 0: leader, 4 events\nnode 1: quiet, 4 events\n";
-    for k in 0..ends.len() {
-        assert!(rt;
-            stops_behind(rt.alloc(), &run, &ends[..k]),
-            "after {k} bytes"
-        );
-    }
+    let refused = each_byte_refused(rt.alloc(), &Ends(&run), ends);
+    assert!(rt; refused == Ok(()), "{refused:?}");
 }
