@@ -140,22 +140,36 @@ fn two_cases(rt: HostRuntime) {
 
 #[test]
 fn other_ring_sizes_and_asked_nodes(rt: HostRuntime) {
-    let other = b"irask 1\nnodes 3\ncase\n0: leader\n1: leader\nend\n";
-    let line = "no: question: other ring size\n";
-    assert_answered(&rt, ELECTION, other, NODE_1_SPENT, line);
-    let other = b"ircert 1\nnodes 3\nsection\nspent 1\nend\n";
-    let line = "no: certificate: other ring size\n";
-    assert_answered(&rt, ELECTION, BOTH_LEAD, other, line);
-    let spent = b"ircert 1\nnodes 2\nsection\ndrop 0 4 by 1 0\nspent 1\nend\n";
-    let line = "no: case 0: step 0: node spent\n";
-    assert_answered(&rt, ELECTION, BOTH_LEAD, spent, line);
-    let same = b"ircert 1\nnodes 2\nsection\ndrop 1 1 by 1 2\ndrop 1 2 by 0 4\nspent 1\nend\n";
-    let line = "no: case 0: step 0: same node\n";
-    assert_answered(&rt, ELECTION, LEADER_AND_ACTIVE, same, line);
-    let one = b"irask 1\nnodes 2\ncase\n0: leader\nend\n";
-    let unasked = b"ircert 1\nnodes 2\nsection\ndrop 0 4 by 1 4\nspent 1\nend\n";
-    let line = "no: case 0: step 0: not asked\n";
-    assert_answered(&rt, ELECTION, one, unasked, line);
+    let rows: [(&[u8], &[u8], &str); 5] = [
+        (
+            b"irask 1\nnodes 3\ncase\n0: leader\n1: leader\nend\n",
+            NODE_1_SPENT,
+            "no: question: other ring size\n",
+        ),
+        (
+            BOTH_LEAD,
+            b"ircert 1\nnodes 3\nsection\nspent 1\nend\n",
+            "no: certificate: other ring size\n",
+        ),
+        (
+            BOTH_LEAD,
+            b"ircert 1\nnodes 2\nsection\ndrop 0 4 by 1 0\nspent 1\nend\n",
+            "no: case 0: step 0: node spent\n",
+        ),
+        (
+            LEADER_AND_ACTIVE,
+            b"ircert 1\nnodes 2\nsection\ndrop 1 1 by 1 2\ndrop 1 2 by 0 4\nspent 1\nend\n",
+            "no: case 0: step 0: same node\n",
+        ),
+        (
+            b"irask 1\nnodes 2\ncase\n0: leader\nend\n",
+            b"ircert 1\nnodes 2\nsection\ndrop 0 4 by 1 4\nspent 1\nend\n",
+            "no: case 0: step 0: not asked\n",
+        ),
+    ];
+    for (question, certificate, line) in rows {
+        assert_answered(&rt, ELECTION, question, certificate, line);
+    }
 }
 
 #[test]
