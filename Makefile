@@ -27,16 +27,24 @@ help:
 	@echo '                it answers then'
 	@echo 'make clean      removes what was built and proved'
 
-# Three at a time: no library keeps all cores busy to its end. `make` begins with what it is told first, so
-# the longest chain comes first: the program stands on ira_main alone, and that names ira_audit early.
+# The long chains of libraries, and their end, beside which no other is left.
+CHAIN = ira_event ira_node ira_replay ira_pred ira_cand ira_order ira_cert ira_elim ira_par
+LAST = ira_audit ira_main
+
+# How many cores prove a library: each further one reads the libraries below once more, so none gets more than
+# stand idle beside it.
+cores_of = $(if $(filter $(1),$(LAST)),$(JOBS),$(if $(filter $(1),$(CHAIN)),2,1))
+
+# As many libraries at a time as there are cores. `make` begins with what it is told first, so the longest chain comes
+# first: the program stands on ira_main alone, and that names ira_audit early.
 ira:
 	@echo 'Proving the $(words $(LIBRARIES)) libraries that ira stands on, and then ira: the first time some 40 minutes of processor time, over $(JOBS) cores.'
 	@mkdir -p bin
-	@$(MAKE) --no-print-directory -j 3 START=$(START) bin/ira
+	@$(MAKE) --no-print-directory -j $(JOBS) START=$(START) bin/ira
 
 $(LIBRARIES:%=library-%): library-%:
 	@mkdir -p bin
-	@sh build/prove.sh $* $(JOBS) > bin/$*.log 2>&1 || { tail -20 bin/$*.log; $(say) 'failed: $*'; exit 1; }
+	@sh build/prove.sh $* $(call cores_of,$*) > bin/$*.log 2>&1 || { tail -20 bin/$*.log; $(say) 'failed: $*'; exit 1; }
 	@$(say) 'proved: $*'
 
 $(foreach it,$(LIBRARIES),$(eval library-$(it): $(addprefix library-,$(filter-out $(it),$(call uses,$(it))))))
