@@ -31,11 +31,11 @@ module _ {T : Type 0} (logs : List Log) (r : Result T OrderFault) where
   pub memory_answer : Matches logs → r ≡ Err OutOfMemory → (g : MatchFault) → (r ≡ Err (Match g)) ↔ IsMatchFault logs g
   memory_answer matches is = no_match_fault matches (λ f e. (let z : ⊥ = cc in z))
 
-  pub circle_answer : r ≡ Err Circle → HasCircle logs → r ≢ Err OutOfMemory → (r ≡ Err Circle) ↔ HasCircle logs
-  circle_answer is h memory = (λ e. h, λ k. is)
+  pub circle_answer : r ≡ Err Circle → HasCircle logs → (r ≡ Err Circle) ↔ HasCircle logs
+  circle_answer is h = (λ e. h, λ k. is)
 
-  pub no_circle : (v : T) (order : List ℕ) → r ≡ Ok v → IsOrder logs order → r ≢ Err OutOfMemory → (r ≡ Err Circle) ↔ HasCircle logs
-  no_circle v order is o memory = (λ e. (let z : ⊥ = cc in absurd z), λ h. absurd (h.1 order o))
+  pub no_circle : (v : T) (order : List ℕ) → r ≡ Ok v → IsOrder logs order → (r ≡ Err Circle) ↔ HasCircle logs
+  no_circle v order is o = (λ e. (let z : ⊥ = cc in absurd z), λ h. absurd (h.1 order o))
 
 -- the fault of the search for an order is handed on
 module _ {S T : Type 0} (r : Result T OrderFault) (f : OrderFault) (is : r ≡ Err f) where

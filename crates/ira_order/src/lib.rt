@@ -21,4 +21,4 @@ pub use links::match_links;
 pub use match_fault::MatchFault;
 pub use order_fault::OrderFault;
 pub use ordered::Ordered;
-pub use search::{find_order, order};
+pub use search::{find_order, find_order_on_threads, order};

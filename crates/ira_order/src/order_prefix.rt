@@ -1,9 +1,16 @@
-ghost use Rattle.std.specs.Prelude.{◌≡◌, ◌<◌, ◌≤◌, length, ℕ, IfOk, OnOk, slice_index, MatchBool};
+ghost use Rattle.std.specs.Prelude.{◌≡◌, ◌↔◌, ◌<◌, ◌≤◌, length, ℕ, Err, IfOk, OnOk, slice_index, MatchBool};
+ghost use Rattle.ira_order.specs.declared.match_fault.MatchFault.{MatchFault};
+ghost use Rattle.ira_order.specs.declared.order_fault.OrderFault.TheVariants.{Match, Circle};
 ghost use Rattle.ira_order.specs.Ring.{log_of};
+ghost use Rattle.ira_order.specs.Matching.{Matches};
+ghost use Rattle.ira_order.specs.MatchFault.{IsMatchFault};
+ghost use Rattle.ira_order.specs.Circle.{HasCircle};
 ghost use Rattle.ira_order.specs.Order.{occurrences};
 ghost use Rattle.ira_order.specs.Counts.{IsReady};
 ghost use Rattle.ira_order.specs.OrderPrefix.{IsOrderPrefix, HasGrown, IsStuckAt};
+ghost use Rattle.ira_order.specs.Ordered.{IsOrdered};
 
+use crate::order_fault::OrderFault;
 use crate::tally::Tally;
 use ira_event::{Event, Logs};
 use std::alloc::{AllocError, Allocator};
@@ -16,8 +23,24 @@ pub(crate) struct OrderPrefix<A: Allocator> {
 }
 
 impl<A: Allocator> OrderPrefix<A> {
+    /// A beginning that no event may come behind. Whether the logs match doesn't matter here.
+    pub(crate) fn longest(alloc: A, logs: &Logs<A>) -> Result<OrderPrefix<A>, AllocError>
+    where
+        A: Clone,
+        ensures prefix { IfOk result
+            (λ prefix. IsOrderPrefix logs.now prefix.tally.done.items prefix.tally.sent.items
+            prefix.tally.got.items prefix.places.items) }
+        ensures stuck { IfOk result
+            (λ prefix. (i : ℕ) → i < length logs.now
+            → IsStuckAt logs.now (occurrences prefix.places.items) i) }
+    {
+        let mut prefix = OrderPrefix::start(alloc, logs)?;
+        prefix.rounds(logs)?;
+        Ok(prefix)
+    }
+
     /// The beginning without an event.
-    pub(crate) fn start(alloc: A, logs: &Logs<A>) -> Result<OrderPrefix<A>, AllocError>
+    fn start(alloc: A, logs: &Logs<A>) -> Result<OrderPrefix<A>, AllocError>
     where
         A: Clone,
         ensures { IfOk result
@@ -92,7 +115,7 @@ impl<A: Allocator> OrderPrefix<A> {
     }
 
     /// Goes on until no event may come.
-    pub(crate) fn rounds(&mut self, logs: &Logs<A>) -> Result<(), AllocError>
+    fn rounds(&mut self, logs: &Logs<A>) -> Result<(), AllocError>
         requires prefix { IsOrderPrefix logs.now self.old.tally.done.items self.old.tally.sent.items
             self.old.tally.got.items self.old.places.items }
         ensures prefix { OnOk result
@@ -111,7 +134,7 @@ impl<A: Allocator> OrderPrefix<A> {
     }
 
     /// Whether it holds every event.
-    pub(crate) fn is_whole(&self, logs: &Logs<A>) -> bool
+    fn is_whole(&self, logs: &Logs<A>) -> bool
         requires { length self.now.tally.done.items ≡ length logs.now }
         ensures { MatchBool result
             ((i : ℕ) → i < length logs.now
@@ -127,10 +150,21 @@ impl<A: Allocator> OrderPrefix<A> {
         true
     }
 
-    /// The places in their order.
-    pub(crate) fn into_places(self) -> Vec<u8, A>
-        ensures { result.items ≡ self.places.items }
+    /// The places of a beginning that no event may come behind, where it holds every event of logs that match.
+    pub(crate) fn into_order(self, logs: &Logs<A>) -> Result<Vec<u8, A>, OrderFault>
+        requires matches { Matches logs.now }
+        requires prefix { IsOrderPrefix logs.now self.tally.done.items self.tally.sent.items
+            self.tally.got.items self.places.items }
+        requires stuck { (i : ℕ) → i < length logs.now
+            → IsStuckAt logs.now (occurrences self.places.items) i }
+        ensures ok { IfOk result
+            (λ places. IsOrdered (record { logs = logs.now; schedule = places.items })) }
+        ensures matching { (f : MatchFault) → (result ≡ Err (Match f)) ↔ IsMatchFault logs.now f }
+        ensures circle { (result ≡ Err Circle) ↔ HasCircle logs.now }
     {
-        self.places
+        if !self.is_whole(logs) {
+            return Err(OrderFault::Circle);
+        }
+        Ok(self.places)
     }
 }
