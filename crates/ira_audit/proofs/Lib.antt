@@ -1,6 +1,7 @@
 pub mod Deciding
 pub mod Judging
 pub mod LogTexts
+pub mod LogsAnswered
 pub mod MadeCertificates
 pub mod NeverMet
 pub mod OneAnswer

@@ -23,7 +23,7 @@ use crate::findings::Findings;
 use crate::reason::Reason;
 use crate::refusal::{Refusal, answer_of, findings_of};
 use crate::replayed_log::ReplayedLog;
-use crate::ring_logs::judge_logs;
+use crate::ring_logs::{judge_logs, judge_logs_on_threads};
 use ira_event::{LogFault, OutOfMemory, read_log};
 use ira_links::Gate;
 use std::alloc::{AllocError, Allocator};
@@ -161,8 +161,11 @@ impl<A: Allocator + Clone> RingAudit<A> {
     }
 
     /// The answer of the texts that were taken: the first reason against them, or yes. It says of them
-    /// what `audit_logs` says.
-    pub fn finish(self) -> Result<Answer, OutOfMemory>
+    /// what `audit_logs` says. The links are matched by a thread of their own where one can be started.
+    pub fn finish<R>(self, rt: &R) -> Result<Answer, OutOfMemory>
+    where
+        R: Threads,
+        A: Sync,
         ensures answer { (texts : List (List ℕ)) (a : Answer) → HasTaken self texts
             → UnlessErr result (record {}) ((result ≡ Ok a) ↔ IsLogsAnswer texts a) }
         ensures reportable { (texts : List (List ℕ)) → HasTaken self texts → IfOk result IsReportable }
@@ -175,7 +178,7 @@ impl<A: Allocator + Clone> RingAudit<A> {
         ensures stopped { (texts : List (List ℕ)) (place position : ℕ) (f : StepFault) → HasTaken self texts
             → result ≡ Ok (Answer.No (Reason.Replay place position f)) → AreTextsWithoutRun texts }
     {
-        answer_of(self.judge())
+        answer_of(self.judge_on_threads(rt))
     }
 
     /// The answer of the texts that were taken, of a question and of a certificate: the first reason
@@ -244,7 +247,17 @@ impl<A: Allocator + Clone> RingAudit<A> {
         judge_certified(rt, self.into_logs()?, question, certificate, depth, gate)
     }
 
-    fn judge(self) -> Result<(), Refusal>
+    fn judge_on_threads<R>(self, rt: &R) -> Result<(), Refusal>
+    where
+        R: Threads,
+        A: Sync,
+        ensures { (texts : List (List ℕ)) → HasTaken self texts → Judged result (IsLogsAnswer texts) }
+    {
+        judge_logs_on_threads(rt, self.into_logs()?)
+    }
+
+    /// Whether anything stands against the texts that were taken. It starts no thread.
+    pub(crate) fn judge(self) -> Result<(), Refusal>
         ensures { (texts : List (List ℕ)) → HasTaken self texts → Judged result (IsLogsAnswer texts) }
     {
         judge_logs(self.into_logs()?)

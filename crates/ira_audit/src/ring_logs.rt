@@ -14,12 +14,13 @@ ghost use Rattle.ira_audit.specs.declared.answer.Answer.{Answer};
 
 use crate::answer::Answer;
 use crate::reason::Reason;
-use crate::refusal::Refusal;
+use crate::refusal::{Refusal, answer_of};
 use crate::replayed_log::{ReplayedLog, split_steps};
 use crate::ring_audit::RingAudit;
 use ira_event::{Logs, OutOfMemory};
-use ira_order::{Ordered, find_order, order};
+use ira_order::{Ordered, find_order, find_order_on_threads, order};
 use std::alloc::Allocator;
+use std::thread::Threads;
 
 /// Judges the texts of a ring's logs, given in the order of its places: whether they are texts of
 /// logs, whether these are the logs of one ring, match and have an order, and whether each event has a
@@ -47,7 +48,19 @@ pub fn audit_logs<A: Allocator + Clone>(alloc: A, texts: &[&[u8]]) -> Result<Ans
     for text in texts {
         audit.take(text)?;
     }
-    audit.finish()
+    answer_of(audit.judge())
+}
+
+/// The logs, which must be those of one ring, and whether each event of each of them has a step.
+fn gather_logs<A: Allocator + Clone>(
+    replayed: Vec<ReplayedLog<A>, A>,
+) -> Result<(Logs<A>, Result<(), Reason>), Refusal>
+    ensures logs { IfOk result (λ found. AreLogs found.0 × AreReplayed found.0 found.1) }
+    ensures texts { (texts : List (List ℕ)) → AreLogTexts texts replayed.items
+        → MatchRefusal result (λ found. AreLogTexts texts found.0) (IsLogsReason texts) }
+{
+    let (read, steps) = split_steps(replayed)?;
+    Ok((Logs::gather(read)?, steps))
 }
 
 /// Whether the logs are those of one ring, match and have an order, and each event has a step.
@@ -55,9 +68,24 @@ pub(crate) fn judge_logs<A: Allocator + Clone>(logs: Vec<ReplayedLog<A>, A>) -> 
     ensures { (texts : List (List ℕ)) → AreLogTexts texts logs.items → Judged result (IsLogsAnswer texts) }
 {
     let alloc = logs.allocator().clone()?;
-    let (read, steps) = split_steps(logs)?;
-    let logs = Logs::gather(read)?;
+    let (logs, steps) = gather_logs(logs)?;
     find_order(alloc, &logs)?;
+    Ok(steps?)
+}
+
+/// What `judge_logs` says. The links are matched while an order is looked for.
+pub(crate) fn judge_logs_on_threads<R, A>(
+    rt: &R,
+    logs: Vec<ReplayedLog<A>, A>,
+) -> Result<(), Refusal>
+where
+    R: Threads,
+    A: Allocator + Clone + Sync,
+    ensures { (texts : List (List ℕ)) → AreLogTexts texts logs.items → Judged result (IsLogsAnswer texts) }
+{
+    let alloc = logs.allocator().clone()?;
+    let (logs, steps) = gather_logs(logs)?;
+    find_order_on_threads(rt, alloc, &logs)?;
     Ok(steps?)
 }
 
