@@ -13,9 +13,9 @@ ghost use Rattle.ira_audit.specs.declared.reason.Reason.{Reason};
 use crate::certified::read_posed;
 use crate::findings::Findings;
 use crate::refusal::Refusal;
-use crate::replayed_log::{ReplayedLog, split_steps};
+use crate::replayed_log::ReplayedLog;
 use crate::ring_audit::RingAudit;
-use crate::ring_logs::order_runs;
+use crate::ring_logs::{gather_logs, order_runs};
 use crate::sections::all_profiles;
 use ira_elim::{Found, decide_profiled};
 use ira_event::{Logs, OutOfMemory};
@@ -58,8 +58,7 @@ pub(crate) fn decide_posed<A: Allocator + Clone>(
         (IsFindingsReason texts question.now) }
 {
     let alloc = logs.allocator().clone()?;
-    let (read, steps) = split_steps(logs)?;
-    let logs = Logs::gather(read)?;
+    let (logs, steps) = gather_logs(logs)?;
     let ordered = order_runs(alloc.clone()?, &logs, steps)?;
     let question = read_posed(alloc.clone()?, logs.size(), question)?;
     let found = decide_cases(alloc, &logs, &ordered, question.cases())?;

@@ -20,9 +20,9 @@ ghost use Rattle.ira_audit.specs.declared.answer.Answer.{Answer};
 use crate::answer::Answer;
 use crate::reason::Reason;
 use crate::refusal::Refusal;
-use crate::replayed_log::{ReplayedLog, split_steps};
+use crate::replayed_log::ReplayedLog;
 use crate::ring_audit::RingAudit;
-use crate::ring_logs::order_runs;
+use crate::ring_logs::{gather_logs, order_runs};
 use crate::sections::check_sections;
 use ira_cert_text::{Certificate, read_cert};
 use ira_event::{Logs, OutOfMemory, RingSize};
@@ -100,8 +100,7 @@ where
         → Judged result (IsAuditAnswer texts question.now certificate.now) }
 {
     let alloc = logs.allocator().clone()?;
-    let (read, steps) = split_steps(logs)?;
-    let logs = Logs::gather(read)?;
+    let (logs, steps) = gather_logs(logs)?;
     let ordered = order_runs(alloc.clone()?, &logs, steps)?;
     judge_question(
         rt,

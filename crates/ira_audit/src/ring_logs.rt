@@ -52,7 +52,7 @@ pub fn audit_logs<A: Allocator + Clone>(alloc: A, texts: &[&[u8]]) -> Result<Ans
 }
 
 /// The logs, which must be those of one ring, and whether each event of each of them has a step.
-fn gather_logs<A: Allocator + Clone>(
+pub(crate) fn gather_logs<A: Allocator + Clone>(
     replayed: Vec<ReplayedLog<A>, A>,
 ) -> Result<(Logs<A>, Result<(), Reason>), Refusal>
     ensures logs { IfOk result (λ found. AreLogs found.0 × AreReplayed found.0 found.1) }

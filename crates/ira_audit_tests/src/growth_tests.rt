@@ -91,14 +91,14 @@ fn answered(found: Result<Answer, OutOfMemory>, answer: Answer) -> Outcome {
     }
 }
 
-fn take_again(alloc: Memory) -> Outcome {
+fn take_again<R: Threads>(rt: &R, alloc: Memory) -> Outcome {
     let mut audit = RingAudit::new(alloc);
     for text in [ELECTION_0, ELECTION_1] {
         if audit.take(text).is_err() && audit.take(text).is_err() {
             return Outcome::Wrong;
         }
     }
-    answered(audit.finish(), Answer::Yes)
+    answered(audit.finish(rt), Answer::Yes)
 }
 
 /// Judges the election with this certificate.
@@ -161,7 +161,7 @@ where
             answered(audit_logs(alloc, &[CIRCLE_0, CIRCLE_1]), circle)
         }
         Call::JudgeExchanged => answered(audit_logs(alloc, EXCHANGED), Answer::No(exchanged)),
-        Call::TakeAgain => take_again(alloc),
+        Call::TakeAgain => take_again(rt, alloc),
         Call::Check => check(rt, &alloc, TWO_STEPS, Answer::Yes),
         Call::CheckCut => {
             let cut = Answer::No(Reason::Certificate(CertFault::Cut));

@@ -5,9 +5,12 @@ use crate::samples::{
     assert_shown, clean, dirty, log_of, logs_of, loser, tie_loser, tie_winner, winner,
 };
 use ira_event::{Event, Logs, NodeLog};
-use ira_order::{MatchFault, OrderFault, Ordered, find_order, match_links, order};
+use ira_order::{
+    MatchFault, OrderFault, Ordered, find_order, find_order_on_threads, match_links, order,
+};
 use std::alloc::Global;
 use std::process::Abort;
+use std::thread::Threads;
 
 /// The events of the node that begins alone in a ring of three.
 fn lone_initiator_events() -> [Event; 3] {
@@ -139,17 +142,18 @@ fn empty_logs_meet_at_start(rt: HostRuntime) {
     assert_ordered(&rt, 2, &[&[], &[]]);
 }
 
+/// The events of two nodes each of which waits for the other.
+fn circle_events() -> [[Event; 2]; 2] {
+    [
+        [Event::Got(clean(1, 1, 1)), Event::Sent(clean(1, 1, 2))],
+        [Event::Got(clean(1, 1, 2)), Event::Sent(clean(1, 1, 1))],
+    ]
+}
+
 #[test]
 fn circle_of_two(rt: HostRuntime) {
-    assert_refused(
-        &rt,
-        0,
-        &[
-            &[Event::Got(clean(1, 1, 1)), Event::Sent(clean(1, 1, 2))],
-            &[Event::Got(clean(1, 1, 2)), Event::Sent(clean(1, 1, 1))],
-        ],
-        OrderFault::Circle,
-    );
+    let [first, second] = circle_events();
+    assert_refused(&rt, 0, &[&first, &second], OrderFault::Circle);
 }
 
 #[test]
@@ -195,6 +199,25 @@ fn receipt_without_sending(rt: HostRuntime) {
         ],
         OrderFault::Match(MatchFault::NoSending { link: 1, k: 2 }),
     );
+}
+
+/// Compares what both calls find for these logs.
+fn assert_same_on_threads(
+    rt: &(impl Abort + AllocGlobal + Threads),
+    initiators: u8,
+    events: &[&[Event]],
+) {
+    let logs = logs_of(rt, initiators, events);
+    let found = find_order_on_threads(rt, rt.alloc(), &logs);
+    assert!(rt; found == find_order(rt.alloc(), &logs));
+}
+
+#[test]
+fn same_on_threads(rt: HostRuntime) {
+    let [first, second] = circle_events();
+    assert_same_on_threads(&rt, 2, &[&winner(), &loser()]);
+    assert_same_on_threads(&rt, 2, &[&winner(), &[]]);
+    assert_same_on_threads(&rt, 0, &[&first, &second]);
 }
 
 /// Of two logs of four events each: some counts, and which of some events happened before which.

@@ -72,7 +72,7 @@ where
     ensures files { F.files shelf.new ≡ F.files shelf.old }
 {
     let audit = read_logs(rt, alloc, names, shelf)?;
-    let answer = audit.finish()?;
+    let answer = audit.finish(rt)?;
     report(&answer, out)
 }
 

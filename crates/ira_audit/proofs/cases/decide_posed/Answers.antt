@@ -1,35 +1,27 @@
-use Rattle.std.proofs.Common.{◌≡◌, Some, refl, sym, subst, ap, ◌∙◌, rules}
+use Rattle.std.proofs.Common.{◌≡◌, Some, subst, ◌∙◌, rules}
 use Rattle.std.specs.List.{AllZip}
 use Rattle.std.specs.Prelude.{slice_get}
 use Rattle.std.proofs.lemmas.Result.{err_from_is_err_and}
 use Rattle.ira_elim.specs.Found.{IsFound}
-use Rattle.ira_audit.specs.LogTexts.{AreLogTexts}
 use Rattle.ira_audit.specs.Posed.{Posed}
 use Rattle.ira_audit.specs.Refusal.{IsQuestionRefusal}
-use Rattle.ira_audit.proofs.Judging.{heads_refused}
 use Rattle.ira_audit.proofs.Places.{places_of_logs}
-use Rattle.ira_audit.proofs.RefusedTexts.{findings_refused, refused_again, logs_reason, question_reason}
+use Rattle.ira_audit.proofs.RefusedTexts.{refused_again, logs_reason, question_reason}
 use Rattle.ira_audit.proofs.cases.decide_posed.Goals as goal
 
 pub returns-in_err-logs : goal.returns-in_err-logs
 returns-in_err-logs g c = λ texts are.
-    let f = c.in_err-logs.field-0.0 in
-    let r = c.from_residual-in_err-logs.result in
-    let refused = err_from_is_err_and r c.from_residual-in_err-logs.ensures.1 in
-    findings_refused _ texts c.args.question.now r refused.0 refused.1 (heads_refused texts _ (subst (AreLogTexts texts) (sym c.in_ok-read.ensures.0) are) r f (search rules) ((c.in_err-logs.ensures.err f).0 refl))
+    refused_again _ _ _ _ c.from_residual-in_err-logs.result c.in_err-logs.field-0.0 (search rules) (c.in_err-logs.ensures.texts texts are)
+    (λ x h. logs_reason texts c.args.question.now x h)
 
 pub returns-in_err-ordered : goal.returns-in_err-ordered
 returns-in_err-ordered g c = λ texts are.
-    let gathered = (c.in_ok-logs.ensures.ok c.in_ok-logs.logs).0 refl in
-    let of = subst (AreLogTexts texts) (sym (gathered.0 ∙ c.in_ok-read.ensures.0)) are in
-    refused_again _ _ _ _ c.from_residual-in_err-ordered.result c.in_err-ordered.field-0.0 (search rules) (c.in_err-ordered.ensures.runs texts of gathered.1)
+    refused_again _ _ _ _ c.from_residual-in_err-ordered.result c.in_err-ordered.field-0.0 (search rules) (c.in_err-ordered.ensures.runs texts (c.in_ok-logs.ensures.texts texts are) c.in_ok-logs.ensures.logs.0)
     (λ x h. logs_reason texts c.args.question.now x h)
 
 pub returns-in_err-question : goal.returns-in_err-question
 returns-in_err-question g c = λ texts are.
-    let gathered = (c.in_ok-logs.ensures.ok c.in_ok-logs.logs).0 refl in
-    let of = subst (AreLogTexts texts) (sym (gathered.0 ∙ c.in_ok-read.ensures.0)) are in
-    let good = c.in_ok-ordered.ensures.runs texts of gathered.1 in
+    let good = c.in_ok-ordered.ensures.runs texts (c.in_ok-logs.ensures.texts texts are) c.in_ok-logs.ensures.logs.0 in
     refused_again _ _ _ _ c.from_residual-in_err-question.result c.in_err-question.field-0.0 (search rules) c.in_err-question.ensures
     (λ x h. question_reason texts c.args.question.now c.in_ok-logs.logs good x (subst (λ n. IsQuestionRefusal c.args.question.now n x) c.size.ensures.value h))
 
@@ -45,9 +37,7 @@ returns-in_err-found g c = λ texts are.
 
 pub returns : goal.returns
 returns g c = λ texts are.
-    let gathered = (c.in_ok-logs.ensures.ok c.in_ok-logs.logs).0 refl in
-    let of = subst (AreLogTexts texts) (sym (gathered.0 ∙ c.in_ok-read.ensures.0)) are in
-    let good = c.in_ok-ordered.ensures.runs texts of gathered.1 in
+    let good = c.in_ok-ordered.ensures.runs texts (c.in_ok-logs.ensures.texts texts are) c.in_ok-logs.ensures.logs.0 in
     let asked = c.in_ok-question.question in
     let posed : Posed texts c.args.question.now c.in_ok-logs.logs asked =
     record { logs_are = good; question_is = c.in_ok-question.ensures.0; ring = c.in_ok-question.ensures.1 ∙ c.size.ensures.value } in
