@@ -1,5 +1,5 @@
 -- A log that is judged while it is read.
-use Rattle.std.proofs.Common.{◌≡◌, ◌≢◌, ◌↔◌, ◌≤◌, ℕ, ◌+◌, List, [], ◌∷◌, ◌++◌, length, Result, Ok, Err, refl, sym, ap, subst, arith, append_assoc, length-append, Bool, Option, Some, None, inl, inr}
+use Rattle.std.proofs.Common.{◌≡◌, ◌≢◌, ◌↔◌, ◌≤◌, ℕ, ◌+◌, List, [], ◌∷◌, ◌++◌, length, Result, Ok, Err, refl, ap, subst, arith, append_assoc, length-append, Bool, Option, Some, None, inl, inr}
 use Rattle.std.specs.Prelude.{⊤, MatchResult}
 use Rattle.ira_event.specs.declared.event.Event.{Event}
 use Rattle.ira_event.specs.declared.limits.TheConstants.{MAX_RECORDS, MAX_TEXT}
@@ -17,13 +17,9 @@ use Rattle.ira_node.specs.declared.node_state.NodeState.{NodeState}
 use Rattle.ira_node.specs.NodeState.{first_state}
 use Rattle.ira_node.specs.NodeStep.{NodeStep}
 use Rattle.ira_node.specs.NodeStepFault.{NodeStepFault}
-use Rattle.ira_node.specs.declared.step_fault.StepFault.{StepFault}
 use Rattle.ira_replay.specs.declared.replay_fault.ReplayFault.{ReplayFault}
 use Rattle.ira_replay.specs.LocalRun.{LeadsTo}
 use Rattle.ira_audit.specs.Answer as single
-use Rattle.ira_replay.specs.StatesLeft.{placed}
-use Rattle.ira_node.specs.StepAnswer.{answer}
-use Rattle.ira_node.proofs.Answers.{step_exactly, fault_exactly}
 use Rattle.ira_event.specs.declared.log_head.LogHead.{LogHead}
 use Rattle.ira_audit.specs.Replaying.{IsLogAnswer, IsJudged, HasStopped, ReplaysRecords}
 use Rattle.ira_replay.proofs.Along.{leads_further}
@@ -57,16 +53,6 @@ replaying_more text nodes first old new state after position e h r step =
 
 pub replaying_room : (text : List ℕ) (nodes : ℕ) (first : NodeState) (left : RecordsLeft) (state : NodeState) (position : ℕ) → Replaying text nodes first left state position → position ≤ MAX_RECORDS
 replaying_room text nodes first left state position h = omega (arith, h.at, h.read.0.count)
-
-pub step_is : (n p : ℕ) (s : NodeState) (e : Event) (t : NodeState) (r : Result NodeState StepFault) → answer n s e ≡ r → placed p r ≡ Ok t → NodeStep n s e t
-step_is n p s e t (Ok u) a h = let same : u ≡ t = cc in subst (NodeStep n s e) same ((step_exactly n s e (answer n s e) refl u).0 a)
-step_is n p s e t (Err f) a h = absurd cc
-
-pub fault_is : (n p : ℕ) (s : NodeState) (e : Event) (g : ReplayFault) (r : Result NodeState StepFault) → answer n s e ≡ r → placed p r ≡ Err g → (g.position ≡ p) × NodeStepFault n s e g.fault
-fault_is n p s e g (Ok u) a h = absurd cc
-fault_is n p s e g (Err f) a h =
-    let same : record { position = p; fault = f } ≡ g = cc in
-    (ap (λ k. k.position) (sym same), subst (λ (k : ReplayFault). NodeStepFault n s e k.fault) same ((fault_exactly n s e (answer n s e) refl f).0 a))
 
 pub has_stopped : (text : List ℕ) (nodes : ℕ) (initiator : Bool) (old new : RecordsLeft) (state : NodeState) (position : ℕ) (e : Event) (f : ReplayFault)
     → Replaying text nodes (first_state initiator) old state position → ReadsRecord old new e → f.position ≡ position + 1 → NodeStepFault nodes state e f.fault → HasStopped text nodes initiator new f

@@ -5,13 +5,11 @@ ghost use Rattle.ira_event.specs.LogTextFault.{LogTextFault, RecordsFault};
 ghost use Rattle.ira_audit.specs.Answer.{IsAnswer};
 ghost use Rattle.ira_audit.specs.Replaying.{IsLogAnswer, IsJudged, ReplaysRecords};
 ghost use Rattle.ira_audit.specs.Report.{IsReportable};
-ghost use Rattle.ira_node.specs.StepAnswer.{answer};
-ghost use Rattle.ira_replay.specs.StatesLeft.{placed};
 ghost use Rattle.ira_audit.specs.declared.answer.Answer.{Answer};
 
 use crate::answer::Answer;
 use crate::reason::Reason;
-use ira_event::{Event, LogFault, LogHead, OutOfMemory, Records, RingSize, open_log};
+use ira_event::{LogFault, LogHead, OutOfMemory, Records, RingSize, open_log};
 use ira_node::NodeState;
 use ira_replay::ReplayFault;
 use std::alloc::Allocator;
@@ -70,25 +68,9 @@ fn replay_records(
     let mut position = 0;
     while let Some(event) = records.next_event()? {
         position += 1;
-        match step_at(state, nodes, position, event) {
-            Ok(after) => state = after,
-            Err(fault) => return Ok(Some(fault)),
+        if let Err(fault) = state.advance(nodes, &event) {
+            return Ok(Some(ReplayFault { position, fault }));
         }
     }
     Ok(None)
-}
-
-/// The step of the event at this position.
-#[inline(always)]
-fn step_at(
-    state: NodeState,
-    nodes: RingSize,
-    position: u32,
-    event: Event,
-) -> Result<NodeState, ReplayFault>
-    ensures { result ≡ placed position (answer nodes state event) }
-{
-    state
-        .step(nodes, &event)
-        .map_err(|fault| ReplayFault { position, fault })
 }

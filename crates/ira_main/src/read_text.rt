@@ -10,8 +10,9 @@ use std::alloc::Allocator;
 use std::io;
 use std::io::Read;
 
-/// How many bytes there is room for at first.
-const FIRST_ROOM: usize = 65_536;
+/// How many bytes longer a full room is made. They are zeroed before they are read over, and those behind a text's
+/// end for nothing.
+const MORE_ROOM: usize = 65_536;
 
 // One read into the room from a place on.
 fn read_at<I: Read>(input: &mut Counted<I>, room: &mut [u8], at: usize) -> io::Result<usize>
@@ -27,7 +28,7 @@ fn read_at<I: Read>(input: &mut Counted<I>, room: &mut [u8], at: usize) -> io::R
     input.read(&mut room[at..])
 }
 
-// Reads behind the part of the room that is filled; a full room is doubled first.
+// Reads behind the part of the room that is filled; a full room is made longer first.
 fn read_more<A: Allocator, I: Read>(
     input: &mut Counted<I>,
     room: &mut Vec<u8, A>,
@@ -45,8 +46,8 @@ fn read_more<A: Allocator, I: Read>(
         → (input.new.has_failed ≡ true) × (input.new.is_over ≡ true) }
 {
     if filled == room.len() {
-        let doubled = (2 * filled).clamp(FIRST_ROOM, MAX_TEXT + 1);
-        if room.resize(doubled, 0).is_err() {
+        let longer = (filled + MORE_ROOM).min(MAX_TEXT + 1);
+        if room.resize(longer, 0).is_err() {
             return Err(ShelfFault::OutOfMemory);
         }
     }

@@ -108,7 +108,7 @@ impl<A: Allocator> Recorder<A> {
         ensures err { OnErr result (¬ (HasStep self.old.log.nodes self.old.state event)) }
         ensures unchanged { OnErr result (self.new ≡ self.old) }
     {
-        self.state = self.state.step(self.nodes, &event)?;
+        self.state.advance(self.nodes, &event)?;
         self.events.push_reserved(event);
         Ok(())
     }

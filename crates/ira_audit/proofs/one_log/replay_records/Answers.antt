@@ -1,8 +1,8 @@
-use Rattle.std.proofs.Common.{◌≡◌, ◌≤◌, refl, ◌+◌, sym, ◌∙◌, arith}
+use Rattle.std.proofs.Common.{◌≡◌, ◌≤◌, refl, arith}
 use Rattle.std.proofs.lemmas.Result.{err_from_is_err_and}
 use Rattle.ira_event.specs.declared.limits.TheConstants.{MAX_RECORDS}
 use Rattle.ira_event.proofs.LogReading.{behind_all, behind_fault, was_read, was_last, record_shorter}
-use Rattle.ira_audit.proofs.Replaying.{replaying_nothing, replaying_more, replaying_room, step_is, fault_is, has_stopped}
+use Rattle.ira_audit.proofs.Replaying.{replaying_nothing, replaying_more, replaying_room, has_stopped}
 use Rattle.ira_audit.proofs.one_log.replay_records.Goals as goal
 
 pub loop-event-init : goal.loop-event-init
@@ -25,13 +25,11 @@ loop-event-smaller c = record_shorter c.loop-event.records c.next_event.new.self
 
 pub loop-event-preserved : goal.loop-event-preserved
 loop-event-preserved c =
-    let step = step_is c.args.nodes (c.loop-event.position + 1) c.loop-event.state c.in-Some.event c.in-Ok.after _ refl (sym c.step_at.ensures ∙ c.in-Ok.is) in
-    replaying_more _ _ _ c.loop-event.records c.next_event.new.self c.loop-event.state c.in-Ok.after c.loop-event.position c.in-Some.event c.loop-event.invariant (was_read _ _ _ _ c.in_ok-event.ensures c.in-Some.is) step
+    replaying_more _ _ _ c.loop-event.records c.next_event.new.self c.loop-event.state c.advance.new.self c.loop-event.position c.in-Some.event c.loop-event.invariant (was_read _ _ _ _ c.in_ok-event.ensures c.in-Some.is) c.in_default-advance.ensures.steps
 
 pub returns-in-Err : goal.returns-in-Err
 returns-in-Err c =
-    let bad = fault_is c.args.nodes (c.loop-event.position + 1) c.loop-event.state c.in-Some.event c.in-Err.fault _ refl (sym c.step_at.ensures ∙ c.in-Err.is) in
-    has_stopped _ _ _ c.loop-event.records c.next_event.new.self c.loop-event.state c.loop-event.position c.in-Some.event c.in-Err.fault c.loop-event.invariant (was_read _ _ _ _ c.in_ok-event.ensures c.in-Some.is) bad.0 bad.1
+    has_stopped _ _ _ c.loop-event.records c.next_event.new.self c.loop-event.state c.loop-event.position c.in-Some.event _ c.loop-event.invariant (was_read _ _ _ _ c.in_ok-event.ensures c.in-Some.is) refl c.in-Err.ensures.steps
 
 pub returns : goal.returns
 returns c =
