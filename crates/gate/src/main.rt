@@ -3,7 +3,7 @@
 #![tactic(auto)]
 
 use ira_event::ToWriter;
-use ira_main::{Counted, FileShelf, Shelf, ShelfFault, TextBuffer, serve, start};
+use ira_main::{Counted, FileShelf, ShelfFault, TextBuffer, TextSource, serve, start};
 use std::alloc::AllocError;
 use std::io;
 use std::io::{Stdin, Stdout};
@@ -14,12 +14,12 @@ use std::thread::Threads;
 use std::time::Clock;
 
 /// Serves the words of this line, and prints it and the status.
-fn ira(
-    rt: &(impl AllocGlobal + Files + Threads + Wait + Clock + Sync),
-    input: Stdin,
-    out: Stdout,
-    line: &str,
-) -> io::Result<()> {
+fn ira<R>(rt: &R, input: Stdin, out: Stdout, line: &str) -> io::Result<()>
+where
+    R: AllocGlobal + Files + Threads + Wait + Clock + Sync,
+    R::File: Send + Sync,
+    R::Dir: Send + Sync,
+{
     println!(out; "$ ira {line}")?;
     let words: Vec<&str> = line.split_whitespace().collect(rt.alloc())?;
     let status = serve(
@@ -36,7 +36,7 @@ fn ira(
 
 /// The files that a run of a ring of so many nodes wrote here.
 fn written(rt: &(impl AllocGlobal + Files), nodes: u8) -> Result<Vec<Vec<u8>>, ShelfFault> {
-    let mut shelf = FileShelf::new(rt, rt.alloc());
+    let shelf = FileShelf::new(rt, rt.alloc());
     let mut files = Vec::new(rt.alloc());
     for place in 0..nodes {
         let name = format!(in rt.alloc(); "{place}.log")?;
@@ -50,11 +50,12 @@ fn written(rt: &(impl AllocGlobal + Files), nodes: u8) -> Result<Vec<Vec<u8>>, S
 }
 
 /// Serves the commands in turn.
-fn commands(
-    rt: &(impl AllocGlobal + Files + Threads + Wait + Clock + Sync),
-    input: Stdin,
-    out: Stdout,
-) -> io::Result<()> {
+fn commands<R>(rt: &R, input: Stdin, out: Stdout) -> io::Result<()>
+where
+    R: AllocGlobal + Files + Threads + Wait + Clock + Sync,
+    R::File: Send + Sync,
+    R::Dir: Send + Sync,
+{
     ira(rt, input, out, "")?;
     ira(rt, input, out, "logs elected/0.log elected/1.log")?;
     ira(

@@ -1,5 +1,4 @@
-ghost use Rattle.std.specs.Prelude.{◌≡◌, ◌↔◌, ◌++◌, ◌∷◌, ◌<◌, ◌≤◌, [], ℕ, List, Ok, IfOk, IfSome, MatchResult, OnOk, OnErr, length, map, slice_get};
-ghost use Rattle.std.specs.List.{AllZip};
+ghost use Rattle.std.specs.Prelude.{◌≡◌, ◌↔◌, ◌++◌, ◌∷◌, ◌≤◌, [], ℕ, List, Ok, IfOk, MatchResult, OnOk, OnErr};
 ghost use Rattle.ira_event.specs.Result.{UnlessErr};
 ghost use Rattle.ira_node.specs.declared.step_fault.StepFault.{StepFault};
 ghost use Rattle.ira_order.specs.declared.match_fault.MatchFault.{MatchFault};
@@ -26,14 +25,14 @@ use crate::replayed_log::ReplayedLog;
 use crate::ring_logs::{judge_logs, judge_logs_on_threads};
 use ira_event::{LogFault, OutOfMemory, read_log};
 use ira_links::Gate;
-use std::alloc::{AllocError, Allocator};
+use std::alloc::Allocator;
 use std::marker::Model;
 use std::sync::Wait;
-use std::thread::{self, Threads};
+use std::thread::Threads;
 use std::time::Clock;
 
-/// Judges the texts of a ring's logs, which it takes one by one or several at a time, in the order of
-/// the ring's places. Of a text it keeps the log alone, so that the texts needn't all be in memory at
+/// Judges the texts of a ring's logs, which it takes one by one, or from an audit that has taken those that come next,
+/// in the order of the ring's places. Of a text it keeps the log alone, so that the texts needn't all be in memory at
 /// once.
 #[derive(Drop)]
 pub struct RingAudit<A: Allocator> {
@@ -61,28 +60,6 @@ fn read_text<A: Allocator + Clone>(alloc: &A, text: &[u8]) -> Result<ReplayedLog
     }
 }
 
-/// The logs of the texts or their faults, read side by side.
-fn read_texts<R, A>(
-    rt: &R,
-    alloc: &A,
-    texts: &[&[u8]],
-) -> Result<Vec<Result<ReplayedLog<A>, LogFault>, A>, AllocError>
-where
-    R: Threads + Sync,
-    A: Allocator + Clone + Send + Sync,
-    ensures { IfOk result (λ readings. AllZip IsReading (map (λ text. text.now) texts.now) readings.items) }
-{
-    thread::map_indices(
-        rt,
-        alloc.clone()?,
-        texts.len(),
-        &|i| -> Result<ReplayedLog<A>, LogFault>
-            requires { i < length texts.now }
-            ensures { IfSome (slice_get texts.entry.now i) (λ text. IsReading text.now result) }
-        { read_text(alloc, texts[i]) },
-    )
-}
-
 impl<A: Allocator + Clone> RingAudit<A> {
     /// An audit that has taken no text.
     pub fn new(alloc: A) -> RingAudit<A>
@@ -103,60 +80,27 @@ impl<A: Allocator + Clone> RingAudit<A> {
         if self.fault.is_some() {
             return Ok(());
         }
-        let reading = read_text(self.logs.allocator(), text);
-        self.keep(reading)
-    }
-
-    /// Takes the texts that come next. They are read and replayed side by side, each by a thread of its own
-    /// where one can be started, and else by the caller's. Behind a text that is no log's none counts. Where memory
-    /// runs out the audit is as it was.
-    pub fn take_all<R>(&mut self, rt: &R, texts: &[&[u8]]) -> Result<(), OutOfMemory>
-    where
-        R: Threads + Sync,
-        A: Send + Sync,
-        ensures ok { OnOk result
-            ((before : List (List ℕ)) → HasTaken self.old before
-            → HasTaken self.new (before ++ map (λ text. text.now) texts.now)) }
-        ensures err { OnErr result (self.new ≡ self.old) }
-    {
-        if self.fault.is_some() {
-            return Ok(());
-        }
-        let mut next = RingAudit::of_texts(rt, self.logs.allocator(), texts)?;
-        self.logs.append(&mut next.logs)?;
-        self.fault = next.fault;
-        Ok(())
-    }
-
-    /// An audit that has taken these texts alone.
-    fn of_texts<R>(rt: &R, alloc: &A, texts: &[&[u8]]) -> Result<RingAudit<A>, OutOfMemory>
-    where
-        R: Threads + Sync,
-        A: Send + Sync,
-        ensures { IfOk result (λ audit. HasTaken audit (map (λ text. text.now) texts.now)) }
-    {
-        let mut audit = RingAudit::new(alloc.clone()?);
-        for reading in read_texts(rt, alloc, texts)? {
-            audit.keep(reading)?;
-        }
-        Ok(audit)
-    }
-
-    /// Keeps what was read of the text that comes next.
-    fn keep(&mut self, reading: Result<ReplayedLog<A>, LogFault>) -> Result<(), OutOfMemory>
-        ensures ok { OnOk result
-            ((texts : List (List ℕ)) (text : List ℕ) → IsReading text reading → HasTaken self.old texts
-            → HasTaken self.new (texts ++ text ∷ [])) }
-        ensures err { OnErr result (self.new ≡ self.old) }
-    {
-        if self.fault.is_some() {
-            return Ok(());
-        }
-        match reading {
+        match read_text(self.logs.allocator(), text) {
             Ok(log) => self.logs.push(log)?,
             Err(LogFault::OutOfMemory) => return Err(OutOfMemory),
             Err(fault) => self.fault = Some(fault),
         }
+        Ok(())
+    }
+
+    /// Takes the texts that another audit has taken, behind its own. Behind a text that is no log's none counts. Where
+    /// memory runs out the audit is as it was.
+    pub fn append(&mut self, mut next: RingAudit<A>) -> Result<(), OutOfMemory>
+        ensures ok { OnOk result
+            ((before texts : List (List ℕ)) → HasTaken self.old before → HasTaken next texts
+            → HasTaken self.new (before ++ texts)) }
+        ensures err { OnErr result (self.new ≡ self.old) }
+    {
+        if self.fault.is_some() {
+            return Ok(());
+        }
+        self.logs.append(&mut next.logs)?;
+        self.fault = next.fault;
         Ok(())
     }
 

@@ -4,3 +4,4 @@ pub mod LogFiles
 pub mod PartsAt
 pub mod Reading
 pub mod Reporting
+pub mod Shares

@@ -10,7 +10,7 @@ use Rattle.ira_words.specs.declared.decide_request.DecideRequest.{DecideRequest}
 use Rattle.ira_main.specs.CertFile.{KeepsCertificate}
 use Rattle.ira_main.specs.FilesRead.{ReadsFiles}
 use Rattle.ira_main.specs.Outcome.{Outcome}
-use Rattle.ira_main.specs.Shelf.{File, Reading, Writing}
+use Rattle.ira_main.specs.Shelf.{Reading, Writing}
 use Rattle.ira_main.specs.declared.program_fault.ProgramFault.TheVariants.{CannotWriteAnswer, OutOfMemory}
 use Rattle.ira_main.specs.declared.status.Status.TheVariants.{Yes, No}
 
@@ -32,19 +32,16 @@ pub data KeepsFindings {A S : Type 0} (writes : Writing S) (findings : Findings 
   no_memory : (file : Bor (List ℕ)) → ¬ (MakeNoCertificate findings) → name ≡ Some file → new ≡ old
       → outcome ≡ Err OutOfMemory → KeepsFindings writes findings name old new outcome
 
--- the files that are named were read, which leaves the shelf's files; the findings of the texts of the logs and of the
--- question were printed whole, and what comes of them on the shelf is the outcome; or the output stopped within them
+-- the files that are named were read; the findings of the texts of the logs and of the question were printed whole, and
+-- what comes of them on the shelf is the outcome; or the output stopped within them
 pub record Decides (A : Type 0) {S : Type 0} (reads : Reading S) (writes : Writing S)
-    (files : S → Option (List File)) (decide : DecideRequest) (shelf shelf' : S) (out out' : SinkState)
-    (outcome : Outcome) : Type 0 where
+    (decide : DecideRequest) (shelf shelf' : S) (out out' : SinkState) (outcome : Outcome) : Type 0 where
   pub question : List ℕ
   pub texts : List (List ℕ)
-  pub between : S
-  pub given : ReadsFiles reads (decide_names decide) shelf between (question ∷ texts)
-  pub untouched : files between ≡ files shelf
+  pub given : ReadsFiles reads (decide_names decide) shelf (question ∷ texts)
   pub findings : Findings A
   pub found : AreFindings texts question findings
   pub printed :
       (Takes (findings_text findings) out out'
-      × KeepsFindings writes findings decide.certificate between shelf' outcome)
-      ⊎ (StopsIn (findings_text findings) out out' × (shelf' ≡ between) × (outcome ≡ Err CannotWriteAnswer))
+      × KeepsFindings writes findings decide.certificate shelf shelf' outcome)
+      ⊎ (StopsIn (findings_text findings) out out' × (shelf' ≡ shelf) × (outcome ≡ Err CannotWriteAnswer))

@@ -1,5 +1,5 @@
 -- What the program does.
-use Rattle.std.specs.Prelude.{◌≡◌, ◌≢◌, ◌⊎◌, ℕ, ◌+◌, true, List, [], ◌∷◌, Option, Ok, Err, codes, map}
+use Rattle.std.specs.Prelude.{◌≡◌, ◌≢◌, ◌⊎◌, ℕ, ◌+◌, true, List, [], ◌∷◌, Ok, Err, codes, map}
 use Rattle.std.specs.Borrow.{Bor}
 use Rattle.ira_event.specs.declared.limits.TheConstants.{MAX_TEXT}
 use Rattle.ira_event.specs.RingSize.{IsRingSize}
@@ -28,7 +28,7 @@ use Rattle.ira_main.specs.LogFiles.{StopsInLogs, WritesLogs}
 use Rattle.ira_main.specs.Outcome.{GivesNoAnswer, Outcome, Prints}
 use Rattle.ira_main.specs.ProgramFault.{run_fault, words_fault}
 use Rattle.ira_main.specs.ReadText.{IsReadTo}
-use Rattle.ira_main.specs.Shelf.{File, Reading, Writing}
+use Rattle.ira_main.specs.Shelf.{Reading, Writing}
 use Rattle.ira_main.specs.Status.{IsElectionStatus, answer_status}
 use Rattle.ira_main.specs.declared.program_fault.ProgramFault.{ProgramFault}
 use Rattle.ira_main.specs.declared.program_fault.ProgramFault.TheVariants.{CannotRead, CannotWriteAnswer, OutOfMemory, RingSize}
@@ -49,10 +49,10 @@ pub data Judges (old new : Reads) (out out' : SinkState) (outcome : Outcome) : T
   no_memory : out' ≡ out → outcome ≡ Err OutOfMemory → Judges old new out out' outcome
 
 -- the files of these names were read, their texts were judged together, and their answer reported
-pub record JudgesTogether {S : Type 0} (reads : Reading S) (names : List (List ℕ)) (shelf shelf' : S)
+pub record JudgesTogether {S : Type 0} (reads : Reading S) (names : List (List ℕ)) (shelf : S)
     (out out' : SinkState) (outcome : Outcome) : Type 0 where
   pub texts : List (List ℕ)
-  pub given : ReadsFiles reads names shelf shelf' texts
+  pub given : ReadsFiles reads names shelf texts
   pub answer : Answer
   pub judged : IsLogsAnswer texts answer
   pub reported : Reports answer out out' outcome
@@ -63,12 +63,12 @@ check_names check = check.question.now ∷ check.certificate.now ∷ map (λ nam
 
 -- the files that are named were read, the texts of the logs were judged together with the text of the question and the
 -- text of the certificate, and their answer reported
-pub record JudgesCertified {S : Type 0} (reads : Reading S) (check : CheckRequest) (shelf shelf' : S)
+pub record JudgesCertified {S : Type 0} (reads : Reading S) (check : CheckRequest) (shelf : S)
     (out out' : SinkState) (outcome : Outcome) : Type 0 where
   pub question : List ℕ
   pub certificate : List ℕ
   pub texts : List (List ℕ)
-  pub given : ReadsFiles reads (check_names check) shelf shelf' (question ∷ certificate ∷ texts)
+  pub given : ReadsFiles reads (check_names check) shelf (question ∷ certificate ∷ texts)
   pub answer : Answer
   pub judged : IsAuditAnswer texts question certificate answer
   pub reported : Reports answer out out' outcome
@@ -113,41 +113,41 @@ pub data Records {S : Type 0} (writes : Writing S) (request : RunRequest) (shelf
 -- what is done for words: they are refused; or they ask for the logs in some files, and the texts of these are judged
 -- together; or to check the logs in some files, and their texts are judged with those of a question and of a
 -- certificate; or to decide a question of them, and it is decided of their texts; or for the question of all pairs, and
--- it is printed; or for a ring, and it is run. Or no answer is given, for a fault that the command can have. The files
--- are untouched but for those of a run and a certificate's
+-- it is printed; or for a ring, and it is run. Or no answer is given, for a fault that the command can have. The shelf
+-- is as it was but for the files of a run and a certificate's
 pub data Done (A : Type 0) {S : Type 0} (reads : Reading S) (writes : Writing S)
-    (files : S → Option (List File)) (words : List (List ℕ)) (shelf shelf' : S) (out out' : SinkState)
+    (words : List (List ℕ)) (shelf shelf' : S) (out out' : SinkState)
     (outcome : Outcome) : Type 0 where
-  refused : (fault : WordsFault) → MayBeRefused words fault → files shelf' ≡ files shelf → out' ≡ out
+  refused : (fault : WordsFault) → MayBeRefused words fault → shelf' ≡ shelf → out' ≡ out
       → outcome ≡ Err (words_fault fault)
-      → Done A reads writes files words shelf shelf' out out' outcome
-  judged : (names : List (List ℕ)) → AskForLogs words names → files shelf' ≡ files shelf
-      → JudgesTogether reads names shelf shelf' out out' outcome
-      ⊎ GivesNoAnswer (IsFilesFault reads names shelf shelf') out out' outcome
-      → Done A reads writes files words shelf shelf' out out' outcome
-  certified : (check : CheckRequest) → AskForCheck words check → files shelf' ≡ files shelf
-      → JudgesCertified reads check shelf shelf' out out' outcome
-      ⊎ GivesNoAnswer (IsFilesFault reads (check_names check) shelf shelf') out out' outcome
-      → Done A reads writes files words shelf shelf' out out' outcome
+      → Done A reads writes words shelf shelf' out out' outcome
+  judged : (names : List (List ℕ)) → AskForLogs words names → shelf' ≡ shelf
+      → JudgesTogether reads names shelf out out' outcome
+      ⊎ GivesNoAnswer (IsFilesFault reads names shelf) out out' outcome
+      → Done A reads writes words shelf shelf' out out' outcome
+  certified : (check : CheckRequest) → AskForCheck words check → shelf' ≡ shelf
+      → JudgesCertified reads check shelf out out' outcome
+      ⊎ GivesNoAnswer (IsFilesFault reads (check_names check) shelf) out out' outcome
+      → Done A reads writes words shelf shelf' out out' outcome
   decided : (decide : DecideRequest) → AskForDecide words decide
-      → Decides A reads writes files decide shelf shelf' out out' outcome
-      → Done A reads writes files words shelf shelf' out out' outcome
-  undecided : (decide : DecideRequest) → AskForDecide words decide → files shelf' ≡ files shelf
-      → GivesNoAnswer (IsFilesFault reads (decide_names decide) shelf shelf') out out' outcome
-      → Done A reads writes files words shelf shelf' out out' outcome
-  pairs : (nodes : ℕ) → AskForPairs words nodes → files shelf' ≡ files shelf
+      → Decides A reads writes decide shelf shelf' out out' outcome
+      → Done A reads writes words shelf shelf' out out' outcome
+  undecided : (decide : DecideRequest) → AskForDecide words decide → shelf' ≡ shelf
+      → GivesNoAnswer (IsFilesFault reads (decide_names decide) shelf) out out' outcome
+      → Done A reads writes words shelf shelf' out out' outcome
+  pairs : (nodes : ℕ) → AskForPairs words nodes → shelf' ≡ shelf
       → AsksPairs nodes out out' outcome ⊎ GivesNoAnswer (IsPairsFault nodes) out out' outcome
-      → Done A reads writes files words shelf shelf' out out' outcome
+      → Done A reads writes words shelf shelf' out out' outcome
   recorded : (request : RunRequest) → AskForRun words request
       → Records writes request shelf shelf' out out' outcome
-      → Done A reads writes files words shelf shelf' out out' outcome
+      → Done A reads writes words shelf shelf' out out' outcome
 
--- without words the input is judged, and the files are untouched; with words the input isn't read, and what they ask
+-- without words the input is judged, and the shelf is as it was; with words the input isn't read, and what they ask
 -- for is done
 pub data Serves (A : Type 0) {S : Type 0} (reads : Reading S) (writes : Writing S)
-    (files : S → Option (List File)) (words : List (List ℕ)) (input input' : Reads) (shelf shelf' : S)
+    (words : List (List ℕ)) (input input' : Reads) (shelf shelf' : S)
     (out out' : SinkState) (outcome : Outcome) : Type 0 where
-  without_words : words ≡ [] → files shelf' ≡ files shelf → Judges input input' out out' outcome
-      → Serves A reads writes files words input input' shelf shelf' out out' outcome
-  with_words : words ≢ [] → input' ≡ input → Done A reads writes files words shelf shelf' out out' outcome
-      → Serves A reads writes files words input input' shelf shelf' out out' outcome
+  without_words : words ≡ [] → shelf' ≡ shelf → Judges input input' out out' outcome
+      → Serves A reads writes words input input' shelf shelf' out out' outcome
+  with_words : words ≢ [] → input' ≡ input → Done A reads writes words shelf shelf' out out' outcome
+      → Serves A reads writes words input input' shelf shelf' out out' outcome

@@ -9,9 +9,9 @@ pub record File : Type 0 where
   pub name : List ℕ
   pub bytes : List ℕ
 
--- what to read the file of a name does to a shelf, and what comes of it: its text, or a fault
+-- what comes of reading the file of a name on a shelf: its text, or a fault
 abbrev pub Reading : Type 0 → Type 1
-Reading S = S → List ℕ → Result (List ℕ) ShelfFault → S → Type 0
+Reading S = S → List ℕ → Result (List ℕ) ShelfFault → Type 0
 
 -- what to write a text to a new file of a name does to a shelf, and what comes of it
 abbrev pub Writing : Type 0 → Type 1

@@ -45,12 +45,12 @@ pub(crate) fn decide_files<'a, R, A, F, W>(
 where
     R: Threads + Sync,
     A: Allocator + Clone + Send + Sync,
-    F: Shelf,
+    F: Shelf + Sync,
     W: Sink,
-    ensures { Decides A F.reads (WritesFile F.creates F.closes F.Out.state) F.files decide.now
+    ensures { Decides A F.reads (WritesFile F.creates F.closes F.Out.state) decide.now
         shelf.old shelf.new (W.state out.old) (W.state out.new) result
-        ⊎ ((F.files shelf.new ≡ F.files shelf.old)
-        × GivesNoAnswer (IsFilesFault F.reads (decide_names decide.now) shelf.old shelf.new)
+        ⊎ ((shelf.new ≡ shelf.old)
+        × GivesNoAnswer (IsFilesFault F.reads (decide_names decide.now) shelf.old)
         (W.state out.old) (W.state out.new) result) }
 {
     let question = read_file(&alloc, decide.question, shelf)?;

@@ -2,6 +2,7 @@ use crate::counted::Counted;
 use crate::shelf::Shelf;
 use crate::shelf_fault::ShelfFault;
 use crate::text_buffer::TextBuffer;
+use crate::text_source::TextSource;
 use ira_event::ToWriter;
 use std::alloc::Allocator;
 use std::fs::{self, Files};
@@ -21,6 +22,17 @@ impl<'a, R: Files, A: Allocator> FileShelf<'a, R, A> {
     }
 }
 
+impl<R: Files, A: Allocator> TextSource for FileShelf<'_, R, A> {
+    ghost use Rattle.std.specs.Prelude.{⊤};
+
+    ghost reads = { λ _ _ _. ⊤ };
+
+    fn read<B: Allocator>(&self, name: &str, text: &mut TextBuffer<B>) -> Result<(), ShelfFault> {
+        let file = fs::open(self.rt, name)?;
+        text.fill(&mut Counted::new(file))
+    }
+}
+
 impl<R: Files, A: Allocator + Clone> Shelf for FileShelf<'_, R, A> {
     type Out = ToWriter<BufWriter<R::File, A>>;
 
@@ -28,20 +40,9 @@ impl<R: Files, A: Allocator + Clone> Shelf for FileShelf<'_, R, A> {
 
     ghost files = { λ _. None };
 
-    ghost reads = { λ _ _ _ _. ⊤ };
-
     ghost creates = { λ _ _ _ _. ⊤ };
 
     ghost closes = { λ _ _ _ _. ⊤ };
-
-    fn read<B: Allocator>(
-        &mut self,
-        name: &str,
-        text: &mut TextBuffer<B>,
-    ) -> Result<(), ShelfFault> {
-        let file = fs::open(self.rt, name)?;
-        text.fill(&mut Counted::new(file))
-    }
 
     fn create(&mut self, name: &str) -> Result<Self::Out, ShelfFault> {
         let alloc = self.alloc.clone()?;

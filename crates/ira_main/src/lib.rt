@@ -18,6 +18,7 @@ mod shelf_fault;
 mod status;
 mod system;
 mod text_buffer;
+mod text_source;
 
 pub use cert_file::keep_cert;
 pub use counted::Counted;
@@ -27,3 +28,4 @@ pub use shelf::Shelf;
 pub use shelf_fault::ShelfFault;
 pub use system::start;
 pub use text_buffer::TextBuffer;
+pub use text_source::TextSource;

@@ -57,19 +57,18 @@ fn judge_files<'a, R, A, F, W>(
     rt: &R,
     alloc: A,
     names: &[&'a str],
-    shelf: &mut F,
+    shelf: &F,
     out: &mut W,
 ) -> Result<Status, ProgramFault<'a>>
 where
     R: Threads + Sync,
     A: Allocator + Clone + Send + Sync,
-    F: Shelf,
+    F: Shelf + Sync,
     W: Sink,
-    ensures judged { JudgesTogether F.reads (map (λ name. name.now) names.now) shelf.old shelf.new
+    ensures { JudgesTogether F.reads (map (λ name. name.now) names.now) shelf.now
         (W.state out.old) (W.state out.new) result
-        ⊎ GivesNoAnswer (IsFilesFault F.reads (map (λ name. name.now) names.now) shelf.old shelf.new)
+        ⊎ GivesNoAnswer (IsFilesFault F.reads (map (λ name. name.now) names.now) shelf.now)
         (W.state out.old) (W.state out.new) result }
-    ensures files { F.files shelf.new ≡ F.files shelf.old }
 {
     let audit = read_logs(rt, alloc, names, shelf)?;
     let answer = audit.finish(rt)?;
@@ -82,20 +81,19 @@ fn check_files<'a, R, A, F, W>(
     rt: &R,
     alloc: A,
     check: &CheckRequest<'a>,
-    shelf: &mut F,
+    shelf: &F,
     out: &mut W,
 ) -> Result<Status, ProgramFault<'a>>
 where
     R: Threads + Wait + Clock + Sync,
     A: Allocator + Clone + Send + Sync,
-    F: Shelf,
+    F: Shelf + Sync,
     W: Sink,
     requires depth { check.now.depth ≤ 4 }
-    ensures judged { JudgesCertified F.reads check.now shelf.old shelf.new
+    ensures { JudgesCertified F.reads check.now shelf.now
         (W.state out.old) (W.state out.new) result
-        ⊎ GivesNoAnswer (IsFilesFault F.reads (check_names check.now) shelf.old shelf.new)
+        ⊎ GivesNoAnswer (IsFilesFault F.reads (check_names check.now) shelf.now)
         (W.state out.old) (W.state out.new) result }
-    ensures files { F.files shelf.new ≡ F.files shelf.old }
 {
     let question = read_file(&alloc, check.question, shelf)?;
     let certificate = read_file(&alloc, check.certificate, shelf)?;
@@ -118,9 +116,9 @@ where
     R: AllocGlobal + Threads + Wait + Clock + Sync,
     A: Allocator + Clone + Send + Sync,
     I: Read,
-    F: Shelf,
+    F: Shelf + Sync,
     W: Sink,
-    ensures executed { Serves A F.reads (WritesFile F.creates F.closes F.Out.state) F.files
+    ensures executed { Serves A F.reads (WritesFile F.creates F.closes F.Out.state)
         (map (λ word. word.now) words.now) input.old input.new shelf.old shelf.new
         (W.state out.old) (W.state out.new) result }
     ensures reads { input.new.reads ≤ input.old.reads + (MAX_TEXT + 1) }
@@ -145,9 +143,8 @@ where
 /// files together; `check` judges them with the question and the certificate in the files of its options; `decide`
 /// decides the question of them, and writes a certificate to a file if one is named and all cases are absent;
 /// `pairs` and a number prints the question of all pairs of nodes; `run` and its options runs a ring and writes the
-/// logs of its nodes to files; and all other words are refused. `logs`, `check` and `decide` read some texts of logs
-/// at a time on threads, `check` judges a section on some, and a run without `--alone` has a thread for each node;
-/// all of them are waited for.
+/// logs of its nodes to files; and all other words are refused. `logs`, `check` and `decide` read the logs on threads,
+/// `check` judges a section on some, and a run without `--alone` has a thread for each node; all of them are waited for.
 pub fn serve<R, A, I, F, W, V>(
     rt: &R,
     alloc: A,
@@ -161,13 +158,13 @@ where
     R: AllocGlobal + Threads + Wait + Clock + Sync,
     A: Allocator + Clone + Send + Sync,
     I: Read,
-    F: Shelf,
+    F: Shelf + Sync,
     W: Sink,
     V: Sink,
     ensures status { result ≤ 3 }
     ensures reads { input.new.reads ≤ input.old.reads + (MAX_TEXT + 1) }
     ensures served { (outcome : Outcome)
-        × Serves A F.reads (WritesFile F.creates F.closes F.Out.state) F.files
+        × Serves A F.reads (WritesFile F.creates F.closes F.Out.state)
         (map (λ word. word.now) words.now) input.old input.new shelf.old shelf.new
         (W.state out.old) (W.state out.new) outcome
         × (result ≡ outcome_number outcome) × ReportsOutcome outcome (V.state err.old) (V.state err.new) }

@@ -1,28 +1,22 @@
-ghost use Rattle.std.specs.Prelude.{◌≡◌, ◌≤◌, ◌++◌, ℕ, List, Ok, [], ◌∷◌, IfErr, IfOk, OnOk, length, map, take};
-ghost use Rattle.ira_audit.specs.RingAudit.{HasTaken};
-ghost use Rattle.ira_main.specs.FilesRead.{IsFilesFault, ReadsFiles};
+ghost use Rattle.std.specs.Prelude.{◌≡◌, ◌<◌, [], ◌∷◌, Ok, IfErr, IfOk, map};
+ghost use Rattle.ira_main.specs.FilesRead.{IsFilesAudit, IsFilesFault};
 
 use crate::program_fault::ProgramFault;
-use crate::shelf::Shelf;
 use crate::text_buffer::TextBuffer;
+use crate::text_source::TextSource;
 use ira_audit::RingAudit;
-use ira_event::OutOfMemory;
-use std::alloc::{AllocError, Allocator};
-use std::mem;
+use std::alloc::Allocator;
+use std::num::NonZeroUsize;
 use std::thread::{self, Threads};
 
-/// How many texts of logs are taken side by side. Meanwhile as many are read by one thread more.
-const TEXTS_AT_ONCE: usize = 3;
-
 /// Reads the text of the file of this name.
-fn read_into<'a, A: Allocator, F: Shelf>(
+fn read_into<'a, A: Allocator, F: TextSource>(
     name: &'a str,
     text: &mut TextBuffer<A>,
-    shelf: &mut F,
+    shelf: &F,
 ) -> Result<(), ProgramFault<'a>>
-    ensures read { IfOk result (λ _. F.reads shelf.old name.now (Ok text.new) shelf.new) }
-    ensures fault { IfErr result (IsFilesFault F.reads (name.now ∷ []) shelf.old shelf.new) }
-    ensures files { F.files shelf.new ≡ F.files shelf.old }
+    ensures read { IfOk result (λ _. F.reads shelf.now name.now (Ok text.new)) }
+    ensures fault { IfErr result (IsFilesFault F.reads (name.now ∷ []) shelf.now) }
 {
     match shelf.read(name, text) {
         Ok(()) => Ok(()),
@@ -31,143 +25,69 @@ fn read_into<'a, A: Allocator, F: Shelf>(
 }
 
 /// The text of the file of this name.
-pub(crate) fn read_file<'a, A: Allocator + Clone, F: Shelf>(
+pub(crate) fn read_file<'a, A: Allocator + Clone, F: TextSource>(
     alloc: &A,
     name: &'a str,
-    shelf: &mut F,
+    shelf: &F,
 ) -> Result<TextBuffer<A>, ProgramFault<'a>>
-    ensures read { IfOk result (λ text. F.reads shelf.old name.now (Ok text) shelf.new) }
-    ensures fault { IfErr result (IsFilesFault F.reads (name.now ∷ []) shelf.old shelf.new) }
-    ensures files { F.files shelf.new ≡ F.files shelf.old }
+    ensures read { IfOk result (λ text. F.reads shelf.now name.now (Ok text)) }
+    ensures fault { IfErr result (IsFilesFault F.reads (name.now ∷ []) shelf.now) }
 {
     let mut text = TextBuffer::new(alloc.clone()?);
     read_into(name, &mut text, shelf)?;
     Ok(text)
 }
 
-/// Reads the texts of the files of these names, in turn, into the first of the buffers.
-fn read_texts<'a, A: Allocator, F: Shelf>(
+/// The logs in the files of these names, which are read in turn.
+fn read_share<'a, A: Allocator + Clone, F: TextSource>(
+    alloc: &A,
     names: &[&'a str],
-    texts: &mut [TextBuffer<A>],
-    shelf: &mut F,
-) -> Result<(), ProgramFault<'a>>
-    requires { length names.now ≤ length texts.old }
-    ensures read { IfOk result (λ _. ReadsFiles F.reads (map (λ name. name.now) names.now)
-        shelf.old shelf.new (take (length names.now) texts.new)) }
-    ensures fault { IfErr result
-        (IsFilesFault F.reads (map (λ name. name.now) names.now) shelf.old shelf.new) }
-    ensures files { F.files shelf.new ≡ F.files shelf.old }
-    ensures size { length texts.new ≡ length texts.old }
+    shelf: &F,
+) -> Result<RingAudit<A>, ProgramFault<'a>>
+    ensures { IsFilesAudit F.reads (map (λ name. name.now) names.now) shelf.now result }
 {
-    for place in 0..names.len() {
-        read_into(names[place], &mut texts[place], shelf)?;
+    let mut audit = RingAudit::new(alloc.clone()?);
+    let mut text = TextBuffer::new(alloc.clone()?);
+    for name in names {
+        read_into(name, &mut text, shelf)?;
+        audit.take(text.bytes())?;
     }
-    Ok(())
+    Ok(audit)
 }
 
-/// Buffers for the texts that are read side by side, which take no memory of their own yet.
-fn text_buffers<A: Allocator + Clone>(alloc: &A) -> Result<Vec<TextBuffer<A>, A>, AllocError>
-    ensures { IfOk result (λ texts. length texts.items ≡ TEXTS_AT_ONCE) }
+/// How many threads the machine runs at a time, or 1 where that isn't known.
+fn thread_count(rt: &impl Threads) -> usize
+    ensures { 0 < result }
 {
-    let mut texts = Vec::with_capacity(alloc.clone()?, TEXTS_AT_ONCE)?;
-    for _ in 0..TEXTS_AT_ONCE {
-        texts.push(TextBuffer::new(alloc.clone()?))?;
-    }
-    Ok(texts)
+    thread::available_parallelism(rt).map_or(1, NonZeroUsize::get)
 }
 
-/// The bytes of these texts.
-fn bytes_of<A: Allocator, B: Allocator>(
-    alloc: B,
-    texts: &[TextBuffer<A>],
-) -> Result<Vec<&[u8], B>, AllocError>
-    ensures { IfOk result (λ all. map (λ bytes. bytes.now) all.items ≡ texts.now) }
-{
-    let mut all = Vec::with_capacity(alloc, texts.len())?;
-    for text in texts {
-        all.push(text.bytes())?;
-    }
-    Ok(all)
-}
-
-/// Takes these texts, and meanwhile reads those of the files of these names into the first of the buffers. Where both
-/// fail, the fault is that of the taking.
-fn take_and_read<'a, R, A, F>(
-    rt: &R,
-    audit: &mut RingAudit<A>,
-    texts: &[&[u8]],
-    names: &[&'a str],
-    next: &mut [TextBuffer<A>],
-    shelf: &mut F,
-) -> Result<(), ProgramFault<'a>>
-where
-    R: Threads + Sync,
-    A: Allocator + Clone + Send + Sync,
-    F: Shelf,
-    requires { length names.now ≤ length next.old }
-    ensures taken { OnOk result ((before : List (List ℕ)) → HasTaken audit.old before
-        → HasTaken audit.new (before ++ map (λ text. text.now) texts.now)) }
-    ensures read { IfOk result (λ _. ReadsFiles F.reads (map (λ name. name.now) names.now)
-        shelf.old shelf.new (take (length names.now) next.new)) }
-    ensures fault { IfErr result
-        (IsFilesFault F.reads (map (λ name. name.now) names.now) shelf.old shelf.new) }
-    ensures files { F.files shelf.new ≡ F.files shelf.old }
-    ensures size { length next.new ≡ length next.old }
-{
-    let (taken, read) = thread::join_mut(
-        rt,
-        &mut || -> Result<(), OutOfMemory>
-            ensures { OnOk result ((before : List (List ℕ)) → HasTaken audit.entry.now before
-                → HasTaken audit.exit.now (before ++ map (λ text. text.now) texts.entry.now)) }
-        { audit.take_all(rt, texts) },
-        &mut || -> Result<(), ProgramFault>
-            requires { length names.now ≤ length next.now }
-            ensures read { IfOk result (λ _. ReadsFiles F.reads (map (λ name. name.now) names.entry.now)
-                shelf.entry.now shelf.exit.now (take (length names.entry.now) next.exit.now)) }
-            ensures fault { IfErr result
-                (IsFilesFault F.reads (map (λ name. name.now) names.entry.now) shelf.entry.now shelf.exit.now) }
-            ensures files { F.files shelf.exit.now ≡ F.files shelf.entry.now }
-            ensures size { length next.exit.now ≡ length next.entry.now }
-        { read_texts(names, next, shelf) },
-    );
-    taken?;
-    read
-}
-
-/// The logs in the files of these names. While the texts of a few files are taken, those of the next few are read.
+/// The logs in the files of these names. Threads that run at a time have a share of the names each.
 pub(crate) fn read_logs<'a, R, A, F>(
     rt: &R,
     alloc: A,
     names: &[&'a str],
-    shelf: &mut F,
+    shelf: &F,
 ) -> Result<RingAudit<A>, ProgramFault<'a>>
 where
     R: Threads + Sync,
     A: Allocator + Clone + Send + Sync,
-    F: Shelf,
-    ensures taken { IfOk result (λ audit. (texts : List (List ℕ)) × HasTaken audit texts
-        × ReadsFiles F.reads (map (λ name. name.now) names.now) shelf.old shelf.new texts) }
-    ensures fault { IfErr result
-        (IsFilesFault F.reads (map (λ name. name.now) names.now) shelf.old shelf.new) }
-    ensures files { F.files shelf.new ≡ F.files shelf.old }
+    F: TextSource + Sync,
+    ensures { IsFilesAudit F.reads (map (λ name. name.now) names.now) shelf.now result }
 {
+    let size = names.len().div_ceil(thread_count(rt)).max(1);
+    let shares = thread::map_chunks(
+        rt,
+        alloc.clone()?,
+        names,
+        size,
+        &|_, some: &[&str]| -> Result<RingAudit<A>, ProgramFault>
+            ensures { IsFilesAudit F.reads (map (λ name. name.now) some.now) shelf.entry.now result }
+        { read_share(&alloc, some, shelf) },
+    )?;
     let mut audit = RingAudit::new(alloc.clone()?);
-    let mut texts = text_buffers(&alloc)?;
-    let mut next = text_buffers(&alloc)?;
-    // How many texts were read and aren't taken yet.
-    let mut ready = 0;
-    for some in names.chunks(TEXTS_AT_ONCE) {
-        take_and_read(
-            rt,
-            &mut audit,
-            &bytes_of(&alloc, &texts[..ready])?,
-            some,
-            &mut next,
-            shelf,
-        )?;
-        mem::swap(&mut texts, &mut next);
-        ready = some.len();
+    for share in shares {
+        audit.append(share?)?;
     }
-    audit.take_all(rt, &bytes_of(&alloc, &texts[..ready])?)?;
     Ok(audit)
 }

@@ -1,36 +1,24 @@
-ghost use Rattle.std.specs.Prelude.{◌≡◌, ◌≤◌, ◌+◌, ℕ, List, [], Option, Some, Result, Ok, Err, length, IfOk, IfSome, MatchResult};
+ghost use Rattle.std.specs.Prelude.{◌≡◌, ℕ, List, [], Option, Some, Result, IfOk, IfSome};
 ghost use Rattle.ira_main.specs.Shelf.{File};
 ghost use Rattle.ira_main.specs.declared.shelf_fault.ShelfFault.{ShelfFault};
 
 use crate::shelf_fault::ShelfFault;
-use crate::text_buffer::TextBuffer;
-use ira_event::{MAX_TEXT, Sink};
-use std::alloc::Allocator;
+use crate::text_source::TextSource;
+use ira_event::Sink;
 
 /// Where the program's files lie: each is read whole, or made anew.
-pub trait Shelf {
+pub trait Shelf: TextSource {
     /// A file that is being written.
     type Out: Sink + Drop;
 
     // the files that lie on it, where it tells them
     ghost files: { Self → Option (List File) };
 
-    // what `read` does to the shelf, and the bytes or the fault that come of it
-    ghost reads: { Self → List ℕ → Result (List ℕ) ShelfFault → Self → Type 0 };
-
     // what `create` does to the shelf, and what comes of it
     ghost creates: { Self → List ℕ → Result Self.Out ShelfFault → Self → Type 0 };
 
     // what `close` does to the shelf, and what comes of it
     ghost closes: { Self → Self.Out → Result (Unit {0}) ShelfFault → Self → Type 0 };
-
-    /// Reads the bytes of a file, to its end or to one more than `MAX_TEXT`, whichever comes first. They are the
-    /// text then.
-    fn read<A: Allocator>(&mut self, name: &str, text: &mut TextBuffer<A>) -> Result<(), ShelfFault>
-        ensures size { IfOk result (λ _. length text.new ≤ MAX_TEXT + 1) }
-        ensures read { MatchResult result (λ _. reads self.old name.now (Ok text.new) self.new)
-            (λ fault. reads self.old name.now (Err fault) self.new) }
-        ensures files { files self.new ≡ files self.old };
 
     /// A new file of this name, empty; one of the same name is emptied. Where the shelf tells its files, the new one has
     /// taken nothing yet.

@@ -35,6 +35,8 @@ fn serve_system<R, I, W, V>(
 ) -> Result<u8, ProgramFault<'static>>
 where
     R: AllocGlobal + Env + Files + Threads + Wait + Clock + Sync,
+    R::File: Send + Sync,
+    R::Dir: Send + Sync,
     I: Read + Drop,
     W: Write + Drop,
     V: Sink,
@@ -58,6 +60,8 @@ where
 pub fn start<R, I, W, V>(rt: &R, input: I, out: W, err: V) -> ExitCode
 where
     R: AllocGlobal + Env + Files + Threads + Wait + Clock + Sync,
+    R::File: Send + Sync,
+    R::Dir: Send + Sync,
     I: Read + Drop,
     W: Write + Drop,
     V: Write + Drop,

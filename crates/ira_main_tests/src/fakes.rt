@@ -1,7 +1,7 @@
 //! Files, readers and sinks in memory, some of them broken, and the program run over them.
 
 use ira_event::{MemorySink, Sink, SinkFault};
-use ira_main::{Counted, Shelf, ShelfFault, TextBuffer, serve};
+use ira_main::{Counted, Shelf, ShelfFault, TextBuffer, TextSource, serve};
 use std::alloc::{Allocator, Global};
 use std::io;
 use std::io::{ErrorKind, Read};
@@ -92,6 +92,22 @@ impl<'a> MemoryShelf<'a> {
     }
 }
 
+impl TextSource for MemoryShelf<'_> {
+    ghost use Rattle.std.specs.Prelude.{⊤};
+
+    ghost reads = { λ _ _ _. ⊤ };
+
+    fn read<A: Allocator>(&self, name: &str, text: &mut TextBuffer<A>) -> Result<(), ShelfFault> {
+        if let Some(file) = self.written.iter().find(|file| file.name.as_str() == name) {
+            return text.fill(&mut Counted::new(file.bytes.as_slice()));
+        }
+        match self.file(name) {
+            Some(File::Text(given)) => text.fill(&mut Counted::new(given.as_bytes())),
+            _ => Err(ShelfFault::Device),
+        }
+    }
+}
+
 impl Shelf for MemoryShelf<'_> {
     type Out = NewFile;
 
@@ -107,28 +123,12 @@ impl Shelf for MemoryShelf<'_> {
           | _ ↦ None
         ]) s.files.now) };
 
-    ghost reads = { λ old _ _ new. new ≡ old };
-
     ghost creates = { λ old name result new. (new ≡ old)
         × IfOk result (λ file. (string_bytes file.name ≡ name) × (file.bytes.items ≡ [])) };
 
     ghost closes = { λ old file result new. (new.files ≡ old.files)
         × MatchResult result (λ _. new.written.items ≡ old.written.items ++ file ∷ [])
         (λ _. new.written.items ≡ old.written.items) };
-
-    fn read<A: Allocator>(
-        &mut self,
-        name: &str,
-        text: &mut TextBuffer<A>,
-    ) -> Result<(), ShelfFault> {
-        if let Some(file) = self.written.iter().find(|file| file.name.as_str() == name) {
-            return text.fill(&mut Counted::new(file.bytes.as_slice()));
-        }
-        match self.file(name) {
-            Some(File::Text(given)) => text.fill(&mut Counted::new(given.as_bytes())),
-            _ => Err(ShelfFault::Device),
-        }
-    }
 
     fn create(&mut self, name: &str) -> Result<NewFile, ShelfFault> {
         let file = self.file(name);

@@ -1,7 +1,7 @@
 //! The files of the system.
 
 use ira_event::write_bytes;
-use ira_main::{FileShelf, Shelf, ShelfFault, TextBuffer};
+use ira_main::{FileShelf, Shelf, ShelfFault, TextBuffer, TextSource};
 use ira_refusing::{Outcome, Refusing, each_growth_refused};
 use std::alloc::Allocator;
 use std::fs;

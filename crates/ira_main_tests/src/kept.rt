@@ -3,7 +3,7 @@
 use crate::fakes::MemoryShelf;
 use ira_cert_text::{Certificate, Section};
 use ira_event::{MemorySink, RingSize};
-use ira_main::{Shelf, TextBuffer, keep_cert};
+use ira_main::{TextBuffer, TextSource, keep_cert};
 use std::alloc::Global;
 use std::process::Abort;
 use std::test::Fail;

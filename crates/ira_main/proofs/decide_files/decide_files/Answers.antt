@@ -7,21 +7,19 @@ use Rattle.ira_main.proofs.decide_files.decide_files.Goals as goal
 
 pub write_findings-requires : goal.write_findings-requires
 write_findings-requires g c =
-    let taken = c.in_ok-audit.ensures.taken in
+    let taken = c.in_ok-audit.ensures in
     c.in_ok-findings.ensures.reportable taken.0 taken.1
 
 pub returns-in-Ok-write_bytes : goal.returns-in-Ok-write_bytes
 returns-in-Ok-write_bytes g c =
-    let taken = c.in_ok-audit.ensures.taken in
+    let taken = c.in_ok-audit.ensures in
     let findings = c.in_ok-findings.findings in
     let found = c.in_ok-findings.ensures.found taken.0 taken.1 in
     let text_is : c.bytes-2.result.now ≡ findings_text findings = c.bytes-2.ensures ∙ c.in-Ok.ensures.took ∙ ap (λ (m : Memory). m.bytes ++ findings_text findings) c.new-text.ensures in
     inl (record {
       question = c.in_ok-question.question;
       texts = taken.0;
-      between = c.read_logs.new.shelf;
-      given = (_, c.in_ok-question.ensures.read, rw c.deref.ensures.value at taken.2);
-      untouched = c.read_logs.ensures.files ∙ c.read_file.ensures.files;
+      given = (c.in_ok-question.ensures.read, rw c.deref.ensures.value at taken.2);
       findings = findings;
       found = rw c.bytes.ensures at found;
       printed = inl (subst (λ t. Takes t (g.W.Sink.state c.args.out.now) (g.W.Sink.state c.write_bytes.new.sink)) text_is c.in-Ok-write_bytes.ensures, c.keep_findings.ensures);
@@ -29,16 +27,14 @@ returns-in-Ok-write_bytes g c =
 
 pub returns : goal.returns
 returns g c =
-    let taken = c.in_ok-audit.ensures.taken in
+    let taken = c.in_ok-audit.ensures in
     let findings = c.in_ok-findings.findings in
     let found = c.in_ok-findings.ensures.found taken.0 taken.1 in
     let text_is : c.bytes-2.result.now ≡ findings_text findings = c.bytes-2.ensures ∙ c.in-Ok.ensures.took ∙ ap (λ (m : Memory). m.bytes ++ findings_text findings) c.new-text.ensures in
     inl (record {
       question = c.in_ok-question.question;
       texts = taken.0;
-      between = c.read_logs.new.shelf;
-      given = (_, c.in_ok-question.ensures.read, rw c.deref.ensures.value at taken.2);
-      untouched = c.read_logs.ensures.files ∙ c.read_file.ensures.files;
+      given = (c.in_ok-question.ensures.read, rw c.deref.ensures.value at taken.2);
       findings = findings;
       found = rw c.bytes.ensures at found;
       printed = inr (subst (λ t. StopsIn t (g.W.Sink.state c.args.out.now) (g.W.Sink.state c.write_bytes.new.sink)) text_is c.in-Err.ensures, refl, refl);
@@ -48,18 +44,18 @@ pub returns-in_err-question : goal.returns-in_err-question
 returns-in_err-question g c =
     let decide = c.args.decide.now in
     let logs = map (λ name. name.now) decide.logs.items in
-    inr (c.read_file.ensures.files, (_, of_front g.F.Shelf.reads (decide.question.now ∷ []) logs _ _ _ c.in_err-question.ensures.fault, refl, search rules))
+    inr (refl, (_, of_front g.F.TextSource.reads (decide.question.now ∷ []) logs _ _ c.in_err-question.ensures.fault, refl, search rules))
 
 pub returns-in_err-audit : goal.returns-in_err-audit
 returns-in_err-audit g c =
     let decide = c.args.decide.now in
     let logs = map (λ name. name.now) decide.logs.items in
-    let fault = rw c.deref.ensures.value at c.in_err-audit.ensures.fault in
-    inr (c.read_logs.ensures.files ∙ c.read_file.ensures.files, (_, of_back g.F.Shelf.reads (decide.question.now ∷ []) logs _ _ _ (_ ∷ []) _ (_, c.in_ok-question.ensures.read, refl) fault, refl, search rules))
+    let fault = rw c.deref.ensures.value at c.in_err-audit.ensures in
+    inr (refl, (_, of_back g.F.TextSource.reads (decide.question.now ∷ []) logs _ (_ ∷ []) _ (c.in_ok-question.ensures.read, tt) fault, refl, search rules))
 
 pub returns-in_err-findings : goal.returns-in_err-findings
 returns-in_err-findings g c =
-    inr (c.read_logs.ensures.files ∙ c.read_file.ensures.files, (OutOfMemory, inr refl, refl, search rules))
+    inr (refl, (OutOfMemory, inr refl, refl, search rules))
 
 pub returns-in_default : goal.returns-in_default
-returns-in_default g c = inr (c.read_logs.ensures.files ∙ c.read_file.ensures.files, (OutOfMemory, inr refl, refl, refl))
+returns-in_default g c = inr (refl, (OutOfMemory, inr refl, refl, refl))

@@ -5,12 +5,12 @@ use Rattle.ira_main.proofs.program.check_files.Goals as goal
 
 pub report-requires : goal.report-requires
 report-requires g c =
-    let taken = c.in_ok-audit.ensures.taken in
+    let taken = c.in_ok-audit.ensures in
     c.in_ok-answer.ensures.reportable taken.0 taken.1
 
-pub returns-clause-judged : goal.returns-clause-judged
-returns-clause-judged g c =
-    let taken = c.in_ok-audit.ensures.taken in
+pub returns : goal.returns
+returns g c =
+    let taken = c.in_ok-audit.ensures in
     let answer = c.in_ok-answer.answer in
     let exact = unless_ok answer _ _ (c.in_ok-answer.ensures.answer taken.0 answer taken.1) in
     let is = exact.0 refl in
@@ -18,30 +18,30 @@ returns-clause-judged g c =
       question = c.in_ok-question.question;
       certificate = c.in_ok-certificate.certificate;
       texts = taken.0;
-      given = (_, c.in_ok-question.ensures.read, (_, c.in_ok-certificate.ensures.read, rw c.deref.ensures.value at taken.2));
+      given = (c.in_ok-question.ensures.read, (c.in_ok-certificate.ensures.read, rw c.deref.ensures.value at taken.2));
       answer = answer;
       judged = rw (c.bytes-question.ensures, c.bytes-certificate.ensures) at is;
       reported = c.report.ensures;
     })
 
-pub returns-in_err-question-clause-judged : goal.returns-in_err-question-clause-judged
-returns-in_err-question-clause-judged g c =
+pub returns-in_err-question : goal.returns-in_err-question
+returns-in_err-question g c =
     let check = c.args.check.now in
     let others = check.certificate.now ∷ map (λ name. name.now) check.logs.items in
-    inr (_, of_front g.F.Shelf.reads (check.question.now ∷ []) others _ _ _ c.in_err-question.ensures.fault, refl, search rules)
+    inr (_, of_front g.F.TextSource.reads (check.question.now ∷ []) others _ _ c.in_err-question.ensures.fault, refl, search rules)
 
-pub returns-in_err-certificate-clause-judged : goal.returns-in_err-certificate-clause-judged
-returns-in_err-certificate-clause-judged g c =
+pub returns-in_err-certificate : goal.returns-in_err-certificate
+returns-in_err-certificate g c =
     let check = c.args.check.now in
-    let reads = g.F.Shelf.reads in
+    let reads = g.F.TextSource.reads in
     let logs = map (λ name. name.now) check.logs.items in
-    let others = of_front reads (check.certificate.now ∷ []) logs _ _ _ c.in_err-certificate.ensures.fault in
-    inr (_, of_back reads (check.question.now ∷ []) (check.certificate.now ∷ logs) _ _ _ (_ ∷ []) _ (_, c.in_ok-question.ensures.read, refl) others, refl, search rules)
+    let others = of_front reads (check.certificate.now ∷ []) logs _ _ c.in_err-certificate.ensures.fault in
+    inr (_, of_back reads (check.question.now ∷ []) (check.certificate.now ∷ logs) _ (_ ∷ []) _ (c.in_ok-question.ensures.read, tt) others, refl, search rules)
 
-pub returns-in_err-audit-clause-judged : goal.returns-in_err-audit-clause-judged
-returns-in_err-audit-clause-judged g c =
+pub returns-in_err-audit : goal.returns-in_err-audit
+returns-in_err-audit g c =
     let check = c.args.check.now in
-    let reads = g.F.Shelf.reads in
+    let reads = g.F.TextSource.reads in
     let logs = map (λ name. name.now) check.logs.items in
-    let fault = rw c.deref.ensures.value at c.in_err-audit.ensures.fault in
-    inr (_, of_back reads (check.question.now ∷ check.certificate.now ∷ []) logs _ _ _ (_ ∷ _ ∷ []) _ (_, c.in_ok-question.ensures.read, (_, c.in_ok-certificate.ensures.read, refl)) fault, refl, search rules)
+    let fault = rw c.deref.ensures.value at c.in_err-audit.ensures in
+    inr (_, of_back reads (check.question.now ∷ check.certificate.now ∷ []) logs _ (_ ∷ _ ∷ []) _ (c.in_ok-question.ensures.read, (c.in_ok-certificate.ensures.read, tt)) fault, refl, search rules)

@@ -26,7 +26,7 @@ pub returns-in-Logs-clause-executed : goal.returns-in-Logs-clause-executed
 returns-in-Logs-clause-executed g c =
     let made = subst (IsMadeOf (map (λ w. w.now) c.args.words.now)) c.in-Logs.is c.in_ok-read_words.ensures.made in
     let first = made.first in
-    with_words (λ none. cc) refl (judged _ made c.judge_files.ensures.files (rw c.deref.ensures.value at c.judge_files.ensures.judged))
+    with_words (λ none. cc) refl (judged _ made refl (rw c.deref.ensures.value at c.judge_files.ensures))
 
 pub check_files-requires-clause-depth : goal.check_files-requires-clause-depth
 check_files-requires-clause-depth g c = λ lifetimes outlive.
@@ -37,7 +37,7 @@ pub returns-in-Check-clause-executed : goal.returns-in-Check-clause-executed
 returns-in-Check-clause-executed g c =
     let made = subst (IsMadeOf (map (λ w. w.now) c.args.words.now)) c.in-Check.is c.in_ok-read_words.ensures.made in
     let first = made.first in
-    with_words (λ none. cc) refl (certified _ made c.check_files.ensures.files c.check_files.ensures.judged)
+    with_words (λ none. cc) refl (certified _ made refl c.check_files.ensures)
 
 pub returns-in-Decide-clause-executed : goal.returns-in-Decide-clause-executed
 returns-in-Decide-clause-executed g c =

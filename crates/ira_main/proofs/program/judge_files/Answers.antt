@@ -4,15 +4,15 @@ use Rattle.ira_main.proofs.program.judge_files.Goals as goal
 
 pub report-requires : goal.report-requires
 report-requires g c =
-    let taken = c.in_ok-audit.ensures.taken in
+    let taken = c.in_ok-audit.ensures in
     c.in_ok-answer.ensures.reportable taken.0 taken.1
 
-pub returns-clause-judged : goal.returns-clause-judged
-returns-clause-judged g c =
-    let taken = c.in_ok-audit.ensures.taken in
+pub returns : goal.returns
+returns g c =
+    let taken = c.in_ok-audit.ensures in
     let answer = c.in_ok-answer.answer in
     let exact = unless_ok answer _ _ (c.in_ok-answer.ensures.answer taken.0 answer taken.1) in
     inl (record { texts = taken.0; given = taken.2; answer = answer; judged = exact.0 refl; reported = c.report.ensures })
 
-pub returns-in_err-audit-clause-judged : goal.returns-in_err-audit-clause-judged
-returns-in_err-audit-clause-judged g c = inr (_, c.in_err-audit.ensures.fault, refl, search rules)
+pub returns-in_err-audit : goal.returns-in_err-audit
+returns-in_err-audit g c = inr (_, c.in_err-audit.ensures, refl, search rules)

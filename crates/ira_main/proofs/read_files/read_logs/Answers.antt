@@ -1,77 +1,54 @@
-use Rattle.std.proofs.Common.{◌≡◌, ◌≤◌, ◌∙◌, ◌++◌, [], append-nil, append_assoc, ap, arith, drop, length, map, refl, rules, subst, sym, take}
-use Rattle.std.proofs.lemmas.List.{map-append, nil_from_length, take_at}
+use Rattle.std.proofs.Common.{◌≡◌, ◌+◌, ◌*◌, ◌/◌, ◌%◌, ◌<◌, ◌≤◌, ◌∷◌, ap, arith, drop, get_or, length, map, min, rules, subst, sym, take}
+use Rattle.std.proofs.lemmas.Grind.{div_ceil_times}
 use Rattle.std.proofs.lemmas.Result.{err_from_is_err_and}
-use Rattle.std.specs.Slice.Iter.{chunks_size}
-use Rattle.ira_audit.specs.RingAudit.{HasTaken}
-use Rattle.ira_main.proofs.FilesRead.{of_part, reads_both}
-use Rattle.ira_main.specs.FilesRead.{ReadsFiles}
+use Rattle.std.specs.Vec.Iter.{into_iter_items}
+use Rattle.ira_main.proofs.Shares.{chunk_shares, gathered, gathering_fault, gathering_next, gathering_none}
+use Rattle.ira_main.specs.FilesRead.{IsFilesAudit}
 use Rattle.ira_main.proofs.read_files.read_logs.Goals as goal
 
-pub loop-some-init : goal.loop-some-init
-loop-some-init g c =
-    let same = c.into_iter-some-iterator.ensures.into_iter_gives in
+pub loop-share-init : goal.loop-share-init
+loop-share-init g c =
+    let reads = g.F.TextSource.reads in
+    let names = c.args.names.now in
+    let shelf = c.args.shelf.now in
+    let size = c.max-size.result in
+    let shares = c.in_ok-shares.shares.items in
+    let rest : into_iter_items c.into_iter-share-iterator.result ≡ shares = c.into_iter-share-iterator.ensures.into_iter_gives.0 in
+    let some : 0 < size = omega arith in
+    let many : length shares ≡ length names / size + min 1 (length names % size) = search rules in
+    let few = subst (λ n. length names ≤ n * size) (sym many) (div_ceil_times (length names) size some).0 in
+    let are = chunk_shares reads size names shelf shares few (λ n d lt.
+    let given = (c.in_ok-shares.ensures.each n d lt).1 in
+    subst (λ some. IsFilesAudit reads (map (λ name. name.now) some) shelf (get_or shares n d)) given.argument_is.value given.call) in
     record {
-      may_go_on = omega (arith, ap chunks_size same, c.chunks-some-items.ensures.size);
-      size = ap chunks_size same ∙ c.chunks-some-items.ensures.size;
-      buffers = c.in_ok-texts.ensures;
-      others = c.in_ok-next.ensures;
-      few = omega arith;
+      may_go_on = tt;
       ends = tt;
-      files = refl;
-      taken = ([], [], search rules, c.new-audit.ensures, refl);
+      left = search rules;
+      gathering = rw rest (gathering_none reads (map (λ name. name.now) names) shelf c.new-audit.result shares c.new-audit.ensures are);
     }
 
-pub loop-some-preserved : goal.loop-some-preserved
-loop-some-preserved g c =
-    let taken = c.loop-some.invariant.taken in
-    let before = taken.0 in
-    let some = c.in-Some.some.now in
+pub loop-share-preserved : goal.loop-share-preserved
+loop-share-preserved g c =
+    let names = map (λ name. name.now) c.args.names.now in
     let steps = c.in-Some.ensures.steps in
-    let reads = g.F.Shelf.reads in
-    let ready = take c.loop-some.ready c.loop-some.texts.items in
-    let texts = taken.1 ++ ready in
-    let lent : map (λ text. text.now) c.deref-in-loop-some.result.now ≡ ready = ap (map (λ text. text.now)) c.deref-in-loop-some.ensures.value ∙ c.in_ok-bytes_of.ensures ∙ ap (take c.loop-some.ready) c.deref.ensures.value in
-    let read = c.take_and_read.new.next in
-    let swapped = ap (λ v. v.items) c.swap.ensures.x_after ∙ take_at read (drop (length read) c.loop-some.next.items) c.loop-some.next.len (c.take_and_read.auto.next ∙ c.deref_mut.ensures.len) in
-    let next = take (length some) read in
-    let both = reads_both reads (map (λ name. name.now) before) (map (λ name. name.now) some) _ _ _ texts next taken.4 c.in_ok-take_and_read.ensures.read in
-    let few : length some ≤ 3 = omega (arith, steps.1.1, c.loop-some.invariant.size) in
+    let rest : into_iter_items c.loop-share.share-iterator ≡ c.in-Some.share ∷ into_iter_items c.next.new.self = steps.0 in
     record {
-      may_go_on = omega (arith, steps.0, c.loop-some.invariant.may_go_on);
-      size = steps.0 ∙ c.loop-some.invariant.size;
-      buffers = ap length swapped ∙ c.take_and_read.ensures.size ∙ ap length c.deref_mut.ensures.value ∙ c.loop-some.invariant.others;
-      others = ap (λ v. length v.items) c.swap.ensures.y_after ∙ c.loop-some.invariant.buffers;
-      few = few;
+      may_go_on = tt;
       ends = tt;
-      files = c.take_and_read.ensures.files ∙ c.loop-some.invariant.files;
-      taken = (
-        before ++ some,
-        texts,
-        append_assoc before some _ ∙ ap (λ ns. before ++ ns) (sym steps.1.0) ∙ taken.2,
-        subst (λ ts. HasTaken c.take_and_read.new.audit (taken.1 ++ ts)) lent (c.in_ok-take_and_read.ensures.taken taken.1 taken.3),
-        subst (λ ts. ReadsFiles reads (map (λ name. name.now) (before ++ some)) c.args.shelf.now c.take_and_read.new.shelf (texts ++ take (length some) ts)) (sym swapped)
-            (subst (λ ns. ReadsFiles reads ns c.args.shelf.now c.take_and_read.new.shelf (texts ++ next)) (sym (map-append (λ name. name.now) before some)) both),
-      );
+      left = omega (arith, ap length rest, steps.1);
+      gathering = gathering_next g.F.TextSource.reads names c.args.shelf.now c.loop-share.audit c.append.new.self c.in_ok-share.field-0 _ _ _ c.loop-share.invariant.gathering rest c.in_ok-share.was c.in_ok-append.ensures.ok;
     }
 
-pub returns-clause-taken : goal.returns-clause-taken
-returns-clause-taken g c =
-    let taken = c.loop-some.invariant.taken in
-    let done = nil_from_length _ c.in-None.ensures.steps.1.0 in
-    let all = sym (append-nil taken.0) ∙ ap (λ ns. taken.0 ++ ns) (sym done) ∙ taken.2 in
-    let ready = take c.loop-some.ready c.loop-some.texts.items in
-    let lent : map (λ text. text.now) c.deref-3.result.now ≡ ready = ap (map (λ text. text.now)) c.deref-3.ensures.value ∙ c.in_ok-bytes_of-2.ensures ∙ ap (take c.loop-some.ready) c.deref-2.ensures.value in (
-      taken.1 ++ ready,
-      subst (λ ts. HasTaken c.take_all.new.self (taken.1 ++ ts)) lent (c.in_ok-take_all.ensures.ok taken.1 taken.3),
-      subst (λ ns. ReadsFiles g.F.Shelf.reads (map (λ name. name.now) ns) c.args.shelf.now c.loop-some.shelf (taken.1 ++ ready)) all taken.4,
-    )
-
-pub returns-in_err-take_and_read-clause-fault : goal.returns-in_err-take_and_read-clause-fault
-returns-in_err-take_and_read-clause-fault g c =
-    let p = err_from_is_err_and c.from_residual-in_err-take_and_read.result c.from_residual-in_err-take_and_read.ensures.1 in
-    let taken = c.loop-some.invariant.taken in
-    let before = taken.0 in
-    let some = c.in-Some.some.now in
+pub returns-in_err-share : goal.returns-in_err-share
+returns-in_err-share g c =
+    let p = err_from_is_err_and c.from_residual-in_err-share.result c.from_residual-in_err-share.ensures.1 in
+    let names = map (λ name. name.now) c.args.names.now in
     let steps = c.in-Some.ensures.steps in
-    let all = ap (λ ns. before ++ ns) (sym steps.1.0) ∙ taken.2 in
-    rw (p.1, p.2) (of_part g.F.Shelf.reads before some _ c.args.names.now _ _ _ _ _ all taken.4 c.in_err-take_and_read.ensures.fault)
+    let rest : into_iter_items c.loop-share.share-iterator ≡ c.in-Some.share ∷ into_iter_items c.next.new.self = steps.0 in
+    rw (p.1, p.2) (gathering_fault g.F.TextSource.reads names c.args.shelf.now c.loop-share.audit _ _ _ _ c.loop-share.invariant.gathering rest c.in_err-share.was)
+
+pub returns : goal.returns
+returns g c =
+    let names = map (λ name. name.now) c.args.names.now in
+    let done = c.in-None.ensures.steps.0 in
+    gathered g.F.TextSource.reads names c.args.shelf.now _ _ c.loop-share.invariant.gathering (omega arith)
