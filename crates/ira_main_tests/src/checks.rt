@@ -1,13 +1,12 @@
 //! The command `check`: the logs of a ring in files, with a question and a certificate.
 
-use crate::fakes::{File, assert_served};
+use crate::fakes::{File, Input, assert_served};
 use crate::samples::{
     ELECTED_0, ELECTED_1, LEADER_AND_ACTIVE, LONE_0, LONE_1, LONE_2, NO_PAIR_OF_THREE,
     PAIRS_OF_THREE, TIED_0, TIED_1, TWO_STEPS,
 };
 use crate::words::{TRY_HELP, assert_refused};
 use ira_main::Counted;
-use std::io;
 use std::process::Abort;
 use std::sync::Wait;
 use std::thread::Threads;
@@ -35,7 +34,7 @@ fn assert_checked<'a>(
         ("1.log", File::Text(ELECTED_1)),
     ];
     let words = ["check", "--question=q", "--cert=c", "0.log", "1.log"];
-    let mut input = Counted::new(io::empty());
+    let mut input = Counted::new(Input::empty());
     assert_served(rt, &words, &files, &mut input, status, out, err);
     assert_eq!(rt; input.reads(), 0);
 }
@@ -138,7 +137,7 @@ fn pairs_of_three(rt: HostRuntime) {
             "1",
             "2",
         ];
-        let mut input = Counted::new(io::empty());
+        let mut input = Counted::new(Input::empty());
         assert_served(&rt, &words, &files, &mut input, 0, "yes\n", "");
     }
 }
@@ -180,7 +179,7 @@ fn eight_step_section(rt: HostRuntime) {
             ("--cert=unsound", 1, "no: case 0: step 1: not front\n"),
         ] {
             let words = ["check", "--question=q", certificate, depth, "0", "1"];
-            let mut input = Counted::new(io::empty());
+            let mut input = Counted::new(Input::empty());
             assert_served(&rt, &words, &files, &mut input, status, line, "");
         }
     }

@@ -1,6 +1,6 @@
 //! The commands `pairs` and `decide`: the question of all pairs, what is found, and the certificate of it.
 
-use crate::fakes::{File, MemoryShelf, assert_served, assert_served_on};
+use crate::fakes::{File, Input, MemoryShelf, assert_served, assert_served_on};
 use crate::full_device::assert_unanswered;
 use crate::samples::{
     ELECTED_0, ELECTED_1, LEADER_AND_ACTIVE, LONE_0, LONE_1, LONE_2, NO_PAIR_OF_THREE,
@@ -8,7 +8,6 @@ use crate::samples::{
 };
 use crate::words::{TRY_HELP, assert_refused};
 use ira_main::Counted;
-use std::io;
 use std::process::Abort;
 use std::sync::Wait;
 use std::thread::Threads;
@@ -34,7 +33,7 @@ fn assert_decided(
         ("c", certificate),
     ];
     let mut shelf = MemoryShelf::new(rt.alloc(), &files);
-    let mut input = Counted::new(io::empty());
+    let mut input = Counted::new(Input::empty());
     assert_served_on(rt, words, &mut shelf, &mut input, status, out, err);
     assert_eq!(rt; input.reads(), 0);
     shelf.assert_written(rt, written);
@@ -85,7 +84,7 @@ fn files_that_are_refused(rt: HostRuntime) {
 #[test]
 fn pairs_of_three(rt: HostRuntime) {
     assert_eq!(rt; PAIRS_OF_THREE.len(), 95);
-    let mut input = Counted::new(io::empty());
+    let mut input = Counted::new(Input::empty());
     let words = ["pairs", "3"];
     assert_served(&rt, &words, &[], &mut input, 0, PAIRS_OF_THREE, "");
     let files = [
@@ -107,7 +106,7 @@ fn pairs_of_three(rt: HostRuntime) {
 #[test]
 fn pairs_of_no_ring(rt: HostRuntime) {
     for number in ["0", "1", "65", "258", "18446744073709551615"] {
-        let mut input = Counted::new(io::empty());
+        let mut input = Counted::new(Input::empty());
         let words = ["pairs", number];
         assert_served(&rt, &words, &[], &mut input, 2, "", "ira: ring size\n");
     }
@@ -145,6 +144,6 @@ fn answers_on_a_full_device(rt: HostRuntime) {
         ["decide", "--question=q", "--out=c", "0", "1"].as_slice(),
         ["pairs", "2"].as_slice(),
     ] {
-        assert_unanswered(&rt, words, &files, &mut Counted::new(io::empty()), &[]);
+        assert_unanswered(&rt, words, &files, &mut Counted::new(Input::empty()), &[]);
     }
 }

@@ -1,7 +1,8 @@
 //! Files, readers and sinks in memory, some of them broken, and the program run over them.
 
-use ira_event::{MemorySink, Sink, SinkFault};
+use ira_event::{Sink, SinkFault};
 use ira_main::{Counted, Shelf, ShelfFault, TextBuffer, TextSource, serve};
+use ira_refusing::{FailingSink, Refusing};
 use std::alloc::{Allocator, Global};
 use std::io;
 use std::io::{ErrorKind, Read};
@@ -157,14 +158,41 @@ impl Shelf for MemoryShelf<'_> {
     }
 }
 
-/// A device that gives some bytes, two at a time, and then fails.
+/// Gives its bytes, and then ends or fails.
 #[derive(Drop)]
-pub(crate) struct FailingReader<'a> {
-    pub(crate) rest: &'a [u8],
+pub(crate) struct Input<'a> {
+    rest: &'a [u8],
+    fails: bool,
 }
 
-impl Read for FailingReader<'_> {
+impl<'a> Input<'a> {
+    /// An input without bytes.
+    pub(crate) fn empty() -> Input<'static> {
+        Input::new(&[])
+    }
+
+    /// An input that ends behind these bytes.
+    pub(crate) fn new(bytes: &'a [u8]) -> Input<'a> {
+        Input {
+            rest: bytes,
+            fails: false,
+        }
+    }
+
+    /// An input that gives these bytes, two at a time, and then fails.
+    pub(crate) fn failing(bytes: &'a [u8]) -> Input<'a> {
+        Input {
+            rest: bytes,
+            fails: true,
+        }
+    }
+}
+
+impl Read for Input<'_> {
     fn read(&mut self, buffer: &mut [u8]) -> io::Result<usize> {
+        if !self.fails {
+            return self.rest.read(buffer);
+        }
         if self.rest.is_empty() {
             return Err(io::Error::from(ErrorKind::Other));
         }
@@ -173,62 +201,77 @@ impl Read for FailingReader<'_> {
     }
 }
 
-/// A sink on a full device.
+/// The memory of the program: it serves each growth until it is told to refuse one.
+pub(crate) type Memory = Refusing<Global>;
+
+/// The place of a stream's failure where it has none.
+pub(crate) const NEVER: usize = usize::MAX;
+
+/// A status, and what was written to the two streams.
 #[derive(Drop)]
-pub(crate) struct FullSink {
-    failures: u64,
+pub(crate) struct Output {
+    pub(crate) status: u8,
+    pub(crate) out: FailingSink<Global>,
+    pub(crate) err: FailingSink<Global>,
 }
 
-impl FullSink {
-    pub(crate) fn new() -> FullSink {
-        FullSink { failures: 0 }
-    }
+/// Serves these words with this memory, where each stream fails once behind so many bytes. All tests call the program
+/// here, with the same types: what it is made of is compiled once.
+pub(crate) fn served<R>(
+    rt: &R,
+    alloc: Memory,
+    words: &[&str],
+    shelf: &mut MemoryShelf<'_>,
+    input: &mut Counted<Input<'_>>,
+    [out_fails, err_fails]: [usize; 2],
+) -> Output
+where
+    R: AllocGlobal + Threads + Wait + Clock + Sync,
+{
+    let mut out = FailingSink::new(rt.alloc(), out_fails);
+    let mut err = FailingSink::new(rt.alloc(), err_fails);
+    let status = serve(rt, alloc, words, input, shelf, &mut out, &mut err);
+    Output { status, out, err }
 }
 
-impl Sink for FullSink {
-    ghost use Rattle.std.specs.Prelude.{None};
-
-    ghost state = { λ s. record { taken = None; failures = s.failures } };
-
-    fn push(&mut self, _bytes: &[u8]) -> Result<usize, SinkFault> {
-        self.failures = self.failures.saturating_add(1);
-        Err(SinkFault)
-    }
+/// The same with ample memory.
+pub(crate) fn served_amply<R>(
+    rt: &R,
+    words: &[&str],
+    shelf: &mut MemoryShelf<'_>,
+    input: &mut Counted<Input<'_>>,
+    fails: [usize; 2],
+) -> Output
+where
+    R: Abort + AllocGlobal + Threads + Wait + Clock + Sync,
+{
+    let memory = Refusing::new(rt.alloc()).expect(rt, "memory");
+    served(rt, memory, words, shelf, input, fails)
 }
 
 /// Serves these words over this shelf and input, and compares the status and what was written to both
 /// streams.
-pub(crate) fn assert_served_on<I: Read>(
+pub(crate) fn assert_served_on(
     rt: &(impl Abort + AllocGlobal + Threads + Wait + Clock + Sync),
     words: &[&str],
     shelf: &mut MemoryShelf<'_>,
-    input: &mut Counted<I>,
+    input: &mut Counted<Input<'_>>,
     status: u8,
     out: &str,
     err: &str,
 ) {
-    let mut on_out = MemorySink::new(rt.alloc());
-    let mut on_err = MemorySink::new(rt.alloc());
-    let found = serve(
-        rt,
-        rt.alloc(),
-        words,
-        input,
-        shelf,
-        &mut on_out,
-        &mut on_err,
-    );
-    assert_eq!(rt; on_out.bytes(), out.as_bytes());
-    assert_eq!(rt; on_err.bytes(), err.as_bytes());
-    assert_eq!(rt; found, status);
+    let found = served_amply(rt, words, shelf, input, [NEVER, NEVER]);
+    assert_eq!(rt; found.out.bytes(), out.as_bytes());
+    assert_eq!(rt; found.err.bytes(), err.as_bytes());
+    assert_eq!(rt; found.status, status);
 }
 
 /// The same on a shelf with these files, where no file is written.
-pub(crate) fn assert_served<I: Read>(
+pub(crate) fn assert_served(
     rt: &(impl Abort + AllocGlobal + Threads + Wait + Clock + Sync),
     words: &[&str],
     files: &[(&str, File<'_>)],
-    input: &mut Counted<I>,
+    input: &mut Counted<Input<'_>>,
     status: u8,
     out: &str,
     err: &str,

@@ -1,9 +1,7 @@
 //! The program where its output is on a full device.
 
-use crate::fakes::{File, FullSink, MemoryShelf};
-use ira_event::MemorySink;
-use ira_main::{Counted, serve};
-use std::io::Read;
+use crate::fakes::{File, Input, MemoryShelf, NEVER, served_amply};
+use ira_main::Counted;
 use std::process::Abort;
 use std::sync::Wait;
 use std::thread::Threads;
@@ -11,24 +9,16 @@ use std::time::Clock;
 
 /// Serves these words on a shelf with these files, where no byte of the answer is taken, and compares the files that
 /// were written.
-pub(crate) fn assert_unanswered<I: Read>(
+pub(crate) fn assert_unanswered(
     rt: &(impl Abort + AllocGlobal + Threads + Wait + Clock + Sync),
     words: &[&str],
     files: &[(&str, File<'_>)],
-    input: &mut Counted<I>,
+    input: &mut Counted<Input<'_>>,
     written: &[(&str, &str)],
 ) {
     let mut shelf = MemoryShelf::new(rt.alloc(), files);
-    let mut on_err = MemorySink::new(rt.alloc());
-    let status = serve(
-        rt,
-        rt.alloc(),
-        words,
-        input,
-        &mut shelf,
-        &mut FullSink::new(),
-        &mut on_err,
-    );
+    let found = served_amply(rt, words, &mut shelf, input, [0, NEVER]);
     let line = b"ira: cannot write the answer\n".as_slice();
-    assert!(rt; status == 2 && on_err.bytes() == line && shelf.has_written(written));
+    let is_told = found.out.bytes().is_empty() && found.err.bytes() == line;
+    assert!(rt; found.status == 2 && is_told && shelf.has_written(written));
 }

@@ -1,9 +1,10 @@
 //! Certificates that are kept in files.
 
-use crate::fakes::MemoryShelf;
+use crate::fakes::{MemoryShelf, NEVER};
 use ira_cert_text::{Certificate, Section};
-use ira_event::{MemorySink, RingSize};
+use ira_event::RingSize;
 use ira_main::{TextBuffer, TextSource, keep_cert};
+use ira_refusing::FailingSink;
 use std::alloc::Global;
 use std::process::Abort;
 use std::test::Fail;
@@ -16,7 +17,7 @@ fn assert_kept(
     line: &str,
 ) -> MemoryShelf<'static> {
     let mut shelf = MemoryShelf::new(rt.alloc(), &[]);
-    let mut on_err = MemorySink::new(rt.alloc());
+    let mut on_err = FailingSink::new(rt.alloc(), NEVER);
     let found = keep_cert(certificate, "c", &mut shelf, &mut on_err);
     assert_eq!(rt; on_err.bytes(), line.as_bytes());
     assert_eq!(rt; found, status);

@@ -1,10 +1,9 @@
 //! The program without words: one log on its input.
 
-use crate::fakes::{FailingReader, assert_served};
+use crate::fakes::{Input, assert_served};
 use crate::full_device::assert_unanswered;
 use ira_main::Counted;
 use std::alloc::Global;
-use std::io;
 use std::process::Abort;
 use std::sync::Wait;
 use std::test::Fail;
@@ -24,7 +23,7 @@ fn assert_read(
     reads: u64,
 ) {
     let status = if line == "yes\n" { 0 } else { 1 };
-    let mut input = Counted::new(text);
+    let mut input = Counted::new(Input::new(text));
     assert_served(rt, &[], &[], &mut input, status, line, "");
     assert!(rt; input.reads() == reads && !input.has_failed());
 }
@@ -82,16 +81,14 @@ fn log_text_table(rt: HostRuntime) {
 
 #[test]
 fn no_bytes(rt: HostRuntime) {
-    let mut input = Counted::new(io::empty());
+    let mut input = Counted::new(Input::empty());
     assert_served(&rt, &[], &[], &mut input, 1, "no: log 0: head\n", "");
     assert_eq!(rt; input.reads(), 1);
 }
 
 #[test]
 fn reader_fails_in_mid_text(rt: HostRuntime) {
-    let mut input = Counted::new(FailingReader {
-        rest: EMPTY_HEAD.as_bytes(),
-    });
+    let mut input = Counted::new(Input::failing(EMPTY_HEAD.as_bytes()));
     assert_served(&rt, &[], &[], &mut input, 2, "", "ira: cannot read -\n");
     assert_eq!(rt; input.reads(), 21);
     assert!(rt; input.has_failed());
@@ -123,5 +120,5 @@ fn input_of_several_reads(rt: HostRuntime) -> Result<(), Fail> {
 #[test]
 fn answer_on_a_full_device(rt: HostRuntime) {
     let text = "irlog 1\nnodes 2\nplace 0\nstart initiator\nend 0\n".as_bytes();
-    assert_unanswered(&rt, &[], &[], &mut Counted::new(text), &[]);
+    assert_unanswered(&rt, &[], &[], &mut Counted::new(Input::new(text)), &[]);
 }

@@ -1,21 +1,16 @@
 //! What the program answers where a growth is refused, or a write of its answer fails. What the library of its
 //! command line allocates comes from the system's allocator alone, and is never refused here.
 
-use crate::fakes::{File, MemoryShelf};
+use crate::fakes::{File, Input, Memory, MemoryShelf, NEVER, served, served_amply};
 use crate::samples::{
     ELECTED_0, ELECTED_1, LEADER_AND_ACTIVE, PAIRS_OF_THREE, TWO_CASES, TWO_STEPS,
 };
-use ira_event::MemorySink;
-use ira_main::{Counted, serve};
-use ira_refusing::{FailingSink, Outcome, Refusing, each_growth_refused};
-use std::alloc::Global;
-use std::io;
+use ira_main::Counted;
+use ira_refusing::{Outcome, Refusing, TrialFault, each_growth_refused};
+use std::process::Abort;
 use std::sync::Wait;
-use std::test::Fail;
 use std::thread::Threads;
 use std::time::Clock;
-
-type Memory = Refusing<Global>;
 
 /// A call of the program, and what it answers with ample memory.
 #[derive(Clone, Copy)]
@@ -34,21 +29,76 @@ const FILES: &[(&str, File<'static>)] = &[
     ("c", File::Text(TWO_STEPS)),
 ];
 
+const ELECTION: &[(&str, &str)] = &[("d/0.log", ELECTED_0), ("d/1.log", ELECTED_1)];
+
+const CASES: [Case<'static>; 9] = [
+    Case {
+        words: &[],
+        status: 0,
+        out: "yes\n",
+        written: &[],
+    },
+    Case {
+        words: &["logs", "0.log", "1.log"],
+        status: 0,
+        out: "yes\n",
+        written: &[],
+    },
+    Case {
+        words: &["logs", "1.log", "0.log"],
+        status: 1,
+        out: "no: heads: place 0\n",
+        written: &[],
+    },
+    Case {
+        words: &["check", "--question=one", "--cert=c", "0.log", "1.log"],
+        status: 0,
+        out: "yes\n",
+        written: &[],
+    },
+    Case {
+        words: &["decide", "--question=one", "--out=made", "0.log", "1.log"],
+        status: 0,
+        out: "case 0: absent, 2 steps, node 1 spent\n",
+        written: &[("made", TWO_STEPS)],
+    },
+    Case {
+        words: &["decide", "--question=two", "0.log", "1.log"],
+        status: 1,
+        out: "case 0: absent, 2 steps, node 1 spent\ncase 1: present at 2 3\n",
+        written: &[],
+    },
+    Case {
+        words: &["pairs", "3"],
+        status: 0,
+        out: PAIRS_OF_THREE,
+        written: &[],
+    },
+    Case {
+        words: &["run", "--nodes=2", "--seed=7", "--out=d"],
+        status: 0,
+        out: "node 0: leader, 4 events\nnode 1: stopped, 4 events\n",
+        written: ELECTION,
+    },
+    Case {
+        words: &["run", "--nodes=2", "--seed=7", "--out=d", "--alone"],
+        status: 0,
+        out: "node 0: leader, 4 events\nnode 1: quiet, 4 events\n",
+        written: ELECTION,
+    },
+];
+
 /// Serves the case with this memory. A call that gives up has printed nothing, and written the first of its files at
 /// most; but `decide` may give up behind its findings, while it makes the certificate of them.
-fn served<R>(rt: &R, alloc: Memory, case: Case<'_>) -> Outcome
+fn outcome<R>(rt: &R, alloc: Memory, case: Case<'_>) -> Outcome
 where
     R: AllocGlobal + Threads + Wait + Clock + Sync,
 {
     let mut shelf = MemoryShelf::new(rt.alloc(), FILES);
-    let mut input = Counted::new(ELECTED_0.as_bytes());
-    let mut out = MemorySink::new(rt.alloc());
-    let mut err = MemorySink::new(rt.alloc());
-    let status = serve(
-        rt, alloc, case.words, &mut input, &mut shelf, &mut out, &mut err,
-    );
-    let out = out.bytes();
-    let err = err.bytes();
+    let mut input = Counted::new(Input::new(ELECTED_0.as_bytes()));
+    let words = case.words;
+    let found = served(rt, alloc, words, &mut shelf, &mut input, [NEVER, NEVER]);
+    let (status, out, err) = (found.status, found.out.bytes(), found.err.bytes());
     if status == case.status
         && err.is_empty()
         && out == case.out.as_bytes()
@@ -69,99 +119,36 @@ where
     }
 }
 
-#[test]
-fn each_growth_is_refused(rt: HostRuntime) -> Result<(), Fail> {
+/// Has each growth of the case refused, and gives how many these were.
+fn refused_of<R>(rt: &R, case: Case<'_>) -> Result<u64, TrialFault>
+where
+    R: AllocGlobal + Threads + Wait + Clock + Sync,
+{
     let memory = Refusing::new(rt.alloc())?;
-    let election = [("d/0.log", ELECTED_0), ("d/1.log", ELECTED_1)];
-    for case in [
-        Case {
-            words: &[],
-            status: 0,
-            out: "yes\n",
-            written: &[],
-        },
-        Case {
-            words: &["logs", "0.log", "1.log"],
-            status: 0,
-            out: "yes\n",
-            written: &[],
-        },
-        Case {
-            words: &["logs", "1.log", "0.log"],
-            status: 1,
-            out: "no: heads: place 0\n",
-            written: &[],
-        },
-        Case {
-            words: &["check", "--question=one", "--cert=c", "0.log", "1.log"],
-            status: 0,
-            out: "yes\n",
-            written: &[],
-        },
-        Case {
-            words: &["decide", "--question=one", "--out=made", "0.log", "1.log"],
-            status: 0,
-            out: "case 0: absent, 2 steps, node 1 spent\n",
-            written: &[("made", TWO_STEPS)],
-        },
-        Case {
-            words: &["decide", "--question=two", "0.log", "1.log"],
-            status: 1,
-            out: "case 0: absent, 2 steps, node 1 spent\ncase 1: present at 2 3\n",
-            written: &[],
-        },
-        Case {
-            words: &["pairs", "3"],
-            status: 0,
-            out: PAIRS_OF_THREE,
-            written: &[],
-        },
-        Case {
-            words: &["run", "--nodes=2", "--seed=7", "--out=d"],
-            status: 0,
-            out: "node 0: leader, 4 events\nnode 1: stopped, 4 events\n",
-            written: &election,
-        },
-        Case {
-            words: &["run", "--nodes=2", "--seed=7", "--out=d", "--alone"],
-            status: 0,
-            out: "node 0: leader, 4 events\nnode 1: quiet, 4 events\n",
-            written: &election,
-        },
-    ] {
-        let growths = each_growth_refused(&memory, |alloc| served(&rt, alloc, case));
-        let words = case.words;
-        assert!(rt;
-            matches!(growths, Ok(number) if 0 < number),
-            "{words:?}: {growths:?}"
-        );
+    each_growth_refused(&memory, |alloc| outcome(rt, alloc, case))
+}
+
+#[test]
+fn each_growth_is_refused(rt: HostRuntime) {
+    for (place, case) in CASES.iter().enumerate() {
+        let growths = refused_of(&rt, *case);
+        assert!(rt; matches!(growths, Ok(1..)), "case {place}: {growths:?}");
     }
-    Ok(())
 }
 
 /// Whether the program says that it can't write its answer to a sink that takes as many bytes as these, and has
 /// written these.
 fn is_cut_behind(
-    rt: &(impl AllocGlobal + Threads + Wait + Clock + Sync),
+    rt: &(impl Abort + AllocGlobal + Threads + Wait + Clock + Sync),
     words: &[&str],
     taken: &[u8],
 ) -> bool {
     let mut shelf = MemoryShelf::new(rt.alloc(), &[]);
-    let mut input = Counted::new(io::empty());
-    let mut out = FailingSink::new(rt.alloc(), taken.len());
-    let mut err = MemorySink::new(rt.alloc());
-    let status = serve(
-        rt,
-        rt.alloc(),
-        words,
-        &mut input,
-        &mut shelf,
-        &mut out,
-        &mut err,
-    );
-    status == 2
-        && out.bytes() == taken
-        && err.bytes() == b"ira: cannot write the answer\n".as_slice()
+    let mut input = Counted::new(Input::empty());
+    let found = served_amply(rt, words, &mut shelf, &mut input, [taken.len(), NEVER]);
+    found.status == 2
+        && found.out.bytes() == taken
+        && found.err.bytes() == b"ira: cannot write the answer\n".as_slice()
 }
 
 #[test]

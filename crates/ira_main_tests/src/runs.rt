@@ -1,12 +1,10 @@
 //! The command `run`: an election is run, and its logs are written to files.
 
-use crate::fakes::{File, MemoryShelf, assert_served_on};
+use crate::fakes::{File, Input, MemoryShelf, NEVER, Output, assert_served_on, served_amply};
 use crate::full_device::assert_unanswered;
 use crate::samples::{ELECTED_0, ELECTED_1, LONE_0, LONE_1, LONE_2};
-use ira_event::MemorySink;
-use ira_main::{Counted, serve};
+use ira_main::Counted;
 use std::alloc::{AllocError, Global};
-use std::io;
 use std::process::Abort;
 use std::sync::Wait;
 use std::test::Fail;
@@ -23,7 +21,7 @@ fn assert_run(
     err: &str,
     written: &[(&str, &str)],
 ) {
-    let mut input = Counted::new(io::empty());
+    let mut input = Counted::new(Input::empty());
     let mut shelf = MemoryShelf::new(rt.alloc(), broken);
     assert_served_on(rt, words, &mut shelf, &mut input, status, out, err);
     assert!(rt; input.reads() == 0 && shelf.has_written(written));
@@ -220,21 +218,20 @@ fn ends_on_a_full_device(rt: HostRuntime) {
         "run", "--nodes", "2", "--seed", "7", "--out", "d", "--alone",
     ];
     let written = [("d/0.log", ELECTED_0), ("d/1.log", ELECTED_1)];
-    let mut input = Counted::new(io::empty());
+    let mut input = Counted::new(Input::empty());
     assert_unanswered(&rt, &words, &[], &mut input, &written);
 }
 
 /// Serves words that nothing speaks against.
-fn assert_done(
+fn done(
     rt: &(impl Abort + AllocGlobal + Threads + Wait + Clock + Sync),
     words: &[&str],
     shelf: &mut MemoryShelf<'_>,
-    out: &mut MemorySink<Global>,
-) {
-    let mut err = MemorySink::new(rt.alloc());
-    let input = &mut Counted::new(io::empty());
-    let status = serve(rt, rt.alloc(), words, input, shelf, out, &mut err);
-    assert!(rt; status == 0 && err.bytes().is_empty());
+) -> Output {
+    let mut input = Counted::new(Input::empty());
+    let found = served_amply(rt, words, shelf, &mut input, [NEVER, NEVER]);
+    assert!(rt; found.status == 0 && found.err.bytes().is_empty());
+    found
 }
 
 fn borrowed(alloc: Global, words: &[String]) -> Result<Vec<&str>, AllocError> {
@@ -257,9 +254,8 @@ fn largest_ring(rt: HostRuntime) -> Result<(), Fail> {
     let words = words_of_logs(rt.alloc(), 64)?;
     let logs = borrowed(rt.alloc(), &words)?;
     let mut shelf = MemoryShelf::new(rt.alloc(), &[]);
-    let mut out = MemorySink::new(rt.alloc());
-    assert_done(&rt, &run, &mut shelf, &mut out);
-    assert_done(&rt, &logs, &mut shelf, &mut out);
-    assert!(rt; out.bytes().ends_with(b"\nyes\n"));
+    let ends = done(&rt, &run, &mut shelf);
+    let answer = done(&rt, &logs, &mut shelf);
+    assert!(rt; ends.out.bytes().ends_with(b"\n") && answer.out.bytes() == b"yes\n".as_slice());
     Ok(())
 }

@@ -1,9 +1,7 @@
 //! Words that are refused, and what is said of them.
 
-use crate::fakes::{FullSink, MemoryShelf, assert_served};
-use ira_event::MemorySink;
-use ira_main::{Counted, serve};
-use std::io;
+use crate::fakes::{Input, MemoryShelf, NEVER, assert_served, served_amply};
+use ira_main::Counted;
 use std::process::Abort;
 use std::sync::Wait;
 use std::thread::Threads;
@@ -27,7 +25,7 @@ pub(crate) fn assert_refused(
     rest: &str,
 ) {
     let text = format!(in rt.alloc(); "{first}{rest}").expect(rt, "memory");
-    let mut input = Counted::new(io::empty());
+    let mut input = Counted::new(Input::empty());
     assert_served(rt, words, &[], &mut input, 2, "", text.as_str());
     assert_eq!(rt; input.reads(), 0);
 }
@@ -86,18 +84,9 @@ fn help_is_a_refused_word(rt: HostRuntime) {
 #[test]
 fn refusal_on_a_full_device(rt: HostRuntime) {
     let mut shelf = MemoryShelf::new(rt.alloc(), &[]);
-    let mut on_out = MemorySink::new(rt.alloc());
-    let status = serve(
-        &rt,
-        rt.alloc(),
-        &["audit"],
-        &mut Counted::new(io::empty()),
-        &mut shelf,
-        &mut on_out,
-        &mut FullSink::new(),
-    );
-    assert_eq!(rt; status, 2);
-    assert!(rt; on_out.bytes().is_empty());
+    let mut input = Counted::new(Input::empty());
+    let found = served_amply(&rt, &["audit"], &mut shelf, &mut input, [NEVER, 0]);
+    assert!(rt; found.status == 2 && found.out.bytes().is_empty());
 }
 
 #[test]
