@@ -1,12 +1,12 @@
 //! The files of the system.
 
+use crate::fakes::Memory;
 use ira_event::write_bytes;
 use ira_main::{FileShelf, Shelf, ShelfFault, TextBuffer, TextSource};
-use ira_refusing::{Outcome, Refusing, each_growth_refused};
+use ira_refusing::{Outcome, Subject, each_growth_of_calls_refused};
 use std::alloc::Allocator;
 use std::fs;
 use std::rt::Files;
-use std::test::Fail;
 
 /// Writes a file whole.
 fn write<A: Allocator + Clone>(
@@ -44,24 +44,38 @@ fn files_that_cannot_be_used(rt: HostRuntime) {
 }
 
 /// Writes a file, and reads it back.
-fn written_and_read(rt: &impl Files, alloc: &(impl Allocator + Clone), name: &str) -> Outcome {
+fn written_and_read(rt: &impl Files, alloc: &Memory, name: &str) -> Outcome {
     let text = "irlog 1\n";
     let mut shelf = FileShelf::new(rt, alloc);
     let mut found = TextBuffer::new(alloc);
-    let read = write(&mut shelf, name, text).and_then(|()| shelf.read(name, &mut found));
+    let read = match write(&mut shelf, name, text) {
+        Ok(()) => shelf.read(name, &mut found),
+        refused => refused,
+    };
     match read {
-        Ok(()) if found.bytes() == text.as_bytes() => Outcome::Right,
-        Err(ShelfFault::OutOfMemory) => Outcome::GaveUp,
-        _ => Outcome::Wrong,
+        Ok(()) => Outcome::of_answer(found.bytes() == text.as_bytes()),
+        Err(fault) => Outcome::of_fault(fault == ShelfFault::OutOfMemory),
+    }
+}
+
+/// The files of the system.
+#[derive(Drop)]
+struct Disk<'a, R: Files> {
+    rt: &'a R,
+}
+
+impl<R: Files> Subject for Disk<'_, R> {
+    type Call = &'static str;
+
+    fn outcome(&self, name: &'static str, alloc: Memory) -> Outcome {
+        written_and_read(self.rt, &alloc, name)
     }
 }
 
 #[test]
-fn memory_refused_to_a_file(rt: HostRuntime) -> Result<(), Fail> {
+fn memory_refused_to_a_file(rt: HostRuntime) {
     let name = "memory_refused_to_a_file.log";
-    let memory = Refusing::new(rt.alloc())?;
-    let growths = each_growth_refused(&memory, |alloc| written_and_read(&rt, &alloc, name));
-    assert!(rt; matches!(growths, Ok(number) if 0 < number), "{growths:?}");
+    let refused = each_growth_of_calls_refused(rt.alloc(), &Disk { rt: &rt }, &[name]);
+    assert!(rt; refused.is_ok(), "{refused:?}");
     assert!(rt; fs::remove_file(&rt, name).is_ok());
-    Ok(())
 }
