@@ -1,19 +1,18 @@
 # What a newcomer types. `rt` is the command of the Rattle kit.
 
 PREFIX = /usr/local
-PROGRAM = crates/ira/out/ira
 JOBS := $(shell nproc)
 START := $(shell date +%s)
 
 # The libraries that the program stands on, lowest first, and those that one of them names.
 LIBRARIES := $(shell tac crates.txt | awk -F '[ :]+' 'BEGIN { need["ira"] } \
 	$$1 in need { if ($$1 != "ira") print $$1; for (i = 2; i <= NF; i++) need[$$i] }' | tac)
-uses = $(filter $(LIBRARIES),$(shell sed -n 's/^$(1):/ /p' crates.txt))
+uses = $(filter $(LIBRARIES),$(shell sed -n 's/^$(1)://p' crates.txt))
 
 # Says something, with the seconds since `make` began.
 say = printf '%4d s  %s\n' $$(($$(date +%s) - $(START)))
 
-.PHONY: help ira run install test sweep clean $(LIBRARIES:%=library-%)
+.PHONY: help ira run install test sweep clean
 
 help:
 	@echo 'make ira        proves the program and the libraries that it stands on, and leaves it at bin/ira:'
@@ -27,34 +26,29 @@ help:
 	@echo '                it answers then'
 	@echo 'make clean      removes what was built and proved'
 
-# The long chains of libraries, and their end, beside which no other is left.
-CHAIN = ira_event ira_node ira_replay ira_pred ira_cand ira_order ira_cert ira_elim ira_par
-LAST = ira_audit ira_main
+# The long chains of libraries, which all else waits for.
+CHAIN = ira_event ira_node ira_pred ira_cand ira_replay ira_order ira_cert ira_par ira_audit ira_main
 
-# How many cores prove a library: each further one reads the libraries below once more, so none gets more than
-# stand idle beside it.
-cores_of = $(if $(filter $(1),$(LAST)),$(JOBS),$(if $(filter $(1),$(CHAIN)),2,1))
+# All cores prove a library of the chains; the others go on beside it, and stand back.
+cores_of = $(if $(filter $(1),$(CHAIN)),$(JOBS),1)
+pace_of = $(if $(filter $(1),$(CHAIN) ira),,nice)
 
-# As many libraries at a time as there are cores. `make` begins with what it is told first, so the longest chain comes
+# As many crates at a time as there are cores. `make` begins with what it is told first, so the longest chain comes
 # first: the program stands on ira_main alone, and that names ira_audit early.
 ira:
-	@echo 'Proving the $(words $(LIBRARIES)) libraries that ira stands on, and then ira: the first time some 40 minutes of processor time, over $(JOBS) cores.'
 	@mkdir -p bin
-	@$(MAKE) --no-print-directory -j $(JOBS) START=$(START) bin/ira
+	@$(MAKE) --no-print-directory -j $(JOBS) START=$(START) bin/ira.proved
+	@$(say) 'proved and built: bin/ira'
 
-$(LIBRARIES:%=library-%): library-%:
-	@mkdir -p bin
-	@sh build/prove.sh $* $(call cores_of,$*) > bin/$*.log 2>&1 || { tail -20 bin/$*.log; $(say) 'failed: $*'; exit 1; }
+# A crate is proved again where a text of its own has changed, or one of what it stands on.
+$(LIBRARIES:%=bin/%.proved) bin/ira.proved: bin/%.proved: build/prove.sh
+	@touch bin/$*.begun
+	@$(call pace_of,$*) sh build/prove.sh $* $(call cores_of,$*) > bin/$*.log 2>&1 || { tail -20 bin/$*.log; $(say) 'failed: $*'; exit 1; }
+	@mv bin/$*.begun $@
 	@$(say) 'proved: $*'
 
-$(foreach it,$(LIBRARIES),$(eval library-$(it): $(addprefix library-,$(filter-out $(it),$(call uses,$(it))))))
-
-# Only a proved crate is built.
-.PHONY: bin/ira
-bin/ira: library-ira_main
-	@(cd crates/ira && rt run --jobs $(JOBS) < stdin) > bin/ira.log 2>&1 || { tail -20 bin/ira.log; $(say) 'failed: ira'; exit 1; }
-	@cp $(PROGRAM) bin/ira
-	@$(say) 'proved and built: bin/ira'
+$(foreach it,$(LIBRARIES) ira,$(eval bin/$(it).proved: $(patsubst %,bin/%.proved,$(call uses,$(it))) \
+	$(shell find crates/$(it)/src crates/$(it)/specs crates/$(it)/proofs 2>/dev/null)))
 
 # Runs `bin/ira` with some words, and compares its status and what it prints.
 judges = echo '$$ bin/ira $(1)'; \
@@ -77,7 +71,7 @@ install:
 # two compilers build them, and the answers to all examples.
 test:
 	rt ci
-	@sh examples/check.sh $(PROGRAM)
+	@sh examples/check.sh crates/ira/out/ira
 
 # Each growth of the program is refused in turn, those of the command line's library and of the threads too, and each
 # start of a thread. It needs glibc and Python.

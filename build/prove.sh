@@ -1,31 +1,22 @@
 #!/bin/sh
-# sh build/prove.sh NAME JOBS  proves the library NAME with so many jobs; what it stands on is proved by then.
-#
-# `rt` keeps every crate that it reads to itself, so in one tree no two libraries that stand on the same one are
-# proved side by side. So each gets a folder of its own: links to what stands below, and its own files. What was
-# made is brought back.
+# sh build/prove.sh NAME JOBS  proves the crate NAME with so many jobs, as the gate does: from nothing, over the statements of
+# what it stands on, which is proved by then. What others need of a library is left at bin/NAME.rlib, a program at bin/NAME.
 set -e
-name=$1 jobs=$2
+name=$1 jobs=$2 here=$PWD
+kit=$(dirname "$(dirname "$(realpath "$(command -v rattle)")")")
 
-below=$(tac crates.txt | awk -F '[ :]+' -v name="$name" 'BEGIN { need[name] }
-    $1 in need { if ($1 != name) print $1; for (i = 2; i <= NF; i++) need[$i] }')
-mkdir -p bin
-room=$(mktemp -d bin/room.XXXXXX)
-trap 'rm -rf "$room"' EXIT
-trap 'exit 1' INT TERM
-mkdir "$room/crates"
-cp HANDLES "$room"
-for it in $below $name; do
-    grep "^$it:" crates.txt
-done > "$room/crates.txt"
-
-for it in $below; do
-    mkdir -p "$room/crates/$it/out"
-    for part in src specs proofs out/rlib; do
-        test ! -e "crates/$it/$part" || cp -al "crates/$it/$part" "$room/crates/$it/$part"
-    done
+set -- --extern "std=$kit/rlibs/std.rlib"
+for it in $(sed -n "s/^$name://p" crates.txt); do
+    if test -d "crates/$it"; then rlib=$here/bin/$it.rlib; else rlib=$kit/rlibs/$it.rlib; fi
+    set -- "$@" --extern "$it=$rlib"
 done
-cp -al "crates/$name" "$room/crates"
-(cd "$room/crates/$name" && rt lib --jobs "$jobs")
-rm -rf "crates/$name/out"
-mv "$room/crates/$name/out" "crates/$name"
+set -- "$@" -L "dependency=$kit/rlibs" -L "dependency=$here/bin" --links "$name=" --jobs "$jobs" \
+    --antt-project "$kit/rattle/logic/antt-project.json" --logic-built "$kit/logic_built"
+
+cd "crates/$name"
+if test -f src/lib.rt; then
+    exec rattle build --crate-name "$name" src/lib.rt "$@" --statements -o "$here/bin/$name.rlib"
+fi
+rattle build --crate-name "$name" src/main.rt "$@" --toolchain "$kit/toolchain" --backend llvm -o "$here/bin/$name.o"
+"$kit/bin/rattle-link" --target x86_64-unknown-linux-gnu --toolchain "$kit/toolchain" -o "$here/bin/$name" "$here/bin/$name.o" \
+    "$kit/c/libos_c.a" "$kit/c/liblibc_c.a"
