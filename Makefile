@@ -16,7 +16,8 @@ say = printf '%4d s  %s\n' $$(($$(date +%s) - $(START)))
 
 help:
 	@echo 'make ira        proves the program and the libraries that it stands on, and leaves it at bin/ira:'
-	@echo '                the first time some 40 minutes of processor time, over all cores; then only what has changed'
+	@echo '                the first time 25 to 50 minutes of processor time, over all cores; then the crates that')
+	@echo '                have changed, and those that stand on them'
 	@echo 'make run        makes ira, judges examples with it, and compares its answers with those expected'
 	@echo 'make install    copies bin/ira to $$(PREFIX)/bin, and its manual to $$(PREFIX)/share/man/man1; PREFIX is'
 	@echo '                $(PREFIX) if not given'
@@ -26,12 +27,13 @@ help:
 	@echo '                it answers then'
 	@echo 'make clean      removes what was built and proved'
 
-# The long chains of libraries, which all else waits for.
+# The long chains of libraries, which all else waits for, and the one to the runner, which is shorter.
 CHAIN = ira_event ira_node ira_pred ira_cand ira_replay ira_order ira_cert ira_par ira_audit ira_main
+RUNNER = ira_run ira_threads
 
-# All cores prove a library of the chains; the others go on beside it, and stand back.
+# All cores prove a library of the chains; the others go on beside it with one, and stand back.
 cores_of = $(if $(filter $(1),$(CHAIN)),$(JOBS),1)
-pace_of = $(if $(filter $(1),$(CHAIN) ira),,nice)
+pace_of = $(if $(filter $(1),$(CHAIN) $(RUNNER) ira),,nice)
 
 # As many crates at a time as there are cores. `make` begins with what it is told first, so the longest chain comes
 # first: the program stands on ira_main alone, and that names ira_audit early.
