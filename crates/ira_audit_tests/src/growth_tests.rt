@@ -13,9 +13,8 @@ use ira_cert_text::{Certificate, write_cert};
 use ira_event::{MemorySink, OutOfMemory, WriteFault};
 use ira_links::OpenGate;
 use ira_order::MatchFault;
-use ira_refusing::{FailingSink, Outcome, Refusing, TrialFault, each_growth_refused};
+use ira_refusing::{FailingSink, Outcome, Refusing, each_growth_refused};
 use std::alloc::Global;
-use std::process::Abort;
 use std::sync::Wait;
 use std::thread::Threads;
 use std::time::Clock;
@@ -56,7 +55,7 @@ const TWO_CASES: &[u8] = b"irask 1\nnodes 2\n\
 const TWO_CASES_FOUND: &[u8] = b"case 0: absent, 2 steps, node 1 spent\ncase 1: present at 2 3\n";
 
 /// The calls whose growths are refused.
-#[derive(Clone, Copy, Debug)]
+#[derive(Clone, Copy)]
 enum Call {
     JudgeElection,
     JudgeCircle,
@@ -173,21 +172,10 @@ where
     }
 }
 
-/// Compares that the call passed its trial, and that some of its growths were refused.
-fn assert_refused(rt: &impl Abort, call: Call, growths: Result<u64, TrialFault>) {
-    assert!(rt;
-        matches!(growths, Ok(number) if 0 < number),
-        "{call:?}: {growths:?}"
-    );
-}
-
 #[test]
 fn each_growth_is_refused(rt: HostRuntime) {
-    let memory = Refusing::new(rt.alloc()).expect(&rt, "memory");
-    for call in CALLS {
-        let growths = each_growth_refused(&memory, |alloc| outcome(&rt, call, alloc));
-        assert_refused(&rt, call, growths);
-    }
+    let refused = each_growth_refused(rt.alloc(), &CALLS, |call, alloc| outcome(&rt, call, alloc));
+    assert!(rt; refused.is_ok(), "{refused:?}");
 }
 
 #[test]

@@ -11,9 +11,8 @@ use ira_fixtures::logs_of;
 use ira_links::link;
 use ira_order::{OrderFault, find_order, order};
 use ira_pred::{AskFault, Clause, pairs_question, read_question};
-use ira_refusing::{Outcome, Refusing, Subject, each_growth_of_calls_refused};
+use ira_refusing::{Outcome, Refusing, each_growth_refused};
 use std::alloc::Global;
-use std::process::Abort;
 
 type Memory = Refusing<Global>;
 
@@ -145,48 +144,32 @@ fn are_active(listed: Result<Vec<u32, Memory>, OutOfMemory>) -> Outcome {
     }
 }
 
-/// What the calls are made on.
-#[derive(Drop)]
-struct Election {
-    logs: Logs<Memory>,
-    /// Once more that of node 1.
-    log: NodeLog<Memory>,
-}
-
-impl Election {
-    fn new(rt: &(impl Abort + AllocGlobal)) -> Election {
-        let memory = Refusing::new(rt.alloc()).expect(rt, "memory");
-        let texts = [ELECTION_0, ELECTION_1];
-        Election {
-            logs: logs_of(memory.clone().expect(rt, "memory"), &texts).expect(rt, "two logs"),
-            log: read_log(memory, ELECTION_1).expect(rt, "a log"),
-        }
-    }
-}
-
-impl Subject for Election {
-    type Call = Call;
-
-    fn outcome(&self, call: Call, alloc: Memory) -> Outcome {
-        match call {
-            Call::ReadLog => read(alloc, ELECTION_0, 4),
-            Call::ReadLongLog => read(alloc, MANY_DRAWS, 19),
-            Call::ReadLateFault => read_late_fault(alloc),
-            Call::WriteLog => write(alloc, &self.log),
-            Call::ReadNestedQuestion => ask(alloc, NESTED, 1),
-            Call::ReadPairs => ask(alloc, PAIRS_OF_THREE, 3),
-            Call::MakePairs => make_pairs(alloc),
-            Call::FindOrder => order_events(alloc, &self.logs),
-            Call::Order => stamp_events(alloc, &self.logs),
-            Call::Link => make_link(alloc),
-            Call::Table => are_active(table(alloc, &self.log, &Clause::Active)),
-            Call::Profile => are_active(profiled(alloc, &self.log)),
-        }
+/// What becomes of the call with this memory, on the election's logs and once more that of node 1.
+fn outcome(call: Call, alloc: Memory, logs: &Logs<Memory>, log: &NodeLog<Memory>) -> Outcome {
+    match call {
+        Call::ReadLog => read(alloc, ELECTION_0, 4),
+        Call::ReadLongLog => read(alloc, MANY_DRAWS, 19),
+        Call::ReadLateFault => read_late_fault(alloc),
+        Call::WriteLog => write(alloc, log),
+        Call::ReadNestedQuestion => ask(alloc, NESTED, 1),
+        Call::ReadPairs => ask(alloc, PAIRS_OF_THREE, 3),
+        Call::MakePairs => make_pairs(alloc),
+        Call::FindOrder => order_events(alloc, logs),
+        Call::Order => stamp_events(alloc, logs),
+        Call::Link => make_link(alloc),
+        Call::Table => are_active(table(alloc, log, &Clause::Active)),
+        Call::Profile => are_active(profiled(alloc, log)),
     }
 }
 
 #[test]
 fn each_growth_is_refused(rt: HostRuntime) {
-    let refused = each_growth_of_calls_refused(rt.alloc(), &Election::new(&rt), &CALLS);
+    let memory = Refusing::new(rt.alloc()).expect(&rt, "memory");
+    let handle = memory.clone().expect(&rt, "memory");
+    let logs = logs_of(handle, &[ELECTION_0, ELECTION_1]).expect(&rt, "two logs");
+    let log = read_log(memory, ELECTION_1).expect(&rt, "a log");
+    let refused = each_growth_refused(rt.alloc(), &CALLS, |call, alloc| {
+        outcome(call, alloc, &logs, &log)
+    });
     assert!(rt; refused.is_ok(), "{refused:?}");
 }

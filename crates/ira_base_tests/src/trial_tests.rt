@@ -2,8 +2,7 @@
 
 use ira_event::write_bytes;
 use ira_refusing::{
-    FailingSink, Outcome, Refusing, Subject, TrialFault, Writer, each_byte_refused,
-    each_growth_of_calls_refused,
+    FailingSink, Outcome, Refusing, TrialFault, Writer, each_byte_refused, each_growth_refused,
 };
 use std::alloc::Global;
 use std::cell::Cell;
@@ -40,33 +39,22 @@ enum Flaw {
     AsksForNothing,
 }
 
-/// Counts the calls that are made.
-#[derive(Drop)]
-struct Counting {
-    calls: Cell<u8>,
-}
-
-impl Subject for Counting {
-    type Call = Flaw;
-
-    fn outcome(&self, flaw: Flaw, alloc: Memory) -> Outcome {
-        self.calls.set(self.calls.get().saturating_add(1));
-        match flaw {
-            Flaw::TakesItForAnother => Outcome::of_answer(has_room(&alloc)),
-            Flaw::GivesUpUnasked => Outcome::GaveUp,
-            Flaw::StaysBroken if self.calls.get() > 1 => Outcome::GaveUp,
-            Flaw::StaysBroken if !has_room(&alloc) => Outcome::GaveUp,
-            Flaw::StaysBroken | Flaw::AsksForNothing => Outcome::Right,
-        }
+/// What becomes of a call with this flaw, of which so many are made.
+fn outcome(flaw: Flaw, alloc: &Memory, made: &Cell<u8>) -> Outcome {
+    made.set(made.get().saturating_add(1));
+    match flaw {
+        Flaw::TakesItForAnother => Outcome::of_answer(has_room(alloc)),
+        Flaw::GivesUpUnasked => Outcome::GaveUp,
+        Flaw::StaysBroken if made.get() > 1 => Outcome::GaveUp,
+        Flaw::StaysBroken if !has_room(alloc) => Outcome::GaveUp,
+        Flaw::StaysBroken | Flaw::AsksForNothing => Outcome::Right,
     }
 }
 
 /// What the trial says of a call with this flaw.
 fn tried(heap: Global, flaw: Flaw) -> Option<TrialFault> {
-    let counting = Counting {
-        calls: Cell::new(0),
-    };
-    match each_growth_of_calls_refused(heap, &counting, &[flaw]) {
+    let made = Cell::new(0);
+    match each_growth_refused(heap, &[flaw], |flaw, alloc| outcome(flaw, &alloc, &made)) {
         Err((0, fault)) => Some(fault),
         _ => None,
     }

@@ -44,14 +44,6 @@ fn largest_numbers_and_dirty(rt: HostRuntime) {
     assert_written(&rt, 64, 63, false, &events, text);
 }
 
-#[test]
-fn sink_fails_after_ten_bytes(rt: HostRuntime) {
-    let log = log_of(&rt, 2, 0, true, &winner());
-    let mut sink = FailingSink::new(rt.alloc(), 10);
-    let written = write_log(&log, &mut sink);
-    assert!(rt; written == Err(WriteFault) && sink.bytes() == b"irlog 1\nno".as_slice());
-}
-
 /// The log's text.
 #[derive(Drop)]
 struct LogText<'a>(&'a NodeLog<Global>);

@@ -15,8 +15,7 @@ use ira_order::{Ordered, order};
 use ira_par::check_split;
 use ira_pred::{Case, read_question};
 use ira_refusing::{
-    FailingSink, Outcome, Refusing, Subject, TrialFault, Writer, each_byte_refused,
-    each_growth_of_calls_refused, each_growth_refused,
+    FailingSink, Outcome, Refusing, Writer, each_byte_refused, each_growth_refused,
 };
 use std::alloc::Global;
 use std::process::Abort;
@@ -50,25 +49,20 @@ const NOT_FRONT: &[u8] = b"ircert 1\nnodes 2\nsection\n\
     spent 1\nend\n";
 
 /// Reads a text that has so many sections; one that has none is cut.
-#[derive(Drop)]
-struct Reader;
-
-impl Subject for Reader {
-    type Call = (&'static [u8], usize);
-
-    fn outcome(&self, (text, sections): (&'static [u8], usize), alloc: Memory) -> Outcome {
-        match read_cert(alloc, text) {
-            Ok(certificate) => Outcome::of_answer(certificate.sections.len() == sections),
-            Err(CertFault::Cut) => Outcome::of_answer(sections == 0),
-            Err(fault) => Outcome::of_fault(fault == CertFault::OutOfMemory),
-        }
+fn read(alloc: Memory, text: &[u8], sections: usize) -> Outcome {
+    match read_cert(alloc, text) {
+        Ok(certificate) => Outcome::of_answer(certificate.sections.len() == sections),
+        Err(CertFault::Cut) => Outcome::of_answer(sections == 0),
+        Err(fault) => Outcome::of_fault(fault == CertFault::OutOfMemory),
     }
 }
 
 #[test]
 fn certificates_read(rt: HostRuntime) {
     let texts = [(TWO_STEPS, 1), (CUT, 0)];
-    let refused = each_growth_of_calls_refused(rt.alloc(), &Reader, &texts);
+    let refused = each_growth_refused(rt.alloc(), &texts, |(text, sections), alloc| {
+        read(alloc, text, sections)
+    });
     assert!(rt; refused.is_ok(), "{refused:?}");
 }
 
@@ -184,11 +178,6 @@ fn handle(rt: &impl Abort, memory: &Memory) -> Memory {
     memory.clone().expect(rt, "memory")
 }
 
-/// Compares that the call passed its trial, and that some of its growths were refused.
-fn assert_refused(rt: &impl Abort, growths: Result<u64, TrialFault>) {
-    assert!(rt; matches!(growths, Ok(number) if 0 < number), "{growths:?}");
-}
-
 /// What becomes of the call on this row and its logs with `alloc`. What else it is made on lies in ample memory.
 fn outcome<R: Abort + Threads + Wait + Clock + Sync>(
     rt: &R,
@@ -208,16 +197,13 @@ fn outcome<R: Abort + Threads + Wait + Clock + Sync>(
 
 #[test]
 fn sections_judged_and_made(rt: HostRuntime) {
-    let memory = Refusing::new(rt.alloc()).expect(&rt, "memory");
     let ample = Refusing::new(rt.alloc()).expect(&rt, "memory");
     for row in &ROWS {
         let logs = logs_of(handle(&rt, &ample), &row.logs).expect(&rt, "the logs of one ring");
-        for call in CALLS {
-            let growths = each_growth_refused(&memory, |alloc| {
-                outcome(&rt, call, row, &logs, alloc, &ample)
-            });
-            assert_refused(&rt, growths);
-        }
+        let refused = each_growth_refused(rt.alloc(), &CALLS, |call, alloc| {
+            outcome(&rt, call, row, &logs, alloc, &ample)
+        });
+        assert!(rt; refused.is_ok(), "{refused:?}");
     }
 }
 

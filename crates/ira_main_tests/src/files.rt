@@ -3,7 +3,7 @@
 use crate::fakes::Memory;
 use ira_event::write_bytes;
 use ira_main::{FileShelf, Shelf, ShelfFault, TextBuffer, TextSource};
-use ira_refusing::{Outcome, Subject, each_growth_of_calls_refused};
+use ira_refusing::{Outcome, each_growth_refused};
 use std::alloc::Allocator;
 use std::fs;
 use std::rt::Files;
@@ -58,24 +58,12 @@ fn written_and_read(rt: &impl Files, alloc: &Memory, name: &str) -> Outcome {
     }
 }
 
-/// The files of the system.
-#[derive(Drop)]
-struct Disk<'a, R: Files> {
-    rt: &'a R,
-}
-
-impl<R: Files> Subject for Disk<'_, R> {
-    type Call = &'static str;
-
-    fn outcome(&self, name: &'static str, alloc: Memory) -> Outcome {
-        written_and_read(self.rt, &alloc, name)
-    }
-}
-
 #[test]
 fn memory_refused_to_a_file(rt: HostRuntime) {
     let name = "memory_refused_to_a_file.log";
-    let refused = each_growth_of_calls_refused(rt.alloc(), &Disk { rt: &rt }, &[name]);
+    let refused = each_growth_refused(rt.alloc(), &[name], |name, alloc| {
+        written_and_read(&rt, &alloc, name)
+    });
     assert!(rt; refused.is_ok(), "{refused:?}");
     assert!(rt; fs::remove_file(&rt, name).is_ok());
 }

@@ -6,7 +6,7 @@ use crate::samples::{
     ELECTED_0, ELECTED_1, LEADER_AND_ACTIVE, PAIRS_OF_THREE, TWO_CASES, TWO_STEPS,
 };
 use ira_main::Counted;
-use ira_refusing::{Outcome, Refusing, TrialFault, each_growth_refused};
+use ira_refusing::{Outcome, each_growth_refused};
 use std::process::Abort;
 use std::sync::Wait;
 use std::thread::Threads;
@@ -119,21 +119,10 @@ where
     }
 }
 
-/// Has each growth of the case refused, and gives how many these were.
-fn refused_of<R>(rt: &R, case: Case<'_>) -> Result<u64, TrialFault>
-where
-    R: AllocGlobal + Threads + Wait + Clock + Sync,
-{
-    let memory = Refusing::new(rt.alloc())?;
-    each_growth_refused(&memory, |alloc| outcome(rt, alloc, case))
-}
-
 #[test]
 fn each_growth_is_refused(rt: HostRuntime) {
-    for (place, case) in CASES.iter().enumerate() {
-        let growths = refused_of(&rt, *case);
-        assert!(rt; matches!(growths, Ok(1..)), "case {place}: {growths:?}");
-    }
+    let refused = each_growth_refused(rt.alloc(), &CASES, |case, alloc| outcome(&rt, alloc, case));
+    assert!(rt; refused.is_ok(), "{refused:?}");
 }
 
 /// Whether the program says that it can't write its answer to a sink that takes as many bytes as these, and has

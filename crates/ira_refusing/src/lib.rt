@@ -1,4 +1,4 @@
-//! For tests: an allocator that refuses one growth, a sink that fails once, and trials that have each growth of a call
+//! For tests: an allocator that refuses one growth, a sink that fails once, and trials that have each growth of calls
 //! refused in turn, or each byte of a text.
 #![tactic(auto)]
 
@@ -10,7 +10,7 @@ mod refusing;
 mod trial_fault;
 
 pub use each_byte::{Writer, each_byte_refused};
-pub use each_growth::{Subject, each_growth_of_calls_refused, each_growth_refused};
+pub use each_growth::each_growth_refused;
 pub use failing_sink::FailingSink;
 pub use outcome::Outcome;
 pub use refusing::Refusing;

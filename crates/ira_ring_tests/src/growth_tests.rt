@@ -3,7 +3,7 @@
 use ira_event::{OutOfMemory, RingSize, WriteFault};
 use ira_links::OpenGate;
 use ira_refusing::{
-    FailingSink, Outcome, Refusing, TrialFault, Writer, each_byte_refused, each_growth_refused,
+    FailingSink, Outcome, Refusing, Writer, each_byte_refused, each_growth_refused,
 };
 use ira_ring::{
     Collector, NodeEnd, Run, RunFault, Setup, draw_lists, run_alone, run_alone_seeded, run_ring,
@@ -18,7 +18,7 @@ use std::time::Clock;
 type Memory = Refusing<Global>;
 
 /// The calls whose growths are refused.
-#[derive(Clone, Copy, Debug)]
+#[derive(Clone, Copy)]
 enum Call {
     DrawLists,
     NewCollector,
@@ -121,22 +121,14 @@ impl Given {
     }
 }
 
-/// Compares that the call passed its trial, and that some of its growths were refused.
-fn assert_refused(rt: &impl Abort, call: Call, growths: Result<u64, TrialFault>) {
-    assert!(rt;
-        matches!(growths, Ok(number) if 0 < number),
-        "{call:?}: {growths:?}"
-    );
-}
-
 #[test]
 fn each_growth_is_refused(rt: HostRuntime) {
     let memory = Refusing::new(rt.alloc()).expect(&rt, "memory");
     let given = Given::new(&rt, &memory);
-    for call in CALLS {
-        let growths = each_growth_refused(&memory, |alloc| given.outcome(&rt, call, alloc));
-        assert_refused(&rt, call, growths);
-    }
+    let refused = each_growth_refused(rt.alloc(), &CALLS, |call, alloc| {
+        given.outcome(&rt, call, alloc)
+    });
+    assert!(rt; refused.is_ok(), "{refused:?}");
 }
 
 /// The text of a run's ends.
