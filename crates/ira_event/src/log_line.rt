@@ -89,11 +89,10 @@ fn take_message_line(text: &[u8]) -> Option<(Msg, &[u8])>
 pub(crate) fn take_bit(text: &[u8]) -> Option<(bool, &[u8])>
     ensures { Gives (λ found. (found.0, found.1.now)) result (bit_at text.now) }
 {
-    match text {
-        [b' ', b'c', b'l', b'e', b'a', b'n', b'\n', rest @ ..] => Some((false, rest)),
-        [b' ', b'd', b'i', b'r', b't', b'y', b'\n', rest @ ..] => Some((true, rest)),
-        _ => None,
-    }
+    // Which of the two it is can't be foreseen, so the word is chosen and not branched on.
+    let dirty = matches!(text, [_, b'd', ..]);
+    let word: &[u8] = if dirty { b" dirty\n" } else { b" clean\n" };
+    Some((dirty, skip_word(text, word)?))
 }
 
 #[inline(always)]

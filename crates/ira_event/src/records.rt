@@ -1,4 +1,4 @@
-ghost use Rattle.std.specs.Prelude.{◌≡◌, ◌≤◌, ◌↔◌, ◌==◌, None, IsTrue, position};
+ghost use Rattle.std.specs.Prelude.{◌≡◌, ◌≤◌, ◌↔◌, ◌==◌, None, IsTrue, length, position};
 ghost use Rattle.ira_event.specs.LogScan.{line_at};
 ghost use Rattle.ira_event.specs.LogTextFault.{BeginsAsRecord, RestFault};
 ghost use Rattle.ira_event.specs.Records.{ReadsOn, ReadsThrough};
@@ -43,7 +43,9 @@ impl<'a> Records<'a> {
     }
 
     /// How many bytes were not read yet.
-    pub(crate) fn unread(&self) -> usize {
+    pub(crate) fn unread(&self) -> usize
+        ensures { result ≡ length self.now.rest }
+    {
         self.rest.len()
     }
 

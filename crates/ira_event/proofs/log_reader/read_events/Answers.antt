@@ -21,7 +21,7 @@ loop-events-smaller g c = record_shorter c.loop-events.records c.next_event.new.
 pub loop-events-preserved : goal.loop-events-preserved
 loop-events-preserved g c =
     let one_more = c.in_ok-push.ensures.items ∙ ap (λ e. c.loop-events.events.items ++ e ∷ []) c.new.ensures in
-    subst (λ es. HasRead c.args.records.rest es c.next_event.new.self) (sym one_more) (behind_more _ _ _ _ _ c.loop-events.invariant (was_read _ _ _ _ c.in_ok-event.ensures c.in-Some.is))
+    rw one_more (behind_more _ _ _ _ _ c.loop-events.invariant (was_read _ _ _ _ c.in_ok-event.ensures c.in-Some.is))
 
 pub returns : goal.returns
 returns g c = behind_all _ _ _ c.loop-events.invariant (was_last _ _ _ c.in_ok-event.ensures c.in_default.is)
