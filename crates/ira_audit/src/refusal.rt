@@ -11,7 +11,7 @@ use ira_pred::AskFault;
 use std::alloc::{AllocError, AllocFailed, Allocator};
 
 /// Why there is no yes: a reason, which never says that memory ran out, or a growth that was refused.
-#[derive(Clone, Copy, Debug, PartialEq, Eq)]
+#[derive(Clone, Copy)]
 pub(crate) enum Refusal {
     No(Reason),
     OutOfMemory,

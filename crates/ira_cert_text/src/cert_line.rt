@@ -7,7 +7,7 @@ use crate::cert_step::CertStep;
 use ira_event::{skip_word, take_number};
 
 /// The numbers of a step as they are spelled, in range or not.
-#[derive(Clone, Copy, Debug)]
+#[derive(Clone, Copy)]
 pub(crate) struct SpelledStep {
     pub node: u32,
     pub pos: u32,
@@ -16,7 +16,7 @@ pub(crate) struct SpelledStep {
 }
 
 /// A line of a section behind its first one, its numbers as they are spelled.
-#[derive(Clone, Copy, Debug)]
+#[derive(Clone, Copy)]
 pub(crate) enum SpelledLine {
     Step(SpelledStep),
     Spent(u32),

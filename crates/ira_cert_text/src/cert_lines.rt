@@ -32,7 +32,7 @@ impl<'a> Model for CertLines<'a> {
 }
 
 /// A line of a section behind its first one.
-#[derive(Clone, Copy, Debug)]
+#[derive(Clone, Copy)]
 pub(crate) enum SectionLine {
     Step(CertStep),
     Spent(u8),

@@ -13,7 +13,7 @@ use ira_words::WordsFault;
 use std::alloc::{AllocError, AllocFailed};
 
 /// Why the program ends with neither yes nor no.
-#[derive(Debug, Drop)]
+#[derive(Drop)]
 pub(crate) enum ProgramFault<'a> {
     /// The words were refused, with this text.
     Words(String),

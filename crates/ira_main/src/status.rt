@@ -6,7 +6,7 @@ use ira_ring::NodeEnd;
 use std::alloc::Allocator;
 
 /// What the program ends with.
-#[derive(Clone, Copy, Debug, PartialEq, Eq)]
+#[derive(Clone, Copy)]
 pub(crate) enum Status {
     /// The answer was yes, or a node was elected.
     Yes,
