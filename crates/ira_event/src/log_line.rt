@@ -89,10 +89,16 @@ fn take_message_line(text: &[u8]) -> Option<(Msg, &[u8])>
 pub(crate) fn take_bit(text: &[u8]) -> Option<(bool, &[u8])>
     ensures { Gives (λ found. (found.0, found.1.now)) result (bit_at text.now) }
 {
-    // Which of the two it is can't be foreseen, so the word is chosen and not branched on.
-    let dirty = matches!(text, [_, b'd', ..]);
-    let word: &[u8] = if dirty { b" dirty\n" } else { b" clean\n" };
-    Some((dirty, skip_word(text, word)?))
+    let [b' ', a, b, c, d, e, b'\n', rest @ ..] = text else {
+        return None;
+    };
+    // Which word it is can't be foreseen, so it is chosen without a branch.
+    let dirty = *a == b'd';
+    let word = if dirty { *b"dirty" } else { *b"clean" };
+    if [*a, *b, *c, *d, *e] != word {
+        return None;
+    }
+    Some((dirty, rest))
 }
 
 #[inline(always)]

@@ -19,16 +19,29 @@ fn write<A: Allocator + Clone>(
     shelf.close(file)
 }
 
+/// Writes a file whole, and reads it back.
+fn write_and_read<A: Allocator + Clone>(
+    shelf: &mut FileShelf<'_, impl Files, A>,
+    name: &str,
+    text: &str,
+    found: &mut TextBuffer<A>,
+) -> Result<(), ShelfFault> {
+    write(shelf, name, text)?;
+    shelf.read(name, found)
+}
+
 #[test]
 fn file_written_and_read(rt: HostRuntime) {
     let name = "file_written_and_read.log";
     let mut shelf = FileShelf::new(&rt, rt.alloc());
     let mut found = TextBuffer::new(rt.alloc());
-    assert_eq!(rt; shelf.read(name, &mut found), Err(ShelfFault::Device));
+    assert!(rt; shelf.read(name, &mut found) == Err(ShelfFault::Device));
     for text in ["irlog 1\nnodes 2\n", "", "end 0\n"] {
-        assert_eq!(rt; write(&mut shelf, name, text), Ok(()));
-        assert_eq!(rt; shelf.read(name, &mut found), Ok(()));
-        assert_eq!(rt; found.bytes(), text.as_bytes());
+        let read = write_and_read(&mut shelf, name, text, &mut found);
+        assert!(rt;
+            read == Ok(()) && found.bytes() == text.as_bytes(),
+            "{read:?}"
+        );
     }
     assert!(rt; fs::remove_file(&rt, name).is_ok());
 }
@@ -37,22 +50,21 @@ fn file_written_and_read(rt: HostRuntime) {
 fn files_that_cannot_be_used(rt: HostRuntime) {
     let mut shelf = FileShelf::new(&rt, rt.alloc());
     let mut found = TextBuffer::new(rt.alloc());
-    assert_eq!(rt; shelf.read(".", &mut found), Err(ShelfFault::Device));
+    assert!(rt; shelf.read(".", &mut found) == Err(ShelfFault::Device));
     for name in ["nowhere/0.log", ".", "/dev/full"] {
-        assert_eq!(rt; write(&mut shelf, name, "end 0\n"), Err(ShelfFault::Device));
+        assert!(rt;
+            write(&mut shelf, name, "end 0\n") == Err(ShelfFault::Device),
+            "{name}"
+        );
     }
 }
 
-/// Writes a file, and reads it back.
-fn written_and_read(rt: &impl Files, alloc: &Memory, name: &str) -> Outcome {
+/// What becomes of a file that is written and read back with this memory.
+fn outcome(rt: &impl Files, alloc: &Memory, name: &str) -> Outcome {
     let text = "irlog 1\n";
     let mut shelf = FileShelf::new(rt, alloc);
     let mut found = TextBuffer::new(alloc);
-    let read = match write(&mut shelf, name, text) {
-        Ok(()) => shelf.read(name, &mut found),
-        refused => refused,
-    };
-    match read {
+    match write_and_read(&mut shelf, name, text, &mut found) {
         Ok(()) => Outcome::of_answer(found.bytes() == text.as_bytes()),
         Err(fault) => Outcome::of_fault(fault == ShelfFault::OutOfMemory),
     }
@@ -62,7 +74,7 @@ fn written_and_read(rt: &impl Files, alloc: &Memory, name: &str) -> Outcome {
 fn memory_refused_to_a_file(rt: HostRuntime) {
     let name = "memory_refused_to_a_file.log";
     let refused = each_growth_refused(rt.alloc(), &[name], |name, alloc| {
-        written_and_read(&rt, &alloc, name)
+        outcome(&rt, &alloc, name)
     });
     assert!(rt; refused.is_ok(), "{refused:?}");
     assert!(rt; fs::remove_file(&rt, name).is_ok());

@@ -1,7 +1,7 @@
 //! What the program answers where a growth is refused, or a write of its answer fails. What the library of its
 //! command line allocates comes from the system's allocator alone, and is never refused here.
 
-use crate::fakes::{File, Input, Memory, MemoryShelf, NEVER, served, served_amply};
+use crate::fakes::{File, Input, Memory, MemoryShelf, NEVER, Output, served, served_amply};
 use crate::samples::{
     ELECTED_0, ELECTED_1, LEADER_AND_ACTIVE, PAIRS_OF_THREE, TWO_CASES, TWO_STEPS,
 };
@@ -31,7 +31,7 @@ const FILES: &[(&str, File<'static>)] = &[
 
 const ELECTION: &[(&str, &str)] = &[("d/0.log", ELECTED_0), ("d/1.log", ELECTED_1)];
 
-const CASES: [Case<'static>; 9] = [
+const CASES: &[Case<'static>] = &[
     Case {
         words: &[],
         status: 0,
@@ -88,40 +88,47 @@ const CASES: [Case<'static>; 9] = [
     },
 ];
 
-/// Serves the case with this memory. A call that gives up has printed nothing, and written the first of its files at
-/// most; but `decide` may give up behind its findings, while it makes the certificate of them.
-fn outcome<R>(rt: &R, alloc: Memory, case: Case<'_>) -> Outcome
-where
-    R: AllocGlobal + Threads + Wait + Clock + Sync,
-{
-    let mut shelf = MemoryShelf::new(rt.alloc(), FILES);
-    let mut input = Counted::new(Input::new(ELECTED_0.as_bytes()));
-    let words = case.words;
-    let found = served(rt, alloc, words, &mut shelf, &mut input, [NEVER, NEVER]);
-    let (status, out, err) = (found.status, found.out.bytes(), found.err.bytes());
-    if status == case.status
-        && err.is_empty()
-        && out == case.out.as_bytes()
-        && shelf.has_written(case.written)
-    {
+/// The statuses and lines of a call that gives up: memory ran out, or a thread wasn't started.
+const GIVE_UPS: &[(u8, &[u8])] = &[(3, b"ira: out of memory\n"), (2, b"ira: run refused 3\n")];
+
+/// What became of the case, which left its files on this shelf. A call that gives up has printed nothing, and written the
+/// first of its files at most; but `decide` may give up behind its findings, while it makes the certificate of them.
+fn judged(found: &Output, shelf: &MemoryShelf<'_>, case: &Case<'_>) -> Outcome {
+    let (out, err) = (found.out.bytes(), found.err.bytes());
+    let answer = (case.status, case.out.as_bytes(), b"".as_slice());
+    if (found.status, out, err) == answer && shelf.has_written(case.written) {
         return Outcome::Right;
     }
-    let tells_memory = status == 3 && err == b"ira: out of memory\n".as_slice();
-    let tells_thread = status == 2 && err == b"ira: run refused 3\n".as_slice();
-    let has_printed = case.words.first() == Some(&"decide") && out == case.out.as_bytes();
-    if (tells_memory || tells_thread)
-        && (out.is_empty() || has_printed)
-        && shelf.has_written_first(case.written)
-    {
+    let has_decided = out == case.out.as_bytes() && case.words.first() == Some(&"decide");
+    let gives_up = GIVE_UPS.contains(&(found.status, err)) && (out.is_empty() || has_decided);
+    if gives_up && shelf.has_written_first(case.written) {
         Outcome::GaveUp
     } else {
         Outcome::Wrong
     }
 }
 
+/// Serves the case with this memory.
+fn outcome<R>(rt: &R, alloc: Memory, case: &Case<'_>) -> Outcome
+where
+    R: AllocGlobal + Threads + Wait + Clock + Sync,
+{
+    let mut shelf = MemoryShelf::new(rt.alloc(), FILES);
+    let mut input = Counted::new(Input::new(ELECTED_0.as_bytes()));
+    let found = served(
+        rt,
+        alloc,
+        case.words,
+        &mut shelf,
+        &mut input,
+        [NEVER, NEVER],
+    );
+    judged(&found, &shelf, case)
+}
+
 #[test]
 fn each_growth_is_refused(rt: HostRuntime) {
-    let refused = each_growth_refused(rt.alloc(), &CASES, |case, alloc| outcome(&rt, alloc, case));
+    let refused = each_growth_refused(rt.alloc(), CASES, |case, alloc| outcome(&rt, alloc, &case));
     assert!(rt; refused.is_ok(), "{refused:?}");
 }
 
@@ -135,9 +142,8 @@ fn is_cut_behind(
     let mut shelf = MemoryShelf::new(rt.alloc(), &[]);
     let mut input = Counted::new(Input::empty());
     let found = served_amply(rt, words, &mut shelf, &mut input, [taken.len(), NEVER]);
-    found.status == 2
-        && found.out.bytes() == taken
-        && found.err.bytes() == b"ira: cannot write the answer\n".as_slice()
+    let told = b"ira: cannot write the answer\n".as_slice();
+    (found.status, found.out.bytes(), found.err.bytes()) == (2, taken, told)
 }
 
 #[test]
