@@ -5,7 +5,7 @@ ghost use Rattle.ira_audit.specs.Report.{IsReportable};
 use crate::lines::has_lines;
 use crate::samples::{ELECTION, ELECTION_0, ELECTION_1, LEADER_AND_ACTIVE, TWO_STEPS};
 use ira_audit::{
-    Answer, Findings, Reason, RingAudit, audit, audit_logs, decide_all, write_findings,
+    Answer, Findings, Reason, RingAudit, audit, audit_logs, audit_one, decide_all, write_findings,
     write_report,
 };
 use ira_cert::CertFault;
@@ -176,6 +176,14 @@ where
 fn each_growth_is_refused(rt: HostRuntime) {
     let refused = each_growth_refused(rt.alloc(), &CALLS, |call, alloc| outcome(&rt, call, alloc));
     assert!(rt; refused.is_ok(), "{refused:?}");
+}
+
+#[test]
+fn log_judged_alone_in_no_memory(rt: HostRuntime) {
+    let memory = Refusing::new(rt.alloc()).expect(&rt, "memory");
+    memory.refuse(1);
+    let answer = audit_one(memory.clone().expect(&rt, "memory"), ELECTION_0);
+    assert!(rt; answer == Ok(Answer::Yes) && memory.asked() == 0);
 }
 
 /// Whether the answer's line, written to a sink that fails behind so many bytes, leaves these there.
