@@ -9,6 +9,7 @@ pub mod LogReading
 pub mod LogTexts
 pub mod NextLines
 pub mod Numerals
+pub mod Passing
 pub mod Pieces
 pub mod RecordLines
 pub mod Rest

@@ -1,5 +1,5 @@
 -- The messages that events send and receive.
-use Rattle.std.specs.Prelude.{List, Option, Some, None}
+use Rattle.std.specs.Prelude.{◌≡◌, List, [], ◌++◌, Option, Some, None}
 use Rattle.std.specs.List.{filter_map}
 use Rattle.ira_event.specs.declared.msg.Msg.{Msg}
 use Rattle.ira_event.specs.declared.event.Event.{Event}
@@ -24,3 +24,7 @@ sent events = filter_map sending events
 -- the messages that these events receive, in their order
 abbrev pub got : List Event → List Msg
 got events = filter_map receipt events
+
+-- on the way from these events to those that are left, none is passed that has such a message
+abbrev pub PassesNo : (Event → Option Msg) → List Event → List Event → Type 0
+PassesNo message events left = (passed : List Event) × (events ≡ passed ++ left) × (filter_map message passed ≡ [])

@@ -1,8 +1,9 @@
 ghost use Rattle.std.specs.Prelude.{◌≡◌, ◌∷◌, [], true, MatchOption};
 ghost use Rattle.std.specs.Iterator.{YieldsFirst, item_count};
 ghost use Rattle.std.specs.List.{list_all};
+ghost use Rattle.ira_event.specs.declared.event.Event.TheVariants.{Sent, Got};
 ghost use Rattle.ira_event.specs.Event.{is_event};
-ghost use Rattle.ira_event.specs.Messages.{sent, got};
+ghost use Rattle.ira_event.specs.Messages.{sending, receipt, sent, got, PassesNo};
 
 use crate::event::Event;
 use crate::listed::Listed;
@@ -51,10 +52,12 @@ impl<'a> Events<'a> {
         }
     }
 
-    /// The first message that these events send; the events up to it are passed over.
+    /// The first message that these events send.
     pub fn next_sending(&mut self) -> Option<PackedMsg>
-        ensures { MatchOption result (sent self.old ≡ [])
+        ensures message { MatchOption result (sent self.old ≡ [])
             (λ message. sent self.old ≡ message ∷ sent self.new) }
+        ensures passed { MatchOption result (self.new ≡ [])
+            (λ message. PassesNo sending self.old (Sent message ∷ self.new)) }
     {
         while let Some((first, others)) = self.packed.split_first() {
             self.packed = others;
@@ -71,10 +74,12 @@ impl<'a> Events<'a> {
         None
     }
 
-    /// The first message that these events receive; the events up to it are passed over.
+    /// The first message that these events receive.
     pub fn next_receipt(&mut self) -> Option<PackedMsg>
-        ensures { MatchOption result (got self.old ≡ [])
+        ensures message { MatchOption result (got self.old ≡ [])
             (λ message. got self.old ≡ message ∷ got self.new) }
+        ensures passed { MatchOption result (self.new ≡ [])
+            (λ message. PassesNo receipt self.old (Got message ∷ self.new)) }
     {
         while let Some((first, others)) = self.packed.split_first() {
             self.packed = others;

@@ -1,13 +1,14 @@
 use Rattle.std.proofs.Common.{◌≡◌, [], true, ◌++◌, length}
 use Rattle.std.specs.List.{list_all}
 use Rattle.ira_event.specs.Event.{is_event}
-use Rattle.ira_event.specs.Messages.{got}
+use Rattle.ira_event.specs.Messages.{receipt, got, PassesNo}
 use Rattle.ira_event.proofs.events.Events.next_receipt.Given as goal
 
 abbrev pub invariant-loop-first : goal.invariant-loop-first
 invariant-loop-first l = record {
   plain : list_all is_event l.self-inside.plain.now ≡ true;
-  passed : got (l.self-inside.packed.now ++ l.self-inside.plain.now) ≡ got l.fn.self;
+  messages : got (l.self-inside.packed.now ++ l.self-inside.plain.now) ≡ got l.fn.self;
+  passed : PassesNo receipt l.fn.self (l.self-inside.packed.now ++ l.self-inside.plain.now);
 }
 
 abbrev pub decreases-loop-first : goal.decreases-loop-first
@@ -17,7 +18,8 @@ abbrev pub invariant-loop-first-2 : goal.invariant-loop-first-2
 invariant-loop-first-2 l = record {
   packed : l.self-inside.packed.now ≡ [];
   plain : list_all is_event l.self-inside.plain.now ≡ true;
-  passed : got l.self-inside.plain.now ≡ got l.fn.self;
+  messages : got l.self-inside.plain.now ≡ got l.fn.self;
+  passed : PassesNo receipt l.fn.self l.self-inside.plain.now;
 }
 
 abbrev pub decreases-loop-first-2 : goal.decreases-loop-first-2
