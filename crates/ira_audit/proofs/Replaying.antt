@@ -8,7 +8,7 @@ use Rattle.ira_event.specs.LogText.{IsLogText}
 use Rattle.ira_event.specs.LogTextFault.{LogTextFault, behind_head, RecordsFault, BeginsWithHead}
 use Rattle.ira_event.specs.Records.{RecordsLeft, ReadsRecord, HasRead, ReadsThrough}
 use Rattle.ira_event.proofs.EarlyFaults.{not_out_of_memory}
-use Rattle.ira_event.proofs.LogReading.{behind_nothing, behind_more}
+use Rattle.ira_event.proofs.LogReading.{behind_nothing, behind_more, behind_all}
 use Rattle.ira_event.proofs.LogAnswers.{log_read}
 use Rattle.ira_event.specs.declared.out_of_memory.OutOfMemory.{OutOfMemory}
 use Rattle.ira_event.specs.declared.log_fault.LogFault.{LogFault}
@@ -71,11 +71,11 @@ has_stopped text nodes initiator old new state position e f h r at bad = (
   },
 )
 
-pub judged_no : (text : List ℕ) (head : LogHead) (left : RecordsLeft) (f : ReplayFault) (done : ⊤)
-    → HasStopped text head.nodes head.initiator left f → ReadsThrough left (Ok done) → IsJudged text head (No (reason.Replay head.place f.position f.fault))
-judged_no text head left f done h through =
+pub judged_no : (text : List ℕ) (head : LogHead) (left last : RecordsLeft) (f : ReplayFault) (done : ⊤)
+    → HasStopped text head.nodes head.initiator left f → ReadsThrough left last (Ok done) → IsJudged text head (No (reason.Replay head.place f.position f.fault))
+judged_no text head left last f done h through =
     let l = through text h.0 h.1 in
-    (h.0 ++ l.0, l.1, inr (f, refl, h.2 l.0))
+    (h.0 ++ l.0, behind_all text (h.0 ++ l.0) last l.1 l.2, inr (f, refl, h.2 l.0))
 
 pub stop_is : (nodes : ℕ) (initiator : Bool) (text : List ℕ) (left : RecordsLeft) (r : Option ReplayFault) (f : ReplayFault) → ReplaysRecords nodes initiator text left (Ok r) → r ≡ Some f → HasStopped text nodes initiator left f
 stop_is nodes initiator text left (Some g) f h is = let same : g ≡ f = cc in subst (HasStopped text nodes initiator left) same h

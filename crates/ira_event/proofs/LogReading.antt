@@ -153,13 +153,13 @@ pub some_was_read : (old new : RecordsLeft) (r : Option Event) → ReadsOn old n
 some_was_read old new (Some e) h some = (e, h)
 some_was_read old new None h some = absurd cc
 
-pub none_was_last : (old new : RecordsLeft) (r : Option Event) → ReadsOn old new (Ok r) → false ≡ is_some r → IsAtEnd old
+pub none_was_last : (old new : RecordsLeft) (r : Option Event) → ReadsOn old new (Ok r) → false ≡ is_some r → IsAtEnd old × (new ≡ old)
 none_was_last old new (Some e) h none = absurd cc
 none_was_last old new None h none = h
 
 pub was_last : (old new : RecordsLeft) (r : Option Event) → ReadsOn old new (Ok r) → r ≡ None → IsAtEnd old
 was_last old new (Some x) h is = absurd cc
-was_last old new None h is = h
+was_last old new None h is = h.0
 
 pub record_shorter : (old new : RecordsLeft) (e : Event) → ReadsRecord old new e → suc (length new.rest) ≤ length old.rest
 record_shorter old new e r = omega (arith, ap length r.rest, length-append (r.line ++ codes "\n") new.rest, length-append r.line (codes "\n"))

@@ -56,7 +56,7 @@ abbrev ReadsNextRecord : List ℕ → ℕ → Type 0
 ReadsNextRecord rest k = (new : RecordsLeft) × (r : Result (Option Event) LogFault) × ReadsOn (left_of rest k) new r
 
 refused : (rest : List ℕ) (k : ℕ) (f : LogFault) → RestFault k rest f → ReadsNextRecord rest k
-refused rest k f h = (left_of rest k, Err f, h)
+refused rest k f h = (left_of rest k, Err f, (h, refl))
 
 at_record : (rest after : List ℕ) (k : ℕ) (e : Event) (good : Bool) → k ≤ MAX_RECORDS → line_at rest ≡ Some (Record e, after) → is_event e ≡ good → ReadsNextRecord rest k
 at_record rest after k e good within read is = elim (cases_lt k MAX_RECORDS) [
@@ -71,7 +71,7 @@ at_end_line : (rest after : List ℕ) (k n : ℕ) → k ≤ MAX_RECORDS → line
 at_end_line rest after k n within read = elim (cases_eq n k) [
   | inr other ↦ refused rest k fault.Count (fault_count rest after k n read within other)
   | inl same ↦ elim after as (λ xs. line_at rest ≡ Some (End n, xs) → ReadsNextRecord rest k) [
-    | [] ↦ λ q. (left_of rest k, Ok None, at_end rest [] k n q within same refl)
+    | [] ↦ λ q. (left_of rest k, Ok None, (at_end rest [] k n q within same refl, refl))
     | x ∷ xs ↦ λ q. refused rest k fault.Trailing (fault_trailing rest (x ∷ xs) k n q within same (λ none. absurd cc))
   ] read
 ]
@@ -109,8 +109,8 @@ from_record (suc bytes) text es left short h =
     let next = at_any left.rest left.count (line_at left.rest) (omega (arith, h.0.count, h.1)) refl in
     elim next.1 as (λ r. ReadsOn left next.0 r → RecordsAnswered text) [
       | Ok (Some e) ↦ λ r. from_record bytes text (es ++ e ∷ []) next.0 (omega (arith, record_shorter left next.0 e r, short)) (behind_more text es left next.0 e h r)
-      | Ok None ↦ λ r. inl (es, behind_all text es left h r)
-      | Err f ↦ λ r. inr (f, behind_fault text es left f h r)
+      | Ok None ↦ λ r. inl (es, behind_all text es left h r.0)
+      | Err f ↦ λ r. inr (f, behind_fault text es left f h r.0)
     ] next.2
 
 records_answered : (text : List ℕ) → RecordsAnswered text

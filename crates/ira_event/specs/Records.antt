@@ -5,7 +5,7 @@ use Rattle.ira_event.specs.declared.event.Event.{Event}
 use Rattle.ira_event.specs.declared.log_fault.LogFault.{LogFault}
 use Rattle.ira_event.specs.Event.{is_event}
 use Rattle.ira_event.specs.LogText.{IsRecord, IsEnd}
-use Rattle.ira_event.specs.LogTextFault.{BeginsWithRecords, RestFault, RecordsFault, AreAllRecords}
+use Rattle.ira_event.specs.LogTextFault.{BeginsWithRecords, RestFault}
 
 -- what was not read yet, and how many records were
 pub record RecordsLeft : Type 0 where
@@ -27,18 +27,24 @@ pub record IsAtEnd (left : RecordsLeft) : Type 0 where
   pub is : IsEnd line left.count
   pub rest : left.rest ≡ line ++ codes "\n"
 
--- reading on gave the next record's event, no event at the end, or the fault of what is left
+-- reading on gave the next record's event, no event at the end, or the fault of what is left; where it gave no
+-- event nothing more was read
 abbrev pub ReadsOn : RecordsLeft → RecordsLeft → Result (Option Event) LogFault → Type 0
 ReadsOn old new (Ok (Some e)) = ReadsRecord old new e
-ReadsOn old new (Ok None) = IsAtEnd old
-ReadsOn old new (Err f) = RestFault old.count old.rest f
+ReadsOn old new (Ok None) = IsAtEnd old × (new ≡ old)
+ReadsOn old new (Err f) = RestFault old.count old.rest f × (new ≡ old)
 
 -- the text begins with the lines of these events, which were read, and this is left of it
 abbrev pub HasRead : List ℕ → List Event → RecordsLeft → Type 0
 HasRead text events left = BeginsWithRecords text events left.rest × (length events ≡ left.count)
 
--- reading to the end found later events and behind them the end of the text, or the fault of what
--- stands behind the events that were read before
-abbrev pub ReadsThrough : RecordsLeft → Result ⊤ LogFault → Type 0
-ReadsThrough left (Ok done) = (text : List ℕ) (events : List Event) → HasRead text events left → (later : List Event) × AreAllRecords text (events ++ later)
-ReadsThrough left (Err f) = (text : List ℕ) (events : List Event) → HasRead text events left → RecordsFault text f
+-- this is left of the records: the end line alone, or something with this fault
+abbrev pub IsEndOrFault : RecordsLeft → Result ⊤ LogFault → Type 0
+IsEndOrFault left (Ok done) = IsAtEnd left
+IsEndOrFault left (Err f) = RestFault left.count left.rest f
+
+-- later events were read, behind those that were read before, as far as the end or a fault
+abbrev pub ReadsThrough : RecordsLeft → RecordsLeft → Result ⊤ LogFault → Type 0
+ReadsThrough old new result =
+    (text : List ℕ) (events : List Event) → HasRead text events old
+    → (later : List Event) × HasRead text (events ++ later) new × IsEndOrFault new result

@@ -91,7 +91,7 @@ impl<'a> Records<'a> {
 
     /// Reads the records that are left, and answers the fault behind them, if there is one.
     pub fn read_through(&mut self) -> Result<(), LogFault>
-        ensures { ReadsThrough self.old result }
+        ensures { ReadsThrough self.old self.new result }
     {
         while self.next_event()?.is_some() {}
         Ok(())

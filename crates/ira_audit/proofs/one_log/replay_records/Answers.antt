@@ -13,7 +13,7 @@ returns-in_err-event c =
     let p = err_from_is_err_and c.from_residual.result c.from_residual.ensures.1 in
     let same : p.0 ≡ c.in_err-event.field-0.0 = p.2 in
     let h = c.loop-event.invariant in
-    rw (p.1, same) (behind_fault _ h.events c.loop-event.records _ h.read c.in_err-event.ensures)
+    rw (p.1, same) (behind_fault _ h.events c.loop-event.records _ h.read c.in_err-event.ensures.0)
 
 pub overflow_add-position : goal.overflow_add-position
 overflow_add-position c =

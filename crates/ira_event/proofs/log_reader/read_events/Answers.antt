@@ -13,7 +13,7 @@ pub returns-in_err-event : goal.returns-in_err-event
 returns-in_err-event g c =
     let p = err_from_is_err_and c.from_residual-in_err-event.result c.from_residual-in_err-event.ensures.1 in
     let same : p.0 ≡ c.in_err-event.field-0.0 = p.2 in
-    rw (p.1, same) (inr (behind_fault _ _ _ _ c.loop-events.invariant c.in_err-event.ensures))
+    rw (p.1, same) (inr (behind_fault _ _ _ _ c.loop-events.invariant c.in_err-event.ensures.0))
 
 pub loop-events-smaller : goal.loop-events-smaller
 loop-events-smaller g c = record_shorter c.loop-events.records c.next_event.new.self c.in-Some.event (was_read _ _ _ _ c.in_ok-event.ensures c.in-Some.is)
