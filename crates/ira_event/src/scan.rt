@@ -1,4 +1,5 @@
-ghost use Rattle.std.specs.Prelude.{◌≡◌, ◌≤◌, ◌+◌, ◌*◌, ℕ, drop, length};
+ghost use Rattle.std.specs.Prelude.{◌≡◌, ◌≤◌, ◌+◌, ◌-◌, ◌*◌, ℕ, true, false, drop, length, MatchOption};
+ghost use Rattle.std.specs.Char.{is_ascii_digit};
 ghost use Rattle.ira_event.specs.Scan.{digits_from, kept, kept_at, after_word, Gives};
 
 /// More digits than any number within the limits has behind its first one. So many turns are
@@ -11,6 +12,17 @@ pub fn skip_word<'a>(text: &'a [u8], word: &[u8]) -> Option<&'a [u8]>
     ensures { Gives (λ rest. rest.now) result (after_word word.now text.now) }
 {
     text.strip_prefix(word)
+}
+
+/// The digit that the byte stands for. No branch is taken on the way to a digit.
+#[inline(always)]
+pub(crate) fn to_digit(byte: u8) -> Option<u32>
+    ensures { MatchOption result (is_ascii_digit byte ≡ false)
+        (λ digit. (is_ascii_digit byte ≡ true) × (digit ≡ byte - 48)) }
+{
+    // What is no digit wraps round to more than 9.
+    let digit = u32::from(byte).wrapping_sub(u32::from(b'0'));
+    if digit <= 9 { Some(digit) } else { None }
 }
 
 /// The number that the text begins with, and what follows it. A number is `0`, or a digit 1 to 9 and
@@ -35,10 +47,10 @@ fn take_digits(first: u32, text: &[u8]) -> (u32, &[u8])
     if text.len() >= FEW {
         let mut value = first;
         for i in 0..FEW {
-            if !text[i].is_ascii_digit() {
+            let Some(digit) = to_digit(text[i]) else {
                 return (value, &text[i..]);
-            }
-            value = with_digit(value, u32::from(text[i] - b'0'));
+            };
+            value = with_digit(value, digit);
         }
     }
     let (value, digits) = read_many_digits(first, text);
@@ -55,10 +67,10 @@ fn read_many_digits(first: u32, text: &[u8]) -> (u32, usize)
 {
     let mut value = first;
     for i in 0..text.len() {
-        if !text[i].is_ascii_digit() {
+        let Some(digit) = to_digit(text[i]) else {
             return (value, i);
-        }
-        value = with_digit(value, u32::from(text[i] - b'0'));
+        };
+        value = with_digit(value, digit);
     }
     (value, text.len())
 }

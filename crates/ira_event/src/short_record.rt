@@ -8,7 +8,7 @@ ghost use Rattle.ira_event.specs.declared.short_record.TheConstants.{NUMBER_ROOM
 use crate::event::Event;
 use crate::log_line::{LineWord, take_bit, take_word};
 use crate::msg::Msg;
-use crate::scan::skip_word;
+use crate::scan::{skip_word, to_digit};
 
 /// A short number has at most six digits and isn't 0, so it is within the limits. This is room for
 /// its digits and the byte behind them.
@@ -83,16 +83,15 @@ fn short_number(text: &[u8], start: usize) -> Option<(u32, usize)>
     ensures in_range { IfSome result (λ found. is_number found.0 ≡ true) }
     ensures end { IfSome result (λ found. found.1 < start + NUMBER_ROOM) }
 {
-    let first @ b'1'..=b'9' = text[start] else {
+    let Some(first @ 1..) = to_digit(text[start]) else {
         return None;
     };
-    let mut value = u32::from(first - b'0');
+    let mut value = first;
     for i in 1..NUMBER_ROOM {
-        let byte = text[start + i];
-        if !byte.is_ascii_digit() {
+        let Some(digit) = to_digit(text[start + i]) else {
             return Some((value, start + i));
-        }
-        value = 10 * value + u32::from(byte - b'0');
+        };
+        value = 10 * value + digit;
     }
     None
 }
