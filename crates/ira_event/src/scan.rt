@@ -14,7 +14,7 @@ pub fn skip_word<'a>(text: &'a [u8], word: &[u8]) -> Option<&'a [u8]>
     text.strip_prefix(word)
 }
 
-/// The digit that the byte stands for. No branch is taken on the way to a digit.
+/// The digit that the byte stands for.
 #[inline(always)]
 pub(crate) fn to_digit(byte: u8) -> Option<u32>
     ensures { MatchOption result (is_ascii_digit byte ≡ false)
