@@ -51,11 +51,11 @@ fn outcome(flaw: Flaw, alloc: &Memory, made: &Cell<u8>) -> Outcome {
     }
 }
 
-/// What the trial says of a call with this flaw.
+/// What the trial says of a call with this flaw, at its first growth.
 fn tried(heap: Global, flaw: Flaw) -> Option<TrialFault> {
     let made = Cell::new(0);
     match each_growth_refused(heap, &[flaw], |flaw, alloc| outcome(flaw, &alloc, &made)) {
-        Err((0, fault)) => Some(fault),
+        Err((0, 1, fault)) => Some(fault),
         _ => None,
     }
 }
@@ -69,9 +69,9 @@ fn a_wrong_answer_is_seen(rt: HostRuntime) {
         tried(rt.alloc(), Flaw::AsksForNothing),
     ];
     let wanted = [
-        Some(TrialFault::Wrong(1)),
-        Some(TrialFault::Unfounded(1)),
-        Some(TrialFault::Lasting(1)),
+        Some(TrialFault::Wrong),
+        Some(TrialFault::Unfounded),
+        Some(TrialFault::Lasting),
         Some(TrialFault::Unasked),
     ];
     assert!(rt; found == wanted, "{found:?}");
@@ -85,7 +85,7 @@ enum BadWriter {
 }
 
 impl Writer for BadWriter {
-    fn is_refused(&self, sink: &mut FailingSink<Global>) -> bool {
+    fn is_refused(&self, sink: &mut FailingSink) -> bool {
         match self {
             BadWriter::SaysNothing => write_bytes(b"ab", sink).is_ok(),
             BadWriter::WritesNothing => true,

@@ -49,7 +49,7 @@ fn largest_numbers_and_dirty(rt: HostRuntime) {
 struct LogText<'a>(&'a NodeLog<Global>);
 
 impl Writer for LogText<'_> {
-    fn is_refused(&self, sink: &mut FailingSink<Global>) -> bool {
+    fn is_refused(&self, sink: &mut FailingSink) -> bool {
         write_log(self.0, sink) == Err(WriteFault)
     }
 }
@@ -66,7 +66,7 @@ fn sink_fails_behind_each_byte(rt: HostRuntime) {
 struct QuestionText<'a>(&'a Question<Global>);
 
 impl Writer for QuestionText<'_> {
-    fn is_refused(&self, sink: &mut FailingSink<Global>) -> bool {
+    fn is_refused(&self, sink: &mut FailingSink) -> bool {
         write_question(self.0, sink) == Err(WriteFault)
     }
 }

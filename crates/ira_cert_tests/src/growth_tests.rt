@@ -212,7 +212,7 @@ fn sections_judged_and_made(rt: HostRuntime) {
 struct CertText<'a>(&'a Certificate<Global>);
 
 impl Writer for CertText<'_> {
-    fn is_refused(&self, sink: &mut FailingSink<Global>) -> bool {
+    fn is_refused(&self, sink: &mut FailingSink) -> bool {
         write_cert(self.0, sink) == Err(WriteFault)
     }
 }

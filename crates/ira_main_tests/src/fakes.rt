@@ -211,8 +211,8 @@ pub(crate) const NEVER: usize = usize::MAX;
 #[derive(Drop)]
 pub(crate) struct Output {
     pub(crate) status: u8,
-    pub(crate) out: FailingSink<Global>,
-    pub(crate) err: FailingSink<Global>,
+    pub(crate) out: FailingSink,
+    pub(crate) err: FailingSink,
 }
 
 /// Serves these words with this memory, where each stream fails once behind so many bytes. All tests call the program

@@ -4,7 +4,7 @@ use std::alloc::Global;
 /// What writes a text.
 pub trait Writer {
     /// Writes the text to a sink that fails, and answers whether it says that it can't.
-    fn is_refused(&self, sink: &mut FailingSink<Global>) -> bool;
+    fn is_refused(&self, sink: &mut FailingSink) -> bool;
 }
 
 /// Whether the text, written to a sink that fails behind each of its bytes in turn, leaves those before there. Gives the

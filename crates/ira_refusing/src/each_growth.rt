@@ -8,69 +8,71 @@ const MOST: u64 = 10_000;
 
 /// Makes each of the calls with its first growth refused, then with its second, and so on until it meets no refusal.
 /// After each refusal it is made again with ample memory. Gives how many growths were refused in all, or the place of
-/// the first call that failed its trial. One that asks for no growth fails it.
+/// the first call that failed its trial, with the number of the growth that was to be refused. One that asks for no
+/// growth fails it.
 ///
 /// A call takes its memory from the handle that it is given.
 pub fn each_growth_refused<C, F>(
     heap: Global,
     calls: &[C],
     call: F,
-) -> Result<u64, (usize, TrialFault)>
+) -> Result<u64, (usize, u64, TrialFault)>
 where
     C: Copy,
     F: Fn(C, Refusing<Global>) -> Outcome,
     requires { F.IsAlwaysCallable call }
 {
+    let Ok(memory) = Refusing::new(heap) else {
+        return Err((0, 0, TrialFault::NoMemory));
+    };
     let mut refused = 0_u64;
     for (place, which) in calls.iter().enumerate() {
-        match refused_of(heap, *which, &call) {
-            Ok(0) => return Err((place, TrialFault::Unasked)),
+        match refused_of(&memory, *which, &call) {
             Ok(growths) => refused = refused.saturating_add(growths),
-            Err(fault) => return Err((place, fault)),
+            Err((number, fault)) => return Err((place, number, fault)),
         }
     }
     Ok(refused)
 }
 
 /// How many growths of this call were refused.
-fn refused_of<C, F>(heap: Global, which: C, call: &F) -> Result<u64, TrialFault>
+fn refused_of<C, F>(memory: &Refusing<Global>, which: C, call: &F) -> Result<u64, (u64, TrialFault)>
 where
     C: Copy,
     F: Fn(C, Refusing<Global>) -> Outcome,
     requires { F.IsAlwaysCallable call.now }
 {
-    let memory = Refusing::new(heap)?;
     for number in 1..=MOST {
-        if !meets_refusal(&memory, number, which, call)? {
-            return Ok(number - 1);
-        }
+        memory.refuse(number);
+        let outcome = outcome_of(memory, which, call);
+        let is_refused = number <= memory.asked();
+        memory.serve_all();
+        let fault = match outcome {
+            Outcome::Wrong => TrialFault::Wrong,
+            Outcome::GaveUp if !is_refused => TrialFault::Unfounded,
+            _ if is_refused => {
+                if outcome_of(memory, which, call) == Outcome::Right {
+                    continue;
+                }
+                TrialFault::Lasting
+            }
+            _ if number == 1 => TrialFault::Unasked,
+            _ => return Ok(number - 1),
+        };
+        return Err((number, fault));
     }
-    Err(TrialFault::Endless)
+    Err((MOST, TrialFault::Endless))
 }
 
-/// Whether this call asks for a growth of this number, which is refused.
-fn meets_refusal<C, F>(
-    memory: &Refusing<Global>,
-    number: u64,
-    which: C,
-    call: &F,
-) -> Result<bool, TrialFault>
+/// What becomes of this call. One that can't be given its memory is wrong.
+fn outcome_of<C, F>(memory: &Refusing<Global>, which: C, call: &F) -> Outcome
 where
     C: Copy,
     F: Fn(C, Refusing<Global>) -> Outcome,
     requires { F.IsAlwaysCallable call.now }
 {
-    memory.refuse(number);
-    let outcome = call(which, memory.clone()?);
-    let is_refused = number <= memory.asked();
-    memory.serve_all();
-    match outcome {
-        Outcome::Wrong => return Err(TrialFault::Wrong(number)),
-        Outcome::GaveUp if !is_refused => return Err(TrialFault::Unfounded(number)),
-        Outcome::Right | Outcome::GaveUp => {}
+    match memory.clone() {
+        Ok(alloc) => call(which, alloc),
+        Err(_) => Outcome::Wrong,
     }
-    if is_refused && call(which, memory.clone()?) != Outcome::Right {
-        return Err(TrialFault::Lasting(number));
-    }
-    Ok(is_refused)
 }

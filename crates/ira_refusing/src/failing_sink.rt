@@ -1,21 +1,21 @@
 use ira_event::{Sink, SinkFault};
-use std::alloc::Allocator;
+use std::alloc::Global;
 
 /// The most bytes that it takes at a time.
 const PIECE: usize = 3;
 
 /// A sink that keeps what it takes, in pieces, fails once behind so many bytes, and then goes on.
 #[derive(Drop)]
-pub struct FailingSink<A: Allocator> {
-    bytes: Vec<u8, A>,
+pub struct FailingSink {
+    bytes: Vec<u8>,
     /// How many bytes it takes before it fails.
     left: usize,
     failures: u64,
 }
 
-impl<A: Allocator> FailingSink<A> {
+impl FailingSink {
     /// A sink that has taken nothing, and fails behind so many bytes.
-    pub fn new(alloc: A, left: usize) -> FailingSink<A> {
+    pub fn new(alloc: Global, left: usize) -> FailingSink {
         FailingSink {
             bytes: Vec::new(alloc),
             left,
@@ -29,7 +29,7 @@ impl<A: Allocator> FailingSink<A> {
     }
 }
 
-impl<A: Allocator> Sink for FailingSink<A> {
+impl Sink for FailingSink {
     ghost use Rattle.std.specs.Prelude.{Some};
 
     ghost state = { λ s. record { taken = Some s.bytes.items; failures = s.failures } };

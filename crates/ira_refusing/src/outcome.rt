@@ -1,5 +1,5 @@
 /// What a call answered while memory may have been refused.
-#[derive(Debug, Clone, Copy, PartialEq, Eq)]
+#[derive(Clone, Copy, PartialEq, Eq)]
 pub enum Outcome {
     /// What it answers with ample memory.
     Right,

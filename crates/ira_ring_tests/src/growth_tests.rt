@@ -136,7 +136,7 @@ fn each_growth_is_refused(rt: HostRuntime) {
 struct Ends<'a>(&'a Run<Global>);
 
 impl Writer for Ends<'_> {
-    fn is_refused(&self, sink: &mut FailingSink<Global>) -> bool {
+    fn is_refused(&self, sink: &mut FailingSink) -> bool {
         write_ends(self.0, sink) == Err(WriteFault)
     }
 }
