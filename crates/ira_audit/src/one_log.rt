@@ -37,6 +37,7 @@ fn judge_text(text: &[u8]) -> Result<Answer, LogFault>
 }
 
 /// The answer of the log with this head and these records, none of which was read yet, or their fault.
+#[inline(never)]
 fn judge_records(head: LogHead, records: Records<'_>) -> Result<Answer, LogFault>
     requires { records.count ≡ 0 }
     ensures { MatchResult result (IsJudged records.entry.rest head) (RecordsFault records.entry.rest) }
@@ -55,7 +56,7 @@ fn judge_records(head: LogHead, records: Records<'_>) -> Result<Answer, LogFault
 
 /// Reads the records, none of which was read yet, as far as they have steps, and answers the first one
 /// without a step, if there is one.
-#[inline(never)]
+#[inline(always)]
 fn replay_records(
     nodes: RingSize,
     initiator: bool,
