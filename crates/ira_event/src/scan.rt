@@ -20,7 +20,7 @@ pub(crate) fn to_digit(byte: u8) -> Option<u32>
     ensures { MatchOption result (is_ascii_digit byte ≡ false)
         (λ digit. (is_ascii_digit byte ≡ true) × (digit ≡ byte - 48)) }
 {
-    // What is no digit wraps round to more than 9.
+    // What is no digit gives more than 9: a byte below `0` wraps round.
     let digit = u32::from(byte).wrapping_sub(u32::from(b'0'));
     if digit <= 9 { Some(digit) } else { None }
 }

@@ -20,7 +20,7 @@ const RECORD_ROOM: usize = 5 + MESSAGE_ROOM;
 
 /// The record of short numbers whose line the text begins with, and what follows its line feed.
 /// `None` tells nothing of the text. Nearly all records are read here: with room for each number, no
-/// digit asks whether the text goes on, so that a line takes 126 instructions and not 161.
+/// digit asks whether the text goes on.
 #[inline(always)]
 pub(crate) fn take_short_record(text: &[u8]) -> Option<(Event, &[u8])>
     ensures line { IfSome result (λ found. line_at text.now ≡ Some (Record found.0, found.1.now)) }
