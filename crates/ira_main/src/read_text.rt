@@ -14,6 +14,9 @@ use std::io::Read;
 /// end for nothing.
 const MORE_ROOM: usize = 65_536;
 
+/// Room for as many bytes is asked for at first. Most texts fit, and a page that no byte touches costs nothing.
+const FIRST_ROOM: usize = 4_194_304;
+
 // One read into the room from a place on.
 fn read_at<I: Read>(input: &mut Counted<I>, room: &mut [u8], at: usize) -> io::Result<usize>
     requires within { at < length room.old }
@@ -72,6 +75,9 @@ pub(crate) fn read_text<A: Allocator, I: Read>(
     ensures device { result ≡ Err ShelfFault.Device
         → (input.new.has_failed ≡ true) × (input.new.is_over ≡ true) }
 {
+    if room.is_empty() && room.reserve(FIRST_ROOM).is_err() {
+        return Err(ShelfFault::OutOfMemory);
+    }
     let mut filled = 0;
     while !input.is_over() && filled <= MAX_TEXT {
         filled += read_more(input, room, filled)?;
