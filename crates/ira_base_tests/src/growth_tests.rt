@@ -144,8 +144,9 @@ fn are_active(listed: Result<Vec<u32, Memory>, OutOfMemory>) -> Outcome {
     }
 }
 
-/// What becomes of the call with this memory, on the election's logs and once more that of node 1.
-fn outcome(call: Call, alloc: Memory, logs: &Logs<Memory>, log: &NodeLog<Memory>) -> Outcome {
+/// What becomes of the call with this memory, on the election's logs or on that of its last node.
+fn outcome(call: Call, alloc: Memory, logs: &Logs<Memory>) -> Outcome {
+    let log = logs.log(logs.size().get() - 1);
     match call {
         Call::ReadLog => read(alloc, ELECTION_0, 4),
         Call::ReadLongLog => read(alloc, MANY_DRAWS, 19),
@@ -165,11 +166,9 @@ fn outcome(call: Call, alloc: Memory, logs: &Logs<Memory>, log: &NodeLog<Memory>
 #[test]
 fn each_growth_is_refused(rt: HostRuntime) {
     let memory = Refusing::new(rt.alloc()).expect(&rt, "memory");
-    let handle = memory.clone().expect(&rt, "memory");
-    let logs = logs_of(handle, &[ELECTION_0, ELECTION_1]).expect(&rt, "two logs");
-    let log = read_log(memory, ELECTION_1).expect(&rt, "a log");
+    let logs = logs_of(memory, &[ELECTION_0, ELECTION_1]).expect(&rt, "two logs");
     let refused = each_growth_refused(rt.alloc(), &CALLS, |call, alloc| {
-        outcome(call, alloc, &logs, &log)
+        outcome(call, alloc, &logs)
     });
     assert!(rt; refused.is_ok(), "{refused:?}");
 }

@@ -74,10 +74,6 @@ fn has_run_on_threads(found: Result<Run<Memory>, RunFault>) -> Outcome {
     }
 }
 
-fn handle(rt: &impl Abort, memory: &Memory) -> Memory {
-    memory.clone().expect(rt, "memory")
-}
-
 /// What the calls are made on.
 #[derive(Drop)]
 struct Given {
@@ -87,19 +83,20 @@ struct Given {
 }
 
 impl Given {
-    fn new(rt: &impl Abort, memory: &Memory) -> Given {
+    fn new(rt: &(impl Abort + AllocGlobal)) -> Given {
+        let largest = RingSize::new(64).expect(rt, "a ring of 64");
         let nodes = RingSize::new(2).expect(rt, "a ring of two");
-        let initiators = [true, true].to_vec(handle(rt, memory));
-        let draws = draw_lists(handle(rt, memory), nodes, 7, 1);
-        Given {
-            largest: RingSize::new(64).expect(rt, "a ring of 64"),
-            setup: Setup {
-                nodes,
-                initiators: initiators.expect(rt, "memory"),
-                draws: draws.expect(rt, "memory"),
-                cap: 100,
-            },
-        }
+        let memory = Refusing::new(rt.alloc()).expect(rt, "memory");
+        let handle = memory.clone().expect(rt, "memory");
+        let initiators = [true, true].to_vec(handle).expect(rt, "memory");
+        let draws = draw_lists(memory, nodes, 7, 1).expect(rt, "memory");
+        let setup = Setup {
+            nodes,
+            initiators,
+            draws,
+            cap: 100,
+        };
+        Given { largest, setup }
     }
 
     /// What becomes of the call with this memory.
@@ -123,8 +120,7 @@ impl Given {
 
 #[test]
 fn each_growth_is_refused(rt: HostRuntime) {
-    let memory = Refusing::new(rt.alloc()).expect(&rt, "memory");
-    let given = Given::new(&rt, &memory);
+    let given = Given::new(&rt);
     let refused = each_growth_refused(rt.alloc(), &CALLS, |call, alloc| {
         given.outcome(&rt, call, alloc)
     });
