@@ -21,7 +21,7 @@ use Rattle.ira_replay.specs.declared.replay_fault.ReplayFault.{ReplayFault}
 use Rattle.ira_replay.specs.LocalRun.{LeadsTo}
 use Rattle.ira_audit.specs.Answer as single
 use Rattle.ira_event.specs.declared.log_head.LogHead.{LogHead}
-use Rattle.ira_audit.specs.Replaying.{IsLogAnswer, IsJudged, HasStopped, ReplaysRecords}
+use Rattle.ira_audit.specs.Replaying.{IsLogAnswer, IsLogJudged, HasStopped, ReplaysRecords}
 use Rattle.ira_replay.proofs.Along.{leads_further}
 use Rattle.ira_audit.specs.Report.{IsReportable}
 use Rattle.ira_audit.specs.declared.reason.Reason.TheVariants as reason
@@ -72,7 +72,7 @@ has_stopped text nodes initiator old new state position e f h r at bad = (
 )
 
 pub judged_no : (text : List ℕ) (head : LogHead) (left last : RecordsLeft) (f : ReplayFault) (done : ⊤)
-    → HasStopped text head.nodes head.initiator left f → ReadsThrough left last (Ok done) → IsJudged text head (No (reason.Replay head.place f.position f.fault))
+    → HasStopped text head.nodes head.initiator left f → ReadsThrough left last (Ok done) → IsLogJudged text head (No (reason.Replay head.place f.position f.fault))
 judged_no text head left last f done h through =
     let l = through text h.0 h.1 in
     (h.0 ++ l.0, behind_all text (h.0 ++ l.0) last l.1 l.2, inr (f, refl, h.2 l.0))
@@ -82,7 +82,7 @@ stop_is nodes initiator text left (Some g) f h is = let same : g ≡ f = cc in s
 stop_is nodes initiator text left None f h is = absurd cc
 
 pub text_judged : (text : List ℕ) (head : LogHead) (rest : List ℕ) (r : Result Answer LogFault) → length text ≤ MAX_TEXT → BeginsWithHead text head.nodes head.place head.initiator rest
-    → MatchResult r (IsJudged rest head) (RecordsFault rest) → MatchResult r (λ a. (log : Log) × IsLogText text log × IsLogAnswer log a) (λ f. LogTextFault text f)
+    → MatchResult r (IsLogJudged rest head) (RecordsFault rest) → MatchResult r (λ a. (log : Log) × IsLogText text log × IsLogAnswer log a) (λ f. LogTextFault text f)
 text_judged text head rest (Ok a) short b h =
     (record { nodes = head.nodes; place = head.place; initiator = head.initiator; events = h.0 }, log_read text head.nodes head.place head.initiator rest h.0 b h.1, h.2)
 text_judged text head rest (Err f) short b h = inr (short, behind_head head.nodes head.place head.initiator rest b h)

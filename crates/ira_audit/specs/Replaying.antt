@@ -20,9 +20,9 @@ IsLogAnswer log a =
     ((a ≡ Yes) × IsLocalRun log)
     ⊎ ((f : ReplayFault) × (a ≡ No (reason.Replay log.place f.position f.fault)) × IsFirstFault log f)
 
--- the text is all records of a log with this head and this answer
-abbrev pub IsJudged : List ℕ → LogHead → Answer → Type 0
-IsJudged text head a =
+-- the text, which stands behind this head, is the records and the end line of a log that has this answer
+abbrev pub IsLogJudged : List ℕ → LogHead → Answer → Type 0
+IsLogJudged text head a =
     (events : List Event) × AreAllRecords text events
     × IsLogAnswer (record { nodes = head.nodes; place = head.place; initiator = head.initiator; events = events }) a
 
@@ -32,7 +32,8 @@ HasStopped text nodes initiator left f =
     (events : List Event) × HasRead text events left
     × ((later : List Event) → StopsAt nodes (first_state initiator) (events ++ later) f)
 
--- all records of the text have steps, or those read so far stop, or the text has a fault
+-- the text has no fault, and all its records have steps; or those read so far stop; or the text has this fault, wherever its
+-- records stop
 abbrev pub ReplaysRecords : ℕ → Bool → List ℕ → RecordsLeft → Result (Option ReplayFault) LogFault → Type 0
 ReplaysRecords nodes initiator text left (Ok None) =
     (events : List Event) × (t : NodeState) × AreAllRecords text events × LeadsTo nodes (first_state initiator) events t

@@ -3,7 +3,7 @@ ghost use Rattle.ira_event.specs.Log.{Log};
 ghost use Rattle.ira_event.specs.LogText.{IsLogText};
 ghost use Rattle.ira_event.specs.LogTextFault.{LogTextFault, RecordsFault};
 ghost use Rattle.ira_audit.specs.Answer.{IsAnswer};
-ghost use Rattle.ira_audit.specs.Replaying.{IsLogAnswer, IsJudged, ReplaysRecords};
+ghost use Rattle.ira_audit.specs.Replaying.{IsLogAnswer, IsLogJudged, ReplaysRecords};
 ghost use Rattle.ira_audit.specs.Report.{IsReportable};
 ghost use Rattle.ira_audit.specs.declared.answer.Answer.{Answer};
 
@@ -40,7 +40,7 @@ fn judge_text(text: &[u8]) -> Result<Answer, LogFault>
 #[inline(never)]
 fn judge_records(head: LogHead, records: Records<'_>) -> Result<Answer, LogFault>
     requires { records.count ≡ 0 }
-    ensures { MatchResult result (IsJudged records.entry.rest head) (RecordsFault records.entry.rest) }
+    ensures { MatchResult result (IsLogJudged records.entry.rest head) (RecordsFault records.entry.rest) }
 {
     let mut records = records;
     let Some(stop) = replay_records(head.nodes, head.initiator, &mut records)? else {

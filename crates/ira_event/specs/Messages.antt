@@ -25,6 +25,6 @@ sent events = filter_map sending events
 abbrev pub got : List Event → List Msg
 got events = filter_map receipt events
 
--- on the way from these events to those that are left, none is passed that has such a message
+-- `left` is what stands behind some first ones of these events, none of which has a message by `message`
 abbrev pub PassesNo : (Event → Option Msg) → List Event → List Event → Type 0
 PassesNo message events left = (passed : List Event) × (events ≡ passed ++ left) × (filter_map message passed ≡ [])

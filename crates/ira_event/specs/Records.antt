@@ -38,12 +38,13 @@ ReadsOn old new (Err f) = RestFault old.count old.rest f × (new ≡ old)
 abbrev pub HasRead : List ℕ → List Event → RecordsLeft → Type 0
 HasRead text events left = BeginsWithRecords text events left.rest × (length events ≡ left.count)
 
--- this is left of the records: the end line alone, or something with this fault
+-- this is left of the records: the end line of those that were read, alone, or something with this fault
 abbrev pub IsEndOrFault : RecordsLeft → Result ⊤ LogFault → Type 0
 IsEndOrFault left (Ok done) = IsAtEnd left
 IsEndOrFault left (Err f) = RestFault left.count left.rest f
 
--- later events were read, behind those that were read before, as far as the end or a fault
+-- later events were read, behind those that were read before; the end line, or the line with the first fault, is left
+-- unread
 abbrev pub ReadsThrough : RecordsLeft → RecordsLeft → Result ⊤ LogFault → Type 0
 ReadsThrough old new result =
     (text : List ℕ) (events : List Event) → HasRead text events old

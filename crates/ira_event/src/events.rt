@@ -52,7 +52,8 @@ impl<'a> Events<'a> {
         }
     }
 
-    /// The first message that these events send.
+    /// The first message that these events send. Its event is passed, and all before it; where there is
+    /// none, no event is left.
     pub fn next_sending(&mut self) -> Option<PackedMsg>
         ensures message { MatchOption result (sent self.old ≡ [])
             (λ message. sent self.old ≡ message ∷ sent self.new) }
@@ -74,7 +75,8 @@ impl<'a> Events<'a> {
         None
     }
 
-    /// The first message that these events receive.
+    /// The first message that these events receive. Its event is passed, and all before it; where there
+    /// is none, no event is left.
     pub fn next_receipt(&mut self) -> Option<PackedMsg>
         ensures message { MatchOption result (got self.old ≡ [])
             (λ message. got self.old ≡ message ∷ got self.new) }

@@ -98,7 +98,7 @@ impl<'a> Records<'a> {
     }
 }
 
-/// The fault behind so many records, where neither a record's line nor the end line follows.
+/// The fault behind so many records, where no record's line follows, nor an end line.
 #[cold]
 fn unread_fault(text: &[u8], records: usize) -> LogFault
     requires unread { line_at text.now ≡ None }
