@@ -27,19 +27,20 @@ help:
 	@echo '                it answers then'
 	@echo 'make clean      removes what was built and proved'
 
-# The long chains of libraries, which all else waits for, and the one to the runner, which is shorter.
-CHAIN = ira_event ira_node ira_pred ira_cand ira_replay ira_order ira_cert ira_par ira_audit ira_main
-RUNNER = ira_run ira_threads
+# What others wait for longest: all cores prove each of these. The rest goes on beside them with one core each, and what
+# ira_main alone waits for stands back.
+WAITED_FOR = ira_event ira_node ira_pred ira_cand ira_replay ira_order ira_cert_text ira_cert ira_elim ira_par ira_audit \
+	ira_run ira_threads ira_main
+LAST = ira_words
 
-# All cores prove a library of the chains; the others go on beside it with one, and stand back.
-cores_of = $(if $(filter $(1),$(CHAIN)),$(JOBS),1)
-pace_of = $(if $(filter $(1),$(CHAIN) $(RUNNER) ira),,nice)
+cores_of = $(if $(filter $(1),$(WAITED_FOR)),$(JOBS),1)
+pace_of = $(if $(filter $(1),$(LAST)),nice,)
 
-# As many crates at a time as there are cores. `make` begins with what it is told first, so the longest chain comes
-# first: the program stands on ira_main alone, and that names ira_audit early.
+# As many crates at a time as there are cores, and one that stands back. `make` begins with what it is told first, so the
+# longest chain comes first: the program stands on ira_main alone, and that names ira_audit early.
 ira:
 	@mkdir -p bin
-	@$(MAKE) --no-print-directory -j $(JOBS) START=$(START) bin/ira.proved
+	@$(MAKE) --no-print-directory -j $$(($(JOBS) + 1)) START=$(START) bin/ira.proved
 	@$(say) 'proved and built: bin/ira'
 
 # A crate is proved again where a text of its own has changed, or one of what it stands on.
