@@ -27,14 +27,13 @@ help:
 	@echo '                it answers then'
 	@echo 'make clean      removes what was built and proved'
 
-# What others wait for longest: all cores prove each of these. The rest goes on beside them with one core each, and what
-# ira_main alone waits for stands back.
+# What others wait for longest: all cores prove each of these. The rest goes on beside them with one core each, and
+# ira_words, which waits for no library and only ira_main for it, stands back.
 WAITED_FOR = ira_event ira_node ira_pred ira_cand ira_replay ira_order ira_cert_text ira_cert ira_elim ira_par ira_audit \
 	ira_run ira_threads ira_main
-LAST = ira_words
 
 cores_of = $(if $(filter $(1),$(WAITED_FOR)),$(JOBS),1)
-pace_of = $(if $(filter $(1),$(LAST)),nice,)
+pace_of = $(if $(filter $(1),ira_words),nice,)
 
 # As many crates at a time as there are cores, and one that stands back. `make` begins with what it is told first, so the
 # longest chain comes first: the program stands on ira_main alone, and that names ira_audit early.
