@@ -78,7 +78,7 @@ test:
 # Each growth of the program is refused in turn, those of the command line's library and of the threads too, and each
 # start of a thread. It needs glibc and Python.
 sweep: ira
-	@python3 -B sweep/sweep.py bin/ira
+	@python3 -B sweep/sweep.py bin/ira.o
 
 clean:
 	rm -rf bin crates/*/out

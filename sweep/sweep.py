@@ -1,13 +1,14 @@
 """Refuses each growth of the program in turn: malloc and realloc, of all its threads and of the libraries in it; and
 then each start of a thread.
 
-python3 sweep/sweep.py IRA: runs each command line with its first growth refused, then with its second, and so on
-until no run meets a refusal. Each run must answer as with ample memory, or with status 3 and `ira: out of memory`,
-or with status 2 and `ira: run refused 3`, which says that a thread couldn't be started. Where it gives up it has printed
-nothing, or all (`decide` makes the certificate behind its findings), and each file that it wrote is a first part of
-what it should be.
+python3 sweep/sweep.py IRA.o: links this object, and runs each command line with its first growth refused, then with
+its second, and so on until no run meets a refusal. Each run must answer as with ample memory, or with status 3 and
+`ira: out of memory`, or with status 2 and `ira: run refused 3`, which says that a thread couldn't be started. Where
+it gives up it has printed nothing, or all (`decide` makes the certificate behind its findings), and each file that it
+wrote is a first part of what it should be.
 
-It needs glibc, and the clang of the Rattle kit."""
+The program is linked as the kit does, over the C library of the machine, whose calls a preloaded library can stand
+before. It needs glibc, and the clang of the Rattle kit."""
 
 import os, shutil, subprocess, sys, tempfile
 
@@ -99,9 +100,19 @@ def swept(ira, words, refused, shim):
     return told, wrong
 
 
-def main(ira):
+def linked(program, folder):
+    """The program of an object, linked dynamically."""
+    ira = f"{folder}/ira"
+    link = [f"{KIT}/bin/rattle-link", "--target", "x86_64-unknown-linux-gnu", "--toolchain", f"{KIT}/toolchain"]
+    libraries = [f"{KIT}/c/libos_c.a", f"{KIT}/c/liblibc_c.a"]
+    subprocess.run([*link, "-o", ira, program, *libraries], check=True, stderr=subprocess.DEVNULL)
+    return ira
+
+
+def main(program):
     all_told = all_wrong = 0
     with tempfile.TemporaryDirectory() as folder:
+        ira = linked(program, folder)
         shim = f"{folder}/refuse_nth.so"
         clang = [f"{KIT}/toolchain/bin/clang", "-shared", "-fPIC", "-nostdlib", "-fuse-ld=lld"]
         subprocess.run([*clang, "-o", shim, f"{HERE}/refuse_nth.c"], check=True)
