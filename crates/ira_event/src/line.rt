@@ -39,6 +39,13 @@ impl Line {
         }
     }
 
+    /// Takes all bytes away, so that another line can be put together.
+    pub(crate) fn clear(&mut self)
+        ensures { self.new ≡ [] }
+    {
+        self.len = 0;
+    }
+
     /// Adds these bytes at the end.
     pub fn add(&mut self, bytes: &[u8])
         requires { length self.old + length bytes.now ≤ MAX_LINE }

@@ -1,4 +1,4 @@
-ghost use Rattle.std.specs.Prelude.{◌≡◌, ◌≤◌, ◌++◌, length};
+ghost use Rattle.std.specs.Prelude.{◌≡◌, ◌≤◌, ◌++◌, [], length};
 ghost use Rattle.std.specs.List.{flat_map};
 ghost use Rattle.ira_event.specs.Log.{Log};
 ghost use Rattle.ira_event.specs.LogText.{bit_word, start_word, message_text, record_text, head_text, end_text, log_text};
@@ -27,10 +27,10 @@ fn add_message(line: &mut Line, m: &Msg)
     line.add(if m.dirty { b"dirty" } else { b"clean" });
 }
 
-fn record_line(event: &Event) -> Line
-    ensures { result ≡ record_text event.now }
+fn add_record(line: &mut Line, event: &Event)
+    requires { line.old ≡ [] }
+    ensures { line.new ≡ record_text event.now }
 {
-    let mut line = Line::new();
     match event {
         Event::Draw(id) => {
             line.add(b"draw ");
@@ -38,15 +38,14 @@ fn record_line(event: &Event) -> Line
         }
         Event::Sent(message) => {
             line.add(b"send ");
-            add_message(&mut line, message);
+            add_message(line, message);
         }
         Event::Got(message) => {
             line.add(b"recv ");
-            add_message(&mut line, message);
+            add_message(line, message);
         }
     }
     line.add(b"\n");
-    line
 }
 
 fn head(nodes: RingSize, place: u8, initiator: bool) -> Line
@@ -63,14 +62,13 @@ fn head(nodes: RingSize, place: u8, initiator: bool) -> Line
     line
 }
 
-fn end_line(count: u32) -> Line
-    ensures { result ≡ end_text count }
+fn add_end(line: &mut Line, count: u32)
+    requires { line.old ≡ [] }
+    ensures { line.new ≡ end_text count }
 {
-    let mut line = Line::new();
     line.add(b"end ");
     line.add_number(count);
     line.add(b"\n");
-    line
 }
 
 fn write_records_and_end<A: Allocator, W: Sink>(
@@ -80,10 +78,15 @@ fn write_records_and_end<A: Allocator, W: Sink>(
     ensures { Wrote result (flat_map record_text log.now.events ++ end_text (length log.now.events))
         (W.state sink.old) (W.state sink.new) }
 {
+    let mut line = Line::new();
     for event in log.events() {
-        record_line(&event).write(sink)?;
+        line.clear();
+        add_record(&mut line, &event);
+        line.write(sink)?;
     }
-    end_line(log.len() as u32).write(sink)
+    line.clear();
+    add_end(&mut line, log.len() as u32);
+    line.write(sink)
 }
 
 /// Writes the text of the log.

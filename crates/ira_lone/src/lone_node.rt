@@ -12,6 +12,9 @@ use std::alloc::{AllocError, Allocator};
 use std::collections::VecDeque;
 use std::marker::Model;
 
+/// Room for so many events is made at once; few nodes make more.
+const USUAL_EVENTS: usize = 32;
+
 /// A node of a lone run: its state, the IDs that it has left to draw, the messages on the link that
 /// leads to it, and its events.
 #[derive(Drop)]
@@ -52,7 +55,7 @@ impl<'a, A: Allocator> LoneNode<'a, A> {
             state: NodeState::first(initiator),
             ids,
             input: VecDeque::new(alloc.clone()?),
-            events: Vec::new(alloc),
+            events: Vec::with_capacity(alloc, USUAL_EVENTS)?,
         })
     }
 

@@ -22,8 +22,8 @@ loop-event-preserved g c =
     let text = flat_map record_text c.args.log.now.events ++ end in
     let left = flat_map record_text c.loop-event.event-iterator ++ end in
     let rest = flat_map record_text c.next.new.self ++ end in
-    let next = next-line c.record_line.result c.in-Some.event c.loop-event.event-iterator c.next.new.self end c.record_line.ensures c.in-Some.ensures.steps in
-    HasWritten-more text left c.record_line.result rest _ _ _ c.loop-event.invariant next c.in_ok-write.ensures
+    let next = next-line c.add_record.new.line c.in-Some.event c.loop-event.event-iterator c.next.new.self end c.add_record.ensures c.in-Some.ensures.steps in
+    HasWritten-more text left c.add_record.new.line rest _ _ _ c.loop-event.invariant next c.in_ok-write.ensures
 
 pub returns-in_err-write : goal.returns-in_err-write
 returns-in_err-write g c =
@@ -32,13 +32,13 @@ returns-in_err-write g c =
     let text = flat_map record_text c.args.log.now.events ++ end in
     let left = flat_map record_text c.loop-event.event-iterator ++ end in
     let rest = flat_map record_text c.next.new.self ++ end in
-    let next = next-line c.record_line.result c.in-Some.event c.loop-event.event-iterator c.next.new.self end c.record_line.ensures c.in-Some.ensures.steps in
-    HasWritten-stops _ _ p.1 text left c.record_line.result rest _ _ _ c.loop-event.invariant next c.in_err-write.ensures
+    let next = next-line c.add_record.new.line c.in-Some.event c.loop-event.event-iterator c.next.new.self end c.add_record.ensures c.in-Some.ensures.steps in
+    HasWritten-stops _ _ p.1 text left c.add_record.new.line rest _ _ _ c.loop-event.invariant next c.in_err-write.ensures
 
 pub returns : goal.returns
 returns g c =
     let end = end_text (length c.args.log.now.events) in
     let text = flat_map record_text c.args.log.now.events ++ end in
     let left = flat_map record_text c.loop-event.event-iterator ++ end in
-    let last = last-line c.end_line.result c.loop-event.event-iterator c.len.result (length c.args.log.now.events) c.end_line.ensures c.len.ensures.value c.in-None.ensures.steps.0 in
-    HasWritten-last _ text left c.end_line.result _ _ _ c.loop-event.invariant last c.write-2.ensures
+    let last = last-line c.add_end.new.line c.loop-event.event-iterator c.len.result (length c.args.log.now.events) c.add_end.ensures c.len.ensures.value c.in-None.ensures.steps.0 in
+    HasWritten-last _ text left c.add_end.new.line _ _ _ c.loop-event.invariant last c.write-2.ensures
