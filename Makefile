@@ -33,7 +33,7 @@ WAITED_FOR = ira_event ira_node ira_pred ira_cand ira_replay ira_order ira_cert_
 	ira_run ira_threads ira_main
 
 cores_of = $(if $(filter $(1),$(WAITED_FOR)),$(JOBS),1)
-pace_of = $(if $(filter $(1),ira_words),nice,)
+pace_of = $(if $(filter $(1),ira_words),nice -n 5,)
 
 # As many crates at a time as there are cores, and one that stands back. `make` begins with what it is told first, so the
 # longest chain comes first: the program stands on ira_main alone, and that names ira_audit early.
