@@ -19,7 +19,7 @@ if test -f src/lib.rt; then
 fi
 rattle build --crate-name "$name" src/main.rt "$@" --toolchain "$kit/toolchain" --backend llvm -o "$here/bin/$name.o"
 
-# The machine's C library goes into the program, which then starts in two thirds of the time and needs nothing of the
+# The machine's C library goes into the program, which then starts in three quarters of the time and needs nothing of the
 # machine that it runs on. Where there is no C library to link so, the kit links as in the gate.
 set -- -o "$here/bin/$name" "$here/bin/$name.o" "$kit/c/libos_c.a" "$kit/c/liblibc_c.a"
 "$kit/toolchain/bin/clang" -static -fuse-ld=lld "$@" ||
