@@ -15,6 +15,5 @@ pub mod SomeAuditAnswer
 pub mod SomeLogsAnswer
 pub mod SoundSections
 pub mod Stages
-pub mod Taking
 pub mod TextRuns
 pub mod Zipped

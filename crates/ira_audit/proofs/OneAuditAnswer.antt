@@ -1,5 +1,5 @@
 -- Texts of logs, of a question and of a certificate have at most one answer.
-use Rattle.std.proofs.Common.{◌≡◌, ◌≢◌, ℕ, List, [], ◌∷◌, Some, length, refl, sym, ap, ◌∙◌, inl, inr, suc}
+use Rattle.std.proofs.Common.{◌≡◌, ◌≢◌, ℕ, List, Some, length, refl, sym, ap, ◌∙◌, inl, inr}
 use Rattle.std.specs.Prelude.{slice_get}
 use Rattle.ira_event.specs.Log.{Log}
 use Rattle.ira_pred.specs.Case.{Conjunct}

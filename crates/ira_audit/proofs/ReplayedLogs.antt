@@ -12,6 +12,11 @@ use Rattle.ira_audit.specs.declared.reason.Reason.TheVariants.{Replay}
 use Rattle.ira_audit.specs.LogsAnswer.{IsFirstStop}
 use Rattle.ira_audit.specs.ReplayedLogs.{IsReplayed, AreReplayed}
 
+-- a list without members
+pub none_left : {X : Type 0} (xs : List X) → length xs ≡ 0 → xs ≡ []
+none_left [] e = refl
+none_left (x ∷ xs) e = absurd (omega arith)
+
 some_is : {X : Type 0} (x y : X) → Some x ≡ Some y → x ≡ y
 some_is x y e = cc
 

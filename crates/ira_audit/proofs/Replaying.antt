@@ -1,6 +1,7 @@
 -- A log that is judged while it is read.
-use Rattle.std.proofs.Common.{◌≡◌, ◌≢◌, ◌↔◌, ◌≤◌, ℕ, ◌+◌, List, [], ◌∷◌, ◌++◌, length, Result, Ok, Err, refl, ap, subst, arith, append_assoc, length-append, Bool, Option, Some, None, inl, inr}
-use Rattle.std.specs.Prelude.{⊤, MatchResult}
+use Rattle.std.proofs.Common.{◌≡◌, ◌≢◌, ◌↔◌, ◌≤◌, ℕ, ◌+◌, List, [], ◌∷◌, ◌++◌, length, Result, Ok, Err, refl, ap, subst, arith, append_assoc, length-append, Bool, Option, Some, None, true, false, ◌∙◌, inl, inr}
+use Rattle.std.specs.Option.{is_some}
+use Rattle.std.specs.Prelude.{⊤, MatchOption, MatchResult}
 use Rattle.ira_event.specs.declared.event.Event.{Event}
 use Rattle.ira_event.specs.declared.limits.TheConstants.{MAX_RECORDS, MAX_TEXT}
 use Rattle.ira_event.specs.Log.{Log}
@@ -18,7 +19,7 @@ use Rattle.ira_node.specs.NodeState.{first_state}
 use Rattle.ira_node.specs.NodeStep.{NodeStep}
 use Rattle.ira_node.specs.NodeStepFault.{NodeStepFault}
 use Rattle.ira_replay.specs.declared.replay_fault.ReplayFault.{ReplayFault}
-use Rattle.ira_replay.specs.LocalRun.{LeadsTo}
+use Rattle.ira_replay.specs.LocalRun.{LeadsTo, StopsAt}
 use Rattle.ira_audit.specs.Answer as single
 use Rattle.ira_event.specs.declared.log_head.LogHead.{LogHead}
 use Rattle.ira_audit.specs.Replaying.{IsLogAnswer, IsLogJudged, HasStopped, ReplaysRecords}
@@ -86,6 +87,61 @@ pub text_judged : (text : List ℕ) (head : LogHead) (rest : List ℕ) (r : Resu
 text_judged text head rest (Ok a) short b h =
     (record { nodes = head.nodes; place = head.place; initiator = head.initiator; events = h.0 }, log_read text head.nodes head.place head.initiator rest h.0 b h.1, h.2)
 text_judged text head rest (Err f) short b h = inr (short, behind_head head.nodes head.place head.initiator rest b h)
+
+-- ---- events that are kept
+
+-- the events that were read lead from the first state to this one, or stop at this fault
+pub record Keeping (text : List ℕ) (nodes : ℕ) (first : NodeState) (left : RecordsLeft) (events : List Event) (state : NodeState) (position : ℕ) (stop : Option ReplayFault) : Type 0 where
+  pub read : HasRead text events left
+  pub at : position ≡ length events
+  pub replay : MatchOption stop (LeadsTo nodes first events state) (StopsAt nodes first events)
+
+module _ (text : List ℕ) (nodes : ℕ) (first : NodeState) (old new : RecordsLeft) (events : List Event) (state after : NodeState) (position : ℕ) (e : Event) (r : ReadsRecord old new e) where
+  -- one more event
+  one_more : (stop next : Option ReplayFault) → Keeping text nodes first old events state position stop
+      → MatchOption next (LeadsTo nodes first (events ++ e ∷ []) after) (StopsAt nodes first (events ++ e ∷ []))
+      → Keeping text nodes first new (events ++ e ∷ []) after (position + 1) next
+  one_more stop next h replay = record {
+    read = behind_more text events old new e h.read r;
+    at = omega (arith, h.at, length-append events (e ∷ []));
+    replay = replay;
+  }
+
+  -- it has a step
+  pub keeping_step : (stop : Option ReplayFault) → Keeping text nodes first old events state position stop → is_some stop ≡ false
+      → NodeStep nodes state e after → Keeping text nodes first new (events ++ e ∷ []) after (position + 1) stop
+  keeping_step None h none step = one_more None None h (leads_further nodes first events state e after h.replay step)
+  keeping_step (Some f) h none step = absurd cc
+
+  -- it is the first without one
+  pub keeping_stop : (stop : Option ReplayFault) (f : ReplayFault) → Keeping text nodes first old events state position stop → is_some stop ≡ false
+      → f.position ≡ position + 1 → NodeStepFault nodes state e f.fault → Keeping text nodes first new (events ++ e ∷ []) after (position + 1) (Some f)
+  keeping_stop None f h none at bad = one_more None (Some f) h (record {
+    before = events;
+    event = e;
+    after = [];
+    state = state;
+    parts = refl;
+    leads = h.replay;
+    position = omega (arith, h.at, at);
+    fault = bad;
+  })
+  keeping_stop (Some g) f h none at bad = absurd cc
+
+  -- it comes behind one without a step
+  pub keeping_on : (stop : Option ReplayFault) → Keeping text nodes first old events state position stop → is_some stop ≡ true
+      → Keeping text nodes first new (events ++ e ∷ []) after (position + 1) stop
+  keeping_on None h some = absurd cc
+  keeping_on (Some f) h some = one_more (Some f) (Some f) h (record {
+    before = h.replay.before;
+    event = h.replay.event;
+    after = h.replay.after ++ e ∷ [];
+    state = h.replay.state;
+    parts = ap (λ es. es ++ e ∷ []) h.replay.parts ∙ append_assoc h.replay.before (h.replay.event ∷ h.replay.after) (e ∷ []);
+    leads = h.replay.leads;
+    position = h.replay.position;
+    fault = h.replay.fault;
+  })
 
 -- ---- the answer of the text
 

@@ -39,3 +39,8 @@ ReplaysRecords nodes initiator text left (Ok None) =
     (events : List Event) × (t : NodeState) × AreAllRecords text events × LeadsTo nodes (first_state initiator) events t
 ReplaysRecords nodes initiator text left (Ok (Some f)) = HasStopped text nodes initiator left f
 ReplaysRecords nodes initiator text left (Err f) = RecordsFault text f
+
+-- all events lead on from the node's first state, or this is the first of them without a step
+abbrev pub ReplayGives : ℕ → Bool → List Event → Option ReplayFault → Type 0
+ReplayGives nodes initiator events None = (t : NodeState) × LeadsTo nodes (first_state initiator) events t
+ReplayGives nodes initiator events (Some f) = StopsAt nodes (first_state initiator) events f

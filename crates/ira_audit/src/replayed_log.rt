@@ -1,9 +1,13 @@
 ghost use Rattle.std.specs.Prelude.{◌≡◌, IfOk};
+ghost use Rattle.ira_event.specs.LogTextFault.{RecordsRead};
 ghost use Rattle.ira_audit.specs.ReplayedLogs.{IsReplayed, AreReplayed};
+ghost use Rattle.ira_audit.specs.Replaying.{ReplayGives};
+ghost use Rattle.ira_audit.specs.RingAudit.{IsReading};
 
 use crate::reason::Reason;
-use ira_event::{NodeLog, OutOfMemory};
-use ira_replay::{ReplayFault, replay};
+use ira_event::{LogFault, NodeLog, OutOfMemory, PackedEvents, Records, RingSize, open_log};
+use ira_node::NodeState;
+use ira_replay::ReplayFault;
 use std::alloc::Allocator;
 use std::marker::Model;
 
@@ -26,26 +30,54 @@ impl<A: Allocator> Model for ReplayedLog<A> {
 }
 
 impl<A: Allocator> ReplayedLog<A> {
-    pub(crate) fn new(log: NodeLog<A>) -> ReplayedLog<A>
-        ensures { result ≡ log }
+    /// The log of a text, or the text's fault. The log is replayed while it is read.
+    pub(crate) fn read(alloc: A, text: &[u8]) -> Result<ReplayedLog<A>, LogFault>
+        ensures { IsReading text.now result }
     {
-        let steps = check_steps(&log);
-        ReplayedLog { log, steps }
+        let (head, records) = open_log(text)?;
+        let (events, stop) = read_and_replay(alloc, head.nodes, head.initiator, records)?;
+        let place = head.place;
+        let steps = match stop {
+            None => Ok(()),
+            Some(ReplayFault { position, fault }) => Err(Reason::Replay {
+                place,
+                position,
+                fault,
+            }),
+        };
+        let log = NodeLog::of_records(head, events);
+        Ok(ReplayedLog { log, steps })
     }
 }
 
-/// Whether each event of a log has a step.
-fn check_steps<A: Allocator>(log: &NodeLog<A>) -> Result<(), Reason>
-    ensures { IsReplayed log.now result }
+/// The events of all records, none of which was read yet, and the first of them without a step, if there is one.
+#[inline(never)]
+fn read_and_replay<A: Allocator>(
+    alloc: A,
+    nodes: RingSize,
+    initiator: bool,
+    records: Records<'_>,
+) -> Result<(PackedEvents<A>, Option<ReplayFault>), LogFault>
+    requires { records.count ≡ 0 }
+    ensures read { RecordsRead (λ found. found.0) result records.entry.rest }
+    ensures replay { IfOk result (λ found. ReplayGives nodes initiator found.0 found.1) }
 {
-    match replay(log) {
-        Ok(_) => Ok(()),
-        Err(ReplayFault { position, fault }) => Err(Reason::Replay {
-            place: log.place(),
-            position,
-            fault,
-        }),
+    let mut records = records;
+    let mut events = PackedEvents::with_room_for(alloc, &records)?;
+    let mut state = NodeState::first(initiator);
+    let mut position = 0;
+    let mut stop = None;
+    while let Some(event) = records.next_event()? {
+        position += 1;
+        if stop.is_none() {
+            match state.advance(nodes, &event) {
+                Ok(()) => {}
+                Err(fault) => stop = Some(ReplayFault { position, fault }),
+            }
+        }
+        events.push(event)?;
     }
+    Ok((events, stop))
 }
 
 /// The logs, and whether each event of each of them has a step.

@@ -10,7 +10,7 @@ ghost use Rattle.ira_audit.specs.LogTexts.{AreLogTexts};
 ghost use Rattle.ira_audit.specs.Posed.{WhyNotPosed};
 ghost use Rattle.ira_audit.specs.Refusal.{Judged, MatchRefusal, IsTextReason, IsFindingsReason};
 ghost use Rattle.ira_audit.specs.Report.{IsReportable};
-ghost use Rattle.ira_audit.specs.RingAudit.{HasTaken, IsReading};
+ghost use Rattle.ira_audit.specs.RingAudit.{HasTaken};
 ghost use Rattle.ira_audit.specs.TextRuns.{AreTextsOfRuns, AreTextsWithoutRun};
 ghost use Rattle.ira_audit.specs.declared.answer.Answer.{Answer};
 ghost use Rattle.ira_audit.specs.declared.reason.Reason.{Reason};
@@ -23,7 +23,7 @@ use crate::reason::Reason;
 use crate::refusal::{Refusal, answer_of, findings_of};
 use crate::replayed_log::ReplayedLog;
 use crate::ring_logs::{judge_logs, judge_logs_on_threads};
-use ira_event::{LogFault, OutOfMemory, read_log};
+use ira_event::{LogFault, OutOfMemory};
 use ira_links::Gate;
 use std::alloc::Allocator;
 use std::marker::Model;
@@ -50,16 +50,6 @@ impl<A: Allocator> Model for RingAudit<A> {
     ghost view = { λ a. record { logs = a.logs.items; fault = a.fault } };
 }
 
-/// The log of a text, replayed while it is at hand, or the text's fault.
-fn read_text<A: Allocator + Clone>(alloc: &A, text: &[u8]) -> Result<ReplayedLog<A>, LogFault>
-    ensures { IsReading text.now result }
-{
-    match read_log(alloc.clone()?, text) {
-        Ok(log) => Ok(ReplayedLog::new(log)),
-        Err(fault) => Err(fault),
-    }
-}
-
 impl<A: Allocator + Clone> RingAudit<A> {
     /// An audit that has taken no text.
     pub fn new(alloc: A) -> RingAudit<A>
@@ -80,7 +70,7 @@ impl<A: Allocator + Clone> RingAudit<A> {
         if self.fault.is_some() {
             return Ok(());
         }
-        match read_text(self.logs.allocator(), text) {
+        match ReplayedLog::read(self.logs.allocator().clone()?, text) {
             Ok(log) => self.logs.push(log)?,
             Err(LogFault::OutOfMemory) => return Err(OutOfMemory),
             Err(fault) => self.fault = Some(fault),

@@ -1,4 +1,5 @@
-use std::alloc::{AllocError, AllocFailed};
+use crate::out_of_memory::OutOfMemory;
+use std::alloc::AllocError;
 use thiserror::Error;
 
 /// What is wrong with a text that should be a log's. Lines count from 1 in the whole text.
@@ -34,13 +35,13 @@ pub enum LogFault {
     OutOfMemory,
 }
 
-impl<T: Drop> From<AllocFailed<T>> for LogFault {
+impl From<OutOfMemory> for LogFault {
     ghost use Rattle.std.specs.Prelude.{◌≡◌};
     ghost use Rattle.ira_event.specs.declared.log_fault.LogFault.TheVariants.{OutOfMemory};
 
     ghost from_gives = { λ _ f. f ≡ OutOfMemory };
 
-    fn from(_refused: AllocFailed<T>) -> LogFault {
+    fn from(_refused: OutOfMemory) -> LogFault {
         LogFault::OutOfMemory
     }
 }

@@ -6,11 +6,11 @@ ghost use Rattle.ira_event.specs.Result.{UnlessErr};
 ghost use Rattle.ira_event.specs.Limits.{MAX_TEXT};
 ghost use Rattle.ira_event.specs.declared.log_fault.LogFault.{LogFault};
 
-use crate::limits::{MAX_RECORDS, MAX_TEXT};
+use crate::limits::MAX_TEXT;
 use crate::log_fault::LogFault;
 use crate::log_head::{LogHead, take_head};
 use crate::node_log::NodeLog;
-use crate::packed_event::PackedEvent;
+use crate::packed_events::PackedEvents;
 use crate::records::Records;
 use std::alloc::Allocator;
 
@@ -27,7 +27,7 @@ pub fn read_log<A: Allocator>(alloc: A, text: &[u8]) -> Result<NodeLog<A>, LogFa
 {
     let (head, records) = open_log(text)?;
     let events = read_events(alloc, records)?;
-    Ok(NodeLog::of_packed(head, events))
+    Ok(NodeLog::of_records(head, events))
 }
 
 /// The head of a log's text and the records behind it, none of them read, or the first fault of a
@@ -49,19 +49,14 @@ pub fn open_log(text: &[u8]) -> Result<(LogHead, Records<'_>), LogFault>
 
 /// The events of all records, none of which was read yet.
 #[inline(never)]
-fn read_events<A: Allocator>(
-    alloc: A,
-    records: Records<'_>,
-) -> Result<Vec<PackedEvent, A>, LogFault>
+fn read_events<A: Allocator>(alloc: A, records: Records<'_>) -> Result<PackedEvents<A>, LogFault>
     requires { records.count ≡ 0 }
-    ensures { RecordsRead (λ events. events.items) result records.entry.rest }
+    ensures { RecordsRead (λ events. events) result records.entry.rest }
 {
     let mut records = records;
-    // Most lines are longer, and a page that no event touches costs nothing.
-    let room = (records.unread() / 16).min(MAX_RECORDS);
-    let mut events = Vec::with_capacity(alloc, room)?;
+    let mut events = PackedEvents::with_room_for(alloc, &records)?;
     while let Some(event) = records.next_event()? {
-        events.push(PackedEvent::new(event))?;
+        events.push(event)?;
     }
     Ok(events)
 }

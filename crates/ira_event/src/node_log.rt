@@ -7,7 +7,7 @@ use crate::event::Event;
 use crate::events::Events;
 use crate::limits::MAX_RECORDS;
 use crate::log_head::LogHead;
-use crate::packed_event::PackedEvent;
+use crate::packed_events::PackedEvents;
 use crate::ring_size::RingSize;
 use crate::stored_events::StoredEvents;
 use std::alloc::Allocator;
@@ -92,27 +92,17 @@ impl<A: Allocator> NodeLog<A> {
     }
 
     /// The log of a text's head and records, which are in range.
-    pub(crate) fn of_packed(head: LogHead, events: Vec<PackedEvent, A>) -> NodeLog<A>
+    pub fn of_records(head: LogHead, events: PackedEvents<A>) -> NodeLog<A>
         requires { IsLog
-            (record {
-              nodes = head.nodes;
-              place = head.place;
-              initiator = head.initiator;
-              events = events.items;
-            }) }
+            (record { nodes = head.nodes; place = head.place; initiator = head.initiator; events = events }) }
         ensures { result
-            ≡ record {
-              nodes = head.nodes;
-              place = head.place;
-              initiator = head.initiator;
-              events = events.items;
-            } }
+            ≡ record { nodes = head.nodes; place = head.place; initiator = head.initiator; events = events } }
     {
         NodeLog {
             nodes: head.nodes,
             place: head.place,
             initiator: head.initiator,
-            events: StoredEvents::packed(events),
+            events: StoredEvents::packed(events.into_list()),
         }
     }
 

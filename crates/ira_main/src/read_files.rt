@@ -6,6 +6,7 @@ use crate::text_buffer::TextBuffer;
 use crate::text_source::TextSource;
 use ira_audit::RingAudit;
 use std::alloc::Allocator;
+use std::marker::Model;
 use std::num::NonZeroUsize;
 use std::thread::{self, Threads};
 
@@ -38,12 +39,28 @@ pub(crate) fn read_file<'a, A: Allocator + Clone, F: TextSource>(
     Ok(text)
 }
 
+/// The logs of a share of the files. Contracts see the audit.
+#[derive(Drop)]
+struct Share<A: Allocator> {
+    audit: RingAudit<A>,
+    /// The room that the texts were read into. It is given back where no thread is left that would be interrupted for it.
+    text: TextBuffer<A>,
+}
+
+impl<A: Allocator> Model for Share<A> {
+    ghost use Rattle.ira_audit.specs.RingAudit.{RingAudit};
+
+    ghost Value = { RingAudit };
+
+    ghost view = { λ s. s.audit };
+}
+
 /// The logs in the files of these names, which are read in turn.
 fn read_share<'a, A: Allocator + Clone, F: TextSource>(
     alloc: &A,
     names: &[&'a str],
     shelf: &F,
-) -> Result<RingAudit<A>, ProgramFault<'a>>
+) -> Result<Share<A>, ProgramFault<'a>>
     ensures { IsFilesAudit F.reads (map (λ name. name.now) names.now) shelf.now result }
 {
     let mut audit = RingAudit::new(alloc.clone()?);
@@ -52,7 +69,7 @@ fn read_share<'a, A: Allocator + Clone, F: TextSource>(
         read_into(name, &mut text, shelf)?;
         audit.take(text.bytes())?;
     }
-    Ok(audit)
+    Ok(Share { audit, text })
 }
 
 /// How many threads the machine runs at a time, or 1 where that isn't known.
@@ -81,13 +98,17 @@ where
         alloc.clone()?,
         names,
         size,
-        &|_, some: &[&str]| -> Result<RingAudit<A>, ProgramFault>
+        &|_, some: &[&str]| -> Result<Share<A>, ProgramFault>
             ensures { IsFilesAudit F.reads (map (λ name. name.now) some.now) shelf.entry.now result }
         { read_share(&alloc, some, shelf) },
     )?;
     let mut audit = RingAudit::new(alloc.clone()?);
     for share in shares {
-        audit.append(share?)?;
+        let Share {
+            audit: next,
+            text: _,
+        } = share?;
+        audit.append(next)?;
     }
     Ok(audit)
 }

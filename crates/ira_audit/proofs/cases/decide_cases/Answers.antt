@@ -1,6 +1,5 @@
-use Rattle.std.proofs.Common.{◌≡◌, List, length, refl, subst, ◌∙◌, sym, rules}
+use Rattle.std.proofs.Common.{◌≡◌, List, length, refl, subst, ◌∙◌, rules}
 use Rattle.std.proofs.lemmas.Option.{slice_get_read}
-use Rattle.std.specs.List.{AllZip}
 use Rattle.ira_event.specs.Log.{Log}
 use Rattle.ira_elim.specs.Found.{IsFound}
 use Rattle.ira_audit.proofs.LogTexts.{next_taken}

@@ -1,6 +1,5 @@
-use Rattle.std.proofs.Common.{◌≡◌, ◌∙◌, ◌++◌, ap, false, map, sym, true}
+use Rattle.std.proofs.Common.{◌≡◌, ◌∙◌, ◌++◌, ap, false, map, sym}
 use Rattle.std.specs.List.{list_any}
-use Rattle.std.specs.Vec.Iter.{into_iter_items}
 use Rattle.ira_audit.specs.Findings.{is_present}
 use Rattle.ira_audit.proofs.MadeCertificates.{none_among, present_among, present_at, refused_anyway}
 use Rattle.ira_elim.specs.declared.found.Found.TheVariants.{Absent}

@@ -1,7 +1,6 @@
 use Rattle.std.proofs.Common.{◌≡◌, [], ◌∷◌, ◌++◌, ap, arith, length, append_assoc, append-nil, sym, ◌∙◌}
 use Rattle.std.specs.Vec.Iter.{into_iter_items}
-use Rattle.ira_audit.proofs.ReplayedLogs.{more_runs, more_stopped}
-use Rattle.ira_audit.proofs.Taking.{none_left}
+use Rattle.ira_audit.proofs.ReplayedLogs.{more_runs, more_stopped, none_left}
 use Rattle.ira_audit.proofs.replayed_log.split_steps.Goals as goal
 
 pub loop-read-preserved-then-is_ok : goal.loop-read-preserved-then-is_ok

@@ -1,4 +1,4 @@
-use Rattle.std.proofs.Common.{◌≡◌, ◌++◌, [], ◌∷◌, sym, ap, subst, inr, refl, ◌∙◌}
+use Rattle.std.proofs.Common.{◌≡◌, [], sym, subst, inr, refl}
 use Rattle.std.proofs.lemmas.Result.{err_from_is_err_and}
 use Rattle.ira_event.specs.Records.{HasRead}
 use Rattle.ira_event.proofs.LogReading.{behind_nothing, behind_more, behind_all, behind_fault, was_read, was_last, record_shorter}
@@ -6,7 +6,7 @@ use Rattle.ira_event.proofs.log_reader.read_events.Goals as goal
 
 pub loop-events-init : goal.loop-events-init
 loop-events-init g c =
-    let none : c.in_ok-events.events.items ≡ [] = c.in_ok-events.ensures.items in
+    let none : c.in_ok-events.events ≡ [] = c.in_ok-events.ensures in
     subst (λ es. HasRead c.args.records.rest es c.args.records) (sym none) (behind_nothing c.args.records.rest c.args.records refl c.requires)
 
 pub returns-in_err-event : goal.returns-in_err-event
@@ -20,8 +20,7 @@ loop-events-smaller g c = record_shorter c.loop-events.records c.next_event.new.
 
 pub loop-events-preserved : goal.loop-events-preserved
 loop-events-preserved g c =
-    let one_more = c.in_ok-push.ensures.items ∙ ap (λ e. c.loop-events.events.items ++ e ∷ []) c.new.ensures in
-    rw one_more (behind_more _ _ _ _ _ c.loop-events.invariant (was_read _ _ _ _ c.in_ok-event.ensures c.in-Some.is))
+    rw c.in_ok-push.ensures.ok (behind_more _ _ _ _ _ c.loop-events.invariant (was_read _ _ _ _ c.in_ok-event.ensures c.in-Some.is))
 
 pub returns : goal.returns
 returns g c = behind_all _ _ _ c.loop-events.invariant (was_last _ _ _ c.in_ok-event.ensures c.in_default.is)

@@ -30,11 +30,11 @@ returns-in_err-events-clause-err g c =
 
 pub returns-clause-ok : goal.returns-clause-ok
 returns-clause-ok g c =
-    rw c.of_packed.ensures (exactly_ok _ c.args.text.now (log_read c.args.text.now c.in_ok-head.head.nodes c.in_ok-head.head.place c.in_ok-head.head.initiator c.in_ok-head.records.rest c.in_ok-events.events.items c.in_ok-head.ensures.1 c.in_ok-events.ensures))
+    rw c.of_records.ensures (exactly_ok _ c.args.text.now (log_read c.args.text.now c.in_ok-head.head.nodes c.in_ok-head.head.place c.in_ok-head.head.initiator c.in_ok-head.records.rest c.in_ok-events.events c.in_ok-head.ensures.1 c.in_ok-events.ensures))
 
 pub returns-clause-err : goal.returns-clause-err
 returns-clause-err g c =
-    rw c.of_packed.ensures (exactly_err _ c.args.text.now (log_read c.args.text.now c.in_ok-head.head.nodes c.in_ok-head.head.place c.in_ok-head.head.initiator c.in_ok-head.records.rest c.in_ok-events.events.items c.in_ok-head.ensures.1 c.in_ok-events.ensures))
+    rw c.of_records.ensures (exactly_err _ c.args.text.now (log_read c.args.text.now c.in_ok-head.head.nodes c.in_ok-head.head.place c.in_ok-head.head.initiator c.in_ok-head.records.rest c.in_ok-events.events c.in_ok-head.ensures.1 c.in_ok-events.ensures))
 
 pub returns-in_err-head-clause-too_long : goal.returns-in_err-head-clause-too_long
 returns-in_err-head-clause-too_long g c =
@@ -50,7 +50,7 @@ returns-in_err-events-clause-too_long g c =
 
 pub returns-clause-too_long : goal.returns-clause-too_long
 returns-clause-too_long g c =
-    rw c.of_packed.ensures (early_exactly _ c.args.text.now _ (log_read c.args.text.now c.in_ok-head.head.nodes c.in_ok-head.head.place c.in_ok-head.head.initiator c.in_ok-head.records.rest c.in_ok-events.events.items c.in_ok-head.ensures.1 c.in_ok-events.ensures) (c.in_ok-head.ensures.0, _, _, _, _, c.in_ok-head.ensures.1) (inl refl))
+    rw c.of_records.ensures (early_exactly _ c.args.text.now _ (log_read c.args.text.now c.in_ok-head.head.nodes c.in_ok-head.head.place c.in_ok-head.head.initiator c.in_ok-head.records.rest c.in_ok-events.events c.in_ok-head.ensures.1 c.in_ok-events.ensures) (c.in_ok-head.ensures.0, _, _, _, _, c.in_ok-head.ensures.1) (inl refl))
 
 pub returns-in_err-head-clause-head : goal.returns-in_err-head-clause-head
 returns-in_err-head-clause-head g c =
@@ -66,4 +66,4 @@ returns-in_err-events-clause-head g c =
 
 pub returns-clause-head : goal.returns-clause-head
 returns-clause-head g c =
-    rw c.of_packed.ensures (early_exactly _ c.args.text.now _ (log_read c.args.text.now c.in_ok-head.head.nodes c.in_ok-head.head.place c.in_ok-head.head.initiator c.in_ok-head.records.rest c.in_ok-events.events.items c.in_ok-head.ensures.1 c.in_ok-events.ensures) (c.in_ok-head.ensures.0, _, _, _, _, c.in_ok-head.ensures.1) (inr refl))
+    rw c.of_records.ensures (early_exactly _ c.args.text.now _ (log_read c.args.text.now c.in_ok-head.head.nodes c.in_ok-head.head.place c.in_ok-head.head.initiator c.in_ok-head.records.rest c.in_ok-events.events c.in_ok-head.ensures.1 c.in_ok-events.ensures) (c.in_ok-head.ensures.0, _, _, _, _, c.in_ok-head.ensures.1) (inr refl))

@@ -1,7 +1,8 @@
-use Rattle.std.proofs.Common.{◌≡◌, ◌+◌, ◌*◌, ◌/◌, ◌%◌, ◌<◌, ◌≤◌, ◌∷◌, ap, arith, drop, get_or, length, map, min, rules, subst, sym, take}
+use Rattle.std.proofs.Common.{◌≡◌, ℕ, List, ◌++◌, ◌+◌, ◌*◌, ◌/◌, ◌%◌, ◌<◌, ◌≤◌, ◌∷◌, ap, arith, get_or, length, map, min, rules, subst, sym}
 use Rattle.std.proofs.lemmas.Grind.{div_ceil_times}
 use Rattle.std.proofs.lemmas.Result.{err_from_is_err_and}
 use Rattle.std.specs.Vec.Iter.{into_iter_items}
+use Rattle.ira_audit.specs.RingAudit.{HasTaken}
 use Rattle.ira_main.proofs.Shares.{chunk_shares, gathered, gathering_fault, gathering_next, gathering_none}
 use Rattle.ira_main.specs.FilesRead.{IsFilesAudit}
 use Rattle.ira_main.proofs.read_files.read_logs.Goals as goal
@@ -32,20 +33,24 @@ loop-share-preserved g c =
     let names = map (λ name. name.now) c.args.names.now in
     let steps = c.in-Some.ensures.steps in
     let rest : into_iter_items c.loop-share.share-iterator ≡ c.in-Some.share ∷ into_iter_items c.next.new.self = steps.0 in
+    let old = c.loop-share.audit in
+    let new = c.append.new.self in
+    let same : c.next-in-loop-share.inside.audit ≡ c.in_ok-next.field-0 = c.next-in-loop-share.view_is in
+    let appends = subst (λ next. (before texts : List (List ℕ)) → HasTaken old before → HasTaken next texts → HasTaken new (before ++ texts)) same c.in_ok-append.ensures.ok in
     record {
       may_go_on = tt;
       ends = tt;
       left = omega (arith, ap length rest, steps.1);
-      gathering = gathering_next g.F.TextSource.reads names c.args.shelf.now c.loop-share.audit c.append.new.self c.in_ok-share.field-0 _ _ _ c.loop-share.invariant.gathering rest c.in_ok-share.was c.in_ok-append.ensures.ok;
+      gathering = gathering_next g.F.TextSource.reads names c.args.shelf.now old new c.in_ok-next.field-0 _ _ _ c.loop-share.invariant.gathering rest c.in_ok-next.was appends;
     }
 
-pub returns-in_err-share : goal.returns-in_err-share
-returns-in_err-share g c =
-    let p = err_from_is_err_and c.from_residual-in_err-share.result c.from_residual-in_err-share.ensures.1 in
+pub returns-in_err-next : goal.returns-in_err-next
+returns-in_err-next g c =
+    let p = err_from_is_err_and c.from_residual-in_err-next.result c.from_residual-in_err-next.ensures.1 in
     let names = map (λ name. name.now) c.args.names.now in
     let steps = c.in-Some.ensures.steps in
     let rest : into_iter_items c.loop-share.share-iterator ≡ c.in-Some.share ∷ into_iter_items c.next.new.self = steps.0 in
-    rw (p.1, p.2) (gathering_fault g.F.TextSource.reads names c.args.shelf.now c.loop-share.audit _ _ _ _ c.loop-share.invariant.gathering rest c.in_err-share.was)
+    rw (p.1, p.2) (gathering_fault g.F.TextSource.reads names c.args.shelf.now c.loop-share.audit _ _ _ _ c.loop-share.invariant.gathering rest c.in_err-next.was)
 
 pub returns : goal.returns
 returns g c =

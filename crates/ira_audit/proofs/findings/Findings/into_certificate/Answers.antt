@@ -1,7 +1,5 @@
-use Rattle.std.proofs.Common.{ℕ, List, inr, refl, sym, subst}
-use Rattle.std.specs.Prelude.{Contains}
+use Rattle.std.proofs.Common.{inr, refl}
 use Rattle.ira_cert_text.specs.Certificate.{Certificate}
-use Rattle.ira_elim.specs.declared.found.Found.TheVariants.{Present}
 use Rattle.ira_audit.specs.Findings.{IsCertificateOf, MakeNoCertificate}
 use Rattle.ira_audit.proofs.MadeCertificates.{made_exactly, made_or_none, accepted}
 use Rattle.ira_audit.proofs.findings.Findings.into_certificate.Goals as goal

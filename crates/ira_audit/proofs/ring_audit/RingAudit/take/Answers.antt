@@ -12,7 +12,7 @@ returns-then-is_some-clause-ok g c = λ texts taken.
 pub returns-in_ok-push-in-Ok-clause-ok : goal.returns-in_ok-push-in-Ok-clause-ok
 returns-in_ok-push-in-Ok-clause-ok g c = λ texts taken.
     let kept = subst (λ a. HasTaken a texts) (sym c.self.view_is) taken in
-    let read = subst (IsReading c.args.text.now) c.in-Ok.is c.read_text.ensures in
+    let read = subst (IsReading c.args.text.now) c.in-Ok.is c.read.ensures in
     rw c.in_ok-push-in-Ok.ensures.items (keeps_log texts c.self.inside.logs.items c.self.inside.fault c.args.text.now c.in-Ok.log c.if-is_some.ensures kept read)
 
 pub returns-in-Err : goal.returns-in-Err
@@ -22,7 +22,7 @@ returns-in-Err g c =
     record {
       ok = λ texts taken.
           let kept = subst (λ a. HasTaken a texts) (sym c.self.view_is) taken in
-          let read = subst (IsReading c.args.text.now) c.in-Err.is c.read_text.ensures in
+          let read = subst (IsReading c.args.text.now) c.in-Err.is c.read.ensures in
           elim read [
             | inl refused ↦ absurd (other refused)
             | inr fault ↦ keeps_fault texts c.self.inside.logs.items c.self.inside.fault c.args.text.now f c.if-is_some.ensures kept fault

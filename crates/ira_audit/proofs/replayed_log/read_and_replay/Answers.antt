@@ -1,0 +1,22 @@
+use Rattle.std.proofs.Common.{◌≡◌, inr, refl}
+use Rattle.std.proofs.lemmas.Result.{err_from_is_err_and}
+use Rattle.ira_event.proofs.LogReading.{behind_fault, was_read}
+use Rattle.ira_audit.proofs.Replaying.{keeping_on, keeping_step, keeping_stop}
+use Rattle.ira_audit.proofs.replayed_log.read_and_replay.Goals as goal
+use Rattle.ira_audit.proofs.replayed_log.read_and_replay.Goals.{then-is_none+in-Ok, then-is_none+in-Err, else-is_none}
+
+pub returns-in_err-event-clause-read : goal.returns-in_err-event-clause-read
+returns-in_err-event-clause-read g c =
+    let p = err_from_is_err_and c.from_residual-in_err-event.result c.from_residual-in_err-event.ensures.1 in
+    let same : p.0 ≡ c.in_err-event.field-0.0 = p.2 in
+    rw (p.1, same) (inr (behind_fault _ _ _ _ c.loop-events.invariant.read c.in_err-event.ensures.0))
+
+pub loop-events-preserved : goal.loop-events-preserved
+loop-events-preserved g c =
+    let r = was_read _ _ _ _ c.in_ok-event.ensures c.in-Some.is in
+    let h = c.loop-events.invariant in
+    rw c.in_ok-push.ensures.ok (elim c.if-is_none.branch [
+      | then-is_none+in-Ok w ↦ rw (w.state-is, w.stop-is) (keeping_step _ _ _ _ _ _ _ _ _ _ r _ h w.if-is_none.ensures w.in-Ok.ensures.steps)
+      | then-is_none+in-Err w ↦ rw w.stop-is (keeping_stop _ _ _ _ _ _ _ _ _ _ r _ _ h w.if-is_none.ensures refl w.in-Err.ensures.steps)
+      | else-is_none w ↦ rw w.stop-is (keeping_on _ _ _ _ _ _ _ _ _ _ r _ h w.if-is_none.ensures)
+    ])

@@ -1,0 +1,56 @@
+ghost use Rattle.std.specs.Prelude.{◌≡◌, ◌++◌, ◌∷◌, [], true, length, IfOk, OnOk, OnErr};
+ghost use Rattle.ira_event.specs.Event.{is_event};
+
+use crate::event::Event;
+use crate::limits::MAX_RECORDS;
+use crate::out_of_memory::OutOfMemory;
+use crate::packed_event::PackedEvent;
+use crate::records::Records;
+use std::alloc::Allocator;
+use std::marker::Model;
+
+/// The events of a log while it is read, in eight bytes each. Contracts see their list.
+#[derive(Drop)]
+pub struct PackedEvents<A: Allocator> {
+    events: Vec<PackedEvent, A>,
+}
+
+impl<A: Allocator> Model for PackedEvents<A> {
+    ghost use Rattle.std.specs.Prelude.{List};
+    ghost use Rattle.ira_event.specs.declared.event.Event.{Event};
+
+    ghost Value = { List Event };
+
+    ghost view = { λ p. p.events.items };
+}
+
+impl<A: Allocator> PackedEvents<A> {
+    /// No events, and room for those of records that weren't read yet.
+    pub fn with_room_for(alloc: A, records: &Records<'_>) -> Result<PackedEvents<A>, OutOfMemory>
+        ensures { IfOk result (λ events. events ≡ []) }
+    {
+        // Most lines are longer, and a page that no event touches costs nothing.
+        let room = (records.unread() / 16).min(MAX_RECORDS);
+        Ok(PackedEvents {
+            events: Vec::with_capacity(alloc, room)?,
+        })
+    }
+
+    /// Adds an event at the end. Where memory runs out they are as they were.
+    #[inline(always)]
+    pub fn push(&mut self, event: Event) -> Result<(), OutOfMemory>
+        requires { is_event event ≡ true }
+        ensures ok { OnOk result (self.new ≡ self.old ++ event ∷ []) }
+        ensures err { OnErr result (self.new ≡ self.old) }
+    {
+        self.events.push(PackedEvent::new(event))?;
+        Ok(())
+    }
+
+    /// The events themselves.
+    pub(crate) fn into_list(self) -> Vec<PackedEvent, A>
+        ensures { result.items ≡ self }
+    {
+        self.events
+    }
+}
