@@ -1,4 +1,4 @@
--- A log that is judged while it is read.
+-- A log that is judged, or replayed and kept, while it is read.
 use Rattle.std.proofs.Common.{◌≡◌, ◌≢◌, ◌↔◌, ◌≤◌, ℕ, ◌+◌, List, [], ◌∷◌, ◌++◌, length, Result, Ok, Err, refl, ap, subst, arith, append_assoc, length-append, Bool, Option, Some, None, true, false, ◌∙◌, inl, inr}
 use Rattle.std.specs.Option.{is_some}
 use Rattle.std.specs.Prelude.{⊤, MatchOption, MatchResult}

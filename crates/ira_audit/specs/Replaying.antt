@@ -1,4 +1,4 @@
--- Helpers, no definitions: a log that is judged while it is read.
+-- Helpers, no definitions: a log that is judged, or replayed and kept, while it is read.
 use Rattle.std.specs.Prelude.{◌≡◌, ◌⊎◌, ℕ, Bool, List, ◌++◌, Option, Some, None, Result, Ok, Err}
 use Rattle.ira_event.specs.declared.event.Event.{Event}
 use Rattle.ira_event.specs.declared.log_fault.LogFault.{LogFault}
@@ -40,7 +40,7 @@ ReplaysRecords nodes initiator text left (Ok None) =
 ReplaysRecords nodes initiator text left (Ok (Some f)) = HasStopped text nodes initiator left f
 ReplaysRecords nodes initiator text left (Err f) = RecordsFault text f
 
--- all events lead on from the node's first state, or this is the first of them without a step
+-- all events lead on from the first state, or this is the first event without a step, and its fault
 abbrev pub ReplayGives : ℕ → Bool → List Event → Option ReplayFault → Type 0
 ReplayGives nodes initiator events None = (t : NodeState) × LeadsTo nodes (first_state initiator) events t
 ReplayGives nodes initiator events (Some f) = StopsAt nodes (first_state initiator) events f

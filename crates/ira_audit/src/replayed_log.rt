@@ -50,7 +50,8 @@ impl<A: Allocator> ReplayedLog<A> {
     }
 }
 
-/// The events of all records, none of which was read yet, and the first of them without a step, if there is one.
+/// The events of all records, none of which was read yet, and the first of them without a step, with its fault, if there
+/// is one.
 #[inline(never)]
 fn read_and_replay<A: Allocator>(
     alloc: A,

@@ -32,8 +32,8 @@ use std::thread::Threads;
 use std::time::Clock;
 
 /// Judges the texts of a ring's logs, which it takes one by one, or from an audit that has taken those that come next,
-/// in the order of the ring's places. Of a text it keeps the log alone, so that the texts needn't all be in memory at
-/// once.
+/// in the order of the ring's places. Of a text it keeps the log and what its replay gave, so that the texts needn't all
+/// be in memory at once.
 #[derive(Drop)]
 pub struct RingAudit<A: Allocator> {
     /// The logs of the texts, up to the first that is no log's.

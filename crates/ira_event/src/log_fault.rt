@@ -1,5 +1,4 @@
 use crate::out_of_memory::OutOfMemory;
-use std::alloc::AllocError;
 use thiserror::Error;
 
 /// What is wrong with a text that should be a log's. Lines count from 1 in the whole text.
@@ -42,17 +41,6 @@ impl From<OutOfMemory> for LogFault {
     ghost from_gives = { λ _ f. f ≡ OutOfMemory };
 
     fn from(_refused: OutOfMemory) -> LogFault {
-        LogFault::OutOfMemory
-    }
-}
-
-impl From<AllocError> for LogFault {
-    ghost use Rattle.std.specs.Prelude.{◌≡◌};
-    ghost use Rattle.ira_event.specs.declared.log_fault.LogFault.TheVariants.{OutOfMemory};
-
-    ghost from_gives = { λ _ f. f ≡ OutOfMemory };
-
-    fn from(_refused: AllocError) -> LogFault {
         LogFault::OutOfMemory
     }
 }

@@ -91,7 +91,7 @@ impl<A: Allocator> NodeLog<A> {
         }
     }
 
-    /// The log of a text's head and records, which are in range.
+    /// The log of this head and these events, which are known to be in range.
     pub fn of_records(head: LogHead, events: PackedEvents<A>) -> NodeLog<A>
         requires { IsLog
             (record { nodes = head.nodes; place = head.place; initiator = head.initiator; events = events }) }

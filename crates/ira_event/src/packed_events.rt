@@ -1,4 +1,4 @@
-ghost use Rattle.std.specs.Prelude.{◌≡◌, ◌++◌, ◌∷◌, [], true, length, IfOk, OnOk, OnErr};
+ghost use Rattle.std.specs.Prelude.{◌≡◌, ◌++◌, ◌∷◌, [], true, IfOk, OnOk, OnErr};
 ghost use Rattle.ira_event.specs.Event.{is_event};
 
 use crate::event::Event;
@@ -25,18 +25,18 @@ impl<A: Allocator> Model for PackedEvents<A> {
 }
 
 impl<A: Allocator> PackedEvents<A> {
-    /// No events, and room for those of records that weren't read yet.
+    /// No events, and room for about as many as the records have that weren't read yet.
     pub fn with_room_for(alloc: A, records: &Records<'_>) -> Result<PackedEvents<A>, OutOfMemory>
         ensures { IfOk result (λ events. events ≡ []) }
     {
-        // Most lines are longer, and a page that no event touches costs nothing.
+        // Most lines have more than 16 bytes, and a page that no event touches costs nothing.
         let room = (records.unread() / 16).min(MAX_RECORDS);
         Ok(PackedEvents {
             events: Vec::with_capacity(alloc, room)?,
         })
     }
 
-    /// Adds an event at the end. Where memory runs out they are as they were.
+    /// Adds an event at the end.
     #[inline(always)]
     pub fn push(&mut self, event: Event) -> Result<(), OutOfMemory>
         requires { is_event event ≡ true }
@@ -47,7 +47,7 @@ impl<A: Allocator> PackedEvents<A> {
         Ok(())
     }
 
-    /// The events themselves.
+    /// The list, still packed.
     pub(crate) fn into_list(self) -> Vec<PackedEvent, A>
         ensures { result.items ≡ self }
     {

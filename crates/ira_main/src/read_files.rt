@@ -43,7 +43,7 @@ pub(crate) fn read_file<'a, A: Allocator + Clone, F: TextSource>(
 #[derive(Drop)]
 struct Share<A: Allocator> {
     audit: RingAudit<A>,
-    /// The room that the texts were read into. It is given back where no thread is left that would be interrupted for it.
+    /// The room of the texts. It is kept until all threads are joined, since to unmap it interrupts each one that runs.
     text: TextBuffer<A>,
 }
 
