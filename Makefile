@@ -16,7 +16,7 @@ say = printf '%4d s  %s\n' $$(($$(date +%s) - $(START)))
 
 help:
 	@echo 'make ira        proves the program and the libraries that it stands on, and leaves it at bin/ira:'
-	@echo '                the first time half an hour to an hour of processor time, over all cores; then the crates that'
+	@echo '                the first time 30 to 75 minutes of processor time, over all cores; then the crates that'
 	@echo '                have changed, and those that stand on them'
 	@echo 'make run        makes ira, judges examples with it, and compares its answers with those expected'
 	@echo 'make install    copies bin/ira to $$(PREFIX)/bin, and its manual to $$(PREFIX)/share/man/man1; PREFIX is'
