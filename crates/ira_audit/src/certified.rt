@@ -22,12 +22,11 @@ use crate::reason::Reason;
 use crate::refusal::Refusal;
 use crate::replayed_log::ReplayedLog;
 use crate::ring_audit::RingAudit;
-use crate::ring_logs::{gather_logs, order_runs};
-use crate::sections::check_sections;
+use crate::ring_logs::{check_runs, gather_logs};
+use crate::sections::{check_sections, order_for};
 use ira_cert_text::{Certificate, read_cert};
 use ira_event::{Logs, OutOfMemory, RingSize};
 use ira_links::Gate;
-use ira_order::Ordered;
 use ira_pred::{Question, read_question};
 use std::alloc::Allocator;
 use std::sync::Wait;
@@ -44,11 +43,11 @@ use std::time::Clock;
 /// recorded, and nothing that the question asks was ever met: no consistent cut of the logs meets any of
 /// its cases. The answer is the same at every depth, 0 to 4, and with every gate.
 ///
-/// The steps of each section are halved `depth` times, and their parts judged on up to `2^depth` threads, each
+/// The steps of a section, if it has any, are halved `depth` times, and their parts judged on up to `2^depth` threads, each
 /// behind the gate, which it passes with its number from the left.
 ///
-/// Beside the logs it takes a counter of each node for each receipt, a byte for each event and, for one case
-/// after the other, a list of the candidates of each node that the case asks.
+/// Beside the logs it takes a byte for each event and, for one case after the other, a list of the candidates of each
+/// node that the case asks; and a counter of each node for each receipt, where a section has a step.
 pub fn audit<R, G, A>(
     rt: &R,
     alloc: A,
@@ -101,17 +100,8 @@ where
 {
     let alloc = logs.allocator().clone()?;
     let (logs, steps) = gather_logs(logs)?;
-    let ordered = order_runs(alloc.clone()?, &logs, steps)?;
-    judge_question(
-        rt,
-        alloc,
-        &logs,
-        &ordered,
-        question,
-        certificate,
-        depth,
-        gate,
-    )
+    check_runs(alloc.clone()?, &logs, steps)?;
+    judge_question(rt, alloc, &logs, question, certificate, depth, gate)
 }
 
 /// Whether the certificate answers the question, where nothing is said against the logs.
@@ -119,7 +109,6 @@ fn judge_question<R, G, A>(
     rt: &R,
     alloc: A,
     logs: &Logs<A>,
-    ordered: &Ordered<'_, A>,
     question: &[u8],
     certificate: &[u8],
     depth: u8,
@@ -130,7 +119,6 @@ where
     G: Gate + Sync,
     A: Allocator + Clone + Send + Sync,
     requires depth { depth ≤ 4 }
-    requires order { ordered.now.logs ≡ logs.now }
     ensures { (texts : List (List ℕ)) → AreGoodLogs texts logs.now
         → Judged result (IsAuditAnswer texts question.now certificate.now) }
 {
@@ -138,7 +126,8 @@ where
     let cases = question.cases();
     let certificate = read_certificate(alloc.clone()?, logs.size(), cases.len(), certificate)?;
     let sections = &certificate.sections;
-    check_sections(rt, alloc, logs, ordered, cases, sections, depth, gate)
+    let ordered = order_for(alloc.clone()?, logs, sections)?;
+    check_sections(rt, alloc, logs, &ordered, cases, sections, depth, gate)
 }
 
 /// The question of the text, which must be asked of a ring of this size.

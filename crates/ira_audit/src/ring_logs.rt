@@ -89,19 +89,30 @@ where
     Ok(steps?)
 }
 
-/// The order of the logs of one ring, where they match and have one, and each event has a step, as the
-/// logs' replay told.
-pub(crate) fn order_runs<A: Allocator + Clone>(
+/// Whether the logs of one ring match and have an order, and each event has a step, as the logs' replay told.
+pub(crate) fn check_runs<A: Allocator + Clone>(
     alloc: A,
     logs: &Logs<A>,
     steps: Result<(), Reason>,
-) -> Result<Ordered<'_, A>, Refusal>
+) -> Result<(), Refusal>
     requires { AreReplayed logs.now steps }
-    ensures logs { IfOk result (λ o. o.logs ≡ logs.now) }
-    ensures runs { (texts : List (List ℕ)) → AreLogTexts texts logs.now → AreLogs logs.now
+    ensures { (texts : List (List ℕ)) → AreLogTexts texts logs.now → AreLogs logs.now
         → MatchRefusal result (λ _. AreGoodLogs texts logs.now) (IsLogsReason texts) }
 {
-    let ordered = order(alloc, logs)?;
-    steps?;
-    Ok(ordered)
+    find_order(alloc, logs)?;
+    Ok(steps?)
+}
+
+/// The order of good logs, and what happened before what. They have an order, so that memory has run out where none is
+/// found.
+pub(crate) fn stamped_order<A: Allocator + Clone>(
+    alloc: A,
+    logs: &Logs<A>,
+) -> Result<Ordered<'_, A>, OutOfMemory>
+    ensures { IfOk result (λ o. o.logs ≡ logs.now) }
+{
+    match order(alloc, logs) {
+        Ok(ordered) => Ok(ordered),
+        Err(_) => Err(OutOfMemory),
+    }
 }

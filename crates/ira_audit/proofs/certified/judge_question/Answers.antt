@@ -41,7 +41,7 @@ returns g c = λ texts good.
     let posed : Posed texts c.args.question.now c.args.logs.now asked =
     record { logs_are = good; question_is = c.in_ok-question.ensures.0; ring = c.in_ok-question.ensures.1 ∙ c.size.ensures.value } in
     let number : length k.sections ≡ length asked.cases = h.2 ∙ ap length c.cases-cases.ensures.value in
-    let sections : c.deref.result.now ≡ k.sections = search rules in
+    let sections : c.deref-2.result.now ≡ k.sections = search rules in
     sections_judged texts c.args.question.now c.args.certificate.now c.args.logs.now asked posed k h.0 (h.1 ∙ c.size-2.ensures.value) number c.check_sections.result
     (subst (λ xs. SectionsJudged c.args.logs.now asked.cases xs c.check_sections.result) sections
-    (subst (λ cases. SectionsJudged c.args.logs.now cases c.deref.result.now c.check_sections.result) c.cases-cases.ensures.value c.check_sections.ensures))
+    (subst (λ cases. SectionsJudged c.args.logs.now cases c.deref-2.result.now c.check_sections.result) c.cases-cases.ensures.value c.check_sections.ensures))

@@ -8,11 +8,8 @@ use Rattle.ira_cert.specs.SectionFault.{IsSectionFault}
 use Rattle.ira_audit.proofs.SoundSections.{sound_more}
 use Rattle.ira_audit.proofs.sections.check_sections.Goals as goal
 
-pub split_profiled-requires-clause-order : goal.split_profiled-requires-clause-order
-split_profiled-requires-clause-order g c κs within = c.requires.order ∙ sym (c.deref.ensures.value ∙ c.in_ok-profiles.ensures)
-
-pub split_profiled-requires-clause-places : goal.split_profiled-requires-clause-places
-split_profiled-requires-clause-places g c κs within =
+pub judge_section-requires-clause-places : goal.judge_section-requires-clause-places
+judge_section-requires-clause-places g c κs within =
     let case = c.index-cases-case.result in
     let case_at = slice_get_read c.args.cases.now _ c.loop-case.case case refl (search rules) c.index-cases-case.is in
     let same : c.deref.result.now ≡ c.args.logs.now = c.deref.ensures.value ∙ c.in_ok-profiles.ensures in
