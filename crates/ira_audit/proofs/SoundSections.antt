@@ -29,17 +29,17 @@ sound_or_fault logs case section f differ sound fault = let same = one_verdict l
 one_fault : (logs : List Log) (case : List Conjunct) (section : Section) (f g : SectionFault) → HasDifferentPlaces case → IsSectionFault logs case section f → IsSectionFault logs case section g → f ≡ g
 one_fault logs case section f g differ h k = let same = one_verdict logs case differ section (verdict.No f) (verdict.No g) h k in cc
 
--- a section without steps is sound where its node has no candidate
+-- a section without steps is sound where the case asks its node and that has no candidate
 module _ (logs : List Log) (case : List Conjunct) (section : Section) (none : section.steps ≡ []) (differ : HasDifferentPlaces case) (fronts : List (Option (List ℕ))) (are : AreFronts logs case fronts)
     (spent : ℕ) (is : spent ≡ section.spent) where
   no_steps : AreSoundSteps logs case [] × AreFrontsBehind logs case [] fronts
   no_steps = (λ k s at. absurd cc, all_left logs case fronts are)
 
-  pub spent_at_once : slice_get fronts spent ≡ Some (Some []) → IsVerdict logs case section verdict.Yes
-  spent_at_once empty = empty_is_sound logs case section [] (sym none) differ fronts no_steps spent is empty
+  pub spent_without_steps : slice_get fronts spent ≡ Some (Some []) → IsVerdict logs case section verdict.Yes
+  spent_without_steps empty = empty_is_sound logs case section [] (sym none) differ fronts no_steps spent is empty
 
-  pub unspent_at_once : ¬ (slice_get fronts spent ≡ Some (Some [])) → IsVerdict logs case section (verdict.No (NotSpent spent))
-  unspent_at_once left = left_is_fault logs case section [] (sym none) differ fronts no_steps spent is left
+  pub unspent_without_steps : ¬ (slice_get fronts spent ≡ Some (Some [])) → IsVerdict logs case section (verdict.No (NotSpent spent))
+  unspent_without_steps left = left_is_fault logs case section [] (sym none) differ fronts no_steps spent is left
 
 module _ (logs : List Log) (cases : List (List Conjunct)) (sections : List Section) where
   -- one section more is sound

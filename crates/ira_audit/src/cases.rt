@@ -3,6 +3,7 @@ ghost use Rattle.std.specs.List.{AllZip};
 ghost use Rattle.ira_event.specs.Result.{UnlessErr};
 ghost use Rattle.ira_pred.specs.Case.{Conjunct};
 ghost use Rattle.ira_cert.specs.Asked.{HasPlacesOf};
+ghost use Rattle.ira_order.specs.Circle.{HasOrder};
 ghost use Rattle.ira_elim.specs.Found.{IsAbsence, IsFound};
 ghost use Rattle.ira_audit.specs.Findings.{AreFindings, AreReportable};
 ghost use Rattle.ira_audit.specs.LogTexts.{AreLogTexts};
@@ -30,8 +31,8 @@ use std::alloc::Allocator;
 /// order of the ring's places. Where `audit` has reasons against the logs or the question, the first of them
 /// is answered instead. No answer says that memory ran out.
 ///
-/// Beside the logs it takes a byte for each event and, for one case after the other, a list of the candidates of each
-/// node that the case asks, and what is found; and a counter of each node for each receipt, unless each case asks a
+/// Beside the logs it takes a byte or two for each event and, for one case after the other, a list of the candidates of each
+/// node that the case asks, and what is found; and a counter of each node for each receipt, unless each case asks some
 /// node for a state that it never had.
 pub fn decide_all<A: Allocator + Clone>(
     alloc: A,
@@ -72,12 +73,13 @@ pub(crate) fn decide_posed<A: Allocator + Clone>(
 }
 
 /// What is found for each case. The states of each log are computed once, however many cases there are, and no event is
-/// stamped where each case asks a node for a state that it never had.
+/// stamped where each case asks some node for a state that it never had.
 fn decide_cases<A: Allocator + Clone>(
     alloc: A,
     logs: &Logs<A>,
     cases: &[Case<A>],
 ) -> Result<Vec<Found<A>, A>, OutOfMemory>
+    requires order { HasOrder logs.now }
     requires places { (i : ℕ) (case : List Conjunct) → slice_get cases.now i ≡ Some case
         → HasPlacesOf logs.now case }
     ensures { IfOk result (λ found. AllZip (IsFound logs.now) cases.now found.items) }
@@ -85,8 +87,9 @@ fn decide_cases<A: Allocator + Clone>(
     let profiles = all_profiles(alloc.clone()?, logs)?;
     let mut found = Vec::with_capacity(alloc.clone()?, cases.len())?;
     for case in cases {
-        let Some(section) = absence_at_once(alloc.clone()?, logs.size(), &profiles, case)? else {
-            return decide_in_order(alloc, logs, &profiles, cases);
+        let Some(section) = absence_without_steps(alloc.clone()?, logs.size(), &profiles, case)?
+        else {
+            return decide_with_order(alloc, logs, &profiles, cases);
         };
         found.push(Found::Absent(section))?;
     }
@@ -94,7 +97,7 @@ fn decide_cases<A: Allocator + Clone>(
 }
 
 /// The section without steps of the least node that the case asks for a state that it never had, if there is one.
-fn absence_at_once<A: Allocator + Clone>(
+fn absence_without_steps<A: Allocator + Clone>(
     alloc: A,
     nodes: RingSize,
     profiles: &[Profile<'_, A>],
@@ -119,14 +122,15 @@ fn absence_at_once<A: Allocator + Clone>(
     Ok(None)
 }
 
-/// What is found for each case along an order of the logs.
-fn decide_in_order<A: Allocator + Clone>(
+/// What is found for each case of logs that have an order.
+fn decide_with_order<A: Allocator + Clone>(
     alloc: A,
     logs: &Logs<A>,
     profiles: &[Profile<'_, A>],
     cases: &[Case<A>],
 ) -> Result<Vec<Found<A>, A>, OutOfMemory>
     requires profiles { profiles.now ≡ logs.now }
+    requires order { HasOrder logs.now }
     requires places { (i : ℕ) (case : List Conjunct) → slice_get cases.now i ≡ Some case
         → HasPlacesOf logs.now case }
     ensures { IfOk result (λ found. AllZip (IsFound logs.now) cases.now found.items) }

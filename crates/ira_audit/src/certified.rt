@@ -23,7 +23,7 @@ use crate::refusal::Refusal;
 use crate::replayed_log::ReplayedLog;
 use crate::ring_audit::RingAudit;
 use crate::ring_logs::{check_runs, gather_logs};
-use crate::sections::{check_sections, order_for};
+use crate::sections::{check_sections, order_for_steps};
 use ira_cert_text::{Certificate, read_cert};
 use ira_event::{Logs, OutOfMemory, RingSize};
 use ira_links::Gate;
@@ -43,10 +43,11 @@ use std::time::Clock;
 /// recorded, and nothing that the question asks was ever met: no consistent cut of the logs meets any of
 /// its cases. The answer is the same at every depth, 0 to 4, and with every gate.
 ///
-/// The steps of a section, if it has any, are halved `depth` times, and their parts judged on up to `2^depth` threads, each
-/// behind the gate, which it passes with its number from the left.
+/// The steps of each section are halved `depth` times, and their parts judged on up to `2^depth` threads, each
+/// behind the gate, which it passes with its number from the left; where no section has a step, no gate is passed and no
+/// thread started.
 ///
-/// Beside the logs it takes a byte for each event and, for one case after the other, a list of the candidates of each
+/// Beside the logs it takes a byte or two for each event and, for one case after the other, a list of the candidates of each
 /// node that the case asks; and a counter of each node for each receipt, where a section has a step.
 pub fn audit<R, G, A>(
     rt: &R,
@@ -119,6 +120,7 @@ where
     G: Gate + Sync,
     A: Allocator + Clone + Send + Sync,
     requires depth { depth ≤ 4 }
+    requires order { HasOrder logs.now }
     ensures { (texts : List (List ℕ)) → AreGoodLogs texts logs.now
         → Judged result (IsAuditAnswer texts question.now certificate.now) }
 {
@@ -126,7 +128,7 @@ where
     let cases = question.cases();
     let certificate = read_certificate(alloc.clone()?, logs.size(), cases.len(), certificate)?;
     let sections = &certificate.sections;
-    let ordered = order_for(alloc.clone()?, logs, sections)?;
+    let ordered = order_for_steps(alloc.clone()?, logs, sections)?;
     check_sections(rt, alloc, logs, &ordered, cases, sections, depth, gate)
 }
 

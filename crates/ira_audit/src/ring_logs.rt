@@ -2,6 +2,7 @@ ghost use Rattle.std.specs.Prelude.{◌≡◌, ◌↔◌, ℕ, List, Ok, IfOk, M
 ghost use Rattle.ira_event.specs.Logs.{AreLogs};
 ghost use Rattle.ira_event.specs.Result.{UnlessErr};
 ghost use Rattle.ira_node.specs.declared.step_fault.StepFault.{StepFault};
+ghost use Rattle.ira_order.specs.Circle.{HasOrder};
 ghost use Rattle.ira_order.specs.declared.match_fault.MatchFault.{MatchFault};
 ghost use Rattle.ira_audit.specs.GoodLogs.{AreGoodLogs};
 ghost use Rattle.ira_audit.specs.LogTexts.{AreLogTexts};
@@ -18,7 +19,7 @@ use crate::refusal::{Refusal, answer_of};
 use crate::replayed_log::{ReplayedLog, split_steps};
 use crate::ring_audit::RingAudit;
 use ira_event::{Logs, OutOfMemory};
-use ira_order::{Ordered, find_order, find_order_on_threads, order};
+use ira_order::{OrderFault, Ordered, find_order, find_order_on_threads, order};
 use std::alloc::Allocator;
 use std::thread::Threads;
 
@@ -96,23 +97,29 @@ pub(crate) fn check_runs<A: Allocator + Clone>(
     steps: Result<(), Reason>,
 ) -> Result<(), Refusal>
     requires { AreReplayed logs.now steps }
-    ensures { (texts : List (List ℕ)) → AreLogTexts texts logs.now → AreLogs logs.now
+    ensures order { IfOk result (λ _. HasOrder logs.now) }
+    ensures runs { (texts : List (List ℕ)) → AreLogTexts texts logs.now → AreLogs logs.now
         → MatchRefusal result (λ _. AreGoodLogs texts logs.now) (IsLogsReason texts) }
 {
     find_order(alloc, logs)?;
     Ok(steps?)
 }
 
-/// The order of good logs, and what happened before what. They have an order, so that memory has run out where none is
-/// found.
+/// The order of logs that have one, and which of their events happened before one another.
 pub(crate) fn stamped_order<A: Allocator + Clone>(
     alloc: A,
     logs: &Logs<A>,
 ) -> Result<Ordered<'_, A>, OutOfMemory>
+    requires { HasOrder logs.now }
     ensures { IfOk result (λ o. o.logs ≡ logs.now) }
 {
-    match order(alloc, logs) {
-        Ok(ordered) => Ok(ordered),
-        Err(_) => Err(OutOfMemory),
+    let fault = match order(alloc, logs) {
+        Ok(ordered) => return Ok(ordered),
+        Err(fault) => fault,
+    };
+    match fault {
+        OrderFault::OutOfMemory => Err(OutOfMemory),
+        OrderFault::Match(_fault) => unreachable!(),
+        OrderFault::Circle => unreachable!(),
     }
 }

@@ -6,6 +6,7 @@ ghost use Rattle.ira_cert.specs.Asked.{HasDifferentPlaces, HasPlacesOf};
 ghost use Rattle.ira_cert.specs.SectionFault.{IsSectionFault};
 ghost use Rattle.ira_cert.specs.SoundSection.{IsSoundSection};
 ghost use Rattle.ira_cert.specs.Verdict.{IsVerdict};
+ghost use Rattle.ira_order.specs.Circle.{HasOrder};
 ghost use Rattle.ira_pred.specs.Case.{Conjunct};
 ghost use Rattle.ira_audit.specs.AuditAnswer.{AreSound, IsFirstUnsound};
 ghost use Rattle.ira_audit.specs.Refusal.{MatchRefusal};
@@ -27,7 +28,7 @@ use std::thread::Threads;
 use std::time::Clock;
 
 /// Whether each section is sound for the case of its number. The states of each log are computed once,
-/// however many cases there are. Sections without steps are judged without an order.
+/// however many cases there are. Where no section has a step, there may be no order.
 pub(crate) fn check_sections<R, G, A>(
     rt: &R,
     alloc: A,
@@ -73,12 +74,13 @@ where
     Ok(())
 }
 
-/// The order of good logs, where a section has a step and so asks which event happened before another.
-pub(crate) fn order_for<'a, A: Allocator + Clone>(
+/// The order of the logs with its stamps, where a section has a step; none where no section has one.
+pub(crate) fn order_for_steps<'a, A: Allocator + Clone>(
     alloc: A,
     logs: &'a Logs<A>,
     sections: &[Section<A>],
 ) -> Result<Option<Ordered<'a, A>>, OutOfMemory>
+    requires { HasOrder logs.now }
     ensures { IfOk result
         (λ o. MatchOption o (All (λ s. s.steps ≡ []) sections.now) (λ o. o.logs ≡ logs.now)) }
 {
@@ -122,7 +124,7 @@ where
     }
 }
 
-/// The verdict of a section without steps: its node has no candidate, or isn't spent.
+/// The verdict of a section without steps: sound where the case asks its node and that has no candidate, else not spent.
 fn judge_without_steps<A: Allocator + Clone>(
     alloc: A,
     nodes: RingSize,

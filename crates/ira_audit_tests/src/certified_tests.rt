@@ -2,7 +2,8 @@ ghost use Rattle.std.specs.Prelude.{◌≤◌};
 
 use crate::lines::has_line;
 use crate::samples::{
-    ELECTION, ELECTION_0, LEADER_AND_ACTIVE, LONE_0, LONE_1, LONE_2, TIE_0, TIE_1, TWO_STEPS,
+    BOTH_LEAD, ELECTION, ELECTION_0, LEADER_AND_ACTIVE, LONE_0, LONE_1, LONE_2, NODE_1_SPENT,
+    TIE_0, TIE_1, TWO_STEPS,
 };
 use ira_audit::audit;
 use ira_event::OutOfMemory;
@@ -44,14 +45,30 @@ where
     }
 }
 
-const BOTH_LEAD: &[u8] = b"irask 1\nnodes 2\ncase\n0: leader\n1: leader\nend\n";
-
-/// The certificate of one section without steps.
-const NODE_1_SPENT: &[u8] = b"ircert 1\nnodes 2\nsection\nspent 1\nend\n";
-
 #[test]
 fn section_without_steps(rt: HostRuntime) {
     assert_answered(&rt, ELECTION, BOTH_LEAD, NODE_1_SPENT, "yes\n");
+    let certificate = b"ircert 1\nnodes 2\nsection\nspent 0\nend\n";
+    let line = "no: case 0: node 0 not spent\n";
+    assert_answered(&rt, ELECTION, BOTH_LEAD, certificate, line);
+}
+
+#[test]
+fn sections_with_and_without_steps(rt: HostRuntime) {
+    let question =
+        b"irask 1\nnodes 2\ncase\n0: leader\n1: leader\ncase\n0: leader\n1: active\nend\n";
+    for (certificate, line) in [
+        (
+            b"ircert 1\nnodes 2\nsection\nspent 1\nsection\ndrop 1 1 by 0 4\ndrop 1 2 by 0 4\nspent 1\nend\n",
+            "yes\n",
+        ),
+        (
+            b"ircert 1\nnodes 2\nsection\nspent 0\nsection\ndrop 1 1 by 0 4\ndrop 1 2 by 0 4\nspent 1\nend\n",
+            "no: case 0: node 0 not spent\n",
+        ),
+    ] {
+        assert_answered(&rt, ELECTION, question, certificate, line);
+    }
 }
 
 #[test]

@@ -74,6 +74,19 @@ fn two_cases(rt: HostRuntime) {
 }
 
 #[test]
+fn absences_with_and_without_steps(rt: HostRuntime) {
+    let question = b"irask 1\nnodes 2\n\
+        case\n0: leader\n1: leader\n\
+        case\n0: leader\n1: active\n\
+        case\n0: active\n1: passive\n\
+        end\n";
+    let lines = "case 0: absent, 0 steps, node 1 spent\n\
+        case 1: absent, 2 steps, node 1 spent\n\
+        case 2: present at 2 3\n";
+    assert_uncertified(&rt, ELECTION, question, lines);
+}
+
+#[test]
 fn pairs_of_three(rt: HostRuntime) {
     let texts: &[&[u8]] = &[LONE_0, LONE_1, LONE_2];
     let question = pairs_text(&rt);

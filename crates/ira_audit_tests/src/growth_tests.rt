@@ -3,7 +3,9 @@ ghost use Rattle.ira_audit.specs.Findings.{AreReportable};
 ghost use Rattle.ira_audit.specs.Report.{IsReportable};
 
 use crate::lines::has_lines;
-use crate::samples::{ELECTION, ELECTION_0, ELECTION_1, LEADER_AND_ACTIVE, TWO_STEPS};
+use crate::samples::{
+    BOTH_LEAD, ELECTION, ELECTION_0, ELECTION_1, LEADER_AND_ACTIVE, NODE_1_SPENT, TWO_STEPS,
+};
 use ira_audit::{
     Answer, Findings, Reason, RingAudit, audit, audit_logs, audit_one, decide_all, write_findings,
     write_report,
@@ -64,18 +66,20 @@ enum Call {
     TakeAgain,
     /// At each depth.
     Check,
+    CheckWithoutSteps,
     CheckCut,
     DecideTwoCases,
     DecideExchanged,
     MakeCertificate,
 }
 
-const CALLS: [Call; 9] = [
+const CALLS: [Call; 10] = [
     Call::JudgeElection,
     Call::JudgeCircle,
     Call::JudgeExchanged,
     Call::TakeAgain,
     Call::Check,
+    Call::CheckWithoutSteps,
     Call::CheckCut,
     Call::DecideTwoCases,
     Call::DecideExchanged,
@@ -100,10 +104,11 @@ fn take_again<R: Threads>(rt: &R, alloc: Memory) -> Outcome {
     answered(audit.finish(rt), Answer::Yes)
 }
 
-/// Judges the election with this certificate.
+/// Judges the election with this question and this certificate.
 fn check<R: Threads + Wait + Clock + Sync>(
     rt: &R,
     alloc: &Memory,
+    question: &[u8],
     certificate: &[u8],
     answer: Answer,
 ) -> Outcome {
@@ -111,7 +116,6 @@ fn check<R: Threads + Wait + Clock + Sync>(
         let Ok(alloc) = alloc.clone() else {
             return Outcome::GaveUp;
         };
-        let question = LEADER_AND_ACTIVE;
         let found = audit(rt, alloc, ELECTION, question, certificate, depth, &OpenGate);
         let outcome = answered(found, answer);
         if outcome != Outcome::Right {
@@ -161,10 +165,11 @@ where
         }
         Call::JudgeExchanged => answered(audit_logs(alloc, EXCHANGED), Answer::No(exchanged)),
         Call::TakeAgain => take_again(rt, alloc),
-        Call::Check => check(rt, &alloc, TWO_STEPS, Answer::Yes),
+        Call::Check => check(rt, &alloc, LEADER_AND_ACTIVE, TWO_STEPS, Answer::Yes),
+        Call::CheckWithoutSteps => check(rt, &alloc, BOTH_LEAD, NODE_1_SPENT, Answer::Yes),
         Call::CheckCut => {
             let cut = Answer::No(Reason::Certificate(CertFault::Cut));
-            check(rt, &alloc, CUT, cut)
+            check(rt, &alloc, LEADER_AND_ACTIVE, CUT, cut)
         }
         Call::DecideTwoCases => decide(rt.alloc(), alloc, ELECTION, TWO_CASES, TWO_CASES_FOUND),
         Call::DecideExchanged => { decide(rt.alloc(), alloc, EXCHANGED, TWO_CASES, EXCHANGED_LINE) }

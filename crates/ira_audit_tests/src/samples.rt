@@ -24,6 +24,12 @@ pub const LEADER_AND_ACTIVE: &[u8] = b"irask 1\nnodes 2\ncase\n0: leader\n1: act
 pub const TWO_STEPS: &[u8] =
     b"ircert 1\nnodes 2\nsection\ndrop 1 1 by 0 4\ndrop 1 2 by 0 4\nspent 1\nend\n";
 
+/// Of a ring of two: whether both nodes lead.
+pub const BOTH_LEAD: &[u8] = b"irask 1\nnodes 2\ncase\n0: leader\n1: leader\nend\n";
+
+/// The certificate of one section without steps.
+pub const NODE_1_SPENT: &[u8] = b"ircert 1\nnodes 2\nsection\nspent 1\nend\n";
+
 /// An election of two nodes that draw the same ID first.
 pub const TIE_0: &[u8] = b"irlog 1\nnodes 2\nplace 0\nstart initiator\n\
     draw 1\n\

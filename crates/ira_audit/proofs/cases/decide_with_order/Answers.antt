@@ -4,7 +4,7 @@ use Rattle.ira_event.specs.Log.{Log}
 use Rattle.ira_elim.specs.Found.{IsFound}
 use Rattle.ira_audit.proofs.LogTexts.{next_taken}
 use Rattle.ira_audit.proofs.Zipped.{zipped_more}
-use Rattle.ira_audit.proofs.cases.decide_in_order.Goals as goal
+use Rattle.ira_audit.proofs.cases.decide_with_order.Goals as goal
 
 pub loop-case-preserved : goal.loop-case-preserved
 loop-case-preserved g c =
