@@ -1,5 +1,6 @@
 pub mod Deciding
 pub mod Judging
+pub mod LogAudits
 pub mod LogTexts
 pub mod LogsAnswered
 pub mod MadeCertificates

@@ -3,6 +3,7 @@ pub mod AuditAnswer
 pub mod Findings
 pub mod FindingsText
 pub mod GoodLogs
+pub mod LogAudit
 pub mod LogTexts
 pub mod LogsAnswer
 pub mod Never

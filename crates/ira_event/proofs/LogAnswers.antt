@@ -8,7 +8,7 @@ use Rattle.ira_event.specs.declared.log_fault.LogFault.TheVariants.{OutOfMemory}
 use Rattle.ira_event.specs.declared.log_head.HeadLines.{HeadLines}
 use Rattle.ira_event.specs.Log.{Log, IsLog}
 use Rattle.ira_event.specs.LogText.{IsLogText, log_text}
-use Rattle.ira_event.specs.LogTextFault.{BeginsWithHead, RecordsFault, LinesFault, no_head, behind_head, LogTextFault, AreAllRecords}
+use Rattle.ira_event.specs.LogTextFault.{BeginsWithHead, OpeningFault, RecordsFault, LinesFault, no_head, behind_head, LogTextFault, AreAllRecords}
 use Rattle.ira_event.specs.Result.{UnlessErr}
 use Rattle.ira_event.proofs.Heads.{begins-again}
 use Rattle.ira_event.proofs.LogTexts.{records_faults_same, records_fault_not_all, all_records_same}
@@ -110,6 +110,10 @@ ok_is a b e = cc
 
 pub err_is : (f g : LogFault) → ◌≡◌ {A = Result Log LogFault} (Err f) (Err g) → f ≡ g
 err_is f g e = cc
+
+pub opening_fault : (text : List ℕ) (f : LogFault) → OpeningFault text f → LogTextFault text f
+opening_fault text f (inl long) = inl long
+opening_fault text f (inr h) = inr (h.0, no_head h.1 h.2)
 
 pub exactly_ok : (r : Result Log LogFault) (text : List ℕ) → LogRead r text → (log : Log) → UnlessErr r OutOfMemory ((r ≡ Ok log) ↔ IsLogText text log)
 exactly_ok (Ok l) text h log = inr (λ e. subst (IsLogText text) (ok_is l log e) h, λ k. ap Ok (one_log text l log h k))

@@ -1,6 +1,5 @@
 -- What the reader of a log text found, line by line.
 use Rattle.std.proofs.Common.{◌≡◌, ◌≢◌, ◌≤◌, ◌<◌, ℕ, ◌+◌, ◌&&◌, Bool, true, false, cond, List, [], ◌∷◌, ◌++◌, length, take, drop, suc, get_or, Option, Some, None, Ok, refl, sym, ap, subst, ◌∙◌, arith, inl, inr, nat_eq, nat_lt, nat_le, append_assoc, length-append}
-use Rattle.std.specs.Option.{is_some}
 use Rattle.std.specs.Prelude.{codes, position}
 use Rattle.std.specs.List.{list_all, position_or_len}
 use Rattle.std.proofs.Math.Seq.{split_at}
@@ -141,21 +140,9 @@ behind_all text es left h r = record { end = r.line; end_is = subst (IsEnd r.lin
 pub behind_fault : (text : List ℕ) (es : List Event) (left : RecordsLeft) (f : LogFault) → HasRead text es left → RestFault left.count left.rest f → RecordsFault text f
 behind_fault text es left f h r = record { events = es; rest = left.rest; begins = h.0; fault = subst (λ k. RestFault k left.rest f) (sym h.1) r }
 
--- what stood behind these events goes on behind those read later
-pub behind_later : (text : List ℕ) (es later : List Event) (old new : RecordsLeft) (e : Event) → HasRead text (es ++ later) old → ReadsRecord old new e → HasRead text (es ++ (later ++ e ∷ [])) new
-behind_later text es later old new e h r = subst (λ xs. HasRead text xs new) (append_assoc es later (e ∷ [])) (behind_more text (es ++ later) old new e h r)
-
 pub was_read : (old new : RecordsLeft) (r : Option Event) (e : Event) → ReadsOn old new (Ok r) → r ≡ Some e → ReadsRecord old new e
 was_read old new (Some x) e h is = let same : x ≡ e = cc in subst (ReadsRecord old new) same h
 was_read old new None e h is = absurd cc
-
-pub some_was_read : (old new : RecordsLeft) (r : Option Event) → ReadsOn old new (Ok r) → true ≡ is_some r → (e : Event) × ReadsRecord old new e
-some_was_read old new (Some e) h some = (e, h)
-some_was_read old new None h some = absurd cc
-
-pub none_was_last : (old new : RecordsLeft) (r : Option Event) → ReadsOn old new (Ok r) → false ≡ is_some r → IsAtEnd old × (new ≡ old)
-none_was_last old new (Some e) h none = absurd cc
-none_was_last old new None h none = h
 
 pub was_last : (old new : RecordsLeft) (r : Option Event) → ReadsOn old new (Ok r) → r ≡ None → IsAtEnd old
 was_last old new (Some x) h is = absurd cc

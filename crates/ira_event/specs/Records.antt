@@ -42,10 +42,3 @@ HasRead text events left = BeginsWithRecords text events left.rest × (length ev
 abbrev pub IsEndOrFault : RecordsLeft → Result ⊤ LogFault → Type 0
 IsEndOrFault left (Ok done) = IsAtEnd left
 IsEndOrFault left (Err f) = RestFault left.count left.rest f
-
--- later events were read, behind those that were read before; the end line, or the line with the first fault, is left
--- unread
-abbrev pub ReadsThrough : RecordsLeft → RecordsLeft → Result ⊤ LogFault → Type 0
-ReadsThrough old new result =
-    (text : List ℕ) (events : List Event) → HasRead text events old
-    → (later : List Event) × HasRead text (events ++ later) new × IsEndOrFault new result

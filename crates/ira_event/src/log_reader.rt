@@ -1,7 +1,7 @@
 ghost use Rattle.std.specs.Prelude.{◌≡◌, ◌≤◌, ◌↔◌, length, MatchResult};
 ghost use Rattle.ira_event.specs.Log.{Log};
 ghost use Rattle.ira_event.specs.LogText.{IsLogText};
-ghost use Rattle.ira_event.specs.LogTextFault.{BeginsWithHead, RecordsRead, LogTextFault};
+ghost use Rattle.ira_event.specs.LogTextFault.{BeginsWithHead, OpeningFault, RecordsRead, LogTextFault};
 ghost use Rattle.ira_event.specs.Result.{UnlessErr};
 ghost use Rattle.ira_event.specs.Limits.{MAX_TEXT};
 ghost use Rattle.ira_event.specs.declared.log_fault.LogFault.{LogFault};
@@ -36,7 +36,7 @@ pub fn open_log(text: &[u8]) -> Result<(LogHead, Records<'_>), LogFault>
     ensures { MatchResult result
         (λ p. (length text.now ≤ MAX_TEXT)
         × BeginsWithHead text.now p.0.nodes p.0.place p.0.initiator p.1.rest × (p.1.count ≡ 0))
-        (λ f. LogTextFault text.now f) }
+        (OpeningFault text.now) }
 {
     if text.len() > MAX_TEXT {
         return Err(LogFault::TooLong);
@@ -44,7 +44,7 @@ pub fn open_log(text: &[u8]) -> Result<(LogHead, Records<'_>), LogFault>
     let Some((head, rest)) = take_head(text) else {
         return Err(LogFault::Head);
     };
-    Ok((head, Records::new(rest)))
+    Ok((head, Records::new(rest, 0)))
 }
 
 /// The events of all records, none of which was read yet.

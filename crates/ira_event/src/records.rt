@@ -1,7 +1,7 @@
 ghost use Rattle.std.specs.Prelude.{◌≡◌, ◌≤◌, ◌↔◌, ◌==◌, None, IsTrue, length, position};
 ghost use Rattle.ira_event.specs.LogScan.{line_at};
 ghost use Rattle.ira_event.specs.LogTextFault.{BeginsAsRecord, RestFault};
-ghost use Rattle.ira_event.specs.Records.{ReadsOn, ReadsThrough};
+ghost use Rattle.ira_event.specs.Records.{ReadsOn};
 ghost use Rattle.ira_event.specs.Limits.{MAX_RECORDS};
 
 use crate::event::Event;
@@ -32,21 +32,30 @@ impl<'a> Model for Records<'a> {
 }
 
 impl<'a> Records<'a> {
-    /// The records of what stands behind a head.
-    pub(crate) fn new(text: &'a [u8]) -> Records<'a>
-        ensures { result ≡ record { rest = text.now; count = 0 } }
+    /// The records of what stands behind a head and so many records, which were read before.
+    #[inline(always)]
+    pub fn new(text: &'a [u8], count: usize) -> Records<'a>
+        requires { count ≤ MAX_RECORDS }
+        ensures { result ≡ record { rest = text.now; count = count } }
     {
-        Records {
-            rest: text,
-            count: 0,
-        }
+        Records { rest: text, count }
     }
 
     /// How many bytes were not read yet.
-    pub(crate) fn unread(&self) -> usize
+    #[inline(always)]
+    pub fn unread(&self) -> usize
         ensures { result ≡ length self.now.rest }
     {
         self.rest.len()
+    }
+
+    /// How many records were read.
+    #[inline(always)]
+    pub fn count(&self) -> usize
+        ensures value { result ≡ self.now.count }
+        ensures few { result ≤ MAX_RECORDS }
+    {
+        self.count
     }
 
     /// The event of the next record, `None` where the end line follows and ends the text, or the
@@ -87,14 +96,6 @@ impl<'a> Records<'a> {
                 Ok(None)
             }
         }
-    }
-
-    /// Reads the records that are left, and answers the fault behind them, if there is one.
-    pub fn read_through(&mut self) -> Result<(), LogFault>
-        ensures { ReadsThrough self.old self.new result }
-    {
-        while self.next_event()?.is_some() {}
-        Ok(())
     }
 }
 

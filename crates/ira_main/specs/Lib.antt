@@ -4,6 +4,7 @@ pub mod ProgramFault
 pub mod Counted
 pub mod Decide
 pub mod FilesRead
+pub mod InputAudit
 pub mod LogFiles
 pub mod Outcome
 pub mod ReadText

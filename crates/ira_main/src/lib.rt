@@ -6,6 +6,7 @@ mod cert_file;
 mod counted;
 mod decide_files;
 mod file_shelf;
+mod input_audit;
 mod print_pairs;
 mod program;
 mod program_fault;

@@ -7,14 +7,14 @@ ghost use Rattle.ira_main.specs.Shelf.{WritesFile};
 
 use crate::counted::Counted;
 use crate::decide_files::decide_files;
+use crate::input_audit::audit_input;
 use crate::print_pairs::print_pairs;
 use crate::program_fault::{ProgramFault, report_outcome};
 use crate::read_files::{read_file, read_logs};
 use crate::record_run::record_run;
 use crate::shelf::Shelf;
 use crate::status::Status;
-use crate::text_buffer::TextBuffer;
-use ira_audit::{Answer, audit_one, write_report};
+use ira_audit::{Answer, write_report};
 use ira_event::{MAX_TEXT, Sink, WriteFault};
 use ira_links::OpenGate;
 use ira_words::{CheckRequest, Request, read_words};
@@ -44,12 +44,10 @@ fn judge_input<'a, A: Allocator, I: Read, W: Sink>(
     ensures judged { Judges input.old input.new (W.state out.old) (W.state out.new) result }
     ensures reads { input.new.reads ≤ input.old.reads + (MAX_TEXT + 1) }
 {
-    let mut text = TextBuffer::new(&alloc);
-    if let Err(fault) = text.fill(input) {
-        return Err(ProgramFault::cannot_read("-", fault));
+    match audit_input(alloc, input) {
+        Ok(answer) => report(&answer, out),
+        Err(fault) => Err(ProgramFault::cannot_read("-", fault)),
     }
-    let answer = audit_one(&alloc, text.bytes())?;
-    report(&answer, out)
 }
 
 // Judges the logs in the files of these names together. Each file is read before an answer is given.

@@ -31,6 +31,28 @@ fn read_at<I: Read>(input: &mut Counted<I>, room: &mut [u8], at: usize) -> io::R
     input.read(&mut room[at..])
 }
 
+/// Reads once, behind the part of the room that is filled.
+pub(crate) fn read_behind<A: Allocator, I: Read>(
+    input: &mut Counted<I>,
+    room: &mut Vec<u8, A>,
+    filled: usize,
+) -> Result<usize, ShelfFault>
+    requires within { filled < length room.old.items }
+    requires open { input.old.is_over ≡ false }
+    ensures front { take filled room.new.items ≡ take filled room.old.items }
+    ensures size { length room.new.items ≡ length room.old.items }
+    ensures bound { IfOk result (λ n. filled + n ≤ length room.new.items) }
+    ensures once { IfOk result (λ n. IsReadOnce input.old input.new (take n (drop filled room.new.items))) }
+    ensures count { input.new.reads ≤ input.old.reads + 1 }
+    ensures device { result ≡ Err ShelfFault.Device
+        → (input.new.has_failed ≡ true) × (input.new.is_over ≡ true) }
+{
+    match read_at(input, room.as_mut_slice(), filled) {
+        Ok(n) => Ok(n),
+        Err(_) => Err(ShelfFault::Device),
+    }
+}
+
 // Reads behind the part of the room that is filled; a full room is made longer first.
 fn read_more<A: Allocator, I: Read>(
     input: &mut Counted<I>,
@@ -54,10 +76,7 @@ fn read_more<A: Allocator, I: Read>(
             return Err(ShelfFault::OutOfMemory);
         }
     }
-    match read_at(input, room.as_mut_slice(), filled) {
-        Ok(n) => Ok(n),
-        Err(_) => Err(ShelfFault::Device),
-    }
+    read_behind(input, room, filled)
 }
 
 /// Reads the bytes that the input has left, to its end or to one more than `MAX_TEXT`, whichever comes first, into

@@ -94,10 +94,11 @@ fn reader_fails_in_mid_text(rt: HostRuntime) {
     assert!(rt; input.has_failed());
 }
 
-/// A log of 20,000 draws with this end.
-fn long_text(alloc: Global, end: &str) -> Result<Vec<u8>, Fail> {
+/// A log of 20,000 lines, of which this is the first, with this end.
+fn long_text(alloc: Global, first: &str, end: &str) -> Result<Vec<u8>, Fail> {
     let mut text = EMPTY_HEAD.as_bytes().to_vec(alloc)?;
-    for _ in 0..20_000 {
+    text.extend_from_slice(first.as_bytes())?;
+    for _ in 1..20_000 {
         text.extend_from_slice(b"draw 1\n")?;
     }
     text.extend_from_slice(end.as_bytes())?;
@@ -106,13 +107,15 @@ fn long_text(alloc: Global, end: &str) -> Result<Vec<u8>, Fail> {
 
 #[test]
 fn input_of_several_reads(rt: HostRuntime) -> Result<(), Fail> {
-    for (end, line) in [
-        ("", "no: log 0: cut\n"),
-        ("end 19999\n", "no: log 0: count\n"),
-        ("end 20000\nx", "no: log 0: trailing\n"),
+    for (first, end, line, reads) in [
+        ("draw 1\n", "", "no: log 0: cut\n", 4),
+        ("draw 1\n", "end 19999\n", "no: log 0: count\n", 4),
+        ("draw 1\n", "end 20000\nx", "no: log 0: trailing\n", 4),
+        // The room grows over what stands behind a fault.
+        ("draw x\n", "end 20000\n", "no: log 0: line 5\n", 5),
     ] {
-        let text = long_text(rt.alloc(), end)?;
-        assert_read(&rt, &text, line, 4);
+        let text = long_text(rt.alloc(), first, end)?;
+        assert_read(&rt, &text, line, reads);
     }
     Ok(())
 }

@@ -1,7 +1,7 @@
-use Rattle.std.proofs.Common.{◌≡◌, inr, refl}
+use Rattle.std.proofs.Common.{◌≡◌, ◌+◌, ap, inr}
 use Rattle.std.proofs.lemmas.Result.{err_from_is_err_and}
 use Rattle.ira_event.proofs.LogReading.{behind_fault, was_read}
-use Rattle.ira_audit.proofs.Replaying.{keeping_on, keeping_step, keeping_stop}
+use Rattle.ira_audit.proofs.Replaying.{keeping_more, leads_on, stays_stopped, stops_there}
 use Rattle.ira_audit.proofs.replayed_log.read_and_replay.Goals as goal
 use Rattle.ira_audit.proofs.replayed_log.read_and_replay.Goals.{then-is_none+in-Ok, then-is_none+in-Err, else-is_none}
 
@@ -16,7 +16,7 @@ loop-events-preserved g c =
     let r = was_read _ _ _ _ c.in_ok-event.ensures c.in-Some.is in
     let h = c.loop-events.invariant in
     rw c.in_ok-push.ensures.ok (elim c.if-is_none.branch [
-      | then-is_none+in-Ok w ↦ rw (w.state-is, w.stop-is) (keeping_step _ _ _ _ _ _ _ _ _ _ r _ h w.if-is_none.ensures w.in-Ok.ensures.steps)
-      | then-is_none+in-Err w ↦ rw w.stop-is (keeping_stop _ _ _ _ _ _ _ _ _ _ r _ _ h w.if-is_none.ensures refl w.in-Err.ensures.steps)
-      | else-is_none w ↦ rw w.stop-is (keeping_on _ _ _ _ _ _ _ _ _ _ r _ h w.if-is_none.ensures)
+      | then-is_none+in-Ok w ↦ rw (w.state-is, w.stop-is) (keeping_more _ _ _ _ _ _ _ _ _ _ _ _ r h (leads_on _ _ _ _ _ _ _ h.replay w.if-is_none.ensures w.in-Ok.ensures.steps))
+      | then-is_none+in-Err w ↦ rw w.stop-is (keeping_more _ _ _ _ _ _ _ _ _ _ _ _ r h (stops_there _ _ _ _ c.if-is_none.state _ _ _ h.replay w.if-is_none.ensures (ap (λ k. k + 1) h.at) w.in-Err.ensures.steps))
+      | else-is_none w ↦ rw w.stop-is (keeping_more _ _ _ _ _ _ _ _ _ _ _ _ r h (stays_stopped _ _ _ _ _ _ _ h.replay w.if-is_none.ensures))
     ])

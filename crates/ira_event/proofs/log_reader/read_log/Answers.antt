@@ -1,20 +1,20 @@
 use Rattle.std.proofs.Common.{◌≡◌, refl, inl, inr}
 use Rattle.std.proofs.lemmas.Result.{err_from_is_err_and}
 use Rattle.ira_event.proofs.EarlyFaults.{fault_exactly, early_exactly}
-use Rattle.ira_event.proofs.LogAnswers.{log_read, lines_refused, exactly_ok, exactly_err}
+use Rattle.ira_event.proofs.LogAnswers.{log_read, lines_refused, opening_fault, exactly_ok, exactly_err}
 use Rattle.ira_event.proofs.log_reader.read_log.Goals as goal
 
 pub returns-in_err-head-clause-ok : goal.returns-in_err-head-clause-ok
 returns-in_err-head-clause-ok g c =
     let p = err_from_is_err_and c.from_residual.result c.from_residual.ensures.1 in
     let same : p.0 ≡ c.in_err-head.field-0.0 = p.2 in
-    rw (p.1, same) (exactly_ok _ c.args.text.now (inr c.in_err-head.ensures))
+    rw (p.1, same) (exactly_ok _ c.args.text.now (inr (opening_fault _ _ c.in_err-head.ensures)))
 
 pub returns-in_err-head-clause-err : goal.returns-in_err-head-clause-err
 returns-in_err-head-clause-err g c =
     let p = err_from_is_err_and c.from_residual.result c.from_residual.ensures.1 in
     let same : p.0 ≡ c.in_err-head.field-0.0 = p.2 in
-    rw (p.1, same) (exactly_err _ c.args.text.now (inr c.in_err-head.ensures))
+    rw (p.1, same) (exactly_err _ c.args.text.now (inr (opening_fault _ _ c.in_err-head.ensures)))
 
 pub returns-in_err-events-clause-ok : goal.returns-in_err-events-clause-ok
 returns-in_err-events-clause-ok g c =
@@ -40,7 +40,7 @@ pub returns-in_err-head-clause-too_long : goal.returns-in_err-head-clause-too_lo
 returns-in_err-head-clause-too_long g c =
     let p = err_from_is_err_and c.from_residual.result c.from_residual.ensures.1 in
     let same : p.0 ≡ c.in_err-head.field-0.0 = p.2 in
-    rw (p.1, same) (fault_exactly c.args.text.now _ _ c.in_err-head.ensures)
+    rw (p.1, same) (fault_exactly c.args.text.now _ _ (opening_fault _ _ c.in_err-head.ensures))
 
 pub returns-in_err-events-clause-too_long : goal.returns-in_err-events-clause-too_long
 returns-in_err-events-clause-too_long g c =
@@ -56,7 +56,7 @@ pub returns-in_err-head-clause-head : goal.returns-in_err-head-clause-head
 returns-in_err-head-clause-head g c =
     let p = err_from_is_err_and c.from_residual.result c.from_residual.ensures.1 in
     let same : p.0 ≡ c.in_err-head.field-0.0 = p.2 in
-    rw (p.1, same) (fault_exactly c.args.text.now _ _ c.in_err-head.ensures)
+    rw (p.1, same) (fault_exactly c.args.text.now _ _ (opening_fault _ _ c.in_err-head.ensures))
 
 pub returns-in_err-events-clause-head : goal.returns-in_err-events-clause-head
 returns-in_err-events-clause-head g c =

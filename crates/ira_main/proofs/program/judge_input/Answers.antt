@@ -20,8 +20,7 @@ pub returns-in-Err-clause-judged : goal.returns-in-Err-clause-judged
 returns-in-Err-clause-judged g c =
     unjudged _ c.in-Err.fault _ _ _ _ refl c.cannot_read.ensures (λ e. c.in-Err.ensures.device (ap (λ f. Err f) e))
 
-pub returns-clause-judged : goal.returns-clause-judged
-returns-clause-judged g c =
-    let answer = c.in_ok-answer.answer in
-    let is = (c.in_ok-answer.ensures.answer answer).0 refl in
-    judged c.fill.new.self answer c.in_default.ensures.text (rw c.bytes.ensures at is) c.report.ensures
+pub returns-in-Ok-clause-judged : goal.returns-in-Ok-clause-judged
+returns-in-Ok-clause-judged g c =
+    let is = c.in-Ok.ensures.answer in
+    judged is.0 c.in-Ok.answer is.1 is.2 c.report.ensures

@@ -1,13 +1,13 @@
 use Rattle.std.proofs.Common.{◌≡◌, inr}
 use Rattle.std.proofs.lemmas.Result.{err_from_is_err_and}
-use Rattle.ira_event.proofs.LogAnswers.{lines_refused, log_read}
+use Rattle.ira_event.proofs.LogAnswers.{lines_refused, log_read, opening_fault}
 use Rattle.ira_audit.proofs.replayed_log.ReplayedLog.read.Goals as goal
 
 pub returns-in_err-head : goal.returns-in_err-head
 returns-in_err-head g c =
     let p = err_from_is_err_and c.from_residual.result c.from_residual.ensures.1 in
     let same : p.0 ≡ c.in_err-head.field-0.0 = p.2 in
-    rw (p.1, same) (inr c.in_err-head.ensures)
+    rw (p.1, same) (inr (opening_fault _ _ c.in_err-head.ensures))
 
 pub returns-in_err-events : goal.returns-in_err-events
 returns-in_err-events g c =

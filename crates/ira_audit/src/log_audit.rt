@@ -1,0 +1,121 @@
+ghost use Rattle.std.specs.Prelude.{◌≡◌, ◌↔◌, ◌++◌, ◌+◌, ◌≤◌, ℕ, List, [], drop, length, take, IfOk, OnErr, MatchResult};
+ghost use Rattle.ira_event.specs.Log.{Log};
+ghost use Rattle.ira_event.specs.LogText.{IsLogText};
+ghost use Rattle.ira_event.specs.LogTextFault.{LogTextFault};
+ghost use Rattle.ira_audit.specs.Answer.{IsAnswer};
+ghost use Rattle.ira_audit.specs.LogAudit.{HasTakenBytes, HasNoMore, IsBegun, IsSuffix};
+ghost use Rattle.ira_audit.specs.Replaying.{IsLogAnswer};
+ghost use Rattle.ira_audit.specs.Report.{IsReportable};
+ghost use Rattle.ira_audit.specs.declared.answer.Answer.{Answer};
+
+use crate::answer::Answer;
+use crate::reason::Reason;
+use crate::replay::Replay;
+use ira_event::{LogFault, MAX_TEXT, Records, open_log};
+use std::marker::Model;
+
+/// Judges the text of one log alone, which it takes piece by piece. Each event has its step as it is read, and none is
+/// kept, so it takes no memory.
+#[derive(Drop)]
+pub struct LogAudit {
+    taken: usize,
+    /// What they came to; none are taken before the whole head.
+    replay: Option<Replay>,
+}
+
+impl Model for LogAudit {
+    ghost use Rattle.std.specs.Prelude.{◌≤◌, IfSome};
+    ghost use Rattle.ira_event.specs.Limits.{MAX_RECORDS, MAX_TEXT};
+    ghost use Rattle.ira_audit.specs.LogAudit.{LogAudit};
+
+    ghost Value = { LogAudit };
+
+    ghost view = { λ a. record { taken = a.taken; replay = a.replay } };
+
+    ghost invariant = { λ a. (a.taken ≤ MAX_TEXT) × IfSome a.replay (λ r. r.count ≤ MAX_RECORDS) };
+}
+
+impl LogAudit {
+    /// An audit that has taken no byte.
+    pub fn new() -> LogAudit
+        ensures { HasTakenBytes result [] }
+    {
+        LogAudit {
+            taken: 0,
+            replay: None,
+        }
+    }
+
+    /// How many bytes were taken.
+    pub fn taken(&self) -> usize
+        ensures { result ≡ self.now.taken }
+    {
+        self.taken
+    }
+
+    /// Takes what comes next of the text, as far as it is a head and records, to the end of a line, and gives how many
+    /// bytes it took. What it left has to stand at the front of the next piece, or of what `finish` is given: an end line,
+    /// a line with a fault, or a piece of a line.
+    pub fn take(&mut self, piece: &[u8]) -> usize
+        ensures within { result ≤ length piece.now }
+        ensures count { self.new.taken ≡ self.old.taken + result }
+        ensures taken { (text : List ℕ) → HasTakenBytes self.old text
+            → HasTakenBytes self.new (text ++ take result piece.now) }
+        ensures all { self.old.taken + length piece.now ≤ MAX_TEXT
+            → HasNoMore self.new.replay (drop result piece.now) }
+    {
+        let Ok((replay, records)) = self.open(piece) else {
+            return 0;
+        };
+        let (replay, left, _) = replay.read_on(records);
+        let taken = piece.len() - left.unread();
+        self.taken += taken;
+        self.replay = Some(replay);
+        taken
+    }
+
+    /// The answer of the text, which goes on like this to its end behind what was taken.
+    pub fn finish(self, rest: &[u8]) -> Answer
+        ensures answer { (text : List ℕ) (a : Answer) → HasTakenBytes self text
+            → (result ≡ a) ↔ IsAnswer (text ++ rest.now) a }
+        ensures reportable { (text : List ℕ) → HasTakenBytes self text → IsReportable result }
+    {
+        match self.judge(rest) {
+            Ok(answer) => answer,
+            Err(fault) => Answer::No(Reason::Log { number: 0, fault }),
+        }
+    }
+
+    /// The answer of the text's log, or the text's fault.
+    fn judge(&self, rest: &[u8]) -> Result<Answer, LogFault>
+        ensures { (text : List ℕ) → HasTakenBytes self.now text → MatchResult result
+            (λ a. (log : Log) × IsLogText (text ++ rest.now) log × IsLogAnswer log a)
+            (λ f. LogTextFault (text ++ rest.now) f) }
+    {
+        let (replay, records) = self.open(rest)?;
+        let (replay, _, end) = replay.read_on(records);
+        end?;
+        Ok(replay.answer())
+    }
+
+    /// What was taken came to, and the records that the text goes on with; or the text's fault, where it is too long or
+    /// has no head.
+    fn open<'a>(&self, rest: &'a [u8]) -> Result<(Replay, Records<'a>), LogFault>
+        ensures count { IfOk result (λ p. p.1.count ≡ p.0.count) }
+        ensures short { IfOk result (λ _. self.now.taken + length rest.now ≤ MAX_TEXT) }
+        ensures suffix { IfOk result (λ p. IsSuffix p.1.rest rest.now) }
+        ensures begun { (text : List ℕ) → HasTakenBytes self.now text → MatchResult result
+            (λ p. IsBegun (text ++ rest.now) p.0 p.1) (λ f. LogTextFault (text ++ rest.now) f) }
+        ensures err { OnErr result (self.now.taken + length rest.now ≤ MAX_TEXT
+            → HasNoMore self.now.replay rest.now) }
+    {
+        if rest.len() > MAX_TEXT - self.taken {
+            return Err(LogFault::TooLong);
+        }
+        let Some(replay) = self.replay else {
+            let (head, records) = open_log(rest)?;
+            return Ok((Replay::first(head), records));
+        };
+        Ok(replay.with(rest))
+    }
+}

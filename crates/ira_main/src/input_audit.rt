@@ -1,0 +1,139 @@
+ghost use Rattle.std.specs.Prelude.{◌≡◌, ◌+◌, ◌≤◌, ◌<◌, ◌++◌, true, false, [], List, ℕ, IfOk, IfErr, OnOk, length};
+ghost use Rattle.ira_audit.specs.Answer.{IsAnswer};
+ghost use Rattle.ira_audit.specs.Report.{IsReportable};
+ghost use Rattle.ira_main.specs.ReadText.{IsReadOnce, IsReadTo};
+
+use crate::counted::Counted;
+use crate::read_text::read_behind;
+use crate::shelf_fault::ShelfFault;
+use ira_audit::{Answer, LogAudit};
+use ira_event::MAX_TEXT;
+use std::alloc::Allocator;
+use std::io::Read;
+use std::marker::Model;
+
+/// How many bytes of the text are in memory at first. It stays so unless a line is longer, or the text has a fault: what
+/// stands behind a fault is kept to the end.
+const FIRST_ROOM: usize = 65_536;
+
+/// Judges the text of one log while it is read.
+#[derive(Drop)]
+struct InputAudit<A: Allocator> {
+    audit: LogAudit,
+    /// What was read and not taken by the audit, and behind it what is no part of the text.
+    room: Vec<u8, A>,
+    /// How many bytes were read and not taken.
+    filled: usize,
+}
+
+impl<A: Allocator> Model for InputAudit<A> {
+    ghost use Rattle.std.specs.Prelude.{◌+◌, ◌≤◌, ◌<◌, length, take};
+    ghost use Rattle.ira_event.specs.declared.limits.TheConstants.{MAX_TEXT};
+    ghost use Rattle.ira_main.specs.InputAudit.{InputAudit};
+
+    ghost Value = { InputAudit };
+
+    ghost view = { λ i. record { audit = i.audit; bytes = take i.filled i.room.items; room = length i.room.items } };
+
+    ghost invariant = { λ i. (i.filled ≤ length i.room.items) × (0 < length i.room.items)
+        × (i.audit.taken + length i.room.items ≤ MAX_TEXT + 1) };
+}
+
+impl<A: Allocator> InputAudit<A> {
+    ghost use Rattle.ira_main.specs.InputAudit.{HasReadText, read_bytes};
+
+    /// An audit of a text of which nothing was read.
+    fn new(alloc: A) -> Result<InputAudit<A>, ShelfFault>
+        ensures read { IfOk result (λ it. HasReadText it []) }
+        ensures fault { IfErr result (λ f. f ≡ ShelfFault.OutOfMemory) }
+    {
+        let mut room = Vec::new(alloc);
+        if room.resize(FIRST_ROOM, 0).is_err() {
+            return Err(ShelfFault::OutOfMemory);
+        }
+        Ok(InputAudit {
+            audit: LogAudit::new(),
+            room,
+            filled: 0,
+        })
+    }
+
+    /// How many bytes were read.
+    fn len(&self) -> usize
+        ensures { result ≡ read_bytes self.now }
+    {
+        self.audit.taken() + self.filled
+    }
+
+    /// Makes room for more of the text where there is none: what the audit takes goes, and where it takes nothing the
+    /// room is made twice as long.
+    fn make_room(&mut self) -> Result<(), ShelfFault>
+        requires { read_bytes self.old ≤ MAX_TEXT }
+        ensures read { OnOk result ((text : List ℕ) → HasReadText self.old text → HasReadText self.new text) }
+        ensures room { OnOk result (length self.new.bytes < self.new.room) }
+        ensures len { OnOk result (read_bytes self.new ≡ read_bytes self.old) }
+        ensures fault { IfErr result (λ f. f ≡ ShelfFault.OutOfMemory) }
+    {
+        if self.filled < self.room.len() {
+            return Ok(());
+        }
+        let taken = self.audit.take(&self.room);
+        self.room.copy_within(taken.., 0);
+        self.filled -= taken;
+        let size = if taken > 0 {
+            self.room.len()
+        } else {
+            2 * self.room.len()
+        };
+        let most = MAX_TEXT + 1 - self.audit.taken();
+        if self.room.resize(size.min(most), 0).is_err() {
+            return Err(ShelfFault::OutOfMemory);
+        }
+        Ok(())
+    }
+
+    /// Reads once, where there is room.
+    fn read<I: Read>(&mut self, input: &mut Counted<I>) -> Result<(), ShelfFault>
+        requires room { length self.old.bytes < self.old.room }
+        requires open { input.old.is_over ≡ false }
+        ensures once { OnOk result ((bytes : List ℕ) × IsReadOnce input.old input.new bytes
+            × (read_bytes self.new ≡ read_bytes self.old + length bytes)
+            × ((text : List ℕ) → HasReadText self.old text → HasReadText self.new (text ++ bytes))) }
+        ensures size { OnOk result (read_bytes self.new ≤ MAX_TEXT + 1) }
+        ensures count { input.new.reads ≤ input.old.reads + 1 }
+        ensures device { result ≡ Err ShelfFault.Device
+            → (input.new.has_failed ≡ true) × (input.new.is_over ≡ true) }
+    {
+        self.filled += read_behind(input, &mut self.room, self.filled)?;
+        Ok(())
+    }
+
+    /// The answer of the text, of which all was read.
+    fn finish(self) -> Answer
+        ensures answer { (text : List ℕ) → HasReadText self text → IsAnswer text result }
+        ensures reportable { (text : List ℕ) → HasReadText self text → IsReportable result }
+    {
+        self.audit.finish(&self.room[..self.filled])
+    }
+}
+
+/// The answer of the text that the input has left, to its end or to one byte more than `MAX_TEXT`, whichever comes
+/// first.
+pub(crate) fn audit_input<A: Allocator, I: Read>(
+    alloc: A,
+    input: &mut Counted<I>,
+) -> Result<Answer, ShelfFault>
+    ensures answer { IfOk result (λ answer. (text : List ℕ)
+        × IsReadTo (MAX_TEXT + 1) input.old input.new text × IsAnswer text answer) }
+    ensures reportable { IfOk result IsReportable }
+    ensures reads { input.new.reads ≤ input.old.reads + (MAX_TEXT + 1) }
+    ensures device { result ≡ Err ShelfFault.Device
+        → (input.new.has_failed ≡ true) × (input.new.is_over ≡ true) }
+{
+    let mut audit = InputAudit::new(alloc)?;
+    while !input.is_over() && audit.len() <= MAX_TEXT {
+        audit.make_room()?;
+        audit.read(input)?;
+    }
+    Ok(audit.finish())
+}
