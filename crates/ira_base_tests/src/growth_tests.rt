@@ -1,17 +1,15 @@
-//! Each growth of a call is refused in turn. The call is out of memory then, or gives its answer all the same, and it
-//! gives its answer when it is made once more with ample memory. That an answer is the text's is proved, so that
-//! little of it is looked at.
+//! Each growth of a call is refused in turn. The call gives up then, or gives its answer all the same, and it gives its
+//! answer when it is made once more with ample memory. That it gives up for want of memory alone, and that an answer is
+//! the right one, is proved, so that no answer is looked at.
 
 use crate::samples::{ELECTION_0, ELECTION_1};
-use ira_cand::{Profile, table};
-use ira_event::{
-    LogFault, Logs, MemorySink, NodeLog, OutOfMemory, RingSize, WriteFault, read_log, write_log,
-};
+use ira_cand::table;
+use ira_event::{LogFault, Logs, MemorySink, RingSize, read_log, write_log};
 use ira_fixtures::logs_of;
 use ira_links::link;
-use ira_order::{OrderFault, find_order, order};
-use ira_pred::{AskFault, Clause, pairs_question, read_question};
-use ira_refusing::{Outcome, Refusing, each_growth_refused};
+use ira_order::{find_order, order};
+use ira_pred::{Clause, pairs_question, read_question};
+use ira_refusing::{Refusing, each_growth_refused, has_answered};
 use std::alloc::Global;
 
 type Memory = Refusing<Global>;
@@ -39,127 +37,43 @@ const PAIRS_OF_THREE: &[u8] = b"irask 1\nnodes 3\n\
 const NESTED: &[u8] = b"irask 1\nnodes 2\ncase\n0: (leader and (not (owes or true)))\nend\n";
 
 /// The calls whose growths are refused.
-#[derive(Clone, Copy)]
 enum Call {
-    ReadLog,
-    ReadLongLog,
-    ReadLateFault,
+    ReadLog(&'static [u8]),
     WriteLog,
-    ReadNestedQuestion,
-    ReadPairs,
+    ReadQuestion(&'static [u8]),
     MakePairs,
     FindOrder,
     Order,
     Link,
     Table,
-    Profile,
 }
 
-const CALLS: [Call; 12] = [
-    Call::ReadLog,
-    Call::ReadLongLog,
-    Call::ReadLateFault,
+const CALLS: &[Call] = &[
+    Call::ReadLog(ELECTION_0),
+    Call::ReadLog(MANY_DRAWS),
+    Call::ReadLog(LATE_FAULT),
     Call::WriteLog,
-    Call::ReadNestedQuestion,
-    Call::ReadPairs,
+    Call::ReadQuestion(NESTED),
+    Call::ReadQuestion(PAIRS_OF_THREE),
     Call::MakePairs,
     Call::FindOrder,
     Call::Order,
     Call::Link,
     Call::Table,
-    Call::Profile,
 ];
 
-fn read(alloc: Memory, text: &[u8], records: usize) -> Outcome {
-    match read_log(alloc, text) {
-        Ok(log) => Outcome::of_answer(log.len() == records),
-        Err(fault) => Outcome::of_fault(fault == LogFault::OutOfMemory),
-    }
-}
-
-fn read_late_fault(alloc: Memory) -> Outcome {
-    match read_log(alloc, LATE_FAULT) {
-        Err(LogFault::Line(24)) => Outcome::Right,
-        Err(LogFault::OutOfMemory) => Outcome::GaveUp,
-        _ => Outcome::Wrong,
-    }
-}
-
-fn write(alloc: Memory, log: &NodeLog<Memory>) -> Outcome {
-    let mut sink = MemorySink::new(alloc);
-    match write_log(log, &mut sink) {
-        Ok(()) => Outcome::of_answer(sink.bytes() == ELECTION_1),
-        Err(WriteFault) => Outcome::of_fault(ELECTION_1.starts_with(sink.bytes())),
-    }
-}
-
-fn ask(alloc: Memory, text: &[u8], cases: usize) -> Outcome {
-    match read_question(alloc, text) {
-        Ok(question) => Outcome::of_answer(question.cases().len() == cases),
-        Err(fault) => Outcome::of_fault(fault == AskFault::OutOfMemory),
-    }
-}
-
-fn make_pairs(alloc: Memory) -> Outcome {
-    match pairs_question(alloc, RingSize::new(3).unwrap()) {
-        Ok(question) => Outcome::of_answer(question.cases().len() == 3),
-        Err(OutOfMemory) => Outcome::GaveUp,
-    }
-}
-
-fn order_events(alloc: Memory, logs: &Logs<Memory>) -> Outcome {
-    match find_order(alloc, logs) {
-        Ok(places) => Outcome::of_answer(places.len() == 8),
-        Err(fault) => Outcome::of_fault(fault == OrderFault::OutOfMemory),
-    }
-}
-
-fn stamp_events(alloc: Memory, logs: &Logs<Memory>) -> Outcome {
-    match order(alloc, logs) {
-        Ok(ordered) => {
-            let counts = (ordered.schedule().len(), ordered.stored());
-            Outcome::of_answer(counts == (8, 6))
-        }
-        Err(fault) => Outcome::of_fault(fault == OrderFault::OutOfMemory),
-    }
-}
-
-fn make_link(alloc: Memory) -> Outcome {
-    match link(alloc, 6) {
-        Ok(_) => Outcome::Right,
-        Err(OutOfMemory) => Outcome::GaveUp,
-    }
-}
-
-/// The states in which the node is active, by a profile.
-fn profiled(alloc: Memory, log: &NodeLog<Memory>) -> Result<Vec<u32, Memory>, OutOfMemory> {
-    Profile::new(alloc.clone()?, log)?.table(alloc, &Clause::Active)
-}
-
-/// What became of a list of the states in which node 1 of the election is active.
-fn are_active(listed: Result<Vec<u32, Memory>, OutOfMemory>) -> Outcome {
-    match listed {
-        Ok(positions) => Outcome::of_answer(positions.as_slice() == [1, 2].as_slice()),
-        Err(OutOfMemory) => Outcome::GaveUp,
-    }
-}
-
-/// What becomes of the call with this memory, on the election's logs or on that of its last node.
-fn outcome(call: Call, alloc: Memory, logs: &Logs<Memory>) -> Outcome {
+/// Whether the call answers with this memory, on the election's logs or on that of its last node.
+fn answers(call: &Call, alloc: Memory, logs: &Logs<Memory>) -> bool {
     let log = logs.log(logs.size().get() - 1);
     match call {
-        Call::ReadLog => read(alloc, ELECTION_0, 4),
-        Call::ReadLongLog => read(alloc, MANY_DRAWS, 19),
-        Call::ReadLateFault => read_late_fault(alloc),
-        Call::WriteLog => write(alloc, log),
-        Call::ReadNestedQuestion => ask(alloc, NESTED, 1),
-        Call::ReadPairs => ask(alloc, PAIRS_OF_THREE, 3),
-        Call::MakePairs => make_pairs(alloc),
-        Call::FindOrder => order_events(alloc, logs),
-        Call::Order => stamp_events(alloc, logs),
-        Call::Link => make_link(alloc),
-        Call::Table => are_active(table(alloc, log, &Clause::Active)),
-        Call::Profile => are_active(profiled(alloc, log)),
+        Call::ReadLog(text) => read_log(alloc, *text).err() != Some(LogFault::OutOfMemory),
+        Call::WriteLog => write_log(log, &mut MemorySink::new(alloc)).is_ok(),
+        Call::ReadQuestion(text) => has_answered(read_question(alloc, *text)),
+        Call::MakePairs => has_answered(pairs_question(alloc, RingSize::new(3).unwrap())),
+        Call::FindOrder => has_answered(find_order(alloc, logs)),
+        Call::Order => has_answered(order(alloc, logs)),
+        Call::Link => has_answered(link(alloc, 6)),
+        Call::Table => has_answered(table(alloc, log, &Clause::Active)),
     }
 }
 
@@ -167,8 +81,6 @@ fn outcome(call: Call, alloc: Memory, logs: &Logs<Memory>) -> Outcome {
 fn each_growth_is_refused(rt: HostRuntime) {
     let memory = Refusing::new(rt.alloc()).expect(&rt, "memory");
     let logs = logs_of(memory, &[ELECTION_0, ELECTION_1]).expect(&rt, "two logs");
-    let refused = each_growth_refused(rt.alloc(), &CALLS, |call, alloc| {
-        outcome(call, alloc, &logs)
-    });
+    let refused = each_growth_refused(rt.alloc(), CALLS, |call, alloc| answers(call, alloc, &logs));
     assert!(rt; refused.is_ok(), "{refused:?}");
 }

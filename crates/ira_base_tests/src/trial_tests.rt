@@ -1,12 +1,9 @@
 //! The trials themselves, and the memory that refuses.
 
 use ira_event::write_bytes;
-use ira_refusing::{
-    FailingSink, Outcome, Refusing, TrialFault, Writer, each_byte_refused, each_growth_refused,
-};
+use ira_refusing::{FailingSink, Refusing, Writer, each_byte_refused, each_growth_refused};
 use std::alloc::Global;
 use std::cell::Cell;
-use std::thread;
 
 type Memory = Refusing<Global>;
 
@@ -22,59 +19,43 @@ fn has_room(memory: &Memory) -> bool {
 fn one_growth_is_refused_and_all_are_counted(rt: HostRuntime) {
     let memory = Refusing::new(rt.alloc()).expect(&rt, "memory");
     memory.refuse(2);
-    let first = has_room(&memory);
-    // two threads, one of which is refused
-    let (one, other) = thread::join(&rt, || has_room(&memory), || has_room(&memory));
-    let again = has_room(&memory);
-    assert!(rt; first && one != other && again && memory.asked() == 4);
+    let has_room = [has_room(&memory), has_room(&memory), has_room(&memory)];
+    assert!(rt; has_room == [true, false, true] && memory.asked() == 3);
 }
 
-/// What is wrong with a call that asks for room.
-#[derive(Clone, Copy)]
+/// What is wrong with a call.
+#[derive(Drop)]
 enum Flaw {
-    TakesItForAnother,
-    GivesUpUnasked,
-    /// It answers the first call alone.
-    StaysBroken,
     AsksForNothing,
+    /// It asks for room each time, and gives up this time also where there is some.
+    GivesUpAt(u8),
 }
 
-/// What becomes of a call with this flaw, of which so many are made.
-fn outcome(flaw: Flaw, alloc: &Memory, made: &Cell<u8>) -> Outcome {
+/// Whether a call with this flaw answers, of which so many were made.
+fn answers(flaw: &Flaw, alloc: &Memory, made: &Cell<u8>) -> bool {
     made.set(made.get().saturating_add(1));
     match flaw {
-        Flaw::TakesItForAnother => Outcome::of_answer(has_room(alloc)),
-        Flaw::GivesUpUnasked => Outcome::GaveUp,
-        Flaw::StaysBroken if made.get() > 1 => Outcome::GaveUp,
-        Flaw::StaysBroken if !has_room(alloc) => Outcome::GaveUp,
-        Flaw::StaysBroken | Flaw::AsksForNothing => Outcome::Right,
+        Flaw::AsksForNothing => true,
+        Flaw::GivesUpAt(time) => has_room(alloc) && made.get() != *time,
     }
 }
 
-/// What the trial says of a call with this flaw, at its first growth.
-fn tried(heap: Global, flaw: Flaw) -> Option<TrialFault> {
+/// What the trial says of a call with this flaw.
+fn tried(heap: Global, flaw: Flaw) -> Result<u64, (usize, u64)> {
     let made = Cell::new(0);
-    match each_growth_refused(heap, &[flaw], |flaw, alloc| outcome(flaw, &alloc, &made)) {
-        Err((0, 1, fault)) => Some(fault),
-        _ => None,
-    }
+    each_growth_refused(heap, &[flaw], |flaw, alloc| answers(flaw, &alloc, &made))
 }
 
 #[test]
-fn a_wrong_answer_is_seen(rt: HostRuntime) {
+fn a_flaw_is_seen(rt: HostRuntime) {
+    // a call is made once with a refusal, then with ample memory, and then with none refused
     let found = [
-        tried(rt.alloc(), Flaw::TakesItForAnother),
-        tried(rt.alloc(), Flaw::GivesUpUnasked),
-        tried(rt.alloc(), Flaw::StaysBroken),
         tried(rt.alloc(), Flaw::AsksForNothing),
+        tried(rt.alloc(), Flaw::GivesUpAt(2)),
+        tried(rt.alloc(), Flaw::GivesUpAt(3)),
+        tried(rt.alloc(), Flaw::GivesUpAt(4)),
     ];
-    let wanted = [
-        Some(TrialFault::Wrong),
-        Some(TrialFault::Unfounded),
-        Some(TrialFault::Lasting),
-        Some(TrialFault::Unasked),
-    ];
-    assert!(rt; found == wanted, "{found:?}");
+    assert!(rt; found == [Err((0, 1)), Err((0, 1)), Err((0, 2)), Ok(1)]);
 }
 
 /// What is wrong with a writer of a text.

@@ -76,12 +76,7 @@ impl<'a> MemoryShelf<'a> {
 
     /// Whether these files were written, in this order, and no other.
     pub(crate) fn has_written(&self, files: &[(&str, &str)]) -> bool {
-        self.written.len() == files.len() && self.has_written_first(files)
-    }
-
-    /// Whether the first of these files were written, in this order, and no other.
-    pub(crate) fn has_written_first(&self, files: &[(&str, &str)]) -> bool {
-        self.written.len() <= files.len()
+        self.written.len() == files.len()
             && self.written.iter().zip(files).all(|(file, (name, text))| {
                 file.name.as_str() == *name && file.bytes.as_slice() == text.as_bytes()
             })

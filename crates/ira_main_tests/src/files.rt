@@ -3,9 +3,10 @@
 use crate::fakes::Memory;
 use ira_event::write_bytes;
 use ira_main::{FileShelf, Shelf, ShelfFault, TextBuffer, TextSource};
-use ira_refusing::{Outcome, each_growth_refused};
+use ira_refusing::each_growth_refused;
 use std::alloc::Allocator;
 use std::fs;
+use std::process::Abort;
 use std::rt::Files;
 
 /// Writes a file whole.
@@ -59,23 +60,30 @@ fn files_that_cannot_be_used(rt: HostRuntime) {
     }
 }
 
-/// What becomes of a file that is written and read back with this memory.
-fn outcome(rt: &impl Files, alloc: &Memory, name: &str) -> Outcome {
+/// Whether a file of this name is written and read back with this memory, or memory runs out. `None` where neither is so.
+fn kept(rt: &impl Files, alloc: &Memory, name: &str) -> Option<bool> {
     let text = "irlog 1\n";
     let mut shelf = FileShelf::new(rt, alloc);
     let mut found = TextBuffer::new(alloc);
     match write_and_read(&mut shelf, name, text, &mut found) {
-        Ok(()) => Outcome::of_answer(found.bytes() == text.as_bytes()),
-        Err(fault) => Outcome::of_fault(fault == ShelfFault::OutOfMemory),
+        Ok(()) if found.bytes() == text.as_bytes() => Some(true),
+        Err(ShelfFault::OutOfMemory) => Some(false),
+        _ => None,
     }
+}
+
+fn is_kept(rt: &(impl Abort + Files), alloc: &Memory, name: &str) -> bool {
+    kept(rt, alloc, name).expect(rt, "the text, or that memory ran out")
 }
 
 #[test]
 fn memory_refused_to_a_file(rt: HostRuntime) {
     let name = "memory_refused_to_a_file.log";
-    let refused = each_growth_refused(rt.alloc(), &[name], |name, alloc| {
-        outcome(&rt, &alloc, name)
-    });
+    let refused = each_growth_refused(
+        rt.alloc(),
+        &[name],
+        |name, alloc| is_kept(&rt, &alloc, *name),
+    );
     assert!(rt; refused.is_ok(), "{refused:?}");
     assert!(rt; fs::remove_file(&rt, name).is_ok());
 }

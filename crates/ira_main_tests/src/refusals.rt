@@ -1,24 +1,24 @@
 //! What the program answers where a growth is refused, or a write of its answer fails. What the library of its
-//! command line allocates comes from the system's allocator alone, and is never refused here.
+//! command line allocates comes from the system's allocator alone, and is never refused here. What a shelf gives to be read
+//! is in no contract, so that answers are compared.
 
-use crate::fakes::{File, Input, Memory, MemoryShelf, NEVER, Output, served, served_amply};
+use crate::fakes::{File, Input, Memory, MemoryShelf, NEVER, served, served_amply};
 use crate::samples::{
     ELECTED_0, ELECTED_1, LEADER_AND_ACTIVE, PAIRS_OF_THREE, TWO_CASES, TWO_STEPS,
 };
 use ira_main::Counted;
-use ira_refusing::{Outcome, each_growth_refused};
+use ira_refusing::each_growth_refused;
 use std::process::Abort;
 use std::sync::Wait;
 use std::thread::Threads;
 use std::time::Clock;
 
 /// A call of the program, and what it answers with ample memory.
-#[derive(Clone, Copy)]
-struct Case<'a> {
-    words: &'a [&'a str],
+struct Case {
+    words: &'static [&'static str],
     status: u8,
-    out: &'a str,
-    written: &'a [(&'a str, &'a str)],
+    out: &'static str,
+    written: &'static [(&'static str, &'static str)],
 }
 
 const FILES: &[(&str, File<'static>)] = &[
@@ -31,7 +31,7 @@ const FILES: &[(&str, File<'static>)] = &[
 
 const ELECTION: &[(&str, &str)] = &[("d/0.log", ELECTED_0), ("d/1.log", ELECTED_1)];
 
-const CASES: &[Case<'static>] = &[
+const CASES: &[Case] = &[
     Case {
         words: &[],
         status: 0,
@@ -91,25 +91,8 @@ const CASES: &[Case<'static>] = &[
 /// The statuses and lines of a call that gives up: memory ran out, or a thread wasn't started.
 const GIVE_UPS: &[(u8, &[u8])] = &[(3, b"ira: out of memory\n"), (2, b"ira: run refused 3\n")];
 
-/// What became of the case, which left its files on this shelf. A call that gives up has printed nothing, and written the
-/// first of its files at most; but `decide` may give up behind its findings, while it makes the certificate of them.
-fn judged(found: &Output, shelf: &MemoryShelf<'_>, case: &Case<'_>) -> Outcome {
-    let (out, err) = (found.out.bytes(), found.err.bytes());
-    let answer = (case.status, case.out.as_bytes(), b"".as_slice());
-    if (found.status, out, err) == answer && shelf.has_written(case.written) {
-        return Outcome::Right;
-    }
-    let has_decided = out == case.out.as_bytes() && case.words.first() == Some(&"decide");
-    let gives_up = GIVE_UPS.contains(&(found.status, err)) && (out.is_empty() || has_decided);
-    if gives_up && shelf.has_written_first(case.written) {
-        Outcome::GaveUp
-    } else {
-        Outcome::Wrong
-    }
-}
-
-/// Serves the case with this memory.
-fn outcome<R>(rt: &R, alloc: Memory, case: &Case<'_>) -> Outcome
+/// Whether the program answers the case with this memory, or gives up. `None` where neither is so.
+fn answered<R>(rt: &R, case: &Case, alloc: Memory) -> Option<bool>
 where
     R: AllocGlobal + Threads + Wait + Clock + Sync,
 {
@@ -123,12 +106,26 @@ where
         &mut input,
         [NEVER, NEVER],
     );
-    judged(&found, &shelf, case)
+    let out = found.out.bytes();
+    let is_whole = out == case.out.as_bytes();
+    if is_whole && found.status == case.status && shelf.has_written(case.written) {
+        return Some(true);
+    }
+    // `decide` may give up behind its findings, while it makes the certificate of them
+    let gives_up = GIVE_UPS.contains(&(found.status, found.err.bytes()));
+    (gives_up && (is_whole || out.is_empty())).then_some(false)
+}
+
+fn answers<R>(rt: &R, case: &Case, alloc: Memory) -> bool
+where
+    R: Abort + AllocGlobal + Threads + Wait + Clock + Sync,
+{
+    answered(rt, case, alloc).expect(rt, "the answer, or that the program gives up")
 }
 
 #[test]
 fn each_growth_is_refused(rt: HostRuntime) {
-    let refused = each_growth_refused(rt.alloc(), CASES, |case, alloc| outcome(&rt, alloc, &case));
+    let refused = each_growth_refused(rt.alloc(), CASES, |case, alloc| answers(&rt, case, alloc));
     assert!(rt; refused.is_ok(), "{refused:?}");
 }
 

@@ -5,13 +5,9 @@
 mod each_byte;
 mod each_growth;
 mod failing_sink;
-mod outcome;
 mod refusing;
-mod trial_fault;
 
 pub use each_byte::{Writer, each_byte_refused};
-pub use each_growth::each_growth_refused;
+pub use each_growth::{each_growth_refused, has_answered};
 pub use failing_sink::FailingSink;
-pub use outcome::Outcome;
 pub use refusing::Refusing;
-pub use trial_fault::TrialFault;

@@ -1,13 +1,13 @@
-//! Each growth of a call is refused in turn, and a writer's sink fails behind each byte.
+//! Each growth of a call is refused in turn, and a writer's sink fails behind each byte. That an answer is the right one is
+//! proved, so that none is looked at.
 
-use ira_event::{OutOfMemory, RingSize, WriteFault};
+use ira_event::RingSize;
 use ira_links::OpenGate;
 use ira_refusing::{
-    FailingSink, Outcome, Refusing, Writer, each_byte_refused, each_growth_refused,
+    FailingSink, Refusing, Writer, each_byte_refused, each_growth_refused, has_answered,
 };
 use ira_ring::{
-    Collector, NodeEnd, Run, RunFault, Setup, draw_lists, run_alone, run_alone_seeded, run_ring,
-    write_ends,
+    Collector, Run, RunFault, Setup, draw_lists, run_alone, run_alone_seeded, run_ring, write_ends,
 };
 use std::alloc::Global;
 use std::process::Abort;
@@ -18,7 +18,6 @@ use std::time::Clock;
 type Memory = Refusing<Global>;
 
 /// The calls whose growths are refused.
-#[derive(Clone, Copy)]
 enum Call {
     DrawLists,
     NewCollector,
@@ -27,52 +26,13 @@ enum Call {
     RunRing,
 }
 
-const CALLS: [Call; 5] = [
+const CALLS: &[Call] = &[
     Call::DrawLists,
     Call::NewCollector,
     Call::RunAlone,
     Call::RunAloneSeeded,
     Call::RunRing,
 ];
-
-fn draw_64_lists(alloc: Memory, nodes: RingSize) -> Outcome {
-    match draw_lists(alloc, nodes, 42, 1) {
-        Ok(lists) => Outcome::of_answer(lists.len() == 64),
-        Err(OutOfMemory) => Outcome::GaveUp,
-    }
-}
-
-fn make_collector(alloc: Memory, nodes: RingSize) -> Outcome {
-    match Collector::new(alloc, nodes) {
-        Ok(_) => Outcome::Right,
-        Err(OutOfMemory) => Outcome::GaveUp,
-    }
-}
-
-/// Whether the run is as long as the election, and node 1 ends so. That it is the ring's own run is proved.
-fn is_election(run: &Run<Memory>, end: NodeEnd) -> bool {
-    let logs = run.logs();
-    logs.size().get() == 2
-        && (logs.log(0).len(), logs.log(1).len()) == (4, 4)
-        && run.ends() == [NodeEnd::Leader, end].as_slice()
-}
-
-fn has_run_alone(found: Result<Run<Memory>, RunFault>) -> Outcome {
-    match found {
-        Ok(run) => Outcome::of_answer(is_election(&run, NodeEnd::Quiet)),
-        Err(fault) => Outcome::of_fault(fault == RunFault::OutOfMemory),
-    }
-}
-
-/// A thread that isn't started is told as such.
-fn has_run_on_threads(found: Result<Run<Memory>, RunFault>) -> Outcome {
-    match found {
-        Ok(run) => Outcome::of_answer(is_election(&run, NodeEnd::Stopped)),
-        Err(fault) => {
-            Outcome::of_fault(matches!(fault, RunFault::OutOfMemory | RunFault::Thread))
-        }
-    }
-}
 
 /// What the calls are made on.
 #[derive(Drop)]
@@ -99,31 +59,43 @@ impl Given {
         Given { largest, setup }
     }
 
-    /// What becomes of the call with this memory.
-    fn outcome<R>(&self, rt: &R, call: Call, alloc: Memory) -> Outcome
+    /// Whether the call answers with this memory.
+    fn answers<R>(&self, rt: &R, call: &Call, alloc: Memory) -> bool
     where
-        R: Threads + Wait + Clock + Sync,
+        R: Abort + Threads + Wait + Clock + Sync,
     {
+        let Given { largest, setup } = self;
         match call {
-            Call::DrawLists => draw_64_lists(alloc, self.largest),
-            Call::NewCollector => make_collector(alloc, self.largest),
-            Call::RunAlone => has_run_alone(run_alone(alloc, &self.setup)),
+            Call::DrawLists => has_answered(draw_lists(alloc, *largest, 42, 1)),
+            Call::NewCollector => has_answered(Collector::new(alloc, *largest)),
+            Call::RunAlone => has_answered(run_alone(alloc, setup)),
             Call::RunAloneSeeded => {
-                let nodes = self.setup.nodes;
-                let found = run_alone_seeded(alloc, nodes, &[true, true], 7, 100, 100);
-                has_run_alone(found)
+                let nodes = setup.nodes;
+                has_answered(run_alone_seeded(alloc, nodes, &[true, true], 7, 100, 100))
             }
-            Call::RunRing => has_run_on_threads(run_ring(rt, alloc, &self.setup, &OpenGate)),
+            Call::RunRing => has_run(rt, alloc, setup),
         }
     }
+}
+
+/// Whether the ring is run on threads. Where it isn't, memory ran out, or a thread wasn't started.
+fn has_run<R>(rt: &R, alloc: Memory, setup: &Setup<Memory>) -> bool
+where
+    R: Abort + Threads + Wait + Clock + Sync,
+{
+    let fault = run_ring(rt, alloc, setup, &OpenGate).err();
+    assert!(rt; matches!(fault, None | Some(RunFault::OutOfMemory | RunFault::Thread)));
+    fault.is_none()
 }
 
 #[test]
 fn each_growth_is_refused(rt: HostRuntime) {
     let given = Given::new(&rt);
-    let refused = each_growth_refused(rt.alloc(), &CALLS, |call, alloc| {
-        given.outcome(&rt, call, alloc)
-    });
+    let refused = each_growth_refused(
+        rt.alloc(),
+        CALLS,
+        |call, alloc| given.answers(&rt, call, alloc),
+    );
     assert!(rt; refused.is_ok(), "{refused:?}");
 }
 
@@ -133,7 +105,7 @@ struct Ends<'a>(&'a Run<Global>);
 
 impl Writer for Ends<'_> {
     fn is_refused(&self, sink: &mut FailingSink) -> bool {
-        write_ends(self.0, sink) == Err(WriteFault)
+        write_ends(self.0, sink).is_err()
     }
 }
 
