@@ -12,15 +12,15 @@ use Rattle.ira_event.specs.LogTextFault.{LogTextFault, behind_head, BeginsWithHe
 use Rattle.ira_event.specs.Records.{RecordsLeft, ReadsOn, ReadsRecord, IsAtEnd, IsEndOrFault}
 use Rattle.ira_event.proofs.LogReading.{behind_more, behind_all, behind_fault}
 use Rattle.ira_event.proofs.LogAnswers.{log_read}
-use Rattle.ira_audit.specs.LogAudit.{IsBegun, IsSuffix, CameTo, log_of, AreWholeLines}
+use Rattle.ira_audit.specs.LogAudit.{IsBegun, IsSuffix, CameTo, log_of_records, AreWholeLines}
 use Rattle.ira_audit.specs.Replaying.{IsLogAnswer}
 use Rattle.ira_audit.specs.declared.answer.Answer.{Answer}
-use Rattle.ira_audit.specs.declared.replay.Replay.{Replay}
+use Rattle.ira_audit.specs.declared.replay_so_far.ReplaySoFar.{ReplaySoFar}
 
 -- ---- while records are read
 
 -- one more record was read
-pub begun_more : (text : List ℕ) (r next : Replay) (old new : RecordsLeft) (e : Event) → next.head ≡ r.head → ReadsRecord old new e
+pub begun_more : (text : List ℕ) (r next : ReplaySoFar) (old new : RecordsLeft) (e : Event) → next.head ≡ r.head → ReadsRecord old new e
     → ((events : List Event) → length events ≡ old.count → CameTo r events → CameTo next (events ++ e ∷ []))
     → IsBegun text r old → IsBegun text next new
 begun_more text r next old new e same read on b = record {
@@ -50,16 +50,16 @@ suffix_trans a b c s t = (t.0 ++ s.0, t.1 ∙ ap (λ w. t.0 ++ w) s.1 ∙ sym (a
 
 -- ---- a text that goes on
 
-pub lines_begun : (replay : Option Replay) (r : Replay) (text : List ℕ) → replay ≡ Some r → AreWholeLines replay text → IsBegun text r (record { rest = []; count = r.count })
-lines_begun (Some x) r text is h = let same : x ≡ r = cc in let P : Replay → Type 0 = λ y. IsBegun text y (record { rest = []; count = y.count }) in subst P same h
+pub lines_begun : (replay : Option ReplaySoFar) (r : ReplaySoFar) (text : List ℕ) → replay ≡ Some r → AreWholeLines replay text → IsBegun text r (record { rest = []; count = r.count })
+lines_begun (Some x) r text is h = let same : x ≡ r = cc in let P : ReplaySoFar → Type 0 = λ y. IsBegun text y (record { rest = []; count = y.count }) in subst P same h
 lines_begun None r text is h = absurd cc
 
-pub none_taken : (replay : Option Replay) (text : List ℕ) → replay ≡ None → AreWholeLines replay text → text ≡ []
+pub none_taken : (replay : Option ReplaySoFar) (text : List ℕ) → replay ≡ None → AreWholeLines replay text → text ≡ []
 none_taken None text is h = h
 none_taken (Some r) text is h = absurd cc
 
 -- more stands behind what is left
-pub begun_longer : (text more : List ℕ) (r : Replay) (n : ℕ) → IsBegun text r (record { rest = []; count = n }) → IsBegun (text ++ more) r (record { rest = more; count = n })
+pub begun_longer : (text more : List ℕ) (r : ReplaySoFar) (n : ℕ) → IsBegun text r (record { rest = []; count = n }) → IsBegun (text ++ more) r (record { rest = more; count = n })
 begun_longer text more r n b = record {
   rest = b.rest ++ more;
   head = record {
@@ -84,7 +84,7 @@ begun_longer text more r n b = record {
 }
 
 -- what is left is cut off
-begun_cut : (text front : List ℕ) (whole : List ℕ) (r : Replay) (left : RecordsLeft) → whole ≡ (text ++ front) ++ left.rest → IsBegun whole r left → IsBegun (text ++ front) r (record { rest = []; count = left.count })
+begun_cut : (text front : List ℕ) (whole : List ℕ) (r : ReplaySoFar) (left : RecordsLeft) → whole ≡ (text ++ front) ++ left.rest → IsBegun whole r left → IsBegun (text ++ front) r (record { rest = []; count = left.count })
 begun_cut text front whole r left parts b =
     let read = b.read.0 in
     let both : (text ++ front) ++ left.rest ≡ (b.head.head ++ read.records) ++ left.rest =
@@ -123,7 +123,7 @@ left_behind piece left s =
     let many : length s.0 ≡ length piece - length left = omega (arith, ap length s.1, length-append s.0 left) in
     ap (λ w. drop (length piece - length left) w) s.1 ∙ drop_at s.0 left (length piece - length left) many
 
-pub taken_lines : (text piece : List ℕ) (r : Replay) (left : RecordsLeft) (n : ℕ) → n ≡ length piece - length left.rest → IsSuffix left.rest piece → IsBegun (text ++ piece) r left
+pub taken_lines : (text piece : List ℕ) (r : ReplaySoFar) (left : RecordsLeft) (n : ℕ) → n ≡ length piece - length left.rest → IsSuffix left.rest piece → IsBegun (text ++ piece) r left
     → IsBegun (text ++ take n piece) r (record { rest = []; count = left.count })
 taken_lines text piece r left n many s b =
     let same : take n piece ≡ s.0 = ap (λ k. take k piece) many ∙ front_taken piece s.0 left.rest s.1 in
@@ -132,11 +132,11 @@ taken_lines text piece r left n many s b =
 
 -- ---- the answer
 
-pub begun_judged : (text : List ℕ) (r : Replay) (left : RecordsLeft) (a : Answer) → ((events : List Event) → CameTo r events → IsLogAnswer (log_of r.head events) a) → IsBegun text r left → IsAtEnd left
+pub begun_judged : (text : List ℕ) (r : ReplaySoFar) (left : RecordsLeft) (a : Answer) → ((events : List Event) → CameTo r events → IsLogAnswer (log_of_records r.head events) a) → IsBegun text r left → IsAtEnd left
     → (log : Log) × IsLogText text log × IsLogAnswer log a
 begun_judged text r left a answers b end =
-    (log_of r.head b.events, log_read text r.head.nodes r.head.place r.head.initiator b.rest b.events b.head (behind_all b.rest b.events left b.read end), answers b.events b.came)
+    (log_of_records r.head b.events, log_read text r.head.nodes r.head.place r.head.initiator b.rest b.events b.head (behind_all b.rest b.events left b.read end), answers b.events b.came)
 
-pub begun_refused : (text : List ℕ) (r : Replay) (left : RecordsLeft) (f : LogFault) → length text ≤ MAX_TEXT → IsBegun text r left → IsEndOrFault left (Err f) → LogTextFault text f
+pub begun_refused : (text : List ℕ) (r : ReplaySoFar) (left : RecordsLeft) (f : LogFault) → length text ≤ MAX_TEXT → IsBegun text r left → IsEndOrFault left (Err f) → LogTextFault text f
 begun_refused text r left f short b end =
     inr (short, behind_head r.head.nodes r.head.place r.head.initiator b.rest b.head (behind_fault b.rest b.events left f b.read end))

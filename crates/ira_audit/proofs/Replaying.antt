@@ -1,4 +1,4 @@
--- A log that is judged, or replayed and kept, while it is read.
+-- A log that is replayed while it is read.
 use Rattle.std.proofs.Common.{◌≡◌, ◌≢◌, ◌↔◌, ℕ, ◌+◌, List, [], ◌∷◌, ◌++◌, length, Result, Ok, refl, ap, subst, arith, append_assoc, length-append, Option, Some, None, true, false, ◌∙◌, inl, inr}
 use Rattle.std.specs.Option.{is_some}
 use Rattle.ira_event.specs.declared.event.Event.{Event}

@@ -4,22 +4,22 @@ use Rattle.ira_event.specs.declared.event.Event.{Event}
 use Rattle.ira_event.specs.declared.log_fault.LogFault.{LogFault}
 use Rattle.ira_event.specs.declared.log_head.LogHead.{LogHead}
 use Rattle.ira_event.specs.Log.{Log}
-use Rattle.ira_event.specs.LogTextFault.{BeginsWithHead, HasNoHead}
+use Rattle.ira_event.specs.LogTextFault.{BeginsWithHead, BeginsWithNoHead}
 use Rattle.ira_event.specs.Records.{RecordsLeft, HasRead, IsEndOrFault}
 use Rattle.ira_node.specs.NodeState.{first_state}
 use Rattle.ira_audit.specs.Replaying.{LeadsOrStops}
-use Rattle.ira_audit.specs.declared.replay.Replay.{Replay}
+use Rattle.ira_audit.specs.declared.replay_so_far.ReplaySoFar.{ReplaySoFar}
 
 -- a log with this head and these events
-abbrev pub log_of : LogHead → List Event → Log
-log_of head events = record { nodes = head.nodes; place = head.place; initiator = head.initiator; events = events }
+abbrev pub log_of_records : LogHead → List Event → Log
+log_of_records head events = record { nodes = head.nodes; place = head.place; initiator = head.initiator; events = events }
 
 -- these events lead to the state that is told, or the first of them without a step is told
-abbrev pub CameTo : Replay → List Event → Type 0
+abbrev pub CameTo : ReplaySoFar → List Event → Type 0
 CameTo r events = LeadsOrStops r.head.nodes (first_state r.head.initiator) events r.state r.stop
 
 -- the text begins with the head and the records that were read, and this is left of it
-pub record IsBegun (text : List ℕ) (r : Replay) (left : RecordsLeft) : Type 0 where
+pub record IsBegun (text : List ℕ) (r : ReplaySoFar) (left : RecordsLeft) : Type 0 where
   pub rest : List ℕ
   pub head : BeginsWithHead text r.head.nodes r.head.place r.head.initiator rest
   pub events : List Event
@@ -33,10 +33,10 @@ IsSuffix end text = (front : List ℕ) × (text ≡ front ++ end)
 -- an audit of one log: how many bytes it took, and what they came to
 pub record LogAudit : Type 0 where
   pub taken : ℕ
-  pub replay : Option Replay
+  pub replay : Option ReplaySoFar
 
 -- these bytes are nothing, or the head of a log and the records that were read, to the end of a line
-abbrev pub AreWholeLines : Option Replay → List ℕ → Type 0
+abbrev pub AreWholeLines : Option ReplaySoFar → List ℕ → Type 0
 AreWholeLines None text = text ≡ []
 AreWholeLines (Some r) text = IsBegun text r (record { rest = []; count = r.count })
 
@@ -45,6 +45,6 @@ abbrev pub HasTakenBytes : LogAudit → List ℕ → Type 0
 HasTakenBytes audit text = (audit.taken ≡ length text) × AreWholeLines audit.replay text
 
 -- no more of a log can be taken: this begins with no head, or with no record within the limits
-abbrev pub HasNoMore : Option Replay → List ℕ → Type 0
-HasNoMore None rest = HasNoHead rest
+abbrev pub HasNoMore : Option ReplaySoFar → List ℕ → Type 0
+HasNoMore None rest = BeginsWithNoHead rest
 HasNoMore (Some r) rest = (end : Result ⊤ LogFault) × IsEndOrFault (record { rest = rest; count = r.count }) end

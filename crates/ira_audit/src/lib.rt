@@ -12,7 +12,7 @@ mod log_audit;
 mod one_log;
 mod reason;
 mod refusal;
-mod replay;
+mod replay_so_far;
 mod replayed_log;
 mod report;
 mod ring_audit;

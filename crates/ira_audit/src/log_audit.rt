@@ -1,4 +1,4 @@
-ghost use Rattle.std.specs.Prelude.{◌≡◌, ◌↔◌, ◌++◌, ◌+◌, ◌≤◌, ℕ, List, [], drop, length, take, IfOk, OnErr, MatchResult};
+ghost use Rattle.std.specs.Prelude.{◌≡◌, ◌↔◌, ◌++◌, ◌+◌, ◌≤◌, ◌<◌, ℕ, List, [], drop, length, take, IfOk, OnErr, MatchResult};
 ghost use Rattle.ira_event.specs.Log.{Log};
 ghost use Rattle.ira_event.specs.LogText.{IsLogText};
 ghost use Rattle.ira_event.specs.LogTextFault.{LogTextFault};
@@ -10,7 +10,7 @@ ghost use Rattle.ira_audit.specs.declared.answer.Answer.{Answer};
 
 use crate::answer::Answer;
 use crate::reason::Reason;
-use crate::replay::Replay;
+use crate::replay_so_far::ReplaySoFar;
 use ira_event::{LogFault, MAX_TEXT, Records, open_log};
 use std::marker::Model;
 
@@ -18,9 +18,10 @@ use std::marker::Model;
 /// kept, so it takes no memory.
 #[derive(Drop)]
 pub struct LogAudit {
+    /// How many bytes were taken.
     taken: usize,
     /// What they came to; none are taken before the whole head.
-    replay: Option<Replay>,
+    replay: Option<ReplaySoFar>,
 }
 
 impl Model for LogAudit {
@@ -48,14 +49,16 @@ impl LogAudit {
 
     /// How many bytes were taken.
     pub fn taken(&self) -> usize
-        ensures { result ≡ self.now.taken }
+        ensures value { result ≡ self.now.taken }
+        ensures few { result ≤ MAX_TEXT }
     {
         self.taken
     }
 
-    /// Takes what comes next of the text, as far as it is a head and records, to the end of a line, and gives how many
-    /// bytes it took. What it left has to stand at the front of the next piece, or of what `finish` is given: an end line,
-    /// a line with a fault, or a piece of a line.
+    /// Takes what a piece begins with: the head, unless it was taken before, and whole records; and gives how many bytes
+    /// these are. It takes none where the piece makes the text too long. What it left stands at the front of the next
+    /// piece, or of what `finish` is given: a piece of the head or of a line, or an end line or a fault with all that is
+    /// behind it.
     pub fn take(&mut self, piece: &[u8]) -> usize
         ensures within { result ≤ length piece.now }
         ensures count { self.new.taken ≡ self.old.taken + result }
@@ -63,6 +66,7 @@ impl LogAudit {
             → HasTakenBytes self.new (text ++ take result piece.now) }
         ensures all { self.old.taken + length piece.now ≤ MAX_TEXT
             → HasNoMore self.new.replay (drop result piece.now) }
+        ensures too_long { MAX_TEXT < self.old.taken + length piece.now → result ≡ 0 }
     {
         let Ok((replay, records)) = self.open(piece) else {
             return 0;
@@ -98,9 +102,9 @@ impl LogAudit {
         Ok(replay.answer())
     }
 
-    /// What was taken came to, and the records that the text goes on with; or the text's fault, where it is too long or
-    /// has no head.
-    fn open<'a>(&self, rest: &'a [u8]) -> Result<(Replay, Records<'a>), LogFault>
+    /// What the bytes that were taken came to, and the records that the text goes on with; or the text's fault, where it is
+    /// too long or has no head.
+    fn open<'a>(&self, rest: &'a [u8]) -> Result<(ReplaySoFar, Records<'a>), LogFault>
         ensures count { IfOk result (λ p. p.1.count ≡ p.0.count) }
         ensures short { IfOk result (λ _. self.now.taken + length rest.now ≤ MAX_TEXT) }
         ensures suffix { IfOk result (λ p. IsSuffix p.1.rest rest.now) }
@@ -114,7 +118,7 @@ impl LogAudit {
         }
         let Some(replay) = self.replay else {
             let (head, records) = open_log(rest)?;
-            return Ok((Replay::first(head), records));
+            return Ok((ReplaySoFar::first(head), records));
         };
         Ok(replay.with(rest))
     }

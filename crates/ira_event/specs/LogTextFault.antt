@@ -20,8 +20,8 @@ pub record BeginsWithHead (text : List ℕ) (nodes place : ℕ) (initiator : Boo
   pub parts : text ≡ head ++ rest
 
 -- the text begins with no head
-abbrev pub HasNoHead : List ℕ → Type 0
-HasNoHead text = (nodes place : ℕ) (initiator : Bool) (rest : List ℕ) → ¬ (BeginsWithHead text nodes place initiator rest)
+abbrev pub BeginsWithNoHead : List ℕ → Type 0
+BeginsWithNoHead text = (nodes place : ℕ) (initiator : Bool) (rest : List ℕ) → ¬ (BeginsWithHead text nodes place initiator rest)
 
 -- the text begins with the lines of these events, all within the limits, and goes on with the rest
 pub record BeginsWithRecords (text : List ℕ) (events : List Event) (rest : List ℕ) : Type 0 where
@@ -68,7 +68,7 @@ pub record RecordsFault (text : List ℕ) (f : LogFault) : Type 0 where
 -- the fault of a text that isn't too long
 pub data LinesFault (text : List ℕ) (f : LogFault) : Type 0 where
   -- it begins with no head
-  no_head : HasNoHead text → f ≡ Head → LinesFault text f
+  no_head : BeginsWithNoHead text → f ≡ Head → LinesFault text f
   -- what stands behind its head has a fault
   behind_head :
       (nodes place : ℕ) (initiator : Bool) (rest : List ℕ) → BeginsWithHead text nodes place initiator rest → RecordsFault rest f
@@ -82,7 +82,7 @@ LogTextFault text f =
 -- the fault of a text that is too long or begins with no head
 abbrev pub OpeningFault : List ℕ → LogFault → Type 0
 OpeningFault text f =
-    ((MAX_TEXT < length text) × (f ≡ TooLong)) ⊎ ((length text ≤ MAX_TEXT) × HasNoHead text × (f ≡ Head))
+    ((MAX_TEXT < length text) × (f ≡ TooLong)) ⊎ ((length text ≤ MAX_TEXT) × BeginsWithNoHead text × (f ≡ Head))
 
 -- the text is the lines of these events, all within the limits, and their end line
 pub record AreAllRecords (text : List ℕ) (events : List Event) : Type 0 where

@@ -1,7 +1,7 @@
 ghost use Rattle.std.specs.Prelude.{◌≡◌, ◌<◌, ◌↔◌, IsSome, IfSome, MatchOption};
 ghost use Rattle.ira_event.specs.Scan.{Gives};
 ghost use Rattle.ira_event.specs.LogScan.{start_at, head_at};
-ghost use Rattle.ira_event.specs.LogTextFault.{BeginsWithHead, HasNoHead};
+ghost use Rattle.ira_event.specs.LogTextFault.{BeginsWithHead, BeginsWithNoHead};
 ghost use Rattle.ira_event.specs.RingSize.{IsRingSize};
 
 use crate::ring_size::RingSize;
@@ -25,7 +25,7 @@ struct HeadLines {
 
 /// The head that the text begins with, and what follows it.
 pub fn take_head(text: &[u8]) -> Option<(LogHead, &[u8])>
-    ensures { MatchOption result (HasNoHead text.now)
+    ensures { MatchOption result (BeginsWithNoHead text.now)
         (λ found. BeginsWithHead text.now found.0.nodes found.0.place found.0.initiator found.1.now) }
 {
     let (lines, rest) = take_head_lines(text)?;

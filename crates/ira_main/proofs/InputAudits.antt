@@ -3,19 +3,19 @@ use Rattle.std.proofs.Common.{◌≡◌, ℕ, ◌+◌, ◌≤◌, true, false, L
 use Rattle.std.specs.Io.KnownBytes.{Consumes, IsAtEnd}
 use Rattle.ira_event.specs.declared.limits.TheConstants.{MAX_TEXT}
 use Rattle.ira_main.specs.Counted.{Reads}
-use Rattle.ira_main.specs.InputAudit.{InputAudit, HasReadText, read_bytes}
+use Rattle.ira_main.specs.InputAudit.{InputAudit, HasReadText, bytes_read}
 
 -- a text that was read is as long as the audit says
-pub length-read : (it : InputAudit) (text : List ℕ) → HasReadText it text → length text ≡ read_bytes it
+pub length-read : (it : InputAudit) (text : List ℕ) → HasReadText it text → length text ≡ bytes_read it
 length-read it text h = omega (arith, ap length h.2, length-append h.0 it.bytes, h.1.0)
 
 -- what was read so far of what an input had left. A reader that isn't over may be read once without a byte
 pub record ReadSoFar (old now : Reads) (it : InputAudit) : Type 0 where
   pub text : List ℕ
   pub read : HasReadText it text
-  pub size : read_bytes it ≤ MAX_TEXT + 1
+  pub size : bytes_read it ≤ MAX_TEXT + 1
   pub bytes : Consumes old.left now.left text
-  pub reads : now.reads + cond now.is_over 0 1 ≤ old.reads + cond old.is_over 0 1 + read_bytes it
-  pub over : now.is_over ≡ true → read_bytes it ≤ MAX_TEXT
+  pub reads : now.reads + cond now.is_over 0 1 ≤ old.reads + cond old.is_over 0 1 + bytes_read it
+  pub over : now.is_over ≡ true → bytes_read it ≤ MAX_TEXT
   pub fine : old.has_failed ≡ false → now.has_failed ≡ false
   pub end : old.is_over ≡ false → now.is_over ≡ true → IsAtEnd now.left

@@ -2,15 +2,15 @@
 use Rattle.std.specs.Prelude.{◌≡◌, ℕ, ◌+◌, List, ◌++◌, length}
 use Rattle.ira_audit.specs.LogAudit.{LogAudit, HasTakenBytes}
 
--- an audit of the text's front, what was read behind it, and how many bytes there is room for
+-- an audit of the text's front, what was read behind it, and for how many bytes there is room in all, these among them
 pub record InputAudit : Type 0 where
   pub audit : LogAudit
   pub bytes : List ℕ
   pub room : ℕ
 
 -- how many bytes were read
-abbrev pub read_bytes : InputAudit → ℕ
-read_bytes it = it.audit.taken + length it.bytes
+abbrev pub bytes_read : InputAudit → ℕ
+bytes_read it = it.audit.taken + length it.bytes
 
 -- this text was read
 abbrev pub HasReadText : InputAudit → List ℕ → Type 0

@@ -12,9 +12,9 @@ use std::alloc::Allocator;
 use std::io::Read;
 use std::marker::Model;
 
-/// How many bytes of the text are in memory at first. It stays so unless a line is longer, or the text has a fault: what
-/// stands behind a fault is kept to the end.
-const FIRST_ROOM: usize = 65_536;
+/// How many bytes of the text are in memory at a time. They are more only where a line is longer, or the text has a fault:
+/// what stands behind a fault is kept to the end.
+const WINDOW: usize = 65_536;
 
 /// Judges the text of one log while it is read.
 #[derive(Drop)]
@@ -40,7 +40,7 @@ impl<A: Allocator> Model for InputAudit<A> {
 }
 
 impl<A: Allocator> InputAudit<A> {
-    ghost use Rattle.ira_main.specs.InputAudit.{HasReadText, read_bytes};
+    ghost use Rattle.ira_main.specs.InputAudit.{HasReadText, bytes_read};
 
     /// An audit of a text of which nothing was read.
     fn new(alloc: A) -> Result<InputAudit<A>, ShelfFault>
@@ -48,7 +48,7 @@ impl<A: Allocator> InputAudit<A> {
         ensures fault { IfErr result (λ f. f ≡ ShelfFault.OutOfMemory) }
     {
         let mut room = Vec::new(alloc);
-        if room.resize(FIRST_ROOM, 0).is_err() {
+        if room.resize(WINDOW, 0).is_err() {
             return Err(ShelfFault::OutOfMemory);
         }
         Ok(InputAudit {
@@ -60,7 +60,7 @@ impl<A: Allocator> InputAudit<A> {
 
     /// How many bytes were read.
     fn len(&self) -> usize
-        ensures { result ≡ read_bytes self.now }
+        ensures { result ≡ bytes_read self.now }
     {
         self.audit.taken() + self.filled
     }
@@ -68,10 +68,10 @@ impl<A: Allocator> InputAudit<A> {
     /// Makes room for more of the text where there is none: what the audit takes goes, and where it takes nothing the
     /// room is made twice as long.
     fn make_room(&mut self) -> Result<(), ShelfFault>
-        requires { read_bytes self.old ≤ MAX_TEXT }
+        requires { bytes_read self.old ≤ MAX_TEXT }
         ensures read { OnOk result ((text : List ℕ) → HasReadText self.old text → HasReadText self.new text) }
         ensures room { OnOk result (length self.new.bytes < self.new.room) }
-        ensures len { OnOk result (read_bytes self.new ≡ read_bytes self.old) }
+        ensures len { OnOk result (bytes_read self.new ≡ bytes_read self.old) }
         ensures fault { IfErr result (λ f. f ≡ ShelfFault.OutOfMemory) }
     {
         if self.filled < self.room.len() {
@@ -97,9 +97,9 @@ impl<A: Allocator> InputAudit<A> {
         requires room { length self.old.bytes < self.old.room }
         requires open { input.old.is_over ≡ false }
         ensures once { OnOk result ((bytes : List ℕ) × IsReadOnce input.old input.new bytes
-            × (read_bytes self.new ≡ read_bytes self.old + length bytes)
+            × (bytes_read self.new ≡ bytes_read self.old + length bytes)
             × ((text : List ℕ) → HasReadText self.old text → HasReadText self.new (text ++ bytes))) }
-        ensures size { OnOk result (read_bytes self.new ≤ MAX_TEXT + 1) }
+        ensures size { OnOk result (bytes_read self.new ≤ MAX_TEXT + 1) }
         ensures count { input.new.reads ≤ input.old.reads + 1 }
         ensures device { result ≡ Err ShelfFault.Device
             → (input.new.has_failed ≡ true) × (input.new.is_over ≡ true) }

@@ -111,6 +111,7 @@ fn input_of_several_reads(rt: HostRuntime) -> Result<(), Fail> {
         ("draw 1\n", "", "no: log 0: cut\n", 4),
         ("draw 1\n", "end 19999\n", "no: log 0: count\n", 4),
         ("draw 1\n", "end 20000\nx", "no: log 0: trailing\n", 4),
+        ("draw 1\n", "end 20000\n", "no: node 0: event 2: owes\n", 4),
         // The room grows over what stands behind a fault.
         ("draw x\n", "end 20000\n", "no: log 0: line 5\n", 5),
     ] {

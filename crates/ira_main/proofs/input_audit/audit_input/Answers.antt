@@ -32,10 +32,12 @@ returns-clause-answer g c =
       record {
         bytes = before.bytes;
         size = omega (arith, many, before.size);
-        end = λ old short. elim c.loop-audit-test.branch [
-          | then-loop-audit-test+else-len-le-MAX_TEXT w ↦ absurd (omega (arith, many, short, w.len.ensures))
-          | else-loop-audit-test w ↦ let over : c.loop-audit.input.is_over ≡ true = search rules in before.end old over
-        ];
+        end = λ old short.
+            let over : c.loop-audit.input.is_over ≡ true = elim c.loop-audit-test.branch [
+              | then-loop-audit-test+else-len-le-MAX_TEXT w ↦ absurd (omega (arith, many, short, w.len.ensures))
+              | else-loop-audit-test w ↦ search rules
+            ] in
+            before.end old over;
         fine = before.fine;
       },
       c.finish.ensures.answer before.text before.read,

@@ -1,7 +1,7 @@
 use Rattle.std.proofs.Common.{◌++◌, ◌+◌, ◌∙◌, ap, append_assoc, arith, drop, subst, sym, take}
 use Rattle.std.proofs.Math.Seq.{take-add}
 use Rattle.std.proofs.lemmas.List.{length-take-le}
-use Rattle.ira_main.specs.InputAudit.{InputAudit, HasReadText, read_bytes}
+use Rattle.ira_main.specs.InputAudit.{InputAudit, HasReadText, bytes_read}
 use Rattle.ira_main.proofs.Reading.{length-taken}
 use Rattle.ira_main.proofs.input_audit.InputAudit.read.Goals as goal
 
@@ -15,7 +15,7 @@ returns-clause-once g c =
     let bytes = take n (drop f ys) in (
       bytes,
       e.once,
-      omega (arith, ap read_bytes c.self.view_is, length-take-le (f + n) ys e.bound, length-take-le f xs c.self.invariant.0, length-taken ys f n e.bound),
+      omega (arith, ap bytes_read c.self.view_is, length-take-le (f + n) ys e.bound, length-take-le f xs c.self.invariant.0, length-taken ys f n e.bound),
       λ text h.
           let P : InputAudit → Type 0 = λ it. HasReadText it text in
           let k = subst P (sym c.self.view_is) h in (

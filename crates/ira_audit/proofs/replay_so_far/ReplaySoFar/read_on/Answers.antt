@@ -2,8 +2,8 @@ use Rattle.std.proofs.Common.{◌≡◌, arith, refl}
 use Rattle.ira_event.proofs.LogReading.{record_shorter, was_read}
 use Rattle.ira_audit.proofs.LogAudits.{begun_more, none_read, suffix_all, suffix_read}
 use Rattle.ira_audit.proofs.Replaying.{leads_on, stays_stopped, stops_there}
-use Rattle.ira_audit.proofs.replay.Replay.read_on.Goals as goal
-use Rattle.ira_audit.proofs.replay.Replay.read_on.Goals.{in-Ok-None, in-Err}
+use Rattle.ira_audit.proofs.replay_so_far.ReplaySoFar.read_on.Goals as goal
+use Rattle.ira_audit.proofs.replay_so_far.ReplaySoFar.read_on.Goals.{in-Ok-None, in-Err}
 
 pub loop-event-init : goal.loop-event-init
 loop-event-init c = record {

@@ -1,6 +1,6 @@
 use Rattle.std.proofs.Common.{ℕ, List, length}
 use Rattle.ira_audit.specs.LogAudit.{IsBegun, IsSuffix}
-use Rattle.ira_audit.proofs.replay.Replay.read_on.Given as goal
+use Rattle.ira_audit.proofs.replay_so_far.ReplaySoFar.read_on.Given as goal
 
 abbrev pub invariant-loop-event : goal.invariant-loop-event
 invariant-loop-event l = record {

@@ -1,4 +1,4 @@
-ghost use Rattle.std.specs.Prelude.{◌≡◌, ◌++◌, ◌≤◌, ℕ, List, [], MatchOption};
+ghost use Rattle.std.specs.Prelude.{◌≡◌, ◌≤◌, ℕ, List, []};
 ghost use Rattle.ira_event.specs.Limits.{MAX_RECORDS};
 
 use crate::answer::Answer;
@@ -7,9 +7,9 @@ use ira_event::{LogFault, LogHead, Records};
 use ira_node::NodeState;
 use ira_replay::ReplayFault;
 
-/// What the events of a log came to that were read so far. None of them is kept.
+/// What the events of a log that were read so far came to. None of them is kept.
 #[derive(Clone, Copy)]
-pub(crate) struct Replay {
+pub(crate) struct ReplaySoFar {
     head: LogHead,
     /// How many events were read.
     count: usize,
@@ -19,19 +19,19 @@ pub(crate) struct Replay {
     stop: Option<ReplayFault>,
 }
 
-impl Replay {
+impl ReplaySoFar {
     ghost use Rattle.ira_event.specs.declared.event.Event.{Event};
     ghost use Rattle.ira_event.specs.Records.{IsEndOrFault};
     ghost use Rattle.ira_audit.specs.Replaying.{IsLogAnswer};
-    ghost use Rattle.ira_audit.specs.LogAudit.{IsBegun, IsSuffix, CameTo, log_of};
+    ghost use Rattle.ira_audit.specs.LogAudit.{IsBegun, IsSuffix, CameTo, log_of_records};
 
     /// Before the first event of a log with this head.
-    pub(crate) fn first(head: LogHead) -> Replay
+    pub(crate) fn first(head: LogHead) -> ReplaySoFar
         ensures head { result.head ≡ head }
         ensures none { result.count ≡ 0 }
         ensures came { CameTo result [] }
     {
-        Replay {
+        ReplaySoFar {
             head,
             count: 0,
             state: NodeState::first(head.initiator),
@@ -40,7 +40,7 @@ impl Replay {
     }
 
     /// The same, with the records that a text goes on with behind those that were read.
-    pub(crate) fn with(self, text: &[u8]) -> (Replay, Records<'_>)
+    pub(crate) fn with(self, text: &[u8]) -> (ReplaySoFar, Records<'_>)
         requires { self.count ≤ MAX_RECORDS }
         ensures same { result.0 ≡ self }
         ensures records { result.1 ≡ record { rest = text.now; count = self.count } }
@@ -52,7 +52,10 @@ impl Replay {
     /// Reads on, up to the end or to a fault, and gives what all events came to, what is left of the records, and the
     /// fault.
     #[inline(never)]
-    pub(crate) fn read_on(self, records: Records<'_>) -> (Replay, Records<'_>, Result<(), LogFault>)
+    pub(crate) fn read_on(
+        self,
+        records: Records<'_>,
+    ) -> (ReplaySoFar, Records<'_>, Result<(), LogFault>)
         requires { records.count ≡ self.count }
         ensures count { result.1.count ≡ result.0.count }
         ensures few { result.0.count ≤ MAX_RECORDS }
@@ -60,7 +63,7 @@ impl Replay {
         ensures suffix { IsSuffix result.1.rest records.entry.rest }
         ensures end { IsEndOrFault result.1 result.2 }
     {
-        let Replay {
+        let ReplaySoFar {
             head,
             count: _,
             mut state,
@@ -85,7 +88,7 @@ impl Replay {
                 Err(fault) => break Err(fault),
             }
         };
-        let replay = Replay {
+        let replay = ReplaySoFar {
             head,
             count: records.count(),
             state,
@@ -96,7 +99,7 @@ impl Replay {
 
     /// The answer of the log of the events that were read.
     pub(crate) fn answer(&self) -> Answer
-        ensures { (events : List Event) → CameTo self.now events → IsLogAnswer (log_of self.now.head events) result }
+        ensures { (events : List Event) → CameTo self.now events → IsLogAnswer (log_of_records self.now.head events) result }
     {
         match self.stop {
             None => Answer::Yes,
