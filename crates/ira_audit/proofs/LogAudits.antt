@@ -8,7 +8,7 @@ use Rattle.ira_event.specs.declared.log_head.LogHead.{LogHead}
 use Rattle.ira_event.specs.declared.log_fault.LogFault.{LogFault}
 use Rattle.ira_event.specs.Log.{Log}
 use Rattle.ira_event.specs.LogText.{IsLogText}
-use Rattle.ira_event.specs.LogTextFault.{LogTextFault, behind_head, BeginsWithHead}
+use Rattle.ira_event.specs.LogTextFault.{LogTextFault, behind_head, BeginsWithHead, AreAllRecords, RecordsFault}
 use Rattle.ira_event.specs.Records.{RecordsLeft, ReadsOn, ReadsRecord, IsAtEnd, IsEndOrFault}
 use Rattle.ira_event.proofs.LogReading.{behind_more, behind_all, behind_fault}
 use Rattle.ira_event.proofs.LogAnswers.{log_read}
@@ -25,7 +25,8 @@ pub begun_more : (text : List ℕ) (r next : ReplaySoFar) (old new : RecordsLeft
     → IsBegun text r old → IsBegun text next new
 begun_more text r next old new e same read on b = record {
   rest = b.rest;
-  head = let P : LogHead → Type 0 = λ h. BeginsWithHead text h.nodes h.place h.initiator b.rest in subst P (sym same) b.head;
+  head = subst (λ h. BeginsWithHead text h b.rest) (sym same) b.head;
+  version = read.version ∙ b.version ∙ ap (λ (h : LogHead). h.version) (sym same);
   events = b.events ++ e ∷ [];
   read = behind_more b.rest b.events old new e b.read read;
   came = on b.events b.read.1 b.came;
@@ -50,8 +51,8 @@ suffix_trans a b c s t = (t.0 ++ s.0, t.1 ∙ ap (λ w. t.0 ++ w) s.1 ∙ sym (a
 
 -- ---- a text that goes on
 
-pub lines_begun : (replay : Option ReplaySoFar) (r : ReplaySoFar) (text : List ℕ) → replay ≡ Some r → AreWholeLines replay text → IsBegun text r (record { rest = []; count = r.count })
-lines_begun (Some x) r text is h = let same : x ≡ r = cc in let P : ReplaySoFar → Type 0 = λ y. IsBegun text y (record { rest = []; count = y.count }) in subst P same h
+pub lines_begun : (replay : Option ReplaySoFar) (r : ReplaySoFar) (text : List ℕ) → replay ≡ Some r → AreWholeLines replay text → IsBegun text r (record { version = r.head.version; rest = []; count = r.count })
+lines_begun (Some x) r text is h = let same : x ≡ r = cc in let P : ReplaySoFar → Type 0 = λ y. IsBegun text y (record { version = y.head.version; rest = []; count = y.count }) in subst P same h
 lines_begun None r text is h = absurd cc
 
 pub none_taken : (replay : Option ReplaySoFar) (text : List ℕ) → replay ≡ None → AreWholeLines replay text → text ≡ []
@@ -59,16 +60,18 @@ none_taken None text is h = h
 none_taken (Some r) text is h = absurd cc
 
 -- more stands behind what is left
-pub begun_longer : (text more : List ℕ) (r : ReplaySoFar) (n : ℕ) → IsBegun text r (record { rest = []; count = n }) → IsBegun (text ++ more) r (record { rest = more; count = n })
-begun_longer text more r n b = record {
+pub begun_longer : (text more : List ℕ) (r : ReplaySoFar) (v n : ℕ) → IsBegun text r (record { version = v; rest = []; count = n }) → IsBegun (text ++ more) r (record { version = v; rest = more; count = n })
+begun_longer text more r v n b = record {
   rest = b.rest ++ more;
   head = record {
-    head = b.head.head;
-    head_is = b.head.head_is;
+    lines = b.head.lines;
+    lines_are = b.head.lines_are;
+    version = b.head.version;
     size = b.head.size;
     in_ring = b.head.in_ring;
-    parts = ap (λ w. w ++ more) b.head.parts ∙ append_assoc b.head.head b.rest more;
+    parts = ap (λ w. w ++ more) b.head.parts ∙ append_assoc b.head.lines b.rest more;
   };
+  version = b.version;
   events = b.events;
   read = (
     record {
@@ -76,6 +79,7 @@ begun_longer text more r n b = record {
       records_are = b.read.0.records_are;
       count = b.read.0.count;
       numbers = b.read.0.numbers;
+      held = b.read.0.held;
       parts = ap (λ w. w ++ more) (b.read.0.parts ∙ append-nil b.read.0.records);
     },
     b.read.1,
@@ -84,20 +88,22 @@ begun_longer text more r n b = record {
 }
 
 -- what is left is cut off
-begun_cut : (text front : List ℕ) (whole : List ℕ) (r : ReplaySoFar) (left : RecordsLeft) → whole ≡ (text ++ front) ++ left.rest → IsBegun whole r left → IsBegun (text ++ front) r (record { rest = []; count = left.count })
+begun_cut : (text front : List ℕ) (whole : List ℕ) (r : ReplaySoFar) (left : RecordsLeft) → whole ≡ (text ++ front) ++ left.rest → IsBegun whole r left → IsBegun (text ++ front) r (record { version = left.version; rest = []; count = left.count })
 begun_cut text front whole r left parts b =
     let read = b.read.0 in
-    let both : (text ++ front) ++ left.rest ≡ (b.head.head ++ read.records) ++ left.rest =
-    sym parts ∙ b.head.parts ∙ ap (λ w. b.head.head ++ w) read.parts ∙ sym (append_assoc b.head.head read.records left.rest) in
+    let both : (text ++ front) ++ left.rest ≡ (b.head.lines ++ read.records) ++ left.rest =
+    sym parts ∙ b.head.parts ∙ ap (λ w. b.head.lines ++ w) read.parts ∙ sym (append_assoc b.head.lines read.records left.rest) in
     record {
       rest = read.records;
       head = record {
-        head = b.head.head;
-        head_is = b.head.head_is;
+        lines = b.head.lines;
+        lines_are = b.head.lines_are;
+        version = b.head.version;
         size = b.head.size;
         in_ring = b.head.in_ring;
-        parts = append_cancel_right (text ++ front) (b.head.head ++ read.records) left.rest both;
+        parts = append_cancel_right (text ++ front) (b.head.lines ++ read.records) left.rest both;
       };
+      version = b.version;
       events = b.events;
       read = (
         record {
@@ -105,6 +111,7 @@ begun_cut text front whole r left parts b =
           records_are = read.records_are;
           count = read.count;
           numbers = read.numbers;
+          held = read.held;
           parts = sym (append-nil read.records);
         },
         b.read.1,
@@ -124,19 +131,19 @@ left_behind piece left s =
     ap (λ w. drop (length piece - length left) w) s.1 ∙ drop_at s.0 left (length piece - length left) many
 
 pub taken_lines : (text piece : List ℕ) (r : ReplaySoFar) (left : RecordsLeft) (n : ℕ) → n ≡ length piece - length left.rest → IsSuffix left.rest piece → IsBegun (text ++ piece) r left
-    → IsBegun (text ++ take n piece) r (record { rest = []; count = left.count })
+    → IsBegun (text ++ take n piece) r (record { version = left.version; rest = []; count = left.count })
 taken_lines text piece r left n many s b =
     let same : take n piece ≡ s.0 = ap (λ k. take k piece) many ∙ front_taken piece s.0 left.rest s.1 in
     let parts : text ++ piece ≡ (text ++ s.0) ++ left.rest = ap (λ w. text ++ w) s.1 ∙ sym (append_assoc text s.0 left.rest) in
-    subst (λ w. IsBegun (text ++ w) r (record { rest = []; count = left.count })) (sym same) (begun_cut text s.0 (text ++ piece) r left parts b)
+    subst (λ w. IsBegun (text ++ w) r (record { version = left.version; rest = []; count = left.count })) (sym same) (begun_cut text s.0 (text ++ piece) r left parts b)
 
 -- ---- the answer
 
 pub begun_judged : (text : List ℕ) (r : ReplaySoFar) (left : RecordsLeft) (a : Answer) → ((events : List Event) → CameTo r events → IsLogAnswer (log_of_records r.head events) a) → IsBegun text r left → IsAtEnd left
     → (log : Log) × IsLogText text log × IsLogAnswer log a
 begun_judged text r left a answers b end =
-    (log_of_records r.head b.events, log_read text r.head.nodes r.head.place r.head.initiator b.rest b.events b.head (behind_all b.rest b.events left b.read end), answers b.events b.came)
+    (log_of_records r.head b.events, log_read text r.head b.rest b.events b.head (subst (λ (v : ℕ). AreAllRecords v b.rest b.events) b.version (behind_all b.rest b.events left b.read end)), answers b.events b.came)
 
 pub begun_refused : (text : List ℕ) (r : ReplaySoFar) (left : RecordsLeft) (f : LogFault) → length text ≤ MAX_TEXT → IsBegun text r left → IsEndOrFault left (Err f) → LogTextFault text f
 begun_refused text r left f short b end =
-    inr (short, behind_head r.head.nodes r.head.place r.head.initiator b.rest b.head (behind_fault b.rest b.events left f b.read end))
+    inr (short, behind_head r.head b.rest b.head (subst (λ (v : ℕ). RecordsFault v b.rest f) b.version (behind_fault b.rest b.events left f b.read end)))

@@ -65,16 +65,18 @@ module _ (nodes : ℕ) (first : NodeState) (events : List Event) (state after : 
 -- ---- events that are kept
 
 -- the events that were read lead from the first state to this one, or stop at this fault
-pub record Keeping (text : List ℕ) (nodes : ℕ) (first : NodeState) (left : RecordsLeft) (events : List Event) (state : NodeState) (position : ℕ) (stop : Option ReplayFault) : Type 0 where
+pub record Keeping (version : ℕ) (text : List ℕ) (nodes : ℕ) (first : NodeState) (left : RecordsLeft) (events : List Event) (state : NodeState) (position : ℕ) (stop : Option ReplayFault) : Type 0 where
   pub read : HasRead text events left
+  pub same : left.version ≡ version
   pub at : position ≡ length events
   pub replay : LeadsOrStops nodes first events state stop
 
-pub keeping_more : (text : List ℕ) (nodes : ℕ) (first : NodeState) (old new : RecordsLeft) (events : List Event) (state after : NodeState) (position : ℕ) (e : Event) (stop next : Option ReplayFault)
-    → ReadsRecord old new e → Keeping text nodes first old events state position stop → LeadsOrStops nodes first (events ++ e ∷ []) after next
-    → Keeping text nodes first new (events ++ e ∷ []) after (position + 1) next
-keeping_more text nodes first old new events state after position e stop next r h replay = record {
+pub keeping_more : (version : ℕ) (text : List ℕ) (nodes : ℕ) (first : NodeState) (old new : RecordsLeft) (events : List Event) (state after : NodeState) (position : ℕ) (e : Event) (stop next : Option ReplayFault)
+    → ReadsRecord old new e → Keeping version text nodes first old events state position stop → LeadsOrStops nodes first (events ++ e ∷ []) after next
+    → Keeping version text nodes first new (events ++ e ∷ []) after (position + 1) next
+keeping_more version text nodes first old new events state after position e stop next r h replay = record {
   read = behind_more text events old new e h.read r;
+  same = r.version ∙ h.same;
   at = omega (arith, h.at, length-append events (e ∷ []));
   replay = replay;
 }

@@ -12,7 +12,7 @@ use Rattle.ira_audit.specs.declared.replay_so_far.ReplaySoFar.{ReplaySoFar}
 
 -- a log with this head and these events
 abbrev pub log_of_records : LogHead → List Event → Log
-log_of_records head events = record { nodes = head.nodes; place = head.place; initiator = head.initiator; events = events }
+log_of_records head events = record { version = head.version; nodes = head.nodes; place = head.place; initiator = head.initiator; events = events }
 
 -- these events lead to the state that is told, or the first of them without a step is told
 abbrev pub CameTo : ReplaySoFar → List Event → Type 0
@@ -21,7 +21,8 @@ CameTo r events = LeadsOrStops r.head.nodes (first_state r.head.initiator) event
 -- the text begins with the head and the records that were read, and this is left of it
 pub record IsBegun (text : List ℕ) (r : ReplaySoFar) (left : RecordsLeft) : Type 0 where
   pub rest : List ℕ
-  pub head : BeginsWithHead text r.head.nodes r.head.place r.head.initiator rest
+  pub head : BeginsWithHead text r.head rest
+  pub version : left.version ≡ r.head.version
   pub events : List Event
   pub read : HasRead rest events left
   pub came : CameTo r events
@@ -38,7 +39,7 @@ pub record LogAudit : Type 0 where
 -- these bytes are nothing, or the head of a log and the records that were read, to the end of a line
 abbrev pub AreWholeLines : Option ReplaySoFar → List ℕ → Type 0
 AreWholeLines None text = text ≡ []
-AreWholeLines (Some r) text = IsBegun text r (record { rest = []; count = r.count })
+AreWholeLines (Some r) text = IsBegun text r (record { version = r.head.version; rest = []; count = r.count })
 
 -- these bytes were taken
 abbrev pub HasTakenBytes : LogAudit → List ℕ → Type 0
@@ -47,4 +48,4 @@ HasTakenBytes audit text = (audit.taken ≡ length text) × AreWholeLines audit.
 -- no more of a log can be taken: this begins with no head, or with no record within the limits
 abbrev pub HasNoMore : Option ReplaySoFar → List ℕ → Type 0
 HasNoMore None rest = BeginsWithNoHead rest
-HasNoMore (Some r) rest = (end : Result ⊤ LogFault) × IsEndOrFault (record { rest = rest; count = r.count }) end
+HasNoMore (Some r) rest = (end : Result ⊤ LogFault) × IsEndOrFault (record { version = r.head.version; rest = rest; count = r.count }) end

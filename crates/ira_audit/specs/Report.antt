@@ -3,9 +3,9 @@ use Rattle.std.specs.Prelude.{◌≢◌, ℕ, List, [], ◌++◌, codes, decimal
 use Rattle.ira_event.specs.declared.log_fault.LogFault.{LogFault}
 use Rattle.ira_event.specs.declared.log_fault.LogFault.TheVariants.{TooLong, Head, Line, Range, TooMany, Cut, Count, Trailing, OutOfMemory}
 use Rattle.ira_node.specs.declared.step_fault.StepFault.{StepFault}
-use Rattle.ira_node.specs.declared.step_fault.StepFault.TheVariants.{Owes, NotOwed, NotChoosing, DrawRange, MustDraw, Ended, HopPast, RoundLimit, HopLimit}
+use Rattle.ira_node.specs.declared.step_fault.StepFault.TheVariants.{Owes, NotOwed, NotChoosing, DrawRange, MustDraw, Ended, HopPast, RoundLimit, HopLimit, NotLeader, WrongReset, NotReset, TermLimit}
 use Rattle.ira_event.specs.declared.head_fault.HeadFault.{HeadFault}
-use Rattle.ira_event.specs.declared.head_fault.HeadFault.TheVariants.{Number, Size, Place}
+use Rattle.ira_event.specs.declared.head_fault.HeadFault.TheVariants.{Number, Size, Place, Version}
 use Rattle.ira_order.specs.declared.match_fault.MatchFault.{MatchFault}
 use Rattle.ira_order.specs.declared.match_fault.MatchFault.TheVariants.{NoSending, Differs}
 use Rattle.ira_pred.specs.declared.ask_fault.AskFault.{AskFault}
@@ -42,6 +42,7 @@ abbrev pub head_fault_words : HeadFault → List ℕ
 head_fault_words Number = codes "number"
 head_fault_words (Size i) = numbered (codes "size ") i
 head_fault_words (Place i) = numbered (codes "place ") i
+head_fault_words (Version i) = numbered (codes "version ") i
 
 -- the receipt k of link i, in words
 abbrev pub receipt_words : ℕ → ℕ → List ℕ
@@ -63,6 +64,10 @@ step_fault_words Ended = codes "ended"
 step_fault_words HopPast = codes "hop past"
 step_fault_words RoundLimit = codes "round limit"
 step_fault_words HopLimit = codes "hop limit"
+step_fault_words NotLeader = codes "not leader"
+step_fault_words WrongReset = codes "wrong reset"
+step_fault_words NotReset = codes "not a reset"
+step_fault_words TermLimit = codes "term limit"
 
 -- what is wrong with a question's text, in words
 abbrev pub ask_fault_words : AskFault → List ℕ

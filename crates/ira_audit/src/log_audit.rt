@@ -106,6 +106,7 @@ impl LogAudit {
     /// too long or has no head.
     fn open<'a>(&self, rest: &'a [u8]) -> Result<(ReplaySoFar, Records<'a>), LogFault>
         ensures count { IfOk result (λ p. p.1.count ≡ p.0.count) }
+        ensures version { IfOk result (λ p. p.1.version ≡ p.0.head.version) }
         ensures short { IfOk result (λ _. self.now.taken + length rest.now ≤ MAX_TEXT) }
         ensures suffix { IfOk result (λ p. IsSuffix p.1.rest rest.now) }
         ensures begun { (text : List ℕ) → HasTakenBytes self.now text → MatchResult result

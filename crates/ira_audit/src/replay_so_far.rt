@@ -43,9 +43,9 @@ impl ReplaySoFar {
     pub(crate) fn with(self, text: &[u8]) -> (ReplaySoFar, Records<'_>)
         requires { self.count ≤ MAX_RECORDS }
         ensures same { result.0 ≡ self }
-        ensures records { result.1 ≡ record { rest = text.now; count = self.count } }
+        ensures records { result.1 ≡ record { version = self.head.version; rest = text.now; count = self.count } }
     {
-        let records = Records::new(text, self.count);
+        let records = Records::new(self.head.version, text, self.count);
         (self, records)
     }
 
@@ -56,8 +56,10 @@ impl ReplaySoFar {
         self,
         records: Records<'_>,
     ) -> (ReplaySoFar, Records<'_>, Result<(), LogFault>)
-        requires { records.count ≡ self.count }
+        requires count { records.count ≡ self.count }
+        requires version { records.version ≡ self.head.version }
         ensures count { result.1.count ≡ result.0.count }
+        ensures version { result.1.version ≡ result.0.head.version }
         ensures few { result.0.count ≤ MAX_RECORDS }
         ensures begun { (text : List ℕ) → IsBegun text self records.entry → IsBegun text result.0 result.1 }
         ensures suffix { IsSuffix result.1.rest records.entry.rest }

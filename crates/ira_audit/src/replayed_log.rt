@@ -60,7 +60,7 @@ fn read_and_replay<A: Allocator>(
     records: Records<'_>,
 ) -> Result<(PackedEvents<A>, Option<ReplayFault>), LogFault>
     requires { records.count ≡ 0 }
-    ensures read { RecordsRead (λ found. found.0) result records.entry.rest }
+    ensures read { RecordsRead records.entry.version (λ found. found.0) result records.entry.rest }
     ensures replay { IfOk result (λ found. ReplayGives nodes initiator found.0 found.1) }
 {
     let mut records = records;

@@ -77,6 +77,7 @@ fn write_head_fault<W: Sink>(fault: HeadFault, sink: &mut W) -> Result<(), Write
         HeadFault::Number => write_bytes(b"number", sink),
         HeadFault::Size(i) => write_numbered(b"size ", u64::from(i), sink),
         HeadFault::Place(i) => write_numbered(b"place ", u64::from(i), sink),
+        HeadFault::Version(i) => write_numbered(b"version ", u64::from(i), sink),
     }
 }
 
@@ -118,6 +119,10 @@ fn step_fault_text(fault: StepFault) -> &'static [u8]
         StepFault::HopPast => b"hop past",
         StepFault::RoundLimit => b"round limit",
         StepFault::HopLimit => b"hop limit",
+        StepFault::NotLeader => b"not leader",
+        StepFault::WrongReset => b"wrong reset",
+        StepFault::NotReset => b"not a reset",
+        StepFault::TermLimit => b"term limit",
     }
 }
 

@@ -5,46 +5,48 @@ use Rattle.std.specs.List.{flat_map, enumerate_from}
 use Rattle.std.proofs.lemmas.Grind.{flat_map-append}
 use Rattle.std.proofs.lemmas.List.{length-map, drop_more, drop_all, take_more, append-nil, length-take-le}
 use Rattle.ira_event.specs.declared.limits.TheConstants.{MAX_RECORDS}
-use Rattle.ira_event.specs.declared.msg.Msg.{Msg}
+use Rattle.ira_event.specs.declared.load.Load.{Load}
 use Rattle.ira_event.specs.declared.event.Event.{Event}
 use Rattle.ira_event.specs.Log.{Log}
-use Rattle.ira_node.specs.declared.phase.Phase.{Phase}
 use Rattle.ira_node.specs.declared.node_state.NodeState.{NodeState}
 use Rattle.ira_node.specs.NodeState.{first_state}
 use Rattle.ira_node.specs.StepAnswer.{answer}
 use Rattle.ira_pred.specs.ClauseAnswer.{holds_test, is_owing}
-use Rattle.ira_pred.specs.Formula.{Formula, always, leader, active, passive, choosing, owes, round, id, both, either, negated}
+use Rattle.ira_pred.specs.Formula.{Formula, always, leader, active, passive, choosing, yielding, owes, round, id, term, both, either, negated}
 use Rattle.ira_replay.specs.StatesOfLog.{ArePlacedStates}
 use Rattle.ira_replay.specs.StatesLeft.{states_left, advanced}
 use Rattle.ira_replay.proofs.Along.{are_placed_states}
 use Rattle.ira_cand.specs.Holding.{positions_passing}
 use Rattle.ira_cand.specs.Candidates.{AreCandidates}
 use Rattle.ira_cand.specs.declared.phase_run.PhaseRun.{PhaseRun}
-use Rattle.ira_cand.specs.Profile.{IsProfile, run_marks, mark, marks_of, marks_passing, picked, sample, some_message}
+use Rattle.ira_cand.specs.declared.stage.Stage.{Stage}
+use Rattle.ira_cand.specs.Profile.{IsProfile, run_marks, stage, mark, marks_of, marks_passing, picked, sample, some_load}
 use Rattle.ira_cand.proofs.Passing.{are_candidates_as}
 
 -- ---- a formula sees no more of a state than its mark
 
-owing_seen : (o : Option Msg) → is_owing o ≡ is_owing (cond (is_some o) (Some some_message) None)
+owing_seen : (o : Option Load) → is_owing o ≡ is_owing (cond (is_some o) (Some some_load) None)
 owing_seen None = refl
 owing_seen (Some m) = refl
 
-pub seen : (f : Formula) (s : NodeState) → holds_test f s ≡ holds_test f (sample s.phase (is_some s.owed))
+pub seen : (f : Formula) (s : NodeState) → holds_test f s ≡ holds_test f (sample (stage s) (is_some s.owed))
 seen always s = refl
 seen leader s = refl
 seen active s = refl
 seen passive s = refl
 seen choosing s = refl
+seen yielding s = refl
 seen owes s = owing_seen s.owed
 seen (round rel n) s = refl
 seen (id rel n) s = refl
-seen (both a b) s = ap (λ x. x && holds_test b s) (seen a s) ∙ ap (λ y. holds_test a (sample s.phase (is_some s.owed)) && y) (seen b s)
-seen (either a b) s = ap (λ x. x || holds_test b s) (seen a s) ∙ ap (λ y. holds_test a (sample s.phase (is_some s.owed)) || y) (seen b s)
+seen (term rel n) s = refl
+seen (both a b) s = ap (λ x. x && holds_test b s) (seen a s) ∙ ap (λ y. holds_test a (sample (stage s) (is_some s.owed)) && y) (seen b s)
+seen (either a b) s = ap (λ x. x || holds_test b s) (seen a s) ∙ ap (λ y. holds_test a (sample (stage s) (is_some s.owed)) || y) (seen b s)
 seen (negated a) s = ap not (seen a s)
 
 -- the test of a formula on marks
-abbrev pub test_of : Formula → Phase → Bool → Bool
-test_of f phase o = holds_test f (sample phase o)
+abbrev pub test_of : Formula → Stage → Bool → Bool
+test_of f stage o = holds_test f (sample stage o)
 
 -- ---- positions of marks
 
@@ -53,7 +55,7 @@ taken_or_not : (b : Bool) (p : ℕ) (us vs ws : List ℕ) → us ≡ vs ++ ws �
 taken_or_not true p us vs ws e = ap (λ zs. p ∷ zs) e
 taken_or_not false p us vs ws e = e
 
-pub passing-append : (test : Phase → Bool → Bool) (p : ℕ) (xs ys : List (Phase × Bool)) → marks_passing test p (xs ++ ys) ≡ marks_passing test p xs ++ marks_passing test (p + length xs) ys
+pub passing-append : (test : Stage → Bool → Bool) (p : ℕ) (xs ys : List (Stage × Bool)) → marks_passing test p (xs ++ ys) ≡ marks_passing test p xs ++ marks_passing test (p + length xs) ys
 passing-append test p [] ys = ap (λ q. marks_passing test q ys) (omega arith)
 passing-append test p (x ∷ xs) ys =
     let on = passing-append test (p + 1) xs ys in
@@ -62,10 +64,10 @@ passing-append test p (x ∷ xs) ys =
     taken_or_not (test x.0 x.1) p _ _ _ moved
 
 -- the marks of one phase
-pub run_passing : (test : Phase → Bool → Bool) (phase : Phase) (p : ℕ) (os : List Bool) → marks_passing test p (map (λ o. (phase, o)) os) ≡ picked (test phase false) (test phase true) p os
-run_passing test phase p [] = refl
-run_passing test phase p (true ∷ os) = ap (λ zs. cond (test phase true) (p ∷ zs) zs) (run_passing test phase (p + 1) os)
-run_passing test phase p (false ∷ os) = ap (λ zs. cond (test phase false) (p ∷ zs) zs) (run_passing test phase (p + 1) os)
+pub run_passing : (test : Stage → Bool → Bool) (at : Stage) (p : ℕ) (os : List Bool) → marks_passing test p (map (λ o. (at, o)) os) ≡ picked (test at false) (test at true) p os
+run_passing test at p [] = refl
+run_passing test at p (true ∷ os) = ap (λ zs. cond (test at true) (p ∷ zs) zs) (run_passing test at (p + 1) os)
+run_passing test at p (false ∷ os) = ap (λ zs. cond (test at false) (p ∷ zs) zs) (run_passing test at (p + 1) os)
 
 -- one state more is picked, or not
 pub picked-more : (free owing : Bool) (p : ℕ) (os : List Bool) (o : Bool) → picked free owing p (os ++ o ∷ []) ≡ picked free owing p os ++ cond (cond o owing free) ((p + length os) ∷ []) []
@@ -103,7 +105,7 @@ marked : (f : Formula) (p : ℕ) (ts : List NodeState) → marks_passing (test_o
 marked f p [] = refl
 marked f p (t ∷ ts) =
     let on = marked f (p + 1) ts in
-    let here : test_of f t.phase (is_some t.owed) ≡ holds_test f t = sym (seen f t) in
+    let here : test_of f (stage t) (is_some t.owed) ≡ holds_test f t = sym (seen f t) in
     rw here (step (holds_test f t) _ (filter (λ x. holds_test f x.1) (enumerate_from (p + 1) ts)) on)
   where
     step : (b : Bool) (us : List ℕ) (xs : List (ℕ × NodeState)) → us ≡ map (λ x. x.0) xs → cond b (p ∷ us) us ≡ map (λ x. x.0) (cond b ((p, t) ∷ xs) xs)
@@ -162,25 +164,25 @@ module _ {A : Type 0} (log : Log) (f : Formula) (runs : List (PhaseRun A)) where
     next_length : (r : PhaseRun A) → k < length runs → r ≡ get_or runs k r → length (flat_map run_marks (drop k runs)) ≡ length r.owes.items + length (flat_map run_marks (drop (k + 1) runs))
     next_length r lt is =
         ap length (next_run r lt is) ∙ length-append (run_marks r) (flat_map run_marks (drop (k + 1) runs))
-        ∙ ap (λ n. n + length (flat_map run_marks (drop (k + 1) runs))) (length-map r.owes.items (λ o. (r.phase, o)))
+        ∙ ap (λ n. n + length (flat_map run_marks (drop (k + 1) runs))) (length-map r.owes.items (λ o. (r.stage, o)))
 
     pub table_room : (r : PhaseRun A) → k < length runs → r ≡ get_or runs k r → p + length r.owes.items ≤ MAX_RECORDS + 1
     table_room r lt is = let room = at.room in let long = next_length r lt is in omega (arith, room, long)
 
     pub table_more : (r : PhaseRun A) (more : List ℕ) → k < length runs → r ≡ get_or runs k r
-        → more ≡ found ++ picked (test_of f r.phase false) (test_of f r.phase true) p r.owes.items → TableAt log f runs (k + 1) (p + length r.owes.items) more
+        → more ≡ found ++ picked (test_of f r.stage false) (test_of f r.stage true) p r.owes.items → TableAt log f runs (k + 1) (p + length r.owes.items) more
     table_more r more lt is e =
         let rest = flat_map run_marks (drop (k + 1) runs) in
         let test = test_of f in
         let parts : marks_passing test p (flat_map run_marks (drop k runs)) ≡ marks_passing test p (run_marks r) ++ marks_passing test (p + length (run_marks r)) rest =
         ap (marks_passing test p) (next_run r lt is) ∙ passing-append test p (run_marks r) rest in
-        let long : length (run_marks r) ≡ length r.owes.items = length-map r.owes.items (λ o. (r.phase, o)) in
-        let here : marks_passing test p (run_marks r) ≡ picked (test r.phase false) (test r.phase true) p r.owes.items = run_passing test r.phase p r.owes.items in
-        let both : marks_passing test p (flat_map run_marks (drop k runs)) ≡ picked (test r.phase false) (test r.phase true) p r.owes.items ++ marks_passing test (p + length r.owes.items) rest =
+        let long : length (run_marks r) ≡ length r.owes.items = length-map r.owes.items (λ o. (r.stage, o)) in
+        let here : marks_passing test p (run_marks r) ≡ picked (test r.stage false) (test r.stage true) p r.owes.items = run_passing test r.stage p r.owes.items in
+        let both : marks_passing test p (flat_map run_marks (drop k runs)) ≡ picked (test r.stage false) (test r.stage true) p r.owes.items ++ marks_passing test (p + length r.owes.items) rest =
         parts ∙ ap (λ us. us ++ marks_passing test (p + length (run_marks r)) rest) here
-        ∙ ap (λ n. picked (test r.phase false) (test r.phase true) p r.owes.items ++ marks_passing test (p + n) rest) long in
+        ∙ ap (λ n. picked (test r.stage false) (test r.stage true) p r.owes.items ++ marks_passing test (p + n) rest) long in
         record {
-          passing = at.passing ∙ ap (λ us. found ++ us) both ∙ sym (append_assoc found (picked (test r.phase false) (test r.phase true) p r.owes.items) (marks_passing test (p + length r.owes.items) rest))
+          passing = at.passing ∙ ap (λ us. found ++ us) both ∙ sym (append_assoc found (picked (test r.stage false) (test r.stage true) p r.owes.items) (marks_passing test (p + length r.owes.items) rest))
               ∙ ap (λ us. us ++ marks_passing test (p + length r.owes.items) rest) (sym e);
           room = let room = at.room in let far = next_length r lt is in omega (arith, room, far);
         }

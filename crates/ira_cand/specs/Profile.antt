@@ -3,25 +3,30 @@
 use Rattle.std.specs.Prelude.{◌≡◌, ℕ, ◌+◌, ◌≤◌, Bool, false, cond, List, [], ◌∷◌, Some, None, length, map, is_some}
 use Rattle.std.specs.List.{flat_map}
 use Rattle.ira_event.specs.declared.limits.TheConstants.{MAX_RECORDS}
-use Rattle.ira_event.specs.declared.msg.Msg.{Msg}
+use Rattle.ira_event.specs.declared.load.Load.{Load}
+use Rattle.ira_event.specs.declared.load.Load.TheVariants.{Msg as Message}
 use Rattle.ira_event.specs.Log.{Log}
-use Rattle.ira_node.specs.declared.phase.Phase.{Phase}
 use Rattle.ira_node.specs.declared.node_state.NodeState.{NodeState}
 use Rattle.ira_node.specs.NodeState.{first_state}
 use Rattle.ira_replay.specs.StatesLeft.{states_left}
 use Rattle.ira_cand.specs.declared.phase_run.PhaseRun.{PhaseRun}
+use Rattle.ira_cand.specs.declared.stage.Stage.{Stage}
 
--- what a clause sees of a state: its phase, and whether a message is owed
-abbrev pub mark : NodeState → Phase × Bool
-mark s = (s.phase, is_some s.owed)
+-- the term and the phase of a state
+abbrev pub stage : NodeState → Stage
+stage s = record { term = s.term; phase = s.phase }
+
+-- what a clause sees of a state: its term, its phase, and whether something is owed
+abbrev pub mark : NodeState → Stage × Bool
+mark s = (stage s, is_some s.owed)
 
 -- the marks of the states of a log, in their order
-abbrev pub marks_of : Log → List (Phase × Bool)
+abbrev pub marks_of : Log → List (Stage × Bool)
 marks_of log = map (λ x. mark x.1) (states_left log.nodes (Some (0, first_state log.initiator)) log.events)
 
--- the marks of a run: one phase for all of its states
-abbrev pub run_marks : {A : Type 0} → PhaseRun A → List (Phase × Bool)
-run_marks r = map (λ o. (r.phase, o)) r.owes.items
+-- the marks of a run: one term and one phase for all of its states
+abbrev pub run_marks : {A : Type 0} → PhaseRun A → List (Stage × Bool)
+run_marks r = map (λ o. (r.stage, o)) r.owes.items
 
 -- the runs have the marks of the log's states, of which there are no more than its events and one
 pub record IsProfile {A : Type 0} (log : Log) (runs : List (PhaseRun A)) : Type 0 where
@@ -29,19 +34,19 @@ pub record IsProfile {A : Type 0} (log : Log) (runs : List (PhaseRun A)) : Type 
   pub count : length (marks_of log) ≤ MAX_RECORDS + 1
 
 -- the positions, the first mark's being p, of the marks that pass the test
-abbrev pub marks_passing : (Phase → Bool → Bool) → ℕ → List (Phase × Bool) → List ℕ
+abbrev pub marks_passing : (Stage → Bool → Bool) → ℕ → List (Stage × Bool) → List ℕ
 marks_passing test p [] = []
 marks_passing test p (m ∷ ms) = cond (test m.0 m.1) (p ∷ marks_passing test (p + 1) ms) (marks_passing test (p + 1) ms)
 
--- the same of one phase's marks: where a message is owed the test gives `owing`, elsewhere `free`
+-- the same of one phase's marks: where something is owed the test gives `owing`, elsewhere `free`
 abbrev pub picked : Bool → Bool → ℕ → List Bool → List ℕ
 picked free owing p [] = []
 picked free owing p (o ∷ os) = cond (cond o owing free) (p ∷ picked free owing (p + 1) os) (picked free owing (p + 1) os)
 
--- some message, which stands for any
-abbrev pub some_message : Msg
-some_message = record { round = 1; id = 1; hop = 1; dirty = false }
+-- some load, which stands for any
+abbrev pub some_load : Load
+some_load = Message (record { round = 1; id = 1; hop = 1; dirty = false })
 
 -- a state with this mark
-abbrev pub sample : Phase → Bool → NodeState
-sample phase owes = record { phase = phase; owed = cond owes (Some some_message) None }
+abbrev pub sample : Stage → Bool → NodeState
+sample stage owes = record { phase = stage.phase; owed = cond owes (Some some_load) None; term = stage.term }

@@ -8,6 +8,7 @@ mod laws;
 mod local_test;
 mod phase_run;
 mod profile;
+mod stage;
 
 pub use ahead::Ahead;
 pub use find_candidates::{candidates, table};

@@ -1,10 +1,10 @@
-use ira_node::Phase;
+use crate::stage::Stage;
 use std::alloc::Allocator;
 
-/// States of a log that follow one another in one phase.
+/// States of a log that follow one another in one phase of one term.
 #[derive(Drop)]
 pub(crate) struct PhaseRun<A: Allocator> {
-    pub phase: Phase,
-    /// Whether a message is owed, state by state.
+    pub stage: Stage,
+    /// Whether something is owed, state by state.
     pub owes: Vec<bool, A>,
 }

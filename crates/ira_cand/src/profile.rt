@@ -7,16 +7,17 @@ ghost use Rattle.ira_cand.specs.Candidates.{AreCandidates};
 ghost use Rattle.ira_cand.specs.Profile.{mark, picked, run_marks, sample};
 
 use crate::phase_run::PhaseRun;
-use ira_event::{Msg, NodeLog, OutOfMemory};
-use ira_node::{NodeState, Phase};
+use crate::stage::Stage;
+use ira_event::{Load, Msg, NodeLog, OutOfMemory};
+use ira_node::NodeState;
 use ira_pred::Clause;
 use ira_replay::States;
 use std::alloc::Allocator;
 use std::marker::Model;
 use std::mem;
 
-/// The states of a log, told in short: a clause sees no more of a state than its phase and whether a
-/// message is owed, and phases change seldom. So the candidates for a clause are found by trying it twice
+/// The states of a log, told in short: a clause sees no more of a state than its term, its phase and
+/// whether something is owed, and phases change seldom, terms with them alone. So the candidates for a clause are found by trying it twice
 /// for each phase, and no state is computed again. It takes a byte for each event, and a few words for
 /// each change of phase.
 #[derive(Drop)]
@@ -44,7 +45,7 @@ impl<'a, A: Allocator + Clone> Profile<'a, A> {
         let mut states = States::new(log.nodes(), log.initiator(), log.events());
         let mut runs = Vec::new(alloc.clone()?);
         let mut run = PhaseRun {
-            phase: NodeState::first(log.initiator()).phase,
+            stage: Stage::of(&NodeState::first(log.initiator())),
             owes: Vec::new(alloc.clone()?),
         };
         while let Some((_, state)) = states.next() {
@@ -61,7 +62,7 @@ impl<'a, A: Allocator + Clone> Profile<'a, A> {
         let mut found = Vec::new(alloc);
         let mut position = 0;
         for run in &self.runs {
-            let (free, owing) = answers(clause, run.phase);
+            let (free, owing) = answers(clause, run.stage);
             pick(&mut found, position, &run.owes, free, owing)?;
             position += run.owes.len();
         }
@@ -80,9 +81,10 @@ fn add_state<A: Allocator + Clone>(
         (flat_map run_marks runs.new.items ++ run_marks run.new
         ≡ flat_map run_marks runs.old.items ++ run_marks run.old ++ mark state.now ∷ []) }
 {
-    if state.phase != run.phase {
+    let stage = Stage::of(state);
+    if stage != run.stage {
         let next = PhaseRun {
-            phase: state.phase,
+            stage,
             owes: Vec::new(alloc.clone()?),
         };
         runs.push(mem::replace(run, next))?;
@@ -91,10 +93,10 @@ fn add_state<A: Allocator + Clone>(
     Ok(())
 }
 
-/// What the clause answers in this phase: where no message is owed, and where one is.
-fn answers<A: Allocator>(clause: &Clause<A>, phase: Phase) -> (bool, bool)
-    ensures free { result.0 ≡ holds_test (formula clause.now) (sample phase false) }
-    ensures owing { result.1 ≡ holds_test (formula clause.now) (sample phase true) }
+/// What the clause answers in this phase of this term: where nothing is owed, and where something is.
+fn answers<A: Allocator>(clause: &Clause<A>, stage: Stage) -> (bool, bool)
+    ensures free { result.0 ≡ holds_test (formula clause.now) (sample stage false) }
+    ensures owing { result.1 ≡ holds_test (formula clause.now) (sample stage true) }
 {
     let message = Msg {
         round: 1,
@@ -102,10 +104,16 @@ fn answers<A: Allocator>(clause: &Clause<A>, phase: Phase) -> (bool, bool)
         hop: 1,
         dirty: false,
     };
-    let free = NodeState { phase, owed: None };
+    let Stage { term, phase } = stage;
+    let free = NodeState {
+        phase,
+        owed: None,
+        term,
+    };
     let owing = NodeState {
         phase,
-        owed: Some(message),
+        owed: Some(Load::Msg(message)),
+        term,
     };
     (clause.holds(&free), clause.holds(&owing))
 }
@@ -132,7 +140,7 @@ fn pick<A: Allocator>(
     Ok(())
 }
 
-/// Whether a state of a run passes, by whether a message is owed.
+/// Whether a state of a run passes, by whether something is owed.
 fn passes(owes: bool, free: bool, owing: bool) -> bool
     ensures { result ≡ cond owes owing free }
 {

@@ -1,7 +1,7 @@
 -- Where a node receives nothing it learns nothing of the others.
 use Rattle.std.proofs.Common.{◌≡◌, ℕ, zero, suc, ◌+◌, ◌-◌, ◌<◌, ◌≤◌, List, Some, length, slice_get, slice_index, add-zero, ap, subst, arith}
 use Rattle.ira_event.specs.declared.event.Event.TheVariants.{Got}
-use Rattle.ira_event.specs.declared.msg.Msg.{Msg}
+use Rattle.ira_event.specs.declared.load.Load.{Load}
 use Rattle.ira_event.specs.Log.{Log}
 use Rattle.ira_order.specs.Order.{IsOrder}
 use Rattle.ira_order.specs.Ring.{log_of, events_of}
@@ -10,7 +10,7 @@ use Rattle.ira_order.proofs.Counting.{count_stays}
 use Rattle.ira_elim.specs.Stand.{AreNoReceipts}
 
 module _ (logs : List Log) (order : List ℕ) (o : IsOrder logs order) (j b : ℕ) (counts : List ℕ) (lj : j < length logs) (are : AreCountsOfOthers logs j b counts) where
-  counts_stay : (d : ℕ) → b + d ≤ length (log_of logs j) → ((k : ℕ) (m : Msg) → b ≤ k → k < b + d → slice_get (log_of logs j) k ≡ Some (Got m) → ⊥) → AreCountsOfOthers logs j (b + d) counts
+  counts_stay : (d : ℕ) → b + d ≤ length (log_of logs j) → ((k : ℕ) (m : Load) → b ≤ k → k < b + d → slice_get (log_of logs j) k ≡ Some (Got m) → ⊥) → AreCountsOfOthers logs j (b + d) counts
   counts_stay zero l quiet = rw (add-zero b) are
   counts_stay (suc d) l quiet =
       let e : b + suc d ≡ suc (b + d) = omega arith in

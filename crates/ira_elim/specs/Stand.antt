@@ -1,7 +1,7 @@
 -- Helpers, no definitions: where the nodes stand while states are eliminated, and what they know there.
 use Rattle.std.specs.Prelude.{◌≡◌, ◌≢◌, ℕ, ◌<◌, ◌≤◌, List, Option, Some, Contains, length, slice_get, slice_index}
 use Rattle.ira_event.specs.declared.event.Event.TheVariants.{Got}
-use Rattle.ira_event.specs.declared.msg.Msg.{Msg}
+use Rattle.ira_event.specs.declared.load.Load.{Load}
 use Rattle.ira_event.specs.Log.{Log}
 use Rattle.ira_order.specs.Circle.{HasOrder}
 use Rattle.ira_order.specs.VectorClock.{AreCountsOfOthers}
@@ -19,7 +19,7 @@ pub record IsStand (logs : List Log) (j q : ℕ) (s : Stand) : Type 0 where
 
 -- none of the events behind the first `from`, up to the first `to`, is a receipt
 abbrev pub AreNoReceipts : Log → ℕ → ℕ → Type 0
-AreNoReceipts log from to = (k : ℕ) (m : Msg) → from ≤ k → k < to → slice_get log.events k ≢ Some (Got m)
+AreNoReceipts log from to = (k : ℕ) (m : Load) → from ≤ k → k < to → slice_get log.events k ≢ Some (Got m)
 
 -- node j counts more events of node i than lie before i's position
 abbrev pub KnowsNext : List Stand → ℕ → ℕ → Type 0

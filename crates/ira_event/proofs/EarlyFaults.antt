@@ -1,7 +1,8 @@
 -- A text that begins with a head has no fault that is found before its records are read.
-use Rattle.std.proofs.Common.{◌≡◌, ◌≤◌, ◌↔◌, ℕ, Bool, List, ◌⊎◌, Result, Ok, Err, length, sym, ap, subst, arith, inl, inr}
+use Rattle.std.proofs.Common.{◌≡◌, ◌≤◌, ◌↔◌, ℕ, List, ◌⊎◌, Result, Ok, Err, length, sym, ap, subst, arith, inl, inr}
 use Rattle.ira_event.specs.declared.log_fault.LogFault.{LogFault}
 use Rattle.ira_event.specs.declared.log_fault.LogFault.TheVariants as fault
+use Rattle.ira_event.specs.declared.log_head.LogHead.{LogHead}
 use Rattle.ira_event.specs.Limits.{MAX_TEXT}
 use Rattle.ira_event.specs.Log.{Log}
 use Rattle.ira_event.specs.LogLaws.{NoTextIsOutOfMemory}
@@ -16,21 +17,21 @@ IsLate fault.Head = ⊥
 IsLate fault.OutOfMemory = ⊥
 IsLate f = Unit {0}
 
-line_fault_late : (k : ℕ) (line more : List ℕ) (f : LogFault) → LineFault k line more f → IsLate f
-line_fault_late k line more f (too_many a b e) = subst IsLate (sym e) tt
-line_fault_late k line more f (no_line a b c e) = subst IsLate (sym e) tt
-line_fault_late k line more f (out_of_range x a b c e) = subst IsLate (sym e) tt
-line_fault_late k line more f (other_count n a b e) = subst IsLate (sym e) tt
-line_fault_late k line more f (trailing a b e) = subst IsLate (sym e) tt
+line_fault_late : (v k : ℕ) (line more : List ℕ) (f : LogFault) → LineFault v k line more f → IsLate f
+line_fault_late v k line more f (too_many a b e) = subst IsLate (sym e) tt
+line_fault_late v k line more f (no_line a b c e) = subst IsLate (sym e) tt
+line_fault_late v k line more f (out_of_range x a w b c e) = subst IsLate (sym e) tt
+line_fault_late v k line more f (other_count n a b e) = subst IsLate (sym e) tt
+line_fault_late v k line more f (trailing a b e) = subst IsLate (sym e) tt
 
-records_fault_late : (text : List ℕ) (f : LogFault) → RecordsFault text f → IsLate f
-records_fault_late text f h = next_fault_is fault.Cut (LineFault (length h.events)) IsLate tt (line_fault_late (length h.events)) h.rest f h.fault
+records_fault_late : (v : ℕ) (text : List ℕ) (f : LogFault) → RecordsFault v text f → IsLate f
+records_fault_late v text f h = next_fault_is fault.Cut (LineFault v (length h.events)) IsLate tt (line_fault_late v (length h.events)) h.rest f h.fault
 
 -- ---- no text is out of memory
 
 lines_memory : (text : List ℕ) → LinesFault text fault.OutOfMemory → ⊥
 lines_memory text (no_head a e) = absurd cc
-lines_memory text (behind_head n p i rest b h) = records_fault_late rest fault.OutOfMemory h
+lines_memory text (behind_head head rest b h) = records_fault_late head.version rest fault.OutOfMemory h
 
 pub not_out_of_memory : NoTextIsOutOfMemory
 not_out_of_memory text (inl a) = absurd cc
@@ -39,11 +40,11 @@ not_out_of_memory text (inr a) = lines_memory text a.1
 -- ---- a text with a head
 
 abbrev pub HasHead : List ℕ → Type 0
-HasHead text = (length text ≤ MAX_TEXT) × (nodes : ℕ) × (place : ℕ) × (initiator : Bool) × (rest : List ℕ) × BeginsWithHead text nodes place initiator rest
+HasHead text = (length text ≤ MAX_TEXT) × (head : LogHead) × (rest : List ℕ) × BeginsWithHead text head rest
 
 lines_late : (text : List ℕ) (f : LogFault) → HasHead text → LinesFault text f → IsLate f
-lines_late text f has (no_head none e) = absurd (none has.1 has.2 has.3 has.4 has.5)
-lines_late text f has (behind_head n p i rest b h) = records_fault_late rest f h
+lines_late text f has (no_head none e) = absurd (none has.1 has.2 has.3)
+lines_late text f has (behind_head head rest b h) = records_fault_late head.version rest f h
 
 fault_late : (text : List ℕ) (f : LogFault) → HasHead text → LogTextFault text f → IsLate f
 fault_late text f has (inl long) = absurd (omega (arith, long.0, has.0))

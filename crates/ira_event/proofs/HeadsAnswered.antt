@@ -3,9 +3,9 @@ use Rattle.std.proofs.Common.{◌≡◌, ◌≢◌, ℕ, zero, suc, ◌<◌, ◌
 use Rattle.std.specs.Prelude.{slice_get}
 use Rattle.std.proofs.lemmas.Bool.{cases_eq}
 use Rattle.ira_event.specs.declared.head_fault.HeadFault.{HeadFault}
-use Rattle.ira_event.specs.declared.head_fault.HeadFault.TheVariants.{Number, Size, Place}
+use Rattle.ira_event.specs.declared.head_fault.HeadFault.TheVariants.{Number, Size, Place, Version}
 use Rattle.ira_event.specs.Log.{Log, IsLog}
-use Rattle.ira_event.specs.Logs.{EachLog, AreLogs, HasNumber, IsFirstOther, HeadFaultOf, wrong_number, wrong_size, wrong_place}
+use Rattle.ira_event.specs.Logs.{EachLog, AreLogs, HasNumber, HasVersion, IsFirstOther, HeadFaultOf, wrong_number, wrong_size, wrong_place, wrong_version}
 use Rattle.ira_event.proofs.Gathering.{logs-built}
 use Rattle.ira_event.proofs.TextsAnswered.{Decided}
 
@@ -47,7 +47,12 @@ ring_or_fault (l ∷ logs) valid = elim (cases_eq (length (l ∷ logs)) l.nodes)
         | inr o ↦ inr (Size o.0, wrong_size l.nodes o.0 number o.1 refl)
         | inl sizes ↦ elim (each_or_first (l ∷ logs) (λ i log. log.place ≡ i) (λ i log. cases_eq log.place i)) [
           | inr o ↦ inr (Place o.0, wrong_place l.nodes o.0 number sizes o.1 refl)
-          | inl places ↦ inl (logs-built (l ∷ logs) l.nodes (valid 0 l refl).size number sizes places valid)
+          | inl places ↦
+              let version : HasVersion (l ∷ logs) l.version = record { first = l; is_first = refl; names = refl } in
+              elim (each_or_first (l ∷ logs) (λ i log. log.version ≡ l.version) (λ i log. cases_eq log.version l.version)) [
+                | inr o ↦ inr (Version o.0, wrong_version l.nodes l.version o.0 number sizes places version o.1 refl)
+                | inl versions ↦ inl (logs-built (l ∷ logs) l.nodes l.version (valid 0 l refl).size number sizes places valid versions)
+              ]
         ]
       ]
 ]

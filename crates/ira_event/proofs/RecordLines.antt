@@ -1,18 +1,22 @@
 -- A line that is read is spelled so and stands at the front, and a line of the grammar that stands there is read.
-use Rattle.std.proofs.Common.{◌≡◌, ℕ, Bool, true, false, cond, List, ◌∷◌, ◌++◌, length, take, drop, Option, Some, None, refl, sym, ap, subst, ◌∙◌, arith, inl, inr, nat_eq, append_assoc}
+use Rattle.std.proofs.Common.{◌≡◌, ℕ, Bool, true, false, cond, List, [], ◌∷◌, ◌++◌, length, take, drop, Option, Some, None, refl, sym, ap, subst, ◌∙◌, arith, inl, inr, nat_eq, nat_lt, ◌<◌, append_assoc}
+use Rattle.std.proofs.lemmas.Bool.Decides.{nat_tests}
 use Rattle.std.specs.Prelude.{codes}
 use Rattle.std.specs.Cmp.Lexicographic.{pointwise, bytes_decides}
 use Rattle.std.specs.Option.{option_map}
 use Rattle.std.proofs.lemmas.List.{take_at, drop_at, take-append-drop, append_cancel_left}
 use Rattle.ira_event.specs.Scan.{number_at, kept_at, kept, after_word, ◌>>=◌, or, behind}
-use Rattle.ira_event.specs.LogScan.{bit_at, message_at, number_line, line_at}
+use Rattle.ira_event.specs.LogScan.{bit_at, message_at, reset_at, load_at, number_line, yield_at, line_at}
 use Rattle.ira_event.specs.Numeral.{IsNumeral}
-use Rattle.ira_event.specs.LogText.{IsMessage, IsRecord, IsEnd, bit_word}
+use Rattle.ira_event.specs.LogText.{IsMessage, IsLoad, IsRecord, IsEnd, bit_word}
 use Rattle.ira_event.specs.LogTextFault.{BeginsAsRecord}
+use Rattle.ira_event.specs.Event.{is_of_version}
 use Rattle.ira_event.specs.NextLine.{HasNoLineFeed}
 use Rattle.ira_event.specs.declared.msg.Msg.{Msg}
+use Rattle.ira_event.specs.declared.load.Load.{Load}
+use Rattle.ira_event.specs.declared.load.Load.TheVariants.{Msg as Sends, Reset}
 use Rattle.ira_event.specs.declared.event.Event.{Event}
-use Rattle.ira_event.specs.declared.event.Event.TheVariants.{Draw, Sent, Got}
+use Rattle.ira_event.specs.declared.event.Event.TheVariants.{Draw, Sent, Got, Yield}
 use Rattle.ira_event.specs.declared.log_line.LogLine.{LogLine}
 use Rattle.ira_event.specs.declared.log_line.LogLine.TheVariants.{Record, End}
 use Rattle.ira_event.proofs.Pieces.{Lacks, Lacks-append, split_same, first_differs}
@@ -156,21 +160,32 @@ message_is_one_line text m h =
 word_is_one_line : (word text line : List ℕ) → Lacks 10 word → Lacks 10 text → line ≡ word ++ text → HasNoLineFeed line
 word_is_one_line word text line h k e = subst (λ t. HasNoLineFeed t) (sym e) (Lacks-append 10 word text h k)
 
+pub load_is_one_line : (text : List ℕ) (l : Load) → IsLoad text l → HasNoLineFeed text
+load_is_one_line text (Sends m) h = message_is_one_line text m h
+load_is_one_line text (Reset n) h = word_is_one_line (codes "reset ") h.0 text refl (Lacks-numeral 10 h.0 n (omega arith) h.2) h.1
+
 pub record_is_one_line : (line : List ℕ) (e : Event) → IsRecord line e → HasNoLineFeed line
 record_is_one_line line (Draw d) h = word_is_one_line (codes "draw ") h.0 line refl (Lacks-numeral 10 h.0 d (omega arith) h.2) h.1
-record_is_one_line line (Sent m) h = word_is_one_line (codes "send ") h.0 line refl (message_is_one_line h.0 m h.2) h.1
-record_is_one_line line (Got m) h = word_is_one_line (codes "recv ") h.0 line refl (message_is_one_line h.0 m h.2) h.1
+record_is_one_line line (Sent l) h = word_is_one_line (codes "send ") h.0 line refl (load_is_one_line h.0 l h.2) h.1
+record_is_one_line line (Got l) h = word_is_one_line (codes "recv ") h.0 line refl (load_is_one_line h.0 l h.2) h.1
+record_is_one_line line Yield h = subst (λ t. HasNoLineFeed t) (sym h) refl
 
 pub end_is_one_line : (line : List ℕ) (n : ℕ) → IsEnd line n → HasNoLineFeed line
 end_is_one_line line n h = word_is_one_line (codes "end ") h.0 line refl (Lacks-numeral 10 h.0 n (omega arith) h.2) h.1
 
 -- ---- lines from the front
 
+-- a load as it is kept
+abbrev pub kept_load : Load → Load
+kept_load (Sends m) = Sends (kept_message m)
+kept_load (Reset h) = Reset (kept h)
+
 -- what a line says, as it is kept
 abbrev pub kept_event : Event → Event
 kept_event (Draw d) = Draw (kept d)
-kept_event (Sent m) = Sent (kept_message m)
-kept_event (Got m) = Got (kept_message m)
+kept_event (Sent l) = Sent (kept_load l)
+kept_event (Got l) = Got (kept_load l)
+kept_event Yield = Yield
 
 abbrev pub Says : List ℕ → LogLine → Type 0
 Says text (Record e) = (e' : Event) × IsRecord text e' × (e ≡ kept_event e')
@@ -192,48 +207,111 @@ number_line-takes bs p e =
     let x = some_is _ _ b.2 in
     (k.text, k.n, k.parts ∙ ap (λ w. k.text ++ w) w ∙ ap (λ (q : ℕ × List ℕ). k.text ++ (codes "\n" ++ q.1)) x ∙ sym (append_assoc k.text (codes "\n") p.1), k.is, sym (ap (λ (q : ℕ × List ℕ). q.0) x) ∙ k.kept_is)
 
-behind_word : (word bs text rest : List ℕ) (after : List ℕ) → after_word word bs ≡ Some after → after ≡ text ++ codes "\n" ++ rest → bs ≡ (word ++ text) ++ codes "\n" ++ rest
-behind_word word bs text rest after e p = word-takes word bs after e ∙ ap (λ w. word ++ w) p ∙ simp append_assoc
-
-line-cases : (bs : List ℕ) (p : LogLine × List ℕ) (a b c d : Option (List ℕ)) → after_word (codes "draw ") bs ≡ a → after_word (codes "send ") bs ≡ b → after_word (codes "recv ") bs ≡ c → after_word (codes "end ") bs ≡ d
-    → behind a (λ r. option_map (λ p. (Record (Draw p.0), p.1)) (number_line r))
-    (behind b (λ r. option_map (λ p. (Record (Sent p.0), p.1)) (message_at r))
-    (behind c (λ r. option_map (λ p. (Record (Got p.0), p.1)) (message_at r))
-    (behind d (λ r. option_map (λ p. (End p.0, p.1)) (number_line r)) None))) ≡ Some p → FirstLine bs p
-line-cases bs p (Some r) b c d ea eb ec ed e =
-    let m = map_some (number_line r) (λ p. (Record (Draw p.0), p.1)) p e in
-    let t = number_line-takes r m.0 m.1 in
-    subst (FirstLine bs) m.2 (record { text = codes "draw " ++ t.0; parts = behind_word (codes "draw ") bs t.0 m.0.1 r ea t.2; whole = Lacks-append 10 (codes "draw ") t.0 refl (Lacks-numeral 10 t.0 t.1 (omega arith) t.3); says = (Draw t.1, (t.0, refl, t.3), ap Draw t.4) })
-line-cases bs p None (Some r) c d ea eb ec ed e =
-    let m = map_some (message_at r) (λ p. (Record (Sent p.0), p.1)) p e in
-    let t = message-takes r m.0 m.1 in
-    subst (FirstLine bs) m.2 (record { text = codes "send " ++ t.text; parts = behind_word (codes "send ") bs t.text m.0.1 r eb t.parts; whole = Lacks-append 10 (codes "send ") t.text refl (message_is_one_line t.text t.m t.is); says = (Sent t.m, (t.text, refl, t.is), ap Sent t.kept_is) })
-line-cases bs p None None (Some r) d ea eb ec ed e =
-    let m = map_some (message_at r) (λ p. (Record (Got p.0), p.1)) p e in
-    let t = message-takes r m.0 m.1 in
-    subst (FirstLine bs) m.2 (record { text = codes "recv " ++ t.text; parts = behind_word (codes "recv ") bs t.text m.0.1 r ec t.parts; whole = Lacks-append 10 (codes "recv ") t.text refl (message_is_one_line t.text t.m t.is); says = (Got t.m, (t.text, refl, t.is), ap Got t.kept_is) })
-line-cases bs p None None None (Some r) ea eb ec ed e =
-    let m = map_some (number_line r) (λ p. (End p.0, p.1)) p e in
-    let t = number_line-takes r m.0 m.1 in
-    subst (FirstLine bs) m.2 (record { text = codes "end " ++ t.0; parts = behind_word (codes "end ") bs t.0 m.0.1 r ed t.2; whole = Lacks-append 10 (codes "end ") t.0 refl (Lacks-numeral 10 t.0 t.1 (omega arith) t.3); says = (t.1, (t.0, refl, t.3), t.4) })
-line-cases bs p None None None None ea eb ec ed e = absurd cc
-
-pub line-takes : (bs : List ℕ) (p : LogLine × List ℕ) → line_at bs ≡ Some p → FirstLine bs p
-unfolding line_at
-line-takes bs p e = line-cases bs p _ _ _ _ refl refl refl refl e
-
 pub number_line-again : (text : List ℕ) (n : ℕ) (rest : List ℕ) → IsNumeral text n → number_line (text ++ codes "\n" ++ rest) ≡ Some (kept n, rest)
 number_line-again text n rest h =
     ap number_line (append_assoc text (codes "\n") rest) ∙ rw (kept-again text n (codes "\n" ++ rest) h refl) refl
+
+behind_word : (word bs text rest : List ℕ) (after : List ℕ) → after_word word bs ≡ Some after → after ≡ text ++ codes "\n" ++ rest → bs ≡ (word ++ text) ++ codes "\n" ++ rest
+behind_word word bs text rest after e p = word-takes word bs after e ∙ ap (λ w. word ++ w) p ∙ simp append_assoc
+
+-- ---- a load
+
+-- no message begins as a reset does
+no_message : (text : List ℕ) → message_at (codes "reset " ++ text) ≡ None
+unfolding message_at
+no_message text = refl
+
+pub load-again : (text : List ℕ) (l : Load) (rest : List ℕ) → IsLoad text l → load_at (text ++ codes "\n" ++ rest) ≡ Some (kept_load l, rest)
+load-again text (Sends m) rest h = rw (message-again text m rest h) refl
+load-again text (Reset n) rest h =
+    let regrouped : text ++ codes "\n" ++ rest ≡ codes "reset " ++ (h.0 ++ codes "\n" ++ rest) = ap (λ w. w ++ codes "\n" ++ rest) h.1 ∙ simp append_assoc in
+    let x = h.0 ++ codes "\n" ++ rest in
+    let reset : reset_at (codes "reset " ++ x) ≡ Some (kept n, rest) = ap (λ o. o >>= number_line) (word-again (codes "reset ") x) ∙ number_line-again h.0 n rest h.2 in
+    ap load_at regrouped
+    ∙ ap (λ o. or (option_map (λ p. (Sends p.0, p.1)) o) (option_map (λ p. (Reset p.0, p.1)) (reset_at (codes "reset " ++ x)))) (no_message x)
+    ∙ ap (λ o. option_map (λ p. (Reset p.0, p.1)) o) reset
+
+-- the load that was taken from the front, with its line's end
+pub record LoadTaken (bs : List ℕ) (p : Load × List ℕ) : Type 0 where
+  pub l : Load
+  pub text : List ℕ
+  pub parts : bs ≡ text ++ codes "\n" ++ p.1
+  pub is : IsLoad text l
+  pub kept_is : p.0 ≡ kept_load l
+
+message_taken : (bs : List ℕ) (p : Msg × List ℕ) → message_at bs ≡ Some p → LoadTaken bs (Sends p.0, p.1)
+message_taken bs p e = let t = message-takes bs p e in record { l = Sends t.m; text = t.text; parts = t.parts; is = t.is; kept_is = ap Sends t.kept_is }
+
+reset_taken : (bs : List ℕ) (p : ℕ × List ℕ) → reset_at bs ≡ Some p → LoadTaken bs (Reset p.0, p.1)
+reset_taken bs p e =
+    let a = bind_some (after_word (codes "reset ") bs) number_line p e in
+    let t = number_line-takes a.0 p a.2 in
+    record {
+      l = Reset t.1;
+      text = codes "reset " ++ t.0;
+      parts = behind_word (codes "reset ") bs t.0 p.1 a.0 a.1 t.2;
+      is = (t.0, refl, t.3);
+      kept_is = ap Reset t.4;
+    }
+
+load-cases : (bs : List ℕ) (p : Load × List ℕ) (a : Option (Msg × List ℕ)) (b : Option (ℕ × List ℕ)) → message_at bs ≡ a → reset_at bs ≡ b
+    → or (option_map (λ p. (Sends p.0, p.1)) a) (option_map (λ p. (Reset p.0, p.1)) b) ≡ Some p → LoadTaken bs p
+load-cases bs p (Some q) b ea eb e = subst (LoadTaken bs) (some_is _ _ e) (message_taken bs q ea)
+load-cases bs p None (Some q) ea eb e = subst (LoadTaken bs) (some_is _ _ e) (reset_taken bs q eb)
+load-cases bs p None None ea eb e = absurd cc
+
+pub load-takes : (bs : List ℕ) (p : Load × List ℕ) → load_at bs ≡ Some p → LoadTaken bs p
+load-takes bs p e = load-cases bs p (message_at bs) (reset_at bs) refl refl e
+
+-- a load spells one thing
+message_no_reset : (text : List ℕ) (m : Msg) (h : ℕ) → IsMessage text m → IsLoad text (Reset h) → ⊥
+message_no_reset text m h a b =
+    let read = message-again text m [] a in
+    let regrouped : text ++ codes "\n" ++ [] ≡ codes "reset " ++ (b.0 ++ codes "\n" ++ []) = ap (λ w. w ++ codes "\n" ++ []) b.1 ∙ simp append_assoc in
+    let none : message_at (text ++ codes "\n" ++ []) ≡ None = ap message_at regrouped ∙ no_message (b.0 ++ codes "\n" ++ []) in
+    absurd cc
+
+-- ---- a line
+
+line-cases : (bs : List ℕ) (p : LogLine × List ℕ) (a b c d y : Option (List ℕ)) → after_word (codes "draw ") bs ≡ a → after_word (codes "send ") bs ≡ b → after_word (codes "recv ") bs ≡ c → after_word (codes "end ") bs ≡ d → after_word (codes "yield\n") bs ≡ y
+    → behind a (λ r. option_map (λ p. (Record (Draw p.0), p.1)) (number_line r))
+    (behind b (λ r. option_map (λ p. (Record (Sent p.0), p.1)) (load_at r))
+    (behind c (λ r. option_map (λ p. (Record (Got p.0), p.1)) (load_at r))
+    (behind d (λ r. option_map (λ p. (End p.0, p.1)) (number_line r)) (option_map (λ r. (Record Yield, r)) y)))) ≡ Some p → FirstLine bs p
+line-cases bs p (Some r) b c d y ea eb ec ed ey e =
+    let m = map_some (number_line r) (λ p. (Record (Draw p.0), p.1)) p e in
+    let t = number_line-takes r m.0 m.1 in
+    subst (FirstLine bs) m.2 (record { text = codes "draw " ++ t.0; parts = behind_word (codes "draw ") bs t.0 m.0.1 r ea t.2; whole = Lacks-append 10 (codes "draw ") t.0 refl (Lacks-numeral 10 t.0 t.1 (omega arith) t.3); says = (Draw t.1, (t.0, refl, t.3), ap Draw t.4) })
+line-cases bs p None (Some r) c d y ea eb ec ed ey e =
+    let m = map_some (load_at r) (λ p. (Record (Sent p.0), p.1)) p e in
+    let t = load-takes r m.0 m.1 in
+    subst (FirstLine bs) m.2 (record { text = codes "send " ++ t.text; parts = behind_word (codes "send ") bs t.text m.0.1 r eb t.parts; whole = Lacks-append 10 (codes "send ") t.text refl (load_is_one_line t.text t.l t.is); says = (Sent t.l, (t.text, refl, t.is), ap Sent t.kept_is) })
+line-cases bs p None None (Some r) d y ea eb ec ed ey e =
+    let m = map_some (load_at r) (λ p. (Record (Got p.0), p.1)) p e in
+    let t = load-takes r m.0 m.1 in
+    subst (FirstLine bs) m.2 (record { text = codes "recv " ++ t.text; parts = behind_word (codes "recv ") bs t.text m.0.1 r ec t.parts; whole = Lacks-append 10 (codes "recv ") t.text refl (load_is_one_line t.text t.l t.is); says = (Got t.l, (t.text, refl, t.is), ap Got t.kept_is) })
+line-cases bs p None None None (Some r) y ea eb ec ed ey e =
+    let m = map_some (number_line r) (λ p. (End p.0, p.1)) p e in
+    let t = number_line-takes r m.0 m.1 in
+    subst (FirstLine bs) m.2 (record { text = codes "end " ++ t.0; parts = behind_word (codes "end ") bs t.0 m.0.1 r ed t.2; whole = Lacks-append 10 (codes "end ") t.0 refl (Lacks-numeral 10 t.0 t.1 (omega arith) t.3); says = (t.1, (t.0, refl, t.3), t.4) })
+line-cases bs p None None None None (Some r) ea eb ec ed ey e =
+    let here : FirstLine bs (Record Yield, r) = record { text = codes "yield"; parts = word-takes (codes "yield\n") bs r ey; whole = refl; says = (Yield, refl, refl) } in
+    subst (FirstLine bs) (some_is _ _ e) here
+line-cases bs p None None None None None ea eb ec ed ey e = absurd cc
+
+pub line-takes : (bs : List ℕ) (p : LogLine × List ℕ) → line_at bs ≡ Some p → FirstLine bs p
+unfolding line_at
+line-takes bs p e = line-cases bs p _ _ _ _ _ refl refl refl refl refl e
 
 pub record-again : (text : List ℕ) (e : Event) (rest : List ℕ) → IsRecord text e → line_at (text ++ codes "\n" ++ rest) ≡ Some (Record (kept_event e), rest)
 unfolding line_at
 record-again text (Draw d) rest h =
     ap line_at (ap (λ w. w ++ codes "\n" ++ rest) h.1) ∙ rw (number_line-again h.0 d rest h.2) refl
-record-again text (Sent m) rest h =
-    ap line_at (ap (λ w. w ++ codes "\n" ++ rest) h.1) ∙ rw (message-again h.0 m rest h.2) refl
-record-again text (Got m) rest h =
-    ap line_at (ap (λ w. w ++ codes "\n" ++ rest) h.1) ∙ rw (message-again h.0 m rest h.2) refl
+record-again text (Sent l) rest h =
+    ap line_at (ap (λ w. w ++ codes "\n" ++ rest) h.1) ∙ rw (load-again h.0 l rest h.2) refl
+record-again text (Got l) rest h =
+    ap line_at (ap (λ w. w ++ codes "\n" ++ rest) h.1) ∙ rw (load-again h.0 l rest h.2) refl
+record-again text Yield rest h = ap line_at (ap (λ w. w ++ codes "\n" ++ rest) h)
 
 pub end-again : (text : List ℕ) (n : ℕ) (rest : List ℕ) → IsEnd text n → line_at (text ++ codes "\n" ++ rest) ≡ Some (End (kept n), rest)
 unfolding line_at
@@ -272,10 +350,23 @@ message_same text m n h k =
     (numeral_same k.hop m.hop n.hop (subst (λ t. IsNumeral t m.hop) p.0 h.hop_is) k.hop_is)
     (bit_same m.dirty n.dirty p.1)
 
+pub load_same : (text : List ℕ) (a b : Load) → IsLoad text a → IsLoad text b → a ≡ b
+load_same text (Sends m) (Sends n) h k = ap Sends (message_same text m n h k)
+load_same text (Reset m) (Reset n) h k = let t : h.0 ≡ k.0 = append_cancel_left (codes "reset ") h.0 k.0 (sym h.1 ∙ k.1) in ap Reset (numeral_same k.0 m n (subst (λ t. IsNumeral t m) t h.2) k.2)
+load_same text (Sends m) (Reset n) h k = absurd (message_no_reset text m n h k)
+load_same text (Reset m) (Sends n) h k = absurd (message_no_reset text n m k h)
+
 pub record_same : (line : List ℕ) (e f : Event) → IsRecord line e → IsRecord line f → e ≡ f
 record_same line (Draw d) (Draw n) h k = let t : h.0 ≡ k.0 = append_cancel_left (codes "draw ") h.0 k.0 (sym h.1 ∙ k.1) in ap Draw (numeral_same k.0 d n (subst (λ t. IsNumeral t d) t h.2) k.2)
-record_same line (Sent m) (Sent n) h k = let t : h.0 ≡ k.0 = append_cancel_left (codes "send ") h.0 k.0 (sym h.1 ∙ k.1) in ap Sent (message_same k.0 m n (subst (λ t. IsMessage t m) t h.2) k.2)
-record_same line (Got m) (Got n) h k = let t : h.0 ≡ k.0 = append_cancel_left (codes "recv ") h.0 k.0 (sym h.1 ∙ k.1) in ap Got (message_same k.0 m n (subst (λ t. IsMessage t m) t h.2) k.2)
+record_same line (Sent l) (Sent k') h k = let t : h.0 ≡ k.0 = append_cancel_left (codes "send ") h.0 k.0 (sym h.1 ∙ k.1) in ap Sent (load_same k.0 l k' (subst (λ t. IsLoad t l) t h.2) k.2)
+record_same line (Got l) (Got k') h k = let t : h.0 ≡ k.0 = append_cancel_left (codes "recv ") h.0 k.0 (sym h.1 ∙ k.1) in ap Got (load_same k.0 l k' (subst (λ t. IsLoad t l) t h.2) k.2)
+record_same line Yield Yield h k = refl
+record_same line Yield (Draw n) h k = absurd (first_differs 121 100 _ _ refl (sym h ∙ k.1))
+record_same line Yield (Sent n) h k = absurd (first_differs 121 115 _ _ refl (sym h ∙ k.1))
+record_same line Yield (Got n) h k = absurd (first_differs 121 114 _ _ refl (sym h ∙ k.1))
+record_same line (Draw d) Yield h k = absurd (first_differs 100 121 _ _ refl (sym h.1 ∙ k))
+record_same line (Sent m) Yield h k = absurd (first_differs 115 121 _ _ refl (sym h.1 ∙ k))
+record_same line (Got m) Yield h k = absurd (first_differs 114 121 _ _ refl (sym h.1 ∙ k))
 record_same line (Draw d) (Sent n) h k = absurd (first_differs 100 115 _ _ refl (sym h.1 ∙ k.1))
 record_same line (Draw d) (Got n) h k = absurd (first_differs 100 114 _ _ refl (sym h.1 ∙ k.1))
 record_same line (Sent m) (Draw n) h k = absurd (first_differs 115 100 _ _ refl (sym h.1 ∙ k.1))
@@ -286,13 +377,25 @@ record_same line (Got m) (Sent n) h k = absurd (first_differs 114 115 _ _ refl (
 pub end_same : (line : List ℕ) (m n : ℕ) → IsEnd line m → IsEnd line n → m ≡ n
 end_same line m n h k = let t : h.0 ≡ k.0 = append_cancel_left (codes "end ") h.0 k.0 (sym h.1 ∙ k.1) in numeral_same k.0 m n (subst (λ t. IsNumeral t m) t h.2) k.2
 
-pub record_begins : (line : List ℕ) (e : Event) → IsRecord line e → BeginsAsRecord line
-record_begins line (Draw d) h = inl (h.0, h.1)
-record_begins line (Sent m) h = inr (inl (h.0, h.1))
-record_begins line (Got m) h = inr (inr (h.0, h.1))
+later : (v : ℕ) → nat_lt 1 v ≡ true → 1 < v
+later v h = grind (arith, nat_tests)
+
+pub record_begins : (v : ℕ) (line : List ℕ) (e : Event) → is_of_version v e ≡ true → IsRecord line e → BeginsAsRecord v line
+record_begins v line (Draw d) held h = inl (inl (h.0, h.1))
+record_begins v line (Sent l) held h = inl (inr (inl (h.0, h.1)))
+record_begins v line (Got l) held h = inl (inr (inr (h.0, h.1)))
+record_begins v line Yield held h = inr (later v held, h)
 
 -- an end line doesn't begin as a record does
-pub end_no_record : (line : List ℕ) (n : ℕ) → IsEnd line n → BeginsAsRecord line → ⊥
-end_no_record line n h (inl k) = first_differs 101 100 _ _ refl (sym h.1 ∙ k.1)
-end_no_record line n h (inr (inl k)) = first_differs 101 115 _ _ refl (sym h.1 ∙ k.1)
-end_no_record line n h (inr (inr k)) = first_differs 101 114 _ _ refl (sym h.1 ∙ k.1)
+pub end_no_record : (v : ℕ) (line : List ℕ) (n : ℕ) → IsEnd line n → BeginsAsRecord v line → ⊥
+end_no_record v line n h (inl (inl k)) = first_differs 101 100 _ _ refl (sym h.1 ∙ k.1)
+end_no_record v line n h (inl (inr (inl k))) = first_differs 101 115 _ _ refl (sym h.1 ∙ k.1)
+end_no_record v line n h (inl (inr (inr k))) = first_differs 101 114 _ _ refl (sym h.1 ∙ k.1)
+end_no_record v line n h (inr k) = first_differs 101 121 _ _ refl (sym h.1 ∙ k.1)
+
+-- nor is it a record
+pub end_is_no_record : (line : List ℕ) (n : ℕ) (e : Event) → IsEnd line n → IsRecord line e → ⊥
+end_is_no_record line n (Draw d) h k = first_differs 101 100 _ _ refl (sym h.1 ∙ k.1)
+end_is_no_record line n (Sent l) h k = first_differs 101 115 _ _ refl (sym h.1 ∙ k.1)
+end_is_no_record line n (Got l) h k = first_differs 101 114 _ _ refl (sym h.1 ∙ k.1)
+end_is_no_record line n Yield h k = first_differs 101 121 _ _ refl (sym h.1 ∙ k)

@@ -6,13 +6,16 @@ use Rattle.std.specs.Str.{all_ascii_digits}
 use Rattle.std.proofs.lemmas.Bool.Decides.{nat_tests}
 use Rattle.std.proofs.lemmas.Fmt.{decimal-digits_value, digits_decimal, digits_value-decimal, decimal_nonempty, first_decimal, length-decimal-le, decimal_digit}
 use Rattle.std.proofs.lemmas.Str.Parse.{IsNumeralModel, numerals_by_fold, tells_all_ascii_digits}
-use Rattle.ira_event.specs.Limits.{MAX_NODES, MAX_NUMBER, MAX_TEXT}
+use Rattle.ira_event.specs.Limits.{MAX_NODES, MAX_NUMBER, MAX_TEXT, MAX_VERSION}
+use Rattle.ira_event.specs.declared.log_head.LogHead.{LogHead}
+use Rattle.ira_event.specs.declared.load.Load.{Load}
+use Rattle.ira_event.specs.declared.load.Load.TheVariants.{Msg as Message, Reset}
 use Rattle.ira_event.specs.declared.event.Event.{Event}
-use Rattle.ira_event.specs.declared.event.Event.TheVariants.{Draw, Sent, Got}
+use Rattle.ira_event.specs.declared.event.Event.TheVariants.{Draw, Sent, Got, Yield}
 use Rattle.ira_event.specs.declared.msg.Msg.{Msg}
-use Rattle.ira_event.specs.Event.{is_number, is_msg, is_event}
+use Rattle.ira_event.specs.Event.{is_number, is_msg, is_load, is_event}
 use Rattle.ira_event.specs.Log.{Log, IsLog}
-use Rattle.ira_event.specs.LogText.{IsMessage, IsRecord, AreRecords, IsHead, IsLogText, bit_word, start_word, message_text, record_text, head_text, log_text}
+use Rattle.ira_event.specs.LogText.{IsMessage, IsLoad, IsRecord, AreRecords, IsHead, IsLogText, bit_word, start_word, message_text, load_text, record_text, head_of, head_text, log_text}
 use Rattle.ira_event.specs.Numeral.{value_from, IsNumeral}
 use Rattle.ira_event.proofs.Numerals.{and_parts}
 
@@ -81,10 +84,19 @@ message_is m good =
     let p = msg_parts m good in
     record { round = decimal m.round; id = decimal m.id; hop = decimal m.hop; round_is = numeral m.round p.0; id_is = numeral m.id p.1; hop_is = numeral m.hop p.2; parts = refl }
 
+load_spelled : (text : List ℕ) (l : Load) → is_load l ≡ true → IsLoad text l → text ≡ load_text l
+load_spelled text (Message m) good h = message_spelled text m good h
+load_spelled text (Reset n) good h = h.1 ∙ ap (λ t. codes "reset " ++ t) (spelled h.0 n good h.2)
+
+load_is : (l : Load) → is_load l ≡ true → IsLoad (load_text l) l
+load_is (Message m) good = message_is m good
+load_is (Reset n) good = (decimal n, refl, numeral n good)
+
 record_spelled : (line : List ℕ) (e : Event) → is_event e ≡ true → IsRecord line e → line ++ codes "\n" ≡ record_text e
 record_spelled line (Draw d) good h = ap (λ w. w ++ codes "\n") (h.1 ∙ ap (λ t. codes "draw " ++ t) (spelled h.0 d good h.2))
-record_spelled line (Sent m) good h = ap (λ w. w ++ codes "\n") (h.1 ∙ ap (λ t. codes "send " ++ t) (message_spelled h.0 m good h.2))
-record_spelled line (Got m) good h = ap (λ w. w ++ codes "\n") (h.1 ∙ ap (λ t. codes "recv " ++ t) (message_spelled h.0 m good h.2))
+record_spelled line (Sent l) good h = ap (λ w. w ++ codes "\n") (h.1 ∙ ap (λ t. codes "send " ++ t) (load_spelled h.0 l good h.2))
+record_spelled line (Got l) good h = ap (λ w. w ++ codes "\n") (h.1 ∙ ap (λ t. codes "recv " ++ t) (load_spelled h.0 l good h.2))
+record_spelled line Yield good h = ap (λ w. w ++ codes "\n") h
 
 records_spelled : (records : List ℕ) (es : List Event) → list_all is_event es ≡ true → AreRecords records es → records ≡ flat_map record_text es
 records_spelled records [] good h = h
@@ -97,38 +109,47 @@ records_are [] good = refl
 records_are (Draw d ∷ es) good =
     let p = and_parts (is_number d) (list_all is_event es) good in
     (codes "draw " ++ decimal d, flat_map record_text es, refl, (decimal d, refl, numeral d p.0), records_are es p.1)
-records_are (Sent m ∷ es) good =
-    let p = and_parts (is_msg m) (list_all is_event es) good in
-    (codes "send " ++ message_text m, flat_map record_text es, refl, (message_text m, refl, message_is m p.0), records_are es p.1)
-records_are (Got m ∷ es) good =
-    let p = and_parts (is_msg m) (list_all is_event es) good in
-    (codes "recv " ++ message_text m, flat_map record_text es, refl, (message_text m, refl, message_is m p.0), records_are es p.1)
+records_are (Sent l ∷ es) good =
+    let p = and_parts (is_load l) (list_all is_event es) good in
+    (codes "send " ++ load_text l, flat_map record_text es, refl, (load_text l, refl, load_is l p.0), records_are es p.1)
+records_are (Got l ∷ es) good =
+    let p = and_parts (is_load l) (list_all is_event es) good in
+    (codes "recv " ++ load_text l, flat_map record_text es, refl, (load_text l, refl, load_is l p.0), records_are es p.1)
+records_are (Yield ∷ es) good = (codes "yield", flat_map record_text es, refl, refl, records_are es good)
 
 -- ---- whole texts
 
-head_spelled : (text : List ℕ) (nodes place : ℕ) (initiator : Bool) → nodes ≤ MAX_NODES → place < nodes → IsHead text nodes place initiator → text ≡ head_text nodes place initiator
-head_spelled text nodes place initiator size in_ring h =
-    h.parts ∙ rw (numeral_is_decimal h.nodes_text nodes h.nodes_is (omega (arith, size)), numeral_is_decimal h.place_text place h.place_is (omega (arith, size, in_ring))) refl
+head_spelled : (text : List ℕ) (head : LogHead) → head.version ≤ MAX_VERSION → head.nodes ≤ MAX_NODES → head.place < head.nodes → IsHead text head → text ≡ head_text head
+head_spelled text head version size in_ring h =
+    h.parts
+    ∙ rw (numeral_is_decimal h.version_text head.version h.version_is (omega (arith, version)), numeral_is_decimal h.nodes_text head.nodes h.nodes_is (omega (arith, size)), numeral_is_decimal h.place_text head.place h.place_is (omega (arith, size, in_ring))) refl
 
-head_is : (nodes place : ℕ) (initiator : Bool) → nodes ≤ MAX_NODES → place < nodes → IsHead (head_text nodes place initiator) nodes place initiator
-head_is nodes place initiator size in_ring =
-    record { nodes_text = decimal nodes; place_text = decimal place; nodes_is = decimal_is_numeral nodes (omega (arith, size)); place_is = decimal_is_numeral place (omega (arith, size, in_ring)); parts = refl }
+head_is : (head : LogHead) → head.version ≤ MAX_VERSION → head.nodes ≤ MAX_NODES → head.place < head.nodes → IsHead (head_text head) head
+head_is head version size in_ring = record {
+  version_text = decimal head.version;
+  nodes_text = decimal head.nodes;
+  place_text = decimal head.place;
+  version_is = decimal_is_numeral head.version (omega (arith, version));
+  nodes_is = decimal_is_numeral head.nodes (omega (arith, size));
+  place_is = decimal_is_numeral head.place (omega (arith, size, in_ring));
+  parts = refl;
+}
 
 pub log_text_spelled : (text : List ℕ) (log : Log) → IsLogText text log → text ≡ log_text log
 log_text_spelled text log h =
     let v = h.valid in
     let end : h.end ≡ codes "end " ++ decimal (length log.events) = h.end_is.1 ∙ ap (λ t. codes "end " ++ t) (numeral_is_decimal h.end_is.0 (length log.events) h.end_is.2 (omega (arith, v.count))) in
-    h.parts ∙ rw (head_spelled h.head log.nodes log.place log.initiator v.size.1 v.place h.head_is, records_spelled h.records log.events v.numbers h.records_are, end) (append_assoc (head_text log.nodes log.place log.initiator ++ flat_map record_text log.events) (codes "end " ++ decimal (length log.events)) (codes "\n"))
+    h.parts ∙ rw (head_spelled h.head (head_of log) v.version.1 v.size.1 v.place h.head_is, records_spelled h.records log.events v.numbers h.records_are, end) (append_assoc (head_text (head_of log) ++ flat_map record_text log.events) (codes "end " ++ decimal (length log.events)) (codes "\n"))
 
 pub log_text_is : (log : Log) → IsLog log → IsLogText (log_text log) log
 log_text_is log v = record {
-  head = head_text log.nodes log.place log.initiator;
+  head = head_text (head_of log);
   records = flat_map record_text log.events;
   end = codes "end " ++ decimal (length log.events);
-  head_is = head_is log.nodes log.place log.initiator v.size.1 v.place;
+  head_is = head_is (head_of log) v.version.1 v.size.1 v.place;
   records_are = records_are log.events v.numbers;
   end_is = (decimal (length log.events), refl, decimal_is_numeral (length log.events) (omega (arith, v.count)));
-  parts = sym (append_assoc (head_text log.nodes log.place log.initiator ++ flat_map record_text log.events) (codes "end " ++ decimal (length log.events)) (codes "\n"));
+  parts = sym (append_assoc (head_text (head_of log) ++ flat_map record_text log.events) (codes "end " ++ decimal (length log.events)) (codes "\n"));
   valid = v;
 }
 
@@ -154,14 +175,19 @@ message_short m good =
     let b = bit_short m.dirty in
     simp length-append (omega arith)
 
+load_short : (l : Load) → is_load l ≡ true → length (load_text l) ≤ 29
+load_short (Message m) good = message_short m good
+load_short (Reset n) good = let k = decimal_short n (number_small n good) in simp length-append (omega arith)
+
 record_short : (e : Event) → is_event e ≡ true → length (record_text e) ≤ 35
 record_short (Draw d) good = let k = decimal_short d (number_small d good) in simp length-append (omega arith)
-record_short (Sent m) good =
-    let k = message_short m good in
-    omega (arith, k, length-append (codes "send " ++ message_text m) (codes "\n"), length-append (codes "send ") (message_text m))
-record_short (Got m) good =
-    let k = message_short m good in
-    omega (arith, k, length-append (codes "recv " ++ message_text m) (codes "\n"), length-append (codes "recv ") (message_text m))
+record_short (Sent l) good =
+    let k = load_short l good in
+    omega (arith, k, length-append (codes "send " ++ load_text l) (codes "\n"), length-append (codes "send ") (load_text l))
+record_short (Got l) good =
+    let k = load_short l good in
+    omega (arith, k, length-append (codes "recv " ++ load_text l) (codes "\n"), length-append (codes "recv ") (load_text l))
+record_short Yield good = omega arith
 
 records_short : (es : List Event) → list_all is_event es ≡ true → length (flat_map record_text es) ≤ 35 * length es
 records_short [] good = omega arith
@@ -173,6 +199,7 @@ pub log_text_short : (text : List ℕ) (log : Log) → IsLogText text log → le
 log_text_short text log h =
     let v = h.valid in
     let e = ap length (log_text_spelled text log h) in
+    let w = decimal_short log.version (omega (arith, v.version.1)) in
     let n = decimal_short log.nodes (omega (arith, v.size.1)) in
     let p = decimal_short log.place (omega (arith, v.size.1, v.place)) in
     let c = decimal_short (length log.events) (omega (arith, v.count)) in

@@ -1,6 +1,7 @@
 pub mod Event
 pub mod Limits
 pub mod Log
+pub mod LogHead
 pub mod LogLaws
 pub mod LogScan
 pub mod LogText
@@ -16,3 +17,4 @@ pub mod RingSize
 pub mod Scan
 pub mod Sink
 pub mod StoredEvents
+pub mod Version

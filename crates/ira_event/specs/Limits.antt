@@ -5,6 +5,10 @@ use Rattle.std.specs.Prelude.{ℕ}
 abbrev pub MAX_NODES : ℕ
 MAX_NODES = 64
 
+-- the greatest version of a log; the least is 1
+abbrev pub MAX_VERSION : ℕ
+MAX_VERSION = 2
+
 -- the largest round, ID, hop and draw that a record holds
 abbrev pub MAX_NUMBER : ℕ
 MAX_NUMBER = 1000000

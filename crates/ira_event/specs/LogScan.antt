@@ -3,7 +3,9 @@ use Rattle.std.specs.Option.{option_map}
 use Rattle.std.specs.Prelude.{ℕ, Bool, true, false, List, Option, Some, None, codes}
 use Rattle.ira_event.specs.Scan.{kept_at, after_word, ◌>>=◌, or, behind}
 use Rattle.ira_event.specs.declared.msg.Msg.{Msg}
-use Rattle.ira_event.specs.declared.event.Event.TheVariants.{Draw, Sent, Got}
+use Rattle.ira_event.specs.declared.load.Load.{Load}
+use Rattle.ira_event.specs.declared.load.Load.TheVariants.{Msg as Message, Reset}
+use Rattle.ira_event.specs.declared.event.Event.TheVariants.{Draw, Sent, Got, Yield}
 use Rattle.ira_event.specs.declared.log_line.LogLine.{LogLine}
 use Rattle.ira_event.specs.declared.log_line.LogLine.TheVariants.{Record, End}
 use Rattle.ira_event.specs.declared.log_line.LineWord.{LineWord}
@@ -32,6 +34,18 @@ number_line text = do
   rest ← after_word (codes "\n") n.1
   Some (n.0, rest)
 
+-- a reset to its line's end, and what follows the line
+abbrev pub reset_at : List ℕ → Option (ℕ × List ℕ)
+reset_at text = after_word (codes "reset ") text >>= number_line
+
+-- a load to its line's end, and what follows the line
+abbrev pub load_at : List ℕ → Option (Load × List ℕ)
+load_at text = or (option_map (λ p. (Message p.0, p.1)) (message_at text)) (option_map (λ p. (Reset p.0, p.1)) (reset_at text))
+
+-- a yield to its line's end, and what follows the line
+abbrev pub yield_at : List ℕ → Option (LogLine × List ℕ)
+yield_at text = option_map (λ r. (Record Yield, r)) (after_word (codes "yield\n") text)
+
 -- the word that a line begins with, and what follows its space
 abbrev pub word_at : List ℕ → Option (LineWord × List ℕ)
 word_at text =
@@ -44,9 +58,9 @@ word_at text =
 unfoldable pub line_at : List ℕ → Option (LogLine × List ℕ)
 line_at text =
     behind (after_word (codes "draw ") text) (λ r. option_map (λ p. (Record (Draw p.0), p.1)) (number_line r))
-    (behind (after_word (codes "send ") text) (λ r. option_map (λ p. (Record (Sent p.0), p.1)) (message_at r))
-    (behind (after_word (codes "recv ") text) (λ r. option_map (λ p. (Record (Got p.0), p.1)) (message_at r))
-    (behind (after_word (codes "end ") text) (λ r. option_map (λ p. (End p.0, p.1)) (number_line r)) None)))
+    (behind (after_word (codes "send ") text) (λ r. option_map (λ p. (Record (Sent p.0), p.1)) (load_at r))
+    (behind (after_word (codes "recv ") text) (λ r. option_map (λ p. (Record (Got p.0), p.1)) (load_at r))
+    (behind (after_word (codes "end ") text) (λ r. option_map (λ p. (End p.0, p.1)) (number_line r)) (yield_at text))))
 
 -- the word for a start kind at its line's end, and what follows the line
 abbrev pub start_at : List ℕ → Option (Bool × List ℕ)
@@ -55,11 +69,12 @@ start_at text = or (option_map (λ rest. (true, rest)) (after_word (codes "initi
 -- the head's four lines, their numbers of any size, and what follows them
 unfoldable pub head_at : List ℕ → Option (HeadLines × List ℕ)
 head_at text = do
-  v ← after_word (codes "irlog 1\n") text
-  a ← after_word (codes "nodes ") v
+  v ← after_word (codes "irlog ") text
+  version ← kept_at v
+  a ← after_word (codes "\nnodes ") version.1
   nodes ← kept_at a
   b ← after_word (codes "\nplace ") nodes.1
   place ← kept_at b
   c ← after_word (codes "\nstart ") place.1
   start ← start_at c
-  Some (record { nodes = nodes.0; place = place.0; initiator = start.0 }, start.1)
+  Some (record { version = version.0; nodes = nodes.0; place = place.0; initiator = start.0 }, start.1)

@@ -1,8 +1,11 @@
 -- The text of a log, as relations between a value and its spelling.
 use Rattle.std.specs.Prelude.{◌≡◌, ℕ, Bool, true, false, List, [], ◌∷◌, ◌++◌, length, codes, decimal}
 use Rattle.ira_event.specs.declared.msg.Msg.{Msg}
+use Rattle.ira_event.specs.declared.load.Load.{Load}
+use Rattle.ira_event.specs.declared.load.Load.TheVariants.{Msg as Message, Reset}
 use Rattle.ira_event.specs.declared.event.Event.{Event}
-use Rattle.ira_event.specs.declared.event.Event.TheVariants.{Draw, Sent, Got}
+use Rattle.ira_event.specs.declared.event.Event.TheVariants.{Draw, Sent, Got, Yield}
+use Rattle.ira_event.specs.declared.log_head.LogHead.{LogHead}
 use Rattle.std.specs.List.{flat_map}
 use Rattle.ira_event.specs.Log.{Log, IsLog}
 use Rattle.ira_event.specs.Numeral.{IsNumeral}
@@ -27,11 +30,17 @@ pub record IsMessage (text : List ℕ) (m : Msg) : Type 0 where
   pub hop_is : IsNumeral hop m.hop
   pub parts : text ≡ round ++ codes " " ++ id ++ codes " " ++ hop ++ codes " " ++ bit_word m.dirty
 
+-- the spelling of a load
+abbrev pub IsLoad : List ℕ → Load → Type 0
+IsLoad text (Message m) = IsMessage text m
+IsLoad text (Reset h) = (hop : List ℕ) × (text ≡ codes "reset " ++ hop) × IsNumeral hop h
+
 -- the spelling of a record, without its line feed
 abbrev pub IsRecord : List ℕ → Event → Type 0
 IsRecord line (Draw d) = (text : List ℕ) × (line ≡ codes "draw " ++ text) × IsNumeral text d
-IsRecord line (Sent m) = (text : List ℕ) × (line ≡ codes "send " ++ text) × IsMessage text m
-IsRecord line (Got m) = (text : List ℕ) × (line ≡ codes "recv " ++ text) × IsMessage text m
+IsRecord line (Sent l) = (text : List ℕ) × (line ≡ codes "send " ++ text) × IsLoad text l
+IsRecord line (Got l) = (text : List ℕ) × (line ≡ codes "recv " ++ text) × IsLoad text l
+IsRecord line Yield = line ≡ codes "yield"
 
 -- the lines of these records, each with its line feed
 abbrev pub AreRecords : List ℕ → List Event → Type 0
@@ -44,14 +53,20 @@ abbrev pub IsEnd : List ℕ → ℕ → Type 0
 IsEnd line n = (text : List ℕ) × (line ≡ codes "end " ++ text) × IsNumeral text n
 
 -- the first four lines: version, ring size, place and start kind
-pub record IsHead (text : List ℕ) (nodes place : ℕ) (initiator : Bool) : Type 0 where
+pub record IsHead (text : List ℕ) (head : LogHead) : Type 0 where
+  pub version_text : List ℕ
   pub nodes_text : List ℕ
   pub place_text : List ℕ
-  pub nodes_is : IsNumeral nodes_text nodes
-  pub place_is : IsNumeral place_text place
+  pub version_is : IsNumeral version_text head.version
+  pub nodes_is : IsNumeral nodes_text head.nodes
+  pub place_is : IsNumeral place_text head.place
   pub parts :
-      text ≡ codes "irlog 1\n" ++ codes "nodes " ++ nodes_text ++ codes "\nplace " ++ place_text
-      ++ codes "\nstart " ++ start_word initiator ++ codes "\n"
+      text ≡ codes "irlog " ++ version_text ++ codes "\nnodes " ++ nodes_text ++ codes "\nplace " ++ place_text
+      ++ codes "\nstart " ++ start_word head.initiator ++ codes "\n"
+
+-- the head of a log
+abbrev pub head_of : Log → LogHead
+head_of log = record { version = log.version; nodes = log.nodes; place = log.place; initiator = log.initiator }
 
 -- the text of a log: its head, the lines of its events, and the end line with their number, all
 -- within the limits
@@ -59,7 +74,7 @@ pub record IsLogText (text : List ℕ) (log : Log) : Type 0 where
   pub head : List ℕ
   pub records : List ℕ
   pub end : List ℕ
-  pub head_is : IsHead head log.nodes log.place log.initiator
+  pub head_is : IsHead head (head_of log)
   pub records_are : AreRecords records log.events
   pub end_is : IsEnd end (length log.events)
   pub parts : text ≡ head ++ records ++ end ++ codes "\n"
@@ -71,17 +86,23 @@ pub record IsLogText (text : List ℕ) (log : Log) : Type 0 where
 abbrev pub message_text : Msg → List ℕ
 message_text m = decimal m.round ++ codes " " ++ decimal m.id ++ codes " " ++ decimal m.hop ++ codes " " ++ bit_word m.dirty
 
+-- a load
+abbrev pub load_text : Load → List ℕ
+load_text (Message m) = message_text m
+load_text (Reset h) = codes "reset " ++ decimal h
+
 -- a record's line
 abbrev pub record_text : Event → List ℕ
 record_text (Draw d) = codes "draw " ++ decimal d ++ codes "\n"
-record_text (Sent m) = codes "send " ++ message_text m ++ codes "\n"
-record_text (Got m) = codes "recv " ++ message_text m ++ codes "\n"
+record_text (Sent l) = codes "send " ++ load_text l ++ codes "\n"
+record_text (Got l) = codes "recv " ++ load_text l ++ codes "\n"
+record_text Yield = codes "yield\n"
 
 -- a head
-abbrev pub head_text : ℕ → ℕ → Bool → List ℕ
-head_text nodes place initiator =
-    codes "irlog 1\n" ++ codes "nodes " ++ decimal nodes ++ codes "\nplace " ++ decimal place
-    ++ codes "\nstart " ++ start_word initiator ++ codes "\n"
+abbrev pub head_text : LogHead → List ℕ
+head_text head =
+    codes "irlog " ++ decimal head.version ++ codes "\nnodes " ++ decimal head.nodes ++ codes "\nplace " ++ decimal head.place
+    ++ codes "\nstart " ++ start_word head.initiator ++ codes "\n"
 
 -- the end line of so many records
 abbrev pub end_text : ℕ → List ℕ
@@ -90,4 +111,4 @@ end_text n = codes "end " ++ decimal n ++ codes "\n"
 -- the text of a log
 abbrev pub log_text : Log → List ℕ
 log_text log =
-    head_text log.nodes log.place log.initiator ++ flat_map record_text log.events ++ end_text (length log.events)
+    head_text (head_of log) ++ flat_map record_text log.events ++ end_text (length log.events)

@@ -1,30 +1,32 @@
--- The messages that events send and receive.
+-- The loads that events send and receive.
 use Rattle.std.specs.Prelude.{◌≡◌, List, [], ◌++◌, Option, Some, None}
 use Rattle.std.specs.List.{filter_map}
-use Rattle.ira_event.specs.declared.msg.Msg.{Msg}
+use Rattle.ira_event.specs.declared.load.Load.{Load}
 use Rattle.ira_event.specs.declared.event.Event.{Event}
-use Rattle.ira_event.specs.declared.event.Event.TheVariants.{Draw, Sent, Got}
+use Rattle.ira_event.specs.declared.event.Event.TheVariants.{Draw, Sent, Got, Yield}
 
--- the message that an event sends
-abbrev pub sending : Event → Option Msg
+-- the load that an event sends
+abbrev pub sending : Event → Option Load
 sending (Draw id) = None
-sending (Sent m) = Some m
-sending (Got m) = None
+sending (Sent l) = Some l
+sending (Got l) = None
+sending Yield = None
 
--- the message that an event receives
-abbrev pub receipt : Event → Option Msg
+-- the load that an event receives
+abbrev pub receipt : Event → Option Load
 receipt (Draw id) = None
-receipt (Sent m) = None
-receipt (Got m) = Some m
+receipt (Sent l) = None
+receipt (Got l) = Some l
+receipt Yield = None
 
--- the messages that these events send, in their order
-abbrev pub sent : List Event → List Msg
+-- the loads that these events send, in their order
+abbrev pub sent : List Event → List Load
 sent events = filter_map sending events
 
--- the messages that these events receive, in their order
-abbrev pub got : List Event → List Msg
+-- the loads that these events receive, in their order
+abbrev pub got : List Event → List Load
 got events = filter_map receipt events
 
--- `left` is what stands behind some first ones of these events, none of which has a message by `message`
-abbrev pub PassesNo : (Event → Option Msg) → List Event → List Event → Type 0
-PassesNo message events left = (passed : List Event) × (events ≡ passed ++ left) × (filter_map message passed ≡ [])
+-- `left` is what stands behind some first ones of these events, none of which has a load by `load`
+abbrev pub PassesNo : (Event → Option Load) → List Event → List Event → Type 0
+PassesNo load events left = (passed : List Event) × (events ≡ passed ++ left) × (filter_map load passed ≡ [])

@@ -1,18 +1,20 @@
 ghost use Rattle.std.specs.Prelude.{◌≡◌};
-ghost use Rattle.ira_event.specs.Event.{is_event};
+ghost use Rattle.ira_event.specs.Event.{is_event, is_later, is_of_version as version_test};
 
 use crate::limits::is_number;
-use crate::msg::Msg;
+use crate::load::Load;
 
 /// One record of a node's log.
 #[derive(Clone, Copy, Debug, PartialEq, Eq)]
 pub enum Event {
     /// The node drew an ID.
     Draw(u32),
-    /// The node put a message on its outgoing link.
-    Sent(Msg),
-    /// The node took a message from its incoming link.
-    Got(Msg),
+    /// The node put a load on its outgoing link.
+    Sent(Load),
+    /// The node took a load from its incoming link.
+    Got(Load),
+    /// The node led, and yielded.
+    Yield,
 }
 
 impl Event {
@@ -22,9 +24,27 @@ impl Event {
     {
         match self {
             Event::Draw(id) => is_number(*id),
-            Event::Sent(message) | Event::Got(message) => message.is_in_range(),
+            Event::Sent(load) | Event::Got(load) => load.is_in_range(),
+            Event::Yield => true,
         }
+    }
+
+    /// Whether it is an event of version 2 alone: a yield, or one of a reset.
+    fn is_later(&self) -> bool
+        ensures { result ≡ is_later self.now }
+    {
+        match self {
+            Event::Yield | Event::Sent(Load::Reset(_)) | Event::Got(Load::Reset(_)) => true,
+            Event::Draw(_) | Event::Sent(Load::Msg(_)) | Event::Got(Load::Msg(_)) => false,
+        }
+    }
+
+    /// Whether a log of this version may have the event.
+    pub(crate) fn is_of_version(&self, version: u8) -> bool
+        ensures { result ≡ version_test version self.now }
+    {
+        !self.is_later() || version > 1
     }
 }
 
-const _: () = prove!(size_of::<Event>() <= 20);
+const _: () = prove!(size_of::<Event>() <= 24);

@@ -7,7 +7,7 @@ ghost use Rattle.ira_event.specs.Messages.{sending, receipt, sent, got, PassesNo
 
 use crate::event::Event;
 use crate::listed::Listed;
-use crate::packed_event::{PackedEvent, PackedMsg};
+use crate::packed_event::{PackedEvent, PackedLoad};
 use std::marker::Model;
 
 /// The events of a log in their order; seen by contracts as the list of those that are left.
@@ -52,47 +52,47 @@ impl<'a> Events<'a> {
         }
     }
 
-    /// The first message that these events send. Its event is passed, and all before it; where there is
+    /// The first load that these events send. Its event is passed, and all before it; where there is
     /// none, no event is left.
-    pub fn next_sending(&mut self) -> Option<PackedMsg>
-        ensures message { MatchOption result (sent self.old ≡ [])
-            (λ message. sent self.old ≡ message ∷ sent self.new) }
+    pub fn next_sending(&mut self) -> Option<PackedLoad>
+        ensures load { MatchOption result (sent self.old ≡ [])
+            (λ load. sent self.old ≡ load ∷ sent self.new) }
         ensures passed { MatchOption result (self.new ≡ [])
-            (λ message. PassesNo sending self.old (Sent message ∷ self.new)) }
+            (λ load. PassesNo sending self.old (Sent load ∷ self.new)) }
     {
         while let Some((first, others)) = self.packed.split_first() {
             self.packed = others;
-            if let Some(message) = first.sending() {
-                return Some(message);
+            if let Some(load) = first.sending() {
+                return Some(load);
             }
         }
         while let Some((first, others)) = self.plain.split_first() {
             self.plain = others;
-            if let Event::Sent(message) = first {
-                return Some(PackedMsg::new(*message));
+            if let Event::Sent(load) = first {
+                return Some(PackedLoad::new(*load));
             }
         }
         None
     }
 
-    /// The first message that these events receive. Its event is passed, and all before it; where there
+    /// The first load that these events receive. Its event is passed, and all before it; where there
     /// is none, no event is left.
-    pub fn next_receipt(&mut self) -> Option<PackedMsg>
-        ensures message { MatchOption result (got self.old ≡ [])
-            (λ message. got self.old ≡ message ∷ got self.new) }
+    pub fn next_receipt(&mut self) -> Option<PackedLoad>
+        ensures load { MatchOption result (got self.old ≡ [])
+            (λ load. got self.old ≡ load ∷ got self.new) }
         ensures passed { MatchOption result (self.new ≡ [])
-            (λ message. PassesNo receipt self.old (Got message ∷ self.new)) }
+            (λ load. PassesNo receipt self.old (Got load ∷ self.new)) }
     {
         while let Some((first, others)) = self.packed.split_first() {
             self.packed = others;
-            if let Some(message) = first.receipt() {
-                return Some(message);
+            if let Some(load) = first.receipt() {
+                return Some(load);
             }
         }
         while let Some((first, others)) = self.plain.split_first() {
             self.plain = others;
-            if let Event::Got(message) = first {
-                return Some(PackedMsg::new(*message));
+            if let Event::Got(load) = first {
+                return Some(PackedLoad::new(*load));
             }
         }
         None

@@ -12,4 +12,7 @@ pub enum HeadFault {
     /// The first log that names another place than its own number.
     #[error("place {0}")]
     Place(u8),
+    /// The first log whose version is another one than log 0's.
+    #[error("version {0}")]
+    Version(u8),
 }

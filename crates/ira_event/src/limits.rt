@@ -4,6 +4,9 @@ ghost use Rattle.ira_event.specs.Event.{is_number as number_test};
 /// The most nodes that a ring has.
 pub const MAX_NODES: usize = 64;
 
+/// The greatest version of a log; the least is 1.
+pub const MAX_VERSION: u8 = 2;
+
 /// The largest round, ID, hop and draw that a record holds; the smallest is 1.
 pub const MAX_NUMBER: u32 = 1_000_000;
 

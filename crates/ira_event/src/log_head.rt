@@ -1,15 +1,17 @@
-ghost use Rattle.std.specs.Prelude.{◌≡◌, ◌<◌, ◌↔◌, IsSome, IfSome, MatchOption};
+ghost use Rattle.std.specs.Prelude.{◌≡◌, ◌↔◌, IsSome, IfSome, MatchOption};
 ghost use Rattle.ira_event.specs.Scan.{Gives};
 ghost use Rattle.ira_event.specs.LogScan.{start_at, head_at};
 ghost use Rattle.ira_event.specs.LogTextFault.{BeginsWithHead, BeginsWithNoHead};
-ghost use Rattle.ira_event.specs.RingSize.{IsRingSize};
+ghost use Rattle.ira_event.specs.LogHead.{AreInRange};
 
+use crate::limits::MAX_VERSION;
 use crate::ring_size::RingSize;
 use crate::scan::{skip_word, take_number};
 
 /// The head of a log text.
 #[derive(Clone, Copy, Debug)]
 pub struct LogHead {
+    pub version: u8,
     pub nodes: RingSize,
     pub place: u8,
     pub initiator: bool,
@@ -18,6 +20,7 @@ pub struct LogHead {
 /// The numbers and the start kind of a head as they are spelled, in range or not.
 #[derive(Clone, Copy)]
 struct HeadLines {
+    version: u32,
     nodes: u32,
     place: u32,
     initiator: bool,
@@ -26,7 +29,7 @@ struct HeadLines {
 /// The head that the text begins with, and what follows it.
 pub fn take_head(text: &[u8]) -> Option<(LogHead, &[u8])>
     ensures { MatchOption result (BeginsWithNoHead text.now)
-        (λ found. BeginsWithHead text.now found.0.nodes found.0.place found.0.initiator found.1.now) }
+        (λ found. BeginsWithHead text.now found.0 found.1.now) }
 {
     let (lines, rest) = take_head_lines(text)?;
     let head = lines.in_range()?;
@@ -34,19 +37,21 @@ pub fn take_head(text: &[u8]) -> Option<(LogHead, &[u8])>
 }
 
 impl HeadLines {
-    /// The head of these numbers, where there is such a ring and it has the place.
+    /// The head of these numbers, where there are such a version and such a ring, and it has the place.
     fn in_range(self) -> Option<LogHead>
-        ensures some { IsSome result ↔ (IsRingSize self.nodes × (self.place < self.nodes)) }
+        ensures some { IsSome result ↔ AreInRange self }
         ensures value { IfSome result
-            (λ head. (head.nodes ≡ self.nodes) × (head.place ≡ self.place)
-            × (head.initiator ≡ self.initiator)) }
+            (λ head. (head.version ≡ self.version) × (head.nodes ≡ self.nodes)
+            × (head.place ≡ self.place) × (head.initiator ≡ self.initiator)) }
     {
+        let version = u8::try_from(self.version).ok()?;
         let nodes = RingSize::of_number(self.nodes)?;
         let place = u8::try_from(self.place).ok()?;
-        if place >= nodes.get() {
+        if !(1..=MAX_VERSION).contains(&version) || place >= nodes.get() {
             return None;
         }
         Some(LogHead {
+            version,
             nodes,
             place,
             initiator: self.initiator,
@@ -58,14 +63,16 @@ impl HeadLines {
 fn take_head_lines(text: &[u8]) -> Option<(HeadLines, &[u8])>
     ensures { Gives (λ found. (found.0, found.1.now)) result (head_at text.now) }
 {
-    let rest = skip_word(text, b"irlog 1\n")?;
-    let rest = skip_word(rest, b"nodes ")?;
+    let rest = skip_word(text, b"irlog ")?;
+    let (version, rest) = take_number(rest)?;
+    let rest = skip_word(rest, b"\nnodes ")?;
     let (nodes, rest) = take_number(rest)?;
     let rest = skip_word(rest, b"\nplace ")?;
     let (place, rest) = take_number(rest)?;
     let rest = skip_word(rest, b"\nstart ")?;
     let (initiator, rest) = take_start(rest)?;
     let lines = HeadLines {
+        version,
         nodes,
         place,
         initiator,

@@ -1,8 +1,9 @@
 ghost use Rattle.std.specs.Prelude.{◌≡◌};
 ghost use Rattle.ira_event.specs.Scan.{Gives};
-ghost use Rattle.ira_event.specs.LogScan.{bit_at, message_at, number_line, word_at, line_at};
+ghost use Rattle.ira_event.specs.LogScan.{bit_at, message_at, reset_at, load_at, number_line, word_at, yield_at, line_at};
 
 use crate::event::Event;
+use crate::load::Load;
 use crate::msg::Msg;
 use crate::scan::{skip_word, take_number};
 
@@ -30,17 +31,19 @@ pub(crate) enum LineWord {
 pub fn take_line(text: &[u8]) -> Option<(LogLine, &[u8])>
     ensures { Gives (λ found. (found.0, found.1.now)) result (line_at text.now) }
 {
-    let (word, rest) = take_word(text)?;
+    let Some((word, rest)) = take_word(text) else {
+        return take_yield(text);
+    };
     match word {
         LineWord::Draw => {
             let (drawn, rest) = take_number_line(rest)?;
             Some((LogLine::Record(Event::Draw(drawn)), rest))
         }
         LineWord::Send | LineWord::Recv => {
-            let (message, rest) = take_message_line(rest)?;
+            let (load, rest) = take_load_line(rest)?;
             let event = match word {
-                LineWord::Send => Event::Sent(message),
-                _ => Event::Got(message),
+                LineWord::Send => Event::Sent(load),
+                _ => Event::Got(load),
             };
             Some((LogLine::Record(event), rest))
         }
@@ -49,6 +52,14 @@ pub fn take_line(text: &[u8]) -> Option<(LogLine, &[u8])>
             Some((LogLine::End(count), rest))
         }
     }
+}
+
+/// The yield that the text begins with.
+fn take_yield(text: &[u8]) -> Option<(LogLine, &[u8])>
+    ensures { Gives (λ found. (found.0, found.1.now)) result (yield_at text.now) }
+{
+    let rest = skip_word(text, b"yield\n")?;
+    Some((LogLine::Record(Event::Yield), rest))
 }
 
 /// The word and the space that the line begins with.
@@ -63,6 +74,24 @@ pub(crate) fn take_word(text: &[u8]) -> Option<(LineWord, &[u8])>
         [b'e', ..] => Some((LineWord::End, skip_word(text, b"end ")?)),
         _ => None,
     }
+}
+
+/// A load to its line's end.
+fn take_load_line(text: &[u8]) -> Option<(Load, &[u8])>
+    ensures { Gives (λ found. (found.0, found.1.now)) result (load_at text.now) }
+{
+    if let Some((message, rest)) = take_message_line(text) {
+        return Some((Load::Msg(message), rest));
+    }
+    let (hop, rest) = take_reset_line(text)?;
+    Some((Load::Reset(hop), rest))
+}
+
+fn take_reset_line(text: &[u8]) -> Option<(u32, &[u8])>
+    ensures { Gives (λ found. (found.0, found.1.now)) result (reset_at text.now) }
+{
+    let rest = skip_word(text, b"reset ")?;
+    take_number_line(rest)
 }
 
 #[inline(always)]

@@ -35,7 +35,7 @@ pub fn read_log<A: Allocator>(alloc: A, text: &[u8]) -> Result<NodeLog<A>, LogFa
 pub fn open_log(text: &[u8]) -> Result<(LogHead, Records<'_>), LogFault>
     ensures { MatchResult result
         (λ p. (length text.now ≤ MAX_TEXT)
-        × BeginsWithHead text.now p.0.nodes p.0.place p.0.initiator p.1.rest × (p.1.count ≡ 0))
+        × BeginsWithHead text.now p.0 p.1.rest × (p.1.count ≡ 0) × (p.1.version ≡ p.0.version))
         (OpeningFault text.now) }
 {
     if text.len() > MAX_TEXT {
@@ -44,14 +44,14 @@ pub fn open_log(text: &[u8]) -> Result<(LogHead, Records<'_>), LogFault>
     let Some((head, rest)) = take_head(text) else {
         return Err(LogFault::Head);
     };
-    Ok((head, Records::new(rest, 0)))
+    Ok((head, Records::new(head.version, rest, 0)))
 }
 
 /// The events of all records, none of which was read yet.
 #[inline(never)]
 fn read_events<A: Allocator>(alloc: A, records: Records<'_>) -> Result<PackedEvents<A>, LogFault>
     requires { records.count ≡ 0 }
-    ensures { RecordsRead (λ events. events) result records.entry.rest }
+    ensures { RecordsRead records.entry.version (λ events. events) result records.entry.rest }
 {
     let mut records = records;
     let mut events = PackedEvents::with_room_for(alloc, &records)?;

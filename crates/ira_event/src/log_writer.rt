@@ -1,14 +1,15 @@
 ghost use Rattle.std.specs.Prelude.{◌≡◌, ◌≤◌, ◌++◌, [], length};
 ghost use Rattle.std.specs.List.{flat_map};
 ghost use Rattle.ira_event.specs.Log.{Log};
-ghost use Rattle.ira_event.specs.LogText.{bit_word, start_word, message_text, record_text, head_text, end_text, log_text};
+ghost use Rattle.ira_event.specs.LogText.{bit_word, start_word, message_text, load_text, record_text, head_text, end_text, head_of, log_text};
 ghost use Rattle.ira_event.specs.Sink.{Wrote};
 
 use crate::event::Event;
 use crate::line::Line;
+use crate::load::Load;
+use crate::log_head::LogHead;
 use crate::msg::Msg;
 use crate::node_log::NodeLog;
-use crate::ring_size::RingSize;
 use crate::sink::Sink;
 use crate::write::WriteFault;
 use std::alloc::Allocator;
@@ -27,6 +28,20 @@ fn add_message(line: &mut Line, m: &Msg)
     line.add(if m.dirty { b"dirty" } else { b"clean" });
 }
 
+fn add_load(line: &mut Line, load: &Load)
+    requires { length line.old ≤ 5 }
+    ensures text { line.new ≡ line.old ++ load_text load.now }
+    ensures short { length line.new ≤ 50 }
+{
+    match load {
+        Load::Msg(message) => add_message(line, message),
+        Load::Reset(hop) => {
+            line.add(b"reset ");
+            line.add_number(*hop);
+        }
+    }
+}
+
 fn add_record(line: &mut Line, event: &Event)
     requires { line.old ≡ [] }
     ensures { line.new ≡ record_text event.now }
@@ -36,28 +51,35 @@ fn add_record(line: &mut Line, event: &Event)
             line.add(b"draw ");
             line.add_number(*id);
         }
-        Event::Sent(message) => {
+        Event::Sent(load) => {
             line.add(b"send ");
-            add_message(line, message);
+            add_load(line, load);
         }
-        Event::Got(message) => {
+        Event::Got(load) => {
             line.add(b"recv ");
-            add_message(line, message);
+            add_load(line, load);
         }
+        Event::Yield => line.add(b"yield"),
     }
     line.add(b"\n");
 }
 
-fn head(nodes: RingSize, place: u8, initiator: bool) -> Line
-    ensures { result ≡ head_text nodes place initiator }
+fn head(head: LogHead) -> Line
+    ensures { result ≡ head_text head }
 {
     let mut line = Line::new();
-    line.add(b"irlog 1\nnodes ");
-    line.add_number(u32::from(nodes.get()));
+    line.add(b"irlog ");
+    line.add_number(u32::from(head.version));
+    line.add(b"\nnodes ");
+    line.add_number(u32::from(head.nodes.get()));
     line.add(b"\nplace ");
-    line.add_number(u32::from(place));
+    line.add_number(u32::from(head.place));
     line.add(b"\nstart ");
-    line.add(if initiator { b"initiator" } else { b"passive" });
+    line.add(if head.initiator {
+        b"initiator"
+    } else {
+        b"passive"
+    });
     line.add(b"\n");
     line
 }
@@ -93,6 +115,6 @@ fn write_records_and_end<A: Allocator, W: Sink>(
 pub fn write_log<A: Allocator, W: Sink>(log: &NodeLog<A>, sink: &mut W) -> Result<(), WriteFault>
     ensures { Wrote result (log_text log.now) (W.state sink.old) (W.state sink.new) }
 {
-    head(log.nodes(), log.place(), log.initiator()).write(sink)?;
+    head(log.head()).write(sink)?;
     write_records_and_end(log, sink)
 }

@@ -1,6 +1,6 @@
 ghost use Rattle.std.specs.Prelude.{◌≡◌, ℕ, ◌<◌, ◌↔◌, List, Ok, Err, Some, MatchResult, OnOk, IfErr, length, slice_get};
 ghost use Rattle.ira_event.specs.Log.{Log, IsLog};
-ghost use Rattle.ira_event.specs.Logs.{AreLogs, EachLog, HasNumber, IsFirstOther, HeadFaultOf, NoLogsHaveTwoHeadFaults, NoRingHasHeadFaults};
+ghost use Rattle.ira_event.specs.Logs.{AreLogs, EachLog, HasNumber, HasVersion, IsFirstOther, HeadFaultOf, NoLogsHaveTwoHeadFaults, NoRingHasHeadFaults};
 ghost use Rattle.ira_event.specs.RingSize.{IsRingSize};
 ghost use Rattle.ira_event.specs.declared.head_fault.HeadFault.{HeadFault};
 
@@ -75,9 +75,27 @@ fn check_places<A: Allocator>(logs: &[NodeLog<A>], size: RingSize) -> Result<(),
     Ok(())
 }
 
+/// Whether each log has the version of the first one.
+fn check_versions<A: Allocator>(logs: &[NodeLog<A>], size: RingSize) -> Result<(), HeadFault>
+    requires { length logs.now ≡ size }
+    ensures ok { OnOk result
+        ((version : ℕ) × HasVersion logs.now version × EachLog logs.now (λ _ log. log.version ≡ version)) }
+    ensures err { IfErr result
+        (λ f. (version i : ℕ) × (f ≡ HeadFault.Version i) × HasVersion logs.now version
+        × IsFirstOther logs.now (λ _ log. log.version ≡ version) i) }
+{
+    let version = logs[0].version();
+    for i in 0..size.get() {
+        if logs[usize::from(i)].version() != version {
+            return Err(HeadFault::Version(i));
+        }
+    }
+    Ok(())
+}
+
 impl<A: Allocator> Logs<A> {
     /// The logs as those of one ring, or their first fault: their number, then a ring size, then a
-    /// place. It takes no memory.
+    /// place, then a version. It takes no memory.
     pub fn gather(logs: Vec<NodeLog<A>, A>) -> Result<Logs<A>, HeadFault>
         ensures ok { (gathered : List Log)
             → (result ≡ Ok gathered) ↔ ((gathered ≡ logs.items) × AreLogs gathered) }
@@ -86,6 +104,7 @@ impl<A: Allocator> Logs<A> {
         let size = common_size(&logs)?;
         check_sizes(&logs, size)?;
         check_places(&logs, size)?;
+        check_versions(&logs, size)?;
         Ok(Logs { size, logs })
     }
 

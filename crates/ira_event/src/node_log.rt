@@ -1,11 +1,12 @@
 ghost use Rattle.std.specs.Prelude.{◌≡◌, ◌≤◌, ◌-◌, ◌↔◌, ℕ, Some, length, IsSome, IfSome, slice_get};
 ghost use Rattle.std.specs.List.{list_all};
-ghost use Rattle.ira_event.specs.Event.{is_event};
+ghost use Rattle.ira_event.specs.Event.{is_event, is_of_version};
 ghost use Rattle.ira_event.specs.Log.{Log, IsLog};
+ghost use Rattle.ira_event.specs.LogText.{head_of};
 
 use crate::event::Event;
 use crate::events::Events;
-use crate::limits::MAX_RECORDS;
+use crate::limits::{MAX_RECORDS, MAX_VERSION};
 use crate::log_head::LogHead;
 use crate::packed_events::PackedEvents;
 use crate::ring_size::RingSize;
@@ -13,10 +14,11 @@ use crate::stored_events::StoredEvents;
 use std::alloc::Allocator;
 use std::marker::Model;
 
-/// What one node of a ring wrote down: the ring's size, the node's place, whether it is an initiator,
+/// What one node of a ring wrote down: the version of its log, the ring's size, the node's place, whether it is an initiator,
 /// and its events in their order, at most `MAX_RECORDS` of them.
 #[derive(Drop)]
 pub struct NodeLog<A: Allocator> {
+    version: u8,
     nodes: RingSize,
     place: u8,
     initiator: bool,
@@ -29,6 +31,7 @@ impl<A: Allocator> Model for NodeLog<A> {
     ghost Value = { Log };
 
     ghost view = { λ a. record {
+      version = a.version;
       nodes = a.nodes;
       place = a.place;
       initiator = a.initiator;
@@ -36,7 +39,13 @@ impl<A: Allocator> Model for NodeLog<A> {
     } };
 
     ghost invariant = { λ a. IsLog
-        (record { nodes = a.nodes; place = a.place; initiator = a.initiator; events = a.events }) };
+        (record {
+          version = a.version;
+          nodes = a.nodes;
+          place = a.place;
+          initiator = a.initiator;
+          events = a.events;
+        }) };
 }
 
 fn are_in_range(events: &[Event]) -> bool
@@ -45,25 +54,53 @@ fn are_in_range(events: &[Event]) -> bool
     events.iter().all(Event::is_in_range)
 }
 
+/// Whether a log of this version may have each of these events.
+fn are_of_version(version: u8, events: &[Event]) -> bool
+    ensures { result ≡ list_all (is_of_version version) events.now }
+{
+    events.iter().all(|event| event.is_of_version(version))
+}
+
 impl<A: Allocator> NodeLog<A> {
-    /// The log of these events, or `None` where the place is outside the ring, there are too many
-    /// events, or a number is outside `1..=MAX_NUMBER`.
+    /// The log of these events, or `None` where there is no such version, the place is outside the ring,
+    /// there are too many events, a number is outside `1..=MAX_NUMBER`, or a log of version 1 had a yield
+    /// or a reset.
     pub fn new(
+        version: u8,
         nodes: RingSize,
         place: u8,
         initiator: bool,
         events: Vec<Event, A>,
     ) -> Option<NodeLog<A>>
         ensures some { IsSome result
-            ↔ IsLog (record { nodes = nodes; place = place; initiator = initiator; events = events.items }) }
+            ↔ IsLog (record {
+              version = version;
+              nodes = nodes;
+              place = place;
+              initiator = initiator;
+              events = events.items;
+            }) }
         ensures value { IfSome result
             (λ log. log
-            ≡ record { nodes = nodes; place = place; initiator = initiator; events = events.items }) }
+            ≡ record {
+              version = version;
+              nodes = nodes;
+              place = place;
+              initiator = initiator;
+              events = events.items;
+            }) }
     {
-        if place >= nodes.get() || events.len() > MAX_RECORDS || !are_in_range(&events) {
+        if !(1..=MAX_VERSION).contains(&version) || place >= nodes.get() {
+            return None;
+        }
+        if events.len() > MAX_RECORDS
+            || !are_in_range(&events)
+            || !are_of_version(version, &events)
+        {
             return None;
         }
         Some(NodeLog {
+            version,
             nodes,
             place,
             initiator,
@@ -73,17 +110,31 @@ impl<A: Allocator> NodeLog<A> {
 
     /// The log of these parts, which are known to be in range.
     pub fn of_parts(
+        version: u8,
         nodes: RingSize,
         place: u8,
         initiator: bool,
         events: Vec<Event, A>,
     ) -> NodeLog<A>
         requires { IsLog
-            (record { nodes = nodes; place = place; initiator = initiator; events = events.items }) }
+            (record {
+              version = version;
+              nodes = nodes;
+              place = place;
+              initiator = initiator;
+              events = events.items;
+            }) }
         ensures { result
-            ≡ record { nodes = nodes; place = place; initiator = initiator; events = events.items } }
+            ≡ record {
+              version = version;
+              nodes = nodes;
+              place = place;
+              initiator = initiator;
+              events = events.items;
+            } }
     {
         NodeLog {
+            version,
             nodes,
             place,
             initiator,
@@ -94,16 +145,49 @@ impl<A: Allocator> NodeLog<A> {
     /// The log of this head and these events, which are known to be in range.
     pub fn of_records(head: LogHead, events: PackedEvents<A>) -> NodeLog<A>
         requires { IsLog
-            (record { nodes = head.nodes; place = head.place; initiator = head.initiator; events = events }) }
+            (record {
+              version = head.version;
+              nodes = head.nodes;
+              place = head.place;
+              initiator = head.initiator;
+              events = events;
+            }) }
         ensures { result
-            ≡ record { nodes = head.nodes; place = head.place; initiator = head.initiator; events = events } }
+            ≡ record {
+              version = head.version;
+              nodes = head.nodes;
+              place = head.place;
+              initiator = head.initiator;
+              events = events;
+            } }
     {
         NodeLog {
+            version: head.version,
             nodes: head.nodes,
             place: head.place,
             initiator: head.initiator,
             events: StoredEvents::packed(events.into_list()),
         }
+    }
+
+    /// What the head of its text says.
+    pub fn head(&self) -> LogHead
+        ensures { result ≡ head_of self.now }
+    {
+        LogHead {
+            version: self.version,
+            nodes: self.nodes,
+            place: self.place,
+            initiator: self.initiator,
+        }
+    }
+
+    /// The version of the log, 1 or 2.
+    pub fn version(&self) -> u8
+        ensures value { result ≡ self.now.version }
+        ensures valid { IsLog self.now }
+    {
+        self.version
     }
 
     pub fn nodes(&self) -> RingSize

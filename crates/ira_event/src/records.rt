@@ -1,7 +1,6 @@
-ghost use Rattle.std.specs.Prelude.{◌≡◌, ◌≤◌, ◌↔◌, ◌==◌, None, IsTrue, length, position};
-ghost use Rattle.ira_event.specs.LogScan.{line_at};
-ghost use Rattle.ira_event.specs.LogTextFault.{BeginsAsRecord, RestFault};
-ghost use Rattle.ira_event.specs.Records.{ReadsOn};
+ghost use Rattle.std.specs.Prelude.{◌≡◌, ◌<◌, ◌≤◌, ◌↔◌, ◌==◌, IsTrue, codes, length, position};
+ghost use Rattle.ira_event.specs.LogTextFault.{BeginsAsRecord, BeginsWithWord, RestFault};
+ghost use Rattle.ira_event.specs.Records.{ReadsOn, IsUnread};
 ghost use Rattle.ira_event.specs.Limits.{MAX_RECORDS};
 
 use crate::event::Event;
@@ -11,12 +10,13 @@ use crate::log_line::{LogLine, take_line};
 use crate::short_record::take_short_record;
 use std::marker::Model;
 
-/// What stands behind the head of a log text, read record by record; nothing is kept of those that
+/// What stands behind the head of a log text of some version, read record by record; nothing is kept of those that
 /// were read but their number.
 #[derive(Drop)]
 pub struct Records<'a> {
     rest: &'a [u8],
     count: usize,
+    version: u8,
 }
 
 impl<'a> Model for Records<'a> {
@@ -26,7 +26,7 @@ impl<'a> Model for Records<'a> {
 
     ghost Value = { RecordsLeft };
 
-    ghost view = { λ r. record { rest = r.rest.now; count = r.count } };
+    ghost view = { λ r. record { version = r.version; rest = r.rest.now; count = r.count } };
 
     ghost invariant = { λ r. r.count ≤ MAX_RECORDS };
 }
@@ -34,11 +34,15 @@ impl<'a> Model for Records<'a> {
 impl<'a> Records<'a> {
     /// The records of what stands behind a head and so many records, which were read before.
     #[inline(always)]
-    pub fn new(text: &'a [u8], count: usize) -> Records<'a>
+    pub fn new(version: u8, text: &'a [u8], count: usize) -> Records<'a>
         requires { count ≤ MAX_RECORDS }
-        ensures { result ≡ record { rest = text.now; count = count } }
+        ensures { result ≡ record { version = version; rest = text.now; count = count } }
     {
-        Records { rest: text, count }
+        Records {
+            rest: text,
+            count,
+            version,
+        }
     }
 
     /// How many bytes were not read yet.
@@ -72,10 +76,13 @@ impl<'a> Records<'a> {
             return Ok(Some(event));
         }
         let Some((line, after)) = take_line(self.rest) else {
-            return Err(unread_fault(self.rest, self.count));
+            return Err(unread_fault(self.rest, self.count, self.version));
         };
         match line {
             LogLine::Record(event) => {
+                if !event.is_of_version(self.version) {
+                    return Err(unread_fault(self.rest, self.count, self.version));
+                }
                 if self.count == MAX_RECORDS {
                     return Err(LogFault::TooMany);
                 }
@@ -99,18 +106,18 @@ impl<'a> Records<'a> {
     }
 }
 
-/// The fault behind so many records, where no record's line follows, nor an end line.
+/// The fault behind so many records, where the line of no record of the version follows, nor an end line.
 #[cold]
-fn unread_fault(text: &[u8], records: usize) -> LogFault
-    requires unread { line_at text.now ≡ None }
+fn unread_fault(text: &[u8], records: usize, version: u8) -> LogFault
+    requires unread { IsUnread version text.now }
     requires count { records ≤ MAX_RECORDS }
-    ensures { RestFault records text.now result }
+    ensures { RestFault version records text.now result }
 {
     let Some(end) = line_end(text) else {
         return LogFault::Cut;
     };
     let (line, _) = text.split_at(end);
-    if records == MAX_RECORDS && begins_as_record(line) {
+    if records == MAX_RECORDS && begins_as_record(line, version) {
         return LogFault::TooMany;
     }
     LogFault::Line(records as u32 + 5)
@@ -123,9 +130,23 @@ pub fn line_end(text: &[u8]) -> Option<usize>
     text.iter().position(|c| *c == b'\n')
 }
 
-/// Whether the line begins as a record does.
-fn begins_as_record(line: &[u8]) -> bool
-    ensures { IsTrue result ↔ BeginsAsRecord line.now }
+/// Whether the line begins as a record of the version does.
+fn begins_as_record(line: &[u8], version: u8) -> bool
+    ensures { IsTrue result ↔ BeginsAsRecord version line.now }
+{
+    begins_with_word(line) || is_yield(line, version)
+}
+
+/// Whether the line begins with the word of a draw, a sending or a receipt.
+fn begins_with_word(line: &[u8]) -> bool
+    ensures { IsTrue result ↔ BeginsWithWord line.now }
 {
     line.starts_with(b"draw ") || line.starts_with(b"send ") || line.starts_with(b"recv ")
+}
+
+/// Whether the line is a yield, which version 1 has not.
+fn is_yield(line: &[u8], version: u8) -> bool
+    ensures { IsTrue result ↔ ((1 < version) × (line.now ≡ codes "yield")) }
+{
+    version > 1 && line == b"yield".as_slice()
 }

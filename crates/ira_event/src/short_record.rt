@@ -1,11 +1,12 @@
-ghost use Rattle.std.specs.Prelude.{◌≡◌, ◌+◌, ◌≤◌, ◌<◌, true, Some, IfSome, drop, length};
-ghost use Rattle.ira_event.specs.Event.{is_event, is_msg, is_number};
+ghost use Rattle.std.specs.Prelude.{◌≡◌, ◌+◌, ◌≤◌, ◌<◌, true, ℕ, Some, IfSome, drop, length};
+ghost use Rattle.ira_event.specs.Event.{is_event, is_msg, is_number, is_of_version};
 ghost use Rattle.ira_event.specs.LogScan.{line_at, message_at};
 ghost use Rattle.ira_event.specs.Scan.{kept_at};
 ghost use Rattle.ira_event.specs.declared.log_line.LogLine.TheVariants.{Record};
 ghost use Rattle.ira_event.specs.declared.short_record.TheConstants.{NUMBER_ROOM, MESSAGE_ROOM};
 
 use crate::event::Event;
+use crate::load::Load;
 use crate::log_line::{LineWord, take_bit, take_word};
 use crate::msg::Msg;
 use crate::scan::{skip_word, to_digit};
@@ -25,6 +26,7 @@ const RECORD_ROOM: usize = 5 + MESSAGE_ROOM;
 pub(crate) fn take_short_record(text: &[u8]) -> Option<(Event, &[u8])>
     ensures line { IfSome result (λ found. line_at text.now ≡ Some (Record found.0, found.1.now)) }
     ensures in_range { IfSome result (λ found. is_event found.0 ≡ true) }
+    ensures version { (version : ℕ) → IfSome result (λ found. is_of_version version found.0 ≡ true) }
 {
     if text.len() < RECORD_ROOM {
         return None;
@@ -38,11 +40,11 @@ pub(crate) fn take_short_record(text: &[u8]) -> Option<(Event, &[u8])>
         }
         LineWord::Send => {
             let (message, rest) = take_short_message(rest)?;
-            Some((Event::Sent(message), rest))
+            Some((Event::Sent(Load::Msg(message)), rest))
         }
         LineWord::Recv => {
             let (message, rest) = take_short_message(rest)?;
-            Some((Event::Got(message), rest))
+            Some((Event::Got(Load::Msg(message)), rest))
         }
         LineWord::End => None,
     }

@@ -1,4 +1,5 @@
 pub mod Answers
 pub mod Inversions
+pub mod Plain
 pub mod Ranges
 pub mod Wants

@@ -1,3 +1,4 @@
+ghost use Rattle.ira_node.specs.Plain.{OwesNoReset, SendsNoReset};
 ghost use Rattle.ira_node.specs.Laws.{OneNextState, OneFault, NoStepBesideAFault, AStepOrAFault, RaisedHopIsRecordable, NumbersStayRecordable, SendingsAreRecordable};
 
 /// A law: the node step is deterministic.
@@ -33,4 +34,11 @@ pub fn numbers_stay_recordable()
 /// A law: a node whose numbers a record may hold sends nothing that a record may not.
 pub fn sendings_are_recordable()
     ensures { SendingsAreRecordable }
+{}
+
+/// A law: a node whose events version 1 has never owes a reset, and sends none.
+#[tactic(auto, using(crate::proofs::Plain::owes_no_reset, crate::proofs::Plain::sends_no_reset))]
+pub fn version_1_has_no_resets()
+    ensures owes { OwesNoReset }
+    ensures sends { SendsNoReset }
 {}

@@ -11,7 +11,7 @@ mod wanted;
 
 pub use laws::{
     a_step_or_a_fault, no_step_beside_a_fault, numbers_stay_recordable, one_fault, one_next_state,
-    raised_hop_is_recordable, sendings_are_recordable,
+    raised_hop_is_recordable, sendings_are_recordable, version_1_has_no_resets,
 };
 pub use node_state::NodeState;
 pub use phase::Phase;

@@ -1,23 +1,25 @@
-ghost use Rattle.std.specs.Prelude.{◌≡◌, ◌↔◌, ℕ, None, MatchResult, OnErr};
+ghost use Rattle.std.specs.Prelude.{◌≡◌, ◌↔◌, ◌≤◌, ℕ, None, MatchResult, OnErr};
+ghost use Rattle.ira_event.specs.Limits.{MAX_NUMBER};
 ghost use Rattle.ira_event.specs.RingSize.{IsRingSize};
 ghost use Rattle.ira_node.specs.NodeState.{first_state, free, IsLeader};
 ghost use Rattle.ira_node.specs.NodeStep.{NodeStep};
 ghost use Rattle.ira_node.specs.NodeStepFault.{NodeStepFault};
-ghost use Rattle.ira_node.specs.StepAnswer.{advance_answer, step_answer, sent_answer, free_answer, drawn_answer, got_answer, compared, own_pair_answer, passed};
+ghost use Rattle.ira_node.specs.StepAnswer.{advance_answer, step_answer, leading_answer, sent_answer, free_answer, drawn_answer, message_answer, restart_answer, compared, own_pair_answer, passed};
 ghost use Rattle.ira_node.specs.Wanted.{wanted_of, IsOfKind, CanCome};
 
 use crate::phase::Phase;
 use crate::step_fault::StepFault;
 use crate::wanted::Wanted;
-use ira_event::{Event, MAX_NUMBER, Msg, RingSize};
+use ira_event::{Event, Load, MAX_NUMBER, Msg, RingSize};
 use std::cmp::Ordering;
 
-/// The state of one node: what it is doing, and the message that it has to send next, if there is
-/// one.
+/// The state of one node: what it is doing, what it has to send next, if it owes something, and the
+/// term, counted from 1.
 #[derive(Clone, Copy, Debug, PartialEq, Eq)]
 pub struct NodeState {
     pub phase: Phase,
-    pub owed: Option<Msg>,
+    pub owed: Option<Load>,
+    pub term: u32,
 }
 
 impl NodeState {
@@ -37,16 +39,20 @@ impl NodeState {
     #[inline(always)]
     #[tactic(auto, using(crate::proofs::Wants::step_wanted))]
     pub fn wanted(&self) -> Wanted
-        ensures value { result ≡ wanted_of self.now.phase self.now.owed }
+        ensures value { result ≡ wanted_of self.now.term self.now.phase self.now.owed }
         ensures only { (n : ℕ) (e : Event) (t : NodeState) → NodeStep n self.now e t → IsOfKind result e }
         ensures can { (n : ℕ) → IsRingSize n → CanCome n self.now result }
-        ensures nothing { (result ≡ Wanted.Nothing) ↔ IsLeader self.now.phase }
+        ensures nothing { (result ≡ Wanted.Nothing) ↔ (IsLeader self.now.phase × (MAX_NUMBER ≤ self.now.term)) }
     {
         if let Phase::Leader { .. } = self.phase {
-            return Wanted::Nothing;
+            return if self.term < MAX_NUMBER {
+                Wanted::Yield
+            } else {
+                Wanted::Nothing
+            };
         }
-        if let Some(message) = self.owed {
-            return Wanted::Send(message);
+        if let Some(load) = self.owed {
+            return Wanted::Send(load);
         }
         match self.phase {
             Phase::Choosing { .. } => Wanted::Draw,
@@ -57,7 +63,7 @@ impl NodeState {
     /// The state after the event in a ring of so many nodes, or why the event has no step.
     #[inline(always)]
     pub fn step(&self, nodes: RingSize, event: &Event) -> Result<NodeState, StepFault>
-        ensures value { result ≡ step_answer nodes self.now.phase self.now.owed event.now }
+        ensures value { result ≡ step_answer nodes self.now.term self.now.phase self.now.owed event.now }
         ensures ok { (t : NodeState) → (result ≡ Ok t) ↔ NodeStep nodes self.now event.now t }
         ensures err { (f : StepFault) → (result ≡ Err f) ↔ NodeStepFault nodes self.now event.now f }
     {
@@ -69,40 +75,62 @@ impl NodeState {
     /// Goes on to the state after the event in a ring of so many nodes, or stays and says why the event has no step.
     #[inline(always)]
     pub fn advance(&mut self, nodes: RingSize, event: &Event) -> Result<(), StepFault>
-        ensures value { advance_answer result self.new ≡ step_answer nodes self.old.phase self.old.owed event.now }
+        ensures value { advance_answer result self.new ≡ step_answer nodes self.old.term self.old.phase self.old.owed event.now }
         ensures steps { MatchResult result (λ _. NodeStep nodes self.old event.now self.new)
             (λ f. NodeStepFault nodes self.old event.now f) }
         ensures err { OnErr result (self.new ≡ self.old) }
     {
         if let Phase::Leader { .. } = self.phase {
-            return Err(StepFault::Ended);
+            return self.step_leading(event);
         }
         match self.owed {
-            Some(message) => self.step_owing(message, event),
+            Some(load) => self.step_owing(load, event),
             None => self.step_owing_nothing(nodes, event),
         }
     }
 
     #[inline(always)]
     fn free(phase: Phase) -> NodeState
-        ensures { result ≡ record { phase = phase; owed = None } }
+        ensures { result ≡ free 1 phase }
     {
-        NodeState { phase, owed: None }
+        NodeState {
+            phase,
+            owed: None,
+            term: 1,
+        }
     }
 
-    /// The step of a node that owes the message and doesn't lead.
-    #[inline(always)]
-    fn step_owing(&mut self, message: Msg, event: &Event) -> Result<(), StepFault>
-        ensures value { advance_answer result self.new ≡ sent_answer self.old.phase message event.now }
+    /// The step of a leader.
+    #[cold]
+    #[inline(never)]
+    fn step_leading(&mut self, event: &Event) -> Result<(), StepFault>
+        ensures value { advance_answer result self.new ≡ leading_answer self.old.term event.now }
         ensures err { OnErr result (self.new ≡ self.old) }
     {
         match event {
-            Event::Sent(sent) if *sent == message => {
+            Event::Yield if self.term >= MAX_NUMBER => Err(StepFault::TermLimit),
+            Event::Yield => {
+                self.phase = Phase::Yielding;
+                self.owed = Some(Load::Reset(1));
+                Ok(())
+            }
+            Event::Draw(_) | Event::Sent(_) | Event::Got(_) => Err(StepFault::Ended),
+        }
+    }
+
+    /// The step of a node that owes the load and doesn't lead.
+    #[inline(always)]
+    fn step_owing(&mut self, load: Load, event: &Event) -> Result<(), StepFault>
+        ensures value { advance_answer result self.new ≡ sent_answer self.old.term self.old.phase load event.now }
+        ensures err { OnErr result (self.new ≡ self.old) }
+    {
+        match event {
+            Event::Sent(sent) if *sent == load => {
                 self.owed = None;
                 Ok(())
             }
             Event::Sent(_) => Err(StepFault::NotOwed),
-            Event::Draw(_) | Event::Got(_) => Err(StepFault::Owes),
+            Event::Draw(_) | Event::Got(_) | Event::Yield => Err(StepFault::Owes),
         }
     }
 
@@ -110,19 +138,21 @@ impl NodeState {
     #[inline(always)]
     fn step_owing_nothing(&mut self, nodes: RingSize, event: &Event) -> Result<(), StepFault>
         requires { self.old.owed ≡ None }
-        ensures value { advance_answer result self.new ≡ free_answer nodes self.old.phase event.now }
+        ensures value { advance_answer result self.new ≡ free_answer nodes self.old.term self.old.phase event.now }
         ensures err { OnErr result (self.new ≡ self.old) }
     {
         match event {
             Event::Sent(_) => Err(StepFault::NotOwed),
             Event::Draw(id) => self.draw(nodes, *id),
-            Event::Got(message) => self.receive(nodes, message),
+            Event::Got(Load::Msg(message)) => self.receive(nodes, message),
+            Event::Got(Load::Reset(hop)) => self.restart(nodes, *hop),
+            Event::Yield => Err(StepFault::NotLeader),
         }
     }
 
     #[inline(always)]
     fn draw(&mut self, nodes: RingSize, id: u32) -> Result<(), StepFault>
-        ensures value { advance_answer result self.new ≡ drawn_answer nodes self.old.phase id }
+        ensures value { advance_answer result self.new ≡ drawn_answer nodes self.old.term self.old.phase id }
         ensures err { OnErr result (self.new ≡ self.old) }
     {
         match self.phase {
@@ -131,15 +161,17 @@ impl NodeState {
                     return Err(StepFault::DrawRange);
                 }
                 self.phase = Phase::Active { round, id };
-                self.owed = Some(Msg {
+                self.owed = Some(Load::Msg(Msg {
                     round,
                     id,
                     hop: 1,
                     dirty: false,
-                });
+                }));
                 Ok(())
             }
-            Phase::Active { .. } | Phase::Passive => Err(StepFault::NotChoosing),
+            Phase::Active { .. } | Phase::Passive | Phase::Yielding => {
+                Err(StepFault::NotChoosing)
+            }
             Phase::Leader { .. } => Err(StepFault::Ended),
         }
     }
@@ -147,7 +179,7 @@ impl NodeState {
     #[inline(always)]
     fn receive(&mut self, nodes: RingSize, message: &Msg) -> Result<(), StepFault>
         requires { self.old.owed ≡ None }
-        ensures value { advance_answer result self.new ≡ got_answer nodes self.old.phase message.now }
+        ensures value { advance_answer result self.new ≡ message_answer nodes self.old.term self.old.phase message.now }
         ensures err { OnErr result (self.new ≡ self.old) }
     {
         match self.phase {
@@ -155,7 +187,36 @@ impl NodeState {
             Phase::Active { round, id } => self.compare(nodes, round, id, message),
             Phase::Passive => self.pass(message),
             Phase::Leader { .. } => Err(StepFault::Ended),
+            Phase::Yielding => Err(StepFault::NotReset),
         }
+    }
+
+    /// What a node does with a reset: one on its way begins the next term of a passive node, which
+    /// passes it on, and one that comes home that of the node that yielded.
+    #[cold]
+    #[inline(never)]
+    fn restart(&mut self, nodes: RingSize, hop: u32) -> Result<(), StepFault>
+        requires { self.old.owed ≡ None }
+        ensures value { advance_answer result self.new ≡ restart_answer nodes self.old.term self.old.phase hop }
+        ensures err { OnErr result (self.new ≡ self.old) }
+    {
+        let whole_ring = u32::from(nodes.get());
+        let passed_on = match self.phase {
+            Phase::Choosing { .. } => return Err(StepFault::MustDraw),
+            Phase::Leader { .. } => return Err(StepFault::Ended),
+            Phase::Passive if hop < whole_ring => Some(Load::Reset(hop + 1)),
+            Phase::Yielding if hop == whole_ring => None,
+            Phase::Active { .. } | Phase::Passive | Phase::Yielding => {
+                return Err(StepFault::WrongReset);
+            }
+        };
+        if self.term >= MAX_NUMBER {
+            return Err(StepFault::TermLimit);
+        }
+        self.term += 1;
+        self.phase = Phase::Choosing { round: 1 };
+        self.owed = passed_on;
+        Ok(())
     }
 
     /// What an active node does with a message: pairs are compared by round, then by ID.
@@ -167,8 +228,8 @@ impl NodeState {
         id: u32,
         message: &Msg,
     ) -> Result<(), StepFault>
-        requires { self.old ≡ free (Phase.Active round id) }
-        ensures value { advance_answer result self.new ≡ compared nodes round id message.now }
+        requires { self.old ≡ free self.old.term (Phase.Active round id) }
+        ensures value { advance_answer result self.new ≡ compared nodes self.old.term round id message.now }
         ensures err { OnErr result (self.new ≡ self.old) }
     {
         let (met, own) = ((message.round, message.id), (round, id));
@@ -184,17 +245,17 @@ impl NodeState {
     /// What a node does with a message that it passes on as a passive one.
     #[inline(always)]
     fn pass(&mut self, message: &Msg) -> Result<(), StepFault>
-        ensures value { advance_answer result self.new ≡ passed message.now }
+        ensures value { advance_answer result self.new ≡ passed self.old.term message.now }
         ensures err { OnErr result (self.new ≡ self.old) }
     {
         if message.hop >= MAX_NUMBER {
             return Err(StepFault::HopLimit);
         }
         self.phase = Phase::Passive;
-        self.owed = Some(Msg {
+        self.owed = Some(Load::Msg(Msg {
             hop: message.hop + 1,
             ..*message
-        });
+        }));
         Ok(())
     }
 
@@ -207,8 +268,8 @@ impl NodeState {
         id: u32,
         message: &Msg,
     ) -> Result<(), StepFault>
-        requires { self.old ≡ free (Phase.Active round id) }
-        ensures value { advance_answer result self.new ≡ own_pair_answer nodes round id message.now }
+        requires { self.old ≡ free self.old.term (Phase.Active round id) }
+        ensures value { advance_answer result self.new ≡ own_pair_answer nodes self.old.term round id message.now }
         ensures err { OnErr result (self.new ≡ self.old) }
     {
         let whole_ring = u32::from(nodes.get());
@@ -216,11 +277,11 @@ impl NodeState {
             return Err(StepFault::HopPast);
         }
         if message.hop < whole_ring {
-            self.owed = Some(Msg {
+            self.owed = Some(Load::Msg(Msg {
                 hop: message.hop + 1,
                 dirty: true,
                 ..*message
-            });
+            }));
             return Ok(());
         }
         if !message.dirty {

@@ -3,7 +3,7 @@
 -- with a receipt.
 use Rattle.std.proofs.Common.{◌≡◌, ◌≢◌, ℕ, zero, suc, ◌+◌, ◌-◌, ◌<◌, ◌≤◌, inl, inr, List, length, refl, ◌∙◌, ap, arith, take, Some}
 use Rattle.ira_event.specs.declared.event.Event.{Event}
-use Rattle.ira_event.specs.declared.msg.Msg.{Msg}
+use Rattle.ira_event.specs.declared.load.Load.{Load}
 use Rattle.ira_event.specs.Log.{Log}
 use Rattle.ira_event.specs.declared.event.Event.TheVariants.{Got}
 use Rattle.ira_order.specs.Ring.{log_of, next, numbered}
@@ -113,7 +113,7 @@ module _ (logs : List Log) (order : List ℕ) (o : IsOrder logs order) where
   ]
 
   -- what comes from another node before an event that is no receipt comes before the event below it
-  pub steady : (i a j b : ℕ) → Before logs i a j (suc b) → i ≢ j → ((m : Msg) → numbered (log_of logs j) (suc b) ≡ Some (Got m) → ⊥) → Before logs i a j b
+  pub steady : (i a j b : ℕ) → Before logs i a j (suc b) → i ≢ j → ((m : Load) → numbered (log_of logs j) (suc b) ≡ Some (Got m) → ⊥) → Before logs i a j b
   steady i a j b h ne quiet =
       let c : CameWith logs i a j (suc b) = came_with i a j (suc b) h ne in
       let at_j : numbered (log_of logs j) c.receipt ≡ Some (Got c.pair.taken) = rw c.link at c.pair.receives in

@@ -2,7 +2,7 @@
 use Rattle.std.proofs.Common.{◌≡◌, ◌≢◌, ℕ, zero, suc, ◌+◌, ◌<◌, ◌≤◌, inl, inr, List, [], length, refl, sym, ◌∙◌, ap, arith, get_or, take, Some, add-one}
 use Rattle.std.specs.List.{cons_option}
 use Rattle.ira_event.specs.declared.event.Event.{Event}
-use Rattle.ira_event.specs.declared.msg.Msg.{Msg}
+use Rattle.ira_event.specs.declared.load.Load.{Load}
 use Rattle.ira_event.specs.Log.{Log}
 use Rattle.ira_event.specs.declared.event.Event.TheVariants.{Sent, Draw}
 use Rattle.ira_order.specs.Ring.{log_of, next, numbered}
@@ -25,7 +25,7 @@ pub record SendingOf (es : List Event) (a : ℕ) : Type 0 where
   pub below : place < length es
   pub rank : length (sent (take a es)) ≡ length (sent (take place es)) + 1
 
-pub sending_of : (es : List Event) (a : ℕ) (m : Msg) → numbered es a ≡ Some (Sent m) → SendingOf es a
+pub sending_of : (es : List Event) (a : ℕ) (m : Load) → numbered es a ≡ Some (Sent m) → SendingOf es a
 sending_of es zero m h = cc
 sending_of es (suc a) m h =
     let l : a < length es = slice_get_within es a (Sent m) h in

@@ -2,9 +2,9 @@
 use Rattle.std.proofs.Common.{◌≡◌, ◌≢◌, ℕ, ◌+◌, ◌<◌, ◌≤◌, inl, inr, List, [], ◌∷◌, ◌++◌, length, refl, sym, ◌∙◌, ap, arith, get_or, take, drop, Some, append-nil, append_assoc, length-append, subst}
 use Rattle.std.specs.Prelude.{slice_get}
 use Rattle.ira_event.specs.declared.event.Event.{Event}
-use Rattle.ira_event.specs.declared.msg.Msg.{Msg}
+use Rattle.ira_event.specs.declared.load.Load.{Load}
 use Rattle.ira_event.specs.Log.{Log}
-use Rattle.ira_event.specs.declared.event.Event.TheVariants.{Sent, Got, Draw}
+use Rattle.ira_event.specs.declared.event.Event.TheVariants.{Sent, Got, Draw, Yield}
 use Rattle.ira_order.specs.Ring.{log_of, next, prev}
 use Rattle.ira_order.specs.Matching.{sent, got, sending, receipt, Matches}
 use Rattle.ira_order.specs.Order.{occurrences}
@@ -19,10 +19,10 @@ use Rattle.std.proofs.lemmas.Option.{slice_get-get_or, get_or_from_slice_get, sl
 use Rattle.std.proofs.lemmas.List.{take_more, take_all, drop_more, length-drop}
 
 -- what the nodes have done (one list of events for each) and what the links hold: received, then held, is sent
-abbrev pub Balanced : ℕ → (ℕ → List Event) → (ℕ → List Msg) → Type 0
+abbrev pub Balanced : ℕ → (ℕ → List Event) → (ℕ → List Load) → Type 0
 Balanced n past link = (k : ℕ) → k < n → got (past (next n k)) ++ link k ≡ sent (past k)
 
-module _ (n i : ℕ) (past past' : ℕ → List Event) (old new : ℕ → List Msg)
+module _ (n i : ℕ) (past past' : ℕ → List Event) (old new : ℕ → List Load)
     (two : 2 ≤ n)
     (here : i < n)
     (same : (j : ℕ) → j ≢ i → past' j ≡ past j)
@@ -33,7 +33,7 @@ module _ (n i : ℕ) (past past' : ℕ → List Event) (old new : ℕ → List M
       let got_i : got (past' i) ≡ got (past i) = ap got more ∙ filter_map-append receipt (past i) (Sent m ∷ []) ∙ append-nil (got (past i)) in
       let got_next : got (past' (next n k)) ≡ got (past (next n k)) = elim (cases_eq (next n k) i) [ inl e ↦ rw e got_i | inr ne ↦ ap got (same (next n k) ne) ] in
       elim (cases_eq k i) [
-        | inl e ↦ rw (got_next, e, step.0, sent_i) (let b : got (past (next n i)) ++ old i ≡ sent (past i) = balanced i here in sym (append_assoc (got (past (next n i))) (old i) (m ∷ [])) ∙ ap (λ (x : List Msg). x ++ m ∷ []) b)
+        | inl e ↦ rw (got_next, e, step.0, sent_i) (let b : got (past (next n i)) ++ old i ≡ sent (past i) = balanced i here in sym (append_assoc (got (past (next n i))) (old i) (m ∷ [])) ∙ ap (λ (x : List Load). x ++ m ∷ []) b)
         | inr ne ↦ rw (got_next, step.1 k lk ne, same k ne) (balanced k lk)
       ]
   balanced_step (Got m) more step k lk =
@@ -45,7 +45,7 @@ module _ (n i : ℕ) (past past' : ℕ → List Event) (old new : ℕ → List M
             let q : k ≡ prev n i = prev_next n i k here lk e in
             let first : old k ≡ m ∷ new k = rw q step.0 in
             let b : got (past i) ++ old k ≡ sent (past k) = rw e at (balanced k lk) in
-            rw (e, sent_k, got_i) (append_assoc (got (past i)) (m ∷ []) (new k) ∙ ap (λ (x : List Msg). got (past i) ++ x) (sym first) ∙ b)
+            rw (e, sent_k, got_i) (append_assoc (got (past i)) (m ∷ []) (new k) ∙ ap (λ (x : List Load). got (past i) ++ x) (sym first) ∙ b)
         | inr ne ↦
             let other : k ≢ prev n i = λ q. ne (ap (next n) q ∙ next_prev n i here) in
             rw (sent_k, step.1 k lk other, same (next n k) ne) (balanced k lk)
@@ -56,13 +56,19 @@ module _ (n i : ℕ) (past past' : ℕ → List Event) (old new : ℕ → List M
       let sent_k : sent (past' k) ≡ sent (past k) = elim (cases_eq k i) [ inl e ↦ rw e sent_i | inr ne ↦ ap sent (same k ne) ] in
       let got_next : got (past' (next n k)) ≡ got (past (next n k)) = elim (cases_eq (next n k) i) [ inl e ↦ rw e got_i | inr ne ↦ ap got (same (next n k) ne) ] in
       rw (got_next, sent_k, step k lk) (balanced k lk)
+  balanced_step Yield more step k lk =
+      let got_i : got (past' i) ≡ got (past i) = ap got more ∙ filter_map-append receipt (past i) (Yield ∷ []) ∙ append-nil (got (past i)) in
+      let sent_i : sent (past' i) ≡ sent (past i) = ap sent more ∙ filter_map-append sending (past i) (Yield ∷ []) ∙ append-nil (sent (past i)) in
+      let sent_k : sent (past' k) ≡ sent (past k) = elim (cases_eq k i) [ inl e ↦ rw e sent_i | inr ne ↦ ap sent (same k ne) ] in
+      let got_next : got (past' (next n k)) ≡ got (past (next n k)) = elim (cases_eq (next n k) i) [ inl e ↦ rw e got_i | inr ne ↦ ap got (same (next n k) ne) ] in
+      rw (got_next, sent_k, step k lk) (balanced k lk)
 
 -- where received, then held, is sent, the logs match
-pub balanced_matches : (logs : List Log) (link : ℕ → List Msg) → Balanced (length logs) (log_of logs) link → Matches logs
+pub balanced_matches : (logs : List Log) (link : ℕ → List Load) → Balanced (length logs) (log_of logs) link → Matches logs
 balanced_matches logs link balanced i l = all_begun (log_of logs i) (log_of logs (next (length logs) i)) (link i) (balanced i l)
 
 -- and there are no more receipts than sendings
-pub balanced_fewer : (n : ℕ) (past : ℕ → List Event) (link : ℕ → List Msg) → Balanced n past link → (k : ℕ) → k < n → length (got (past (next n k))) ≤ length (sent (past k))
+pub balanced_fewer : (n : ℕ) (past : ℕ → List Event) (link : ℕ → List Load) → Balanced n past link → (k : ℕ) → k < n → length (got (past (next n k))) ≤ length (sent (past k))
 balanced_fewer n past link balanced k l = omega (arith, length-append (got (past (next n k))) (link k), ap length (balanced k l))
 
 cons_nil : (x : ℕ × Event) (r : List (ℕ × Event)) → x ∷ r ≡ [] → ⊥
@@ -88,13 +94,13 @@ module _ (logs : List Log) (order : List ℕ) (run : List (ℕ × Event))
       )
 
   -- the links are balanced at each point of a run
-  walk : (r : List (ℕ × Event)) (t : ℕ) (c : Configuration) → r ≡ drop t run → Balanced (length logs) (past t) c.link → Chains (length logs) c r → (u : ℕ) → t ≤ u → u ≤ length run → (link : ℕ → List Msg) × Balanced (length logs) (past u) link
+  walk : (r : List (ℕ × Event)) (t : ℕ) (c : Configuration) → r ≡ drop t run → Balanced (length logs) (past t) c.link → Chains (length logs) c r → (u : ℕ) → t ≤ u → u ≤ length run → (link : ℕ → List Load) × Balanced (length logs) (past u) link
   walk r t c is balanced chain u l lu = elim (cases_eq t u) [
     | inl e ↦ (c.link, (let P : ℕ → Type 0 = λ x. Balanced (length logs) (past x) c.link in subst P e balanced))
     | inr ne ↦ on r t c is balanced chain u (omega arith) lu
   ]
     where
-      on : (r : List (ℕ × Event)) (t : ℕ) (c : Configuration) → r ≡ drop t run → Balanced (length logs) (past t) c.link → Chains (length logs) c r → (u : ℕ) → t < u → u ≤ length run → (link : ℕ → List Msg) × Balanced (length logs) (past u) link
+      on : (r : List (ℕ × Event)) (t : ℕ) (c : Configuration) → r ≡ drop t run → Balanced (length logs) (past t) c.link → Chains (length logs) c r → (u : ℕ) → t < u → u ≤ length run → (link : ℕ → List Load) × Balanced (length logs) (past u) link
       on [] t c is balanced chain u l lu = absurd (let none : length (drop t run) ≡ 0 = ap length (sym is) in omega (arith, length-drop t run))
       on (x ∷ r) t c is balanced chain u l lu =
           let here : t < length run = omega arith in
@@ -111,7 +117,7 @@ module _ (logs : List Log) (order : List ℕ) (run : List (ℕ × Event))
             | inr ne ↦ on r (t + 1) d tail next_balanced chain.2 u (omega arith) lu
           ]
 
-  pub run_balanced : Chains (length logs) (opening logs) run → (u : ℕ) → u ≤ length run → (link : ℕ → List Msg) × Balanced (length logs) (past u) link
+  pub run_balanced : Chains (length logs) (opening logs) run → (u : ℕ) → u ≤ length run → (link : ℕ → List Load) × Balanced (length logs) (past u) link
   run_balanced chain u lu = walk run 0 (opening logs) refl (λ k lk. refl) chain u (omega arith) lu
 
   -- each point of a run has no more receipts than sendings on a link

@@ -3,9 +3,9 @@ use Rattle.std.proofs.Common.{◌≡◌, ◌≢◌, ℕ, zero, suc, ◌+◌, ◌
 use Rattle.std.specs.List.{cons_option}
 use Rattle.std.specs.Prelude.{slice_get}
 use Rattle.ira_event.specs.declared.event.Event.{Event}
-use Rattle.ira_event.specs.declared.msg.Msg.{Msg}
+use Rattle.ira_event.specs.declared.load.Load.{Load}
 use Rattle.ira_event.specs.Log.{Log}
-use Rattle.ira_event.specs.declared.event.Event.TheVariants.{Got, Sent, Draw}
+use Rattle.ira_event.specs.declared.event.Event.TheVariants.{Got, Sent, Draw, Yield}
 use Rattle.ira_order.specs.Ring.{log_of, next, prev, numbered}
 use Rattle.ira_order.specs.Matching.{got, sending, receipt, Matches}
 use Rattle.ira_order.specs.Order.{IsOrder, IsPair}
@@ -54,7 +54,7 @@ count_first logs j i = record {
 }
 
 -- a receipt has its sending
-pub sending_before : (logs : List Log) → Matches logs → (k b : ℕ) (m : Msg) → k < length logs → slice_get (log_of logs (next (length logs) k)) b ≡ Some (Got m) → (a : ℕ) × IsPair logs k a (suc b)
+pub sending_before : (logs : List Log) → Matches logs → (k b : ℕ) (m : Load) → k < length logs → slice_get (log_of logs (next (length logs) k)) b ≡ Some (Got m) → (a : ℕ) × IsPair logs k a (suc b)
 sending_before logs matches k b m lk is =
     let within : b < length (log_of logs (next (length logs) k)) = slice_get_within (log_of logs (next (length logs) k)) b (Got m) is in
     let e : get_or (log_of logs (next (length logs) k)) b (Draw 0) ≡ Got m = get_or_from_slice_get (log_of logs (next (length logs) k)) b (Got m) (Draw 0) is in
@@ -91,7 +91,7 @@ module _ (logs : List Log) (order : List ℕ) (o : IsOrder logs order) where
   )
 
   -- an event that is no receipt counts of the other nodes what the one before it does
-  pub count_stays : (j b i n : ℕ) → j < length logs → i ≢ j → suc b ≤ length (log_of logs j) → ((m : Msg) → numbered (log_of logs j) (suc b) ≡ Some (Got m) → ⊥) → IsCount logs j b i n → IsCount logs j (suc b) i n
+  pub count_stays : (j b i n : ℕ) → j < length logs → i ≢ j → suc b ≤ length (log_of logs j) → ((m : Load) → numbered (log_of logs j) (suc b) ≡ Some (Got m) → ⊥) → IsCount logs j b i n → IsCount logs j (suc b) i n
   count_stays j b i n lj ne l quiet count = record {
     within = count.within;
     events = λ a one. (
@@ -132,21 +132,22 @@ module _ (logs : List Log) (order : List ℕ) (o : IsOrder logs order) where
       (covers : Covers logs at)
       (stamped : CountsSent logs stamps at) where
     -- a receipt up to there counts as its sending
-    counts_receipt : (k b : ℕ) (m : Msg) → k < length logs → suc b ≤ at (next (length logs) k) → slice_get (log_of logs (next (length logs) k)) b ≡ Some (Got m) → CountsAt logs stamps (next (length logs) k) (suc b)
+    counts_receipt : (k b : ℕ) (m : Load) → k < length logs → suc b ≤ at (next (length logs) k) → slice_get (log_of logs (next (length logs) k)) b ≡ Some (Got m) → CountsAt logs stamps (next (length logs) k) (suc b)
     counts_receipt k b m lk l is =
         let p = sending_before logs matches k b m lk is in
         stamped k p.0 (suc b) p.1 (covers_consistent logs at covers k p.0 (next (length logs) k) (suc b) (message refl p.1) l)
 
-    counts_other : (j b : ℕ) (e : Event) → j < length logs → slice_get (log_of logs j) b ≡ Some e → ((m : Msg) → e ≡ Got m → ⊥) → CountsAt logs stamps j b → CountsAt logs stamps j (suc b)
+    counts_other : (j b : ℕ) (e : Event) → j < length logs → slice_get (log_of logs j) b ≡ Some e → ((m : Load) → e ≡ Got m → ⊥) → CountsAt logs stamps j b → CountsAt logs stamps j (suc b)
     counts_other j b e lj is never before i li ne =
         let within : b < length (log_of logs j) = slice_get_within (log_of logs j) b e is in
         let same : receipts_by logs j (suc b) ≡ receipts_by logs j b = no_more e (get_or_from_slice_get (log_of logs j) b e (Draw 0) is) never within in
         rw same (count_stays j b i _ lj ne (omega arith) (λ m q. never m (let z : Some e ≡ Some (Got m) = sym is ∙ q in cc)) (before i li ne))
       where
-        no_more : (e : Event) → get_or (log_of logs j) b (Draw 0) ≡ e → ((m : Msg) → e ≡ Got m → ⊥) → b < length (log_of logs j) → receipts_by logs j (suc b) ≡ receipts_by logs j b
+        no_more : (e : Event) → get_or (log_of logs j) b (Draw 0) ≡ e → ((m : Load) → e ≡ Got m → ⊥) → b < length (log_of logs j) → receipts_by logs j (suc b) ≡ receipts_by logs j b
         no_more (Got m) at_e never l = absurd (never m refl)
         no_more (Sent m) at_e never l = rw (← add-one b) (rank_more receipt (log_of logs j) b (Draw 0) l ∙ ap (λ (x : Event). receipts_by logs j b + length (cons_option (receipt x) [])) at_e ∙ add-zero (receipts_by logs j b))
         no_more (Draw m) at_e never l = rw (← add-one b) (rank_more receipt (log_of logs j) b (Draw 0) l ∙ ap (λ (x : Event). receipts_by logs j b + length (cons_option (receipt x) [])) at_e ∙ add-zero (receipts_by logs j b))
+        no_more Yield at_e never l = rw (← add-one b) (rank_more receipt (log_of logs j) b (Draw 0) l ∙ ap (λ (x : Event). receipts_by logs j b + length (cons_option (receipt x) [])) at_e ∙ add-zero (receipts_by logs j b))
 
     -- where each receipt counts as its sending, each event's counters count
     pub counts_all : (j b : ℕ) → j < length logs → b ≤ at j → b ≤ length (log_of logs j) → CountsAt logs stamps j b
@@ -161,3 +162,4 @@ module _ (logs : List Log) (order : List ℕ) (o : IsOrder logs order) where
             rw e at (counts_receipt (prev (length logs) j) b m (prev_below (length logs) j lj) (rw e l) is')
         by_event (Sent m) is before = counts_other j b (Sent m) lj is (λ n q. cc) before
         by_event (Draw m) is before = counts_other j b (Draw m) lj is (λ n q. cc) before
+        by_event Yield is before = counts_other j b Yield lj is (λ n q. cc) before

@@ -3,7 +3,7 @@ use Rattle.std.proofs.Common.{◌≡◌, ◌≢◌, ℕ, suc, ◌+◌, ◌-◌, 
 use Rattle.std.specs.Prelude.{slice_get}
 use Rattle.ira_event.specs.declared.event.Event.{Event}
 use Rattle.ira_event.specs.declared.event.Event.TheVariants.{Sent}
-use Rattle.ira_event.specs.declared.msg.Msg.{Msg}
+use Rattle.ira_event.specs.declared.load.Load.{Load}
 use Rattle.ira_event.specs.Log.{Log}
 use Rattle.ira_order.specs.Ring.{log_of, next, prev, events_of}
 use Rattle.ira_order.specs.Matching.{sent, got, sending, receipt}
@@ -152,11 +152,11 @@ module _ (logs : List Log) (schedule : List ℕ) (ordered : IsOrdered (record { 
           (prefix_step logs done sents gots (take t schedule) (get_or schedule t 0) e prefix ordered.logs.ring.0 in_ring can_go (sym (get_or_from_slice_get (log_of logs (get_or schedule t 0)) (occurrences (take t schedule) (get_or schedule t 0)) e e is)))
 
       -- an event that is no sending
-      pub stamps_stay : (stamps : List NodeStamps) → ((m : Msg) → e ≡ Sent m → ⊥) → CountsSent logs stamps (occurrences (take t schedule)) → CountsSent logs stamps (occurrences (take (t + 1) schedule))
+      pub stamps_stay : (stamps : List NodeStamps) → ((m : Load) → e ≡ Sent m → ⊥) → CountsSent logs stamps (occurrences (take t schedule)) → CountsSent logs stamps (occurrences (take (t + 1) schedule))
       stamps_stay stamps never stamped =
           sent_stays logs schedule ordered.order ordered.matches (occurrences (take t schedule)) (occurrences (take (t + 1) schedule)) (get_or schedule t 0) stamps in_ring one_on others_stay (covers_at t (omega arith)) stamped e is never
 
-      pub stamps_kept : (stamps : List NodeStamps) → ((m : Msg) → e ≡ Sent m → ⊥) → CountsSent logs stamps (occurrences (take t schedule)) → HaveStamps logs stamps (occurrences (take t schedule)) → HaveStamps logs stamps (occurrences (take (t + 1) schedule))
+      pub stamps_kept : (stamps : List NodeStamps) → ((m : Load) → e ≡ Sent m → ⊥) → CountsSent logs stamps (occurrences (take t schedule)) → HaveStamps logs stamps (occurrences (take t schedule)) → HaveStamps logs stamps (occurrences (take (t + 1) schedule))
       stamps_kept stamps never stamped have =
           stamps_same logs schedule ordered.order ordered.matches (occurrences (take t schedule)) (occurrences (take (t + 1) schedule)) (get_or schedule t 0) stamps in_ring one_on others_stay (covers_at t (omega arith)) stamped e is never have
 
@@ -172,7 +172,7 @@ module _ (logs : List Log) (schedule : List ℕ) (ordered : IsOrdered (record { 
         omega (arith, kept, mul-le h (length logs) (min (length (sent (take (occurrences (take t schedule) k) (log_of logs k)))) (length (got (log_of logs (get_or schedule t 0))))) (length logs) low (omega arith))
 
     -- a sending
-    module _ (old new : List NodeStamps) (m : Msg) (a h s : ℕ)
+    module _ (old new : List NodeStamps) (m : Load) (a h s : ℕ)
         (is : slice_get (log_of logs (get_or schedule t 0)) (occurrences (take t schedule) (get_or schedule t 0)) ≡ Some (Sent m))
         (a_is : a ≡ occurrences (take t schedule) (get_or schedule t 0))
         (h_is : h ≡ receipts_by logs (get_or schedule t 0) (occurrences (take t schedule) (get_or schedule t 0)))

@@ -2,8 +2,8 @@
 use Rattle.std.proofs.Common.{◌≡◌, ◌≢◌, ℕ, zero, suc, ◌<◌, ◌≤◌, ◌⊎◌, inl, inr, List, [], ◌∷◌, ◌++◌, length, refl, sym, ◌∙◌, arith, get_or, Some}
 use Rattle.std.specs.Prelude.{slice_get, slice_index}
 use Rattle.ira_event.specs.declared.event.Event.{Event}
-use Rattle.ira_event.specs.declared.msg.Msg.{Msg}
-use Rattle.ira_event.specs.declared.event.Event.TheVariants.{Draw, Sent, Got}
+use Rattle.ira_event.specs.declared.load.Load.{Load}
+use Rattle.ira_event.specs.declared.event.Event.TheVariants.{Draw, Sent, Got, Yield}
 use Rattle.ira_event.specs.Log.{Log}
 use Rattle.ira_order.specs.Ring.{log_of, next, prev, numbered}
 use Rattle.ira_order.specs.Matching.{Matches}
@@ -38,7 +38,7 @@ module _ (logs : List Log) (order : List ℕ) (o : IsOrder logs order) (matches 
   Counted t i = (s k a : ℕ) → s < t → StandsAt order s k a → k < length logs → a ≤ length (log_of logs k) → (m : ℕ) × IsCount logs k a i m
 
   -- then so does a receipt at place t
-  receipt_counts : (k b t i : ℕ) (m : Msg) → k < length logs → slice_get (log_of logs (next (length logs) k)) b ≡ Some (Got m) → i ≢ next (length logs) k → StandsAt order t (next (length logs) k) (suc b) → Counted t i → (m : ℕ) × IsCount logs (next (length logs) k) (suc b) i m
+  receipt_counts : (k b t i : ℕ) (m : Load) → k < length logs → slice_get (log_of logs (next (length logs) k)) b ≡ Some (Got m) → i ≢ next (length logs) k → StandsAt order t (next (length logs) k) (suc b) → Counted t i → (m : ℕ) × IsCount logs (next (length logs) k) (suc b) i m
   receipt_counts k b t i m lk is other stands earlier =
       let p = sending_before logs matches k b m lk is in
       let w = before_within logs k p.0 (next (length logs) k) (suc b) (message refl p.1) in
@@ -48,7 +48,7 @@ module _ (logs : List Log) (order : List ℕ) (o : IsOrder logs order) (matches 
 
   -- and so does each event b + 1 of another node j, which stands at place t
   module _ (t j b i : ℕ) (stands : StandsAt order t j (suc b)) (lj : j < length logs) (l : suc b ≤ length (log_of logs j)) (other : i ≢ j) (earlier : Counted t i) where
-    quiet : ((m : Msg) → numbered (log_of logs j) (suc b) ≡ Some (Got m) → ⊥) → (m : ℕ) × IsCount logs j (suc b) i m
+    quiet : ((m : Load) → numbered (log_of logs j) (suc b) ≡ Some (Got m) → ⊥) → (m : ℕ) × IsCount logs j (suc b) i m
     quiet never = elim (cases_eq b 0) [
       | inl none ↦ (0, count_stays logs order o j b i 0 lj other l never (rw none (count_first logs j i)))
       | inr some ↦
@@ -58,7 +58,7 @@ module _ (logs : List Log) (order : List ℕ) (o : IsOrder logs order) (matches 
           (m.0, count_stays logs order o j b i m.0 lj other l never m.1)
     ]
 
-    taken : (m : Msg) → slice_get (log_of logs j) b ≡ Some (Got m) → (m : ℕ) × IsCount logs j (suc b) i m
+    taken : (m : Load) → slice_get (log_of logs j) b ≡ Some (Got m) → (m : ℕ) × IsCount logs j (suc b) i m
     taken m is =
         let link : next (length logs) (prev (length logs) j) ≡ j = next_prev (length logs) j lj in
         rw link at (receipt_counts (prev (length logs) j) b t i m (prev_below (length logs) j lj) (rw link is) (rw link other) (rw link stands) earlier)
@@ -67,6 +67,7 @@ module _ (logs : List Log) (order : List ℕ) (o : IsOrder logs order) (matches 
     by_event (Got m) is = taken m is
     by_event (Sent m) is = quiet (λ n q. (let z : Some (Sent m) ≡ Some (Got n) = sym is ∙ q in cc))
     by_event (Draw m) is = quiet (λ n q. (let z : Some (Draw m) ≡ Some (Got n) = sym is ∙ q in cc))
+    by_event Yield is = quiet (λ n q. (let z : Some Yield ≡ Some (Got n) = sym is ∙ q in cc))
 
   by_place : (t i : ℕ) → i < length logs → Counted t i
   by_place zero i li s k a lt stands lk l = absurd (omega arith)

@@ -2,8 +2,10 @@
 use Rattle.std.proofs.Common.{◌≡◌, ℕ, zero, suc, ◌+◌, ◌<◌, ◌≤◌, ◌⊎◌, inl, inr, Bool, true, false, List, [], ◌∷◌, length, refl, sym, ◌∙◌, ap, subst, arith}
 use Rattle.std.proofs.lemmas.Bool.{cases_eq}
 use Rattle.ira_event.specs.declared.event.Event.{Event}
-use Rattle.ira_event.specs.declared.event.Event.TheVariants.{Draw, Sent, Got}
+use Rattle.ira_event.specs.declared.event.Event.TheVariants.{Draw, Sent, Got, Yield}
 use Rattle.ira_event.specs.declared.msg.Msg.{Msg}
+use Rattle.ira_event.specs.declared.load.Load.{Load}
+use Rattle.ira_event.specs.declared.load.Load.TheVariants.{Msg as Message, Reset}
 use Rattle.ira_event.specs.Log.{Log}
 use Rattle.ira_event.proofs.TextsAnswered.{Decided}
 use Rattle.ira_order.specs.declared.match_fault.MatchFault.{MatchFault}
@@ -39,20 +41,34 @@ same_message m n = elim (cases_eq m.round n.round) [
   ]
 ]
 
+same_load : (a b : Load) → Decided (a ≡ b)
+same_load (Message m) (Message n) = elim (same_message m n) [ inl e ↦ inl (ap Message e) | inr ne ↦ inr (λ e. ne (inside m n e)) ]
+  where
+    inside : (m n : Msg) → Message m ≡ Message n → m ≡ n
+    inside m n e = cc
+same_load (Reset g) (Reset h) = elim (cases_eq g h) [ inl e ↦ inl (ap Reset e) | inr ne ↦ inr (λ e. ne (inside g h e)) ]
+  where
+    inside : (g h : ℕ) → Reset g ≡ Reset h → g ≡ h
+    inside g h e = cc
+same_load (Message m) (Reset h) = inr (λ e. cc)
+same_load (Reset g) (Message n) = inr (λ e. cc)
+
 -- the events send nothing, or there is a first sending
-next_sending : (events : List Event) → (sent events ≡ []) ⊎ ((n : Msg) × (later : List Event) × (sent events ≡ n ∷ sent later))
+next_sending : (events : List Event) → (sent events ≡ []) ⊎ ((n : Load) × (later : List Event) × (sent events ≡ n ∷ sent later))
 next_sending [] = inl refl
 next_sending (Sent n ∷ events) = inr (n, events, refl)
 next_sending (Draw id ∷ events) = next_sending events
+next_sending (Yield ∷ events) = next_sending events
 next_sending (Got m ∷ events) = next_sending events
 
 paired_or_fault : (i : ℕ) (writer reader ahead left : List Event) (k : ℕ) → PairedSoFar writer reader ahead left k → ((h : ℕ) → IsPaired writer reader h) ⊎ ((f : MatchFault) × IsLinkFault i writer reader f)
 paired_or_fault i writer reader ahead [] k p = inl (paired_all writer reader ahead [] k p refl)
 paired_or_fault i writer reader ahead (Draw id ∷ left) k p = paired_or_fault i writer reader ahead left k (paired_over writer reader ahead left (Draw id) k (λ m e. cc) p)
+paired_or_fault i writer reader ahead (Yield ∷ left) k p = paired_or_fault i writer reader ahead left k (paired_over writer reader ahead left Yield k (λ m e. cc) p)
 paired_or_fault i writer reader ahead (Sent n ∷ left) k p = paired_or_fault i writer reader ahead left k (paired_over writer reader ahead left (Sent n) k (λ m e. cc) p)
 paired_or_fault i writer reader ahead (Got m ∷ left) k p = elim (next_sending ahead) [
   | inl none ↦ inr (NoSending i (k + 1), missing_at i writer reader ahead (Got m ∷ left) left m k p refl none)
-  | inr some ↦ elim (same_message some.0 m) [
+  | inr some ↦ elim (same_load some.0 m) [
     | inl same ↦ paired_or_fault i writer reader some.1 left (k + 1) (paired_more writer reader ahead some.1 (Got m ∷ left) left m some.0 k p refl some.2 same)
     | inr differ ↦ inr (Differs i (k + 1), other_at i writer reader ahead some.1 (Got m ∷ left) left m some.0 k p refl some.2 differ)
   ]

@@ -1,9 +1,9 @@
 -- One more event at the end of the beginning of an order.
 use Rattle.std.proofs.Common.{◌≡◌, ◌≢◌, ℕ, zero, suc, ◌+◌, ◌-◌, ◌<◌, ◌≤◌, inl, inr, ◌↔◌, List, [], ◌∷◌, ◌++◌, length, refl, sym, ◌∙◌, ap, arith, get_or, set, take, IsTrue, Option, Some, None, length-append, get_or-set_same, get_or-set_other, length-set, leb, replicate, append_assoc}
 use Rattle.ira_event.specs.declared.event.Event.{Event}
-use Rattle.ira_event.specs.declared.msg.Msg.{Msg}
+use Rattle.ira_event.specs.declared.load.Load.{Load}
 use Rattle.ira_event.specs.Log.{Log}
-use Rattle.ira_event.specs.declared.event.Event.TheVariants.{Sent, Got, Draw}
+use Rattle.ira_event.specs.declared.event.Event.TheVariants.{Sent, Got, Draw, Yield}
 use Rattle.std.specs.List.{filter_map, cons_option}
 use Rattle.ira_order.specs.Ring.{log_of, next, events_of}
 use Rattle.ira_order.specs.Matching.{sent, got, sending, receipt}
@@ -20,17 +20,17 @@ use Rattle.std.proofs.lemmas.List.Sums.{sum_by_push, sum_by-set}
 use Rattle.std.proofs.lemmas.Bool.{leb-true, le-leb, ne_eqb, eq-eqb, cases_lt, cases_eq}
 use Rattle.std.proofs.lemmas.Bool.Decides.{nat_tests}
 
-pub rank_le : (h : Event → Option Msg) (es : List Event) (n : ℕ) → length (filter_map h (take n es)) ≤ n
+pub rank_le : (h : Event → Option Load) (es : List Event) (n : ℕ) → length (filter_map h (take n es)) ≤ n
 rank_le h es zero = omega arith
 rank_le h [] (suc n) = omega arith
 rank_le h (e ∷ es) (suc n) = by_case (h e) (filter_map h (take n es)) (rank_le h es n)
   where
-    by_case : (o : Option Msg) (xs : List Msg) → length xs ≤ n → length (cons_option o xs) ≤ suc n
+    by_case : (o : Option Load) (xs : List Load) → length xs ≤ n → length (cons_option o xs) ≤ suc n
     by_case None xs l = omega arith
     by_case (Some x) xs l = omega arith
 
 -- an event more, counted
-pub rank_more : (h : Event → Option Msg) (es : List Event) (i : ℕ) (d : Event) → i < length es → length (filter_map h (take (i + 1) es)) ≡ length (filter_map h (take i es)) + length (cons_option (h (get_or es i d)) [])
+pub rank_more : (h : Event → Option Load) (es : List Event) (i : ℕ) (d : Event) → i < length es → length (filter_map h (take (i + 1) es)) ≡ length (filter_map h (take i es)) + length (cons_option (h (get_or es i d)) [])
 rank_more h es i d l = ap length (filter_map_more h es i d l) ∙ length-append (filter_map h (take i es)) (cons_option (h (get_or es i d)) [])
 
 -- the one link that leads to a node
@@ -255,13 +255,15 @@ module _ (logs : List Log) (done sents gots places : List ℕ) (i at sent got : 
       ]
 
 -- an event that is no sending
-pub sends_nothing : (e : Event) → ((m : Msg) → e ≡ Sent m → ⊥) → sent_by e ≡ 0
+pub sends_nothing : (e : Event) → ((m : Load) → e ≡ Sent m → ⊥) → sent_by e ≡ 0
 sends_nothing (Draw id) never = refl
+sends_nothing Yield never = refl
 sends_nothing (Sent m) never = absurd (never m refl)
 sends_nothing (Got m) never = refl
 
 -- an event that is no receipt
-pub receives_nothing : (e : Event) → ((m : Msg) → e ≡ Got m → ⊥) → got_by e ≡ 0
+pub receives_nothing : (e : Event) → ((m : Load) → e ≡ Got m → ⊥) → got_by e ≡ 0
 receives_nothing (Draw id) never = refl
+receives_nothing Yield never = refl
 receives_nothing (Sent m) never = refl
 receives_nothing (Got m) never = absurd (never m refl)

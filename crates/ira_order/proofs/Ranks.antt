@@ -3,7 +3,7 @@ use Rattle.std.proofs.Common.{◌≡◌, ◌≢◌, ℕ, zero, suc, ◌+◌, ◌
 use Rattle.ira_order.specs.Ring.{next}
 use Rattle.ira_order.specs.Order.{occurrences}
 use Rattle.ira_event.specs.declared.event.Event.{Event}
-use Rattle.ira_event.specs.declared.msg.Msg.{Msg}
+use Rattle.ira_event.specs.declared.load.Load.{Load}
 use Rattle.std.specs.List.{filter_map, cons_option}
 use Rattle.std.proofs.lemmas.Bool.{ne_eqb}
 use Rattle.std.proofs.lemmas.Bool.Decides.{nat_tests}
@@ -12,25 +12,25 @@ use Rattle.std.proofs.lemmas.List.Elements.{filter_map-append}
 use Rattle.std.proofs.lemmas.List.Sums.{sum_by-take-le, count_by_more_yes, count_by_more_no}
 
 -- what one more event adds
-pub filter_map_more : (h : Event → Option Msg) (es : List Event) (i : ℕ) (d : Event) → i < length es → filter_map h (take (i + 1) es) ≡ filter_map h (take i es) ++ cons_option (h (get_or es i d)) []
+pub filter_map_more : (h : Event → Option Load) (es : List Event) (i : ℕ) (d : Event) → i < length es → filter_map h (take (i + 1) es) ≡ filter_map h (take i es) ++ cons_option (h (get_or es i d)) []
 filter_map_more h es i d l = rw (take_more es i d l) (filter_map-append h (take i es) (get_or es i d ∷ []))
 
 -- the messages before, of and after an event
-pub filter_map_split : (h : Event → Option Msg) (es : List Event) (i : ℕ) (d : Event) → i < length es → filter_map h es ≡ filter_map h (take i es) ++ cons_option (h (get_or es i d)) (filter_map h (drop (i + 1) es))
+pub filter_map_split : (h : Event → Option Load) (es : List Event) (i : ℕ) (d : Event) → i < length es → filter_map h es ≡ filter_map h (take i es) ++ cons_option (h (get_or es i d)) (filter_map h (drop (i + 1) es))
 filter_map_split h es i d l =
     ap (filter_map h) (sym (take-append-drop i es))
     ∙ filter_map-append h (take i es) (drop i es)
     ∙ ap (λ (r : List Event). filter_map h (take i es) ++ filter_map h r) (drop_more es i d l)
 
 -- a longer beginning has no fewer
-pub rank_mono : (h : Event → Option Msg) (es : List Event) (m n : ℕ) → m ≤ n → length (filter_map h (take m es)) ≤ length (filter_map h (take n es))
+pub rank_mono : (h : Event → Option Load) (es : List Event) (m n : ℕ) → m ≤ n → length (filter_map h (take m es)) ≤ length (filter_map h (take n es))
 rank_mono h es zero n l = omega arith
 rank_mono h [] (suc m) zero l = absurd (omega arith)
 rank_mono h [] (suc m) (suc n) l = omega arith
 rank_mono h (e ∷ es) (suc m) zero l = absurd (omega arith)
 rank_mono h (e ∷ es) (suc m) (suc n) l = longer (h e) _ _ (rank_mono h es m n (omega arith))
   where
-    longer : (o : Option Msg) (xs ys : List Msg) → length xs ≤ length ys → length (cons_option o xs) ≤ length (cons_option o ys)
+    longer : (o : Option Load) (xs ys : List Load) → length xs ≤ length ys → length (cons_option o xs) ≤ length (cons_option o ys)
     longer None xs ys q = q
     longer (Some x) xs ys q = omega (arith, q)
 

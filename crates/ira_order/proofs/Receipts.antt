@@ -12,7 +12,7 @@ use Rattle.ira_order.specs.Stamps.{receipts_by, AreReceipts}
 use Rattle.ira_order.proofs.Ranks.{rank_mono}
 use Rattle.ira_order.proofs.OrderPrefixes.{rank_le, rank_more, receives_nothing}
 use Rattle.std.specs.Prelude.{slice_get}
-use Rattle.ira_event.specs.declared.msg.Msg.{Msg}
+use Rattle.ira_event.specs.declared.load.Load.{Load}
 use Rattle.std.proofs.lemmas.Option.{slice_get-get_or, get_or_from_slice_get, slice_get_within}
 use Rattle.std.proofs.lemmas.List.{take_all, get_or_append_left, get_or-append_right, get_or_default}
 use Rattle.std.proofs.lemmas.Bool.{leb-true, le-leb, cases_lt, cases_eq}
@@ -25,7 +25,7 @@ abbrev received : Log → ℕ
 received log = length (got log.events)
 
 abbrev no_log : Log
-no_log = record { nodes = 0; place = 0; initiator = false; events = [] }
+no_log = record { version = 0; nodes = 0; place = 0; initiator = false; events = [] }
 
 received_is : (logs : List Log) (j : ℕ) → j < length logs → received (get_or logs j no_log) ≡ length (got (log_of logs j))
 received_is logs j l = sym (ap (λ o. length (got (events_of o))) (slice_get-get_or logs j no_log l))
@@ -81,13 +81,13 @@ pub record HasNumbers (es : List Event) (n : ℕ) (numbers : List ℕ) : Type 0 
   pub count : length numbers ≡ length (got (take n es))
   pub upto : (r x : ℕ) → r < length numbers → (slice_index numbers r ≤ x) ↔ (r < length (got (take x es)))
 
-pub number_over : (es : List Event) (n : ℕ) (e : Event) (numbers : List ℕ) → slice_get es n ≡ Some e → ((m : Msg) → e ≡ Got m → ⊥) → HasNumbers es n numbers → HasNumbers es (n + 1) numbers
+pub number_over : (es : List Event) (n : ℕ) (e : Event) (numbers : List ℕ) → slice_get es n ≡ Some e → ((m : Load) → e ≡ Got m → ⊥) → HasNumbers es n numbers → HasNumbers es (n + 1) numbers
 number_over es n e numbers is never h = record {
   count = omega (arith, h.count, got_more es n e is, receives_nothing e never);
   upto = h.upto;
 }
 
-pub number_more : (es : List Event) (n : ℕ) (m : Msg) (numbers : List ℕ) → slice_get es n ≡ Some (Got m) → HasNumbers es n numbers → HasNumbers es (n + 1) (numbers ++ (n + 1) ∷ [])
+pub number_more : (es : List Event) (n : ℕ) (m : Load) (numbers : List ℕ) → slice_get es n ≡ Some (Got m) → HasNumbers es n numbers → HasNumbers es (n + 1) (numbers ++ (n + 1) ∷ [])
 number_more es n m numbers is h = record {
   count = omega (arith, length-append numbers ((n + 1) ∷ []), h.count, one_more);
   upto = λ r x l. elim (cases_lt r (length numbers)) [

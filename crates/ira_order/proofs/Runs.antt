@@ -3,9 +3,9 @@ use Rattle.std.proofs.Common.{◌≡◌, ◌≢◌, ℕ, zero, suc, ◌+◌, ◌
 use Rattle.std.specs.Prelude.{slice_get}
 use Rattle.std.specs.List.{cons_option}
 use Rattle.ira_event.specs.declared.event.Event.{Event}
-use Rattle.ira_event.specs.declared.msg.Msg.{Msg}
+use Rattle.ira_event.specs.declared.load.Load.{Load}
 use Rattle.ira_event.specs.Log.{Log}
-use Rattle.ira_event.specs.declared.event.Event.TheVariants.{Sent, Got, Draw}
+use Rattle.ira_event.specs.declared.event.Event.TheVariants.{Sent, Got, Draw, Yield}
 use Rattle.ira_order.specs.Ring.{log_of, next, prev, numbered}
 use Rattle.ira_order.specs.Matching.{sent, got, sending, receipt, Matches}
 use Rattle.ira_order.specs.Order.{occurrences}
@@ -35,7 +35,7 @@ prev_below n zero l = omega arith
 prev_below n (suc i) l = omega arith
 
 -- the messages that link k holds when the nodes have made (at j) events each
-abbrev pub on_link : List Log → (ℕ → ℕ) → ℕ → List Msg
+abbrev pub on_link : List Log → (ℕ → ℕ) → ℕ → List Load
 on_link logs at k = drop (length (got (take (at (next (length logs) k)) (log_of logs (next (length logs) k))))) (sent (take (at k) (log_of logs k)))
 
 module _ (logs : List Log) (at at' : ℕ → ℕ) (i : ℕ) (e : Event)
@@ -60,14 +60,14 @@ module _ (logs : List Log) (at at' : ℕ → ℕ) (i : ℕ) (e : Event)
   sent_same : (k : ℕ) → (k ≢ i) ⊎ (sending e ≡ None) → sent (take (at' k) (log_of logs k)) ≡ sent (take (at k) (log_of logs k))
   sent_same k (inl ne) = ap (λ (x : ℕ). sent (take x (log_of logs k))) (same k ne)
   sent_same k (inr quiet) = elim (cases_eq k i) [
-    | inl e' ↦ rw e' (sent_here ∙ ap (λ (x : Option Msg). sent (take (at i) (log_of logs i)) ++ cons_option x []) quiet ∙ append-nil _)
+    | inl e' ↦ rw e' (sent_here ∙ ap (λ (x : Option Load). sent (take (at i) (log_of logs i)) ++ cons_option x []) quiet ∙ append-nil _)
     | inr ne ↦ ap (λ (x : ℕ). sent (take x (log_of logs k))) (same k ne)
   ]
 
   got_same : (j : ℕ) → (j ≢ i) ⊎ (receipt e ≡ None) → length (got (take (at' j) (log_of logs j))) ≡ length (got (take (at j) (log_of logs j)))
   got_same j (inl ne) = ap (λ (x : ℕ). length (got (take x (log_of logs j)))) (same j ne)
   got_same j (inr quiet) = elim (cases_eq j i) [
-    | inl e' ↦ rw e' (got_here ∙ ap (λ (x : Option Msg). length (got (take (at i) (log_of logs i))) + length (cons_option x [])) quiet ∙ add-zero _)
+    | inl e' ↦ rw e' (got_here ∙ ap (λ (x : Option Load). length (got (take (at i) (log_of logs i))) + length (cons_option x [])) quiet ∙ add-zero _)
     | inr ne ↦ ap (λ (x : ℕ). length (got (take x (log_of logs j)))) (same j ne)
   ]
 
@@ -75,14 +75,14 @@ module _ (logs : List Log) (at at' : ℕ → ℕ) (i : ℕ) (e : Event)
   link_same k s g = rw (sent_same k s, got_same (next (length logs) k) g) refl
 
   -- a sending puts its message last
-  link_sent : (m : Msg) → e ≡ Sent m → Covers logs at → on_link logs at' i ≡ on_link logs at i ++ m ∷ []
+  link_sent : (m : Load) → e ≡ Sent m → Covers logs at → on_link logs at' i ≡ on_link logs at i ++ m ∷ []
   link_sent m e_is covers =
       let s : sent (take (at' i) (log_of logs i)) ≡ sent (take (at i) (log_of logs i)) ++ m ∷ [] = sent_here ∙ ap (λ (x : Event). sent (take (at i) (log_of logs i)) ++ cons_option (sending x) []) e_is in
       rw (s, got_same (next (length logs) i) (inl (next_other (length logs) i two here)))
       (drop-append-le (length (got (take (at (next (length logs) i)) (log_of logs (next (length logs) i))))) (sent (take (at i) (log_of logs i))) (m ∷ []) (covers i here))
 
   -- a receipt takes the first message away
-  link_got : (m : Msg) (k : ℕ) → e ≡ Got m → k < length logs → next (length logs) k ≡ i → Matches logs → Covers logs at' → on_link logs at k ≡ m ∷ on_link logs at' k
+  link_got : (m : Load) (k : ℕ) → e ≡ Got m → k < length logs → next (length logs) k ≡ i → Matches logs → Covers logs at' → on_link logs at k ≡ m ∷ on_link logs at' k
   link_got m k e_is lk into matches covers =
       let ne : k ≢ i = λ q. next_other (length logs) k two lk (into ∙ sym q) in
       let g' : length (got (take (at' i) (log_of logs i))) ≡ length (got (take (at i) (log_of logs i))) + 1 = got_here ∙ ap (λ (x : Event). length (got (take (at i) (log_of logs i))) + length (cons_option (receipt x) [])) e_is in
@@ -91,16 +91,16 @@ module _ (logs : List Log) (at at' : ℕ → ℕ) (i : ℕ) (e : Event)
       let whole_got : got (log_of logs i) ≡ got (take (at i) (log_of logs i)) ++ (m ∷ got (drop (at i + 1) (log_of logs i))) =
       filter_map_split receipt (log_of logs i) (at i) (Draw 0) within ∙ ap (λ (x : Event). got (take (at i) (log_of logs i)) ++ cons_option (receipt x) (got (drop (at i + 1) (log_of logs i)))) (the_event ∙ e_is) in
       let taken : numbered (got (log_of logs i)) (suc (length (got (take (at i) (log_of logs i))))) ≡ Some m =
-      ap (λ (x : List Msg). numbered x (suc (length (got (take (at i) (log_of logs i)))))) whole_got ∙ numbered-after (got (take (at i) (log_of logs i))) (got (drop (at i + 1) (log_of logs i))) m in
+      ap (λ (x : List Load). numbered x (suc (length (got (take (at i) (log_of logs i)))))) whole_got ∙ numbered-after (got (take (at i) (log_of logs i))) (got (drop (at i + 1) (log_of logs i))) m in
       let put : numbered (sent (log_of logs k)) (suc (length (got (take (at i) (log_of logs i))))) ≡ Some m =
       matches k lk (suc (length (got (take (at i) (log_of logs i))))) m (rw into taken) in
       let whole_sent : sent (log_of logs k) ≡ sent (take (at k) (log_of logs k)) ++ sent (drop (at k) (log_of logs k)) =
       ap sent (sym (take-append-drop (at k) (log_of logs k))) ∙ filter_map-append sending (take (at k) (log_of logs k)) (drop (at k) (log_of logs k)) in
       let first : slice_get (sent (take (at k) (log_of logs k))) (length (got (take (at i) (log_of logs i)))) ≡ Some m =
       sym (numbered-append (sent (take (at k) (log_of logs k))) (sent (drop (at k) (log_of logs k))) (suc (length (got (take (at i) (log_of logs i))))) (omega arith))
-      ∙ ap (λ (x : List Msg). numbered x (suc (length (got (take (at i) (log_of logs i)))))) (sym whole_sent) ∙ put in
+      ∙ ap (λ (x : List Load). numbered x (suc (length (got (take (at i) (log_of logs i)))))) (sym whole_sent) ∙ put in
       let value : get_or (sent (take (at k) (log_of logs k))) (length (got (take (at i) (log_of logs i)))) m ≡ m = get_or_from_slice_get (sent (take (at k) (log_of logs k))) (length (got (take (at i) (log_of logs i)))) m m first in
-      rw (into, s, g') (drop_more (sent (take (at k) (log_of logs k))) (length (got (take (at i) (log_of logs i)))) m room ∙ ap (λ (x : Msg). x ∷ drop (length (got (take (at i) (log_of logs i))) + 1) (sent (take (at k) (log_of logs k)))) value)
+      rw (into, s, g') (drop_more (sent (take (at k) (log_of logs k))) (length (got (take (at i) (log_of logs i)))) m room ∙ ap (λ (x : Load). x ∷ drop (length (got (take (at i) (log_of logs i))) + 1) (sent (take (at k) (log_of logs k)))) value)
 
   links : (e' : Event) → e ≡ e' → Matches logs → Covers logs at → Covers logs at' → LinkStep (length logs) i e' (on_link logs at) (on_link logs at')
   links (Sent m) e_is matches covers covers' = (
@@ -112,6 +112,7 @@ module _ (logs : List Log) (at at' : ℕ → ℕ) (i : ℕ) (e : Event)
     λ j lj ne. link_same j (inr (ap sending e_is)) (inl (λ q. ne (prev_next (length logs) i j here lj q))),
   )
   links (Draw x) e_is matches covers covers' = λ j lj. link_same j (inr (ap sending e_is)) (inr (ap receipt e_is))
+  links Yield e_is matches covers covers' = λ j lj. link_same j (inr (ap sending e_is)) (inr (ap receipt e_is))
 
 cons_nil : (x : ℕ × Event) (r : List (ℕ × Event)) → x ∷ r ≡ [] → ⊥
 cons_nil x r h = cc

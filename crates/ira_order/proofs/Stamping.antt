@@ -3,8 +3,8 @@ use Rattle.std.proofs.Common.{◌≡◌, ◌≢◌, ℕ, zero, suc, ◌+◌, ◌
 use Rattle.std.specs.Prelude.{slice_get, slice_index}
 use Rattle.std.specs.List.{cons_option}
 use Rattle.ira_event.specs.declared.event.Event.{Event}
-use Rattle.ira_event.specs.declared.event.Event.TheVariants.{Got, Sent, Draw}
-use Rattle.ira_event.specs.declared.msg.Msg.{Msg}
+use Rattle.ira_event.specs.declared.event.Event.TheVariants.{Got, Sent, Draw, Yield}
+use Rattle.ira_event.specs.declared.load.Load.{Load}
 use Rattle.ira_event.specs.Log.{Log}
 use Rattle.ira_order.specs.Ring.{log_of, next, numbered}
 use Rattle.ira_order.specs.Matching.{sent, got, sending, Matches}
@@ -52,7 +52,7 @@ module _ (logs : List Log) (order : List ℕ) (o : IsOrder logs order) (matches 
   ]
 
   -- an event that is no sending
-  pub sent_stays : (e : Event) → slice_get (log_of logs k) (at k) ≡ Some e → ((m : Msg) → e ≡ Sent m → ⊥) → CountsSent logs old at'
+  pub sent_stays : (e : Event) → slice_get (log_of logs k) (at k) ≡ Some e → ((m : Load) → e ≡ Sent m → ⊥) → CountsSent logs old at'
   sent_stays e is never l a b pair h = elim (up_to l a h) [
     | inl below ↦ stamped l a b pair below
     | inr top ↦
@@ -70,14 +70,15 @@ module _ (logs : List Log) (order : List ℕ) (o : IsOrder logs order) (matches 
       ∙ rank_more sending (log_of logs k) (at k) (Draw 0) (slice_get_within (log_of logs k) (at k) e is)
       ∙ ap (λ (x : Event). length (sent (take (at k) (log_of logs k))) + length (cons_option (sending x) [])) (get_or_from_slice_get (log_of logs k) (at k) e (Draw 0) is)
 
-  pub stamps_same : (e : Event) → slice_get (log_of logs k) (at k) ≡ Some e → ((m : Msg) → e ≡ Sent m → ⊥) → HaveStamps logs old at → HaveStamps logs old at'
+  pub stamps_same : (e : Event) → slice_get (log_of logs k) (at k) ≡ Some e → ((m : Load) → e ≡ Sent m → ⊥) → HaveStamps logs old at → HaveStamps logs old at'
   stamps_same e is never have l ll =
       rw (sent_as l) (have l ll)
     where
-      none : (e : Event) → ((m : Msg) → e ≡ Sent m → ⊥) → length (cons_option (sending e) []) ≡ 0
+      none : (e : Event) → ((m : Load) → e ≡ Sent m → ⊥) → length (cons_option (sending e) []) ≡ 0
       none (Sent m) never = absurd (never m refl)
       none (Got m) never = refl
       none (Draw m) never = refl
+      none Yield never = refl
 
       sent_as : (l : ℕ) → length (sent (take (at' l) (log_of logs l))) ≡ length (sent (take (at l) (log_of logs l)))
       sent_as l = elim (cases_eq l k) [
@@ -85,7 +86,7 @@ module _ (logs : List Log) (order : List ℕ) (o : IsOrder logs order) (matches 
         | inr ne ↦ sent_same l ne
       ]
 
-  module _ (new : List NodeStamps) (m : Msg) (a h s : ℕ)
+  module _ (new : List NodeStamps) (m : Load) (a h s : ℕ)
       (is : slice_get (log_of logs k) (at k) ≡ Some (Sent m))
       (a_is : a ≡ suc (at k))
       (h_is : h ≡ receipts_by logs k (at k))

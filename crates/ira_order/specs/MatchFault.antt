@@ -1,6 +1,6 @@
 -- Why logs don't match.
 use Rattle.std.specs.Prelude.{◌≡◌, ◌≢◌, ℕ, ◌<◌, List, Some, None, length}
-use Rattle.ira_event.specs.declared.msg.Msg.{Msg}
+use Rattle.ira_event.specs.declared.load.Load.{Load}
 use Rattle.ira_event.specs.declared.event.Event.{Event}
 use Rattle.ira_event.specs.Log.{Log}
 use Rattle.ira_order.specs.declared.match_fault.MatchFault.{MatchFault}
@@ -10,11 +10,11 @@ use Rattle.ira_order.specs.Matching.{sent, got, IsPaired, LinkMatches}
 
 -- there is a k-th receipt and no k-th sending
 abbrev pub HasNoSending : List Event → List Event → ℕ → Type 0
-HasNoSending writer reader k = (m : Msg) × (numbered (got reader) k ≡ Some m) × (numbered (sent writer) k ≡ None)
+HasNoSending writer reader k = (m : Load) × (numbered (got reader) k ≡ Some m) × (numbered (sent writer) k ≡ None)
 
 -- the k-th receipt and the k-th sending are of different messages
 abbrev pub HasOther : List Event → List Event → ℕ → Type 0
-HasOther writer reader k = (m n : Msg) × (numbered (got reader) k ≡ Some m) × (numbered (sent writer) k ≡ Some n) × (m ≢ n)
+HasOther writer reader k = (m n : Load) × (numbered (got reader) k ≡ Some m) × (numbered (sent writer) k ≡ Some n) × (m ≢ n)
 
 -- the fault is of the link i from the writer to the reader, and of its least receipt that isn't paired
 abbrev pub IsLinkFault : ℕ → List Event → List Event → MatchFault → Type 0

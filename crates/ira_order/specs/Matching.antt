@@ -1,7 +1,7 @@
 -- Links are first in, first out: the k-th receipt of a link takes the k-th sending (Itai and Rodeh,
 -- Symmetry breaking in distributed networks, Information and Computation 88, 1990).
 use Rattle.std.specs.Prelude.{◌≡◌, ℕ, ◌<◌, List, Some, length}
-use Rattle.ira_event.specs.declared.msg.Msg.{Msg}
+use Rattle.ira_event.specs.declared.load.Load.{Load}
 use Rattle.ira_event.specs.declared.event.Event.{Event}
 use Rattle.ira_event.specs.Log.{Log}
 pub use Rattle.ira_event.specs.Messages.{sending, receipt, sent, got}
@@ -9,7 +9,7 @@ use Rattle.ira_order.specs.Ring.{next, log_of, numbered}
 
 -- where the reader's log has a k-th receipt, the writer's has a k-th sending, of the same message
 abbrev pub IsPaired : List Event → List Event → ℕ → Type 0
-IsPaired writer reader k = (m : Msg) → numbered (got reader) k ≡ Some m → numbered (sent writer) k ≡ Some m
+IsPaired writer reader k = (m : Load) → numbered (got reader) k ≡ Some m → numbered (sent writer) k ≡ Some m
 
 -- each receipt of a link has a paired sending
 abbrev pub LinkMatches : List Log → ℕ → Type 0

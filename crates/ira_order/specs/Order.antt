@@ -2,7 +2,7 @@
 -- order of this kind is a linear extension of happened-before (Lamport, Time, Clocks, and the
 -- Ordering of Events in a Distributed System, 1978).
 use Rattle.std.specs.Prelude.{◌≡◌, ℕ, ◌+◌, ◌<◌, ◌==◌, List, Some, length, slice_get, All, count_by, take}
-use Rattle.ira_event.specs.declared.msg.Msg.{Msg}
+use Rattle.ira_event.specs.declared.load.Load.{Load}
 use Rattle.ira_event.specs.declared.event.Event.TheVariants.{Sent, Got}
 use Rattle.ira_event.specs.Log.{Log}
 use Rattle.ira_order.specs.Ring.{next, log_of, numbered}
@@ -19,8 +19,8 @@ StandsAt places t i a = (slice_get places t ≡ Some i) × (occurrences (take t 
 -- event a of node i is a sending, event b of the next node is a receipt, and each is the k-th of its
 -- kind in its log, for one k
 pub record IsPair (logs : List Log) (i a b : ℕ) : Type 0 where
-  pub message : Msg
-  pub taken : Msg
+  pub message : Load
+  pub taken : Load
   pub link : i < length logs
   pub sends : numbered (log_of logs i) a ≡ Some (Sent message)
   pub receives : numbered (log_of logs (next (length logs) i)) b ≡ Some (Got taken)

@@ -2,9 +2,9 @@
 -- distributed networks, Information and Computation 88, 1990).
 use Rattle.std.specs.Prelude.{◌≡◌, ◌≢◌, ℕ, ◌<◌, ◌==◌, List, [], ◌∷◌, ◌++◌, Bool, false, Option, Some, None, length, slice_get, cond, map}
 use Rattle.std.specs.List.{filter_map}
-use Rattle.ira_event.specs.declared.msg.Msg.{Msg}
+use Rattle.ira_event.specs.declared.load.Load.{Load}
 use Rattle.ira_event.specs.declared.event.Event.{Event}
-use Rattle.ira_event.specs.declared.event.Event.TheVariants.{Draw, Sent, Got}
+use Rattle.ira_event.specs.declared.event.Event.TheVariants.{Draw, Sent, Got, Yield}
 use Rattle.ira_event.specs.Log.{Log}
 use Rattle.ira_event.specs.Logs.{EachLog}
 use Rattle.ira_node.specs.declared.node_state.NodeState.{NodeState}
@@ -14,18 +14,20 @@ use Rattle.ira_replay.specs.LocalRun.{IsLocalRun}
 use Rattle.ira_order.specs.Ring.{prev, log_of}
 
 -- what an event of node i does to the messages on the links of a ring of n nodes
-abbrev pub LinkStep : ℕ → ℕ → Event → (ℕ → List Msg) → (ℕ → List Msg) → Type 0
+abbrev pub LinkStep : ℕ → ℕ → Event → (ℕ → List Load) → (ℕ → List Load) → Type 0
 -- a draw changes no link
 LinkStep n i (Draw id) old new = (j : ℕ) → j < n → new j ≡ old j
--- a message that is sent is put last on the node's own link
+-- nor does a yield
+LinkStep n i Yield old new = (j : ℕ) → j < n → new j ≡ old j
+-- what is sent is put last on the node's own link
 LinkStep n i (Sent m) old new = (new i ≡ old i ++ m ∷ []) × ((j : ℕ) → j < n → j ≢ i → new j ≡ old j)
--- a message that is received stood first on the link that leads to the node, and is taken away
+-- what is received stood first on the link that leads to the node, and is taken away
 LinkStep n i (Got m) old new = (old (prev n i) ≡ m ∷ new (prev n i)) × ((j : ℕ) → j < n → j ≢ prev n i → new j ≡ old j)
 
--- the state of each node, and the messages on each link; only places of the ring count
+-- the state of each node, and the loads on each link; only places of the ring count
 pub record Configuration : Type 0 where
   pub state : ℕ → NodeState
-  pub link : ℕ → List Msg
+  pub link : ℕ → List Load
 
 -- in a ring of n nodes the event of node i leads from one configuration to another
 pub record RingStep (n i : ℕ) (e : Event) (old new : Configuration) : Type 0 where

@@ -19,7 +19,7 @@ fn sends(event: Event) -> u32
 {
     match event {
         Event::Sent(_) => 1,
-        Event::Draw(_) | Event::Got(_) => 0,
+        Event::Draw(_) | Event::Got(_) | Event::Yield => 0,
     }
 }
 
@@ -29,7 +29,7 @@ fn receives(event: Event) -> u32
 {
     match event {
         Event::Got(_) => 1,
-        Event::Draw(_) | Event::Sent(_) => 0,
+        Event::Draw(_) | Event::Sent(_) | Event::Yield => 0,
     }
 }
 

@@ -9,7 +9,7 @@ use Rattle.ira_event.proofs.RecordLines.{kept-again, some_is}
 use Rattle.ira_event.proofs.Spelled.{numeral_is_decimal, decimal_is_numeral}
 use Rattle.ira_pred.specs.declared.rel.Rel.{Rel}
 use Rattle.ira_pred.specs.declared.rel.Rel.TheVariants.{Less, Equal, Greater}
-use Rattle.ira_pred.specs.Formula.{Formula, always, leader, active, passive, choosing, owes, round, id, both, either, negated, depth, HasNumbersInRange}
+use Rattle.ira_pred.specs.Formula.{Formula, always, leader, active, passive, choosing, yielding, owes, round, id, term, both, either, negated, depth, HasNumbersInRange}
 use Rattle.ira_pred.specs.QuestionText.{IsComparisonText, IsClauseText, clause_text, rel_sign}
 use Rattle.ira_pred.specs.ClauseScan.{rel_at, limited_at, comparison_at, atom_at, joined_at, negated_at, clause_at}
 
@@ -24,11 +24,14 @@ clause_spelled text leader h = h
 clause_spelled text active h = h
 clause_spelled text passive h = h
 clause_spelled text choosing h = h
+clause_spelled text yielding h = h
 clause_spelled text owes h = h
 clause_spelled text (round rel n) h =
     h.1 ∙ ap (λ w. codes "round " ++ w) (h.2.1 ∙ ap (λ w. rel_sign rel ++ codes " " ++ w) (numeral_is_decimal h.2.0 n h.2.2 (small n h.2.3)))
 clause_spelled text (id rel n) h =
     h.1 ∙ ap (λ w. codes "id " ++ w) (h.2.1 ∙ ap (λ w. rel_sign rel ++ codes " " ++ w) (numeral_is_decimal h.2.0 n h.2.2 (small n h.2.3)))
+clause_spelled text (term rel n) h =
+    h.1 ∙ ap (λ w. codes "term " ++ w) (h.2.1 ∙ ap (λ w. rel_sign rel ++ codes " " ++ w) (numeral_is_decimal h.2.0 n h.2.2 (small n h.2.3)))
 clause_spelled text (both a b) h =
     h.2 ∙ ap (λ w. codes "(" ++ w ++ codes " and " ++ h.1 ++ codes ")") (clause_spelled h.0 a h.3)
     ∙ ap (λ w. codes "(" ++ clause_text a ++ codes " and " ++ w ++ codes ")") (clause_spelled h.1 b h.4)
@@ -46,9 +49,11 @@ clause_is leader h = refl
 clause_is active h = refl
 clause_is passive h = refl
 clause_is choosing h = refl
+clause_is yielding h = refl
 clause_is owes h = refl
 clause_is (round rel n) h = (rel_sign rel ++ codes " " ++ decimal n, refl, comparison_is rel n h)
 clause_is (id rel n) h = (rel_sign rel ++ codes " " ++ decimal n, refl, comparison_is rel n h)
+clause_is (term rel n) h = (rel_sign rel ++ codes " " ++ decimal n, refl, comparison_is rel n h)
 clause_is (both a b) h = (clause_text a, clause_text b, refl, clause_is a h.0, clause_is b h.1)
 clause_is (either a b) h = (clause_text a, clause_text b, refl, clause_is a h.0, clause_is b h.1)
 clause_is (negated a) h = (clause_text a, refl, clause_is a h)
@@ -78,9 +83,11 @@ no-not leader text more h = rw h refl
 no-not active text more h = rw h refl
 no-not passive text more h = rw h refl
 no-not choosing text more h = rw h refl
+no-not yielding text more h = rw h refl
 no-not owes text more h = rw h refl
 no-not (round rel n) text more h = rw h.1 refl
 no-not (id rel n) text more h = rw h.1 refl
+no-not (term rel n) text more h = rw h.1 refl
 no-not (both a b) text more h = rw h.2 refl
 no-not (either a b) text more h = rw h.2 refl
 no-not (negated a) text more h = rw h.1 refl
@@ -111,12 +118,16 @@ clause-again passive zero text rest deep h stop = rw h refl
 clause-again passive (suc d) text rest deep h stop = rw h refl
 clause-again choosing zero text rest deep h stop = rw h refl
 clause-again choosing (suc d) text rest deep h stop = rw h refl
+clause-again yielding zero text rest deep h stop = rw h refl
+clause-again yielding (suc d) text rest deep h stop = rw h refl
 clause-again owes zero text rest deep h stop = rw h refl
 clause-again owes (suc d) text rest deep h stop = rw h refl
 clause-again (round rel n) zero text rest deep h stop = rw h.1 (comparison-again round h.0 rel n rest h.2 stop)
 clause-again (round rel n) (suc d) text rest deep h stop = rw h.1 (comparison-again round h.0 rel n rest h.2 stop)
 clause-again (id rel n) zero text rest deep h stop = rw h.1 (comparison-again id h.0 rel n rest h.2 stop)
 clause-again (id rel n) (suc d) text rest deep h stop = rw h.1 (comparison-again id h.0 rel n rest h.2 stop)
+clause-again (term rel n) zero text rest deep h stop = rw h.1 (comparison-again term h.0 rel n rest h.2 stop)
+clause-again (term rel n) (suc d) text rest deep h stop = rw h.1 (comparison-again term h.0 rel n rest h.2 stop)
 clause-again (both a b) zero text rest deep h stop = absurd (omega arith)
 clause-again (both a b) (suc d) text rest deep h stop =
     let tail = codes " and " ++ (h.1 ++ (codes ")" ++ rest)) in

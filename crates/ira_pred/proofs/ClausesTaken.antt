@@ -8,7 +8,7 @@ use Rattle.ira_event.specs.Scan.{kept_at, after_word, ◌>>=◌, behind}
 use Rattle.ira_event.proofs.RecordLines.{bind_some, map_some, some_is, word-takes, kept-takes}
 use Rattle.ira_pred.specs.declared.rel.Rel.{Rel}
 use Rattle.ira_pred.specs.declared.rel.Rel.TheVariants.{Less, Equal, Greater}
-use Rattle.ira_pred.specs.Formula.{Formula, always, leader, active, passive, choosing, owes, round, id, both, either, negated, depth, HasNumbersInRange}
+use Rattle.ira_pred.specs.Formula.{Formula, always, leader, active, passive, choosing, yielding, owes, round, id, term, both, either, negated, depth, HasNumbersInRange}
 use Rattle.ira_pred.specs.QuestionText.{IsComparisonText, IsClauseText, rel_sign}
 use Rattle.ira_pred.specs.ClauseScan.{rel_at, limited_at, comparison_at, atom_at, joint_at, joined, joined_at, negated_at, clause_at}
 
@@ -87,24 +87,27 @@ compared d text word r make p begins is flat e =
       deep = omega (arith, ap depth c.made, flat c.rel c.n);
     }
 
-atom-cases : (d : ℕ) (text : List ℕ) (p : Formula × List ℕ) (a b c g h i j k : Option (List ℕ)) → after_word (codes "true") text ≡ a → after_word (codes "leader") text ≡ b → after_word (codes "active") text ≡ c → after_word (codes "passive") text ≡ g
-    → after_word (codes "choosing") text ≡ h → after_word (codes "owes") text ≡ i → after_word (codes "round ") text ≡ j → after_word (codes "id ") text ≡ k
-    → behind a (λ r. Some (always, r)) (behind b (λ r. Some (leader, r)) (behind c (λ r. Some (active, r)) (behind g (λ r. Some (passive, r)) (behind h (λ r. Some (choosing, r)) (behind i (λ r. Some (owes, r))
-    (behind j (comparison_at round) (behind k (comparison_at id) None))))))) ≡ Some p → Taken d text p
-atom-cases d text p (Some r) b c g h i j k ea eb ec eg eh ei ej ek e = fact d text (codes "true") r always p ea refl refl e
-atom-cases d text p None (Some r) c g h i j k ea eb ec eg eh ei ej ek e = fact d text (codes "leader") r leader p eb refl refl e
-atom-cases d text p None None (Some r) g h i j k ea eb ec eg eh ei ej ek e = fact d text (codes "active") r active p ec refl refl e
-atom-cases d text p None None None (Some r) h i j k ea eb ec eg eh ei ej ek e = fact d text (codes "passive") r passive p eg refl refl e
-atom-cases d text p None None None None (Some r) i j k ea eb ec eg eh ei ej ek e = fact d text (codes "choosing") r choosing p eh refl refl e
-atom-cases d text p None None None None None (Some r) j k ea eb ec eg eh ei ej ek e = fact d text (codes "owes") r owes p ei refl refl e
-atom-cases d text p None None None None None None (Some r) k ea eb ec eg eh ei ej ek e =
+atom-cases : (d : ℕ) (text : List ℕ) (p : Formula × List ℕ) (a b c g h y i j k t : Option (List ℕ)) → after_word (codes "true") text ≡ a → after_word (codes "leader") text ≡ b → after_word (codes "active") text ≡ c → after_word (codes "passive") text ≡ g
+    → after_word (codes "choosing") text ≡ h → after_word (codes "yielding") text ≡ y → after_word (codes "owes") text ≡ i → after_word (codes "round ") text ≡ j → after_word (codes "id ") text ≡ k → after_word (codes "term ") text ≡ t
+    → behind a (λ r. Some (always, r)) (behind b (λ r. Some (leader, r)) (behind c (λ r. Some (active, r)) (behind g (λ r. Some (passive, r)) (behind h (λ r. Some (choosing, r)) (behind y (λ r. Some (yielding, r)) (behind i (λ r. Some (owes, r))
+    (behind j (comparison_at round) (behind k (comparison_at id) (behind t (comparison_at term) None))))))))) ≡ Some p → Taken d text p
+atom-cases d text p (Some r) b c g h y i j k t ea eb ec eg eh ey ei ej ek et e = fact d text (codes "true") r always p ea refl refl e
+atom-cases d text p None (Some r) c g h y i j k t ea eb ec eg eh ey ei ej ek et e = fact d text (codes "leader") r leader p eb refl refl e
+atom-cases d text p None None (Some r) g h y i j k t ea eb ec eg eh ey ei ej ek et e = fact d text (codes "active") r active p ec refl refl e
+atom-cases d text p None None None (Some r) h y i j k t ea eb ec eg eh ey ei ej ek et e = fact d text (codes "passive") r passive p eg refl refl e
+atom-cases d text p None None None None (Some r) y i j k t ea eb ec eg eh ey ei ej ek et e = fact d text (codes "choosing") r choosing p eh refl refl e
+atom-cases d text p None None None None None (Some r) i j k t ea eb ec eg eh ey ei ej ek et e = fact d text (codes "yielding") r yielding p ey refl refl e
+atom-cases d text p None None None None None None (Some r) j k t ea eb ec eg eh ey ei ej ek et e = fact d text (codes "owes") r owes p ei refl refl e
+atom-cases d text p None None None None None None None (Some r) k t ea eb ec eg eh ey ei ej ek et e =
     compared d text (codes "round ") r round p ej (λ rest rel n is. (rest, refl, is)) (λ rel n. refl) e
-atom-cases d text p None None None None None None None (Some r) ea eb ec eg eh ei ej ek e =
+atom-cases d text p None None None None None None None None (Some r) t ea eb ec eg eh ey ei ej ek et e =
     compared d text (codes "id ") r id p ek (λ rest rel n is. (rest, refl, is)) (λ rel n. refl) e
-atom-cases d text p None None None None None None None None ea eb ec eg eh ei ej ek e = absurd cc
+atom-cases d text p None None None None None None None None None (Some r) ea eb ec eg eh ey ei ej ek et e =
+    compared d text (codes "term ") r term p et (λ rest rel n is. (rest, refl, is)) (λ rel n. refl) e
+atom-cases d text p None None None None None None None None None None ea eb ec eg eh ey ei ej ek et e = absurd cc
 
 atom-takes : (d : ℕ) (text : List ℕ) (p : Formula × List ℕ) → atom_at text ≡ Some p → Taken d text p
-atom-takes d text p e = atom-cases d text p _ _ _ _ _ _ _ _ refl refl refl refl refl refl refl refl e
+atom-takes d text p e = atom-cases d text p _ _ _ _ _ _ _ _ _ _ refl refl refl refl refl refl refl refl refl refl e
 
 -- the word between two clauses
 abbrev joint_word : Bool → List ℕ
@@ -180,9 +183,11 @@ clause_in_range text leader h = tt
 clause_in_range text active h = tt
 clause_in_range text passive h = tt
 clause_in_range text choosing h = tt
+clause_in_range text yielding h = tt
 clause_in_range text owes h = tt
 clause_in_range text (round rel n) h = h.2.3
 clause_in_range text (id rel n) h = h.2.3
+clause_in_range text (term rel n) h = h.2.3
 clause_in_range text (both a b) h = (clause_in_range h.0 a h.3, clause_in_range h.1 b h.4)
 clause_in_range text (either a b) h = (clause_in_range h.0 a h.3, clause_in_range h.1 b h.4)
 clause_in_range text (negated a) h = clause_in_range h.0 a h.2

@@ -9,7 +9,7 @@ use Rattle.ira_event.proofs.Numerals.{Lacks-numeral}
 use Rattle.ira_event.proofs.Pieces.{Lacks, or_parts}
 use Rattle.ira_pred.specs.declared.rel.Rel.{Rel}
 use Rattle.ira_pred.specs.declared.rel.Rel.TheVariants.{Less, Equal, Greater}
-use Rattle.ira_pred.specs.Formula.{Formula, always, leader, active, passive, choosing, owes, round, id, both, either, negated, depth}
+use Rattle.ira_pred.specs.Formula.{Formula, always, leader, active, passive, choosing, yielding, owes, round, id, term, both, either, negated, depth}
 use Rattle.ira_pred.specs.QuestionText.{rel_sign, IsClauseText}
 use Rattle.ira_pred.specs.QuestionTextFault.{opened, closed, IsTooDeep}
 
@@ -113,9 +113,11 @@ clause_deepest leader text rest h = rw h (zero_max (deepest rest))
 clause_deepest active text rest h = rw h (zero_max (deepest rest))
 clause_deepest passive text rest h = rw h (zero_max (deepest rest))
 clause_deepest choosing text rest h = rw h (zero_max (deepest rest))
+clause_deepest yielding text rest h = rw h (zero_max (deepest rest))
 clause_deepest owes text rest h = rw h (zero_max (deepest rest))
 clause_deepest (round rel n) text rest h = ap (λ w. deepest (w ++ rest)) h.1 ∙ comparison_flat h.0 h.2.0 rest rel n h.2.1 h.2.2 ∙ zero_max (deepest rest)
 clause_deepest (id rel n) text rest h = ap (λ w. deepest (w ++ rest)) h.1 ∙ comparison_flat h.0 h.2.0 rest rel n h.2.1 h.2.2 ∙ zero_max (deepest rest)
+clause_deepest (term rel n) text rest h = ap (λ w. deepest (w ++ rest)) h.1 ∙ comparison_flat h.0 h.2.0 rest rel n h.2.1 h.2.2 ∙ zero_max (deepest rest)
 clause_deepest (both a b) text rest h =
     let tail = codes " and " ++ (h.1 ++ (codes ")" ++ rest)) in
     let regrouped : text ++ rest ≡ codes "(" ++ (h.0 ++ tail) = ap (λ w. w ++ rest) h.2 ∙ simp append_assoc in

@@ -14,7 +14,7 @@ use Rattle.ira_event.proofs.Pieces.{Lacks, Lacks-append, line_same, first_differ
 use Rattle.ira_event.proofs.Spelled.{numeral_is_decimal, decimal_is_numeral}
 use Rattle.ira_pred.specs.declared.rel.Rel.{Rel}
 use Rattle.ira_pred.specs.declared.rel.Rel.TheVariants.{Less, Equal, Greater}
-use Rattle.ira_pred.specs.Formula.{Formula, always, leader, active, passive, choosing, owes, round, id, both, either, negated}
+use Rattle.ira_pred.specs.Formula.{Formula, always, leader, active, passive, choosing, yielding, owes, round, id, term, both, either, negated}
 use Rattle.ira_pred.specs.Case.{Conjunct, IsConjunct, IsCase}
 use Rattle.ira_pred.specs.Question.{Asked, IsQuestion}
 use Rattle.ira_pred.specs.QuestionText.{rel_sign, IsClauseText, IsPlaced, IsConjunctLine, AreConjunctLines, AreCaseTexts, IsQuestionText, conjunct_text, case_text, question_text, IsShort, clause_text}
@@ -120,9 +120,11 @@ clause_is_one_line text leader h = rw h refl
 clause_is_one_line text active h = rw h refl
 clause_is_one_line text passive h = rw h refl
 clause_is_one_line text choosing h = rw h refl
+clause_is_one_line text yielding h = rw h refl
 clause_is_one_line text owes h = rw h refl
 clause_is_one_line text (round rel n) h = comparison_is_one_line (codes "round ") h.0 h.2.0 text rel n refl h.1 h.2.1 h.2.2
 clause_is_one_line text (id rel n) h = comparison_is_one_line (codes "id ") h.0 h.2.0 text rel n refl h.1 h.2.1 h.2.2
+clause_is_one_line text (term rel n) h = comparison_is_one_line (codes "term ") h.0 h.2.0 text rel n refl h.1 h.2.1 h.2.2
 clause_is_one_line text (both a b) h =
     joined_is_one_line (codes " and ") h.0 h.1 text refl h.2 (clause_is_one_line h.0 a h.3) (clause_is_one_line h.1 b h.4)
 clause_is_one_line text (either a b) h =

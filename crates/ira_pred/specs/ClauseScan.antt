@@ -6,7 +6,7 @@ use Rattle.ira_pred.specs.Limits.{MAX_NUMBER}
 use Rattle.ira_event.specs.Scan.{kept_at, after_word, ◌>>=◌, behind}
 use Rattle.ira_pred.specs.declared.rel.Rel.{Rel}
 use Rattle.ira_pred.specs.declared.rel.Rel.TheVariants.{Less, Equal, Greater}
-use Rattle.ira_pred.specs.Formula.{Formula, always, leader, active, passive, choosing, owes, round, id, both, either, negated}
+use Rattle.ira_pred.specs.Formula.{Formula, always, leader, active, passive, choosing, yielding, owes, round, id, term, both, either, negated}
 
 -- the sign of a comparison and the space behind it, and what follows them
 abbrev pub rel_at : List ℕ → Option (Rel × List ℕ)
@@ -31,9 +31,11 @@ atom_at text =
     (behind (after_word (codes "active") text) (λ r. Some (active, r))
     (behind (after_word (codes "passive") text) (λ r. Some (passive, r))
     (behind (after_word (codes "choosing") text) (λ r. Some (choosing, r))
+    (behind (after_word (codes "yielding") text) (λ r. Some (yielding, r))
     (behind (after_word (codes "owes") text) (λ r. Some (owes, r))
     (behind (after_word (codes "round ") text) (comparison_at round)
-    (behind (after_word (codes "id ") text) (comparison_at id) None)))))))
+    (behind (after_word (codes "id ") text) (comparison_at id)
+    (behind (after_word (codes "term ") text) (comparison_at term) None)))))))))
 
 -- the word between two clauses, true for `and`, and what follows it
 abbrev pub joint_at : List ℕ → Option (Bool × List ℕ)

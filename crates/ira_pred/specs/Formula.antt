@@ -10,9 +10,11 @@ pub data Formula : Type 0 where
   active : Formula
   passive : Formula
   choosing : Formula
+  yielding : Formula
   owes : Formula
   round : Rel → ℕ → Formula
   id : Rel → ℕ → Formula
+  term : Rel → ℕ → Formula
   both : Formula → Formula → Formula
   either : Formula → Formula → Formula
   negated : Formula → Formula
@@ -28,6 +30,7 @@ depth _ = 0
 abbrev pub HasNumbersInRange : Formula → Type 0
 HasNumbersInRange (round rel n) = n ≤ MAX_NUMBER
 HasNumbersInRange (id rel n) = n ≤ MAX_NUMBER
+HasNumbersInRange (term rel n) = n ≤ MAX_NUMBER
 HasNumbersInRange (both a b) = HasNumbersInRange a × HasNumbersInRange b
 HasNumbersInRange (either a b) = HasNumbersInRange a × HasNumbersInRange b
 HasNumbersInRange (negated a) = HasNumbersInRange a

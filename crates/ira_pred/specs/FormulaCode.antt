@@ -4,7 +4,7 @@ use Rattle.std.specs.Prelude.{◌≡◌, ℕ, List, [], ◌∷◌, ◌==◌, if�
 use Rattle.std.proofs.Common.{refl, ap, ◌∙◌}
 use Rattle.ira_pred.specs.declared.rel.Rel.{Rel}
 use Rattle.ira_pred.specs.declared.rel.Rel.TheVariants.{Less, Equal, Greater}
-use Rattle.ira_pred.specs.Formula.{Formula, always, leader, active, passive, choosing, owes, round, id, both, either, negated}
+use Rattle.ira_pred.specs.Formula.{Formula, always, leader, active, passive, choosing, yielding, owes, round, id, term, both, either, negated}
 
 -- a kind, a comparison and a number
 abbrev Token : Type 0
@@ -33,6 +33,8 @@ tokens choosing ts = (4, (0, 0)) ∷ ts
 tokens owes ts = (5, (0, 0)) ∷ ts
 tokens (round rel n) ts = (6, (rel_number rel, n)) ∷ ts
 tokens (id rel n) ts = (7, (rel_number rel, n)) ∷ ts
+tokens yielding ts = (11, (0, 0)) ∷ ts
+tokens (term rel n) ts = (12, (rel_number rel, n)) ∷ ts
 tokens (both a b) ts = tokens a (tokens b ((8, (0, 0)) ∷ ts))
 tokens (either a b) ts = tokens a (tokens b ((9, (0, 0)) ∷ ts))
 tokens (negated a) ts = tokens a ((10, (0, 0)) ∷ ts)
@@ -60,6 +62,8 @@ after_token t s =
     if t.0 == 7 then id (numbered_rel t.1.0) t.1.1 ∷ s else
     if t.0 == 8 then made_of_two both s else
     if t.0 == 9 then made_of_two either s else
+    if t.0 == 11 then yielding ∷ s else
+    if t.0 == 12 then term (numbered_rel t.1.0) t.1.1 ∷ s else
     made_of_one negated s
 
 abbrev read : List Token → List Formula → List Formula
@@ -79,6 +83,8 @@ read-tokens choosing ts s = refl
 read-tokens owes ts s = refl
 read-tokens (round rel n) ts s = ap (λ r. read ts (round r n ∷ s)) (numbered_rel-rel_number rel)
 read-tokens (id rel n) ts s = ap (λ r. read ts (id r n ∷ s)) (numbered_rel-rel_number rel)
+read-tokens yielding ts s = refl
+read-tokens (term rel n) ts s = ap (λ r. read ts (term r n ∷ s)) (numbered_rel-rel_number rel)
 read-tokens (both a b) ts s = read-tokens a (tokens b ((8, (0, 0)) ∷ ts)) s ∙ read-tokens b ((8, (0, 0)) ∷ ts) (a ∷ s)
 read-tokens (either a b) ts s = read-tokens a (tokens b ((9, (0, 0)) ∷ ts)) s ∙ read-tokens b ((9, (0, 0)) ∷ ts) (a ∷ s)
 read-tokens (negated a) ts s = read-tokens a ((10, (0, 0)) ∷ ts) s

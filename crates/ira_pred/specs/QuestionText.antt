@@ -5,7 +5,7 @@ use Rattle.ira_pred.specs.Limits.{MAX_NUMBER, MAX_TEXT}
 use Rattle.ira_event.specs.Numeral.{IsNumeral}
 use Rattle.ira_pred.specs.declared.rel.Rel.{Rel}
 use Rattle.ira_pred.specs.declared.rel.Rel.TheVariants.{Less, Equal, Greater}
-use Rattle.ira_pred.specs.Formula.{Formula, always, leader, active, passive, choosing, owes, round, id, both, either, negated}
+use Rattle.ira_pred.specs.Formula.{Formula, always, leader, active, passive, choosing, yielding, owes, round, id, term, both, either, negated}
 use Rattle.ira_pred.specs.Case.{Conjunct}
 use Rattle.ira_pred.specs.Question.{Asked, IsQuestion}
 
@@ -26,9 +26,11 @@ IsClauseText text leader = text ≡ codes "leader"
 IsClauseText text active = text ≡ codes "active"
 IsClauseText text passive = text ≡ codes "passive"
 IsClauseText text choosing = text ≡ codes "choosing"
+IsClauseText text yielding = text ≡ codes "yielding"
 IsClauseText text owes = text ≡ codes "owes"
 IsClauseText text (round rel n) = (rest : List ℕ) × (text ≡ codes "round " ++ rest) × IsComparisonText rest rel n
 IsClauseText text (id rel n) = (rest : List ℕ) × (text ≡ codes "id " ++ rest) × IsComparisonText rest rel n
+IsClauseText text (term rel n) = (rest : List ℕ) × (text ≡ codes "term " ++ rest) × IsComparisonText rest rel n
 IsClauseText text (both a b) =
     (left : List ℕ) × (right : List ℕ) × (text ≡ codes "(" ++ left ++ codes " and " ++ right ++ codes ")") × IsClauseText left a × IsClauseText right b
 IsClauseText text (either a b) =
@@ -83,9 +85,11 @@ clause_text leader = codes "leader"
 clause_text active = codes "active"
 clause_text passive = codes "passive"
 clause_text choosing = codes "choosing"
+clause_text yielding = codes "yielding"
 clause_text owes = codes "owes"
 clause_text (round rel n) = codes "round " ++ rel_sign rel ++ codes " " ++ decimal n
 clause_text (id rel n) = codes "id " ++ rel_sign rel ++ codes " " ++ decimal n
+clause_text (term rel n) = codes "term " ++ rel_sign rel ++ codes " " ++ decimal n
 clause_text (both a b) = codes "(" ++ clause_text a ++ codes " and " ++ clause_text b ++ codes ")"
 clause_text (either a b) = codes "(" ++ clause_text a ++ codes " or " ++ clause_text b ++ codes ")"
 clause_text (negated a) = codes "(not " ++ clause_text a ++ codes ")"

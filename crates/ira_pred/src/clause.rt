@@ -19,12 +19,16 @@ pub enum Clause<A: Allocator> {
     Passive,
     /// The node is about to draw an ID.
     Choosing,
-    /// The node owes a message.
+    /// The node led, has yielded, and waits for its reset.
+    Yielding,
+    /// The node owes a message or a reset.
     Owes,
-    /// The node's round compares so with the number. A passive node has no round.
+    /// The node's round compares so with the number. A passive or yielding node has no round.
     Round(Rel, u32),
-    /// The node's ID compares so with the number. A choosing or passive node has no ID.
+    /// The node's ID compares so with the number. A choosing, passive or yielding node has no ID.
     Id(Rel, u32),
+    /// The node's term compares so with the number.
+    Term(Rel, u32),
     /// Both hold.
     Both(Box<Clause<A>, A>, Box<Clause<A>, A>),
     /// The one or the other holds, or both do.
@@ -56,7 +60,7 @@ impl Rel {
     }
 }
 
-/// The round of the phase. A passive node has none.
+/// The round of the phase. A passive or yielding node has none.
 fn round(phase: Phase) -> Option<u32>
     ensures { result ≡ round_of phase }
 {
@@ -64,17 +68,17 @@ fn round(phase: Phase) -> Option<u32>
         Phase::Choosing { round } | Phase::Active { round, .. } | Phase::Leader { round, .. } => {
             Some(round)
         }
-        Phase::Passive => None,
+        Phase::Passive | Phase::Yielding => None,
     }
 }
 
-/// The ID of the phase. A choosing or passive node has none.
+/// The ID of the phase. A choosing, passive or yielding node has none.
 fn id(phase: Phase) -> Option<u32>
     ensures { result ≡ id_of phase }
 {
     match phase {
         Phase::Active { id, .. } | Phase::Leader { id, .. } => Some(id),
-        Phase::Choosing { .. } | Phase::Passive => None,
+        Phase::Choosing { .. } | Phase::Passive | Phase::Yielding => None,
     }
 }
 
@@ -90,9 +94,11 @@ impl<A: Allocator> Clause<A> {
             Clause::Active => matches!(state.phase, Phase::Active { .. }),
             Clause::Passive => matches!(state.phase, Phase::Passive),
             Clause::Choosing => matches!(state.phase, Phase::Choosing { .. }),
+            Clause::Yielding => matches!(state.phase, Phase::Yielding),
             Clause::Owes => state.owed.is_some(),
             Clause::Round(rel, n) => rel.compares_some(round(state.phase), *n),
             Clause::Id(rel, n) => rel.compares_some(id(state.phase), *n),
+            Clause::Term(rel, n) => rel.compares(state.term, *n),
             Clause::Both(a, b) => a.holds(state) && b.holds(state),
             Clause::Either(a, b) => a.holds(state) || b.holds(state),
             Clause::Negated(a) => !a.holds(state),

@@ -113,6 +113,9 @@ fn take_atom<A: Allocator>(text: &[u8]) -> Option<Taken<'_, A>>
     if let Some(rest) = skip_word(text, b"choosing") {
         return Some((Clause::Choosing, rest));
     }
+    if let Some(rest) = skip_word(text, b"yielding") {
+        return Some((Clause::Yielding, rest));
+    }
     if let Some(rest) = skip_word(text, b"owes") {
         return Some((Clause::Owes, rest));
     }
@@ -120,9 +123,13 @@ fn take_atom<A: Allocator>(text: &[u8]) -> Option<Taken<'_, A>>
         let (rel, n, rest) = take_comparison(rest)?;
         return Some((Clause::Round(rel, n), rest));
     }
-    let rest = skip_word(text, b"id ")?;
+    if let Some(rest) = skip_word(text, b"id ") {
+        let (rel, n, rest) = take_comparison(rest)?;
+        return Some((Clause::Id(rel, n), rest));
+    }
+    let rest = skip_word(text, b"term ")?;
     let (rel, n, rest) = take_comparison(rest)?;
-    Some((Clause::Id(rel, n), rest))
+    Some((Clause::Term(rel, n), rest))
 }
 
 /// A comparison with a number that an atom may hold, and what follows it.

@@ -2,11 +2,11 @@
 use Rattle.std.proofs.Common.{◌≡◌, ℕ, zero, suc, Bool, List, [], ◌∷◌, ◌++◌, take, Some, refl, sym, ◌∙◌, subst}
 use Rattle.std.specs.Prelude.{slice_get}
 use Rattle.ira_event.specs.declared.event.Event.{Event}
-use Rattle.ira_event.specs.declared.event.Event.TheVariants.{Draw, Sent, Got}
+use Rattle.ira_event.specs.declared.event.Event.TheVariants.{Draw, Sent, Got, Yield}
 use Rattle.ira_event.specs.Log.{Log}
 use Rattle.ira_node.specs.declared.node_state.NodeState.{NodeState}
 use Rattle.ira_node.specs.declared.wanted.Wanted.{Wanted}
-use Rattle.ira_node.specs.declared.wanted.Wanted.TheVariants.{Draw as WantsDraw, Send, Receipt, Nothing}
+use Rattle.ira_node.specs.declared.wanted.Wanted.TheVariants.{Draw as WantsDraw, Send, Receipt, Yield as WantsYield, Nothing}
 use Rattle.ira_node.specs.NodeState.{first_state}
 use Rattle.ira_node.specs.NodeStep.{NodeStep}
 use Rattle.ira_node.specs.Wanted.{IsOfKind, wanted_of}
@@ -48,25 +48,39 @@ one_kind : (w : Wanted) (e f : Event) → IsOfKind w e → IsOfKind w f → AreA
 one_kind WantsDraw (Draw d) (Draw c) h k = tt
 one_kind WantsDraw (Draw d) (Sent m) h k = absurd k
 one_kind WantsDraw (Draw d) (Got m) h k = absurd k
+one_kind WantsDraw (Draw d) Yield h k = absurd k
 one_kind WantsDraw (Sent m) f h k = absurd h
+one_kind WantsDraw Yield f h k = absurd h
 one_kind WantsDraw (Got m) f h k = absurd h
 one_kind (Send m) (Sent a) (Sent b) h k = h ∙ sym k
 one_kind (Send m) (Sent a) (Draw d) h k = absurd k
 one_kind (Send m) (Sent a) (Got b) h k = absurd k
+one_kind (Send m) (Sent a) Yield h k = absurd k
 one_kind (Send m) (Draw d) f h k = absurd h
+one_kind (Send m) Yield f h k = absurd h
 one_kind (Send m) (Got a) f h k = absurd h
 one_kind Receipt (Got a) (Got b) h k = tt
 one_kind Receipt (Got a) (Draw d) h k = absurd k
 one_kind Receipt (Got a) (Sent b) h k = absurd k
+one_kind Receipt (Got a) Yield h k = absurd k
 one_kind Receipt (Draw d) f h k = absurd h
+one_kind Receipt Yield f h k = absurd h
+one_kind WantsYield Yield Yield h k = tt
+one_kind WantsYield Yield (Draw d) h k = absurd k
+one_kind WantsYield Yield (Sent a) h k = absurd k
+one_kind WantsYield Yield (Got a) h k = absurd k
+one_kind WantsYield (Draw d) f h k = absurd h
+one_kind WantsYield (Sent a) f h k = absurd h
+one_kind WantsYield (Got a) f h k = absurd h
 one_kind Receipt (Sent a) f h k = absurd h
 one_kind Nothing (Draw d) f h k = absurd h
 one_kind Nothing (Sent a) f h k = absurd h
 one_kind Nothing (Got a) f h k = absurd h
+one_kind Nothing Yield f h k = absurd h
 
 -- two events that lead on from one state
 pub steps_alike : (n : ℕ) (s : NodeState) (e f : Event) (t u : NodeState) → NodeStep n s e t → NodeStep n s f u → AreAlike e f
-steps_alike n s e f t u h k = one_kind (wanted_of s.phase s.owed) e f (step_wanted n s e t h) (step_wanted n s f u k)
+steps_alike n s e f t u h k = one_kind (wanted_of s.term s.phase s.owed) e f (step_wanted n s e t h) (step_wanted n s f u k)
 
 go_on_alike : (n : ℕ) (s : NodeState) (es fs : List Event) (t u : NodeState) (k : ℕ) (e f : Event) → LeadsTo n s es t → LeadsTo n s fs u → take k es ≡ take k fs → slice_get es k ≡ Some e → slice_get fs k ≡ Some f → AreAlike e f
 go_on_alike n s es fs t u k e f h g same at there =

@@ -11,9 +11,9 @@ pub fn states_are_reached()
     ensures { StatesAreReached }
 {}
 
-/// A law: what a node does next is fixed by what it did, but for the ID that it draws and the message that it
+/// A law: what a node does next is fixed by what it did, but for the ID that it draws and the load that it
 /// receives. Two local runs of one ring size and one start kind that agree in their first events go on
-/// with two draws, two receipts, or two sendings of one message.
+/// with two draws, two receipts, two yields, or two sendings of one load.
 pub fn local_runs_go_on_alike()
     ensures { LocalRunsGoOnAlike }
 {}

@@ -13,4 +13,4 @@ returns-in_err-head c =
 pub returns : goal.returns
 returns c =
     let v = c.in_ok-head.ensures.value in
-    rw (v.0, v.1, v.2) (head_found c.args.text.now c.in_ok-lines.lines c.in_ok-lines.rest.now c.in_ok-lines.ensures (c.in_ok-head.ensures.some.0 refl))
+    rw (v.0, v.1, v.2, v.3) (head_found c.args.text.now c.in_ok-lines.lines c.in_ok-lines.rest.now c.in_ok-lines.ensures (c.in_ok-head.ensures.some.0 refl))

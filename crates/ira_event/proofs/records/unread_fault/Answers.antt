@@ -11,13 +11,13 @@ pub returns-then-begins_as_record : goal.returns-then-begins_as_record
 returns-then-begins_as_record c =
     let feed = line_end_at c.args.text.now c.in-Some.end (sym c.line_end.ensures ∙ c.in-Some.is) in
     let line : FirstFeed c.args.text.now c.split_at.result.0.now = subst (FirstFeed c.args.text.now) (sym c.split_at.ensures.front) feed in
-    fault_unread_too_many c.args.records c.args.text.now c.requires.unread c.split_at.result.0.now line c.if-records-eq-MAX_RECORDS.true (c.begins_as_record.ensures.0 c.if-begins_as_record.true)
+    fault_unread_too_many c.args.version c.args.records c.args.text.now c.requires.unread c.split_at.result.0.now line c.if-records-eq-MAX_RECORDS.true (c.begins_as_record.ensures.0 c.if-begins_as_record.true)
 
 pub returns : goal.returns
 returns c =
     let feed = line_end_at c.args.text.now c.in-Some.end (sym c.line_end.ensures ∙ c.in-Some.is) in
     let line : FirstFeed c.args.text.now c.split_at.result.0.now = subst (FirstFeed c.args.text.now) (sym c.split_at.ensures.front) feed in
-    fault_line c.args.records c.args.text.now c.requires.unread c.split_at.result.0.now line
+    fault_line c.args.version c.args.records c.args.text.now c.requires.unread c.split_at.result.0.now line
     (λ many begins. elim c.else-records-eq-MAX_RECORDS.branch [
       | else-records-eq-MAX_RECORDS-via-then-records-eq-MAX_RECORDS+else-begins_as_record w ↦ let no = w.begins_as_record.ensures.1 begins in let is = w.if-begins_as_record.false in cc
       | else-records-eq-MAX_RECORDS-via-else-records-eq-MAX_RECORDS w ↦ absurd (omega (arith, many, w.if-records-eq-MAX_RECORDS.false))

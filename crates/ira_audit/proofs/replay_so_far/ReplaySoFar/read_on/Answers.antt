@@ -1,4 +1,4 @@
-use Rattle.std.proofs.Common.{◌≡◌, arith, refl}
+use Rattle.std.proofs.Common.{◌≡◌, ◌∙◌, arith, refl}
 use Rattle.ira_event.proofs.LogReading.{record_shorter, was_read}
 use Rattle.ira_audit.proofs.LogAudits.{begun_more, none_read, suffix_all, suffix_read}
 use Rattle.ira_audit.proofs.Replaying.{leads_on, stays_stopped, stops_there}
@@ -7,8 +7,9 @@ use Rattle.ira_audit.proofs.replay_so_far.ReplaySoFar.read_on.Goals.{in-Ok-None,
 
 pub loop-event-init : goal.loop-event-init
 loop-event-init c = record {
-  begun = λ text b. record { rest = b.rest; head = b.head; events = b.events; read = b.read; came = b.came };
+  begun = λ text b. record { rest = b.rest; head = b.head; version = b.version; events = b.events; read = b.read; came = b.came };
   suffix = suffix_all _;
+  version = c.requires.version;
 }
 
 pub loop-event-smaller : goal.loop-event-smaller
@@ -20,6 +21,7 @@ loop-event-preserved-in-Ok c =
     record {
       begun = λ text b. begun_more text _ _ _ _ _ refl r (λ es n h. leads_on _ _ _ _ _ _ _ h c.if-is_none.ensures c.in-Ok.ensures.steps) (c.loop-event.invariant.begun text b);
       suffix = suffix_read _ _ _ _ r c.loop-event.invariant.suffix;
+      version = r.version ∙ c.loop-event.invariant.version;
     }
 
 pub loop-event-preserved-in-Err-advance : goal.loop-event-preserved-in-Err-advance
@@ -28,6 +30,7 @@ loop-event-preserved-in-Err-advance c =
     record {
       begun = λ text b. begun_more text _ _ _ _ _ refl r (λ es n h. stops_there _ _ _ _ c.advance.new.self _ _ _ h c.if-is_none.ensures (omega (arith, n, r.count, c.count-position.ensures.value)) c.in-Err-advance.ensures.steps) (c.loop-event.invariant.begun text b);
       suffix = suffix_read _ _ _ _ r c.loop-event.invariant.suffix;
+      version = r.version ∙ c.loop-event.invariant.version;
     }
 
 pub loop-event-preserved : goal.loop-event-preserved
@@ -36,6 +39,7 @@ loop-event-preserved c =
     record {
       begun = λ text b. begun_more text _ _ _ _ _ refl r (λ es n h. stays_stopped _ _ _ _ _ _ _ h c.if-is_none.ensures) (c.loop-event.invariant.begun text b);
       suffix = suffix_read _ _ _ _ r c.loop-event.invariant.suffix;
+      version = r.version ∙ c.loop-event.invariant.version;
     }
 
 -- where no record was read nothing changed
@@ -45,7 +49,10 @@ kept c = elim c.match-next_event.branch [ in-Ok-None w ↦ (none_read _ _ _ w.in
 pub returns-clause-begun : goal.returns-clause-begun
 returns-clause-begun c = λ text b.
     let h = c.loop-event.invariant.begun text b in
-    rw (kept c) (record { rest = h.rest; head = h.head; events = h.events; read = h.read; came = h.came })
+    rw (kept c) (record { rest = h.rest; head = h.head; version = h.version; events = h.events; read = h.read; came = h.came })
+
+pub returns-clause-version : goal.returns-clause-version
+returns-clause-version c = rw (kept c) c.loop-event.invariant.version
 
 pub returns-clause-suffix : goal.returns-clause-suffix
 returns-clause-suffix c = rw (kept c) c.loop-event.invariant.suffix

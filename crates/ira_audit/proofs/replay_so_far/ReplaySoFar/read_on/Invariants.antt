@@ -1,4 +1,4 @@
-use Rattle.std.proofs.Common.{ℕ, List, length}
+use Rattle.std.proofs.Common.{◌≡◌, ℕ, List, length}
 use Rattle.ira_audit.specs.LogAudit.{IsBegun, IsSuffix}
 use Rattle.ira_audit.proofs.replay_so_far.ReplaySoFar.read_on.Given as goal
 
@@ -7,6 +7,7 @@ invariant-loop-event l = record {
   begun : (text : List ℕ) → IsBegun text l.fn.self l.initial.records
       → IsBegun text (record { head = l.head; count = l.records.count; state = l.state; stop = l.stop }) l.records;
   suffix : IsSuffix l.records.rest l.initial.records.rest;
+  version : l.records.version ≡ l.head.version;
 }
 
 abbrev pub decreases-loop-event : goal.decreases-loop-event

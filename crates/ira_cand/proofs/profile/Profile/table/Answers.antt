@@ -28,11 +28,11 @@ loop-run-preserved g c =
     let f = formula c.args.clause.now in
     let run = c.run-item.result in
     let long : c.len-position.result ≡ length run.owes.items = c.len-position.ensures ∙ run.owes.ok.0 in
-    let found : c.pick.new.found.items ≡ c.loop-run.found.items ++ picked (test_of f run.phase false) (test_of f run.phase true) c.loop-run.position run.owes.items =
+    let found : c.pick.new.found.items ≡ c.loop-run.found.items ++ picked (test_of f run.stage false) (test_of f run.stage true) c.loop-run.position run.owes.items =
     c.in_ok-pick.ensures
     ∙ ap (λ os. c.loop-run.found.items ++ picked c.answers-free.result.0 c.answers-free.result.1 c.loop-run.position os) c.deref.ensures.value
     ∙ ap (λ b. c.loop-run.found.items ++ picked b c.answers-free.result.1 c.loop-run.position run.owes.items) c.answers-free.ensures.free
-    ∙ ap (λ b. c.loop-run.found.items ++ picked (test_of f run.phase false) b c.loop-run.position run.owes.items) c.answers-free.ensures.owing in
+    ∙ ap (λ b. c.loop-run.found.items ++ picked (test_of f run.stage false) b c.loop-run.position run.owes.items) c.answers-free.ensures.owing in
     rw long (table_more log f c.deref-run-items.result.now c.loop-run.run-index c.loop-run.position c.loop-run.found.items c.loop-run.invariant run c.pick.new.found.items c.loop-run-test.true c.run-item.is found)
 
 pub returns : goal.returns

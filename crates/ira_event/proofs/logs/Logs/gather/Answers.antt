@@ -1,7 +1,7 @@
 use Rattle.std.proofs.Common.{◌≡◌, ℕ, List, Ok, sym, ◌∙◌, ap, subst}
 use Rattle.std.proofs.lemmas.Result.{err_from_is_err_and}
 use Rattle.ira_event.specs.Log.{Log, IsLog}
-use Rattle.ira_event.specs.Logs.{AreLogs, EachLog, HasNumber, IsFirstOther, wrong_number, wrong_size, wrong_place}
+use Rattle.ira_event.specs.Logs.{AreLogs, EachLog, HasNumber, HasVersion, IsFirstOther, wrong_number, wrong_size, wrong_place, wrong_version}
 use Rattle.ira_event.proofs.Gathering.{answers-fault, answers-no-logs, logs-built, no-fault}
 use Rattle.ira_event.proofs.logs.Logs.gather.Goals as goal
 
@@ -51,13 +51,37 @@ returns-in_err-check_places-clause-err g c =
     let first : IsFirstOther c.args.logs.items (λ i log. log.place ≡ i) found.0 = subst (λ (x : List Log). IsFirstOther x (λ i log. log.place ≡ i) found.0) c.deref-3.ensures.value found.2 in
     answers-fault c.from_residual-in_err-check_places.result c.args.logs.items p.0 p.1 (wrong_place c.in_ok-size.size found.0 number sizes first (p.2 ∙ found.1))
 
+pub returns-in_err-check_versions-clause-ok : goal.returns-in_err-check_versions-clause-ok
+returns-in_err-check_versions-clause-ok g c = λ gathered.
+    let p = err_from_is_err_and c.from_residual-in_err-check_versions.result c.from_residual-in_err-check_versions.ensures.1 in
+    let number : HasNumber c.args.logs.items c.in_ok-size.size = subst (λ (x : List Log). HasNumber x c.in_ok-size.size) c.deref.ensures.value c.in_ok-size.ensures.1 in
+    let sizes : EachLog c.args.logs.items (λ _ log. log.nodes ≡ c.in_ok-size.size) = subst (λ (x : List Log). EachLog x (λ _ log. log.nodes ≡ c.in_ok-size.size)) c.deref-2.ensures.value c.in_ok-check_sizes.ensures.ok in
+    let places : EachLog c.args.logs.items (λ i log. log.place ≡ i) = subst (λ (x : List Log). EachLog x (λ i log. log.place ≡ i)) c.deref-3.ensures.value c.in_ok-check_places.ensures.ok in
+    let found = c.in_err-check_versions.ensures.err in
+    let one : HasVersion c.args.logs.items found.0 = subst (λ (x : List Log). HasVersion x found.0) c.deref-4.ensures.value found.3 in
+    let first : IsFirstOther c.args.logs.items (λ _ log. log.version ≡ found.0) found.1 = subst (λ (x : List Log). IsFirstOther x (λ _ log. log.version ≡ found.0) found.1) c.deref-4.ensures.value found.4 in
+    answers-no-logs c.from_residual-in_err-check_versions.result c.args.logs.items p.0 p.1 (wrong_version c.in_ok-size.size found.0 found.1 number sizes places one first (p.2 ∙ found.2)) gathered gathered
+
+pub returns-in_err-check_versions-clause-err : goal.returns-in_err-check_versions-clause-err
+returns-in_err-check_versions-clause-err g c =
+    let p = err_from_is_err_and c.from_residual-in_err-check_versions.result c.from_residual-in_err-check_versions.ensures.1 in
+    let number : HasNumber c.args.logs.items c.in_ok-size.size = subst (λ (x : List Log). HasNumber x c.in_ok-size.size) c.deref.ensures.value c.in_ok-size.ensures.1 in
+    let sizes : EachLog c.args.logs.items (λ _ log. log.nodes ≡ c.in_ok-size.size) = subst (λ (x : List Log). EachLog x (λ _ log. log.nodes ≡ c.in_ok-size.size)) c.deref-2.ensures.value c.in_ok-check_sizes.ensures.ok in
+    let places : EachLog c.args.logs.items (λ i log. log.place ≡ i) = subst (λ (x : List Log). EachLog x (λ i log. log.place ≡ i)) c.deref-3.ensures.value c.in_ok-check_places.ensures.ok in
+    let found = c.in_err-check_versions.ensures.err in
+    let one : HasVersion c.args.logs.items found.0 = subst (λ (x : List Log). HasVersion x found.0) c.deref-4.ensures.value found.3 in
+    let first : IsFirstOther c.args.logs.items (λ _ log. log.version ≡ found.0) found.1 = subst (λ (x : List Log). IsFirstOther x (λ _ log. log.version ≡ found.0) found.1) c.deref-4.ensures.value found.4 in
+    answers-fault c.from_residual-in_err-check_versions.result c.args.logs.items p.0 p.1 (wrong_version c.in_ok-size.size found.0 found.1 number sizes places one first (p.2 ∙ found.2))
+
 pub invariant_of-result : goal.invariant_of-result
 invariant_of-result g c =
     let number : HasNumber c.args.logs.items c.in_ok-size.size = subst (λ (x : List Log). HasNumber x c.in_ok-size.size) c.deref.ensures.value c.in_ok-size.ensures.1 in
     let sizes : EachLog c.args.logs.items (λ _ log. log.nodes ≡ c.in_ok-size.size) = subst (λ (x : List Log). EachLog x (λ _ log. log.nodes ≡ c.in_ok-size.size)) c.deref-2.ensures.value c.in_ok-check_sizes.ensures.ok in
     let places : EachLog c.args.logs.items (λ i log. log.place ≡ i) = subst (λ (x : List Log). EachLog x (λ i log. log.place ≡ i)) c.deref-3.ensures.value c.in_ok-check_places.ensures.ok in
     let valid : EachLog c.args.logs.items (λ _ log. IsLog log) = subst (λ (x : List Log). EachLog x (λ _ log. IsLog log)) c.deref-3.ensures.value c.in_ok-check_places.ensures.valid in
-    (sym number.number, logs-built c.args.logs.items c.in_ok-size.size c.in_ok-size.ensures.0 number sizes places valid)
+    let found = c.in_ok-check_versions.ensures.ok in
+    let versions : EachLog c.args.logs.items (λ _ log. log.version ≡ found.0) = subst (λ (x : List Log). EachLog x (λ _ log. log.version ≡ found.0)) c.deref-4.ensures.value found.2 in
+    (sym number.number, logs-built c.args.logs.items c.in_ok-size.size found.0 c.in_ok-size.ensures.0 number sizes places valid versions)
 
 pub returns-clause-ok : goal.returns-clause-ok
 returns-clause-ok g c = λ gathered.

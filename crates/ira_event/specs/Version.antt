@@ -1,0 +1,7 @@
+-- The versions of logs.
+use Rattle.std.specs.Prelude.{ℕ, ◌≤◌}
+use Rattle.ira_event.specs.Limits.{MAX_VERSION}
+
+-- a log has one of these versions
+abbrev pub IsVersion : ℕ → Type 0
+IsVersion version = (1 ≤ version) × (version ≤ MAX_VERSION)
