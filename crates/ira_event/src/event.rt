@@ -40,7 +40,7 @@ impl Event {
     }
 
     /// Whether a log of this version may have the event.
-    pub(crate) fn is_of_version(&self, version: u8) -> bool
+    pub fn is_of_version(&self, version: u8) -> bool
         ensures { result ≡ version_test version self.now }
     {
         !self.is_later() || version > 1
