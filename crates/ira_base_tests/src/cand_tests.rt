@@ -4,9 +4,10 @@ ghost use Rattle.std.specs.Iterator.{YieldsFirst, item_count};
 
 use crate::samples::{clean, free, log_of, loser, owing};
 use ira_cand::{Ahead, Holding, LocalTest, Profile, candidates, table};
-use ira_event::{Event, Listed, NodeLog, OutOfMemory};
+use ira_event::{Event, Listed, NodeLog, OutOfMemory, read_log};
+use ira_fixtures::SECOND_TERM;
 use ira_node::{NodeState, Phase};
-use ira_pred::Clause;
+use ira_pred::{Clause, Rel};
 use std::alloc::Global;
 use std::process::Abort;
 
@@ -55,6 +56,36 @@ fn candidates_of_active(rt: HostRuntime) {
     assert!(rt; positions.as_slice() == [1, 2].as_slice());
 }
 
+/// Compares at which positions of the text's log the clause holds, by the log and by its profile.
+fn assert_table(
+    rt: &(impl Abort + AllocGlobal),
+    text: &[u8],
+    clause: Clause<Global>,
+    positions: &[u32],
+) {
+    let log = read_log(rt.alloc(), text).expect(rt, "a log");
+    let own = table(rt.alloc(), &log, &clause).expect(rt, "memory");
+    let told = told_in_short(rt.alloc(), &log, &clause).expect(rt, "memory");
+    let are_wanted = own.as_slice() == positions && told.as_slice() == positions;
+    assert!(rt; are_wanted, "{clause:?}");
+}
+
+#[test]
+fn second_term(rt: HostRuntime) {
+    let [first, second] = SECOND_TERM;
+    assert_table(&rt, first, Clause::Leader, &[4]);
+    assert_table(&rt, second, Clause::Leader, &[10]);
+    assert_table(&rt, first, Clause::Yielding, &[5, 6]);
+    assert_table(
+        &rt,
+        first,
+        Clause::Term(Rel::Greater, 1),
+        &[7, 8, 9, 10, 11],
+    );
+    assert_table(&rt, second, Clause::Term(Rel::Less, 2), &[0, 1, 2, 3, 4]);
+    assert_table(&rt, second, Clause::Choosing, &[0, 5, 6]);
+}
+
 /// The log of a passive node that passes 2,000 messages on: it owes one behind each receipt.
 fn long_log(rt: &(impl Abort + AllocGlobal)) -> NodeLog<Global> {
     let passed_on = [Event::Got(clean(1, 1, 1)), Event::Sent(clean(1, 1, 2))];
@@ -62,10 +93,14 @@ fn long_log(rt: &(impl Abort + AllocGlobal)) -> NodeLog<Global> {
     log_of(rt, 2, 1, false, &events)
 }
 
-/// The positions at which the node owes, by the log's profile.
-fn told_in_short(alloc: Global, log: &NodeLog<Global>) -> Result<Vec<u32>, OutOfMemory> {
+/// The positions at which the clause holds, by the log's profile.
+fn told_in_short(
+    alloc: Global,
+    log: &NodeLog<Global>,
+    clause: &Clause<Global>,
+) -> Result<Vec<u32>, OutOfMemory> {
     let profile = Profile::new(alloc, log)?;
-    profile.table(alloc, &Clause::Owes)
+    profile.table(alloc, clause)
 }
 
 /// How many positions are listed, where all are odd.
@@ -87,7 +122,7 @@ fn candidates_of_a_long_log(rt: HostRuntime) {
     let log = long_log(&rt);
     let counts = (
         count_odd(&rt, table(rt.alloc(), &log, &Clause::Owes)),
-        count_odd(&rt, told_in_short(rt.alloc(), &log)),
+        count_odd(&rt, told_in_short(rt.alloc(), &log, &Clause::Owes)),
     );
     assert!(rt; counts == (Some(2_000), Some(2_000)));
 }

@@ -1,7 +1,8 @@
 //! What clauses say of states.
 
 use crate::question_samples::{ACTIVE, CHOOSING, LEADER};
-use crate::samples::{clean, free, owing};
+use crate::samples::{clean, free, in_term, owing};
+use ira_event::Load;
 use ira_node::{NodeState, Phase};
 use ira_pred::{Clause, Rel};
 use std::alloc::Global;
@@ -15,41 +16,64 @@ fn assert_holds(rt: &impl Abort, clause: Clause<Global>, rows: &[(NodeState, boo
     }
 }
 
-/// Compares in which phases the clause holds: of a node that chooses, is active, passive or the leader.
+/// Compares in which phases the clause holds: of a node that chooses, is active, passive or the leader, or yields.
 fn assert_phases(
     rt: &impl Abort,
     clause: Clause<Global>,
-    [choosing, active, passive, leader]: [bool; 4],
+    [choosing, active, passive, leader, yielding]: [bool; 5],
 ) {
     let rows = [
         (free(CHOOSING), choosing),
         (free(ACTIVE), active),
         (free(Phase::Passive), passive),
         (free(LEADER), leader),
+        (free(Phase::Yielding), yielding),
     ];
     assert_holds(rt, clause, &rows);
 }
 
 #[test]
 fn clauses_of_one_fact(rt: HostRuntime) {
-    let all_but_passive = [true, true, false, true];
-    let with_id = [false, true, false, true];
-    let none = [false, false, false, false];
-    assert_phases(&rt, Clause::Always, [true, true, true, true]);
-    assert_phases(&rt, Clause::Leader, [false, false, false, true]);
-    assert_phases(&rt, Clause::Active, [false, true, false, false]);
-    assert_phases(&rt, Clause::Passive, [false, false, true, false]);
-    assert_phases(&rt, Clause::Choosing, [true, false, false, false]);
+    let with_round = [true, true, false, true, false];
+    let with_id = [false, true, false, true, false];
+    let all = [true, true, true, true, true];
+    let none = [false, false, false, false, false];
+    assert_phases(&rt, Clause::Always, all);
+    assert_phases(&rt, Clause::Leader, [false, false, false, true, false]);
+    assert_phases(&rt, Clause::Active, [false, true, false, false, false]);
+    assert_phases(&rt, Clause::Passive, [false, false, true, false, false]);
+    assert_phases(&rt, Clause::Choosing, [true, false, false, false, false]);
+    assert_phases(&rt, Clause::Yielding, [false, false, false, false, true]);
     assert_phases(&rt, Clause::Owes, none);
-    assert_phases(&rt, Clause::Round(Rel::Less, 3), all_but_passive);
+    assert_phases(&rt, Clause::Round(Rel::Less, 3), with_round);
     assert_phases(&rt, Clause::Round(Rel::Less, 2), none);
-    assert_phases(&rt, Clause::Round(Rel::Equal, 2), all_but_passive);
-    assert_phases(&rt, Clause::Round(Rel::Greater, 1), all_but_passive);
+    assert_phases(&rt, Clause::Round(Rel::Equal, 2), with_round);
+    assert_phases(&rt, Clause::Round(Rel::Greater, 1), with_round);
     assert_phases(&rt, Clause::Round(Rel::Greater, 2), none);
     assert_phases(&rt, Clause::Id(Rel::Less, 4), with_id);
     assert_phases(&rt, Clause::Id(Rel::Equal, 3), with_id);
     assert_phases(&rt, Clause::Id(Rel::Greater, 2), with_id);
     assert_phases(&rt, Clause::Id(Rel::Greater, 3), none);
+    assert_phases(&rt, Clause::Term(Rel::Less, 2), all);
+    assert_phases(&rt, Clause::Term(Rel::Less, 1), none);
+    assert_phases(&rt, Clause::Term(Rel::Equal, 1), all);
+    assert_phases(&rt, Clause::Term(Rel::Greater, 0), all);
+    assert_phases(&rt, Clause::Term(Rel::Greater, 1), none);
+}
+
+#[test]
+fn clauses_of_later_terms(rt: HostRuntime) {
+    let yielded = in_term(3, owing(Phase::Yielding, Load::Reset(1)));
+    let leader = in_term(3, free(LEADER));
+    let both = [(yielded, true), (leader, true)];
+    assert_holds(&rt, Clause::Term(Rel::Equal, 3), &both);
+    assert_holds(&rt, Clause::Term(Rel::Greater, 2), &both);
+    assert_holds(&rt, Clause::Owes, &[(yielded, true), (leader, false)]);
+    assert_holds(
+        &rt,
+        Clause::Round(Rel::Equal, 2),
+        &[(yielded, false), (leader, true)],
+    );
 }
 
 fn boxed(rt: &(impl Abort + AllocGlobal), clause: Clause<Global>) -> Box<Clause<Global>> {

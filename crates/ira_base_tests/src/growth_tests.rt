@@ -26,6 +26,12 @@ const LATE_FAULT: &[u8] = b"irlog 1\nnodes 2\nplace 0\nstart initiator\n\
     draw 1\ndraw 1\ndraw 1\ndraw 1\ndraw 1\ndraw 1\ndraw 1\ndraw 1\ndraw 1\n\
     draw x\n";
 
+/// More records of version 2 than the reader makes room for at first.
+const MANY_YIELDS: &[u8] = b"irlog 2\nnodes 2\nplace 0\nstart initiator\n\
+    yield\nsend reset 1\nrecv reset 2\nyield\nyield\nyield\nyield\nyield\nyield\nyield\n\
+    yield\nyield\nyield\nyield\nyield\nyield\nyield\nyield\nyield\n\
+    end 19\n";
+
 /// Whether ever two nodes of a ring of three lead at once.
 const PAIRS_OF_THREE: &[u8] = b"irask 1\nnodes 3\n\
     case\n0: leader\n1: leader\n\
@@ -34,7 +40,8 @@ const PAIRS_OF_THREE: &[u8] = b"irask 1\nnodes 3\n\
     end\n";
 
 /// A question whose clause nests.
-const NESTED: &[u8] = b"irask 1\nnodes 2\ncase\n0: (leader and (not (owes or true)))\nend\n";
+const NESTED: &[u8] =
+    b"irask 1\nnodes 2\ncase\n0: (leader and (not (yielding or term < 2)))\nend\n";
 
 /// The calls whose growths are refused.
 enum Call {
@@ -52,6 +59,7 @@ const CALLS: &[Call] = &[
     Call::ReadLog(ELECTION_0),
     Call::ReadLog(MANY_DRAWS),
     Call::ReadLog(LATE_FAULT),
+    Call::ReadLog(MANY_YIELDS),
     Call::WriteLog,
     Call::ReadQuestion(NESTED),
     Call::ReadQuestion(PAIRS_OF_THREE),

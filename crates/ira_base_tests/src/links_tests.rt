@@ -1,8 +1,8 @@
 //! Links between threads, and gates.
 ghost use Rattle.std.specs.Prelude.{◌≡◌, ◌≤◌, true};
-ghost use Rattle.ira_event.specs.Event.{is_msg};
+ghost use Rattle.ira_event.specs.Event.{is_load};
 
-use ira_event::Msg;
+use ira_event::{Load, Msg};
 use ira_links::{Closed, Frame, Gate, LinkIn, LinkOut, OpenGate, link, settle};
 use std::alloc::Global;
 use std::process::Abort;
@@ -14,20 +14,20 @@ use std::time::{Clock, Duration};
 // In milliseconds.
 const A_WHILE: u64 = 200;
 
-fn message(id: u32) -> Msg
+fn message(id: u32) -> Load
     requires { (1 ≤ id) × (id ≤ 1000000) }
-    ensures { is_msg result ≡ true }
+    ensures { is_load result ≡ true }
 {
-    Msg {
+    Load::Msg(Msg {
         round: 1,
         id,
         hop: 1,
         dirty: false,
-    }
+    })
 }
 
 fn assert_in_order(rt: &(impl Abort + Wait + AllocGlobal)) {
-    let frame = Frame::Msg(message(1));
+    let frame = Frame::Load(message(1));
     let (mut output, mut input) = link(rt.alloc(), 2).expect(rt, "memory");
     let puts = [output.put(rt, frame), output.put(rt, Frame::Stop)];
     let taken = input.take(rt);
@@ -40,10 +40,10 @@ fn assert_exhausted(rt: &(impl Abort + Wait + AllocGlobal)) {
     let (mut output, mut input) = link(rt.alloc(), 1).expect(rt, "memory");
     let mut are_equal = true;
     for id in 1..=1_000_000 {
-        let frame = Frame::Msg(message(id));
+        let frame = Frame::Load(message(id));
         are_equal = are_equal && output.put(rt, frame) == Ok(()) && input.take(rt) == Ok(frame);
     }
-    let frame = Frame::Msg(message(1));
+    let frame = Frame::Load(message(1));
     let refused = output.put(rt, frame);
     let settled = settle(output, input);
     let counts = (settled.puts(), settled.takes());
@@ -60,7 +60,7 @@ fn link_order_and_exhaustion(rt: HostRuntime) {
 fn put_four<R: Wait + Clock>(rt: &R, mut output: LinkOut<Global>) -> bool {
     let mut are_accepted = true;
     for id in 1..=3 {
-        are_accepted = are_accepted && output.put(rt, Frame::Msg(message(id))) == Ok(());
+        are_accepted = are_accepted && output.put(rt, Frame::Load(message(id))) == Ok(());
     }
     thread::sleep(rt, Duration::from_millis(A_WHILE));
     are_accepted && output.put(rt, Frame::Stop) == Ok(())
@@ -71,7 +71,7 @@ fn take_four<R: Wait + Clock>(rt: &R, mut input: LinkIn<Global>) -> bool {
     let mut are_equal = true;
     thread::sleep(rt, Duration::from_millis(A_WHILE));
     for id in 1..=3 {
-        are_equal = are_equal && input.take(rt) == Ok(Frame::Msg(message(id)));
+        are_equal = are_equal && input.take(rt) == Ok(Frame::Load(message(id)));
     }
     are_equal && input.take(rt) == Ok(Frame::Stop)
 }
@@ -106,7 +106,7 @@ fn dropped_output_wakes_the_input(rt: HostRuntime) {
 #[test]
 fn dropped_input_wakes_the_output(rt: HostRuntime) {
     let host = &rt;
-    let frame = Frame::Msg(message(1));
+    let frame = Frame::Load(message(1));
     let (mut output, input) = link(rt.alloc(), 1).expect(host, "memory");
     let put = output.put(host, Frame::Stop);
     let (refused, ()) = join(

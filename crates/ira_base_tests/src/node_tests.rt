@@ -1,7 +1,7 @@
 //! The node's automaton.
 
-use crate::samples::{assert_shown, clean, dirty, free, owing};
-use ira_event::{Event, RingSize};
+use crate::samples::{assert_shown, clean, dirty, free, in_term, owing};
+use ira_event::{Event, Load, RingSize};
 use ira_node::{NodeState, Phase, StepFault, Wanted};
 use std::process::Abort;
 
@@ -12,6 +12,11 @@ const ACTIVE: Phase = Phase::Active { round: 2, id: 2 };
 const PASSIVE: Phase = Phase::Passive;
 
 const LEADER: Phase = Phase::Leader { round: 2, id: 2 };
+
+const YIELDING: Phase = Phase::Yielding;
+
+/// The reset of a node that yields.
+const RESET: Load = Load::Reset(1);
 
 #[test]
 fn first_states(rt: HostRuntime) {
@@ -33,13 +38,28 @@ fn wanted_by_phase_and_debt(rt: HostRuntime) {
         (free(CHOOSING), Wanted::Draw),
         (free(ACTIVE), Wanted::Receipt),
         (free(Phase::Passive), Wanted::Receipt),
-        (free(LEADER), Wanted::Nothing),
+        (free(LEADER), Wanted::Yield),
+        (free(YIELDING), Wanted::Receipt),
         (owing(CHOOSING, debt), Wanted::Send(debt)),
         (owing(ACTIVE, debt), Wanted::Send(debt)),
         (owing(Phase::Passive, debt), Wanted::Send(debt)),
-        (owing(LEADER, debt), Wanted::Nothing),
+        (owing(YIELDING, RESET), Wanted::Send(RESET)),
+        (owing(LEADER, debt), Wanted::Yield),
     ] {
         assert_wanted(&rt, state, want);
+    }
+}
+
+#[test]
+fn wanted_in_the_last_terms(rt: HostRuntime) {
+    for (term, phase, want) in [
+        (999_999, LEADER, Wanted::Yield),
+        (1_000_000, LEADER, Wanted::Nothing),
+        (1_000_000, CHOOSING, Wanted::Draw),
+        (1_000_000, PASSIVE, Wanted::Receipt),
+        (1_000_000, YIELDING, Wanted::Receipt),
+    ] {
+        assert_wanted(&rt, in_term(term, free(phase)), want);
     }
 }
 
@@ -178,6 +198,120 @@ fn steps_at_the_limits(rt: HostRuntime) {
     }
 }
 
+/// What yields and resets do in a ring of two.
+#[test]
+fn steps_of_terms(rt: HostRuntime) {
+    let home = Load::Reset(2);
+    let begun = in_term(2, free(Phase::Choosing { round: 1 }));
+    let passing_on = in_term(2, owing(Phase::Choosing { round: 1 }, home));
+    for (state, event, want) in [
+        (free(LEADER), Event::Yield, owing(YIELDING, RESET)),
+        (
+            owing(LEADER, clean(2, 2, 1)),
+            Event::Yield,
+            owing(YIELDING, RESET),
+        ),
+        (owing(YIELDING, RESET), Event::Sent(RESET), free(YIELDING)),
+        (free(PASSIVE), Event::Got(RESET), passing_on),
+        (passing_on, Event::Sent(home), begun),
+        (free(YIELDING), Event::Got(home), begun),
+    ] {
+        assert_step(&rt, 2, state, event, Ok(want));
+    }
+}
+
+/// Yields and resets out of turn, in a ring of two.
+#[test]
+fn faults_of_terms(rt: HostRuntime) {
+    let home = Load::Reset(2);
+    for (phase, event, want) in [
+        (PASSIVE, Event::Got(home), StepFault::WrongReset),
+        (PASSIVE, Event::Got(Load::Reset(3)), StepFault::WrongReset),
+        (PASSIVE, Event::Yield, StepFault::NotLeader),
+        (PASSIVE, Event::Sent(RESET), StepFault::NotOwed),
+        (ACTIVE, Event::Got(RESET), StepFault::WrongReset),
+        (ACTIVE, Event::Got(home), StepFault::WrongReset),
+        (ACTIVE, Event::Yield, StepFault::NotLeader),
+        (CHOOSING, Event::Got(RESET), StepFault::MustDraw),
+        (CHOOSING, Event::Yield, StepFault::NotLeader),
+        (YIELDING, Event::Got(RESET), StepFault::WrongReset),
+        (YIELDING, Event::Got(Load::Reset(3)), StepFault::WrongReset),
+        (YIELDING, Event::Got(clean(1, 2, 2)), StepFault::NotReset),
+        (YIELDING, Event::Draw(1), StepFault::NotChoosing),
+        (YIELDING, Event::Sent(RESET), StepFault::NotOwed),
+        (YIELDING, Event::Yield, StepFault::NotLeader),
+        (LEADER, Event::Draw(1), StepFault::Ended),
+        (LEADER, Event::Sent(RESET), StepFault::Ended),
+        (LEADER, Event::Got(RESET), StepFault::Ended),
+        (LEADER, Event::Got(home), StepFault::Ended),
+    ] {
+        assert_step(&rt, 2, free(phase), event, Err(want));
+    }
+}
+
+#[test]
+fn debts_of_resets(rt: HostRuntime) {
+    let yielded = owing(YIELDING, RESET);
+    for (state, event, want) in [
+        (yielded, Event::Yield, StepFault::Owes),
+        (
+            owing(PASSIVE, clean(1, 1, 2)),
+            Event::Yield,
+            StepFault::Owes,
+        ),
+        (yielded, Event::Got(Load::Reset(2)), StepFault::Owes),
+        (yielded, Event::Sent(Load::Reset(2)), StepFault::NotOwed),
+        (yielded, Event::Sent(clean(1, 1, 1)), StepFault::NotOwed),
+        (
+            owing(PASSIVE, clean(1, 1, 1)),
+            Event::Sent(RESET),
+            StepFault::NotOwed,
+        ),
+    ] {
+        assert_step(&rt, 2, state, event, Err(want));
+    }
+}
+
+/// In the last term and in the one before, in a ring of two.
+#[test]
+fn last_terms(rt: HostRuntime) {
+    let home = Load::Reset(2);
+    let yielded = in_term(999_999, owing(YIELDING, RESET));
+    let begun = in_term(1_000_000, free(Phase::Choosing { round: 1 }));
+    for (term, phase, event, want) in [
+        (999_999, LEADER, Event::Yield, Ok(yielded)),
+        (999_999, YIELDING, Event::Got(home), Ok(begun)),
+        (1_000_000, LEADER, Event::Yield, Err(StepFault::TermLimit)),
+        (1_000_000, LEADER, Event::Draw(1), Err(StepFault::Ended)),
+        (
+            1_000_000,
+            PASSIVE,
+            Event::Got(RESET),
+            Err(StepFault::TermLimit),
+        ),
+        (
+            1_000_000,
+            PASSIVE,
+            Event::Got(home),
+            Err(StepFault::WrongReset),
+        ),
+        (
+            1_000_000,
+            YIELDING,
+            Event::Got(home),
+            Err(StepFault::TermLimit),
+        ),
+        (
+            1_000_000,
+            YIELDING,
+            Event::Got(RESET),
+            Err(StepFault::WrongReset),
+        ),
+    ] {
+        assert_step(&rt, 2, in_term(term, free(phase)), event, want);
+    }
+}
+
 #[test]
 fn words_of_faults(rt: HostRuntime) {
     for (fault, word) in [
@@ -190,6 +324,10 @@ fn words_of_faults(rt: HostRuntime) {
         (StepFault::HopPast, "hop past"),
         (StepFault::RoundLimit, "round limit"),
         (StepFault::HopLimit, "hop limit"),
+        (StepFault::NotLeader, "not leader"),
+        (StepFault::WrongReset, "wrong reset"),
+        (StepFault::NotReset, "not a reset"),
+        (StepFault::TermLimit, "term limit"),
     ] {
         assert_shown(&rt, &fault, word);
     }

@@ -47,6 +47,16 @@ fn question_faults(rt: HostRuntime) {
             b"case\n0: round > 1000001\nend\n".as_slice(),
             Err(AskFault::Line(4)),
         ),
+        (
+            b"case\n0: (leader and term = 2)\n1: (yielding or term < 1000000)\nend\n".as_slice(),
+            Ok(1),
+        ),
+        (
+            b"case\n0: term > 1000001\nend\n".as_slice(),
+            Err(AskFault::Line(4)),
+        ),
+        (b"case\n0: term 2\nend\n".as_slice(), Err(AskFault::Line(4))),
+        (b"case\n0: yield\nend\n".as_slice(), Err(AskFault::Line(4))),
         (b"case\n0: true\n".as_slice(), Err(AskFault::Cut)),
         (
             b"case\n0: true\nend\nend\n".as_slice(),

@@ -19,7 +19,7 @@ pub(crate) const ACTIVE: Phase = Phase::Active { round: 2, id: 3 };
 
 pub(crate) const LEADER: Phase = Phase::Leader { round: 2, id: 3 };
 
-pub(crate) const PHASES: [Phase; 4] = [CHOOSING, ACTIVE, Phase::Passive, LEADER];
+pub(crate) const PHASES: [Phase; 5] = [CHOOSING, ACTIVE, Phase::Passive, LEADER, Phase::Yielding];
 
 /// What reading the text answers: the number of its cases, or its fault.
 fn answer(alloc: Global, text: &[u8]) -> Result<usize, AskFault> {

@@ -9,9 +9,11 @@ use std::process::Abort;
 /// How many texts are read.
 const TEXTS: u32 = 100_000;
 
-const ATOMS: [&str; 6] = ["true", "leader", "active", "passive", "choosing", "owes"];
+const ATOMS: [&str; 7] = [
+    "true", "leader", "active", "passive", "choosing", "yielding", "owes",
+];
 
-const COMPARED: [&str; 2] = ["round", "id"];
+const COMPARED: [&str; 3] = ["round", "id", "term"];
 
 const SIGNS: [&str; 3] = ["<", "=", ">"];
 
@@ -48,11 +50,11 @@ fn mostly_few(random: &mut Random, most: usize) -> usize
 
 /// The text of a clause without parentheses.
 fn atom(rt: &(impl Abort + AllocGlobal), random: &mut Random) -> String {
-    let kind = random.below(8);
-    if kind < 6 {
+    let kind = random.below(10);
+    if kind < 7 {
         return ATOMS[kind].to_string(rt.alloc()).expect(rt, "memory");
     }
-    let word = COMPARED[kind - 6];
+    let word = COMPARED[kind - 7];
     let sign = SIGNS[random.below(3)];
     let most = [2, 10, 1_000_001][random.below(3)];
     let n = random.below(most);

@@ -1,12 +1,16 @@
 //! Texts of logs that are read.
 
-use crate::samples::{ELECTION_0, clean, text_of, winner};
-use ira_event::{Event, LogFault, NodeLog, RingSize, read_log};
+use crate::samples::{ELECTION_0, clean, next_leader, text_of, winner, yielder};
+use ira_event::{Event, Load, LogFault, NodeLog, RingSize, read_log};
+use ira_fixtures::SECOND_TERM;
 use std::alloc::Global;
 use std::process::Abort;
 
 /// The head of an initiator at place 0 in a ring of two.
 const HEAD: &[u8] = b"irlog 1\nnodes 2\nplace 0\nstart initiator\n";
+
+/// The same of version 2.
+const LATER_HEAD: &[u8] = b"irlog 2\nnodes 2\nplace 0\nstart initiator\n";
 
 /// What reading the text answers: the number of its events, or its fault.
 fn answer(alloc: Global, text: &[u8]) -> Result<usize, LogFault> {
@@ -56,8 +60,14 @@ fn two_node_election(rt: HostRuntime) {
 #[test]
 fn log_text_table(rt: HostRuntime) {
     for (head, lines, wanted) in [
+        (LATER_HEAD, b"end 0\n".as_slice(), Ok(0)),
         (
-            b"irlog 2\nnodes 2\nplace 0\nstart initiator\n".as_slice(),
+            b"irlog 3\nnodes 2\nplace 0\nstart initiator\n".as_slice(),
+            b"end 0\n".as_slice(),
+            Err(LogFault::Head),
+        ),
+        (
+            b"irlog 02\nnodes 2\nplace 0\nstart initiator\n".as_slice(),
             b"end 0\n".as_slice(),
             Err(LogFault::Head),
         ),
@@ -114,6 +124,58 @@ fn log_text_table(rt: HostRuntime) {
     }
 }
 
+/// Yields and resets in texts of both versions.
+#[test]
+fn records_of_version_2(rt: HostRuntime) {
+    for (head, lines, wanted) in [
+        (
+            LATER_HEAD,
+            b"yield\nsend reset 1\nrecv reset 1000000\nend 3\n".as_slice(),
+            Ok(3),
+        ),
+        (
+            LATER_HEAD,
+            b"recv reset 0\n".as_slice(),
+            Err(LogFault::Range(5)),
+        ),
+        (
+            LATER_HEAD,
+            b"send reset 1000001\n".as_slice(),
+            Err(LogFault::Range(5)),
+        ),
+        (
+            LATER_HEAD,
+            b"recv reset 01\n".as_slice(),
+            Err(LogFault::Line(5)),
+        ),
+        (
+            LATER_HEAD,
+            b"recv reset 1 clean\n".as_slice(),
+            Err(LogFault::Line(5)),
+        ),
+        (LATER_HEAD, b"yield \n".as_slice(), Err(LogFault::Line(5))),
+        (LATER_HEAD, b"yield".as_slice(), Err(LogFault::Cut)),
+        (HEAD, b"yield\n".as_slice(), Err(LogFault::Line(5))),
+        (HEAD, b"send reset 1\n".as_slice(), Err(LogFault::Line(5))),
+        (HEAD, b"recv reset 0\n".as_slice(), Err(LogFault::Line(5))),
+    ] {
+        assert_parts(&rt, head, b"", 0, lines, wanted);
+    }
+}
+
+/// Compares the events of the log of version 2 that the text is.
+fn assert_later(rt: &(impl Abort + AllocGlobal), text: &[u8], wanted: &[Event]) {
+    let log = read_log(rt.alloc(), text).expect(rt, "a log");
+    let events: Vec<Event> = log.events().collect(rt.alloc()).expect(rt, "memory");
+    assert!(rt; log.version() == 2 && events.as_slice() == wanted);
+}
+
+#[test]
+fn second_term(rt: HostRuntime) {
+    assert_later(&rt, SECOND_TERM[0], &yielder());
+    assert_later(&rt, SECOND_TERM[1], &next_leader());
+}
+
 #[test]
 fn endings_of_a_log_text(rt: HostRuntime) {
     let (front, _) = ELECTION_0.split_at(98);
@@ -144,14 +206,29 @@ fn prefixes_and_repetition(rt: HostRuntime) {
 
 #[test]
 fn as_many_records_as_a_log_has(rt: HostRuntime) {
-    for (last, wanted) in [
-        (b"end 100000\n".as_slice(), Ok(100_000)),
-        (b"draw 1\n".as_slice(), Err(LogFault::TooMany)),
-        (b"draw x\n".as_slice(), Err(LogFault::TooMany)),
-        (b"draw x".as_slice(), Err(LogFault::Cut)),
-        (b"drop\n".as_slice(), Err(LogFault::Line(100_005))),
+    for (head, last, wanted) in [
+        (HEAD, b"end 100000\n".as_slice(), Ok(100_000)),
+        (HEAD, b"draw 1\n".as_slice(), Err(LogFault::TooMany)),
+        (HEAD, b"draw x\n".as_slice(), Err(LogFault::TooMany)),
+        (HEAD, b"draw x".as_slice(), Err(LogFault::Cut)),
+        (HEAD, b"drop\n".as_slice(), Err(LogFault::Line(100_005))),
+        (HEAD, b"yield\n".as_slice(), Err(LogFault::Line(100_005))),
+        (HEAD, b"send reset 1\n".as_slice(), Err(LogFault::TooMany)),
+        (LATER_HEAD, b"end 100000\n".as_slice(), Ok(100_000)),
+        (LATER_HEAD, b"yield\n".as_slice(), Err(LogFault::TooMany)),
+        (
+            LATER_HEAD,
+            b"yield \n".as_slice(),
+            Err(LogFault::Line(100_005)),
+        ),
+        (LATER_HEAD, b"yield".as_slice(), Err(LogFault::Cut)),
+        (
+            LATER_HEAD,
+            b"send reset 1\n".as_slice(),
+            Err(LogFault::TooMany),
+        ),
     ] {
-        assert_parts(&rt, HEAD, b"draw 1\n", 100_000, last, wanted);
+        assert_parts(&rt, head, b"draw 1\n", 100_000, last, wanted);
     }
 }
 
@@ -162,12 +239,12 @@ fn one_byte_too_long(rt: HostRuntime) {
     assert_parts(&rt, b"", b"x", longest, b"", Err(LogFault::Head));
 }
 
-/// Compares whether a node at this place of a ring of two may record this draw.
-fn assert_log(rt: &(impl Abort + AllocGlobal), place: u8, drawn: u32, wanted: bool) {
+/// Compares whether a log of this version of a node at this place of a ring of two may have this event.
+fn assert_log(rt: &(impl Abort + AllocGlobal), version: u8, place: u8, event: Event, wanted: bool) {
     let nodes = RingSize::new(2).expect(rt, "a ring of two");
-    let events = vec![in rt.alloc(); Event::Draw(drawn)].expect(rt, "memory");
-    let is_log = NodeLog::new(nodes, place, true, events).is_some();
-    assert!(rt; is_log == wanted, "{place} {drawn}");
+    let events = vec![in rt.alloc(); event].expect(rt, "memory");
+    let is_log = NodeLog::new(version, nodes, place, true, events).is_some();
+    assert!(rt; is_log == wanted, "{version} {place} {event:?}");
 }
 
 #[test]
@@ -182,6 +259,27 @@ fn logs_out_of_range(rt: HostRuntime) {
         (0, 0, false),
         (0, 1_000_001, false),
     ] {
-        assert_log(&rt, place, drawn, wanted);
+        assert_log(&rt, 1, place, Event::Draw(drawn), wanted);
+    }
+}
+
+#[test]
+fn versions_of_logs(rt: HostRuntime) {
+    let reset = Load::Reset(1);
+    for (version, event, wanted) in [
+        (0, Event::Draw(1), false),
+        (1, Event::Draw(1), true),
+        (2, Event::Draw(1), true),
+        (3, Event::Draw(1), false),
+        (1, Event::Yield, false),
+        (1, Event::Sent(reset), false),
+        (1, Event::Got(reset), false),
+        (2, Event::Yield, true),
+        (2, Event::Sent(reset), true),
+        (2, Event::Got(Load::Reset(1_000_000)), true),
+        (2, Event::Sent(Load::Reset(0)), false),
+        (2, Event::Got(Load::Reset(1_000_001)), false),
+    ] {
+        assert_log(&rt, version, 0, event, wanted);
     }
 }

@@ -1,38 +1,49 @@
 //! Messages, states and logs that the tests share.
 
-use ira_event::{Event, Logs, Msg, NodeLog, RingSize};
+use ira_event::{Event, Load, Logs, Msg, NodeLog, RingSize};
 use ira_node::{NodeState, Phase};
 use std::alloc::Global;
 use std::fmt::Display;
 use std::process::Abort;
 
-pub(crate) const fn clean(round: u32, id: u32, hop: u32) -> Msg {
-    Msg {
+pub(crate) const fn clean(round: u32, id: u32, hop: u32) -> Load {
+    Load::Msg(Msg {
         round,
         id,
         hop,
         dirty: false,
-    }
+    })
 }
 
-pub(crate) const fn dirty(round: u32, id: u32, hop: u32) -> Msg {
-    Msg {
+pub(crate) const fn dirty(round: u32, id: u32, hop: u32) -> Load {
+    Load::Msg(Msg {
         round,
         id,
         hop,
         dirty: true,
-    }
+    })
 }
 
+/// In this phase of the first term, where nothing is owed.
 pub(crate) fn free(phase: Phase) -> NodeState {
-    NodeState { phase, owed: None }
-}
-
-pub(crate) fn owing(phase: Phase, message: Msg) -> NodeState {
     NodeState {
         phase,
-        owed: Some(message),
+        owed: None,
+        term: 1,
     }
+}
+
+/// The same where this is owed.
+pub(crate) fn owing(phase: Phase, load: Load) -> NodeState {
+    NodeState {
+        owed: Some(load),
+        ..free(phase)
+    }
+}
+
+/// The same state in this term.
+pub(crate) fn in_term(term: u32, state: NodeState) -> NodeState {
+    NodeState { term, ..state }
 }
 
 /// The text of node 0's log of the election of two nodes, of which it draws 2 and node 1 draws 1: 104 bytes.
@@ -93,9 +104,44 @@ pub(crate) fn tie_loser() -> [Event; 9] {
     ]
 }
 
+/// The events of node 0 of a ring of two, which leads as in the election of two nodes, and yields; node 1 leads in the
+/// second term.
+pub(crate) fn yielder() -> [Event; 11] {
+    [
+        Event::Draw(2),
+        Event::Sent(clean(1, 2, 1)),
+        Event::Got(clean(1, 1, 1)),
+        Event::Got(clean(1, 2, 2)),
+        Event::Yield,
+        Event::Sent(Load::Reset(1)),
+        Event::Got(Load::Reset(2)),
+        Event::Draw(1),
+        Event::Sent(clean(1, 1, 1)),
+        Event::Got(clean(1, 2, 1)),
+        Event::Sent(clean(1, 2, 2)),
+    ]
+}
+
+/// The events of node 1 of that ring.
+pub(crate) fn next_leader() -> [Event; 10] {
+    [
+        Event::Draw(1),
+        Event::Sent(clean(1, 1, 1)),
+        Event::Got(clean(1, 2, 1)),
+        Event::Sent(clean(1, 2, 2)),
+        Event::Got(Load::Reset(1)),
+        Event::Sent(Load::Reset(2)),
+        Event::Draw(2),
+        Event::Sent(clean(1, 2, 1)),
+        Event::Got(clean(1, 1, 1)),
+        Event::Got(clean(1, 2, 2)),
+    ]
+}
+
 /// The log of these parts.
-pub(crate) fn log_of(
+pub(crate) fn log_in(
     rt: &(impl Abort + AllocGlobal),
+    version: u8,
     nodes: u8,
     place: u8,
     initiator: bool,
@@ -103,7 +149,18 @@ pub(crate) fn log_of(
 ) -> NodeLog<Global> {
     let nodes = RingSize::new(nodes).expect(rt, "a ring of that size");
     let events = events.to_vec(rt.alloc()).expect(rt, "memory");
-    NodeLog::new(nodes, place, initiator, events).expect(rt, "a log")
+    NodeLog::new(version, nodes, place, initiator, events).expect(rt, "a log")
+}
+
+/// The log of version 1 of these parts.
+pub(crate) fn log_of(
+    rt: &(impl Abort + AllocGlobal),
+    nodes: u8,
+    place: u8,
+    initiator: bool,
+    events: &[Event],
+) -> NodeLog<Global> {
+    log_in(rt, 1, nodes, place, initiator, events)
 }
 
 /// The logs of a ring of as many nodes as there are lists of events, of which the first so many are initiators.

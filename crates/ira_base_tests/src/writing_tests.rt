@@ -1,7 +1,10 @@
 //! Texts of logs written to sinks, and logs gathered.
 
-use crate::samples::{ELECTION_0, ELECTION_1, dirty, log_of, loser, winner};
+use crate::samples::{
+    ELECTION_0, ELECTION_1, dirty, log_in, log_of, loser, next_leader, winner, yielder,
+};
 use ira_event::{Event, HeadFault, Logs, MemorySink, NodeLog, ToWriter, WriteFault, write_log};
+use ira_fixtures::SECOND_TERM;
 use ira_pred::{Question, read_question, write_question};
 use ira_refusing::{FailingSink, Writer, each_byte_refused};
 use std::alloc::Global;
@@ -11,13 +14,14 @@ use std::process::Abort;
 /// Writes the log of these events to memory, and compares the text.
 fn assert_written(
     rt: &(impl Abort + AllocGlobal),
+    version: u8,
     nodes: u8,
     place: u8,
     initiator: bool,
     events: &[Event],
     text: &[u8],
 ) {
-    let log = log_of(rt, nodes, place, initiator, events);
+    let log = log_in(rt, version, nodes, place, initiator, events);
     let mut sink = MemorySink::new(rt.alloc());
     let is_empty = sink.bytes().is_empty();
     let written = write_log(&log, &mut sink);
@@ -27,8 +31,14 @@ fn assert_written(
 #[test]
 fn two_node_election(rt: HostRuntime) {
     assert_eq!(rt; ELECTION_0.len(), 104);
-    assert_written(&rt, 2, 0, true, &winner(), ELECTION_0);
-    assert_written(&rt, 2, 1, true, &loser(), ELECTION_1);
+    assert_written(&rt, 1, 2, 0, true, &winner(), ELECTION_0);
+    assert_written(&rt, 1, 2, 1, true, &loser(), ELECTION_1);
+}
+
+#[test]
+fn second_term(rt: HostRuntime) {
+    assert_written(&rt, 2, 2, 0, true, &yielder(), SECOND_TERM[0]);
+    assert_written(&rt, 2, 2, 1, true, &next_leader(), SECOND_TERM[1]);
 }
 
 #[test]
@@ -41,7 +51,7 @@ fn largest_numbers_and_dirty(rt: HostRuntime) {
     ];
     let text =
         b"irlog 1\nnodes 64\nplace 63\nstart passive\nrecv 1000000 999999 10 dirty\ndraw 1000000\nsend 1000000 999999 10 dirty\nend 3\n";
-    assert_written(&rt, 64, 63, false, &events, text);
+    assert_written(&rt, 1, 64, 63, false, &events, text);
 }
 
 /// The log's text.
@@ -54,11 +64,22 @@ impl Writer for LogText<'_> {
     }
 }
 
+/// Writes the log of node 0 of a ring of two to a sink that fails behind each byte in turn.
+fn assert_each_byte_refused(
+    rt: &(impl Abort + AllocGlobal),
+    version: u8,
+    events: &[Event],
+    text: &[u8],
+) {
+    let log = log_in(rt, version, 2, 0, true, events);
+    let refused = each_byte_refused(rt.alloc(), &LogText(&log), text);
+    assert!(rt; refused == Ok(()), "{refused:?}");
+}
+
 #[test]
 fn sink_fails_behind_each_byte(rt: HostRuntime) {
-    let log = log_of(&rt, 2, 0, true, &winner());
-    let refused = each_byte_refused(rt.alloc(), &LogText(&log), ELECTION_0);
-    assert!(rt; refused == Ok(()), "{refused:?}");
+    assert_each_byte_refused(&rt, 1, &winner(), ELECTION_0);
+    assert_each_byte_refused(&rt, 2, &yielder(), SECOND_TERM[0]);
 }
 
 /// The question's text.
@@ -127,15 +148,15 @@ fn are_in_place(logs: &Logs<Global>) -> bool {
     true
 }
 
-/// Compares how many logs of these ring sizes and places are gathered, or why none are.
+/// Compares how many logs of these versions, ring sizes and places are gathered, or why none are.
 fn assert_gathered(
     rt: &(impl Abort + AllocGlobal),
-    heads: &[(u8, u8)],
+    heads: &[(u8, u8, u8)],
     wanted: Result<u8, HeadFault>,
 ) {
     let mut logs = Vec::new(rt.alloc());
-    for (nodes, place) in heads {
-        let log = log_of(rt, *nodes, *place, true, &[]);
+    for (version, nodes, place) in heads {
+        let log = log_in(rt, *version, *nodes, *place, true, &[]);
         logs.push(log).expect(rt, "memory");
     }
     let is_wanted = match Logs::gather(logs) {
@@ -147,18 +168,37 @@ fn assert_gathered(
 
 #[test]
 fn heads_out_of_place(rt: HostRuntime) {
-    let rows: [(&[(u8, u8)], Result<u8, HeadFault>); 11] = [
-        (&[(2, 0), (2, 1)], Ok(2)),
-        (&[(3, 0), (3, 1), (3, 2)], Ok(3)),
-        (&[(2, 0)], Err(HeadFault::Number)),
-        (&[(2, 1), (2, 0)], Err(HeadFault::Place(0))),
-        (&[(2, 0), (3, 1)], Err(HeadFault::Size(1))),
+    let rows: [(&[(u8, u8, u8)], Result<u8, HeadFault>); 11] = [
+        (&[(1, 2, 0), (1, 2, 1)], Ok(2)),
+        (&[(1, 3, 0), (1, 3, 1), (1, 3, 2)], Ok(3)),
+        (&[(1, 2, 0)], Err(HeadFault::Number)),
+        (&[(1, 2, 1), (1, 2, 0)], Err(HeadFault::Place(0))),
+        (&[(1, 2, 0), (1, 3, 1)], Err(HeadFault::Size(1))),
         (&[], Err(HeadFault::Number)),
-        (&[(2, 0), (2, 1), (2, 0)], Err(HeadFault::Number)),
-        (&[(3, 0), (2, 1)], Err(HeadFault::Number)),
-        (&[(2, 1), (3, 1)], Err(HeadFault::Size(1))),
-        (&[(3, 0), (3, 1), (3, 1)], Err(HeadFault::Place(2))),
-        (&[(3, 2), (4, 1), (5, 0)], Err(HeadFault::Size(1))),
+        (&[(1, 2, 0), (1, 2, 1), (1, 2, 0)], Err(HeadFault::Number)),
+        (&[(1, 3, 0), (1, 2, 1)], Err(HeadFault::Number)),
+        (&[(1, 2, 1), (1, 3, 1)], Err(HeadFault::Size(1))),
+        (&[(1, 3, 0), (1, 3, 1), (1, 3, 1)], Err(HeadFault::Place(2))),
+        (&[(1, 3, 2), (1, 4, 1), (1, 5, 0)], Err(HeadFault::Size(1))),
+    ];
+    for (heads, wanted) in rows {
+        assert_gathered(&rt, heads, wanted);
+    }
+}
+
+#[test]
+fn heads_of_two_versions(rt: HostRuntime) {
+    let rows: [(&[(u8, u8, u8)], Result<u8, HeadFault>); 7] = [
+        (&[(2, 2, 0), (2, 2, 1)], Ok(2)),
+        (&[(1, 2, 0), (2, 2, 1)], Err(HeadFault::Version(1))),
+        (&[(2, 2, 0), (1, 2, 1)], Err(HeadFault::Version(1))),
+        (
+            &[(2, 4, 0), (2, 4, 1), (1, 4, 2), (1, 4, 3)],
+            Err(HeadFault::Version(2)),
+        ),
+        (&[(1, 3, 0), (2, 3, 1)], Err(HeadFault::Number)),
+        (&[(1, 2, 0), (2, 3, 1)], Err(HeadFault::Size(1))),
+        (&[(1, 2, 1), (2, 2, 0)], Err(HeadFault::Place(0))),
     ];
     for (heads, wanted) in rows {
         assert_gathered(&rt, heads, wanted);

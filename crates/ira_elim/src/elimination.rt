@@ -133,8 +133,7 @@ fn eliminating_pairs<A: Allocator>(
     stands: &[Stand<'_>],
     asked: &[u8],
 ) -> Result<PairSet<A>, OutOfMemory>
-    requires few { length stands.now ≤ 64 }
-    requires asked { AreStanding stands.now asked.now }
+    requires { AreStanding stands.now asked.now }
     ensures { IfOk result
         (λ pairs. (i j : ℕ) → Contains asked.now i → Contains asked.now j → KnowsNext stands.now j i → Has pairs i j) }
 {
@@ -152,7 +151,6 @@ fn add_eliminated_by<A: Allocator>(
     asked: &[u8],
     other: u8,
 )
-    requires few { length stands.now ≤ 64 }
     requires asked { AreStanding stands.now asked.now }
     requires other { Contains asked.now other }
     ensures kept { (a b : ℕ) → Has pairs.old a b → Has pairs.new a b }
@@ -228,7 +226,6 @@ fn advance<'a, A: Allocator>(
     node: u8,
     position: u32,
 )
-    requires few { length stands.old ≤ 64 }
     requires asked { AreStanding stands.old asked.now }
     requires node { Contains asked.now node }
     requires place { node < length ordered.now.logs }

@@ -7,5 +7,5 @@ mod worked;
 pub use meeting::{Meeting, TURN, comes_to};
 pub use worked::{
     ACTIVE_AND_PASSIVE, BOTH_LEAD, CHOOSING_AND_PASSIVE, ELECTION, LEADER_AND_ACTIVE,
-    LEADER_AND_UNBEATEN, LONE_INITIATOR, TIE, first_case, logs_of, step,
+    LEADER_AND_UNBEATEN, LONE_INITIATOR, SECOND_TERM, TIE, first_case, logs_of, step,
 };

@@ -64,6 +64,35 @@ pub const LONE_INITIATOR: [&[u8]; 3] = [
     end 2\n",
 ];
 
+/// An election of two nodes as `ELECTION`, whose leader yields, and the election of the second term, which node 1 wins.
+pub const SECOND_TERM: [&[u8]; 2] = [
+    b"irlog 2\nnodes 2\nplace 0\nstart initiator\n\
+    draw 2\n\
+    send 1 2 1 clean\n\
+    recv 1 1 1 clean\n\
+    recv 1 2 2 clean\n\
+    yield\n\
+    send reset 1\n\
+    recv reset 2\n\
+    draw 1\n\
+    send 1 1 1 clean\n\
+    recv 1 2 1 clean\n\
+    send 1 2 2 clean\n\
+    end 11\n",
+    b"irlog 2\nnodes 2\nplace 1\nstart initiator\n\
+    draw 1\n\
+    send 1 1 1 clean\n\
+    recv 1 2 1 clean\n\
+    send 1 2 2 clean\n\
+    recv reset 1\n\
+    send reset 2\n\
+    draw 2\n\
+    send 1 2 1 clean\n\
+    recv 1 1 1 clean\n\
+    recv 1 2 2 clean\n\
+    end 10\n",
+];
+
 pub const BOTH_LEAD: &[u8] = b"irask 1\nnodes 2\ncase\n0: leader\n1: leader\nend\n";
 
 pub const LEADER_AND_ACTIVE: &[u8] = b"irask 1\nnodes 2\ncase\n0: leader\n1: active\nend\n";

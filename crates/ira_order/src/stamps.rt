@@ -64,6 +64,7 @@ impl<A: Allocator> Stamps<A> {
         requires start { IsOrderPrefix logs.now tally.done.items tally.sent.items tally.got.items [] }
         ensures { OnOk result (AreStamps logs.now self.new.nodes.items) }
     {
+        let mut row = [0; MAX_NODES];
         for place in schedule {
             let i = *place;
             let node = usize::from(i);
@@ -72,7 +73,7 @@ impl<A: Allocator> Stamps<A> {
             if let Event::Sent(_) = event {
                 let received = tally.got[node] as usize;
                 let sent = tally.sent[node] as usize;
-                self.stamp(logs, i, number, received, sent)?;
+                self.stamp(logs, &mut row, i, number, received, sent)?;
             }
             tally.add(i, event);
         }
@@ -80,10 +81,12 @@ impl<A: Allocator> Stamps<A> {
     }
 
     /// Stamps the receipt of the message that node `k` sends with its event `a`, if the next node has
-    /// it: node `k` has received `received` messages by then and sent `sent` before.
+    /// it: node `k` has received `received` messages by then and sent `sent` before. The row is room
+    /// for one stamp, whatever it holds.
     fn stamp(
         &mut self,
         logs: &Logs<A>,
+        row: &mut [u32; MAX_NODES],
         k: u8,
         a: u32,
         received: usize,
@@ -99,23 +102,29 @@ impl<A: Allocator> Stamps<A> {
         if sent >= self.nodes[reader].receipts() {
             return Ok(());
         }
-        let row = self.at_sending(logs, k, a, received);
+        self.write_stamp(logs, row, k, a, received);
         self.nodes[reader].add(&row[..usize::from(nodes)])
     }
 
-    /// What node `k` knows with its event `a`, where it has received `received` messages.
-    fn at_sending(&self, logs: &Logs<A>, k: u8, a: u32, received: usize) -> [u32; MAX_NODES]
+    /// Writes to the row what node `k` knows with its event `a`, where it has received `received`
+    /// messages.
+    fn write_stamp(
+        &self,
+        logs: &Logs<A>,
+        row: &mut [u32; MAX_NODES],
+        k: u8,
+        a: u32,
+        received: usize,
+    )
         requires table { IsTable logs.now self.now.nodes.items }
         requires place { k < length logs.now }
         requires received { received * length logs.now ≤ length (counters_at self.now.nodes.items k) }
-        ensures { IsStamp logs.now self.now.nodes.items k received a result }
+        ensures { IsStamp logs.now self.now.nodes.items k received a row.new }
     {
         let nodes = usize::from(logs.size().get());
         let node = usize::from(k);
-        let mut row = [0; MAX_NODES];
         row[..nodes].copy_from_slice(self.nodes[node].row(nodes, received));
         row[node] = a;
-        row
     }
 
     /// How many events of each other node happened up to event `b` of node `j`: the stamp of its last

@@ -23,11 +23,6 @@ bounds-stands-index g c =
     let asked = c.args.asked.now in
     omega (arith, c.from-index.ensures, is_within c.args.stands.now asked (get_or asked c.loop-node.node-index 0) c.requires.asked (at_place asked c.loop-node.node-index c.loop-node-test.true))
 
-pub insert-requires : goal.insert-requires
-insert-requires g c =
-    let stands = c.args.stands.now in let asked = c.args.asked.now in
-    (omega (arith, c.requires.few, is_within stands asked (get_or asked c.loop-node.node-index 0) c.requires.asked (at_place asked c.loop-node.node-index c.loop-node-test.true)), omega (arith, c.requires.few, is_within stands asked c.args.other c.requires.asked c.requires.other))
-
 pub loop-node-preserved : goal.loop-node-preserved
 loop-node-preserved g c =
     let stands = c.args.stands.now in let asked = c.args.asked.now in let so_far = c.loop-node.invariant in

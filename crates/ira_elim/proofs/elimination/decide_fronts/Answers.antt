@@ -35,8 +35,8 @@ stands-requires-clause-within g c =
     let some = c.requires.fronts in
     subst (AreWithin logs) (sym c.deref-4.ensures.value) (within logs some.0 [] c.args.fronts.items (all_left logs some.0 c.args.fronts.items some.2))
 
-pub eliminating_pairs-requires-clause-asked : goal.eliminating_pairs-requires-clause-asked
-eliminating_pairs-requires-clause-asked g c =
+pub eliminating_pairs-requires : goal.eliminating_pairs-requires
+eliminating_pairs-requires g c =
     let logs = c.args.ordered.now.logs in
     let some = c.requires.fronts in
     let listed = subst (λ (fs : List (Option (List ℕ))). ArePlaces fs c.in_ok-asked.asked.items) c.deref.ensures.value c.in_ok-asked.ensures in
@@ -98,10 +98,6 @@ returns-in_default-front g c = λ case differ fronts_are.
     (made_more logs case c.steps.steps.items c.push.new.self.items fronts _ s differ (so_far.made case differ fronts_are) is pushed left)
     (omega (arith, total_less fronts s.node s.pos is.front, ap total left, ap (λ (ss : List CertStep). length ss) pushed, length-append c.steps.steps.items (s ∷ []), so_far.count))
     (none_left _ s.node none (drop 1 is.front.0, own))
-
-pub advance-requires-clause-few : goal.advance-requires-clause-few
-advance-requires-clause-few g c =
-    omega (arith, ap (λ (ss : List Stand). length ss) c.deref_mut-in-Some-next_step.ensures.value, c.steps.invariant.nodes, c.size.ensures.valid.ring.1, ap (λ (ls : List Log). length ls) c.logs.ensures)
 
 pub advance-requires-clause-asked : goal.advance-requires-clause-asked
 advance-requires-clause-asked g c =
