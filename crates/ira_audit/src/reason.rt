@@ -13,9 +13,9 @@ pub enum Reason {
         number: usize,
         fault: LogFault,
     },
-    /// The logs aren't those of one ring, each at its place.
+    /// The logs aren't those of one ring, each at its place, and all of one version.
     Heads(HeadFault),
-    /// A receipt has no sending, or another message than its sending.
+    /// A receipt has no sending, or another message or reset than its sending.
     Match(MatchFault),
     /// Events wait for one another in a circle, so that the logs have no order.
     Circle,

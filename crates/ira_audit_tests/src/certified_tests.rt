@@ -3,7 +3,7 @@ ghost use Rattle.std.specs.Prelude.{◌≤◌};
 use crate::lines::has_line;
 use crate::samples::{
     BOTH_LEAD, ELECTION, ELECTION_0, LEADER_AND_ACTIVE, LONE_0, LONE_1, LONE_2, NODE_1_SPENT,
-    TIE_0, TIE_1, TWO_STEPS,
+    SECOND_TERM, TIE_0, TIE_1, TWO_STEPS,
 };
 use ira_audit::audit;
 use ira_event::OutOfMemory;
@@ -275,4 +275,13 @@ fn logs_are_judged_first(rt: HostRuntime) {
     let cut = b"irlog 1\nnodes 2\nplace 1\nstart passive\n";
     assert_answered(&rt, &[ELECTION_0, cut], b"", b"", "no: log 1: cut\n");
     assert_answered(&rt, ELECTION, b"", b"", "no: question: head\n");
+}
+
+#[test]
+fn second_term(rt: HostRuntime) {
+    let certificate = b"ircert 1\nnodes 2\nsection\ndrop 0 4 by 1 10\nspent 0\nend\n";
+    assert_answered(&rt, SECOND_TERM, BOTH_LEAD, certificate, "yes\n");
+    let certificate = b"ircert 1\nnodes 2\nsection\nspent 0\nend\n";
+    let line = "no: case 0: node 0 not spent\n";
+    assert_answered(&rt, SECOND_TERM, BOTH_LEAD, certificate, line);
 }

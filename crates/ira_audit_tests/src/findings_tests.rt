@@ -1,5 +1,7 @@
 use crate::lines::has_lines;
-use crate::samples::{ELECTION, ELECTION_0, LEADER_AND_ACTIVE, LONE_0, LONE_1, LONE_2, TWO_STEPS};
+use crate::samples::{
+    ELECTION, ELECTION_0, LEADER_AND_ACTIVE, LONE_0, LONE_1, LONE_2, SECOND_TERM, TWO_STEPS,
+};
 use ira_audit::{Answer, Findings, audit, decide_all};
 use ira_cert_text::write_cert;
 use ira_event::{MemorySink, RingSize};
@@ -105,6 +107,22 @@ fn pairs_of_three(rt: HostRuntime) {
         &OpenGate,
     );
     assert!(rt; answer == Ok(Answer::Yes));
+}
+
+#[test]
+fn second_term(rt: HostRuntime) {
+    let question = b"irask 1\nnodes 2\n\
+        case\n0: leader\n1: leader\n\
+        case\n0: (leader and term = 2)\n\
+        end\n";
+    let lines = "case 0: absent, 1 steps, node 0 spent\n\
+        case 1: absent, 0 steps, node 0 spent\n";
+    let made: &[u8] = b"ircert 1\nnodes 2\n\
+        section\ndrop 0 4 by 1 10\nspent 0\n\
+        section\nspent 0\n\
+        end\n";
+    let findings = found(&rt, SECOND_TERM, question, lines);
+    assert!(rt; certificate_text(&rt, findings).bytes() == made);
 }
 
 #[test]

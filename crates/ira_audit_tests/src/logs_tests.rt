@@ -1,5 +1,7 @@
 use crate::lines::has_line;
-use crate::samples::{ELECTION_0, ELECTION_1, LONE_0, LONE_1, LONE_2, TIE_0, TIE_1};
+use crate::samples::{
+    ELECTION_0, ELECTION_1, LONE_0, LONE_1, LONE_2, SECOND_TERM, SECOND_TERM_1, TIE_0, TIE_1,
+};
 use ira_audit::{Answer, audit_logs, audit_one};
 use std::process::Abort;
 
@@ -38,6 +40,7 @@ fn heads_out_of_place(rt: HostRuntime) {
     assert_reported(&rt, &[ELECTION_0], "no: heads: number\n");
     assert_reported(&rt, &[ELECTION_1, ELECTION_0], "no: heads: place 0\n");
     assert_reported(&rt, &[ELECTION_0, LONE_1], "no: heads: size 1\n");
+    assert_reported(&rt, &[ELECTION_0, SECOND_TERM_1], "no: heads: version 1\n");
 }
 
 #[test]
@@ -126,4 +129,47 @@ fn second_log_stops(rt: HostRuntime) {
     let empty = b"irlog 1\nnodes 2\nplace 0\nstart initiator\nend 0\n";
     let drawn = b"irlog 1\nnodes 2\nplace 1\nstart initiator\ndraw 1\ndraw 2\nend 2\n";
     assert_reported(&rt, &[empty, drawn], "no: node 1: event 2: owes\n");
+}
+
+#[test]
+fn second_term(rt: HostRuntime) {
+    assert_reported(&rt, SECOND_TERM, "yes\n");
+}
+
+/// Judges the text of one log alone, and compares the answer's line.
+fn assert_reported_alone(rt: &(impl Abort + AllocGlobal), text: &[u8], line: &str) {
+    let answer = audit_one(rt.alloc(), text).expect(rt, "memory");
+    assert!(rt;
+        has_line(rt.alloc(), &answer, line.as_bytes()),
+        "not {line}"
+    );
+}
+
+#[test]
+fn steps_of_terms(rt: HostRuntime) {
+    let rows: [(&[u8], &str); 3] = [
+        (
+            b"irlog 2\nnodes 2\nplace 0\nstart passive\nyield\nend 1\n",
+            "no: node 0: event 1: not leader\n",
+        ),
+        (
+            b"irlog 2\nnodes 2\nplace 0\nstart passive\nrecv reset 2\nend 1\n",
+            "no: node 0: event 1: wrong reset\n",
+        ),
+        (
+            b"irlog 2\nnodes 2\nplace 0\nstart initiator\n\
+            draw 2\n\
+            send 1 2 1 clean\n\
+            recv 1 1 1 clean\n\
+            recv 1 2 2 clean\n\
+            yield\n\
+            send reset 1\n\
+            recv 1 2 2 clean\n\
+            end 7\n",
+            "no: node 0: event 7: not a reset\n",
+        ),
+    ];
+    for (text, line) in rows {
+        assert_reported_alone(&rt, text, line);
+    }
 }

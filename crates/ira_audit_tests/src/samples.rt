@@ -71,3 +71,33 @@ pub const LONE_2: &[u8] = b"irlog 1\nnodes 3\nplace 2\nstart passive\n\
     recv 1 1 2 clean\n\
     send 1 1 3 clean\n\
     end 2\n";
+
+/// An election of two nodes whose leader yields; the other one is elected in the second term.
+pub const SECOND_TERM: &[&[u8]] = &[SECOND_TERM_0, SECOND_TERM_1];
+
+const SECOND_TERM_0: &[u8] = b"irlog 2\nnodes 2\nplace 0\nstart initiator\n\
+    draw 2\n\
+    send 1 2 1 clean\n\
+    recv 1 1 1 clean\n\
+    recv 1 2 2 clean\n\
+    yield\n\
+    send reset 1\n\
+    recv reset 2\n\
+    draw 1\n\
+    send 1 1 1 clean\n\
+    recv 1 2 1 clean\n\
+    send 1 2 2 clean\n\
+    end 11\n";
+
+pub const SECOND_TERM_1: &[u8] = b"irlog 2\nnodes 2\nplace 1\nstart initiator\n\
+    draw 1\n\
+    send 1 1 1 clean\n\
+    recv 1 2 1 clean\n\
+    send 1 2 2 clean\n\
+    recv reset 1\n\
+    send reset 2\n\
+    draw 2\n\
+    send 1 2 1 clean\n\
+    recv 1 1 1 clean\n\
+    recv 1 2 2 clean\n\
+    end 10\n";

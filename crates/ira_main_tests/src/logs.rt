@@ -2,7 +2,7 @@
 
 use crate::fakes::{File, Input, assert_served};
 use crate::full_device::assert_unanswered;
-use crate::samples::{ELECTED_0, ELECTED_1, LONE_0, LONE_1, LONE_2};
+use crate::samples::{ELECTED_0, ELECTED_1, LONE_0, LONE_1, LONE_2, SECOND_TERM_0, SECOND_TERM_1};
 use ira_main::Counted;
 use std::process::Abort;
 use std::sync::Wait;
@@ -39,6 +39,12 @@ fn assert_no(
 #[test]
 fn two_node_election(rt: HostRuntime) {
     let files = [File::Text(ELECTED_0), File::Text(ELECTED_1)];
+    assert_logs(&rt, files, 0, "yes\n", "");
+}
+
+#[test]
+fn second_term(rt: HostRuntime) {
+    let files = [File::Text(SECOND_TERM_0), File::Text(SECOND_TERM_1)];
     assert_logs(&rt, files, 0, "yes\n", "");
 }
 
@@ -109,6 +115,7 @@ fn heads_out_of_place(rt: HostRuntime) {
     assert_served(&rt, &["logs", "0.log"], &alone, &mut input, 1, line, "");
     assert_no(&rt, [ELECTED_1, ELECTED_0], "no: heads: place 0\n");
     assert_no(&rt, [ELECTED_0, of_three], "no: heads: size 1\n");
+    assert_no(&rt, [ELECTED_0, SECOND_TERM_1], "no: heads: version 1\n");
 }
 
 #[test]

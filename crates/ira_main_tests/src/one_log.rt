@@ -2,6 +2,7 @@
 
 use crate::fakes::{Input, assert_served};
 use crate::full_device::assert_unanswered;
+use crate::samples::SECOND_TERM_0;
 use ira_main::Counted;
 use std::alloc::Global;
 use std::process::Abort;
@@ -57,7 +58,7 @@ fn endings_of_a_log_text(rt: HostRuntime) {
 #[test]
 fn log_text_table(rt: HostRuntime) {
     for text in [
-        "irlog 2\nnodes 2\nplace 0\nstart initiator\nend 0\n",
+        "irlog 3\nnodes 2\nplace 0\nstart initiator\nend 0\n",
         "irlog 1\nnodes 1\nplace 0\nstart initiator\nend 0\n",
         "irlog 1\nnodes 65\nplace 0\nstart initiator\nend 0\n",
         "irlog 1\nnodes 2\nplace 2\nstart initiator\nend 0\n",
@@ -72,11 +73,17 @@ fn log_text_table(rt: HostRuntime) {
         ("recv 0 1 1 clean\nend 0\n", "no: log 0: range 5\n"),
         ("recv 1 1 1 Clean\nend 0\n", "no: log 0: line 5\n"),
         ("end 0\r\n", "no: log 0: line 5\n"),
+        ("yield\nend 1\n", "no: log 0: line 5\n"),
         ("end 0", "no: log 0: cut\n"),
     ] {
         assert_judged(&rt, [EMPTY_HEAD, ending], line);
     }
     assert_judged(&rt, [EMPTY_HEAD, "end 0\n"], "yes\n");
+}
+
+#[test]
+fn second_term(rt: HostRuntime) {
+    assert_judged(&rt, [SECOND_TERM_0, ""], "yes\n");
 }
 
 #[test]

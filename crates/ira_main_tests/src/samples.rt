@@ -31,6 +31,19 @@ pub(crate) const LONE_1: &str = "irlog 1\nnodes 3\nplace 1\nstart passive\nrecv 
 pub(crate) const LONE_2: &str = "irlog 1\nnodes 3\nplace 2\nstart passive\nrecv 1 1 2 clean\n\
                       send 1 1 3 clean\nend 2\n";
 
+/// Node 0 is elected and yields; in the second term node 1 is elected.
+pub(crate) const SECOND_TERM_0: &str =
+    "irlog 2\nnodes 2\nplace 0\nstart initiator\ndraw 2\nsend 1 2 1 clean\n\
+                         recv 1 1 1 clean\nrecv 1 2 2 clean\nyield\nsend reset 1\n\
+                         recv reset 2\ndraw 1\nsend 1 1 1 clean\nrecv 1 2 1 clean\n\
+                         send 1 2 2 clean\nend 11\n";
+
+pub(crate) const SECOND_TERM_1: &str =
+    "irlog 2\nnodes 2\nplace 1\nstart initiator\ndraw 1\nsend 1 1 1 clean\n\
+                         recv 1 2 1 clean\nsend 1 2 2 clean\nrecv reset 1\nsend reset 2\n\
+                         draw 2\nsend 1 2 1 clean\nrecv 1 1 1 clean\nrecv 1 2 2 clean\n\
+                         end 10\n";
+
 /// The question whether node 1 is active while node 0 leads.
 pub(crate) const LEADER_AND_ACTIVE: &str = "irask 1\nnodes 2\ncase\n0: leader\n1: active\nend\n";
 

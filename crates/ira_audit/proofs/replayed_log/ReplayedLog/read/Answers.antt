@@ -17,4 +17,4 @@ returns-in_err-events g c =
     rw (p.1, same) (lines_refused c.args.text.now _ _ _ _ c.in_ok-head.ensures.0 c.in_ok-head.ensures.1 c.in_ok-head.ensures.3 c.in_err-events.ensures.read)
 
 pub returns : goal.returns
-returns g c = rw c.of_records-log.ensures (log_read c.args.text.now c.in_ok-head.head _ _ c.in_ok-head.ensures.1 (subst (λ (v : ℕ). AreAllRecords v _ _) c.in_ok-head.ensures.3 c.in_ok-events.ensures.read))
+returns g c = rw c.of_records-log.ensures (log_read c.args.text.now c.in_ok-head.head _ _ c.in_ok-head.ensures.1 (subst (λ (v : ℕ). AreAllRecords v c.in_ok-head.records.rest c.in_ok-events.events) c.in_ok-head.ensures.3 c.in_ok-events.ensures.read))
