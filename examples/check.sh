@@ -65,6 +65,10 @@ if command -v python3 > /dev/null; then
     folder=$(mktemp -d)
     python3 -B recorders/ring.py --nodes 4 --initiators 3 --seed 12 --out "$folder"
     diff -r "$folder" recorded_ring || fail "recorders/ring.py: other logs than recorded_ring"
+    # Its logs of several terms are those of a run too.
+    python3 -B recorders/ring.py --nodes 4 --initiators 3 --seed 12 --terms 3 --out "$folder"
+    found=$("$ira" logs $(logs_of "$folder") < /dev/null)
+    [ "$found" = yes ] || fail "recorders/ring.py --terms 3: wanted yes, found $found"
     rm -r "$folder"
 fi
 

@@ -2,6 +2,7 @@
 
 Each node has a recorder of its own, and calls it from one thread, each time after the step that the record
 tells of: `drew` once the ID is drawn, `sent` once the message is on the link, `received` once it is taken off.
+Where leaders may yield, the log is one of version 2, and has `yielded` and the two calls of resets besides.
 """
 
 import os
@@ -10,13 +11,13 @@ import os
 class Recorder:
     """The log of the node at `place`, in the file `place.log` of a folder that exists."""
 
-    def __init__(self, folder, nodes, place, initiator):
+    def __init__(self, folder, nodes, place, initiator, version=1):
         # No carriage returns, no byte order mark; and each line is handed to the system at once.
         self.file = open(
             os.path.join(folder, f"{place}.log"), "w", encoding="ascii", newline="\n", buffering=1
         )
         self.records = 0
-        self.file.write("irlog 1\n")
+        self.file.write(f"irlog {version}\n")
         self.file.write(f"nodes {nodes}\n")
         self.file.write(f"place {place}\n")
         self.file.write("start initiator\n" if initiator else "start passive\n")
@@ -29,6 +30,15 @@ class Recorder:
 
     def received(self, round, id, hop, dirty):
         self.record(f"recv {round} {id} {hop} {bit(dirty)}")
+
+    def yielded(self):
+        self.record("yield")
+
+    def sent_reset(self, hop):
+        self.record(f"send reset {hop}")
+
+    def received_reset(self, hop):
+        self.record(f"recv reset {hop}")
 
     def record(self, line):
         self.file.write(line + "\n")
