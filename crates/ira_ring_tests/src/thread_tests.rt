@@ -62,6 +62,20 @@ fn assert_closed<R: Abort + AllocGlobal + Wait + Clock>(rt: &R) {
     assert!(rt; is_closed);
 }
 
+/// How a node of a ring of two ends that is passive at first, where it isn't closed.
+fn end_of_passive<R: Abort + AllocGlobal + Wait + Clock>(
+    rt: &R,
+    input: LinkIn<Global>,
+    output: LinkOut<Global>,
+) -> Option<NodeEnd>
+    requires { (input.frames ≡ []) × (output.frames ≡ []) }
+{
+    let Ok((part, _, _)) = node_body(rt, work_of(rt, false, input, output), &OpenGate) else {
+        return None;
+    };
+    Some(part.end)
+}
+
 /// A passive node of a ring of two, whose log is of version 1, takes this reset: how it ends, if it isn't closed, and what
 /// it puts first.
 fn assert_reset<R: Abort + AllocGlobal + Wait + Clock>(
@@ -78,10 +92,7 @@ fn assert_reset<R: Abort + AllocGlobal + Wait + Clock>(
         before.put(rt, Frame::Load(Load::Reset(hop))),
         before.put(rt, Frame::Stop),
     ];
-    let end = match node_body(rt, work_of(rt, false, input, output), &OpenGate) {
-        Ok((part, _, _)) => Some(part.end),
-        Err(Closed) => None,
-    };
+    let end = end_of_passive(rt, input, output);
     let taken = after.take(rt);
     assert!(rt; put == [Ok(()), Ok(())] && end == expected && taken == first);
 }
