@@ -1,5 +1,5 @@
 -- What a node sends that recorded events of its log's version, that version has.
-use Rattle.std.proofs.Common.{◌≡◌, ℕ, Bool, true, false, not, ◌||◌, nat_lt, List, [], ◌∷◌, refl, sym, ◌∙◌, ap, subst}
+use Rattle.std.proofs.Common.{◌≡◌, ℕ, Bool, true, false, not, ◌||◌, nat_lt, List, [], ◌∷◌, refl, subst}
 use Rattle.std.specs.List.{list_all}
 use Rattle.std.proofs.Math.Bool.{or-true}
 use Rattle.ira_event.specs.declared.load.Load.{Load}
@@ -9,7 +9,7 @@ use Rattle.ira_event.specs.Event.{is_reset, is_later, is_of_version}
 use Rattle.ira_event.proofs.Numerals.{and_parts}
 use Rattle.ira_node.specs.declared.node_state.NodeState.{NodeState}
 use Rattle.ira_node.specs.NodeState.{first_state}
-use Rattle.ira_node.specs.NodeStep.{NodeStep, HasStep}
+use Rattle.ira_node.specs.NodeStep.{HasStep}
 use Rattle.ira_node.specs.Plain.{is_plain}
 use Rattle.ira_node.proofs.Plain.{owes_no_reset, sends_no_reset}
 use Rattle.ira_replay.specs.LocalRun.{LeadsTo}

@@ -1,5 +1,5 @@
 -- What a node wants, and what is known of it when it ends.
-use Rattle.std.proofs.Common.{◌≡◌, ◌≢◌, ◌⊎◌, ◌+◌, ◌<◌, ◌≤◌, nat_lt, ℕ, Bool, true, false, ◌&&◌, List, [], ◌∷◌, ◌++◌, suc, inl, inr, Option, Some, None, refl, sym, ◌∙◌, ap, subst, arith}
+use Rattle.std.proofs.Common.{◌≡◌, ◌≢◌, ◌<◌, ◌≤◌, nat_lt, ℕ, Bool, true, false, ◌&&◌, List, ◌∷◌, suc, Option, Some, None, refl, sym, ◌∙◌, ap, subst, arith}
 use Rattle.std.specs.Prelude.{IsTrue}
 use Rattle.std.specs.List.{All}
 use Rattle.std.proofs.lemmas.Bool.Decides.{nat_tests}
@@ -16,7 +16,7 @@ use Rattle.ira_node.specs.declared.phase.Phase.TheVariants.{Choosing, Active, Pa
 use Rattle.ira_node.specs.declared.wanted.Wanted.{Wanted}
 use Rattle.ira_node.specs.declared.wanted.Wanted.TheVariants.{Draw as WantsDraw, Send, Receipt, Yield as WantsYield, Nothing}
 use Rattle.ira_node.specs.declared.node_state.NodeState.{NodeState}
-use Rattle.ira_node.specs.NodeState.{first_state, free, IsLeader, Receives, is_phase, is_debt, is_state}
+use Rattle.ira_node.specs.NodeState.{first_state, IsLeader, Receives, is_phase, is_debt, is_state}
 use Rattle.ira_node.specs.NodeStep.{HasStep}
 use Rattle.ira_node.specs.Wanted.{wanted_leading, wanted_of}
 use Rattle.ira_node.proofs.Wants.{wants_draw, wants_receipt, wants_send}

@@ -1,14 +1,13 @@
-use Rattle.std.proofs.Common.{◌≤◌, ℕ, [], ◌∷◌, ◌++◌, ◌∙◌, refl, sym, subst, ap, rules, arith}
+use Rattle.std.proofs.Common.{◌≤◌, ℕ, [], ◌∷◌, ◌++◌, ◌∙◌, refl, sym, subst, ap, arith}
 use Rattle.std.proofs.lemmas.List.{append-nil}
-use Rattle.std.proofs.lemmas.Result.{IfOk-from_err}
 use Rattle.ira_event.specs.declared.event.Event.TheVariants.{Draw, Got}
-use Rattle.ira_links.specs.declared.frame.Frame.TheVariants.{Load as Loaded, Stop}
+use Rattle.ira_links.specs.declared.frame.Frame.TheVariants.{Load as Loaded}
 use Rattle.ira_node.specs.NodeStep.{HasStep}
 use Rattle.ira_run.specs.FullRun.{drawn}
 use Rattle.ira_threads.proofs.NodeTasks.{none_left}
-use Rattle.ira_threads.proofs.FramesOfLongerLogs.{so_far_first, so_far_more}
+use Rattle.ira_threads.proofs.FramesOfLongerLogs.{so_far_more}
 use Rattle.ira_threads.proofs.Versions.{sending_of_version}
-use Rattle.ira_threads.proofs.WantedEvents.{leads, no_leader, choosing, waiting, owes_recordable, no_fault, has_room, has_step, all_first, all_rest, id_is_number, one_node, same_ring}
+use Rattle.ira_threads.proofs.WantedEvents.{no_leader, choosing, waiting, owes_recordable, no_fault, has_room, has_step, all_first, all_rest, id_is_number, one_node, same_ring}
 use Rattle.ira_threads.proofs.node_thread.turns.Goals as goal
 
 pub unreachable-requires : goal.unreachable-requires
