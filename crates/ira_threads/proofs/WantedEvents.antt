@@ -18,8 +18,8 @@ use Rattle.ira_node.specs.declared.wanted.Wanted.TheVariants.{Draw as WantsDraw,
 use Rattle.ira_node.specs.declared.node_state.NodeState.{NodeState}
 use Rattle.ira_node.specs.NodeState.{first_state, IsLeader, Receives, is_phase, is_debt, is_state}
 use Rattle.ira_node.specs.NodeStep.{HasStep}
-use Rattle.ira_node.specs.Wanted.{wanted_leading, wanted_of}
-use Rattle.ira_node.proofs.Wants.{wants_draw, wants_receipt, wants_send}
+use Rattle.ira_node.specs.Wanted.{wanted_of}
+use Rattle.ira_node.proofs.Wants.{wants_draw, wants_receipt, wants_send, wanting_leads_not}
 use Rattle.ira_replay.specs.LocalRun.{LeadsTo}
 use Rattle.ira_run.specs.FullRun.{drawn, BeginsWith}
 use Rattle.ira_run.specs.ShownEnd.{HasToDraw}
@@ -46,52 +46,9 @@ owes_recordable r s l same h numbers =
     let all = subst (λ (x : NodeState). is_state x ≡ true) (sym same) numbers in
     sym owed ∙ (and_parts (is_number r.term && is_phase r.phase) (is_debt r.owed) all).1
 
--- a node that wants this leads
-abbrev pub WantsAsLeader : Wanted → Type 0
-WantsAsLeader WantsDraw = ⊥
-WantsAsLeader (Send l) = ⊥
-WantsAsLeader Receipt = ⊥
-WantsAsLeader WantsYield = Unit {0}
-WantsAsLeader Nothing = Unit {0}
-
-leading_wants : (term : ℕ) (b : Bool) → nat_lt term MAX_NUMBER ≡ b → WantsAsLeader (wanted_leading term)
-leading_wants term true may = rw may tt
-leading_wants term false may = rw may tt
-
-leader_wants : (term : ℕ) (phase : Phase) (owed : Option Load) → IsLeader phase → WantsAsLeader (wanted_of term phase owed)
-leader_wants term (Choosing round) owed h = absurd h
-leader_wants term (Active round id) owed h = absurd h
-leader_wants term Passive owed h = absurd h
-leader_wants term (Leader round id) owed h = leading_wants term (nat_lt term MAX_NUMBER) refl
-leader_wants term Yielding owed h = absurd h
-
-leads_of : (term : ℕ) (phase : Phase) (owed : Option Load) → WantsAsLeader (wanted_of term phase owed) → IsLeader phase
-leads_of term (Choosing round) None h = h
-leads_of term (Choosing round) (Some l) h = h
-leads_of term (Active round id) None h = h
-leads_of term (Active round id) (Some l) h = h
-leads_of term Passive None h = h
-leads_of term Passive (Some l) h = h
-leads_of term (Leader round id) owed h = tt
-leads_of term Yielding None h = h
-leads_of term Yielding (Some l) h = h
-
--- a node that wants what a leader does leads
-pub leads : (r s : NodeState) (w : Wanted) → r ≡ s → w ≡ wanted_of r.term r.phase r.owed → WantsAsLeader w → IsLeader s.phase
-leads r s w same is h = let P : NodeState → Type 0 = λ x. IsLeader x.phase in subst P same (leads_of r.term r.phase r.owed (subst WantsAsLeader is h))
-
-other_wants : (w : Wanted) → w ≢ WantsYield → w ≢ Nothing → ¬ (WantsAsLeader w)
-other_wants WantsDraw no_yield something h = h
-other_wants (Send l) no_yield something h = h
-other_wants Receipt no_yield something h = h
-other_wants WantsYield no_yield something h = no_yield refl
-other_wants Nothing no_yield something h = something refl
-
--- one that wants something else doesn't
+-- a node that wants neither a yield nor nothing doesn't lead
 pub no_leader : (r s : NodeState) (w : Wanted) → r ≡ s → w ≡ wanted_of r.term r.phase r.owed → w ≢ WantsYield → w ≢ Nothing → ¬ (IsLeader s.phase)
-no_leader r s w same is no_yield something h =
-    let P : NodeState → Type 0 = λ x. IsLeader x.phase in
-    other_wants w no_yield something (subst WantsAsLeader (sym is) (leader_wants r.term r.phase r.owed (subst P (sym same) h)))
+no_leader r s w same wants yields_not nor = subst (λ (x : NodeState). ¬ (IsLeader x.phase)) same (wanting_leads_not r.term r.phase r.owed w wants yields_not nor)
 
 -- an event of the log's version that has a step is recorded
 pub no_fault : (r : Recorder) (e : Event) (f : RecordFault) → HasStep r.log.nodes r.state e → is_of_version r.log.version e ≡ true → RecordFaultOf r e f → ⊥
