@@ -1,5 +1,5 @@
 -- What a node wants, and what is known of it when it ends.
-use Rattle.std.proofs.Common.{◌≡◌, ◌≢◌, ◌<◌, ◌≤◌, nat_lt, ℕ, Bool, true, false, ◌&&◌, List, ◌∷◌, suc, Option, Some, None, refl, sym, ◌∙◌, ap, subst, arith}
+use Rattle.std.proofs.Common.{◌≡◌, ◌≢◌, ◌<◌, ◌≤◌, ℕ, true, false, ◌&&◌, List, ◌∷◌, suc, None, sym, ◌∙◌, ap, subst, arith}
 use Rattle.std.specs.Prelude.{IsTrue}
 use Rattle.std.specs.List.{All}
 use Rattle.std.proofs.lemmas.Bool.Decides.{nat_tests}
@@ -11,8 +11,6 @@ use Rattle.ira_event.proofs.Numerals.{and_parts}
 use Rattle.ira_event.specs.Log.{Log}
 use Rattle.ira_event.specs.declared.log_head.LogHead.{LogHead}
 use Rattle.ira_event.specs.LogText.{head_of}
-use Rattle.ira_node.specs.declared.phase.Phase.{Phase}
-use Rattle.ira_node.specs.declared.phase.Phase.TheVariants.{Choosing, Active, Passive, Leader, Yielding}
 use Rattle.ira_node.specs.declared.wanted.Wanted.{Wanted}
 use Rattle.ira_node.specs.declared.wanted.Wanted.TheVariants.{Draw as WantsDraw, Send, Receipt, Yield as WantsYield, Nothing}
 use Rattle.ira_node.specs.declared.node_state.NodeState.{NodeState}
