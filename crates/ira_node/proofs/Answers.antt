@@ -1,5 +1,5 @@
 -- The function `answer` gives the one step or the one fault that the relations have.
-use Rattle.std.proofs.Common.{◌≡◌, ◌≢◌, ℕ, ◌+◌, ◌<◌, ◌≤◌, ◌⊎◌, inl, inr, true, false, ◌&&◌, not, nat_lt, nat_eq, ◌↔◌, Option, Some, None, Result, Ok, Err, MatchResult, refl, sym, ◌∙◌, subst, ap, arith}
+use Rattle.std.proofs.Common.{◌≡◌, ◌≢◌, ℕ, ◌+◌, ◌<◌, ◌≤◌, ◌⊎◌, inl, inr, Bool, true, false, ◌&&◌, not, nat_lt, nat_eq, ◌↔◌, Option, Some, None, Result, Ok, Err, MatchResult, refl, sym, ◌∙◌, subst, ap, arith}
 use Rattle.std.proofs.lemmas.Bool.{cond_both, false_from_ne_true}
 use Rattle.std.proofs.lemmas.Bool.Decides.{nat_tests}
 use Rattle.ira_event.specs.Limits.{MAX_NUMBER}
@@ -61,6 +61,14 @@ same_load_means (Reset h) (Message m) t = absurd cc
 same_load_itself : (l : Load) → same_load l l ≡ true
 same_load_itself (Message m) = same_itself m
 same_load_itself (Reset h) = grind (arith, nat_tests)
+
+loads_decided_by : (k l : Load) (b : Bool) → same_load k l ≡ b → (k ≡ l) ⊎ (k ≢ l)
+loads_decided_by k l true same = inl (same_load_means k l same)
+loads_decided_by k l false other = inr (λ e. cc (subst (λ x. same_load x l ≡ true) (sym e) (same_load_itself l), other))
+
+-- two loads are equal or not
+pub loads_decided : (k l : Load) → (k ≡ l) ⊎ (k ≢ l)
+loads_decided k l = loads_decided_by k l (same_load k l) refl
 
 other_load : (l k : Load) → k ≢ l → same_load k l ≡ false
 other_load l k ne = false_from_ne_true (same_load k l) (λ h. ne (same_load_means k l h))

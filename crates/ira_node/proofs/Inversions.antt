@@ -1,10 +1,10 @@
 -- What an event that has a step says of the state before it.
 use Rattle.std.proofs.Common.{◌≡◌, ℕ, ◌≤◌, Some, ◌∙◌, subst, ap}
 use Rattle.ira_event.specs.declared.load.Load.{Load}
-use Rattle.ira_event.specs.declared.event.Event.TheVariants.{Draw, Sent}
+use Rattle.ira_event.specs.declared.event.Event.TheVariants.{Draw, Sent, Yield}
 use Rattle.ira_node.specs.declared.phase.Phase.TheVariants.{Choosing}
 use Rattle.ira_node.specs.declared.node_state.NodeState.{NodeState}
-use Rattle.ira_node.specs.NodeState.{free}
+use Rattle.ira_node.specs.NodeState.{free, IsLeader}
 use Rattle.ira_node.specs.NodeStep.{NodeStep, sends, draws, passes, gives_in, purges, meets, ties, wins, yields, restarts, comes_home}
 
 -- a node that draws chooses, and draws an ID of the ring
@@ -34,3 +34,17 @@ sending_owes n s t k (wins term round id m es ee g h d et) = cc
 sending_owes n s t k (yields l ee low et) = cc
 sending_owes n s t k (restarts term h es ee below low et) = cc
 sending_owes n s t k (comes_home term es ee low et) = cc
+
+-- a node that yields leads
+pub yielding_leads : (n : ℕ) (s t : NodeState) → NodeStep n s Yield t → IsLeader s.phase
+yielding_leads n s t (sends m runs o ee et) = cc
+yielding_leads n s t (draws term round id es ee lo hi et) = cc
+yielding_leads n s t (passes term m es ee h et) = cc
+yielding_leads n s t (gives_in term round id m es ee g h et) = cc
+yielding_leads n s t (purges term round id m es ee g et) = cc
+yielding_leads n s t (meets term round id m es ee g h j et) = cc
+yielding_leads n s t (ties term round id m es ee g h d j et) = cc
+yielding_leads n s t (wins term round id m es ee g h d et) = cc
+yielding_leads n s t (yields l ee low et) = l
+yielding_leads n s t (restarts term h es ee below low et) = cc
+yielding_leads n s t (comes_home term es ee low et) = cc

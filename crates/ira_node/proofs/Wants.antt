@@ -1,14 +1,14 @@
 -- Each step is of the kind that the state wants, a step of that kind is there, and what the want says of the state.
-use Rattle.std.proofs.Common.{◌≡◌, ◌≢◌, ℕ, ◌+◌, ◌<◌, ◌≤◌, ◌⊎◌, ◌↔◌, inl, inr, Option, Some, None, Bool, true, false, refl, sym, ◌∙◌, ap, subst, arith, nat_lt}
+use Rattle.std.proofs.Common.{◌≡◌, ◌≢◌, ℕ, ◌+◌, ◌<◌, ◌≤◌, ◌⊎◌, inl, inr, Option, Some, None, Bool, true, false, refl, ◌∙◌, ap, subst, arith, nat_lt}
 use Rattle.std.proofs.lemmas.Bool.Decides.{nat_tests}
 use Rattle.ira_event.specs.RingSize.{IsRingSize}
 use Rattle.ira_event.specs.Limits.{MAX_NUMBER}
 use Rattle.ira_event.specs.declared.msg.Msg.{Msg}
 use Rattle.ira_event.specs.declared.load.Load.{Load}
 use Rattle.ira_event.specs.declared.load.Load.TheVariants.{Msg as Message, Reset}
-use Rattle.ira_event.specs.Event.{is_number, is_load}
+use Rattle.ira_event.specs.Event.{is_number}
 use Rattle.ira_event.specs.declared.event.Event.{Event}
-use Rattle.ira_event.specs.declared.event.Event.TheVariants.{Sent, Got, Yield}
+use Rattle.ira_event.specs.declared.event.Event.TheVariants.{Draw, Sent, Got, Yield}
 use Rattle.ira_node.specs.declared.phase.Phase.{Phase}
 use Rattle.ira_node.specs.declared.phase.Phase.TheVariants.{Choosing, Active, Passive, Leader, Yielding}
 use Rattle.ira_node.specs.declared.node_state.NodeState.{NodeState}
@@ -17,7 +17,7 @@ use Rattle.ira_node.specs.declared.wanted.Wanted.TheVariants.{Draw as WantsDraw,
 use Rattle.ira_node.specs.Msg.{first_message, raised, dirtied, IsGreater, IsLess, IsEqual}
 use Rattle.ira_node.specs.NodeState.{free, owing, IsLeader, Receives}
 use Rattle.ira_node.specs.NodeStep.{NodeStep, sends, draws, passes, gives_in, purges, meets, ties, wins, yields, restarts, comes_home, HasStep}
-use Rattle.ira_node.specs.Wanted.{IsOfKind, CanCome, HasNextTerm, wanted_leading, wanted_of}
+use Rattle.ira_node.specs.Wanted.{IsOfKind, CanCome, wanted_leading, wanted_of}
 
 sends_wanted : (term : ℕ) (phase : Phase) (l : Load) → ¬ (IsLeader phase) → IsOfKind (wanted_of term phase (Some l)) (Sent l)
 sends_wanted term (Choosing round) l runs = refl
@@ -142,6 +142,14 @@ owing_leads_not term Passive owed m wants l = l
 owing_leads_not term (Leader round id) owed m wants l = absurd (leading_wants (Send m) term wants (λ e. cc) (λ e. cc))
 owing_leads_not term Yielding owed m wants l = l
 
+-- a node that wants neither a yield nor nothing doesn't lead
+pub wanting_leads_not : (term : ℕ) (phase : Phase) (owed : Option Load) (w : Wanted) → w ≡ wanted_of term phase owed → w ≢ WantsYield → w ≢ Nothing → ¬ (IsLeader phase)
+wanting_leads_not term (Choosing round) owed w wants yields_not nor l = l
+wanting_leads_not term (Active round id) owed w wants yields_not nor l = l
+wanting_leads_not term Passive owed w wants yields_not nor l = l
+wanting_leads_not term (Leader round id) owed w wants yields_not nor l = leading_wants w term wants yields_not nor
+wanting_leads_not term Yielding owed w wants yields_not nor l = l
+
 -- a node that receives doesn't lead
 pub receiving_leads_not : (phase : Phase) → Receives phase → ¬ (IsLeader phase)
 receiving_leads_not (Choosing round) r l = r
@@ -149,3 +157,60 @@ receiving_leads_not (Active round id) r l = l
 receiving_leads_not Passive r l = l
 receiving_leads_not (Leader round id) r l = r
 receiving_leads_not Yielding r l = l
+
+-- ---- the next event, by what the state before it is
+
+-- a node that chooses draws next
+drawing : (e : Event) → IsOfKind WantsDraw e → (id : ℕ) × (e ≡ Draw id)
+drawing (Draw id) h = (id, refl)
+drawing (Sent l) h = absurd h
+drawing (Got l) h = absurd h
+drawing Yield h = absurd h
+
+pub choosing_draws : (n term round : ℕ) (s : NodeState) (e : Event) → s ≡ free term (Choosing round) → HasStep n s e → (id : ℕ) × (e ≡ Draw id)
+choosing_draws n term round s e is step =
+    let P : NodeState → Type 0 = λ x. IsOfKind (wanted_of x.term x.phase x.owed) e in
+    drawing e (subst P is (step_wanted n s e step.0 step.1))
+
+-- a node that waits receives next
+receiving : (e : Event) → IsOfKind Receipt e → (l : Load) × (e ≡ Got l)
+receiving (Draw id) h = absurd h
+receiving (Sent l) h = absurd h
+receiving (Got l) h = (l, refl)
+receiving Yield h = absurd h
+
+waiting_wants_receipt : (term : ℕ) (phase : Phase) (owed : Option Load) → owed ≡ None → Receives phase → wanted_of term phase owed ≡ Receipt
+waiting_wants_receipt term (Choosing round) owed is r = absurd r
+waiting_wants_receipt term (Active round id) owed is r = ap (wanted_of term (Active round id)) is
+waiting_wants_receipt term Passive owed is r = ap (wanted_of term Passive) is
+waiting_wants_receipt term (Leader round id) owed is r = absurd r
+waiting_wants_receipt term Yielding owed is r = ap (wanted_of term Yielding) is
+
+pub waiting_receives : (n : ℕ) (s : NodeState) (e : Event) → s.owed ≡ None → Receives s.phase → HasStep n s e → (l : Load) × (e ≡ Got l)
+waiting_receives n s e is r step =
+    let P : Wanted → Type 0 = λ w. IsOfKind w e in
+    receiving e (subst P (waiting_wants_receipt s.term s.phase s.owed is r) (step_wanted n s e step.0 step.1))
+
+-- a leader yields next
+leading_may : (term : ℕ) → nat_lt term MAX_NUMBER ≡ true → wanted_leading term ≡ WantsYield
+leading_may term may = rw may refl
+
+leading_last : (term : ℕ) → nat_lt term MAX_NUMBER ≡ false → wanted_leading term ≡ Nothing
+leading_last term last = rw last refl
+
+yielding : (term : ℕ) (e : Event) (b : Bool) → nat_lt term MAX_NUMBER ≡ b → IsOfKind (wanted_leading term) e → e ≡ Yield
+yielding term (Draw id) true may h = absurd (subst (λ (w : Wanted). IsOfKind w (Draw id)) (leading_may term may) h)
+yielding term (Sent l) true may h = absurd (subst (λ (w : Wanted). IsOfKind w (Sent l)) (leading_may term may) h)
+yielding term (Got l) true may h = absurd (subst (λ (w : Wanted). IsOfKind w (Got l)) (leading_may term may) h)
+yielding term Yield true may h = refl
+yielding term e false may h = absurd (subst (λ (w : Wanted). IsOfKind w e) (leading_last term may) h)
+
+leading_yields_of : (term : ℕ) (phase : Phase) (owed : Option Load) (e : Event) → IsLeader phase → IsOfKind (wanted_of term phase owed) e → e ≡ Yield
+leading_yields_of term (Choosing round) owed e leads h = absurd leads
+leading_yields_of term (Active round id) owed e leads h = absurd leads
+leading_yields_of term Passive owed e leads h = absurd leads
+leading_yields_of term (Leader round id) owed e leads h = yielding term e (nat_lt term MAX_NUMBER) refl h
+leading_yields_of term Yielding owed e leads h = absurd leads
+
+pub leading_yields : (n : ℕ) (s : NodeState) (e : Event) → IsLeader s.phase → HasStep n s e → e ≡ Yield
+leading_yields n s e leads step = leading_yields_of s.term s.phase s.owed e leads (step_wanted n s e step.0 step.1)

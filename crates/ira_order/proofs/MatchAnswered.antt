@@ -1,57 +1,17 @@
 -- Logs match, or have a fault of matching.
-use Rattle.std.proofs.Common.{◌≡◌, ℕ, zero, suc, ◌+◌, ◌<◌, ◌≤◌, ◌⊎◌, inl, inr, Bool, true, false, List, [], ◌∷◌, length, refl, sym, ◌∙◌, ap, subst, arith}
+use Rattle.std.proofs.Common.{◌≡◌, ℕ, zero, suc, ◌+◌, ◌<◌, ◌≤◌, ◌⊎◌, inl, inr, List, [], ◌∷◌, length, refl, sym, subst, arith}
 use Rattle.std.proofs.lemmas.Bool.{cases_eq}
 use Rattle.ira_event.specs.declared.event.Event.{Event}
 use Rattle.ira_event.specs.declared.event.Event.TheVariants.{Draw, Sent, Got, Yield}
-use Rattle.ira_event.specs.declared.msg.Msg.{Msg}
 use Rattle.ira_event.specs.declared.load.Load.{Load}
-use Rattle.ira_event.specs.declared.load.Load.TheVariants.{Msg as Message, Reset}
 use Rattle.ira_event.specs.Log.{Log}
-use Rattle.ira_event.proofs.TextsAnswered.{Decided}
+use Rattle.ira_node.proofs.Answers.{loads_decided}
 use Rattle.ira_order.specs.declared.match_fault.MatchFault.{MatchFault}
 use Rattle.ira_order.specs.declared.match_fault.MatchFault.TheVariants.{NoSending, Differs}
 use Rattle.ira_order.specs.Ring.{log_of, next}
 use Rattle.ira_order.specs.Matching.{sent, IsPaired, LinkMatches, Matches}
 use Rattle.ira_order.specs.MatchFault.{IsLinkFault, IsMatchFault}
 use Rattle.ira_order.proofs.Pairing.{PairedSoFar, paired_at_first, paired_over, paired_more, paired_all, missing_at, other_at}
-
-same_bool : (a b : Bool) → Decided (a ≡ b)
-same_bool true true = inl refl
-same_bool true false = inr (λ e. cc)
-same_bool false true = inr (λ e. cc)
-same_bool false false = inl refl
-
-same_message : (m n : Msg) → Decided (m ≡ n)
-same_message m n = elim (cases_eq m.round n.round) [
-  | inr ne ↦ inr (λ e. ne (ap (λ (x : Msg). x.round) e))
-  | inl round ↦ elim (cases_eq m.id n.id) [
-    | inr ne ↦ inr (λ e. ne (ap (λ (x : Msg). x.id) e))
-    | inl id ↦ elim (cases_eq m.hop n.hop) [
-      | inr ne ↦ inr (λ e. ne (ap (λ (x : Msg). x.hop) e))
-      | inl hop ↦ elim (same_bool m.dirty n.dirty) [
-        | inr ne ↦ inr (λ e. ne (ap (λ (x : Msg). x.dirty) e))
-        | inl dirty ↦ inl (
-            ap (λ (x : ℕ). record { round = x; id = m.id; hop = m.hop; dirty = m.dirty }) round
-            ∙ ap (λ (x : ℕ). record { round = n.round; id = x; hop = m.hop; dirty = m.dirty }) id
-            ∙ ap (λ (x : ℕ). record { round = n.round; id = n.id; hop = x; dirty = m.dirty }) hop
-            ∙ ap (λ (x : Bool). record { round = n.round; id = n.id; hop = n.hop; dirty = x }) dirty
-            )
-      ]
-    ]
-  ]
-]
-
-same_load : (a b : Load) → Decided (a ≡ b)
-same_load (Message m) (Message n) = elim (same_message m n) [ inl e ↦ inl (ap Message e) | inr ne ↦ inr (λ e. ne (inside m n e)) ]
-  where
-    inside : (m n : Msg) → Message m ≡ Message n → m ≡ n
-    inside m n e = cc
-same_load (Reset g) (Reset h) = elim (cases_eq g h) [ inl e ↦ inl (ap Reset e) | inr ne ↦ inr (λ e. ne (inside g h e)) ]
-  where
-    inside : (g h : ℕ) → Reset g ≡ Reset h → g ≡ h
-    inside g h e = cc
-same_load (Message m) (Reset h) = inr (λ e. cc)
-same_load (Reset g) (Message n) = inr (λ e. cc)
 
 -- the events send nothing, or there is a first sending
 next_sending : (events : List Event) → (sent events ≡ []) ⊎ ((n : Load) × (later : List Event) × (sent events ≡ n ∷ sent later))
@@ -68,7 +28,7 @@ paired_or_fault i writer reader ahead (Yield ∷ left) k p = paired_or_fault i w
 paired_or_fault i writer reader ahead (Sent n ∷ left) k p = paired_or_fault i writer reader ahead left k (paired_over writer reader ahead left (Sent n) k (λ m e. cc) p)
 paired_or_fault i writer reader ahead (Got m ∷ left) k p = elim (next_sending ahead) [
   | inl none ↦ inr (NoSending i (k + 1), missing_at i writer reader ahead (Got m ∷ left) left m k p refl none)
-  | inr some ↦ elim (same_load some.0 m) [
+  | inr some ↦ elim (loads_decided some.0 m) [
     | inl same ↦ paired_or_fault i writer reader some.1 left (k + 1) (paired_more writer reader ahead some.1 (Got m ∷ left) left m some.0 k p refl some.2 same)
     | inr differ ↦ inr (Differs i (k + 1), other_at i writer reader ahead some.1 (Got m ∷ left) left m some.0 k p refl some.2 differ)
   ]

@@ -1,31 +1,31 @@
-// Messages, logs and setups that tests share, and what they look at in a run.
+// Loads, logs and setups that tests share, and what they look at in a run.
 ghost use Rattle.std.specs.Prelude.{◌≡◌, ◌≤◌, true};
-ghost use Rattle.ira_event.specs.Event.{is_msg};
+ghost use Rattle.ira_event.specs.Event.{is_load};
 
-use ira_event::{Event, Msg, NodeLog, RingSize};
+use ira_event::{Event, Load, Msg, NodeLog, RingSize};
 use ira_ring::{NodeEnd, Run, Setup};
 use std::alloc::Global;
 use std::process::Abort;
 
-pub fn clean(round: u32, id: u32, hop: u32) -> Msg
+pub fn clean(round: u32, id: u32, hop: u32) -> Load
     requires { (1 ≤ round) × (round ≤ 1000000) × (1 ≤ id) × (id ≤ 1000000) × (1 ≤ hop) × (hop ≤ 1000000) }
-    ensures { is_msg result ≡ true }
+    ensures { is_load result ≡ true }
 {
-    Msg {
+    Load::Msg(Msg {
         round,
         id,
         hop,
         dirty: false,
-    }
+    })
 }
 
-pub fn dirty(round: u32, id: u32, hop: u32) -> Msg {
-    Msg {
+pub fn dirty(round: u32, id: u32, hop: u32) -> Load {
+    Load::Msg(Msg {
         round,
         id,
         hop,
         dirty: true,
-    }
+    })
 }
 
 /// The events of node 0 of a ring of two, where it draws 2 and node 1 draws 1.

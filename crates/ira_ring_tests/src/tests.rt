@@ -18,7 +18,7 @@ fn part_of(
     end: NodeEnd,
 ) -> NodePart<Global> {
     let events = events.to_vec(rt.alloc()).expect(rt, "memory");
-    let log = NodeLog::new(ring(rt, nodes), log_place, true, events).expect(rt, "a log");
+    let log = NodeLog::new(1, ring(rt, nodes), log_place, true, events).expect(rt, "a log");
     NodePart { place, log, end }
 }
 

@@ -2,9 +2,9 @@
 use Rattle.std.proofs.Common.{◌≡◌, ℕ, ◌<◌, ◌≤◌, inl, inr, List, [], ◌∷◌, ◌++◌, length, refl, sym, ◌∙◌, subst, ap, append-nil, append_assoc}
 use Rattle.std.proofs.lemmas.List.{append_cancel_left}
 use Rattle.std.proofs.lemmas.List.Elements.{filter_map-append}
-use Rattle.ira_event.specs.declared.msg.Msg.{Msg}
+use Rattle.ira_event.specs.declared.load.Load.{Load}
 use Rattle.ira_event.specs.declared.event.Event.{Event}
-use Rattle.ira_event.specs.declared.event.Event.TheVariants.{Draw, Sent, Got}
+use Rattle.ira_event.specs.declared.event.Event.TheVariants.{Draw, Sent, Got, Yield}
 use Rattle.ira_node.specs.declared.node_state.NodeState.{NodeState}
 use Rattle.ira_node.specs.NodeState.{first_state, IsLeader}
 use Rattle.ira_node.specs.NodeStep.{NodeStep}
@@ -23,9 +23,9 @@ use Rattle.ira_run.specs.FullRun.{opening_of, events_at, drawing, drawn, HasEven
 use Rattle.ira_run.proofs.Beginnings.{next_same, begin_each_other, sends_begin}
 use Rattle.ira_run.proofs.Walks.{own_more, other_more, walk_leads, walk_balanced}
 
--- node i made these events, and these messages were sent to it: it drew the first of its IDs, it
--- received the first of the messages, and it can't go on
-pub record IsEnded (s : Setup) (i : ℕ) (events : List Event) (input : List Msg) : Type 0 where
+-- node i made these events, and these loads were sent to it: it drew the first of its IDs, it
+-- received the first of the loads, and it can't go on
+pub record IsEnded (s : Setup) (i : ℕ) (events : List Event) (input : List Load) : Type 0 where
   pub state : NodeState
   pub leads : LeadsTo s.nodes (first_state (is_initiator s i)) events state
   pub draws : BeginsWith (node_draws s i) (drawn events)
@@ -38,21 +38,21 @@ AreEnded s logs = (i : ℕ) → i < s.nodes → IsEnded s i (logs i) (sent (logs
 
 -- ---- one event
 
--- a node that can make an event can make it where more messages wait, too
-has_event_still : (n : ℕ) (ids : List ℕ) (state : NodeState) (events : List Event) (input more : List Msg) → HasEvent n ids state events input → HasEvent n ids state events (input ++ more)
+-- a node that can make an event can make it where more loads wait, too
+has_event_still : (n : ℕ) (ids : List ℕ) (state : NodeState) (events : List Event) (input more : List Load) → HasEvent n ids state events input → HasEvent n ids state events (input ++ more)
 has_event_still n ids state events input more (owes m o) = owes m o
-has_event_still n ids state events input more (chooses round is unused) = chooses round is unused
-has_event_still n ids state events input more (receives m others is step) = receives m (others ++ more) (ap (λ (x : List Msg). x ++ more) is) step
+has_event_still n ids state events input more (chooses term round is unused) = chooses term round is unused
+has_event_still n ids state events input more (receives m others is step) = receives m (others ++ more) (ap (λ (x : List Load). x ++ more) is) step
 
--- a message that is received is the first on the link
-taken_first : (n i : ℕ) (e : Event) (old new : ℕ → List Msg) (m : Msg) → LinkStep n i e old new → e ≡ Got m → BeginsWith (old (prev n i)) (m ∷ [])
+-- a load that is received is the first on the link
+taken_first : (n i : ℕ) (e : Event) (old new : ℕ → List Load) (m : Load) → LinkStep n i e old new → e ≡ Got m → BeginsWith (old (prev n i)) (m ∷ [])
 taken_first n i e old new m step is =
     let P : Event → Type 0 = λ x. LinkStep n i x old new in
     let taken : LinkStep n i (Got m) old new = subst P is step in
     (new (prev n i), taken.0)
 
--- node i made the events past of its log, and has these messages before it; it can make an event more
-module _ (s : Setup) (i : ℕ) (past log : List Event) (state : NodeState) (link writer sendings : List Msg)
+-- node i made the events past of its log, and has these loads before it; it can make an event more
+module _ (s : Setup) (i : ℕ) (past log : List Event) (state : NodeState) (link writer sendings : List Load)
     (leads : LeadsTo s.nodes (first_state (is_initiator s i)) past state)
     (balanced : got past ++ link ≡ writer)
     (more : BeginsWith sendings writer)
@@ -68,10 +68,10 @@ module _ (s : Setup) (i : ℕ) (past log : List Event) (state : NodeState) (link
       let state_is : here.state ≡ state = one_end s.nodes (first_state (is_initiator s i)) past here.state state here.leads leads in
       let left_is : here.receipts.0 ≡ link ++ more.0 =
       append_cancel_left (got past) here.receipts.0 (link ++ more.0)
-      (sym here.receipts.1 ∙ more.1 ∙ ap (λ (x : List Msg). x ++ more.0) (sym balanced) ∙ append_assoc (got past) link more.0) in
+      (sym here.receipts.1 ∙ more.1 ∙ ap (λ (x : List Load). x ++ more.0) (sym balanced) ∙ append_assoc (got past) link more.0) in
       let Q : NodeState → Type 0 = λ x. ¬ (IsLeader x.phase) in
       let R : NodeState → Type 0 = λ x. HasEvent s.nodes (node_draws s i) x past (link ++ more.0) in
-      let S : List Msg → Type 0 = λ x. HasEvent s.nodes (node_draws s i) here.state past x in
+      let S : List Load → Type 0 = λ x. HasEvent s.nodes (node_draws s i) here.state past x in
       here.stays (subst Q (sym state_is) not_leader) room (subst S (sym left_is) (subst R (sym state_is) (has_event_still s.nodes (node_draws s i) state past link more.0 event)))
 
   -- the next event of the log is of the same kind
@@ -90,16 +90,16 @@ module _ (s : Setup) (i : ℕ) (past log : List Event) (state : NodeState) (link
       ended.draws.1 ∙ ap (λ (x : List Event). drawn x ++ ended.draws.0) is ∙ ap (λ (x : List ℕ). x ++ ended.draws.0) (filter_map-append drawing past (Draw c ∷ rest)) ∙ append_assoc (drawn past) (c ∷ drawn rest) ended.draws.0 in
       next_same (drawn past) draws.0 (drawn rest ++ ended.draws.0) d c (sym a ∙ b)
 
-  same_receipt : (m k : Msg) (rest : List Event) → BeginsWith link (m ∷ []) → log ≡ past ++ Got k ∷ rest → m ≡ k
+  same_receipt : (m k : Load) (rest : List Event) → BeginsWith link (m ∷ []) → log ≡ past ++ Got k ∷ rest → m ≡ k
   same_receipt m k rest first is =
       let a : sendings ≡ got past ++ m ∷ (first.0 ++ more.0) =
-      more.1 ∙ ap (λ (x : List Msg). x ++ more.0) (sym balanced ∙ ap (λ (x : List Msg). got past ++ x) first.1) ∙ append_assoc (got past) (m ∷ first.0) more.0 in
+      more.1 ∙ ap (λ (x : List Load). x ++ more.0) (sym balanced ∙ ap (λ (x : List Load). got past ++ x) first.1) ∙ append_assoc (got past) (m ∷ first.0) more.0 in
       let b : sendings ≡ got past ++ k ∷ (got rest ++ ended.receipts.0) =
-      ended.receipts.1 ∙ ap (λ (x : List Event). got x ++ ended.receipts.0) is ∙ ap (λ (x : List Msg). x ++ ended.receipts.0) (filter_map-append receipt past (Got k ∷ rest)) ∙ append_assoc (got past) (k ∷ got rest) ended.receipts.0 in
+      ended.receipts.1 ∙ ap (λ (x : List Event). got x ++ ended.receipts.0) is ∙ ap (λ (x : List Load). x ++ ended.receipts.0) (filter_map-append receipt past (Got k ∷ rest)) ∙ append_assoc (got past) (k ∷ got rest) ended.receipts.0 in
       next_same (got past) (first.0 ++ more.0) (got rest ++ ended.receipts.0) m k (sym a ∙ b)
 
   -- it is the same event
-  same_event : (e f : Event) (rest : List Event) → AreAlike e f → BeginsWith (node_draws s i) (drawn (past ++ e ∷ [])) → ((m : Msg) → e ≡ Got m → BeginsWith link (m ∷ [])) → log ≡ past ++ f ∷ rest → e ≡ f
+  same_event : (e f : Event) (rest : List Event) → AreAlike e f → BeginsWith (node_draws s i) (drawn (past ++ e ∷ [])) → ((m : Load) → e ≡ Got m → BeginsWith link (m ∷ [])) → log ≡ past ++ f ∷ rest → e ≡ f
   same_event (Draw d) (Draw c) rest both draws first is = ap Draw (same_draw d c rest draws is)
   same_event (Sent m) (Sent k) rest both draws first is = ap Sent both
   same_event (Got m) (Got k) rest both draws first is = ap Got (same_receipt m k rest (first m refl) is)
@@ -109,8 +109,15 @@ module _ (s : Setup) (i : ℕ) (past log : List Event) (state : NodeState) (link
   same_event (Sent m) (Got k) rest both draws first is = absurd both
   same_event (Got m) (Draw c) rest both draws first is = absurd both
   same_event (Got m) (Sent k) rest both draws first is = absurd both
+  same_event Yield Yield rest both draws first is = refl
+  same_event Yield (Draw c) rest both draws first is = absurd both
+  same_event Yield (Sent k) rest both draws first is = absurd both
+  same_event Yield (Got k) rest both draws first is = absurd both
+  same_event (Draw d) Yield rest both draws first is = absurd both
+  same_event (Sent m) Yield rest both draws first is = absurd both
+  same_event (Got m) Yield rest both draws first is = absurd both
 
-  held_on : (e : Event) (after : NodeState) (rest : List Event) → NodeStep s.nodes state e after → BeginsWith (node_draws s i) (drawn (past ++ e ∷ [])) → ((m : Msg) → e ≡ Got m → BeginsWith link (m ∷ [])) → log ≡ past ++ rest → BeginsWith log (past ++ e ∷ [])
+  held_on : (e : Event) (after : NodeState) (rest : List Event) → NodeStep s.nodes state e after → BeginsWith (node_draws s i) (drawn (past ++ e ∷ [])) → ((m : Load) → e ≡ Got m → BeginsWith link (m ∷ [])) → log ≡ past ++ rest → BeginsWith log (past ++ e ∷ [])
   held_on e after [] step draws first is = absurd (not_all (is ∙ append-nil past))
   held_on e after (f ∷ rest) step draws first is =
       let same : e ≡ f = same_event e f rest (alike e f rest after step is) draws first is in

@@ -1,9 +1,11 @@
 -- Full runs have the same logs, and what nodes recorded agrees with them.
 use Rattle.std.proofs.Common.{◌≡◌, ◌≢◌, ℕ, ◌<◌, ◌≤◌, List, map, length, Some, refl, sym, ◌∙◌, subst, ap, arith}
-use Rattle.std.specs.Prelude.{slice_get, Result, Ok, Err, IfOk}
+use Rattle.std.specs.Prelude.{slice_get, Result, Ok, Err, IfOk, true}
+use Rattle.std.specs.List.{list_all}
 use Rattle.std.proofs.lemmas.List.{length-map}
 use Rattle.std.proofs.lemmas.Option.{slice_get_within}
 use Rattle.ira_event.specs.declared.event.Event.{Event}
+use Rattle.ira_event.specs.Event.{is_of_version}
 use Rattle.ira_event.specs.Log.{Log}
 use Rattle.ira_order.specs.Ring.{prev, log_of, events_of}
 use Rattle.ira_order.specs.Matching.{sent, got}
@@ -39,14 +41,23 @@ log_at s logs i of_setup l =
     let at = get_within logs i (omega (arith, of_setup.number)) in
     (at.0, at.1, ap events_of at.1)
 
+-- its events are of version 1
+held_at : (s : Setup) (logs : List Log) (i : ℕ) → AreLogsOf s logs → i < s.nodes → list_all (is_of_version 1) (log_of logs i) ≡ true
+held_at s logs i of_setup l =
+    let log = log_at s logs i of_setup l in
+    let P : ℕ → Type 0 = λ v. list_all (is_of_version v) log.0.events ≡ true in
+    let Q : List Event → Type 0 = λ es. list_all (is_of_version 1) es ≡ true in
+    subst Q (sym log.2) (subst P (of_setup.versions i log.0 log.1) (of_setup.ring.valid i log.0 log.1).held)
+
 -- logs of one setup's ring with the same events are the same
 one_log : (s : Setup) (logs others : List Log) (i : ℕ) (log other : Log) → AreLogsOf s logs → AreLogsOf s others → log_of logs i ≡ log_of others i → slice_get logs i ≡ Some log → slice_get others i ≡ Some other → log ≡ other
 one_log s logs others i log other a b same at there =
     let nodes : log.nodes ≡ other.nodes = a.ring.sizes i log at ∙ a.number ∙ sym b.number ∙ sym (b.ring.sizes i other there) in
+    let version : log.version ≡ other.version = a.versions i log at ∙ sym (b.versions i other there) in
     let place : log.place ≡ other.place = a.ring.places i log at ∙ sym (b.ring.places i other there) in
     let kind : log.initiator ≡ other.initiator = a.kinds i log at ∙ sym (b.kinds i other there) in
     let events : log.events ≡ other.events = sym (ap events_of at) ∙ same ∙ ap events_of there in
-    λ j. record { nodes = nodes j; place = place j; initiator = kind j; events = events j }
+    λ j. record { version = version j; nodes = nodes j; place = place j; initiator = kind j; events = events j }
 
 same_logs : (s : Setup) (logs others : List Log) → AreLogsOf s logs → AreLogsOf s others → ((i : ℕ) → i < s.nodes → log_of logs i ≡ log_of others i) → logs ≡ others
 same_logs s logs others a b same =
@@ -123,7 +134,7 @@ module _ (s : Setup) (run lone : Run) (rec : IsRecording s run) (full : IsLoneRu
       let begins = recording_begins s run rec lone.logs full.logs i l in
       let p : prev s.nodes i < s.nodes = prev_below s.nodes i l in
       no_further s i (log_of run.logs i) (log_of lone.logs i) shown.0 ended.state (sent (log_of run.logs (prev s.nodes i))) (sent (log_of lone.logs (prev s.nodes i)))
-      shown.1 ended.leads (omega (arith, rec.counts i log.0 log.1, ap length log.2)) ended.draws ended.receipts
+      shown.1 ended.leads (omega (arith, rec.counts i log.0 log.1, ap length log.2)) (held_at s run.logs i rec.logs l) ended.draws ended.receipts
       (sends_begin (log_of run.logs (prev s.nodes i)) (log_of lone.logs (prev s.nodes i)) (recording_begins s run rec lone.logs full.logs (prev s.nodes i) p))
       end begins.0 (λ w. ap sent (before w)) shown.2 begins.1
 

@@ -1,18 +1,16 @@
 -- Round the ring: what was recorded goes no further than a full run in which some node ended otherwise than Quiet.
-use Rattle.std.proofs.Common.{◌≡◌, ℕ, zero, suc, ◌-◌, ◌<◌, ◌≤◌, inl, inr, Option, None, List, [], ◌∷◌, ◌++◌, length, refl, sym, ◌∙◌, subst, ap, append-nil, append_assoc, length-append, arith}
+use Rattle.std.proofs.Common.{◌≡◌, ℕ, zero, suc, ◌-◌, ◌<◌, ◌≤◌, ◌&&◌, inl, inr, Bool, true, false, List, [], ◌∷◌, ◌++◌, length, refl, sym, ◌∙◌, subst, ap, append-nil, append_assoc, length-append, arith}
+use Rattle.std.specs.List.{list_all}
 use Rattle.std.proofs.lemmas.List.Elements.{filter_map-append}
-use Rattle.ira_event.specs.declared.msg.Msg.{Msg}
+use Rattle.std.proofs.lemmas.List.Folds.{list_all-append}
+use Rattle.ira_event.specs.Event.{is_of_version}
+use Rattle.ira_event.specs.declared.load.Load.{Load}
 use Rattle.ira_event.specs.declared.event.Event.{Event}
-use Rattle.ira_event.specs.declared.event.Event.TheVariants.{Draw, Sent, Got}
-use Rattle.ira_node.specs.declared.phase.Phase.{Phase}
-use Rattle.ira_node.specs.declared.phase.Phase.TheVariants.{Choosing, Active, Passive, Leader as Leads}
+use Rattle.ira_event.specs.declared.event.Event.TheVariants.{Draw, Sent, Got, Yield}
 use Rattle.ira_node.specs.declared.node_state.NodeState.{NodeState}
 use Rattle.ira_node.specs.NodeState.{first_state, free, IsLeader, Receives}
 use Rattle.ira_node.specs.NodeStep.{NodeStep, HasStep}
-use Rattle.ira_node.specs.Wanted.{IsOfKind, wanted_of}
-use Rattle.ira_node.specs.declared.wanted.Wanted.{Wanted}
-use Rattle.ira_node.specs.declared.wanted.Wanted.TheVariants.{Draw as WantsDraw, Receipt}
-use Rattle.ira_node.proofs.Wants.{step_wanted}
+use Rattle.ira_node.proofs.Wants.{choosing_draws, waiting_receives, leading_yields}
 use Rattle.ira_replay.specs.LocalRun.{LeadsTo}
 use Rattle.ira_replay.proofs.Alike.{one_end, leads_split}
 use Rattle.ira_order.specs.Ring.{prev}
@@ -24,6 +22,7 @@ use Rattle.ira_run.specs.Setup.{Setup, is_initiator, node_draws}
 use Rattle.ira_run.specs.FullRun.{drawing, drawn, BeginsWith}
 use Rattle.ira_run.specs.ShownEnd.{Waits, Says}
 use Rattle.ira_run.proofs.Beginnings.{next_same}
+use Rattle.ira_run.proofs.Collecting.{both-true}
 
 -- ---- round the ring
 
@@ -39,45 +38,9 @@ module _ (n : ℕ) (P : ℕ → Type 0) (round : (i : ℕ) → i < n → P (prev
   pub all_round : (i j : ℕ) → i < n → j < n → P i → P j
   all_round i j here there p = onward 0 j (omega arith) there (round 0 (omega arith) (onward i (n - 1) (omega arith) (omega arith) p))
 
--- ---- what a node wants
-
-leader_wants_nothing : (phase : Phase) (owed : Option Msg) (e : Event) → IsLeader phase → IsOfKind (wanted_of phase owed) e → ⊥
-leader_wants_nothing (Choosing round) owed e l h = absurd l
-leader_wants_nothing (Active round id) owed e l h = absurd l
-leader_wants_nothing Passive owed e l h = absurd l
-leader_wants_nothing (Leads round id) owed (Draw d) l h = h
-leader_wants_nothing (Leads round id) owed (Sent m) l h = h
-leader_wants_nothing (Leads round id) owed (Got m) l h = h
-
-waiting_wants_receipt : (phase : Phase) (owed : Option Msg) → owed ≡ None → Receives phase → wanted_of phase owed ≡ Receipt
-waiting_wants_receipt (Choosing round) owed is r = absurd r
-waiting_wants_receipt (Active round id) owed is r = ap (wanted_of (Active round id)) is
-waiting_wants_receipt Passive owed is r = ap (wanted_of Passive) is
-waiting_wants_receipt (Leads round id) owed is r = absurd r
-
-draw_wanted : (e : Event) → IsOfKind WantsDraw e → (d : ℕ) × (e ≡ Draw d)
-draw_wanted (Draw d) h = (d, refl)
-draw_wanted (Sent m) h = absurd h
-draw_wanted (Got m) h = absurd h
-
-receipt_wanted : (e : Event) → IsOfKind Receipt e → (m : Msg) × (e ≡ Got m)
-receipt_wanted (Draw d) h = absurd h
-receipt_wanted (Sent m) h = absurd h
-receipt_wanted (Got m) h = (m, refl)
-
-next_draw : (n round : ℕ) (state : NodeState) (e : Event) → state ≡ free (Choosing round) → HasStep n state e → (d : ℕ) × (e ≡ Draw d)
-next_draw n round state e is step =
-    let P : NodeState → Type 0 = λ x. IsOfKind (wanted_of x.phase x.owed) e in
-    draw_wanted e (subst P is (step_wanted n state e step.0 step.1))
-
-next_receipt : (n cap : ℕ) (state : NodeState) (events : List Event) (e : Event) → Waits cap state events → HasStep n state e → (m : Msg) × (e ≡ Got m)
-next_receipt n cap state events e waits step =
-    let P : Wanted → Type 0 = λ w. IsOfKind w e in
-    receipt_wanted e (subst P (waiting_wants_receipt state.phase state.owed waits.1 waits.2) (step_wanted n state e step.0 step.1))
-
 -- ---- a node goes no further
 
--- a node that ends so waits for a message
+-- a node that ends so waits for a load
 abbrev pub IsWaiting : NodeEnd → Type 0
 IsWaiting Leader = ⊥
 IsWaiting Stopped = Unit {0}
@@ -86,12 +49,13 @@ IsWaiting LogFull = ⊥
 IsWaiting (NoStep m) = ⊥
 IsWaiting Quiet = Unit {0}
 
--- node i, to which these messages were sent in all, made these events, and then others of its log; the input
--- begins the messages
-module _ (s : Setup) (i : ℕ) (log events : List Event) (state last : NodeState) (sendings input : List Msg)
+-- node i, to which these loads were sent in all, made these events, and then others of its log, which is of
+-- version 1; the input begins the loads
+module _ (s : Setup) (i : ℕ) (log events : List Event) (state last : NodeState) (sendings input : List Load)
     (leads : LeadsTo s.nodes (first_state (is_initiator s i)) events state)
     (run : LeadsTo s.nodes (first_state (is_initiator s i)) log last)
     (count : length log ≤ s.cap)
+    (held : list_all (is_of_version 1) log ≡ true)
     (draws : BeginsWith (node_draws s i) (drawn log))
     (receipts : BeginsWith sendings (got log))
     (more : BeginsWith sendings input) where
@@ -115,39 +79,48 @@ module _ (s : Setup) (i : ℕ) (log events : List Event) (state last : NodeState
         ap length spent,
       )
 
-  received : (m : Msg) (rest : List Event) → log ≡ events ++ Got m ∷ rest → sendings ≡ got events ++ m ∷ (got rest ++ receipts.0)
+  received : (m : Load) (rest : List Event) → log ≡ events ++ Got m ∷ rest → sendings ≡ got events ++ m ∷ (got rest ++ receipts.0)
   received m rest is =
-      receipts.1 ∙ ap (λ (x : List Event). got x ++ receipts.0) is ∙ ap (λ (x : List Msg). x ++ receipts.0) (filter_map-append receipt events (Got m ∷ rest)) ∙ append_assoc (got events) (m ∷ got rest) receipts.0
+      receipts.1 ∙ ap (λ (x : List Event). got x ++ receipts.0) is ∙ ap (λ (x : List Load). x ++ receipts.0) (filter_map-append receipt events (Got m ∷ rest)) ∙ append_assoc (got events) (m ∷ got rest) receipts.0
 
-  no_receipt : (m : Msg) (rest : List Event) → sendings ≡ input → got events ≡ input → log ≡ events ++ Got m ∷ rest → ⊥
+  no_receipt : (m : Load) (rest : List Event) → sendings ≡ input → got events ≡ input → log ≡ events ++ Got m ∷ rest → ⊥
   no_receipt m rest all same is =
       omega (arith, ap length (received m rest is), length-append (got events) (m ∷ (got rest ++ receipts.0)), ap length all, ap length same)
 
-  same_message : (m k : Msg) (rest : List Event) → BeginsWith input (got events ++ k ∷ []) → log ≡ events ++ Got m ∷ rest → m ≡ k
-  same_message m k rest front is =
+  same_load : (m k : Load) (rest : List Event) → BeginsWith input (got events ++ k ∷ []) → log ≡ events ++ Got m ∷ rest → m ≡ k
+  same_load m k rest front is =
       let there : sendings ≡ got events ++ k ∷ (front.0 ++ more.0) =
-      more.1 ∙ ap (λ (x : List Msg). x ++ more.0) (front.1 ∙ append_assoc (got events) (k ∷ []) front.0) ∙ append_assoc (got events) (k ∷ front.0) more.0 in
+      more.1 ∙ ap (λ (x : List Load). x ++ more.0) (front.1 ∙ append_assoc (got events) (k ∷ []) front.0) ∙ append_assoc (got events) (k ∷ front.0) more.0 in
       next_same (got events) (got rest ++ receipts.0) (front.0 ++ more.0) m k (sym (received m rest is) ∙ there)
 
+  -- a log of version 1 has no yield
+  no_yield : (rest : List Event) → log ≡ events ++ Yield ∷ rest → ⊥
+  no_yield rest is =
+      let of_version : Event → Bool = is_of_version 1 in
+      let whole : (list_all of_version events && list_all of_version (Yield ∷ rest)) ≡ true =
+      sym (list_all-append of_version events (Yield ∷ rest)) ∙ sym (ap (λ (x : List Event). list_all of_version x) is) ∙ held in
+      let none : false ≡ true = (both-true (list_all of_version events) (list_all of_version (Yield ∷ rest)) whole).1 in
+      absurd cc
+
   over : (end : NodeEnd) (e : Event) (rest : List Event) → (IsWaiting end → sendings ≡ input) → Says s i state events input end → log ≡ events ++ e ∷ rest → HasStep s.nodes state e → ⊥
-  over Leader e rest waits says is step = leader_wants_nothing state.phase state.owed e says (step_wanted s.nodes state e step.0 step.1)
+  over Leader e rest waits says is step = no_yield rest (is ∙ ap (λ (x : Event). events ++ x ∷ rest) (leading_yields s.nodes state e says step))
   over LogFull e rest waits says is step = omega (arith, count, ap length is, length-append events (e ∷ rest), says.1)
   over DrawsSpent e rest waits says is step =
-      let d = next_draw s.nodes says.1.0 state e says.1.1 step in
+      let d = choosing_draws s.nodes says.1.0 says.1.1 state e says.1.2 step in
       no_draw d.0 rest says.2 (is ∙ ap (λ (x : Event). events ++ x ∷ rest) d.1)
   over (NoStep k) e rest waits says is step =
-      let m = next_receipt s.nodes s.cap state events e says.0 step in
-      let same : m.0 ≡ k = same_message m.0 k rest says.2 (is ∙ ap (λ (x : Event). events ++ x ∷ rest) m.1) in
+      let m = waiting_receives s.nodes state e says.0.1 says.0.2 step in
+      let same : m.0 ≡ k = same_load m.0 k rest says.2 (is ∙ ap (λ (x : Event). events ++ x ∷ rest) m.1) in
       let P : Event → Type 0 = λ x. HasStep s.nodes state x in
       says.1 (subst P (m.1 ∙ ap Got same) step)
   over Quiet e rest waits says is step =
-      let m = next_receipt s.nodes s.cap state events e says.0 step in
+      let m = waiting_receives s.nodes state e says.0.1 says.0.2 step in
       no_receipt m.0 rest (waits tt) says.1 (is ∙ ap (λ (x : Event). events ++ x ∷ rest) m.1)
   over Stopped e rest waits says is step =
-      let m = next_receipt s.nodes s.cap state events e says.0 step in
+      let m = waiting_receives s.nodes state e says.0.1 says.0.2 step in
       no_receipt m.0 rest (waits tt) says.1 (is ∙ ap (λ (x : Event). events ++ x ∷ rest) m.1)
 
-  -- where the end of a node that waits has all the messages before it, the events are all of the log
+  -- where the end of a node that waits has all the loads before it, the events are all of the log
   pub no_further : (end : NodeEnd) (rest : List Event) → (IsWaiting end → sendings ≡ input) → Says s i state events input end → log ≡ events ++ rest → log ≡ events
   no_further end [] waits says is = is ∙ append-nil events
   no_further end (e ∷ rest) waits says is = absurd (over end e rest waits says is (next_step e rest is))

@@ -1,11 +1,11 @@
 -- The logs of a full run show an end of each node.
 use Rattle.std.proofs.Common.{◌≡◌, ◌≢◌, ℕ, zero, suc, ◌<◌, ◌≤◌, inl, inr, Option, None, Some, List, [], ◌∷◌, ◌++◌, length, refl, sym, ◌∙◌, subst, ap, append-nil, append_assoc, length-append, arith}
 use Rattle.std.specs.Prelude.{slice_get}
-use Rattle.ira_event.specs.declared.msg.Msg.{Msg}
+use Rattle.ira_event.specs.declared.load.Load.{Load}
 use Rattle.ira_event.specs.declared.event.Event.{Event}
 use Rattle.ira_event.specs.Log.{Log}
 use Rattle.ira_node.specs.declared.phase.Phase.{Phase}
-use Rattle.ira_node.specs.declared.phase.Phase.TheVariants.{Choosing, Active, Passive, Leader as Leads}
+use Rattle.ira_node.specs.declared.phase.Phase.TheVariants.{Choosing, Active, Passive, Leader as Leads, Yielding}
 use Rattle.ira_node.specs.declared.node_state.NodeState.{NodeState}
 use Rattle.ira_node.specs.NodeState.{first_state, free, IsLeader}
 use Rattle.ira_replay.specs.LocalRun.{LeadsTo}
@@ -23,10 +23,10 @@ use Rattle.ira_run.proofs.Recordable.{run_within}
 
 -- ---- the end of one node
 
--- node i made these events, received the first of these messages, and can't go on from this state
-module _ (s : Setup) (i : ℕ) (events : List Event) (input : List Msg)
+-- node i made these events, received the first of these loads, and can't go on from this state
+module _ (s : Setup) (i : ℕ) (events : List Event) (input : List Load)
     (draws : BeginsWith (node_draws s i) (drawn events)) where
-  abbrev Stays : NodeState → List Msg → Type 0
+  abbrev Stays : NodeState → List Load → Type 0
   Stays state left = ¬ (IsLeader state.phase) → length events < s.cap → ¬ (HasEvent s.nodes (node_draws s i) state events left)
 
   -- it has an end
@@ -37,11 +37,11 @@ module _ (s : Setup) (i : ℕ) (events : List Event) (input : List Msg)
   all_drawn [] is none = sym (is ∙ append-nil (drawn events))
   all_drawn (d ∷ ids) is none = absurd (none (omega (arith, ap length is, length-append (drawn events) (d ∷ ids))))
 
-  spent : (round : ℕ) (left : List Msg) → length events < s.cap → Stays (free (Choosing round)) left → Shows (free (Choosing round))
-  spent round left room stays =
-      (DrawsSpent, (((λ l. l), room), (round, refl), all_drawn draws.0 draws.1 (λ unused. stays (λ l. l) room (chooses round refl unused))), (λ e. cc))
+  spent : (term round : ℕ) (left : List Load) → length events < s.cap → Stays (free term (Choosing round)) left → Shows (free term (Choosing round))
+  spent term round left room stays =
+      (DrawsSpent, (((λ l. l), room), (term, round, refl), all_drawn draws.0 draws.1 (λ unused. stays (λ l. l) room (chooses term round refl unused))), (λ e. cc))
 
-  waits : (state : NodeState) (left : List Msg) → Waits s.cap state events → input ≡ got events ++ left → Stays state left → Shows state
+  waits : (state : NodeState) (left : List Load) → Waits s.cap state events → input ≡ got events ++ left → Stays state left → Shows state
   waits state [] waiting is stays = (Quiet, (waiting, sym (is ∙ append-nil (got events))), (λ e. cc))
   waits state (m ∷ others) waiting is stays = (
     NoStep m,
@@ -49,25 +49,28 @@ module _ (s : Setup) (i : ℕ) (events : List Event) (input : List Msg)
     (λ e. cc),
   )
 
-  goes_on : (phase : Phase) (owed : Option Msg) (left : List Msg) → length events < s.cap → input ≡ got events ++ left → Stays (record { phase = phase; owed = owed }) left → Shows (record { phase = phase; owed = owed })
-  goes_on (Leads round id) owed left room is stays = (Leader, tt, (λ e. cc))
-  goes_on (Choosing round) None left room is stays = spent round left room stays
-  goes_on (Choosing round) (Some m) left room is stays = absurd (stays (λ l. l) room (owes m refl))
-  goes_on (Active round id) None left room is stays = waits (free (Active round id)) left (((λ l. l), room), refl, tt) is stays
-  goes_on (Active round id) (Some m) left room is stays = absurd (stays (λ l. l) room (owes m refl))
-  goes_on Passive None left room is stays = waits (free Passive) left (((λ l. l), room), refl, tt) is stays
-  goes_on Passive (Some m) left room is stays = absurd (stays (λ l. l) room (owes m refl))
+  goes_on : (term : ℕ) (phase : Phase) (owed : Option Load) (left : List Load) → length events < s.cap → input ≡ got events ++ left → Stays (record { phase = phase; owed = owed; term = term }) left → Shows (record { phase = phase; owed = owed; term = term })
+  goes_on term (Leads round id) owed left room is stays = (Leader, tt, (λ e. cc))
+  goes_on term (Choosing round) None left room is stays = spent term round left room stays
+  goes_on term (Choosing round) (Some m) left room is stays = absurd (stays (λ l. l) room (owes m refl))
+  goes_on term (Active round id) None left room is stays = waits (free term (Active round id)) left (((λ l. l), room), refl, tt) is stays
+  goes_on term (Active round id) (Some m) left room is stays = absurd (stays (λ l. l) room (owes m refl))
+  goes_on term Passive None left room is stays = waits (free term Passive) left (((λ l. l), room), refl, tt) is stays
+  goes_on term Passive (Some m) left room is stays = absurd (stays (λ l. l) room (owes m refl))
+  goes_on term Yielding None left room is stays = waits (free term Yielding) left (((λ l. l), room), refl, tt) is stays
+  goes_on term Yielding (Some m) left room is stays = absurd (stays (λ l. l) room (owes m refl))
 
-  full : (phase : Phase) (owed : Option Msg) → length events ≡ s.cap → Shows (record { phase = phase; owed = owed })
-  full (Leads round id) owed is = (Leader, tt, (λ e. cc))
-  full (Choosing round) owed is = (LogFull, ((λ l. l), is), (λ e. cc))
-  full (Active round id) owed is = (LogFull, ((λ l. l), is), (λ e. cc))
-  full Passive owed is = (LogFull, ((λ l. l), is), (λ e. cc))
+  full : (term : ℕ) (phase : Phase) (owed : Option Load) → length events ≡ s.cap → Shows (record { phase = phase; owed = owed; term = term })
+  full term (Leads round id) owed is = (Leader, tt, (λ e. cc))
+  full term (Choosing round) owed is = (LogFull, ((λ l. l), is), (λ e. cc))
+  full term (Active round id) owed is = (LogFull, ((λ l. l), is), (λ e. cc))
+  full term Passive owed is = (LogFull, ((λ l. l), is), (λ e. cc))
+  full term Yielding owed is = (LogFull, ((λ l. l), is), (λ e. cc))
 
-  shows : (state : NodeState) (left : List Msg) → length events ≤ s.cap → input ≡ got events ++ left → Stays state left → Shows state
+  shows : (state : NodeState) (left : List Load) → length events ≤ s.cap → input ≡ got events ++ left → Stays state left → Shows state
   shows state left within is stays = elim (cases_lt (length events) s.cap) [
-    | inl room ↦ goes_on state.phase state.owed left room is stays
-    | inr past ↦ full state.phase state.owed (omega arith)
+    | inl room ↦ goes_on state.term state.phase state.owed left room is stays
+    | inr past ↦ full state.term state.phase state.owed (omega arith)
   ]
 
 -- ---- the ends of all nodes

@@ -22,7 +22,7 @@ no_longer xs ys (x ∷ rest) is few = absurd (omega (arith, ap length is, length
 pub begin_each_other : {X : Type 0} (xs ys : List X) → BeginsWith xs ys → BeginsWith ys xs → xs ≡ ys
 begin_each_other xs ys h k = no_longer xs ys h.0 h.1 (omega (arith, ap length k.1, length-append xs k.0))
 
--- the messages that the first of some events send are the first that all of them send
+-- the loads that the first of some events send are the first that all of them send
 pub sends_begin : (es fs : List Event) → BeginsWith es fs → BeginsWith (sent es) (sent fs)
 sends_begin es fs h = (sent h.0, ap sent h.1 ∙ filter_map-append sending fs h.0)
 

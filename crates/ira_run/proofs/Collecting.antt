@@ -1,7 +1,9 @@
 -- Parts that are collected place by place.
 use Rattle.std.proofs.Common.{◌≡◌, ◌≢◌, ℕ, zero, suc, ◌<◌, Bool, true, false, List, [], ◌∷◌, ◌++◌, length, replicate, set, Option, Some, None, Result, Ok, Err, inl, inr, refl, sym, ap, subst, ◌∙◌, arith, append_assoc, length-set}
-use Rattle.std.specs.Prelude.{◌⊎◌, ◌&&◌, slice_get, map, is_some}
+use Rattle.std.specs.Prelude.{◌⊎◌, ◌&&◌, nat_eq, slice_get, map, is_some}
 use Rattle.std.specs.List.{zip, list_all}
+use Rattle.std.proofs.lemmas.Bool.{cases_eq}
+use Rattle.std.proofs.lemmas.Bool.Decides.{nat_tests}
 use Rattle.std.proofs.lemmas.List.{append-nil, length-replicate, map-append}
 use Rattle.std.proofs.lemmas.Option.{none-some, same_Some, some_pair_parts}
 use Rattle.ira_event.specs.Log.{Log, IsLog}
@@ -10,9 +12,10 @@ use Rattle.ira_event.specs.RingSize.{IsRingSize}
 use Rattle.ira_run.specs.declared.node_end.NodeEnd.{NodeEnd}
 use Rattle.ira_run.specs.declared.node_end.NodeEnd.TheVariants.{Leader, Stopped, DrawsSpent, LogFull, NoStep, Quiet}
 use Rattle.ira_run.specs.declared.run_fault.RunFault.{RunFault}
-use Rattle.ira_run.specs.declared.run_fault.RunFault.TheVariants.{NoEnd, Double}
-use Rattle.ira_run.specs.Collector.{AreTaken, IsStranger, IsTaken, IsMissing, PartFaultOf, KeepsPart, HasNoEnd, FinishFaultOf, AreParts}
+use Rattle.ira_run.specs.declared.run_fault.RunFault.TheVariants.{NoEnd, Stranger, Double}
+use Rattle.ira_run.specs.Collector.{AreTaken, HasOtherVersion, IsStranger, IsTaken, IsMissing, PartFaultOf, KeepsPart, HasNoEnd, FinishFaultOf, AreParts, has_version}
 use Rattle.ira_run.specs.NodeEnd.{is_stopped}
+use Rattle.ira_run.proofs.Places.{get_within}
 
 -- Members of lists.
 
@@ -141,6 +144,42 @@ pub run-has-end : (logs : List Log) (ends : List NodeEnd) → length logs ≡ le
 run-has-end logs ends same goes_on h =
     elim h [ inl missing ↦ no-missing logs ends missing.0 missing.1 | inr each ↦ let all = all-stopped logs ends same each in absurd cc ]
 
+-- Versions.
+
+-- each log that was taken is of this version
+abbrev pub AreOfVersion : ℕ → List (Option (Log × NodeEnd)) → Type 0
+AreOfVersion version taken = (i : ℕ) (log : Log) (end : NodeEnd) → slice_get taken i ≡ Some (Some (log, end)) → log.version ≡ version
+
+-- so it is where one of this version is put to those that were
+version-behind : (taken : List (Option (Log × NodeEnd))) (i : ℕ) (log : Log) (end : NodeEnd) → AreOfVersion log.version taken → (j : ℕ) (other : Log) (last : NodeEnd) → slice_get (set taken i (Some (log, end))) j ≡ Some (Some (other, last)) → other.version ≡ log.version
+version-behind taken i log end versions j other last p = elim (get-set-cases taken i j (Some (log, end)) (Some (other, last)) p) [
+  | inl q ↦ let same : log ≡ other = (some_pair_parts log other end last q.1).0 in ap (λ (x : Log). x.version) (sym same)
+  | inr q ↦ versions j other last q
+]
+
+pub all-of-version : (version : ℕ) (taken : List (Option (Log × NodeEnd))) → list_all (has_version version) taken ≡ true → AreOfVersion version taken
+all-of-version version [] all i log end p = absurd cc
+all-of-version version (part ∷ taken) all zero log end p =
+    let is : part ≡ Some (log, end) = same_Some part (Some (log, end)) p in
+    let here : nat_eq log.version version ≡ true = sym (ap (has_version version) is) ∙ (both-true (has_version version part) (list_all (has_version version) taken) all).0 in
+    grind (arith, nat_tests)
+all-of-version version (part ∷ taken) all (suc i) log end p =
+    all-of-version version taken (both-true (has_version version part) (list_all (has_version version) taken) all).1 i log end p
+
+-- a log that was taken is of another version
+pub some-other-version : (log : Log) (taken : List (Option (Log × NodeEnd))) → list_all (has_version log.version) taken ≡ false → HasOtherVersion taken log
+some-other-version log [] none = absurd cc
+some-other-version log (None ∷ taken) none =
+    let rest = some-other-version log taken none in
+    (suc rest.0, rest.1, rest.2, rest.3, rest.4)
+some-other-version log (Some part ∷ taken) none = elim (cases_eq part.0.version log.version) [
+  | inl e ↦
+      let same : nat_eq part.0.version log.version ≡ true = grind (arith, nat_tests) in
+      let rest = some-other-version log taken (subst (λ (b : Bool). (b && list_all (has_version log.version) taken) ≡ false) same none) in
+      (suc rest.0, rest.1, rest.2, rest.3, rest.4)
+  | inr ne ↦ (0, part.0, part.1, refl, ne)
+]
+
 -- Collectors.
 
 -- nothing was taken
@@ -149,17 +188,19 @@ AreTaken-none n taken ring none = record {
   ring = ring;
   places = ap length none ∙ length-replicate n None;
   fit = λ i log end p. absurd (none-some (log, end) (member-replicate n i None (Some (log, end)) (ap (λ xs. slice_get xs i) (sym none) ∙ p)));
+  alike = λ i j log other end last p q. absurd (none-some (log, end) (member-replicate n i None (Some (log, end)) (ap (λ xs. slice_get xs i) (sym none) ∙ p)));
 }
 
--- one part more is taken
-pub AreTaken-more : (n : ℕ) (taken : List (Option (Log × NodeEnd))) (i : ℕ) (log : Log) (end : NodeEnd) → AreTaken n taken → log.nodes ≡ n → log.place ≡ i → IsLog log → AreTaken n (set taken i (Some (log, end)))
-AreTaken-more n taken i log end old nodes place valid = record {
+-- one part more, of the same version, is taken
+pub AreTaken-more : (n : ℕ) (taken : List (Option (Log × NodeEnd))) (i : ℕ) (log : Log) (end : NodeEnd) → AreTaken n taken → log.nodes ≡ n → log.place ≡ i → IsLog log → AreOfVersion log.version taken → AreTaken n (set taken i (Some (log, end)))
+AreTaken-more n taken i log end old nodes place valid versions = record {
   ring = old.ring;
   places = length-set taken i (Some (log, end)) ∙ old.places;
   fit = λ j other last p. elim (get-set-cases taken i j (Some (log, end)) (Some (other, last)) p) [
     | inl q ↦ let same : log ≡ other = (some_pair_parts log other end last q.1).0 in (ap (λ (x : Log). x.nodes) (sym same) ∙ nodes, ap (λ (x : Log). x.place) (sym same) ∙ place ∙ sym q.0, subst IsLog same valid)
     | inr q ↦ old.fit j other last q
   ];
+  alike = λ j k other another last latest p q. version-behind taken i log end versions j other last p ∙ sym (version-behind taken i log end versions k another latest q);
 }
 
 pub keeps-part : (taken : List (Option (Log × NodeEnd))) (i : ℕ) (part : Log × NodeEnd) → i < length taken → KeepsPart taken i part (set taken i (Some part))
@@ -169,18 +210,28 @@ keeps-part taken i part within = record {
   others = λ j ne. get-set-other taken i j (Some part) ne;
 }
 
--- a log of the ring and of its place is no stranger's
-pub no-stranger : (n place : ℕ) (log : Log) → place < n → log.nodes ≡ n → log.place ≡ place → ¬ (IsStranger n place log)
-no-stranger n place log within nodes at h =
-    elim h [ inl past ↦ absurd (omega arith) | inr other ↦ elim other [ inl ne ↦ ne nodes | inr ne ↦ ne at ] ]
+-- a log of the ring, of its place and of the version of those that were taken is no stranger's
+pub no-stranger : (taken : List (Option (Log × NodeEnd))) (place : ℕ) (log : Log) → place < length taken → log.nodes ≡ length taken → log.place ≡ place → AreOfVersion log.version taken → ¬ (IsStranger taken place log)
+no-stranger taken place log within nodes at versions h = elim h [
+  | inl past ↦ absurd (omega arith)
+  | inr other ↦ elim other [
+    | inl ne ↦ ne nodes
+    | inr left ↦ elim left [ inl ne ↦ ne at | inr q ↦ q.4 (versions q.0 q.1 q.2 q.3) ]
+  ]
+]
+
+-- the answer where the part is a stranger's
+pub answers-stranger : {T : Type 0} (taken : List (Option (Log × NodeEnd))) (place : ℕ) (log : Log) → IsStranger taken place log → (f : RunFault) → (◌≡◌ {A = Result T RunFault} (Err Stranger) (Err f) → PartFaultOf taken place log f) × (PartFaultOf taken place log f → ◌≡◌ {A = Result T RunFault} (Err Stranger) (Err f))
+answers-stranger taken place log is f =
+    (λ e. inl (is, cc), λ h. elim h [ inl q ↦ ap Err (sym q.1) | inr q ↦ absurd (q.0 is) ])
 
 -- the answer where a part of the place was taken
-pub answers-double : {T : Type 0} (taken : List (Option (Log × NodeEnd))) (place : ℕ) (log : Log) → ¬ (IsStranger (length taken) place log) → IsTaken taken place → (f : RunFault) → (◌≡◌ {A = Result T RunFault} (Err Double) (Err f) → PartFaultOf taken place log f) × (PartFaultOf taken place log f → ◌≡◌ {A = Result T RunFault} (Err Double) (Err f))
+pub answers-double : {T : Type 0} (taken : List (Option (Log × NodeEnd))) (place : ℕ) (log : Log) → ¬ (IsStranger taken place log) → IsTaken taken place → (f : RunFault) → (◌≡◌ {A = Result T RunFault} (Err Double) (Err f) → PartFaultOf taken place log f) × (PartFaultOf taken place log f → ◌≡◌ {A = Result T RunFault} (Err Double) (Err f))
 answers-double taken place log fits was f =
     (λ e. inr (fits, was, cc), λ h. elim h [ inl q ↦ absurd (fits q.0) | inr q ↦ ap Err (sym q.2) ])
 
 -- the answer where no part of the place was taken
-pub answers-taken : {T : Type 0} (r : T) (taken : List (Option (Log × NodeEnd))) (place : ℕ) (log : Log) → ¬ (IsStranger (length taken) place log) → slice_get taken place ≡ Some None → (f : RunFault) → (◌≡◌ {A = Result T RunFault} (Ok r) (Err f) → PartFaultOf taken place log f) × (PartFaultOf taken place log f → ◌≡◌ {A = Result T RunFault} (Ok r) (Err f))
+pub answers-taken : {T : Type 0} (r : T) (taken : List (Option (Log × NodeEnd))) (place : ℕ) (log : Log) → ¬ (IsStranger taken place log) → slice_get taken place ≡ Some None → (f : RunFault) → (◌≡◌ {A = Result T RunFault} (Ok r) (Err f) → PartFaultOf taken place log f) × (PartFaultOf taken place log f → ◌≡◌ {A = Result T RunFault} (Ok r) (Err f))
 answers-taken r taken place log fits free f =
     (λ e. absurd cc, λ h. elim h [ inl q ↦ absurd (fits q.0) | inr q ↦ let at = q.1.1 in absurd cc ])
 
@@ -196,11 +247,18 @@ answers-run r taken some f = (λ e. absurd cc, λ h. absurd (some h.0))
 pub parts-are-logs : (n : ℕ) (taken : List (Option (Log × NodeEnd))) (logs : List Log) (ends : List NodeEnd) → length logs ≡ length ends → taken ≡ parts_of logs ends → AreTaken n taken → AreLogs logs
 parts-are-logs n taken logs ends same parts old =
     let number : length logs ≡ n = sym (length-parts logs ends same) ∙ ap length (sym parts) ∙ old.places in
+    let first = get_within logs 0 (omega (arith, number, old.ring.0)) in
+    let one : Log = first.0 in
     record {
       ring = subst IsRingSize (sym number) old.ring;
       sizes = λ i log at. let p = get-parts logs ends i log same at in (old.fit i log p.0 (rw parts p.1)).0 ∙ sym number;
       places = λ i log at. let p = get-parts logs ends i log same at in (old.fit i log p.0 (rw parts p.1)).1;
       valid = λ i log at. let p = get-parts logs ends i log same at in (old.fit i log p.0 (rw parts p.1)).2;
+      version = one.version;
+      versions = λ i log at.
+          let p = get-parts logs ends i log same at in
+          let q = get-parts logs ends 0 one same first.1 in
+          old.alike i 0 log one p.0 q.0 (ap (λ xs. slice_get xs i) parts ∙ p.1) (ap (λ xs. slice_get xs 0) parts ∙ q.1);
     }
 
 -- they are the run's

@@ -12,7 +12,7 @@ use Rattle.ira_run.specs.FullRun.{opening_of, AreLogsOf, IsFullRun}
 use Rattle.ira_run.proofs.Walks.{walk_chains, chains_from}
 
 abbrev pub no_log : Log
-no_log = record { nodes = 0; place = 0; initiator = false; events = [] }
+no_log = record { version = 1; nodes = 0; place = 0; initiator = false; events = [] }
 
 same_start : (s : Setup) (logs : List Log) → AreLogsOf s logs → (i : ℕ) → i < length logs → first_state (starts (slice_get logs i)) ≡ first_state (is_initiator s i)
 same_start s logs of_setup i l =

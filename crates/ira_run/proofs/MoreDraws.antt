@@ -3,7 +3,7 @@ use Rattle.std.proofs.Common.{◌≡◌, ℕ, ◌<◌, ◌≤◌, List, [], ◌�
 use Rattle.std.specs.Prelude.{slice_get}
 use Rattle.std.proofs.lemmas.Option.{slice_get-get_or, slice_get_within}
 use Rattle.ira_event.specs.declared.event.Event.{Event}
-use Rattle.ira_event.specs.declared.msg.Msg.{Msg}
+use Rattle.ira_event.specs.declared.load.Load.{Load}
 use Rattle.ira_node.specs.declared.phase.Phase.TheVariants.{Choosing}
 use Rattle.ira_node.specs.declared.node_state.NodeState.{NodeState}
 use Rattle.ira_node.specs.NodeState.{first_state, free, IsLeader}
@@ -21,18 +21,18 @@ use Rattle.ira_run.specs.ShownEnd.{Says, IsShown, IsLoneRun}
 use Rattle.ira_run.proofs.Choosing.{choosing_no_waiting}
 use Rattle.ira_run.proofs.Walks.{walk_leads}
 
-choosing_no_leader : (round : ℕ) (state : NodeState) → state ≡ free (Choosing round) → IsLeader state.phase → ⊥
-choosing_no_leader round state is l = let P : NodeState → Type 0 = λ x. IsLeader x.phase in subst P is l
+choosing_no_leader : (term round : ℕ) (state : NodeState) → state ≡ free term (Choosing round) → IsLeader state.phase → ⊥
+choosing_no_leader term round state is l = let P : NodeState → Type 0 = λ x. IsLeader x.phase in subst P is l
 
 -- a node that has to draw and may go on has spent its draws
-pub must_have_spent : (s : Setup) (i round : ℕ) (state : NodeState) (events : List Event) (input : List Msg) (end : NodeEnd) → state ≡ free (Choosing round) → length events < s.cap → Says s i state events input end
+pub must_have_spent : (s : Setup) (i term round : ℕ) (state : NodeState) (events : List Event) (input : List Load) (end : NodeEnd) → state ≡ free term (Choosing round) → length events < s.cap → Says s i state events input end
     → (end ≡ DrawsSpent) × (drawn events ≡ node_draws s i)
-must_have_spent s i round state events input Leader is room says = absurd (choosing_no_leader round state is says)
-must_have_spent s i round state events input LogFull is room says = absurd (omega (arith, says.1))
-must_have_spent s i round state events input DrawsSpent is room says = (refl, says.2)
-must_have_spent s i round state events input (NoStep m) is room says = absurd (choosing_no_waiting round state is says.0.2)
-must_have_spent s i round state events input Quiet is room says = absurd (choosing_no_waiting round state is says.0.2)
-must_have_spent s i round state events input Stopped is room says = absurd (choosing_no_waiting round state is says.0.2)
+must_have_spent s i term round state events input Leader is room says = absurd (choosing_no_leader term round state is says)
+must_have_spent s i term round state events input LogFull is room says = absurd (omega (arith, says.1))
+must_have_spent s i term round state events input DrawsSpent is room says = (refl, says.2)
+must_have_spent s i term round state events input (NoStep m) is room says = absurd (choosing_no_waiting term round state is says.0.2)
+must_have_spent s i term round state events input Quiet is room says = absurd (choosing_no_waiting term round state is says.0.2)
+must_have_spent s i term round state events input Stopped is room says = absurd (choosing_no_waiting term round state is says.0.2)
 
 abbrev pub with_draws : Setup → List (List ℕ) → Setup
 with_draws s ds = record { nodes = s.nodes; initiators = s.initiators; draws = ds; cap = s.cap }
@@ -41,9 +41,9 @@ module _ (s : Setup) (ds : List (List ℕ)) (more : (i : ℕ) → i < s.nodes �
   longer : (i : ℕ) → i < s.nodes → length (node_draws s i) ≤ length (node_draws (with_draws s ds) i)
   longer i l = omega (arith, ap length (more i l).1, length-append (node_draws s i) (more i l).0)
 
-  has_event_still : (i : ℕ) → i < s.nodes → (state : NodeState) (events : List Event) (input : List Msg) → HasEvent s.nodes (node_draws s i) state events input → HasEvent s.nodes (node_draws (with_draws s ds) i) state events input
+  has_event_still : (i : ℕ) → i < s.nodes → (state : NodeState) (events : List Event) (input : List Load) → HasEvent s.nodes (node_draws s i) state events input → HasEvent s.nodes (node_draws (with_draws s ds) i) state events input
   has_event_still i l state events input (owes m o) = owes m o
-  has_event_still i l state events input (chooses round is unused) = chooses round is (omega (arith, unused, longer i l))
+  has_event_still i l state events input (chooses term round is unused) = chooses term round is (omega (arith, unused, longer i l))
   has_event_still i l state events input (receives m others is step) = receives m others is step
 
   can_step_still : (past : List (ℕ × Event)) (c : Configuration) (i : ℕ) → i < s.nodes → CanStep s past c i → CanStep (with_draws s ds) past c i
@@ -60,21 +60,21 @@ module _ (s : Setup) (ds : List (List ℕ)) (more : (i : ℕ) → i < s.nodes �
 
   module _ (run : Run) (alike : (i : ℕ) → i < s.nodes → slice_get run.ends i ≡ Some DrawsSpent → node_draws (with_draws s ds) i ≡ node_draws s i) (lone : IsLoneRun s run) where
     -- whoever has to draw at the end had all draws of the longer setup, too
-    none_unused : (i round : ℕ) → i < s.nodes → lone.logs.end.state i ≡ free (Choosing round) → length (events_at lone.logs.run i) < s.cap → length (drawn (events_at lone.logs.run i)) < length (node_draws (with_draws s ds) i) → ⊥
-    none_unused i round l is room unused =
+    none_unused : (i term round : ℕ) → i < s.nodes → lone.logs.end.state i ≡ free term (Choosing round) → length (events_at lone.logs.run i) < s.cap → length (drawn (events_at lone.logs.run i)) < length (node_draws (with_draws s ds) i) → ⊥
+    none_unused i term round l is room unused =
         let at : slice_get run.ends i ≡ Some (get_or run.ends i Quiet) = slice_get-get_or run.ends i Quiet (omega (arith, lone.many)) in
         let shown : IsShown s run.logs i (get_or run.ends i Quiet) = lone.ends i (get_or run.ends i Quiet) at in
         let log : events_at lone.logs.run i ≡ log_of run.logs i = lone.logs.events i (omega (arith, lone.logs.of_setup.number)) in
         let leads : LeadsTo s.nodes (first_state (is_initiator s i)) (events_at lone.logs.run i) (lone.logs.end.state i) = walk_leads s [] (opening_of s) lone.logs.run lone.logs.end i l lone.logs.full.walk in
         let P : List Event → Type 0 = λ es. LeadsTo s.nodes (first_state (is_initiator s i)) es (lone.logs.end.state i) in
         let same : shown.0 ≡ lone.logs.end.state i = one_end s.nodes (first_state (is_initiator s i)) (log_of run.logs i) shown.0 (lone.logs.end.state i) shown.1 (subst P log leads) in
-        let spent = must_have_spent s i round shown.0 (log_of run.logs i) (sent (log_of run.logs (prev s.nodes i))) (get_or run.ends i Quiet) (same ∙ is) (omega (arith, room, ap length log)) shown.2 in
+        let spent = must_have_spent s i term round shown.0 (log_of run.logs i) (sent (log_of run.logs (prev s.nodes i))) (get_or run.ends i Quiet) (same ∙ is) (omega (arith, room, ap length log)) shown.2 in
         let all : node_draws (with_draws s ds) i ≡ node_draws s i = alike i l (at ∙ ap Some spent.0) in
         omega (arith, unused, ap length all, ap length spent.1, ap (λ (es : List Event). length (drawn es)) log)
 
     no_step_still : (i : ℕ) → i < s.nodes → CanStep (with_draws s ds) lone.logs.run lone.logs.end i → HasEvent s.nodes (node_draws (with_draws s ds) i) (lone.logs.end.state i) (events_at lone.logs.run i) (lone.logs.end.link (prev s.nodes i)) → ⊥
     no_step_still i l can (owes m o) = lone.logs.full.whole i l (record { not_leader = can.not_leader; room = can.room; event = owes m o })
-    no_step_still i l can (chooses round is unused) = none_unused i round l is can.room unused
+    no_step_still i l can (chooses term round is unused) = none_unused i term round l is can.room unused
     no_step_still i l can (receives m others is step) = lone.logs.full.whole i l (record { not_leader = can.not_leader; room = can.room; event = receives m others is step })
 
     draws_still : (i : ℕ) → i < s.nodes → BeginsWith (node_draws (with_draws s ds) i) (drawn (events_at lone.logs.run i))
@@ -82,7 +82,7 @@ module _ (s : Setup) (ds : List (List ℕ)) (more : (i : ℕ) → i < s.nodes �
         let first = lone.logs.full.draws i l in
         (first.0 ++ (more i l).0, (more i l).1 ∙ ap (λ (ids : List ℕ). ids ++ (more i l).0) first.1 ∙ append_assoc (drawn (events_at lone.logs.run i)) first.0 (more i l).0)
 
-    says_still : (i : ℕ) (state : NodeState) (events : List Event) (input : List Msg) (end : NodeEnd) → (end ≡ DrawsSpent → node_draws (with_draws s ds) i ≡ node_draws s i) → Says s i state events input end → Says (with_draws s ds) i state events input end
+    says_still : (i : ℕ) (state : NodeState) (events : List Event) (input : List Load) (end : NodeEnd) → (end ≡ DrawsSpent → node_draws (with_draws s ds) i ≡ node_draws s i) → Says s i state events input end → Says (with_draws s ds) i state events input end
     says_still i state events input Leader same says = says
     says_still i state events input LogFull same says = says
     says_still i state events input DrawsSpent same says = (says.0, says.1, says.2 ∙ sym (same refl))
@@ -96,7 +96,7 @@ module _ (s : Setup) (ds : List (List ℕ)) (more : (i : ℕ) → i < s.nodes �
     pub lone_run_still : IsLoneRun (with_draws s ds) run
     lone_run_still = record {
       logs = record {
-        of_setup = record { ring = lone.logs.of_setup.ring; number = lone.logs.of_setup.number; kinds = lone.logs.of_setup.kinds };
+        of_setup = record { ring = lone.logs.of_setup.ring; number = lone.logs.of_setup.number; versions = lone.logs.of_setup.versions; kinds = lone.logs.of_setup.kinds };
         run = lone.logs.run;
         end = lone.logs.end;
         full = record {

@@ -1,104 +1,156 @@
 -- The events of a walk are those that a log may hold.
-use Rattle.std.proofs.Common.{◌≡◌, ℕ, ◌<◌, ◌≤◌, Bool, true, false, ◌&&◌, inl, inr, List, [], ◌∷◌, ◌++◌, length, refl, sym, ◌∙◌, subst, ap, append-nil, append_assoc, length-append, arith}
+use Rattle.std.proofs.Common.{◌≡◌, ℕ, ◌<◌, ◌≤◌, Bool, true, false, ◌&&◌, ◌||◌, not, inl, inr, List, [], ◌∷◌, ◌++◌, length, refl, sym, ◌∙◌, subst, ap, append-nil, append_assoc, length-append, arith}
 use Rattle.std.specs.List.{list_all}
+use Rattle.std.proofs.lemmas.Bool.{cases_eq}
 use Rattle.std.proofs.lemmas.Bool.Decides.{nat_tests}
 use Rattle.std.proofs.lemmas.List.Folds.{list_all-append}
 use Rattle.ira_event.specs.Limits.{MAX_NODES}
+use Rattle.ira_event.specs.RingSize.{IsRingSize}
 use Rattle.ira_event.specs.declared.event.Event.{Event}
-use Rattle.ira_event.specs.declared.event.Event.TheVariants.{Draw, Sent, Got}
-use Rattle.ira_event.specs.declared.msg.Msg.{Msg}
-use Rattle.ira_event.specs.Event.{is_number, is_msg, is_event}
+use Rattle.ira_event.specs.declared.event.Event.TheVariants.{Draw, Sent, Got, Yield}
+use Rattle.ira_event.specs.declared.load.Load.{Load}
+use Rattle.ira_event.specs.Event.{is_number, is_event, is_later, is_of_version}
 use Rattle.ira_node.specs.declared.node_state.NodeState.{NodeState}
-use Rattle.ira_node.specs.NodeState.{first_state, is_state}
+use Rattle.ira_node.specs.NodeState.{first_state, is_state, IsLeader}
 use Rattle.ira_node.specs.NodeStep.{NodeStep}
-use Rattle.ira_node.proofs.Inversions.{drawing_chooses}
+use Rattle.ira_node.specs.Plain.{is_plain}
+use Rattle.ira_node.proofs.Inversions.{drawing_chooses, yielding_leads}
+use Rattle.ira_node.proofs.Plain.{owes_no_reset, sends_no_reset}
 use Rattle.ira_node.proofs.Ranges.{stays, sendings}
 use Rattle.ira_order.specs.Ring.{prev}
 use Rattle.ira_order.specs.Run.{Configuration, LinkStep, RingStep}
-use Rattle.std.proofs.lemmas.Bool.{cases_eq}
 use Rattle.ira_order.proofs.Runs.{prev_below}
 use Rattle.ira_run.specs.Setup.{Setup, is_initiator, KeepsRules}
 use Rattle.ira_run.specs.FullRun.{opening_of, events_at, Walks}
+use Rattle.ira_run.proofs.Collecting.{both-true}
 use Rattle.ira_run.proofs.Walks.{own_first, other_first, own_more, other_more}
-
--- ---- one step
 
 both : (a b : Bool) → a ≡ true → b ≡ true → (a && b) ≡ true
 both a b h k = rw (h, k) refl
 
-first_of : (a b : Bool) → (a && b) ≡ true → a ≡ true
-first_of a b h = grind (arith, nat_tests)
+-- ---- what steps keep
 
-second_of : (a b : Bool) → (a && b) ≡ true → b ≡ true
-second_of a b h = grind (arith, nat_tests)
+-- a fact of states and one of events. Where the first is of the state of a node that doesn't lead, the other is of the
+-- node's next event, and the first of the state after it; of a receipt only where the other is of it. The other is of the
+-- receipt of a load where it is of its sending
+module _ (s : Setup) (fits : NodeState → Bool) (allows : Event → Bool)
+    (carried : (l : Load) → allows (Sent l) ≡ allows (Got l))
+    (keeps : (a : NodeState) (e : Event) (b : NodeState) → ¬ (IsLeader a.phase) → fits a ≡ true → ((l : Load) → e ≡ Got l → allows e ≡ true) → NodeStep s.nodes a e b → (allows e ≡ true) × (fits b ≡ true)) where
+  -- the receipt of each of these loads is allowed
+  abbrev comes : List Load → Bool
+  comes loads = list_all (λ l. allows (Got l)) loads
+
+  -- so are the states, and what the links hold
+  abbrev Fits : Configuration → Type 0
+  Fits c = ((i : ℕ) → i < s.nodes → fits (c.state i) ≡ true) × ((k : ℕ) → k < s.nodes → comes (c.link k) ≡ true)
+
+  -- a load that is received was on the link
+  receipt_allowed : (i : ℕ) (e : Event) (l : Load) (old new : ℕ → List Load) → i < s.nodes → ((k : ℕ) → k < s.nodes → comes (old k) ≡ true) → LinkStep s.nodes i e old new → e ≡ Got l → allows e ≡ true
+  receipt_allowed i e l old new here all step is =
+      let P : Event → Type 0 = λ x. LinkStep s.nodes i x old new in
+      let taken : LinkStep s.nodes i (Got l) old new = subst P is step in
+      let h : comes (l ∷ new (prev s.nodes i)) ≡ true = subst (λ (x : List Load). comes x ≡ true) taken.0 (all (prev s.nodes i) (prev_below s.nodes i here)) in
+      ap allows is ∙ (both-true (allows (Got l)) (comes (new (prev s.nodes i))) h).0
+
+  links_fit : (i : ℕ) (e : Event) (old new : ℕ → List Load) → i < s.nodes → allows e ≡ true → ((k : ℕ) → k < s.nodes → comes (old k) ≡ true) → LinkStep s.nodes i e old new → (k : ℕ) → k < s.nodes → comes (new k) ≡ true
+  links_fit i (Draw id) old new here event all step k lk = subst (λ (x : List Load). comes x ≡ true) (sym (step k lk)) (all k lk)
+  links_fit i Yield old new here event all step k lk = subst (λ (x : List Load). comes x ≡ true) (sym (step k lk)) (all k lk)
+  links_fit i (Sent l) old new here event all step k lk = elim (cases_eq k i) [
+    | inl e ↦
+        let P : ℕ → Type 0 = λ x. comes (new x) ≡ true in
+        let one : comes (l ∷ []) ≡ true = both (allows (Got l)) true (sym (carried l) ∙ event) refl in
+        let whole : comes (old i ++ l ∷ []) ≡ true = list_all-append (λ x. allows (Got x)) (old i) (l ∷ []) ∙ both (comes (old i)) (comes (l ∷ [])) (all i here) one in
+        subst P (sym e) (subst (λ (x : List Load). comes x ≡ true) (sym step.0) whole)
+    | inr ne ↦ subst (λ (x : List Load). comes x ≡ true) (sym (step.1 k lk ne)) (all k lk)
+  ]
+  links_fit i (Got l) old new here event all step k lk = elim (cases_eq k (prev s.nodes i)) [
+    | inl e ↦
+        let P : ℕ → Type 0 = λ x. comes (new x) ≡ true in
+        let h : comes (l ∷ new (prev s.nodes i)) ≡ true = subst (λ (x : List Load). comes x ≡ true) step.0 (all (prev s.nodes i) (prev_below s.nodes i here)) in
+        subst P (sym e) (both-true (allows (Got l)) (comes (new (prev s.nodes i))) h).1
+    | inr ne ↦ subst (λ (x : List Load). comes x ≡ true) (sym (step.1 k lk ne)) (all k lk)
+  ]
+
+  step_allowed : (i : ℕ) (e : Event) (c d : Configuration) → ¬ (IsLeader (c.state i).phase) → Fits c → RingStep s.nodes i e c d → (allows e ≡ true) × Fits d
+  step_allowed i e c d runs all step =
+      let kept = keeps (c.state i) e (d.state i) runs (all.0 i step.place) (λ l is. receipt_allowed i e l c.link d.link step.place all.1 step.links is) step.node in (
+        kept.0,
+        (
+          λ j l. elim (cases_eq j i) [
+            | inl q ↦ let P : ℕ → Type 0 = λ k. fits (d.state k) ≡ true in subst P (sym q) kept.1
+            | inr ne ↦ subst (λ (x : NodeState). fits x ≡ true) (sym (step.others j l ne)) (all.0 j l)
+          ],
+          links_fit i e c.link d.link step.place kept.0 all.1 step.links,
+        ),
+      )
+
+  -- so all events of a walk are allowed
+  walk_allowed : (past : List (ℕ × Event)) (c : Configuration) (run : List (ℕ × Event)) (d : Configuration) (i : ℕ) → Fits c → Walks s past c run d → list_all allows (events_at run i) ≡ true
+  walk_allowed past c [] d i all walk = refl
+  walk_allowed past c (x ∷ run) d i all walk =
+      let here = step_allowed x.0 x.1 c walk.1.0 walk.0.not_leader all walk.1.1 in
+      let rest : list_all allows (events_at run i) ≡ true = walk_allowed (past ++ x ∷ []) walk.1.0 run d i here.1 walk.1.2 in
+      let P : List Event → Type 0 = λ es. list_all allows es ≡ true in
+      elim (cases_eq x.0 i) [
+        | inl e ↦ subst P (sym (own_first x run i e)) (both (allows x.1) (list_all allows (events_at run i)) here.0 rest)
+        | inr ne ↦ subst P (sym (other_first x run i ne)) rest
+      ]
+
+  run_allowed : ((b : Bool) → fits (first_state b) ≡ true) → (run : List (ℕ × Event)) (d : Configuration) (i : ℕ) → Walks s [] (opening_of s) run d → list_all allows (events_at run i) ≡ true
+  run_allowed first run d i walk = walk_allowed [] (opening_of s) run d i ((λ j l. first (is_initiator s j)), (λ k l. refl)) walk
+
+-- ---- a log may hold the numbers
 
 id_is_number : (n id : ℕ) → n ≤ MAX_NODES → 1 ≤ id → id ≤ n → is_number id ≡ true
 id_is_number n id few low high = grind (arith, nat_tests)
 
 draw_is_number : (n : ℕ) (s t : NodeState) (x : ℕ) → n ≤ MAX_NODES → NodeStep n s (Draw x) t → is_number x ≡ true
-draw_is_number n s t x few step = let before = drawing_chooses n s t x step in id_is_number n x few before.2 before.3
+draw_is_number n s t x few step = let before = drawing_chooses n s t x step in id_is_number n x few before.3 before.4
 
--- a record may hold the numbers of all states and messages of the ring
-record IsRecordable (n : ℕ) (c : Configuration) : Type 0 where
-  states : (i : ℕ) → i < n → is_state (c.state i) ≡ true
-  links : (k : ℕ) → k < n → list_all is_msg (c.link k) ≡ true
-
-event_recordable : (n i : ℕ) (e : Event) (c d : Configuration) → n ≤ MAX_NODES → IsRecordable n c → RingStep n i e c d → is_event e ≡ true
-event_recordable n i (Draw id) c d few all step = draw_is_number n (c.state i) (d.state i) id few step.node
-event_recordable n i (Sent m) c d few all step = sendings n (c.state i) m (d.state i) (all.states i step.place) step.node
-event_recordable n i (Got m) c d few all step =
-    let h : list_all is_msg (m ∷ d.link (prev n i)) ≡ true = subst (λ (x : List Msg). list_all is_msg x ≡ true) step.links.0 (all.links (prev n i) (prev_below n i step.place)) in
-    first_of (is_msg m) (list_all is_msg (d.link (prev n i))) h
-
-links_recordable : (n i : ℕ) (e : Event) (old new : ℕ → List Msg) → i < n → is_event e ≡ true → ((k : ℕ) → k < n → list_all is_msg (old k) ≡ true) → LinkStep n i e old new → (k : ℕ) → k < n → list_all is_msg (new k) ≡ true
-links_recordable n i (Draw id) old new l event all step k lk = subst (λ (x : List Msg). list_all is_msg x ≡ true) (sym (step k lk)) (all k lk)
-links_recordable n i (Sent m) old new l event all step k lk = elim (cases_eq k i) [
-  | inl e ↦
-      let P : ℕ → Type 0 = λ x. list_all is_msg (new x) ≡ true in
-      let one : list_all is_msg (m ∷ []) ≡ true = both (is_msg m) true event refl in
-      let whole : list_all is_msg (old i ++ m ∷ []) ≡ true = list_all-append is_msg (old i) (m ∷ []) ∙ both (list_all is_msg (old i)) (list_all is_msg (m ∷ [])) (all i l) one in
-      subst P (sym e) (subst (λ (x : List Msg). list_all is_msg x ≡ true) (sym step.0) whole)
-  | inr ne ↦ subst (λ (x : List Msg). list_all is_msg x ≡ true) (sym (step.1 k lk ne)) (all k lk)
-]
-links_recordable n i (Got m) old new l event all step k lk = elim (cases_eq k (prev n i)) [
-  | inl e ↦
-      let P : ℕ → Type 0 = λ x. list_all is_msg (new x) ≡ true in
-      let h : list_all is_msg (m ∷ new (prev n i)) ≡ true = subst (λ (x : List Msg). list_all is_msg x ≡ true) step.0 (all (prev n i) (prev_below n i l)) in
-      subst P (sym e) (second_of (is_msg m) (list_all is_msg (new (prev n i))) h)
-  | inr ne ↦ subst (λ (x : List Msg). list_all is_msg x ≡ true) (sym (step.1 k lk ne)) (all k lk)
-]
-
-step_recordable : (n i : ℕ) (e : Event) (c d : Configuration) → is_event e ≡ true → IsRecordable n c → RingStep n i e c d → IsRecordable n d
-step_recordable n i e c d event all step = record {
-  states = λ j l. elim (cases_eq j i) [
-    | inl q ↦
-        let P : ℕ → Type 0 = λ k. is_state (d.state k) ≡ true in
-        subst P (sym q) (stays n (c.state i) e (d.state i) (all.states i step.place) event step.node)
-    | inr ne ↦ subst (λ (x : NodeState). is_state x ≡ true) (sym (step.others j l ne)) (all.states j l)
-  ];
-  links = links_recordable n i e c.link d.link step.place event all.links step.links;
-}
-
--- ---- along a walk
+event_recordable : (n : ℕ) (a : NodeState) (e : Event) (b : NodeState) → IsRingSize n → is_state a ≡ true → ((l : Load) → e ≡ Got l → is_event e ≡ true) → NodeStep n a e b → is_event e ≡ true
+event_recordable n a (Draw id) b size fit taken step = draw_is_number n a b id size.1 step
+event_recordable n a (Sent l) b size fit taken step = sendings n a l b fit step
+event_recordable n a (Got l) b size fit taken step = taken l refl
+event_recordable n a Yield b size fit taken step = refl
 
 first_recordable : (b : Bool) → is_state (first_state b) ≡ true
 first_recordable true = refl
 first_recordable false = refl
 
-events_recordable : (s : Setup) (past : List (ℕ × Event)) (c : Configuration) (run : List (ℕ × Event)) (d : Configuration) (i : ℕ) → s.nodes ≤ MAX_NODES → IsRecordable s.nodes c → Walks s past c run d
-    → list_all is_event (events_at run i) ≡ true
-events_recordable s past c [] d i few all walk = refl
-events_recordable s past c (x ∷ run) d i few all walk =
-    let here : is_event x.1 ≡ true = event_recordable s.nodes x.0 x.1 c walk.1.0 few all walk.1.1 in
-    let rest : list_all is_event (events_at run i) ≡ true = events_recordable s (past ++ x ∷ []) walk.1.0 run d i few (step_recordable s.nodes x.0 x.1 c walk.1.0 here all walk.1.1) walk.1.2 in
-    let P : List Event → Type 0 = λ es. list_all is_event es ≡ true in
-    elim (cases_eq x.0 i) [
-      | inl e ↦ subst P (sym (own_first x run i e)) (both (is_event x.1) (list_all is_event (events_at run i)) here rest)
-      | inr ne ↦ subst P (sym (other_first x run i ne)) rest
-    ]
-
 pub run_recordable : (s : Setup) (run : List (ℕ × Event)) (d : Configuration) (i : ℕ) → KeepsRules s → Walks s [] (opening_of s) run d → list_all is_event (events_at run i) ≡ true
-run_recordable s run d i rules walk = events_recordable s [] (opening_of s) run d i rules.size.1 record { states = λ j l. first_recordable (is_initiator s j); links = λ k l. refl } walk
+run_recordable s run d i rules walk =
+    run_allowed s is_state is_event (λ l. refl)
+    (λ a e b runs fit taken step.
+    let event : is_event e ≡ true = event_recordable s.nodes a e b rules.size fit taken step in
+    (event, stays s.nodes a e b rules.size fit event step))
+    first_recordable run d i walk
+
+-- ---- a log of version 1 may hold the events
+
+no_later : (e : Event) → is_of_version 1 e ≡ true → is_later e ≡ false
+no_later e h = by_test (is_later e) h
+  where
+    by_test : (b : Bool) → (not b || false) ≡ true → b ≡ false
+    by_test true h = absurd cc
+    by_test false h = refl
+
+event_of_version : (n : ℕ) (a : NodeState) (e : Event) (b : NodeState) → ¬ (IsLeader a.phase) → is_plain a.owed ≡ true → ((l : Load) → e ≡ Got l → is_of_version 1 e ≡ true) → NodeStep n a e b → is_of_version 1 e ≡ true
+event_of_version n a (Draw id) b runs fit taken step = refl
+event_of_version n a (Sent l) b runs fit taken step = rw (sends_no_reset n a l b fit step) refl
+event_of_version n a (Got l) b runs fit taken step = taken l refl
+event_of_version n a Yield b runs fit taken step = absurd (runs (yielding_leads n a b step))
+
+first_plain : (b : Bool) → is_plain (first_state b).owed ≡ true
+first_plain true = refl
+first_plain false = refl
+
+pub run_of_version : (s : Setup) (run : List (ℕ × Event)) (d : Configuration) (i : ℕ) → Walks s [] (opening_of s) run d → list_all (is_of_version 1) (events_at run i) ≡ true
+run_of_version s run d i walk =
+    run_allowed s (λ a. is_plain a.owed) (is_of_version 1) (λ l. refl)
+    (λ a e b runs fit taken step.
+    let event : is_of_version 1 e ≡ true = event_of_version s.nodes a e b runs fit taken step in
+    (event, owes_no_reset s.nodes a e b (no_later e event) step))
+    first_plain run d i walk
 
 -- ---- no node makes more events than the cap
 

@@ -3,8 +3,8 @@ use Rattle.std.proofs.Common.{◌≡◌, ◌≢◌, ℕ, ◌<◌, ◌≤◌, inl
 use Rattle.std.specs.List.{cons_option}
 use Rattle.std.proofs.lemmas.List.Elements.{filter_map-append}
 use Rattle.ira_event.specs.declared.event.Event.{Event}
-use Rattle.ira_event.specs.declared.event.Event.TheVariants.{Draw, Sent, Got}
-use Rattle.ira_event.specs.declared.msg.Msg.{Msg}
+use Rattle.ira_event.specs.declared.event.Event.TheVariants.{Draw, Sent, Got, Yield}
+use Rattle.ira_event.specs.declared.load.Load.{Load}
 use Rattle.ira_node.specs.declared.node_state.NodeState.{NodeState}
 use Rattle.ira_node.specs.NodeStep.{NodeStep}
 use Rattle.ira_replay.specs.LocalRun.{LeadsTo}
@@ -86,9 +86,10 @@ walk_chains s past c (x ∷ run) d walk = (walk.1.0, walk.1.1, walk_chains s (pa
 
 -- ---- the same steps from a configuration that is the same in the ring
 
-pub links_from : (n i : ℕ) (e : Event) (old other new : ℕ → List Msg) → i < n → prev n i < n → ((j : ℕ) → j < n → other j ≡ old j) → LinkStep n i e old new → LinkStep n i e other new
+pub links_from : (n i : ℕ) (e : Event) (old other new : ℕ → List Load) → i < n → prev n i < n → ((j : ℕ) → j < n → other j ≡ old j) → LinkStep n i e old new → LinkStep n i e other new
 links_from n i (Draw id) old other new l p same step = λ j lj. step j lj ∙ sym (same j lj)
-links_from n i (Sent m) old other new l p same step = (step.0 ∙ ap (λ (x : List Msg). x ++ m ∷ []) (sym (same i l)), λ j lj ne. step.1 j lj ne ∙ sym (same j lj))
+links_from n i Yield old other new l p same step = λ j lj. step j lj ∙ sym (same j lj)
+links_from n i (Sent m) old other new l p same step = (step.0 ∙ ap (λ (x : List Load). x ++ m ∷ []) (sym (same i l)), λ j lj ne. step.1 j lj ne ∙ sym (same j lj))
 links_from n i (Got m) old other new l p same step = (same (prev n i) p ∙ step.0, λ j lj ne. step.1 j lj ne ∙ sym (same j lj))
 
 pub chains_from : (n : ℕ) (c d : Configuration) (run : List (ℕ × Event)) → ((i : ℕ) → i < n → prev n i < n) → ((i : ℕ) → i < n → d.state i ≡ c.state i) → ((i : ℕ) → i < n → d.link i ≡ c.link i) → Chains n c run → Chains n d run

@@ -30,7 +30,7 @@ stopped_for_quiet Leader = Leader
 stopped_for_quiet Stopped = Stopped
 stopped_for_quiet DrawsSpent = DrawsSpent
 stopped_for_quiet LogFull = LogFull
-stopped_for_quiet (NoStep m) = NoStep m
+stopped_for_quiet (NoStep l) = NoStep l
 stopped_for_quiet Quiet = Stopped
 
 -- logs show one end of a node, with Stopped for Quiet

@@ -1,6 +1,6 @@
 -- What a collector has taken of the nodes of a ring: for each place the log and the end of its part,
 -- where one was taken.
-use Rattle.std.specs.Prelude.{◌≡◌, ◌≢◌, ℕ, ◌≤◌, ◌⊎◌, List, Option, Some, None, length, slice_get, map}
+use Rattle.std.specs.Prelude.{◌≡◌, ◌≢◌, ℕ, ◌≤◌, ◌⊎◌, Bool, true, nat_eq, List, Option, Some, None, length, slice_get, map}
 use Rattle.std.specs.List.{zip}
 use Rattle.ira_event.specs.Log.{Log, IsLog}
 use Rattle.ira_event.specs.RingSize.{IsRingSize}
@@ -10,15 +10,24 @@ use Rattle.ira_run.specs.declared.run_fault.RunFault.{RunFault}
 use Rattle.ira_run.specs.declared.run_fault.RunFault.TheVariants.{NoEnd, Stranger, Double}
 use Rattle.ira_run.specs.Run.{Run}
 
--- there is a place for each node of a ring of this size, and each log is of that ring and its place
+-- there is a place for each node of a ring of this size, each log is of that ring and its place, and all
+-- are of one version
 pub record AreTaken (nodes : ℕ) (taken : List (Option (Log × NodeEnd))) : Type 0 where
   pub ring : IsRingSize nodes
   pub places : length taken ≡ nodes
   pub fit : (i : ℕ) (log : Log) (end : NodeEnd) → slice_get taken i ≡ Some (Some (log, end)) → (log.nodes ≡ nodes) × (log.place ≡ i) × IsLog log
+  pub alike : (i j : ℕ) (log other : Log) (end last : NodeEnd) → slice_get taken i ≡ Some (Some (log, end)) → slice_get taken j ≡ Some (Some (other, last)) → log.version ≡ other.version
 
--- in a ring of n nodes the part is for no place, or its log for another ring or another place
-abbrev pub IsStranger : ℕ → ℕ → Log → Type 0
-IsStranger n place log = (n ≤ place) ⊎ (log.nodes ≢ n) ⊎ (log.place ≢ place)
+-- a part was taken whose log has another version
+abbrev pub HasOtherVersion : List (Option (Log × NodeEnd)) → Log → Type 0
+HasOtherVersion taken log =
+    (i : ℕ) × (other : Log) × (end : NodeEnd) × (slice_get taken i ≡ Some (Some (other, end))) × (other.version ≢ log.version)
+
+-- the part is for no place of the ring, or its log for another ring or another place, or of another version
+-- than one that was taken
+abbrev pub IsStranger : List (Option (Log × NodeEnd)) → ℕ → Log → Type 0
+IsStranger taken place log =
+    (length taken ≤ place) ⊎ (log.nodes ≢ length taken) ⊎ (log.place ≢ place) ⊎ HasOtherVersion taken log
 
 -- a part of this place was taken
 abbrev pub IsTaken : List (Option (Log × NodeEnd)) → ℕ → Type 0
@@ -27,8 +36,8 @@ IsTaken taken place = (part : Log × NodeEnd) × (slice_get taken place ≡ Some
 -- why a part is refused: it is a stranger; else a part of its place was taken
 abbrev pub PartFaultOf : List (Option (Log × NodeEnd)) → ℕ → Log → RunFault → Type 0
 PartFaultOf taken place log f =
-    (IsStranger (length taken) place log × (f ≡ Stranger))
-    ⊎ (¬ (IsStranger (length taken) place log) × IsTaken taken place × (f ≡ Double))
+    (IsStranger taken place log × (f ≡ Stranger))
+    ⊎ (¬ (IsStranger taken place log) × IsTaken taken place × (f ≡ Double))
 
 -- the part stands at its place, and each other place is as it was
 pub record KeepsPart (old : List (Option (Log × NodeEnd))) (place : ℕ) (part : Log × NodeEnd) (new : List (Option (Log × NodeEnd))) : Type 0 where
@@ -55,3 +64,8 @@ pub record AreParts (taken : List (Option (Log × NodeEnd))) (run : Run) : Type 
   pub logs : length run.logs ≡ length taken
   pub ends : length run.ends ≡ length taken
   pub parts : taken ≡ map (λ part. Some part) (zip run.logs run.ends)
+
+-- A helper, no definition: whether the log of a part is of this version, where there is one.
+abbrev pub has_version : ℕ → Option (Log × NodeEnd) → Bool
+has_version version None = true
+has_version version (Some part) = nat_eq part.0.version version

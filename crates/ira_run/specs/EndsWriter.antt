@@ -12,7 +12,7 @@ end_words Leader = codes "leader"
 end_words Stopped = codes "stopped"
 end_words DrawsSpent = codes "draws spent"
 end_words LogFull = codes "log full"
-end_words (NoStep m) = codes "no step"
+end_words (NoStep l) = codes "no step"
 end_words Quiet = codes "quiet"
 
 -- the line of a node, from its log and its end

@@ -1,9 +1,9 @@
 -- Full runs of a setup: the runs of its ring that end only where no node can step.
 use Rattle.std.specs.Prelude.{◌≡◌, ℕ, ◌<◌, List, [], ◌∷◌, ◌++◌, Option, Some, None, length}
 use Rattle.std.specs.List.{filter_map}
-use Rattle.ira_event.specs.declared.msg.Msg.{Msg}
+use Rattle.ira_event.specs.declared.load.Load.{Load}
 use Rattle.ira_event.specs.declared.event.Event.{Event}
-use Rattle.ira_event.specs.declared.event.Event.TheVariants.{Draw, Sent, Got}
+use Rattle.ira_event.specs.declared.event.Event.TheVariants.{Draw, Sent, Got, Yield}
 use Rattle.ira_event.specs.Log.{Log}
 use Rattle.ira_event.specs.Logs.{AreLogs, EachLog}
 use Rattle.ira_node.specs.declared.phase.Phase.TheVariants.{Choosing}
@@ -25,24 +25,24 @@ events_at run i = filter_map (event_of i) run
 -- the ID that an event draws
 abbrev pub drawing : Event → Option ℕ
 drawing (Draw id) = Some id
-drawing (Sent m) = None
-drawing (Got m) = None
+drawing (Sent l) = None
+drawing (Got l) = None
+drawing Yield = None
 
 -- the IDs that these events draw, in their order
 abbrev pub drawn : List Event → List ℕ
 drawn events = filter_map drawing events
 
--- a node in this state, which has made these events, was given these IDs, and has these messages
--- before it, owes a message, or has to draw and has an unused ID, or receives and the first message
--- has a step
-pub data HasEvent (n : ℕ) (ids : List ℕ) (state : NodeState) (events : List Event) (input : List Msg) : Type 0 where
-  owes : (m : Msg) → state.owed ≡ Some m → HasEvent n ids state events input
-  chooses : (round : ℕ) → state ≡ free (Choosing round) → length (drawn events) < length ids → HasEvent n ids state events input
-  receives : (m : Msg) (others : List Msg) → input ≡ m ∷ others → HasStep n state (Got m) → HasEvent n ids state events input
+-- a node in this state, which has made these events, was given these IDs, and has these loads before
+-- it, owes a load, or has to draw and has an unused ID, or receives and the first load has a step
+pub data HasEvent (n : ℕ) (ids : List ℕ) (state : NodeState) (events : List Event) (input : List Load) : Type 0 where
+  owes : (l : Load) → state.owed ≡ Some l → HasEvent n ids state events input
+  chooses : (term round : ℕ) → state ≡ free term (Choosing round) → length (drawn events) < length ids → HasEvent n ids state events input
+  receives : (l : Load) (others : List Load) → input ≡ l ∷ others → HasStep n state (Got l) → HasEvent n ids state events input
 
 -- in configuration c, to which the events past led, node i can step: it is no leader, it has made fewer
--- events than the cap, and it owes a message, or has to draw and has an unused ID, or receives and the
--- first message on the link that leads to it has a step
+-- events than the cap, and it owes a load, or has to draw and has an unused ID, or receives and the
+-- first load on the link that leads to it has a step
 pub record CanStep (s : Setup) (past : List (ℕ × Event)) (c : Configuration) (i : ℕ) : Type 0 where
   pub not_leader : ¬ (IsLeader (c.state i).phase)
   pub room : length (events_at past i) < s.cap
@@ -66,10 +66,11 @@ pub record IsFullRun (s : Setup) (run : List (ℕ × Event)) (end : Configuratio
   pub draws : (i : ℕ) → i < s.nodes → BeginsWith (node_draws s i) (drawn (events_at run i))
   pub whole : (i : ℕ) → i < s.nodes → ¬ (CanStep s run end i)
 
--- logs of the setup's ring, each of its place and of its node's start kind
+-- logs of the setup's ring, of version 1, each of its place and of its node's start kind
 pub record AreLogsOf (s : Setup) (logs : List Log) : Type 0 where
   pub ring : AreLogs logs
   pub number : length logs ≡ s.nodes
+  pub versions : EachLog logs (λ i log. log.version ≡ 1)
   pub kinds : EachLog logs (λ i log. log.initiator ≡ is_initiator s i)
 
 -- the logs of a full run of the setup

@@ -9,7 +9,7 @@ is_stopped Leader = false
 is_stopped Stopped = true
 is_stopped DrawsSpent = false
 is_stopped LogFull = false
-is_stopped (NoStep m) = false
+is_stopped (NoStep l) = false
 is_stopped Quiet = false
 
 -- whether a node had to draw, and had no draw left
@@ -18,5 +18,5 @@ is_draws_spent Leader = false
 is_draws_spent Stopped = false
 is_draws_spent DrawsSpent = true
 is_draws_spent LogFull = false
-is_draws_spent (NoStep m) = false
+is_draws_spent (NoStep l) = false
 is_draws_spent Quiet = false

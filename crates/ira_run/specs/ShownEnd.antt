@@ -1,6 +1,6 @@
--- What the way in which a node ended says of its log and of the messages sent to it.
+-- What the way in which a node ended says of its log and of the loads sent to it.
 use Rattle.std.specs.Prelude.{◌≡◌, ◌≢◌, ℕ, ◌<◌, List, [], ◌∷◌, ◌++◌, None, Some, length, slice_get}
-use Rattle.ira_event.specs.declared.msg.Msg.{Msg}
+use Rattle.ira_event.specs.declared.load.Load.{Load}
 use Rattle.ira_event.specs.declared.event.Event.{Event}
 use Rattle.ira_event.specs.declared.event.Event.TheVariants.{Got}
 use Rattle.ira_event.specs.Log.{Log}
@@ -21,22 +21,26 @@ use Rattle.ira_run.specs.Run.{Run}
 abbrev pub MayGoOn : ℕ → NodeState → List Event → Type 0
 MayGoOn cap state events = ¬ (IsLeader state.phase) × (length events < cap)
 
--- a node in this state that has made these events may go on, owes no message, and receives next
+-- a node in this state that has made these events may go on, owes no load, and receives next
 abbrev pub Waits : ℕ → NodeState → List Event → Type 0
 Waits cap state events = MayGoOn cap state events × (state.owed ≡ None) × Receives state.phase
 
--- what an end says of node i, where its events led it to this state and these messages were sent to
+-- a node in this state has to draw
+abbrev pub HasToDraw : NodeState → Type 0
+HasToDraw state = (term : ℕ) × (round : ℕ) × (state ≡ free term (Choosing round))
+
+-- what an end says of node i, where its events led it to this state and these loads were sent to
 -- it; Quiet and Stopped say the same, one where a node runs alone, the other where its thread was told
-abbrev pub Says : Setup → ℕ → NodeState → List Event → List Msg → NodeEnd → Type 0
+abbrev pub Says : Setup → ℕ → NodeState → List Event → List Load → NodeEnd → Type 0
 -- it leads
 Says s i state events input Leader = IsLeader state.phase
 -- it doesn't lead, and has made as many events as it may
 Says s i state events input LogFull = ¬ (IsLeader state.phase) × (length events ≡ s.cap)
 -- it may go on, has to draw, and has drawn all IDs that it was given
-Says s i state events input DrawsSpent = MayGoOn s.cap state events × ((round : ℕ) × (state ≡ free (Choosing round))) × (drawn events ≡ node_draws s i)
--- it waits, and the message has no step and is the next one sent to it behind those that it received
-Says s i state events input (NoStep m) = Waits s.cap state events × ¬ (HasStep s.nodes state (Got m)) × BeginsWith input (got events ++ m ∷ [])
--- it waits, and has received all messages that were sent to it
+Says s i state events input DrawsSpent = MayGoOn s.cap state events × HasToDraw state × (drawn events ≡ node_draws s i)
+-- it waits, and the load has no step and is the next one sent to it behind those that it received
+Says s i state events input (NoStep l) = Waits s.cap state events × ¬ (HasStep s.nodes state (Got l)) × BeginsWith input (got events ++ l ∷ [])
+-- it waits, and has received all loads that were sent to it
 Says s i state events input Quiet = Waits s.cap state events × (got events ≡ input)
 Says s i state events input Stopped = Waits s.cap state events × (got events ≡ input)
 

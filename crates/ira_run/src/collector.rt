@@ -2,7 +2,7 @@ ghost use Rattle.std.specs.Prelude.{◌≡◌, ◌↔◌, IfOk, OnOk, OnErr, Err
 ghost use Rattle.std.specs.List.{list_all};
 ghost use Rattle.ira_run.specs.declared.run_fault.RunFault.{RunFault};
 ghost use Rattle.ira_run.specs.NodeEnd.{is_stopped};
-ghost use Rattle.ira_run.specs.Collector.{PartFaultOf, KeepsPart, FinishFaultOf, AreParts};
+ghost use Rattle.ira_run.specs.Collector.{PartFaultOf, KeepsPart, FinishFaultOf, AreParts, has_version};
 ghost use Rattle.ira_run.specs.Run.{IsRun};
 
 use crate::node_end::NodeEnd;
@@ -45,6 +45,23 @@ fn all_stopped(ends: &[NodeEnd]) -> bool
     ends.iter().all(NodeEnd::is_stopped)
 }
 
+/// Whether the log of the part is of this version, where there is one.
+fn fits<A: Allocator>(part: &Option<(NodeLog<A>, NodeEnd)>, version: u8) -> bool
+    ensures { result ≡ has_version version part.now }
+{
+    match part {
+        Some((log, _)) => log.version() == version,
+        None => true,
+    }
+}
+
+/// Whether the log of each part that was taken is of this version.
+fn are_of_version<A: Allocator>(version: u8, taken: &[Option<(NodeLog<A>, NodeEnd)>]) -> bool
+    ensures { result ≡ list_all (has_version version) taken.now }
+{
+    taken.iter().all(|part| fits(part, version))
+}
+
 impl<A: Allocator> Collector<A> {
     /// A collector for a ring of this size, which has taken nothing.
     pub fn new(alloc: A, nodes: RingSize) -> Result<Collector<A>, OutOfMemory>
@@ -66,8 +83,9 @@ impl<A: Allocator> Collector<A> {
     }
 
     /// Takes the part of one node. It is a `Stranger` where the ring has no such place, or the log
-    /// names another ring size or place; else a `Double` where a part of that place was taken. A part
-    /// that is refused is dropped, and the collector is as it was. It takes no memory.
+    /// names another ring size or place, or is of another version than the parts taken before; else a
+    /// `Double` where a part of that place was taken. A part that is refused is dropped, and the
+    /// collector is as it was. It takes no memory.
     pub fn take(&mut self, part: NodePart<A>) -> Result<(), RunFault>
         ensures ok { OnOk result (KeepsPart self.old part.place (part.log, part.end) self.new) }
         ensures err { (f : RunFault) → (result ≡ Err f) ↔ PartFaultOf self.old part.place part.log f }
@@ -75,6 +93,9 @@ impl<A: Allocator> Collector<A> {
     {
         let NodePart { place, log, end } = part;
         if place >= self.nodes.get() || log.nodes() != self.nodes || log.place() != place {
+            return Err(RunFault::Stranger);
+        }
+        if !are_of_version(log.version(), &self.taken) {
             return Err(RunFault::Stranger);
         }
         let at = usize::from(place);

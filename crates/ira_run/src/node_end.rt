@@ -1,7 +1,7 @@
 ghost use Rattle.std.specs.Prelude.{◌≡◌};
 ghost use Rattle.ira_run.specs.NodeEnd.{is_stopped};
 
-use ira_event::Msg;
+use ira_event::Load;
 
 /// How a node came to its end.
 #[derive(Clone, Copy, Debug, PartialEq, Eq)]
@@ -14,9 +14,9 @@ pub enum NodeEnd {
     DrawsSpent,
     /// The node's log had as many records as it may have.
     LogFull,
-    /// The message that came next has no step; it isn't recorded.
-    NoStep(Msg),
-    /// The node waited for a message, and none would come.
+    /// The load that came next has no step; it isn't recorded.
+    NoStep(Load),
+    /// The node waited for a load, and none would come.
     Quiet,
 }
 

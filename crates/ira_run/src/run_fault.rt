@@ -21,7 +21,8 @@ pub enum RunFault {
     /// A node's part is missing, or no node ended by itself.
     #[error("no end")]
     NoEnd,
-    /// A part is for no place of the ring, or its log for another ring or place.
+    /// A part is for no place of the ring, or its log for another ring or place, or of another version than
+    /// the parts taken before.
     #[error("stranger")]
     Stranger,
     /// A place has two parts.

@@ -1,43 +1,41 @@
 -- The frames, and the draws, of a log that is one event longer.
-use Rattle.std.proofs.Common.{◌≡◌, ℕ, List, [], ◌∷◌, ◌++◌, ap, ◌∙◌}
-use Rattle.std.specs.Prelude.{Option}
-use Rattle.std.specs.List.{filter_map}
-use Rattle.std.proofs.lemmas.List.{map-append, append-nil}
+use Rattle.std.proofs.Common.{◌≡◌, ℕ, List, [], ◌∷◌, ◌++◌, Option, Some, None, refl, sym, ap, ◌∙◌}
+use Rattle.std.specs.List.{filter_map, cons_option}
+use Rattle.std.proofs.lemmas.List.{map-append, append-nil, append_assoc}
 use Rattle.std.proofs.lemmas.List.Elements.{filter_map-append}
-use Rattle.ira_event.specs.declared.msg.Msg.{Msg as Message}
+use Rattle.ira_event.specs.declared.load.Load.{Load}
 use Rattle.ira_event.specs.declared.event.Event.{Event}
-use Rattle.ira_event.specs.declared.event.Event.TheVariants.{Draw, Sent, Got}
-use Rattle.ira_links.specs.declared.frame.Frame.TheVariants.{Msg}
+use Rattle.ira_event.specs.Log.{Log}
+use Rattle.ira_links.specs.declared.frame.Frame.{Frame}
+use Rattle.ira_links.specs.declared.frame.Frame.TheVariants.{Load as Loaded}
 use Rattle.ira_order.specs.Matching.{sending, receipt, sent, got}
-use Rattle.ira_threads.specs.NodeFrames.{frames}
 use Rattle.ira_run.specs.FullRun.{drawing, drawn}
+use Rattle.ira_threads.specs.NodeFrames.{frames}
 
-more : (h : Event → Option Message) (es : List Event) (e : Event) → frames (filter_map h (es ++ e ∷ [])) ≡ frames (filter_map h es) ++ frames (filter_map h (e ∷ []))
-more h es e = ap (λ ms. frames ms) (filter_map-append h es (e ∷ [])) ∙ map-append Msg (filter_map h es) (filter_map h (e ∷ []))
+-- with these events the node has put and taken these frames, and of its IDs these are left
+pub record SoFar (log : Log) (put taken : List Frame) (ids left : List ℕ) : Type 0 where
+  pub puts : put ≡ frames (sent log.events)
+  pub takes : taken ≡ frames (got log.events)
+  pub draws : ids ≡ drawn log.events ++ left
 
-pub sent_draw : (es : List Event) (d : ℕ) → frames (sent (es ++ Draw d ∷ [])) ≡ frames (sent es)
-sent_draw es d = more sending es (Draw d) ∙ append-nil _
+pub so_far_first : (log : Log) (put taken : List Frame) (ids : List ℕ) → log.events ≡ [] → taken ≡ [] → put ≡ [] → SoFar log put taken ids ids
+so_far_first log put taken ids empty none_taken none_put = record {
+  puts = rw empty none_put;
+  takes = rw empty none_taken;
+  draws = rw empty refl;
+}
 
-pub sent_sent : (es : List Event) (m : Message) → frames (sent (es ++ Sent m ∷ [])) ≡ frames (sent es) ++ Msg m ∷ []
-sent_sent es m = more sending es (Sent m)
+frames_more : (load : Event → Option Load) (es : List Event) (e : Event) → frames (filter_map load es) ++ frames (cons_option (load e) []) ≡ frames (filter_map load (es ++ e ∷ []))
+frames_more load es e = sym (ap (λ loads. frames loads) (filter_map-append load es (e ∷ [])) ∙ map-append Loaded (filter_map load es) (cons_option (load e) []))
 
-pub sent_got : (es : List Event) (m : Message) → frames (sent (es ++ Got m ∷ [])) ≡ frames (sent es)
-sent_got es m = more sending es (Got m) ∙ append-nil _
+draws_more : (ids : List ℕ) (id : Option ℕ) (left : List ℕ) → ids ++ cons_option id left ≡ (ids ++ cons_option id []) ++ left
+draws_more ids None left = ap (λ xs. xs ++ left) (sym (append-nil ids))
+draws_more ids (Some id) left = sym (append_assoc ids (id ∷ []) left)
 
-pub got_draw : (es : List Event) (d : ℕ) → frames (got (es ++ Draw d ∷ [])) ≡ frames (got es)
-got_draw es d = more receipt es (Draw d) ∙ append-nil _
-
-pub got_sent : (es : List Event) (m : Message) → frames (got (es ++ Sent m ∷ [])) ≡ frames (got es)
-got_sent es m = more receipt es (Sent m) ∙ append-nil _
-
-pub got_got : (es : List Event) (m : Message) → frames (got (es ++ Got m ∷ [])) ≡ frames (got es) ++ Msg m ∷ []
-got_got es m = more receipt es (Got m)
-
-pub drawn_draw : (es : List Event) (d : ℕ) → drawn (es ++ Draw d ∷ []) ≡ drawn es ++ d ∷ []
-drawn_draw es d = filter_map-append drawing es (Draw d ∷ [])
-
-pub drawn_sent : (es : List Event) (m : Message) → drawn (es ++ Sent m ∷ []) ≡ drawn es
-drawn_sent es m = filter_map-append drawing es (Sent m ∷ []) ∙ append-nil _
-
-pub drawn_got : (es : List Event) (m : Message) → drawn (es ++ Got m ∷ []) ≡ drawn es
-drawn_got es m = filter_map-append drawing es (Got m ∷ []) ∙ append-nil _
+-- with one event more it has also put what the event sends, taken what it receives, and drawn what it draws
+pub so_far_more : (a b : Log) (e : Event) (put puts taken takes : List Frame) (ids left others : List ℕ) → SoFar a put taken ids left → b ≡ record a { events = a.events ++ e ∷ [] } → puts ≡ put ++ frames (cons_option (sending e) []) → takes ≡ taken ++ frames (cons_option (receipt e) []) → left ≡ cons_option (drawing e) others → SoFar b puts takes ids others
+so_far_more a b e put puts taken takes ids left others h more put_is taken_is left_is = rw more (record {
+  puts = put_is ∙ ap (λ fs. fs ++ frames (cons_option (sending e) [])) h.puts ∙ frames_more sending a.events e;
+  takes = taken_is ∙ ap (λ fs. fs ++ frames (cons_option (receipt e) [])) h.takes ∙ frames_more receipt a.events e;
+  draws = h.draws ∙ ap (λ xs. drawn a.events ++ xs) left_is ∙ draws_more (drawn a.events) (drawing e) others ∙ ap (λ xs. xs ++ others) (sym (filter_map-append drawing a.events (e ∷ [])));
+})

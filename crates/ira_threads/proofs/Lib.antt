@@ -4,4 +4,5 @@ pub mod NodeTasks
 pub mod RecorderGrows
 pub mod Recordings
 pub mod SettledLinks
+pub mod Versions
 pub mod WantedEvents

@@ -6,10 +6,10 @@ use Rattle.std.proofs.lemmas.List.{append-nil, length-map, map-append}
 use Rattle.std.proofs.lemmas.Option.{slice_get-map, slice_get_within}
 use mathlib.Core.List.{IsPrefix}
 use Rattle.ira_event.specs.declared.event.Event.{Event}
-use Rattle.ira_event.specs.declared.msg.Msg.{Msg as Message}
+use Rattle.ira_event.specs.declared.load.Load.{Load}
 use Rattle.ira_event.specs.Log.{Log}
 use Rattle.ira_links.specs.declared.frame.Frame.{Frame}
-use Rattle.ira_links.specs.declared.frame.Frame.TheVariants.{Msg, Stop}
+use Rattle.ira_links.specs.declared.frame.Frame.TheVariants.{Load as Loaded, Stop}
 use Rattle.ira_node.specs.declared.node_state.NodeState.{NodeState}
 use Rattle.ira_node.specs.NodeState.{first_state}
 use Rattle.ira_replay.specs.LocalRun.{LeadsTo, IsLocalRun}
@@ -28,8 +28,8 @@ use Rattle.ira_run.specs.Recording.{EndsAs, IsRecorded, IsRecording}
 use Rattle.ira_run.proofs.Places.{get_map, get_within}
 use Rattle.ira_threads.proofs.FinishedNodes.{finished_at, passed_at, place_count}
 
--- messages that were taken, and then any frames, begin the messages that were put, and a Stop
-got_of_put : (gs ss : List Message) (rest left : List Frame) → (frames gs ++ rest) ++ left ≡ frames ss ++ Stop ∷ [] → BeginsWith ss gs
+-- loads that were taken, and then any frames, begin the loads that were put, and a Stop
+got_of_put : (gs ss : List Load) (rest left : List Frame) → (frames gs ++ rest) ++ left ≡ frames ss ++ Stop ∷ [] → BeginsWith ss gs
 got_of_put [] ss rest left e = (ss, refl)
 got_of_put (g ∷ gs) [] rest left e = absurd cc
 got_of_put (g ∷ gs) (s ∷ ss) rest left e =
@@ -39,8 +39,8 @@ got_of_put (g ∷ gs) (s ∷ ss) rest left e =
     let q : ss ≡ gs ++ p.0 = p.1 in
     (p.0, cc)
 
--- a Stop that was taken is the one Stop that was put: all messages were taken
-all_of_put : (gs ss : List Message) (left : List Frame) → (frames gs ++ Stop ∷ []) ++ left ≡ frames ss ++ Stop ∷ [] → gs ≡ ss
+-- a Stop that was taken is the one Stop that was put: all loads were taken
+all_of_put : (gs ss : List Load) (left : List Frame) → (frames gs ++ Stop ∷ []) ++ left ≡ frames ss ++ Stop ∷ [] → gs ≡ ss
 all_of_put [] [] left e = refl
 all_of_put [] (s ∷ ss) left e = absurd cc
 all_of_put (g ∷ gs) [] left e = absurd cc
@@ -51,13 +51,13 @@ all_of_put (g ∷ gs) (s ∷ ss) left e =
     cc
 
 -- what an end says of a node's own log, and the frames on the link that it read, show the end
-shown : (s : Setup) (i : ℕ) (state : NodeState) (events : List Event) (sendings : List Message) (left : List Frame) (end : NodeEnd) → EndsAs s.nodes s.cap (node_draws s i) state events end → frames_taken events end ++ left ≡ frames sendings ++ Stop ∷ [] → Says s i state events sendings end
+shown : (s : Setup) (i : ℕ) (state : NodeState) (events : List Event) (sendings : List Load) (left : List Frame) (end : NodeEnd) → EndsAs s.nodes s.cap (node_draws s i) state events end → frames_taken events end ++ left ≡ frames sendings ++ Stop ∷ [] → Says s i state events sendings end
 shown s i state events sendings left Leader h e = h
 shown s i state events sendings left LogFull h e = h
 shown s i state events sendings left DrawsSpent h e = h
-shown s i state events sendings left (NoStep m) h e =
-    let one : frames (got events ++ m ∷ []) ++ [] ≡ frames (got events) ++ Msg m ∷ [] = append-nil (frames (got events ++ m ∷ [])) ∙ map-append Msg (got events) (m ∷ []) in
-    (h.0, h.1, got_of_put (got events ++ m ∷ []) sendings [] left (ap (λ (fs : List Frame). fs ++ left) one ∙ e))
+shown s i state events sendings left (NoStep l) h e =
+    let one : frames (got events ++ l ∷ []) ++ [] ≡ frames (got events) ++ Loaded l ∷ [] = append-nil (frames (got events ++ l ∷ [])) ∙ map-append Loaded (got events) (l ∷ []) in
+    (h.0, h.1, got_of_put (got events ++ l ∷ []) sendings [] left (ap (λ (fs : List Frame). fs ++ left) one ∙ e))
 shown s i state events sendings left Stopped h e = (h, all_of_put (got events) sendings left e)
 shown s i state events sendings left Quiet h e = absurd h
 
@@ -133,6 +133,7 @@ is_recording s finished_nodes run valid ring passed logs ends =
       logs = record {
         ring = valid.logs;
         number = ap length logs ∙ length-map finished_nodes (λ finished. finished.log) ∙ sym many;
+        versions = λ i log there. let p = log_at i log there in let P : Log → Type 0 = λ x. x.version ≡ 1 in subst P p.2 (at i p.0 p.1).recorded.version;
         kinds = λ i log there. let p = log_at i log there in let P : Log → Type 0 = λ x. x.initiator ≡ is_initiator s i in subst P p.2 (at i p.0 p.1).recorded.kind;
       };
       runs = λ i log there.

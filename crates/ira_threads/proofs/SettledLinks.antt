@@ -3,7 +3,8 @@ use Rattle.std.proofs.Common.{◌≡◌, ◌≢◌, ℕ, suc, ◌+◌, ◌<◌, 
 use Rattle.std.specs.Prelude.{Bool, true, false, Result, Ok, Err, IfOk, IfErr, ◌↔◌, slice_get}
 use Rattle.std.specs.List.{zip, list_all}
 use Rattle.std.proofs.lemmas.List.{append-nil, length-map, length-replicate, map-append}
-use Rattle.std.proofs.lemmas.Option.{some_pair_parts}
+use Rattle.std.proofs.lemmas.Bool.{cases_eq}
+use Rattle.std.proofs.lemmas.Option.{none-some, some_pair_parts}
 use Rattle.std.proofs.Math.Seq.{set-append_seam}
 use mathlib.Core.List.{IsPrefix}
 use Rattle.ira_event.specs.Log.{Log}
@@ -20,7 +21,7 @@ use Rattle.ira_run.specs.RunFault.{run_fault_number}
 use Rattle.ira_run.specs.Recording.{HasOwnEnd}
 use Rattle.ira_run.specs.Collector.{KeepsPart, PartFaultOf, HasNoEnd, FinishFaultOf, AreParts}
 use Rattle.ira_threads.specs.FinishedNode.{FinishedNode, AreFinishedOnPlaces, AreOfOneRing, FramesPass, FramesPassRoundRing}
-use Rattle.ira_run.proofs.Collecting.{keeps-part, no-stranger, get-behind, each-stopped}
+use Rattle.ira_run.proofs.Collecting.{AreOfVersion, member-replicate, keeps-part, no-stranger, get-behind, each-stopped}
 use Rattle.ira_threads.proofs.FinishedNodes.{passed_more, place_count}
 
 -- the part of a node, as a collector takes it
@@ -71,16 +72,30 @@ taken_more past m place finished old new at is kept =
     ∙ sym (ap (λ xs. xs ++ replicate m None) (map-append part_of past (finished ∷ [])) ∙ append_assoc (map part_of past) (part_of finished ∷ []) (replicate m None))
 
 -- a collector takes it
-pub takes : (past : List FinishedNode) (m n place : ℕ) (log : Log) (taken : List (Option (Log × NodeEnd))) (f : RunFault) → place ≡ length past → place < n → length taken ≡ n → log.nodes ≡ n → log.place ≡ place → taken ≡ taken_of past (suc m) → ¬ (PartFaultOf taken place log f)
-takes past m n place log taken f at within many nodes place_is is fault =
+pub takes : (past : List FinishedNode) (m n place : ℕ) (log : Log) (taken : List (Option (Log × NodeEnd))) (f : RunFault) → place ≡ length past → place < n → length taken ≡ n → log.nodes ≡ n → log.place ≡ place → AreOfVersion log.version taken → taken ≡ taken_of past (suc m) → ¬ (PartFaultOf taken place log f)
+takes past m n place log taken f at within many nodes place_is versions is fault =
     let size : log.nodes ≡ length taken = nodes ∙ sym many in
-    let fits = no-stranger (length taken) place log (omega (arith, many, within)) size place_is in
+    let fits = no-stranger taken place log (omega (arith, many, within)) size place_is versions in
     let front : place ≡ length (map part_of past) = at ∙ sym (length-map past part_of) in
     let free : slice_get taken place ≡ Some None = ap (λ xs. slice_get xs place) is ∙ ap (λ k. slice_get (taken_of past (suc m)) k) front ∙ get-behind (map part_of past) None (replicate m None) in
     elim fault [
       | inl stranger ↦ fits stranger.0
       | inr double ↦ let was = double.1.1 in absurd cc
     ]
+
+-- logs that were taken are of this version, and so is that of one part more
+of_version_more : (version : ℕ) (old new : List (Option (Log × NodeEnd))) (place : ℕ) (part : Log × NodeEnd) → KeepsPart old place part new → part.0.version ≡ version → AreOfVersion version old → AreOfVersion version new
+of_version_more version old new place part kept here versions i log end there = elim (cases_eq i place) [
+  | inl e ↦
+      let is : Some (Some part) ≡ Some (Some (log, end)) = sym kept.at ∙ ap (λ k. slice_get new k) (sym e) ∙ there in
+      let same : part.0 ≡ log = (some_pair_parts part.0 log part.1 end cc).0 in
+      ap (λ (x : Log). x.version) (sym same) ∙ here
+  | inr ne ↦ versions i log end (sym (kept.others i ne) ∙ there)
+]
+
+-- where none was taken, none is of another version
+none_taken : (version m : ℕ) (taken : List (Option (Log × NodeEnd))) → taken ≡ replicate m None → AreOfVersion version taken
+none_taken version m taken none i log end there = absurd (none-some (log, end) (member-replicate m i None (Some (log, end)) (ap (λ xs. slice_get xs i) (sym none) ∙ there)))
 
 -- the first of all and those behind it were settled but for the first link, and these are left
 pub record Settling (n : ℕ) (all left : List FinishedNode) (first last : LinkEnd) (taken : List (Option (Log × NodeEnd))) : Type 0 where
@@ -93,6 +108,7 @@ pub record Settling (n : ℕ) (all left : List FinishedNode) (first last : LinkE
   pub first_is : first.frames ≡ head.input.frames
   pub passed : FramesPass head.output.frames past last.frames
   pub taken_is : taken ≡ taken_of (head ∷ past) (length left)
+  pub versions : AreOfVersion 1 taken
 
 -- the first of them, as the code holds it
 pub first_held : (all rest : List FinishedNode) (seen held : FinishedNode) → all ≡ seen ∷ rest → held ≡ seen → all ≡ held ∷ rest
@@ -116,6 +132,7 @@ settling_first n all left head old new parts ring none kept =
       first_is = refl;
       passed = refl;
       taken_is = taken_more [] (length left) head.place head old new here.0.place (none ∙ ap (λ k. replicate k None) many) kept;
+      versions = of_version_more 1 old new head.place (head.log, head.end) kept here.0.recorded.version (none_taken 1 n old none);
     }
 
 pub settling_more : (n : ℕ) (all left rest : List FinishedNode) (finished : FinishedNode) (first last : LinkEnd) (old new : List (Option (Log × NodeEnd))) → left ≡ finished ∷ rest → Settling n all left first last old → IsPrefix finished.input.frames last.frames → KeepsPart old finished.place (finished.log, finished.end) new → Settling n all rest first finished.output new
@@ -133,6 +150,7 @@ settling_more n all left rest finished first last old new is was took kept =
       first_is = was.first_is;
       passed = passed_more was.head.output.frames last.frames was.past finished was.passed took;
       taken_is = taken_more (was.head ∷ was.past) (length rest) finished.place finished old new here.0.place (was.taken_is ∙ ap (λ ds. taken_of (was.head ∷ was.past) (length ds)) is) kept;
+      versions = of_version_more 1 old new finished.place (finished.log, finished.end) kept here.0.recorded.version was.versions;
     }
 
 -- the next part can be taken
@@ -141,7 +159,7 @@ settling_takes n all left rest finished first last taken f is many was =
     let P : List FinishedNode → Type 0 = λ ds. AreFinishedOnPlaces was.setup (length (was.head ∷ was.past)) last.link ds n first.link in
     let here : AreFinishedOnPlaces was.setup (length (was.head ∷ was.past)) last.link (finished ∷ rest) n first.link = subst P is was.place in
     let count = place_count was.setup (length (was.head ∷ was.past)) n last.link first.link (finished ∷ rest) here in
-    takes (was.head ∷ was.past) (length rest) n finished.place finished.log taken f here.0.place (omega (arith, count, here.0.place)) many (here.0.recorded.nodes ∙ was.nodes) (here.0.recorded.place ∙ sym here.0.place) (was.taken_is ∙ ap (λ ds. taken_of (was.head ∷ was.past) (length ds)) is)
+    takes (was.head ∷ was.past) (length rest) n finished.place finished.log taken f here.0.place (omega (arith, count, here.0.place)) many (here.0.recorded.nodes ∙ was.nodes) (here.0.recorded.place ∙ sym here.0.place) (λ i log end there. was.versions i log end there ∙ sym here.0.recorded.version) (was.taken_is ∙ ap (λ ds. taken_of (was.head ∷ was.past) (length ds)) is)
 
 -- the first part can be taken
 pub first_takes : (n : ℕ) (all left : List FinishedNode) (head : FinishedNode) (taken : List (Option (Log × NodeEnd))) (f : RunFault) → all ≡ head ∷ left → AreOfOneRing n all → taken ≡ replicate n None → ¬ (PartFaultOf taken head.place head.log f)
@@ -151,7 +169,7 @@ first_takes n all left head taken f parts ring none =
     let P : ℕ × List FinishedNode → Type 0 = λ z. AreFinishedOnPlaces s 0 link z.1 z.0 link in
     let here : AreFinishedOnPlaces s 0 link (head ∷ left) n link = subst P (λ j. (ring.1 j, parts j)) ring.2.1 in
     let many : n ≡ suc (length left) = omega (arith, place_count s 0 n link link (head ∷ left) here) in
-    takes [] (length left) n head.place head.log taken f here.0.place (omega (arith, many, here.0.place)) (ap length none ∙ length-replicate n None) (here.0.recorded.nodes ∙ ring.1) (here.0.recorded.place ∙ sym here.0.place) (none ∙ ap (λ k. replicate k None) many)
+    takes [] (length left) n head.place head.log taken f here.0.place (omega (arith, many, here.0.place)) (ap length none ∙ length-replicate n None) (here.0.recorded.nodes ∙ ring.1) (here.0.recorded.place ∙ sym here.0.place) (none_taken head.log.version n taken none) (none ∙ ap (λ k. replicate k None) many)
 
 -- all parts were taken
 pub settled_round : (n : ℕ) (all left : List FinishedNode) (first last : LinkEnd) (taken : List (Option (Log × NodeEnd))) → left ≡ [] → Settling n all left first last taken → IsPrefix first.frames last.frames → FramesPassRoundRing all

@@ -1,42 +1,57 @@
--- What a node wants, and what is known of it after one event more.
-use Rattle.std.proofs.Common.{◌≡◌, ◌<◌, ◌≤◌, ℕ, false, List, [], ◌∷◌, ◌++◌, suc, refl, sym, ◌∙◌, ap, subst, arith}
-use Rattle.std.specs.Prelude.{None, IsTrue}
+-- What a node wants, and what is known of it when it ends.
+use Rattle.std.proofs.Common.{◌≡◌, ◌≢◌, ◌<◌, ◌≤◌, ℕ, true, false, ◌&&◌, List, ◌∷◌, suc, None, sym, ◌∙◌, ap, subst, arith}
+use Rattle.std.specs.Prelude.{IsTrue}
 use Rattle.std.specs.List.{All}
-use Rattle.std.proofs.lemmas.List.{append_assoc}
-use Rattle.ira_event.specs.declared.msg.Msg.{Msg as Message}
+use Rattle.std.proofs.lemmas.Bool.Decides.{nat_tests}
+use Rattle.ira_event.specs.Limits.{MAX_NUMBER}
+use Rattle.ira_event.specs.declared.load.Load.{Load}
 use Rattle.ira_event.specs.declared.event.Event.{Event}
-use Rattle.ira_event.specs.declared.event.Event.TheVariants.{Draw, Sent, Got}
+use Rattle.ira_event.specs.Event.{is_number, is_load, is_of_version}
+use Rattle.ira_event.proofs.Numerals.{and_parts}
 use Rattle.ira_event.specs.Log.{Log}
-use Rattle.ira_links.specs.declared.frame.Frame.{Frame}
-use Rattle.ira_links.specs.declared.frame.Frame.TheVariants.{Msg}
-use Rattle.ira_node.specs.declared.phase.Phase.TheVariants.{Choosing}
+use Rattle.ira_event.specs.declared.log_head.LogHead.{LogHead}
+use Rattle.ira_event.specs.LogText.{head_of}
 use Rattle.ira_node.specs.declared.wanted.Wanted.{Wanted}
-use Rattle.ira_node.specs.declared.wanted.Wanted.TheVariants.{Draw as WantsDraw, Receipt, Nothing}
+use Rattle.ira_node.specs.declared.wanted.Wanted.TheVariants.{Draw as WantsDraw, Send, Receipt, Yield as WantsYield, Nothing}
 use Rattle.ira_node.specs.declared.node_state.NodeState.{NodeState}
-use Rattle.ira_node.specs.NodeState.{first_state, free, IsLeader, Receives}
+use Rattle.ira_node.specs.NodeState.{first_state, IsLeader, Receives, is_phase, is_debt, is_state}
 use Rattle.ira_node.specs.NodeStep.{HasStep}
 use Rattle.ira_node.specs.Wanted.{wanted_of}
-use Rattle.ira_node.proofs.Wants.{wants_draw, wants_receipt}
-use Rattle.ira_order.specs.Matching.{sent, got}
+use Rattle.ira_node.proofs.Wants.{wants_draw, wants_receipt, wants_send, wanting_leads_not}
+use Rattle.ira_replay.specs.LocalRun.{LeadsTo}
 use Rattle.ira_run.specs.FullRun.{drawn, BeginsWith}
-use Rattle.ira_threads.specs.NodeFrames.{frames}
-use Rattle.ira_threads.specs.Recorder.{Recorder, IsRecorder, AreOfOneNode}
+use Rattle.ira_run.specs.ShownEnd.{HasToDraw}
 use Rattle.ira_run.specs.Recording.{EndsAs, IsRecorded}
 use Rattle.ira_run.specs.declared.node_end.NodeEnd.{NodeEnd}
-use Rattle.ira_replay.specs.LocalRun.{LeadsTo}
-use Rattle.ira_threads.proofs.FramesOfLongerLogs.{sent_draw, sent_sent, sent_got, got_draw, got_sent, got_got, drawn_draw, drawn_sent, drawn_got}
+use Rattle.ira_threads.specs.declared.record_fault.RecordFault.{RecordFault}
+use Rattle.ira_threads.specs.declared.record_fault.RecordFault.TheVariants.{NoStep, OtherVersion}
+use Rattle.ira_threads.specs.Recorder.{Recorder, IsRecorder, AreOfOneNode, RecordFaultOf}
 
 -- a node that is to draw chooses
-pub choosing : (r s : NodeState) → r ≡ s → WantsDraw ≡ wanted_of r.phase r.owed → (round : ℕ) × (s ≡ free (Choosing round))
-choosing r s same h = let P : NodeState → Type 0 = λ x. (round : ℕ) × (x ≡ free (Choosing round)) in subst P same (wants_draw r.phase r.owed h)
+pub choosing : (r s : NodeState) → r ≡ s → WantsDraw ≡ wanted_of r.term r.phase r.owed → HasToDraw s
+choosing r s same h =
+    let chooses = wants_draw r.term r.phase r.owed h in
+    subst HasToDraw same (r.term, chooses.0, chooses.1)
 
 -- a node that is to receive owes nothing
-pub waiting : (r s : NodeState) → r ≡ s → Receipt ≡ wanted_of r.phase r.owed → (s.owed ≡ None) × Receives s.phase
-waiting r s same h = let P : NodeState → Type 0 = λ x. (x.owed ≡ None) × Receives x.phase in subst P same (wants_receipt r.phase r.owed h)
+pub waiting : (r s : NodeState) → r ≡ s → Receipt ≡ wanted_of r.term r.phase r.owed → (s.owed ≡ None) × Receives s.phase
+waiting r s same h = let P : NodeState → Type 0 = λ x. (x.owed ≡ None) × Receives x.phase in subst P same (wants_receipt r.term r.phase r.owed h)
 
--- a node that is to do something doesn't lead
-pub no_leader : (r s : NodeState) (w : Wanted) → r ≡ s → (w ≡ Nothing → ⊥) → (IsLeader r.phase → w ≡ Nothing) → IsLeader s.phase → ⊥
-no_leader r s w same some leads h = let P : NodeState → Type 0 = λ x. IsLeader x.phase in some (leads (subst P (sym same) h))
+-- a node that is to send owes a load whose numbers a record may hold
+pub owes_recordable : (r s : NodeState) (l : Load) → r ≡ s → Send l ≡ wanted_of r.term r.phase r.owed → is_state s ≡ true → is_load l ≡ true
+owes_recordable r s l same h numbers =
+    let owed : is_debt r.owed ≡ is_load l = ap is_debt (wants_send r.term r.phase r.owed l h) in
+    let all = subst (λ (x : NodeState). is_state x ≡ true) (sym same) numbers in
+    sym owed ∙ (and_parts (is_number r.term && is_phase r.phase) (is_debt r.owed) all).1
+
+-- a node that wants neither a yield nor nothing doesn't lead
+pub no_leader : (r s : NodeState) (w : Wanted) → r ≡ s → w ≡ wanted_of r.term r.phase r.owed → w ≢ WantsYield → w ≢ Nothing → ¬ (IsLeader s.phase)
+no_leader r s w same wants yields_not nor = subst (λ (x : NodeState). ¬ (IsLeader x.phase)) same (wanting_leads_not r.term r.phase r.owed w wants yields_not nor)
+
+-- an event of the log's version that has a step is recorded
+pub no_fault : (r : Recorder) (e : Event) (f : RecordFault) → HasStep r.log.nodes r.state e → is_of_version r.log.version e ≡ true → RecordFaultOf r e f → ⊥
+no_fault r e NoStep step of_version fault = fault step
+no_fault r e OtherVersion step of_version fault = let other = fault.1 in absurd cc
 
 not_true : IsTrue false → ⊥
 not_true h = cc
@@ -53,54 +68,29 @@ all_first P xs ys x first h = (let k = rw first at h in k 0 0 (omega arith))
 pub all_rest : (P : ℕ → Type 0) (xs ys : List ℕ) (x : ℕ) → xs ≡ x ∷ ys → All P xs → All P ys
 all_rest P xs ys x first h = (let k = rw first at h in λ i d low. k (suc i) d (omega (arith, low)))
 
+pub id_is_number : (id : ℕ) → 1 ≤ id → id ≤ MAX_NUMBER → is_number id ≡ true
+id_is_number id low high = grind (arith, nat_tests)
+
 -- the log goes on as that of the same node
 pub one_node : (a b c : Log) (es : List Event) → b ≡ record a { events = es } → AreOfOneNode a c → AreOfOneNode b c
-one_node a b c es h k = (ap (λ l. l.nodes) h ∙ k.0, ap (λ l. l.place) h ∙ k.1, ap (λ l. l.initiator) h ∙ k.2)
+one_node a b c es h k = ap head_of h ∙ k
 
--- with these events the node has put and taken these frames, and of its IDs these are left
-pub record SoFar (log : Log) (put taken : List Frame) (ids left : List ℕ) : Type 0 where
-  pub puts : put ≡ frames (sent log.events)
-  pub takes : taken ≡ frames (got log.events)
-  pub draws : ids ≡ drawn log.events ++ left
-
-pub so_far_first : (log : Log) (put taken : List Frame) (ids : List ℕ) → log.events ≡ [] → taken ≡ [] → put ≡ [] → SoFar log put taken ids ids
-so_far_first log put taken ids empty none_taken none_put = record {
-  puts = rw empty none_put;
-  takes = rw empty none_taken;
-  draws = rw empty refl;
-}
-
-pub so_far_draw : (a b : Log) (put taken : List Frame) (ids left rest : List ℕ) (d : ℕ) → SoFar a put taken ids left → left ≡ d ∷ rest → b ≡ record a { events = a.events ++ Draw d ∷ [] } → SoFar b put taken ids rest
-so_far_draw a b put taken ids left rest d h first more = record {
-  puts = rw (more, sent_draw a.events d) h.puts;
-  takes = rw (more, got_draw a.events d) h.takes;
-  draws = rw (more, drawn_draw a.events d) (h.draws ∙ ap (λ xs. drawn a.events ++ xs) first ∙ sym (append_assoc (drawn a.events) (d ∷ []) rest));
-}
-
-pub so_far_sent : (a b : Log) (put puts' taken : List Frame) (ids left : List ℕ) (m : Message) → SoFar a put taken ids left → puts' ≡ put ++ Msg m ∷ [] → b ≡ record a { events = a.events ++ Sent m ∷ [] } → SoFar b puts' taken ids left
-so_far_sent a b put puts' taken ids left m h one more = record {
-  puts = rw (more, sent_sent a.events m, ← h.puts) one;
-  takes = rw (more, got_sent a.events m) h.takes;
-  draws = rw (more, drawn_sent a.events m) h.draws;
-}
-
-pub so_far_got : (a b : Log) (put taken takes' : List Frame) (ids left : List ℕ) (m : Message) → SoFar a put taken ids left → takes' ≡ taken ++ Msg m ∷ [] → b ≡ record a { events = a.events ++ Got m ∷ [] } → SoFar b put takes' ids left
-so_far_got a b put taken takes' ids left m h one more = record {
-  puts = rw (more, sent_got a.events m) h.puts;
-  takes = rw (more, got_got a.events m, ← h.takes) one;
-  draws = rw (more, drawn_got a.events m) h.draws;
-}
+pub same_ring : (a b : Log) → AreOfOneNode a b → a.nodes ≡ b.nodes
+same_ring a b one = ap (λ (head : LogHead). head.nodes) one
 
 -- what a recorder of this node says when the node has ended
-pub recorded : (r q : Recorder) (log : Log) (how : NodeEnd) (ids : List ℕ) → IsRecorder r → AreOfOneNode r.log q.log → r.cap ≡ q.cap → log ≡ r.log → BeginsWith ids (drawn r.log.events) → EndsAs q.log.nodes q.cap ids r.state r.log.events how → IsRecorded q.log.nodes q.log.place q.log.initiator ids q.cap log how
-recorded r q log how ids valid one cap same draws end =
-    let leads : LeadsTo q.log.nodes (first_state q.log.initiator) r.log.events r.state = rw (← one.0, ← one.2) valid.leads in
+pub recorded : (r q : Recorder) (log : Log) (how : NodeEnd) (ids : List ℕ) → IsRecorder r → AreOfOneNode r.log q.log → q.log.version ≡ 1 → r.cap ≡ q.cap → log ≡ r.log → BeginsWith ids (drawn r.log.events) → EndsAs q.log.nodes q.cap ids r.state r.log.events how → IsRecorded q.log.nodes q.log.place q.log.initiator ids q.cap log how
+recorded r q log how ids valid one first cap same draws end =
+    let nodes : r.log.nodes ≡ q.log.nodes = ap (λ (head : LogHead). head.nodes) one in
+    let kind : r.log.initiator ≡ q.log.initiator = ap (λ (head : LogHead). head.initiator) one in
+    let leads_on : LeadsTo q.log.nodes (first_state q.log.initiator) r.log.events r.state = rw (← nodes, ← kind) valid.leads in
     rw same (record {
-      nodes = one.0;
-      place = one.1;
-      kind = one.2;
+      version = ap (λ (head : LogHead). head.version) one ∙ first;
+      nodes = nodes;
+      place = ap (λ (head : LogHead). head.place) one;
+      kind = kind;
       state = r.state;
-      run = leads;
+      run = leads_on;
       count = omega (arith, valid.count, cap);
       draws = draws;
       end = end;

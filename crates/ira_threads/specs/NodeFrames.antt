@@ -1,21 +1,21 @@
 -- What the log and the end of a node say of the frames that it put on its link and took from the other.
 use Rattle.std.specs.Prelude.{List, [], ◌∷◌, ◌++◌, map}
 use Rattle.ira_event.specs.declared.event.Event.{Event}
-use Rattle.ira_event.specs.declared.msg.Msg.{Msg as Message}
+use Rattle.ira_event.specs.declared.load.Load.{Load}
 use Rattle.ira_links.specs.declared.frame.Frame.{Frame}
-use Rattle.ira_links.specs.declared.frame.Frame.TheVariants.{Msg, Stop}
+use Rattle.ira_links.specs.declared.frame.Frame.TheVariants.{Load as Loaded, Stop}
 use Rattle.ira_order.specs.Matching.{sent, got}
 use Rattle.ira_run.specs.declared.node_end.NodeEnd.{NodeEnd}
 use Rattle.ira_run.specs.declared.node_end.NodeEnd.TheVariants.{Leader, Stopped, DrawsSpent, LogFull, NoStep, Quiet}
 
--- these messages as frames
-abbrev pub frames : List Message → List Frame
-frames messages = map Msg messages
+-- these loads as frames
+abbrev pub frames : List Load → List Frame
+frames loads = map Loaded loads
 
 -- the frame that was taken and isn't recorded
 abbrev pub last_taken : NodeEnd → List Frame
 last_taken Stopped = Stop ∷ []
-last_taken (NoStep m) = Msg m ∷ []
+last_taken (NoStep l) = Loaded l ∷ []
 last_taken Leader = []
 last_taken DrawsSpent = []
 last_taken LogFull = []

@@ -5,6 +5,7 @@ mod finished_node;
 mod node_task;
 mod node_thread;
 mod node_work;
+mod record_fault;
 mod recorder;
 mod ring_run;
 mod room;

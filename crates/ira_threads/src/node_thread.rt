@@ -8,6 +8,7 @@ ghost use Rattle.ira_run.specs.Recording.{EndsAs, IsRecorded};
 ghost use Rattle.ira_order.specs.Matching.{sent};
 
 use crate::node_work::NodeWork;
+use crate::record_fault::RecordFault;
 use crate::recorder::Recorder;
 use ira_event::Event;
 use ira_links::{Closed, Frame, Gate, LinkIn, LinkOut};
@@ -41,7 +42,7 @@ fn turns<R: Wait + Clock, G: Gate, A: Allocator>(
     let mut left = draws;
     for _ in rt.forever() {
         match node.state().wanted() {
-            Wanted::Nothing => return Ok(NodeEnd::Leader),
+            Wanted::Yield | Wanted::Nothing => return Ok(NodeEnd::Leader),
             _ if node.is_full() => return Ok(NodeEnd::LogFull),
             Wanted::Draw => {
                 let Some((id, others)) = left.split_first() else {
@@ -53,12 +54,12 @@ fn turns<R: Wait + Clock, G: Gate, A: Allocator>(
                     unreachable!()
                 };
             }
-            Wanted::Send(message) => {
+            Wanted::Send(load) => {
                 gate.pass(rt, who);
-                let Ok(()) = output.put(rt, Frame::Msg(message)) else {
+                let Ok(()) = output.put(rt, Frame::Load(load)) else {
                     return Err(Closed);
                 };
-                let Ok(()) = node.record(Event::Sent(message)) else {
+                let Ok(()) = node.record(Event::Sent(load)) else {
                     unreachable!()
                 };
             }
@@ -66,11 +67,11 @@ fn turns<R: Wait + Clock, G: Gate, A: Allocator>(
                 gate.pass(rt, who);
                 match input.take(rt)? {
                     Frame::Stop => return Ok(NodeEnd::Stopped),
-                    Frame::Msg(message) => {
-                        let Ok(()) = node.record(Event::Got(message)) else {
-                            return Ok(NodeEnd::NoStep(message));
-                        };
-                    }
+                    Frame::Load(load) => match node.record(Event::Got(load)) {
+                        Ok(()) => {}
+                        Err(RecordFault::NoStep) => return Ok(NodeEnd::NoStep(load)),
+                        Err(RecordFault::OtherVersion) => return Err(Closed),
+                    },
                 }
             }
         }
@@ -79,9 +80,10 @@ fn turns<R: Wait + Clock, G: Gate, A: Allocator>(
 }
 
 /// Runs one node: it follows its automaton, writes each event down, and ends as a leader, where its log
-/// is full, where it has to draw and its draws are spent, where a message has no step, or where `Stop`
+/// is full, where it has to draw and its draws are spent, where a load has no step, or where `Stop`
 /// comes. In the end it puts one `Stop` on its link. Before each draw, each sending and each take it
-/// passes the gate under its place. `Closed` where a link is; then the work is dropped.
+/// passes the gate under its place. Its log is of version 1. `Closed` where a link is, or where a reset comes
+/// that has a step, which a log of version 1 can't hold; then the work is dropped.
 pub fn node_body<R: Wait + Clock, G: Gate, A: Allocator>(
     rt: &R,
     work: NodeWork<A>,
@@ -106,7 +108,7 @@ pub fn node_body<R: Wait + Clock, G: Gate, A: Allocator>(
         mut input,
         mut output,
     } = work;
-    let mut node = Recorder::new(nodes, place, initiator, cap, room);
+    let mut node = Recorder::new(1, nodes, place, initiator, cap, room);
     let end = turns(rt, gate, &mut node, draws, &mut input, &mut output)?;
     let Ok(()) = output.put(rt, Frame::Stop) else {
         return Err(Closed);

@@ -1,18 +1,21 @@
-ghost use Rattle.std.specs.Prelude.{◌≡◌, ◌∷◌, ◌++◌, ◌<◌, ◌≤◌, ◌↔◌, [], true, length, vec_capacity, IsTrue, OnOk, OnErr};
+ghost use Rattle.std.specs.Prelude.{◌≡◌, ◌∷◌, ◌++◌, ◌<◌, ◌≤◌, ◌↔◌, [], true, length, vec_capacity, IsTrue, OnOk, IfErr, OnErr};
 ghost use Rattle.ira_event.specs.declared.limits.TheConstants.{MAX_RECORDS};
 ghost use Rattle.ira_event.specs.Event.{is_event};
+ghost use Rattle.ira_event.specs.Version.{IsVersion};
 ghost use Rattle.ira_node.specs.NodeState.{first_state};
-ghost use Rattle.ira_node.specs.NodeStep.{NodeStep, HasStep};
-ghost use Rattle.ira_threads.specs.Recorder.{Recorder, IsRecorder};
+ghost use Rattle.ira_node.specs.NodeStep.{NodeStep};
+ghost use Rattle.ira_threads.specs.Recorder.{Recorder, IsRecorder, RecordFaultOf};
 
+use crate::record_fault::RecordFault;
 use ira_event::{Event, NodeLog, RingSize};
-use ira_node::{NodeState, StepFault};
+use ira_node::NodeState;
 use std::alloc::Allocator;
 use std::marker::Model;
 
 /// The log of a node while it grows, at most to a cap, and the state that its events led to.
 #[derive(Drop)]
 pub struct Recorder<A: Allocator> {
+    version: u8,
     nodes: RingSize,
     place: u8,
     initiator: bool,
@@ -29,6 +32,7 @@ impl<A: Allocator> Model for Recorder<A> {
 
     ghost view = { λ a. record {
       log = record {
+        version = a.version;
         nodes = a.nodes;
         place = a.place;
         initiator = a.initiator;
@@ -41,6 +45,7 @@ impl<A: Allocator> Model for Recorder<A> {
     ghost invariant = { λ a. IsRecorder
         (record {
           log = record {
+            version = a.version;
             nodes = a.nodes;
             place = a.place;
             initiator = a.initiator;
@@ -54,21 +59,30 @@ impl<A: Allocator> Model for Recorder<A> {
 impl<A: Allocator> Recorder<A> {
     /// The log of a node without events, which are to be kept in the empty `room`.
     pub fn new(
+        version: u8,
         nodes: RingSize,
         place: u8,
         initiator: bool,
         cap: usize,
         room: Vec<Event, A>,
     ) -> Recorder<A>
-        requires { (place < nodes) × (cap ≤ MAX_RECORDS) × (room.items ≡ []) × (cap ≤ vec_capacity room) }
+        requires { IsVersion version × (place < nodes) × (cap ≤ MAX_RECORDS) × (room.items ≡ [])
+            × (cap ≤ vec_capacity room) }
         ensures { result
             ≡ record {
-              log = record { nodes = nodes; place = place; initiator = initiator; events = [] };
+              log = record {
+                version = version;
+                nodes = nodes;
+                place = place;
+                initiator = initiator;
+                events = [];
+              };
               cap = cap;
               state = first_state initiator;
             } }
     {
         Recorder {
+            version,
             nodes,
             place,
             initiator,
@@ -98,17 +112,23 @@ impl<A: Allocator> Recorder<A> {
         self.events.len() == self.cap
     }
 
-    /// Adds the event where it has a step.
-    pub fn record(&mut self, event: Event) -> Result<(), StepFault>
+    /// Adds the event where it has a step and the log's version has it.
+    pub fn record(&mut self, event: Event) -> Result<(), RecordFault>
         requires { (length self.old.log.events < self.old.cap) × (is_event event ≡ true) }
         ensures cap { self.new.cap ≡ self.old.cap }
         ensures ok { OnOk result
             (self.new.log ≡ record self.old.log { events = self.old.log.events ++ event ∷ [] }) }
         ensures step { OnOk result (NodeStep self.old.log.nodes self.old.state event self.new.state) }
-        ensures err { OnErr result (¬ (HasStep self.old.log.nodes self.old.state event)) }
+        ensures err { IfErr result (RecordFaultOf self.old event) }
         ensures unchanged { OnErr result (self.new ≡ self.old) }
     {
-        self.state.advance(self.nodes, &event)?;
+        let Ok(state) = self.state.step(self.nodes, &event) else {
+            return Err(RecordFault::NoStep);
+        };
+        if !event.is_of_version(self.version) {
+            return Err(RecordFault::OtherVersion);
+        }
+        self.state = state;
         self.events.push_reserved(event);
         Ok(())
     }
@@ -117,6 +137,7 @@ impl<A: Allocator> Recorder<A> {
         ensures { result ≡ self.log }
     {
         let Recorder {
+            version,
             nodes,
             place,
             initiator,
@@ -124,7 +145,7 @@ impl<A: Allocator> Recorder<A> {
             state: _,
             events,
         } = self;
-        let Some(log) = NodeLog::new(nodes, place, initiator, events) else {
+        let Some(log) = NodeLog::new(version, nodes, place, initiator, events) else {
             unreachable!()
         };
         log

@@ -1,7 +1,7 @@
 use Rattle.std.proofs.Common.{◌≡◌, ◌≤◌}
 use Rattle.std.specs.List.{All}
 use Rattle.ira_threads.specs.Recorder.{AreOfOneNode}
-use Rattle.ira_threads.proofs.WantedEvents.{SoFar}
+use Rattle.ira_threads.proofs.FramesOfLongerLogs.{SoFar}
 use Rattle.ira_threads.proofs.node_thread.turns.Given as goal
 
 abbrev pub invariant-loop : goal.invariant-loop

@@ -4,12 +4,15 @@ use Rattle.std.proofs.lemmas.Bool.Decides.{nat_tests}
 use Rattle.ira_event.specs.Log.{Log}
 use Rattle.ira_run.specs.Collector.{AreTaken, IsStranger}
 use Rattle.ira_run.specs.declared.node_end.NodeEnd.{NodeEnd}
-use Rattle.ira_run.proofs.Collecting.{some-of, none-of, AreTaken-more, keeps-part, no-stranger, answers-double, answers-taken}
+use Rattle.ira_run.proofs.Collecting.{AreOfVersion, all-of-version, some-other-version, answers-stranger, some-of, none-of, AreTaken-more, keeps-part, no-stranger, answers-double, answers-taken}
 use Rattle.ira_run.proofs.collector.Collector.take.Goals as goal
 
--- the part fits a place of the ring
-fits-place : (n place : ℕ) (log : Log) (taken : List (Option (Log × NodeEnd))) → AreTaken n taken → place < n → log.nodes ≡ n → log.place ≡ place → ¬ (IsStranger (length taken) place log)
-fits-place n place log taken old within nodes at = rw old.places (no-stranger n place log within nodes at)
+-- the part fits a place of the ring, and the parts that were taken
+fits-place : (n place : ℕ) (log : Log) (taken : List (Option (Log × NodeEnd))) → AreTaken n taken → place < n → log.nodes ≡ n → log.place ≡ place → AreOfVersion log.version taken → ¬ (IsStranger taken place log)
+fits-place n place log taken old within nodes at versions = no-stranger taken place log (omega (arith, old.places)) (nodes ∙ sym old.places) at versions
+
+pub returns-then-not-are_of_version-clause-err : goal.returns-then-not-are_of_version-clause-err
+returns-then-not-are_of_version-clause-err g c = ?
 
 pub returns-then-is_some-clause-err : goal.returns-then-is_some-clause-err
 returns-then-is_some-clause-err g c =
