@@ -28,7 +28,7 @@ marks_of log = map (λ x. mark x.1) (states_left log.nodes (Some (0, first_state
 abbrev pub run_marks : {A : Type 0} → PhaseRun A → List (Stage × Bool)
 run_marks r = map (λ o. (r.stage, o)) r.owes.items
 
--- the runs have the marks of the log's states, of which there are no more than its events and one
+-- the runs have the marks of the log's states, and there are at most as many of these as the most records and one
 pub record IsProfile {A : Type 0} (log : Log) (runs : List (PhaseRun A)) : Type 0 where
   pub marks : flat_map run_marks runs ≡ marks_of log
   pub count : length (marks_of log) ≤ MAX_RECORDS + 1
@@ -38,7 +38,7 @@ abbrev pub marks_passing : (Stage → Bool → Bool) → ℕ → List (Stage × 
 marks_passing test p [] = []
 marks_passing test p (m ∷ ms) = cond (test m.0 m.1) (p ∷ marks_passing test (p + 1) ms) (marks_passing test (p + 1) ms)
 
--- the same of one phase's marks: where something is owed the test gives `owing`, elsewhere `free`
+-- the same of the marks of one stage: where something is owed the test gives `owing`, elsewhere `free`
 abbrev pub picked : Bool → Bool → ℕ → List Bool → List ℕ
 picked free owing p [] = []
 picked free owing p (o ∷ os) = cond (cond o owing free) (p ∷ picked free owing (p + 1) os) (picked free owing (p + 1) os)

@@ -9,7 +9,7 @@ MAX_NODES = 64
 abbrev pub MAX_VERSION : ℕ
 MAX_VERSION = 2
 
--- the largest round, ID, hop and draw that a record holds
+-- the largest round, ID, hop and draw that a record holds, and the last term
 abbrev pub MAX_NUMBER : ℕ
 MAX_NUMBER = 1000000
 

@@ -46,7 +46,7 @@ load_at text = or (option_map (λ p. (Message p.0, p.1)) (message_at text)) (opt
 abbrev pub yield_at : List ℕ → Option (LogLine × List ℕ)
 yield_at text = option_map (λ r. (Record Yield, r)) (after_word (codes "yield\n") text)
 
--- the word that a line begins with, and what follows its space
+-- the word before a line's first space, and what follows that
 abbrev pub word_at : List ℕ → Option (LineWord × List ℕ)
 word_at text =
     behind (after_word (codes "draw ") text) (λ r. Some (word.Draw, r))

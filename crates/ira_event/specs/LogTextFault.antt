@@ -1,5 +1,5 @@
 -- The fault of a text that is no log's: the first one, line by line.
-use Rattle.std.specs.Prelude.{◌≡◌, ◌≢◌, ℕ, ◌+◌, ◌<◌, ◌≤◌, ◌⊎◌, Bool, true, false, List, [], ◌++◌, length, codes, Result, Ok, Err}
+use Rattle.std.specs.Prelude.{◌≡◌, ◌≢◌, ℕ, ◌+◌, ◌<◌, ◌≤◌, ◌⊎◌, true, false, List, [], ◌++◌, length, codes, Result, Ok, Err}
 use Rattle.std.specs.List.{list_all}
 use Rattle.ira_event.specs.Limits.{MAX_RECORDS, MAX_TEXT}
 use Rattle.ira_event.specs.declared.event.Event.{Event}
@@ -93,7 +93,7 @@ abbrev pub OpeningFault : List ℕ → LogFault → Type 0
 OpeningFault text f =
     ((MAX_TEXT < length text) × (f ≡ TooLong)) ⊎ ((length text ≤ MAX_TEXT) × BeginsWithNoHead text × (f ≡ Head))
 
--- the text is the lines of these events, all within the limits, and their end line
+-- the text is the lines of these events, all of this version and within the limits, and their end line
 pub record AreAllRecords (version : ℕ) (text : List ℕ) (events : List Event) : Type 0 where
   pub end : List ℕ
   pub end_is : IsEnd end (length events)

@@ -7,7 +7,7 @@ pub const MAX_NODES: usize = 64;
 /// The greatest version of a log; the least is 1.
 pub const MAX_VERSION: u8 = 2;
 
-/// The largest round, ID, hop and draw that a record holds; the smallest is 1.
+/// The largest round, ID, hop and draw that a record holds, and the last term; the smallest is 1.
 pub const MAX_NUMBER: u32 = 1_000_000;
 
 /// The most records that a log has.

@@ -31,7 +31,7 @@ pub data NodeStep (n : ℕ) (s : NodeState) (e : Event) (t : NodeState) : Type 0
   ties : (term round id : ℕ) (m : Msg) → s ≡ free term (Active round id) → e ≡ Got (Message m) → IsEqual m round id → m.hop ≡ n → m.dirty ≡ true → round < MAX_NUMBER → t ≡ free term (Choosing (round + 1)) → NodeStep n s e t
   -- an active node whose message comes back clean is the leader
   wins : (term round id : ℕ) (m : Msg) → s ≡ free term (Active round id) → e ≡ Got (Message m) → IsEqual m round id → m.hop ≡ n → m.dirty ≡ false → t ≡ free term (Leader round id) → NodeStep n s e t
-  -- a leader yields, and owes the first reset of its term
+  -- a leader yields, and owes a reset with hop 1
   yields : IsLeader s.phase → e ≡ Yield → s.term < MAX_NUMBER → t ≡ owing s.term Yielding (Reset 1) → NodeStep n s e t
   -- a passive node passes a reset on that is not yet home, and chooses in the first round of the next term
   restarts : (term h : ℕ) → s ≡ free term Passive → e ≡ Got (Reset h) → h < n → term < MAX_NUMBER → t ≡ owing (term + 1) (Choosing 1) (Reset (h + 1)) → NodeStep n s e t

@@ -43,7 +43,7 @@ pub data NodeStepFault (n : ℕ) (s : NodeState) (e : Event) (f : StepFault) : T
   last_yield : IsLeader s.phase → e ≡ Yield → MAX_NUMBER ≤ s.term → f ≡ TermLimit → NodeStepFault n s e f
   -- a node that owes something neither draws nor receives nor yields
   owes : (l : Load) → ¬ (IsLeader s.phase) → s.owed ≡ Some l → ¬ (IsSending e) → f ≡ Owes → NodeStepFault n s e f
-  -- it sends something else than what it owes
+  -- it sends something other than what it owes
   another : (l k : Load) → ¬ (IsLeader s.phase) → s.owed ≡ Some l → e ≡ Sent k → k ≢ l → f ≡ NotOwed → NodeStepFault n s e f
   -- it sends something and owes nothing
   nothing_owed : (l : Load) → ¬ (IsLeader s.phase) → s.owed ≡ None → e ≡ Sent l → f ≡ NotOwed → NodeStepFault n s e f

@@ -20,7 +20,7 @@ IsOfKind Receipt (Got l) = Unit {0}
 IsOfKind WantsYield Yield = Unit {0}
 IsOfKind _ _ = ⊥
 
--- a node that yielded is in a term that another one may follow; no other node yields
+-- where the node has yielded, another term may follow its own
 abbrev pub HasNextTerm : NodeState → Type 0
 HasNextTerm s = s.phase ≡ Yielding → s.term < MAX_NUMBER
 

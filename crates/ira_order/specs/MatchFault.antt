@@ -12,7 +12,7 @@ use Rattle.ira_order.specs.Matching.{sent, got, IsPaired, LinkMatches}
 abbrev pub HasNoSending : List Event → List Event → ℕ → Type 0
 HasNoSending writer reader k = (m : Load) × (numbered (got reader) k ≡ Some m) × (numbered (sent writer) k ≡ None)
 
--- the k-th receipt and the k-th sending are of different messages
+-- the k-th receipt and the k-th sending are of different loads
 abbrev pub HasOther : List Event → List Event → ℕ → Type 0
 HasOther writer reader k = (m n : Load) × (numbered (got reader) k ≡ Some m) × (numbered (sent writer) k ≡ Some n) × (m ≢ n)
 

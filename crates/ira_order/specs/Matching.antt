@@ -7,7 +7,7 @@ use Rattle.ira_event.specs.Log.{Log}
 pub use Rattle.ira_event.specs.Messages.{sending, receipt, sent, got}
 use Rattle.ira_order.specs.Ring.{next, log_of, numbered}
 
--- where the reader's log has a k-th receipt, the writer's has a k-th sending, of the same message
+-- where the reader's log has a k-th receipt, the writer's has a k-th sending, of the same load
 abbrev pub IsPaired : List Event → List Event → ℕ → Type 0
 IsPaired writer reader k = (m : Load) → numbered (got reader) k ≡ Some m → numbered (sent writer) k ≡ Some m
 

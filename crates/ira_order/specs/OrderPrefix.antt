@@ -9,11 +9,11 @@ use Rattle.ira_order.specs.Matching.{sent, got, sending, receipt}
 use Rattle.ira_order.specs.Order.{occurrences}
 use Rattle.ira_order.specs.Counts.{IsSchedule, IsReady}
 
--- how many messages an event sends
+-- how many loads an event sends
 abbrev pub sent_by : Event → ℕ
 sent_by event = length (cons_option (sending event) [])
 
--- how many messages an event receives
+-- how many loads an event receives
 abbrev pub got_by : Event → ℕ
 got_by event = length (cons_option (receipt event) [])
 

@@ -1,5 +1,5 @@
 -- Runs of a ring of nodes that follow the algorithm of Itai and Rodeh (Symmetry breaking in
--- distributed networks, Information and Computation 88, 1990).
+-- distributed networks, Information and Computation 88, 1990), with resets that begin a next term.
 use Rattle.std.specs.Prelude.{◌≡◌, ◌≢◌, ℕ, ◌<◌, ◌==◌, List, [], ◌∷◌, ◌++◌, Bool, false, Option, Some, None, length, slice_get, cond, map}
 use Rattle.std.specs.List.{filter_map}
 use Rattle.ira_event.specs.declared.load.Load.{Load}
@@ -13,7 +13,7 @@ use Rattle.ira_node.specs.NodeStep.{NodeStep}
 use Rattle.ira_replay.specs.LocalRun.{IsLocalRun}
 use Rattle.ira_order.specs.Ring.{prev, log_of}
 
--- what an event of node i does to the messages on the links of a ring of n nodes
+-- what an event of node i does to the loads on the links of a ring of n nodes
 abbrev pub LinkStep : ℕ → ℕ → Event → (ℕ → List Load) → (ℕ → List Load) → Type 0
 -- a draw changes no link
 LinkStep n i (Draw id) old new = (j : ℕ) → j < n → new j ≡ old j
