@@ -1,6 +1,6 @@
 use ira_cert::CertStep;
 use ira_elim::{Found, decide};
-use ira_fixtures::{ELECTION, first_case, logs_of, step};
+use ira_fixtures::{BOTH_LEAD, ELECTION, SECOND_TERM, first_case, logs_of, step};
 use ira_order::order;
 use ira_pred::read_question;
 use std::alloc::Global;
@@ -55,4 +55,12 @@ fn made_certificate(rt: HostRuntime) {
     let question = b"irask 1\nnodes 2\ncase\n0: leader\n1: active\nend\n";
     let steps = [step(1, 1, 0, 4), step(1, 2, 0, 4)];
     assert!(rt; is_absent_by(&found(&rt, &ELECTION, question), &steps, 1));
+}
+
+#[test]
+fn second_term(rt: HostRuntime) {
+    let steps = [step(0, 4, 1, 10)];
+    assert!(rt; is_absent_by(&found(&rt, &SECOND_TERM, BOTH_LEAD), &steps, 0));
+    let question = b"irask 1\nnodes 2\ncase\n0: (leader and term = 2)\nend\n";
+    assert!(rt; is_absent_by(&found(&rt, &SECOND_TERM, question), &[], 0));
 }

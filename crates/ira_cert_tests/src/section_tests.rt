@@ -4,8 +4,8 @@ use ira_cert::{
     eliminate,
 };
 use ira_fixtures::{
-    ACTIVE_AND_PASSIVE, BOTH_LEAD, ELECTION, LEADER_AND_ACTIVE, LEADER_AND_UNBEATEN, TIE,
-    first_case, logs_of, step,
+    ACTIVE_AND_PASSIVE, BOTH_LEAD, ELECTION, LEADER_AND_ACTIVE, LEADER_AND_UNBEATEN, SECOND_TERM,
+    TIE, first_case, logs_of, step,
 };
 use ira_order::order;
 use ira_pred::read_question;
@@ -62,6 +62,17 @@ fn judge_behind_an_elimination(
 fn candidates_behind_an_elimination(rt: HostRuntime) {
     let judged = judge_behind_an_elimination(&rt, &[step(1, 2, 0, 4)]);
     assert!(rt; judged == (Some(2), Verdict::Yes));
+}
+
+#[test]
+fn second_term(rt: HostRuntime) {
+    let steps = [step(0, 4, 1, 10)];
+    let verdicts = (
+        judge(&rt, &SECOND_TERM, BOTH_LEAD, &steps, 0),
+        judge(&rt, &SECOND_TERM, BOTH_LEAD, &[], 0),
+    );
+    let not_spent = Verdict::No(SectionFault::NotSpent(0));
+    assert!(rt; verdicts == (Verdict::Yes, not_spent));
 }
 
 #[test]

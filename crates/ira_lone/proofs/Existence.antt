@@ -1,21 +1,18 @@
 -- A setup that keeps the rules has a full run: as long as some node has a next event it is made, and there is
 -- less room for events each time.
-use Rattle.std.proofs.Common.{◌≡◌, ◌≢◌, ℕ, zero, suc, ◌+◌, ◌<◌, ◌≤◌, ◌⊎◌, inl, inr, All, List, [], ◌∷◌, Option, Some, None, length, get_or, refl, sym, ◌∙◌, subst, ap, arith}
+use Rattle.std.proofs.Common.{◌≡◌, ◌≢◌, ℕ, zero, suc, ◌+◌, ◌<◌, ◌≤◌, ◌⊎◌, inl, inr, All, List, [], ◌∷◌, length, get_or, refl, sym, ◌∙◌, subst, ap, arith}
 use Rattle.std.specs.Prelude.{map}
 use Rattle.std.specs.List.{range_with_len}
 use Rattle.std.proofs.Math.ListN.{set}
 use Rattle.std.proofs.lemmas.List.{get_or-set_same, get_or-set_other, length-set}
 use Rattle.std.proofs.lemmas.List.FromFn.{length-map-range_with_len, get_or-map-range_with_len}
-use Rattle.ira_event.specs.declared.msg.Msg.{Msg}
+use Rattle.ira_event.specs.declared.load.Load.{Load}
 use Rattle.ira_event.specs.declared.event.Event.{Event}
-use Rattle.ira_event.specs.declared.event.Event.TheVariants.{Draw, Sent, Got}
+use Rattle.ira_event.specs.declared.event.Event.TheVariants.{Draw, Sent, Got, Yield}
 use Rattle.ira_event.specs.Log.{Log}
-use Rattle.ira_node.specs.declared.phase.Phase.{Phase}
-use Rattle.ira_node.specs.declared.phase.Phase.TheVariants.{Choosing, Active, Passive, Leader}
 use Rattle.ira_node.specs.declared.node_state.NodeState.{NodeState}
 use Rattle.ira_node.specs.declared.wanted.Wanted.{Wanted}
-use Rattle.ira_node.specs.declared.wanted.Wanted.TheVariants.{Draw as WantsDraw, Send, Receipt, Nothing}
-use Rattle.ira_node.specs.NodeState.{IsLeader}
+use Rattle.ira_node.specs.declared.wanted.Wanted.TheVariants.{Draw as WantsDraw, Send, Receipt, Yield as WantsYield, Nothing}
 use Rattle.ira_node.specs.NodeStep.{HasStep}
 use Rattle.ira_node.specs.NodeStepFault.{NodeStepFault}
 use Rattle.ira_node.specs.Wanted.{CanCome, wanted_of}
@@ -31,7 +28,7 @@ use Rattle.ira_run.proofs.FullRuns.{no_log}
 use Rattle.ira_lone.specs.LoneNode.{LoneNode, IsNext, HasNoNext, after_event, after_put}
 use Rattle.ira_lone.specs.LoneRing.{idle, node_at, IsMoved, IsReached, AreAtEnd}
 use Rattle.ira_lone.proofs.LoneLogs.{log_at, all_logs}
-use Rattle.ira_lone.proofs.LoneNodes.{next_draw, next_got, next_sent, spent, no_step, quiet, full_ends}
+use Rattle.ira_lone.proofs.LoneNodes.{wants_nothing, wants_yield, next_draw, next_got, next_sent, spent, no_step, quiet, full_ends}
 use Rattle.ira_lone.proofs.LoneRuns.{full_logs}
 use Rattle.ira_lone.proofs.LoneStarts.{first_node, started}
 use Rattle.ira_lone.proofs.LoneSteps.{turn_reaches}
@@ -44,15 +41,6 @@ use Rattle.ira_lone.proofs.LoneTurnsOn.{room_in, less_room}
 abbrev HasNext : ℕ → ℕ → LoneNode → Type 0
 HasNext n most node = (e : Event) × (after : NodeState) × IsNext n most node e after
 
-wants_nothing : (phase : Phase) (owed : Option Msg) → Nothing ≡ wanted_of phase owed → IsLeader phase
-wants_nothing (Leader round id) owed h = tt
-wants_nothing (Choosing round) None h = cc
-wants_nothing (Active round id) None h = cc
-wants_nothing Passive None h = cc
-wants_nothing (Choosing round) (Some m) h = cc
-wants_nothing (Active round id) (Some m) h = cc
-wants_nothing Passive (Some m) h = cc
-
 no_step_where_fault : (n : ℕ) (s : NodeState) (e : Event) → ((f : _) × NodeStepFault n s e f) → ¬ (HasStep n s e)
 no_step_where_fault n s e fault step =
     let bad = fault_gives n s e fault.0 fault.1 in
@@ -60,25 +48,26 @@ no_step_where_fault n s e fault step =
     cc
 
 module _ (n most : ℕ) (node : LoneNode) (room : length node.events < most) where
-  drawing : (ids : List ℕ) → node.ids ≡ ids → All (λ d. (1 ≤ d) × (d ≤ n)) ids → WantsDraw ≡ wanted_of node.state.phase node.state.owed → CanCome n node.state WantsDraw → HasNext n most node ⊎ HasNoNext n most node
+  drawing : (ids : List ℕ) → node.ids ≡ ids → All (λ d. (1 ≤ d) × (d ≤ n)) ids → WantsDraw ≡ wanted_of node.state.term node.state.phase node.state.owed → CanCome n node.state WantsDraw → HasNext n most node ⊎ HasNoNext n most node
   drawing [] is all wants can = inr (spent n most node wants room (ap length is))
   drawing (id ∷ rest) is all wants can =
       let within : (1 ≤ id) × (id ≤ n) = all 0 0 (omega arith) in
       let step : HasStep n node.state (Draw id) = can id within.0 within.1 in
       inl (Draw id, step.0, next_draw n most node id rest step.0 wants room is step.1)
 
-  receiving : (input : List Msg) → node.input ≡ input → Receipt ≡ wanted_of node.state.phase node.state.owed → HasNext n most node ⊎ HasNoNext n most node
+  receiving : (input : List Load) → node.input ≡ input → Receipt ≡ wanted_of node.state.term node.state.phase node.state.owed → HasNext n most node ⊎ HasNoNext n most node
   receiving [] is wants = inr (quiet n most node wants room (λ some. omega (arith, some, ap length is)))
   receiving (m ∷ rest) is wants =
       let some : 0 < length node.input = omega (arith, ap length is) in
-      let first : m ≡ get_or node.input 0 m = sym (ap (λ (ms : List Msg). get_or ms 0 m) is) in
+      let first : m ≡ get_or node.input 0 m = sym (ap (λ (ms : List Load). get_or ms 0 m) is) in
       elim (a_step_or_a_fault n node.state (Got m)) [
         | inl step ↦ inl (Got m, step.0, next_got n most node m step.0 wants room some first step.1)
         | inr fault ↦ inr (no_step n most node m wants room some first (no_step_where_fault n node.state (Got m) fault))
       ]
 
-  by_want : (w : Wanted) → w ≡ wanted_of node.state.phase node.state.owed → All (λ d. (1 ≤ d) × (d ≤ n)) node.ids → CanCome n node.state w → HasNext n most node ⊎ HasNoNext n most node
-  by_want Nothing wants all can = inr (Leads, wants_nothing node.state.phase node.state.owed wants)
+  by_want : (w : Wanted) → w ≡ wanted_of node.state.term node.state.phase node.state.owed → All (λ d. (1 ≤ d) × (d ≤ n)) node.ids → CanCome n node.state w → HasNext n most node ⊎ HasNoNext n most node
+  by_want Nothing wants all can = inr (Leads, wants_nothing node.state.term node.state.phase node.state.owed wants)
+  by_want WantsYield wants all can = inr (Leads, wants_yield node.state.term node.state.phase node.state.owed wants)
   by_want WantsDraw wants all can = drawing node.ids refl all wants can
   by_want (Send m) wants all can = inl (Sent m, can.0, next_sent n most node m can.0 wants room can.1)
   by_want Receipt wants all can = receiving node.input refl wants
@@ -86,7 +75,7 @@ module _ (n most : ℕ) (node : LoneNode) (room : length node.events < most) whe
 next_or_none : (s : Setup) (node : LoneNode) → KeepsRules s → All (λ d. (1 ≤ d) × (d ≤ s.nodes)) node.ids → HasNext s.nodes s.cap node ⊎ HasNoNext s.nodes s.cap node
 next_or_none s node rules all = elim (cases_lt (length node.events) s.cap) [
   | inl room ↦
-      let w : Wanted = wanted_of node.state.phase node.state.owed in
+      let w : Wanted = wanted_of node.state.term node.state.phase node.state.owed in
       by_want s.nodes s.cap node room w refl all (can_come s.nodes node.state w refl rules.size)
   | inr full ↦ inr (full_ends s.nodes s.cap node full)
 ]
@@ -112,6 +101,7 @@ module _ (n i : ℕ) (after : NodeState) (old : List LoneNode) (two : 2 ≤ n) (
   moves : (e : Event) → (new : List LoneNode) × (length new ≡ length old) × IsMoved n i e after old new
   moves (Draw id) = (with_event (Draw id), many_with (Draw id) ∙ sym many, (at_event (Draw id), by_event (Draw id)))
   moves (Got m) = (with_event (Got m), many_with (Got m) ∙ sym many, (at_event (Got m), by_event (Got m)))
+  moves Yield = (with_event Yield, many_with Yield ∙ sym many, (at_event Yield, by_event Yield))
   moves (Sent m) =
       let mid : List LoneNode = with_event (Sent m) in
       let put : LoneNode = after_put (node_at old (next n i)) m in

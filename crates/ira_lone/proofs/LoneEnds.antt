@@ -3,7 +3,7 @@ use Rattle.std.proofs.Common.{◌≡◌, ℕ, ◌+◌, ◌++◌, ◌<◌, List, 
 use Rattle.std.proofs.lemmas.Option.{get_or_from_slice_get, slice_get_within}
 use Rattle.ira_event.specs.declared.event.Event.{Event}
 use Rattle.ira_event.specs.declared.event.Event.TheVariants.{Got}
-use Rattle.ira_event.specs.declared.msg.Msg.{Msg}
+use Rattle.ira_event.specs.declared.load.Load.{Load}
 use Rattle.ira_node.specs.declared.phase.Phase.TheVariants.{Choosing}
 use Rattle.ira_node.specs.declared.node_state.NodeState.{NodeState}
 use Rattle.ira_node.specs.NodeState.{free, IsLeader, Receives}
@@ -18,7 +18,7 @@ use Rattle.ira_run.specs.FullRun.{events_at, drawn, HasEvent, owes, chooses, rec
 use Rattle.ira_lone.specs.LoneNode.{LoneNode, Ends, HasNoNext}
 use Rattle.ira_lone.specs.LoneRing.{node_at, IsReached, AreAtEnd, AreEndsOfNodes}
 use Rattle.ira_run.proofs.Choosing.{choosing_no_receipt, choosing_no_waiting}
-use Rattle.ira_lone.proofs.LoneNodes.{choosing_leads_not, first_message, parts}
+use Rattle.ira_lone.proofs.LoneNodes.{choosing_leads_not, first_load, parts}
 use Rattle.ira_lone.proofs.LoneStarts.{each_more}
 use Rattle.ira_lone.proofs.LoneTurns.{read_at}
 
@@ -27,18 +27,18 @@ pub ended_no_event : (n most : ℕ) (ids : List ℕ) (node : LoneNode) (end : No
 ended_no_event n most ids node Leader left h not_leader room event = not_leader h
 ended_no_event n most ids node Stopped left h not_leader room event = h
 ended_no_event n most ids node LogFull left h not_leader room event = omega (arith, h.1)
-ended_no_event n most ids node DrawsSpent left h not_leader room (owes m o) = let is = h.1.1 in cc
-ended_no_event n most ids node DrawsSpent left h not_leader room (chooses round is unused) = omega (arith, ap length left, length-append (drawn node.events) node.ids, ap length h.2)
-ended_no_event n most ids node DrawsSpent left h not_leader room (receives m others is step) = choosing_no_receipt n h.1.0 node.state m h.1.1 step
+ended_no_event n most ids node DrawsSpent left h not_leader room (owes m o) = let is = h.1.2 in cc
+ended_no_event n most ids node DrawsSpent left h not_leader room (chooses term round is unused) = omega (arith, ap length left, length-append (drawn node.events) node.ids, ap length h.2)
+ended_no_event n most ids node DrawsSpent left h not_leader room (receives m others is step) = choosing_no_receipt n h.1.0 h.1.1 node.state m h.1.2 step
 ended_no_event n most ids node (NoStep k) left h not_leader room (owes m o) = let is = h.1 in cc
-ended_no_event n most ids node (NoStep k) left h not_leader room (chooses round is unused) = choosing_no_waiting round node.state is h.2
+ended_no_event n most ids node (NoStep k) left h not_leader room (chooses term round is unused) = choosing_no_waiting term round node.state is h.2
 ended_no_event n most ids node (NoStep k) left h not_leader room (receives m others is step) =
     let first = h.3.1 in
     let same : m ≡ k = cc in
-    let P : Msg → Type 0 = λ x. HasStep n node.state (Got x) in
+    let P : Load → Type 0 = λ x. HasStep n node.state (Got x) in
     h.4 (subst P same step)
 ended_no_event n most ids node Quiet left h not_leader room (owes m o) = let is = h.1 in cc
-ended_no_event n most ids node Quiet left h not_leader room (chooses round is unused) = choosing_no_waiting round node.state is h.2
+ended_no_event n most ids node Quiet left h not_leader room (chooses term round is unused) = choosing_no_waiting term round node.state is h.2
 ended_no_event n most ids node Quiet left h not_leader room (receives m others is step) = let none = h.3 in cc
 
 -- so it can't step
@@ -48,7 +48,7 @@ ended_no_step s nodes reached i l ended can =
     let P : NodeState → Type 0 = λ x. ¬ (IsLeader x.phase) in
     let Q : NodeState → Type 0 = λ x. HasEvent s.nodes (node_draws s i) x (node_at nodes i).events (node_at nodes i).input in
     let R : List Event → Type 0 = λ x. HasEvent s.nodes (node_draws s i) (reached.point.state i) x (node_at nodes i).input in
-    let S : List Msg → Type 0 = λ x. HasEvent s.nodes (node_draws s i) (reached.point.state i) (events_at reached.run i) x in
+    let S : List Load → Type 0 = λ x. HasEvent s.nodes (node_draws s i) (reached.point.state i) (events_at reached.run i) x in
     ended_no_event s.nodes s.cap (node_draws s i) (node_at nodes i) ended.0 (reached.draws i l) ended.1
     (subst P (reached.states i l) can.not_leader)
     (omega (arith, can.room, ap length (reached.events i l)))
@@ -56,32 +56,32 @@ ended_no_step s nodes reached i l ended can =
 
 -- ---- the ends, as the code finds them
 
-spent_ids : (n most round : ℕ) (node : LoneNode) (end : NodeEnd) (ids : List ℕ) → node.ids ≡ ids → Ends n most node end → node.state ≡ free (Choosing round) → length node.events < most → ids ≡ []
-spent_ids n most round node end [] is ends choosing room = refl
-spent_ids n most round node end (id ∷ ids) is ends choosing room =
-    absurd (ended_no_event n most (drawn node.events ++ node.ids) node end refl ends (choosing_leads_not node.state round choosing) room
-    (chooses round choosing (omega (arith, length-append (drawn node.events) node.ids, ap length is))))
+spent_ids : (n most term round : ℕ) (node : LoneNode) (end : NodeEnd) (ids : List ℕ) → node.ids ≡ ids → Ends n most node end → node.state ≡ free term (Choosing round) → length node.events < most → ids ≡ []
+spent_ids n most term round node end [] is ends choosing room = refl
+spent_ids n most term round node end (id ∷ ids) is ends choosing room =
+    absurd (ended_no_event n most (drawn node.events ++ node.ids) node end refl ends (choosing_leads_not node.state term round choosing) room
+    (chooses term round choosing (omega (arith, length-append (drawn node.events) node.ids, ap length is))))
 
-pub ends_spent : (n most : ℕ) (state : NodeState) (ids : List ℕ) (input : List Msg) (events : List Event) (node : LoneNode) → parts state ids input events ≡ node → WantsDraw ≡ wanted_of state.phase state.owed → length events < most
+pub ends_spent : (n most : ℕ) (state : NodeState) (ids : List ℕ) (input : List Load) (events : List Event) (node : LoneNode) → parts state ids input events ≡ node → WantsDraw ≡ wanted_of state.term state.phase state.owed → length events < most
     → HasNoNext n most node → Ends n most node DrawsSpent
 ends_spent n most state ids input events node is wants room =
     let P : LoneNode → Type 0 = λ x. HasNoNext n most x → Ends n most x DrawsSpent in
-    let w : (round : ℕ) × (state ≡ free (Choosing round)) = wants_draw state.phase state.owed wants in
-    subst P is (λ ended. (room, w, spent_ids n most w.0 (parts state ids input events) ended.0 ids refl ended.1 w.1 room))
+    let w : (round : ℕ) × (state ≡ free state.term (Choosing round)) = wants_draw state.term state.phase state.owed wants in
+    subst P is (λ ended. (room, (state.term, w.0, w.1), spent_ids n most state.term w.0 (parts state ids input events) ended.0 ids refl ended.1 w.1 room))
 
-pub ends_waiting : (n most : ℕ) (state : NodeState) (ids : List ℕ) (input : List Msg) (events : List Event) (node : LoneNode) (m : Msg) → parts state ids input events ≡ node → Receipt ≡ wanted_of state.phase state.owed → length events < most
+pub ends_waiting : (n most : ℕ) (state : NodeState) (ids : List ℕ) (input : List Load) (events : List Event) (node : LoneNode) (m : Load) → parts state ids input events ≡ node → Receipt ≡ wanted_of state.term state.phase state.owed → length events < most
     → 0 < length input → m ≡ get_or input 0 m → HasNoNext n most node → Ends n most node (NoStep m)
 ends_waiting n most state ids input events node m is wants room some first =
     let P : LoneNode → Type 0 = λ x. HasNoNext n most x → Ends n most x (NoStep m) in
-    let w : (state.owed ≡ None) × Receives state.phase = wants_receipt state.phase state.owed wants in
-    let f : (rest : List Msg) × (input ≡ m ∷ rest) = first_message input m some first in
+    let w : (state.owed ≡ None) × Receives state.phase = wants_receipt state.term state.phase state.owed wants in
+    let f : (rest : List Load) × (input ≡ m ∷ rest) = first_load input m some first in
     subst P is (λ ended. (room, w.0, w.1, f, λ step. ended_no_event n most (drawn events ++ ids) (parts state ids input events) ended.0 refl ended.1 (receiving_leads_not state.phase w.1) room (receives m f.0 f.1 step)))
 
-pub owing_goes_on : (n most : ℕ) (state : NodeState) (ids : List ℕ) (input : List Msg) (events : List Event) (node : LoneNode) (m : Msg) → parts state ids input events ≡ node → Send m ≡ wanted_of state.phase state.owed → length events < most
+pub owing_goes_on : (n most : ℕ) (state : NodeState) (ids : List ℕ) (input : List Load) (events : List Event) (node : LoneNode) (m : Load) → parts state ids input events ≡ node → Send m ≡ wanted_of state.term state.phase state.owed → length events < most
     → HasNoNext n most node → ⊥
 owing_goes_on n most state ids input events node m is wants room =
     let P : LoneNode → Type 0 = λ x. HasNoNext n most x → ⊥ in
-    subst P is (λ ended. ended_no_event n most (drawn events ++ ids) (parts state ids input events) ended.0 refl ended.1 (owing_leads_not state.phase state.owed m wants) room (owes m (wants_send state.phase state.owed m wants)))
+    subst P is (λ ended. ended_no_event n most (drawn events ++ ids) (parts state ids input events) ended.0 refl ended.1 (owing_leads_not state.term state.phase state.owed m wants) room (owes m (wants_send state.term state.phase state.owed m wants)))
 
 pub ended_at : (s : Setup) (nodes : List LoneNode) (i most : ℕ) (node : LoneNode) → AreAtEnd s nodes → i < length nodes → most ≡ s.cap → node ≡ get_or nodes i node → HasNoNext s.nodes most node
 ended_at s nodes i most node done l room read =

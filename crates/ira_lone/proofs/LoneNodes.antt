@@ -1,12 +1,12 @@
 -- What a node of a lone run does next, or how it ends.
 use Rattle.std.proofs.Common.{◌≡◌, ℕ, suc, ◌<◌, ◌≤◌, All, length-append, List, [], ◌∷◌, Option, Some, None, ◌++◌, length, get_or, drop, refl, sym, ◌∙◌, subst, ap, arith}
-use Rattle.ira_event.specs.declared.msg.Msg.{Msg}
+use Rattle.ira_event.specs.declared.load.Load.{Load}
 use Rattle.ira_event.specs.declared.event.Event.{Event}
-use Rattle.ira_event.specs.declared.event.Event.TheVariants.{Draw, Sent, Got}
+use Rattle.ira_event.specs.declared.event.Event.TheVariants.{Draw, Sent, Got, Yield}
 use Rattle.ira_node.specs.declared.phase.Phase.{Phase}
-use Rattle.ira_node.specs.declared.phase.Phase.TheVariants.{Choosing, Active, Passive, Leader}
+use Rattle.ira_node.specs.declared.phase.Phase.TheVariants.{Choosing, Active, Passive, Leader, Yielding}
 use Rattle.ira_node.specs.declared.node_state.NodeState.{NodeState}
-use Rattle.ira_node.specs.declared.wanted.Wanted.TheVariants.{Draw as WantsDraw, Send, Receipt}
+use Rattle.ira_node.specs.declared.wanted.Wanted.TheVariants.{Draw as WantsDraw, Send, Receipt, Yield as WantsYield, Nothing}
 use Rattle.ira_node.specs.Wanted.{wanted_of}
 use Rattle.ira_node.specs.NodeStep.{NodeStep, HasStep}
 use Rattle.ira_node.specs.NodeState.{free, IsLeader, Receives}
@@ -14,63 +14,88 @@ use Rattle.ira_node.proofs.Wants.{wants_draw, wants_receipt, owing_leads_not, re
 use Rattle.ira_run.specs.declared.node_end.NodeEnd.TheVariants.{Leader as Leads, DrawsSpent, LogFull, NoStep, Quiet}
 use Rattle.ira_lone.specs.LoneNode.{LoneNode, IsNext, HasNoNext, MakesOwn, MakesSending, GoesTo, drawn_by, after_event}
 
-pub choosing_leads_not : (s : NodeState) (round : ℕ) → s ≡ free (Choosing round) → ¬ (IsLeader s.phase)
-choosing_leads_not s round is l = let P : NodeState → Type 0 = λ x. IsLeader x.phase in subst P is l
+-- a node that is to yield, or that has nothing to do, leads
+pub wants_yield : (term : ℕ) (phase : Phase) (owed : Option Load) → WantsYield ≡ wanted_of term phase owed → IsLeader phase
+wants_yield term (Leader round id) owed h = tt
+wants_yield term (Choosing round) None h = cc
+wants_yield term (Active round id) None h = cc
+wants_yield term Passive None h = cc
+wants_yield term Yielding None h = cc
+wants_yield term (Choosing round) (Some m) h = cc
+wants_yield term (Active round id) (Some m) h = cc
+wants_yield term Passive (Some m) h = cc
+wants_yield term Yielding (Some m) h = cc
+
+pub wants_nothing : (term : ℕ) (phase : Phase) (owed : Option Load) → Nothing ≡ wanted_of term phase owed → IsLeader phase
+wants_nothing term (Leader round id) owed h = tt
+wants_nothing term (Choosing round) None h = cc
+wants_nothing term (Active round id) None h = cc
+wants_nothing term Passive None h = cc
+wants_nothing term Yielding None h = cc
+wants_nothing term (Choosing round) (Some m) h = cc
+wants_nothing term (Active round id) (Some m) h = cc
+wants_nothing term Passive (Some m) h = cc
+wants_nothing term Yielding (Some m) h = cc
+
+pub choosing_leads_not : (s : NodeState) (term round : ℕ) → s ≡ free term (Choosing round) → ¬ (IsLeader s.phase)
+choosing_leads_not s term round is l = let P : NodeState → Type 0 = λ x. IsLeader x.phase in subst P is l
 
 no_number : (ids : List ℕ) → length ids ≡ 0 → ids ≡ []
 no_number [] h = refl
 no_number (x ∷ ids) h = absurd (omega arith)
 
-pub no_message : (ms : List Msg) → ¬ (0 < length ms) → ms ≡ []
-no_message [] h = refl
-no_message (x ∷ ms) h = absurd (h (omega arith))
+pub no_load : (ms : List Load) → ¬ (0 < length ms) → ms ≡ []
+no_load [] h = refl
+no_load (x ∷ ms) h = absurd (h (omega arith))
 
-pub first_message : (ms : List Msg) (m : Msg) → 0 < length ms → m ≡ get_or ms 0 m → (rest : List Msg) × (ms ≡ m ∷ rest)
-first_message [] m l h = absurd (omega arith)
-first_message (x ∷ ms) m l h = (ms, cc)
+pub first_load : (ms : List Load) (m : Load) → 0 < length ms → m ≡ get_or ms 0 m → (rest : List Load) × (ms ≡ m ∷ rest)
+first_load [] m l h = absurd (omega arith)
+first_load (x ∷ ms) m l h = (ms, cc)
 
 -- ---- the next event, by what the state wants
 
-pub next_draw : (n most : ℕ) (node : LoneNode) (id : ℕ) (rest : List ℕ) (after : NodeState) → WantsDraw ≡ wanted_of node.state.phase node.state.owed → length node.events < most → node.ids ≡ id ∷ rest → NodeStep n node.state (Draw id) after
+pub next_draw : (n most : ℕ) (node : LoneNode) (id : ℕ) (rest : List ℕ) (after : NodeState) → WantsDraw ≡ wanted_of node.state.term node.state.phase node.state.owed → length node.events < most → node.ids ≡ id ∷ rest → NodeStep n node.state (Draw id) after
     → IsNext n most node (Draw id) after
 next_draw n most node id rest after wants room first step =
-    let w : (round : ℕ) × (node.state ≡ free (Choosing round)) = wants_draw node.state.phase node.state.owed wants in
-    record { not_leader = choosing_leads_not node.state w.0 w.1; room = room; step = step; first = (rest, first) }
+    let w : (round : ℕ) × (node.state ≡ free node.state.term (Choosing round)) = wants_draw node.state.term node.state.phase node.state.owed wants in
+    record { not_leader = choosing_leads_not node.state node.state.term w.0 w.1; room = room; step = step; first = (rest, first) }
 
-pub next_got : (n most : ℕ) (node : LoneNode) (m : Msg) (after : NodeState) → Receipt ≡ wanted_of node.state.phase node.state.owed → length node.events < most → 0 < length node.input → m ≡ get_or node.input 0 m → NodeStep n node.state (Got m) after
+pub next_got : (n most : ℕ) (node : LoneNode) (m : Load) (after : NodeState) → Receipt ≡ wanted_of node.state.term node.state.phase node.state.owed → length node.events < most → 0 < length node.input → m ≡ get_or node.input 0 m → NodeStep n node.state (Got m) after
     → IsNext n most node (Got m) after
 next_got n most node m after wants room some first step =
-    let w : (node.state.owed ≡ None) × Receives node.state.phase = wants_receipt node.state.phase node.state.owed wants in
-    record { not_leader = receiving_leads_not node.state.phase w.1; room = room; step = step; first = first_message node.input m some first }
+    let w : (node.state.owed ≡ None) × Receives node.state.phase = wants_receipt node.state.term node.state.phase node.state.owed wants in
+    record { not_leader = receiving_leads_not node.state.phase w.1; room = room; step = step; first = first_load node.input m some first }
 
-pub next_sent : (n most : ℕ) (node : LoneNode) (m : Msg) (after : NodeState) → Send m ≡ wanted_of node.state.phase node.state.owed → length node.events < most → NodeStep n node.state (Sent m) after → IsNext n most node (Sent m) after
-next_sent n most node m after wants room step = record { not_leader = owing_leads_not node.state.phase node.state.owed m wants; room = room; step = step; first = tt }
+pub next_sent : (n most : ℕ) (node : LoneNode) (m : Load) (after : NodeState) → Send m ≡ wanted_of node.state.term node.state.phase node.state.owed → length node.events < most → NodeStep n node.state (Sent m) after → IsNext n most node (Sent m) after
+next_sent n most node m after wants room step = record { not_leader = owing_leads_not node.state.term node.state.phase node.state.owed m wants; room = room; step = step; first = tt }
 
 -- ---- no next event, by what the state wants
 
-pub spent : (n most : ℕ) (node : LoneNode) → WantsDraw ≡ wanted_of node.state.phase node.state.owed → length node.events < most → length node.ids ≡ 0 → HasNoNext n most node
-spent n most node wants room none = (DrawsSpent, (room, wants_draw node.state.phase node.state.owed wants, no_number node.ids none))
+pub spent : (n most : ℕ) (node : LoneNode) → WantsDraw ≡ wanted_of node.state.term node.state.phase node.state.owed → length node.events < most → length node.ids ≡ 0 → HasNoNext n most node
+spent n most node wants room none =
+    let w : (round : ℕ) × (node.state ≡ free node.state.term (Choosing round)) = wants_draw node.state.term node.state.phase node.state.owed wants in
+    (DrawsSpent, (room, (node.state.term, w.0, w.1), no_number node.ids none))
 
-pub no_step : (n most : ℕ) (node : LoneNode) (m : Msg) → Receipt ≡ wanted_of node.state.phase node.state.owed → length node.events < most → 0 < length node.input → m ≡ get_or node.input 0 m → ¬ (HasStep n node.state (Got m)) → HasNoNext n most node
+pub no_step : (n most : ℕ) (node : LoneNode) (m : Load) → Receipt ≡ wanted_of node.state.term node.state.phase node.state.owed → length node.events < most → 0 < length node.input → m ≡ get_or node.input 0 m → ¬ (HasStep n node.state (Got m)) → HasNoNext n most node
 no_step n most node m wants room some first none =
-    let w : (node.state.owed ≡ None) × Receives node.state.phase = wants_receipt node.state.phase node.state.owed wants in
-    (NoStep m, (room, w.0, w.1, first_message node.input m some first, none))
+    let w : (node.state.owed ≡ None) × Receives node.state.phase = wants_receipt node.state.term node.state.phase node.state.owed wants in
+    (NoStep m, (room, w.0, w.1, first_load node.input m some first, none))
 
-pub quiet : (n most : ℕ) (node : LoneNode) → Receipt ≡ wanted_of node.state.phase node.state.owed → length node.events < most → ¬ (0 < length node.input) → HasNoNext n most node
+pub quiet : (n most : ℕ) (node : LoneNode) → Receipt ≡ wanted_of node.state.term node.state.phase node.state.owed → length node.events < most → ¬ (0 < length node.input) → HasNoNext n most node
 quiet n most node wants room none =
-    let w : (node.state.owed ≡ None) × Receives node.state.phase = wants_receipt node.state.phase node.state.owed wants in
-    (Quiet, (room, w.0, w.1, no_message node.input none))
+    let w : (node.state.owed ≡ None) × Receives node.state.phase = wants_receipt node.state.term node.state.phase node.state.owed wants in
+    (Quiet, (room, w.0, w.1, no_load node.input none))
 
 -- ---- the same, as the code holds the parts of a node and its state
 
-abbrev pub parts : NodeState → List ℕ → List Msg → List Event → LoneNode
+abbrev pub parts : NodeState → List ℕ → List Load → List Event → LoneNode
 parts state ids input events = record { state = state; ids = ids; input = input; events = events }
 
-pub makes_draw : (n most : ℕ) (state : NodeState) (ids : List ℕ) (input : List Msg) (events : List Event) (node : LoneNode) (held after : NodeState) (id : ℕ) (rest : List ℕ) (pushed : List Event)
-    → parts state ids input events ≡ node → held ≡ node.state → WantsDraw ≡ wanted_of held.phase held.owed → length node.events < most
+pub makes_draw : (n most : ℕ) (state : NodeState) (ids : List ℕ) (input : List Load) (events : List Event) (node : LoneNode) (held after : NodeState) (id : ℕ) (rest : List ℕ) (pushed : List Event)
+    → parts state ids input events ≡ node → held ≡ node.state → WantsDraw ≡ wanted_of held.term held.phase held.owed → length node.events < most
     → ids ≡ id ∷ rest → NodeStep n held (Draw id) after → pushed ≡ events ++ Draw id ∷ [] → MakesOwn n most node (parts after rest input pushed) (Some after)
 makes_draw n most state ids input events node held after id rest pushed is same wants room first step more =
-    let W : NodeState → Type 0 = λ x. WantsDraw ≡ wanted_of x.phase x.owed in
+    let W : NodeState → Type 0 = λ x. WantsDraw ≡ wanted_of x.term x.phase x.owed in
     let S : NodeState → Type 0 = λ x. NodeStep n x (Draw id) after in
     let N : LoneNode → Type 0 = λ x. parts after rest input pushed ≡ after_event x (Draw id) after in (
       Draw id,
@@ -79,11 +104,11 @@ makes_draw n most state ids input events node held after id rest pushed is same 
       subst N is (rw (first, more) refl),
     )
 
-pub makes_got : (n most : ℕ) (state : NodeState) (ids : List ℕ) (input : List Msg) (events : List Event) (node : LoneNode) (held after : NodeState) (m : Msg) (rest : List Msg) (pushed : List Event)
-    → parts state ids input events ≡ node → held ≡ node.state → Receipt ≡ wanted_of held.phase held.owed → length node.events < most
+pub makes_got : (n most : ℕ) (state : NodeState) (ids : List ℕ) (input : List Load) (events : List Event) (node : LoneNode) (held after : NodeState) (m : Load) (rest : List Load) (pushed : List Event)
+    → parts state ids input events ≡ node → held ≡ node.state → Receipt ≡ wanted_of held.term held.phase held.owed → length node.events < most
     → 0 < length input → m ≡ get_or input 0 m → NodeStep n held (Got m) after → pushed ≡ events ++ Got m ∷ [] → rest ≡ drop 1 input → MakesOwn n most node (parts after ids rest pushed) (Some after)
 makes_got n most state ids input events node held after m rest pushed is same wants room some first step more behind =
-    let W : NodeState → Type 0 = λ x. Receipt ≡ wanted_of x.phase x.owed in
+    let W : NodeState → Type 0 = λ x. Receipt ≡ wanted_of x.term x.phase x.owed in
     let S : NodeState → Type 0 = λ x. NodeStep n x (Got m) after in
     let F : LoneNode → Type 0 = λ x. m ≡ get_or x.input 0 m in
     let N : LoneNode → Type 0 = λ x. parts after ids rest pushed ≡ after_event x (Got m) after in (
@@ -93,11 +118,11 @@ makes_got n most state ids input events node held after m rest pushed is same wa
       subst N is (rw (behind, more) refl),
     )
 
-pub makes_sending : (n most : ℕ) (state : NodeState) (ids : List ℕ) (input : List Msg) (events : List Event) (node : LoneNode) (held after : NodeState) (m : Msg) (pushed : List Event)
-    → parts state ids input events ≡ node → held ≡ node.state → Send m ≡ wanted_of held.phase held.owed → length node.events < most
+pub makes_sending : (n most : ℕ) (state : NodeState) (ids : List ℕ) (input : List Load) (events : List Event) (node : LoneNode) (held after : NodeState) (m : Load) (pushed : List Event)
+    → parts state ids input events ≡ node → held ≡ node.state → Send m ≡ wanted_of held.term held.phase held.owed → length node.events < most
     → NodeStep n held (Sent m) after → pushed ≡ events ++ Sent m ∷ [] → MakesSending n most node (parts after ids input pushed) m
 makes_sending n most state ids input events node held after m pushed is same wants room step more =
-    let W : NodeState → Type 0 = λ x. Send m ≡ wanted_of x.phase x.owed in
+    let W : NodeState → Type 0 = λ x. Send m ≡ wanted_of x.term x.phase x.owed in
     let S : NodeState → Type 0 = λ x. NodeStep n x (Sent m) after in
     let N : LoneNode → Type 0 = λ x. parts after ids input pushed ≡ after_event x (Sent m) after in (
       after,
@@ -105,25 +130,25 @@ makes_sending n most state ids input events node held after m pushed is same wan
       subst N is (rw more refl),
     )
 
-pub draws_none : (n most : ℕ) (state : NodeState) (ids : List ℕ) (input : List Msg) (events : List Event) (node : LoneNode) (held : NodeState) → parts state ids input events ≡ node → held ≡ node.state
-    → WantsDraw ≡ wanted_of held.phase held.owed → length node.events < most → length ids ≡ 0 → HasNoNext n most node
+pub draws_none : (n most : ℕ) (state : NodeState) (ids : List ℕ) (input : List Load) (events : List Event) (node : LoneNode) (held : NodeState) → parts state ids input events ≡ node → held ≡ node.state
+    → WantsDraw ≡ wanted_of held.term held.phase held.owed → length node.events < most → length ids ≡ 0 → HasNoNext n most node
 draws_none n most state ids input events node held is same wants room none =
-    let W : NodeState → Type 0 = λ x. WantsDraw ≡ wanted_of x.phase x.owed in
+    let W : NodeState → Type 0 = λ x. WantsDraw ≡ wanted_of x.term x.phase x.owed in
     spent n most node (subst W same wants) room (omega (arith, none, ap (λ (x : LoneNode). length x.ids) is))
 
-pub takes_none : (n most : ℕ) (state : NodeState) (ids : List ℕ) (input : List Msg) (events : List Event) (node : LoneNode) (held : NodeState) (m : Msg) → parts state ids input events ≡ node → held ≡ node.state
-    → Receipt ≡ wanted_of held.phase held.owed → length node.events < most → 0 < length input → m ≡ get_or input 0 m → ¬ (HasStep n held (Got m)) → HasNoNext n most node
+pub takes_none : (n most : ℕ) (state : NodeState) (ids : List ℕ) (input : List Load) (events : List Event) (node : LoneNode) (held : NodeState) (m : Load) → parts state ids input events ≡ node → held ≡ node.state
+    → Receipt ≡ wanted_of held.term held.phase held.owed → length node.events < most → 0 < length input → m ≡ get_or input 0 m → ¬ (HasStep n held (Got m)) → HasNoNext n most node
 takes_none n most state ids input events node held m is same wants room some first none =
-    let W : NodeState → Type 0 = λ x. Receipt ≡ wanted_of x.phase x.owed in
+    let W : NodeState → Type 0 = λ x. Receipt ≡ wanted_of x.term x.phase x.owed in
     let S : NodeState → Type 0 = λ x. ¬ (HasStep n x (Got m)) in
     let F : LoneNode → Type 0 = λ x. m ≡ get_or x.input 0 m in
     no_step n most node m (subst W same wants) room (omega (arith, some, ap (λ (x : LoneNode). length x.input) is)) (subst F is first) (subst S same none)
 
-pub finds_none : (n most : ℕ) (state : NodeState) (ids : List ℕ) (input : List Msg) (events : List Event) (node : LoneNode) (held : NodeState) → parts state ids input events ≡ node → held ≡ node.state
-    → Receipt ≡ wanted_of held.phase held.owed → length node.events < most → length input ≡ 0 → HasNoNext n most node
+pub finds_none : (n most : ℕ) (state : NodeState) (ids : List ℕ) (input : List Load) (events : List Event) (node : LoneNode) (held : NodeState) → parts state ids input events ≡ node → held ≡ node.state
+    → Receipt ≡ wanted_of held.term held.phase held.owed → length node.events < most → ¬ (0 < length input) → HasNoNext n most node
 finds_none n most state ids input events node held is same wants room none =
-    let W : NodeState → Type 0 = λ x. Receipt ≡ wanted_of x.phase x.owed in
-    quiet n most node (subst W same wants) room (λ l. omega (arith, l, none, ap (λ (x : LoneNode). length x.input) is))
+    let W : NodeState → Type 0 = λ x. Receipt ≡ wanted_of x.term x.phase x.owed in
+    quiet n most node (subst W same wants) room (λ l. none (omega (arith, l, ap (λ (x : LoneNode). length x.input) is)))
 
 -- ---- a node that goes on
 
@@ -139,6 +164,7 @@ all_behind_drop P (Draw id) [] all = all
 all_behind_drop P (Draw id) (x ∷ xs) all = λ k d l. all (suc k) d (omega (arith, l))
 all_behind_drop P (Sent m) ids all = all
 all_behind_drop P (Got m) ids all = all
+all_behind_drop P Yield ids all = all
 
 -- what is known behind an event of its own
 pub record IsFurther (n most : ℕ) (first old new : LoneNode) (after : NodeState) : Type 0 where
@@ -164,6 +190,7 @@ full_by_phase n most node (Leader round id) is full = (Leads, subst (λ (x : Pha
 full_by_phase n most node (Choosing round) is full = (LogFull, (λ l. subst (λ (x : Phase). IsLeader x) is l, full))
 full_by_phase n most node (Active round id) is full = (LogFull, (λ l. subst (λ (x : Phase). IsLeader x) is l, full))
 full_by_phase n most node Passive is full = (LogFull, (λ l. subst (λ (x : Phase). IsLeader x) is l, full))
+full_by_phase n most node Yielding is full = (LogFull, (λ l. subst (λ (x : Phase). IsLeader x) is l, full))
 
 -- a node whose log is full has ended
 pub full_ends : (n most : ℕ) (node : LoneNode) → most ≤ length node.events → HasNoNext n most node

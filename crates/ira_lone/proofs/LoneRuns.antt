@@ -3,7 +3,7 @@ use Rattle.std.proofs.Common.{◌≡◌, ◌≢◌, ℕ, ◌++◌, ◌<◌, ◌�
 use Rattle.std.specs.Prelude.{slice_get}
 use Rattle.std.proofs.lemmas.Option.{slice_get-get_or, slice_get_within}
 use Rattle.ira_event.specs.declared.event.Event.{Event}
-use Rattle.ira_event.specs.declared.msg.Msg.{Msg}
+use Rattle.ira_event.specs.declared.load.Load.{Load}
 use Rattle.ira_event.specs.Log.{Log, IsLog}
 use Rattle.ira_event.specs.Logs.{AreLogs}
 use Rattle.ira_event.specs.RingSize.{IsRingSize}
@@ -40,6 +40,8 @@ are_logs s nodes logs rules reached of_nodes =
       sizes = λ i log at. ap (λ (x : Log). x.nodes) (of_nodes.1 i log at) ∙ sym many;
       places = λ i log at. ap (λ (x : Log). x.place) (of_nodes.1 i log at);
       valid = λ i log at. subst IsLog (sym (of_nodes.1 i log at)) (is_log s nodes i rules reached (omega (arith, slice_get_within logs i log at)));
+      version = 1;
+      versions = λ i log at. ap (λ (x : Log). x.version) (of_nodes.1 i log at);
     }
 
 log_of_node : (s : Setup) (nodes : List LoneNode) (logs : List Log) → IsReached s nodes → AreLogsOfNodes s nodes logs → (i : ℕ) → i < s.nodes → log_of logs i ≡ (node_at nodes i).events
@@ -55,6 +57,7 @@ full_logs s nodes logs rules done of_nodes =
       of_setup = record {
         ring = are_logs s nodes logs rules done.0 of_nodes;
         number = many;
+        versions = λ i log at. ap (λ (x : Log). x.version) (of_nodes.1 i log at);
         kinds = λ i log at. ap (λ (x : Log). x.initiator) (of_nodes.1 i log at);
       };
       run = done.0.run;
@@ -69,24 +72,24 @@ full_logs s nodes logs rules done of_nodes =
 
 -- ---- the ends
 
-says_of : (s : Setup) (i : ℕ) (node : LoneNode) (input : List Msg) (end : NodeEnd) → length node.events ≤ s.cap → node_draws s i ≡ drawn node.events ++ node.ids → got node.events ++ node.input ≡ input
+says_of : (s : Setup) (i : ℕ) (node : LoneNode) (input : List Load) (end : NodeEnd) → length node.events ≤ s.cap → node_draws s i ≡ drawn node.events ++ node.ids → got node.events ++ node.input ≡ input
     → Ends s.nodes s.cap node end → Says s i node.state node.events input end
 says_of s i node input Leader within left links h = h
 says_of s i node input Stopped within left links h = absurd h
 says_of s i node input LogFull within left links h = (h.0, omega (arith, h.1))
 says_of s i node input DrawsSpent within left links h = (
-  (choosing_leads_not node.state h.1.0 h.1.1, h.0),
+  (choosing_leads_not node.state h.1.0 h.1.1 h.1.2, h.0),
   h.1,
   sym (append-nil (drawn node.events)) ∙ ap (λ (x : List ℕ). drawn node.events ++ x) (sym h.2) ∙ sym left,
 )
 says_of s i node input (NoStep m) within left links h = (
   ((receiving_leads_not node.state.phase h.2, h.0), h.1, h.2),
   h.4,
-  (h.3.0, sym links ∙ ap (λ (x : List Msg). got node.events ++ x) h.3.1 ∙ sym (append_assoc (got node.events) (m ∷ []) h.3.0)),
+  (h.3.0, sym links ∙ ap (λ (x : List Load). got node.events ++ x) h.3.1 ∙ sym (append_assoc (got node.events) (m ∷ []) h.3.0)),
 )
 says_of s i node input Quiet within left links h = (
   ((receiving_leads_not node.state.phase h.2, h.0), h.1, h.2),
-  sym (append-nil (got node.events)) ∙ ap (λ (x : List Msg). got node.events ++ x) (sym h.3) ∙ links,
+  sym (append-nil (got node.events)) ∙ ap (λ (x : List Load). got node.events ++ x) (sym h.3) ∙ links,
 )
 
 is_shown : (s : Setup) (nodes : List LoneNode) (logs : List Log) → KeepsRules s → IsReached s nodes → AreLogsOfNodes s nodes logs → (i : ℕ) (end : NodeEnd) → i < s.nodes → Ends s.nodes s.cap (node_at nodes i) end → IsShown s logs i end
@@ -100,7 +103,7 @@ is_shown s nodes logs rules reached of_nodes i end l ends =
     let sends : sent (events_at reached.run (prev s.nodes i)) ≡ sent (log_of logs (prev s.nodes i)) = ap sent (reached.events (prev s.nodes i) p ∙ sym (log_of_node s nodes logs reached of_nodes (prev s.nodes i) p)) in
     let links : got (node_at nodes i).events ++ (node_at nodes i).input ≡ sent (log_of logs (prev s.nodes i)) =
     ap (λ (x : List Event). got x ++ (node_at nodes i).input) (sym own)
-    ∙ ap (λ (x : List Msg). got (events_at reached.run (next s.nodes (prev s.nodes i))) ++ x) (sym (reached.links i l))
+    ∙ ap (λ (x : List Load). got (events_at reached.run (next s.nodes (prev s.nodes i))) ++ x) (sym (reached.links i l))
     ∙ balanced (prev s.nodes i) p
     ∙ sends in
     let within : length (node_at nodes i).events ≤ s.cap = omega (arith, run_within s reached.run reached.point i reached.walk, ap length (reached.events i l)) in

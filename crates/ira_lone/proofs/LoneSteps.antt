@@ -3,12 +3,12 @@ use Rattle.std.proofs.Common.{◌≡◌, ◌≢◌, ℕ, ◌<◌, ◌≤◌, inl
 use Rattle.std.specs.List.{cons_option}
 use Rattle.std.proofs.lemmas.List.Elements.{filter_map-append}
 use Rattle.ira_event.specs.declared.event.Event.{Event}
-use Rattle.ira_event.specs.declared.event.Event.TheVariants.{Draw, Sent, Got}
-use Rattle.ira_event.specs.declared.msg.Msg.{Msg}
+use Rattle.ira_event.specs.declared.event.Event.TheVariants.{Draw, Sent, Got, Yield}
+use Rattle.ira_event.specs.declared.load.Load.{Load}
 use Rattle.ira_node.specs.declared.node_state.NodeState.{NodeState}
 use Rattle.ira_node.specs.NodeState.{IsLeader}
 use Rattle.ira_node.specs.NodeStep.{NodeStep}
-use Rattle.ira_node.proofs.Inversions.{drawing_chooses, sending_owes}
+use Rattle.ira_node.proofs.Inversions.{drawing_chooses, sending_owes, yielding_leads}
 use Rattle.ira_order.specs.Ring.{next, prev}
 use Rattle.ira_order.specs.Run.{Configuration, LinkStep, RingStep}
 use Rattle.ira_order.proofs.Ranks.{next_below}
@@ -29,9 +29,10 @@ unused ids used left id rest is first = omega (arith, ap length is, ap length fi
 pub has_event : (n most : ℕ) (ids : List ℕ) (node : LoneNode) (e : Event) (after : NodeState) → IsNext n most node e after → ids ≡ drawn node.events ++ node.ids → HasEvent n ids node.state node.events node.input
 has_event n most ids node (Draw id) after step left =
     let before = drawing_chooses n node.state after id step.step in
-    chooses before.0 before.1 (unused ids (drawn node.events) node.ids id step.first.0 left step.first.1)
+    chooses before.0 before.1 before.2 (unused ids (drawn node.events) node.ids id step.first.0 left step.first.1)
 has_event n most ids node (Sent m) after step left = owes m (sending_owes n node.state after m step.step)
 has_event n most ids node (Got m) after step left = receives m step.first.0 step.first.1 (after, step.step)
+has_event n most ids node Yield after step left = absurd (step.not_leader (yielding_leads n node.state after step.step))
 
 pub can_step : (s : Setup) (run : List (ℕ × Event)) (c : Configuration) (i : ℕ) (node : LoneNode) → c.state i ≡ node.state → c.link (prev s.nodes i) ≡ node.input → events_at run i ≡ node.events
     → ¬ (IsLeader node.state.phase) → length node.events < s.cap → HasEvent s.nodes (node_draws s i) node.state node.events node.input → CanStep s run c i
@@ -39,7 +40,7 @@ can_step s run c i node state link events not_leader room event =
     let P : NodeState → Type 0 = λ x. ¬ (IsLeader x.phase) in
     let Q : NodeState → Type 0 = λ x. HasEvent s.nodes (node_draws s i) x (events_at run i) (c.link (prev s.nodes i)) in
     let R : List Event → Type 0 = λ x. HasEvent s.nodes (node_draws s i) node.state x (c.link (prev s.nodes i)) in
-    let S : List Msg → Type 0 = λ x. HasEvent s.nodes (node_draws s i) node.state node.events x in
+    let S : List Load → Type 0 = λ x. HasEvent s.nodes (node_draws s i) node.state node.events x in
     record {
       not_leader = subst P (sym state) not_leader;
       room = omega (arith, ap length events);
@@ -57,7 +58,7 @@ pub record IsKept (old new : LoneNode) : Type 0 where
 kept_same : (old new : LoneNode) → new ≡ old → IsKept old new
 kept_same old new is = record { state = ap (λ (x : LoneNode). x.state) is; events = ap (λ (x : LoneNode). x.events) is; ids = ap (λ (x : LoneNode). x.ids) is }
 
-kept_put : (old new : LoneNode) (m : Msg) → new ≡ after_put old m → IsKept old new
+kept_put : (old new : LoneNode) (m : Load) → new ≡ after_put old m → IsKept old new
 kept_put old new m is = record { state = ap (λ (x : LoneNode). x.state) is; events = ap (λ (x : LoneNode). x.events) is; ids = ap (λ (x : LoneNode). x.ids) is }
 
 module _ (n i : ℕ) (after : NodeState) (old new : List LoneNode) where
@@ -65,18 +66,24 @@ module _ (n i : ℕ) (after : NodeState) (old new : List LoneNode) where
   own (Draw id) moved = moved.0
   own (Sent m) moved = moved.0
   own (Got m) moved = moved.0
+  own Yield moved = moved.0
 
   pub apart : (e : Event) → IsMoved n i e after old new → (j : ℕ) → j ≢ i → IsKept (node_at old j) (node_at new j)
   apart (Draw id) moved j ne = kept_same (node_at old j) (node_at new j) (moved.1 j ne)
   apart (Got m) moved j ne = kept_same (node_at old j) (node_at new j) (moved.1 j ne)
+  apart Yield moved j ne = kept_same (node_at old j) (node_at new j) (moved.1 j ne)
   apart (Sent m) moved j ne = elim (cases_eq j (next n i)) [
     | inl e ↦ (let P : ℕ → Type 0 = λ k. IsKept (node_at old k) (node_at new k) in subst P (sym e) (kept_put (node_at old (next n i)) (node_at new (next n i)) m moved.1))
     | inr other ↦ kept_same (node_at old j) (node_at new j) (moved.2 j ne other)
   ]
 
-  -- the messages before each node
+  -- the loads before each node
   link_step : (e : Event) → 2 ≤ n → i < n → IsMoved n i e after old new → IsFirst (node_at old i) e → LinkStep n i e (λ k. (node_at old (next n k)).input) (λ k. (node_at new (next n k)).input)
   link_step (Draw id) two here moved first = λ j lj. elim (cases_eq (next n j) i) [
+    | inl e ↦ (let P : ℕ → Type 0 = λ k. (node_at new k).input ≡ (node_at old k).input in subst P (sym e) (ap (λ (x : LoneNode). x.input) moved.0))
+    | inr ne ↦ ap (λ (x : LoneNode). x.input) (moved.1 (next n j) ne)
+  ]
+  link_step Yield two here moved first = λ j lj. elim (cases_eq (next n j) i) [
     | inl e ↦ (let P : ℕ → Type 0 = λ k. (node_at new k).input ≡ (node_at old k).input in subst P (sym e) (ap (λ (x : LoneNode). x.input) moved.0))
     | inr ne ↦ ap (λ (x : LoneNode). x.input) (moved.1 (next n j) ne)
   ]
@@ -91,7 +98,7 @@ module _ (n i : ℕ) (after : NodeState) (old new : List LoneNode) where
       let q : next n (prev n i) ≡ i = next_prev n i here in
       let before : (node_at old (next n (prev n i))).input ≡ m ∷ first.0 = ap (λ (k : ℕ). (node_at old k).input) q ∙ first.1 in
       let behind : (node_at new (next n (prev n i))).input ≡ first.0 = ap (λ (k : ℕ). (node_at new k).input) q ∙ ap (λ (x : LoneNode). x.input) moved.0 ∙ ap (drop 1) first.1 in (
-        before ∙ ap (λ (x : List Msg). m ∷ x) (sym behind),
+        before ∙ ap (λ (x : List Load). m ∷ x) (sym behind),
         λ j lj ne. ap (λ (x : LoneNode). x.input) (moved.1 (next n j) (λ e. ne (prev_next n i j here lj e))),
       )
 
@@ -110,9 +117,10 @@ left_after node (Draw id) ids first left =
     ∙ ap (λ (x : List ℕ). drawn (node.events ++ Draw id ∷ []) ++ x) (sym (ap (drop 1) first.1))
 left_after node (Sent m) ids first left = left ∙ ap (λ (x : List ℕ). x ++ node.ids) (sym (drawn_more node.events (Sent m) ∙ append-nil (drawn node.events)))
 left_after node (Got m) ids first left = left ∙ ap (λ (x : List ℕ). x ++ node.ids) (sym (drawn_more node.events (Got m) ∙ append-nil (drawn node.events)))
+left_after node Yield ids first left = left ∙ ap (λ (x : List ℕ). x ++ node.ids) (sym (drawn_more node.events Yield ∙ append-nil (drawn node.events)))
 
 -- the link that leads to the next node
-link_is : (n : ℕ) (nodes : List LoneNode) (link : ℕ → List Msg) → ((i : ℕ) → i < n → link (prev n i) ≡ (node_at nodes i).input) → (k : ℕ) → k < n → link k ≡ (node_at nodes (next n k)).input
+link_is : (n : ℕ) (nodes : List LoneNode) (link : ℕ → List Load) → ((i : ℕ) → i < n → link (prev n i) ≡ (node_at nodes i).input) → (k : ℕ) → k < n → link k ≡ (node_at nodes (next n k)).input
 link_is n nodes link links k l = ap link (prev_next n (next n k) k (next_below n k l) l refl) ∙ links (next n k) (next_below n k l)
 
 abbrev point_of : ℕ → List LoneNode → Configuration

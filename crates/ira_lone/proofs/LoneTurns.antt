@@ -3,7 +3,7 @@ use Rattle.std.proofs.Common.{◌≡◌, ◌≢◌, ℕ, suc, ◌+◌, ◌<◌, 
 use Rattle.std.proofs.Math.ListN.{set}
 use Rattle.std.proofs.lemmas.List.{get_or_read, get_or-set_same, get_or-set_other, length-set}
 use Rattle.std.proofs.lemmas.Bool.Decides.{nat_tests}
-use Rattle.ira_event.specs.declared.msg.Msg.{Msg}
+use Rattle.ira_event.specs.declared.load.Load.{Load}
 use Rattle.ira_order.specs.Ring.{next}
 use Rattle.ira_order.proofs.Ranks.{next_below}
 use Rattle.ira_run.specs.Setup.{Setup, KeepsRules}
@@ -52,7 +52,7 @@ next_is : (n i x : ℕ) → i < n → (((i + 1 < n) × (x ≡ i + 1)) ⊎ ((n �
 next_is n i x l (inl w) = w.1 ∙ sym (next_above n i w.0)
 next_is n i x l (inr w) = w.1 ∙ sym (next_last n i (omega (arith, w.0)))
 
-goes_from : (s : Setup) (nodes : List LoneNode) (i j n most : ℕ) (node new : LoneNode) (sent : Option Msg) → i < length nodes → j ≡ i → n ≡ s.nodes → most ≡ s.cap → node ≡ get_or nodes j node
+goes_from : (s : Setup) (nodes : List LoneNode) (i j n most : ℕ) (node new : LoneNode) (sent : Option Load) → i < length nodes → j ≡ i → n ≡ s.nodes → most ≡ s.cap → node ≡ get_or nodes j node
     → GoesToSending n most node new sent → GoesToSending s.nodes s.cap (node_at nodes i) new sent
 goes_from s nodes i j n most node new sent l is size room read goes =
     let P : ℕ → Type 0 = λ x. GoesToSending x most node new sent in
@@ -60,19 +60,19 @@ goes_from s nodes i j n most node new sent l is size room read goes =
     let R : LoneNode → Type 0 = λ x. GoesToSending s.nodes s.cap x new sent in
     subst R (read_at nodes i j node l is read) (subst Q room (subst P size goes))
 
-pub turn_ended : (s : Setup) (nodes : List LoneNode) (i j n most : ℕ) (node new : LoneNode) (sent : Option Msg) → i < length nodes → j ≡ i → n ≡ s.nodes → most ≡ s.cap → node ≡ get_or nodes j node → GoesToSending n most node new sent
+pub turn_ended : (s : Setup) (nodes : List LoneNode) (i j n most : ℕ) (node new : LoneNode) (sent : Option Load) → i < length nodes → j ≡ i → n ≡ s.nodes → most ≡ s.cap → node ≡ get_or nodes j node → GoesToSending n most node new sent
     → sent ≡ None → IsTurn s.nodes s.cap i nodes (set nodes j new) None
 turn_ended s nodes i j n most node new sent l is size room read goes none =
     let P : ℕ → Type 0 = λ x. IsTurn s.nodes s.cap i nodes (set nodes x new) None in
     subst P (sym is) record {
       node = new;
-      goes = subst (λ (x : Option Msg). GoesToSending s.nodes s.cap (node_at nodes i) new x) none (goes_from s nodes i j n most node new sent l is size room read goes);
+      goes = subst (λ (x : Option Load). GoesToSending s.nodes s.cap (node_at nodes i) new x) none (goes_from s nodes i j n most node new sent l is size room read goes);
       put = (get_or-set_same nodes i new idle l, λ k ne. get_or-set_other nodes i k new idle ne);
       many = length-set nodes i new;
     }
 
--- the message of the turn's sending is put last on the link of the node behind
-sent_to : (s : Setup) (nodes : List LoneNode) (i j : ℕ) (new second new2 : LoneNode) (m : Msg) → 2 ≤ s.nodes → length nodes ≡ s.nodes → i < s.nodes → j ≡ next s.nodes i → second ≡ get_or (set nodes i new) j second → new2 ≡ after_put second m
+-- the load of the turn's sending is put last on the link of the node behind
+sent_to : (s : Setup) (nodes : List LoneNode) (i j : ℕ) (new second new2 : LoneNode) (m : Load) → 2 ≤ s.nodes → length nodes ≡ s.nodes → i < s.nodes → j ≡ next s.nodes i → second ≡ get_or (set nodes i new) j second → new2 ≡ after_put second m
     → IsPut s.nodes i (Some m) new nodes (set (set nodes i new) j new2)
 sent_to s nodes i j new second new2 m two many l is read put =
     let below : next s.nodes i < s.nodes = next_below s.nodes i l in
@@ -87,7 +87,7 @@ sent_to s nodes i j new second new2 m two many l is read put =
       λ k ne other. get_or-set_other (set nodes i new) (next s.nodes i) k new2 idle other ∙ get_or-set_other nodes i k new idle ne,
     )
 
-pub turn_sent : (s : Setup) (nodes : List LoneNode) (i j n most : ℕ) (node new : LoneNode) (sent : Option Msg) (next_place second_place : ℕ) (second new2 : LoneNode) (m : Msg) → KeepsRules s → IsReached s nodes → i < length nodes → j ≡ i → n ≡ s.nodes → most ≡ s.cap → node ≡ get_or nodes j node
+pub turn_sent : (s : Setup) (nodes : List LoneNode) (i j n most : ℕ) (node new : LoneNode) (sent : Option Load) (next_place second_place : ℕ) (second new2 : LoneNode) (m : Load) → KeepsRules s → IsReached s nodes → i < length nodes → j ≡ i → n ≡ s.nodes → most ≡ s.cap → node ≡ get_or nodes j node
     → GoesToSending n most node new sent → sent ≡ Some m
     → (((i + 1 < n) × (next_place ≡ i + 1)) ⊎ ((n ≤ i + 1) × (next_place ≡ 0))) → second_place ≡ next_place → second ≡ get_or (set nodes j new) second_place second → new2 ≡ after_put second m
     → IsTurn s.nodes s.cap i nodes (set (set nodes j new) second_place new2) (Some m)
@@ -99,7 +99,7 @@ turn_sent s nodes i j n most node new sent next_place second_place second new2 m
     let Q : ℕ → Type 0 = λ x. second ≡ get_or (set nodes x new) second_place second in
     subst P (sym is) record {
       node = new;
-      goes = subst (λ (x : Option Msg). GoesToSending s.nodes s.cap (node_at nodes i) new x) some (goes_from s nodes i j n most node new sent l is size room read goes);
+      goes = subst (λ (x : Option Load). GoesToSending s.nodes s.cap (node_at nodes i) new x) some (goes_from s nodes i j n most node new sent l is size room read goes);
       put = sent_to s nodes i second_place new second new2 m rules.size.0 reached.many here place (subst Q is read2) put;
       many = length-set (set nodes i new) second_place new2 ∙ length-set nodes i new;
     }

@@ -5,8 +5,8 @@ use Rattle.std.proofs.Math.ListN.{set}
 use Rattle.std.proofs.lemmas.List.{get_or-set_same, get_or-set_other, length-set}
 use Rattle.std.proofs.lemmas.List.Sums.{sum_by-cons}
 use Rattle.ira_event.specs.declared.event.Event.{Event}
-use Rattle.ira_event.specs.declared.event.Event.TheVariants.{Draw, Sent, Got}
-use Rattle.ira_event.specs.declared.msg.Msg.{Msg}
+use Rattle.ira_event.specs.declared.event.Event.TheVariants.{Draw, Sent, Got, Yield}
+use Rattle.ira_event.specs.declared.load.Load.{Load}
 use Rattle.ira_node.specs.declared.node_state.NodeState.{NodeState}
 use Rattle.ira_order.specs.Ring.{next}
 use Rattle.ira_run.specs.FullRun.{drawn}
@@ -19,7 +19,7 @@ use Rattle.ira_lone.proofs.LoneTurns.{next_above, next_not}
 
 -- ---- the nodes below
 
-still_ended : (n most i : ℕ) (m : Msg) (after : NodeState) (old new : List LoneNode) → IsMoved n i (Sent m) after old new → i + 1 < n → ((j : ℕ) → j < i → HasNoNext n most (node_at old j))
+still_ended : (n most i : ℕ) (m : Load) (after : NodeState) (old new : List LoneNode) → IsMoved n i (Sent m) after old new → i + 1 < n → ((j : ℕ) → j < i → HasNoNext n most (node_at old j))
     → (j : ℕ) → j < i → HasNoNext n most (node_at new j)
 still_ended n most i m after old new moved far ended j l =
     let P : LoneNode → Type 0 = HasNoNext n most in
@@ -81,7 +81,7 @@ module _ (s : Setup) (old new : List LoneNode) (least : ℕ)
     (here : least < s.nodes)
     (ended : (j : ℕ) → j < least → HasNoNext s.nodes s.cap (node_at old j)) where
   -- the turn's sending
-  sends_on : (m : Msg) (state : NodeState) (after : ℕ) → IsNext s.nodes s.cap (node_at old least) (Sent m) state → IsMoved s.nodes least (Sent m) state old new → length new ≡ length old → IsLeastAfter s.nodes least (Some m) after → IsOn s old new least after
+  sends_on : (m : Load) (state : NodeState) (after : ℕ) → IsNext s.nodes s.cap (node_at old least) (Sent m) state → IsMoved s.nodes least (Sent m) state old new → length new ≡ length old → IsLeastAfter s.nodes least (Some m) after → IsOn s old new least after
   sends_on m state after is_next moved many how = record {
     reached = turn_reaches s old new least (Sent m) state rules.size.0 here reached is_next moved many;
     within = elim how [ inl z ↦ omega (arith, z.1) | inr w ↦ omega (arith, w.1) ];
@@ -105,6 +105,7 @@ pub record IsWay (s : Setup) (old new : List LoneNode) (i : ℕ) (node : LoneNod
 moved_own : (n i : ℕ) (e : Event) (after : NodeState) (old new : List LoneNode) → SendsNothing e → node_at new i ≡ after_event (node_at old i) e after → ((j : ℕ) → j ≢ i → node_at new j ≡ node_at old j) → IsMoved n i e after old new
 moved_own n i (Draw id) after old new nothing here others = (here, others)
 moved_own n i (Got m) after old new nothing here others = (here, others)
+moved_own n i Yield after old new nothing here others = (here, others)
 moved_own n i (Sent m) after old new nothing here others = absurd (nothing m refl)
 
 way : (s : Setup) (old : List LoneNode) (i k : ℕ) (node : LoneNode) → KeepsRules s → IsReached s old → i < s.nodes → GoesTo s.nodes s.cap k (node_at old i) node → (new : List LoneNode) × IsWay s old new i node
@@ -184,7 +185,7 @@ module _ (s : Setup) (old new : List LoneNode) (least : ℕ)
         less = less_past s.nodes s.cap old new least (omega (arith, w.room, room_same s.cap before.0 new (many ∙ sym w.many) same)) here;
       }
 
-  moves_on : (node mid : LoneNode) (m : Msg) (k after : ℕ) → GoesTo s.nodes s.cap k (node_at old least) mid → MakesSending s.nodes s.cap mid node m → IsPut s.nodes least (Some m) node old new → length new ≡ length old → IsLeastAfter s.nodes least (Some m) after → IsOn s old new least after
+  moves_on : (node mid : LoneNode) (m : Load) (k after : ℕ) → GoesTo s.nodes s.cap k (node_at old least) mid → MakesSending s.nodes s.cap mid node m → IsPut s.nodes least (Some m) node old new → length new ≡ length old → IsLeastAfter s.nodes least (Some m) after → IsOn s old new least after
   moves_on node mid m k after goes sending put many how =
       let before = way s old least k mid rules reached here goes in
       let w : IsWay s old before.0 least mid = before.1 in
@@ -199,7 +200,7 @@ module _ (s : Setup) (old new : List LoneNode) (least : ℕ)
       sends_on s before.0 new least rules w.reached here (λ j l. subst (HasNoNext s.nodes s.cap) (sym (w.others j (omega arith))) (ended j l)) m sending.0 after is_next moved (many ∙ sym w.many) how in
       record { reached = on.reached; within = on.within; ended = on.ended; less = omega (arith, on.less, le_measure s.nodes s.cap old before.0 least w.room) }
 
-  pub turns_on : (sent : Option Msg) (after : ℕ) → IsTurn s.nodes s.cap least old new sent → IsLeastAfter s.nodes least sent after → IsOn s old new least after
+  pub turns_on : (sent : Option Load) (after : ℕ) → IsTurn s.nodes s.cap least old new sent → IsLeastAfter s.nodes least sent after → IsOn s old new least after
   turns_on None after turn is = ends_on turn.node turn.goes.0.0 after turn.goes.0.1 turn.goes.1 turn.put turn.many is
   turns_on (Some m) after turn is = moves_on turn.node turn.goes.0 m turn.goes.1.0 after turn.goes.1.1 turn.goes.2 turn.put turn.many is
 
@@ -211,7 +212,7 @@ pub record IsOnward (first before behind : Setup) (old new : List LoneNode) (lea
   pub ended : (j : ℕ) → j < after → HasNoNext behind.nodes behind.cap (node_at new j)
   pub less : measure behind.nodes behind.cap new after < measure before.nodes before.cap old least
 
-pub onward : (first before behind : Setup) (n : ℕ) (old new : List LoneNode) (least after : ℕ) (sent : Option Msg) → KeepsRules first → before ≡ first → behind ≡ before → n ≡ first.nodes → IsReached before old
+pub onward : (first before behind : Setup) (n : ℕ) (old new : List LoneNode) (least after : ℕ) (sent : Option Load) → KeepsRules first → before ≡ first → behind ≡ before → n ≡ first.nodes → IsReached before old
     → least < n → ((j : ℕ) → j < least → HasNoNext before.nodes before.cap (node_at old j)) → IsTurn before.nodes before.cap least old new sent → IsLeastAfter n least sent after
     → IsOnward first before behind old new least after
 onward first before behind n old new least after sent rules same still size reached here ended turn is =

@@ -1,28 +1,29 @@
 -- Helpers, no definitions: what the lone runner keeps of a node, and what it does with it.
 use Rattle.std.specs.Prelude.{◌≡◌, ◌≢◌, ℕ, zero, suc, ◌<◌, ◌≤◌, List, [], ◌∷◌, ◌++◌, Option, None, Some, length, drop}
-use Rattle.ira_event.specs.declared.msg.Msg.{Msg}
+use Rattle.ira_event.specs.declared.load.Load.{Load}
 use Rattle.ira_event.specs.declared.event.Event.{Event}
-use Rattle.ira_event.specs.declared.event.Event.TheVariants.{Draw, Sent, Got}
-use Rattle.ira_node.specs.declared.phase.Phase.TheVariants.{Choosing}
+use Rattle.ira_event.specs.declared.event.Event.TheVariants.{Draw, Sent, Got, Yield}
 use Rattle.ira_node.specs.declared.node_state.NodeState.{NodeState}
-use Rattle.ira_node.specs.NodeState.{free, IsLeader, Receives}
+use Rattle.ira_node.specs.NodeState.{IsLeader, Receives}
 use Rattle.ira_node.specs.NodeStep.{NodeStep, HasStep}
 use Rattle.ira_run.specs.declared.node_end.NodeEnd.{NodeEnd}
 use Rattle.ira_run.specs.declared.node_end.NodeEnd.TheVariants.{Leader, Stopped, DrawsSpent, LogFull, NoStep, Quiet}
+use Rattle.ira_run.specs.ShownEnd.{HasToDraw}
 
--- a node's state, the IDs that it has left to draw, the messages on the link that leads to it, and its
+-- a node's state, the IDs that it has left to draw, the loads on the link that leads to it, and its
 -- events
 pub record LoneNode : Type 0 where
   pub state : NodeState
   pub ids : List ℕ
-  pub input : List Msg
+  pub input : List Load
   pub events : List Event
 
--- an ID that is drawn is the first one left, and a message that is received is the first one on the link
+-- an ID that is drawn is the first one left, and a load that is received is the first one on the link
 abbrev pub IsFirst : LoneNode → Event → Type 0
 IsFirst node (Draw id) = (rest : List ℕ) × (node.ids ≡ id ∷ rest)
-IsFirst node (Sent m) = Unit {0}
-IsFirst node (Got m) = (rest : List Msg) × (node.input ≡ m ∷ rest)
+IsFirst node (Sent l) = Unit {0}
+IsFirst node (Got l) = (rest : List Load) × (node.input ≡ l ∷ rest)
+IsFirst node Yield = Unit {0}
 
 -- the node's next event in a ring of n nodes, and the state after it
 pub record IsNext (n most : ℕ) (node : LoneNode) (event : Event) (after : NodeState) : Type 0 where
@@ -36,39 +37,41 @@ abbrev pub Ends : ℕ → ℕ → LoneNode → NodeEnd → Type 0
 Ends n most node Leader = IsLeader node.state.phase
 Ends n most node Stopped = ⊥
 Ends n most node DrawsSpent =
-    (length node.events < most) × ((round : ℕ) × (node.state ≡ free (Choosing round))) × (node.ids ≡ [])
+    (length node.events < most) × HasToDraw node.state × (node.ids ≡ [])
 Ends n most node LogFull = ¬ (IsLeader node.state.phase) × (most ≤ length node.events)
-Ends n most node (NoStep m) =
-    (length node.events < most) × (node.state.owed ≡ None) × Receives node.state.phase × ((rest : List Msg) × (node.input ≡ m ∷ rest)) × ¬ (HasStep n node.state (Got m))
+Ends n most node (NoStep l) =
+    (length node.events < most) × (node.state.owed ≡ None) × Receives node.state.phase × ((rest : List Load) × (node.input ≡ l ∷ rest)) × ¬ (HasStep n node.state (Got l))
 Ends n most node Quiet = (length node.events < most) × (node.state.owed ≡ None) × Receives node.state.phase × (node.input ≡ [])
 
 -- the node has no next event
 abbrev pub HasNoNext : ℕ → ℕ → LoneNode → Type 0
 HasNoNext n most node = (end : NodeEnd) × Ends n most node end
 
--- how many of the IDs left an event draws, and how many of the messages it takes
+-- how many of the IDs left an event draws, and how many of the loads it takes
 abbrev pub drawn_by : Event → ℕ
 drawn_by (Draw id) = 1
-drawn_by (Sent m) = 0
-drawn_by (Got m) = 0
+drawn_by (Sent l) = 0
+drawn_by (Got l) = 0
+drawn_by Yield = 0
 
 abbrev pub taken_by : Event → ℕ
 taken_by (Draw id) = 0
-taken_by (Sent m) = 0
-taken_by (Got m) = 1
+taken_by (Sent l) = 0
+taken_by (Got l) = 1
+taken_by Yield = 0
 
 -- the node after an event
 abbrev pub after_event : LoneNode → Event → NodeState → LoneNode
 after_event node event after =
     record { state = after; ids = drop (drawn_by event) node.ids; input = drop (taken_by event) node.input; events = node.events ++ event ∷ [] }
 
--- the node with one message more on the link that leads to it
-abbrev pub after_put : LoneNode → Msg → LoneNode
-after_put node m = record { state = node.state; ids = node.ids; input = node.input ++ m ∷ []; events = node.events }
+-- the node with one load more on the link that leads to it
+abbrev pub after_put : LoneNode → Load → LoneNode
+after_put node l = record { state = node.state; ids = node.ids; input = node.input ++ l ∷ []; events = node.events }
 
 -- the event is no sending
 abbrev pub SendsNothing : Event → Type 0
-SendsNothing e = (m : Msg) → e ≢ Sent m
+SendsNothing e = (l : Load) → e ≢ Sent l
 
 -- the node's next event, which sends nothing and leads to this state; or there is no next event
 abbrev pub MakesOwn : ℕ → ℕ → LoneNode → LoneNode → Option NodeState → Type 0
@@ -76,10 +79,10 @@ MakesOwn n most old new None = HasNoNext n most old × (new ≡ old)
 MakesOwn n most old new (Some after) =
     (e : Event) × SendsNothing e × IsNext n most old e after × (new ≡ after_event old e after)
 
--- the node's next event is the sending of the message
-abbrev pub MakesSending : ℕ → ℕ → LoneNode → LoneNode → Msg → Type 0
-MakesSending n most old new m =
-    (after : NodeState) × IsNext n most old (Sent m) after × (new ≡ after_event old (Sent m) after)
+-- the node's next event is the sending of the load
+abbrev pub MakesSending : ℕ → ℕ → LoneNode → LoneNode → Load → Type 0
+MakesSending n most old new l =
+    (after : NodeState) × IsNext n most old (Sent l) after × (new ≡ after_event old (Sent l) after)
 
 -- so many events that send nothing
 abbrev pub GoesTo : ℕ → ℕ → ℕ → LoneNode → LoneNode → Type 0
@@ -87,8 +90,8 @@ GoesTo n most zero old new = new ≡ old
 GoesTo n most (suc k) old new =
     (node : LoneNode) × GoesTo n most k old node × ((after : NodeState) × MakesOwn n most node new (Some after))
 
--- events that send nothing, and then the sending of this message, or no next event
-abbrev pub GoesToSending : ℕ → ℕ → LoneNode → LoneNode → Option Msg → Type 0
+-- events that send nothing, and then the sending of this load, or no next event
+abbrev pub GoesToSending : ℕ → ℕ → LoneNode → LoneNode → Option Load → Type 0
 GoesToSending n most old new None = ((k : ℕ) × GoesTo n most k old new) × HasNoNext n most new
-GoesToSending n most old new (Some m) =
-    (node : LoneNode) × ((k : ℕ) × GoesTo n most k old node) × MakesSending n most node new m
+GoesToSending n most old new (Some l) =
+    (node : LoneNode) × ((k : ℕ) × GoesTo n most k old node) × MakesSending n most node new l

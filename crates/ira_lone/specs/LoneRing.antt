@@ -1,8 +1,8 @@
 -- Helpers, no definitions: what the lone runner keeps of the ring, and what a step of it changes.
 use Rattle.std.specs.Prelude.{◌≡◌, ◌≢◌, ℕ, ◌+◌, ◌<◌, ◌⊎◌, List, [], ◌++◌, false, Option, Some, None, length, slice_get, slice_index_or}
-use Rattle.ira_event.specs.declared.msg.Msg.{Msg}
+use Rattle.ira_event.specs.declared.load.Load.{Load}
 use Rattle.ira_event.specs.declared.event.Event.{Event}
-use Rattle.ira_event.specs.declared.event.Event.TheVariants.{Draw, Sent, Got}
+use Rattle.ira_event.specs.declared.event.Event.TheVariants.{Draw, Sent, Got, Yield}
 use Rattle.ira_event.specs.Log.{Log}
 use Rattle.ira_node.specs.declared.node_state.NodeState.{NodeState}
 use Rattle.ira_node.specs.NodeState.{first_state}
@@ -24,35 +24,37 @@ node_at nodes i = slice_index_or nodes i idle
 -- all nodes but node i, and but the next one where the event is a sending, are as they were, and these
 -- two are as the event makes them
 abbrev pub IsMoved : ℕ → ℕ → Event → NodeState → List LoneNode → List LoneNode → Type 0
-IsMoved n i (Sent m) after old new =
-    (node_at new i ≡ after_event (node_at old i) (Sent m) after)
-    × (node_at new (next n i) ≡ after_put (node_at old (next n i)) m)
+IsMoved n i (Sent l) after old new =
+    (node_at new i ≡ after_event (node_at old i) (Sent l) after)
+    × (node_at new (next n i) ≡ after_put (node_at old (next n i)) l)
     × ((j : ℕ) → j ≢ i → j ≢ next n i → node_at new j ≡ node_at old j)
 IsMoved n i (Draw id) after old new =
     (node_at new i ≡ after_event (node_at old i) (Draw id) after) × ((j : ℕ) → j ≢ i → node_at new j ≡ node_at old j)
-IsMoved n i (Got m) after old new =
-    (node_at new i ≡ after_event (node_at old i) (Got m) after) × ((j : ℕ) → j ≢ i → node_at new j ≡ node_at old j)
+IsMoved n i (Got l) after old new =
+    (node_at new i ≡ after_event (node_at old i) (Got l) after) × ((j : ℕ) → j ≢ i → node_at new j ≡ node_at old j)
+IsMoved n i Yield after old new =
+    (node_at new i ≡ after_event (node_at old i) Yield after) × ((j : ℕ) → j ≢ i → node_at new j ≡ node_at old j)
 
--- node i becomes this one, the message sent is last on the link that leads to the next one, and all else
+-- node i becomes this one, the load sent is last on the link that leads to the next one, and all else
 -- is as it was
-abbrev pub IsPut : ℕ → ℕ → Option Msg → LoneNode → List LoneNode → List LoneNode → Type 0
+abbrev pub IsPut : ℕ → ℕ → Option Load → LoneNode → List LoneNode → List LoneNode → Type 0
 IsPut n i None node old new = (node_at new i ≡ node) × ((j : ℕ) → j ≢ i → node_at new j ≡ node_at old j)
-IsPut n i (Some m) node old new =
+IsPut n i (Some l) node old new =
     (node_at new i ≡ node)
-    × (node_at new (next n i) ≡ after_put (node_at old (next n i)) m)
+    × (node_at new (next n i) ≡ after_put (node_at old (next n i)) l)
     × ((j : ℕ) → j ≢ i → j ≢ next n i → node_at new j ≡ node_at old j)
 
 -- what a turn of node i does: its events up to its next sending, where there is one
-pub record IsTurn (n most i : ℕ) (old new : List LoneNode) (sent : Option Msg) : Type 0 where
+pub record IsTurn (n most i : ℕ) (old new : List LoneNode) (sent : Option Load) : Type 0 where
   pub node : LoneNode
   pub goes : GoesToSending n most (node_at old i) node sent
   pub put : IsPut n i sent node old new
   pub many : length new ≡ length old
 
 -- the least node that may have a next event, where `least` was it before this turn of its
-abbrev pub IsLeastAfter : ℕ → ℕ → Option Msg → ℕ → Type 0
+abbrev pub IsLeastAfter : ℕ → ℕ → Option Load → ℕ → Type 0
 IsLeastAfter n least None after = after ≡ least + 1
-IsLeastAfter n least (Some m) after = ((least + 1 ≡ n) × (after ≡ 0)) ⊎ ((least + 1 < n) × (after ≡ least))
+IsLeastAfter n least (Some l) after = ((least + 1 ≡ n) × (after ≡ 0)) ⊎ ((least + 1 < n) × (after ≡ least))
 
 -- the nodes are where a run of the setup led them, each place of which can step at its point
 pub record IsReached (s : Setup) (nodes : List LoneNode) : Type 0 where
@@ -73,7 +75,7 @@ AreAtEnd s nodes = IsReached s nodes × ((i : ℕ) → i < s.nodes → HasNoNext
 abbrev pub AreLogsOfNodes : Setup → List LoneNode → List Log → Type 0
 AreLogsOfNodes s nodes logs =
     (length logs ≡ length nodes)
-    × ((i : ℕ) (log : Log) → slice_get logs i ≡ Some log → log ≡ record { nodes = s.nodes; place = i; initiator = is_initiator s i; events = (node_at nodes i).events })
+    × ((i : ℕ) (log : Log) → slice_get logs i ≡ Some log → log ≡ record { version = 1; nodes = s.nodes; place = i; initiator = is_initiator s i; events = (node_at nodes i).events })
 
 -- the ends of the nodes
 abbrev pub AreEndsOfNodes : Setup → List LoneNode → List NodeEnd → Type 0

@@ -5,7 +5,7 @@ ghost use Rattle.ira_node.specs.NodeState.{first_state};
 ghost use Rattle.ira_node.specs.Wanted.{wanted_of};
 ghost use Rattle.ira_lone.specs.LoneNode.{HasNoNext, Ends, MakesOwn, MakesSending, GoesToSending, after_put};
 
-use ira_event::{Event, Msg, NodeLog, RingSize};
+use ira_event::{Event, Load, NodeLog, RingSize};
 use ira_node::{NodeState, Wanted};
 use ira_run::NodeEnd;
 use std::alloc::{AllocError, Allocator};
@@ -15,13 +15,13 @@ use std::marker::Model;
 /// Room for so many events is made at once; few nodes make more.
 const USUAL_EVENTS: usize = 32;
 
-/// A node of a lone run: its state, the IDs that it has left to draw, the messages on the link that
-/// leads to it, and its events.
+/// A node of a lone run: its state, the IDs that it has left to draw, the loads on the link that leads
+/// to it, and its events.
 #[derive(Drop)]
 pub(crate) struct LoneNode<'a, A: Allocator> {
     state: NodeState,
     ids: &'a [u32],
-    input: VecDeque<Msg, A>,
+    input: VecDeque<Load, A>,
     events: Vec<Event, A>,
 }
 
@@ -59,10 +59,10 @@ impl<'a, A: Allocator> LoneNode<'a, A> {
         })
     }
 
-    /// Makes the node's events up to its next sending, and answers the message that it sent; `None`
+    /// Makes the node's events up to its next sending, and answers the load that it sent; `None`
     /// where the node has no next event before that, as things stand. A log may have `cap` records.
     #[inline(always)]
-    pub(crate) fn go_on(&mut self, nodes: RingSize, cap: usize) -> Result<Option<Msg>, AllocError>
+    pub(crate) fn go_on(&mut self, nodes: RingSize, cap: usize) -> Result<Option<Load>, AllocError>
         requires { All (λ d. (1 ≤ d) × (d ≤ nodes)) self.old.ids }
         ensures { IfOk result (GoesToSending nodes cap self.old self.new) }
     {
@@ -70,10 +70,10 @@ impl<'a, A: Allocator> LoneNode<'a, A> {
         let mut state = self.state;
         while self.events.len() < cap {
             let next = match state.wanted() {
-                Wanted::Nothing => return Ok(None),
-                Wanted::Send(message) => {
-                    self.send(state, nodes, message)?;
-                    return Ok(Some(message));
+                Wanted::Yield | Wanted::Nothing => return Ok(None),
+                Wanted::Send(load) => {
+                    self.send(state, nodes, load)?;
+                    return Ok(Some(load));
                 }
                 Wanted::Draw => self.draw(state, nodes)?,
                 Wanted::Receipt => self.receive(state, nodes)?,
@@ -86,18 +86,18 @@ impl<'a, A: Allocator> LoneNode<'a, A> {
         Ok(None)
     }
 
-    /// Sends the message that the node owes in its state.
+    /// Sends the load that the node owes in its state.
     #[inline(always)]
-    fn send(&mut self, state: NodeState, nodes: RingSize, message: Msg) -> Result<(), AllocError>
+    fn send(&mut self, state: NodeState, nodes: RingSize, load: Load) -> Result<(), AllocError>
         requires state { state ≡ self.old.state }
-        requires wanted { Send message ≡ wanted_of state.phase state.owed }
+        requires wanted { Send load ≡ wanted_of state.term state.phase state.owed }
         ensures { OnOk result
-            ((most : ℕ) → length self.old.events < most → MakesSending nodes most self.old self.new message) }
+            ((most : ℕ) → length self.old.events < most → MakesSending nodes most self.old self.new load) }
     {
-        let Ok(after) = state.step(nodes, &Event::Sent(message)) else {
+        let Ok(after) = state.step(nodes, &Event::Sent(load)) else {
             unreachable!();
         };
-        self.events.push(Event::Sent(message))?;
+        self.events.push(Event::Sent(load))?;
         self.state = after;
         Ok(())
     }
@@ -106,7 +106,7 @@ impl<'a, A: Allocator> LoneNode<'a, A> {
     #[inline(always)]
     fn draw(&mut self, state: NodeState, nodes: RingSize) -> Result<Option<NodeState>, AllocError>
         requires state { state ≡ self.old.state }
-        requires wanted { WantsDraw ≡ wanted_of state.phase state.owed }
+        requires wanted { WantsDraw ≡ wanted_of state.term state.phase state.owed }
         requires ids { All (λ d. (1 ≤ d) × (d ≤ nodes)) self.old.ids }
         ensures { IfOk result
             (λ next. (most : ℕ) → length self.old.events < most
@@ -124,7 +124,7 @@ impl<'a, A: Allocator> LoneNode<'a, A> {
         Ok(Some(after))
     }
 
-    /// Receives the next message, where there is one that has a step, and answers the state after it.
+    /// Receives the next load, where there is one that has a step, and answers the state after it.
     #[inline(always)]
     fn receive(
         &mut self,
@@ -132,18 +132,18 @@ impl<'a, A: Allocator> LoneNode<'a, A> {
         nodes: RingSize,
     ) -> Result<Option<NodeState>, AllocError>
         requires state { state ≡ self.old.state }
-        requires wanted { Receipt ≡ wanted_of state.phase state.owed }
+        requires wanted { Receipt ≡ wanted_of state.term state.phase state.owed }
         ensures { IfOk result
             (λ next. (most : ℕ) → length self.old.events < most
             → MakesOwn nodes most self.old self.new next) }
     {
-        let Some(&message) = self.input.front() else {
+        let Some(&load) = self.input.front() else {
             return Ok(None);
         };
-        let Ok(after) = state.step(nodes, &Event::Got(message)) else {
+        let Ok(after) = state.step(nodes, &Event::Got(load)) else {
             return Ok(None);
         };
-        self.events.push(Event::Got(message))?;
+        self.events.push(Event::Got(load))?;
         let _ = self.input.pop_front();
         self.state = after;
         Ok(Some(after))
@@ -155,33 +155,33 @@ impl<'a, A: Allocator> LoneNode<'a, A> {
         ensures { (n : ℕ) → HasNoNext n cap self.now → Ends n cap self.now result }
     {
         match self.state.wanted() {
-            Wanted::Nothing => NodeEnd::Leader,
+            Wanted::Yield | Wanted::Nothing => NodeEnd::Leader,
             _ if self.events.len() >= cap => NodeEnd::LogFull,
             Wanted::Send(_) => unreachable!(),
             Wanted::Draw => NodeEnd::DrawsSpent,
             Wanted::Receipt => match self.input.front() {
-                Some(&message) => NodeEnd::NoStep(message),
+                Some(&load) => NodeEnd::NoStep(load),
                 None => NodeEnd::Quiet,
             },
         }
     }
 
-    /// Puts a message last on the link that leads to the node.
+    /// Puts a load last on the link that leads to the node.
     #[inline]
-    pub(crate) fn put(&mut self, message: Msg) -> Result<(), AllocError>
-        ensures { OnOk result (self.new ≡ after_put self.old message) }
+    pub(crate) fn put(&mut self, load: Load) -> Result<(), AllocError>
+        ensures { OnOk result (self.new ≡ after_put self.old load) }
     {
-        self.input.push_back(message)?;
+        self.input.push_back(load)?;
         Ok(())
     }
 
-    /// The node's log.
+    /// The node's log, of version 1.
     pub(crate) fn into_log(self, nodes: RingSize, place: u8, initiator: bool) -> NodeLog<A>
         requires { IsLog
-            (record { nodes = nodes; place = place; initiator = initiator; events = self.events }) }
+            (record { version = 1; nodes = nodes; place = place; initiator = initiator; events = self.events }) }
         ensures { result
-            ≡ record { nodes = nodes; place = place; initiator = initiator; events = self.entry.events } }
+            ≡ record { version = 1; nodes = nodes; place = place; initiator = initiator; events = self.entry.events } }
     {
-        NodeLog::of_parts(nodes, place, initiator, self.events)
+        NodeLog::of_parts(1, nodes, place, initiator, self.events)
     }
 }

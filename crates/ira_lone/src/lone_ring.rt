@@ -3,7 +3,7 @@ ghost use Rattle.ira_run.specs.Setup.{KeepsRules};
 ghost use Rattle.ira_lone.specs.LoneRing.{IsTurn, IsLeastAfter, IsReached, AreAtEnd, AreLogsOfNodes, AreEndsOfNodes};
 
 use crate::lone_node::LoneNode;
-use ira_event::{Msg, NodeLog};
+use ira_event::{Load, NodeLog};
 use ira_run::{NodeEnd, Setup};
 use std::alloc::{AllocError, Allocator};
 
@@ -16,7 +16,7 @@ pub(crate) struct LoneRing<'a, A: Allocator> {
 
 /// The least node that may have a next event, where `least` was it before its turn. A node gets on only
 /// by its own events and by a sending of the node before it, which is below it unless it is the last.
-fn least_after(nodes: u8, least: u8, sent: Option<Msg>) -> u8
+fn least_after(nodes: u8, least: u8, sent: Option<Load>) -> u8
     requires { least < nodes }
     ensures { IsLeastAfter nodes least sent result }
 {
@@ -61,9 +61,9 @@ impl<'a, A: Allocator> LoneRing<'a, A> {
         Ok(())
     }
 
-    /// The events of a node up to its next sending, where there is one; the message sent is put on its
+    /// The events of a node up to its next sending, where there is one; the load sent is put on its
     /// link.
-    fn turn(&mut self, i: u8) -> Result<Option<Msg>, AllocError>
+    fn turn(&mut self, i: u8) -> Result<Option<Load>, AllocError>
         requires rules { KeepsRules self.old.setup.now }
         requires reached { IsReached self.old.setup.now self.old.nodes.items }
         requires place { i < length self.old.nodes.items }
@@ -74,12 +74,12 @@ impl<'a, A: Allocator> LoneRing<'a, A> {
     {
         let setup = self.setup;
         let size = setup.nodes;
-        let Some(message) = self.nodes[usize::from(i)].go_on(size, setup.cap)? else {
+        let Some(load) = self.nodes[usize::from(i)].go_on(size, setup.cap)? else {
             return Ok(None);
         };
         let next = if i + 1 < size.get() { i + 1 } else { 0 };
-        self.nodes[usize::from(next)].put(message)?;
-        Ok(Some(message))
+        self.nodes[usize::from(next)].put(load)?;
+        Ok(Some(load))
     }
 
     /// How the nodes have ended.

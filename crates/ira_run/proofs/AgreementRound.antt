@@ -1,14 +1,14 @@
 -- Round the ring: what was recorded goes no further than a full run in which some node ended otherwise than Quiet.
-use Rattle.std.proofs.Common.{◌≡◌, ℕ, zero, suc, ◌-◌, ◌<◌, ◌≤◌, ◌&&◌, inl, inr, Bool, true, false, List, [], ◌∷◌, ◌++◌, length, refl, sym, ◌∙◌, subst, ap, append-nil, append_assoc, length-append, arith}
+use Rattle.std.proofs.Common.{◌≡◌, ℕ, zero, suc, ◌-◌, ◌<◌, ◌≤◌, ◌&&◌, inl, inr, Bool, true, false, List, [], ◌∷◌, ◌++◌, length, sym, ◌∙◌, subst, ap, append-nil, append_assoc, length-append, arith}
 use Rattle.std.specs.List.{list_all}
 use Rattle.std.proofs.lemmas.List.Elements.{filter_map-append}
 use Rattle.std.proofs.lemmas.List.Folds.{list_all-append}
 use Rattle.ira_event.specs.Event.{is_of_version}
 use Rattle.ira_event.specs.declared.load.Load.{Load}
 use Rattle.ira_event.specs.declared.event.Event.{Event}
-use Rattle.ira_event.specs.declared.event.Event.TheVariants.{Draw, Sent, Got, Yield}
+use Rattle.ira_event.specs.declared.event.Event.TheVariants.{Draw, Got, Yield}
 use Rattle.ira_node.specs.declared.node_state.NodeState.{NodeState}
-use Rattle.ira_node.specs.NodeState.{first_state, free, IsLeader, Receives}
+use Rattle.ira_node.specs.NodeState.{first_state}
 use Rattle.ira_node.specs.NodeStep.{NodeStep, HasStep}
 use Rattle.ira_node.proofs.Wants.{choosing_draws, waiting_receives, leading_yields}
 use Rattle.ira_replay.specs.LocalRun.{LeadsTo}
@@ -20,7 +20,7 @@ use Rattle.ira_run.specs.declared.node_end.NodeEnd.{NodeEnd}
 use Rattle.ira_run.specs.declared.node_end.NodeEnd.TheVariants.{Leader, Stopped, DrawsSpent, LogFull, NoStep, Quiet}
 use Rattle.ira_run.specs.Setup.{Setup, is_initiator, node_draws}
 use Rattle.ira_run.specs.FullRun.{drawing, drawn, BeginsWith}
-use Rattle.ira_run.specs.ShownEnd.{Waits, Says}
+use Rattle.ira_run.specs.ShownEnd.{Says}
 use Rattle.ira_run.proofs.Beginnings.{next_same}
 use Rattle.ira_run.proofs.Collecting.{both-true}
 

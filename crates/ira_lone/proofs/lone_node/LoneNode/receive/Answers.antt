@@ -1,6 +1,9 @@
-use Rattle.std.proofs.Common.{refl}
-use Rattle.ira_lone.proofs.LoneNodes.{makes_got, takes_none}
+use Rattle.std.proofs.Common.{refl, arith}
+use Rattle.ira_lone.proofs.LoneNodes.{makes_got, takes_none, finds_none}
 use Rattle.ira_lone.proofs.lone_node.LoneNode.receive.Goals as goal
+
+pub returns-in_default : goal.returns-in_default
+returns-in_default g c = λ most room. (finds_none _ most _ _ _ _ _ _ c.self.view_is c.requires.state c.requires.wanted room (λ some. let none = c.in_default.ensures.variant.1 (omega (arith, some)) in absurd cc), refl)
 
 pub returns-in_default-step : goal.returns-in_default-step
 returns-in_default-step g c = λ most room. (takes_none _ most _ _ _ _ _ _ _ c.self.view_is c.requires.state c.requires.wanted room c.in-Some.ensures.item.3.0 c.in-Some.ensures.lookup (λ h. c.in_default-step.not-Ok h.0 ((c.step.ensures.ok h.0).1 h.1)), refl)
