@@ -7,7 +7,7 @@ pub enum MatchFault {
     /// The link's writer recorded fewer than `k` sendings.
     #[error("link {link}: receipt {k} has no sending")]
     NoSending { link: u8, k: u32 },
-    /// The writer's sending number `k` was of another message.
+    /// The writer's sending number `k` was of another message or reset.
     #[error("link {link}: receipt {k} differs")]
     Differs { link: u8, k: u32 },
 }
