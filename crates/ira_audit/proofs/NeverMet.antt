@@ -1,30 +1,35 @@
 -- What a yes says: that no consistent cut of the logs meets any case.
-use Rattle.std.proofs.Common.{◌≡◌, ◌<◌, ℕ, List, [], ◌∷◌, Some, length, map, refl, sym, ap, subst, ◌∙◌, arith, zero, suc}
-use Rattle.std.specs.Prelude.{slice_get, slice_index, Contains, All}
-use Rattle.std.specs.Option.{option_map}
-use Rattle.std.proofs.lemmas.Option.{slice_get_read, slice_get_within, get_or_from_slice_get, slice_get-map}
+use Rattle.std.proofs.Common.{◌≡◌, ℕ, List, length, refl, sym, subst, arith}
+use Rattle.std.specs.Prelude.{slice_index}
+use Rattle.std.proofs.lemmas.Option.{slice_get_read}
 use Rattle.ira_event.specs.Log.{Log}
 use Rattle.ira_event.specs.Logs.{AreLogs}
 use Rattle.ira_pred.specs.Formula.{leader}
-use Rattle.ira_pred.specs.Case.{Conjunct}
 use Rattle.ira_pred.specs.Question.{Asked}
 use Rattle.ira_pred.specs.QuestionText.{IsQuestionText}
-use Rattle.ira_pred.specs.Pairs.{ArePairCases, pair_case}
+use Rattle.ira_pred.proofs.PairCases.{All-pairs}
 use Rattle.ira_pred.proofs.QuestionTexts.{one_question}
+use Rattle.ira_node.specs.declared.phase.Phase.TheVariants.{Leader}
+use Rattle.ira_node.specs.NodeState.{first_state}
+use Rattle.ira_replay.proofs.Reached.{states_are_reached}
 use Rattle.ira_order.specs.Circle.{HasOrder}
-use Rattle.ira_order.specs.Cut.{IsConsistentCut}
+use Rattle.ira_order.specs.Run.{AreLocalRuns}
 use Rattle.ira_order.proofs.Cuts.{moment_cut}
 use Rattle.ira_order.proofs.RunsOfLogs.{every_order_is_run}
 use Rattle.ira_cert_text.specs.Certificate.{Section}
 use Rattle.ira_cert.specs.SoundSection.{IsSoundSection}
 use Rattle.ira_cert.proofs.NoCut.{sound_leaves_no_cut}
-use Rattle.ira_cand.specs.HoldsAt.{HoldsAt}
+use Rattle.ira_cand.specs.Meets.{Meets}
+use Rattle.ira_safety.specs.OneLeader.{Leads as LeadsAfter}
+use Rattle.ira_safety.proofs.Leaders.{one_leader_at_a_cut}
 use Rattle.ira_audit.specs.declared.answer.Answer.{Answer}
 use Rattle.ira_audit.specs.declared.answer.Answer.TheVariants.{Yes}
 use Rattle.ira_audit.specs.LogTexts.{AreLogTexts}
 use Rattle.ira_audit.specs.AuditAnswer.{AreSound, IsAuditAnswer, not_posed, no_certificate, other_size, other_number, unsound, yes}
 use Rattle.ira_audit.specs.Posed.{Posed}
-use Rattle.ira_audit.specs.Never.{NoCutMeetsAny, IsNeverMet, NoMomentMeetsAny, Leads, NeverTwoLeaders}
+use Rattle.ira_audit.specs.GoodLogs.{AreGoodLogs}
+use Rattle.ira_audit.specs.LogsAnswer.{IsLogsAnswer, no_log, no_ring, unmatched, circled, stopped, yes as logs_yes}
+use Rattle.ira_audit.specs.Never.{NoCutMeetsAny, IsNeverMet, NoMomentMeetsAny, Leads, NeverTwoLeaders, NoCutMeetsAPair, YesWithoutQuestion}
 use Rattle.ira_audit.proofs.LogTexts.{one_list}
 use Rattle.ira_audit.proofs.Places.{different_places}
 use Rattle.ira_audit.proofs.Zipped.{zipped_at, partner_at}
@@ -80,30 +85,53 @@ no_moment texts question certificate logs asked yes_is logs_are question_is orde
     let consistent = moment_cut logs order cut t ring.ring.0 matches is moment.within moment.places moment.made in
     no_cut_meets texts question certificate logs asked yes_is logs_are question_is case cut has consistent meets
 
--- what holds of both members of a pair holds of all
-both_all : {X : Type 0} (P : X → Type 0) (a b : X) → P a → P b → All P (a ∷ b ∷ [])
-both_all P a b pa pb zero d lt = pa
-both_all P a b pa pb (suc zero) d lt = pb
-both_all P a b pa pb (suc (suc k)) d lt = absurd (omega (arith, lt))
+-- ---- leaders
 
--- the question of all pairs asks of each
-asks_pair : (n : ℕ) (cases : List (List Conjunct)) (i j : ℕ) → ArePairCases n cases → i < j → j < n → Contains cases (pair_case i j)
-asks_pair n cases i j are lt within =
-    let has = are.every i j lt within in
-    let at = slice_get_read are.pairs (length are.pairs) has.0 (i, j) refl has.1 (sym has.2) in
-    let mapped : slice_get (map (λ p. pair_case p.0 p.1) are.pairs) has.0 ≡ Some (pair_case i j) =
-    slice_get-map (λ p. pair_case p.0 p.1) are.pairs has.0 ∙ ap (option_map (λ p. pair_case p.0 p.1)) at in
-    let there = subst (λ xs. slice_get xs has.0 ≡ Some (pair_case i j)) (sym are.cases_are) mapped in
-    (has.0, slice_get_within cases has.0 (pair_case i j) there, get_or_from_slice_get cases has.0 (pair_case i j) (pair_case i j) there)
+-- there is a yes without the question
+yes_good : (texts : List (List ℕ)) (question certificate : List ℕ) (a : Answer) → IsAuditAnswer texts question certificate a → a ≡ Yes → (logs : List Log) × AreGoodLogs texts logs
+yes_good texts question certificate a (not_posed r h e) is = absurd cc
+yes_good texts question certificate a (no_certificate logs asked f p h e) is = absurd cc
+yes_good texts question certificate a (other_size logs asked c p t other e) is = absurd cc
+yes_good texts question certificate a (other_number logs asked c p t size other e) is = absurd cc
+yes_good texts question certificate a (unsound logs asked c i f p t size number h e) is = absurd cc
+yes_good texts question certificate a (yes logs asked c p t size sound e) is = (logs, p.logs_are)
 
-rising_leaders : (logs : List Log) (cases : List (List Conjunct)) (cut : List ℕ) (i j : ℕ) → NoCutMeetsAny logs cases → ArePairCases (length logs) cases → IsConsistentCut logs cut → i < j → Leads logs cut i → ¬ (Leads logs cut j)
-rising_leaders logs cases cut i j none are consistent lt one two =
-    let within = slice_get_within logs j two.0 two.1 in
-    let Met : Conjunct → Type 0 = λ c. (log : Log) × (slice_get logs c.place ≡ Some log) × HoldsAt log c.formula (slice_index cut c.place) in
-    none (pair_case i j) cut (asks_pair (length logs) cases i j are lt within) consistent
-    (both_all Met (record { place = i; formula = leader }) (record { place = j; formula = leader }) one two)
+pub yes_without_question : YesWithoutQuestion
+yes_without_question texts question certificate yes_is =
+    let good = yes_good texts question certificate Yes yes_is refl in
+    logs_yes good.0 good.1 refl
+
+-- the logs of a yes
+good_logs : (texts : List (List ℕ)) (logs : List Log) (a : Answer) → IsLogsAnswer texts a → a ≡ Yes → AreLogTexts texts logs → AreLogs logs × HasOrder logs × AreLocalRuns logs
+good_logs texts logs a (no_log number f h e) is texts_are = absurd cc
+good_logs texts logs a (no_ring ls f t h e) is texts_are = absurd cc
+good_logs texts logs a (unmatched ls f t r h e) is texts_are = absurd cc
+good_logs texts logs a (circled ls t r h e) is texts_are = absurd cc
+good_logs texts logs a (stopped ls place f t r o h e) is texts_are = absurd cc
+good_logs texts logs a (logs_yes ls good e) is texts_are =
+    let P : List Log → Type 0 = λ x. AreLogs x × HasOrder x × AreLocalRuns x in
+    subst P (one_list texts ls logs good.texts_are texts_are) (good.ring, good.order, good.runs)
+
+leads_there : (logs : List Log) (cut : List ℕ) (i : ℕ) → Leads logs cut i → LeadsAfter logs i (slice_index cut i)
+leads_there logs cut i (log, at, holds) =
+    let phase : holds.state.phase ≡ Leader holds.holds.0 holds.holds.1 = holds.holds.2 in
+    record {
+      state = holds.state;
+      is_in = record {
+        log = log;
+        at = at;
+        reached = ((states_are_reached log.nodes (first_state log.initiator) log.events holds.states holds.states_are (slice_index cut i) holds.state).0 holds.at).1;
+      };
+      leads = rw phase tt;
+    }
 
 pub no_two_leaders : NeverTwoLeaders
-no_two_leaders texts question certificate logs asked yes_is logs_are question_is are cut i j consistent other one two =
-    let none = no_cut_meets texts question certificate logs asked yes_is logs_are question_is in
-    absurd (omega (arith, other, λ (lt : i < j). rising_leaders logs asked.cases cut i j none are consistent lt one two, λ (lt : j < i). rising_leaders logs asked.cases cut j i none are consistent lt two one))
+no_two_leaders texts logs yes_is texts_are cut i j consistent other one two =
+    let good = good_logs texts logs Yes yes_is refl texts_are in
+    other (one_leader_at_a_cut logs cut good.0 good.1.0 good.2 consistent i j (leads_there logs cut i one) (leads_there logs cut j two))
+
+pub no_cut_meets_a_pair : NoCutMeetsAPair
+no_cut_meets_a_pair texts logs yes_is texts_are case cut has consistent =
+    let none = All-pairs (λ c. ¬ (Meets logs c cut)) (length logs)
+    (λ i j lower below met. no_two_leaders texts logs yes_is texts_are cut i j consistent (omega arith) (met 0 (record { place = i; formula = leader }) (omega arith)) (met 1 (record { place = i; formula = leader }) (omega arith))) in
+    subst (λ c. ¬ (Meets logs c cut)) has.2 (none has.0 case has.1)

@@ -6,7 +6,7 @@ use Rattle.ira_pred.specs.Formula.{leader}
 use Rattle.ira_pred.specs.Case.{Conjunct}
 use Rattle.ira_pred.specs.Question.{Asked}
 use Rattle.ira_pred.specs.QuestionText.{IsQuestionText}
-use Rattle.ira_pred.specs.Pairs.{ArePairCases}
+use Rattle.ira_pred.specs.Pairs.{pairs_asked}
 use Rattle.ira_order.specs.Circle.{HasOrder}
 use Rattle.ira_order.specs.Cut.{IsConsistentCut}
 use Rattle.ira_order.specs.Order.{IsOrder, occurrences}
@@ -16,6 +16,7 @@ use Rattle.ira_cand.specs.Meets.{Meets}
 use Rattle.ira_audit.specs.declared.answer.Answer.TheVariants.{Yes}
 use Rattle.ira_audit.specs.LogTexts.{AreLogTexts}
 use Rattle.ira_audit.specs.AuditAnswer.{IsAuditAnswer}
+use Rattle.ira_audit.specs.LogsAnswer.{IsLogsAnswer}
 
 -- no consistent cut of the logs meets any of the cases
 abbrev pub NoCutMeetsAny : List Log → List (List Conjunct) → Type 0
@@ -51,10 +52,20 @@ NoMomentMeetsAny =
 abbrev pub Leads : List Log → List ℕ → ℕ → Type 0
 Leads logs cut i = (log : Log) × (slice_get logs i ≡ Some log) × HoldsAt log leader (slice_index cut i)
 
--- after a yes to the question of all pairs no consistent cut has two nodes that lead
+-- after a yes no consistent cut has two nodes that lead
 abbrev pub NeverTwoLeaders : Type 0
 NeverTwoLeaders =
-    (texts : List (List ℕ)) (question certificate : List ℕ) (logs : List Log) (asked : Asked)
-    → IsAuditAnswer texts question certificate Yes → AreLogTexts texts logs → IsQuestionText question asked
-    → ArePairCases (length logs) asked.cases
+    (texts : List (List ℕ)) (logs : List Log) → IsLogsAnswer texts Yes → AreLogTexts texts logs
     → (cut : List ℕ) (i j : ℕ) → IsConsistentCut logs cut → i ≢ j → Leads logs cut i → ¬ (Leads logs cut j)
+
+-- so none meets a case of the question of all pairs
+abbrev pub NoCutMeetsAPair : Type 0
+NoCutMeetsAPair =
+    (texts : List (List ℕ)) (logs : List Log) → IsLogsAnswer texts Yes → AreLogTexts texts logs
+    → NoCutMeetsAny logs (pairs_asked (length logs)).cases
+
+-- where there is a yes with a question and a certificate, there is one without
+abbrev pub YesWithoutQuestion : Type 0
+YesWithoutQuestion =
+    (texts : List (List ℕ)) (question certificate : List ℕ) → IsAuditAnswer texts question certificate Yes
+    → IsLogsAnswer texts Yes

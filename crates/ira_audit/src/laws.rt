@@ -1,7 +1,7 @@
 ghost use Rattle.ira_audit.specs.Answer.{EachTextHasAnAnswer, NoTextHasTwoAnswers};
 ghost use Rattle.ira_audit.specs.AuditAnswer.{AnyTextsHaveAnAuditAnswer, NoTextsHaveTwoAuditAnswers};
 ghost use Rattle.ira_audit.specs.LogsAnswer.{AnyTextsHaveAnAnswer, NoTextsHaveTwoAnswers};
-ghost use Rattle.ira_audit.specs.Never.{NoMomentMeetsAny, NeverTwoLeaders};
+ghost use Rattle.ira_audit.specs.Never.{NoMomentMeetsAny, NeverTwoLeaders, NoCutMeetsAPair, YesWithoutQuestion};
 
 /// A law: the text of one log, the texts of the logs of a ring, and these with a question and a
 /// certificate, have at most one answer.
@@ -23,7 +23,9 @@ pub fn no_moment_meets_a_case()
     ensures { NoMomentMeetsAny }
 {}
 
-/// A law: after a yes to the question of all pairs of nodes no two nodes ever lead at once.
+/// A law: after a yes, with or without a question, no two nodes ever led at once.
 pub fn never_two_leaders()
-    ensures { NeverTwoLeaders }
+    ensures leaders { NeverTwoLeaders }
+    ensures pairs { NoCutMeetsAPair }
+    ensures unasked { YesWithoutQuestion }
 {}

@@ -1,0 +1,3 @@
+pub mod OneLeader
+pub mod Reaches
+pub mod TwoNodes
