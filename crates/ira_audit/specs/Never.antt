@@ -1,4 +1,4 @@
--- What a yes to a question says: that nothing which was asked was ever met.
+-- What a yes says: that nothing which was asked was ever met, and that no two nodes led at once.
 use Rattle.std.specs.Prelude.{◌≡◌, ◌≢◌, ℕ, ◌<◌, ◌≤◌, List, Some, length, slice_get, slice_index, take, Contains}
 use Rattle.ira_event.specs.Log.{Log}
 use Rattle.ira_event.specs.Logs.{AreLogs}
