@@ -97,5 +97,19 @@ else
 fi
 rm -r "$folder"
 
+# Logs in version 2 are those of version 1 but for their first line.
+folder=$(mktemp -d)
+logs=$(logs_of two_node_election)
+found=$("$ira" upgrade --out "$folder" $logs < /dev/null)
+for log in $logs; do
+    sed '1s/.*/irlog 2/' "$log" | cmp -s - "$folder/${log##*/}" || found="another ${log##*/}"
+done
+if [ "$found" = "upgraded 2 logs" ]; then
+    passed=$((passed + 1))
+else
+    fail "upgrade of two_node_election: $found"
+fi
+rm -r "$folder"
+
 echo "examples: $passed as expected, $failed not"
 [ "$passed" -gt 0 ] && [ "$failed" -eq 0 ]

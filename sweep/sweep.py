@@ -41,7 +41,7 @@ LINES = [
     [*RUN, "--alone"],
     [*RUN, "--initiators", "1", "--draws", "0"],
     [*RUN, "--initiators", "0"],
-    ["run", "--nodes", "65", "--seed", "7", "--out", "d"],
+    ["run", "--nodes", "256", "--seed", "7", "--out", "d"],
     ["run", "--nodes", "x", "--seed", "7", "--out", "d"],
     ["frob"],
     ["--help"],

@@ -89,6 +89,13 @@ where
         out,
         "decide --question=elected/one_step_short.ask --out=/dev/full elected/0.log elected/1.log",
     )?;
+    ira(
+        rt,
+        input,
+        out,
+        "upgrade --out=. elected/0.log elected/1.log",
+    )?;
+    ira(rt, input, out, "logs 0.log elected/1.log")?;
     ira(rt, input, out, "run --nodes=5 --seed=7 --out=.")?;
     let by_threads = written(rt, 5);
     ira(rt, input, out, "run --nodes=5 --seed=7 --out=. --alone")?;

@@ -17,4 +17,5 @@ pub mod SomeLogsAnswer
 pub mod SoundSections
 pub mod Stages
 pub mod TextRuns
+pub mod Upgraded
 pub mod Zipped

@@ -3,7 +3,7 @@ use Rattle.std.proofs.Common.{◌≡◌, ◌≤◌, ℕ, ◌+◌, ◌-◌, List,
 use Rattle.std.proofs.lemmas.List.{append-nil, append_cancel_right, drop_at, take_at}
 use Rattle.std.specs.Prelude.{codes}
 use Rattle.ira_event.specs.declared.event.Event.{Event}
-use Rattle.ira_event.specs.declared.limits.TheConstants.{MAX_TEXT}
+use Rattle.ira_event.specs.Limits.{MAX_TEXT}
 use Rattle.ira_event.specs.declared.log_head.LogHead.{LogHead}
 use Rattle.ira_event.specs.declared.log_fault.LogFault.{LogFault}
 use Rattle.ira_event.specs.Log.{Log}
@@ -68,6 +68,7 @@ begun_longer text more r v n b = record {
     lines_are = b.head.lines_are;
     version = b.head.version;
     size = b.head.size;
+    fits = b.head.fits;
     in_ring = b.head.in_ring;
     parts = ap (λ w. w ++ more) b.head.parts ∙ append_assoc b.head.lines b.rest more;
   };
@@ -100,6 +101,7 @@ begun_cut text front whole r left parts b =
         lines_are = b.head.lines_are;
         version = b.head.version;
         size = b.head.size;
+        fits = b.head.fits;
         in_ring = b.head.in_ring;
         parts = append_cancel_right (text ++ front) (b.head.lines ++ read.records) left.rest both;
       };

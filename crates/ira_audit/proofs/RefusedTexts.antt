@@ -23,7 +23,7 @@ use Rattle.ira_audit.specs.AuditAnswer as answer
 use Rattle.ira_audit.specs.GoodLogs.{AreGoodLogs}
 use Rattle.ira_audit.specs.LogsAnswer.{IsLogsAnswer, no_log}
 use Rattle.ira_audit.specs.Posed.{Posed, bad_logs, no_question, other_ring}
-use Rattle.ira_audit.specs.Refusal.{Judged, MatchRefusal, RefusesQuestion, RefusesCertificate, IsTextReason, IsLogsReason, IsFindingsReason, IsQuestionRefusal, IsCertificateRefusal, no_certificate, other_size, other_number}
+use Rattle.ira_audit.specs.Refusal.{Judged, MatchRefusal, RefusesQuestion, RefusesCertificate, IsTextReason, IsLogsReason, IsTextOrHeadsReason, IsRingReason, IsFindingsReason, IsQuestionRefusal, IsCertificateRefusal, no_certificate, other_size, other_number}
 use Rattle.ira_audit.specs.Report.{IsReportableReason}
 use Rattle.ira_audit.proofs.Replaying.{text_fault_other}
 
@@ -71,6 +71,17 @@ pub refused_again : {T U : Type 0} (P : T → Type 0) (Q : Reason → Type 0) (S
     → ((x : Reason) → Q x → V x) → MatchRefusal r S V
 refused_again P Q S V r (refusal.No x) is h so = rw is (so x h)
 refused_again P Q S V r refusal.OutOfMemory is h so = rw is tt
+
+-- a text is no log's, or the logs are no ring's
+pub text_no_ring : {T : Type 0} (P : T → Type 0) (texts : List (List ℕ)) (r : Result T Refusal) (s : Reason) → r ≡ Err (refusal.No s) → IsTextReason texts s → MatchRefusal r P (IsRingReason texts)
+text_no_ring P texts r s is h =
+    let reason = text_reason texts s h in
+    rw is (reason.0, rw h.3 tt, reason.1)
+
+pub heads_no_ring : {T U : Type 0} (P : T → Type 0) (Q Any : U → Type 0) (texts : List (List ℕ)) (r : Result T Refusal) (s : Refusal) → r ≡ Err s → MatchRefusal {T = U} (Err s) Q (IsLogsReason texts)
+    → MatchRefusal {T = U} (Err s) Any IsTextOrHeadsReason → MatchRefusal r P (IsRingReason texts)
+heads_no_ring P Q Any texts r (refusal.No x) is h early = rw is (h.0, early, h.1)
+heads_no_ring P Q Any texts r refusal.OutOfMemory is h early = rw is tt
 
 -- a text is no question's
 pub question_refused : {T : Type 0} (P : T → Type 0) (text : List ℕ) (nodes : ℕ) (r : Result T Refusal) (s : Refusal) (f : AskFault) → r ≡ Err s → RefusesQuestion f s → (f ≢ ask.OutOfMemory → QuestionTextFault text f)

@@ -35,3 +35,10 @@ zipped_length R [] [] h = refl
 zipped_length R [] (y ∷ ys) h = absurd h
 zipped_length R (x ∷ xs) [] h = absurd h
 zipped_length R (x ∷ xs) (y ∷ ys) h = ap suc (zipped_length R xs ys h.1)
+
+-- what ties two lists ties them in another way, where each tie gives the other
+pub zipped_into : {X Y : Type 0} (R S : X → Y → Type 0) → ((x : X) (y : Y) → R x y → S x y) → (xs : List X) (ys : List Y) → AllZip R xs ys → AllZip S xs ys
+zipped_into R S into [] [] h = tt
+zipped_into R S into [] (y ∷ ys) h = absurd h
+zipped_into R S into (x ∷ xs) [] h = absurd h
+zipped_into R S into (x ∷ xs) (y ∷ ys) h = (into x y h.0, zipped_into R S into xs ys h.1)

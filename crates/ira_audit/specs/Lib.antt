@@ -14,3 +14,4 @@ pub mod Replaying
 pub mod Report
 pub mod RingAudit
 pub mod TextRuns
+pub mod Upgrade

@@ -1,4 +1,4 @@
--- Helpers, no definitions: what the audits' own functions hand on.
+-- Why there is no yes, where a call hands on more than an answer.
 use Rattle.std.specs.Prelude.{◌≡◌, ◌≢◌, ◌⊎◌, ℕ, List, Result, Ok, Err, length, ⊤}
 use Rattle.ira_event.specs.declared.log_fault.LogFault.{LogFault}
 use Rattle.ira_event.specs.declared.out_of_memory.OutOfMemory as memory
@@ -15,7 +15,7 @@ use Rattle.ira_cert_text.specs.Certificate as certificate
 use Rattle.ira_cert_text.specs.CertText.{IsCertText}
 use Rattle.ira_cert_text.specs.CertTextFault.{CertTextFault}
 use Rattle.ira_audit.specs.declared.reason.Reason.{Reason}
-use Rattle.ira_audit.specs.declared.reason.Reason.TheVariants.{Log, Match, Circle, Question, QuestionSize, Certificate, CertificateSize, Sections}
+use Rattle.ira_audit.specs.declared.reason.Reason.TheVariants.{Log, Heads, Match, Circle, Question, QuestionSize, Certificate, CertificateSize, Sections}
 use Rattle.ira_audit.specs.declared.refusal.Refusal.{Refusal}
 use Rattle.ira_audit.specs.declared.refusal.Refusal.TheVariants.{No, OutOfMemory}
 use Rattle.ira_audit.specs.declared.answer.Answer.{Answer}
@@ -74,6 +74,16 @@ IsTextReason texts r = (number : ℕ) × (f : LogFault) × IsFirstTextFault text
 -- the reason is the answer of the texts of logs, and doesn't say that memory ran out
 abbrev pub IsLogsReason : List (List ℕ) → Reason → Type 0
 IsLogsReason texts r = IsLogsAnswer texts (answer.No r) × IsReportableReason r
+
+-- the reason is one of a text or of heads, which are looked for before any event is
+abbrev pub IsTextOrHeadsReason : Reason → Type 0
+IsTextOrHeadsReason (Log number f) = ⊤
+IsTextOrHeadsReason (Heads f) = ⊤
+IsTextOrHeadsReason _ = ⊥
+
+-- the reason is the answer of texts that aren't those of the logs of one ring, and doesn't say that memory ran out
+abbrev pub IsRingReason : List (List ℕ) → Reason → Type 0
+IsRingReason texts r = IsLogsAnswer texts (answer.No r) × IsTextOrHeadsReason r × IsReportableReason r
 
 -- the reason is why the question isn't posed, and doesn't say that memory ran out
 abbrev pub IsFindingsReason : List (List ℕ) → List ℕ → Reason → Type 0

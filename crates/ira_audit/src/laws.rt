@@ -2,6 +2,7 @@ ghost use Rattle.ira_audit.specs.Answer.{EachTextHasAnAnswer, NoTextHasTwoAnswer
 ghost use Rattle.ira_audit.specs.AuditAnswer.{AnyTextsHaveAnAuditAnswer, NoTextsHaveTwoAuditAnswers};
 ghost use Rattle.ira_audit.specs.LogsAnswer.{AnyTextsHaveAnAnswer, NoTextsHaveTwoAnswers};
 ghost use Rattle.ira_audit.specs.Never.{NoMomentMeetsAny, NeverTwoLeaders, NoCutMeetsAPair, YesWithoutQuestion};
+ghost use Rattle.ira_audit.specs.Upgrade.{TextsAreUpgraded, UpgradesKeepAnswer, UpgradesKeepLogsAnswer, UpgradesKeepAuditAnswer};
 
 /// A law: the text of one log, the texts of the logs of a ring, and these with a question and a
 /// certificate, have at most one answer.
@@ -28,4 +29,13 @@ pub fn never_two_leaders()
     ensures leaders { NeverTwoLeaders }
     ensures pairs { NoCutMeetsAPair }
     ensures unasked { YesWithoutQuestion }
+{}
+
+/// A law: where each text is that of a log of version 1, the texts of the upgraded logs have the same answer,
+/// alone, together, and with a question and a certificate; and there are such texts.
+pub fn upgrades_keep_answers()
+    ensures texts { TextsAreUpgraded }
+    ensures one_log { UpgradesKeepAnswer }
+    ensures ring_logs { UpgradesKeepLogsAnswer }
+    ensures certified { UpgradesKeepAuditAnswer }
 {}

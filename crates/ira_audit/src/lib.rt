@@ -24,10 +24,14 @@ pub use cases::decide_all;
 pub use certified::audit;
 pub use findings::Findings;
 pub use findings_writer::write_findings;
-pub use laws::{answers_are_one, never_two_leaders, no_moment_meets_a_case, texts_have_answers};
+pub use laws::{
+    answers_are_one, never_two_leaders, no_moment_meets_a_case, texts_have_answers,
+    upgrades_keep_answers,
+};
 pub use log_audit::LogAudit;
 pub use one_log::audit_one;
 pub use reason::Reason;
+pub use refusal::Refusal;
 pub use report::write_report;
 pub use ring_audit::RingAudit;
 pub use ring_logs::audit_logs;

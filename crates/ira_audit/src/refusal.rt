@@ -12,7 +12,7 @@ use std::alloc::{AllocError, AllocFailed, Allocator};
 
 /// Why there is no yes: a reason, which never says that memory ran out, or a growth that was refused.
 #[derive(Clone, Copy)]
-pub(crate) enum Refusal {
+pub enum Refusal {
     No(Reason),
     OutOfMemory,
 }

@@ -1,4 +1,5 @@
 ghost use Rattle.std.specs.Prelude.{◌≡◌, ◌↔◌, ◌++◌, ◌∷◌, ◌≤◌, [], ℕ, List, Ok, IfOk, MatchResult, OnOk, OnErr};
+ghost use Rattle.ira_event.specs.Logs.{AreLogs};
 ghost use Rattle.ira_event.specs.Result.{UnlessErr};
 ghost use Rattle.ira_node.specs.declared.step_fault.StepFault.{StepFault};
 ghost use Rattle.ira_order.specs.declared.match_fault.MatchFault.{MatchFault};
@@ -8,7 +9,7 @@ ghost use Rattle.ira_audit.specs.LogsAnswer.{IsLogsAnswer};
 ghost use Rattle.ira_audit.specs.Never.{IsNeverMet};
 ghost use Rattle.ira_audit.specs.LogTexts.{AreLogTexts};
 ghost use Rattle.ira_audit.specs.Posed.{WhyNotPosed};
-ghost use Rattle.ira_audit.specs.Refusal.{Judged, MatchRefusal, IsTextReason, IsFindingsReason};
+ghost use Rattle.ira_audit.specs.Refusal.{Judged, MatchRefusal, IsTextReason, IsFindingsReason, IsRingReason};
 ghost use Rattle.ira_audit.specs.Report.{IsReportable};
 ghost use Rattle.ira_audit.specs.RingAudit.{HasTaken};
 ghost use Rattle.ira_audit.specs.TextRuns.{AreTextsOfRuns, AreTextsWithoutRun};
@@ -22,8 +23,8 @@ use crate::findings::Findings;
 use crate::reason::Reason;
 use crate::refusal::{Refusal, answer_of, findings_of};
 use crate::replayed_log::ReplayedLog;
-use crate::ring_logs::{judge_logs, judge_logs_on_threads};
-use ira_event::{LogFault, OutOfMemory};
+use crate::ring_logs::{gather_logs, judge_logs, judge_logs_on_threads};
+use ira_event::{LogFault, Logs, OutOfMemory};
 use ira_links::Gate;
 use std::alloc::Allocator;
 use std::marker::Model;
@@ -151,6 +152,16 @@ impl<A: Allocator + Clone> RingAudit<A> {
         ensures reportable { (texts : List (List ℕ)) → HasTaken self texts → IfOk result AreReportable }
     {
         findings_of(self.decide_taken(question))
+    }
+
+    /// The logs of the texts that were taken, if they are those of one ring. Whether they match and have steps isn't
+    /// looked at.
+    pub fn gather(self) -> Result<Logs<A>, Refusal>
+        ensures { (texts : List (List ℕ)) → HasTaken self texts
+            → MatchRefusal result (λ logs. AreLogTexts texts logs × AreLogs logs) (IsRingReason texts) }
+    {
+        let (logs, _steps) = gather_logs(self.into_logs()?)?;
+        Ok(logs)
     }
 
     fn decide_taken(self, question: &[u8]) -> Result<Findings<A>, Refusal>

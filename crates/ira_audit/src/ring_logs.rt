@@ -1,4 +1,4 @@
-ghost use Rattle.std.specs.Prelude.{◌≡◌, ◌↔◌, ℕ, List, Ok, IfOk, MatchResult, map};
+ghost use Rattle.std.specs.Prelude.{◌≡◌, ◌↔◌, ℕ, List, Ok, IfOk, MatchResult, map, ⊤};
 ghost use Rattle.ira_event.specs.Logs.{AreLogs};
 ghost use Rattle.ira_event.specs.Result.{UnlessErr};
 ghost use Rattle.ira_node.specs.declared.step_fault.StepFault.{StepFault};
@@ -7,7 +7,7 @@ ghost use Rattle.ira_order.specs.declared.match_fault.MatchFault.{MatchFault};
 ghost use Rattle.ira_audit.specs.GoodLogs.{AreGoodLogs};
 ghost use Rattle.ira_audit.specs.LogTexts.{AreLogTexts};
 ghost use Rattle.ira_audit.specs.LogsAnswer.{IsLogsAnswer};
-ghost use Rattle.ira_audit.specs.Refusal.{Judged, IsLogsReason, MatchRefusal};
+ghost use Rattle.ira_audit.specs.Refusal.{Judged, IsLogsReason, IsTextOrHeadsReason, MatchRefusal};
 ghost use Rattle.ira_audit.specs.ReplayedLogs.{AreReplayed};
 ghost use Rattle.ira_audit.specs.Report.{IsReportable};
 ghost use Rattle.ira_audit.specs.TextRuns.{AreTextsOfRuns, AreTextsWithoutRun};
@@ -59,6 +59,7 @@ pub(crate) fn gather_logs<A: Allocator + Clone>(
     ensures logs { IfOk result (λ found. AreLogs found.0 × AreReplayed found.0 found.1) }
     ensures texts { (texts : List (List ℕ)) → AreLogTexts texts replayed.items
         → MatchRefusal result (λ found. AreLogTexts texts found.0) (IsLogsReason texts) }
+    ensures heads { MatchRefusal result (λ _. ⊤) IsTextOrHeadsReason }
 {
     let (read, steps) = split_steps(replayed)?;
     Ok((Logs::gather(read)?, steps))

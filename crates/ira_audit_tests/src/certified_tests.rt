@@ -1,12 +1,14 @@
 ghost use Rattle.std.specs.Prelude.{◌≤◌};
 
 use crate::lines::has_line;
+use crate::pairs::pairs_text;
 use crate::samples::{
     BOTH_LEAD, ELECTION, ELECTION_0, LEADER_AND_ACTIVE, LONE_0, LONE_1, LONE_2, NODE_1_SPENT,
     SECOND_TERM, TIE_0, TIE_1, TWO_STEPS,
 };
 use ira_audit::audit;
 use ira_event::OutOfMemory;
+use ira_fixtures::{bytes_of, lone_initiator_texts};
 use ira_links::OpenGate;
 use std::process::Abort;
 use std::sync::Wait;
@@ -143,6 +145,35 @@ fn pairs_of_three(rt: HostRuntime) {
         b"ircert 1\nnodes 3\nsection\nspent 1\nsection\nspent 1\nsection\nspent 1\nend\n";
     let line = "no: case 1: node 1 not spent\n";
     assert_answered(&rt, texts, question, certificate, line);
+}
+
+/// The lone initiator is spent in no case of it: each other node is passive from the start.
+#[test]
+fn pairs_of_the_largest_ring(rt: HostRuntime) {
+    let texts = lone_initiator_texts(rt.alloc(), 255).expect(&rt, "memory");
+    let texts = bytes_of(rt.alloc(), &texts).expect(&rt, "memory");
+    let question = pairs_text(&rt, 255);
+    let mut certificate = String::new(rt.alloc());
+    certificate
+        .push_str("ircert 1\nnodes 255\n")
+        .expect(&rt, "memory");
+    for first in 0..254u8 {
+        for second in first + 1..255 {
+            let spent = if first == 0 { second } else { first };
+            let section = format!(in rt.alloc(); "section\nspent {spent}\n").expect(&rt, "memory");
+            certificate.push_str(&section).expect(&rt, "memory");
+        }
+    }
+    certificate.push_str("end\n").expect(&rt, "memory");
+    let answered = is_answered(
+        &rt,
+        &texts,
+        question.bytes(),
+        certificate.as_bytes(),
+        2,
+        b"yes\n",
+    );
+    assert!(rt; answered);
 }
 
 #[test]

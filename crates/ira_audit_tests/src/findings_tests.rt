@@ -1,12 +1,13 @@
 use crate::lines::has_lines;
+use crate::pairs::pairs_text;
 use crate::samples::{
     ELECTION, ELECTION_0, LEADER_AND_ACTIVE, LONE_0, LONE_1, LONE_2, SECOND_TERM, TWO_STEPS,
 };
 use ira_audit::{Answer, Findings, audit, decide_all};
-use ira_cert_text::write_cert;
-use ira_event::{MemorySink, RingSize};
+use ira_cert_text::{Certificate, write_cert};
+use ira_event::MemorySink;
+use ira_fixtures::{bytes_of, lone_initiator_texts};
 use ira_links::OpenGate;
-use ira_pred::{pairs_question, write_question};
 use std::alloc::Global;
 use std::process::Abort;
 
@@ -36,26 +37,29 @@ fn assert_uncertified(
     assert!(rt; matches!(findings.into_certificate(), Ok(None)), "{lines}");
 }
 
+/// The certificate that is made of the findings.
+fn certificate(rt: &(impl Abort + AllocGlobal), findings: Findings<Global>) -> Certificate<Global> {
+    let made = findings.into_certificate().expect(rt, "memory");
+    made.expect(rt, "each case is absent")
+}
+
+/// The text of the certificate.
+fn text_of(
+    rt: &(impl Abort + AllocGlobal),
+    certificate: &Certificate<Global>,
+) -> MemorySink<Global> {
+    let mut sink = MemorySink::new(rt.alloc());
+    let written = write_cert(certificate, &mut sink);
+    assert!(rt; written == Ok(()));
+    sink
+}
+
 /// The text of the certificate that is made of the findings.
 fn certificate_text(
     rt: &(impl Abort + AllocGlobal),
     findings: Findings<Global>,
 ) -> MemorySink<Global> {
-    let made = findings.into_certificate().expect(rt, "memory");
-    let certificate = made.expect(rt, "each case is absent");
-    let mut sink = MemorySink::new(rt.alloc());
-    let written = write_cert(&certificate, &mut sink);
-    assert!(rt; written == Ok(()));
-    sink
-}
-
-/// The text of the question of all pairs of three.
-fn pairs_text(rt: &(impl Abort + AllocGlobal)) -> MemorySink<Global> {
-    let pairs = pairs_question(rt.alloc(), RingSize::new(3).unwrap()).expect(rt, "memory");
-    let mut sink = MemorySink::new(rt.alloc());
-    let written = write_question(&pairs, &mut sink);
-    assert!(rt; written == Ok(()));
-    sink
+    text_of(rt, &certificate(rt, findings))
 }
 
 #[test]
@@ -91,7 +95,7 @@ fn absences_with_and_without_steps(rt: HostRuntime) {
 #[test]
 fn pairs_of_three(rt: HostRuntime) {
     let texts: &[&[u8]] = &[LONE_0, LONE_1, LONE_2];
-    let question = pairs_text(&rt);
+    let question = pairs_text(&rt, 3);
     let lines = "case 0: absent, 0 steps, node 1 spent\n\
         case 1: absent, 0 steps, node 2 spent\n\
         case 2: absent, 0 steps, node 1 spent\n";
@@ -107,6 +111,18 @@ fn pairs_of_three(rt: HostRuntime) {
         &OpenGate,
     );
     assert!(rt; answer == Ok(Answer::Yes));
+}
+
+#[test]
+fn pairs_of_the_largest_ring(rt: HostRuntime) {
+    let texts = lone_initiator_texts(rt.alloc(), 255).expect(&rt, "memory");
+    let texts = bytes_of(rt.alloc(), &texts).expect(&rt, "memory");
+    let question = pairs_text(&rt, 255);
+    let findings = decide_all(rt.alloc(), &texts, question.bytes()).expect(&rt, "memory");
+    let made = certificate(&rt, findings);
+    let first = made.sections.first().map(|section| section.spent);
+    assert!(rt; made.sections.len() == 32_385 && first == Some(1));
+    assert!(rt; made.sections.iter().all(|section| section.steps.is_empty()));
 }
 
 #[test]

@@ -14,4 +14,6 @@ mod lines;
 #[cfg(test)]
 mod logs_tests;
 #[cfg(test)]
+mod pairs;
+#[cfg(test)]
 mod samples;

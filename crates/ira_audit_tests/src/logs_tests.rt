@@ -3,6 +3,7 @@ use crate::samples::{
     ELECTION_0, ELECTION_1, LONE_0, LONE_1, LONE_2, SECOND_TERM, SECOND_TERM_1, TIE_0, TIE_1,
 };
 use ira_audit::{Answer, audit_logs, audit_one};
+use ira_fixtures::{bytes_of, lone_initiator_texts};
 use std::process::Abort;
 
 /// Judges the texts and compares the answer's line.
@@ -32,6 +33,13 @@ fn tie_then_win(rt: HostRuntime) {
 #[test]
 fn lone_initiator(rt: HostRuntime) {
     assert_reported(&rt, &[LONE_0, LONE_1, LONE_2], "yes\n");
+}
+
+#[test]
+fn largest_ring(rt: HostRuntime) {
+    let texts = lone_initiator_texts(rt.alloc(), 255).expect(&rt, "memory");
+    let texts = bytes_of(rt.alloc(), &texts).expect(&rt, "memory");
+    assert_reported(&rt, &texts, "yes\n");
 }
 
 #[test]

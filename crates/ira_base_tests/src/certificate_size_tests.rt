@@ -47,7 +47,7 @@ fn too_many_steps(rt: HostRuntime) {
 fn too_many_sections(rt: HostRuntime) {
     let head = b"ircert 1\nnodes 2\n";
     let section = b"section\nspent 0\n";
-    assert_repeated(&rt, head, section, 2_016, b"end\n", Ok((2_016, 0)));
+    assert_repeated(&rt, head, section, 32_385, b"end\n", Ok((32_385, 0)));
     let last = b"section\n";
-    assert_repeated(&rt, head, section, 2_016, last, Err(CertFault::TooMany));
+    assert_repeated(&rt, head, section, 32_385, last, Err(CertFault::TooMany));
 }

@@ -4,7 +4,7 @@
 
 use crate::samples::{ELECTION_0, ELECTION_1};
 use ira_cand::table;
-use ira_event::{LogFault, Logs, MemorySink, RingSize, read_log, write_log};
+use ira_event::{LogFault, Logs, MemorySink, RingSize, read_log, upgrade, write_log};
 use ira_fixtures::logs_of;
 use ira_links::link;
 use ira_order::{find_order, order};
@@ -47,6 +47,7 @@ const NESTED: &[u8] =
 enum Call {
     ReadLog(&'static [u8]),
     WriteLog,
+    Upgrade,
     ReadQuestion(&'static [u8]),
     MakePairs,
     FindOrder,
@@ -61,6 +62,7 @@ const CALLS: &[Call] = &[
     Call::ReadLog(LATE_FAULT),
     Call::ReadLog(MANY_YIELDS),
     Call::WriteLog,
+    Call::Upgrade,
     Call::ReadQuestion(NESTED),
     Call::ReadQuestion(PAIRS_OF_THREE),
     Call::MakePairs,
@@ -76,6 +78,7 @@ fn answers(call: &Call, alloc: Memory, logs: &Logs<Memory>) -> bool {
     match call {
         Call::ReadLog(text) => read_log(alloc, *text).err() != Some(LogFault::OutOfMemory),
         Call::WriteLog => write_log(log, &mut MemorySink::new(alloc)).is_ok(),
+        Call::Upgrade => has_answered(upgrade(alloc, log)),
         Call::ReadQuestion(text) => has_answered(read_question(alloc, *text)),
         Call::MakePairs => has_answered(pairs_question(alloc, RingSize::new(3).unwrap())),
         Call::FindOrder => has_answered(find_order(alloc, logs)),

@@ -48,13 +48,13 @@ fn malicious_questions(rt: HostRuntime) {
         ),
         (
             b"case\n0: true\n".as_slice(),
-            2016,
+            32_385,
             b"end\n".as_slice(),
-            Ok(2016),
+            Ok(32_385),
         ),
         (
             b"case\n0: true\n".as_slice(),
-            2016,
+            32_385,
             b"case\n".as_slice(),
             Err(AskFault::Cases),
         ),

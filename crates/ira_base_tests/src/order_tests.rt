@@ -5,6 +5,7 @@ use crate::samples::{
     assert_shown, clean, dirty, log_of, logs_of, loser, tie_loser, tie_winner, winner,
 };
 use ira_event::{Event, Logs, NodeLog};
+use ira_fixtures::{bytes_of, lone_initiator_texts};
 use ira_order::{
     MatchFault, OrderFault, Ordered, find_order, find_order_on_threads, match_links, order,
 };
@@ -263,6 +264,25 @@ fn stored_counters(rt: HostRuntime) {
         stored(&rt, 2, &[&[], &[]]),
     ];
     assert_eq!(rt; counters, [6, 14, 9, 0]);
+}
+
+/// Of a ring of 255 nodes: how many events of the last one happened before the third of node 0, and how many counters
+/// are kept.
+fn asked_of_255(ordered: &Ordered<'_, Global>) -> Option<(u32, usize)> {
+    let logs = ordered.logs();
+    if logs.size().get() != 255 || logs.log(0).len() != 3 {
+        return None;
+    }
+    Some((ordered.count(0, 3, 254), ordered.stored()))
+}
+
+#[test]
+fn counts_of_the_largest_ring(rt: HostRuntime) {
+    let texts = lone_initiator_texts(rt.alloc(), 255).expect(&rt, "memory");
+    let texts = bytes_of(rt.alloc(), &texts).expect(&rt, "memory");
+    let logs = ira_fixtures::logs_of(rt.alloc(), &texts).expect(&rt, "the logs of one ring");
+    let ordered = order(rt.alloc(), &logs).expect(&rt, "an order");
+    assert!(rt; asked_of_255(&ordered) == Some((2, 65_025)));
 }
 
 /// The log of a passive node of a ring of 64 that does so 500 times.

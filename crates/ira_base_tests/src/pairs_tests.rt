@@ -25,8 +25,8 @@ fn pairs_of_three(rt: HostRuntime) {
 
 #[test]
 fn pairs_of_the_largest_ring(rt: HostRuntime) {
-    let nodes = RingSize::new(64).expect(&rt, "a ring of 64");
+    let nodes = RingSize::new(255).expect(&rt, "a ring of 255");
     let question = pairs_question(rt.alloc(), nodes).expect(&rt, "memory");
     let asked = (question.nodes().get(), question.cases().len());
-    assert!(rt; asked == (64, 2_016));
+    assert!(rt; asked == (255, 32_385));
 }

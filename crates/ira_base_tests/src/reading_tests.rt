@@ -77,7 +77,22 @@ fn log_text_table(rt: HostRuntime) {
             Err(LogFault::Head),
         ),
         (
+            b"irlog 1\nnodes 64\nplace 63\nstart initiator\n".as_slice(),
+            b"end 0\n".as_slice(),
+            Ok(0),
+        ),
+        (
             b"irlog 1\nnodes 65\nplace 0\nstart initiator\n".as_slice(),
+            b"end 0\n".as_slice(),
+            Err(LogFault::Head),
+        ),
+        (
+            b"irlog 2\nnodes 255\nplace 254\nstart initiator\n".as_slice(),
+            b"end 0\n".as_slice(),
+            Ok(0),
+        ),
+        (
+            b"irlog 2\nnodes 256\nplace 0\nstart initiator\n".as_slice(),
             b"end 0\n".as_slice(),
             Err(LogFault::Head),
         ),
@@ -239,19 +254,45 @@ fn one_byte_too_long(rt: HostRuntime) {
     assert_parts(&rt, b"", b"x", longest, b"", Err(LogFault::Head));
 }
 
-/// Compares whether a log of this version of a node at this place of a ring of two may have this event.
-fn assert_log(rt: &(impl Abort + AllocGlobal), version: u8, place: u8, event: Event, wanted: bool) {
-    let nodes = RingSize::new(2).expect(rt, "a ring of two");
+/// Compares whether a log of this version of a node at this place of a ring of so many may have this event.
+fn assert_log_of(
+    rt: &(impl Abort + AllocGlobal),
+    version: u8,
+    nodes: u8,
+    place: u8,
+    event: Event,
+    wanted: bool,
+) {
+    let size = RingSize::new(nodes).expect(rt, "a ring of that size");
     let events = vec![in rt.alloc(); event].expect(rt, "memory");
-    let is_log = NodeLog::new(version, nodes, place, true, events).is_some();
-    assert!(rt; is_log == wanted, "{version} {place} {event:?}");
+    let is_log = NodeLog::new(version, size, place, true, events).is_some();
+    assert!(rt; is_log == wanted, "{version} {nodes} {place} {event:?}");
+}
+
+/// The same of a ring of two.
+fn assert_log(rt: &(impl Abort + AllocGlobal), version: u8, place: u8, event: Event, wanted: bool) {
+    assert_log_of(rt, version, 2, place, event, wanted);
+}
+
+#[test]
+fn sizes_of_rings(rt: HostRuntime) {
+    assert!(rt;
+        RingSize::new(1).is_none() && RingSize::new(2).is_some() && RingSize::new(255).is_some()
+    );
+    for (version, nodes, place, wanted) in [
+        (1, 64, 63, true),
+        (1, 65, 0, false),
+        (1, 255, 0, false),
+        (2, 65, 64, true),
+        (2, 255, 254, true),
+        (2, 255, 255, false),
+    ] {
+        assert_log_of(&rt, version, nodes, place, Event::Draw(1), wanted);
+    }
 }
 
 #[test]
 fn logs_out_of_range(rt: HostRuntime) {
-    assert!(rt;
-        RingSize::new(1).is_none() && RingSize::new(65).is_none() && RingSize::new(64).is_some()
-    );
     for (place, drawn, wanted) in [
         (0, 1, true),
         (1, 1_000_000, true),

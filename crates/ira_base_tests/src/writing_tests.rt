@@ -3,13 +3,23 @@
 use crate::samples::{
     ELECTION_0, ELECTION_1, dirty, log_in, log_of, loser, next_leader, winner, yielder,
 };
-use ira_event::{Event, HeadFault, Logs, MemorySink, NodeLog, ToWriter, WriteFault, write_log};
+use ira_event::{
+    Event, HeadFault, Logs, MemorySink, NodeLog, ToWriter, WriteFault, upgrade, write_log,
+};
 use ira_fixtures::SECOND_TERM;
 use ira_pred::{Question, read_question, write_question};
 use ira_refusing::{FailingSink, Writer, each_byte_refused};
 use std::alloc::Global;
 use std::io::BufWriter;
 use std::process::Abort;
+
+/// Writes the log to memory, and compares the text.
+fn assert_text(rt: &(impl Abort + AllocGlobal), log: &NodeLog<Global>, text: &[u8]) {
+    let mut sink = MemorySink::new(rt.alloc());
+    let is_empty = sink.bytes().is_empty();
+    let written = write_log(log, &mut sink);
+    assert!(rt; is_empty && written == Ok(()) && sink.bytes() == text);
+}
 
 /// Writes the log of these events to memory, and compares the text.
 fn assert_written(
@@ -22,10 +32,7 @@ fn assert_written(
     text: &[u8],
 ) {
     let log = log_in(rt, version, nodes, place, initiator, events);
-    let mut sink = MemorySink::new(rt.alloc());
-    let is_empty = sink.bytes().is_empty();
-    let written = write_log(&log, &mut sink);
-    assert!(rt; is_empty && written == Ok(()) && sink.bytes() == text);
+    assert_text(rt, &log, text);
 }
 
 #[test]
@@ -41,6 +48,22 @@ fn second_term(rt: HostRuntime) {
     assert_written(&rt, 2, 2, 1, true, &next_leader(), SECOND_TERM[1]);
 }
 
+/// Upgrades the log, and compares the text of what it becomes.
+fn assert_upgraded(rt: &(impl Abort + AllocGlobal), log: &NodeLog<Global>, text: &[u8]) {
+    let upgraded = upgrade(rt.alloc(), log).expect(rt, "memory");
+    assert_text(rt, &upgraded, text);
+}
+
+#[test]
+fn upgrade_of_logs(rt: HostRuntime) {
+    let election =
+        b"irlog 2\nnodes 2\nplace 0\nstart initiator\ndraw 2\nsend 1 2 1 clean\nrecv 1 1 1 clean\nrecv 1 2 2 clean\nend 4\n";
+    assert_eq!(rt; election.len(), 104);
+    assert_upgraded(&rt, &log_of(&rt, 2, 0, true, &winner()), election);
+    let terms = log_in(&rt, 2, 2, 0, true, &yielder());
+    assert_upgraded(&rt, &terms, SECOND_TERM[0]);
+}
+
 #[test]
 fn largest_numbers_and_dirty(rt: HostRuntime) {
     let message = dirty(1_000_000, 999_999, 10);
@@ -52,6 +75,9 @@ fn largest_numbers_and_dirty(rt: HostRuntime) {
     let text =
         b"irlog 1\nnodes 64\nplace 63\nstart passive\nrecv 1000000 999999 10 dirty\ndraw 1000000\nsend 1000000 999999 10 dirty\nend 3\n";
     assert_written(&rt, 1, 64, 63, false, &events, text);
+    let text =
+        b"irlog 2\nnodes 255\nplace 254\nstart passive\nrecv 1000000 999999 10 dirty\ndraw 1000000\nsend 1000000 999999 10 dirty\nend 3\n";
+    assert_written(&rt, 2, 255, 254, false, &events, text);
 }
 
 /// The log's text.

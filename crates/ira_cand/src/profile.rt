@@ -1,6 +1,6 @@
 ghost use Rattle.std.specs.Prelude.{◌≡◌, ◌+◌, ◌++◌, ◌∷◌, ◌≤◌, [], true, false, cond, IfOk, OnOk, length};
 ghost use Rattle.std.specs.List.{flat_map};
-ghost use Rattle.ira_event.specs.declared.limits.TheConstants.{MAX_RECORDS};
+ghost use Rattle.ira_event.specs.Limits.{MAX_RECORDS};
 ghost use Rattle.ira_pred.specs.Clause.{formula};
 ghost use Rattle.ira_pred.specs.ClauseAnswer.{holds_test};
 ghost use Rattle.ira_cand.specs.Candidates.{AreCandidates};

@@ -10,3 +10,4 @@ pub mod OneVerdict
 pub mod Past
 pub mod Prefixes
 pub mod SomeVerdict
+pub mod Upgraded

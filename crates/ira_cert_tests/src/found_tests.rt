@@ -1,6 +1,8 @@
 use ira_cert::CertStep;
 use ira_elim::{Found, decide};
-use ira_fixtures::{BOTH_LEAD, ELECTION, SECOND_TERM, first_case, logs_of, step};
+use ira_fixtures::{
+    BOTH_LEAD, ELECTION, SECOND_TERM, bytes_of, first_case, logs_of, lone_initiator_texts, step,
+};
 use ira_order::order;
 use ira_pred::read_question;
 use std::alloc::Global;
@@ -63,4 +65,35 @@ fn second_term(rt: HostRuntime) {
     assert!(rt; is_absent_by(&found(&rt, &SECOND_TERM, BOTH_LEAD), &steps, 0));
     let question = b"irask 1\nnodes 2\ncase\n0: (leader and term = 2)\nend\n";
     assert!(rt; is_absent_by(&found(&rt, &SECOND_TERM, question), &[], 0));
+}
+
+/// One message goes round a ring of 70, and each node but the first owes it once. Of two nodes the one further on has heard
+/// of all that the other one did as soon as it owes.
+#[test]
+fn least_pairs_of_seventy_places(rt: HostRuntime) {
+    let texts = lone_initiator_texts(rt.alloc(), 70).expect(&rt, "memory");
+    let texts = bytes_of(rt.alloc(), &texts).expect(&rt, "memory");
+    let question = b"irask 1\nnodes 70\ncase\n\
+        60: passive\n61: passive\n63: owes\n64: passive\n66: owes\n\
+        end\n";
+    let steps = [
+        step(60, 0, 63, 1),
+        step(60, 1, 63, 1),
+        step(61, 0, 63, 1),
+        step(61, 1, 63, 1),
+        step(63, 1, 66, 1),
+    ];
+    assert!(rt; is_absent_by(&found(&rt, &texts, question), &steps, 63));
+    let question = b"irask 1\nnodes 70\ncase\n\
+        62: passive\n64: passive\n65: (not owes)\n67: owes\n69: owes\n\
+        end\n";
+    let steps = [
+        step(62, 0, 67, 1),
+        step(62, 1, 67, 1),
+        step(64, 0, 67, 1),
+        step(64, 1, 67, 1),
+        step(65, 0, 67, 1),
+        step(67, 1, 69, 1),
+    ];
+    assert!(rt; is_absent_by(&found(&rt, &texts, question), &steps, 67));
 }

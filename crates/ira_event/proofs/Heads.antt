@@ -114,7 +114,7 @@ pub head_out_of_range : (text : List ℕ) (lines : HeadLines) (after : List ℕ)
 head_out_of_range text lines after e bad head rest h =
     let q = some_is _ _ (sym e ∙ begins-again text head rest h) in
     let same : lines_of head ≡ lines = sym (ap (λ (x : HeadLines × List ℕ). x.0) q) in
-    bad (subst AreInRange same (h.version, h.size, h.in_ring))
+    bad (subst AreInRange same (h.version, h.size, h.fits, h.in_ring))
 
 head_same : (front : List ℕ) (version nodes place v n p : ℕ) (initiator : Bool) → v ≡ version → n ≡ nodes → p ≡ place
     → IsHead front (record { version = version; nodes = nodes; place = place; initiator = initiator }) → IsHead front (record { version = v; nodes = n; place = p; initiator = initiator })
@@ -125,12 +125,13 @@ head_found text lines rest e good =
     let t = head-takes text lines rest e in
     let v : lines.version ≡ t.version = omega (arith, t.version_kept, good.0.1) in
     let n : lines.nodes ≡ t.nodes = omega (arith, t.nodes_kept, good.1.1) in
-    let p : lines.place ≡ t.place = omega (arith, t.place_kept, good.2, good.1.1) in
+    let p : lines.place ≡ t.place = omega (arith, t.place_kept, good.3, good.1.1) in
     record {
       lines = t.front;
       lines_are = head_same t.front t.version t.nodes t.place lines.version lines.nodes lines.place lines.initiator v n p t.head_is;
       version = good.0;
       size = good.1;
-      in_ring = good.2;
+      fits = good.2;
+      in_ring = good.3;
       parts = t.parts;
     }

@@ -17,4 +17,5 @@ pub mod ShortNumbers
 pub mod Spelled
 pub mod TextsAnswered
 pub mod Unless
+pub mod Upgrades
 pub mod Writing

@@ -24,7 +24,7 @@ heads_same text a b r s h k =
 
 -- the text of a log is a head and all its records
 head_begins : (text : List ℕ) (log : Log) (h : IsLogText text log) → BeginsWithHead text (head_of log) (h.records ++ (h.end ++ codes "\n"))
-head_begins text log h = record { lines = h.head; lines_are = h.head_is; version = h.valid.version; size = h.valid.size; in_ring = h.valid.place; parts = h.parts ∙ simp append_assoc }
+head_begins text log h = record { lines = h.head; lines_are = h.head_is; version = h.valid.version; size = h.valid.size; fits = h.valid.fits; in_ring = h.valid.place; parts = h.parts ∙ simp append_assoc }
 
 records_of : (text : List ℕ) (log : Log) (h : IsLogText text log) → AreAllRecords log.version (h.records ++ (h.end ++ codes "\n")) log.events
 records_of text log h = record {
@@ -45,7 +45,7 @@ log_read text head rest events a b = record {
   records_are = b.begins.records_are;
   end_is = b.end_is;
   parts = a.parts ∙ ap (λ w. a.lines ++ w) b.begins.parts ∙ simp append_assoc;
-  valid = record { version = a.version; size = a.size; place = a.in_ring; count = b.begins.count; numbers = b.begins.numbers; held = b.begins.held };
+  valid = record { version = a.version; size = a.size; fits = a.fits; place = a.in_ring; count = b.begins.count; numbers = b.begins.numbers; held = b.begins.held };
 }
 
 log_parts_same : (a b : LogHead) (es fs : List Event) → a ≡ b → es ≡ fs → log_of a es ≡ log_of b fs

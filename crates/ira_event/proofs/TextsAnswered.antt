@@ -4,7 +4,7 @@ use Rattle.std.proofs.lemmas.Bool.Decides.{nat_tests}
 use Rattle.std.specs.Cmp.Lexicographic.{pointwise, bytes_decides}
 use Rattle.std.specs.Prelude.{codes, position}
 use Rattle.std.proofs.lemmas.Bool.{cases_lt, cases_eq}
-use Rattle.ira_event.specs.Limits.{MAX_NODES, MAX_RECORDS, MAX_TEXT, MAX_VERSION}
+use Rattle.ira_event.specs.Limits.{MAX_NODES, MAX_RECORDS, MAX_TEXT, MAX_VERSION, MAX_VERSION_1_NODES}
 use Rattle.ira_event.specs.declared.event.Event.{Event}
 use Rattle.ira_event.specs.declared.log_fault.LogFault.{LogFault}
 use Rattle.ira_event.specs.declared.log_fault.LogFault.TheVariants as fault
@@ -19,6 +19,7 @@ use Rattle.ira_event.specs.LogLaws.{EachTextHasAnAnswer}
 use Rattle.ira_event.specs.LogText.{IsLogText}
 use Rattle.ira_event.specs.LogTextFault.{BeginsAsRecord, BeginsWithHead, RestFault, RecordsFault, no_head, behind_head, LogTextFault, AreAllRecords}
 use Rattle.ira_event.specs.NextLine.{cut}
+use Rattle.ira_event.specs.RingSize.{FitsVersion}
 use Rattle.ira_event.specs.Records.{RecordsLeft, ReadsOn, HasRead, IsUnread}
 use Rattle.ira_event.specs.LogHead.{AreInRange}
 use Rattle.ira_event.specs.Scan.{after_word}
@@ -147,12 +148,21 @@ range_decided least most n = elim (cases_lt n least) [
   | inr enough ↦ elim (cases_lt most n) [ inl many ↦ inr (λ h. omega (arith, h.1, many)) | inr small ↦ inl (enough, small) ]
 ]
 
+fits_decided : (version n : ℕ) → Decided (FitsVersion version n)
+fits_decided version n = elim (cases_lt MAX_VERSION_1_NODES n) [
+  | inl many ↦ elim (cases_eq version 1) [ inl first ↦ inr (λ h. omega (arith, h first, many)) | inr other ↦ inl (λ first. absurd (other first)) ]
+  | inr few ↦ inl (λ _. few)
+]
+
 head_decided : (lines : HeadLines) → Decided (AreInRange lines)
 head_decided lines = elim (range_decided 1 MAX_VERSION lines.version) [
   | inr other ↦ inr (λ h. other h.0)
   | inl version ↦ elim (range_decided 2 MAX_NODES lines.nodes) [
     | inr other ↦ inr (λ h. other h.1)
-    | inl size ↦ elim (cases_lt lines.place lines.nodes) [ inl lt ↦ inl (version, size, lt) | inr past ↦ inr (λ h. omega (arith, h.2, past)) ]
+    | inl size ↦ elim (fits_decided lines.version lines.nodes) [
+      | inr other ↦ inr (λ h. other h.2)
+      | inl fits ↦ elim (cases_lt lines.place lines.nodes) [ inl lt ↦ inl (version, size, fits, lt) | inr past ↦ inr (λ h. omega (arith, h.3, past)) ]
+    ]
   ]
 ]
 

@@ -17,4 +17,5 @@ pub mod RingSize
 pub mod Scan
 pub mod Sink
 pub mod StoredEvents
+pub mod Upgrade
 pub mod Version

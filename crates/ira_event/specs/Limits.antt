@@ -3,7 +3,11 @@ use Rattle.std.specs.Prelude.{ℕ}
 
 -- the most nodes that a ring has
 abbrev pub MAX_NODES : ℕ
-MAX_NODES = 64
+MAX_NODES = 255
+
+-- the most nodes of a ring whose logs are of version 1
+abbrev pub MAX_VERSION_1_NODES : ℕ
+MAX_VERSION_1_NODES = 64
 
 -- the greatest version of a log; the least is 1
 abbrev pub MAX_VERSION : ℕ

@@ -9,7 +9,7 @@ use Rattle.ira_event.specs.declared.log_head.LogHead.{LogHead}
 use Rattle.ira_event.specs.Event.{is_event, is_of_version}
 use Rattle.ira_event.specs.LogText.{IsHead, IsRecord, AreRecords, IsEnd}
 use Rattle.ira_event.specs.NextLine.{NextLineFault}
-use Rattle.ira_event.specs.RingSize.{IsRingSize}
+use Rattle.ira_event.specs.RingSize.{IsRingSize, FitsVersion}
 use Rattle.ira_event.specs.Version.{IsVersion}
 pub use Rattle.ira_event.specs.NextLine.{HasNoLineFeed, cut, at_line}
 
@@ -19,6 +19,7 @@ pub record BeginsWithHead (text : List ℕ) (head : LogHead) (rest : List ℕ) :
   pub lines_are : IsHead lines head
   pub version : IsVersion head.version
   pub size : IsRingSize head.nodes
+  pub fits : FitsVersion head.version head.nodes
   pub in_ring : head.place < head.nodes
   pub parts : text ≡ lines ++ rest
 

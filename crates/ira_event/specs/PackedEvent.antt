@@ -1,5 +1,6 @@
 -- Helpers, no definitions: how an event is packed into a word, two bits of kind, one of dirt, and 20 for each
--- number. A reset is what no message is: its hop alone, as no message has round 0. That an event within the limits comes back is proved.
+-- number. A reset is what no message is: its hop alone, as no message has round 0. A yield is what no draw is: one of ID 0.
+-- That an event within the limits comes back is proved.
 use Rattle.std.specs.Prelude.{ℕ, ◌+◌, ◌*◌, ◌/◌, ◌%◌, ◌==◌, if◌then◌else◌}
 use Rattle.ira_event.specs.declared.msg.Msg.{Msg}
 use Rattle.ira_event.specs.declared.load.Load.{Load}
@@ -33,13 +34,16 @@ message_in w = record {
 abbrev pub load_in : ℕ → Load
 load_in w = if w / 4 % 2199023255552 == 0 then Reset (w / 8 / 1048576 / 1048576) else Message (message_in w)
 
+-- the draw of this ID, or the yield, where it is none
+abbrev pub draw_in : ℕ → Event
+draw_in id = if id == 0 then Yield else Draw id
+
 -- the event in a word of this kind
 abbrev pub event_in : ℕ → ℕ → Event
 event_in kind w =
-    if kind == 0 then Draw (number_in w) else
+    if kind == 0 then draw_in (number_in w) else
     if kind == 1 then Sent (load_in w) else
-    if kind == 2 then Got (load_in w) else
-    Yield
+    Got (load_in w)
 
 -- the event in a word
 abbrev pub unpacked : ℕ → Event

@@ -2,7 +2,10 @@ ghost use Rattle.std.specs.Prelude.{◌≡◌};
 ghost use Rattle.ira_event.specs.Event.{is_number as number_test};
 
 /// The most nodes that a ring has.
-pub const MAX_NODES: usize = 64;
+pub const MAX_NODES: usize = 255;
+
+/// The most nodes of a ring whose logs are of version 1.
+pub const MAX_VERSION_1_NODES: usize = 64;
 
 /// The greatest version of a log; the least is 1.
 pub const MAX_VERSION: u8 = 2;

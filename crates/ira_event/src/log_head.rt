@@ -37,7 +37,8 @@ pub fn take_head(text: &[u8]) -> Option<(LogHead, &[u8])>
 }
 
 impl HeadLines {
-    /// The head of these numbers, where there are such a version and such a ring, and it has the place.
+    /// The head of these numbers, where there are such a version and such a ring, of which logs of that version may be, and
+    /// it has the place.
     fn in_range(self) -> Option<LogHead>
         ensures some { IsSome result ↔ AreInRange self }
         ensures value { IfSome result
@@ -48,6 +49,9 @@ impl HeadLines {
         let nodes = RingSize::of_number(self.nodes)?;
         let place = u8::try_from(self.place).ok()?;
         if !(1..=MAX_VERSION).contains(&version) || place >= nodes.get() {
+            return None;
+        }
+        if !nodes.fits_version(version) {
             return None;
         }
         Some(LogHead {

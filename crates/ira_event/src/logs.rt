@@ -1,11 +1,14 @@
-ghost use Rattle.std.specs.Prelude.{◌≡◌, ℕ, ◌<◌, ◌↔◌, List, Ok, Err, Some, MatchResult, OnOk, IfErr, length, slice_get};
+ghost use Rattle.std.specs.Prelude.{◌≡◌, ℕ, ◌<◌, ◌↔◌, List, Ok, Err, Some, MatchResult, OnOk, IfErr, IfOk, length, map, slice_get};
 ghost use Rattle.ira_event.specs.Log.{Log, IsLog};
 ghost use Rattle.ira_event.specs.Logs.{AreLogs, EachLog, HasNumber, HasVersion, IsFirstOther, HeadFaultOf, NoLogsHaveTwoHeadFaults, NoRingHasHeadFaults};
 ghost use Rattle.ira_event.specs.RingSize.{IsRingSize};
+ghost use Rattle.ira_event.specs.Upgrade.{upgraded};
 ghost use Rattle.ira_event.specs.declared.head_fault.HeadFault.{HeadFault};
 
 use crate::head_fault::HeadFault;
+use crate::log_upgrade::upgrade;
 use crate::node_log::NodeLog;
+use crate::out_of_memory::OutOfMemory;
 use crate::ring_size::RingSize;
 use std::alloc::Allocator;
 use std::marker::Model;
@@ -93,6 +96,20 @@ fn check_versions<A: Allocator>(logs: &[NodeLog<A>], size: RingSize) -> Result<(
     Ok(())
 }
 
+/// The logs in version 2, in the same order.
+fn upgrade_each<A: Allocator + Clone>(
+    logs: Vec<NodeLog<A>, A>,
+) -> Result<Vec<NodeLog<A>, A>, OutOfMemory>
+    ensures { IfOk result (λ news. news.items ≡ map upgraded logs.items) }
+{
+    let mut news = Vec::with_capacity(logs.allocator().clone()?, logs.len())?;
+    for log in logs {
+        let alloc = news.allocator().clone()?;
+        news.push(upgrade(alloc, &log)?)?;
+    }
+    Ok(news)
+}
+
 impl<A: Allocator> Logs<A> {
     /// The logs as those of one ring, or their first fault: their number, then a ring size, then a
     /// place, then a version. It takes no memory.
@@ -106,6 +123,19 @@ impl<A: Allocator> Logs<A> {
         check_places(&logs, size)?;
         check_versions(&logs, size)?;
         Ok(Logs { size, logs })
+    }
+
+    /// The logs in version 2. A log is let go once its upgrade is made.
+    pub fn upgrade(self) -> Result<Logs<A>, OutOfMemory>
+    where
+        A: Clone,
+        ensures { IfOk result (λ logs. logs ≡ map upgraded self) }
+    {
+        let Logs { size, logs } = self;
+        Ok(Logs {
+            size,
+            logs: upgrade_each(logs)?,
+        })
     }
 
     /// How many nodes the ring has, and so how many logs there are.

@@ -64,7 +64,7 @@ fn are_of_version(version: u8, events: &[Event]) -> bool
 impl<A: Allocator> NodeLog<A> {
     /// The log of these events, or `None` where there is no such version, the place is outside the ring,
     /// there are too many events, a number is outside `1..=MAX_NUMBER`, or a log of version 1 had a yield
-    /// or a reset.
+    /// or a reset, or a ring of more than `MAX_VERSION_1_NODES`.
     pub fn new(
         version: u8,
         nodes: RingSize,
@@ -91,6 +91,9 @@ impl<A: Allocator> NodeLog<A> {
             }) }
     {
         if !(1..=MAX_VERSION).contains(&version) || place >= nodes.get() {
+            return None;
+        }
+        if !nodes.fits_version(version) {
             return None;
         }
         if events.len() > MAX_RECORDS

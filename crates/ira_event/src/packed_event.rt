@@ -14,7 +14,8 @@ const SENT: u64 = 1;
 
 const GOT: u64 = 2;
 
-const YIELD: u64 = 3;
+/// A yield is what no draw is, whose ID is at least 1. So one bit tells a receipt from all else.
+const YIELD: u64 = DRAW;
 
 /// The bits of dirt, round and ID hold so many values; all are 0 in a reset, and in no message, whose
 /// round is at least 1.
@@ -60,10 +61,12 @@ impl PackedEvent {
     {
         let word = self.word;
         match word % 4 {
-            DRAW => Event::Draw((word / 8 % NUMBERS) as u32),
+            DRAW => match (word / 8 % NUMBERS) as u32 {
+                0 => Event::Yield,
+                id => Event::Draw(id),
+            },
             SENT => Event::Sent(unpack(word)),
-            GOT => Event::Got(unpack(word)),
-            _ => Event::Yield,
+            _ => Event::Got(unpack(word)),
         }
     }
 
@@ -84,8 +87,8 @@ impl PackedEvent {
         ensures { result ≡ receipt self.now }
     {
         match self.word % 4 {
-            GOT => Some(PackedLoad { word: self.word }),
-            _ => None,
+            DRAW | SENT => None,
+            _ => Some(PackedLoad { word: self.word }),
         }
     }
 }

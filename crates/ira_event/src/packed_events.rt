@@ -9,7 +9,7 @@ use crate::records::Records;
 use std::alloc::Allocator;
 use std::marker::Model;
 
-/// The events of a log while it is read, in eight bytes each. Contracts see their list.
+/// The events of a log that is being made, in eight bytes each. Contracts see their list.
 #[derive(Drop)]
 pub struct PackedEvents<A: Allocator> {
     events: Vec<PackedEvent, A>,
@@ -31,6 +31,13 @@ impl<A: Allocator> PackedEvents<A> {
     {
         // Most lines have more than 16 bytes, and a page that no event touches costs nothing.
         let room = (records.unread() / 16).min(MAX_RECORDS);
+        PackedEvents::with_capacity(alloc, room)
+    }
+
+    /// No events, and room for so many.
+    pub(crate) fn with_capacity(alloc: A, room: usize) -> Result<PackedEvents<A>, OutOfMemory>
+        ensures { IfOk result (λ events. events ≡ []) }
+    {
         Ok(PackedEvents {
             events: Vec::with_capacity(alloc, room)?,
         })

@@ -75,6 +75,15 @@ impl<'a> Records<'a> {
             self.rest = after;
             return Ok(Some(event));
         }
+        self.next_line()
+    }
+
+    /// The same of a line of any length. Apart from `next_event`, so that the room for the line is made only
+    /// where it is read.
+    #[inline(always)]
+    fn next_line(&mut self) -> Result<Option<Event>, LogFault>
+        ensures { ReadsOn self.old self.new result }
+    {
         let Some((line, after)) = take_line(self.rest) else {
             return Err(unread_fault(self.rest, self.count, self.version));
         };

@@ -85,10 +85,10 @@ fn short_number(text: &[u8], start: usize) -> Option<(u32, usize)>
     ensures in_range { IfSome result (λ found. is_number found.0 ≡ true) }
     ensures end { IfSome result (λ found. found.1 < start + NUMBER_ROOM) }
 {
-    let Some(first @ 1..) = to_digit(text[start]) else {
+    let first @ b'1'..=b'9' = text[start] else {
         return None;
     };
-    let mut value = first;
+    let mut value = u32::from(first - b'0');
     for i in 1..NUMBER_ROOM {
         let Some(digit) = to_digit(text[start + i]) else {
             return Some((value, start + i));

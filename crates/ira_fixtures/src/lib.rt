@@ -1,9 +1,11 @@
 //! For tests: logs and questions that several of them judge, and a gate at which two threads meet.
 #![tactic(auto)]
 
+mod lone_ring;
 mod meeting;
 mod worked;
 
+pub use lone_ring::{bytes_of, lone_initiator_texts};
 pub use meeting::{Meeting, TURN, comes_to};
 pub use worked::{
     ACTIVE_AND_PASSIVE, BOTH_LEAD, CHOOSING_AND_PASSIVE, ELECTION, LEADER_AND_ACTIVE,

@@ -6,7 +6,7 @@ use mathlib.Core.Option.{some, some-ne-none}
 use lib.ListN.{get_elem?}
 use Rattle.crossbeam_channel.specs.Fifo.{Pushes, Pops, Forks, Merges, Learns}
 use Rattle.atomic_table.proofs.Lists.{at_set, at_snoc}
-use Rattle.ira_links.specs.declared.limits.TheConstants.{MAX_FRAMES}
+use Rattle.ira_links.specs.Limits.{MAX_FRAMES}
 use Rattle.ira_links.specs.declared.frame.Frame.{Frame}
 use Rattle.ira_links.specs.declared.rule.Known.{Known}
 use Rattle.ira_links.specs.Frame.{is_frame}

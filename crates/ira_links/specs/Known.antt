@@ -1,7 +1,7 @@
 -- What the holder of a pass may do and has done.
 use Rattle.std.specs.Prelude.{◌≡◌, ℕ, ◌≤◌, Bool, true, false, List, [], length}
 use Rattle.crossbeam_channel.specs.Claims.{Pass, view}
-use Rattle.ira_links.specs.declared.limits.TheConstants.{MAX_FRAMES}
+use Rattle.ira_links.specs.Limits.{MAX_FRAMES}
 use Rattle.ira_links.specs.declared.frame.Frame.{Frame}
 use Rattle.ira_links.specs.declared.rule.Known.{Known}
 

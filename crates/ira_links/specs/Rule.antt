@@ -3,7 +3,7 @@ use Rattle.std.specs.Prelude.{◌≡◌, ℕ, true, ◌≤◌, List, ◌++◌, l
 use Rattle.std.specs.List.{AllPass}
 use mathlib.Core.Option.{some}
 use lib.ListN.{get_elem?}
-use Rattle.ira_links.specs.declared.limits.TheConstants.{MAX_FRAMES}
+use Rattle.ira_links.specs.Limits.{MAX_FRAMES}
 use Rattle.ira_links.specs.declared.frame.Frame.{Frame}
 use Rattle.ira_links.specs.declared.rule.Known.{Known}
 use Rattle.ira_links.specs.Frame.{is_frame}

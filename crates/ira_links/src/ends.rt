@@ -1,7 +1,7 @@
 // The two ends of a link together: when it is made, and when it is settled.
 ghost use Rattle.std.specs.Prelude.{◌≡◌, ◌<◌, ◌≤◌, [], length, IfOk};
 ghost use mathlib.Core.List.{IsPrefix};
-ghost use Rattle.ira_links.specs.declared.limits.TheConstants.{MAX_CAPACITY};
+ghost use Rattle.ira_links.specs.Limits.{MAX_CAPACITY};
 
 use crate::frame::Frame;
 use crate::link_in::LinkIn;

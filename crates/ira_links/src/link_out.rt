@@ -1,5 +1,5 @@
 ghost use Rattle.std.specs.Prelude.{◌≡◌, ◌∷◌, ◌++◌, ◌<◌, [], true, length, IfErr, OnOk, OnErr};
-ghost use Rattle.ira_links.specs.declared.limits.TheConstants.{MAX_FRAMES};
+ghost use Rattle.ira_links.specs.Limits.{MAX_FRAMES};
 ghost use Rattle.ira_links.specs.Frame.{is_frame};
 
 use crate::frame::Frame;

@@ -65,7 +65,7 @@ pub struct Takes;
 
 impl Outcome<Frame, Known> for Takes {
     ghost use Rattle.std.specs.Prelude.{◌≡◌, ◌++◌, ◌∷◌, ◌<◌, [], true, length};
-    ghost use Rattle.ira_links.specs.declared.limits.TheConstants.{MAX_FRAMES};
+    ghost use Rattle.ira_links.specs.Limits.{MAX_FRAMES};
     ghost use Rattle.ira_links.specs.Frame.{is_frame};
 
     ghost then = { λ v x w. (w ≡ record v { taken = v.taken ++ x ∷ [] })

@@ -9,6 +9,7 @@ use Rattle.std.proofs.lemmas.List.FromFn.{length-map-range_with_len, get_or-map-
 use Rattle.ira_event.specs.declared.load.Load.{Load}
 use Rattle.ira_event.specs.declared.event.Event.{Event}
 use Rattle.ira_event.specs.declared.event.Event.TheVariants.{Draw, Sent, Got, Yield}
+use Rattle.ira_event.specs.Limits.{MAX_NUMBER}
 use Rattle.ira_event.specs.Log.{Log}
 use Rattle.ira_node.specs.declared.node_state.NodeState.{NodeState}
 use Rattle.ira_node.specs.declared.wanted.Wanted.{Wanted}
@@ -21,14 +22,13 @@ use Rattle.ira_node.proofs.Wants.{can_come}
 use Rattle.ira_order.specs.Ring.{next}
 use Rattle.ira_order.proofs.Ranks.{next_below}
 use Rattle.std.proofs.lemmas.Bool.{cases_eq, cases_lt}
-use Rattle.ira_run.specs.declared.node_end.NodeEnd.TheVariants.{Leader as Leads}
 use Rattle.ira_run.specs.Setup.{Setup, KeepsRules}
 use Rattle.ira_run.specs.FullRun.{AreFullLogs}
 use Rattle.ira_run.proofs.FullRuns.{no_log}
 use Rattle.ira_lone.specs.LoneNode.{LoneNode, IsNext, HasNoNext, after_event, after_put}
 use Rattle.ira_lone.specs.LoneRing.{idle, node_at, IsMoved, IsReached, AreAtEnd}
 use Rattle.ira_lone.proofs.LoneLogs.{log_at, all_logs}
-use Rattle.ira_lone.proofs.LoneNodes.{wants_nothing, wants_yield, next_draw, next_got, next_sent, spent, no_step, quiet, full_ends}
+use Rattle.ira_lone.proofs.LoneNodes.{wants_nothing, wants_yield, ends_nothing, leads_last, next_yield, next_draw, next_got, next_sent, spent, no_step, quiet, full_ends}
 use Rattle.ira_lone.proofs.LoneRuns.{full_logs}
 use Rattle.ira_lone.proofs.LoneStarts.{first_node, started}
 use Rattle.ira_lone.proofs.LoneSteps.{turn_reaches}
@@ -38,8 +38,8 @@ use Rattle.ira_lone.proofs.LoneTurnsOn.{room_in, less_room}
 -- ---- a node has a next event or none
 
 -- a next event of the node
-abbrev HasNext : ℕ → ℕ → LoneNode → Type 0
-HasNext n most node = (e : Event) × (after : NodeState) × IsNext n most node e after
+abbrev HasNext : ℕ → ℕ → ℕ → LoneNode → Type 0
+HasNext n most terms node = (e : Event) × (after : NodeState) × IsNext n most terms node e after
 
 no_step_where_fault : (n : ℕ) (s : NodeState) (e : Event) → ((f : _) × NodeStepFault n s e f) → ¬ (HasStep n s e)
 no_step_where_fault n s e fault step =
@@ -47,37 +47,40 @@ no_step_where_fault n s e fault step =
     let good = step_gives n s e step.0 step.1 in
     cc
 
-module _ (n most : ℕ) (node : LoneNode) (room : length node.events < most) where
-  drawing : (ids : List ℕ) → node.ids ≡ ids → All (λ d. (1 ≤ d) × (d ≤ n)) ids → WantsDraw ≡ wanted_of node.state.term node.state.phase node.state.owed → CanCome n node.state WantsDraw → HasNext n most node ⊎ HasNoNext n most node
-  drawing [] is all wants can = inr (spent n most node wants room (ap length is))
+module _ (n most terms : ℕ) (node : LoneNode) (room : length node.events < most) (few : terms ≤ MAX_NUMBER) where
+  drawing : (ids : List ℕ) → node.ids ≡ ids → All (λ d. (1 ≤ d) × (d ≤ n)) ids → WantsDraw ≡ wanted_of node.state.term node.state.phase node.state.owed → CanCome n node.state WantsDraw → HasNext n most terms node ⊎ HasNoNext n most terms node
+  drawing [] is all wants can = inr (spent n most terms node wants room (ap length is))
   drawing (id ∷ rest) is all wants can =
       let within : (1 ≤ id) × (id ≤ n) = all 0 0 (omega arith) in
       let step : HasStep n node.state (Draw id) = can id within.0 within.1 in
-      inl (Draw id, step.0, next_draw n most node id rest step.0 wants room is step.1)
+      inl (Draw id, step.0, next_draw n most terms node id rest step.0 wants room is step.1)
 
-  receiving : (input : List Load) → node.input ≡ input → Receipt ≡ wanted_of node.state.term node.state.phase node.state.owed → HasNext n most node ⊎ HasNoNext n most node
-  receiving [] is wants = inr (quiet n most node wants room (λ some. omega (arith, some, ap length is)))
+  receiving : (input : List Load) → node.input ≡ input → Receipt ≡ wanted_of node.state.term node.state.phase node.state.owed → HasNext n most terms node ⊎ HasNoNext n most terms node
+  receiving [] is wants = inr (quiet n most terms node wants room (λ some. omega (arith, some, ap length is)))
   receiving (m ∷ rest) is wants =
       let some : 0 < length node.input = omega (arith, ap length is) in
       let first : m ≡ get_or node.input 0 m = sym (ap (λ (ms : List Load). get_or ms 0 m) is) in
       elim (a_step_or_a_fault n node.state (Got m)) [
-        | inl step ↦ inl (Got m, step.0, next_got n most node m step.0 wants room some first step.1)
-        | inr fault ↦ inr (no_step n most node m wants room some first (no_step_where_fault n node.state (Got m) fault))
+        | inl step ↦ inl (Got m, step.0, next_got n most terms node m step.0 wants room some first step.1)
+        | inr fault ↦ inr (no_step n most terms node m wants room some first (no_step_where_fault n node.state (Got m) fault))
       ]
 
-  by_want : (w : Wanted) → w ≡ wanted_of node.state.term node.state.phase node.state.owed → All (λ d. (1 ≤ d) × (d ≤ n)) node.ids → CanCome n node.state w → HasNext n most node ⊎ HasNoNext n most node
-  by_want Nothing wants all can = inr (Leads, wants_nothing node.state.term node.state.phase node.state.owed wants)
-  by_want WantsYield wants all can = inr (Leads, wants_yield node.state.term node.state.phase node.state.owed wants)
+  by_want : (w : Wanted) → w ≡ wanted_of node.state.term node.state.phase node.state.owed → All (λ d. (1 ≤ d) × (d ≤ n)) node.ids → CanCome n node.state w → HasNext n most terms node ⊎ HasNoNext n most terms node
+  by_want Nothing wants all can = inr (leads_last n most terms node (wants_nothing node.state.term node.state.phase node.state.owed wants) (omega (arith, few, ends_nothing node.state.term node.state.phase node.state.owed wants)))
+  by_want WantsYield wants all can = elim (cases_lt node.state.term terms) [
+    | inl below ↦ inl (Yield, can.0, next_yield n most terms node can.0 below room can.1)
+    | inr past ↦ inr (leads_last n most terms node (wants_yield node.state.term node.state.phase node.state.owed wants) (omega arith))
+  ]
   by_want WantsDraw wants all can = drawing node.ids refl all wants can
-  by_want (Send m) wants all can = inl (Sent m, can.0, next_sent n most node m can.0 wants room can.1)
+  by_want (Send m) wants all can = inl (Sent m, can.0, next_sent n most terms node m can.0 wants room can.1)
   by_want Receipt wants all can = receiving node.input refl wants
 
-next_or_none : (s : Setup) (node : LoneNode) → KeepsRules s → All (λ d. (1 ≤ d) × (d ≤ s.nodes)) node.ids → HasNext s.nodes s.cap node ⊎ HasNoNext s.nodes s.cap node
+next_or_none : (s : Setup) (node : LoneNode) → KeepsRules s → All (λ d. (1 ≤ d) × (d ≤ s.nodes)) node.ids → HasNext s.nodes s.cap s.terms node ⊎ HasNoNext s.nodes s.cap s.terms node
 next_or_none s node rules all = elim (cases_lt (length node.events) s.cap) [
   | inl room ↦
       let w : Wanted = wanted_of node.state.term node.state.phase node.state.owed in
-      by_want s.nodes s.cap node room w refl all (can_come s.nodes node.state w refl rules.size)
-  | inr full ↦ inr (full_ends s.nodes s.cap node full)
+      by_want s.nodes s.cap s.terms node room rules.terms.1 w refl all (can_come s.nodes node.state w refl rules.size)
+  | inr full ↦ inr (full_ends s.nodes s.cap s.terms node full)
 ]
 
 -- ---- the nodes after an event
@@ -121,14 +124,14 @@ module _ (n i : ℕ) (after : NodeState) (old : List LoneNode) (two : 2 ≤ n) (
 module _ (s : Setup) (rules : KeepsRules s) where
   -- some node of the first ones has a next event, or none of them has one
   some_next : (nodes : List LoneNode) → IsReached s nodes → (k : ℕ) → k ≤ s.nodes
-      → ((i : ℕ) × (i < s.nodes) × HasNext s.nodes s.cap (node_at nodes i)) ⊎ ((i : ℕ) → i < k → HasNoNext s.nodes s.cap (node_at nodes i))
+      → ((i : ℕ) × (i < s.nodes) × HasNext s.nodes s.cap s.terms (node_at nodes i)) ⊎ ((i : ℕ) → i < k → HasNoNext s.nodes s.cap s.terms (node_at nodes i))
   some_next nodes reached zero within = inr (λ i l. absurd (omega (arith, l)))
   some_next nodes reached (suc k) within = elim (some_next nodes reached k (omega arith)) [
     | inl found ↦ inl found
     | inr none ↦ elim (next_or_none s (node_at nodes k) rules (ids_of s nodes k rules reached (omega arith))) [
       | inl found ↦ inl (k, omega arith, found)
       | inr ended ↦ inr (λ i l. elim (cases_eq i k) [
-        | inl e ↦ subst (λ (x : ℕ). HasNoNext s.nodes s.cap (node_at nodes x)) (sym e) ended
+        | inl e ↦ subst (λ (x : ℕ). HasNoNext s.nodes s.cap s.terms (node_at nodes x)) (sym e) ended
         | inr ne ↦ none i (omega (arith, l))
       ])
     ]
@@ -142,9 +145,9 @@ module _ (s : Setup) (rules : KeepsRules s) where
         let i : ℕ = found.0 in
         let e : Event = found.2.0 in
         let after : NodeState = found.2.1 in
-        let is_next : IsNext s.nodes s.cap (node_at nodes i) e after = found.2.2 in
+        let is_next : IsNext s.nodes s.cap s.terms (node_at nodes i) e after = found.2.2 in
         let new = moves s.nodes i after nodes rules.size.0 found.1 reached.many e in
-        let less : room_in s.cap new.0 < room_in s.cap nodes = less_room s.nodes s.cap i e after nodes new.0 (omega (arith, found.1, reached.many)) new.1 is_next new.2 in
+        let less : room_in s.cap new.0 < room_in s.cap nodes = less_room s.nodes s.cap s.terms i e after nodes new.0 (omega (arith, found.1, reached.many)) new.1 is_next new.2 in
         goes_to_end k new.0 (turn_reaches s nodes new.0 i e after rules.size.0 found.1 reached is_next new.2 new.1) (omega (arith, less))
   ]
 

@@ -18,6 +18,7 @@ use Rattle.ira_order.proofs.Converse.{Balanced}
 use Rattle.ira_run.specs.declared.node_end.NodeEnd.{NodeEnd}
 use Rattle.ira_run.specs.declared.node_end.NodeEnd.TheVariants.{Leader, Stopped, DrawsSpent, LogFull, NoStep, Quiet}
 use Rattle.ira_run.specs.Setup.{Setup, is_initiator, node_draws, KeepsRules}
+use Rattle.ira_run.specs.Terms.{version_of}
 use Rattle.ira_run.specs.Run.{Run}
 use Rattle.ira_run.specs.FullRun.{opening_of, events_at, drawn, AreFullLogs}
 use Rattle.ira_run.specs.ShownEnd.{Says, IsShown, IsLoneRun}
@@ -40,7 +41,7 @@ are_logs s nodes logs rules reached of_nodes =
       sizes = λ i log at. ap (λ (x : Log). x.nodes) (of_nodes.1 i log at) ∙ sym many;
       places = λ i log at. ap (λ (x : Log). x.place) (of_nodes.1 i log at);
       valid = λ i log at. subst IsLog (sym (of_nodes.1 i log at)) (is_log s nodes i rules reached (omega (arith, slice_get_within logs i log at)));
-      version = 1;
+      version = version_of s.nodes s.terms;
       versions = λ i log at. ap (λ (x : Log). x.version) (of_nodes.1 i log at);
     }
 
@@ -73,26 +74,26 @@ full_logs s nodes logs rules done of_nodes =
 -- ---- the ends
 
 says_of : (s : Setup) (i : ℕ) (node : LoneNode) (input : List Load) (end : NodeEnd) → length node.events ≤ s.cap → node_draws s i ≡ drawn node.events ++ node.ids → got node.events ++ node.input ≡ input
-    → Ends s.nodes s.cap node end → Says s i node.state node.events input end
+    → Ends s.nodes s.cap s.terms node end → Says s i node.state node.events input end
 says_of s i node input Leader within left links h = h
 says_of s i node input Stopped within left links h = absurd h
 says_of s i node input LogFull within left links h = (h.0, omega (arith, h.1))
 says_of s i node input DrawsSpent within left links h = (
-  (choosing_leads_not node.state h.1.0 h.1.1 h.1.2, h.0),
+  ((λ l. choosing_leads_not node.state h.1.0 h.1.1 h.1.2 l.0), h.0),
   h.1,
   sym (append-nil (drawn node.events)) ∙ ap (λ (x : List ℕ). drawn node.events ++ x) (sym h.2) ∙ sym left,
 )
 says_of s i node input (NoStep m) within left links h = (
-  ((receiving_leads_not node.state.phase h.2, h.0), h.1, h.2),
+  (((λ l. receiving_leads_not node.state.phase h.2 l.0), h.0), h.1, h.2),
   h.4,
   (h.3.0, sym links ∙ ap (λ (x : List Load). got node.events ++ x) h.3.1 ∙ sym (append_assoc (got node.events) (m ∷ []) h.3.0)),
 )
 says_of s i node input Quiet within left links h = (
-  ((receiving_leads_not node.state.phase h.2, h.0), h.1, h.2),
+  (((λ l. receiving_leads_not node.state.phase h.2 l.0), h.0), h.1, h.2),
   sym (append-nil (got node.events)) ∙ ap (λ (x : List Load). got node.events ++ x) (sym h.3) ∙ links,
 )
 
-is_shown : (s : Setup) (nodes : List LoneNode) (logs : List Log) → KeepsRules s → IsReached s nodes → AreLogsOfNodes s nodes logs → (i : ℕ) (end : NodeEnd) → i < s.nodes → Ends s.nodes s.cap (node_at nodes i) end → IsShown s logs i end
+is_shown : (s : Setup) (nodes : List LoneNode) (logs : List Log) → KeepsRules s → IsReached s nodes → AreLogsOfNodes s nodes logs → (i : ℕ) (end : NodeEnd) → i < s.nodes → Ends s.nodes s.cap s.terms (node_at nodes i) end → IsShown s logs i end
 is_shown s nodes logs rules reached of_nodes i end l ends =
     let node : LoneNode = node_at nodes i in
     let log : log_of logs i ≡ (node_at nodes i).events = log_of_node s nodes logs reached of_nodes i l in
@@ -115,8 +116,8 @@ is_shown s nodes logs rules reached of_nodes i end l ends =
       subst R (sym log) (says_of s i (node_at nodes i) (sent (log_of logs (prev s.nodes i))) end within (reached.draws i l) links ends),
     )
 
-not_stopped : (s : Setup) (node : LoneNode) (end : NodeEnd) → Ends s.nodes s.cap node end → end ≢ Stopped
-not_stopped s node end ends is = subst (λ (x : NodeEnd). Ends s.nodes s.cap node x) is ends
+not_stopped : (s : Setup) (node : LoneNode) (end : NodeEnd) → Ends s.nodes s.cap s.terms node end → end ≢ Stopped
+not_stopped s node end ends is = subst (λ (x : NodeEnd). Ends s.nodes s.cap s.terms node x) is ends
 
 pub is_lone_run : (s : Setup) (nodes : List LoneNode) (logs : List Log) (ends : List NodeEnd) (run : Run) → KeepsRules s → AreAtEnd s nodes → AreLogsOfNodes s nodes logs → AreEndsOfNodes s nodes ends
     → run ≡ record { logs = logs; ends = ends } → IsLoneRun s run

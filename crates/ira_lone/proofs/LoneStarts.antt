@@ -37,23 +37,23 @@ each_more {X} P d xs x i many each here j l = elim (cases_eq j i) [
 ]
 
 -- the node that the code makes of what it reads
-made_of : {V : Type 0} (see : V → List ℕ) (n : ℕ) (kinds : List Bool) (rows : List V) (most i : ℕ) (node : LoneNode) (kind : Bool) (row : V) → i < length kinds → i < length rows
+made_of : {V : Type 0} (see : V → List ℕ) (n : ℕ) (kinds : List Bool) (rows : List V) (most terms i : ℕ) (node : LoneNode) (kind : Bool) (row : V) → i < length kinds → i < length rows
     → kind ≡ get_or kinds i kind → row ≡ get_or rows i row → node ≡ record { state = first_state kind; ids = see row; input = []; events = [] }
-    → node ≡ first_node (record { nodes = n; initiators = kinds; draws = map see rows; cap = most }) i
-made_of {V} see n kinds rows most i node kind row l m kind_is row_is is =
+    → node ≡ first_node (record { nodes = n; initiators = kinds; draws = map see rows; cap = most; terms = terms }) i
+made_of {V} see n kinds rows most terms i node kind row l m kind_is row_is is =
     let k : kind ≡ get_or kinds i false = get_or_read kinds i kind l kind_is false in
     let r : see row ≡ get_or (map see rows) i [] = ap see row_is ∙ sym (get_or-map see rows i row [] m) in
     is
     ∙ ap (λ (x : Bool). record { state = first_state x; ids = see row; input = []; events = [] }) k
     ∙ ap (λ (x : List ℕ). record { state = first_state (get_or kinds i false); ids = x; input = []; events = [] }) r
 
-pub first_more : {V : Type 0} (see : V → List ℕ) (n : ℕ) (kinds : List Bool) (rows : List V) (most : ℕ) (s : Setup) (i : ℕ) (nodes : List LoneNode) (node : LoneNode) (kind : Bool) (row : V)
-    → record { nodes = n; initiators = kinds; draws = map see rows; cap = most } ≡ s → KeepsRules s → i < n
+pub first_more : {V : Type 0} (see : V → List ℕ) (n : ℕ) (kinds : List Bool) (rows : List V) (most terms : ℕ) (s : Setup) (i : ℕ) (nodes : List LoneNode) (node : LoneNode) (kind : Bool) (row : V)
+    → record { nodes = n; initiators = kinds; draws = map see rows; cap = most; terms = terms } ≡ s → KeepsRules s → i < n
     → kind ≡ get_or kinds i kind → row ≡ get_or rows i row → node ≡ record { state = first_state kind; ids = see row; input = []; events = [] }
     → length nodes ≡ i → ((j : ℕ) → j < i → node_at nodes j ≡ first_node s j) → (j : ℕ) → j < i + 1 → node_at (nodes ++ node ∷ []) j ≡ first_node s j
-first_more {V} see n kinds rows most s i nodes node kind row view rules l kind_is row_is is many each =
+first_more {V} see n kinds rows most terms s i nodes node kind row view rules l kind_is row_is is many each =
     let kinds_are : length kinds ≡ n = ap (λ (x : Setup). length x.initiators) view ∙ rules.lists.0 ∙ sym (ap (λ (x : Setup). x.nodes) view) in
     let rows_are : length rows ≡ n = sym (length-map rows see) ∙ ap (λ (x : Setup). length x.draws) view ∙ rules.lists.1 ∙ sym (ap (λ (x : Setup). x.nodes) view) in
     let P : Setup → Type 0 = λ x. node ≡ first_node x i in
-    let here : node ≡ first_node s i = subst P view (made_of see n kinds rows most i node kind row (omega arith) (omega arith) kind_is row_is is) in
+    let here : node ≡ first_node s i = subst P view (made_of see n kinds rows most terms i node kind row (omega arith) (omega arith) kind_is row_is is) in
     each_more (λ j x. x ≡ first_node s j) idle nodes node i many each here

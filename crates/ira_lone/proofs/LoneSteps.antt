@@ -6,16 +6,16 @@ use Rattle.ira_event.specs.declared.event.Event.{Event}
 use Rattle.ira_event.specs.declared.event.Event.TheVariants.{Draw, Sent, Got, Yield}
 use Rattle.ira_event.specs.declared.load.Load.{Load}
 use Rattle.ira_node.specs.declared.node_state.NodeState.{NodeState}
-use Rattle.ira_node.specs.NodeState.{IsLeader}
 use Rattle.ira_node.specs.NodeStep.{NodeStep}
 use Rattle.ira_node.proofs.Inversions.{drawing_chooses, sending_owes, yielding_leads}
 use Rattle.ira_order.specs.Ring.{next, prev}
 use Rattle.ira_order.specs.Run.{Configuration, LinkStep, RingStep}
 use Rattle.ira_order.proofs.Ranks.{next_below}
-use Rattle.std.proofs.lemmas.Bool.{cases_eq}
+use Rattle.std.proofs.lemmas.Bool.{cases_eq, cases_lt}
 use Rattle.ira_order.proofs.Runs.{next_prev, prev_next, prev_below}
 use Rattle.ira_run.specs.Setup.{Setup, node_draws}
-use Rattle.ira_run.specs.FullRun.{opening_of, events_at, drawing, drawn, HasEvent, owes, chooses, receives, CanStep}
+use Rattle.ira_run.specs.Terms.{IsLastLeader}
+use Rattle.ira_run.specs.FullRun.{opening_of, events_at, drawing, drawn, HasEvent, yields, owes, chooses, receives, CanStep}
 use Rattle.ira_lone.specs.LoneNode.{LoneNode, IsFirst, IsNext, drawn_by, after_event, after_put}
 use Rattle.ira_lone.specs.LoneRing.{node_at, IsMoved, IsReached}
 use Rattle.ira_run.proofs.Walks.{walk_more, own_more, other_more, links_from}
@@ -26,23 +26,28 @@ use Rattle.ira_run.proofs.Walks.{walk_more, own_more, other_more, links_from}
 unused : (ids used : List ℕ) (left : List ℕ) (id : ℕ) (rest : List ℕ) → ids ≡ used ++ left → left ≡ id ∷ rest → length used < length ids
 unused ids used left id rest is first = omega (arith, ap length is, ap length first, length-append used left)
 
-pub has_event : (n most : ℕ) (ids : List ℕ) (node : LoneNode) (e : Event) (after : NodeState) → IsNext n most node e after → ids ≡ drawn node.events ++ node.ids → HasEvent n ids node.state node.events node.input
-has_event n most ids node (Draw id) after step left =
+pub has_event : (n most terms : ℕ) (ids : List ℕ) (node : LoneNode) (e : Event) (after : NodeState) → IsNext n most terms node e after → ids ≡ drawn node.events ++ node.ids → HasEvent n terms ids node.state node.events node.input
+has_event n most terms ids node (Draw id) after step left =
     let before = drawing_chooses n node.state after id step.step in
     chooses before.0 before.1 before.2 (unused ids (drawn node.events) node.ids id step.first.0 left step.first.1)
-has_event n most ids node (Sent m) after step left = owes m (sending_owes n node.state after m step.step)
-has_event n most ids node (Got m) after step left = receives m step.first.0 step.first.1 (after, step.step)
-has_event n most ids node Yield after step left = absurd (step.not_leader (yielding_leads n node.state after step.step))
+has_event n most terms ids node (Sent m) after step left = owes m (sending_owes n node.state after m step.step)
+has_event n most terms ids node (Got m) after step left = receives m step.first.0 step.first.1 (after, step.step)
+has_event n most terms ids node Yield after step left =
+    let leads = yielding_leads n node.state after step.step in
+    elim (cases_lt node.state.term terms) [
+      | inl below ↦ yields leads below
+      | inr past ↦ absurd (step.not_last (leads, omega arith))
+    ]
 
 pub can_step : (s : Setup) (run : List (ℕ × Event)) (c : Configuration) (i : ℕ) (node : LoneNode) → c.state i ≡ node.state → c.link (prev s.nodes i) ≡ node.input → events_at run i ≡ node.events
-    → ¬ (IsLeader node.state.phase) → length node.events < s.cap → HasEvent s.nodes (node_draws s i) node.state node.events node.input → CanStep s run c i
-can_step s run c i node state link events not_leader room event =
-    let P : NodeState → Type 0 = λ x. ¬ (IsLeader x.phase) in
-    let Q : NodeState → Type 0 = λ x. HasEvent s.nodes (node_draws s i) x (events_at run i) (c.link (prev s.nodes i)) in
-    let R : List Event → Type 0 = λ x. HasEvent s.nodes (node_draws s i) node.state x (c.link (prev s.nodes i)) in
-    let S : List Load → Type 0 = λ x. HasEvent s.nodes (node_draws s i) node.state node.events x in
+    → ¬ (IsLastLeader s.terms node.state) → length node.events < s.cap → HasEvent s.nodes s.terms (node_draws s i) node.state node.events node.input → CanStep s run c i
+can_step s run c i node state link events not_last room event =
+    let P : NodeState → Type 0 = λ x. ¬ (IsLastLeader s.terms x) in
+    let Q : NodeState → Type 0 = λ x. HasEvent s.nodes s.terms (node_draws s i) x (events_at run i) (c.link (prev s.nodes i)) in
+    let R : List Event → Type 0 = λ x. HasEvent s.nodes s.terms (node_draws s i) node.state x (c.link (prev s.nodes i)) in
+    let S : List Load → Type 0 = λ x. HasEvent s.nodes s.terms (node_draws s i) node.state node.events x in
     record {
-      not_leader = subst P (sym state) not_leader;
+      not_last = subst P (sym state) not_last;
       room = omega (arith, ap length events);
       event = subst Q (sym state) (subst R (sym events) (subst S (sym link) event));
     }
@@ -130,7 +135,7 @@ module _ (s : Setup) (old new : List LoneNode) (i : ℕ) (e : Event) (after : No
     (two : 2 ≤ s.nodes)
     (here : i < s.nodes)
     (reached : IsReached s old)
-    (is_next : IsNext s.nodes s.cap (node_at old i) e after)
+    (is_next : IsNext s.nodes s.cap s.terms (node_at old i) e after)
     (moved : IsMoved s.nodes i e after old new) where
   node_is : node_at new i ≡ after_event (node_at old i) e after
   node_is = own s.nodes i after old new e moved
@@ -153,8 +158,8 @@ module _ (s : Setup) (old new : List LoneNode) (i : ℕ) (e : Event) (after : No
 
   may_step : CanStep s reached.run reached.point i
   may_step =
-      can_step s reached.run reached.point i (node_at old i) (reached.states i here) (reached.links i here) (reached.events i here) is_next.not_leader is_next.room
-      (has_event s.nodes s.cap (node_draws s i) (node_at old i) e after is_next (reached.draws i here))
+      can_step s reached.run reached.point i (node_at old i) (reached.states i here) (reached.links i here) (reached.events i here) is_next.not_last is_next.room
+      (has_event s.nodes s.cap s.terms (node_draws s i) (node_at old i) e after is_next (reached.draws i here))
 
   events_of : (j : ℕ) → j < s.nodes → events_at (reached.run ++ (i, e) ∷ []) j ≡ (node_at new j).events
   events_of j lj = elim (cases_eq i j) [

@@ -52,21 +52,22 @@ next_is : (n i x : ℕ) → i < n → (((i + 1 < n) × (x ≡ i + 1)) ⊎ ((n �
 next_is n i x l (inl w) = w.1 ∙ sym (next_above n i w.0)
 next_is n i x l (inr w) = w.1 ∙ sym (next_last n i (omega (arith, w.0)))
 
-goes_from : (s : Setup) (nodes : List LoneNode) (i j n most : ℕ) (node new : LoneNode) (sent : Option Load) → i < length nodes → j ≡ i → n ≡ s.nodes → most ≡ s.cap → node ≡ get_or nodes j node
-    → GoesToSending n most node new sent → GoesToSending s.nodes s.cap (node_at nodes i) new sent
-goes_from s nodes i j n most node new sent l is size room read goes =
-    let P : ℕ → Type 0 = λ x. GoesToSending x most node new sent in
-    let Q : ℕ → Type 0 = λ x. GoesToSending s.nodes x node new sent in
-    let R : LoneNode → Type 0 = λ x. GoesToSending s.nodes s.cap x new sent in
-    subst R (read_at nodes i j node l is read) (subst Q room (subst P size goes))
+goes_from : (s : Setup) (nodes : List LoneNode) (i j n most terms : ℕ) (node new : LoneNode) (sent : Option Load) → i < length nodes → j ≡ i → n ≡ s.nodes → most ≡ s.cap → terms ≡ s.terms → node ≡ get_or nodes j node
+    → GoesToSending n most terms node new sent → GoesToSending s.nodes s.cap s.terms (node_at nodes i) new sent
+goes_from s nodes i j n most terms node new sent l is size room last read goes =
+    let P : ℕ → Type 0 = λ x. GoesToSending x most terms node new sent in
+    let Q : ℕ → Type 0 = λ x. GoesToSending s.nodes x terms node new sent in
+    let T : ℕ → Type 0 = λ x. GoesToSending s.nodes s.cap x node new sent in
+    let R : LoneNode → Type 0 = λ x. GoesToSending s.nodes s.cap s.terms x new sent in
+    subst R (read_at nodes i j node l is read) (subst T last (subst Q room (subst P size goes)))
 
-pub turn_ended : (s : Setup) (nodes : List LoneNode) (i j n most : ℕ) (node new : LoneNode) (sent : Option Load) → i < length nodes → j ≡ i → n ≡ s.nodes → most ≡ s.cap → node ≡ get_or nodes j node → GoesToSending n most node new sent
-    → sent ≡ None → IsTurn s.nodes s.cap i nodes (set nodes j new) None
-turn_ended s nodes i j n most node new sent l is size room read goes none =
-    let P : ℕ → Type 0 = λ x. IsTurn s.nodes s.cap i nodes (set nodes x new) None in
+pub turn_ended : (s : Setup) (nodes : List LoneNode) (i j n most terms : ℕ) (node new : LoneNode) (sent : Option Load) → i < length nodes → j ≡ i → n ≡ s.nodes → most ≡ s.cap → terms ≡ s.terms → node ≡ get_or nodes j node → GoesToSending n most terms node new sent
+    → sent ≡ None → IsTurn s.nodes s.cap s.terms i nodes (set nodes j new) None
+turn_ended s nodes i j n most terms node new sent l is size room last read goes none =
+    let P : ℕ → Type 0 = λ x. IsTurn s.nodes s.cap s.terms i nodes (set nodes x new) None in
     subst P (sym is) record {
       node = new;
-      goes = subst (λ (x : Option Load). GoesToSending s.nodes s.cap (node_at nodes i) new x) none (goes_from s nodes i j n most node new sent l is size room read goes);
+      goes = subst (λ (x : Option Load). GoesToSending s.nodes s.cap s.terms (node_at nodes i) new x) none (goes_from s nodes i j n most terms node new sent l is size room last read goes);
       put = (get_or-set_same nodes i new idle l, λ k ne. get_or-set_other nodes i k new idle ne);
       many = length-set nodes i new;
     }
@@ -87,19 +88,19 @@ sent_to s nodes i j new second new2 m two many l is read put =
       λ k ne other. get_or-set_other (set nodes i new) (next s.nodes i) k new2 idle other ∙ get_or-set_other nodes i k new idle ne,
     )
 
-pub turn_sent : (s : Setup) (nodes : List LoneNode) (i j n most : ℕ) (node new : LoneNode) (sent : Option Load) (next_place second_place : ℕ) (second new2 : LoneNode) (m : Load) → KeepsRules s → IsReached s nodes → i < length nodes → j ≡ i → n ≡ s.nodes → most ≡ s.cap → node ≡ get_or nodes j node
-    → GoesToSending n most node new sent → sent ≡ Some m
+pub turn_sent : (s : Setup) (nodes : List LoneNode) (i j n most terms : ℕ) (node new : LoneNode) (sent : Option Load) (next_place second_place : ℕ) (second new2 : LoneNode) (m : Load) → KeepsRules s → IsReached s nodes → i < length nodes → j ≡ i → n ≡ s.nodes → most ≡ s.cap → terms ≡ s.terms → node ≡ get_or nodes j node
+    → GoesToSending n most terms node new sent → sent ≡ Some m
     → (((i + 1 < n) × (next_place ≡ i + 1)) ⊎ ((n ≤ i + 1) × (next_place ≡ 0))) → second_place ≡ next_place → second ≡ get_or (set nodes j new) second_place second → new2 ≡ after_put second m
-    → IsTurn s.nodes s.cap i nodes (set (set nodes j new) second_place new2) (Some m)
-turn_sent s nodes i j n most node new sent next_place second_place second new2 m rules reached l is size room read goes some how second_is read2 put =
+    → IsTurn s.nodes s.cap s.terms i nodes (set (set nodes j new) second_place new2) (Some m)
+turn_sent s nodes i j n most terms node new sent next_place second_place second new2 m rules reached l is size room last read goes some how second_is read2 put =
     let N : ℕ → Type 0 = λ x. ((i + 1 < x) × (next_place ≡ i + 1)) ⊎ ((x ≤ i + 1) × (next_place ≡ 0)) in
     let here : i < s.nodes = omega (arith, l, reached.many) in
     let place : second_place ≡ next s.nodes i = second_is ∙ next_is s.nodes i next_place here (subst N size how) in
-    let P : ℕ → Type 0 = λ x. IsTurn s.nodes s.cap i nodes (set (set nodes x new) second_place new2) (Some m) in
+    let P : ℕ → Type 0 = λ x. IsTurn s.nodes s.cap s.terms i nodes (set (set nodes x new) second_place new2) (Some m) in
     let Q : ℕ → Type 0 = λ x. second ≡ get_or (set nodes x new) second_place second in
     subst P (sym is) record {
       node = new;
-      goes = subst (λ (x : Option Load). GoesToSending s.nodes s.cap (node_at nodes i) new x) some (goes_from s nodes i j n most node new sent l is size room read goes);
+      goes = subst (λ (x : Option Load). GoesToSending s.nodes s.cap s.terms (node_at nodes i) new x) some (goes_from s nodes i j n most terms node new sent l is size room last read goes);
       put = sent_to s nodes i second_place new second new2 m rules.size.0 reached.many here place (subst Q is read2) put;
       many = length-set (set nodes i new) second_place new2 ∙ length-set nodes i new;
     }

@@ -19,10 +19,10 @@ use Rattle.ira_lone.proofs.LoneTurns.{next_above, next_not}
 
 -- ---- the nodes below
 
-still_ended : (n most i : ℕ) (m : Load) (after : NodeState) (old new : List LoneNode) → IsMoved n i (Sent m) after old new → i + 1 < n → ((j : ℕ) → j < i → HasNoNext n most (node_at old j))
-    → (j : ℕ) → j < i → HasNoNext n most (node_at new j)
-still_ended n most i m after old new moved far ended j l =
-    let P : LoneNode → Type 0 = HasNoNext n most in
+still_ended : (n most terms i : ℕ) (m : Load) (after : NodeState) (old new : List LoneNode) → IsMoved n i (Sent m) after old new → i + 1 < n → ((j : ℕ) → j < i → HasNoNext n most terms (node_at old j))
+    → (j : ℕ) → j < i → HasNoNext n most terms (node_at new j)
+still_ended n most terms i m after old new moved far ended j l =
+    let P : LoneNode → Type 0 = HasNoNext n most terms in
     let above : next n i ≡ i + 1 = next_above n i far in
     subst P (sym (moved.2 j (omega arith) (omega arith))) (ended j l)
 
@@ -45,9 +45,9 @@ sum_less f (x ∷ old) (y ∷ new) zero many here less each = omega (arith, sum_
 sum_less f (x ∷ old) (y ∷ new) (suc i) many here less each =
     omega (arith, sum_by-cons f x old, sum_by-cons f y new, each 0 (omega arith), sum_less f old new i (omega arith) (omega arith) less (λ j ne. each (suc j) (omega arith)))
 
-pub less_room : (n most i : ℕ) (e : Event) (after : NodeState) (old new : List LoneNode) → i < length old → length new ≡ length old → IsNext n most (node_at old i) e after → IsMoved n i e after old new
+pub less_room : (n most terms i : ℕ) (e : Event) (after : NodeState) (old new : List LoneNode) → i < length old → length new ≡ length old → IsNext n most terms (node_at old i) e after → IsMoved n i e after old new
     → room_in most new < room_in most old
-less_room n most i e after old new here many is_next moved =
+less_room n most terms i e after old new here many is_next moved =
     let node_is = own n i after old new e moved in
     let longer : length (node_at new i).events ≡ length (node_at old i).events + 1 = ap (λ (x : LoneNode). length x.events) node_is ∙ length-append (node_at old i).events (e ∷ []) in
     sum_less (λ node. most - length node.events) old new i many here (omega (arith, is_next.room, longer))
@@ -72,24 +72,24 @@ less_measure n most old new least next_least less =
 pub record IsOn (s : Setup) (old new : List LoneNode) (least after : ℕ) : Type 0 where
   pub reached : IsReached s new
   pub within : after ≤ s.nodes
-  pub ended : (j : ℕ) → j < after → HasNoNext s.nodes s.cap (node_at new j)
+  pub ended : (j : ℕ) → j < after → HasNoNext s.nodes s.cap s.terms (node_at new j)
   pub less : measure s.nodes s.cap new after < measure s.nodes s.cap old least
 
 module _ (s : Setup) (old new : List LoneNode) (least : ℕ)
     (rules : KeepsRules s)
     (reached : IsReached s old)
     (here : least < s.nodes)
-    (ended : (j : ℕ) → j < least → HasNoNext s.nodes s.cap (node_at old j)) where
+    (ended : (j : ℕ) → j < least → HasNoNext s.nodes s.cap s.terms (node_at old j)) where
   -- the turn's sending
-  sends_on : (m : Load) (state : NodeState) (after : ℕ) → IsNext s.nodes s.cap (node_at old least) (Sent m) state → IsMoved s.nodes least (Sent m) state old new → length new ≡ length old → IsLeastAfter s.nodes least (Some m) after → IsOn s old new least after
+  sends_on : (m : Load) (state : NodeState) (after : ℕ) → IsNext s.nodes s.cap s.terms (node_at old least) (Sent m) state → IsMoved s.nodes least (Sent m) state old new → length new ≡ length old → IsLeastAfter s.nodes least (Some m) after → IsOn s old new least after
   sends_on m state after is_next moved many how = record {
     reached = turn_reaches s old new least (Sent m) state rules.size.0 here reached is_next moved many;
     within = elim how [ inl z ↦ omega (arith, z.1) | inr w ↦ omega (arith, w.1) ];
     ended = λ j l. elim how [
       | inl z ↦ absurd (omega (arith, z.1))
-      | inr w ↦ still_ended s.nodes s.cap least m state old new moved w.0 ended j (omega (arith, w.1))
+      | inr w ↦ still_ended s.nodes s.cap s.terms least m state old new moved w.0 ended j (omega (arith, w.1))
     ];
-    less = less_measure s.nodes s.cap old new least after (less_room s.nodes s.cap least (Sent m) state old new (omega (arith, reached.many)) many is_next moved);
+    less = less_measure s.nodes s.cap old new least after (less_room s.nodes s.cap s.terms least (Sent m) state old new (omega (arith, reached.many)) many is_next moved);
   }
 
 -- ---- the events before it
@@ -108,26 +108,26 @@ moved_own n i (Got m) after old new nothing here others = (here, others)
 moved_own n i Yield after old new nothing here others = (here, others)
 moved_own n i (Sent m) after old new nothing here others = absurd (nothing m refl)
 
-way : (s : Setup) (old : List LoneNode) (i k : ℕ) (node : LoneNode) → KeepsRules s → IsReached s old → i < s.nodes → GoesTo s.nodes s.cap k (node_at old i) node → (new : List LoneNode) × IsWay s old new i node
+way : (s : Setup) (old : List LoneNode) (i k : ℕ) (node : LoneNode) → KeepsRules s → IsReached s old → i < s.nodes → GoesTo s.nodes s.cap s.terms k (node_at old i) node → (new : List LoneNode) × IsWay s old new i node
 way s old i zero node rules reached l goes = (old, record { reached = reached; many = refl; here = sym goes; others = λ j ne. refl; room = omega arith })
 way s old i (suc k) node rules reached l goes =
     let before = way s old i k goes.0 rules reached l goes.1 in
     let mid : List LoneNode = before.0 in
     let w : IsWay s old before.0 i goes.0 = before.1 in
-    let made : MakesOwn s.nodes s.cap goes.0 node (Some goes.2.0) = goes.2.1 in
+    let made : MakesOwn s.nodes s.cap s.terms goes.0 node (Some goes.2.0) = goes.2.1 in
     let here : node_at (set before.0 i node) i ≡ node = get_or-set_same before.0 i node idle (omega (arith, w.many, reached.many)) in
     let others : (j : ℕ) → j ≢ i → node_at (set before.0 i node) j ≡ node_at before.0 j = λ j ne. get_or-set_other before.0 i j node idle ne in
     let many : length (set before.0 i node) ≡ length before.0 = length-set before.0 i node in
     let moved : IsMoved s.nodes i made.0 goes.2.0 before.0 (set before.0 i node) =
     moved_own s.nodes i made.0 goes.2.0 before.0 (set before.0 i node) made.1 (here ∙ made.3 ∙ ap (λ (x : LoneNode). after_event x made.0 goes.2.0) (sym w.here)) others in
-    let is_next : IsNext s.nodes s.cap (node_at before.0 i) made.0 goes.2.0 = subst (λ (x : LoneNode). IsNext s.nodes s.cap x made.0 goes.2.0) (sym w.here) made.2 in (
+    let is_next : IsNext s.nodes s.cap s.terms (node_at before.0 i) made.0 goes.2.0 = subst (λ (x : LoneNode). IsNext s.nodes s.cap s.terms x made.0 goes.2.0) (sym w.here) made.2 in (
       set before.0 i node,
       record {
         reached = turn_reaches s before.0 (set before.0 i node) i made.0 goes.2.0 rules.size.0 l w.reached is_next moved many;
         many = many ∙ w.many;
         here = here;
         others = λ j ne. others j ne ∙ w.others j ne;
-        room = omega (arith, w.room, less_room s.nodes s.cap i made.0 goes.2.0 before.0 (set before.0 i node) (omega (arith, w.many, reached.many)) many is_next moved);
+        room = omega (arith, w.room, less_room s.nodes s.cap s.terms i made.0 goes.2.0 before.0 (set before.0 i node) (omega (arith, w.many, reached.many)) many is_next moved);
       },
     )
 
@@ -165,8 +165,8 @@ module _ (s : Setup) (old new : List LoneNode) (least : ℕ)
     (rules : KeepsRules s)
     (reached : IsReached s old)
     (here : least < s.nodes)
-    (ended : (j : ℕ) → j < least → HasNoNext s.nodes s.cap (node_at old j)) where
-  ends_on : (node : LoneNode) (k after : ℕ) → GoesTo s.nodes s.cap k (node_at old least) node → HasNoNext s.nodes s.cap node → IsPut s.nodes least None node old new → length new ≡ length old → after ≡ least + 1 → IsOn s old new least after
+    (ended : (j : ℕ) → j < least → HasNoNext s.nodes s.cap s.terms (node_at old j)) where
+  ends_on : (node : LoneNode) (k after : ℕ) → GoesTo s.nodes s.cap s.terms k (node_at old least) node → HasNoNext s.nodes s.cap s.terms node → IsPut s.nodes least None node old new → length new ≡ length old → after ≡ least + 1 → IsOn s old new least after
   ends_on node k after goes now put many is =
       let before = way s old least k node rules reached here goes in
       let w : IsWay s old before.0 least node = before.1 in
@@ -179,13 +179,13 @@ module _ (s : Setup) (old new : List LoneNode) (least : ℕ)
         reached = reached_same s before.0 new w.reached (many ∙ sym w.many) same;
         within = omega arith;
         ended = λ j l. elim (cases_eq j least) [
-          | inl e ↦ (let Q : ℕ → Type 0 = λ x. HasNoNext s.nodes s.cap (node_at new x) in subst Q (sym e) (subst (HasNoNext s.nodes s.cap) (sym put.0) now))
-          | inr ne ↦ subst (HasNoNext s.nodes s.cap) (sym (put.1 j ne)) (ended j (omega arith))
+          | inl e ↦ (let Q : ℕ → Type 0 = λ x. HasNoNext s.nodes s.cap s.terms (node_at new x) in subst Q (sym e) (subst (HasNoNext s.nodes s.cap s.terms) (sym put.0) now))
+          | inr ne ↦ subst (HasNoNext s.nodes s.cap s.terms) (sym (put.1 j ne)) (ended j (omega arith))
         ];
         less = less_past s.nodes s.cap old new least (omega (arith, w.room, room_same s.cap before.0 new (many ∙ sym w.many) same)) here;
       }
 
-  moves_on : (node mid : LoneNode) (m : Load) (k after : ℕ) → GoesTo s.nodes s.cap k (node_at old least) mid → MakesSending s.nodes s.cap mid node m → IsPut s.nodes least (Some m) node old new → length new ≡ length old → IsLeastAfter s.nodes least (Some m) after → IsOn s old new least after
+  moves_on : (node mid : LoneNode) (m : Load) (k after : ℕ) → GoesTo s.nodes s.cap s.terms k (node_at old least) mid → MakesSending s.nodes s.cap s.terms mid node m → IsPut s.nodes least (Some m) node old new → length new ≡ length old → IsLeastAfter s.nodes least (Some m) after → IsOn s old new least after
   moves_on node mid m k after goes sending put many how =
       let before = way s old least k mid rules reached here goes in
       let w : IsWay s old before.0 least mid = before.1 in
@@ -195,12 +195,12 @@ module _ (s : Setup) (old new : List LoneNode) (least : ℕ)
         put.1 ∙ ap (λ (x : LoneNode). after_put x m) (sym (w.others (next s.nodes least) apart)),
         λ j ne other. put.2 j ne other ∙ sym (w.others j ne),
       ) in
-      let is_next : IsNext s.nodes s.cap (node_at before.0 least) (Sent m) sending.0 = subst (λ (x : LoneNode). IsNext s.nodes s.cap x (Sent m) sending.0) (sym w.here) sending.1 in
+      let is_next : IsNext s.nodes s.cap s.terms (node_at before.0 least) (Sent m) sending.0 = subst (λ (x : LoneNode). IsNext s.nodes s.cap s.terms x (Sent m) sending.0) (sym w.here) sending.1 in
       let on : IsOn s before.0 new least after =
-      sends_on s before.0 new least rules w.reached here (λ j l. subst (HasNoNext s.nodes s.cap) (sym (w.others j (omega arith))) (ended j l)) m sending.0 after is_next moved (many ∙ sym w.many) how in
+      sends_on s before.0 new least rules w.reached here (λ j l. subst (HasNoNext s.nodes s.cap s.terms) (sym (w.others j (omega arith))) (ended j l)) m sending.0 after is_next moved (many ∙ sym w.many) how in
       record { reached = on.reached; within = on.within; ended = on.ended; less = omega (arith, on.less, le_measure s.nodes s.cap old before.0 least w.room) }
 
-  pub turns_on : (sent : Option Load) (after : ℕ) → IsTurn s.nodes s.cap least old new sent → IsLeastAfter s.nodes least sent after → IsOn s old new least after
+  pub turns_on : (sent : Option Load) (after : ℕ) → IsTurn s.nodes s.cap s.terms least old new sent → IsLeastAfter s.nodes least sent after → IsOn s old new least after
   turns_on None after turn is = ends_on turn.node turn.goes.0.0 after turn.goes.0.1 turn.goes.1 turn.put turn.many is
   turns_on (Some m) after turn is = moves_on turn.node turn.goes.0 m turn.goes.1.0 after turn.goes.1.1 turn.goes.2 turn.put turn.many is
 
@@ -209,11 +209,11 @@ pub record IsOnward (first before behind : Setup) (old new : List LoneNode) (lea
   pub setup : behind ≡ first
   pub reached : IsReached behind new
   pub within : after ≤ behind.nodes
-  pub ended : (j : ℕ) → j < after → HasNoNext behind.nodes behind.cap (node_at new j)
+  pub ended : (j : ℕ) → j < after → HasNoNext behind.nodes behind.cap behind.terms (node_at new j)
   pub less : measure behind.nodes behind.cap new after < measure before.nodes before.cap old least
 
 pub onward : (first before behind : Setup) (n : ℕ) (old new : List LoneNode) (least after : ℕ) (sent : Option Load) → KeepsRules first → before ≡ first → behind ≡ before → n ≡ first.nodes → IsReached before old
-    → least < n → ((j : ℕ) → j < least → HasNoNext before.nodes before.cap (node_at old j)) → IsTurn before.nodes before.cap least old new sent → IsLeastAfter n least sent after
+    → least < n → ((j : ℕ) → j < least → HasNoNext before.nodes before.cap before.terms (node_at old j)) → IsTurn before.nodes before.cap before.terms least old new sent → IsLeastAfter n least sent after
     → IsOnward first before behind old new least after
 onward first before behind n old new least after sent rules same still size reached here ended turn is =
     let n_is : n ≡ before.nodes = size ∙ ap (λ (s : Setup). s.nodes) (sym same) in

@@ -7,7 +7,7 @@ use Rattle.std.proofs.lemmas.List.FromFn.{length-map-range_with_len, get_or-map-
 use Rattle.rand_core.specs.Steps.{first_words}
 use Rattle.rand_pcg.specs.Lcg.{Lcg}
 use Rattle.rand_pcg.specs.Pcg.{pcg32}
-use Rattle.ira_event.specs.declared.limits.TheConstants.{MAX_RECORDS}
+use Rattle.ira_event.specs.Limits.{MAX_NUMBER, MAX_RECORDS}
 use Rattle.ira_event.specs.RingSize.{IsRingSize}
 use Rattle.ira_run.specs.declared.node_end.NodeEnd.{NodeEnd}
 use Rattle.ira_run.specs.declared.node_end.NodeEnd.TheVariants.{Leader, Stopped, DrawsSpent, LogFull, NoStep, Quiet}
@@ -28,23 +28,25 @@ rows_drawn {V} see f [] each i l = absurd (omega arith)
 rows_drawn {V} see f (r ∷ rows) each zero l = each 0
 rows_drawn {V} see f (r ∷ rows) each (suc i) l = rows_drawn see (λ j. f (suc j)) rows (λ j. each (suc j)) i (omega arith)
 
-pub made_seeded : {V : Type 0} (see : V → List ℕ) (n seed k cap : ℕ) (kinds held : List Bool) (rows : List V) (s : Setup) → record { nodes = n; initiators = held; draws = map see rows; cap = cap } ≡ s
-    → held ≡ kinds → length rows ≡ n → ((place : ℕ) → IfSome (slice_get rows place) (λ v. see v ≡ draws n seed place k)) → IsSeeded n kinds seed k cap s
-made_seeded {V} see n seed k cap kinds held rows s is same many each = subst (IsSeeded n kinds seed k cap) is record {
+pub made_seeded : {V : Type 0} (see : V → List ℕ) (n seed k cap terms : ℕ) (kinds held : List Bool) (rows : List V) (s : Setup) → record { nodes = n; initiators = held; draws = map see rows; cap = cap; terms = terms } ≡ s
+    → held ≡ kinds → length rows ≡ n → ((place : ℕ) → IfSome (slice_get rows place) (λ v. see v ≡ draws n seed place k)) → IsSeeded n kinds seed k cap terms s
+made_seeded {V} see n seed k cap terms kinds held rows s is same many each = subst (IsSeeded n kinds seed k cap terms) is record {
   nodes = refl;
   initiators = same;
   many = length-map rows see ∙ many;
   draws = λ i l. rows_drawn see (λ place. draws n seed place k) rows each i (omega (arith, many));
   limit = refl;
+  last = refl;
 }
 
-pub seeded_is : (n : ℕ) (kinds : List Bool) (seed k cap : ℕ) → IsSeeded n kinds seed k cap (seeded n kinds seed k cap)
-seeded_is n kinds seed k cap = record {
+pub seeded_is : (n : ℕ) (kinds : List Bool) (seed k cap terms : ℕ) → IsSeeded n kinds seed k cap terms (seeded n kinds seed k cap terms)
+seeded_is n kinds seed k cap terms = record {
   nodes = refl;
   initiators = refl;
   many = length-map-range_with_len (λ place. draws n seed place k) 0 n;
   draws = λ i l. get_or-map-range_with_len (λ place. draws n seed place k) 0 n i i [] l (omega arith);
   limit = refl;
+  last = refl;
 }
 
 -- ---- the rules hold of both, or of neither
@@ -54,8 +56,8 @@ ids_drawn n words some i d l =
     let is : get_or (map (id_of_word n) words) i d ≡ id_of_word n (get_or words i 0) = get_or-map (id_of_word n) words i 0 d (omega (arith, length-map words (id_of_word n))) in
     subst (λ (x : ℕ). (1 ≤ x) × (x ≤ n)) (sym is) (omega arith, omega arith)
 
-pub same_rules : (n : ℕ) (kinds : List Bool) (seed k m cap : ℕ) (s t : Setup) → IsSeeded n kinds seed k cap s → IsSeeded n kinds seed m cap t → KeepsRules s → KeepsRules t
-same_rules n kinds seed k m cap s t a b rules =
+pub same_rules : (n : ℕ) (kinds : List Bool) (seed k m cap terms : ℕ) (s t : Setup) → IsSeeded n kinds seed k cap terms s → IsSeeded n kinds seed m cap terms t → KeepsRules s → KeepsRules t
+same_rules n kinds seed k m cap terms s t a b rules =
     let size : t.nodes ≡ s.nodes = b.nodes ∙ sym a.nodes in
     let same : t.initiators ≡ s.initiators = b.initiators ∙ sym a.initiators in
     let P : List Bool → Type 0 = λ xs. get_or xs rules.initiator.0 false ≡ true in
@@ -66,18 +68,20 @@ same_rules n kinds seed k m cap s t a b rules =
       initiator = (rules.initiator.0, omega (arith, rules.initiator.1, size), subst P (sym same) rules.initiator.2);
       ids = λ i l. subst (λ (x : ℕ). R x (node_draws t i)) (sym b.nodes) (subst (R n) (sym (b.draws i (omega (arith, b.nodes)))) (ids_drawn n _ (omega (arith, a.nodes, rules.size.0))));
       cap = (omega (arith, rules.cap.0, a.limit, b.limit), omega (arith, rules.cap.1, a.limit, b.limit));
+      terms = (omega (arith, rules.terms.0, a.last, b.last), omega (arith, rules.terms.1, a.last, b.last));
     }
 
 -- the rules, where they hold of all but the draws
-pub keeps_all : (n : ℕ) (kinds : List Bool) (seed k cap : ℕ) → IsRingSize n → length kinds ≡ n → HasInitiator (seeded n kinds seed k cap) → (1 ≤ cap) × (cap ≤ MAX_RECORDS) → KeepsRules (seeded n kinds seed k cap)
-keeps_all n kinds seed k cap size many some within =
-    let is : IsSeeded n kinds seed k cap (seeded n kinds seed k cap) = seeded_is n kinds seed k cap in
+pub keeps_all : (n : ℕ) (kinds : List Bool) (seed k cap terms : ℕ) → IsRingSize n → length kinds ≡ n → HasInitiator (seeded n kinds seed k cap terms) → (1 ≤ cap) × (cap ≤ MAX_RECORDS) → (1 ≤ terms) × (terms ≤ MAX_NUMBER) → KeepsRules (seeded n kinds seed k cap terms)
+keeps_all n kinds seed k cap terms size many some within last =
+    let is : IsSeeded n kinds seed k cap terms (seeded n kinds seed k cap terms) = seeded_is n kinds seed k cap terms in
     record {
       size = size;
       lists = (many, is.many);
       initiator = some;
       ids = λ i l. subst (All (λ d. (1 ≤ d) × (d ≤ n))) (sym (is.draws i l)) (ids_drawn n _ (omega (arith, size.0)));
       cap = within;
+      terms = last;
     }
 
 -- ---- more draws begin with fewer
@@ -90,8 +94,8 @@ begins n (suc k) (suc m) g l =
     let rest = begins n k m (pcg32 g).1 (omega arith) in
     (rest.0, ap (λ (ids : List ℕ). id_of_word n (pcg32 g).0 ∷ ids) rest.1)
 
-more : (n : ℕ) (kinds : List Bool) (seed k m cap : ℕ) (s t : Setup) → IsSeeded n kinds seed k cap s → IsSeeded n kinds seed m cap t → k ≤ m → (i : ℕ) → i < s.nodes → BeginsWith (node_draws t i) (node_draws s i)
-more n kinds seed k m cap s t a b l i here =
+more : (n : ℕ) (kinds : List Bool) (seed k m cap terms : ℕ) (s t : Setup) → IsSeeded n kinds seed k cap terms s → IsSeeded n kinds seed m cap terms t → k ≤ m → (i : ℕ) → i < s.nodes → BeginsWith (node_draws t i) (node_draws s i)
+more n kinds seed k m cap terms s t a b l i here =
     let within : i < n = omega (arith, a.nodes) in
     let rest = begins n k m (generator seed i) l in
     (rest.0, b.draws i within ∙ rest.1 ∙ ap (λ (ids : List ℕ). ids ++ rest.0) (sym (a.draws i within)))
@@ -112,20 +116,21 @@ none_spent (LogFull ∷ ends) (suc i) none at = none_spent ends i none at
 none_spent (NoStep m ∷ ends) (suc i) none at = none_spent ends i none at
 none_spent (Quiet ∷ ends) (suc i) none at = none_spent ends i none at
 
-same_but_draws : (n : ℕ) (kinds : List Bool) (seed k m cap : ℕ) (s t : Setup) → IsSeeded n kinds seed k cap s → IsSeeded n kinds seed m cap t → with_draws s t.draws ≡ t
-same_but_draws n kinds seed k m cap s t a b =
-    ap (λ (x : ℕ). record { nodes = x; initiators = s.initiators; draws = t.draws; cap = s.cap }) (a.nodes ∙ sym b.nodes)
-    ∙ ap (λ (x : List Bool). record { nodes = t.nodes; initiators = x; draws = t.draws; cap = s.cap }) (a.initiators ∙ sym b.initiators)
-    ∙ ap (λ (x : ℕ). record { nodes = t.nodes; initiators = t.initiators; draws = t.draws; cap = x }) (a.limit ∙ sym b.limit)
+same_but_draws : (n : ℕ) (kinds : List Bool) (seed k m cap terms : ℕ) (s t : Setup) → IsSeeded n kinds seed k cap terms s → IsSeeded n kinds seed m cap terms t → with_draws s t.draws ≡ t
+same_but_draws n kinds seed k m cap terms s t a b =
+    ap (λ (x : ℕ). record { nodes = x; initiators = s.initiators; draws = t.draws; cap = s.cap; terms = s.terms }) (a.nodes ∙ sym b.nodes)
+    ∙ ap (λ (x : List Bool). record { nodes = t.nodes; initiators = x; draws = t.draws; cap = s.cap; terms = s.terms }) (a.initiators ∙ sym b.initiators)
+    ∙ ap (λ (x : ℕ). record { nodes = t.nodes; initiators = t.initiators; draws = t.draws; cap = x; terms = s.terms }) (a.limit ∙ sym b.limit)
+    ∙ ap (λ (x : ℕ). record { nodes = t.nodes; initiators = t.initiators; draws = t.draws; cap = t.cap; terms = x }) (a.last ∙ sym b.last)
 
 -- where nobody lacked a draw
-pub lone_of_more : (n : ℕ) (kinds : List Bool) (seed k m cap : ℕ) (s t : Setup) (run : Run) → IsSeeded n kinds seed k cap s → IsSeeded n kinds seed m cap t → k ≤ m → list_any is_draws_spent run.ends ≡ false → IsLoneRun s run → IsLoneRun t run
-lone_of_more n kinds seed k m cap s t run a b l none lone =
-    subst (λ (x : Setup). IsLoneRun x run) (same_but_draws n kinds seed k m cap s t a b)
-    (lone_run_still s t.draws (more n kinds seed k m cap s t a b l) run (λ i here at. absurd (none_spent run.ends i none at)) lone)
+pub lone_of_more : (n : ℕ) (kinds : List Bool) (seed k m cap terms : ℕ) (s t : Setup) (run : Run) → IsSeeded n kinds seed k cap terms s → IsSeeded n kinds seed m cap terms t → k ≤ m → list_any is_draws_spent run.ends ≡ false → IsLoneRun s run → IsLoneRun t run
+lone_of_more n kinds seed k m cap terms s t run a b l none lone =
+    subst (λ (x : Setup). IsLoneRun x run) (same_but_draws n kinds seed k m cap terms s t a b)
+    (lone_run_still s t.draws (more n kinds seed k m cap terms s t a b l) run (λ i here at. absurd (none_spent run.ends i none at)) lone)
 
 -- where the draws are the same
-pub lone_of_same : (n : ℕ) (kinds : List Bool) (seed k cap : ℕ) (s t : Setup) (run : Run) → IsSeeded n kinds seed k cap s → IsSeeded n kinds seed k cap t → IsLoneRun s run → IsLoneRun t run
-lone_of_same n kinds seed k cap s t run a b lone =
-    subst (λ (x : Setup). IsLoneRun x run) (same_but_draws n kinds seed k k cap s t a b)
-    (lone_run_still s t.draws (more n kinds seed k k cap s t a b (omega arith)) run (λ i here at. b.draws i (omega (arith, a.nodes)) ∙ sym (a.draws i (omega (arith, a.nodes)))) lone)
+pub lone_of_same : (n : ℕ) (kinds : List Bool) (seed k cap terms : ℕ) (s t : Setup) (run : Run) → IsSeeded n kinds seed k cap terms s → IsSeeded n kinds seed k cap terms t → IsLoneRun s run → IsLoneRun t run
+lone_of_same n kinds seed k cap terms s t run a b lone =
+    subst (λ (x : Setup). IsLoneRun x run) (same_but_draws n kinds seed k k cap terms s t a b)
+    (lone_run_still s t.draws (more n kinds seed k k cap terms s t a b (omega arith)) run (λ i here at. b.draws i (omega (arith, a.nodes)) ∙ sym (a.draws i (omega (arith, a.nodes)))) lone)

@@ -4,11 +4,12 @@ use Rattle.ira_event.specs.declared.load.Load.{Load}
 use Rattle.ira_event.specs.declared.event.Event.{Event}
 use Rattle.ira_event.specs.declared.event.Event.TheVariants.{Draw, Sent, Got, Yield}
 use Rattle.ira_node.specs.declared.node_state.NodeState.{NodeState}
-use Rattle.ira_node.specs.NodeState.{IsLeader, Receives}
+use Rattle.ira_node.specs.NodeState.{Receives}
 use Rattle.ira_node.specs.NodeStep.{NodeStep, HasStep}
 use Rattle.ira_run.specs.declared.node_end.NodeEnd.{NodeEnd}
 use Rattle.ira_run.specs.declared.node_end.NodeEnd.TheVariants.{Leader, Stopped, DrawsSpent, LogFull, NoStep, Quiet}
 use Rattle.ira_run.specs.ShownEnd.{HasToDraw}
+use Rattle.ira_run.specs.Terms.{IsLastLeader}
 
 -- a node's state, the IDs that it has left to draw, the loads on the link that leads to it, and its
 -- events
@@ -25,27 +26,27 @@ IsFirst node (Sent l) = Unit {0}
 IsFirst node (Got l) = (rest : List Load) × (node.input ≡ l ∷ rest)
 IsFirst node Yield = Unit {0}
 
--- the node's next event in a ring of n nodes, and the state after it
-pub record IsNext (n most : ℕ) (node : LoneNode) (event : Event) (after : NodeState) : Type 0 where
-  pub not_leader : ¬ (IsLeader node.state.phase)
+-- the node's next event in a ring of n nodes and a run of so many terms, and the state after it
+pub record IsNext (n most terms : ℕ) (node : LoneNode) (event : Event) (after : NodeState) : Type 0 where
+  pub not_last : ¬ (IsLastLeader terms node.state)
   pub room : length node.events < most
   pub step : NodeStep n node.state event after
   pub first : IsFirst node event
 
 -- the node has no next event, and this is its end
-abbrev pub Ends : ℕ → ℕ → LoneNode → NodeEnd → Type 0
-Ends n most node Leader = IsLeader node.state.phase
-Ends n most node Stopped = ⊥
-Ends n most node DrawsSpent =
+abbrev pub Ends : ℕ → ℕ → ℕ → LoneNode → NodeEnd → Type 0
+Ends n most terms node Leader = IsLastLeader terms node.state
+Ends n most terms node Stopped = ⊥
+Ends n most terms node DrawsSpent =
     (length node.events < most) × HasToDraw node.state × (node.ids ≡ [])
-Ends n most node LogFull = ¬ (IsLeader node.state.phase) × (most ≤ length node.events)
-Ends n most node (NoStep l) =
+Ends n most terms node LogFull = ¬ (IsLastLeader terms node.state) × (most ≤ length node.events)
+Ends n most terms node (NoStep l) =
     (length node.events < most) × (node.state.owed ≡ None) × Receives node.state.phase × ((rest : List Load) × (node.input ≡ l ∷ rest)) × ¬ (HasStep n node.state (Got l))
-Ends n most node Quiet = (length node.events < most) × (node.state.owed ≡ None) × Receives node.state.phase × (node.input ≡ [])
+Ends n most terms node Quiet = (length node.events < most) × (node.state.owed ≡ None) × Receives node.state.phase × (node.input ≡ [])
 
 -- the node has no next event
-abbrev pub HasNoNext : ℕ → ℕ → LoneNode → Type 0
-HasNoNext n most node = (end : NodeEnd) × Ends n most node end
+abbrev pub HasNoNext : ℕ → ℕ → ℕ → LoneNode → Type 0
+HasNoNext n most terms node = (end : NodeEnd) × Ends n most terms node end
 
 -- how many of the IDs left an event draws, and how many of the loads it takes
 abbrev pub drawn_by : Event → ℕ
@@ -74,24 +75,24 @@ abbrev pub SendsNothing : Event → Type 0
 SendsNothing e = (l : Load) → e ≢ Sent l
 
 -- the node's next event, which sends nothing and leads to this state; or there is no next event
-abbrev pub MakesOwn : ℕ → ℕ → LoneNode → LoneNode → Option NodeState → Type 0
-MakesOwn n most old new None = HasNoNext n most old × (new ≡ old)
-MakesOwn n most old new (Some after) =
-    (e : Event) × SendsNothing e × IsNext n most old e after × (new ≡ after_event old e after)
+abbrev pub MakesOwn : ℕ → ℕ → ℕ → LoneNode → LoneNode → Option NodeState → Type 0
+MakesOwn n most terms old new None = HasNoNext n most terms old × (new ≡ old)
+MakesOwn n most terms old new (Some after) =
+    (e : Event) × SendsNothing e × IsNext n most terms old e after × (new ≡ after_event old e after)
 
 -- the node's next event is the sending of the load
-abbrev pub MakesSending : ℕ → ℕ → LoneNode → LoneNode → Load → Type 0
-MakesSending n most old new l =
-    (after : NodeState) × IsNext n most old (Sent l) after × (new ≡ after_event old (Sent l) after)
+abbrev pub MakesSending : ℕ → ℕ → ℕ → LoneNode → LoneNode → Load → Type 0
+MakesSending n most terms old new l =
+    (after : NodeState) × IsNext n most terms old (Sent l) after × (new ≡ after_event old (Sent l) after)
 
 -- so many events that send nothing
-abbrev pub GoesTo : ℕ → ℕ → ℕ → LoneNode → LoneNode → Type 0
-GoesTo n most zero old new = new ≡ old
-GoesTo n most (suc k) old new =
-    (node : LoneNode) × GoesTo n most k old node × ((after : NodeState) × MakesOwn n most node new (Some after))
+abbrev pub GoesTo : ℕ → ℕ → ℕ → ℕ → LoneNode → LoneNode → Type 0
+GoesTo n most terms zero old new = new ≡ old
+GoesTo n most terms (suc k) old new =
+    (node : LoneNode) × GoesTo n most terms k old node × ((after : NodeState) × MakesOwn n most terms node new (Some after))
 
 -- events that send nothing, and then the sending of this load, or no next event
-abbrev pub GoesToSending : ℕ → ℕ → LoneNode → LoneNode → Option Load → Type 0
-GoesToSending n most old new None = ((k : ℕ) × GoesTo n most k old new) × HasNoNext n most new
-GoesToSending n most old new (Some l) =
-    (node : LoneNode) × ((k : ℕ) × GoesTo n most k old node) × MakesSending n most node new l
+abbrev pub GoesToSending : ℕ → ℕ → ℕ → LoneNode → LoneNode → Option Load → Type 0
+GoesToSending n most terms old new None = ((k : ℕ) × GoesTo n most terms k old new) × HasNoNext n most terms new
+GoesToSending n most terms old new (Some l) =
+    (node : LoneNode) × ((k : ℕ) × GoesTo n most terms k old node) × MakesSending n most terms node new l

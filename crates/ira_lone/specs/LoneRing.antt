@@ -10,6 +10,7 @@ use Rattle.ira_order.specs.Ring.{next, prev}
 use Rattle.ira_order.specs.Run.{Configuration}
 use Rattle.ira_run.specs.declared.node_end.NodeEnd.{NodeEnd}
 use Rattle.ira_run.specs.Setup.{Setup, is_initiator, node_draws}
+use Rattle.ira_run.specs.Terms.{version_of}
 use Rattle.ira_run.specs.FullRun.{opening_of, events_at, drawn, Walks}
 use Rattle.ira_lone.specs.LoneNode.{LoneNode, Ends, HasNoNext, GoesToSending, after_event, after_put}
 
@@ -45,9 +46,9 @@ IsPut n i (Some l) node old new =
     × ((j : ℕ) → j ≢ i → j ≢ next n i → node_at new j ≡ node_at old j)
 
 -- what a turn of node i does: its events up to its next sending, where there is one
-pub record IsTurn (n most i : ℕ) (old new : List LoneNode) (sent : Option Load) : Type 0 where
+pub record IsTurn (n most terms i : ℕ) (old new : List LoneNode) (sent : Option Load) : Type 0 where
   pub node : LoneNode
-  pub goes : GoesToSending n most (node_at old i) node sent
+  pub goes : GoesToSending n most terms (node_at old i) node sent
   pub put : IsPut n i sent node old new
   pub many : length new ≡ length old
 
@@ -69,15 +70,15 @@ pub record IsReached (s : Setup) (nodes : List LoneNode) : Type 0 where
 
 -- the nodes are where such a run led them, and none of them has a next event
 abbrev pub AreAtEnd : Setup → List LoneNode → Type 0
-AreAtEnd s nodes = IsReached s nodes × ((i : ℕ) → i < s.nodes → HasNoNext s.nodes s.cap (node_at nodes i))
+AreAtEnd s nodes = IsReached s nodes × ((i : ℕ) → i < s.nodes → HasNoNext s.nodes s.cap s.terms (node_at nodes i))
 
 -- the logs of the nodes
 abbrev pub AreLogsOfNodes : Setup → List LoneNode → List Log → Type 0
 AreLogsOfNodes s nodes logs =
     (length logs ≡ length nodes)
-    × ((i : ℕ) (log : Log) → slice_get logs i ≡ Some log → log ≡ record { version = 1; nodes = s.nodes; place = i; initiator = is_initiator s i; events = (node_at nodes i).events })
+    × ((i : ℕ) (log : Log) → slice_get logs i ≡ Some log → log ≡ record { version = version_of s.nodes s.terms; nodes = s.nodes; place = i; initiator = is_initiator s i; events = (node_at nodes i).events })
 
 -- the ends of the nodes
 abbrev pub AreEndsOfNodes : Setup → List LoneNode → List NodeEnd → Type 0
 AreEndsOfNodes s nodes ends =
-    (length ends ≡ length nodes) × ((i : ℕ) (end : NodeEnd) → slice_get ends i ≡ Some end → Ends s.nodes s.cap (node_at nodes i) end)
+    (length ends ≡ length nodes) × ((i : ℕ) (end : NodeEnd) → slice_get ends i ≡ Some end → Ends s.nodes s.cap s.terms (node_at nodes i) end)

@@ -1,13 +1,15 @@
 ghost use Rattle.std.specs.Prelude.{◌≡◌, ◌<◌, ◌≤◌, ℕ, [], All, IfOk, OnOk, length};
+ghost use Rattle.ira_event.specs.Limits.{MAX_NUMBER};
 ghost use Rattle.ira_event.specs.Log.{IsLog};
-ghost use Rattle.ira_node.specs.declared.wanted.Wanted.TheVariants.{Draw as WantsDraw, Send, Receipt};
+ghost use Rattle.ira_node.specs.declared.wanted.Wanted.TheVariants.{Draw as WantsDraw, Send, Receipt, Yield as WantsYield};
 ghost use Rattle.ira_node.specs.NodeState.{first_state};
 ghost use Rattle.ira_node.specs.Wanted.{wanted_of};
+ghost use Rattle.ira_run.specs.Terms.{version_of};
 ghost use Rattle.ira_lone.specs.LoneNode.{HasNoNext, Ends, MakesOwn, MakesSending, GoesToSending, after_put};
 
 use ira_event::{Event, Load, NodeLog, RingSize};
 use ira_node::{NodeState, Wanted};
-use ira_run::NodeEnd;
+use ira_run::{NodeEnd, is_last_leader, log_version};
 use std::alloc::{AllocError, Allocator};
 use std::collections::VecDeque;
 use std::marker::Model;
@@ -60,17 +62,25 @@ impl<'a, A: Allocator> LoneNode<'a, A> {
     }
 
     /// Makes the node's events up to its next sending, and answers the load that it sent; `None`
-    /// where the node has no next event before that, as things stand. A log may have `cap` records.
+    /// where the node has no next event before that, as things stand. A log may have `cap` records, and a
+    /// leader yields in a term before the last of `terms`.
     #[inline(always)]
-    pub(crate) fn go_on(&mut self, nodes: RingSize, cap: usize) -> Result<Option<Load>, AllocError>
-        requires { All (λ d. (1 ≤ d) × (d ≤ nodes)) self.old.ids }
-        ensures { IfOk result (GoesToSending nodes cap self.old self.new) }
+    pub(crate) fn go_on(
+        &mut self,
+        nodes: RingSize,
+        cap: usize,
+        terms: u32,
+    ) -> Result<Option<Load>, AllocError>
+        requires ids { All (λ d. (1 ≤ d) × (d ≤ nodes)) self.old.ids }
+        requires terms { terms ≤ MAX_NUMBER }
+        ensures { IfOk result (GoesToSending nodes cap terms self.old self.new) }
     {
         // The state at hand, so that it isn't read back.
         let mut state = self.state;
         while self.events.len() < cap {
             let next = match state.wanted() {
-                Wanted::Yield | Wanted::Nothing => return Ok(None),
+                Wanted::Nothing => return Ok(None),
+                Wanted::Yield => self.step_down(state, nodes, terms)?,
                 Wanted::Send(load) => {
                     self.send(state, nodes, load)?;
                     return Ok(Some(load));
@@ -92,7 +102,7 @@ impl<'a, A: Allocator> LoneNode<'a, A> {
         requires state { state ≡ self.old.state }
         requires wanted { Send load ≡ wanted_of state.term state.phase state.owed }
         ensures { OnOk result
-            ((most : ℕ) → length self.old.events < most → MakesSending nodes most self.old self.new load) }
+            ((most terms : ℕ) → length self.old.events < most → MakesSending nodes most terms self.old self.new load) }
     {
         let Ok(after) = state.step(nodes, &Event::Sent(load)) else {
             unreachable!();
@@ -102,6 +112,32 @@ impl<'a, A: Allocator> LoneNode<'a, A> {
         Ok(())
     }
 
+    /// Yields, in a term before the last of `terms`, and answers the state after it.
+    #[cold]
+    #[inline(never)]
+    fn step_down(
+        &mut self,
+        state: NodeState,
+        nodes: RingSize,
+        terms: u32,
+    ) -> Result<Option<NodeState>, AllocError>
+        requires state { state ≡ self.old.state }
+        requires wanted { WantsYield ≡ wanted_of state.term state.phase state.owed }
+        ensures { IfOk result
+            (λ next. (most : ℕ) → length self.old.events < most
+            → MakesOwn nodes most terms self.old self.new next) }
+    {
+        if state.term >= terms {
+            return Ok(None);
+        }
+        let Ok(after) = state.step(nodes, &Event::Yield) else {
+            unreachable!();
+        };
+        self.events.push(Event::Yield)?;
+        self.state = after;
+        Ok(Some(after))
+    }
+
     /// Draws the next ID, where one is left, and answers the state after it.
     #[inline(always)]
     fn draw(&mut self, state: NodeState, nodes: RingSize) -> Result<Option<NodeState>, AllocError>
@@ -109,8 +145,8 @@ impl<'a, A: Allocator> LoneNode<'a, A> {
         requires wanted { WantsDraw ≡ wanted_of state.term state.phase state.owed }
         requires ids { All (λ d. (1 ≤ d) × (d ≤ nodes)) self.old.ids }
         ensures { IfOk result
-            (λ next. (most : ℕ) → length self.old.events < most
-            → MakesOwn nodes most self.old self.new next) }
+            (λ next. (most terms : ℕ) → length self.old.events < most
+            → MakesOwn nodes most terms self.old self.new next) }
     {
         let Some((&id, others)) = self.ids.split_first() else {
             return Ok(None);
@@ -134,8 +170,8 @@ impl<'a, A: Allocator> LoneNode<'a, A> {
         requires state { state ≡ self.old.state }
         requires wanted { Receipt ≡ wanted_of state.term state.phase state.owed }
         ensures { IfOk result
-            (λ next. (most : ℕ) → length self.old.events < most
-            → MakesOwn nodes most self.old self.new next) }
+            (λ next. (most terms : ℕ) → length self.old.events < most
+            → MakesOwn nodes most terms self.old self.new next) }
     {
         let Some(&load) = self.input.front() else {
             return Ok(None);
@@ -150,14 +186,18 @@ impl<'a, A: Allocator> LoneNode<'a, A> {
     }
 
     /// How the node has ended, as it has where it has no next event.
-    pub(crate) fn end(&self, cap: usize) -> NodeEnd
-        requires { (n : ℕ) × HasNoNext n cap self.now }
-        ensures { (n : ℕ) → HasNoNext n cap self.now → Ends n cap self.now result }
+    pub(crate) fn end(&self, cap: usize, terms: u32) -> NodeEnd
+        requires { (n : ℕ) × HasNoNext n cap terms self.now }
+        ensures { (n : ℕ) → HasNoNext n cap terms self.now → Ends n cap terms self.now result }
     {
+        if is_last_leader(&self.state, terms) {
+            return NodeEnd::Leader;
+        }
+        if self.events.len() >= cap {
+            return NodeEnd::LogFull;
+        }
         match self.state.wanted() {
-            Wanted::Yield | Wanted::Nothing => NodeEnd::Leader,
-            _ if self.events.len() >= cap => NodeEnd::LogFull,
-            Wanted::Send(_) => unreachable!(),
+            Wanted::Send(_) | Wanted::Yield | Wanted::Nothing => unreachable!(),
             Wanted::Draw => NodeEnd::DrawsSpent,
             Wanted::Receipt => match self.input.front() {
                 Some(&load) => NodeEnd::NoStep(load),
@@ -175,13 +215,37 @@ impl<'a, A: Allocator> LoneNode<'a, A> {
         Ok(())
     }
 
-    /// The node's log, of version 1.
-    pub(crate) fn into_log(self, nodes: RingSize, place: u8, initiator: bool) -> NodeLog<A>
+    /// The node's log, of a run of so many terms.
+    pub(crate) fn into_log(
+        self,
+        terms: u32,
+        nodes: RingSize,
+        place: u8,
+        initiator: bool,
+    ) -> NodeLog<A>
         requires { IsLog
-            (record { version = 1; nodes = nodes; place = place; initiator = initiator; events = self.events }) }
+            (record {
+              version = version_of nodes terms;
+              nodes = nodes;
+              place = place;
+              initiator = initiator;
+              events = self.events;
+            }) }
         ensures { result
-            ≡ record { version = 1; nodes = nodes; place = place; initiator = initiator; events = self.entry.events } }
+            ≡ record {
+              version = version_of nodes terms;
+              nodes = nodes;
+              place = place;
+              initiator = initiator;
+              events = self.entry.events;
+            } }
     {
-        NodeLog::of_parts(1, nodes, place, initiator, self.events)
+        NodeLog::of_parts(
+            log_version(nodes, terms),
+            nodes,
+            place,
+            initiator,
+            self.events,
+        )
     }
 }

@@ -69,12 +69,12 @@ impl<'a, A: Allocator> LoneRing<'a, A> {
         requires place { i < length self.old.nodes.items }
         ensures setup { OnOk result (self.new.setup.now ≡ self.old.setup.now) }
         ensures turn { IfOk result
-            (IsTurn self.old.setup.now.nodes self.old.setup.now.cap i self.old.nodes.items
-            self.new.nodes.items) }
+            (IsTurn self.old.setup.now.nodes self.old.setup.now.cap self.old.setup.now.terms i
+            self.old.nodes.items self.new.nodes.items) }
     {
         let setup = self.setup;
         let size = setup.nodes;
-        let Some(load) = self.nodes[usize::from(i)].go_on(size, setup.cap)? else {
+        let Some(load) = self.nodes[usize::from(i)].go_on(size, setup.cap, setup.terms)? else {
             return Ok(None);
         };
         let next = if i + 1 < size.get() { i + 1 } else { 0 };
@@ -91,7 +91,7 @@ impl<'a, A: Allocator> LoneRing<'a, A> {
         let setup = self.setup;
         let mut ends = Vec::with_capacity(alloc, self.nodes.len())?;
         for node in &self.nodes {
-            ends.push(node.end(setup.cap))?;
+            ends.push(node.end(setup.cap, setup.terms))?;
         }
         Ok(ends)
     }
@@ -108,7 +108,7 @@ impl<'a, A: Allocator> LoneRing<'a, A> {
         let mut place = 0;
         for node in self.nodes {
             let initiator = setup.initiators[usize::from(place)];
-            logs.push(node.into_log(setup.nodes, place, initiator))?;
+            logs.push(node.into_log(setup.terms, setup.nodes, place, initiator))?;
             place += 1;
         }
         Ok(logs)

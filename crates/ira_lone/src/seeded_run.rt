@@ -8,18 +8,19 @@ ghost use Rattle.ira_lone.specs.SeededRun.{seeded, IsSeeded};
 ghost use Rattle.ira_run.specs.Agreement.{AreOfEachFullRun};
 
 use crate::lone_run::run_to_end;
-use ira_event::{MAX_RECORDS, OutOfMemory, RingSize};
+use ira_event::{MAX_NUMBER, MAX_RECORDS, OutOfMemory, RingSize};
 use ira_run::{NodeEnd, Run, RunFault, Setup, draw_lists};
 use std::alloc::Allocator;
 
-/// How many draws of each node are made at first: few, and yet an election seldom needs more.
+/// How many draws of each node are made at first for each term: few, and yet an election seldom needs more.
 const FIRST_DRAWS: u32 = 16;
 
 /// Whether the setup whose nodes draw from a seed keeps the rules. Draws of a generator always do.
-fn keeps_rules(nodes: RingSize, initiators: &[bool], cap: usize) -> bool
-    ensures { (seed k : ℕ) → IsTrue result ↔ KeepsRules (seeded nodes initiators.now seed k cap) }
+fn keeps_rules(nodes: RingSize, initiators: &[bool], cap: usize, terms: u32) -> bool
+    ensures { (seed k : ℕ) → IsTrue result ↔ KeepsRules (seeded nodes initiators.now seed k cap terms) }
 {
     (1..=MAX_RECORDS).contains(&cap)
+        && (1..=MAX_NUMBER).contains(&terms)
         && initiators.len() == usize::from(nodes.get())
         && initiators.contains(&true)
 }
@@ -32,14 +33,16 @@ fn seeded_setup<A: Allocator + Clone>(
     seed: u64,
     k: u32,
     cap: usize,
+    terms: u32,
 ) -> Result<Setup<A>, OutOfMemory>
-    ensures { IfOk result (IsSeeded nodes initiators.now seed k cap) }
+    ensures { IfOk result (IsSeeded nodes initiators.now seed k cap terms) }
 {
     Ok(Setup {
         nodes,
         initiators: initiators.to_vec(alloc.clone()?)?,
         draws: draw_lists(alloc, nodes, seed, k)?,
         cap,
+        terms,
     })
 }
 
@@ -60,17 +63,18 @@ pub fn run_alone_seeded<A: Allocator + Clone>(
     seed: u64,
     k: u32,
     cap: usize,
+    terms: u32,
 ) -> Result<Run<A>, RunFault>
-    ensures rules { (result ≡ Err SetupFault) ↔ ¬ (KeepsRules (seeded nodes initiators.now seed k cap)) }
-    ensures kept { OnOk result (KeepsRules (seeded nodes initiators.now seed k cap)) }
-    ensures ok { IfOk result (IsLoneRun (seeded nodes initiators.now seed k cap)) }
-    ensures only { IfOk result (λ run. AreOfEachFullRun (seeded nodes initiators.now seed k cap) run.logs) }
+    ensures rules { (result ≡ Err SetupFault) ↔ ¬ (KeepsRules (seeded nodes initiators.now seed k cap terms)) }
+    ensures kept { OnOk result (KeepsRules (seeded nodes initiators.now seed k cap terms)) }
+    ensures ok { IfOk result (IsLoneRun (seeded nodes initiators.now seed k cap terms)) }
+    ensures only { IfOk result (λ run. AreOfEachFullRun (seeded nodes initiators.now seed k cap terms) run.logs) }
     ensures err { IfErr result (λ f. (f ≡ SetupFault) ⊎ (f ≡ MemoryFault)) }
 {
-    if !keeps_rules(nodes, initiators, cap) {
+    if !keeps_rules(nodes, initiators, cap, terms) {
         return Err(RunFault::Setup);
     }
-    Ok(run_seeded(alloc, nodes, initiators, seed, k, cap)?)
+    Ok(run_seeded(alloc, nodes, initiators, seed, k, cap, terms)?)
 }
 
 /// The run of a ring whose nodes draw from a seed, where its setup keeps the rules.
@@ -81,17 +85,27 @@ fn run_seeded<A: Allocator + Clone>(
     seed: u64,
     k: u32,
     cap: usize,
+    terms: u32,
 ) -> Result<Run<A>, OutOfMemory>
-    requires { KeepsRules (seeded nodes initiators.now seed k cap) }
-    ensures { IfOk result (IsLoneRun (seeded nodes initiators.now seed k cap)) }
+    requires { KeepsRules (seeded nodes initiators.now seed k cap terms) }
+    ensures { IfOk result (IsLoneRun (seeded nodes initiators.now seed k cap terms)) }
 {
-    if k > FIRST_DRAWS {
-        let few = seeded_setup(alloc.clone()?, nodes, initiators, seed, FIRST_DRAWS, cap)?;
+    let first = u64::from(FIRST_DRAWS) * u64::from(terms);
+    if u64::from(k) > first {
+        let few = seeded_setup(
+            alloc.clone()?,
+            nodes,
+            initiators,
+            seed,
+            first as u32,
+            cap,
+            terms,
+        )?;
         let run = run_to_end(alloc.clone()?, &few)?;
         if !lack_draws(run.ends()) {
             return Ok(run);
         }
     }
-    let all = seeded_setup(alloc.clone()?, nodes, initiators, seed, k, cap)?;
+    let all = seeded_setup(alloc.clone()?, nodes, initiators, seed, k, cap, terms)?;
     Ok(run_to_end(alloc, &all)?)
 }

@@ -28,11 +28,11 @@ seen_at {V} see rows i ids within holds =
       | inr past ↦ absurd (omega (arith, past.0))
     ]
 
-pub asked_setup : {V : Type 0} (see : V → List ℕ) (request : RunRequest) (n : ℕ) (kinds : List Bool) (rows : List V) → n ≡ request.nodes
+pub asked_setup : {V : Type 0} (see : V → List ℕ) (request : RunRequest) (n terms : ℕ) (kinds : List Bool) (rows : List V) → n ≡ request.nodes → terms ≡ request.terms
     → kinds ≡ map (λ i. nat_lt i (unwrap_or request.initiators n)) (range_with_len 0 n)
     → length rows ≡ n → ((place : ℕ) → IfSome (slice_get rows place) (λ row. see row ≡ draws n request.seed place request.draws))
-    → IsAskedSetup request (record { nodes = n; initiators = kinds; draws = map see rows; cap = request.cap })
-asked_setup {V} see request n kinds rows size first many lists =
+    → IsAskedSetup request (record { nodes = n; initiators = kinds; draws = map see rows; cap = request.cap; terms = terms })
+asked_setup {V} see request n terms kinds rows size so_many first many lists =
     let f : ℕ → Bool = λ i. nat_lt i (unwrap_or request.initiators n) in
     record {
       nodes = size;
@@ -40,12 +40,13 @@ asked_setup {V} see request n kinds rows size first many lists =
       initiators = λ i l. ap (λ ks. get_or ks i false) first ∙ get_or-map-range_with_len f 0 n i i false l (omega arith);
       draws = λ i l. seen_at see rows i _ (omega (arith, many)) (lists i);
       cap = refl;
+      terms = so_many;
     }
 
-pub asked_seeded : (request : RunRequest) (n : ℕ) (kinds : List Bool) → n ≡ request.nodes
+pub asked_seeded : (request : RunRequest) (n terms : ℕ) (kinds : List Bool) → n ≡ request.nodes → terms ≡ request.terms
     → kinds ≡ map (λ i. nat_lt i (unwrap_or request.initiators n)) (range_with_len 0 n)
-    → IsAskedSetup request (seeded n kinds request.seed request.draws request.cap)
-asked_seeded request n kinds size first =
+    → IsAskedSetup request (seeded n kinds request.seed request.draws request.cap terms)
+asked_seeded request n terms kinds size so_many first =
     let f : ℕ → Bool = λ i. nat_lt i (unwrap_or request.initiators n) in
     let ids : ℕ → List ℕ = λ place. draws n request.seed place request.draws in
     record {
@@ -54,7 +55,15 @@ asked_seeded request n kinds size first =
       initiators = λ i l. ap (λ ks. get_or ks i false) first ∙ get_or-map-range_with_len f 0 n i i false l (omega arith);
       draws = λ i l. get_or-map-range_with_len ids 0 n i i [] l (omega arith);
       cap = refl;
+      terms = so_many;
     }
+
+-- more terms than a number of 32 bits says are those of a setup that breaks the rules
+pub asked_of_too_many : (request : RunRequest) (n : ℕ) → n ≡ request.nodes → ¬ (request.terms < 4294967296) → IsAskedRunFault request variants.Setup
+asked_of_too_many request n size many = λ _.
+    let kinds = map (λ i. nat_lt i (unwrap_or request.initiators n)) (range_with_len 0 n) in
+    let s = seeded n kinds request.seed request.draws request.cap request.terms in
+    (s, asked_seeded request n request.terms kinds size refl refl, λ (keeps : KeepsRules s). omega (arith, many, keeps.terms.1))
 
 -- what comes of the setup that is asked for is what comes of the request: its run, or its fault
 pub asked_alone : (request : RunRequest) (s : Setup) (r : Result Run RunFault) → request.is_alone ≡ true → IsAskedSetup request s

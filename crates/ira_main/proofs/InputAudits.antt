@@ -1,7 +1,7 @@
 -- The text of one log that is judged while it is read.
 use Rattle.std.proofs.Common.{◌≡◌, ℕ, ◌+◌, ◌≤◌, true, false, List, length, cond, ap, arith, length-append}
 use Rattle.std.specs.Io.KnownBytes.{Consumes, IsAtEnd}
-use Rattle.ira_event.specs.declared.limits.TheConstants.{MAX_TEXT}
+use Rattle.ira_event.specs.Limits.{MAX_TEXT}
 use Rattle.ira_main.specs.Counted.{Reads}
 use Rattle.ira_main.specs.InputAudit.{InputAudit, HasReadText, bytes_read}
 

@@ -18,6 +18,7 @@ pub record IsAskedSetup (request : RunRequest) (s : Setup) : Type 0 where
   -- the draws of each node are those of the seed
   pub draws : (i : ℕ) → i < s.nodes → node_draws s i ≡ draws s.nodes request.seed i request.draws
   pub cap : s.cap ≡ request.cap
+  pub terms : s.terms ≡ request.terms
 
 -- a run of a setup, on one thread or with a thread for each node
 abbrev pub IsRunOf : Bool → Setup → Run → Type 0

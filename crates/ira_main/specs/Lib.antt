@@ -12,3 +12,4 @@ pub mod Serve
 pub mod Shelf
 pub mod ShelfFault
 pub mod Status
+pub mod Upgrade

@@ -1,8 +1,10 @@
 -- What the program ends with: a status, or a fault, which is written to standard error.
 use Rattle.std.specs.Prelude.{◌≡◌, ◌⊎◌, ℕ, List, Result, Ok, Err}
 use Rattle.ira_event.specs.Sink.{SinkState, Takes, StopsIn}
+use Rattle.ira_audit.specs.Report.{report_line}
+use Rattle.ira_audit.specs.declared.answer.Answer.{Answer}
 use Rattle.ira_main.specs.ProgramFault.{program_fault_text}
-use Rattle.ira_main.specs.Status.{program_fault_status, status_number}
+use Rattle.ira_main.specs.Status.{answer_status, program_fault_status, status_number}
 use Rattle.ira_main.specs.declared.program_fault.ProgramFault.{ProgramFault}
 use Rattle.ira_main.specs.declared.program_fault.ProgramFault.TheVariants.{CannotWriteAnswer}
 use Rattle.ira_main.specs.declared.status.Status.{Status}
@@ -26,6 +28,10 @@ abbrev pub Prints : List ℕ → Status → SinkState → SinkState → Outcome 
 Prints text status out out' outcome =
     (Takes text out out' × (outcome ≡ Ok status))
     ⊎ (StopsIn text out out' × (outcome ≡ Err CannotWriteAnswer))
+
+-- the line of the answer was printed, with the answer's status
+abbrev pub Reports : Answer → SinkState → SinkState → Outcome → Type 0
+Reports answer = Prints (report_line answer) (answer_status answer)
 
 -- nothing was printed, and the outcome is a fault of this kind
 abbrev pub GivesNoAnswer : (ProgramFault → Type 0) → SinkState → SinkState → Outcome → Type 0

@@ -1,7 +1,7 @@
 -- What the program does.
 use Rattle.std.specs.Prelude.{◌≡◌, ◌≢◌, ◌⊎◌, ℕ, ◌+◌, true, List, [], ◌∷◌, Ok, Err, codes, map}
 use Rattle.std.specs.Borrow.{Bor}
-use Rattle.ira_event.specs.declared.limits.TheConstants.{MAX_TEXT}
+use Rattle.ira_event.specs.Limits.{MAX_TEXT}
 use Rattle.ira_event.specs.RingSize.{IsRingSize}
 use Rattle.ira_event.specs.Sink.{SinkState, Takes, StopsIn}
 use Rattle.ira_pred.specs.Pairs.{ArePairCases}
@@ -10,34 +10,31 @@ use Rattle.ira_pred.specs.QuestionText.{question_text}
 use Rattle.ira_audit.specs.Answer.{IsAnswer}
 use Rattle.ira_audit.specs.AuditAnswer.{IsAuditAnswer}
 use Rattle.ira_audit.specs.LogsAnswer.{IsLogsAnswer}
-use Rattle.ira_audit.specs.Report.{report_line}
 use Rattle.ira_audit.specs.declared.answer.Answer.{Answer}
 use Rattle.ira_ring.specs.EndsWriter.{ends_text}
 use Rattle.ira_ring.specs.Run.{Run}
 use Rattle.ira_run.specs.declared.run_fault.RunFault.{RunFault}
-use Rattle.ira_words.specs.Request.{AskForCheck, AskForDecide, AskForLogs, AskForPairs, AskForRun, MayBeRefused}
+use Rattle.ira_words.specs.Request.{AskForCheck, AskForDecide, AskForLogs, AskForPairs, AskForRun, AskForUpgrade, MayBeRefused}
 use Rattle.ira_words.specs.declared.check_request.CheckRequest.{CheckRequest}
 use Rattle.ira_words.specs.declared.decide_request.DecideRequest.{DecideRequest}
 use Rattle.ira_words.specs.declared.run_request.RunRequest.{RunRequest}
+use Rattle.ira_words.specs.declared.upgrade_request.UpgradeRequest.{UpgradeRequest}
 use Rattle.ira_words.specs.declared.words_fault.WordsFault.{WordsFault}
 use Rattle.ira_main.specs.AskedRun.{IsAskedRun, IsAskedRunFault}
 use Rattle.ira_main.specs.Counted.{Reads}
 use Rattle.ira_main.specs.Decide.{Decides, decide_names}
 use Rattle.ira_main.specs.FilesRead.{IsFilesFault, ReadsFiles}
 use Rattle.ira_main.specs.LogFiles.{StopsInLogs, WritesLogs}
-use Rattle.ira_main.specs.Outcome.{GivesNoAnswer, Outcome, Prints}
+use Rattle.ira_main.specs.Outcome.{GivesNoAnswer, Outcome, Prints, Reports}
 use Rattle.ira_main.specs.ProgramFault.{run_fault, words_fault}
 use Rattle.ira_main.specs.ReadText.{IsReadTo}
 use Rattle.ira_main.specs.Shelf.{Reading, Writing}
-use Rattle.ira_main.specs.Status.{IsElectionStatus, answer_status}
+use Rattle.ira_main.specs.Status.{IsElectionStatus}
+use Rattle.ira_main.specs.Upgrade.{Upgrades}
 use Rattle.ira_main.specs.declared.program_fault.ProgramFault.{ProgramFault}
 use Rattle.ira_main.specs.declared.program_fault.ProgramFault.TheVariants.{CannotRead, CannotWriteAnswer, OutOfMemory, RingSize}
 use Rattle.ira_main.specs.declared.status.Status.{Status}
 use Rattle.ira_main.specs.declared.status.Status.TheVariants.{Yes}
-
--- the line of the answer was printed, with the answer's status
-abbrev pub Reports : Answer → SinkState → SinkState → Outcome → Type 0
-Reports answer = Prints (report_line answer) (answer_status answer)
 
 -- without words: the text that the input had left was judged, and its answer reported; or a read
 -- failed, or there was no memory, and nothing was written
@@ -113,8 +110,9 @@ pub data Records {S : Type 0} (writes : Writing S) (request : RunRequest) (shelf
 -- what is done for words: they are refused; or they ask for the logs in some files, and the texts of these are judged
 -- together; or to check the logs in some files, and their texts are judged with those of a question and of a
 -- certificate; or to decide a question of them, and it is decided of their texts; or for the question of all pairs, and
--- it is printed; or for a ring, and it is run. Or no answer is given, for a fault that the command can have. The shelf
--- is as it was but for the files of a run and a certificate's
+-- it is printed; or for a ring, and it is run; or to upgrade the logs in some files, and it is done. Or no answer is
+-- given, for a fault that the command can have. The shelf is as it was but for the files of a run and of upgraded logs, and
+-- a certificate's
 pub data Done (A : Type 0) {S : Type 0} (reads : Reading S) (writes : Writing S)
     (words : List (List ℕ)) (shelf shelf' : S) (out out' : SinkState)
     (outcome : Outcome) : Type 0 where
@@ -140,6 +138,9 @@ pub data Done (A : Type 0) {S : Type 0} (reads : Reading S) (writes : Writing S)
       → Done A reads writes words shelf shelf' out out' outcome
   recorded : (request : RunRequest) → AskForRun words request
       → Records writes request shelf shelf' out out' outcome
+      → Done A reads writes words shelf shelf' out out' outcome
+  upgraded : (upgrade : UpgradeRequest) → AskForUpgrade words upgrade
+      → Upgrades reads writes upgrade shelf shelf' out out' outcome
       → Done A reads writes words shelf shelf' out out' outcome
 
 -- without words the input is judged, and the shelf is as it was; with words the input isn't read, and what they ask

@@ -27,13 +27,15 @@ fn initiators<A: Allocator>(
         .collect(alloc)
 }
 
-// The setup of a ring of this size.
+// The setup of a ring of this size, for so many terms.
 fn setup<A: Allocator + Clone>(
     request: &RunRequest<'_>,
     alloc: A,
     nodes: RingSize,
+    terms: u32,
 ) -> Result<Setup<A>, OutOfMemory>
-    requires { nodes ≡ request.now.nodes }
+    requires size { nodes ≡ request.now.nodes }
+    requires terms { terms ≡ request.now.terms }
     ensures { IfOk result (IsAskedSetup request.now) }
 {
     Ok(Setup {
@@ -41,10 +43,12 @@ fn setup<A: Allocator + Clone>(
         initiators: initiators(request, alloc.clone()?, nodes)?,
         draws: draw_lists(alloc, nodes, request.seed, request.draws)?,
         cap: request.cap as usize,
+        terms,
     })
 }
 
-/// Runs the ring that is asked for, which has this size.
+/// Runs the ring that is asked for, which has this size. A number of terms that no setup could hold is that of one which
+/// breaks the rules.
 pub(crate) fn run<R, A>(
     request: &RunRequest<'_>,
     rt: &R,
@@ -57,11 +61,22 @@ where
     requires { nodes ≡ request.now.nodes }
     ensures { MatchResult result (IsAskedRun request.now) (IsAskedRunFault request.now) }
 {
+    let Ok(terms) = u32::try_from(request.terms) else {
+        return Err(RunFault::Setup);
+    };
     if request.is_alone {
         let initiators = initiators(request, alloc.clone()?, nodes)?;
         let cap = request.cap as usize;
-        return run_alone_seeded(alloc, nodes, &initiators, request.seed, request.draws, cap);
+        return run_alone_seeded(
+            alloc,
+            nodes,
+            &initiators,
+            request.seed,
+            request.draws,
+            cap,
+            terms,
+        );
     }
-    let setup = setup(request, alloc.clone()?, nodes)?;
+    let setup = setup(request, alloc.clone()?, nodes, terms)?;
     run_ring(rt, alloc, &setup, &OpenGate)
 }

@@ -28,7 +28,7 @@ struct InputAudit<A: Allocator> {
 
 impl<A: Allocator> Model for InputAudit<A> {
     ghost use Rattle.std.specs.Prelude.{◌+◌, ◌≤◌, ◌<◌, length, take};
-    ghost use Rattle.ira_event.specs.declared.limits.TheConstants.{MAX_TEXT};
+    ghost use Rattle.ira_event.specs.Limits.{MAX_TEXT};
     ghost use Rattle.ira_main.specs.InputAudit.{InputAudit};
 
     ghost Value = { InputAudit };

@@ -1,8 +1,7 @@
 ghost use Rattle.std.specs.Prelude.{◌≡◌, ◌⊎◌, ◌≤◌, ◌+◌, map};
-ghost use Rattle.ira_audit.specs.Report.{IsReportable};
 ghost use Rattle.ira_main.specs.FilesRead.{IsFilesFault};
 ghost use Rattle.ira_main.specs.Outcome.{GivesNoAnswer, Outcome, ReportsOutcome, outcome_number};
-ghost use Rattle.ira_main.specs.Serve.{Judges, JudgesCertified, JudgesTogether, Reports, Serves, check_names};
+ghost use Rattle.ira_main.specs.Serve.{Judges, JudgesCertified, JudgesTogether, Serves, check_names};
 ghost use Rattle.ira_main.specs.Shelf.{WritesFile};
 
 use crate::counted::Counted;
@@ -12,10 +11,11 @@ use crate::print_pairs::print_pairs;
 use crate::program_fault::{ProgramFault, report_outcome};
 use crate::read_files::{read_file, read_logs};
 use crate::record_run::record_run;
+use crate::report::report;
 use crate::shelf::Shelf;
 use crate::status::Status;
-use ira_audit::{Answer, write_report};
-use ira_event::{MAX_TEXT, Sink, WriteFault};
+use crate::upgrade_files::upgrade_files;
+use ira_event::{MAX_TEXT, Sink};
 use ira_links::OpenGate;
 use ira_words::{CheckRequest, Request, read_words};
 use std::alloc::Allocator;
@@ -23,17 +23,6 @@ use std::io::Read;
 use std::sync::Wait;
 use std::thread::Threads;
 use std::time::Clock;
-
-// Writes the answer's line, and gives the answer's status.
-fn report<'a, W: Sink>(answer: &Answer, out: &mut W) -> Result<Status, ProgramFault<'a>>
-    requires { IsReportable answer.now }
-    ensures { Reports answer.now (W.state out.old) (W.state out.new) result }
-{
-    match write_report(answer, out) {
-        Ok(()) => Ok(Status::of_answer(answer)),
-        Err(WriteFault) => Err(ProgramFault::CannotWriteAnswer),
-    }
-}
 
 // Judges the log on the input.
 fn judge_input<'a, A: Allocator, I: Read, W: Sink>(
@@ -128,12 +117,13 @@ where
         Request::Decide(decide) => decide_files(rt, alloc, &decide, shelf, out),
         Request::Pairs(nodes) => print_pairs(alloc, nodes, out),
         Request::Run(ring) => record_run(rt, alloc, &ring, shelf, out),
+        Request::Upgrade(upgrade) => upgrade_files(rt, alloc, &upgrade, shelf, out),
     }
 }
 
 /// The program: `words` are those behind its name, `input` is its standard input, the files lie on
 /// `shelf`, and `out` and `err` are its standard streams. It gives the status: 0 yes, every case absent,
-/// or a node elected; 1 no, a case present, or none elected; 2 refused words, a refused ring, a failed read or
+/// a node elected, or logs upgraded; 1 no, a case present, or none elected; 2 refused words, a refused ring, a failed read or
 /// write, or a certificate past the limits; 3 out of memory. A failed write to `err` changes no status.
 ///
 /// Without words it judges the log on `input`, of which it reads at most one byte more than
@@ -141,8 +131,8 @@ where
 /// files together; `check` judges them with the question and the certificate in the files of its options; `decide`
 /// decides the question of them, and writes a certificate to a file if one is named and all cases are absent;
 /// `pairs` and a number prints the question of all pairs of nodes; `run` and its options runs a ring and writes the
-/// logs of its nodes to files; and all other words are refused. `logs`, `check` and `decide` read the logs on threads,
-/// `check` judges a section on some, and a run without `--alone` has a thread for each node; all of them are waited for.
+/// logs of its nodes to files; `upgrade` writes the logs in those files in version 2, each to a file of its folder; and all
+/// other words are refused. `logs`, `check`, `decide` and `upgrade` read the logs on threads, `check` judges a section on some, and a run without `--alone` has a thread for each node; all of them are waited for.
 pub fn serve<R, A, I, F, W, V>(
     rt: &R,
     alloc: A,

@@ -20,7 +20,7 @@ pub struct TextBuffer<A: Allocator> {
 
 impl<A: Allocator> Model for TextBuffer<A> {
     ghost use Rattle.std.specs.Prelude.{ℕ, ◌≤◌, ◌+◌, List, length, take};
-    ghost use Rattle.ira_event.specs.declared.limits.TheConstants.{MAX_TEXT};
+    ghost use Rattle.ira_event.specs.Limits.{MAX_TEXT};
 
     ghost Value = { List ℕ };
 

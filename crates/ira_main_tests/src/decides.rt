@@ -105,7 +105,7 @@ fn pairs_of_three(rt: HostRuntime) {
 
 #[test]
 fn pairs_of_no_ring(rt: HostRuntime) {
-    for number in ["0", "1", "65", "258", "18446744073709551615"] {
+    for number in ["0", "1", "256", "258", "18446744073709551615"] {
         let mut input = Counted::new(Input::empty());
         let words = ["pairs", number];
         assert_served(&rt, &words, &[], &mut input, 2, "", "ira: ring size\n");

@@ -82,6 +82,13 @@ impl<'a> MemoryShelf<'a> {
             })
     }
 
+    /// Whether all files that were written begin so.
+    pub(crate) fn written_begin(&self, first: &[u8]) -> bool {
+        self.written
+            .iter()
+            .all(|file| file.bytes.starts_with(first))
+    }
+
     /// Compares the files that were written, in their order.
     pub(crate) fn assert_written(&self, rt: &impl Abort, files: &[(&str, &str)]) {
         assert!(rt; self.has_written(files));

@@ -27,7 +27,7 @@ fn assert_kept(
 #[test]
 fn certificates_at_the_limit(rt: HostRuntime) -> Result<(), Fail> {
     let mut sections = Vec::new(rt.alloc());
-    for _ in 0..2_017 {
+    for _ in 0..32_386 {
         sections.push(Section {
             steps: Vec::new(rt.alloc()),
             spent: 0,
@@ -40,7 +40,7 @@ fn certificates_at_the_limit(rt: HostRuntime) -> Result<(), Fail> {
     assert!(rt; certificate.sections.pop().is_some());
     let mut text = TextBuffer::new(rt.alloc());
     assert_kept(&rt, &certificate, 0, "").read("c", &mut text)?;
-    // the head, 2,016 sections of 16 bytes, and the last line
-    assert_eq!(rt; text.bytes().len(), 17 + 2_016 * 16 + 4);
+    // the head, 32,385 sections of 16 bytes, and the last line
+    assert_eq!(rt; text.bytes().len(), 17 + 32_385 * 16 + 4);
     Ok(())
 }

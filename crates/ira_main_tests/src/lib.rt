@@ -28,4 +28,6 @@ mod runs;
 #[cfg(test)]
 mod samples;
 #[cfg(test)]
+mod upgrades;
+#[cfg(test)]
 mod words;

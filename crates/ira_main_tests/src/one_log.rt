@@ -61,6 +61,7 @@ fn log_text_table(rt: HostRuntime) {
         "irlog 3\nnodes 2\nplace 0\nstart initiator\nend 0\n",
         "irlog 1\nnodes 1\nplace 0\nstart initiator\nend 0\n",
         "irlog 1\nnodes 65\nplace 0\nstart initiator\nend 0\n",
+        "irlog 2\nnodes 256\nplace 0\nstart initiator\nend 0\n",
         "irlog 1\nnodes 2\nplace 2\nstart initiator\nend 0\n",
     ] {
         assert_judged(&rt, [text, ""], "no: log 0: head\n");

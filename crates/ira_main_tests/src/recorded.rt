@@ -45,6 +45,7 @@ fn setup_of(
         initiators: initiators.to_vec(alloc)?,
         draws: lists_of(alloc, draws)?,
         cap,
+        terms: 1,
     })
 }
 

@@ -4,7 +4,8 @@
 
 use crate::fakes::{File, Input, Memory, MemoryShelf, NEVER, served, served_amply};
 use crate::samples::{
-    ELECTED_0, ELECTED_1, LEADER_AND_ACTIVE, PAIRS_OF_THREE, TWO_CASES, TWO_STEPS,
+    ELECTED_0, ELECTED_1, LEADER_AND_ACTIVE, PAIRS_OF_THREE, TWO_CASES, TWO_STEPS, UPGRADED_0,
+    UPGRADED_1,
 };
 use ira_main::Counted;
 use ira_refusing::each_growth_refused;
@@ -85,6 +86,12 @@ const CASES: &[Case] = &[
         status: 0,
         out: "node 0: leader, 4 events\nnode 1: quiet, 4 events\n",
         written: ELECTION,
+    },
+    Case {
+        words: &["upgrade", "--out=d", "0.log", "1.log"],
+        status: 0,
+        out: "upgraded 2 logs\n",
+        written: &[("d/0.log", UPGRADED_0), ("d/1.log", UPGRADED_1)],
     },
 ];
 

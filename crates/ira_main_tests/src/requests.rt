@@ -23,6 +23,7 @@ fn numbers_of_a_run(rt: HostRuntime) {
         "--draws=100000",
         "--cap",
         "4294967297",
+        "--terms=4294967301",
         "--initiators=4294967299",
     ];
     let asked = ring(&rt, rt.alloc(), &words);
@@ -31,6 +32,7 @@ fn numbers_of_a_run(rt: HostRuntime) {
     assert_eq!(rt; asked.folder, "d");
     assert_eq!(rt; asked.draws, 100_000);
     assert_eq!(rt; asked.cap, 4_294_967_297);
+    assert_eq!(rt; asked.terms, 4_294_967_301);
     assert_eq!(rt; asked.initiators, Some(4_294_967_299));
     assert!(rt; !asked.is_alone);
 }
@@ -50,6 +52,7 @@ fn options_that_are_left_out(rt: HostRuntime) {
     assert_eq!(rt; asked.folder, "a b");
     assert_eq!(rt; asked.draws, 64);
     assert_eq!(rt; asked.cap, 10_000);
+    assert_eq!(rt; asked.terms, 1);
     assert_eq!(rt; asked.initiators, None);
     assert!(rt; asked.is_alone);
 }

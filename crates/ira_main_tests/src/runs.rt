@@ -2,7 +2,7 @@
 
 use crate::fakes::{File, Input, MemoryShelf, NEVER, Output, assert_served_on, served_amply};
 use crate::full_device::assert_unanswered;
-use crate::samples::{ELECTED_0, ELECTED_1, LONE_0, LONE_1, LONE_2};
+use crate::samples::{ELECTED_0, ELECTED_1, LONE_0, LONE_1, LONE_2, SECOND_TERM_0, SECOND_TERM_1};
 use ira_main::Counted;
 use std::alloc::{AllocError, Global};
 use std::process::Abort;
@@ -102,6 +102,7 @@ fn two_node_election(rt: HostRuntime) {
                 "run",
                 "--draws=1",
                 "--cap=4",
+                "--terms=1",
                 "--nodes=2",
                 "--seed=7",
                 "--alone",
@@ -173,7 +174,7 @@ fn full_logs_and_bad_setups(rt: HostRuntime) {
     for nodes in [
         "--nodes=0",
         "--nodes=1",
-        "--nodes=65",
+        "--nodes=256",
         "--nodes=258",
         "--nodes=18446744073709551615",
     ] {
@@ -187,6 +188,41 @@ fn full_logs_and_bad_setups(rt: HostRuntime) {
         ];
         assert_refused(&rt, &words, "ira: ring size\n");
     }
+}
+
+/// Node 0 is elected, and then node 1: each draws a 1 and a 2.
+#[test]
+fn second_term(rt: HostRuntime) {
+    let words = [
+        "run",
+        "--nodes=2",
+        "--seed=17",
+        "--draws=2",
+        "--out=d",
+        "--terms=2",
+        "--alone",
+    ];
+    let logs = [("d/0.log", SECOND_TERM_0), ("d/1.log", SECOND_TERM_1)];
+    let ends = "node 0: stopped, 11 events\nnode 1: leader, 10 events\n";
+    assert_run(&rt, &words[..6], &[], 0, ends, "", &logs);
+    let ends = "node 0: quiet, 11 events\nnode 1: leader, 10 events\n";
+    assert_run(&rt, &words, &[], 0, ends, "", &logs);
+}
+
+#[test]
+fn terms_out_of_range(rt: HostRuntime) {
+    for terms in [
+        "--terms=0",
+        "--terms=1000001",
+        "--terms=4294967297",
+        "--terms=18446744073709551615",
+    ] {
+        let words = ["run", "--nodes=2", "--seed=7", "--out=d", terms, "--alone"];
+        assert_refused(&rt, &words[..5], "ira: run refused 1\n");
+        assert_refused(&rt, &words, "ira: run refused 1\n");
+    }
+    let words = ["run", "--nodes=256", "--seed=7", "--out=d", "--terms=0"];
+    assert_refused(&rt, &words, "ira: ring size\n");
 }
 
 #[test]
@@ -249,13 +285,45 @@ fn words_of_logs(alloc: Global, nodes: u8) -> Result<Vec<String>, Fail> {
 }
 
 #[test]
+fn three_terms(rt: HostRuntime) {
+    let words = [
+        "run",
+        "--nodes=3",
+        "--seed=7",
+        "--terms=3",
+        "--out=d",
+        "--alone",
+    ];
+    for (words, ends) in [
+        (
+            &words[..5],
+            "node 0: stopped, 36 events\nnode 1: stopped, 37 events\nnode 2: leader, 40 events\n",
+        ),
+        (
+            words.as_slice(),
+            "node 0: quiet, 36 events\nnode 1: quiet, 37 events\nnode 2: leader, 40 events\n",
+        ),
+    ] {
+        let mut shelf = MemoryShelf::new(rt.alloc(), &[]);
+        let found = done(&rt, words, &mut shelf);
+        assert_eq!(rt; found.out.bytes(), ends.as_bytes());
+        assert!(rt; shelf.written_begin(b"irlog 2\nnodes 3\n".as_slice()));
+        let logs = ["logs", "d/0.log", "d/1.log", "d/2.log"];
+        let answer = done(&rt, &logs, &mut shelf);
+        assert_eq!(rt; answer.out.bytes(), b"yes\n".as_slice());
+    }
+}
+
+#[test]
 fn largest_ring(rt: HostRuntime) -> Result<(), Fail> {
-    let run = ["run", "--nodes=64", "--seed=7", "--out=d", "--alone"];
-    let words = words_of_logs(rt.alloc(), 64)?;
+    let run = ["run", "--nodes=255", "--seed=7", "--out=d", "--alone"];
+    let words = words_of_logs(rt.alloc(), 255)?;
     let logs = borrowed(rt.alloc(), &words)?;
     let mut shelf = MemoryShelf::new(rt.alloc(), &[]);
     let ends = done(&rt, &run, &mut shelf);
+    let is_later = shelf.written_begin(b"irlog 2\nnodes 255\n".as_slice());
     let answer = done(&rt, &logs, &mut shelf);
-    assert!(rt; ends.out.bytes().ends_with(b"\n") && answer.out.bytes() == b"yes\n".as_slice());
+    let is_yes = answer.out.bytes() == b"yes\n".as_slice();
+    assert!(rt; ends.out.bytes().ends_with(b"\n") && is_later && is_yes);
     Ok(())
 }

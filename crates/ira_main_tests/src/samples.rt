@@ -9,6 +9,15 @@ pub(crate) const ELECTED_1: &str =
     "irlog 1\nnodes 2\nplace 1\nstart initiator\ndraw 1\nsend 1 1 1 clean\n\
                          recv 1 2 1 clean\nsend 1 2 2 clean\nend 4\n";
 
+/// The same logs in version 2.
+pub(crate) const UPGRADED_0: &str =
+    "irlog 2\nnodes 2\nplace 0\nstart initiator\ndraw 2\nsend 1 2 1 clean\n\
+                          recv 1 1 1 clean\nrecv 1 2 2 clean\nend 4\n";
+
+pub(crate) const UPGRADED_1: &str =
+    "irlog 2\nnodes 2\nplace 1\nstart initiator\ndraw 1\nsend 1 1 1 clean\n\
+                          recv 1 2 1 clean\nsend 1 2 2 clean\nend 4\n";
+
 /// Both draw 1, and again in round 2: node 0 is elected.
 pub(crate) const TIED_0: &str =
     "irlog 1\nnodes 2\nplace 0\nstart initiator\ndraw 1\nsend 1 1 1 clean\n\

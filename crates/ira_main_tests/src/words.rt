@@ -11,7 +11,8 @@ const USAGE: &str = "\n\nUsage: ira < LOG\n       ira logs <LOG>...\n       \
                      ira check --question <Q> --cert <C> [--depth <D>] <LOG>...\n       \
                      ira decide --question <Q> [--out <C>] <LOG>...\n       \
                      ira pairs <N>\n       \
-                     ira run --nodes <N> --seed <S> --out <DIR> [OPTIONS]\n\n\
+                     ira run --nodes <N> --seed <S> --out <DIR> [OPTIONS]\n       \
+                     ira upgrade --out <DIR> <LOG>...\n\n\
                      For more information, try '--help'.\n";
 
 /// What ends most refusals.
@@ -38,7 +39,7 @@ fn words_that_are_no_command(rt: HostRuntime) {
         (
             "--",
             "error: 'ira' requires a subcommand but one was not provided\n  \
-             [subcommands: logs, check, decide, pairs, run, help]",
+             [subcommands: logs, check, decide, pairs, run, upgrade, help]",
         ),
     ] {
         assert_refused(&rt, &[word], first_line, USAGE);
@@ -59,19 +60,21 @@ fn help_is_a_refused_word(rt: HostRuntime) {
                 ira check --question <Q> --cert <C> [--depth <D>] <LOG>...\n       \
                 ira decide --question <Q> [--out <C>] <LOG>...\n       \
                 ira pairs <N>\n       \
-                ira run --nodes <N> --seed <S> --out <DIR> [OPTIONS]\n\n\
+                ira run --nodes <N> --seed <S> --out <DIR> [OPTIONS]\n       \
+                ira upgrade --out <DIR> <LOG>...\n\n\
                 Commands:\n\
-                \x20 logs    Judges the logs of all nodes of a ring together\n\
-                \x20 check   Judges logs together with a certificate that no moment met a case of a question\n\
-                \x20 decide  Decides for each case of a question whether some moment of the logged run met it\n\
-                \x20 pairs   Prints the question whether two nodes of a ring ever lead at once\n\
-                \x20 run     Runs an election, and writes the log of each node to a file\n\
-                \x20 help    Print this message or the help of the given subcommand(s)\n\n\
+                \x20 logs     Judges the logs of all nodes of a ring together\n\
+                \x20 check    Judges logs together with a certificate that no moment met a case of a question\n\
+                \x20 decide   Decides for each case of a question whether some moment of the logged run met it\n\
+                \x20 pairs    Prints the question whether two nodes of a ring ever lead at once\n\
+                \x20 run      Runs an election, and writes the log of each node to a file\n\
+                \x20 upgrade  Writes the logs of all nodes of a ring in version 2, each to a file\n\
+                \x20 help     Print this message or the help of the given subcommand(s)\n\n\
                 Options:\n  -h, --help  Print help\n\n\
                 Without words ira judges the log of one node, on standard input. It prints \
-                `yes`, or `no` and\nthe first reason. The status is 0 for yes, absent cases or an \
-                elected leader, 1 for no, a case\nthat is present or no leader, 2 for refused words, a \
-                refused ring, a failed read or a failed\nwrite, 3 out of memory.\n";
+                `yes`, or `no` and\nthe first reason. The status is 0 for yes, absent cases, an \
+                elected leader or upgraded logs,\n1 for no, a case that is present or no leader, 2 for refused \
+                words, a refused ring, a failed\nread or a failed write, 3 out of memory.\n";
     for words in [
         &["--help"].as_slice(),
         &["-h"].as_slice(),
@@ -117,6 +120,10 @@ fn options_of_a_run(rt: HostRuntime) {
             "error: a value is required for '--cap <C>' but none was supplied",
         ),
         (
+            "--terms=-1",
+            "error: invalid value '-1' for '--terms <T>': invalid digit found in string",
+        ),
+        (
             "--seed=7",
             "error: the argument '--seed <S>' cannot be used multiple times\n\n\
              Usage: ira run [OPTIONS] --nodes <N> --seed <S> --out <DIR>",
@@ -159,13 +166,36 @@ fn help_of_a_run(rt: HostRuntime) {
     let help = "Runs an election, and writes the log of each node to a file\n\n\
                 Usage: ira run [OPTIONS] --nodes <N> --seed <S> --out <DIR>\n\n\
                 Options:\n\
-                \x20     --nodes <N>       How many nodes the ring has, 2 to 64\n\
+                \x20     --nodes <N>       How many nodes the ring has, 2 to 255\n\
                 \x20     --seed <S>        The number that all draws come from\n\
                 \x20     --out <DIR>       The folder, which exists, for the logs 0.log, 1.log and so on\n\
                 \x20     --initiators <M>  How many nodes begin, from node 0 on; all if not given\n\
                 \x20     --draws <K>       How many IDs each node is given to draw, 0 to 100000 [default: 64]\n\
                 \x20     --cap <C>         The most records of a log, 1 to 100000 [default: 10000]\n\
+                \x20     --terms <T>       How many terms, 1 to 1000000; each leader but the last yields [default: 1]\n\
                 \x20     --alone           Run all nodes on one thread\n\
                 \x20 -h, --help            Print help\n";
     assert_refused(&rt, &["run", "--help"], help, "");
+}
+
+#[test]
+fn upgrade_without_its_words(rt: HostRuntime) {
+    let text =
+        "error: the following required arguments were not provided:\n  --out <DIR>\n  <LOG>...\n\n\
+                Usage: ira upgrade --out <DIR> <LOG>...";
+    assert_refused(&rt, &["upgrade"], text, TRY_HELP);
+    let text = "error: the following required arguments were not provided:\n  <LOG>...\n\n\
+                Usage: ira upgrade --out <DIR> <LOG>...";
+    assert_refused(&rt, &["upgrade", "--out=d"], text, TRY_HELP);
+}
+
+#[test]
+fn help_of_an_upgrade(rt: HostRuntime) {
+    let help = "Writes the logs of all nodes of a ring in version 2, each to a file\n\n\
+                Usage: ira upgrade --out <DIR> <LOG>...\n\n\
+                Arguments:\n  <LOG>...  A file with the log of a node, in the order of the ring's places\n\n\
+                Options:\n\
+                \x20     --out <DIR>  The folder, which exists, for the logs 0.log, 1.log and so on\n\
+                \x20 -h, --help       Print help\n";
+    assert_refused(&rt, &["upgrade", "--help"], help, "");
 }

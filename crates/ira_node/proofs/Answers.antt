@@ -12,12 +12,12 @@ use Rattle.ira_node.specs.declared.phase.Phase.{Phase}
 use Rattle.ira_node.specs.declared.phase.Phase.TheVariants.{Choosing, Active, Passive, Leader, Yielding}
 use Rattle.ira_node.specs.declared.node_state.NodeState.{NodeState}
 use Rattle.ira_node.specs.declared.step_fault.StepFault.{StepFault}
-use Rattle.ira_node.specs.declared.step_fault.StepFault.TheVariants.{Owes, MustDraw, NotChoosing, DrawRange, Ended, HopPast, RoundLimit, HopLimit, WrongReset, NotReset, TermLimit}
+use Rattle.ira_node.specs.declared.step_fault.StepFault.TheVariants.{Owes, MustDraw, NotChoosing, DrawRange, Ended, HopPast, RoundLimit, HopLimit, WrongReset, TermLimit}
 use Rattle.ira_node.specs.Msg.{first_message, raised, dirtied, IsGreater, IsLess, IsEqual}
 use Rattle.ira_node.specs.NodeState.{free, owing, IsLeader, Receives}
 use Rattle.ira_node.specs.NodeStep.{NodeStep, sends, draws, passes, gives_in, purges, meets, ties, wins, yields, restarts, comes_home, HasStep}
 use Rattle.ira_node.specs.NodeStepFault.{IsSending, PassesOn, IsDue, NodeStepFault, ended, last_yield, owes, another, nothing_owed, not_leader, must_draw, draw_range, not_choosing, hop_limit, hop_past, round_limit, wrong_reset, last_reset, not_reset}
-use Rattle.ira_node.specs.StepAnswer.{advance_answer, same_msg, same_load, is_greater, is_less, own_pair_answer, passed, compared, reset_answer, restart_answer, drawn_answer, free_answer, leading_answer, sent_answer, step_answer, answer}
+use Rattle.ira_node.specs.StepAnswer.{advance_answer, same_msg, same_load, is_greater, is_less, own_pair_answer, passed, compared, message_answer, message_fault, restart_answer, drawn_answer, free_answer, leading_answer, sent_answer, step_answer, answer}
 
 -- an answer is a step or a fault of the relations
 abbrev Judged : ℕ → NodeState → Event → Result NodeState StepFault → Type 0
@@ -72,6 +72,14 @@ loads_decided k l = loads_decided_by k l (same_load k l) refl
 
 other_load : (l k : Load) → k ≢ l → same_load k l ≡ false
 other_load l k ne = false_from_ne_true (same_load k l) (λ h. ne (same_load_means k l h))
+
+-- a node that is neither active nor passive takes no message
+pub takes_none : (n term : ℕ) (phase : Phase) (m : Msg) → ((round id : ℕ) → phase ≢ Active round id) → phase ≢ Passive → Err (message_fault phase) ≡ message_answer n term phase m
+takes_none n term (Choosing round) m active passive = refl
+takes_none n term (Active round id) m active passive = absurd (active round id refl)
+takes_none n term Passive m active passive = absurd (passive refl)
+takes_none n term (Leader round id) m active passive = refl
+takes_none n term Yielding m active passive = refl
 
 -- ---- each answer is a step or a fault
 

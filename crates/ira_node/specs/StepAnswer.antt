@@ -69,6 +69,12 @@ message_answer n term Passive m = passed term m
 message_answer n term (Leader round id) m = Err Ended
 message_answer n term Yielding m = Err NotReset
 
+-- why a node takes no message that is neither active nor passive
+abbrev pub message_fault : Phase → StepFault
+message_fault (Choosing round) = MustDraw
+message_fault (Leader round id) = Ended
+message_fault _ = NotReset
+
 -- a node that owes nothing got a reset
 abbrev pub restart_answer : ℕ → ℕ → Phase → ℕ → Result NodeState StepFault
 restart_answer n term (Choosing round) h = Err MustDraw

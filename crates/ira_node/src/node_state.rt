@@ -4,7 +4,7 @@ ghost use Rattle.ira_event.specs.RingSize.{IsRingSize};
 ghost use Rattle.ira_node.specs.NodeState.{first_state, free, IsLeader};
 ghost use Rattle.ira_node.specs.NodeStep.{NodeStep};
 ghost use Rattle.ira_node.specs.NodeStepFault.{NodeStepFault};
-ghost use Rattle.ira_node.specs.StepAnswer.{advance_answer, step_answer, leading_answer, sent_answer, free_answer, drawn_answer, message_answer, restart_answer, compared, own_pair_answer, passed};
+ghost use Rattle.ira_node.specs.StepAnswer.{advance_answer, step_answer, leading_answer, sent_answer, free_answer, drawn_answer, message_answer, message_fault, restart_answer, compared, own_pair_answer, passed};
 ghost use Rattle.ira_node.specs.Wanted.{wanted_of, IsOfKind, CanCome};
 
 use crate::phase::Phase;
@@ -182,12 +182,26 @@ impl NodeState {
         ensures value { advance_answer result self.new ≡ message_answer nodes self.old.term self.old.phase message.now }
         ensures err { OnErr result (self.new ≡ self.old) }
     {
+        // Two tests: a `match` of so many phases would jump by a table.
+        if let Phase::Active { round, id } = self.phase {
+            return self.compare(nodes, round, id, message);
+        }
+        if let Phase::Passive = self.phase {
+            return self.pass(message);
+        }
+        Err(self.message_fault())
+    }
+
+    /// Why a node takes no message that is neither active nor passive.
+    #[cold]
+    #[inline(never)]
+    fn message_fault(&self) -> StepFault
+        ensures { result ≡ message_fault self.now.phase }
+    {
         match self.phase {
-            Phase::Choosing { .. } => Err(StepFault::MustDraw),
-            Phase::Active { round, id } => self.compare(nodes, round, id, message),
-            Phase::Passive => self.pass(message),
-            Phase::Leader { .. } => Err(StepFault::Ended),
-            Phase::Yielding => Err(StepFault::NotReset),
+            Phase::Choosing { .. } => StepFault::MustDraw,
+            Phase::Leader { .. } => StepFault::Ended,
+            Phase::Active { .. } | Phase::Passive | Phase::Yielding => StepFault::NotReset,
         }
     }
 

@@ -19,5 +19,7 @@ pub mod Rounds
 pub mod Rows
 pub mod Runs
 pub mod RunsOfLogs
+pub mod SameEvents
 pub mod Stamping
 pub mod Stuck
+pub mod Upgraded

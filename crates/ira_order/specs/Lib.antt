@@ -12,4 +12,5 @@ pub mod Run
 pub mod RunsOfLogs
 pub mod OrderPrefix
 pub mod Stamps
+pub mod Upgrade
 pub mod VectorClock

@@ -1,4 +1,5 @@
 ghost use Rattle.ira_order.specs.Laws.{OrdersMeanEvents, OrdersAreRuns, RunsAreOrders, UnmatchedLogsHaveNoRun, CircledLogsHaveNoRun, FaultyLogsHaveNoRun, MomentsAreCuts, CutsAreMoments, EventsHaveCounts, HappenedBeforeIsDecided, CountsAreCuts, CountsAreLeast, JoinsAreCuts, MeetsAreCuts};
+ghost use Rattle.ira_order.specs.Upgrade.{UpgradesKeepPairs, UpgradesKeepMatching, UpgradesKeepBefore, UpgradesKeepOrders, UpgradesKeepCuts, UpgradesKeepConsistentCuts};
 
 /// A law: an order means a list of events.
 pub fn orders_mean_events()
@@ -54,4 +55,19 @@ pub fn counts_are_cuts()
 pub fn cuts_are_a_lattice()
     ensures join { JoinsAreCuts }
     ensures meet { MeetsAreCuts }
+{}
+
+/// A law: the pairs and orders of upgraded logs are those of the old ones, and so is what happened before
+/// what.
+pub fn upgrades_keep_orders()
+    ensures pairs { UpgradesKeepPairs }
+    ensures matching { UpgradesKeepMatching }
+    ensures before { UpgradesKeepBefore }
+    ensures orders { UpgradesKeepOrders }
+{}
+
+/// A law: the cuts of upgraded logs, and those among them that are consistent, are those of the old ones.
+pub fn upgrades_keep_cuts()
+    ensures cuts { UpgradesKeepCuts }
+    ensures consistent { UpgradesKeepConsistentCuts }
 {}

@@ -16,6 +16,7 @@ mod tally;
 pub use laws::{
     counts_are_cuts, cuts_are_a_lattice, cuts_are_moments, events_have_counts, moments_are_cuts,
     orders_are_runs, orders_mean_events, refused_logs_have_no_run, runs_are_orders,
+    upgrades_keep_cuts, upgrades_keep_orders,
 };
 pub use links::match_links;
 pub use match_fault::MatchFault;

@@ -4,6 +4,7 @@ pub mod ClausesTaken
 pub mod Depths
 pub mod EachText
 pub mod Meanings
+pub mod MemoryFaults
 pub mod PairCases
 pub mod PairOrder
 pub mod QuestionAnswers

@@ -115,15 +115,15 @@ pairs-some n h =
 
 -- ---- how long their text is
 
-place-short : (n : ℕ) → n < MAX_NODES → length (conjunct_text (record { place = n; formula = leader })) ≤ 11
+place-short : (n : ℕ) → n < MAX_NODES → length (conjunct_text (record { place = n; formula = leader })) ≤ 12
 place-short n h =
-    let digits = length-decimal-le 2 n (omega arith) (omega arith) (omega arith) in
+    let digits = length-decimal-le 3 n (omega arith) (omega arith) (omega arith) in
     let a = length-append (decimal n ++ codes ": " ++ codes "leader") (codes "\n") in
     let b = length-append (decimal n ++ codes ": ") (codes "leader") in
     let c = length-append (decimal n) (codes ": ") in
     omega arith
 
-case-short : (i j : ℕ) → i < MAX_NODES → j < MAX_NODES → length (case_text (pair_case i j)) ≤ 27
+case-short : (i j : ℕ) → i < MAX_NODES → j < MAX_NODES → length (case_text (pair_case i j)) ≤ 29
 case-short i j low high =
     let one = conjunct_text (record { place = i; formula = leader }) in
     let two = conjunct_text (record { place = j; formula = leader }) in
@@ -134,20 +134,20 @@ case-short i j low high =
     let second = place-short j high in
     omega arith
 
-texts-short : (cases : List (List Conjunct)) → All (λ x. length (case_text x) ≤ 27) cases → length (flat_map case_text cases) ≤ 27 * length cases
+texts-short : (cases : List (List Conjunct)) → All (λ x. length (case_text x) ≤ 29) cases → length (flat_map case_text cases) ≤ 29 * length cases
 texts-short [] h = omega arith
 texts-short (x ∷ xs) h =
-    let first = All-head (λ y. length (case_text y) ≤ 27) x xs h in
-    let rest = texts-short xs (All-tail (λ y. length (case_text y) ≤ 27) x xs h) in
+    let first = All-head (λ y. length (case_text y) ≤ 29) x xs h in
+    let rest = texts-short xs (All-tail (λ y. length (case_text y) ≤ 29) x xs h) in
     let both = length-append (case_text x) (flat_map case_text xs) in
     omega arith
 
 pub pairs-short : (n : ℕ) → n ≤ MAX_NODES → IsShort (pairs_asked n)
 pairs-short n h =
     let cases = (pairs_asked n).cases in
-    let each = texts-short cases (All-pairs (λ x. length (case_text x) ≤ 27) n (λ i j low high. case-short i j (omega arith) (omega arith))) in
+    let each = texts-short cases (All-pairs (λ x. length (case_text x) ≤ 29) n (λ i j low high. case-short i j (omega arith) (omega arith))) in
     let count = pairs-count n h in
-    let digits = length-decimal-le 2 n (omega arith) (omega arith) (omega arith) in
+    let digits = length-decimal-le 3 n (omega arith) (omega arith) (omega arith) in
     let head = codes "irask 1\n" ++ codes "nodes " in
     let a = length-append (head ++ decimal n ++ codes "\n" ++ flat_map case_text cases) (codes "end\n") in
     let b = length-append (head ++ decimal n ++ codes "\n") (flat_map case_text cases) in

@@ -2,6 +2,7 @@
 use Rattle.std.specs.Prelude.{◌≡◌, ◌<◌, ◌↔◌, ◌⊎◌, ℕ, List}
 use Rattle.ira_pred.specs.Limits.{MAX_DEPTH}
 use Rattle.ira_pred.specs.declared.ask_fault.AskFault.{AskFault}
+use Rattle.ira_pred.specs.declared.ask_fault.AskFault.TheVariants.{OutOfMemory}
 use Rattle.ira_pred.specs.Formula.{Formula, depth}
 use Rattle.ira_pred.specs.Question.{Asked, IsQuestion}
 use Rattle.ira_pred.specs.QuestionText.{IsClauseText, IsQuestionText, question_text, IsShort}
@@ -30,3 +31,7 @@ NoTextHasTwoFaults = (text : List ℕ) (f g : AskFault) → QuestionTextFault te
 -- each text is a question's, or has a fault
 abbrev pub EachTextHasAnAnswer : Type 0
 EachTextHasAnAnswer = (text : List ℕ) → ((q : Asked) × IsQuestionText text q) ⊎ ((f : AskFault) × QuestionTextFault text f)
+
+-- to be out of memory is no fault of a text
+abbrev pub NoTextIsOutOfMemory : Type 0
+NoTextIsOutOfMemory = (text : List ℕ) → ¬ (QuestionTextFault text OutOfMemory)

@@ -1,5 +1,5 @@
 //! Laws over the definitions: each is the contract of a function that does nothing.
-ghost use Rattle.ira_pred.specs.QuestionLaws.{EachQuestionHasOneText, NoTextIsTwoQuestions, NoQuestionTextHasFaults, NoTextHasTwoFaults, EachTextHasAnAnswer, TextsAreAsDeepAsClauses};
+ghost use Rattle.ira_pred.specs.QuestionLaws.{EachQuestionHasOneText, NoTextIsTwoQuestions, NoQuestionTextHasFaults, NoTextHasTwoFaults, NoTextIsOutOfMemory, EachTextHasAnAnswer, TextsAreAsDeepAsClauses};
 
 /// Each question has exactly one text, if that isn't too long.
 pub fn each_question_has_one_text()
@@ -16,9 +16,10 @@ pub fn texts_are_as_deep_as_clauses()
     ensures { TextsAreAsDeepAsClauses }
 {}
 
-/// A text has one answer: it is a question's, or it has one fault.
+/// A text has one answer: it is a question's, or it has one fault, which isn't that memory ran out.
 pub fn a_question_text_has_one_answer()
     ensures answer { EachTextHasAnAnswer }
     ensures question_or_fault { NoQuestionTextHasFaults }
     ensures one_fault { NoTextHasTwoFaults }
+    ensures memory { NoTextIsOutOfMemory }
 {}

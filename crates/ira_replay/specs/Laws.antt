@@ -3,9 +3,10 @@ use Rattle.std.specs.Prelude.{◌≡◌, ◌↔◌, ℕ, ◌≤◌, List, length
 use Rattle.ira_event.specs.declared.event.Event.{Event}
 use Rattle.ira_event.specs.declared.event.Event.TheVariants.{Draw, Sent, Got, Yield}
 use Rattle.ira_event.specs.Log.{Log}
+use Rattle.ira_event.specs.Upgrade.{upgraded}
 use Rattle.ira_node.specs.declared.node_state.NodeState.{NodeState}
 use Rattle.ira_replay.specs.LocalRun.{LeadsTo, IsLocalRun}
-use Rattle.ira_replay.specs.StatesOfLog.{AreStates}
+use Rattle.ira_replay.specs.StatesOfLog.{AreStates, AreStatesOfLog}
 
 -- events have one list of states
 abbrev pub OneListOfStates : Type 0
@@ -30,3 +31,7 @@ abbrev pub LocalRunsGoOnAlike : Type 0
 LocalRunsGoOnAlike =
     (a b : Log) (k : ℕ) (e f : Event) → IsLocalRun a → IsLocalRun b → a.nodes ≡ b.nodes → a.initiator ≡ b.initiator
     → take k a.events ≡ take k b.events → slice_get a.events k ≡ Some e → slice_get b.events k ≡ Some f → AreAlike e f
+
+-- an upgraded log has the states of the old one
+abbrev pub UpgradesKeepStates : Type 0
+UpgradesKeepStates = (log : Log) (states : List NodeState) → AreStatesOfLog (upgraded log) states ↔ AreStatesOfLog log states

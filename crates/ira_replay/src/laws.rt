@@ -1,4 +1,4 @@
-ghost use Rattle.ira_replay.specs.Laws.{OneListOfStates, StatesAreReached, LocalRunsGoOnAlike};
+ghost use Rattle.ira_replay.specs.Laws.{OneListOfStates, StatesAreReached, LocalRunsGoOnAlike, UpgradesKeepStates};
 
 /// A law: events have one list of states from a given first state.
 pub fn one_list_of_states()
@@ -16,4 +16,9 @@ pub fn states_are_reached()
 /// with two draws, two receipts, two yields, or two sendings of one load.
 pub fn local_runs_go_on_alike()
     ensures { LocalRunsGoOnAlike }
+{}
+
+/// A law: an upgraded log has the states of the old one.
+pub fn upgrades_keep_states()
+    ensures { UpgradesKeepStates }
 {}

@@ -222,6 +222,7 @@ fn rising_setup(rt: &(impl Abort + AllocGlobal)) -> Setup<Global> {
         initiators: vec![in rt.alloc(); true; 64].expect(rt, "memory"),
         draws,
         cap: 100,
+        terms: 1,
     }
 }
 

@@ -55,6 +55,7 @@ impl Given {
             initiators,
             draws,
             cap: 100,
+            terms: 1,
         };
         Given { largest, setup }
     }
@@ -71,7 +72,7 @@ impl Given {
             Call::RunAlone => has_answered(run_alone(alloc, setup)),
             Call::RunAloneSeeded => {
                 let nodes = setup.nodes;
-                has_answered(run_alone_seeded(alloc, nodes, &[true, true], 7, 100, 100))
+                has_answered(run_alone_seeded(alloc, nodes, &[true, true], 7, 100, 100, 1))
             }
             Call::RunRing => has_run(rt, alloc, setup),
         }
@@ -112,7 +113,7 @@ impl Writer for Ends<'_> {
 #[test]
 fn sink_fails_behind_each_byte(rt: HostRuntime) {
     let nodes = RingSize::new(2).expect(&rt, "a ring of two");
-    let run = run_alone_seeded(rt.alloc(), nodes, &[true, true], 7, 1, 100).expect(&rt, "a run");
+    let run = run_alone_seeded(rt.alloc(), nodes, &[true, true], 7, 1, 100, 1).expect(&rt, "a run");
     let ends = b"node 0: leader, 4 events\nnode 1: quiet, 4 events\n";
     let refused = each_byte_refused(rt.alloc(), &Ends(&run), ends);
     assert!(rt; refused == Ok(()), "{refused:?}");

@@ -1,8 +1,8 @@
 // What both runners give of the same setup: the same logs, and each its own ends.
 use crate::samples::{assert_run, clean, dirty, loser, setup_of, winner};
-use ira_event::Event;
+use ira_event::{Event, Load, RingSize};
 use ira_links::OpenGate;
-use ira_ring::{NodeEnd, RunFault, Setup, run_alone, run_ring};
+use ira_ring::{NodeEnd, RunFault, Setup, draw_lists, run_alone, run_ring};
 use std::alloc::Global;
 use std::process::Abort;
 use std::sync::Wait;
@@ -160,4 +160,74 @@ fn leader_beside_a_full_log(rt: HostRuntime) {
     let setup = setup_of(&rt, 2, &[true, true], &[&[2], &[1]], 4);
     let ends = [NodeEnd::Leader, NodeEnd::LogFull];
     assert_runs(&rt, &setup, &[&winner(), &loser()], &ends, &ends);
+}
+
+#[test]
+fn second_term(rt: HostRuntime) {
+    let mut setup = setup_of(&rt, 2, &[true, true], &[&[2, 1], &[1, 2]], 100);
+    setup.terms = 2;
+    let [drew_2, sent, got_1, won] = winner();
+    let [drew_1, sent_1, got_2, passed_on] = loser();
+    assert_runs(
+        &rt,
+        &setup,
+        &[
+            &[
+                drew_2,
+                sent,
+                got_1,
+                won,
+                Event::Yield,
+                Event::Sent(Load::Reset(1)),
+                Event::Got(Load::Reset(2)),
+                drew_1,
+                sent_1,
+                got_2,
+                passed_on,
+            ],
+            &[
+                drew_1,
+                sent_1,
+                got_2,
+                passed_on,
+                Event::Got(Load::Reset(1)),
+                Event::Sent(Load::Reset(2)),
+                drew_2,
+                sent,
+                got_1,
+                won,
+            ],
+        ],
+        &[NodeEnd::Quiet, NodeEnd::Leader],
+        &[NodeEnd::Stopped, NodeEnd::Leader],
+    );
+}
+
+#[test]
+fn full_log_of_a_leader_below_the_last_term(rt: HostRuntime) {
+    let mut setup = setup_of(&rt, 2, &[true, true], &[&[2, 1], &[1, 2]], 4);
+    setup.terms = 2;
+    let full = [NodeEnd::LogFull, NodeEnd::LogFull];
+    assert_runs(&rt, &setup, &[&winner(), &loser()], &full, &full);
+}
+
+/// The version of the last log of a run of one term of so many nodes on one thread.
+fn version_alone(rt: &(impl Abort + AllocGlobal), nodes: u8) -> u8 {
+    let size = RingSize::new(nodes).expect(rt, "a ring of that size");
+    let setup = Setup {
+        nodes: size,
+        initiators: vec![in rt.alloc(); true; usize::from(nodes)].expect(rt, "memory"),
+        draws: draw_lists(rt.alloc(), size, 7, 64).expect(rt, "memory"),
+        cap: 1000,
+        terms: 1,
+    };
+    let run = run_alone(rt.alloc(), &setup).expect(rt, "a run");
+    let logs = run.logs();
+    logs.log(logs.size().get() - 1).version()
+}
+
+#[test]
+fn versions_by_the_size_of_the_ring(rt: HostRuntime) {
+    let versions = [version_alone(&rt, 64), version_alone(&rt, 65)];
+    assert_eq!(rt; versions, [1, 2]);
 }

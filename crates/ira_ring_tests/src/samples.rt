@@ -48,7 +48,7 @@ pub fn loser() -> [Event; 4] {
     ]
 }
 
-/// A setup of a ring of so many nodes.
+/// A setup of a ring of so many nodes, of one term.
 pub fn setup_of(
     rt: &(impl Abort + AllocGlobal),
     nodes: u8,
@@ -66,6 +66,7 @@ pub fn setup_of(
         initiators: initiators.to_vec(rt.alloc()).expect(rt, "memory"),
         draws: lists,
         cap,
+        terms: 1,
     }
 }
 

@@ -24,9 +24,10 @@ fn assert_seeded(rt: &(impl Abort + AllocGlobal), seed: u64, k: u32) {
         initiators: both.to_vec(alloc).expect(rt, "memory"),
         draws: draw_lists(alloc, nodes, seed, k).expect(rt, "memory"),
         cap: 1000,
+        terms: 1,
     };
     let expected = run_alone(alloc, &setup).expect(rt, "a run");
-    let run = run_alone_seeded(alloc, nodes, &both, seed, k, 1000).expect(rt, "a run");
+    let run = run_alone_seeded(alloc, nodes, &both, seed, k, 1000, 1).expect(rt, "a run");
     let is_same = run.ends() == expected.ends()
         && are_equal(run.logs().log(0), expected.logs().log(0))
         && are_equal(run.logs().log(1), expected.logs().log(1));
@@ -41,6 +42,6 @@ fn draws_made_as_they_are_needed(rt: HostRuntime) {
         assert_seeded(&rt, 333431, k);
     }
     let nodes = RingSize::new(2).expect(&rt, "a ring of two");
-    let refused = run_alone_seeded(rt.alloc(), nodes, &[false, false], 7, 64, 1000).err();
+    let refused = run_alone_seeded(rt.alloc(), nodes, &[false, false], 7, 64, 1000, 1).err();
     assert!(rt; refused == Some(RunFault::Setup));
 }

@@ -26,6 +26,7 @@ fn work_of(
         draws: &[1],
         room: Vec::with_capacity(rt.alloc(), 100).expect(rt, "memory"),
         cap: 100,
+        terms: 1,
         input,
         output,
     }

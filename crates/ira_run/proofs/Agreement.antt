@@ -6,7 +6,7 @@ use Rattle.ira_event.specs.declared.load.Load.{Load}
 use Rattle.ira_event.specs.declared.event.Event.{Event}
 use Rattle.ira_event.specs.declared.event.Event.TheVariants.{Draw, Sent, Got, Yield}
 use Rattle.ira_node.specs.declared.node_state.NodeState.{NodeState}
-use Rattle.ira_node.specs.NodeState.{first_state, IsLeader}
+use Rattle.ira_node.specs.NodeState.{first_state}
 use Rattle.ira_node.specs.NodeStep.{NodeStep}
 use Rattle.ira_replay.specs.Laws.{AreAlike}
 use Rattle.ira_replay.specs.LocalRun.{LeadsTo}
@@ -19,7 +19,8 @@ use Rattle.std.proofs.lemmas.Bool.{cases_eq}
 use Rattle.ira_order.proofs.Runs.{next_prev, prev_below}
 use Rattle.ira_order.proofs.Converse.{Balanced, balanced_step}
 use Rattle.ira_run.specs.Setup.{Setup, is_initiator, node_draws}
-use Rattle.ira_run.specs.FullRun.{opening_of, events_at, drawing, drawn, HasEvent, owes, chooses, receives, CanStep, Walks, BeginsWith, IsFullRun}
+use Rattle.ira_run.specs.Terms.{IsLastLeader}
+use Rattle.ira_run.specs.FullRun.{opening_of, events_at, drawing, drawn, HasEvent, yields, owes, chooses, receives, CanStep, Walks, BeginsWith, IsFullRun}
 use Rattle.ira_run.proofs.Beginnings.{next_same, begin_each_other, sends_begin}
 use Rattle.ira_run.proofs.Walks.{own_more, other_more, walk_leads, walk_balanced}
 
@@ -30,7 +31,7 @@ pub record IsEnded (s : Setup) (i : ℕ) (events : List Event) (input : List Loa
   pub leads : LeadsTo s.nodes (first_state (is_initiator s i)) events state
   pub draws : BeginsWith (node_draws s i) (drawn events)
   pub receipts : BeginsWith input (got events)
-  pub stays : ¬ (IsLeader state.phase) → length events < s.cap → ¬ (HasEvent s.nodes (node_draws s i) state events receipts.0)
+  pub stays : ¬ (IsLastLeader s.terms state) → length events < s.cap → ¬ (HasEvent s.nodes s.terms (node_draws s i) state events receipts.0)
 
 -- that of each node, where these are their logs
 abbrev pub AreEnded : Setup → (ℕ → List Event) → Type 0
@@ -39,10 +40,11 @@ AreEnded s logs = (i : ℕ) → i < s.nodes → IsEnded s i (logs i) (sent (logs
 -- ---- one event
 
 -- a node that can make an event can make it where more loads wait, too
-has_event_still : (n : ℕ) (ids : List ℕ) (state : NodeState) (events : List Event) (input more : List Load) → HasEvent n ids state events input → HasEvent n ids state events (input ++ more)
-has_event_still n ids state events input more (owes m o) = owes m o
-has_event_still n ids state events input more (chooses term round is unused) = chooses term round is unused
-has_event_still n ids state events input more (receives m others is step) = receives m (others ++ more) (ap (λ (x : List Load). x ++ more) is) step
+has_event_still : (n terms : ℕ) (ids : List ℕ) (state : NodeState) (events : List Event) (input more : List Load) → HasEvent n terms ids state events input → HasEvent n terms ids state events (input ++ more)
+has_event_still n terms ids state events input more (yields leads below) = yields leads below
+has_event_still n terms ids state events input more (owes m o) = owes m o
+has_event_still n terms ids state events input more (chooses term round is unused) = chooses term round is unused
+has_event_still n terms ids state events input more (receives m others is step) = receives m (others ++ more) (ap (λ (x : List Load). x ++ more) is) step
 
 -- a load that is received is the first on the link
 taken_first : (n i : ℕ) (e : Event) (old new : ℕ → List Load) (m : Load) → LinkStep n i e old new → e ≡ Got m → BeginsWith (old (prev n i)) (m ∷ [])
@@ -57,9 +59,9 @@ module _ (s : Setup) (i : ℕ) (past log : List Event) (state : NodeState) (link
     (balanced : got past ++ link ≡ writer)
     (more : BeginsWith sendings writer)
     (ended : IsEnded s i log sendings)
-    (not_leader : ¬ (IsLeader state.phase))
+    (not_last : ¬ (IsLastLeader s.terms state))
     (room : length past < s.cap)
-    (event : HasEvent s.nodes (node_draws s i) state past link) where
+    (event : HasEvent s.nodes s.terms (node_draws s i) state past link) where
   -- so they are not all of the log
   not_all : log ≡ past → ⊥
   not_all same =
@@ -69,10 +71,10 @@ module _ (s : Setup) (i : ℕ) (past log : List Event) (state : NodeState) (link
       let left_is : here.receipts.0 ≡ link ++ more.0 =
       append_cancel_left (got past) here.receipts.0 (link ++ more.0)
       (sym here.receipts.1 ∙ more.1 ∙ ap (λ (x : List Load). x ++ more.0) (sym balanced) ∙ append_assoc (got past) link more.0) in
-      let Q : NodeState → Type 0 = λ x. ¬ (IsLeader x.phase) in
-      let R : NodeState → Type 0 = λ x. HasEvent s.nodes (node_draws s i) x past (link ++ more.0) in
-      let S : List Load → Type 0 = λ x. HasEvent s.nodes (node_draws s i) here.state past x in
-      here.stays (subst Q (sym state_is) not_leader) room (subst S (sym left_is) (subst R (sym state_is) (has_event_still s.nodes (node_draws s i) state past link more.0 event)))
+      let Q : NodeState → Type 0 = λ x. ¬ (IsLastLeader s.terms x) in
+      let R : NodeState → Type 0 = λ x. HasEvent s.nodes s.terms (node_draws s i) x past (link ++ more.0) in
+      let S : List Load → Type 0 = λ x. HasEvent s.nodes s.terms (node_draws s i) here.state past x in
+      here.stays (subst Q (sym state_is) not_last) room (subst S (sym left_is) (subst R (sym state_is) (has_event_still s.nodes s.terms (node_draws s i) state past link more.0 event)))
 
   -- the next event of the log is of the same kind
   alike : (e f : Event) (rest : List Event) (after : NodeState) → NodeStep s.nodes state e after → log ≡ past ++ f ∷ rest → AreAlike e f
@@ -143,7 +145,7 @@ held_more s logs past c b i e two ended held can step draws =
     let P : List Event → Type 0 = λ es. BeginsWith (node_draws s i) (drawn es) in
     let begins : BeginsWith (logs i) (events_at past i ++ e ∷ []) =
     held_on s i (events_at past i) (logs i) (c.state i) (c.link (prev s.nodes i)) (sent (events_at past (prev s.nodes i))) (sent (logs (prev s.nodes i)))
-    (held.leads i l) link (sends_begin (logs (prev s.nodes i)) (events_at past (prev s.nodes i)) (held.begins (prev s.nodes i) p)) (ended i l) can.not_leader can.room can.event
+    (held.leads i l) link (sends_begin (logs (prev s.nodes i)) (events_at past (prev s.nodes i)) (held.begins (prev s.nodes i) p)) (ended i l) can.not_last can.room can.event
     e (b.state i) (held.begins i l).0 step.node (subst P own draws) (λ m is. taken_first s.nodes i e c.link b.link m step.links is) (held.begins i l).1 in
     record {
       leads = λ j lj. elim (cases_eq i j) [
@@ -206,7 +208,7 @@ full_run_ended s run end two full i l =
         end.link (prev s.nodes i),
         sym (balanced (prev s.nodes i) (prev_below s.nodes i l)) ∙ ap (λ (x : ℕ). got (events_at run x) ++ end.link (prev s.nodes i)) (next_prev s.nodes i l),
       );
-      stays = λ not_leader room event. full.whole i l record { not_leader = not_leader; room = room; event = event };
+      stays = λ not_last room event. full.whole i l record { not_last = not_last; room = room; event = event };
     }
 
 -- each node does the same in two full runs

@@ -6,7 +6,7 @@ use Rattle.ira_event.specs.declared.event.Event.TheVariants.{Got}
 use Rattle.ira_event.specs.Log.{Log}
 use Rattle.ira_node.specs.declared.phase.Phase.TheVariants.{Choosing}
 use Rattle.ira_node.specs.declared.node_state.NodeState.{NodeState}
-use Rattle.ira_node.specs.NodeState.{first_state, free, IsLeader}
+use Rattle.ira_node.specs.NodeState.{first_state, free}
 use Rattle.ira_node.specs.NodeStep.{HasStep}
 use Rattle.ira_replay.proofs.Alike.{one_end}
 use Rattle.ira_order.specs.Ring.{prev, log_of}
@@ -14,23 +14,26 @@ use Rattle.ira_order.specs.Matching.{sent, got}
 use Rattle.ira_run.specs.declared.node_end.NodeEnd.{NodeEnd}
 use Rattle.ira_run.specs.declared.node_end.NodeEnd.TheVariants.{Leader, Stopped, DrawsSpent, LogFull, NoStep, Quiet}
 use Rattle.ira_run.specs.Setup.{Setup, is_initiator, node_draws}
-use Rattle.ira_run.specs.FullRun.{drawn, HasEvent, owes, chooses, receives}
+use Rattle.ira_run.specs.Terms.{IsLastLeader}
+use Rattle.ira_run.specs.FullRun.{drawn, HasEvent, yields, owes, chooses, receives}
 use Rattle.ira_run.specs.ShownEnd.{Waits, Says, IsShown}
 use Rattle.ira_run.specs.Agreement.{stopped_for_quiet}
 use Rattle.ira_run.proofs.Beginnings.{next_same}
-use Rattle.ira_run.proofs.Choosing.{choosing_no_receipt, choosing_no_waiting}
+use Rattle.ira_run.proofs.Choosing.{choosing_no_receipt, choosing_no_waiting, choosing_no_leader, leader_no_waiting}
 use Rattle.ira_run.proofs.MoreDraws.{must_have_spent}
 
 -- ---- a node with a shown end can't go on
 
 -- a node that waits makes no event but a receipt
-waiting_no_event : (s : Setup) (i cap : ℕ) (state : NodeState) (events : List Event) (left : List Load) → Waits cap state events → ((m : Load) (others : List Load) → left ≡ m ∷ others → HasStep s.nodes state (Got m) → ⊥)
-    → ¬ (HasEvent s.nodes (node_draws s i) state events left)
+waiting_no_event : (s : Setup) (i cap : ℕ) (state : NodeState) (events : List Event) (left : List Load) → Waits cap s.terms state events → ((m : Load) (others : List Load) → left ≡ m ∷ others → HasStep s.nodes state (Got m) → ⊥)
+    → ¬ (HasEvent s.nodes s.terms (node_draws s i) state events left)
+waiting_no_event s i cap state events left waits none (yields leads below) = leader_no_waiting state.phase leads waits.2
 waiting_no_event s i cap state events left waits none (owes m o) = let free = waits.1 in cc
 waiting_no_event s i cap state events left waits none (chooses term round is unused) = choosing_no_waiting term round state is waits.2
 waiting_no_event s i cap state events left waits none (receives m others is step) = none m others is step
 
-spent_no_event : (s : Setup) (i term round : ℕ) (state : NodeState) (events : List Event) (left : List Load) → state ≡ free term (Choosing round) → drawn events ≡ node_draws s i → ¬ (HasEvent s.nodes (node_draws s i) state events left)
+spent_no_event : (s : Setup) (i term round : ℕ) (state : NodeState) (events : List Event) (left : List Load) → state ≡ free term (Choosing round) → drawn events ≡ node_draws s i → ¬ (HasEvent s.nodes s.terms (node_draws s i) state events left)
+spent_no_event s i term round state events left is all (yields leads below) = choosing_no_leader term round state is leads
 spent_no_event s i term round state events left is all (owes m o) = cc
 spent_no_event s i term round state events left is all (chooses then other other_is unused) = omega (arith, unused, ap length all)
 spent_no_event s i term round state events left is all (receives m others there step) = choosing_no_receipt s.nodes term round state m is step
@@ -39,12 +42,12 @@ spent_no_event s i term round state events left is all (receives m others there 
 none_left : (events : List Event) (input left others : List Load) (m : Load) → input ≡ got events ++ left → got events ≡ input → left ≡ m ∷ others → ⊥
 none_left events input left others m all same is = omega (arith, ap length all, length-append (got events) left, ap length same, ap length is)
 
-pub shown_stays : (s : Setup) (i : ℕ) (state : NodeState) (events : List Event) (input left : List Load) (end : NodeEnd) → input ≡ got events ++ left → Says s i state events input end → ¬ (IsLeader state.phase) → length events < s.cap
-    → ¬ (HasEvent s.nodes (node_draws s i) state events left)
-shown_stays s i state events input left Leader all says not_leader room = absurd (not_leader says)
-shown_stays s i state events input left LogFull all says not_leader room = absurd (omega (arith, says.1))
-shown_stays s i state events input left DrawsSpent all says not_leader room = spent_no_event s i says.1.0 says.1.1 state events left says.1.2 says.2
-shown_stays s i state events input left (NoStep k) all says not_leader room =
+pub shown_stays : (s : Setup) (i : ℕ) (state : NodeState) (events : List Event) (input left : List Load) (end : NodeEnd) → input ≡ got events ++ left → Says s i state events input end → ¬ (IsLastLeader s.terms state) → length events < s.cap
+    → ¬ (HasEvent s.nodes s.terms (node_draws s i) state events left)
+shown_stays s i state events input left Leader all says not_last room = absurd (not_last says)
+shown_stays s i state events input left LogFull all says not_last room = absurd (omega (arith, says.1))
+shown_stays s i state events input left DrawsSpent all says not_last room = spent_no_event s i says.1.0 says.1.1 state events left says.1.2 says.2
+shown_stays s i state events input left (NoStep k) all says not_last room =
     waiting_no_event s i s.cap state events left says.0
     (λ m others is step.
     let here : input ≡ got events ++ m ∷ others = all ∙ ap (λ (x : List Load). got events ++ x) is in
@@ -52,13 +55,13 @@ shown_stays s i state events input left (NoStep k) all says not_leader room =
     let same : m ≡ k = next_same (got events) others says.2.0 m k (sym here ∙ there) in
     let P : Load → Type 0 = λ x. HasStep s.nodes state (Got x) in
     says.1 (subst P same step))
-shown_stays s i state events input left Quiet all says not_leader room = waiting_no_event s i s.cap state events left says.0 (λ m others is step. none_left events input left others m all says.1 is)
-shown_stays s i state events input left Stopped all says not_leader room = waiting_no_event s i s.cap state events left says.0 (λ m others is step. none_left events input left others m all says.1 is)
+shown_stays s i state events input left Quiet all says not_last room = waiting_no_event s i s.cap state events left says.0 (λ m others is step. none_left events input left others m all says.1 is)
+shown_stays s i state events input left Stopped all says not_last room = waiting_no_event s i s.cap state events left says.0 (λ m others is step. none_left events input left others m all says.1 is)
 
 -- ---- it has one end
 
--- a node that leads ends so
-leads_so : (s : Setup) (i : ℕ) (state : NodeState) (events : List Event) (input : List Load) (end : NodeEnd) → IsLeader state.phase → Says s i state events input end → stopped_for_quiet end ≡ Leader
+-- a node that leads in the last term ends so
+leads_so : (s : Setup) (i : ℕ) (state : NodeState) (events : List Event) (input : List Load) (end : NodeEnd) → IsLastLeader s.terms state → Says s i state events input end → stopped_for_quiet end ≡ Leader
 leads_so s i state events input Leader l says = refl
 leads_so s i state events input LogFull l says = absurd (says.0 l)
 leads_so s i state events input DrawsSpent l says = absurd (says.0.0 l)
@@ -66,17 +69,17 @@ leads_so s i state events input (NoStep m) l says = absurd (says.0.0.0 l)
 leads_so s i state events input Quiet l says = absurd (says.0.0.0 l)
 leads_so s i state events input Stopped l says = absurd (says.0.0.0 l)
 
--- a node with a full log that doesn't lead ends so
-full_so : (s : Setup) (i : ℕ) (state : NodeState) (events : List Event) (input : List Load) (end : NodeEnd) → ¬ (IsLeader state.phase) → length events ≡ s.cap → Says s i state events input end → stopped_for_quiet end ≡ LogFull
-full_so s i state events input Leader not_leader full says = absurd (not_leader says)
-full_so s i state events input LogFull not_leader full says = refl
-full_so s i state events input DrawsSpent not_leader full says = absurd (omega (arith, says.0.1, full))
-full_so s i state events input (NoStep m) not_leader full says = absurd (omega (arith, says.0.0.1, full))
-full_so s i state events input Quiet not_leader full says = absurd (omega (arith, says.0.0.1, full))
-full_so s i state events input Stopped not_leader full says = absurd (omega (arith, says.0.0.1, full))
+-- a node with a full log that doesn't ends so
+full_so : (s : Setup) (i : ℕ) (state : NodeState) (events : List Event) (input : List Load) (end : NodeEnd) → ¬ (IsLastLeader s.terms state) → length events ≡ s.cap → Says s i state events input end → stopped_for_quiet end ≡ LogFull
+full_so s i state events input Leader not_last full says = absurd (not_last says)
+full_so s i state events input LogFull not_last full says = refl
+full_so s i state events input DrawsSpent not_last full says = absurd (omega (arith, says.0.1, full))
+full_so s i state events input (NoStep m) not_last full says = absurd (omega (arith, says.0.0.1, full))
+full_so s i state events input Quiet not_last full says = absurd (omega (arith, says.0.0.1, full))
+full_so s i state events input Stopped not_last full says = absurd (omega (arith, says.0.0.1, full))
 
 -- a node that waits and has received all loads ends so
-waits_so : (s : Setup) (i : ℕ) (state : NodeState) (events : List Event) (input : List Load) (end : NodeEnd) → Waits s.cap state events → got events ≡ input → Says s i state events input end → stopped_for_quiet end ≡ Stopped
+waits_so : (s : Setup) (i : ℕ) (state : NodeState) (events : List Event) (input : List Load) (end : NodeEnd) → Waits s.cap s.terms state events → got events ≡ input → Says s i state events input end → stopped_for_quiet end ≡ Stopped
 waits_so s i state events input Leader waits all says = absurd (waits.0.0 says)
 waits_so s i state events input LogFull waits all says = absurd (omega (arith, waits.0.1, says.1))
 waits_so s i state events input DrawsSpent waits all says = absurd (choosing_no_waiting says.1.0 says.1.1 state says.1.2 waits.2)

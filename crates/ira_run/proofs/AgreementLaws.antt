@@ -1,11 +1,10 @@
 -- Full runs have the same logs, and what nodes recorded agrees with them.
 use Rattle.std.proofs.Common.{◌≡◌, ◌≢◌, ℕ, ◌<◌, ◌≤◌, List, map, length, Some, refl, sym, ◌∙◌, subst, ap, arith}
-use Rattle.std.specs.Prelude.{slice_get, Result, Ok, Err, IfOk, true}
-use Rattle.std.specs.List.{list_all}
+use Rattle.std.specs.Prelude.{slice_get, Result, Ok, Err, IfOk}
 use Rattle.std.proofs.lemmas.List.{length-map}
 use Rattle.std.proofs.lemmas.Option.{slice_get_within}
 use Rattle.ira_event.specs.declared.event.Event.{Event}
-use Rattle.ira_event.specs.Event.{is_of_version}
+use Rattle.ira_node.specs.NodeState.{first_state}
 use Rattle.ira_event.specs.Log.{Log}
 use Rattle.ira_order.specs.Ring.{prev, log_of, events_of}
 use Rattle.ira_order.specs.Matching.{sent, got}
@@ -17,7 +16,8 @@ use Rattle.ira_order.proofs.RunsOfLogs.{run_is_order, every_order_is_run}
 use Rattle.ira_run.specs.declared.node_end.NodeEnd.{NodeEnd}
 use Rattle.ira_run.specs.declared.node_end.NodeEnd.TheVariants.{Leader, Stopped, DrawsSpent, LogFull, NoStep, Quiet}
 use Rattle.ira_run.specs.declared.run_fault.RunFault.{RunFault}
-use Rattle.ira_run.specs.Setup.{Setup, node_draws}
+use Rattle.ira_run.specs.Setup.{Setup, is_initiator, node_draws}
+use Rattle.ira_run.specs.Terms.{YieldsBelow}
 use Rattle.ira_run.specs.Run.{Run}
 use Rattle.ira_run.specs.FullRun.{drawn, BeginsWith, AreLogsOf, AreFullLogs}
 use Rattle.ira_run.specs.ShownEnd.{IsShown, IsLoneRun}
@@ -40,14 +40,6 @@ log_at : (s : Setup) (logs : List Log) (i : ℕ) → AreLogsOf s logs → i < s.
 log_at s logs i of_setup l =
     let at = get_within logs i (omega (arith, of_setup.number)) in
     (at.0, at.1, ap events_of at.1)
-
--- its events are of version 1
-held_at : (s : Setup) (logs : List Log) (i : ℕ) → AreLogsOf s logs → i < s.nodes → list_all (is_of_version 1) (log_of logs i) ≡ true
-held_at s logs i of_setup l =
-    let log = log_at s logs i of_setup l in
-    let P : ℕ → Type 0 = λ v. list_all (is_of_version v) log.0.events ≡ true in
-    let Q : List Event → Type 0 = λ es. list_all (is_of_version 1) es ≡ true in
-    subst Q (sym log.2) (subst P (of_setup.versions i log.0 log.1) (of_setup.ring.valid i log.0 log.1).held)
 
 -- logs of one setup's ring with the same events are the same
 one_log : (s : Setup) (logs others : List Log) (i : ℕ) (log other : Log) → AreLogsOf s logs → AreLogsOf s others → log_of logs i ≡ log_of others i → slice_get logs i ≡ Some log → slice_get others i ≡ Some other → log ≡ other
@@ -133,8 +125,9 @@ module _ (s : Setup) (run lone : Run) (rec : IsRecording s run) (full : IsLoneRu
       let shown = full.ends i end at in
       let begins = recording_begins s run rec lone.logs full.logs i l in
       let p : prev s.nodes i < s.nodes = prev_below s.nodes i l in
+      let Below : List Event → Type 0 = λ es. YieldsBelow s.terms s.nodes (first_state (is_initiator s i)) es in
       no_further s i (log_of run.logs i) (log_of lone.logs i) shown.0 ended.state (sent (log_of run.logs (prev s.nodes i))) (sent (log_of lone.logs (prev s.nodes i)))
-      shown.1 ended.leads (omega (arith, rec.counts i log.0 log.1, ap length log.2)) (held_at s run.logs i rec.logs l) ended.draws ended.receipts
+      shown.1 ended.leads (omega (arith, rec.counts i log.0 log.1, ap length log.2)) (subst Below (sym log.2) (rec.yields i log.0 log.1)) ended.draws ended.receipts
       (sends_begin (log_of run.logs (prev s.nodes i)) (log_of lone.logs (prev s.nodes i)) (recording_begins s run rec lone.logs full.logs (prev s.nodes i) p))
       end begins.0 (λ w. ap sent (before w)) shown.2 begins.1
 

@@ -1,9 +1,6 @@
 -- Round the ring: what was recorded goes no further than a full run in which some node ended otherwise than Quiet.
-use Rattle.std.proofs.Common.{◌≡◌, ℕ, zero, suc, ◌-◌, ◌<◌, ◌≤◌, ◌&&◌, inl, inr, Bool, true, false, List, [], ◌∷◌, ◌++◌, length, sym, ◌∙◌, subst, ap, append-nil, append_assoc, length-append, arith}
-use Rattle.std.specs.List.{list_all}
+use Rattle.std.proofs.Common.{◌≡◌, ℕ, zero, suc, ◌-◌, ◌<◌, ◌≤◌, inl, inr, List, [], ◌∷◌, ◌++◌, length, sym, ◌∙◌, subst, ap, append-nil, append_assoc, length-append, arith}
 use Rattle.std.proofs.lemmas.List.Elements.{filter_map-append}
-use Rattle.std.proofs.lemmas.List.Folds.{list_all-append}
-use Rattle.ira_event.specs.Event.{is_of_version}
 use Rattle.ira_event.specs.declared.load.Load.{Load}
 use Rattle.ira_event.specs.declared.event.Event.{Event}
 use Rattle.ira_event.specs.declared.event.Event.TheVariants.{Draw, Got, Yield}
@@ -19,10 +16,11 @@ use Rattle.std.proofs.lemmas.Bool.{cases_eq}
 use Rattle.ira_run.specs.declared.node_end.NodeEnd.{NodeEnd}
 use Rattle.ira_run.specs.declared.node_end.NodeEnd.TheVariants.{Leader, Stopped, DrawsSpent, LogFull, NoStep, Quiet}
 use Rattle.ira_run.specs.Setup.{Setup, is_initiator, node_draws}
+use Rattle.ira_run.specs.Terms.{YieldsBelow}
 use Rattle.ira_run.specs.FullRun.{drawing, drawn, BeginsWith}
 use Rattle.ira_run.specs.ShownEnd.{Says}
 use Rattle.ira_run.proofs.Beginnings.{next_same}
-use Rattle.ira_run.proofs.Collecting.{both-true}
+use Rattle.ira_run.proofs.Yields.{yields_at}
 
 -- ---- round the ring
 
@@ -49,13 +47,13 @@ IsWaiting LogFull = ⊥
 IsWaiting (NoStep m) = ⊥
 IsWaiting Quiet = Unit {0}
 
--- node i, to which these loads were sent in all, made these events, and then others of its log, which is of
--- version 1; the input begins the loads
+-- node i, to which these loads were sent in all, made these events, and then others of its log, whose yields are in
+-- terms before the last; the input begins the loads
 module _ (s : Setup) (i : ℕ) (log events : List Event) (state last : NodeState) (sendings input : List Load)
     (leads : LeadsTo s.nodes (first_state (is_initiator s i)) events state)
     (run : LeadsTo s.nodes (first_state (is_initiator s i)) log last)
     (count : length log ≤ s.cap)
-    (held : list_all (is_of_version 1) log ≡ true)
+    (below : YieldsBelow s.terms s.nodes (first_state (is_initiator s i)) log)
     (draws : BeginsWith (node_draws s i) (drawn log))
     (receipts : BeginsWith sendings (got log))
     (more : BeginsWith sendings input) where
@@ -93,17 +91,15 @@ module _ (s : Setup) (i : ℕ) (log events : List Event) (state last : NodeState
       more.1 ∙ ap (λ (x : List Load). x ++ more.0) (front.1 ∙ append_assoc (got events) (k ∷ []) front.0) ∙ append_assoc (got events) (k ∷ front.0) more.0 in
       next_same (got events) (got rest ++ receipts.0) (front.0 ++ more.0) m k (sym (received m rest is) ∙ there)
 
-  -- a log of version 1 has no yield
-  no_yield : (rest : List Event) → log ≡ events ++ Yield ∷ rest → ⊥
-  no_yield rest is =
-      let of_version : Event → Bool = is_of_version 1 in
-      let whole : (list_all of_version events && list_all of_version (Yield ∷ rest)) ≡ true =
-      sym (list_all-append of_version events (Yield ∷ rest)) ∙ sym (ap (λ (x : List Event). list_all of_version x) is) ∙ held in
-      let none : false ≡ true = (both-true (list_all of_version events) (list_all of_version (Yield ∷ rest)) whole).1 in
-      absurd cc
+  -- a yield that comes next is in a term before the last
+  yields_low : (rest : List Event) → log ≡ events ++ Yield ∷ rest → state.term < s.terms
+  yields_low rest is =
+      let P : List Event → Type 0 = λ es. YieldsBelow s.terms s.nodes (first_state (is_initiator s i)) es in
+      yields_at s.terms s.nodes (first_state (is_initiator s i)) events rest state leads (subst P is below)
 
   over : (end : NodeEnd) (e : Event) (rest : List Event) → (IsWaiting end → sendings ≡ input) → Says s i state events input end → log ≡ events ++ e ∷ rest → HasStep s.nodes state e → ⊥
-  over Leader e rest waits says is step = no_yield rest (is ∙ ap (λ (x : Event). events ++ x ∷ rest) (leading_yields s.nodes state e says step))
+  over Leader e rest waits says is step =
+      omega (arith, says.1, yields_low rest (is ∙ ap (λ (x : Event). events ++ x ∷ rest) (leading_yields s.nodes state e says.0 step)))
   over LogFull e rest waits says is step = omega (arith, count, ap length is, length-append events (e ∷ rest), says.1)
   over DrawsSpent e rest waits says is step =
       let d = choosing_draws s.nodes says.1.0 says.1.1 state e says.1.2 step in

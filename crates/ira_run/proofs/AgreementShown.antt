@@ -7,7 +7,7 @@ use Rattle.ira_event.specs.Log.{Log}
 use Rattle.ira_node.specs.declared.phase.Phase.{Phase}
 use Rattle.ira_node.specs.declared.phase.Phase.TheVariants.{Choosing, Active, Passive, Leader as Leads, Yielding}
 use Rattle.ira_node.specs.declared.node_state.NodeState.{NodeState}
-use Rattle.ira_node.specs.NodeState.{first_state, free, IsLeader}
+use Rattle.ira_node.specs.NodeState.{first_state, free}
 use Rattle.ira_replay.specs.LocalRun.{LeadsTo}
 use Rattle.ira_order.specs.Ring.{prev, log_of}
 use Rattle.ira_order.specs.Matching.{sent, got}
@@ -16,7 +16,8 @@ use Rattle.ira_order.proofs.Runs.{prev_below}
 use Rattle.ira_run.specs.declared.node_end.NodeEnd.{NodeEnd}
 use Rattle.ira_run.specs.declared.node_end.NodeEnd.TheVariants.{Leader, Stopped, DrawsSpent, LogFull, NoStep, Quiet}
 use Rattle.ira_run.specs.Setup.{Setup, is_initiator, node_draws}
-use Rattle.ira_run.specs.FullRun.{events_at, drawn, HasEvent, owes, chooses, receives, BeginsWith, AreFullLogs}
+use Rattle.ira_run.specs.Terms.{IsLastLeader}
+use Rattle.ira_run.specs.FullRun.{events_at, drawn, HasEvent, yields, owes, chooses, receives, BeginsWith, AreFullLogs}
 use Rattle.ira_run.specs.ShownEnd.{Waits, Says, IsShown, IsLoneRun}
 use Rattle.ira_run.proofs.Agreement.{IsEnded, full_run_ended}
 use Rattle.ira_run.proofs.Recordable.{run_within}
@@ -27,7 +28,7 @@ use Rattle.ira_run.proofs.Recordable.{run_within}
 module _ (s : Setup) (i : ℕ) (events : List Event) (input : List Load)
     (draws : BeginsWith (node_draws s i) (drawn events)) where
   abbrev Stays : NodeState → List Load → Type 0
-  Stays state left = ¬ (IsLeader state.phase) → length events < s.cap → ¬ (HasEvent s.nodes (node_draws s i) state events left)
+  Stays state left = ¬ (IsLastLeader s.terms state) → length events < s.cap → ¬ (HasEvent s.nodes s.terms (node_draws s i) state events left)
 
   -- it has an end
   abbrev Shows : NodeState → Type 0
@@ -39,9 +40,9 @@ module _ (s : Setup) (i : ℕ) (events : List Event) (input : List Load)
 
   spent : (term round : ℕ) (left : List Load) → length events < s.cap → Stays (free term (Choosing round)) left → Shows (free term (Choosing round))
   spent term round left room stays =
-      (DrawsSpent, (((λ l. l), room), (term, round, refl), all_drawn draws.0 draws.1 (λ unused. stays (λ l. l) room (chooses term round refl unused))), (λ e. cc))
+      (DrawsSpent, (((λ l. l.0), room), (term, round, refl), all_drawn draws.0 draws.1 (λ unused. stays (λ l. l.0) room (chooses term round refl unused))), (λ e. cc))
 
-  waits : (state : NodeState) (left : List Load) → Waits s.cap state events → input ≡ got events ++ left → Stays state left → Shows state
+  waits : (state : NodeState) (left : List Load) → Waits s.cap s.terms state events → input ≡ got events ++ left → Stays state left → Shows state
   waits state [] waiting is stays = (Quiet, (waiting, sym (is ∙ append-nil (got events))), (λ e. cc))
   waits state (m ∷ others) waiting is stays = (
     NoStep m,
@@ -50,22 +51,28 @@ module _ (s : Setup) (i : ℕ) (events : List Event) (input : List Load)
   )
 
   goes_on : (term : ℕ) (phase : Phase) (owed : Option Load) (left : List Load) → length events < s.cap → input ≡ got events ++ left → Stays (record { phase = phase; owed = owed; term = term }) left → Shows (record { phase = phase; owed = owed; term = term })
-  goes_on term (Leads round id) owed left room is stays = (Leader, tt, (λ e. cc))
+  goes_on term (Leads round id) owed left room is stays = elim (cases_lt term s.terms) [
+    | inl below ↦ absurd (stays (λ l. omega (arith, below, l.1)) room (yields tt below))
+    | inr past ↦ (Leader, (tt, omega arith), (λ e. cc))
+  ]
   goes_on term (Choosing round) None left room is stays = spent term round left room stays
-  goes_on term (Choosing round) (Some m) left room is stays = absurd (stays (λ l. l) room (owes m refl))
-  goes_on term (Active round id) None left room is stays = waits (free term (Active round id)) left (((λ l. l), room), refl, tt) is stays
-  goes_on term (Active round id) (Some m) left room is stays = absurd (stays (λ l. l) room (owes m refl))
-  goes_on term Passive None left room is stays = waits (free term Passive) left (((λ l. l), room), refl, tt) is stays
-  goes_on term Passive (Some m) left room is stays = absurd (stays (λ l. l) room (owes m refl))
-  goes_on term Yielding None left room is stays = waits (free term Yielding) left (((λ l. l), room), refl, tt) is stays
-  goes_on term Yielding (Some m) left room is stays = absurd (stays (λ l. l) room (owes m refl))
+  goes_on term (Choosing round) (Some m) left room is stays = absurd (stays (λ l. l.0) room (owes m refl))
+  goes_on term (Active round id) None left room is stays = waits (free term (Active round id)) left (((λ l. l.0), room), refl, tt) is stays
+  goes_on term (Active round id) (Some m) left room is stays = absurd (stays (λ l. l.0) room (owes m refl))
+  goes_on term Passive None left room is stays = waits (free term Passive) left (((λ l. l.0), room), refl, tt) is stays
+  goes_on term Passive (Some m) left room is stays = absurd (stays (λ l. l.0) room (owes m refl))
+  goes_on term Yielding None left room is stays = waits (free term Yielding) left (((λ l. l.0), room), refl, tt) is stays
+  goes_on term Yielding (Some m) left room is stays = absurd (stays (λ l. l.0) room (owes m refl))
 
   full : (term : ℕ) (phase : Phase) (owed : Option Load) → length events ≡ s.cap → Shows (record { phase = phase; owed = owed; term = term })
-  full term (Leads round id) owed is = (Leader, tt, (λ e. cc))
-  full term (Choosing round) owed is = (LogFull, ((λ l. l), is), (λ e. cc))
-  full term (Active round id) owed is = (LogFull, ((λ l. l), is), (λ e. cc))
-  full term Passive owed is = (LogFull, ((λ l. l), is), (λ e. cc))
-  full term Yielding owed is = (LogFull, ((λ l. l), is), (λ e. cc))
+  full term (Leads round id) owed is = elim (cases_lt term s.terms) [
+    | inl below ↦ (LogFull, ((λ l. omega (arith, below, l.1)), is), (λ e. cc))
+    | inr past ↦ (Leader, (tt, omega arith), (λ e. cc))
+  ]
+  full term (Choosing round) owed is = (LogFull, ((λ l. l.0), is), (λ e. cc))
+  full term (Active round id) owed is = (LogFull, ((λ l. l.0), is), (λ e. cc))
+  full term Passive owed is = (LogFull, ((λ l. l.0), is), (λ e. cc))
+  full term Yielding owed is = (LogFull, ((λ l. l.0), is), (λ e. cc))
 
   shows : (state : NodeState) (left : List Load) → length events ≤ s.cap → input ≡ got events ++ left → Stays state left → Shows state
   shows state left within is stays = elim (cases_lt (length events) s.cap) [

@@ -9,8 +9,10 @@ pub mod Collecting
 pub mod Drawing
 pub mod EndLines
 pub mod FullRuns
+pub mod LogVersions
 pub mod MoreDraws
 pub mod Places
 pub mod Recordable
 pub mod Setups
 pub mod Walks
+pub mod Yields

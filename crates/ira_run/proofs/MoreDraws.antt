@@ -6,7 +6,7 @@ use Rattle.ira_event.specs.declared.event.Event.{Event}
 use Rattle.ira_event.specs.declared.load.Load.{Load}
 use Rattle.ira_node.specs.declared.phase.Phase.TheVariants.{Choosing}
 use Rattle.ira_node.specs.declared.node_state.NodeState.{NodeState}
-use Rattle.ira_node.specs.NodeState.{first_state, free, IsLeader}
+use Rattle.ira_node.specs.NodeState.{first_state, free}
 use Rattle.ira_replay.specs.LocalRun.{LeadsTo}
 use Rattle.ira_replay.proofs.Alike.{one_end}
 use Rattle.ira_order.specs.Ring.{prev, log_of}
@@ -16,18 +16,15 @@ use Rattle.ira_run.specs.declared.node_end.NodeEnd.{NodeEnd}
 use Rattle.ira_run.specs.declared.node_end.NodeEnd.TheVariants.{Leader, Stopped, DrawsSpent, LogFull, NoStep, Quiet}
 use Rattle.ira_run.specs.Setup.{Setup, is_initiator, node_draws}
 use Rattle.ira_run.specs.Run.{Run}
-use Rattle.ira_run.specs.FullRun.{opening_of, events_at, drawn, HasEvent, owes, chooses, receives, CanStep, Walks, BeginsWith}
+use Rattle.ira_run.specs.FullRun.{opening_of, events_at, drawn, HasEvent, yields, owes, chooses, receives, CanStep, Walks, BeginsWith}
 use Rattle.ira_run.specs.ShownEnd.{Says, IsShown, IsLoneRun}
-use Rattle.ira_run.proofs.Choosing.{choosing_no_waiting}
+use Rattle.ira_run.proofs.Choosing.{choosing_no_waiting, choosing_no_leader}
 use Rattle.ira_run.proofs.Walks.{walk_leads}
-
-choosing_no_leader : (term round : ℕ) (state : NodeState) → state ≡ free term (Choosing round) → IsLeader state.phase → ⊥
-choosing_no_leader term round state is l = let P : NodeState → Type 0 = λ x. IsLeader x.phase in subst P is l
 
 -- a node that has to draw and may go on has spent its draws
 pub must_have_spent : (s : Setup) (i term round : ℕ) (state : NodeState) (events : List Event) (input : List Load) (end : NodeEnd) → state ≡ free term (Choosing round) → length events < s.cap → Says s i state events input end
     → (end ≡ DrawsSpent) × (drawn events ≡ node_draws s i)
-must_have_spent s i term round state events input Leader is room says = absurd (choosing_no_leader term round state is says)
+must_have_spent s i term round state events input Leader is room says = absurd (choosing_no_leader term round state is says.0)
 must_have_spent s i term round state events input LogFull is room says = absurd (omega (arith, says.1))
 must_have_spent s i term round state events input DrawsSpent is room says = (refl, says.2)
 must_have_spent s i term round state events input (NoStep m) is room says = absurd (choosing_no_waiting term round state is says.0.2)
@@ -35,20 +32,21 @@ must_have_spent s i term round state events input Quiet is room says = absurd (c
 must_have_spent s i term round state events input Stopped is room says = absurd (choosing_no_waiting term round state is says.0.2)
 
 abbrev pub with_draws : Setup → List (List ℕ) → Setup
-with_draws s ds = record { nodes = s.nodes; initiators = s.initiators; draws = ds; cap = s.cap }
+with_draws s ds = record { nodes = s.nodes; initiators = s.initiators; draws = ds; cap = s.cap; terms = s.terms }
 
 module _ (s : Setup) (ds : List (List ℕ)) (more : (i : ℕ) → i < s.nodes → BeginsWith (node_draws (with_draws s ds) i) (node_draws s i)) where
   longer : (i : ℕ) → i < s.nodes → length (node_draws s i) ≤ length (node_draws (with_draws s ds) i)
   longer i l = omega (arith, ap length (more i l).1, length-append (node_draws s i) (more i l).0)
 
-  has_event_still : (i : ℕ) → i < s.nodes → (state : NodeState) (events : List Event) (input : List Load) → HasEvent s.nodes (node_draws s i) state events input → HasEvent s.nodes (node_draws (with_draws s ds) i) state events input
+  has_event_still : (i : ℕ) → i < s.nodes → (state : NodeState) (events : List Event) (input : List Load) → HasEvent s.nodes s.terms (node_draws s i) state events input → HasEvent s.nodes s.terms (node_draws (with_draws s ds) i) state events input
+  has_event_still i l state events input (yields leads below) = yields leads below
   has_event_still i l state events input (owes m o) = owes m o
   has_event_still i l state events input (chooses term round is unused) = chooses term round is (omega (arith, unused, longer i l))
   has_event_still i l state events input (receives m others is step) = receives m others is step
 
   can_step_still : (past : List (ℕ × Event)) (c : Configuration) (i : ℕ) → i < s.nodes → CanStep s past c i → CanStep (with_draws s ds) past c i
   can_step_still past c i l can = record {
-    not_leader = can.not_leader;
+    not_last = can.not_last;
     room = can.room;
     event = has_event_still i l (c.state i) (events_at past i) (c.link (prev s.nodes i)) can.event;
   }
@@ -72,10 +70,11 @@ module _ (s : Setup) (ds : List (List ℕ)) (more : (i : ℕ) → i < s.nodes �
         let all : node_draws (with_draws s ds) i ≡ node_draws s i = alike i l (at ∙ ap Some spent.0) in
         omega (arith, unused, ap length all, ap length spent.1, ap (λ (es : List Event). length (drawn es)) log)
 
-    no_step_still : (i : ℕ) → i < s.nodes → CanStep (with_draws s ds) lone.logs.run lone.logs.end i → HasEvent s.nodes (node_draws (with_draws s ds) i) (lone.logs.end.state i) (events_at lone.logs.run i) (lone.logs.end.link (prev s.nodes i)) → ⊥
-    no_step_still i l can (owes m o) = lone.logs.full.whole i l (record { not_leader = can.not_leader; room = can.room; event = owes m o })
+    no_step_still : (i : ℕ) → i < s.nodes → CanStep (with_draws s ds) lone.logs.run lone.logs.end i → HasEvent s.nodes s.terms (node_draws (with_draws s ds) i) (lone.logs.end.state i) (events_at lone.logs.run i) (lone.logs.end.link (prev s.nodes i)) → ⊥
+    no_step_still i l can (yields leads below) = lone.logs.full.whole i l (record { not_last = can.not_last; room = can.room; event = yields leads below })
+    no_step_still i l can (owes m o) = lone.logs.full.whole i l (record { not_last = can.not_last; room = can.room; event = owes m o })
     no_step_still i l can (chooses term round is unused) = none_unused i term round l is can.room unused
-    no_step_still i l can (receives m others is step) = lone.logs.full.whole i l (record { not_leader = can.not_leader; room = can.room; event = receives m others is step })
+    no_step_still i l can (receives m others is step) = lone.logs.full.whole i l (record { not_last = can.not_last; room = can.room; event = receives m others is step })
 
     draws_still : (i : ℕ) → i < s.nodes → BeginsWith (node_draws (with_draws s ds) i) (drawn (events_at lone.logs.run i))
     draws_still i l =

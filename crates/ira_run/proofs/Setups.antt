@@ -15,24 +15,24 @@ seen_rows : {V : Type 0} (see : V → List ℕ) (P : List ℕ → Type 0) (n : �
 seen_rows {V} see P n rows many each k d l = subst P (get_or-map see rows k d [] l) (each k (omega arith))
 
 -- each row holds IDs exactly where the setup gives IDs
-seen : {V : Type 0} (see : V → List ℕ) (n : ℕ) (kinds : List Bool) (rows : List V) (most : ℕ) (stopped_for_quiet : Bool) → IsForEachNode (record { nodes = n; initiators = kinds; draws = map see rows; cap = most })
-    → (IsTrue stopped_for_quiet ↔ All (λ row. All (λ d. (1 ≤ d) × (d ≤ n)) (see row)) rows) → IsTrue stopped_for_quiet ↔ GivesIds (record { nodes = n; initiators = kinds; draws = map see rows; cap = most })
-seen {V} see n kinds rows most stopped_for_quiet lists is =
+seen : {V : Type 0} (see : V → List ℕ) (n : ℕ) (kinds : List Bool) (rows : List V) (most terms : ℕ) (stopped_for_quiet : Bool) → IsForEachNode (record { nodes = n; initiators = kinds; draws = map see rows; cap = most; terms = terms })
+    → (IsTrue stopped_for_quiet ↔ All (λ row. All (λ d. (1 ≤ d) × (d ≤ n)) (see row)) rows) → IsTrue stopped_for_quiet ↔ GivesIds (record { nodes = n; initiators = kinds; draws = map see rows; cap = most; terms = terms })
+seen {V} see n kinds rows most terms stopped_for_quiet lists is =
     let P : List ℕ → Type 0 = λ ids. All (λ d. (1 ≤ d) × (d ≤ n)) ids in
     let many : length rows ≡ n = omega (arith, length-map rows see, lists.1) in (
       λ y. rows_seen see P n rows many (is.0 y),
       λ gives. is.1 (seen_rows see P n rows many gives),
     )
 
-pub seen_ids : {V : Type 0} (see : V → List ℕ) (n : ℕ) (kinds : List Bool) (rows : List V) (most : ℕ) (stopped_for_quiet : Bool) (s : Setup) → record { nodes = n; initiators = kinds; draws = map see rows; cap = most } ≡ s → IsForEachNode s
+pub seen_ids : {V : Type 0} (see : V → List ℕ) (n : ℕ) (kinds : List Bool) (rows : List V) (most terms : ℕ) (stopped_for_quiet : Bool) (s : Setup) → record { nodes = n; initiators = kinds; draws = map see rows; cap = most; terms = terms } ≡ s → IsForEachNode s
     → (IsTrue stopped_for_quiet ↔ All (λ row. All (λ d. (1 ≤ d) × (d ≤ n)) (see row)) rows) → IsTrue stopped_for_quiet ↔ GivesIds s
-seen_ids {V} see n kinds rows most stopped_for_quiet s is lists each =
-    let P : Setup → Type 0 = λ x. IsForEachNode x → IsTrue stopped_for_quiet ↔ GivesIds x in subst P is (λ h. seen see n kinds rows most stopped_for_quiet h each) lists
+seen_ids {V} see n kinds rows most terms stopped_for_quiet s is lists each =
+    let P : Setup → Type 0 = λ x. IsForEachNode x → IsTrue stopped_for_quiet ↔ GivesIds x in subst P is (λ h. seen see n kinds rows most terms stopped_for_quiet h each) lists
 
 -- what the code reads of a setup for a place
-pub read_setup : {V : Type 0} (see : V → List ℕ) (n : ℕ) (kinds : List Bool) (rows : List V) (most : ℕ) (s : Setup) (i : ℕ) (kind : Bool) (row : V) → record { nodes = n; initiators = kinds; draws = map see rows; cap = most } ≡ s → IsForEachNode s → i < s.nodes
+pub read_setup : {V : Type 0} (see : V → List ℕ) (n : ℕ) (kinds : List Bool) (rows : List V) (most terms : ℕ) (s : Setup) (i : ℕ) (kind : Bool) (row : V) → record { nodes = n; initiators = kinds; draws = map see rows; cap = most; terms = terms } ≡ s → IsForEachNode s → i < s.nodes
     → kind ≡ get_or kinds i kind → row ≡ get_or rows i row → (kind ≡ is_initiator s i) × (see row ≡ node_draws s i)
-read_setup {V} see n kinds rows most s i kind row view lists l kind_is row_is =
+read_setup {V} see n kinds rows most terms s i kind row view lists l kind_is row_is =
     let nodes : n ≡ s.nodes = ap (λ (x : Setup). x.nodes) view in
     let kinds_are : length kinds ≡ s.nodes = ap (λ (x : Setup). length x.initiators) view ∙ lists.0 in
     let rows_are : length rows ≡ s.nodes = sym (length-map rows see) ∙ ap (λ (x : Setup). length x.draws) view ∙ lists.1 in (

@@ -12,6 +12,7 @@ use Rattle.ira_node.specs.NodeState.{first_state, free, IsLeader}
 use Rattle.ira_node.specs.NodeStep.{HasStep}
 use Rattle.ira_order.specs.Ring.{prev}
 use Rattle.ira_order.specs.Run.{Configuration, RingStep, event_of, IsRunOfLogs}
+use Rattle.ira_run.specs.Terms.{version_of, IsLastLeader}
 use Rattle.ira_run.specs.Setup.{Setup, is_initiator, node_draws}
 
 -- each node is in the first state of its kind, and the links are empty
@@ -33,20 +34,22 @@ drawing Yield = None
 abbrev pub drawn : List Event → List ℕ
 drawn events = filter_map drawing events
 
--- a node in this state, which has made these events, was given these IDs, and has these loads before
--- it, owes a load, or has to draw and has an unused ID, or receives and the first load has a step
-pub data HasEvent (n : ℕ) (ids : List ℕ) (state : NodeState) (events : List Event) (input : List Load) : Type 0 where
-  owes : (l : Load) → state.owed ≡ Some l → HasEvent n ids state events input
-  chooses : (term round : ℕ) → state ≡ free term (Choosing round) → length (drawn events) < length ids → HasEvent n ids state events input
-  receives : (l : Load) (others : List Load) → input ≡ l ∷ others → HasStep n state (Got l) → HasEvent n ids state events input
+-- in a run of so many terms a node in this state, which has made these events, was given these IDs, and has
+-- these loads before it, leads in a term before the last, or owes a load, or has to draw and has an unused
+-- ID, or receives and the first load has a step
+pub data HasEvent (n terms : ℕ) (ids : List ℕ) (state : NodeState) (events : List Event) (input : List Load) : Type 0 where
+  yields : IsLeader state.phase → state.term < terms → HasEvent n terms ids state events input
+  owes : (l : Load) → state.owed ≡ Some l → HasEvent n terms ids state events input
+  chooses : (term round : ℕ) → state ≡ free term (Choosing round) → length (drawn events) < length ids → HasEvent n terms ids state events input
+  receives : (l : Load) (others : List Load) → input ≡ l ∷ others → HasStep n state (Got l) → HasEvent n terms ids state events input
 
--- in configuration c, to which the events past led, node i can step: it is no leader, it has made fewer
--- events than the cap, and it owes a load, or has to draw and has an unused ID, or receives and the
--- first load on the link that leads to it has a step
+-- in configuration c, to which the events past led, node i can step: it is no leader in the last term, it
+-- has made fewer events than the cap, and it leads in a term before the last, or owes a load, or has to draw
+-- and has an unused ID, or receives and the first load on the link that leads to it has a step
 pub record CanStep (s : Setup) (past : List (ℕ × Event)) (c : Configuration) (i : ℕ) : Type 0 where
-  pub not_leader : ¬ (IsLeader (c.state i).phase)
+  pub not_last : ¬ (IsLastLeader s.terms (c.state i))
   pub room : length (events_at past i) < s.cap
-  pub event : HasEvent s.nodes (node_draws s i) (c.state i) (events_at past i) (c.link (prev s.nodes i))
+  pub event : HasEvent s.nodes s.terms (node_draws s i) (c.state i) (events_at past i) (c.link (prev s.nodes i))
 
 -- from configuration c, to which the events past led, these events, each with the place of its node,
 -- lead by ring steps to configuration d, and each is of a node that can step at its point
@@ -66,11 +69,11 @@ pub record IsFullRun (s : Setup) (run : List (ℕ × Event)) (end : Configuratio
   pub draws : (i : ℕ) → i < s.nodes → BeginsWith (node_draws s i) (drawn (events_at run i))
   pub whole : (i : ℕ) → i < s.nodes → ¬ (CanStep s run end i)
 
--- logs of the setup's ring, of version 1, each of its place and of its node's start kind
+-- logs of the setup's ring, of the version for its size and terms, each of its place and of its node's start kind
 pub record AreLogsOf (s : Setup) (logs : List Log) : Type 0 where
   pub ring : AreLogs logs
   pub number : length logs ≡ s.nodes
-  pub versions : EachLog logs (λ i log. log.version ≡ 1)
+  pub versions : EachLog logs (λ i log. log.version ≡ version_of s.nodes s.terms)
   pub kinds : EachLog logs (λ i log. log.initiator ≡ is_initiator s i)
 
 -- the logs of a full run of the setup

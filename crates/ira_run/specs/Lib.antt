@@ -10,3 +10,4 @@ pub mod Run
 pub mod RunFault
 pub mod Setup
 pub mod ShownEnd
+pub mod Terms

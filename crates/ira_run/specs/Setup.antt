@@ -1,15 +1,16 @@
 -- What a run of a ring starts from, and the rules that it has to keep.
 use Rattle.std.specs.Prelude.{◌≡◌, ℕ, ◌<◌, ◌≤◌, Bool, true, false, List, [], All, length, slice_index_or}
-use Rattle.ira_event.specs.declared.limits.TheConstants.{MAX_RECORDS}
+use Rattle.ira_event.specs.Limits.{MAX_NUMBER, MAX_RECORDS}
 use Rattle.ira_event.specs.RingSize.{IsRingSize}
 
 -- the ring's size, whether each node is an initiator, the IDs that each node is given to draw, in their
--- order, and the most events of a node
+-- order, the most events of a node, and how many terms there are
 pub record Setup : Type 0 where
   pub nodes : ℕ
   pub initiators : List Bool
   pub draws : List (List ℕ)
   pub cap : ℕ
+  pub terms : ℕ
 
 -- whether node i is an initiator
 abbrev pub is_initiator : Setup → ℕ → Bool
@@ -35,6 +36,10 @@ GivesIds s = (i : ℕ) → i < s.nodes → All (λ d. (1 ≤ d) × (d ≤ s.node
 abbrev pub HasCap : Setup → Type 0
 HasCap s = (1 ≤ s.cap) × (s.cap ≤ MAX_RECORDS)
 
+-- there is at least one term, and no more than a node can count
+abbrev pub HasTerms : Setup → Type 0
+HasTerms s = (1 ≤ s.terms) × (s.terms ≤ MAX_NUMBER)
+
 -- a setup that keeps the rules
 pub record KeepsRules (s : Setup) : Type 0 where
   pub size : IsRingSize s.nodes
@@ -42,3 +47,4 @@ pub record KeepsRules (s : Setup) : Type 0 where
   pub initiator : HasInitiator s
   pub ids : GivesIds s
   pub cap : HasCap s
+  pub terms : HasTerms s

@@ -11,6 +11,7 @@ mod node_part;
 mod run;
 mod run_fault;
 mod setup;
+mod terms;
 
 pub use collector::Collector;
 pub use draws::draw_lists;
@@ -24,3 +25,4 @@ pub use node_part::NodePart;
 pub use run::Run;
 pub use run_fault::RunFault;
 pub use setup::Setup;
+pub use terms::{is_last_leader, log_version};

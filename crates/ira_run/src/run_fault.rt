@@ -9,7 +9,7 @@ use thiserror::Error;
 #[derive(Clone, Copy, Debug, PartialEq, Eq, Error)]
 pub enum RunFault {
     /// The setup has a list that isn't as long as the ring has nodes, no initiator, a draw outside
-    /// `1..=N`, or a limit on records outside `1..=MAX_RECORDS`.
+    /// `1..=N`, a limit on records outside `1..=MAX_RECORDS`, or terms outside `1..=MAX_NUMBER`.
     #[error("setup")]
     Setup,
     /// A growth was refused.

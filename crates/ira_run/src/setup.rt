@@ -1,14 +1,14 @@
 ghost use Rattle.std.specs.Prelude.{◌≡◌, ◌≤◌, ◌↔◌, IsTrue, All};
 ghost use Rattle.ira_event.specs.RingSize.{IsRingSize};
-ghost use Rattle.ira_run.specs.Setup.{IsForEachNode, HasInitiator, GivesIds, HasCap, KeepsRules};
+ghost use Rattle.ira_run.specs.Setup.{IsForEachNode, HasInitiator, GivesIds, HasCap, HasTerms, KeepsRules};
 
-use ira_event::{MAX_RECORDS, RingSize};
+use ira_event::{MAX_NUMBER, MAX_RECORDS, RingSize};
 use std::alloc::Allocator;
 use std::marker::Model;
 
 /// What a run of a ring starts from. Anybody may make one, and it may break the rules. These are: each list has a
-/// member for each node, some node is an initiator, each draw is in `1..=N`, and the cap is in
-/// `1..=MAX_RECORDS`.
+/// member for each node, some node is an initiator, each draw is in `1..=N`, the cap is in
+/// `1..=MAX_RECORDS`, and the terms are in `1..=MAX_NUMBER`.
 #[derive(Drop)]
 pub struct Setup<A: Allocator> {
     /// How many nodes the ring has.
@@ -19,6 +19,8 @@ pub struct Setup<A: Allocator> {
     pub draws: Vec<Vec<u32, A>, A>,
     /// The most records that a node's log may have.
     pub cap: usize,
+    /// How many terms there are: each leader but that of the last one yields.
+    pub terms: u32,
 }
 
 impl<A: Allocator> Model for Setup<A> {
@@ -34,6 +36,7 @@ impl<A: Allocator> Model for Setup<A> {
       draws = map
           (λ ids. ids.items) a.draws.items;
       cap = a.cap;
+      terms = a.terms;
     } };
 }
 
@@ -42,7 +45,11 @@ impl<A: Allocator> Setup<A> {
     pub fn keeps_rules(&self) -> bool
         ensures { IsTrue result ↔ KeepsRules self.now }
     {
-        self.is_for_each_node() && self.has_initiator() && self.gives_ids() && self.has_cap()
+        self.is_for_each_node()
+            && self.has_initiator()
+            && self.gives_ids()
+            && self.has_cap()
+            && self.has_terms()
     }
 
     fn is_for_each_node(&self) -> bool
@@ -71,6 +78,12 @@ impl<A: Allocator> Setup<A> {
         ensures { IsTrue result ↔ HasCap self.now }
     {
         (1..=MAX_RECORDS).contains(&self.cap)
+    }
+
+    fn has_terms(&self) -> bool
+        ensures { IsTrue result ↔ HasTerms self.now }
+    {
+        (1..=MAX_NUMBER).contains(&self.terms)
     }
 }
 

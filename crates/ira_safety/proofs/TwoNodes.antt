@@ -29,6 +29,7 @@ is_log : (version place : ℕ) (initiator : Bool) (events : List Event) → IsVe
 is_log version place initiator events known low few numbers held = record {
   version = known;
   size = (lit≤ tt, lit≤ tt);
+  fits = λ _. omega arith;
   place = low;
   count = omega arith;
   numbers = numbers;

@@ -21,7 +21,7 @@ finished_more (d ∷ ds) (x ∷ xs) promise finished h k = (h.0, finished_more d
 -- what a promise asks for, of the place and of the links that it turned out to be for
 moved : (s : Setup) (task : NodeTask) (k : ℕ) (a : LinkName) (finished : FinishedNode) → task.place ≡ k → task.input ≡ a → KeepsPromise (promise_of s task) finished → KeepsPromise (record { setup = s; place = k; input = a; output = finished.output.link }) finished
 moved s task k a finished place input h =
-    let P : ℕ → Type 0 = λ i. IsRecorded s.nodes i (is_initiator s i) (node_draws s i) s.cap finished.log finished.end in
+    let P : ℕ → Type 0 = λ i. IsRecorded s.nodes i (is_initiator s i) (node_draws s i) s.cap s.terms finished.log finished.end in
     record {
       place = h.place ∙ place;
       recorded = subst P place h.recorded;

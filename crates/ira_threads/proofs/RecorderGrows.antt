@@ -1,14 +1,19 @@
 -- A recorder with one event more.
-use Rattle.std.proofs.Common.{◌≡◌, ℕ, ◌+◌, ◌<◌, Bool, List, [], ◌∷◌, ◌++◌, length, true, refl, ◌∙◌, subst, arith}
+use Rattle.std.proofs.Common.{◌≡◌, ℕ, ◌+◌, ◌<◌, Bool, List, [], ◌∷◌, ◌++◌, length, true, refl, sym, ◌∙◌, subst, arith}
 use Rattle.std.specs.List.{list_all}
 use Rattle.std.proofs.lemmas.List.Folds.{list_all-append}
 use Rattle.std.proofs.lemmas.List.{length-append}
 use Rattle.ira_event.specs.declared.event.Event.{Event}
+use Rattle.ira_event.specs.declared.event.Event.TheVariants.{Yield}
 use Rattle.ira_event.specs.Event.{is_event, is_of_version}
+use Rattle.ira_event.specs.Log.{Log}
 use Rattle.ira_node.specs.declared.node_state.NodeState.{NodeState}
+use Rattle.ira_node.specs.NodeState.{first_state}
 use Rattle.ira_node.specs.NodeStep.{NodeStep}
 use Rattle.ira_node.proofs.Ranges.{stays}
 use Rattle.ira_replay.specs.LocalRun.{LeadsTo}
+use Rattle.ira_run.specs.Terms.{YieldsBelow}
+use Rattle.ira_run.proofs.Yields.{yields_more}
 use Rattle.ira_threads.specs.Recorder.{Recorder, IsRecorder}
 
 leads_on : (n : ℕ) (s : NodeState) (es : List Event) (t : NodeState) (e : Event) (u : NodeState) → LeadsTo n s es t → NodeStep n t e u → LeadsTo n s (es ++ e ∷ []) u
@@ -25,6 +30,7 @@ grown r e t h low number of_version step =
       log = record {
         version = h.log.version;
         size = h.log.size;
+        fits = h.log.fits;
         place = h.log.place;
         count = omega (arith, more, low, h.most);
         numbers = all_on is_event r.log.events e h.log.numbers number;
@@ -35,3 +41,13 @@ grown r e t h low number of_version step =
       leads = leads_on r.log.nodes _ r.log.events r.state e t h.leads step;
       numbers = stays r.log.nodes r.state e t h.log.size h.numbers number step;
     }
+
+-- no event is no yield
+pub none_yields : (terms n : ℕ) (s : NodeState) (es : List Event) → es ≡ [] → YieldsBelow terms n s es
+none_yields terms n s es none = subst (λ (x : List Event). YieldsBelow terms n s x) (sym none) tt
+
+-- one event more, which is no yield in the last term
+pub yields_on : (terms : ℕ) (r : Recorder) (b : Log) (e : Event) → IsRecorder r → YieldsBelow terms r.log.nodes (first_state r.log.initiator) r.log.events → (e ≡ Yield → r.state.term < terms) → b ≡ record r.log { events = r.log.events ++ e ∷ [] } → YieldsBelow terms b.nodes (first_state b.initiator) b.events
+yields_on terms r b e valid below low is =
+    let P : Log → Type 0 = λ x. YieldsBelow terms x.nodes (first_state x.initiator) x.events in
+    subst P (sym is) (yields_more terms r.log.nodes (first_state r.log.initiator) r.log.events r.state e valid.leads below low)

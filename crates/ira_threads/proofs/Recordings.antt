@@ -18,6 +18,7 @@ use Rattle.ira_order.specs.Matching.{sent, got}
 use Rattle.ira_run.specs.declared.node_end.NodeEnd.{NodeEnd}
 use Rattle.ira_run.specs.declared.run_fault.RunFault.{RunFault}
 use Rattle.ira_run.specs.declared.node_end.NodeEnd.TheVariants.{Leader, Stopped, DrawsSpent, LogFull, NoStep, Quiet}
+use Rattle.ira_run.specs.Terms.{version_of, YieldsBelow}
 use Rattle.ira_run.specs.Setup.{Setup, is_initiator, node_draws}
 use Rattle.ira_run.specs.FullRun.{drawn, BeginsWith}
 use Rattle.ira_run.specs.Run.{Run, IsRun}
@@ -51,7 +52,7 @@ all_of_put (g ∷ gs) (s ∷ ss) left e =
     cc
 
 -- what an end says of a node's own log, and the frames on the link that it read, show the end
-shown : (s : Setup) (i : ℕ) (state : NodeState) (events : List Event) (sendings : List Load) (left : List Frame) (end : NodeEnd) → EndsAs s.nodes s.cap (node_draws s i) state events end → frames_taken events end ++ left ≡ frames sendings ++ Stop ∷ [] → Says s i state events sendings end
+shown : (s : Setup) (i : ℕ) (state : NodeState) (events : List Event) (sendings : List Load) (left : List Frame) (end : NodeEnd) → EndsAs s.nodes s.cap s.terms (node_draws s i) state events end → frames_taken events end ++ left ≡ frames sendings ++ Stop ∷ [] → Says s i state events sendings end
 shown s i state events sendings left Leader h e = h
 shown s i state events sendings left LogFull h e = h
 shown s i state events sendings left DrawsSpent h e = h
@@ -66,11 +67,11 @@ prev_within n zero l = omega arith
 prev_within n (suc i) l = omega arith
 
 -- what the node of a place recorded
-recorded_at : (s : Setup) (finished_nodes : List FinishedNode) (i : ℕ) (d : FinishedNode) → AreFinishedOnRing s finished_nodes → slice_get finished_nodes i ≡ Some d → IsRecorded s.nodes i (is_initiator s i) (node_draws s i) s.cap d.log d.end
+recorded_at : (s : Setup) (finished_nodes : List FinishedNode) (i : ℕ) (d : FinishedNode) → AreFinishedOnRing s finished_nodes → slice_get finished_nodes i ≡ Some d → IsRecorded s.nodes i (is_initiator s i) (node_draws s i) s.cap s.terms d.log d.end
 recorded_at s finished_nodes i d ring at =
     let h = finished_at s 0 s.nodes ring.0 ring.0 finished_nodes i d ring.1 at in
     let place : h.0.place ≡ i = omega (arith, h.2) in
-    let P : Setup × ℕ → Type 0 = λ z. IsRecorded z.0.nodes z.1 (is_initiator z.0 z.1) (node_draws z.0 z.1) z.0.cap d.log d.end in
+    let P : Setup × ℕ → Type 0 = λ z. IsRecorded z.0.nodes z.1 (is_initiator z.0 z.1) (node_draws z.0 z.1) z.0.cap z.0.terms d.log d.end in
     subst P (λ j. (h.1 j, place j)) h.3.recorded
 
 -- the frames on the link that leads to it: those that it took begin those that the node before it put
@@ -89,7 +90,7 @@ local_run n kind log state nodes is h =
 
 -- the log and the end of a place, and the log of the place before it
 pub record At (s : Setup) (finished_nodes : List FinishedNode) (run : Run) (i : ℕ) (d : FinishedNode) : Type 0 where
-  pub recorded : IsRecorded s.nodes i (is_initiator s i) (node_draws s i) s.cap d.log d.end
+  pub recorded : IsRecorded s.nodes i (is_initiator s i) (node_draws s i) s.cap s.terms d.log d.end
   pub events : log_of run.logs i ≡ d.log.events
   pub before : FinishedNode
   pub sendings : log_of run.logs (prev s.nodes i) ≡ before.log.events
@@ -133,7 +134,7 @@ is_recording s finished_nodes run valid ring passed logs ends =
       logs = record {
         ring = valid.logs;
         number = ap length logs ∙ length-map finished_nodes (λ finished. finished.log) ∙ sym many;
-        versions = λ i log there. let p = log_at i log there in let P : Log → Type 0 = λ x. x.version ≡ 1 in subst P p.2 (at i p.0 p.1).recorded.version;
+        versions = λ i log there. let p = log_at i log there in let P : Log → Type 0 = λ x. x.version ≡ version_of s.nodes s.terms in subst P p.2 (at i p.0 p.1).recorded.version;
         kinds = λ i log there. let p = log_at i log there in let P : Log → Type 0 = λ x. x.initiator ≡ is_initiator s i in subst P p.2 (at i p.0 p.1).recorded.kind;
       };
       runs = λ i log there.
@@ -142,6 +143,7 @@ is_recording s finished_nodes run valid ring passed logs ends =
           subst IsLocalRun p.2 (local_run s.nodes (is_initiator s i) p.0.log rec.state rec.nodes rec.kind rec.run);
       counts = λ i log there. let p = log_at i log there in let P : Log → Type 0 = λ x. length x.events ≤ s.cap in subst P p.2 (at i p.0 p.1).recorded.count;
       draws = λ i log there. let p = log_at i log there in let P : Log → Type 0 = λ x. BeginsWith (node_draws s i) (drawn x.events) in subst P p.2 (at i p.0 p.1).recorded.draws;
+      yields = λ i log there. let p = log_at i log there in let P : Log → Type 0 = λ x. YieldsBelow s.terms s.nodes (first_state (is_initiator s i)) x.events in subst P p.2 (at i p.0 p.1).recorded.yields;
       links = λ i log there.
           let p = log_at i log there in
           let P : Log → Type 0 = λ x. BeginsWith (sent (log_of run.logs (prev s.nodes i))) (got x.events) in
@@ -154,7 +156,7 @@ is_recording s finished_nodes run valid ring passed logs ends =
       none_quiet = λ i there.
           let p = end_at i Quiet there in
           let rec = (at i p.0 p.1).recorded in
-          let P : NodeEnd → Type 0 = λ x. EndsAs s.nodes s.cap (node_draws s i) rec.state p.0.log.events x in
+          let P : NodeEnd → Type 0 = λ x. EndsAs s.nodes s.cap s.terms (node_draws s i) rec.state p.0.log.events x in
           subst P p.2 rec.end;
     }
 

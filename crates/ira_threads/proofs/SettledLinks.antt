@@ -12,6 +12,7 @@ use Rattle.ira_links.specs.declared.frame.Frame.{Frame}
 use Rattle.ira_links.specs.LinkEnd.{LinkName, LinkEnd}
 use Rattle.ira_run.specs.declared.node_end.NodeEnd.{NodeEnd}
 use Rattle.ira_run.specs.declared.run_fault.RunFault.{RunFault}
+use Rattle.ira_run.specs.Terms.{version_of}
 use Rattle.ira_run.specs.Setup.{Setup}
 use Rattle.ira_run.specs.Run.{Run}
 use Rattle.ira_run.specs.declared.node_end.NodeEnd.TheVariants.{Stopped}
@@ -108,7 +109,7 @@ pub record Settling (n : ℕ) (all left : List FinishedNode) (first last : LinkE
   pub first_is : first.frames ≡ head.input.frames
   pub passed : FramesPass head.output.frames past last.frames
   pub taken_is : taken ≡ taken_of (head ∷ past) (length left)
-  pub versions : AreOfVersion 1 taken
+  pub versions : AreOfVersion (version_of setup.nodes setup.terms) taken
 
 -- the first of them, as the code holds it
 pub first_held : (all rest : List FinishedNode) (seen held : FinishedNode) → all ≡ seen ∷ rest → held ≡ seen → all ≡ held ∷ rest
@@ -132,7 +133,7 @@ settling_first n all left head old new parts ring none kept =
       first_is = refl;
       passed = refl;
       taken_is = taken_more [] (length left) head.place head old new here.0.place (none ∙ ap (λ k. replicate k None) many) kept;
-      versions = of_version_more 1 old new head.place (head.log, head.end) kept here.0.recorded.version (none_taken 1 n old none);
+      versions = of_version_more (version_of s.nodes s.terms) old new head.place (head.log, head.end) kept here.0.recorded.version (none_taken (version_of s.nodes s.terms) n old none);
     }
 
 pub settling_more : (n : ℕ) (all left rest : List FinishedNode) (finished : FinishedNode) (first last : LinkEnd) (old new : List (Option (Log × NodeEnd))) → left ≡ finished ∷ rest → Settling n all left first last old → IsPrefix finished.input.frames last.frames → KeepsPart old finished.place (finished.log, finished.end) new → Settling n all rest first finished.output new
@@ -150,7 +151,7 @@ settling_more n all left rest finished first last old new is was took kept =
       first_is = was.first_is;
       passed = passed_more was.head.output.frames last.frames was.past finished was.passed took;
       taken_is = taken_more (was.head ∷ was.past) (length rest) finished.place finished old new here.0.place (was.taken_is ∙ ap (λ ds. taken_of (was.head ∷ was.past) (length ds)) is) kept;
-      versions = of_version_more 1 old new finished.place (finished.log, finished.end) kept here.0.recorded.version was.versions;
+      versions = of_version_more (version_of was.setup.nodes was.setup.terms) old new finished.place (finished.log, finished.end) kept here.0.recorded.version was.versions;
     }
 
 -- the next part can be taken

@@ -1,18 +1,22 @@
--- What a node sends that recorded events of its log's version, that version has.
-use Rattle.std.proofs.Common.{◌≡◌, ℕ, Bool, true, false, not, ◌||◌, nat_lt, List, [], ◌∷◌, refl, subst}
+-- What a node sends that recorded events of its log's version, that version has, and so with its yields.
+use Rattle.std.proofs.Common.{◌≡◌, ℕ, ◌<◌, ◌≤◌, Bool, true, false, not, ◌&&◌, ◌||◌, nat_lt, List, [], ◌∷◌, refl, sym, ap, ◌∙◌, subst, arith}
+use Rattle.std.specs.Prelude.{nat_le, if◌then◌else◌}
 use Rattle.std.specs.List.{list_all}
+use Rattle.std.proofs.lemmas.Bool.Decides.{nat_tests}
 use Rattle.std.proofs.Math.Bool.{or-true}
 use Rattle.ira_event.specs.declared.load.Load.{Load}
 use Rattle.ira_event.specs.declared.event.Event.{Event}
-use Rattle.ira_event.specs.declared.event.Event.TheVariants.{Sent}
-use Rattle.ira_event.specs.Event.{is_reset, is_later, is_of_version}
+use Rattle.ira_event.specs.declared.event.Event.TheVariants.{Sent, Yield}
+use Rattle.ira_event.specs.Limits.{MAX_NUMBER, MAX_VERSION_1_NODES}
+use Rattle.ira_event.specs.Event.{is_number, is_reset, is_later, is_of_version}
 use Rattle.ira_event.proofs.Numerals.{and_parts}
 use Rattle.ira_node.specs.declared.node_state.NodeState.{NodeState}
-use Rattle.ira_node.specs.NodeState.{first_state}
+use Rattle.ira_node.specs.NodeState.{first_state, is_phase, is_debt}
 use Rattle.ira_node.specs.NodeStep.{HasStep}
 use Rattle.ira_node.specs.Plain.{is_plain}
 use Rattle.ira_node.proofs.Plain.{owes_no_reset, sends_no_reset}
 use Rattle.ira_replay.specs.LocalRun.{LeadsTo}
+use Rattle.ira_run.specs.Terms.{version_of}
 use Rattle.ira_threads.specs.Recorder.{Recorder, IsRecorder}
 
 first_plain : (b : Bool) → is_plain (first_state b).owed ≡ true
@@ -39,3 +43,23 @@ pub sending_of_version : (r : Recorder) (l : Load) → IsRecorder r → HasStep 
 sending_of_version r l valid step =
     sends_held (nat_lt 1 r.log.version) r.log.nodes r.state l
     (λ first. plain_behind r.log.version r.log.nodes (first_state r.log.initiator) r.log.events r.state first valid.log.held (first_plain r.log.initiator) valid.leads) step
+
+-- ---- the version for so many terms
+
+some_number : (n : ℕ) → nat_le 1 n ≡ true → 1 ≤ n
+some_number n h = grind (arith, nat_tests)
+
+-- the first term is 1
+first_term : (r : Recorder) → IsRecorder r → 1 ≤ r.state.term
+first_term r valid =
+    let term : is_number r.state.term ≡ true = (and_parts (is_number r.state.term) (is_phase r.state.phase) (and_parts (is_number r.state.term && is_phase r.state.phase) (is_debt r.state.owed) valid.numbers).0).0 in
+    some_number r.state.term (and_parts (nat_le 1 r.state.term) (nat_le r.state.term MAX_NUMBER) term).0
+
+more_terms : (term terms : ℕ) → 1 ≤ term → term < terms → nat_lt 1 terms ≡ true
+more_terms term terms some low = grind (arith, nat_tests)
+
+-- a node that yields before the last term has a log of version 2
+pub yield_of_version : (r : Recorder) (terms : ℕ) → IsRecorder r → r.log.version ≡ version_of r.log.nodes terms → r.state.term < terms → is_of_version r.log.version Yield ≡ true
+yield_of_version r terms valid version low =
+    let two : r.log.version ≡ 2 = version ∙ ap (λ (b : Bool). if b || nat_lt MAX_VERSION_1_NODES r.log.nodes then 2 else 1) (more_terms r.state.term terms (first_term r valid) low) in
+    ap (λ (v : ℕ). is_of_version v Yield) two

@@ -11,18 +11,19 @@ use Rattle.ira_event.proofs.Numerals.{and_parts}
 use Rattle.ira_event.specs.Log.{Log}
 use Rattle.ira_event.specs.declared.log_head.LogHead.{LogHead}
 use Rattle.ira_event.specs.LogText.{head_of}
-use Rattle.ira_node.specs.declared.wanted.Wanted.{Wanted}
-use Rattle.ira_node.specs.declared.wanted.Wanted.TheVariants.{Draw as WantsDraw, Send, Receipt, Yield as WantsYield, Nothing}
+use Rattle.ira_node.specs.declared.wanted.Wanted.TheVariants.{Draw as WantsDraw, Send, Receipt}
 use Rattle.ira_node.specs.declared.node_state.NodeState.{NodeState}
-use Rattle.ira_node.specs.NodeState.{first_state, IsLeader, Receives, is_phase, is_debt, is_state}
+use Rattle.ira_node.specs.NodeState.{first_state, Receives, is_phase, is_debt, is_state}
 use Rattle.ira_node.specs.NodeStep.{HasStep}
 use Rattle.ira_node.specs.Wanted.{wanted_of}
-use Rattle.ira_node.proofs.Wants.{wants_draw, wants_receipt, wants_send, wanting_leads_not}
+use Rattle.ira_node.proofs.Wants.{wants_draw, wants_receipt, wants_send, receiving_leads_not}
 use Rattle.ira_replay.specs.LocalRun.{LeadsTo}
+use Rattle.ira_run.specs.Terms.{version_of, IsLastLeader, YieldsBelow}
 use Rattle.ira_run.specs.FullRun.{drawn, BeginsWith}
 use Rattle.ira_run.specs.ShownEnd.{HasToDraw}
 use Rattle.ira_run.specs.Recording.{EndsAs, IsRecorded}
 use Rattle.ira_run.specs.declared.node_end.NodeEnd.{NodeEnd}
+use Rattle.ira_run.proofs.Choosing.{choosing_no_leader}
 use Rattle.ira_threads.specs.declared.record_fault.RecordFault.{RecordFault}
 use Rattle.ira_threads.specs.declared.record_fault.RecordFault.TheVariants.{NoStep, OtherVersion}
 use Rattle.ira_threads.specs.Recorder.{Recorder, IsRecorder, AreOfOneNode, RecordFaultOf}
@@ -44,9 +45,12 @@ owes_recordable r s l same h numbers =
     let all = subst (λ (x : NodeState). is_state x ≡ true) (sym same) numbers in
     sym owed ∙ (and_parts (is_number r.term && is_phase r.phase) (is_debt r.owed) all).1
 
--- a node that wants neither a yield nor nothing doesn't lead
-pub no_leader : (r s : NodeState) (w : Wanted) → r ≡ s → w ≡ wanted_of r.term r.phase r.owed → w ≢ WantsYield → w ≢ Nothing → ¬ (IsLeader s.phase)
-no_leader r s w same wants yields_not nor = subst (λ (x : NodeState). ¬ (IsLeader x.phase)) same (wanting_leads_not r.term r.phase r.owed w wants yields_not nor)
+-- neither of the two leads
+pub choosing_leads_not : (terms : ℕ) (s : NodeState) → HasToDraw s → ¬ (IsLastLeader terms s)
+choosing_leads_not terms s h leads = choosing_no_leader h.0 h.1 s h.2 leads.0
+
+pub waiting_leads_not : (terms : ℕ) (s : NodeState) → Receives s.phase → ¬ (IsLastLeader terms s)
+waiting_leads_not terms s waits leads = receiving_leads_not s.phase waits leads.0
 
 -- an event of the log's version that has a step is recorded
 pub no_fault : (r : Recorder) (e : Event) (f : RecordFault) → HasStep r.log.nodes r.state e → is_of_version r.log.version e ≡ true → RecordFaultOf r e f → ⊥
@@ -78,14 +82,18 @@ one_node a b c es h k = ap head_of h ∙ k
 pub same_ring : (a b : Log) → AreOfOneNode a b → a.nodes ≡ b.nodes
 same_ring a b one = ap (λ (head : LogHead). head.nodes) one
 
+pub same_version : (a b : Log) → AreOfOneNode a b → a.version ≡ b.version
+same_version a b one = ap (λ (head : LogHead). head.version) one
+
 -- what a recorder of this node says when the node has ended
-pub recorded : (r q : Recorder) (log : Log) (how : NodeEnd) (ids : List ℕ) → IsRecorder r → AreOfOneNode r.log q.log → q.log.version ≡ 1 → r.cap ≡ q.cap → log ≡ r.log → BeginsWith ids (drawn r.log.events) → EndsAs q.log.nodes q.cap ids r.state r.log.events how → IsRecorded q.log.nodes q.log.place q.log.initiator ids q.cap log how
-recorded r q log how ids valid one first cap same draws end =
+pub recorded : (r q : Recorder) (log : Log) (how : NodeEnd) (ids : List ℕ) (terms : ℕ) → IsRecorder r → AreOfOneNode r.log q.log → q.log.version ≡ version_of q.log.nodes terms → r.cap ≡ q.cap → log ≡ r.log → BeginsWith ids (drawn r.log.events) → YieldsBelow terms r.log.nodes (first_state r.log.initiator) r.log.events → EndsAs q.log.nodes q.cap terms ids r.state r.log.events how → IsRecorded q.log.nodes q.log.place q.log.initiator ids q.cap terms log how
+recorded r q log how ids terms valid one version cap same draws below end =
     let nodes : r.log.nodes ≡ q.log.nodes = ap (λ (head : LogHead). head.nodes) one in
     let kind : r.log.initiator ≡ q.log.initiator = ap (λ (head : LogHead). head.initiator) one in
     let leads_on : LeadsTo q.log.nodes (first_state q.log.initiator) r.log.events r.state = rw (← nodes, ← kind) valid.leads in
+    let yields_on : YieldsBelow terms q.log.nodes (first_state q.log.initiator) r.log.events = rw (← nodes, ← kind) below in
     rw same (record {
-      version = ap (λ (head : LogHead). head.version) one ∙ first;
+      version = same_version r.log q.log one ∙ version;
       nodes = nodes;
       place = ap (λ (head : LogHead). head.place) one;
       kind = kind;
@@ -93,5 +101,6 @@ recorded r q log how ids valid one first cap same draws end =
       run = leads_on;
       count = omega (arith, valid.count, cap);
       draws = draws;
+      yields = yields_on;
       end = end;
     })

@@ -23,7 +23,7 @@ pub record FinishedNode : Type 0 where
 -- log and this end put and took
 pub record KeepsPromise (promise : TaskPromise) (finished : FinishedNode) : Type 0 where
   pub place : finished.place ≡ promise.place
-  pub recorded : IsRecorded promise.setup.nodes promise.place (is_initiator promise.setup promise.place) (node_draws promise.setup promise.place) promise.setup.cap finished.log finished.end
+  pub recorded : IsRecorded promise.setup.nodes promise.place (is_initiator promise.setup promise.place) (node_draws promise.setup promise.place) promise.setup.cap promise.setup.terms finished.log finished.end
   pub input : finished.input.link ≡ promise.input
   pub output : finished.output.link ≡ promise.output
   pub put : finished.output.frames ≡ frames_put finished.log.events

@@ -1,6 +1,6 @@
 -- The log of a node while it grows.
 use Rattle.std.specs.Prelude.{◌≡◌, ℕ, ◌≤◌, true, false, length}
-use Rattle.ira_event.specs.declared.limits.TheConstants.{MAX_RECORDS}
+use Rattle.ira_event.specs.Limits.{MAX_RECORDS}
 use Rattle.ira_event.specs.declared.event.Event.{Event}
 use Rattle.ira_event.specs.Event.{is_of_version}
 use Rattle.ira_event.specs.Log.{Log, IsLog}

@@ -91,6 +91,7 @@ impl<A: Allocator> NodeTask<A> {
             draws: &setup.draws[usize::from(place)],
             room,
             cap,
+            terms: setup.terms,
             input,
             output,
         };

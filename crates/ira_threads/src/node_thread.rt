@@ -1,6 +1,9 @@
 // What the thread of one node does.
-ghost use Rattle.std.specs.Prelude.{◌≡◌, ◌≤◌, [], IfOk, OnOk};
+ghost use Rattle.std.specs.Prelude.{◌≡◌, ◌≤◌, ◌++◌, [], IfOk, OnOk};
 ghost use Rattle.std.specs.List.{All};
+ghost use Rattle.ira_event.specs.Limits.{MAX_NUMBER};
+ghost use Rattle.ira_node.specs.NodeState.{first_state};
+ghost use Rattle.ira_run.specs.Terms.{version_of, YieldsBelow};
 ghost use Rattle.ira_run.specs.FullRun.{drawn, BeginsWith};
 ghost use Rattle.ira_threads.specs.NodeFrames.{frames, frames_put, frames_taken};
 ghost use Rattle.ira_threads.specs.Recorder.{AreOfOneNode};
@@ -13,37 +16,49 @@ use crate::recorder::Recorder;
 use ira_event::Event;
 use ira_links::{Closed, Frame, Gate, LinkIn, LinkOut};
 use ira_node::Wanted;
-use ira_run::{NodeEnd, NodePart};
+use ira_run::{NodeEnd, NodePart, log_version};
 use std::alloc::Allocator;
 use std::sync::Wait;
 use std::time::Clock;
 
-/// The turns of a node, up to its end.
+/// The turns of a node in a run of so many terms, up to its end.
 fn turns<R: Wait + Clock, G: Gate, A: Allocator>(
     rt: &R,
     gate: &G,
     node: &mut Recorder<A>,
+    terms: u32,
     draws: &[u32],
     input: &mut LinkIn<A>,
     output: &mut LinkOut<A>,
 ) -> Result<NodeEnd, Closed>
     requires empty { node.old.log.events ≡ [] }
-    requires fresh { (input.old.frames ≡ []) × (output.old.frames ≡ []) }
+    requires version { node.old.log.version ≡ version_of node.old.log.nodes terms }
+    requires terms { (1 ≤ terms) × (terms ≤ MAX_NUMBER) }
     requires ids { All (λ d. (1 ≤ d) × (d ≤ node.old.log.nodes)) draws.now }
     ensures node { AreOfOneNode node.new.log node.old.log × (node.new.cap ≡ node.old.cap) }
     ensures links { (input.new.link ≡ input.old.link) × (output.new.link ≡ output.old.link) }
-    ensures put { OnOk result (output.new.frames ≡ frames (sent node.new.log.events)) }
-    ensures taken { IfOk result (λ end. input.new.frames ≡ frames_taken node.new.log.events end) }
+    ensures put { OnOk result (output.new.frames ≡ output.old.frames ++ frames (sent node.new.log.events)) }
+    ensures taken { IfOk result
+        (λ end. input.new.frames ≡ input.old.frames ++ frames_taken node.new.log.events end) }
     ensures draws { OnOk result (BeginsWith draws.now (drawn node.new.log.events)) }
+    ensures yields { OnOk result
+        (YieldsBelow terms node.new.log.nodes (first_state node.new.log.initiator) node.new.log.events) }
     ensures end { IfOk result
-        (λ end. EndsAs node.old.log.nodes node.old.cap draws.now node.new.state node.new.log.events end) }
+        (λ end. EndsAs node.old.log.nodes node.old.cap terms draws.now node.new.state node.new.log.events end) }
 {
     let who = u32::from(node.place());
     let mut left = draws;
     for _ in rt.forever() {
-        match node.state().wanted() {
-            Wanted::Yield | Wanted::Nothing => return Ok(NodeEnd::Leader),
+        let state = node.state();
+        match state.wanted() {
+            Wanted::Nothing => return Ok(NodeEnd::Leader),
+            Wanted::Yield if state.term >= terms => return Ok(NodeEnd::Leader),
             _ if node.is_full() => return Ok(NodeEnd::LogFull),
+            Wanted::Yield => {
+                let Ok(()) = node.record(Event::Yield) else {
+                    unreachable!()
+                };
+            }
             Wanted::Draw => {
                 let Some((id, others)) = left.split_first() else {
                     return Ok(NodeEnd::DrawsSpent);
@@ -79,11 +94,12 @@ fn turns<R: Wait + Clock, G: Gate, A: Allocator>(
     unreachable!()
 }
 
-/// Runs one node: it follows its automaton, writes each event down, and ends as a leader, where its log
-/// is full, where it has to draw and its draws are spent, where a load has no step, or where `Stop`
-/// comes. In the end it puts one `Stop` on its link. Before each draw, each sending and each take it
-/// passes the gate under its place. Its log is of version 1. `Closed` where a link is, or where a reset comes
-/// that has a step, which a log of version 1 can't hold; then the work is dropped.
+/// Runs one node: it follows its automaton, writes each event down, yields where it leads in a term before
+/// the last, and ends as a leader of the last term, where its log is full, where it has to draw and its draws
+/// are spent, where a load has no step, or where `Stop` comes. In the end it puts one `Stop` on its link. Before
+/// each draw, each sending and each take it passes the gate under its place; a yield touches nothing that nodes
+/// share, and passes none. `Closed` where a link is, or where a reset comes that has a step and its log is of
+/// version 1, which can't hold it; then the work is dropped.
 pub fn node_body<R: Wait + Clock, G: Gate, A: Allocator>(
     rt: &R,
     work: NodeWork<A>,
@@ -92,11 +108,12 @@ pub fn node_body<R: Wait + Clock, G: Gate, A: Allocator>(
     ensures place { IfOk result (λ r. r.0.place ≡ work.entry.place) }
     ensures recorded { IfOk result
         (λ r. IsRecorded work.entry.nodes work.entry.place work.entry.initiator work.entry.draws.now
-        work.entry.cap r.0.log r.0.end) }
+        work.entry.cap work.entry.terms r.0.log r.0.end) }
     ensures links { IfOk result
         (λ r. (r.1.link ≡ work.entry.input.link) × (r.2.link ≡ work.entry.output.link)) }
-    ensures put { IfOk result (λ r. r.2.frames ≡ frames_put r.0.log.events) }
-    ensures taken { IfOk result (λ r. r.1.frames ≡ frames_taken r.0.log.events r.0.end) }
+    ensures put { IfOk result (λ r. r.2.frames ≡ work.entry.output.frames ++ frames_put r.0.log.events) }
+    ensures taken { IfOk result
+        (λ r. r.1.frames ≡ work.entry.input.frames ++ frames_taken r.0.log.events r.0.end) }
 {
     let NodeWork {
         nodes,
@@ -105,11 +122,19 @@ pub fn node_body<R: Wait + Clock, G: Gate, A: Allocator>(
         draws,
         room,
         cap,
+        terms,
         mut input,
         mut output,
     } = work;
-    let mut node = Recorder::new(1, nodes, place, initiator, cap, room);
-    let end = turns(rt, gate, &mut node, draws, &mut input, &mut output)?;
+    let mut node = Recorder::new(
+        log_version(nodes, terms),
+        nodes,
+        place,
+        initiator,
+        cap,
+        room,
+    );
+    let end = turns(rt, gate, &mut node, terms, draws, &mut input, &mut output)?;
     let Ok(()) = output.put(rt, Frame::Stop) else {
         return Err(Closed);
     };

@@ -1,6 +1,6 @@
 ghost use Rattle.std.specs.Prelude.{◌≡◌, ◌<◌, ◌≤◌, [], vec_capacity};
 ghost use Rattle.std.specs.List.{All};
-ghost use Rattle.ira_event.specs.declared.limits.TheConstants.{MAX_RECORDS};
+ghost use Rattle.ira_event.specs.Limits.{MAX_NUMBER, MAX_RECORDS};
 
 use ira_event::{Event, RingSize};
 use ira_links::{LinkIn, LinkOut};
@@ -18,11 +18,13 @@ pub struct NodeWork<'a, A: Allocator> {
     pub room: Vec<Event, A>,
     /// The most records that its log may have.
     pub cap: usize,
+    /// How many terms there are: where it leads in one before the last, it yields.
+    pub terms: u32,
     pub input: LinkIn<A>,
     pub output: LinkOut<A>,
     pub ghost is_place: { place < nodes },
     pub ghost are_ids: { All (λ d. (1 ≤ d) × (d ≤ nodes)) draws.now },
     pub ghost is_cap: { (1 ≤ cap) × (cap ≤ MAX_RECORDS) },
+    pub ghost are_terms: { (1 ≤ terms) × (terms ≤ MAX_NUMBER) },
     pub ghost has_room: { (room.items ≡ []) × (cap ≤ vec_capacity room) },
-    pub ghost are_fresh: { (input.frames ≡ []) × (output.frames ≡ []) },
 }

@@ -1,6 +1,7 @@
 ghost use Rattle.std.specs.Prelude.{◌≡◌, ◌∷◌, ◌++◌, ◌<◌, ◌≤◌, ◌↔◌, [], true, length, vec_capacity, IsTrue, OnOk, IfErr, OnErr};
-ghost use Rattle.ira_event.specs.declared.limits.TheConstants.{MAX_RECORDS};
+ghost use Rattle.ira_event.specs.Limits.{MAX_RECORDS};
 ghost use Rattle.ira_event.specs.Event.{is_event};
+ghost use Rattle.ira_event.specs.RingSize.{FitsVersion};
 ghost use Rattle.ira_event.specs.Version.{IsVersion};
 ghost use Rattle.ira_node.specs.NodeState.{first_state};
 ghost use Rattle.ira_node.specs.NodeStep.{NodeStep};
@@ -66,8 +67,9 @@ impl<A: Allocator> Recorder<A> {
         cap: usize,
         room: Vec<Event, A>,
     ) -> Recorder<A>
-        requires { IsVersion version × (place < nodes) × (cap ≤ MAX_RECORDS) × (room.items ≡ [])
-            × (cap ≤ vec_capacity room) }
+        requires version { IsVersion version × FitsVersion version nodes }
+        requires place { place < nodes }
+        requires room { (cap ≤ MAX_RECORDS) × (room.items ≡ []) × (cap ≤ vec_capacity room) }
         ensures { result
             ≡ record {
               log = record {

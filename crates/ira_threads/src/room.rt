@@ -1,6 +1,6 @@
 ghost use Rattle.std.specs.Prelude.{◌≡◌, ◌≤◌, ◌-◌, [], None, replicate, IfOk};
 ghost use Rattle.std.specs.VecDeque.{deque_capacity};
-ghost use Rattle.ira_links.specs.declared.limits.TheConstants.{MAX_CAPACITY};
+ghost use Rattle.ira_links.specs.Limits.{MAX_CAPACITY};
 ghost use Rattle.ira_threads.specs.NodeTask.{AreTasksOfPlaces, AreTasksOfRing};
 
 use crate::finished_node::FinishedNode;

@@ -11,9 +11,9 @@ use Rattle.clap.specs.Values.{kind_of}
 use Rattle.clap.specs.declared.error.Error.{Error}
 use Rattle.clap.specs.declared.error.kind.ErrorKind.TheVariants as kind
 use Rattle.clap.specs.declared.parser.matches.ArgMatches.{ArgMatches}
-use Rattle.ira_words.specs.CommandLine.{check_app, decide_app, ira_app, pairs_app, run_app}
+use Rattle.ira_words.specs.CommandLine.{check_app, decide_app, ira_app, pairs_app, run_app, upgrade_app}
 use Rattle.ira_words.specs.TakenValues.{AreFound, AreTaken}
-use Rattle.ira_words.proofs.FirstWord.{first_none, met_by_first, names, rows_of_check, rows_of_decide, rows_of_logs, rows_of_pairs, rows_of_run, second_none, stays, top}
+use Rattle.ira_words.proofs.FirstWord.{first_none, met_by_first, names, rows_of_check, rows_of_decide, rows_of_logs, rows_of_pairs, rows_of_run, rows_of_upgrade, second_none, stays, top}
 use Rattle.ira_words.proofs.FoundValues.{rows_found}
 use Rattle.ira_words.proofs.TakenValues.{AllFit, check_passes, given_some, required_given, rows_taken}
 
@@ -32,7 +32,11 @@ decide_fit : AllFit (command (codes "decide")).rules (command (codes "decide")).
 decide_fit = ((refl, refl), ((refl, refl), ((refl, refl), ((refl, refl), tt))))
 
 run_fit : AllFit (command (codes "run")).rules (command (codes "run")).rules
-run_fit = ((refl, refl), ((refl, refl), ((refl, refl), ((refl, refl), ((refl, refl), ((refl, refl), ((refl, refl), ((refl, refl), tt))))))))
+run_fit =
+    ((refl, refl), ((refl, refl), ((refl, refl), ((refl, refl), ((refl, refl), ((refl, refl), ((refl, refl), ((refl, refl), ((refl, refl), tt)))))))))
+
+upgrade_fit : AllFit (command (codes "upgrade")).rules (command (codes "upgrade")).rules
+upgrade_fit = ((refl, refl), ((refl, refl), ((refl, refl), tt)))
 
 pairs_fit : AllFit (command (codes "pairs")).rules (command (codes "pairs")).rules
 pairs_fit = ((refl, refl), ((refl, refl), tt))
@@ -74,6 +78,13 @@ unfolding walked
 run_fine others none =
     let stop = stays top.rules names (walk_from nothing_held) (codes "run") [] others in
     let behind = second_none (walk_fault top names (walk_from nothing_held) (codes "run" ∷ others)) _ none in
+    subst (λ o. entered_fault (built ira_app) o ≡ []) stop (first_none _ _ behind)
+
+upgrade_fine : (others : List Text) → fault_of ira_app (codes "upgrade" ∷ others) ≡ [] → HasNoFault (codes "upgrade") others
+unfolding walked
+upgrade_fine others none =
+    let stop = stays top.rules names (walk_from nothing_held) (codes "upgrade") [] others in
+    let behind = second_none (walk_fault top names (walk_from nothing_held) (codes "upgrade" ∷ others)) _ none in
     subst (λ o. entered_fault (built ira_app) o ≡ []) stop (first_none _ _ behind)
 
 -- there are names of logs, where the command has them as its required argument
@@ -195,3 +206,27 @@ module _ (a : App) (m : ArgMatches) (words : List Text) (found : List Row) (is :
       let fine = run_fine first.0 (faultless a words (codes "run") first.0 is none first.1) in
       subst (AreFound (built_leaf run_app.top).rules) (sym rows)
       (rows_found (command (codes "run")) refl run_fit refl refl refl first.0 fine)
+
+  pub upgrade_named : Some (codes "upgrade") ≡ subcommand_name_of m → unwrap_or (all_of (codes "LOG") found) [] ≢ []
+  upgrade_named name =
+      let first = met_by_first a m words (codes "upgrade") is has none name in
+      let rows = rows_of_upgrade a m first.0 found is (subst (λ ws. HasMatchesOf a ws m) first.1 has) read in
+      let fine = upgrade_fine first.0 (faultless a words (codes "upgrade") first.0 is none first.1) in
+      subst (λ rs. unwrap_or (all_of (codes "LOG") rs) [] ≢ []) (sym rows)
+      (some_names (command (codes "upgrade")) _ first.0 refl upgrade_fit refl refl refl refl refl refl fine)
+
+  pub upgrade_taken : Some (codes "upgrade") ≡ subcommand_name_of m → AreTaken (built_leaf upgrade_app.top).rules found
+  upgrade_taken name =
+      let first = met_by_first a m words (codes "upgrade") is has none name in
+      let rows = rows_of_upgrade a m first.0 found is (subst (λ ws. HasMatchesOf a ws m) first.1 has) read in
+      let fine = upgrade_fine first.0 (faultless a words (codes "upgrade") first.0 is none first.1) in
+      subst (AreTaken (built_leaf upgrade_app.top).rules) (sym rows)
+      (rows_taken (command (codes "upgrade")) refl upgrade_fit first.0 fine)
+
+  pub upgrade_found : Some (codes "upgrade") ≡ subcommand_name_of m → AreFound (built_leaf upgrade_app.top).rules found
+  upgrade_found name =
+      let first = met_by_first a m words (codes "upgrade") is has none name in
+      let rows = rows_of_upgrade a m first.0 found is (subst (λ ws. HasMatchesOf a ws m) first.1 has) read in
+      let fine = upgrade_fine first.0 (faultless a words (codes "upgrade") first.0 is none first.1) in
+      subst (AreFound (built_leaf upgrade_app.top).rules) (sym rows)
+      (rows_found (command (codes "upgrade")) refl upgrade_fit refl refl refl first.0 fine)

@@ -82,12 +82,17 @@ run_rules =
     ∷ number_rule (codes "initiators")
     ∷ draws_rule
     ∷ record (number_rule (codes "cap")) { defaults = codes "10000" ∷ [] }
+    ∷ record (number_rule (codes "terms")) { defaults = codes "1" ∷ [] }
     ∷ alone_rule
     ∷ []
 
 -- the command `run`
 abbrev pub run_app : App
 run_app = on_top (λ s. record s { rules = run_rules }) (new_app (codes "run"))
+
+-- the command `upgrade`, with its option and files
+abbrev pub upgrade_app : App
+upgrade_app = with_rule (with_rule (new_app (codes "upgrade")) folder_rule) logs_rule
 
 -- the program's command line without its commands
 abbrev pub ira_top : App
@@ -96,5 +101,5 @@ ira_top = on_top (λ s. record s { no_binary_name = true; subcommand_required = 
 -- the program's command line
 abbrev pub ira_app : App
 ira_app =
-    with_subcommand (with_subcommand (with_subcommand (with_subcommand (with_subcommand ira_top logs_app.top)
-    check_app.top) decide_app.top) pairs_app.top) run_app.top
+    with_subcommand (with_subcommand (with_subcommand (with_subcommand (with_subcommand (with_subcommand ira_top logs_app.top)
+    check_app.top) decide_app.top) pairs_app.top) run_app.top) upgrade_app.top

@@ -4,3 +4,4 @@ pub mod DecideRequest
 pub mod Request
 pub mod RunRequest
 pub mod TakenValues
+pub mod UpgradeRequest

@@ -27,4 +27,5 @@ pub record HasOptions (rows : List Row) (ring : RunRequest) : Type 0 where
   pub draws : HasNumber rows (codes "draws") ring.draws
   pub few : ring.draws ≤ 100000
   pub cap : HasNumber rows (codes "cap") ring.cap
+  pub terms : HasNumber rows (codes "terms") ring.terms
   pub alone : ring.is_alone ≡ is_given (codes "alone") rows

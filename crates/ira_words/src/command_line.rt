@@ -2,12 +2,13 @@ ghost use Rattle.std.specs.Prelude.{◌≡◌, ◌≢◌, ℕ, List, [], Ok, IfE
 ghost use Rattle.clap.specs.Simple.{built_leaf};
 ghost use Rattle.clap.specs.Words.{AddsSubcommand, all_of, app_of, found_of, kind_of, rows_of, rule_of};
 ghost use Rattle.clap.specs.declared.error.kind.ErrorKind.TheVariants as kind;
-ghost use Rattle.ira_words.specs.CommandLine.{alone_rule, check_app, decide_app, depth_rule, draws_rule, folder_rule, ira_app, ira_top, logs_app, logs_rule, number_rule, option_rule, pairs_app, run_app, run_required_app};
+ghost use Rattle.ira_words.specs.CommandLine.{alone_rule, check_app, decide_app, depth_rule, draws_rule, folder_rule, ira_app, ira_top, logs_app, logs_rule, number_rule, option_rule, pairs_app, run_app, run_required_app, upgrade_app};
 ghost use Rattle.ira_words.specs.CheckRequest.{HasFiles};
 ghost use Rattle.ira_words.specs.DecideRequest.{HasFilesToDecide};
 ghost use Rattle.ira_words.specs.Request.{AreMatchesOf, AreAcceptedWords, IsMadeOf, MayBeRefused};
 ghost use Rattle.ira_words.specs.RunRequest.{HasNumber, HasOptions};
 ghost use Rattle.ira_words.specs.TakenValues.{AreFound, AreTaken};
+ghost use Rattle.ira_words.specs.UpgradeRequest.{HasFilesToUpgrade};
 ghost use Rattle.ira_words.specs.declared.request.Request.TheVariants as request;
 ghost use Rattle.ira_words.specs.declared.words_fault.WordsFault.TheVariants as fault;
 
@@ -15,6 +16,7 @@ use crate::check_request::CheckRequest;
 use crate::decide_request::DecideRequest;
 use crate::request::Request;
 use crate::run_request::RunRequest;
+use crate::upgrade_request::UpgradeRequest;
 use crate::words_fault::WordsFault;
 use clap::builder::ValueParser;
 use clap::error::ErrorKind;
@@ -25,13 +27,14 @@ const USAGE: &str = "ira < LOG\n       ira logs <LOG>...\n       \
     ira check --question <Q> --cert <C> [--depth <D>] <LOG>...\n       \
     ira decide --question <Q> [--out <C>] <LOG>...\n       \
     ira pairs <N>\n       \
-    ira run --nodes <N> --seed <S> --out <DIR> [OPTIONS]";
+    ira run --nodes <N> --seed <S> --out <DIR> [OPTIONS]\n       \
+    ira upgrade --out <DIR> <LOG>...";
 
 const NOTE: &str =
     "Without words ira judges the log of one node, on standard input. It prints `yes`, or \
-    `no` and\nthe first reason. The status is 0 for yes, absent cases or an elected leader, \
-    1 for no, a case\nthat is present or no leader, 2 for refused words, a refused ring, a \
-    failed read or a failed\nwrite, 3 out of memory.";
+    `no` and\nthe first reason. The status is 0 for yes, absent cases, an elected leader or \
+    upgraded logs,\n1 for no, a case that is present or no leader, 2 for refused words, a \
+    refused ring, a failed\nread or a failed write, 3 out of memory.";
 
 /// The program's command line.
 fn command<'a>(alloc: Global) -> Result<Command<'a>, AllocError>
@@ -42,7 +45,8 @@ fn command<'a>(alloc: Global) -> Result<Command<'a>, AllocError>
     let command = add_command(command, check_command(alloc))?;
     let command = add_command(command, decide_command(alloc))?;
     let command = add_command(command, pairs_command(alloc))?;
-    add_command(command, run_command(alloc))
+    let command = add_command(command, run_command(alloc))?;
+    add_command(command, upgrade_command(alloc))
 }
 
 /// The command with this one below it, if that could be made.
@@ -174,7 +178,7 @@ fn pairs_command<'a>(alloc: Global) -> Result<Command<'a>, AllocError>
     ensures { IfOk result (λ c. app_of c ≡ pairs_app) }
 {
     let nodes = Arg::new(alloc, "N")
-        .help("How many nodes the ring has, 2 to 64")
+        .help("How many nodes the ring has, 2 to 255")
         .value_parser(value_parser!(u64))
         .required(true);
     Command::new(alloc, "pairs")
@@ -215,10 +219,12 @@ fn run_command<'a>(alloc: Global) -> Result<Command<'a>, AllocError>
 {
     let initiators = "How many nodes begin, from node 0 on; all if not given";
     let cap = "The most records of a log, 1 to 100000";
+    let terms = "How many terms, 1 to 1000000; each leader but the last yields";
     run_required(alloc)?
         .arg(number(alloc, "initiators", "M", initiators))?
         .arg(draws(alloc))?
         .arg(number(alloc, "cap", "C", cap).default_value("10000"))?
+        .arg(number(alloc, "terms", "T", terms).default_value("1"))?
         .arg(alone(alloc))
 }
 
@@ -226,7 +232,7 @@ fn run_command<'a>(alloc: Global) -> Result<Command<'a>, AllocError>
 fn run_required<'a>(alloc: Global) -> Result<Command<'a>, AllocError>
     ensures { IfOk result (λ c. app_of c ≡ run_required_app) }
 {
-    let nodes = "How many nodes the ring has, 2 to 64";
+    let nodes = "How many nodes the ring has, 2 to 255";
     let seed = "The number that all draws come from";
     Command::new(alloc, "run")
         .about("Runs an election, and writes the log of each node to a file")
@@ -286,7 +292,32 @@ fn run_request<'a>(matches: &ArgMatches<'a>) -> RunRequest<'a>
         initiators: matches.get_one("initiators"),
         draws: matches.get_one("draws").unwrap(),
         cap: matches.get_one("cap").unwrap(),
+        terms: matches.get_one("terms").unwrap(),
         is_alone: matches.get_flag("alone"),
+    }
+}
+
+fn upgrade_command<'a>(alloc: Global) -> Result<Command<'a>, AllocError>
+    ensures { IfOk result (λ c. app_of c ≡ upgrade_app) }
+{
+    Command::new(alloc, "upgrade")
+        .about("Writes the logs of all nodes of a ring in version 2, each to a file")
+        .arg(folder(alloc))?
+        .arg(log_files(alloc))
+}
+
+/// The files to upgrade.
+fn upgrade_request<'a>(matches: &ArgMatches<'a>, logs: Vec<&'a str>) -> UpgradeRequest<'a>
+    requires taken { AreTaken (built_leaf upgrade_app.top).rules (rows_of (found_of matches.now)) }
+    requires found { AreFound (built_leaf upgrade_app.top).rules (rows_of (found_of matches.now)) }
+    requires names { map (λ name. name.now) logs.items
+        ≡ unwrap_or (all_of (codes "LOG") (rows_of (found_of matches.now))) [] }
+    requires some { logs.items ≢ [] }
+    ensures { HasFilesToUpgrade (rows_of (found_of matches.now)) result }
+{
+    UpgradeRequest {
+        folder: matches.get_str("out").unwrap(),
+        logs,
     }
 }
 
@@ -307,6 +338,10 @@ fn found_request<'a>(alloc: Global, matches: &ArgMatches<'a>) -> Result<Request<
         ))),
         Some(("pairs", found)) => Ok(Request::Pairs(pairs_nodes(found))),
         Some(("run", found)) => Ok(Request::Run(run_request(found))),
+        Some(("upgrade", found)) => Ok(Request::Upgrade(upgrade_request(
+            found,
+            log_names(alloc, found)?,
+        ))),
         _ => unreachable!(),
     }
 }

@@ -6,6 +6,7 @@ mod command_line;
 mod decide_request;
 mod request;
 mod run_request;
+mod upgrade_request;
 mod words_fault;
 
 pub use check_request::CheckRequest;
@@ -13,4 +14,5 @@ pub use command_line::read_words;
 pub use decide_request::DecideRequest;
 pub use request::Request;
 pub use run_request::RunRequest;
+pub use upgrade_request::UpgradeRequest;
 pub use words_fault::WordsFault;

@@ -1,6 +1,7 @@
 use crate::check_request::CheckRequest;
 use crate::decide_request::DecideRequest;
 use crate::run_request::RunRequest;
+use crate::upgrade_request::UpgradeRequest;
 
 /// What the words behind the program's name ask for.
 #[derive(Drop)]
@@ -18,4 +19,6 @@ pub enum Request<'a> {
     Pairs(u64),
     /// To run a ring, and to write down what its nodes do.
     Run(RunRequest<'a>),
+    /// To write the logs in the files of these names in version 2, each to a file.
+    Upgrade(UpgradeRequest<'a>),
 }

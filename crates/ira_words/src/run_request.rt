@@ -12,6 +12,8 @@ pub struct RunRequest<'a> {
     pub draws: u32,
     /// The most records that a log may have.
     pub cap: u64,
+    /// How many terms there are: any number, and not only one that a run may have.
+    pub terms: u64,
     /// Whether one thread runs all nodes.
     pub is_alone: bool,
 }

@@ -23,3 +23,8 @@ pub returns-clause-texts : goal.returns-clause-texts
 returns-clause-texts g c = λ texts are.
     let gathered = (c.in_ok-gather.ensures.ok c.in_ok-gather.field-0).0 refl in
     subst (AreLogTexts texts) (sym (gathered.0 ∙ c.in_ok-read.ensures.0)) are
+
+pub returns-in_err-gather-clause-heads : goal.returns-in_err-gather-clause-heads
+returns-in_err-gather-clause-heads g c =
+    let refused = err_from_is_err_and c.from_residual-in_err-gather.result c.from_residual-in_err-gather.ensures.1 in
+    rw (refused.1, refused.2) tt

@@ -1,14 +1,15 @@
-use Rattle.std.proofs.Common.{◌≤◌, ◌+◌, ◌-◌, slice_index_or, drop, refl, sym, ap, ◌∙◌, arith}
+use Rattle.std.proofs.Common.{◌≤◌, ◌+◌, ◌-◌, slice_index_or, refl, sym, ◌∙◌, arith}
 use Rattle.std.proofs.lemmas.Bool.Decides.{nat_tests}
-use Rattle.ira_event.specs.Scan.{digits_from}
 use Rattle.ira_event.proofs.Numerals.{digit_range}
 use Rattle.ira_event.proofs.ShortNumbers.{power-turn, six-digits, digits-turn, digits-end, number-there}
 use Rattle.ira_event.proofs.short_record.short_number.Goals as goal
 
 pub loop-i-init : goal.loop-i-init
-loop-i-init c =
-    let range = digit_range (slice_index_or c.args.text.now c.args.start 0) c.in-Some-1-to-4294967295.ensures.0 in
-    record { digits = refl; small = omega (arith, range.1, c.in-Some-1-to-4294967295.ensures.1); positive = omega arith }
+loop-i-init c = record {
+  digits = rw c.from-value.ensures refl;
+  small = omega (arith, c.from-value.ensures);
+  positive = omega (arith, c.from-value.ensures);
+}
 
 pub overflow_mul-value : goal.overflow_mul-value
 overflow_mul-value c =
@@ -36,12 +37,9 @@ pub returns-in_default-to_digit-clause-number : goal.returns-in_default-to_digit
 returns-in_default-to_digit-clause-number c =
     let text = c.args.text.now in
     let at = c.args.start + c.loop-i.i in
-    let first = c.in-Some-1-to-4294967295 in
-    let range = digit_range (slice_index_or text c.args.start 0) first.ensures.0 in
     let small = six-digits c.loop-i.value c.loop-i.i c.loop-i.invariant.small (omega arith) in
     let end = digits-end text at c.loop-i.value (omega arith) c.in_default-to_digit.ensures in
-    let from = ap (λ n. digits_from n (drop (c.args.start + 1) text)) (sym first.ensures.1) in
-    number-there text c.args.start at c.loop-i.value (omega arith) (omega (arith, range.0, first.ensures.1)) range.1 small (from ∙ sym c.loop-i.invariant.digits ∙ end)
+    number-there text c.args.start at c.loop-i.value (omega arith) (omega arith) (omega arith) small (sym c.loop-i.invariant.digits ∙ end)
 
 pub returns-in_default-to_digit-clause-in_range : goal.returns-in_default-to_digit-clause-in_range
 returns-in_default-to_digit-clause-in_range c =

@@ -1,5 +1,5 @@
 use Rattle.std.proofs.Common.{◌+◌, ◌-◌, cond}
-use Rattle.ira_event.specs.declared.limits.TheConstants.{MAX_TEXT}
+use Rattle.ira_event.specs.Limits.{MAX_TEXT}
 use Rattle.ira_main.specs.InputAudit.{bytes_read}
 use Rattle.ira_main.proofs.InputAudits.{ReadSoFar}
 use Rattle.ira_main.proofs.input_audit.audit_input.Given as goal

@@ -1,7 +1,7 @@
 use Rattle.std.proofs.Common.{◌≡◌, ◌∙◌, Err, List, [], ◌∷◌, Ok, Result, ap, map, inl, inr, refl, subst, sym}
 use Rattle.std.proofs.lemmas.Result.{err_from_is_err_and}
 use Rattle.ira_words.specs.Request.{IsMadeOf}
-use Rattle.ira_main.specs.Serve.Done.{certified, decided, judged, pairs, recorded, refused, undecided}
+use Rattle.ira_main.specs.Serve.Done.{certified, decided, judged, pairs, recorded, refused, undecided, upgraded}
 use Rattle.ira_main.specs.Serve.Serves.{with_words, without_words}
 use Rattle.ira_main.proofs.program.execute.Goals as goal
 
@@ -59,3 +59,9 @@ returns-in-Run-clause-executed g c =
     let made = subst (IsMadeOf (map (λ w. w.now) c.args.words.now)) c.in-Run.is c.in_ok-read_words.ensures.made in
     let first = made.first in
     with_words (λ none. cc) refl (recorded _ made c.record_run.ensures)
+
+pub returns-in-Upgrade-clause-executed : goal.returns-in-Upgrade-clause-executed
+returns-in-Upgrade-clause-executed g c =
+    let made = subst (IsMadeOf (map (λ w. w.now) c.args.words.now)) c.in-Upgrade.is c.in_ok-read_words.ensures.made in
+    let first = made.first in
+    with_words (λ none. cc) refl (upgraded _ made c.upgrade_files.ensures)

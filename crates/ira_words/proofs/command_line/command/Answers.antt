@@ -19,4 +19,5 @@ returns c =
     let with_check = added _ _ _ _ _ refl c.check_command.ensures with_logs c.in_ok-command-3.ensures in
     let with_decide = added _ _ _ _ _ refl c.decide_command.ensures with_check c.in_ok-command-4.ensures in
     let with_pairs = added _ _ _ _ _ refl c.pairs_command.ensures with_decide c.in_ok-command-5.ensures in
-    IfOk-weaker c.add_command-5.result _ _ (λ r h. added _ _ _ _ _ refl c.run_command.ensures with_pairs h) c.add_command-5.ensures
+    let with_run = added _ _ _ _ _ refl c.run_command.ensures with_pairs c.in_ok-command-6.ensures in
+    IfOk-weaker c.add_command-6.result _ _ (λ r h. added _ _ _ _ _ refl c.upgrade_command.ensures with_run h) c.add_command-6.ensures

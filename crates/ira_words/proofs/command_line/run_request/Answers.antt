@@ -26,6 +26,10 @@ pub unwrap-requires-5 : goal.unwrap-requires-5
 unwrap-requires-5 c =
     number_found 64 18446744073709551615 _ _ (found_of c.args.matches.now) (codes "cap") _ refl refl (omega arith) c.requires.taken (c.requires.found.1.1.1.1.1.0 refl) c.get_one-5.ensures.value
 
+pub unwrap-requires-6 : goal.unwrap-requires-6
+unwrap-requires-6 c =
+    number_found 64 18446744073709551615 _ _ (found_of c.args.matches.now) (codes "terms") _ refl refl (omega arith) c.requires.taken (c.requires.found.1.1.1.1.1.1.0 refl) c.get_one-6.ensures.value
+
 pub returns : goal.returns
 returns c =
     let f = found_of c.args.matches.now in
@@ -39,5 +43,6 @@ returns c =
       draws = number_read 32 f (codes "draws") _ no_draws draws;
       few = number_in_range 32 100000 _ _ f (codes "draws") _ refl refl c.requires.taken no_draws draws;
       cap = number_read 64 f (codes "cap") _ (rw c.unwrap-5.ensures at c.get_one-5.ensures.none) (rw c.unwrap-5.ensures at c.get_one-5.ensures.value);
+      terms = number_read 64 f (codes "terms") _ (rw c.unwrap-6.ensures at c.get_one-6.ensures.none) (rw c.unwrap-6.ensures at c.get_one-6.ensures.value);
       alone = flag_read _ _ f (codes "alone") _ refl refl refl refl refl c.requires.taken c.get_flag.ensures.none c.get_flag.ensures.value c.get_flag.ensures.other;
     }

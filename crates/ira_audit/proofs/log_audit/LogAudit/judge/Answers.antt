@@ -1,6 +1,6 @@
 use Rattle.std.proofs.Common.{◌≡◌, ◌≤◌, ◌++◌, arith, length, length-append, subst}
 use Rattle.std.proofs.lemmas.Result.{err_from_is_err_and}
-use Rattle.ira_event.specs.declared.limits.TheConstants.{MAX_TEXT}
+use Rattle.ira_event.specs.Limits.{MAX_TEXT}
 use Rattle.ira_event.specs.Records.{IsEndOrFault}
 use Rattle.ira_audit.proofs.LogAudits.{begun_judged, begun_refused}
 use Rattle.ira_audit.proofs.log_audit.LogAudit.judge.Goals as goal

@@ -5,7 +5,7 @@ use Rattle.ira_lone.proofs.lone_node.LoneNode.go_on.Given as goal
 
 abbrev pub invariant-loop-nodes : goal.invariant-loop-nodes
 invariant-loop-nodes g l = record {
-  goes : (k : ℕ) × GoesTo l.nodes l.cap k l.initial.self l.self;
+  goes : (k : ℕ) × GoesTo l.nodes l.cap l.terms k l.initial.self l.self;
   state : l.state ≡ l.self.state;
   ids : All (λ d. (1 ≤ d) × (d ≤ l.nodes)) l.self.ids;
 }

@@ -7,7 +7,7 @@ pub end-requires : goal.end-requires
 end-requires g c =
     let here : c.loop-node.node-index < length c.args.self.now.nodes.items = rw c.deref-node-items.ensures.value at c.loop-node-test.true in
     let read : c.node-item.result ≡ get_or c.args.self.now.nodes.items c.loop-node.node-index c.node-item.result = rw c.deref-node-items.ensures.value at c.node-item.is in
-    (c.args.self.now.setup.now.nodes, ended_at c.args.self.now.setup.now c.args.self.now.nodes.items c.loop-node.node-index c.setup.inside.cap _ c.requires.done here (ap (λ (s : Setup). s.cap) c.setup.view_is) read)
+    (c.args.self.now.setup.now.nodes, ended_at c.args.self.now.setup.now c.args.self.now.nodes.items c.loop-node.node-index c.setup.inside.cap c.setup.inside.terms _ c.requires.done here (ap (λ (s : Setup). s.cap) c.setup.view_is) (ap (λ (s : Setup). s.terms) c.setup.view_is) read)
 
 pub loop-node-preserved : goal.loop-node-preserved
 loop-node-preserved g c =
@@ -16,7 +16,7 @@ loop-node-preserved g c =
     let pushed : c.push.new.self.items ≡ c.loop-node.ends.items ++ c.end.result ∷ [] = c.in_ok-push.ensures.items in
     record {
       many = omega (arith, c.in_ok-push.ensures.len);
-      each = rw pushed (ends_more c.args.self.now.setup.now c.args.self.now.nodes.items c.loop-node.node-index c.setup.inside.cap _ c.loop-node.ends.items c.end.result c.requires.done here (ap (λ (s : Setup). s.cap) c.setup.view_is) read (c.end.ensures c.args.self.now.setup.now.nodes) c.loop-node.invariant.many c.loop-node.invariant.each);
+      each = rw pushed (ends_more c.args.self.now.setup.now c.args.self.now.nodes.items c.loop-node.node-index c.setup.inside.cap c.setup.inside.terms _ c.loop-node.ends.items c.end.result c.requires.done here (ap (λ (s : Setup). s.cap) c.setup.view_is) (ap (λ (s : Setup). s.terms) c.setup.view_is) read (c.end.ensures c.args.self.now.setup.now.nodes) c.loop-node.invariant.many c.loop-node.invariant.each);
     }
 
 pub returns : goal.returns

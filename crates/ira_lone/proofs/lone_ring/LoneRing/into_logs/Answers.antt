@@ -13,13 +13,13 @@ index-initiator-requires g c =
 pub into_log-requires : goal.into_log-requires
 into_log-requires g c =
     let left = first_left c.args.self.nodes.items c.loop-node.place c.in-Some.node _ (sym c.in-Some.ensures.steps.0 ∙ c.loop-node.invariant.rest) in
-    let log = log_is (λ v. v.items) _ _ _ _ c.args.self.setup.now c.args.self.nodes.items c.loop-node.place c.from.result c.in-Some.node c.index-initiator.result.now c.setup.view_is c.requires.rules c.requires.reached left.0 c.from.ensures c.index-initiator.ensures left.1 in
+    let log = log_is (λ v. v.items) _ _ _ _ _ c.args.self.setup.now c.args.self.nodes.items c.loop-node.place c.from.result c.in-Some.node c.index-initiator.result.now c.setup.view_is c.requires.rules c.requires.reached left.0 c.from.ensures c.index-initiator.ensures left.1 in
     subst IsLog (sym log) (is_log c.args.self.setup.now c.args.self.nodes.items c.loop-node.place c.requires.rules c.requires.reached (omega (arith, left.0, c.requires.reached.many)))
 
 pub loop-node-preserved : goal.loop-node-preserved
 loop-node-preserved g c =
     let left = first_left c.args.self.nodes.items c.loop-node.place c.in-Some.node _ (sym c.in-Some.ensures.steps.0 ∙ c.loop-node.invariant.rest) in
-    let log = log_is (λ v. v.items) _ _ _ _ c.args.self.setup.now c.args.self.nodes.items c.loop-node.place c.from.result c.in-Some.node c.index-initiator.result.now c.setup.view_is c.requires.rules c.requires.reached left.0 c.from.ensures c.index-initiator.ensures left.1 in
+    let log = log_is (λ v. v.items) _ _ _ _ _ c.args.self.setup.now c.args.self.nodes.items c.loop-node.place c.from.result c.in-Some.node c.index-initiator.result.now c.setup.view_is c.requires.rules c.requires.reached left.0 c.from.ensures c.index-initiator.ensures left.1 in
     let pushed : c.push.new.self.items ≡ c.loop-node.logs.items ++ c.into_log.result ∷ [] = c.in_ok-push.ensures.items in
     record {
       rest = left.2;

@@ -8,7 +8,7 @@ loop-i-preserved g c =
     let pushed : c.push.new.self.items ≡ c.loop-i.nodes.items ++ c.in_ok-first.field-0 ∷ [] = c.in_ok-push.ensures.items in
     record {
       many = omega (arith, c.in_ok-push.ensures.len);
-      each = rw pushed (first_more (λ v. v.items) c.setup.inside.nodes _ _ _ c.args.setup.now c.loop-i.i _ _ _ _ c.setup.view_is c.requires (omega (arith, c.get.ensures.value)) c.index.ensures c.index-in-loop-i.ensures (rw c.deref.ensures.value at c.in_ok-first.ensures) c.loop-i.invariant.many c.loop-i.invariant.each);
+      each = rw pushed (first_more (λ v. v.items) c.setup.inside.nodes _ _ _ _ c.args.setup.now c.loop-i.i _ _ _ _ c.setup.view_is c.requires (omega (arith, c.get.ensures.value)) c.index.ensures c.index-in-loop-i.ensures (rw c.deref.ensures.value at c.in_ok-first.ensures) c.loop-i.invariant.many c.loop-i.invariant.each);
     }
 
 pub returns-clause-reached : goal.returns-clause-reached

@@ -5,7 +5,7 @@ use Rattle.ira_main.proofs.PartsAt.{parts_at}
 use Rattle.ira_main.specs.LogFiles.{WritesLogs}
 use Rattle.ira_main.specs.ProgramFault.{write_log_fault}
 use Rattle.ira_main.specs.Shelf.{WritesFile}
-use Rattle.ira_main.proofs.record_run.write_files.Goals as goal
+use Rattle.ira_main.proofs.log_files.write_files.Goals as goal
 
 pub loop-place-preserved : goal.loop-place-preserved
 loop-place-preserved g c =

@@ -1,7 +1,7 @@
 use Rattle.std.proofs.Common.{◌≡◌, append_assoc, inl, rules}
 use Rattle.ira_main.specs.LogFiles.{log_name}
 use Rattle.ira_main.specs.Shelf.WritesFile.{closed, stopped, unmade}
-use Rattle.ira_main.proofs.record_run.write_file.Goals as goal
+use Rattle.ira_main.proofs.log_files.write_file.Goals as goal
 
 pub returns-in_err-file : goal.returns-in_err-file
 returns-in_err-file g c =

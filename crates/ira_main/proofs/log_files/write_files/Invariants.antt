@@ -1,7 +1,7 @@
 use Rattle.std.proofs.Common.{take}
 use Rattle.ira_main.specs.LogFiles.{WritesLogs}
 use Rattle.ira_main.specs.Shelf.{WritesFile}
-use Rattle.ira_main.proofs.record_run.write_files.Given as goal
+use Rattle.ira_main.proofs.log_files.write_files.Given as goal
 
 abbrev pub invariant-loop-place : goal.invariant-loop-place
 invariant-loop-place g l =

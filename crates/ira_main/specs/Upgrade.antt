@@ -1,0 +1,53 @@
+-- What the program does that is asked to upgrade logs.
+use Rattle.std.specs.Prelude.{◌≡◌, ℕ, List, ◌++◌, Err, codes, decimal, length, map}
+use Rattle.std.specs.Borrow.{Bor}
+use Rattle.ira_event.specs.Log.{Log}
+use Rattle.ira_event.specs.Logs.{AreLogs}
+use Rattle.ira_event.specs.Sink.{SinkState}
+use Rattle.ira_event.specs.Upgrade.{upgraded}
+use Rattle.ira_audit.specs.LogTexts.{AreLogTexts}
+use Rattle.ira_audit.specs.LogsAnswer.{IsLogsAnswer}
+use Rattle.ira_audit.specs.Refusal.{IsTextOrHeadsReason}
+use Rattle.ira_audit.specs.declared.answer.Answer.TheVariants.{No}
+use Rattle.ira_audit.specs.declared.reason.Reason.{Reason}
+use Rattle.ira_words.specs.declared.upgrade_request.UpgradeRequest.{UpgradeRequest}
+use Rattle.ira_main.specs.FilesRead.{IsFilesFault, ReadsFiles}
+use Rattle.ira_main.specs.LogFiles.{StopsInLogs, WritesLogs}
+use Rattle.ira_main.specs.Outcome.{GivesNoAnswer, Outcome, Prints, Reports}
+use Rattle.ira_main.specs.Shelf.{Reading, Writing}
+use Rattle.ira_main.specs.declared.program_fault.ProgramFault.TheVariants.{OutOfMemory}
+use Rattle.ira_main.specs.declared.status.Status.TheVariants.{Yes}
+
+-- how many logs were upgraded
+abbrev pub upgraded_line : ℕ → List ℕ
+upgraded_line number = codes "upgraded " ++ decimal number ++ codes " logs\n"
+
+-- each log was written in version 2 to the file of its place in this folder, and then their number was printed; or a log
+-- wasn't written, and nothing was printed; or memory ran out, and the shelf is as it was
+pub data KeepsUpgrades {S : Type 0} (writes : Writing S) (folder : Bor (List ℕ)) (logs : List Log) (shelf shelf' : S)
+    (out out' : SinkState) (outcome : Outcome) : Type 0 where
+  written : WritesLogs writes folder.now (map upgraded logs) shelf shelf'
+      → Prints (upgraded_line (length logs)) Yes out out' outcome
+      → KeepsUpgrades writes folder logs shelf shelf' out out' outcome
+  unwritten : GivesNoAnswer (StopsInLogs writes folder (map upgraded logs) shelf shelf') out out' outcome
+      → KeepsUpgrades writes folder logs shelf shelf' out out' outcome
+  no_memory : shelf' ≡ shelf → out' ≡ out → outcome ≡ Err OutOfMemory
+      → KeepsUpgrades writes folder logs shelf shelf' out out' outcome
+
+-- the names of the files to upgrade
+abbrev pub upgrade_names : UpgradeRequest → List (List ℕ)
+upgrade_names upgrade = map (λ name. name.now) upgrade.logs.items
+
+-- the files that are named were read, their texts are those of the logs of one ring, and what comes of these is the
+-- outcome; or they aren't, and the reason was reported, which is the one that is given where the logs are judged; or no
+-- texts were had
+pub data Upgrades {S : Type 0} (reads : Reading S) (writes : Writing S) (upgrade : UpgradeRequest) (shelf shelf' : S)
+    (out out' : SinkState) (outcome : Outcome) : Type 0 where
+  of_ring : (texts : List (List ℕ)) (logs : List Log) → ReadsFiles reads (upgrade_names upgrade) shelf texts
+      → AreLogTexts texts logs → AreLogs logs → KeepsUpgrades writes upgrade.folder logs shelf shelf' out out' outcome
+      → Upgrades reads writes upgrade shelf shelf' out out' outcome
+  no_ring : (texts : List (List ℕ)) (r : Reason) → ReadsFiles reads (upgrade_names upgrade) shelf texts
+      → IsLogsAnswer texts (No r) → IsTextOrHeadsReason r → shelf' ≡ shelf → Reports (No r) out out' outcome
+      → Upgrades reads writes upgrade shelf shelf' out out' outcome
+  unread : shelf' ≡ shelf → GivesNoAnswer (IsFilesFault reads (upgrade_names upgrade) shelf) out out' outcome
+      → Upgrades reads writes upgrade shelf shelf' out out' outcome

@@ -1,0 +1,70 @@
+ghost use Rattle.std.specs.Prelude.{◌≡◌};
+ghost use Rattle.ira_main.specs.Shelf.{WritesFile};
+ghost use Rattle.ira_main.specs.Upgrade.{KeepsUpgrades, Upgrades, upgraded_line};
+
+use crate::log_files::write_files;
+use crate::program_fault::ProgramFault;
+use crate::read_files::read_logs;
+use crate::report::report;
+use crate::shelf::Shelf;
+use crate::status::Status;
+use ira_audit::{Answer, Refusal};
+use ira_event::{Line, Logs, RingSize, Sink, WriteFault};
+use ira_words::UpgradeRequest;
+use std::alloc::Allocator;
+use std::thread::Threads;
+
+// How many logs were upgraded.
+fn upgraded(size: RingSize) -> Line
+    ensures { result ≡ upgraded_line size }
+{
+    let mut line = Line::new();
+    line.add(b"upgraded ");
+    line.add_number(u32::from(size.get()));
+    line.add(b" logs\n");
+    line
+}
+
+// Writes the logs in version 2, and then their number. All are upgraded before a file is made, since memory may run out.
+fn keep_upgrades<'a, A: Allocator + Clone, F: Shelf, W: Sink>(
+    alloc: A,
+    logs: Logs<A>,
+    folder: &'a str,
+    shelf: &mut F,
+    out: &mut W,
+) -> Result<Status, ProgramFault<'a>>
+    ensures { KeepsUpgrades (WritesFile F.creates F.closes F.Out.state) folder.entry logs shelf.old shelf.new
+        (W.state out.old) (W.state out.new) result }
+{
+    let logs = logs.upgrade()?;
+    write_files(&alloc, folder, &logs, shelf)?;
+    match upgraded(logs.size()).write(out) {
+        Ok(()) => Ok(Status::Yes),
+        Err(WriteFault) => Err(ProgramFault::CannotWriteAnswer),
+    }
+}
+
+/// Reads the logs, and where they are those of one ring, writes each in version 2 to the file of its place. All are read
+/// before a file is made, so that they may lie in the folder that they are written to.
+pub(crate) fn upgrade_files<'a, R, A, F, W>(
+    rt: &R,
+    alloc: A,
+    upgrade: &UpgradeRequest<'a>,
+    shelf: &mut F,
+    out: &mut W,
+) -> Result<Status, ProgramFault<'a>>
+where
+    R: Threads + Sync,
+    A: Allocator + Clone + Send + Sync,
+    F: Shelf + Sync,
+    W: Sink,
+    ensures { Upgrades F.reads (WritesFile F.creates F.closes F.Out.state) upgrade.now shelf.old shelf.new
+        (W.state out.old) (W.state out.new) result }
+{
+    let audit = read_logs(rt, alloc.clone()?, &upgrade.logs, shelf)?;
+    match audit.gather() {
+        Ok(logs) => keep_upgrades(alloc, logs, upgrade.folder, shelf, out),
+        Err(Refusal::No(reason)) => report(&Answer::No(reason), out),
+        Err(Refusal::OutOfMemory) => Err(ProgramFault::OutOfMemory),
+    }
+}

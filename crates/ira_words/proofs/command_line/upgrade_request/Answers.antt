@@ -1,0 +1,19 @@
+use Rattle.std.proofs.Common.{◌∙◌, ap, codes, refl, sym}
+use Rattle.std.specs.Prelude.{option_map}
+use Rattle.clap.proofs.WalkLemmas.{first_value-rows}
+use Rattle.clap.specs.Words.{found_of}
+use Rattle.ira_words.proofs.FoundValues.{text_found}
+use Rattle.ira_words.proofs.command_line.upgrade_request.Goals as goal
+
+pub unwrap-requires : goal.unwrap-requires
+unwrap-requires c =
+    text_found _ (found_of c.args.matches.now) (codes "out") _ _ c.requires.taken (c.requires.found.0 refl) c.get_str.ensures
+
+pub returns : goal.returns
+returns c =
+    let f = found_of c.args.matches.now in
+    record {
+      folder = sym (c.get_str.ensures ∙ first_value-rows f (codes "out")) ∙ ap (option_map (λ s. s.now)) c.unwrap.ensures;
+      logs = c.requires.names;
+      some = c.requires.some;
+    }
