@@ -12,7 +12,11 @@ uses = $(filter $(LIBRARIES),$(shell sed -n 's/^$(1)://p' crates.txt))
 # Says something, with the seconds since `make` began.
 say = printf '%4d s  %s\n' $$(($$(date +%s) - $(START)))
 
-.PHONY: help ira run install test sweep clean
+# Says what is missing where the toolchain isn't there.
+needs_kit = command -v rt > /dev/null && command -v rattle > /dev/null || \
+	{ echo 'The Rattle kit is missing, no rt and rattle on the PATH: README.md, "Build and test", says what is needed.'; exit 1; }
+
+.PHONY: help ira run install test sweep recorders clean
 
 help:
 	@echo 'make ira        proves the program and the libraries that it stands on, and leaves it at bin/ira:'
@@ -25,6 +29,7 @@ help:
 	@echo '                programs: `N passed, 0 failed`; and all examples. See docs/ARCHITECTURE.md for its time'
 	@echo 'make sweep      makes ira, refuses each growth of its memory and each start of a thread in turn, and looks at what'
 	@echo '                it answers then'
+	@echo 'make recorders  makes ira, records elections with each recorder of examples/recorders, and judges their logs'
 	@echo 'make clean      removes what was built and proved'
 
 # What others wait for longest: all cores prove each of these. The rest goes on beside them with one core each, and
@@ -38,13 +43,16 @@ pace_of = $(if $(filter $(1),ira_words),nice -n 5,)
 # As many crates at a time as there are cores, and one that stands back. `make` begins with what it is told first, so the
 # longest chain comes first: the program stands on ira_main alone, and that names ira_audit early.
 ira:
+	@$(needs_kit)
 	@mkdir -p bin
+	@$(say) 'proving $(words $(LIBRARIES)) crates and the program, over $(JOBS) cores; what the prover says goes to bin/NAME.log'
 	@$(MAKE) --no-print-directory -j $$(($(JOBS) + 1)) START=$(START) bin/ira.proved
 	@$(say) 'proved and built: bin/ira'
 
 # A crate is proved again where a text of its own has changed, or one of what it stands on.
 $(LIBRARIES:%=bin/%.proved) bin/ira.proved: bin/%.proved: build/prove.sh
 	@touch bin/$*.begun
+	@$(say) 'begun:  $*'
 	@$(call pace_of,$*) sh build/prove.sh $* $(call cores_of,$*) > bin/$*.log 2>&1 || { tail -20 bin/$*.log; $(say) 'failed: $*'; exit 1; }
 	@mv bin/$*.begun $@
 	@$(say) 'proved: $*'
@@ -72,6 +80,7 @@ install:
 # The merge gate: every proof from nothing, the edits that the prover must refuse, all tests, the programs as
 # two compilers build them, and the answers to all examples.
 test:
+	@$(needs_kit)
 	rt ci
 	@sh examples/check.sh crates/ira/out/ira
 
@@ -79,6 +88,10 @@ test:
 # start of a thread. It needs glibc and Python.
 sweep: ira
 	@python3 -B sweep/sweep.py bin/ira.o
+
+# The recorders to copy, each on small rings of its own. One whose compiler isn't there is passed over.
+recorders: ira
+	@sh examples/recorders/try.sh bin/ira
 
 clean:
 	rm -rf bin crates/*/out

@@ -93,7 +93,7 @@ class Node:
 
 def run_node(place, words, links):
     initiator = place < words.initiators
-    version = 1 if words.terms == 1 else 2
+    version = 1 if words.terms == 1 and words.nodes <= 64 else 2
     draws = random.Random(f"{words.seed} {place}")
     with Recorder(words.out, words.nodes, place, initiator, version) as log:
         Node(words.nodes, initiator, words.terms, draws, links[place - 1], links[place], log).run()
@@ -101,7 +101,7 @@ def run_node(place, words, links):
 
 def main():
     parser = argparse.ArgumentParser(description="Runs elections and records them.")
-    parser.add_argument("--nodes", type=int, required=True, help="2 to 64")
+    parser.add_argument("--nodes", type=int, required=True, help="2 to 255")
     parser.add_argument("--seed", type=int, required=True, help="what the draws come from")
     parser.add_argument("--out", required=True, help="a folder that exists")
     parser.add_argument("--initiators", type=int, help="nodes 0 to INITIATORS-1 begin; all if not given")
@@ -109,8 +109,8 @@ def main():
     words = parser.parse_args()
     if words.initiators is None:
         words.initiators = words.nodes
-    if not 2 <= words.nodes <= 64 or words.initiators < 1 or words.terms < 1:
-        parser.error("a ring has 2 to 64 nodes, an initiator, and a term")
+    if not 2 <= words.nodes <= 255 or words.initiators < 1 or words.terms < 1:
+        parser.error("a ring has 2 to 255 nodes, an initiator, and a term")
 
     # Link I leads from node I to node I+1, the last one to node 0.
     links = [queue.SimpleQueue() for _ in range(words.nodes)]
