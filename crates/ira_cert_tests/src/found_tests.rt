@@ -1,7 +1,8 @@
 use ira_cert::CertStep;
 use ira_elim::{Found, decide};
 use ira_fixtures::{
-    BOTH_LEAD, ELECTION, SECOND_TERM, bytes_of, first_case, logs_of, lone_initiator_texts, step,
+    BOTH_LEAD, ELECTION, LONE_INITIATOR, SECOND_TERM, bytes_of, first_case, logs_of,
+    lone_initiator_texts, step,
 };
 use ira_order::order;
 use ira_pred::read_question;
@@ -19,7 +20,7 @@ fn found(rt: &(impl Abort + AllocGlobal), texts: &[&[u8]], question: &[u8]) -> F
 }
 
 /// Whether the case is absent by exactly these steps.
-fn is_absent_by(found: &Found<Global>, steps: &[CertStep], spent: u8) -> bool {
+pub(crate) fn is_absent_by(found: &Found<Global>, steps: &[CertStep], spent: u8) -> bool {
     match found {
         Found::Absent(section) => section.steps.as_slice() == steps && section.spent == spent,
         Found::Present(_) => false,
@@ -27,7 +28,7 @@ fn is_absent_by(found: &Found<Global>, steps: &[CertStep], spent: u8) -> bool {
 }
 
 /// Whether the case is present, first at this cut.
-fn is_present_at(found: &Found<Global>, positions: &[u32]) -> bool {
+pub(crate) fn is_present_at(found: &Found<Global>, positions: &[u32]) -> bool {
     match found {
         Found::Absent(_) => false,
         Found::Present(cut) => cut.positions() == positions,
@@ -65,6 +66,22 @@ fn second_term(rt: HostRuntime) {
     assert!(rt; is_absent_by(&found(&rt, &SECOND_TERM, BOTH_LEAD), &steps, 0));
     let question = b"irask 1\nnodes 2\ncase\n0: (leader and term = 2)\nend\n";
     assert!(rt; is_absent_by(&found(&rt, &SECOND_TERM, question), &[], 0));
+}
+
+/// At the first step both node 0 and node 1 can be eliminated by node 2, and at the second both node 1 and node 2 by node 0.
+#[test]
+fn least_pair_first(rt: HostRuntime) {
+    let question =
+        b"irask 1\nnodes 3\ncase\n0: (choosing or leader)\n1: (not owes)\n2: owes\nend\n";
+    let steps = [step(0, 0, 2, 1), step(1, 0, 0, 3), step(2, 1, 0, 3)];
+    assert!(rt; is_absent_by(&found(&rt, &LONE_INITIATOR, question), &steps, 2));
+}
+
+/// Neither node has a candidate.
+#[test]
+fn least_spent_node_first(rt: HostRuntime) {
+    let question = b"irask 1\nnodes 2\ncase\n0: passive\n1: leader\nend\n";
+    assert!(rt; is_absent_by(&found(&rt, &ELECTION, question), &[], 0));
 }
 
 /// One message goes round a ring of 70, and each node but the first owes it once. Of two nodes the one further on has heard
