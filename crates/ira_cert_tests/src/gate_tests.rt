@@ -2,12 +2,10 @@
 ghost use Rattle.std.specs.Prelude.{◌≤◌};
 
 use crate::verdicts::judge_split;
-use ira_cert::{CertStep, Verdict};
-use ira_fixtures::{ELECTION, LEADER_AND_ACTIVE, Meeting, step};
-use ira_links::Gate;
+use ira_cert::{CertStep, SectionFault, Verdict};
+use ira_fixtures::{ELECTION, LEADER_AND_ACTIVE, Meeting, Passes, step};
 use std::process::Abort;
 use std::sync::Wait;
-use std::sync::atomic::{AtomicU64, Ordering};
 use std::thread::Threads;
 use std::time::Clock;
 
@@ -24,46 +22,38 @@ fn two_ranges_are_judged_at_once(rt: HostRuntime) {
     assert_eq!(rt; seen, (true, 0, (1, 1)));
 }
 
-/// Notes which numbers passed: for number k it adds 2^k.
-#[derive(Drop)]
-struct Numbers {
-    passed: AtomicU64,
-}
+/// At each depth, that each range passes once: a digit for each.
+const ONCE: [(u8, u64); 5] = [
+    (0, 0x1),
+    (1, 0x11),
+    (2, 0x1111),
+    (3, 0x1111_1111),
+    (4, 0x1111_1111_1111_1111),
+];
 
-impl Gate for Numbers {
-    fn pass<R: Wait + Clock>(&self, _rt: &R, who: u32) {
-        self.passed
-            .fetch_add(1u64.wrapping_shl(who), Ordering::SeqCst);
-    }
-
-    fn admit(&self, _who: u32) -> bool {
-        true
-    }
-}
-
-/// Compares the numbers that pass while these steps are judged at this depth.
+/// Compares the verdict and the passes where these steps are judged at this depth.
 fn assert_passed<R: Abort + AllocGlobal + Threads + Wait + Clock + Sync>(
     rt: &R,
     steps: &[CertStep],
     depth: u8,
-    numbers: u64,
+    verdict: Verdict,
+    passes: u64,
 )
     requires { depth ≤ 4 }
 {
-    let gate = Numbers {
-        passed: AtomicU64::new(0),
-    };
-    let verdict = judge_split(rt, &ELECTION, LEADER_AND_ACTIVE, steps, 1, depth, &gate);
-    let passed = gate.passed.load(Ordering::SeqCst);
-    assert_eq!(rt; passed, numbers, "{verdict:?} at depth {depth}");
+    let gate = Passes::new();
+    let found = judge_split(rt, &ELECTION, LEADER_AND_ACTIVE, steps, 1, depth, &gate);
+    let seen = (found, gate.counts());
+    assert!(rt; seen == (verdict, passes), "{seen:?} at depth {depth}");
 }
 
 #[test]
 fn each_range_passes_once(rt: HostRuntime) {
     let all = steps();
-    for steps in 0..3 {
-        for (depth, numbers) in [(0, 1), (1, 3), (2, 15), (3, 255), (4, 65_535)] {
-            assert_passed(&rt, &all[..steps], depth, numbers);
-        }
+    let not_spent = Verdict::No(SectionFault::NotSpent(1));
+    for (depth, passes) in ONCE {
+        assert_passed(&rt, &[], depth, not_spent, passes);
+        assert_passed(&rt, &all[..1], depth, not_spent, passes);
+        assert_passed(&rt, &all, depth, Verdict::Yes, passes);
     }
 }

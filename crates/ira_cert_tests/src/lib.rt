@@ -13,6 +13,8 @@ mod gate_tests;
 #[cfg(test)]
 mod growth_tests;
 #[cfg(test)]
+mod long_section_tests;
+#[cfg(test)]
 mod maker_choice_tests;
 #[cfg(test)]
 mod random_section_tests;
