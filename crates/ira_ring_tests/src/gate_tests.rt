@@ -1,8 +1,8 @@
-// What the gate of a ring's threads sees: that the nodes run at once, that a message comes after its sending,
-// and that each started thread has ended.
+// What the gate of a ring's threads sees: that the nodes run at once, that a message comes after its sending, when nodes
+// pass, and that each started thread has ended.
 use crate::samples::{assert_run, clean, has_events, loser, setup_of, winner};
 use ira_event::{Event, NodeLog, RingSize};
-use ira_fixtures::{Meeting, TURN, comes_to};
+use ira_fixtures::{Meeting, Passes, TURN, comes_to};
 use ira_links::{Gate, OpenGate};
 use ira_ring::{NodeEnd, Run, RunFault, Setup, run_ring};
 use std::alloc::Global;
@@ -101,6 +101,16 @@ fn nothing_is_received_before_it_is_sent(rt: HostRuntime) {
     assert_eq!(rt; gate.counts(), [4, 5, 0, 0]);
 }
 
+/// Both nodes draw 1 and pass once before each of their five events; for the draw that each lacks then they pass no gate.
+#[test]
+fn draws_spent_on_both(rt: HostRuntime) {
+    let setup = setup_of(&rt, 2, &[true, true], &[&[1], &[1]], 100);
+    let gate = Passes::new();
+    let has_run = run_ring(&rt, rt.alloc(), &setup, &gate).is_ok();
+    let passes = gate.counts();
+    assert!(rt; has_run && passes == 0x55, "{passes:x}");
+}
+
 /// Holds node 1 in its first pass until node 0 has entered its fifth, behind its second sending.
 #[derive(Drop)]
 struct LateReader {
@@ -139,18 +149,18 @@ fn a_link_holds_what_its_reader_is_late_for(rt: HostRuntime) {
     assert!(rt; has_run && gate.missed.load(Ordering::SeqCst) == 0);
 }
 
-/// Admits the nodes below a place of a ring of three, and keeps a node in each pass for a while.
+/// Admits all nodes of a ring of at most three but one, and keeps a node in each pass for a while.
 #[derive(Drop)]
-struct Below {
+struct AllButOne {
     place: u32,
     asked: AtomicU64,
     entered: [AtomicU64; 3],
     inside: AtomicU64,
 }
 
-impl Below {
-    fn new(place: u32) -> Below {
-        Below {
+impl AllButOne {
+    fn new(place: u32) -> AllButOne {
+        AllButOne {
             place,
             asked: AtomicU64::new(0),
             entered: [AtomicU64::new(0), AtomicU64::new(0), AtomicU64::new(0)],
@@ -158,7 +168,8 @@ impl Below {
         }
     }
 
-    /// Whether no node is left in a pass, and each was asked for and came to its draw where it was admitted.
+    /// Whether no node is left in a pass, each up to the one that isn't admitted was asked for, and those before it came
+    /// to their draws.
     fn has_ended_all(&self) -> bool {
         let [first, second, third] = &self.entered;
         for (node, entered) in [(0, first), (1, second), (2, third)] {
@@ -171,7 +182,7 @@ impl Below {
     }
 }
 
-impl Gate for Below {
+impl Gate for AllButOne {
     fn pass<R: Wait + Clock>(&self, rt: &R, who: u32) {
         self.inside.fetch_add(1, Ordering::SeqCst);
         if let Some(entered) = self.entered.get(who as usize) {
@@ -183,17 +194,17 @@ impl Gate for Below {
 
     fn admit(&self, who: u32) -> bool {
         self.asked.fetch_add(1, Ordering::SeqCst);
-        who < self.place
+        who != self.place
     }
 }
 
-/// Runs a ring of three of which the gate admits the nodes below a place.
+/// Runs a ring of which the gate admits all nodes but that of a place.
 fn assert_refused_from<R: Abort + AllocGlobal + Threads + Wait + Clock + Sync>(
     rt: &R,
     setup: &Setup<Global>,
     place: u32,
 ) {
-    let gate = Below::new(place);
+    let gate = AllButOne::new(place);
     let refused = run_ring(rt, rt.alloc(), setup, &gate).err();
     let has_ended_all = gate.has_ended_all();
     assert!(rt;
@@ -204,6 +215,10 @@ fn assert_refused_from<R: Abort + AllocGlobal + Threads + Wait + Clock + Sync>(
 
 #[test]
 fn refused_start_ends_all(rt: HostRuntime) {
+    let setup = setup_of(&rt, 2, &[true, true], &[&[2], &[1]], 100);
+    for place in 0..2 {
+        assert_refused_from(&rt, &setup, place);
+    }
     let setup = setup_of(&rt, 3, &[true, true, true], &[&[3], &[1], &[2]], 100);
     for place in 0..3 {
         assert_refused_from(&rt, &setup, place);
