@@ -13,10 +13,10 @@ use std::rt::Files;
 fn write<A: Allocator + Clone>(
     shelf: &mut FileShelf<'_, impl Files, A>,
     name: &str,
-    text: &str,
+    text: &[u8],
 ) -> Result<(), ShelfFault> {
     let mut file = shelf.create(name)?;
-    write_bytes(text.as_bytes(), &mut file)?;
+    write_bytes(text, &mut file)?;
     shelf.close(file)
 }
 
@@ -24,7 +24,7 @@ fn write<A: Allocator + Clone>(
 fn write_and_read<A: Allocator + Clone>(
     shelf: &mut FileShelf<'_, impl Files, A>,
     name: &str,
-    text: &str,
+    text: &[u8],
     found: &mut TextBuffer<A>,
 ) -> Result<(), ShelfFault> {
     write(shelf, name, text)?;
@@ -37,12 +37,27 @@ fn file_written_and_read(rt: HostRuntime) {
     let mut shelf = FileShelf::new(&rt, rt.alloc());
     let mut found = TextBuffer::new(rt.alloc());
     assert!(rt; shelf.read(name, &mut found) == Err(ShelfFault::Device));
-    for text in ["irlog 1\nnodes 2\n", "", "end 0\n"] {
+    let texts: [&[u8]; 3] = [b"irlog 1\nnodes 2\n", b"", b"end 0\n"];
+    for text in texts {
         let read = write_and_read(&mut shelf, name, text, &mut found);
-        assert!(rt;
-            read == Ok(()) && found.bytes() == text.as_bytes(),
-            "{read:?}"
-        );
+        assert!(rt; read == Ok(()) && found.bytes() == text, "{read:?}");
+    }
+    assert!(rt; fs::remove_file(&rt, name).is_ok());
+}
+
+/// Texts longer than a buffer is, and than the room that a text gets at first; then one that is as short again.
+#[test]
+fn long_file_written_and_read(rt: HostRuntime) {
+    let name = "long_file_written_and_read.log";
+    let mut shelf = FileShelf::new(&rt, rt.alloc());
+    let mut found = TextBuffer::new(rt.alloc());
+    for (lines, bytes) in [(5_100, 66_300), (330_000, 4_290_000), (1, 13)] {
+        let text = b"draw 1000000\n"
+            .repeat(rt.alloc(), lines)
+            .expect(&rt, "memory");
+        let read = write_and_read(&mut shelf, name, &text, &mut found);
+        let is_whole = text.len() == bytes && found.bytes() == text.as_slice();
+        assert!(rt; read == Ok(()) && is_whole, "{read:?} of {bytes} bytes");
     }
     assert!(rt; fs::remove_file(&rt, name).is_ok());
 }
@@ -54,7 +69,7 @@ fn files_that_cannot_be_used(rt: HostRuntime) {
     assert!(rt; shelf.read(".", &mut found) == Err(ShelfFault::Device));
     for name in ["nowhere/0.log", ".", "/dev/full"] {
         assert!(rt;
-            write(&mut shelf, name, "end 0\n") == Err(ShelfFault::Device),
+            write(&mut shelf, name, b"end 0\n") == Err(ShelfFault::Device),
             "{name}"
         );
     }
@@ -62,11 +77,11 @@ fn files_that_cannot_be_used(rt: HostRuntime) {
 
 /// Whether a file of this name is written and read back with this memory, or memory runs out. `None` where neither is so.
 fn kept(rt: &impl Files, alloc: &Memory, name: &str) -> Option<bool> {
-    let text = "irlog 1\n";
+    let text: &[u8] = b"irlog 1\n";
     let mut shelf = FileShelf::new(rt, alloc);
     let mut found = TextBuffer::new(alloc);
     match write_and_read(&mut shelf, name, text, &mut found) {
-        Ok(()) if found.bytes() == text.as_bytes() => Some(true),
+        Ok(()) if found.bytes() == text => Some(true),
         Err(ShelfFault::OutOfMemory) => Some(false),
         _ => None,
     }
