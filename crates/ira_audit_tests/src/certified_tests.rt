@@ -267,6 +267,52 @@ fn certificate_faults(rt: HostRuntime) {
 }
 
 #[test]
+fn more_sections_than_a_certificate_may_have(rt: HostRuntime) {
+    let mut text = b"ircert 1\nnodes 2\n"
+        .to_vec(rt.alloc())
+        .expect(&rt, "memory");
+    let sections = b"section\nspent 1\n"
+        .repeat(rt.alloc(), 32_386)
+        .expect(&rt, "memory");
+    text.extend_from_slice(&sections).expect(&rt, "memory");
+    let line = b"no: certificate: too many\n";
+    assert!(rt; is_answered(&rt, ELECTION, BOTH_LEAD, &text, 2, line));
+}
+
+#[test]
+fn texts_too_long(rt: HostRuntime) {
+    let long = vec![in rt.alloc(); b'x'; 67_108_865].expect(&rt, "memory");
+    let logs = [ELECTION_0, &long];
+    let are_answered = [
+        is_answered(
+            &rt,
+            &logs,
+            BOTH_LEAD,
+            NODE_1_SPENT,
+            2,
+            b"no: log 1: too long\n",
+        ),
+        is_answered(
+            &rt,
+            ELECTION,
+            &long,
+            NODE_1_SPENT,
+            2,
+            b"no: question: too long\n",
+        ),
+        is_answered(
+            &rt,
+            ELECTION,
+            BOTH_LEAD,
+            &long,
+            2,
+            b"no: certificate: too long\n",
+        ),
+    ];
+    assert!(rt; are_answered == [true, true, true], "{are_answered:?}");
+}
+
+#[test]
 fn question_faults(rt: HostRuntime) {
     let rows: [(&[u8], &str); 9] = [
         (b"irask 1\nnodes 2\nend\n", "no: question: cases\n"),

@@ -70,6 +70,12 @@ fn made_certificate(rt: HostRuntime) {
 }
 
 #[test]
+fn least_cut_after_one_step(rt: HostRuntime) {
+    let question = b"irask 1\nnodes 2\ncase\n0: active\n1: passive\nend\n";
+    assert_uncertified(&rt, ELECTION, question, "case 0: present at 2 3\n");
+}
+
+#[test]
 fn two_cases(rt: HostRuntime) {
     let question = b"irask 1\nnodes 2\n\
         case\n0: leader\n1: active\n\

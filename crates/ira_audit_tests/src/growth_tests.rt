@@ -1,15 +1,22 @@
-//! Each growth of a call is refused in turn, and a writer's sink fails behind each byte. That an answer is the right one is
-//! proved, so that none is looked at.
+//! Each growth of a call is refused in turn, and a writer's sink fails behind each byte. A call gives up then, or gives its
+//! own answer all the same.
 
+use crate::lines::has_lines;
 use crate::samples::{
     BOTH_LEAD, ELECTION, ELECTION_0, ELECTION_1, LEADER_AND_ACTIVE, NODE_1_SPENT, TWO_STEPS,
 };
 use ira_audit::{
-    RingAudit, audit, audit_logs, audit_one, decide_all, write_findings, write_report,
+    Answer, Findings, Reason, RingAudit, audit, audit_logs, audit_one, decide_all, write_findings,
+    write_report,
 };
+use ira_cert::{SectionFault, Unsound};
+use ira_cert_text::{CertFault, Certificate, write_cert};
+use ira_event::{HeadFault, MemorySink, OutOfMemory};
 use ira_links::OpenGate;
+use ira_order::MatchFault;
+use ira_pred::AskFault;
 use ira_refusing::{
-    FailingSink, Refusing, Writer, each_byte_refused, each_growth_refused, has_answered,
+    FailingSink, Refusing, Writer, answered, each_byte_refused, each_growth_refused,
 };
 use std::alloc::Global;
 use std::process::Abort;
@@ -28,7 +35,18 @@ const EXCHANGED_0: &[u8] = b"irlog 1\nnodes 2\nplace 0\nstart initiator\n\
 
 const EXCHANGED: &[&[u8]] = &[EXCHANGED_0, ELECTION_1];
 
-const EXCHANGED_LINE: &[u8] = b"no: link 1: receipt 1 differs\n";
+/// The logs of the election in another order.
+const TURNED: &[&[u8]] = &[ELECTION_1, ELECTION_0];
+
+/// Node 0 sends what it doesn't owe.
+const NOT_OWED: &[&[u8]] = &[NOT_OWED_0, EMPTY_1];
+
+const NOT_OWED_0: &[u8] = b"irlog 1\nnodes 2\nplace 0\nstart initiator\n\
+    draw 2\n\
+    send 1 1 1 clean\n\
+    end 2\n";
+
+const EMPTY_1: &[u8] = b"irlog 1\nnodes 2\nplace 1\nstart initiator\nend 0\n";
 
 const CIRCLE: &[&[u8]] = &[CIRCLE_0, CIRCLE_1];
 
@@ -45,6 +63,21 @@ const CIRCLE_1: &[u8] = b"irlog 1\nnodes 2\nplace 1\nstart passive\n\
 /// A certificate without its last line.
 const CUT: &[u8] = b"ircert 1\nnodes 2\nsection\ndrop 1 1 by 0 4\nspent 1\n";
 
+/// The certificate of two steps without the second.
+const ONE_STEP: &[u8] = b"ircert 1\nnodes 2\nsection\ndrop 1 1 by 0 4\nspent 1\nend\n";
+
+/// Its steps exchanged.
+const SWAPPED: &[u8] =
+    b"ircert 1\nnodes 2\nsection\ndrop 1 2 by 0 4\ndrop 1 1 by 0 4\nspent 1\nend\n";
+
+/// Certificates and questions of a ring of three.
+const OF_THREE: &[u8] = b"ircert 1\nnodes 3\nsection\nspent 1\nend\n";
+
+const ASKED_OF_THREE: &[u8] = b"irask 1\nnodes 3\ncase\n0: leader\n1: leader\nend\n";
+
+/// A question that asks a place which the ring hasn't.
+const PLACE_2: &[u8] = b"irask 1\nnodes 2\ncase\n0: (leader and owes)\n2: true\nend\n";
+
 /// Whether node 0 of the election leads while node 1 is active, and whether it is active while node 1 is passive.
 const TWO_CASES: &[u8] = b"irask 1\nnodes 2\n\
     case\n0: leader\n1: active\n\
@@ -54,47 +87,123 @@ const TWO_CASES: &[u8] = b"irask 1\nnodes 2\n\
 /// What is found for these.
 const TWO_CASES_FOUND: &[u8] = b"case 0: absent, 2 steps, node 1 spent\ncase 1: present at 2 3\n";
 
-/// The calls whose growths are refused.
+/// The calls whose growths are refused, with their answers.
 enum Call {
     /// Judges logs.
-    Judge(&'static [&'static [u8]]),
+    Judge(&'static [&'static [u8]], Answer),
     /// Each text is taken once more where it was refused.
     TakeAgain,
     /// Judges the election with a question and a certificate, at each depth.
-    Check(&'static [u8], &'static [u8]),
-    /// Decides the two cases of logs.
-    Decide(&'static [&'static [u8]]),
+    Check(&'static [u8], &'static [u8], Answer),
+    /// Decides the question of logs.
+    Decide(&'static [&'static [u8]], &'static [u8], &'static [u8]),
     MakeCertificate,
 }
 
 const CALLS: &[Call] = &[
-    Call::Judge(ELECTION),
-    Call::Judge(CIRCLE),
-    Call::Judge(EXCHANGED),
+    Call::Judge(ELECTION, Answer::Yes),
+    Call::Judge(TURNED, Answer::No(Reason::Heads(HeadFault::Place(0)))),
+    Call::Judge(CIRCLE, Answer::No(Reason::Circle)),
+    Call::Judge(
+        EXCHANGED,
+        Answer::No(Reason::Match(MatchFault::Differs { link: 1, k: 1 })),
+    ),
     Call::TakeAgain,
-    Call::Check(LEADER_AND_ACTIVE, TWO_STEPS),
-    Call::Check(BOTH_LEAD, NODE_1_SPENT),
-    Call::Check(LEADER_AND_ACTIVE, CUT),
-    Call::Decide(ELECTION),
-    Call::Decide(EXCHANGED),
+    Call::Check(LEADER_AND_ACTIVE, TWO_STEPS, Answer::Yes),
+    Call::Check(BOTH_LEAD, NODE_1_SPENT, Answer::Yes),
+    Call::Check(
+        LEADER_AND_ACTIVE,
+        ONE_STEP,
+        Answer::No(Reason::Section {
+            case: 0,
+            fault: SectionFault::NotSpent(1),
+        }),
+    ),
+    Call::Check(
+        LEADER_AND_ACTIVE,
+        SWAPPED,
+        Answer::No(Reason::Section {
+            case: 0,
+            fault: SectionFault::Step(0, Unsound::NotFront),
+        }),
+    ),
+    Call::Check(
+        LEADER_AND_ACTIVE,
+        CUT,
+        Answer::No(Reason::Certificate(CertFault::Cut)),
+    ),
+    Call::Check(
+        TWO_CASES,
+        TWO_STEPS,
+        Answer::No(Reason::Sections {
+            wanted: 2,
+            found: 1,
+        }),
+    ),
+    Call::Check(
+        PLACE_2,
+        TWO_STEPS,
+        Answer::No(Reason::Question(AskFault::Place(5))),
+    ),
+    Call::Decide(ELECTION, TWO_CASES, TWO_CASES_FOUND),
+    Call::Decide(EXCHANGED, TWO_CASES, b"no: link 1: receipt 1 differs\n"),
     Call::MakeCertificate,
 ];
 
 /// Whether the call answers with this memory.
 fn answers<R>(rt: &R, call: &Call, alloc: Memory) -> bool
 where
-    R: Abort + Threads + Wait + Clock + Sync,
+    R: Abort + AllocGlobal + Threads + Wait + Clock + Sync,
 {
     match call {
-        Call::Judge(logs) => audit_logs(alloc, *logs).is_ok(),
+        Call::Judge(logs, answer) => is_answer(rt, audit_logs(alloc, *logs), *answer),
         Call::TakeAgain => takes_again(rt, alloc),
-        Call::Check(question, certificate) => checks(rt, &alloc, *question, *certificate),
-        Call::Decide(logs) => has_answered(decide_all(alloc, *logs, TWO_CASES)),
+        Call::Check(question, certificate, answer) => {
+            checks(rt, &alloc, *question, *certificate, *answer)
+        }
+        Call::Decide(logs, question, lines) => decides(rt, alloc, *logs, *question, *lines),
         Call::MakeCertificate => match decide_all(alloc, ELECTION, LEADER_AND_ACTIVE) {
-            Ok(findings) => has_answered(findings.into_certificate()),
+            Ok(findings) => is_made(rt, findings),
             Err(_) => false,
         },
     }
+}
+
+/// Whether an audit gave this answer; else memory ran out.
+fn is_answer(rt: &impl Abort, found: Result<Answer, OutOfMemory>, answer: Answer) -> bool {
+    answered(rt, &found, &Ok(answer), &Err(OutOfMemory))
+}
+
+/// Whether these lines tell what is found of the question; else memory ran out.
+fn decides(
+    rt: &(impl Abort + AllocGlobal),
+    alloc: Memory,
+    logs: &[&[u8]],
+    question: &[u8],
+    lines: &[u8],
+) -> bool {
+    let Ok(findings) = decide_all(alloc, logs, question) else {
+        return false;
+    };
+    assert!(rt; has_lines(rt.alloc(), &findings, lines));
+    true
+}
+
+/// Whether the certificate of two steps is made of what is found; else memory ran out.
+fn is_made(rt: &(impl Abort + AllocGlobal), findings: Findings<Memory>) -> bool {
+    match findings.into_certificate() {
+        Ok(Some(certificate)) => {
+            assert!(rt; has_two_steps(rt.alloc(), &certificate));
+            true
+        }
+        Ok(None) => panic!(rt; "each case is absent"),
+        Err(_) => false,
+    }
+}
+
+fn has_two_steps(alloc: Global, certificate: &Certificate<Memory>) -> bool {
+    let mut sink = MemorySink::new(alloc);
+    write_cert(certificate, &mut sink).is_ok() && sink.bytes() == TWO_STEPS
 }
 
 /// Takes the election, and judges it. At most one growth is refused, so that no text is refused twice.
@@ -104,22 +213,24 @@ fn takes_again(rt: &(impl Abort + Threads), alloc: Memory) -> bool {
     for text in [ELECTION_0, ELECTION_1] {
         are_taken &= audit.take(text).is_ok() || audit.take(text).is_ok();
     }
-    let is_judged = audit.finish(rt).is_ok();
+    let found = audit.finish(rt);
     assert!(rt; are_taken);
-    is_judged
+    is_answer(rt, found, Answer::Yes)
 }
 
-fn checks<R: Threads + Wait + Clock + Sync>(
+fn checks<R: Abort + Threads + Wait + Clock + Sync>(
     rt: &R,
     alloc: &Memory,
     question: &[u8],
     certificate: &[u8],
+    answer: Answer,
 ) -> bool {
     for depth in 0..5 {
         let Ok(alloc) = alloc.clone() else {
             return false;
         };
-        if audit(rt, alloc, ELECTION, question, certificate, depth, &OpenGate).is_err() {
+        let found = audit(rt, alloc, ELECTION, question, certificate, depth, &OpenGate);
+        if !is_answer(rt, found, answer) {
             return false;
         }
     }
@@ -136,17 +247,92 @@ fn each_growth_is_refused(rt: HostRuntime) {
 fn log_judged_alone_in_no_memory(rt: HostRuntime) {
     let memory = Refusing::new(rt.alloc()).expect(&rt, "memory");
     memory.refuse(1);
-    let is_judged = audit_one(memory.clone().expect(&rt, "memory"), ELECTION_0).is_ok();
-    assert!(rt; is_judged && memory.asked() == 0);
+    let answer = audit_one(memory.clone().expect(&rt, "memory"), ELECTION_0);
+    assert!(rt; answer == Ok(Answer::Yes) && memory.asked() == 0);
 }
 
-/// Judges the exchanged logs, and writes the answer's line.
+/// What is judged, and the line of the answer.
 #[derive(Drop)]
-struct ExchangedLine(Global);
+struct Row {
+    logs: &'static [&'static [u8]],
+    question: &'static [u8],
+    certificate: &'static [u8],
+    line: &'static [u8],
+}
 
-impl Writer for ExchangedLine {
+/// Logs that are judged before the question and the certificate.
+const fn judged(logs: &'static [&'static [u8]], line: &'static [u8]) -> Row {
+    Row {
+        logs,
+        question: b"",
+        certificate: b"",
+        line,
+    }
+}
+
+/// A question and a certificate that are judged with the logs of the election.
+const fn checked(question: &'static [u8], certificate: &'static [u8], line: &'static [u8]) -> Row {
+    Row {
+        logs: ELECTION,
+        question,
+        certificate,
+        line,
+    }
+}
+
+/// A line of each reason, and of each of its shapes.
+fn rows() -> [Row; 15] {
+    [
+        judged(&[ELECTION_0, CUT], b"no: log 1: head\n"),
+        judged(TURNED, b"no: heads: place 0\n"),
+        judged(&[ELECTION_0], b"no: heads: number\n"),
+        judged(EXCHANGED, b"no: link 1: receipt 1 differs\n"),
+        judged(
+            &[ELECTION_0, EMPTY_1],
+            b"no: link 1: receipt 1 has no sending\n",
+        ),
+        judged(CIRCLE, b"no: circle\n"),
+        judged(NOT_OWED, b"no: node 0: event 2: not owed\n"),
+        checked(PLACE_2, TWO_STEPS, b"no: question: place 5\n"),
+        checked(
+            ASKED_OF_THREE,
+            TWO_STEPS,
+            b"no: question: other ring size\n",
+        ),
+        checked(BOTH_LEAD, CUT, b"no: certificate: cut\n"),
+        checked(BOTH_LEAD, OF_THREE, b"no: certificate: other ring size\n"),
+        checked(TWO_CASES, TWO_STEPS, b"no: sections: 2 wanted, 1 found\n"),
+        checked(
+            LEADER_AND_ACTIVE,
+            SWAPPED,
+            b"no: case 0: step 0: not front\n",
+        ),
+        checked(
+            LEADER_AND_ACTIVE,
+            ONE_STEP,
+            b"no: case 0: node 1 not spent\n",
+        ),
+        checked(LEADER_AND_ACTIVE, TWO_STEPS, b"yes\n"),
+    ]
+}
+
+/// Judges a row, and writes the answer's line.
+#[derive(Drop)]
+struct Reported<'a, R> {
+    rt: &'a R,
+    row: &'a Row,
+}
+
+impl<R: AllocGlobal + Threads + Wait + Clock + Sync> Writer for Reported<'_, R> {
     fn is_refused(&self, sink: &mut FailingSink) -> bool {
-        match audit_logs(self.0, EXCHANGED) {
+        let Row {
+            logs,
+            question,
+            certificate,
+            ..
+        } = self.row;
+        let alloc = self.rt.alloc();
+        match audit(self.rt, alloc, *logs, *question, *certificate, 0, &OpenGate) {
             Ok(answer) => write_report(&answer, sink).is_err(),
             Err(_) => false,
         }
@@ -155,8 +341,10 @@ impl Writer for ExchangedLine {
 
 #[test]
 fn sink_fails_behind_each_byte(rt: HostRuntime) {
-    let refused = each_byte_refused(rt.alloc(), &ExchangedLine(rt.alloc()), EXCHANGED_LINE);
-    assert!(rt; refused == Ok(()), "{refused:?}");
+    for row in &rows() {
+        let refused = each_byte_refused(rt.alloc(), &Reported { rt: &rt, row }, row.line);
+        assert!(rt; refused == Ok(()), "{refused:?}");
+    }
 }
 
 /// Decides the two cases of the election, and writes the lines of what is found.

@@ -17,3 +17,5 @@ mod logs_tests;
 mod pairs;
 #[cfg(test)]
 mod samples;
+#[cfg(test)]
+mod substituted_tests;

@@ -2,8 +2,9 @@ use crate::lines::has_line;
 use crate::samples::{
     ELECTION_0, ELECTION_1, LONE_0, LONE_1, LONE_2, SECOND_TERM, SECOND_TERM_1, TIE_0, TIE_1,
 };
-use ira_audit::{Answer, audit_logs, audit_one};
+use ira_audit::{Answer, Reason, audit_logs, audit_one};
 use ira_fixtures::{bytes_of, lone_initiator_texts};
+use ira_node::StepFault;
 use std::process::Abort;
 
 /// Judges the texts and compares the answer's line.
@@ -151,6 +152,66 @@ fn assert_reported_alone(rt: &(impl Abort + AllocGlobal), text: &[u8], line: &st
         has_line(rt.alloc(), &answer, line.as_bytes()),
         "not {line}"
     );
+}
+
+#[test]
+fn events_without_a_step(rt: HostRuntime) {
+    let rows: [(&[u8], &str); 4] = [
+        (
+            b"irlog 1\nnodes 2\nplace 0\nstart passive\ndraw 1\nend 1\n",
+            "no: node 0: event 1: not choosing\n",
+        ),
+        (
+            b"irlog 1\nnodes 2\nplace 0\nstart initiator\nrecv 1 1 1 clean\nend 1\n",
+            "no: node 0: event 1: must draw\n",
+        ),
+        (
+            b"irlog 1\nnodes 2\nplace 0\nstart initiator\n\
+            draw 1\n\
+            send 1 1 1 clean\n\
+            recv 1 1 3 clean\n\
+            end 3\n",
+            "no: node 0: event 3: hop past\n",
+        ),
+        (
+            b"irlog 1\nnodes 2\nplace 0\nstart passive\nrecv 1 1 1000000 clean\nend 1\n",
+            "no: node 0: event 1: hop limit\n",
+        ),
+    ];
+    for (text, line) in rows {
+        assert_reported_alone(&rt, text, line);
+    }
+}
+
+#[test]
+fn more_records_than_a_log_may_have(rt: HostRuntime) {
+    let mut text = b"irlog 1\nnodes 2\nplace 0\nstart initiator\n"
+        .to_vec(rt.alloc())
+        .expect(&rt, "memory");
+    let records = b"draw 1\n"
+        .repeat(rt.alloc(), 100_001)
+        .expect(&rt, "memory");
+    text.extend_from_slice(&records).expect(&rt, "memory");
+    assert_reported_alone(&rt, &text, "no: log 0: too many records\n");
+}
+
+// No log has as many records as lead there.
+#[test]
+fn events_past_the_last_round_and_term(rt: HostRuntime) {
+    for (fault, line) in [
+        (StepFault::RoundLimit, "no: node 1: event 3: round limit\n"),
+        (StepFault::TermLimit, "no: node 1: event 3: term limit\n"),
+    ] {
+        let answer = Answer::No(Reason::Replay {
+            place: 1,
+            position: 3,
+            fault,
+        });
+        assert!(rt;
+            has_line(rt.alloc(), &answer, line.as_bytes()),
+            "not {line}"
+        );
+    }
 }
 
 #[test]
