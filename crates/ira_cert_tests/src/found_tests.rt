@@ -6,7 +6,7 @@ use ira_fixtures::{
 };
 use ira_order::order;
 use ira_pred::read_question;
-use std::alloc::Global;
+use std::alloc::{Allocator, Global};
 use std::process::Abort;
 
 /// What is found of the question's first case.
@@ -20,7 +20,7 @@ fn found(rt: &(impl Abort + AllocGlobal), texts: &[&[u8]], question: &[u8]) -> F
 }
 
 /// Whether the case is absent by exactly these steps.
-pub(crate) fn is_absent_by(found: &Found<Global>, steps: &[CertStep], spent: u8) -> bool {
+pub(crate) fn is_absent_by<A: Allocator>(found: &Found<A>, steps: &[CertStep], spent: u8) -> bool {
     match found {
         Found::Absent(section) => section.steps.as_slice() == steps && section.spent == spent,
         Found::Present(_) => false,
@@ -28,7 +28,7 @@ pub(crate) fn is_absent_by(found: &Found<Global>, steps: &[CertStep], spent: u8)
 }
 
 /// Whether the case is present, first at this cut.
-pub(crate) fn is_present_at(found: &Found<Global>, positions: &[u32]) -> bool {
+pub(crate) fn is_present_at<A: Allocator>(found: &Found<A>, positions: &[u32]) -> bool {
     match found {
         Found::Absent(_) => false,
         Found::Present(cut) => cut.positions() == positions,

@@ -1,9 +1,12 @@
-//! Each growth of a call is refused in turn, and a writer's sink fails behind each byte. That a call gives up for want of
-//! memory alone, and that an answer is the right one, is proved, so that no answer is looked at.
+//! Each growth of a call is refused in turn, and a writer's sink fails behind each byte. A call gives up then for want of
+//! memory, or gives its own answer all the same.
 
-use ira_cert::{CertFault, Certificate, check_plain, read_cert, write_cert};
-use ira_elim::decide;
-use ira_event::Logs;
+use crate::found_tests::{is_absent_by, is_present_at};
+use ira_cert::{
+    CertFault, Certificate, SectionFault, Unsound, Verdict, check_plain, read_cert, write_cert,
+};
+use ira_elim::{Found, decide};
+use ira_event::{Logs, OutOfMemory};
 use ira_fixtures::{
     ACTIVE_AND_PASSIVE, ELECTION, LEADER_AND_ACTIVE, LEADER_AND_UNBEATEN, TIE, first_case, logs_of,
 };
@@ -12,7 +15,7 @@ use ira_order::{Ordered, order};
 use ira_par::check_split;
 use ira_pred::{Question, read_question};
 use ira_refusing::{
-    FailingSink, Refusing, Writer, each_byte_refused, each_growth_refused, has_answered,
+    FailingSink, Refusing, Writer, answered, each_byte_refused, each_growth_refused,
 };
 use std::alloc::Global;
 use std::process::Abort;
@@ -28,6 +31,12 @@ const TWO_STEPS: &[u8] =
 
 /// The same without its last line.
 const CUT: &[u8] = b"ircert 1\nnodes 2\nsection\ndrop 1 1 by 0 4\ndrop 1 2 by 0 4\nspent 1\n";
+
+/// The certificate of two steps without the second, and with both exchanged.
+const ONE_STEP: &[u8] = b"ircert 1\nnodes 2\nsection\ndrop 1 1 by 0 4\nspent 1\nend\n";
+
+const SWAPPED: &[u8] =
+    b"ircert 1\nnodes 2\nsection\ndrop 1 2 by 0 4\ndrop 1 1 by 0 4\nspent 1\nend\n";
 
 /// A certificate of the election whose second step is unsound: node 0 is active at the cut (2, 3), where node 1 is passive.
 const NOT_BEFORE: &[u8] =
@@ -47,8 +56,6 @@ const NOT_FRONT: &[u8] = b"ircert 1\nnodes 2\nsection\n\
 
 /// The calls whose growths are refused.
 enum Call {
-    /// Reads a certificate.
-    Read(&'static [u8]),
     CheckPlain,
     /// At this depth.
     CheckSplit(u8),
@@ -56,12 +63,71 @@ enum Call {
 }
 
 const CALLS: &[Call] = &[
-    Call::Read(TWO_STEPS),
-    Call::Read(CUT),
     Call::CheckPlain,
     Call::CheckSplit(0),
     Call::CheckSplit(4),
     Call::Decide,
+];
+
+/// What is found of a case: that the steps of its certificate, or of another, rule it out, or where it is present.
+#[derive(Clone, Copy)]
+enum Wanted {
+    Absent(&'static [u8]),
+    Present([u32; 2]),
+}
+
+/// What is judged and decided.
+struct Row {
+    logs: [&'static [u8]; 2],
+    question: &'static [u8],
+    certificate: &'static [u8],
+    verdict: Verdict,
+    found: Wanted,
+}
+
+const ROWS: &[Row] = &[
+    Row {
+        logs: ELECTION,
+        question: LEADER_AND_ACTIVE,
+        certificate: TWO_STEPS,
+        verdict: Verdict::Yes,
+        found: Wanted::Absent(TWO_STEPS),
+    },
+    Row {
+        logs: ELECTION,
+        question: LEADER_AND_ACTIVE,
+        certificate: ONE_STEP,
+        verdict: Verdict::No(SectionFault::NotSpent(1)),
+        found: Wanted::Absent(TWO_STEPS),
+    },
+    Row {
+        logs: ELECTION,
+        question: LEADER_AND_ACTIVE,
+        certificate: SWAPPED,
+        verdict: Verdict::No(SectionFault::Step(0, Unsound::NotFront)),
+        found: Wanted::Absent(TWO_STEPS),
+    },
+    Row {
+        logs: ELECTION,
+        question: ACTIVE_AND_PASSIVE,
+        certificate: NOT_BEFORE,
+        verdict: Verdict::No(SectionFault::Step(1, Unsound::NotBefore)),
+        found: Wanted::Present([2, 3]),
+    },
+    Row {
+        logs: TIE,
+        question: LEADER_AND_UNBEATEN,
+        certificate: EIGHT_STEPS,
+        verdict: Verdict::Yes,
+        found: Wanted::Absent(EIGHT_STEPS),
+    },
+    Row {
+        logs: TIE,
+        question: LEADER_AND_UNBEATEN,
+        certificate: NOT_FRONT,
+        verdict: Verdict::No(SectionFault::Step(1, Unsound::NotFront)),
+        found: Wanted::Absent(EIGHT_STEPS),
+    },
 ];
 
 fn handle(rt: &impl Abort, memory: &Memory) -> Memory {
@@ -74,26 +140,30 @@ struct Posed<'a> {
     ordered: Ordered<'a, Memory>,
     question: Question<Memory>,
     certificate: Certificate<Memory>,
+    verdict: Verdict,
+    found: Wanted,
+    /// The certificate of what is found, where the case is absent.
+    made: Option<Certificate<Memory>>,
 }
 
 impl Posed<'_> {
-    /// A question of these logs, with a certificate.
-    fn new<'a>(
-        rt: &impl Abort,
-        memory: &Memory,
-        logs: &'a Logs<Memory>,
-        question: &[u8],
-        certificate: &[u8],
-    ) -> Posed<'a> {
+    /// What a row poses of its logs.
+    fn new<'a>(rt: &impl Abort, memory: &Memory, logs: &'a Logs<Memory>, row: &Row) -> Posed<'a> {
         Posed {
             ordered: order(handle(rt, memory), logs).expect(rt, "an order"),
-            question: read_question(handle(rt, memory), question).expect(rt, "a question"),
-            certificate: read_cert(handle(rt, memory), certificate).expect(rt, "a certificate"),
+            question: read_question(handle(rt, memory), row.question).expect(rt, "a question"),
+            certificate: certificate(rt, memory, row.certificate),
+            verdict: row.verdict,
+            found: row.found,
+            made: match row.found {
+                Wanted::Absent(text) => Some(certificate(rt, memory, text)),
+                Wanted::Present(_) => None,
+            },
         }
     }
 
     /// Whether the call answers with this memory.
-    fn answers<R: Threads + Wait + Clock + Sync>(
+    fn answers<R: Abort + Threads + Wait + Clock + Sync>(
         &self,
         rt: &R,
         call: &Call,
@@ -103,6 +173,8 @@ impl Posed<'_> {
             ordered,
             question,
             certificate,
+            verdict,
+            ..
         } = self;
         let logs = ordered.logs();
         let Some(case) = first_case(question, logs) else {
@@ -111,45 +183,84 @@ impl Posed<'_> {
         let Some(section) = certificate.sections.first() else {
             return false;
         };
-        match call {
-            Call::Read(text) => read_cert(alloc, *text).err() != Some(CertFault::OutOfMemory),
-            Call::CheckPlain => check_plain(alloc, logs, ordered, case, section).is_ok(),
+        let judged = match call {
+            Call::CheckPlain => check_plain(alloc, logs, ordered, case, section),
             Call::CheckSplit(depth) => {
                 let depth = (*depth).min(4);
-                check_split(rt, alloc, logs, ordered, case, section, depth, &OpenGate).is_ok()
+                check_split(rt, alloc, logs, ordered, case, section, depth, &OpenGate)
             }
-            Call::Decide => has_answered(decide(alloc, logs, ordered, case)),
-        }
+            Call::Decide => return self.is_found(rt, decide(alloc, logs, ordered, case)),
+        };
+        answered(rt, &judged, &Ok(*verdict), &Err(OutOfMemory))
+    }
+
+    /// Whether this is found of the case; else memory ran out.
+    fn is_found(&self, rt: &impl Abort, found: Result<Found<Memory>, OutOfMemory>) -> bool {
+        let Ok(found) = found else {
+            return false;
+        };
+        let is_wanted = match (self.found, &self.made) {
+            (Wanted::Present(cut), _) => is_present_at(&found, &cut),
+            (_, Some(made)) => match made.sections.first() {
+                Some(section) => is_absent_by(&found, &section.steps, section.spent),
+                None => false,
+            },
+            _ => false,
+        };
+        assert!(rt; is_wanted);
+        true
     }
 }
 
-/// The trial of the calls on these logs, this question and this certificate.
-fn tried<R>(
-    rt: &R,
-    logs: &[&[u8]],
-    question: &[u8],
-    certificate: &[u8],
-) -> Result<u64, (usize, u64)>
+fn certificate(rt: &impl Abort, memory: &Memory, text: &[u8]) -> Certificate<Memory> {
+    read_cert(handle(rt, memory), text).expect(rt, "a certificate")
+}
+
+/// The trial of the calls on a row.
+fn tried<R>(rt: &R, row: &Row) -> Result<u64, (usize, u64)>
 where
     R: Abort + AllocGlobal + Threads + Wait + Clock + Sync,
 {
     let memory = Refusing::new(rt.alloc()).expect(rt, "memory");
-    let logs = logs_of(handle(rt, &memory), logs).expect(rt, "the logs of one ring");
-    let posed = Posed::new(rt, &memory, &logs, question, certificate);
+    let logs = logs_of(handle(rt, &memory), &row.logs).expect(rt, "the logs of one ring");
+    let posed = Posed::new(rt, &memory, &logs, row);
     each_growth_refused(rt.alloc(), CALLS, |call, alloc| {
         posed.answers(rt, call, alloc)
     })
 }
 
 #[test]
-fn sections_read_judged_and_made(rt: HostRuntime) {
-    let rows = [
-        tried(&rt, &ELECTION, LEADER_AND_ACTIVE, TWO_STEPS),
-        tried(&rt, &ELECTION, ACTIVE_AND_PASSIVE, NOT_BEFORE),
-        tried(&rt, &TIE, LEADER_AND_UNBEATEN, EIGHT_STEPS),
-        tried(&rt, &TIE, LEADER_AND_UNBEATEN, NOT_FRONT),
+fn sections_judged_and_made(rt: HostRuntime) {
+    for row in ROWS {
+        let refused = tried(&rt, row);
+        assert!(rt; refused.is_ok(), "{refused:?}");
+    }
+}
+
+/// Whether reading a certificate answers so with this memory.
+fn reads(rt: &impl Abort, text: &[u8], wanted: Option<CertFault>, alloc: Memory) -> bool {
+    let found = read_cert(alloc, text).err();
+    answered(rt, &found, &wanted, &Some(CertFault::OutOfMemory))
+}
+
+#[test]
+fn certificates_read(rt: HostRuntime) {
+    let texts: [(&[u8], Option<CertFault>); 4] = [
+        (TWO_STEPS, None),
+        (CUT, Some(CertFault::Cut)),
+        (
+            b"ircert 1\nnodes 2\nsection\ndrop 1 1 by 0 4\ndrop 2 1 by 0 4\nspent 1\nend\n",
+            Some(CertFault::Range(5)),
+        ),
+        (
+            b"ircert 1\nnodes 2\nsection\ndrop 1 1 by 0 4\nspent 1\nend\nend\n",
+            Some(CertFault::Trailing),
+        ),
     ];
-    assert!(rt; matches!(rows, [Ok(_), Ok(_), Ok(_), Ok(_)]), "{rows:?}");
+    let refused = each_growth_refused(rt.alloc(), &texts, |(text, fault), alloc| {
+        reads(&rt, *text, *fault, alloc)
+    });
+    assert!(rt; refused.is_ok(), "{refused:?}");
 }
 
 /// The text of a certificate.
