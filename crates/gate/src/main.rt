@@ -2,19 +2,19 @@
 //! is made here, and then what each way to run a ring wrote.
 #![tactic(auto)]
 
-use ira_event::ToWriter;
+use ira_event::{MemorySink, ToWriter};
 use ira_main::{Counted, FileShelf, ShelfFault, TextBuffer, TextSource, serve, start};
 use std::alloc::AllocError;
 use std::io;
-use std::io::{Stdin, Stdout};
+use std::io::{Stdin, Stdout, Write};
 use std::process::ExitCode;
 use std::rt::Files;
 use std::sync::Wait;
 use std::thread::Threads;
 use std::time::Clock;
 
-/// Serves the words of this line, and prints it and the status.
-fn ira<R>(rt: &R, input: Stdin, out: Stdout, line: &str) -> io::Result<()>
+/// Serves the words of this line, and prints it, what it writes to standard error, and the status.
+fn ira<R>(rt: &R, input: Stdin, mut out: Stdout, line: &str) -> io::Result<()>
 where
     R: AllocGlobal + Files + Threads + Wait + Clock + Sync,
     R::File: Send + Sync,
@@ -22,6 +22,7 @@ where
 {
     println!(out; "$ ira {line}")?;
     let words: Vec<&str> = line.split_whitespace().collect(rt.alloc())?;
+    let mut err = MemorySink::new(rt.alloc());
     let status = serve(
         rt,
         rt.alloc(),
@@ -29,8 +30,12 @@ where
         &mut Counted::new(input),
         &mut FileShelf::new(rt, rt.alloc()),
         &mut ToWriter::new(out),
-        &mut ToWriter::new(out),
+        &mut err,
     );
+    if !err.bytes().is_empty() {
+        println!(out; "on standard error:")?;
+        out.write_all(err.bytes())?;
+    }
     println!(out; "status {status}")
 }
 
@@ -108,7 +113,14 @@ where
     ira(rt, input, out, "run --nodes=2 --seed=7 --draws=0 --out=.")?;
     ira(rt, input, out, "logs 0.log 1.log")?;
     ira(rt, input, out, "logs 0.log 5.log")?;
-    ira(rt, input, out, "run --nodes=2 --seed=7 --out=nowhere")
+    ira(rt, input, out, "run --nodes=2 --seed=7 --out=nowhere")?;
+    ira(
+        rt,
+        input,
+        out,
+        "run --nodes=2 --seed=7 --initiators=0 --out=.",
+    )?;
+    ira(rt, input, out, "logs")
 }
 
 /// After the commands, the program itself, on the words that it is given: one that isn't UTF-8.
