@@ -2,7 +2,7 @@
 ghost use Rattle.std.specs.Prelude.{is_none};
 ghost use Rattle.std.specs.Iterator.{YieldsFirst, item_count};
 
-use crate::samples::{clean, free, log_of, loser, owing};
+use crate::samples::{ELECTION_0, ELECTION_1, clean, free, log_of, loser, owing};
 use ira_cand::{Ahead, Holding, LocalTest, Profile, candidates, table};
 use ira_event::{Event, Listed, NodeLog, OutOfMemory, read_log};
 use ira_fixtures::SECOND_TERM;
@@ -68,6 +68,12 @@ fn assert_table(
     let told = told_in_short(rt.alloc(), &log, &clause).expect(rt, "memory");
     let are_wanted = own.as_slice() == positions && told.as_slice() == positions;
     assert!(rt; are_wanted, "{clause:?}");
+}
+
+#[test]
+fn candidates_of_the_election(rt: HostRuntime) {
+    assert_table(&rt, ELECTION_0, Clause::Leader, &[4]);
+    assert_table(&rt, ELECTION_1, Clause::Active, &[1, 2]);
 }
 
 #[test]

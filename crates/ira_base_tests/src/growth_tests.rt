@@ -1,16 +1,18 @@
-//! Each growth of a call is refused in turn. The call gives up then, or gives its answer all the same, and it gives its
-//! answer when it is made once more with ample memory. That it gives up for want of memory alone, and that an answer is
-//! the right one, is proved, so that no answer is looked at.
+//! Each growth of a call is refused in turn. The call gives up then for want of memory, or gives its own answer all the
+//! same, and it gives its answer when it is made once more with ample memory.
 
 use crate::samples::{ELECTION_0, ELECTION_1};
 use ira_cand::table;
-use ira_event::{LogFault, Logs, MemorySink, RingSize, read_log, upgrade, write_log};
+use ira_event::{
+    LogFault, Logs, MemorySink, RingSize, Sink, SinkFault, read_log, upgrade, write_log,
+};
 use ira_fixtures::logs_of;
 use ira_links::link;
-use ira_order::{find_order, order};
-use ira_pred::{Clause, pairs_question, read_question};
-use ira_refusing::{Refusing, each_growth_refused, has_answered};
+use ira_order::{MatchFault, OrderFault, find_order, order};
+use ira_pred::{AskFault, Clause, pairs_question, read_question};
+use ira_refusing::{Refusing, answered, each_growth_refused, has_answered};
 use std::alloc::Global;
+use std::process::Abort;
 
 type Memory = Refusing<Global>;
 
@@ -43,12 +45,76 @@ const PAIRS_OF_THREE: &[u8] = b"irask 1\nnodes 3\n\
 const NESTED: &[u8] =
     b"irask 1\nnodes 2\ncase\n0: (leader and (not (yielding or term < 2)))\nend\n";
 
+/// The election's log without its last line, with another count, with a byte behind, and with both.
+const ENDINGS: [(&[u8], LogFault); 4] = [
+    (
+        b"irlog 1\nnodes 2\nplace 0\nstart initiator\n\
+        draw 2\nsend 1 2 1 clean\nrecv 1 1 1 clean\nrecv 1 2 2 clean\n",
+        LogFault::Cut,
+    ),
+    (
+        b"irlog 1\nnodes 2\nplace 0\nstart initiator\n\
+        draw 2\nsend 1 2 1 clean\nrecv 1 1 1 clean\nrecv 1 2 2 clean\nend 3\n",
+        LogFault::Count,
+    ),
+    (
+        b"irlog 1\nnodes 2\nplace 0\nstart initiator\n\
+        draw 2\nsend 1 2 1 clean\nrecv 1 1 1 clean\nrecv 1 2 2 clean\nend 4\nx",
+        LogFault::Trailing,
+    ),
+    (
+        b"irlog 1\nnodes 2\nplace 0\nstart initiator\n\
+        draw 2\nsend 1 2 1 clean\nrecv 1 1 1 clean\nrecv 1 2 2 clean\nend 3\nx",
+        LogFault::Count,
+    ),
+];
+
+/// Questions of a case that is read, with a fault behind it.
+const ASK_FAULTS: [(&[u8], AskFault); 6] = [
+    (
+        b"irask 1\nnodes 2\ncase\n0: (leader and owes)\n1: leader and owes\nend\n",
+        AskFault::Line(5),
+    ),
+    (
+        b"irask 1\nnodes 2\ncase\n0: (leader and owes)\n2: true\nend\n",
+        AskFault::Place(5),
+    ),
+    (
+        b"irask 1\nnodes 2\ncase\n0: (leader and owes)\n\
+        1: (((((((((((((((((((((((((((((((((\nend\n",
+        AskFault::Depth(5),
+    ),
+    (
+        b"irask 1\nnodes 2\ncase\n0: (leader and owes)\ncase\nend\n",
+        AskFault::Empty(6),
+    ),
+    (
+        b"irask 1\nnodes 2\ncase\n0: (leader and owes)\n",
+        AskFault::Cut,
+    ),
+    (
+        b"irask 1\nnodes 2\ncase\n0: (leader and owes)\nend\nend\n",
+        AskFault::Trailing,
+    ),
+];
+
+/// Logs of two nodes each of which waits for the other.
+const CIRCLE: [&[u8]; 2] = [
+    b"irlog 1\nnodes 2\nplace 0\nstart passive\nrecv 1 1 1 clean\nsend 1 1 2 clean\nend 2\n",
+    b"irlog 1\nnodes 2\nplace 1\nstart passive\nrecv 1 1 2 clean\nsend 1 1 1 clean\nend 2\n",
+];
+
+/// The election's logs with node 0's receipts exchanged.
+const EXCHANGED: [&[u8]; 2] = [
+    b"irlog 1\nnodes 2\nplace 0\nstart initiator\n\
+    draw 2\nsend 1 2 1 clean\nrecv 1 2 2 clean\nrecv 1 1 1 clean\nend 4\n",
+    ELECTION_1,
+];
+
 /// The calls whose growths are refused.
 enum Call {
-    ReadLog(&'static [u8]),
     WriteLog,
     Upgrade,
-    ReadQuestion(&'static [u8]),
     MakePairs,
     FindOrder,
     Order,
@@ -57,14 +123,8 @@ enum Call {
 }
 
 const CALLS: &[Call] = &[
-    Call::ReadLog(ELECTION_0),
-    Call::ReadLog(MANY_DRAWS),
-    Call::ReadLog(LATE_FAULT),
-    Call::ReadLog(MANY_YIELDS),
     Call::WriteLog,
     Call::Upgrade,
-    Call::ReadQuestion(NESTED),
-    Call::ReadQuestion(PAIRS_OF_THREE),
     Call::MakePairs,
     Call::FindOrder,
     Call::Order,
@@ -72,18 +132,17 @@ const CALLS: &[Call] = &[
     Call::Table,
 ];
 
-/// Whether the call answers with this memory, on the election's logs or on that of its last node.
+/// Whether the call answers with this memory, on the election's logs or on that of its last node. Of these calls no answer
+/// but want of memory is an error.
 fn answers(call: &Call, alloc: Memory, logs: &Logs<Memory>) -> bool {
     let log = logs.log(logs.size().get() - 1);
     match call {
-        Call::ReadLog(text) => read_log(alloc, *text).err() != Some(LogFault::OutOfMemory),
         Call::WriteLog => write_log(log, &mut MemorySink::new(alloc)).is_ok(),
         Call::Upgrade => has_answered(upgrade(alloc, log)),
-        Call::ReadQuestion(text) => has_answered(read_question(alloc, *text)),
         Call::MakePairs => has_answered(pairs_question(alloc, RingSize::new(3).unwrap())),
-        Call::FindOrder => has_answered(find_order(alloc, logs)),
-        Call::Order => has_answered(order(alloc, logs)),
-        Call::Link => has_answered(link(alloc, 6)),
+        Call::FindOrder => find_order(alloc, logs).is_ok(),
+        Call::Order => order(alloc, logs).is_ok(),
+        Call::Link => has_answered(link(alloc, 2)),
         Call::Table => has_answered(table(alloc, log, &Clause::Active)),
     }
 }
@@ -94,4 +153,93 @@ fn each_growth_is_refused(rt: HostRuntime) {
     let logs = logs_of(memory, &[ELECTION_0, ELECTION_1]).expect(&rt, "two logs");
     let refused = each_growth_refused(rt.alloc(), CALLS, |call, alloc| answers(call, alloc, &logs));
     assert!(rt; refused.is_ok(), "{refused:?}");
+}
+
+/// A text, and the fault that reading it answers, or none.
+type Read<F> = (&'static [u8], Option<F>);
+
+const LOGS: [Read<LogFault>; 4] = [
+    (ELECTION_0, None),
+    (MANY_DRAWS, None),
+    (LATE_FAULT, Some(LogFault::Line(24))),
+    (MANY_YIELDS, None),
+];
+
+const QUESTIONS: [Read<AskFault>; 2] = [(NESTED, None), (PAIRS_OF_THREE, None)];
+
+/// Whether reading a log answers so with this memory.
+fn reads_log(rt: &impl Abort, text: &[u8], wanted: Option<LogFault>, alloc: Memory) -> bool {
+    let found = read_log(alloc, text).err();
+    answered(rt, &found, &wanted, &Some(LogFault::OutOfMemory))
+}
+
+/// Whether reading a question answers so with this memory.
+fn reads_question(rt: &impl Abort, text: &[u8], wanted: Option<AskFault>, alloc: Memory) -> bool {
+    let found = read_question(alloc, text).err();
+    answered(rt, &found, &wanted, &Some(AskFault::OutOfMemory))
+}
+
+#[test]
+fn texts_read(rt: HostRuntime) {
+    let refused = [
+        each_growth_refused(rt.alloc(), &LOGS, |(text, fault), alloc| {
+            reads_log(&rt, text, *fault, alloc)
+        }),
+        each_growth_refused(rt.alloc(), &ENDINGS, |(text, fault), alloc| {
+            reads_log(&rt, text, Some(*fault), alloc)
+        }),
+        each_growth_refused(rt.alloc(), &QUESTIONS, |(text, fault), alloc| {
+            reads_question(&rt, text, *fault, alloc)
+        }),
+        each_growth_refused(rt.alloc(), &ASK_FAULTS, |(text, fault), alloc| {
+            reads_question(&rt, text, Some(*fault), alloc)
+        }),
+    ];
+    assert!(rt;
+        matches!(refused, [Ok(_), Ok(_), Ok(_), Ok(_)]),
+        "{refused:?}"
+    );
+}
+
+/// Whether these logs have no order for the reason that they are a circle, with this memory.
+fn is_circle(rt: &impl Abort, logs: &Logs<Memory>, alloc: Memory) -> bool {
+    let (circle, refused) = (Some(OrderFault::Circle), Some(OrderFault::OutOfMemory));
+    answered(rt, &order(alloc, logs).err(), &circle, &refused)
+}
+
+#[test]
+fn circle_of_two(rt: HostRuntime) {
+    let memory = Refusing::new(rt.alloc()).expect(&rt, "memory");
+    let logs = logs_of(memory, &CIRCLE).expect(&rt, "two logs");
+    let refused = each_growth_refused(rt.alloc(), &[()], |_, alloc| is_circle(&rt, &logs, alloc));
+    assert!(rt; refused.is_ok(), "{refused:?}");
+}
+
+/// Matching takes no memory, and comes first.
+#[test]
+fn receipts_exchanged(rt: HostRuntime) {
+    let memory = Refusing::new(rt.alloc()).expect(&rt, "memory");
+    let handle = memory.clone().expect(&rt, "memory");
+    let logs = logs_of(handle, &EXCHANGED).expect(&rt, "two logs");
+    memory.refuse(1);
+    let differs = MatchFault::Differs { link: 1, k: 1 };
+    let found = order(memory, &logs).err();
+    assert!(rt; found == Some(OrderFault::Match(differs)), "{found:?}");
+}
+
+#[test]
+fn refused_push_keeps_what_was_taken(rt: HostRuntime) {
+    let memory = Refusing::new(rt.alloc()).expect(&rt, "memory");
+    let handle = memory.clone().expect(&rt, "memory");
+    let many = b"draw 1\n".repeat(rt.alloc(), 1_000).expect(&rt, "memory");
+    let mut sink = MemorySink::new(handle);
+    let first = sink.push(b"irlog 1\n");
+    memory.refuse(1);
+    let refused = sink.push(&many);
+    let is_kept = sink.bytes() == b"irlog 1\n".as_slice();
+    memory.serve_all();
+    let second = sink.push(b"nodes 2\n");
+    let is_whole = sink.bytes() == b"irlog 1\nnodes 2\n".as_slice();
+    assert!(rt; (first, refused, second) == (Ok(8), Err(SinkFault), Ok(8)));
+    assert!(rt; is_kept && is_whole);
 }

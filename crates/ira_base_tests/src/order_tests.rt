@@ -114,21 +114,13 @@ fn tie_then_win(rt: HostRuntime) {
     assert_ordered(&rt, 2, &[&tie_winner(), &tie_loser()]);
 }
 
+/// What the first node passes on clean the second one receives so, and neither had to be.
 #[test]
 fn equal_pair_passed_on_clean(rt: HostRuntime) {
-    let first = [
-        Event::Draw(1),
-        Event::Sent(clean(1, 1, 1)),
-        Event::Got(clean(1, 1, 1)),
-        Event::Sent(clean(1, 1, 2)),
-    ];
-    let second = [
-        Event::Draw(1),
-        Event::Sent(clean(1, 1, 1)),
-        Event::Got(clean(1, 1, 1)),
-        Event::Sent(dirty(1, 1, 2)),
-        Event::Got(clean(1, 1, 2)),
-    ];
+    let mut first = tie_winner();
+    first[3] = Event::Sent(clean(1, 1, 2));
+    let mut second = tie_loser();
+    second[4] = Event::Got(clean(1, 1, 2));
     assert_ordered(&rt, 2, &[&first, &second]);
 }
 
@@ -222,7 +214,7 @@ fn same_on_threads(rt: HostRuntime) {
 }
 
 /// Of two logs of four events each: some counts, and which of some events happened before which.
-fn asked(ordered: &Ordered<'_, Global>) -> Option<([u32; 4], [bool; 2])> {
+fn asked(ordered: &Ordered<'_, Global>) -> Option<([u32; 5], [bool; 2])> {
     let logs = ordered.logs();
     if logs.size().get() != 2 || logs.log(0).len() != 4 || logs.log(1).len() != 4 {
         return None;
@@ -232,6 +224,7 @@ fn asked(ordered: &Ordered<'_, Global>) -> Option<([u32; 4], [bool; 2])> {
         ordered.count(0, 4, 1),
         ordered.count(1, 4, 0),
         ordered.count(1, 0, 0),
+        ordered.count(1, 3, 0),
     ];
     let before = [ordered.before(1, 3, 0, 4), ordered.before(0, 3, 1, 4)];
     Some((counts, before))
@@ -241,7 +234,27 @@ fn asked(ordered: &Ordered<'_, Global>) -> Option<([u32; 4], [bool; 2])> {
 fn counts_of_two_node_election(rt: HostRuntime) {
     let logs = logs_of(&rt, 2, &[&winner(), &loser()]);
     let ordered = order(rt.alloc(), &logs).expect(&rt, "an order");
-    assert!(rt; asked(&ordered) == Some(([2, 4, 2, 0], [true, false])));
+    assert!(rt; asked(&ordered) == Some(([2, 4, 2, 0, 2], [true, false])));
+}
+
+/// Of the logs of the lone initiator in a ring of three: how many events of nodes 1 and 2 happened before its last one.
+fn asked_of_three(ordered: &Ordered<'_, Global>) -> Option<[u32; 2]> {
+    let logs = ordered.logs();
+    if logs.size().get() != 3 || logs.log(0).len() != 3 {
+        return None;
+    }
+    Some([ordered.count(0, 3, 1), ordered.count(0, 3, 2)])
+}
+
+#[test]
+fn counts_of_the_lone_initiator(rt: HostRuntime) {
+    let logs = logs_of(
+        &rt,
+        1,
+        &[&lone_initiator_events(), &passing(1, 2), &passing(2, 3)],
+    );
+    let ordered = order(rt.alloc(), &logs).expect(&rt, "an order");
+    assert!(rt; asked_of_three(&ordered) == Some([2, 2]));
 }
 
 /// How many counters the order of these logs keeps.

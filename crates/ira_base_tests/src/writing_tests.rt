@@ -136,8 +136,8 @@ fn to_a_writer(rt: HostRuntime) {
 }
 
 #[test]
-fn full_writer(rt: HostRuntime) {
-    let log = log_of(&rt, 2, 1, true, &loser());
+fn sink_fails_after_ten_bytes(rt: HostRuntime) {
+    let log = log_of(&rt, 2, 0, true, &winner());
     let mut room = [0; 10];
     let written = write_log(&log, &mut ToWriter::new(room.as_mut_slice()));
     assert!(rt; (written, room) == (Err(WriteFault), *b"irlog 1\nno"));
@@ -156,7 +156,7 @@ fn write_behind_a_buffer(
 
 #[test]
 fn full_writer_behind_a_buffer(rt: HostRuntime) {
-    let log = log_of(&rt, 2, 1, true, &loser());
+    let log = log_of(&rt, 2, 0, true, &winner());
     let written = write_behind_a_buffer(&rt, &log);
     assert!(rt;
         written == (Ok(()), Err(WriteFault)),

@@ -83,10 +83,10 @@ fn receipt_without_sending(rt: HostRuntime) {
 fn equal_pair_passed_on_clean(rt: HostRuntime) {
     let texts = [
         "irlog 1\nnodes 2\nplace 0\nstart initiator\ndraw 1\nsend 1 1 1 clean\nrecv 1 1 1 clean\n\
-         send 1 1 2 clean\nrecv 1 1 2 clean\ndraw 2\nsend 2 2 1 clean\nrecv 2 1 1 clean\n\
+         send 1 1 2 clean\nrecv 1 1 2 dirty\ndraw 2\nsend 2 2 1 clean\nrecv 2 1 1 clean\n\
          recv 2 2 2 clean\nend 9\n",
         "irlog 1\nnodes 2\nplace 1\nstart initiator\ndraw 1\nsend 1 1 1 clean\nrecv 1 1 1 clean\n\
-         send 1 1 2 clean\nrecv 1 1 2 clean\ndraw 1\nsend 2 1 1 clean\nrecv 2 2 1 clean\n\
+         send 1 1 2 dirty\nrecv 1 1 2 clean\ndraw 1\nsend 2 1 1 clean\nrecv 2 2 1 clean\n\
          send 2 2 2 clean\nend 9\n",
     ];
     assert_no(&rt, texts, "no: node 0: event 4: not owed\n");

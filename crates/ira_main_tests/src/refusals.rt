@@ -1,8 +1,8 @@
-//! What the program answers where a growth is refused, or a write of its answer fails. What the library of its
+//! What the program answers where a growth is refused, or a write of its answer fails behind each byte. What the library of its
 //! command line allocates comes from the system's allocator alone, and is never refused here. What a shelf gives to be read
 //! is in no contract, so that answers are compared.
 
-use crate::fakes::{File, Input, Memory, MemoryShelf, NEVER, served, served_amply};
+use crate::fakes::{File, Input, Memory, MemoryShelf, NEVER, Output, served, served_amply};
 use crate::samples::{
     ELECTED_0, ELECTED_1, LEADER_AND_ACTIVE, PAIRS_OF_THREE, TWO_CASES, TWO_STEPS, UPGRADED_0,
     UPGRADED_1,
@@ -19,6 +19,7 @@ struct Case {
     words: &'static [&'static str],
     status: u8,
     out: &'static str,
+    err: &'static str,
     written: &'static [(&'static str, &'static str)],
 }
 
@@ -32,71 +33,139 @@ const FILES: &[(&str, File<'static>)] = &[
 
 const ELECTION: &[(&str, &str)] = &[("d/0.log", ELECTED_0), ("d/1.log", ELECTED_1)];
 
+const EMPTY: &[(&str, &str)] = &[
+    (
+        "d/0.log",
+        "irlog 1\nnodes 2\nplace 0\nstart initiator\nend 0\n",
+    ),
+    (
+        "d/1.log",
+        "irlog 1\nnodes 2\nplace 1\nstart passive\nend 0\n",
+    ),
+];
+
 const CASES: &[Case] = &[
     Case {
         words: &[],
         status: 0,
         out: "yes\n",
+        err: "",
         written: &[],
     },
     Case {
         words: &["logs", "0.log", "1.log"],
         status: 0,
         out: "yes\n",
+        err: "",
         written: &[],
     },
     Case {
         words: &["logs", "1.log", "0.log"],
         status: 1,
         out: "no: heads: place 0\n",
+        err: "",
         written: &[],
     },
     Case {
         words: &["check", "--question=one", "--cert=c", "0.log", "1.log"],
         status: 0,
         out: "yes\n",
+        err: "",
         written: &[],
     },
     Case {
         words: &["decide", "--question=one", "--out=made", "0.log", "1.log"],
         status: 0,
         out: "case 0: absent, 2 steps, node 1 spent\n",
+        err: "",
         written: &[("made", TWO_STEPS)],
     },
     Case {
         words: &["decide", "--question=two", "0.log", "1.log"],
         status: 1,
         out: "case 0: absent, 2 steps, node 1 spent\ncase 1: present at 2 3\n",
+        err: "",
         written: &[],
     },
     Case {
         words: &["pairs", "3"],
         status: 0,
         out: PAIRS_OF_THREE,
+        err: "",
         written: &[],
     },
     Case {
         words: &["run", "--nodes=2", "--seed=7", "--out=d"],
         status: 0,
         out: "node 0: leader, 4 events\nnode 1: stopped, 4 events\n",
+        err: "",
         written: ELECTION,
     },
     Case {
         words: &["run", "--nodes=2", "--seed=7", "--out=d", "--alone"],
         status: 0,
         out: "node 0: leader, 4 events\nnode 1: quiet, 4 events\n",
+        err: "",
         written: ELECTION,
+    },
+    Case {
+        words: &[
+            "run",
+            "--nodes=2",
+            "--seed=7",
+            "--out=d",
+            "--initiators=1",
+            "--draws=0",
+        ],
+        status: 1,
+        out: "node 0: draws spent, 0 events\nnode 1: stopped, 0 events\n",
+        err: "",
+        written: EMPTY,
+    },
+    Case {
+        words: &[
+            "run",
+            "--nodes=2",
+            "--seed=7",
+            "--out=d",
+            "--initiators=1",
+            "--draws=0",
+            "--alone",
+        ],
+        status: 1,
+        out: "node 0: draws spent, 0 events\nnode 1: quiet, 0 events\n",
+        err: "",
+        written: EMPTY,
+    },
+    Case {
+        words: &["run", "--nodes=2", "--seed=7", "--out=d", "--initiators=0"],
+        status: 2,
+        out: "",
+        err: "ira: run refused 1\n",
+        written: &[],
     },
     Case {
         words: &["upgrade", "--out=d", "0.log", "1.log"],
         status: 0,
         out: "upgraded 2 logs\n",
+        err: "",
         written: &[("d/0.log", UPGRADED_0), ("d/1.log", UPGRADED_1)],
     },
 ];
 
-/// The statuses and lines of a call that gives up: memory ran out, or a thread wasn't started.
-const GIVE_UPS: &[(u8, &[u8])] = &[(3, b"ira: out of memory\n"), (2, b"ira: run refused 3\n")];
+impl Case {
+    fn is_of(&self, command: &str) -> bool {
+        self.words.first() == Some(&command)
+    }
+
+    /// Whether a call that answers so gives up: memory ran out, or a thread of a run wasn't started.
+    fn gives_up(&self, found: &Output) -> bool {
+        let starts_threads = self.is_of("run") && !self.words.contains(&"--alone");
+        let told = (found.status, found.err.bytes());
+        told == (3, b"ira: out of memory\n".as_slice())
+            || starts_threads && told == (2, b"ira: run refused 3\n".as_slice())
+    }
+}
 
 /// Whether the program answers the case with this memory, or gives up. `None` where neither is so.
 fn answered<R>(rt: &R, case: &Case, alloc: Memory) -> Option<bool>
@@ -115,12 +184,13 @@ where
     );
     let out = found.out.bytes();
     let is_whole = out == case.out.as_bytes();
-    if is_whole && found.status == case.status && shelf.has_written(case.written) {
+    let is_told = is_whole && found.err.bytes() == case.err.as_bytes();
+    if is_told && found.status == case.status && shelf.has_written(case.written) {
         return Some(true);
     }
-    // `decide` may give up behind its findings, while it makes the certificate of them
-    let gives_up = GIVE_UPS.contains(&(found.status, found.err.bytes()));
-    (gives_up && (is_whole || out.is_empty())).then_some(false)
+    // behind its findings it may give up while it makes the certificate of them
+    let is_cut = out.is_empty() || is_whole && case.is_of("decide");
+    (case.gives_up(&found) && is_cut).then_some(false)
 }
 
 fn answers<R>(rt: &R, case: &Case, alloc: Memory) -> bool
@@ -137,24 +207,35 @@ fn each_growth_is_refused(rt: HostRuntime) {
 }
 
 /// Whether the program says that it can't write its answer to a sink that takes as many bytes as these, and has
-/// written these.
+/// written these. The logs of a run and those of an upgrade are in their files then; `decide` makes none.
 fn is_cut_behind(
     rt: &(impl Abort + AllocGlobal + Threads + Wait + Clock + Sync),
-    words: &[&str],
+    case: &Case,
     taken: &[u8],
 ) -> bool {
-    let mut shelf = MemoryShelf::new(rt.alloc(), &[]);
-    let mut input = Counted::new(Input::empty());
-    let found = served_amply(rt, words, &mut shelf, &mut input, [taken.len(), NEVER]);
+    let mut shelf = MemoryShelf::new(rt.alloc(), FILES);
+    let mut input = Counted::new(Input::new(ELECTED_0.as_bytes()));
+    let found = served_amply(rt, case.words, &mut shelf, &mut input, [taken.len(), NEVER]);
     let told = b"ira: cannot write the answer\n".as_slice();
-    (found.status, found.out.bytes(), found.err.bytes()) == (2, taken, told)
+    let written = if case.is_of("decide") {
+        &[]
+    } else {
+        case.written
+    };
+    let is_told = (found.status, found.out.bytes(), found.err.bytes()) == (2, taken, told);
+    is_told && shelf.has_written(written)
 }
 
 #[test]
 fn answer_cut_at_each_byte(rt: HostRuntime) {
-    let words = ["run", "--nodes=2", "--seed=7", "--out=d", "--alone"];
-    let ends = b"node 0: leader, 4 events\nnode 1: quiet, 4 events\n";
-    for k in 0..ends.len() {
-        assert!(rt; is_cut_behind(&rt, &words, &ends[..k]), "after {k} bytes");
+    for case in CASES {
+        let out = case.out.as_bytes();
+        for k in 0..out.len() {
+            assert!(rt;
+                is_cut_behind(&rt, case, &out[..k]),
+                "{k} bytes of {}",
+                case.out
+            );
+        }
     }
 }

@@ -2,13 +2,13 @@
 //! refused in turn, or each byte of a text.
 #![tactic(auto)]
 
-mod answered;
+mod answer;
 mod each_byte;
 mod each_growth;
 mod failing_sink;
 mod refusing;
 
-pub use answered::answered;
+pub use answer::answered;
 pub use each_byte::{Writer, each_byte_refused};
 pub use each_growth::{each_growth_refused, has_answered};
 pub use failing_sink::FailingSink;
