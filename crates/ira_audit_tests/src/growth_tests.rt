@@ -171,7 +171,7 @@ where
 
 /// Whether an audit gave this answer; else memory ran out.
 fn is_answer(rt: &impl Abort, found: Result<Answer, OutOfMemory>, answer: Answer) -> bool {
-    answered(rt, &found, &Ok(answer), &Err(OutOfMemory))
+    answered(&found, &Ok(answer), &Err(OutOfMemory)).expect(rt, "its answer, or want of memory")
 }
 
 /// Whether these lines tell what is found of the question; else memory ran out.

@@ -170,13 +170,19 @@ const QUESTIONS: [Read<AskFault>; 2] = [(NESTED, None), (PAIRS_OF_THREE, None)];
 /// Whether reading a log answers so with this memory.
 fn reads_log(rt: &impl Abort, text: &[u8], wanted: Option<LogFault>, alloc: Memory) -> bool {
     let found = read_log(alloc, text).err();
-    answered(rt, &found, &wanted, &Some(LogFault::OutOfMemory))
+    answered(&found, &wanted, &Some(LogFault::OutOfMemory)).expect(
+        rt,
+        "its answer, or want of memory",
+    )
 }
 
 /// Whether reading a question answers so with this memory.
 fn reads_question(rt: &impl Abort, text: &[u8], wanted: Option<AskFault>, alloc: Memory) -> bool {
     let found = read_question(alloc, text).err();
-    answered(rt, &found, &wanted, &Some(AskFault::OutOfMemory))
+    answered(&found, &wanted, &Some(AskFault::OutOfMemory)).expect(
+        rt,
+        "its answer, or want of memory",
+    )
 }
 
 #[test]
@@ -204,7 +210,10 @@ fn texts_read(rt: HostRuntime) {
 /// Whether these logs have no order for the reason that they are a circle, with this memory.
 fn is_circle(rt: &impl Abort, logs: &Logs<Memory>, alloc: Memory) -> bool {
     let (circle, refused) = (Some(OrderFault::Circle), Some(OrderFault::OutOfMemory));
-    answered(rt, &order(alloc, logs).err(), &circle, &refused)
+    answered(&order(alloc, logs).err(), &circle, &refused).expect(
+        rt,
+        "its answer, or want of memory",
+    )
 }
 
 #[test]

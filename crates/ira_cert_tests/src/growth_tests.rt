@@ -191,7 +191,10 @@ impl Posed<'_> {
             }
             Call::Decide => return self.is_found(rt, decide(alloc, logs, ordered, case)),
         };
-        answered(rt, &judged, &Ok(*verdict), &Err(OutOfMemory))
+        answered(&judged, &Ok(*verdict), &Err(OutOfMemory)).expect(
+            rt,
+            "its answer, or want of memory",
+        )
     }
 
     /// Whether this is found of the case; else memory ran out.
@@ -240,7 +243,10 @@ fn sections_judged_and_made(rt: HostRuntime) {
 /// Whether reading a certificate answers so with this memory.
 fn reads(rt: &impl Abort, text: &[u8], wanted: Option<CertFault>, alloc: Memory) -> bool {
     let found = read_cert(alloc, text).err();
-    answered(rt, &found, &wanted, &Some(CertFault::OutOfMemory))
+    answered(&found, &wanted, &Some(CertFault::OutOfMemory)).expect(
+        rt,
+        "its answer, or want of memory",
+    )
 }
 
 #[test]

@@ -1,10 +1,10 @@
-//! Each growth of a call is refused in turn, and a writer's sink fails behind each byte. That an answer is the right one is
-//! proved, so that none is looked at.
+//! Each growth of a call is refused in turn, and a writer's sink fails behind each byte. A call gives up then for no other
+//! reason, or answers all the same; that its answer is the right one is proved.
 
 use ira_event::RingSize;
 use ira_links::OpenGate;
 use ira_refusing::{
-    FailingSink, Refusing, Writer, each_byte_refused, each_growth_refused, has_answered,
+    FailingSink, Refusing, Writer, answered, each_byte_refused, each_growth_refused, has_answered,
 };
 use ira_ring::{
     Collector, Run, RunFault, Setup, draw_lists, run_alone, run_alone_seeded, run_ring, write_ends,
@@ -68,15 +68,23 @@ impl Given {
         let Given { largest, setup } = self;
         match call {
             Call::DrawLists => has_answered(draw_lists(alloc, *largest, 42, 1)),
-            Call::NewCollector => has_answered(Collector::new(alloc, *largest)),
-            Call::RunAlone => has_answered(run_alone(alloc, setup)),
+            Call::NewCollector => has_answered(Collector::new(alloc, setup.nodes)),
+            Call::RunAlone => is_run(rt, run_alone(alloc, setup).err()),
             Call::RunAloneSeeded => {
-                let nodes = setup.nodes;
-                has_answered(run_alone_seeded(alloc, nodes, &[true, true], 7, 100, 100, 1))
+                let run = run_alone_seeded(alloc, setup.nodes, &[true, true], 7, 100, 100, 1);
+                is_run(rt, run.err())
             }
             Call::RunRing => has_run(rt, alloc, setup),
         }
     }
+}
+
+/// Whether a run on one thread came to its end. Else memory ran out.
+fn is_run(rt: &impl Abort, fault: Option<RunFault>) -> bool {
+    answered(&fault, &None, &Some(RunFault::OutOfMemory)).expect(
+        rt,
+        "its answer, or want of memory",
+    )
 }
 
 /// Whether the ring is run on threads. Where it isn't, memory ran out, or a thread wasn't started.
