@@ -8,7 +8,7 @@ use ira_event::{LogFault, Logs, MemorySink, RingSize, read_log, upgrade, write_l
 use ira_fixtures::logs_of;
 use ira_links::link;
 use ira_order::{find_order, order};
-use ira_pred::{Clause, pairs_question, read_question};
+use ira_pred::{AskFault, Clause, pairs_question, read_question};
 use ira_refusing::{Refusing, each_growth_refused, has_answered};
 use std::alloc::Global;
 
@@ -42,6 +42,13 @@ const PAIRS_OF_THREE: &[u8] = b"irask 1\nnodes 3\n\
 /// A question whose clause nests.
 const NESTED: &[u8] =
     b"irask 1\nnodes 2\ncase\n0: (leader and (not (yielding or term < 2)))\nend\n";
+
+/// A line nested too deep, whose first clause asks for memory.
+const TOO_DEEP: &[u8] = b"irask 1\nnodes 2\ncase\n\
+    0: ((not true) and (((((((((((((((((((((((((((((((((\n";
+
+/// A line that doesn't end, with a clause that asks for memory.
+const UNENDED: &[u8] = b"irask 1\nnodes 2\ncase\n0: (not true)";
 
 /// The calls whose growths are refused.
 enum Call {
@@ -94,4 +101,16 @@ fn each_growth_is_refused(rt: HostRuntime) {
     let logs = logs_of(memory, &[ELECTION_0, ELECTION_1]).expect(&rt, "two logs");
     let refused = each_growth_refused(rt.alloc(), CALLS, |call, alloc| answers(call, alloc, &logs));
     assert!(rt; refused.is_ok(), "{refused:?}");
+}
+
+/// A fault of a line's end or depth stands before each growth for its clause.
+#[test]
+fn faults_of_lines_without_memory(rt: HostRuntime) {
+    let memory = Refusing::new(rt.alloc()).expect(&rt, "memory");
+    for (text, fault) in [(TOO_DEEP, AskFault::Depth(4)), (UNENDED, AskFault::Cut)] {
+        memory.refuse(1);
+        let alloc = memory.clone().expect(&rt, "memory");
+        let answer = read_question(alloc, text);
+        assert!(rt; memory.asked() == 1 && answer.err() == Some(fault));
+    }
 }
