@@ -16,15 +16,16 @@ say = printf '%4d s  %s\n' $$(($$(date +%s) - $(START)))
 needs_kit = command -v rt > /dev/null && command -v rattle > /dev/null || \
 	{ echo 'The Rattle kit is missing, no rt and rattle on the PATH: README.md, "Build and test", says what is needed.'; exit 1; }
 
-.PHONY: help ira run install test sweep recorders clean
+.PHONY: help ira run install dist test sweep recorders clean
 
 help:
 	@echo 'make ira        proves the program and the libraries that it stands on, and leaves it at bin/ira:'
 	@echo '                the first time 30 to 75 minutes of processor time, over all cores; then the crates that'
 	@echo '                have changed, and those that stand on them'
 	@echo 'make run        makes ira, judges examples with it, and compares its answers with those expected'
-	@echo 'make install    copies bin/ira to $$(PREFIX)/bin, and its manual to $$(PREFIX)/share/man/man1; PREFIX is'
+	@echo 'make install    copies bin/ira to $$(PREFIX)/bin, and its manual and completions below $$(PREFIX)/share; PREFIX is'
 	@echo '                $(PREFIX) if not given'
+	@echo 'make dist       makes ira, and packs it with its manual, completions, examples and pages, for machines without the kit'
 	@echo 'make test       the gate: all proofs from nothing, the edits that must be refused, all tests and'
 	@echo '                programs: `N passed, 0 failed`; and all examples. See docs/ARCHITECTURE.md for its time'
 	@echo 'make sweep      makes ira, refuses each growth of its memory and each start of a thread in turn, and looks at what'
@@ -70,18 +71,27 @@ run: ira
 	@$(call judges,logs examples/two_node_election/0.log examples/two_node_election/1.log,0,yes)
 	@$(call judges,logs examples/receipts_exchanged/0.log examples/receipts_exchanged/1.log,1,no: link 1: receipt 1 differs)
 	@$(call judges,< examples/one_bad_log/draw_out_of_range.log,1,no: node 0: event 1: draw range)
+	@sh completions/check.sh bin/ira
 	@sh examples/check.sh bin/ira
 
 install:
 	@test -x bin/ira || { echo 'make ira first'; exit 1; }
 	install -D -m 755 bin/ira $(DESTDIR)$(PREFIX)/bin/ira
 	install -D -m 644 docs/ira.1 $(DESTDIR)$(PREFIX)/share/man/man1/ira.1
+	install -D -m 644 completions/ira.bash $(DESTDIR)$(PREFIX)/share/bash-completion/completions/ira
+	install -D -m 644 completions/_ira $(DESTDIR)$(PREFIX)/share/zsh/site-functions/_ira
+	install -D -m 644 completions/ira.fish $(DESTDIR)$(PREFIX)/share/fish/vendor_completions.d/ira.fish
+
+# The program for machines without the kit.
+dist: ira
+	@sh build/dist.sh
 
 # The merge gate: every proof from nothing, the edits that the prover must refuse, all tests, the programs as
 # two compilers build them, and the answers to all examples.
 test:
 	@$(needs_kit)
 	rt ci
+	@sh completions/check.sh crates/ira/out/ira
 	@sh examples/check.sh crates/ira/out/ira
 
 # Each growth of the program is refused in turn, those of the command line's library and of the threads too, and each

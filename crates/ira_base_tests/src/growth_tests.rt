@@ -111,6 +111,13 @@ const EXCHANGED: [&[u8]; 2] = [
     ELECTION_1,
 ];
 
+/// A line nested too deep, whose first clause asks for memory.
+const TOO_DEEP: &[u8] = b"irask 1\nnodes 2\ncase\n\
+    0: ((not true) and (((((((((((((((((((((((((((((((((\n";
+
+/// A line that doesn't end, with a clause that asks for memory.
+const UNENDED: &[u8] = b"irask 1\nnodes 2\ncase\n0: (not true)";
+
 /// The calls whose growths are refused.
 enum Call {
     WriteLog,
@@ -251,4 +258,16 @@ fn refused_push_keeps_what_was_taken(rt: HostRuntime) {
     let is_whole = sink.bytes() == b"irlog 1\nnodes 2\n".as_slice();
     assert!(rt; (first, refused, second) == (Ok(8), Err(SinkFault), Ok(8)));
     assert!(rt; is_kept && is_whole);
+}
+
+/// A fault of a line's end or depth stands before each growth for its clause.
+#[test]
+fn faults_of_lines_without_memory(rt: HostRuntime) {
+    let memory = Refusing::new(rt.alloc()).expect(&rt, "memory");
+    for (text, fault) in [(TOO_DEEP, AskFault::Depth(4)), (UNENDED, AskFault::Cut)] {
+        memory.refuse(1);
+        let alloc = memory.clone().expect(&rt, "memory");
+        let answer = read_question(alloc, text);
+        assert!(rt; memory.asked() == 1 && answer.err() == Some(fault));
+    }
 }

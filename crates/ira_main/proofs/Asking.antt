@@ -1,6 +1,6 @@
 -- What is made for a request.
 use Rattle.std.proofs.Common.{◌≡◌, ℕ, ◌<◌, Bool, true, false, List, [], Result, Ok, Err, IfOk, OnOk, length, get_or, inl, inr, refl, sym, ap, subst, ◌∙◌, arith}
-use Rattle.std.specs.Prelude.{Option, IfSome, MatchResult, map, nat_lt, unwrap_or, slice_get}
+use Rattle.std.specs.Prelude.{◌≢◌, ◌⊎◌, IfErr, Option, IfSome, MatchResult, map, nat_lt, unwrap_or, slice_get}
 use Rattle.std.specs.List.{range_with_len}
 use Rattle.std.specs.Option.{option_map}
 use Rattle.std.proofs.lemmas.List.{length-map}
@@ -60,20 +60,45 @@ asked_seeded request n terms kinds size so_many first =
 
 -- more terms than a number of 32 bits says are those of a setup that breaks the rules
 pub asked_of_too_many : (request : RunRequest) (n : ℕ) → n ≡ request.nodes → ¬ (request.terms < 4294967296) → IsAskedRunFault request variants.Setup
-asked_of_too_many request n size many = λ _.
+asked_of_too_many request n size many =
     let kinds = map (λ i. nat_lt i (unwrap_or request.initiators n)) (range_with_len 0 n) in
     let s = seeded n kinds request.seed request.draws request.cap request.terms in
-    (s, asked_seeded request n request.terms kinds size refl refl, λ (keeps : KeepsRules s). omega (arith, many, keeps.terms.1))
+    record {
+      setup = λ _. (s, asked_seeded request n request.terms kinds size refl refl, λ (keeps : KeepsRules s). omega (arith, many, keeps.terms.1));
+      alone = λ _. inl refl;
+      parts = (λ e. cc, λ e. cc);
+    }
+
+-- want of memory is a fault of each run
+pub asked_in_no_memory : (request : RunRequest) → IsAskedRunFault request variants.OutOfMemory
+asked_in_no_memory request = record {
+  setup = λ e. cc;
+  alone = λ _. inr refl;
+  parts = (λ e. cc, λ e. cc);
+}
 
 -- what comes of the setup that is asked for is what comes of the request: its run, or its fault
 pub asked_alone : (request : RunRequest) (s : Setup) (r : Result Run RunFault) → request.is_alone ≡ true → IsAskedSetup request s
     → (r ≡ Err variants.Setup → ¬ (KeepsRules s)) → OnOk r (KeepsRules s) → IfOk r (IsLoneRun s)
+    → IfErr r (λ f. (f ≡ variants.Setup) ⊎ (f ≡ variants.OutOfMemory))
     → MatchResult r (IsAskedRun request) (IsAskedRunFault request)
-asked_alone request s (Ok run) alone asked breaks keeps is = (s, asked, keeps, subst (λ b. IsRunOf b s run) (sym alone) is)
-asked_alone request s (Err f) alone asked breaks keeps is = λ setup. (s, asked, breaks (ap (λ x. Err x) setup))
+asked_alone request s (Ok run) alone asked breaks keeps is _ = (s, asked, keeps, subst (λ b. IsRunOf b s run) (sym alone) is)
+asked_alone request s (Err f) alone asked breaks keeps is two = record {
+  setup = λ setup. (s, asked, breaks (ap (λ x. Err x) setup));
+  alone = λ _. two;
+  parts = (
+    λ e. elim two [ inl setup ↦ cc | inr none ↦ cc ],
+    λ e. elim two [ inl setup ↦ cc | inr none ↦ cc ],
+  );
+}
 
 pub asked_ring : (request : RunRequest) (s : Setup) (r : Result Run RunFault) → request.is_alone ≡ false → IsAskedSetup request s
     → (r ≡ Err variants.Setup → ¬ (KeepsRules s)) → OnOk r (KeepsRules s) → IfOk r (IsRecording s) → IfOk r HasOwnEnd
+    → IfErr r (λ f. (f ≢ variants.Stranger) × (f ≢ variants.Double))
     → MatchResult r (IsAskedRun request) (IsAskedRunFault request)
-asked_ring request s (Ok run) threads asked breaks keeps is ended = (s, asked, keeps, subst (λ b. IsRunOf b s run) (sym threads) (is, ended))
-asked_ring request s (Err f) threads asked breaks keeps is ended = λ setup. (s, asked, breaks (ap (λ x. Err x) setup))
+asked_ring request s (Ok run) threads asked breaks keeps is ended _ = (s, asked, keeps, subst (λ b. IsRunOf b s run) (sym threads) (is, ended))
+asked_ring request s (Err f) threads asked breaks keeps is ended neither = record {
+  setup = λ setup. (s, asked, breaks (ap (λ x. Err x) setup));
+  alone = λ alone. cc;
+  parts = neither;
+}

@@ -1,5 +1,5 @@
 -- The run that a request names.
-use Rattle.std.specs.Prelude.{◌≡◌, ℕ, ◌<◌, Bool, true, false, nat_lt, unwrap_or}
+use Rattle.std.specs.Prelude.{◌≡◌, ◌≢◌, ◌⊎◌, ℕ, ◌<◌, Bool, true, false, nat_lt, unwrap_or}
 use Rattle.ira_ring.specs.Draws.{draws}
 use Rattle.ira_ring.specs.Recording.{IsRecording, HasOwnEnd}
 use Rattle.ira_ring.specs.Run.{Run}
@@ -29,6 +29,11 @@ IsRunOf false s run = IsRecording s run × HasOwnEnd run
 abbrev pub IsAskedRun : RunRequest → Run → Type 0
 IsAskedRun request run = (s : Setup) × IsAskedSetup request s × KeepsRules s × IsRunOf request.is_alone s run
 
--- a fault of the run that a request names: it is that of a setup only where the setup that is named breaks the rules
-abbrev pub IsAskedRunFault : RunRequest → RunFault → Type 0
-IsAskedRunFault request fault = fault ≡ run.Setup → (s : Setup) × IsAskedSetup request s × ¬ (KeepsRules s)
+-- a fault of the run that a request names
+pub record IsAskedRunFault (request : RunRequest) (fault : RunFault) : Type 0 where
+  -- it is that of a setup only where the setup that is named breaks the rules
+  pub setup : fault ≡ run.Setup → (s : Setup) × IsAskedSetup request s × ¬ (KeepsRules s)
+  -- on one thread it is that or the want of memory
+  pub alone : request.is_alone ≡ true → (fault ≡ run.Setup) ⊎ (fault ≡ run.OutOfMemory)
+  -- and never that of a part which the collector refuses
+  pub parts : (fault ≢ run.Stranger) × (fault ≢ run.Double)

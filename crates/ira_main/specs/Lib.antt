@@ -7,6 +7,7 @@ pub mod FilesRead
 pub mod InputAudit
 pub mod LogFiles
 pub mod Outcome
+pub mod Progress
 pub mod ReadText
 pub mod Serve
 pub mod Shelf

@@ -1,4 +1,4 @@
-ghost use Rattle.std.specs.Prelude.{◌≡◌, map, nat_lt, IfOk, MatchResult, unwrap_or};
+ghost use Rattle.std.specs.Prelude.{◌≡◌, false, map, nat_lt, true, IfOk, MatchResult, unwrap_or};
 ghost use Rattle.std.specs.List.{range_with_len};
 ghost use Rattle.ira_main.specs.AskedRun.{IsAskedSetup, IsAskedRun, IsAskedRunFault};
 
@@ -47,9 +47,35 @@ fn setup<A: Allocator + Clone>(
     })
 }
 
-/// Runs the ring that is asked for, which has this size. A number of terms that no setup could hold is that of one which
-/// breaks the rules.
-pub(crate) fn run<R, A>(
+/// Runs the ring that is asked for, which has this size, on one thread. A number of terms that no setup could hold is that of
+/// one which breaks the rules.
+pub(crate) fn run_alone<A: Allocator + Clone>(
+    request: &RunRequest<'_>,
+    alloc: A,
+    nodes: RingSize,
+) -> Result<Run<A>, RunFault>
+    requires alone { request.now.is_alone ≡ true }
+    requires size { nodes ≡ request.now.nodes }
+    ensures { MatchResult result (IsAskedRun request.now) (IsAskedRunFault request.now) }
+{
+    let Ok(terms) = u32::try_from(request.terms) else {
+        return Err(RunFault::Setup);
+    };
+    let initiators = initiators(request, alloc.clone()?, nodes)?;
+    let cap = request.cap as usize;
+    run_alone_seeded(
+        alloc,
+        nodes,
+        &initiators,
+        request.seed,
+        request.draws,
+        cap,
+        terms,
+    )
+}
+
+/// The same with a thread for each node.
+pub(crate) fn run_on_threads<R, A>(
     request: &RunRequest<'_>,
     rt: &R,
     alloc: A,
@@ -58,25 +84,13 @@ pub(crate) fn run<R, A>(
 where
     R: Threads + Wait + Clock + Sync,
     A: Allocator + Clone + Send + Sync,
-    requires { nodes ≡ request.now.nodes }
+    requires threads { request.now.is_alone ≡ false }
+    requires size { nodes ≡ request.now.nodes }
     ensures { MatchResult result (IsAskedRun request.now) (IsAskedRunFault request.now) }
 {
     let Ok(terms) = u32::try_from(request.terms) else {
         return Err(RunFault::Setup);
     };
-    if request.is_alone {
-        let initiators = initiators(request, alloc.clone()?, nodes)?;
-        let cap = request.cap as usize;
-        return run_alone_seeded(
-            alloc,
-            nodes,
-            &initiators,
-            request.seed,
-            request.draws,
-            cap,
-            terms,
-        );
-    }
     let setup = setup(request, alloc.clone()?, nodes, terms)?;
     run_ring(rt, alloc, &setup, &OpenGate)
 }

@@ -1,6 +1,7 @@
 ghost use Rattle.std.specs.Prelude.{◌≡◌, ◌⊎◌, ◌≤◌, ◌+◌, map};
 ghost use Rattle.ira_main.specs.FilesRead.{IsFilesFault};
 ghost use Rattle.ira_main.specs.Outcome.{GivesNoAnswer, Outcome, ReportsOutcome, outcome_number};
+ghost use Rattle.ira_main.specs.Progress.{ServesOrLeaves};
 ghost use Rattle.ira_main.specs.Serve.{Judges, JudgesCertified, JudgesTogether, Serves, check_names};
 ghost use Rattle.ira_main.specs.Shelf.{WritesFile};
 
@@ -9,8 +10,9 @@ use crate::decide_files::decide_files;
 use crate::input_audit::audit_input;
 use crate::print_pairs::print_pairs;
 use crate::program_fault::{ProgramFault, report_outcome};
+use crate::progress::Progress;
 use crate::read_files::{read_file, read_logs};
-use crate::record_run::record_run;
+use crate::record_run::{record_run_alone, record_run_on_threads};
 use crate::report::report;
 use crate::shelf::Shelf;
 use crate::status::Status;
@@ -90,6 +92,50 @@ where
     report(&answer, out)
 }
 
+/// Does what the words ask for, unless that waits: it leaves a check and a run with a thread for each node. So all else is
+/// done when it returns, which it does. (The threads that read logs end by themselves.)
+pub fn serve_without_wait<'a, R, A, I, F, W>(
+    rt: &R,
+    alloc: A,
+    words: &'a [&'a str],
+    input: &mut Counted<I>,
+    shelf: &mut F,
+    out: &mut W,
+) -> Progress<'a>
+where
+    R: AllocGlobal + Threads + Sync,
+    A: Allocator + Clone + Send + Sync,
+    I: Read,
+    F: Shelf + Sync,
+    W: Sink,
+    ensures served { ServesOrLeaves A F.reads (WritesFile F.creates F.closes F.Out.state)
+        (map (λ word. word.now) words.now) input.old input.new shelf.old shelf.new
+        (W.state out.old) (W.state out.new) result }
+    ensures reads { input.new.reads ≤ input.old.reads + (MAX_TEXT + 1) }
+{
+    let request = match read_words(rt.alloc(), words) {
+        Ok(request) => request,
+        Err(fault) => return Progress::Ended(Err(fault.into())),
+    };
+    match request {
+        Request::OneLog => Progress::Ended(judge_input(alloc, input, out)),
+        Request::Logs(names) => Progress::Ended(judge_files(rt, alloc, &names, shelf, out)),
+        Request::Check(check) => Progress::Check(check),
+        Request::Decide(decide) => Progress::Ended(decide_files(rt, alloc, &decide, shelf, out)),
+        Request::Pairs(nodes) => Progress::Ended(print_pairs(alloc, nodes, out)),
+        Request::Run(ring) => {
+            if ring.is_alone {
+                Progress::Ended(record_run_alone(alloc, &ring, shelf, out))
+            } else {
+                Progress::Run(ring)
+            }
+        }
+        Request::Upgrade(upgrade) => Progress::Ended(upgrade_files(
+            rt, alloc, &upgrade, shelf, out,
+        )),
+    }
+}
+
 // Does what the words ask for.
 fn execute<'a, R, A, I, F, W>(
     rt: &R,
@@ -110,14 +156,10 @@ where
         (W.state out.old) (W.state out.new) result }
     ensures reads { input.new.reads ≤ input.old.reads + (MAX_TEXT + 1) }
 {
-    match read_words(rt.alloc(), words)? {
-        Request::OneLog => judge_input(alloc, input, out),
-        Request::Logs(names) => judge_files(rt, alloc, &names, shelf, out),
-        Request::Check(check) => check_files(rt, alloc, &check, shelf, out),
-        Request::Decide(decide) => decide_files(rt, alloc, &decide, shelf, out),
-        Request::Pairs(nodes) => print_pairs(alloc, nodes, out),
-        Request::Run(ring) => record_run(rt, alloc, &ring, shelf, out),
-        Request::Upgrade(upgrade) => upgrade_files(rt, alloc, &upgrade, shelf, out),
+    match serve_without_wait(rt, alloc.clone()?, words, input, shelf, out) {
+        Progress::Ended(outcome) => outcome,
+        Progress::Check(check) => check_files(rt, alloc, &check, shelf, out),
+        Progress::Run(ring) => record_run_on_threads(rt, alloc, &ring, shelf, out),
     }
 }
 

@@ -14,7 +14,7 @@ use std::alloc::{AllocError, AllocFailed};
 
 /// Why the program ends with neither yes nor no.
 #[derive(Drop)]
-pub(crate) enum ProgramFault<'a> {
+pub enum ProgramFault<'a> {
     /// The words were refused, with this text.
     Words(String),
     /// A word isn't UTF-8.
@@ -23,6 +23,7 @@ pub(crate) enum ProgramFault<'a> {
     CannotRead(&'a str),
     /// A ring of so many nodes is none.
     RingSize,
+    /// The run was refused, or came to nothing.
     RunRefused(RunFault),
     /// The log of the node at this place can't be written to its file in this folder.
     CannotWriteLog(&'a str, u8),

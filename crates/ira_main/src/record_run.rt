@@ -1,23 +1,46 @@
+ghost use Rattle.std.specs.Prelude.{◌≡◌, false, true};
+ghost use Rattle.ira_main.specs.AskedRun.{IsAskedRun};
 ghost use Rattle.ira_main.specs.Serve.{Records};
 ghost use Rattle.ira_main.specs.Shelf.{WritesFile};
 
-use crate::asked_run::run;
+use crate::asked_run::{run_alone, run_on_threads};
 use crate::log_files::write_files;
 use crate::program_fault::ProgramFault;
 use crate::ring_size::ring_size;
 use crate::shelf::Shelf;
 use crate::status::Status;
 use ira_event::{MemorySink, Sink, WriteFault, write_bytes};
-use ira_ring::write_ends;
+use ira_ring::{Run, write_ends};
 use ira_words::RunRequest;
 use std::alloc::Allocator;
 use std::sync::Wait;
 use std::thread::Threads;
 use std::time::Clock;
 
-/// Runs the ring that is asked for, writes the log of each node to a file, and then how each node ended. How they ended is
-/// put together before a file is made, since the output isn't buffered and memory may run out.
-pub(crate) fn record_run<'a, R, A, F, W>(
+/// Runs the ring that is asked for on one thread, and records the run.
+pub(crate) fn record_run_alone<'a, A, F, W>(
+    alloc: A,
+    request: &RunRequest<'a>,
+    shelf: &mut F,
+    out: &mut W,
+) -> Result<Status, ProgramFault<'a>>
+where
+    A: Allocator + Clone,
+    F: Shelf,
+    W: Sink,
+    requires { request.now.is_alone ≡ true }
+    ensures { Records (WritesFile F.creates F.closes F.Out.state) request.now shelf.old shelf.new
+        (W.state out.old) (W.state out.new) result }
+{
+    let Some(nodes) = ring_size(request.nodes) else {
+        return Err(ProgramFault::RingSize);
+    };
+    let run = run_alone(request, alloc.clone()?, nodes)?;
+    record(alloc, request, &run, shelf, out)
+}
+
+/// The same with a thread for each node.
+pub(crate) fn record_run_on_threads<'a, R, A, F, W>(
     rt: &R,
     alloc: A,
     request: &RunRequest<'a>,
@@ -29,15 +52,36 @@ where
     A: Allocator + Clone + Send + Sync,
     F: Shelf,
     W: Sink,
+    requires { request.now.is_alone ≡ false }
     ensures { Records (WritesFile F.creates F.closes F.Out.state) request.now shelf.old shelf.new
         (W.state out.old) (W.state out.new) result }
 {
     let Some(nodes) = ring_size(request.nodes) else {
         return Err(ProgramFault::RingSize);
     };
-    let run = run(request, rt, alloc.clone()?, nodes)?;
+    let run = run_on_threads(request, rt, alloc.clone()?, nodes)?;
+    record(alloc, request, &run, shelf, out)
+}
+
+// Writes the log of each node to a file, and then how each node ended. How they ended is put together before a file is
+// made, since the output isn't buffered and memory may run out.
+fn record<'a, A, F, W>(
+    alloc: A,
+    request: &RunRequest<'a>,
+    run: &Run<A>,
+    shelf: &mut F,
+    out: &mut W,
+) -> Result<Status, ProgramFault<'a>>
+where
+    A: Allocator + Clone,
+    F: Shelf,
+    W: Sink,
+    requires { IsAskedRun request.now run.now }
+    ensures { Records (WritesFile F.creates F.closes F.Out.state) request.now shelf.old shelf.new
+        (W.state out.old) (W.state out.new) result }
+{
     let mut text = MemorySink::new(alloc.clone()?);
-    let Ok(()) = write_ends(&run, &mut text) else {
+    let Ok(()) = write_ends(run, &mut text) else {
         return Err(ProgramFault::OutOfMemory);
     };
     write_files(&alloc, request.folder, run.logs(), shelf)?;

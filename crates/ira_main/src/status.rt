@@ -7,7 +7,7 @@ use std::alloc::Allocator;
 
 /// What the program ends with.
 #[derive(Clone, Copy)]
-pub(crate) enum Status {
+pub enum Status {
     /// The answer was yes, or a node was elected.
     Yes,
     /// The answer was no, or no node was elected.

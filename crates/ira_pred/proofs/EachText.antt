@@ -76,14 +76,14 @@ complete_fault text fault = by_end (position (λ c. nat_eq c 10) text) refl
     by_end None e = (Cut, cut_here _ text Cut e refl)
     by_end (Some i) e = (fault, line_here _ text i fault e (λ more. refl))
 
-behind_place_fault : (number : ℕ) (text : List ℕ) → (f : AskFault) × NextLineFault (λ line more g. ClauseFault number line g) text f
+behind_place_fault : (number : ℕ) (text : List ℕ) → (f : AskFault) × NextLineFault (λ line more g. ClauseFault (Line number) number line g) text f
 behind_place_fault number text = by_end (position (λ c. nat_eq c 10) text) refl
   where
-    by_depth : (i : ℕ) → position (λ c. nat_eq c 10) text ≡ Some i → IsTooDeep (take i text) ⊎ (¬ (IsTooDeep (take i text))) → (f : AskFault) × NextLineFault (λ line more g. ClauseFault number line g) text f
+    by_depth : (i : ℕ) → position (λ c. nat_eq c 10) text ≡ Some i → IsTooDeep (take i text) ⊎ (¬ (IsTooDeep (take i text))) → (f : AskFault) × NextLineFault (λ line more g. ClauseFault (Line number) number line g) text f
     by_depth i e (inl deep) = (Depth number, line_here _ text i (Depth number) e (λ more. inl (deep, refl)))
     by_depth i e (inr flat) = (Line number, line_here _ text i (Line number) e (λ more. inr (flat, refl)))
 
-    by_end : (o : Option ℕ) → position (λ c. nat_eq c 10) text ≡ o → (f : AskFault) × NextLineFault (λ line more g. ClauseFault number line g) text f
+    by_end : (o : Option ℕ) → position (λ c. nat_eq c 10) text ≡ o → (f : AskFault) × NextLineFault (λ line more g. ClauseFault (Line number) number line g) text f
     by_end None e = (Cut, cut_here _ text Cut e refl)
     by_end (Some i) e = by_depth i e (deep_or_not (take i text))
 

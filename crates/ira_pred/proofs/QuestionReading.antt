@@ -12,7 +12,7 @@ use Rattle.ira_event.proofs.Numerals.{Lacks-numeral}
 use Rattle.ira_event.proofs.Pieces.{Lacks, Lacks-append}
 use Rattle.ira_event.proofs.RecordLines.{bind_some, map_some, some_is, word-takes, word-again, kept-takes, kept-again}
 use Rattle.ira_pred.specs.declared.ask_fault.AskFault.{AskFault}
-use Rattle.ira_pred.specs.declared.ask_fault.AskFault.TheVariants.{Line, Place, Empty, Cases, Cut, Trailing}
+use Rattle.ira_pred.specs.declared.ask_fault.AskFault.TheVariants.{Line, Place, Depth, Empty, Cases, Cut, Trailing, OutOfMemory}
 use Rattle.ira_pred.specs.declared.case.PlacedClause.{PlacedClause}
 use Rattle.ira_pred.specs.Case.{Conjunct, IsConjunct}
 use Rattle.ira_pred.specs.ClauseScan.{clause_at}
@@ -44,6 +44,13 @@ no_word word text line more none parts is =
     let t : text ≡ (word ++ codes "\n") ++ more = parts ∙ ap (λ w. w ++ codes "\n" ++ more) is in
     let read = sym none ∙ ap (after_word (word ++ codes "\n")) t ∙ word-again (word ++ codes "\n") more in
     absurd cc
+
+-- the fault of a line's end or of its depth, or the other
+end_or_depth : (number : ℕ) (text : List ℕ) (f other : AskFault) → NextLineFault (λ line more g. ClauseFault other number line g) text f
+    → (f ≡ other) ⊎ NextLineFault (λ line more g. IsTooDeep line × (g ≡ Depth number)) text f
+end_or_depth number text f other (cut whole is) = inr (cut whole is)
+end_or_depth number text f other (at_line line more p whole (inl h)) = inr (at_line line more p whole h)
+end_or_depth number text f other (at_line line more p whole (inr h)) = inl h.1
 
 -- ---- where the first case is due
 
@@ -135,16 +142,27 @@ module _ (nodes : ℕ) (at : Spot) (text : List ℕ) where
         let wrong : ¬ (MayFollow nodes at t.n) = λ may. let same : t.n ≡ place = omega (arith, small, may.0, t.kept_is) in bad (subst (Follows nodes at.conjuncts) same may) in
         behind_place _ _ text place rest f t (λ line more p placed is. wrong_place t.n line placed wrong is) h
 
-    pub fault_clause : (f : AskFault) → Follows nodes at.conjuncts place → ((g : Formula) (line more : List ℕ) → rest ≡ line ++ codes "\n" ++ more → depth g ≤ 32 → IsClauseText line g → ⊥) → NextLineFault (λ line more g. ClauseFault at.number line g) rest f → Fault f
+    pub fault_clause : (f : AskFault) → Follows nodes at.conjuncts place → ((g : Formula) (line more : List ℕ) → rest ≡ line ++ codes "\n" ++ more → depth g ≤ 32 → IsClauseText line g → ⊥) → NextLineFault (λ line more g. ClauseFault (Line at.number) at.number line g) rest f → Fault f
     fault_clause f may none h =
         let t = place-takes text place rest read in
         let same : place ≡ t.n = omega (arith, small, may.0, t.kept_is) in
         let follows : MayFollow nodes at t.n = subst (Follows nodes at.conjuncts) same may in
         behind_place _ _ text place rest f t (λ line more p placed h. by_depth t.n (t.number ++ codes ": " ++ line) line more p placed follows h) h
       where
-        by_depth : (n : ℕ) (line0 line more : List ℕ) → rest ≡ line ++ codes "\n" ++ more → IsPlaced line0 n line → MayFollow nodes at n → ClauseFault at.number line f → CaseLineFault nodes at line0 more f
+        by_depth : (n : ℕ) (line0 line more : List ℕ) → rest ≡ line ++ codes "\n" ++ more → IsPlaced line0 n line → MayFollow nodes at n → ClauseFault (Line at.number) at.number line f → CaseLineFault nodes at line0 more f
         by_depth n line0 line more p placed follows (inl h) = too_deep n line placed follows h.0 h.1
         by_depth n line0 line more p placed follows (inr h) = no_clause n line placed follows h.0 (λ g is. none g line more p (shallow line g h.0 is) is) h.1
+
+    -- where memory runs out within a clause, its line has no fault but one of its end and its depth
+    pub fault_without_memory : (f : AskFault) → Follows nodes at.conjuncts place → NextLineFault (λ line more g. ClauseFault OutOfMemory at.number line g) rest f → (f ≡ OutOfMemory) ⊎ Fault f
+    fault_without_memory f may h =
+        let t = place-takes text place rest read in
+        let same : place ≡ t.n = omega (arith, small, may.0, t.kept_is) in
+        let follows : MayFollow nodes at t.n = subst (Follows nodes at.conjuncts) same may in
+        elim (end_or_depth at.number rest f OutOfMemory h) [
+          | inl none ↦ inl none
+          | inr deep ↦ inr (behind_place _ _ text place rest f t (λ line more p placed h. too_deep t.n line placed follows h.0 h.1) deep)
+        ]
 
 -- ---- what the scanner gave
 

@@ -2,7 +2,7 @@
 use Rattle.std.specs.Prelude.{◌≡◌, ◌≢◌, ℕ, ◌+◌, ◌<◌, ◌≤◌, ◌⊎◌, List, [], ◌++◌, length, codes, All, Result, Ok, Err}
 use Rattle.ira_pred.specs.Limits.{MAX_CASES}
 use Rattle.ira_pred.specs.declared.ask_fault.AskFault.{AskFault}
-use Rattle.ira_pred.specs.declared.ask_fault.AskFault.TheVariants.{OutOfMemory, Depth, Line}
+use Rattle.ira_pred.specs.declared.ask_fault.AskFault.TheVariants.{OutOfMemory, Depth}
 use Rattle.ira_pred.specs.declared.question_line.QuestionLine.{QuestionLine}
 use Rattle.ira_pred.specs.declared.question_line.QuestionLine.TheVariants.{Clause, Case, End}
 use Rattle.ira_pred.specs.Case.{Conjunct, IsConjunct, IsCase}
@@ -34,9 +34,9 @@ ReadsInCase nodes at old new (Ok Case) = ReadsLine old new (codes "case") × (at
 ReadsInCase nodes at old new (Ok End) = (old.rest ≡ codes "end\n") × (at.conjuncts ≢ [])
 ReadsInCase nodes at old new (Err f) = (f ≡ OutOfMemory) ⊎ NextLineFault (CaseLineFault nodes at) old.rest f
 
--- the fault of what follows the place in line `number`, which is no clause or too deep
-abbrev pub ClauseFault : ℕ → List ℕ → AskFault → Type 0
-ClauseFault number text f = (IsTooDeep text × (f ≡ Depth number)) ⊎ ((¬ (IsTooDeep text)) × (f ≡ Line number))
+-- the fault of what follows the place in line `number`: it is too deep, or else there is another fault
+abbrev pub ClauseFault : AskFault → ℕ → List ℕ → AskFault → Type 0
+ClauseFault other number text f = (IsTooDeep text × (f ≡ Depth number)) ⊎ ((¬ (IsTooDeep text)) × (f ≡ other))
 
 -- these cases are the whole text behind a head, with the end line
 pub record AreAllCases (nodes : ℕ) (text : List ℕ) (cases : List (List Conjunct)) : Type 0 where

@@ -11,7 +11,7 @@ use crate::clause_reader::take_clause;
 use crate::limits::{MAX_CASES, MAX_DEPTH};
 use crate::question_line::QuestionLine;
 use ira_event::{line_end, skip_word, take_number};
-use std::alloc::Allocator;
+use std::alloc::{AllocError, Allocator};
 use std::marker::Model;
 
 /// What stands behind the head of a question's text, read line by line.
@@ -132,11 +132,16 @@ impl<'a> QuestionLines<'a> {
         let Some(place) = place_that_follows(place, nodes, asked) else {
             return Err(complete(text, AskFault::Place(self.number)));
         };
-        let Some((clause, rest)) = take_clause(alloc, MAX_DEPTH, text)? else {
-            return Err(clause_fault(text, self.number));
+        let number = self.number;
+        let taken = match take_clause(alloc, MAX_DEPTH, text) {
+            Ok(taken) => taken,
+            Err(AllocError) => return Err(clause_fault(text, number, AskFault::OutOfMemory)),
+        };
+        let Some((clause, rest)) = taken else {
+            return Err(clause_fault(text, number, AskFault::Line(number)));
         };
         let Some(after) = skip_word(rest, b"\n") else {
-            return Err(clause_fault(text, self.number));
+            return Err(clause_fault(text, number, AskFault::Line(number)));
         };
         self.go_on(after);
         Ok(QuestionLine::Clause(PlacedClause { place, clause }))
@@ -179,11 +184,11 @@ fn complete(text: &[u8], fault: AskFault) -> AskFault
     }
 }
 
-/// The fault of line `number`, of which the text that follows its place is no clause, or one nested
-/// too deep.
+/// The fault of line `number`, of which this text follows the place: that it isn't complete, or is nested too deep, and else
+/// the other.
 #[cold]
-fn clause_fault(text: &[u8], number: u32) -> AskFault
-    ensures { NextLineFault (λ line more g. ClauseFault number line g) text.now result }
+fn clause_fault(text: &[u8], number: u32, other: AskFault) -> AskFault
+    ensures { NextLineFault (λ line more g. ClauseFault other number line g) text.now result }
 {
     let Some(end) = line_end(text) else {
         return AskFault::Cut;
@@ -192,7 +197,7 @@ fn clause_fault(text: &[u8], number: u32) -> AskFault
     if is_too_deep(line) {
         return AskFault::Depth(number);
     }
-    AskFault::Line(number)
+    other
 }
 
 /// Whether some front of the text has more than `MAX_DEPTH` opening parentheses over its closing ones.

@@ -1,67 +1,40 @@
-use Rattle.std.proofs.Common.{◌≡◌, ◌∙◌, Err, List, [], ◌∷◌, Ok, Result, ap, map, inl, inr, refl, subst, sym}
+use Rattle.std.proofs.Common.{◌≡◌, Err, List, [], ◌∷◌, ℕ, ap, refl, ◌∙◌}
 use Rattle.std.proofs.lemmas.Result.{err_from_is_err_and}
-use Rattle.ira_words.specs.Request.{IsMadeOf}
-use Rattle.ira_main.specs.Serve.Done.{certified, decided, judged, pairs, recorded, refused, undecided, upgraded}
+use Rattle.ira_event.specs.Sink.{SinkState}
+use Rattle.ira_words.specs.declared.words_fault.WordsFault.TheVariants as fault
+use Rattle.ira_main.specs.Counted.{Reads}
+use Rattle.ira_main.specs.Outcome.{Outcome}
+use Rattle.ira_main.specs.Serve.{Serves}
+use Rattle.ira_main.specs.Serve.Done.{certified, recorded, refused}
+use Rattle.ira_main.specs.Serve.Judges.{no_memory}
 use Rattle.ira_main.specs.Serve.Serves.{with_words, without_words}
+use Rattle.ira_main.specs.Shelf.{Reading, Writing}
+use Rattle.ira_main.specs.declared.program_fault.ProgramFault.TheVariants.{OutOfMemory}
 use Rattle.ira_main.proofs.program.execute.Goals as goal
 
-none_of_none : {X Y : Type 0} (f : X → Y) (xs : List X) → map f xs ≡ [] → xs ≡ []
-none_of_none f [] e = refl
-none_of_none f (x ∷ xs) e = cc
+-- memory may run out before anything is done
+out_of_memory : (A : Type 0) {S : Type 0} (reads : Reading S) (writes : Writing S) (words : List (List ℕ)) (input : Reads) (shelf : S) (out : SinkState) (outcome : Outcome)
+    → outcome ≡ Err OutOfMemory → Serves A reads writes words input input shelf shelf out out outcome
+out_of_memory A reads writes [] input shelf out outcome is = without_words refl refl (no_memory refl is)
+out_of_memory A reads writes (w ∷ ws) input shelf out outcome is = with_words (λ none. cc) refl (refused fault.OutOfMemory tt refl refl is)
 
-never_both : {X Y : Type 0} (x : X) (y : Y) → ◌≡◌ {A = Result X Y} (Ok x) (Err y) → ⊥
-never_both x y both = cc
-
-pub returns-in_err-read_words-clause-executed : goal.returns-in_err-read_words-clause-executed
-returns-in_err-read_words-clause-executed g c =
+pub returns-in_err-clone-clause-executed : goal.returns-in_err-clone-clause-executed
+returns-in_err-clone-clause-executed g c =
     let p = err_from_is_err_and c.from_residual.result c.from_residual.ensures.1 in
-    with_words (λ none. never_both _ _ (sym (c.read_words.ensures.none (none_of_none _ _ none)) ∙ c.in_err-read_words.was)) refl (refused _ c.in_err-read_words.ensures.refused refl refl (p.1 ∙ ap (λ f. Err f) p.2))
-
-pub returns-in-OneLog-clause-executed : goal.returns-in-OneLog-clause-executed
-returns-in-OneLog-clause-executed g c =
-    let made = subst (IsMadeOf (map (λ w. w.now) c.args.words.now)) c.in-OneLog.is c.in_ok-read_words.ensures.made in
-    without_words made refl c.judge_input.ensures.judged
-
-pub returns-in-Logs-clause-executed : goal.returns-in-Logs-clause-executed
-returns-in-Logs-clause-executed g c =
-    let made = subst (IsMadeOf (map (λ w. w.now) c.args.words.now)) c.in-Logs.is c.in_ok-read_words.ensures.made in
-    let first = made.first in
-    with_words (λ none. cc) refl (judged _ made refl (rw c.deref.ensures.value at c.judge_files.ensures))
-
-pub check_files-requires-clause-depth : goal.check_files-requires-clause-depth
-check_files-requires-clause-depth g c = λ lifetimes outlive.
-    let made = subst (IsMadeOf (map (λ w. w.now) c.args.words.now)) c.in-Check.is c.in_ok-read_words.ensures.made in
-    made.files.shallow
+    out_of_memory _ _ _ _ _ _ _ _ (p.1 ∙ ap (λ f. Err f) p.2)
 
 pub returns-in-Check-clause-executed : goal.returns-in-Check-clause-executed
 returns-in-Check-clause-executed g c =
-    let made = subst (IsMadeOf (map (λ w. w.now) c.args.words.now)) c.in-Check.is c.in_ok-read_words.ensures.made in
+    let left = c.in-Check.ensures.served in
+    let made = left.0 in
     let first = made.first in
-    with_words (λ none. cc) refl (certified _ made refl c.check_files.ensures)
+    let same = left.1 in
+    with_words (λ none. cc) same.input_is (certified _ made same.shelf_is (rw (same.shelf_is, same.out_is) at c.check_files.ensures))
 
-pub returns-in-Decide-clause-executed : goal.returns-in-Decide-clause-executed
-returns-in-Decide-clause-executed g c =
-    let made = subst (IsMadeOf (map (λ w. w.now) c.args.words.now)) c.in-Decide.is c.in_ok-read_words.ensures.made in
+pub returns-clause-executed : goal.returns-clause-executed
+returns-clause-executed g c =
+    let left = c.in-Run.ensures.served in
+    let made = left.0 in
     let first = made.first in
-    with_words (λ none. cc) refl (elim c.decide_files.ensures [
-      | inl h ↦ decided _ made h
-      | inr h ↦ undecided _ made h.0 h.1
-    ])
-
-pub returns-in-Pairs-clause-executed : goal.returns-in-Pairs-clause-executed
-returns-in-Pairs-clause-executed g c =
-    let made = subst (IsMadeOf (map (λ w. w.now) c.args.words.now)) c.in-Pairs.is c.in_ok-read_words.ensures.made in
-    let first = made.first in
-    with_words (λ none. cc) refl (pairs _ made refl c.print_pairs.ensures)
-
-pub returns-in-Run-clause-executed : goal.returns-in-Run-clause-executed
-returns-in-Run-clause-executed g c =
-    let made = subst (IsMadeOf (map (λ w. w.now) c.args.words.now)) c.in-Run.is c.in_ok-read_words.ensures.made in
-    let first = made.first in
-    with_words (λ none. cc) refl (recorded _ made c.record_run.ensures)
-
-pub returns-in-Upgrade-clause-executed : goal.returns-in-Upgrade-clause-executed
-returns-in-Upgrade-clause-executed g c =
-    let made = subst (IsMadeOf (map (λ w. w.now) c.args.words.now)) c.in-Upgrade.is c.in_ok-read_words.ensures.made in
-    let first = made.first in
-    with_words (λ none. cc) refl (upgraded _ made c.upgrade_files.ensures)
+    let same = left.2 in
+    with_words (λ none. cc) same.input_is (recorded _ made (rw (same.shelf_is, same.out_is) at c.record_run_on_threads.ensures))

@@ -1,0 +1,36 @@
+# Completion of `ira` for bash. `make install` puts it where bash-completion looks; else: source completions/ira.bash
+
+_ira_commands='logs check decide pairs run upgrade help'
+
+# The options of a command.
+_ira_options() {
+    case $1 in
+        check) echo --question --cert --depth --help ;;
+        decide) echo --question --out --help ;;
+        run) echo --nodes --seed --out --initiators --draws --cap --terms --alone --help ;;
+        upgrade) echo --out --help ;;
+        logs | pairs) echo --help ;;
+    esac
+}
+
+_ira() {
+    local word=${COMP_WORDS[COMP_CWORD]} before=${COMP_WORDS[COMP_CWORD - 1]} command=${COMP_WORDS[1]}
+    if ((COMP_CWORD == 1)); then
+        mapfile -t COMPREPLY < <(compgen -W "$_ira_commands" -- "$word")
+        return
+    fi
+    if [[ $word == -* ]]; then
+        mapfile -t COMPREPLY < <(compgen -W "$(_ira_options "$command")" -- "$word")
+        return
+    fi
+    compopt -o filenames 2> /dev/null
+    case $command:$before in
+        help:*) mapfile -t COMPREPLY < <(compgen -W "${_ira_commands% help}" -- "$word") ;;
+        check:--depth) mapfile -t COMPREPLY < <(compgen -W '0 1 2 3 4' -- "$word") ;;
+        run:--out | upgrade:--out) mapfile -t COMPREPLY < <(compgen -d -- "$word") ;;
+        pairs:* | run:*) COMPREPLY=() ;;
+        *) mapfile -t COMPREPLY < <(compgen -f -- "$word") ;;
+    esac
+}
+
+complete -F _ira ira

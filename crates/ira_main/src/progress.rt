@@ -1,0 +1,14 @@
+use crate::program_fault::ProgramFault;
+use crate::status::Status;
+use ira_words::{CheckRequest, RunRequest};
+
+/// How far the program comes without waiting.
+#[derive(Drop)]
+pub enum Progress<'a> {
+    /// All was done that the words ask for.
+    Ended(Result<Status, ProgramFault<'a>>),
+    /// They ask for a check, of which nothing was done.
+    Check(CheckRequest<'a>),
+    /// They ask for a run with a thread for each node, of which nothing was done.
+    Run(RunRequest<'a>),
+}
