@@ -1,18 +1,22 @@
 -- The positions that are picked run by run are the candidates.
-use Rattle.std.proofs.Common.{◌≡◌, ◌≤◌, ◌+◌, ℕ, suc, Bool, true, false, cond, not, ◌&&◌, ◌||◌, List, [], ◌∷◌, ◌++◌, Option, Some, None, map, length, filter, append_assoc, length-append, drop, take, get_or, ◌<◌, refl, sym, ap, subst, ◌∙◌, arith}
+use Rattle.std.proofs.Common.{◌≡◌, ◌≤◌, ◌+◌, ℕ, suc, Bool, true, false, cond, not, ◌&&◌, ◌||◌, List, [], ◌∷◌, ◌++◌, Option, Some, None, option_map, slice_get, All, map, length, filter, append_assoc, length-append, drop, take, get_or, ◌<◌, refl, sym, ap, subst, ◌∙◌, arith}
 use Rattle.std.specs.Prelude.{is_some}
 use Rattle.std.specs.List.{flat_map, enumerate_from}
 use Rattle.std.proofs.lemmas.Grind.{flat_map-append}
+use Rattle.std.proofs.lemmas.Option.{slice_get-map}
+use Rattle.std.proofs.lemmas.List.Elements.{All-get_or, All-push, All-weaker}
 use Rattle.std.proofs.lemmas.List.{length-map, drop_more, drop_all, take_more, append-nil, length-take-le}
 use Rattle.ira_event.specs.Limits.{MAX_RECORDS}
 use Rattle.ira_event.specs.declared.load.Load.{Load}
 use Rattle.ira_event.specs.declared.event.Event.{Event}
 use Rattle.ira_event.specs.Log.{Log}
 use Rattle.ira_node.specs.declared.node_state.NodeState.{NodeState}
+use Rattle.ira_node.specs.declared.phase.Phase.{Phase}
+use Rattle.ira_node.specs.declared.phase.Phase.TheVariants.{Choosing, Active, Passive, Leader, Yielding}
 use Rattle.ira_node.specs.NodeState.{first_state}
 use Rattle.ira_node.specs.StepAnswer.{answer}
-use Rattle.ira_pred.specs.ClauseAnswer.{holds_test, is_owing}
-use Rattle.ira_pred.specs.Formula.{Formula, always, leader, active, passive, choosing, yielding, owes, round, id, term, both, either, negated}
+use Rattle.ira_pred.specs.ClauseAnswer.{compare_some_test, holds_test, id_of, is_active, is_choosing, is_leader, is_owing, is_passive, is_yielding}
+use Rattle.ira_pred.specs.Formula.{Formula, always, leader, active, passive, choosing, yielding, owes, round, id, term, both, either, negated, names_round_or_term}
 use Rattle.ira_replay.specs.StatesOfLog.{ArePlacedStates}
 use Rattle.ira_replay.specs.StatesLeft.{states_left, advanced}
 use Rattle.ira_replay.proofs.Along.{are_placed_states}
@@ -20,7 +24,7 @@ use Rattle.ira_cand.specs.Holding.{positions_passing}
 use Rattle.ira_cand.specs.Candidates.{AreCandidates}
 use Rattle.ira_cand.specs.declared.phase_run.PhaseRun.{PhaseRun}
 use Rattle.ira_cand.specs.declared.stage.Stage.{Stage}
-use Rattle.ira_cand.specs.Profile.{IsProfile, run_marks, stage, mark, marks_of, marks_passing, picked, sample, some_load}
+use Rattle.ira_cand.specs.Profile.{HasKind, IsProfile, answers_in, in_first_round, phase_in_first_round, run_marks, stage, mark, marks_of, marks_passing, picked, sample, some_load}
 use Rattle.ira_cand.proofs.Passing.{are_candidates_as}
 
 -- ---- a formula sees no more of a state than its mark
@@ -47,6 +51,64 @@ seen (negated a) s = ap not (seen a s)
 -- the test of a formula on marks
 abbrev pub test_of : Formula → Stage → Bool → Bool
 test_of f stage o = holds_test f (sample stage o)
+
+-- ---- a formula that names neither a round nor a term tells no more stages apart than their kinds
+
+-- no atom but a round sees more of a phase than is the same in the first round
+same_kind : (p : Phase) → (is_leader (phase_in_first_round p) ≡ is_leader p) × (is_active (phase_in_first_round p) ≡ is_active p)
+    × (is_passive (phase_in_first_round p) ≡ is_passive p) × (is_choosing (phase_in_first_round p) ≡ is_choosing p)
+    × (is_yielding (phase_in_first_round p) ≡ is_yielding p) × (id_of (phase_in_first_round p) ≡ id_of p)
+same_kind (Choosing r) = (refl, refl, refl, refl, refl, refl)
+same_kind (Active r i) = (refl, refl, refl, refl, refl, refl)
+same_kind Passive = (refl, refl, refl, refl, refl, refl)
+same_kind (Leader r i) = (refl, refl, refl, refl, refl, refl)
+same_kind Yielding = (refl, refl, refl, refl, refl, refl)
+
+neither : (a b : Bool) → (a || b) ≡ false → (a ≡ false) × (b ≡ false)
+neither false b e = (refl, e)
+neither true b e = cc
+
+told_by_kind : (f : Formula) (at : Stage) (o : Bool) → names_round_or_term f ≡ false → test_of f (in_first_round at) o ≡ test_of f at o
+told_by_kind always at o e = refl
+told_by_kind leader at o e = (same_kind at.phase).0
+told_by_kind active at o e = (same_kind at.phase).1
+told_by_kind passive at o e = (same_kind at.phase).2
+told_by_kind choosing at o e = (same_kind at.phase).3
+told_by_kind yielding at o e = (same_kind at.phase).4
+told_by_kind owes at o e = refl
+told_by_kind (round rel n) at o e = cc
+told_by_kind (id rel n) at o e = ap (λ x. compare_some_test x rel n) (same_kind at.phase).5
+told_by_kind (term rel n) at o e = cc
+told_by_kind (both a b) at o e =
+    let apart = neither (names_round_or_term a) (names_round_or_term b) e in
+    ap (λ x. x && test_of b (in_first_round at) o) (told_by_kind a at o apart.0) ∙ ap (λ y. test_of a at o && y) (told_by_kind b at o apart.1)
+told_by_kind (either a b) at o e =
+    let apart = neither (names_round_or_term a) (names_round_or_term b) e in
+    ap (λ x. x || test_of b (in_first_round at) o) (told_by_kind a at o apart.0) ∙ ap (λ y. test_of a at o || y) (told_by_kind b at o apart.1)
+told_by_kind (negated a) at o e = ap not (told_by_kind a at o e)
+
+-- what is known of a kind is the answer of each stage of that kind
+pub known_read : (f : Formula) (kinds : List Stage) (known : List (Bool × Bool)) → names_round_or_term f ≡ false → known ≡ map (answers_in f) kinds
+    → (k : ℕ) (at : Stage) (pair : Bool × Bool) → slice_get kinds k ≡ Some (in_first_round at) → slice_get known k ≡ Some pair → pair ≡ answers_in f at
+known_read f kinds known unnamed is k at pair here there =
+    let read : slice_get known k ≡ Some (answers_in f (in_first_round at)) =
+    ap (λ xs. slice_get xs k) is ∙ slice_get-map (answers_in f) kinds k ∙ ap (option_map (answers_in f)) here in
+    let same : pair ≡ answers_in f (in_first_round at) = cc in
+    same ∙ ap (λ x. (x, test_of f (in_first_round at) true)) (told_by_kind f at false unnamed) ∙ ap (λ y. (test_of f at false, y)) (told_by_kind f at true unnamed)
+
+-- runs have their kinds also once there are more of these
+still_have_kinds : {A : Type 0} (old new : List Stage) (runs : List (PhaseRun A)) → ((k : ℕ) (kind : Stage) → slice_get old k ≡ Some kind → slice_get new k ≡ Some kind)
+    → All (HasKind old) runs → All (HasKind new) runs
+still_have_kinds old new runs kept h = All-weaker (HasKind old) (HasKind new) (λ r. kept r.kind (in_first_round r.stage)) runs h
+
+pub one_run_more : {A : Type 0} (old new : List Stage) (runs : List (PhaseRun A)) (run : PhaseRun A) → ((k : ℕ) (kind : Stage) → slice_get old k ≡ Some kind → slice_get new k ≡ Some kind)
+    → All (HasKind old) runs → HasKind old run → All (HasKind new) (runs ++ run ∷ [])
+one_run_more old new runs run kept theirs its =
+    All-push (HasKind new) runs run (still_have_kinds old new runs kept theirs) (kept run.kind (in_first_round run.stage) its)
+
+pub kind_of_run : {A : Type 0} (kinds : List Stage) (runs : List (PhaseRun A)) (k : ℕ) (r : PhaseRun A) → All (HasKind kinds) runs → k < length runs → r ≡ get_or runs k r
+    → HasKind kinds r
+kind_of_run kinds runs k r h lt is = subst (HasKind kinds) (sym is) (All-get_or (HasKind kinds) runs k r lt h)
 
 -- ---- positions of marks
 
@@ -133,13 +195,15 @@ marks_count log most few =
     omega (arith, few, count, same)
 
 -- the runs, and the last one, have all marks
-pub profile_ends : {A : Type 0} (log : Log) (runs all : List (PhaseRun A)) (run : PhaseRun A) (left : List (ℕ × NodeState)) → length log.events ≤ MAX_RECORDS
-    → marks_of log ≡ flat_map run_marks runs ++ run_marks run ++ map (λ x. mark x.1) left → left ≡ [] → all ≡ runs ++ run ∷ [] → IsProfile log all
-profile_ends log runs all run left few e none is = record {
+pub profile_ends : {A : Type 0} (log : Log) (runs all : List (PhaseRun A)) (run : PhaseRun A) (kinds : List Stage) (left : List (ℕ × NodeState)) → length log.events ≤ MAX_RECORDS
+    → marks_of log ≡ flat_map run_marks runs ++ run_marks run ++ map (λ x. mark x.1) left → left ≡ [] → all ≡ runs ++ run ∷ []
+    → All (HasKind kinds) runs → HasKind kinds run → IsProfile log all kinds
+profile_ends log runs all run kinds left few e none is theirs its = record {
   marks =
       ap (flat_map run_marks) is ∙ flat_map-append run_marks runs (run ∷ []) ∙ ap (λ us. flat_map run_marks runs ++ us) (append-nil (run_marks run))
       ∙ sym (e ∙ ap (λ xs. flat_map run_marks runs ++ run_marks run ++ map (λ x. mark x.1) xs) none ∙ append-nil (flat_map run_marks runs ++ run_marks run));
   count = marks_count log MAX_RECORDS few;
+  kinds_are = subst (All (HasKind kinds)) (sym is) (All-push (HasKind kinds) runs run theirs its);
 }
 
 -- ---- a table that is found run by run
@@ -150,8 +214,8 @@ pub record TableAt {A : Type 0} (log : Log) (f : Formula) (runs : List (PhaseRun
   pub room : position + length (flat_map run_marks (drop k runs)) ≤ MAX_RECORDS + 1
 
 module _ {A : Type 0} (log : Log) (f : Formula) (runs : List (PhaseRun A)) where
-  pub table_begin : IsProfile log runs → TableAt log f runs 0 0 []
-  table_begin is = record {
+  pub table_begin : (kinds : List Stage) → IsProfile log runs kinds → TableAt log f runs 0 0 []
+  table_begin kinds is = record {
     passing = ap (marks_passing (test_of f) 0) (sym is.marks);
     room = let count = is.count in let same = ap length is.marks in omega (arith, count, same);
   }

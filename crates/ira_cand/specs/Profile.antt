@@ -1,13 +1,17 @@
 -- What a clause can see of a log's states, told in short. Helpers, no definitions: the public calls of a
 -- profile say what they give by Candidates.
-use Rattle.std.specs.Prelude.{◌≡◌, ℕ, ◌+◌, ◌≤◌, Bool, false, cond, List, [], ◌∷◌, Some, None, length, map, is_some}
+use Rattle.std.specs.Prelude.{◌≡◌, ℕ, ◌+◌, ◌≤◌, Bool, true, false, cond, List, [], ◌∷◌, All, Some, None, length, map, is_some, slice_get}
 use Rattle.std.specs.List.{flat_map}
 use Rattle.ira_event.specs.Limits.{MAX_RECORDS}
 use Rattle.ira_event.specs.declared.load.Load.{Load}
 use Rattle.ira_event.specs.declared.load.Load.TheVariants.{Msg as Message}
 use Rattle.ira_event.specs.Log.{Log}
 use Rattle.ira_node.specs.declared.node_state.NodeState.{NodeState}
+use Rattle.ira_node.specs.declared.phase.Phase.{Phase}
+use Rattle.ira_node.specs.declared.phase.Phase.TheVariants.{Choosing, Active, Passive, Leader, Yielding}
 use Rattle.ira_node.specs.NodeState.{first_state}
+use Rattle.ira_pred.specs.ClauseAnswer.{holds_test}
+use Rattle.ira_pred.specs.Formula.{Formula}
 use Rattle.ira_replay.specs.StatesLeft.{states_left}
 use Rattle.ira_cand.specs.declared.phase_run.PhaseRun.{PhaseRun}
 use Rattle.ira_cand.specs.declared.stage.Stage.{Stage}
@@ -28,10 +32,28 @@ marks_of log = map (λ x. mark x.1) (states_left log.nodes (Some (0, first_state
 abbrev pub run_marks : {A : Type 0} → PhaseRun A → List (Stage × Bool)
 run_marks r = map (λ o. (r.stage, o)) r.owes.items
 
--- the runs have the marks of the log's states, and there are at most as many of these as the most records and one
-pub record IsProfile {A : Type 0} (log : Log) (runs : List (PhaseRun A)) : Type 0 where
+-- the phase in the first round, where it has a round
+abbrev pub phase_in_first_round : Phase → Phase
+phase_in_first_round (Choosing r) = Choosing 1
+phase_in_first_round (Active r i) = Active 1 i
+phase_in_first_round Passive = Passive
+phase_in_first_round (Leader r i) = Leader 1 i
+phase_in_first_round Yielding = Yielding
+
+-- the stage in the first round of the first term
+abbrev pub in_first_round : Stage → Stage
+in_first_round s = record { term = 1; phase = phase_in_first_round s.phase }
+
+-- the run names the place at which its stage in the first round of the first term stands among the kinds
+abbrev pub HasKind : {A : Type 0} → List Stage → PhaseRun A → Type 0
+HasKind kinds r = slice_get kinds r.kind ≡ Some (in_first_round r.stage)
+
+-- the runs have the marks of the log's states, and each its kind, and there are at most as many marks as the most
+-- records and one
+pub record IsProfile {A : Type 0} (log : Log) (runs : List (PhaseRun A)) (kinds : List Stage) : Type 0 where
   pub marks : flat_map run_marks runs ≡ marks_of log
   pub count : length (marks_of log) ≤ MAX_RECORDS + 1
+  pub kinds_are : All (HasKind kinds) runs
 
 -- the positions, the first mark's being p, of the marks that pass the test
 abbrev pub marks_passing : (Stage → Bool → Bool) → ℕ → List (Stage × Bool) → List ℕ
@@ -50,3 +72,7 @@ some_load = Message (record { round = 1; id = 1; hop = 1; dirty = false })
 -- a state with this mark
 abbrev pub sample : Stage → Bool → NodeState
 sample stage owes = record { phase = stage.phase; owed = cond owes (Some some_load) None; term = stage.term }
+
+-- what a formula's test gives at a stage: where nothing is owed, and where something is
+abbrev pub answers_in : Formula → Stage → Bool × Bool
+answers_in f stage = (holds_test f (sample stage false), holds_test f (sample stage true))

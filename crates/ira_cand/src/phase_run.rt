@@ -5,6 +5,8 @@ use std::alloc::Allocator;
 #[derive(Drop)]
 pub(crate) struct PhaseRun<A: Allocator> {
     pub stage: Stage,
+    /// Where the profile has the stage in the first round of the first term.
+    pub kind: usize,
     /// Whether something is owed, state by state.
     pub owes: Vec<bool, A>,
 }

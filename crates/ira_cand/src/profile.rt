@@ -1,10 +1,10 @@
-ghost use Rattle.std.specs.Prelude.{◌≡◌, ◌+◌, ◌++◌, ◌∷◌, ◌≤◌, [], true, false, cond, IfOk, OnOk, length};
+ghost use Rattle.std.specs.Prelude.{◌≡◌, ◌+◌, ◌++◌, ◌∷◌, ◌≤◌, [], ℕ, Bool, true, false, cond, All, IfOk, OnOk, Some, length, slice_get};
 ghost use Rattle.std.specs.List.{flat_map};
 ghost use Rattle.ira_event.specs.Limits.{MAX_RECORDS};
 ghost use Rattle.ira_pred.specs.Clause.{formula};
-ghost use Rattle.ira_pred.specs.ClauseAnswer.{holds_test};
 ghost use Rattle.ira_cand.specs.Candidates.{AreCandidates};
-ghost use Rattle.ira_cand.specs.Profile.{mark, picked, run_marks, sample};
+ghost use Rattle.ira_cand.specs.Profile.{HasKind, answers_in, in_first_round, mark, picked, run_marks};
+ghost use Rattle.ira_cand.specs.declared.stage.Stage.{Stage};
 
 use crate::phase_run::PhaseRun;
 use crate::stage::Stage;
@@ -18,12 +18,14 @@ use std::mem;
 
 /// The states of a log, told in short: a clause sees no more of a state than its term, its phase and
 /// whether something is owed, and phases change seldom, terms with them alone. So the candidates for a clause are found by trying it twice
-/// for each phase, and no state is computed again. It takes a byte for each event, and a few words for
-/// each change of phase.
+/// for each phase, and no state is computed again. A clause that names neither a round nor a term is tried twice for each phase without
+/// an ID and for each ID. It takes a byte for each event, and a few words for each change of phase.
 #[derive(Drop)]
 pub struct Profile<'a, A: Allocator> {
     log: &'a NodeLog<A>,
     runs: Vec<PhaseRun<A>, A>,
+    /// The stages of the runs in the first round of the first term, each once.
+    kinds: Vec<Stage, A>,
 }
 
 impl<'a, A: Allocator> Model for Profile<'a, A> {
@@ -34,7 +36,7 @@ impl<'a, A: Allocator> Model for Profile<'a, A> {
 
     ghost view = { λ p. p.log.now };
 
-    ghost invariant = { λ p. IsProfile p.log.now p.runs.items };
+    ghost invariant = { λ p. IsProfile p.log.now p.runs.items p.kinds.items };
 }
 
 impl<'a, A: Allocator + Clone> Profile<'a, A> {
@@ -44,25 +46,29 @@ impl<'a, A: Allocator + Clone> Profile<'a, A> {
     {
         let mut states = States::new(log.nodes(), log.initiator(), log.events());
         let mut runs = Vec::new(alloc.clone()?);
+        let mut kinds = Vec::new(alloc.clone()?);
+        let stage = Stage::of(&NodeState::first(log.initiator()));
         let mut run = PhaseRun {
-            stage: Stage::of(&NodeState::first(log.initiator())),
+            stage,
+            kind: find_kind(&mut kinds, stage.in_first_round())?,
             owes: Vec::new(alloc.clone()?),
         };
         while let Some((_, state)) = states.next() {
-            add_state(&alloc, &mut runs, &mut run, &state)?;
+            add_state(&alloc, &mut runs, &mut run, &mut kinds, &state)?;
         }
         runs.push(run)?;
-        Ok(Profile { log, runs })
+        Ok(Profile { log, runs, kinds })
     }
 
     /// The candidates of the log for a clause, as a list.
     pub fn table(&self, alloc: A, clause: &Clause<A>) -> Result<Vec<u32, A>, OutOfMemory>
         ensures { IfOk result (λ v. AreCandidates self.now (formula clause.now) v.items) }
     {
+        let known = known_answers(alloc.clone()?, clause, &self.kinds)?;
         let mut found = Vec::new(alloc);
         let mut position = 0;
         for run in &self.runs {
-            let (free, owing) = answers(clause, run.stage);
+            let (free, owing) = run_answers(clause, run, &known);
             pick(&mut found, position, &run.owes, free, owing)?;
             position += run.owes.len();
         }
@@ -70,21 +76,41 @@ impl<'a, A: Allocator + Clone> Profile<'a, A> {
     }
 }
 
+/// Where the kinds have this one. Where they lack it, it is put behind them.
+fn find_kind<A: Allocator>(kinds: &mut Vec<Stage, A>, kind: Stage) -> Result<usize, OutOfMemory>
+    ensures found { IfOk result (λ k. slice_get kinds.new.items k ≡ Some kind) }
+    ensures kept { (k : ℕ) (other : Stage) → slice_get kinds.old.items k ≡ Some other
+        → slice_get kinds.new.items k ≡ Some other }
+{
+    for k in 0..kinds.len() {
+        if kinds[k] == kind {
+            return Ok(k);
+        }
+    }
+    kinds.push(kind)?;
+    Ok(kinds.len() - 1)
+}
+
 /// Adds a state behind those of the runs and of the last run.
 fn add_state<A: Allocator + Clone>(
     alloc: &A,
     runs: &mut Vec<PhaseRun<A>, A>,
     run: &mut PhaseRun<A>,
+    kinds: &mut Vec<Stage, A>,
     state: &NodeState,
 ) -> Result<(), OutOfMemory>
-    ensures { OnOk result
+    requires { All (HasKind kinds.old.items) runs.old.items × HasKind kinds.old.items run.old }
+    ensures marks { OnOk result
         (flat_map run_marks runs.new.items ++ run_marks run.new
         ≡ flat_map run_marks runs.old.items ++ run_marks run.old ++ mark state.now ∷ []) }
+    ensures kinds { OnOk result
+        (All (HasKind kinds.new.items) runs.new.items × HasKind kinds.new.items run.new) }
 {
     let stage = Stage::of(state);
     if stage != run.stage {
         let next = PhaseRun {
             stage,
+            kind: find_kind(kinds, stage.in_first_round())?,
             owes: Vec::new(alloc.clone()?),
         };
         runs.push(mem::replace(run, next))?;
@@ -95,8 +121,7 @@ fn add_state<A: Allocator + Clone>(
 
 /// What the clause answers in this phase of this term: where nothing is owed, and where something is.
 fn answers<A: Allocator>(clause: &Clause<A>, stage: Stage) -> (bool, bool)
-    ensures free { result.0 ≡ holds_test (formula clause.now) (sample stage false) }
-    ensures owing { result.1 ≡ holds_test (formula clause.now) (sample stage true) }
+    ensures { result ≡ answers_in (formula clause.now) stage }
 {
     let message = Msg {
         round: 1,
@@ -116,6 +141,42 @@ fn answers<A: Allocator>(clause: &Clause<A>, stage: Stage) -> (bool, bool)
         term,
     };
     (clause.holds(&free), clause.holds(&owing))
+}
+
+/// What the clause answers of each kind, where it tells no more stages apart than these; else nothing.
+fn known_answers<A: Allocator>(
+    alloc: A,
+    clause: &Clause<A>,
+    kinds: &[Stage],
+) -> Result<Vec<(bool, bool), A>, OutOfMemory>
+    ensures { IfOk result (λ known. (k : ℕ) (stage : Stage) (both : Bool × Bool)
+        → slice_get kinds.now k ≡ Some (in_first_round stage) → slice_get known.items k ≡ Some both
+        → both ≡ answers_in (formula clause.now) stage) }
+{
+    let mut known = Vec::new(alloc);
+    if clause.names_round_or_term() {
+        return Ok(known);
+    }
+    for kind in kinds {
+        known.push(answers(clause, *kind))?;
+    }
+    Ok(known)
+}
+
+/// What the clause answers in the phase of the run, where that of its kind may be known.
+fn run_answers<A: Allocator>(
+    clause: &Clause<A>,
+    run: &PhaseRun<A>,
+    known: &[(bool, bool)],
+) -> (bool, bool)
+    requires { (both : Bool × Bool) → slice_get known.now run.now.kind ≡ Some both
+        → both ≡ answers_in (formula clause.now) run.now.stage }
+    ensures { result ≡ answers_in (formula clause.now) run.now.stage }
+{
+    match known.get(run.kind) {
+        Some(both) => *both,
+        None => answers(clause, run.stage),
+    }
 }
 
 /// Adds the positions of the states of a run that pass; the first of them stands at `position`.

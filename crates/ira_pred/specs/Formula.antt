@@ -1,5 +1,5 @@
 -- What a clause says, without the boxes that its parts lie in.
-use Rattle.std.specs.Prelude.{ℕ, ◌+◌, ◌≤◌, max, ⊤}
+use Rattle.std.specs.Prelude.{ℕ, ◌+◌, ◌≤◌, max, Bool, true, false, ◌||◌, ⊤}
 use Rattle.ira_pred.specs.Limits.{MAX_NUMBER}
 use Rattle.ira_pred.specs.declared.rel.Rel.{Rel}
 
@@ -35,3 +35,12 @@ HasNumbersInRange (both a b) = HasNumbersInRange a × HasNumbersInRange b
 HasNumbersInRange (either a b) = HasNumbersInRange a × HasNumbersInRange b
 HasNumbersInRange (negated a) = HasNumbersInRange a
 HasNumbersInRange _ = ⊤
+
+-- whether the formula compares a round or a term
+abbrev pub names_round_or_term : Formula → Bool
+names_round_or_term (round rel n) = true
+names_round_or_term (term rel n) = true
+names_round_or_term (both a b) = names_round_or_term a || names_round_or_term b
+names_round_or_term (either a b) = names_round_or_term a || names_round_or_term b
+names_round_or_term (negated a) = names_round_or_term a
+names_round_or_term _ = false

@@ -1,6 +1,7 @@
 ghost use Rattle.std.specs.Prelude.{◌≡◌, ◌↔◌, IsTrue};
 ghost use Rattle.ira_pred.specs.Clause.{formula, Holds};
 ghost use Rattle.ira_pred.specs.ClauseAnswer.{compare_test, compare_some_test, round_of, id_of, holds_test};
+ghost use Rattle.ira_pred.specs.Formula.{names_round_or_term};
 
 use crate::rel::Rel;
 use ira_node::{NodeState, Phase};
@@ -102,6 +103,27 @@ impl<A: Allocator> Clause<A> {
             Clause::Both(a, b) => a.holds(state) && b.holds(state),
             Clause::Either(a, b) => a.holds(state) || b.holds(state),
             Clause::Negated(a) => !a.holds(state),
+        }
+    }
+    /// Whether it compares a round or a term, of which a log may have as many as it has events. Any other clause tells no
+    /// more states apart than there are IDs, and a few for the phases without one.
+    pub fn names_round_or_term(&self) -> bool
+        ensures { result ≡ names_round_or_term (formula self.now) }
+    {
+        match self {
+            Clause::Round(..) | Clause::Term(..) => true,
+            Clause::Always
+            | Clause::Leader
+            | Clause::Active
+            | Clause::Passive
+            | Clause::Choosing
+            | Clause::Yielding
+            | Clause::Owes
+            | Clause::Id(..) => false,
+            Clause::Both(a, b) | Clause::Either(a, b) => {
+                a.names_round_or_term() || b.names_round_or_term()
+            }
+            Clause::Negated(a) => a.names_round_or_term(),
         }
     }
 }

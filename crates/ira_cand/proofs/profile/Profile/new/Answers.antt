@@ -5,4 +5,5 @@ use Rattle.ira_cand.proofs.profile.Profile.new.Goals as goal
 pub invariant_of-result : goal.invariant_of-result
 invariant_of-result g c =
     let none : c.loop-state.states ≡ [] = search rules in
-    profile_ends c.args.log.now c.loop-state.runs.items c.push.new.self.items c.loop-state.run c.loop-state.states (search rules) c.loop-state.invariant none c.in_ok-push.ensures.items
+    let at = c.loop-state.invariant in
+    profile_ends c.args.log.now c.loop-state.runs.items c.push.new.self.items c.loop-state.run c.loop-state.kinds.items c.loop-state.states (search rules) at.0 none c.in_ok-push.ensures.items at.1 at.2
