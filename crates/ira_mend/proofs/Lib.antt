@@ -1,0 +1,4 @@
+pub mod Beginnings
+pub mod Begun
+pub mod Lattice
+pub mod Settling

@@ -1,0 +1,4 @@
+pub mod Beginning
+pub mod Laws
+pub mod Longest
+pub mod Mended
