@@ -6,7 +6,9 @@ mod laws;
 mod longest;
 mod mend_fault;
 mod mending;
+mod recorded_logs;
 
 pub use laws::beginnings_are_a_lattice;
 pub use mend_fault::MendFault;
 pub use mending::mend;
+pub use recorded_logs::RecordedLogs;
