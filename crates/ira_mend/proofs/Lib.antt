@@ -1,0 +1,5 @@
+pub mod Beginnings
+pub mod Begun
+pub mod Lattice
+pub mod RecordedTexts
+pub mod Settling

@@ -1,0 +1,14 @@
+//! Logs of a ring that crashed, mended: of each log the longest beginning such that all are consistent.
+#![tactic(auto)]
+
+mod beginning;
+mod laws;
+mod longest;
+mod mend_fault;
+mod mending;
+mod recorded_logs;
+
+pub use laws::beginnings_are_a_lattice;
+pub use mend_fault::MendFault;
+pub use mending::mend;
+pub use recorded_logs::RecordedLogs;
