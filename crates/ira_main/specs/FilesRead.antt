@@ -1,5 +1,5 @@
 -- How the texts of files are read.
-use Rattle.std.specs.Prelude.{◌≡◌, ◌⊎◌, ℕ, List, ◌∷◌, ◌++◌, Result, Ok, Err, MatchResult}
+use Rattle.std.specs.Prelude.{◌≡◌, ◌⊎◌, ℕ, ◌≤◌, List, ◌∷◌, ◌++◌, Result, Ok, Err, MatchResult, length, map, take}
 use Rattle.std.specs.Borrow.{Bor}
 use Rattle.std.specs.List.{AllZip}
 use Rattle.ira_audit.specs.RingAudit.{HasTaken, RingAudit}
@@ -8,6 +8,10 @@ use Rattle.ira_main.specs.Shelf.{Reading}
 use Rattle.ira_main.specs.declared.program_fault.ProgramFault.{ProgramFault}
 use Rattle.ira_main.specs.declared.program_fault.ProgramFault.TheVariants.{OutOfMemory}
 use Rattle.ira_main.specs.declared.shelf_fault.ShelfFault.{ShelfFault}
+
+-- the bytes of the names
+abbrev pub names_of : List (Bor (List ℕ)) → List (List ℕ)
+names_of names = map (λ name. name.now) names
 
 -- the files of these names were read and gave these texts, each name's file the text at its place
 abbrev pub ReadsFiles : {S : Type 0} → Reading S → List (List ℕ) → S → List (List ℕ) → Type 0
@@ -37,3 +41,7 @@ HasTakenFiles reads names shelf audit = (texts : List (List ℕ)) × HasTaken au
 -- what comes of taking the texts of the files of these names: an audit that has, or why it hasn't
 abbrev pub IsFilesAudit : {S : Type 0} → Reading S → List (List ℕ) → S → Result RingAudit ProgramFault → Type 0
 IsFilesAudit reads names shelf result = MatchResult result (HasTakenFiles reads names shelf) (IsFilesFault reads names shelf)
+
+-- so many of the files of these names were read, the first ones, and their texts were taken
+abbrev pub HasRead : {S : Type 0} → Reading S → List (List ℕ) → S → ℕ → RingAudit → Type 0
+HasRead reads names shelf n audit = (n ≤ length names) × HasTakenFiles reads (take n names) shelf audit

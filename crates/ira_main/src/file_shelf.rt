@@ -1,4 +1,5 @@
 use crate::counted::Counted;
+use crate::retrying_reader::RetryingReader;
 use crate::shelf::Shelf;
 use crate::shelf_fault::ShelfFault;
 use crate::text_buffer::TextBuffer;
@@ -8,8 +9,9 @@ use std::alloc::Allocator;
 use std::fs::{self, Files};
 use std::io::BufWriter;
 
-/// The files of the system. They are written through a buffer. No clause tells what they hold, nor what a read of
-/// one gives, since others may change them at any time.
+/// The files of the system. They are written through a buffer. A read that a signal interrupted is made once more, and
+/// so the buffer does with a write. No clause tells what they hold, nor what a read of one gives, since others may
+/// change them at any time.
 #[derive(Drop)]
 pub struct FileShelf<'a, R: Files, A: Allocator> {
     rt: &'a R,
@@ -29,7 +31,7 @@ impl<R: Files, A: Allocator> TextSource for FileShelf<'_, R, A> {
 
     fn read<B: Allocator>(&self, name: &str, text: &mut TextBuffer<B>) -> Result<(), ShelfFault> {
         let file = fs::open(self.rt, name)?;
-        text.fill(&mut Counted::new(file))
+        text.fill(&mut Counted::new(RetryingReader::new(file)))
     }
 }
 

@@ -1,12 +1,12 @@
-ghost use Rattle.std.specs.Prelude.{◌≡◌, ◌<◌, [], ◌∷◌, Ok, IfErr, IfOk, map};
-ghost use Rattle.ira_main.specs.FilesRead.{IsFilesAudit, IsFilesFault};
+ghost use Rattle.std.specs.Prelude.{◌≡◌, ◌<◌, ◌≤◌, [], ◌∷◌, Ok, OnOk, IfErr, IfOk, drop, length, take};
+ghost use Rattle.ira_main.specs.FilesRead.{HasRead, HasTakenFiles, IsFilesAudit, IsFilesFault, names_of};
 
 use crate::program_fault::ProgramFault;
 use crate::text_buffer::TextBuffer;
 use crate::text_source::TextSource;
 use ira_audit::RingAudit;
+use ira_event::OutOfMemory;
 use std::alloc::Allocator;
-use std::marker::Model;
 use std::num::NonZeroUsize;
 use std::thread::{self, Threads};
 
@@ -39,37 +39,80 @@ pub(crate) fn read_file<'a, A: Allocator + Clone, F: TextSource>(
     Ok(text)
 }
 
-/// The logs of a share of the files. Contracts see the audit.
+/// The logs of a share of the files, as far as these were read.
 #[derive(Drop)]
 struct Share<A: Allocator> {
     audit: RingAudit<A>,
     /// The room of the texts. It is kept until all threads are joined, since to unmap it interrupts each one that runs.
     text: TextBuffer<A>,
+    /// How many files were read.
+    read: usize,
 }
 
-impl<A: Allocator> Model for Share<A> {
-    ghost use Rattle.ira_audit.specs.RingAudit.{RingAudit};
-
-    ghost Value = { RingAudit };
-
-    ghost view = { λ s. s.audit };
+impl<A: Allocator + Clone> Share<A> {
+    /// Reads those of the files of these names that weren't read yet, in turn, up to the first that can't be.
+    fn read_on<'a, F: TextSource>(
+        &mut self,
+        names: &[&'a str],
+        shelf: &F,
+    ) -> Result<(), ProgramFault<'a>>
+        requires { HasRead F.reads (names_of names.now) shelf.now self.old.read self.old.audit }
+        ensures read { HasRead F.reads (names_of names.now) shelf.now self.new.read self.new.audit }
+        ensures all { OnOk result (HasTakenFiles F.reads (names_of names.now) shelf.now self.new.audit) }
+        ensures fault { IfErr result (IsFilesFault F.reads (names_of names.now) shelf.now) }
+    {
+        while self.read < names.len() {
+            read_into(names[self.read], &mut self.text, shelf)?;
+            self.audit.take(self.text.bytes())?;
+            self.read += 1;
+        }
+        Ok(())
+    }
 }
 
-/// The logs in the files of these names, which are read in turn.
-fn read_share<'a, A: Allocator + Clone, F: TextSource>(
+/// The logs in the files of these names, up to the first that can't be read now.
+fn read_share<A: Allocator + Clone, F: TextSource>(
     alloc: &A,
+    names: &[&str],
+    shelf: &F,
+) -> Result<Share<A>, OutOfMemory>
+    ensures { IfOk result (λ share. HasRead F.reads (names_of names.now) shelf.now share.read share.audit) }
+{
+    let mut share = Share {
+        audit: RingAudit::new(alloc.clone()?),
+        text: TextBuffer::new(alloc.clone()?),
+        read: 0,
+    };
+    // A file that was refused since others are open can be opened once these were read.
+    let _stopped = share.read_on(names, shelf);
+    Ok(share)
+}
+
+/// The logs in the files of a share, of which those that weren't read yet are read.
+fn finish_share<'a, A: Allocator + Clone, F: TextSource>(
+    mut share: Share<A>,
     names: &[&'a str],
     shelf: &F,
-) -> Result<Share<A>, ProgramFault<'a>>
-    ensures { IsFilesAudit F.reads (map (λ name. name.now) names.now) shelf.now result }
+) -> Result<RingAudit<A>, ProgramFault<'a>>
+    requires { HasRead F.reads (names_of names.now) shelf.now share.read share.audit }
+    ensures { IsFilesAudit F.reads (names_of names.now) shelf.now result }
 {
-    let mut audit = RingAudit::new(alloc.clone()?);
-    let mut text = TextBuffer::new(alloc.clone()?);
-    for name in names {
-        read_into(name, &mut text, shelf)?;
-        audit.take(text.bytes())?;
-    }
-    Ok(Share { audit, text })
+    share.read_on(names, shelf)?;
+    let Share {
+        audit,
+        text: _,
+        read: _,
+    } = share;
+    Ok(audit)
+}
+
+/// The names of the share that begins there.
+fn chunk_from<'n, 'a>(names: &'n [&'a str], start: usize, size: usize) -> &'n [&'a str]
+    requires { start ≤ length names.now }
+    ensures { result.now ≡ take size (drop start names.now) }
+{
+    let left = &names[start..];
+    &left[..size.min(left.len())]
 }
 
 /// How many threads the machine runs at a time, or 1 where that isn't known.
@@ -79,7 +122,8 @@ fn thread_count(rt: &impl Threads) -> usize
     thread::available_parallelism(rt).map_or(1, NonZeroUsize::get)
 }
 
-/// The logs in the files of these names. Threads that run at a time have a share of the names each.
+/// The logs in the files of these names. Threads that run at a time have a share of the names each. Where one of them
+/// stops, it is gone on when all have ended: then no other file is open, so the answer can't depend on how many were.
 pub(crate) fn read_logs<'a, R, A, F>(
     rt: &R,
     alloc: A,
@@ -90,7 +134,7 @@ where
     R: Threads + Sync,
     A: Allocator + Clone + Send + Sync,
     F: TextSource + Sync,
-    ensures { IsFilesAudit F.reads (map (λ name. name.now) names.now) shelf.now result }
+    ensures { IsFilesAudit F.reads (names_of names.now) shelf.now result }
 {
     let size = names.len().div_ceil(thread_count(rt)).max(1);
     let shares = thread::map_chunks(
@@ -98,17 +142,16 @@ where
         alloc.clone()?,
         names,
         size,
-        &|_, some: &[&str]| -> Result<Share<A>, ProgramFault>
-            ensures { IsFilesAudit F.reads (map (λ name. name.now) some.now) shelf.entry.now result }
+        &|_, some: &[&str]| -> Result<Share<A>, OutOfMemory>
+            ensures { IfOk result (λ share. HasRead F.reads (names_of some.now) shelf.entry.now share.read share.audit) }
         { read_share(&alloc, some, shelf) },
     )?;
     let mut audit = RingAudit::new(alloc.clone()?);
+    let mut done = 0;
     for share in shares {
-        let Share {
-            audit: next,
-            text: _,
-        } = share?;
-        audit.append(next)?;
+        let some = chunk_from(names, done, size);
+        audit.append(finish_share(share?, some, shelf)?)?;
+        done += some.len();
     }
     Ok(audit)
 }
