@@ -19,6 +19,7 @@ use ira_refusing::{
     FailingSink, Refusing, Writer, answered, each_byte_refused, each_growth_refused,
 };
 use std::alloc::Global;
+use std::marker::Model;
 use std::process::Abort;
 use std::sync::Wait;
 use std::thread::Threads;
@@ -316,34 +317,53 @@ fn rows() -> [Row; 15] {
     ]
 }
 
-/// Judges a row, and writes the answer's line.
+/// Writes the line of an answer that has one.
 #[derive(Drop)]
-struct Reported<'a, R> {
-    rt: &'a R,
-    row: &'a Row,
+struct Reported {
+    answer: Answer,
 }
 
-impl<R: AllocGlobal + Threads + Wait + Clock + Sync> Writer for Reported<'_, R> {
+impl Model for Reported {
+    ghost use Rattle.ira_audit.specs.declared.answer.Answer.{Answer};
+    ghost use Rattle.ira_audit.specs.Report.{IsReportable};
+
+    ghost Value = { Answer };
+
+    ghost view = { λ r. r.answer };
+
+    ghost invariant = { λ r. IsReportable r.answer };
+}
+
+impl Writer for Reported {
     fn is_refused(&self, sink: &mut FailingSink) -> bool {
-        let Row {
-            logs,
-            question,
-            certificate,
-            ..
-        } = self.row;
-        let alloc = self.rt.alloc();
-        match audit(self.rt, alloc, *logs, *question, *certificate, 0, &OpenGate) {
-            Ok(answer) => write_report(&answer, sink).is_err(),
-            Err(_) => false,
-        }
+        write_report(&self.answer, sink).is_err()
+    }
+}
+
+/// Judges the row, and has the answer's line written to sinks that fail.
+fn is_cut_at_each_byte<R>(rt: &R, row: &Row) -> bool
+where
+    R: AllocGlobal + Threads + Wait + Clock + Sync,
+{
+    let alloc = rt.alloc();
+    match audit(
+        rt,
+        alloc,
+        row.logs,
+        row.question,
+        row.certificate,
+        0,
+        &OpenGate,
+    ) {
+        Ok(answer) => each_byte_refused(alloc, &Reported { answer }, row.line) == Ok(()),
+        Err(OutOfMemory) => false,
     }
 }
 
 #[test]
 fn sink_fails_behind_each_byte(rt: HostRuntime) {
     for row in &rows() {
-        let refused = each_byte_refused(rt.alloc(), &Reported { rt: &rt, row }, row.line);
-        assert!(rt; refused == Ok(()), "{refused:?}");
+        assert!(rt; is_cut_at_each_byte(&rt, row));
     }
 }
 

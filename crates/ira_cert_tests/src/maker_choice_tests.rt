@@ -209,7 +209,7 @@ fn least_cut(
 }
 
 /// The text of the question whether these nodes ever meet these clauses at once, and the nodes that it asks.
-fn posed(alloc: Global, samples: &[&Sample]) -> Result<(String, Vec<Asked>), AllocError> {
+fn posed(alloc: Global, samples: &[Sample]) -> Result<(String, Vec<Asked>), AllocError> {
     let mut text = format!(in alloc; "irask 1\nnodes {}\ncase\n", samples.len())?;
     let mut asked = Vec::new(alloc);
     for (place, sample) in (0..).zip(samples) {
@@ -232,7 +232,7 @@ fn assert_as_searched(
     logs: &Logs<Global>,
     ordered: &Ordered<'_, Global>,
     known: &[&[Receipt]],
-    samples: &[&Sample],
+    samples: &[Sample],
 )
     requires { ordered.now.logs ≡ logs.now }
 {
@@ -278,7 +278,7 @@ fn tie_of_three_as_searched(rt: HostRuntime) {
     for a in &first {
         for b in &second {
             for c in &third {
-                assert_as_searched(&rt, &logs, &ordered, &KNOWN_IN_TIE, &[a, b, c]);
+                assert_as_searched(&rt, &logs, &ordered, &KNOWN_IN_TIE, &[*a, *b, *c]);
             }
         }
     }
@@ -301,7 +301,7 @@ fn lone_initiator_as_searched(rt: HostRuntime) {
     for a in &first {
         for b in &others {
             for c in &others {
-                assert_as_searched(&rt, &logs, &ordered, &KNOWN_IN_THREE, &[a, b, c]);
+                assert_as_searched(&rt, &logs, &ordered, &KNOWN_IN_THREE, &[*a, *b, *c]);
             }
         }
     }
@@ -322,7 +322,7 @@ fn lone_initiator_of_four_as_searched(rt: HostRuntime) {
         for b in &others {
             for c in &others {
                 for d in &others {
-                    assert_as_searched(&rt, &logs, &ordered, &KNOWN_IN_FOUR, &[a, b, c, d]);
+                    assert_as_searched(&rt, &logs, &ordered, &KNOWN_IN_FOUR, &[*a, *b, *c, *d]);
                 }
             }
         }
