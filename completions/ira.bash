@@ -1,6 +1,6 @@
 # Completion of `ira` for bash. `make install` puts it where bash-completion looks; else: source completions/ira.bash
 
-_ira_commands='logs check decide pairs run upgrade help'
+_ira_commands='logs check decide pairs run upgrade mend help'
 
 # The options of a command.
 _ira_options() {
@@ -8,7 +8,7 @@ _ira_options() {
         check) echo --question --cert --depth --help ;;
         decide) echo --question --out --help ;;
         run) echo --nodes --seed --out --initiators --draws --cap --terms --alone --help ;;
-        upgrade) echo --out --help ;;
+        upgrade | mend) echo --out --help ;;
         logs | pairs) echo --help ;;
     esac
 }
@@ -27,7 +27,7 @@ _ira() {
     case $command:$before in
         help:*) mapfile -t COMPREPLY < <(compgen -W "${_ira_commands% help}" -- "$word") ;;
         check:--depth) mapfile -t COMPREPLY < <(compgen -W '0 1 2 3 4' -- "$word") ;;
-        run:--out | upgrade:--out) mapfile -t COMPREPLY < <(compgen -d -- "$word") ;;
+        run:--out | upgrade:--out | mend:--out) mapfile -t COMPREPLY < <(compgen -d -- "$word") ;;
         pairs:* | run:*) COMPREPLY=() ;;
         *) mapfile -t COMPREPLY < <(compgen -f -- "$word") ;;
     esac

@@ -6,6 +6,7 @@ complete -c ira -f -n __fish_use_subcommand -a decide -d 'Decide whether some mo
 complete -c ira -f -n __fish_use_subcommand -a pairs -d 'Print the question whether two nodes ever lead at once'
 complete -c ira -f -n __fish_use_subcommand -a run -d 'Run an election, and write the log of each node'
 complete -c ira -f -n __fish_use_subcommand -a upgrade -d 'Write logs in version 2'
+complete -c ira -f -n __fish_use_subcommand -a mend -d 'Write what is consistent of the logs of a ring that crashed'
 complete -c ira -f -n __fish_use_subcommand -a help -d 'Print the help of a command'
 
 complete -c ira -n '__fish_seen_subcommand_from check' -l question -r -F -d 'The question'
@@ -28,5 +29,7 @@ complete -c ira -f -n '__fish_seen_subcommand_from run' -l alone -d 'Run all nod
 
 complete -c ira -n '__fish_seen_subcommand_from upgrade' -l out -x -a '(__fish_complete_directories)' -d 'The folder for the logs'
 
-complete -c ira -n '__fish_seen_subcommand_from logs check decide pairs run upgrade' -l help -d 'Print help'
-complete -c ira -f -n '__fish_seen_subcommand_from help' -a 'logs check decide pairs run upgrade'
+complete -c ira -n '__fish_seen_subcommand_from mend' -l out -x -a '(__fish_complete_directories)' -d 'The folder for the logs'
+
+complete -c ira -n '__fish_seen_subcommand_from logs check decide pairs run upgrade mend' -l help -d 'Print help'
+complete -c ira -f -n '__fish_seen_subcommand_from help' -a 'logs check decide pairs run upgrade mend'

@@ -1,4 +1,4 @@
--- How the logs of a run come to files.
+-- How the logs of a ring come to files.
 use Rattle.std.specs.Prelude.{◌≡◌, ◌⊎◌, ℕ, List, [], ◌∷◌, ◌++◌, Ok, Err, codes, decimal}
 use Rattle.std.specs.Borrow.{Bor}
 use Rattle.ira_event.specs.Log.{Log}
