@@ -1,20 +1,14 @@
 -- Sections that are held against their cases one by one.
-use Rattle.std.proofs.Common.{◌≡◌, ◌<◌, ◌+◌, ℕ, List, [], Option, Some, take, sym, ap, subst, ◌∙◌, arith}
+use Rattle.std.proofs.Common.{◌≡◌, ◌<◌, ◌+◌, ℕ, List, Some, take, sym, ap, subst, ◌∙◌, arith}
 use Rattle.std.specs.Prelude.{slice_get}
 use Rattle.ira_event.specs.Log.{Log}
 use Rattle.ira_pred.specs.Case.{Conjunct}
 use Rattle.ira_cert_text.specs.Certificate.{Section}
 use Rattle.ira_cert.specs.declared.section_fault.SectionFault.{SectionFault}
-use Rattle.ira_cert.specs.declared.section_fault.SectionFault.TheVariants.{NotSpent}
 use Rattle.ira_cert.specs.declared.verdict.Verdict.TheVariants as verdict
 use Rattle.ira_cert.specs.Asked.{HasDifferentPlaces}
-use Rattle.ira_cert.specs.Fronts.{AreFronts}
-use Rattle.ira_cert.specs.FrontsBehind.{AreFrontsBehind}
-use Rattle.ira_cert.specs.SoundSection.{AreSoundSteps, IsSoundSection}
-use Rattle.ira_cert.specs.Verdict.{IsVerdict}
+use Rattle.ira_cert.specs.SoundSection.{IsSoundSection}
 use Rattle.ira_cert.specs.SectionFault.{IsSectionFault}
-use Rattle.ira_cert.proofs.Behind.{all_left}
-use Rattle.ira_cert.proofs.Judged.{empty_is_sound, left_is_fault}
 use Rattle.ira_cert.proofs.OneVerdict.{one_verdict}
 use Rattle.ira_audit.specs.AuditAnswer.{AreSound, IsFirstUnsound}
 use Rattle.ira_audit.proofs.LogTexts.{taken, next_taken}
@@ -28,18 +22,6 @@ sound_or_fault logs case section f differ sound fault = let same = one_verdict l
 
 one_fault : (logs : List Log) (case : List Conjunct) (section : Section) (f g : SectionFault) → HasDifferentPlaces case → IsSectionFault logs case section f → IsSectionFault logs case section g → f ≡ g
 one_fault logs case section f g differ h k = let same = one_verdict logs case differ section (verdict.No f) (verdict.No g) h k in cc
-
--- a section without steps is sound where the case asks its node and that has no candidate
-module _ (logs : List Log) (case : List Conjunct) (section : Section) (none : section.steps ≡ []) (differ : HasDifferentPlaces case) (fronts : List (Option (List ℕ))) (are : AreFronts logs case fronts)
-    (spent : ℕ) (is : spent ≡ section.spent) where
-  no_steps : AreSoundSteps logs case [] × AreFrontsBehind logs case [] fronts
-  no_steps = (λ k s at. absurd cc, all_left logs case fronts are)
-
-  pub spent_without_steps : slice_get fronts spent ≡ Some (Some []) → IsVerdict logs case section verdict.Yes
-  spent_without_steps empty = empty_is_sound logs case section [] (sym none) differ fronts no_steps spent is empty
-
-  pub unspent_without_steps : ¬ (slice_get fronts spent ≡ Some (Some [])) → IsVerdict logs case section (verdict.No (NotSpent spent))
-  unspent_without_steps left = left_is_fault logs case section [] (sym none) differ fronts no_steps spent is left
 
 module _ (logs : List Log) (cases : List (List Conjunct)) (sections : List Section) where
   -- one section more is sound

@@ -1,10 +1,10 @@
-ghost use Rattle.std.specs.Prelude.{◌≡◌, ◌↔◌, ℕ, List, Ok, IfOk, IfSome, Some, length, map, slice_get};
+ghost use Rattle.std.specs.Prelude.{◌≡◌, ◌↔◌, ℕ, List, Ok, IfOk, Some, map, slice_get};
 ghost use Rattle.std.specs.List.{AllZip};
 ghost use Rattle.ira_event.specs.Result.{UnlessErr};
 ghost use Rattle.ira_pred.specs.Case.{Conjunct};
 ghost use Rattle.ira_cert.specs.Asked.{HasPlacesOf};
 ghost use Rattle.ira_order.specs.Circle.{HasOrder};
-ghost use Rattle.ira_elim.specs.Found.{IsAbsence, IsFound};
+ghost use Rattle.ira_elim.specs.Found.{IsFound};
 ghost use Rattle.ira_audit.specs.Findings.{AreFindings, AreReportable};
 ghost use Rattle.ira_audit.specs.LogTexts.{AreLogTexts};
 ghost use Rattle.ira_audit.specs.Posed.{WhyNotPosed};
@@ -16,13 +16,11 @@ use crate::findings::Findings;
 use crate::refusal::Refusal;
 use crate::replayed_log::ReplayedLog;
 use crate::ring_audit::RingAudit;
-use crate::ring_logs::{check_runs, gather_logs, stamped_order};
+use crate::ring_logs::{check_runs, gather_logs};
 use crate::sections::all_profiles;
-use ira_cand::Profile;
-use ira_cert::{candidates_left, profiled_fronts};
-use ira_cert_text::Section;
 use ira_elim::{Found, decide_profiled};
-use ira_event::{Logs, OutOfMemory, RingSize};
+use ira_event::{Logs, OutOfMemory};
+use ira_order::DirectDependencies;
 use ira_pred::Case;
 use std::alloc::Allocator;
 
@@ -31,9 +29,8 @@ use std::alloc::Allocator;
 /// order of the ring's places. Where `audit` has reasons against the logs or the question, the first of them
 /// is answered instead. No answer says that memory ran out.
 ///
-/// Beside the logs it takes a byte or two for each event and, for one case after the other, a list of the candidates of each
-/// node that the case asks, and what is found; and a counter of each node for each receipt, unless each case asks some
-/// node for a state that it never had.
+/// Beside the logs it takes a byte or two for each event, two numbers for each sending and one for each receipt and, for one
+/// case after the other, a list of the candidates of each node that the case asks, and what is found.
 pub fn decide_all<A: Allocator + Clone>(
     alloc: A,
     texts: &[&[u8]],
@@ -72,8 +69,7 @@ pub(crate) fn decide_posed<A: Allocator + Clone>(
     })
 }
 
-/// What is found for each case. The states of each log are computed once, however many cases there are, and no event is
-/// stamped where each case asks some node for a state that it never had.
+/// What is found for each case. The states of each log are computed once, however many cases there are.
 fn decide_cases<A: Allocator + Clone>(
     alloc: A,
     logs: &Logs<A>,
@@ -84,61 +80,11 @@ fn decide_cases<A: Allocator + Clone>(
         → HasPlacesOf logs.now case }
     ensures { IfOk result (λ found. AllZip (IsFound logs.now) cases.now found.items) }
 {
+    let dependencies = DirectDependencies::new(alloc.clone()?, logs)?;
     let profiles = all_profiles(alloc.clone()?, logs)?;
     let mut found = Vec::with_capacity(alloc.clone()?, cases.len())?;
     for case in cases {
-        let Some(section) = absence_without_steps(alloc.clone()?, logs.size(), &profiles, case)?
-        else {
-            return decide_with_order(alloc, logs, &profiles, cases);
-        };
-        found.push(Found::Absent(section))?;
-    }
-    Ok(found)
-}
-
-/// The section without steps of the least node that the case asks for a state that it never had, if there is one.
-fn absence_without_steps<A: Allocator + Clone>(
-    alloc: A,
-    nodes: RingSize,
-    profiles: &[Profile<'_, A>],
-    case: &Case<A>,
-) -> Result<Option<Section<A>>, OutOfMemory>
-    requires nodes { length profiles.now ≡ nodes }
-    requires places { HasPlacesOf profiles.now case.now }
-    ensures { IfOk result
-        (λ found. IfSome found (λ section. IsAbsence profiles.now case.now section)) }
-{
-    let fronts = profiled_fronts(alloc.clone()?, nodes, profiles, case)?;
-    for place in 0..nodes.get() {
-        if let Some(left) = candidates_left(&fronts, place)
-            && left.front().is_none()
-        {
-            return Ok(Some(Section {
-                steps: Vec::new(alloc),
-                spent: place,
-            }));
-        }
-    }
-    Ok(None)
-}
-
-/// What is found for each case of logs that have an order.
-fn decide_with_order<A: Allocator + Clone>(
-    alloc: A,
-    logs: &Logs<A>,
-    profiles: &[Profile<'_, A>],
-    cases: &[Case<A>],
-) -> Result<Vec<Found<A>, A>, OutOfMemory>
-    requires profiles { profiles.now ≡ logs.now }
-    requires order { HasOrder logs.now }
-    requires places { (i : ℕ) (case : List Conjunct) → slice_get cases.now i ≡ Some case
-        → HasPlacesOf logs.now case }
-    ensures { IfOk result (λ found. AllZip (IsFound logs.now) cases.now found.items) }
-{
-    let ordered = stamped_order(alloc.clone()?, logs)?;
-    let mut found = Vec::with_capacity(alloc.clone()?, cases.len())?;
-    for case in cases {
-        found.push(decide_profiled(alloc.clone()?, profiles, &ordered, case)?)?;
+        found.push(decide_profiled(alloc.clone()?, &profiles, &dependencies, case)?)?;
     }
     Ok(found)
 }

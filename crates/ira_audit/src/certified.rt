@@ -23,10 +23,11 @@ use crate::refusal::Refusal;
 use crate::replayed_log::ReplayedLog;
 use crate::ring_audit::RingAudit;
 use crate::ring_logs::{check_runs, gather_logs};
-use crate::sections::{check_sections, order_for_steps};
+use crate::sections::check_sections;
 use ira_cert_text::{Certificate, read_cert};
 use ira_event::{Logs, OutOfMemory, RingSize};
 use ira_links::Gate;
+use ira_order::DirectDependencies;
 use ira_pred::{Question, read_question};
 use std::alloc::Allocator;
 use std::sync::Wait;
@@ -44,11 +45,10 @@ use std::time::Clock;
 /// its cases. The answer is the same at every depth, 0 to 4, and with every gate.
 ///
 /// The steps of each section are halved `depth` times, and their parts judged on up to `2^depth` threads, each
-/// behind the gate, which it passes with its number from the left; where no section has a step, no gate is passed and no
-/// thread started.
+/// behind the gate, which it passes with its number from the left.
 ///
-/// Beside the logs it takes a byte or two for each event and, for one case after the other, a list of the candidates of each
-/// node that the case asks; and a counter of each node for each receipt, where a section has a step.
+/// Beside the logs it takes a byte or two for each event, two numbers for each sending and one for each receipt and, for one
+/// case after the other, a list of the candidates of each node that the case asks.
 pub fn audit<R, G, A>(
     rt: &R,
     alloc: A,
@@ -128,8 +128,8 @@ where
     let cases = question.cases();
     let certificate = read_certificate(alloc.clone()?, logs.size(), cases.len(), certificate)?;
     let sections = &certificate.sections;
-    let ordered = order_for_steps(alloc.clone()?, logs, sections)?;
-    check_sections(rt, alloc, logs, &ordered, cases, sections, depth, gate)
+    let dependencies = DirectDependencies::new(alloc.clone()?, logs)?;
+    check_sections(rt, alloc, &dependencies, cases, sections, depth, gate)
 }
 
 /// The question of the text, which must be asked of a ring of this size.

@@ -19,7 +19,7 @@ use crate::refusal::{Refusal, answer_of};
 use crate::replayed_log::{ReplayedLog, split_steps};
 use crate::ring_audit::RingAudit;
 use ira_event::{Logs, OutOfMemory};
-use ira_order::{OrderFault, Ordered, find_order, find_order_on_threads, order};
+use ira_order::{find_order, find_order_on_threads};
 use std::alloc::Allocator;
 use std::thread::Threads;
 
@@ -104,23 +104,4 @@ pub(crate) fn check_runs<A: Allocator + Clone>(
 {
     find_order(alloc, logs)?;
     Ok(steps?)
-}
-
-/// The order of logs that have one, and which of their events happened before one another.
-pub(crate) fn stamped_order<A: Allocator + Clone>(
-    alloc: A,
-    logs: &Logs<A>,
-) -> Result<Ordered<'_, A>, OutOfMemory>
-    requires { HasOrder logs.now }
-    ensures { IfOk result (λ o. o.logs ≡ logs.now) }
-{
-    let fault = match order(alloc, logs) {
-        Ok(ordered) => return Ok(ordered),
-        Err(fault) => fault,
-    };
-    match fault {
-        OrderFault::OutOfMemory => Err(OutOfMemory),
-        OrderFault::Match(_fault) => unreachable!(),
-        OrderFault::Circle => unreachable!(),
-    }
 }

@@ -21,20 +21,25 @@ use crate::verdict::Verdict;
 use ira_cand::Ahead;
 use ira_cert_text::{CertStep, Section};
 use ira_event::Listed;
-use ira_order::Ordered;
+use ira_order::HappenedBefore;
 use std::alloc::Allocator;
 
 /// Judges a section for a case of which the candidates are at hand, place by place: those of a place
 /// that the case asks, and none of another. Where they come from doesn't matter; nothing but one
-/// position is kept of each. A step costs one look-up of a stamp.
-pub fn check_fronts<A: Allocator, I: Iterator<Item = u32> + Listed + Drop>(
-    ordered: &Ordered<'_, A>,
+/// position is kept of each. A step asks once whether one event happened before
+/// another.
+pub fn check_fronts<C, A, I>(
+    ordered: &C,
     mut fronts: Vec<Option<Ahead<I>>, A>,
     section: &Section<A>,
 ) -> Verdict
-    requires { length fronts.items ≤ length ordered.now.logs }
-    ensures { (case : List Conjunct) → HasDifferentPlaces case → AreFronts ordered.now.logs case fronts.items
-        → IsVerdict ordered.now.logs case section.now result }
+where
+    C: HappenedBefore,
+    A: Allocator,
+    I: Iterator<Item = u32> + Listed + Drop,
+    requires { length fronts.items ≤ length (C.logs_of ordered.now) }
+    ensures { (case : List Conjunct) → HasDifferentPlaces case → AreFronts (C.logs_of ordered.now) case fronts.items
+        → IsVerdict (C.logs_of ordered.now) case section.now result }
 {
     if let Err(fault) = make_steps(ordered, &mut fronts, &section.steps) {
         return Verdict::No(fault);
@@ -46,21 +51,21 @@ pub fn check_fronts<A: Allocator, I: Iterator<Item = u32> + Listed + Drop>(
 }
 
 /// Makes the eliminations one after the other, as long as they are sound.
-fn make_steps<A: Allocator, I: Iterator<Item = u32> + Listed>(
-    ordered: &Ordered<'_, A>,
+fn make_steps<C: HappenedBefore, I: Iterator<Item = u32> + Listed>(
+    ordered: &C,
     fronts: &mut [Option<Ahead<I>>],
     steps: &[CertStep],
 ) -> Result<(), SectionFault>
-    requires { length fronts.old ≤ length ordered.now.logs }
-    ensures ok { (case : List Conjunct) → HasDifferentPlaces case → AreFronts ordered.now.logs case fronts.old
+    requires { length fronts.old ≤ length (C.logs_of ordered.now) }
+    ensures ok { (case : List Conjunct) → HasDifferentPlaces case → AreFronts (C.logs_of ordered.now) case fronts.old
         → OnOk result
-        (AreSoundSteps ordered.now.logs case steps.now
-        × AreFrontsBehind ordered.now.logs case steps.now fronts.new) }
+        (AreSoundSteps (C.logs_of ordered.now) case steps.now
+        × AreFrontsBehind (C.logs_of ordered.now) case steps.now fronts.new) }
     ensures err { (case : List Conjunct) → HasDifferentPlaces case
-        → AreFronts ordered.now.logs case fronts.old
+        → AreFronts (C.logs_of ordered.now) case fronts.old
         → IfErr result
         (λ f. (k : ℕ) × (why : Unsound) × (f ≡ SectionFault.Step k why)
-        × IsFirstUnsoundStep ordered.now.logs case steps.now k why) }
+        × IsFirstUnsoundStep (C.logs_of ordered.now) case steps.now k why) }
 {
     for (k, step) in steps.iter().enumerate() {
         if let Err(why) = check_step(ordered, fronts, step) {
@@ -72,17 +77,17 @@ fn make_steps<A: Allocator, I: Iterator<Item = u32> + Listed>(
 }
 
 /// Whether the step is sound behind those that were made, and why not.
-fn check_step<A: Allocator, I: Iterator<Item = u32> + Listed>(
-    ordered: &Ordered<'_, A>,
+fn check_step<C: HappenedBefore, I: Iterator<Item = u32> + Listed>(
+    ordered: &C,
     fronts: &[Option<Ahead<I>>],
     step: &CertStep,
 ) -> Result<(), Unsound>
-    requires { length fronts.now ≤ length ordered.now.logs }
+    requires { length fronts.now ≤ length (C.logs_of ordered.now) }
     ensures place { OnOk result (step.now.node < length fronts.now) }
     ensures verdict { (case : List Conjunct) (before : List CertStep) → HasDifferentPlaces case
-        → AreFrontsBehind ordered.now.logs case before fronts.now
-        → MatchResult result (λ _. IsSoundStep ordered.now.logs case before step.now)
-        (λ why. WhyUnsound ordered.now.logs case before step.now why) }
+        → AreFrontsBehind (C.logs_of ordered.now) case before fronts.now
+        → MatchResult result (λ _. IsSoundStep (C.logs_of ordered.now) case before step.now)
+        (λ why. WhyUnsound (C.logs_of ordered.now) case before step.now why) }
 {
     let own = left_at(fronts, step.node);
     let other = left_at(fronts, step.other);

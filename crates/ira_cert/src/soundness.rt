@@ -12,25 +12,24 @@ ghost use Rattle.ira_cert.specs.declared.unsound.Unsound.{Unsound};
 use crate::left::Left;
 use crate::unsound::Unsound;
 use ira_cert_text::CertStep;
-use ira_order::Ordered;
-use std::alloc::Allocator;
+use ira_order::HappenedBefore;
 
 /// Whether the step is sound behind those that were made, and why not, where it is known what they left of
 /// the candidates of its two nodes. It costs one look-up of a stamp.
-pub fn judge_step<A: Allocator>(
-    ordered: &Ordered<'_, A>,
+pub fn judge_step<C: HappenedBefore>(
+    ordered: &C,
     step: &CertStep,
     own: Left,
     other: Left,
 ) -> Result<(), Unsound>
-    requires own { own ≢ Left.NotAsked → step.now.node < length ordered.now.logs }
-    requires other { other ≢ Left.NotAsked → step.now.other < length ordered.now.logs }
+    requires own { own ≢ Left.NotAsked → step.now.node < length (C.logs_of ordered.now) }
+    requires other { other ≢ Left.NotAsked → step.now.other < length (C.logs_of ordered.now) }
     ensures asked { OnOk result (own ≢ Left.NotAsked) }
     ensures verdict { (case : List Conjunct) (before : List CertStep) → HasDifferentPlaces case
-        → IsLeft ordered.now.logs case before step.now.node own
-        → IsLeft ordered.now.logs case before step.now.other other
-        → MatchResult result (λ _. IsSoundStep ordered.now.logs case before step.now)
-        (λ why. WhyUnsound ordered.now.logs case before step.now why) }
+        → IsLeft (C.logs_of ordered.now) case before step.now.node own
+        → IsLeft (C.logs_of ordered.now) case before step.now.other other
+        → MatchResult result (λ _. IsSoundStep (C.logs_of ordered.now) case before step.now)
+        (λ why. WhyUnsound (C.logs_of ordered.now) case before step.now why) }
 {
     if own == Left::NotAsked || other == Left::NotAsked {
         return Err(Unsound::NotAsked);
@@ -55,10 +54,10 @@ pub fn judge_step<A: Allocator>(
 
 /// Whether the event that leads on from the first state of the step happened before the one that led
 /// to the other. Where one of these events doesn't exist, it didn't.
-fn rules_out<A: Allocator>(ordered: &Ordered<'_, A>, step: &CertStep) -> bool
-    requires { (step.now.node < length ordered.now.logs) × (step.now.other < length ordered.now.logs) }
+fn rules_out<C: HappenedBefore>(ordered: &C, step: &CertStep) -> bool
+    requires { (step.now.node < length (C.logs_of ordered.now)) × (step.now.other < length (C.logs_of ordered.now)) }
     ensures { IsTrue result
-        ↔ Before ordered.now.logs step.now.node (step.now.pos + 1) step.now.other step.now.other_pos }
+        ↔ Before (C.logs_of ordered.now) step.now.node (step.now.pos + 1) step.now.other step.now.other_pos }
 {
     let logs = ordered.logs();
     if step.pos as usize >= logs.log(step.node).len() {

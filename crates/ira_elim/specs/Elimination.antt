@@ -24,6 +24,10 @@ ArePlaces fronts places = (i : ℕ) → Contains places i ↔ HasList fronts i
 abbrev pub IsFirstLeft : List (Option (List ℕ)) → ℕ → ℕ → Type 0
 IsFirstLeft fronts i p = (left : List ℕ) × (slice_get fronts i ≡ Some (Some left)) × (slice_get left 0 ≡ Some p)
 
+-- each node that has a list has a first candidate left
+abbrev pub HasFirstLefts : List (Option (List ℕ)) → Type 0
+HasFirstLefts fronts = (i : ℕ) → HasList fronts i → (p : ℕ) × IsFirstLeft fronts i p
+
 -- the first candidates left are states of the logs
 abbrev pub AreWithin : List Log → List (Option (List ℕ)) → Type 0
 AreWithin logs fronts = (i p : ℕ) → IsFirstLeft fronts i p → (i < length logs) × (p ≤ length (log_of logs i))

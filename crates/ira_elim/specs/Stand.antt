@@ -1,5 +1,5 @@
 -- Helpers, no definitions: where the nodes stand while states are eliminated, and what they know there.
-use Rattle.std.specs.Prelude.{◌≡◌, ◌≢◌, ℕ, ◌<◌, ◌≤◌, List, Option, Some, Contains, length, slice_get, slice_index}
+use Rattle.std.specs.Prelude.{◌≡◌, ◌≢◌, ℕ, ◌<◌, ◌≤◌, List, Option, Some, Contains, length, slice_get, slice_index, slice_set}
 use Rattle.ira_event.specs.declared.event.Event.TheVariants.{Got}
 use Rattle.ira_event.specs.declared.load.Load.{Load}
 use Rattle.ira_event.specs.Log.{Log}
@@ -16,6 +16,14 @@ pub record IsStand (logs : List Log) (j q : ℕ) (s : Stand) : Type 0 where
   pub position : s.position ≡ q
   pub counts : AreCountsOfOthers logs j q s.counts
   pub order : HasOrder logs
+
+-- node i stands at the most at position p, if it stands
+abbrev pub StandsUpTo : List Log → List Stand → ℕ → ℕ → Type 0
+StandsUpTo logs stands i p = (s : Stand) → slice_get stands i ≡ Some s → (s.position ≤ p) × IsStand logs i s.position s
+
+-- node i has moved on to position p, and no other has moved
+abbrev pub HasMovedOn : List Log → List Stand → List Stand → ℕ → ℕ → Type 0
+HasMovedOn logs old new i p = (s : Stand) × (new ≡ slice_set old i s) × IsStand logs i p s
 
 -- none of the events behind the first `from`, up to the first `to`, is a receipt
 abbrev pub AreNoReceipts : Log → ℕ → ℕ → Type 0

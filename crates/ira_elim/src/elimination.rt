@@ -1,14 +1,14 @@
-ghost use Rattle.std.specs.Prelude.{◌≡◌, ◌<◌, ◌≤◌, ◌⊎◌, ℕ, List, Some, [], Contains, IfOk, MatchOption, length, slice_get, slice_set};
+ghost use Rattle.std.specs.Prelude.{◌≡◌, ◌<◌, ◌≤◌, ◌⊎◌, ℕ, List, Option, Some, [], Contains, IfOk, MatchOption, length, slice_get};
 ghost use Rattle.ira_event.specs.Log.{Log};
 ghost use Rattle.ira_pred.specs.Case.{Conjunct};
 ghost use Rattle.ira_order.specs.Ring.{log_of};
 ghost use Rattle.ira_cert_text.specs.declared.cert_step.CertStep.{CertStep};
 ghost use Rattle.ira_cert.specs.Asked.{HasDifferentPlaces};
-ghost use Rattle.ira_cert.specs.Fronts.{AreFronts, HasList};
-ghost use Rattle.ira_elim.specs.Elimination.{AreFrontsOfSomeCase, AreGreatestCounts, ArePlaces, AreStands, AreWithin, HasEliminations, IsElimination, IsFirstLeft, IsGreatestCount};
+ghost use Rattle.ira_cert.specs.Fronts.{AreFronts};
+ghost use Rattle.ira_elim.specs.Elimination.{AreFrontsOfSomeCase, AreGreatestCounts, ArePlaces, AreStands, AreWithin, HasEliminations, HasFirstLefts, IsElimination, IsFirstLeft, IsGreatestCount};
 ghost use Rattle.ira_elim.specs.Found.{IsFound};
 ghost use Rattle.ira_elim.specs.PairSet.{Has};
-ghost use Rattle.ira_elim.specs.Stand.{Stand, AreStanding, HasSameCounts, IsStand, KnowsNext};
+ghost use Rattle.ira_elim.specs.Stand.{AreStanding, HasMovedOn, HasSameCounts, KnowsNext, StandsUpTo};
 
 use crate::cut::Cut;
 use crate::found::Found;
@@ -17,21 +17,25 @@ use crate::stand::Stand;
 use ira_cand::Ahead;
 use ira_cert::{CertStep, Section, candidates_left, eliminate};
 use ira_event::{Listed, OutOfMemory};
-use ira_order::Ordered;
+use ira_order::HappenedBefore;
 use std::alloc::Allocator;
 
 /// Decides a case of which the candidates are at hand, place by place: those of a place that the case
 /// asks, and none of another. Where they come from doesn't matter; nothing but one position is kept of
 /// each.
-pub fn decide_fronts<A: Allocator + Clone, I: Iterator<Item = u32> + Listed + Drop>(
+pub fn decide_fronts<C, A, I>(
     alloc: A,
-    ordered: &Ordered<'_, A>,
+    ordered: &C,
     mut fronts: Vec<Option<Ahead<I>>, A>,
 ) -> Result<Found<A>, OutOfMemory>
-    requires places { length fronts.items ≤ length ordered.now.logs }
-    requires fronts { AreFrontsOfSomeCase ordered.now.logs fronts.items }
-    ensures { (case : List Conjunct) → HasDifferentPlaces case → AreFronts ordered.now.logs case fronts.items
-        → IfOk result (λ found. IsFound ordered.now.logs case found) }
+where
+    C: HappenedBefore,
+    A: Allocator + Clone,
+    I: Iterator<Item = u32> + Listed + Drop,
+    requires places { length fronts.items ≤ length (C.logs_of ordered.now) }
+    requires fronts { AreFrontsOfSomeCase (C.logs_of ordered.now) fronts.items }
+    ensures { (case : List Conjunct) → HasDifferentPlaces case → AreFronts (C.logs_of ordered.now) case fronts.items
+        → IfOk result (λ found. IsFound (C.logs_of ordered.now) case found) }
 {
     let nodes = ordered.logs().size().get();
     let asked = asked_places(alloc.clone()?, nodes, &fronts)?;
@@ -57,7 +61,7 @@ pub fn decide_fronts<A: Allocator + Clone, I: Iterator<Item = u32> + Listed + Dr
             position,
         );
     }
-    let cut = least_cut(alloc, ordered, nodes, &fronts, &asked)?;
+    let cut = least_cut(alloc, nodes, &stands, &asked)?;
     Ok(Found::Present(Cut::of_positions(cut)))
 }
 
@@ -93,7 +97,7 @@ fn first_spent<I: Iterator<Item = u32> + Listed>(
     asked: &[u8],
 ) -> Option<u8>
     requires { ArePlaces fronts.now asked.now }
-    ensures { MatchOption result ((i : ℕ) → HasList fronts.now i → (p : ℕ) × IsFirstLeft fronts.now i p)
+    ensures { MatchOption result (HasFirstLefts fronts.now)
         (λ i. slice_get fronts.now i ≡ Some (Some [])) }
 {
     for place in asked {
@@ -105,22 +109,27 @@ fn first_spent<I: Iterator<Item = u32> + Listed>(
 }
 
 /// Where each node stands, place by place.
-fn stands<'a, A: Allocator, I: Iterator<Item = u32> + Listed>(
+fn stands<C, A, I>(
     alloc: A,
-    ordered: &'a Ordered<'_, A>,
+    ordered: &C,
     nodes: u8,
     fronts: &[Option<Ahead<I>>],
-) -> Result<Vec<Stand<'a>, A>, OutOfMemory>
-    requires nodes { nodes ≡ length ordered.now.logs }
-    requires within { AreWithin ordered.now.logs fronts.now }
+) -> Result<Vec<Stand<A>, A>, OutOfMemory>
+where
+    C: HappenedBefore,
+    A: Allocator + Clone,
+    I: Iterator<Item = u32> + Listed,
+    requires nodes { nodes ≡ length (C.logs_of ordered.now) }
+    requires within { AreWithin (C.logs_of ordered.now) fronts.now }
     ensures count { IfOk result (λ stands. length stands.items ≡ nodes) }
-    ensures stands { IfOk result (λ stands. AreStands ordered.now.logs fronts.now stands.items) }
+    ensures stands { IfOk result (λ stands. AreStands (C.logs_of ordered.now) fronts.now stands.items) }
 {
-    let mut stands = Vec::with_capacity(alloc, usize::from(nodes))?;
+    let mut stands = Vec::with_capacity(alloc.clone()?, usize::from(nodes))?;
     for place in 0..nodes {
+        let alloc = alloc.clone()?;
         let stand = match front(fronts, place) {
-            Some(position) => Stand::at(ordered, place, position),
-            None => Stand::nowhere(),
+            Some(position) => Stand::at(alloc, ordered, place, position)?,
+            None => Stand::nowhere(alloc),
         };
         stands.push(stand)?;
     }
@@ -130,7 +139,7 @@ fn stands<'a, A: Allocator, I: Iterator<Item = u32> + Listed>(
 /// The pairs of nodes of which the second one's first candidate left eliminates the first one's.
 fn eliminating_pairs<A: Allocator>(
     alloc: A,
-    stands: &[Stand<'_>],
+    stands: &[Stand<A>],
     asked: &[u8],
 ) -> Result<PairSet<A>, OutOfMemory>
     requires { AreStanding stands.now asked.now }
@@ -147,7 +156,7 @@ fn eliminating_pairs<A: Allocator>(
 /// Adds the pairs of the nodes whose first candidates left are eliminated by that of the other.
 fn add_eliminated_by<A: Allocator>(
     pairs: &mut PairSet<A>,
-    stands: &[Stand<'_>],
+    stands: &[Stand<A>],
     asked: &[u8],
     other: u8,
 )
@@ -169,7 +178,7 @@ fn add_eliminated_by<A: Allocator>(
 /// are removed.
 fn next_step<A: Allocator, I: Iterator<Item = u32> + Listed>(
     pairs: &mut PairSet<A>,
-    stands: &[Stand<'_>],
+    stands: &[Stand<A>],
     fronts: &[Option<Ahead<I>>],
 ) -> Option<CertStep>
     ensures pairs { (logs : List Log) → AreWithin logs fronts.now → AreStands logs fronts.now stands.now
@@ -189,8 +198,8 @@ fn next_step<A: Allocator, I: Iterator<Item = u32> + Listed>(
 }
 
 /// The elimination of the node's first candidate left by that of the other.
-fn step_by<I: Iterator<Item = u32> + Listed>(
-    stands: &[Stand<'_>],
+fn step_by<A: Allocator, I: Iterator<Item = u32> + Listed>(
+    stands: &[Stand<A>],
     fronts: &[Option<Ahead<I>>],
     node: u8,
     other: u8,
@@ -218,25 +227,23 @@ fn step_by<I: Iterator<Item = u32> + Listed>(
 }
 
 /// Moves the node on to a position, and adds the pairs of the nodes that it eliminates there anew.
-fn advance<'a, A: Allocator>(
-    stands: &mut [Stand<'a>],
+fn advance<C: HappenedBefore, A: Allocator>(
+    stands: &mut Vec<Stand<A>, A>,
     pairs: &mut PairSet<A>,
-    ordered: &'a Ordered<'_, A>,
+    ordered: &C,
     asked: &[u8],
     node: u8,
     position: u32,
 )
-    requires asked { AreStanding stands.old asked.now }
+    requires asked { AreStanding stands.old.items asked.now }
     requires node { Contains asked.now node }
-    requires place { node < length ordered.now.logs }
-    requires position { position ≤ length (log_of ordered.now.logs node) }
-    requires stand { (s : Stand) → slice_get stands.old node ≡ Some s
-        → (s.position ≤ position) × IsStand ordered.now.logs node s.position s }
-    ensures moved { (s : Stand) × (stands.new ≡ slice_set stands.old node s)
-        × IsStand ordered.now.logs node position s }
+    requires place { node < length (C.logs_of ordered.now) }
+    requires position { position ≤ length (log_of (C.logs_of ordered.now) node) }
+    requires stand { StandsUpTo (C.logs_of ordered.now) stands.old.items node position }
+    ensures moved { HasMovedOn (C.logs_of ordered.now) stands.old.items stands.new.items node position }
     ensures kept { (a b : ℕ) → Has pairs.old a b → Has pairs.new a b }
-    ensures added { HasSameCounts stands.old stands.new node
-        ⊎ ((i : ℕ) → Contains asked.now i → KnowsNext stands.new node i → Has pairs.new i node) }
+    ensures added { HasSameCounts stands.old.items stands.new.items node
+        ⊎ ((i : ℕ) → Contains asked.now i → KnowsNext stands.new.items node i → Has pairs.new i node) }
 {
     if stands[usize::from(node)].advance(ordered, node, position) {
         add_eliminated_by(pairs, stands, asked, node);
@@ -244,42 +251,36 @@ fn advance<'a, A: Allocator>(
 }
 
 /// The greatest of the counts at the events that led to the first candidates left, node by node.
-fn least_cut<A: Allocator, I: Iterator<Item = u32> + Listed>(
+fn least_cut<A: Allocator>(
     alloc: A,
-    ordered: &Ordered<'_, A>,
     nodes: u8,
-    fronts: &[Option<Ahead<I>>],
+    stands: &[Stand<A>],
     asked: &[u8],
 ) -> Result<Vec<u32, A>, OutOfMemory>
-    requires nodes { nodes ≡ length ordered.now.logs }
-    requires asked { ArePlaces fronts.now asked.now }
-    requires within { AreWithin ordered.now.logs fronts.now }
-    ensures { IfOk result (λ cut. AreGreatestCounts ordered.now.logs fronts.now cut.items) }
+    requires nodes { nodes ≡ length stands.now }
+    requires standing { AreStanding stands.now asked.now }
+    ensures { (logs : List Log) (fronts : List (Option (List ℕ))) → nodes ≡ length logs
+        → ArePlaces fronts asked.now → HasFirstLefts fronts → AreWithin logs fronts
+        → AreStands logs fronts stands.now → IfOk result (λ cut. AreGreatestCounts logs fronts cut.items) }
 {
     let mut cut = Vec::with_capacity(alloc, usize::from(nodes))?;
     for place in 0..nodes {
-        cut.push(greatest_count(ordered, fronts, asked, place))?;
+        cut.push(greatest_count(stands, asked, place))?;
     }
     Ok(cut)
 }
 
 /// The greatest of the counts of the node at the events that led to the first candidates left.
-fn greatest_count<A: Allocator, I: Iterator<Item = u32> + Listed>(
-    ordered: &Ordered<'_, A>,
-    fronts: &[Option<Ahead<I>>],
-    asked: &[u8],
-    place: u8,
-) -> u32
-    requires place { place < length ordered.now.logs }
-    requires asked { ArePlaces fronts.now asked.now }
-    requires within { AreWithin ordered.now.logs fronts.now }
-    ensures { IsGreatestCount ordered.now.logs fronts.now place result }
+fn greatest_count<A: Allocator>(stands: &[Stand<A>], asked: &[u8], place: u8) -> u32
+    requires place { place < length stands.now }
+    requires standing { AreStanding stands.now asked.now }
+    ensures { (logs : List Log) (fronts : List (Option (List ℕ))) → place < length logs
+        → ArePlaces fronts asked.now → HasFirstLefts fronts → AreWithin logs fronts
+        → AreStands logs fronts stands.now → IsGreatestCount logs fronts place result }
 {
     let mut greatest = 0;
     for other in asked {
-        if let Some(position) = front(fronts, *other) {
-            greatest = greatest.max(ordered.count(*other, position, place));
-        }
+        greatest = greatest.max(stands[usize::from(*other)].count(*other, place));
     }
     greatest
 }

@@ -7,7 +7,7 @@ use crate::found::Found;
 use ira_cand::Profile;
 use ira_cert::{case_fronts, profiled_fronts};
 use ira_event::{Logs, OutOfMemory};
-use ira_order::Ordered;
+use ira_order::{HappenedBefore, Ordered};
 use ira_pred::Case;
 use std::alloc::Allocator;
 
@@ -34,13 +34,13 @@ pub fn decide<A: Allocator + Clone>(
 /// Decides a case as `decide` does, with the profiles of the logs, place by place: for many cases of the same
 /// logs no state is computed again. Of each node that the case asks it keeps a list of its candidates
 /// meanwhile.
-pub fn decide_profiled<A: Allocator + Clone>(
+pub fn decide_profiled<C: HappenedBefore, A: Allocator + Clone>(
     alloc: A,
     profiles: &[Profile<'_, A>],
-    ordered: &Ordered<'_, A>,
+    ordered: &C,
     case: &Case<A>,
 ) -> Result<Found<A>, OutOfMemory>
-    requires order { ordered.now.logs ≡ profiles.now }
+    requires order { (C.logs_of ordered.now) ≡ profiles.now }
     requires places { HasPlacesOf profiles.now case.now }
     ensures { IfOk result (λ found. IsFound profiles.now case.now found) }
 {

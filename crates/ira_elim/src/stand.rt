@@ -1,49 +1,52 @@
-ghost use Rattle.std.specs.Prelude.{◌≡◌, ◌<◌, ◌≤◌, ◌⊎◌, IsTrue, length};
+ghost use Rattle.std.specs.Prelude.{◌≡◌, ◌<◌, ◌≤◌, ◌⊎◌, ℕ, List, IfOk, IsTrue, length};
+ghost use Rattle.ira_event.specs.Log.{Log};
 ghost use Rattle.ira_order.specs.Ring.{log_of};
+ghost use Rattle.ira_order.specs.VectorClock.{IsCount};
 ghost use Rattle.ira_elim.specs.Stand.{AreNoReceipts, IsStand};
 
 use ira_event::{Event, NodeLog};
-use ira_order::Ordered;
-use std::alloc::Allocator;
+use ira_order::HappenedBefore;
+use std::alloc::{AllocError, Allocator};
 use std::marker::Model;
 
 /// A node at its first candidate left, and how many events of each other node happened up to there.
 #[derive(Drop)]
-pub(crate) struct Stand<'a> {
+pub(crate) struct Stand<A: Allocator> {
     position: u32,
-    counts: &'a [u32],
+    counts: Vec<u32, A>,
 }
 
-impl<'a> Model for Stand<'a> {
+impl<A: Allocator> Model for Stand<A> {
     ghost use Rattle.ira_elim.specs.Stand.{Stand};
 
     ghost Value = { Stand };
 
-    ghost view = { λ s. record { position = s.position; counts = s.counts.now } };
+    ghost view = { λ s. record { position = s.position; counts = s.counts.items } };
 }
 
-impl<'a> Stand<'a> {
+impl<A: Allocator> Stand<A> {
     /// The node at this position.
-    pub(crate) fn at<A: Allocator>(
-        ordered: &'a Ordered<'_, A>,
+    pub(crate) fn at<C: HappenedBefore>(
+        alloc: A,
+        ordered: &C,
         place: u8,
         position: u32,
-    ) -> Stand<'a>
-        requires place { place < length ordered.now.logs }
-        requires position { position ≤ length (log_of ordered.now.logs place) }
-        ensures { IsStand ordered.now.logs place position result }
+    ) -> Result<Stand<A>, AllocError>
+        requires place { place < length (C.logs_of ordered.now) }
+        requires position { position ≤ length (log_of (C.logs_of ordered.now) place) }
+        ensures { IfOk result (IsStand (C.logs_of ordered.now) place position) }
     {
-        Stand {
-            position,
-            counts: ordered.counts(place, position),
-        }
+        let nodes = usize::from(ordered.logs().size().get());
+        let mut counts = vec![in alloc; 0; nodes]?;
+        ordered.write_counts(place, position, &mut counts);
+        Ok(Stand { position, counts })
     }
 
     /// A node that isn't asked: nothing eliminates it, and it eliminates nothing.
-    pub(crate) fn nowhere() -> Stand<'a> {
+    pub(crate) fn nowhere(alloc: A) -> Stand<A> {
         Stand {
             position: u32::MAX,
-            counts: &[],
+            counts: Vec::new(alloc),
         }
     }
 
@@ -53,25 +56,37 @@ impl<'a> Stand<'a> {
         self.position
     }
 
-    pub(crate) fn counts(&self) -> &'a [u32]
+    pub(crate) fn counts(&self) -> &[u32]
         ensures { result.now ≡ self.now.counts }
     {
-        self.counts
+        &self.counts
+    }
+
+    /// How many events of the node at `place` are counted here, where the node at `own` stands.
+    pub(crate) fn count(&self, own: u8, place: u8) -> u32
+        requires { place < length self.now.counts }
+        ensures { (logs : List Log) (q : ℕ) → own < length logs → place < length logs
+            → q ≤ length (log_of logs own) → IsStand logs own q self.now → IsCount logs own q place result }
+    {
+        if place == own {
+            return self.position;
+        }
+        self.counts[usize::from(place)]
     }
 
     /// Moves the node on, and tells whether it receives a message on the way; where it doesn't, it knows no
     /// more of the others.
-    pub(crate) fn advance<A: Allocator>(
+    pub(crate) fn advance<C: HappenedBefore>(
         &mut self,
-        ordered: &'a Ordered<'_, A>,
+        ordered: &C,
         place: u8,
         position: u32,
     ) -> bool
-        requires place { place < length ordered.now.logs }
+        requires place { place < length (C.logs_of ordered.now) }
         requires onward { self.old.position ≤ position }
-        requires position { position ≤ length (log_of ordered.now.logs place) }
-        requires old { IsStand ordered.now.logs place self.old.position self.old }
-        ensures new { IsStand ordered.now.logs place position self.new }
+        requires position { position ≤ length (log_of (C.logs_of ordered.now) place) }
+        requires old { IsStand (C.logs_of ordered.now) place self.old.position self.old }
+        ensures new { IsStand (C.logs_of ordered.now) place position self.new }
         ensures same { IsTrue result ⊎ (self.new.counts ≡ self.old.counts) }
     {
         let log = ordered.logs().log(place);
@@ -80,7 +95,7 @@ impl<'a> Stand<'a> {
         if !receives(log, from, position) {
             return false;
         }
-        self.counts = ordered.counts(place, position);
+        ordered.write_counts(place, position, &mut self.counts);
         true
     }
 }

@@ -40,7 +40,7 @@ sent_later logs k a b c d first second l = elim (cases_lt c a) [
 ]
 
 -- an event with its number
-one_of : (logs : List Log) (k a b : ℕ) → IsPair logs k a b → (1 ≤ a) × (a ≤ length (log_of logs k))
+pub one_of : (logs : List Log) (k a b : ℕ) → IsPair logs k a b → (1 ≤ a) × (a ≤ length (log_of logs k))
 one_of logs k a b pair = (let w = before_within logs k a _ b (message refl pair) in (w.0, w.1))
 
 -- no event is event 0, or before it

@@ -4,6 +4,7 @@ pub mod Converse
 pub mod Counting
 pub mod CutLattice
 pub mod Cuts
+pub mod Dependencies
 pub mod Faults
 pub mod Filling
 pub mod HasCounts
@@ -13,6 +14,7 @@ pub mod OrderPrefixes
 pub mod Orders
 pub mod Pairing
 pub mod Places
+pub mod Pushed
 pub mod Ranks
 pub mod Receipts
 pub mod Rounds
@@ -20,6 +22,8 @@ pub mod Rows
 pub mod Runs
 pub mod RunsOfLogs
 pub mod SameEvents
+pub mod Sendings
 pub mod Stamping
 pub mod Stuck
 pub mod Upgraded
+pub mod WayBack

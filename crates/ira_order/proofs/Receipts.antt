@@ -71,7 +71,7 @@ pub few_first : (logs : List Log) (j : ℕ) → AreLogs logs → first_receipt l
 few_first logs j are = omega (arith, few_receipts logs are, sum_by-take-le received logs j)
 
 -- a receipt more or none, behind the first n events
-got_more : (es : List Event) (n : ℕ) (e : Event) → slice_get es n ≡ Some e → length (got (take (n + 1) es)) ≡ length (got (take n es)) + length (cons_option (receipt e) [])
+pub got_more : (es : List Event) (n : ℕ) (e : Event) → slice_get es n ≡ Some e → length (got (take (n + 1) es)) ≡ length (got (take n es)) + length (cons_option (receipt e) [])
 got_more es n e is =
     rank_more receipt es n (Draw 0) (slice_get_within es n e is)
     ∙ ap (λ (x : Event). length (got (take n es)) + length (cons_option (receipt x) [])) (get_or_from_slice_get es n e (Draw 0) is)

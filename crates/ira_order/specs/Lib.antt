@@ -2,6 +2,7 @@ pub mod Before
 pub mod Circle
 pub mod Counts
 pub mod Cut
+pub mod DirectDependencies
 pub mod Laws
 pub mod MatchFault
 pub mod Matching

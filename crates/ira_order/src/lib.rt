@@ -2,17 +2,23 @@
 //! them happened before which.
 #![tactic(auto)]
 
+mod direct_dependencies;
+mod happened_before;
 mod laws;
 mod links;
 mod match_fault;
+mod node_dependencies;
 mod node_stamps;
 mod order_fault;
 mod order_prefix;
 mod ordered;
+mod receipt_numbers;
 mod search;
 mod stamps;
 mod tally;
 
+pub use direct_dependencies::DirectDependencies;
+pub use happened_before::HappenedBefore;
 pub use laws::{
     counts_are_cuts, cuts_are_a_lattice, cuts_are_moments, events_have_counts, moments_are_cuts,
     orders_are_runs, orders_mean_events, refused_logs_have_no_run, runs_are_orders,

@@ -1,6 +1,6 @@
 ghost use Rattle.std.specs.Prelude.{◌≡◌, ◌<◌, ◌↔◌, ℕ, Err, IsOk, MatchResult, length};
 ghost use Rattle.ira_order.specs.declared.match_fault.MatchFault.{MatchFault};
-ghost use Rattle.ira_order.specs.Ring.{next};
+ghost use Rattle.ira_order.specs.Ring.{next, prev};
 ghost use Rattle.ira_order.specs.Matching.{IsPaired, Matches};
 ghost use Rattle.ira_order.specs.MatchFault.{IsLinkFault, IsMatchFault};
 
@@ -38,6 +38,14 @@ pub(crate) fn reader_of(nodes: u8, link: u8) -> u8
     ensures { result ≡ next nodes link }
 {
     if link + 1 < nodes { link + 1 } else { 0 }
+}
+
+/// The place whose link leads to a place, in a ring of so many nodes.
+pub(crate) fn writer_of(nodes: u8, place: u8) -> u8
+    requires { place < nodes }
+    ensures { result ≡ prev nodes place }
+{
+    if place == 0 { nodes - 1 } else { place - 1 }
 }
 
 /// Whether each receipt has its sending: the k-th receipt of a link the k-th sending, of the same

@@ -1,10 +1,11 @@
 ghost use Rattle.std.specs.Prelude.{◌≡◌, ◌*◌, ◌≤◌, ◌++◌, List, [], IfOk, OnOk, length, take};
-ghost use Rattle.ira_event.specs.Limits.{MAX_NODES, MAX_RECORDS};
+ghost use Rattle.ira_event.specs.Limits.{MAX_NODES};
 ghost use Rattle.ira_event.specs.declared.event.Event.{Event};
 ghost use Rattle.ira_order.specs.Matching.{got};
 ghost use Rattle.ira_order.specs.Stamps.{AreReceipts, IsRow};
 
-use ira_event::{Event, MAX_NODES, NodeLog};
+use crate::receipt_numbers::{receipt_numbers, received_by};
+use ira_event::{MAX_NODES, NodeLog};
 use std::alloc::{AllocError, Allocator};
 use std::marker::Model;
 
@@ -28,22 +29,6 @@ impl<A: Allocator> Model for NodeStamps<A> {
 /// The stamp of an event that no receipt of its node comes before: no event of another node is known.
 static NOTHING_RECEIVED: [u32; MAX_NODES] = [0; MAX_NODES];
 
-/// The number of each receipt of a log.
-fn numbers_of<A: Allocator>(alloc: A, log: &NodeLog<A>) -> Result<Vec<u32, A>, AllocError>
-    ensures receipts { IfOk result (λ numbers. AreReceipts log.now.events numbers.items) }
-    ensures few { IfOk result (λ numbers. length numbers.items ≤ MAX_RECORDS) }
-{
-    let mut numbers = Vec::with_capacity(alloc, log.len())?;
-    let mut number = 0;
-    for event in log.events() {
-        number += 1;
-        if let Event::Got(_) = event {
-            numbers.push(number)?;
-        }
-    }
-    Ok(numbers)
-}
-
 impl<A: Allocator> NodeStamps<A> {
     /// The receipts of a log with no stamp, and room for all stamps.
     pub(crate) fn start(alloc: A, log: &NodeLog<A>) -> Result<NodeStamps<A>, AllocError>
@@ -52,7 +37,7 @@ impl<A: Allocator> NodeStamps<A> {
         ensures receipts { IfOk result (λ stamps. AreReceipts log.now.events stamps.numbers) }
         ensures counters { IfOk result (λ stamps. stamps.counters ≡ []) }
     {
-        let numbers = numbers_of(alloc.clone()?, log)?;
+        let numbers = receipt_numbers(alloc.clone()?, log)?;
         let room = numbers.len() * usize::from(log.nodes().get());
         let counters = Vec::with_capacity(alloc, room)?;
         Ok(NodeStamps { numbers, counters })
@@ -70,7 +55,7 @@ impl<A: Allocator> NodeStamps<A> {
         ensures { (events : List Event) → AreReceipts events self.now.numbers
             → result ≡ length (got (take b events)) }
     {
-        self.numbers.partition_point(|number| *number <= b)
+        received_by(&self.numbers, b)
     }
 
     /// The stamp of a receipt, on a ring of so many nodes; receipts count from 1, and for 0 all is 0.

@@ -5,6 +5,7 @@ ghost use Rattle.ira_order.specs.VectorClock.{IsCount, AreCountsOfOthers, receip
 ghost use Rattle.ira_order.specs.Stamps.{AreStamps};
 ghost use Rattle.ira_order.specs.Ordered.{IsOrdered};
 
+use crate::happened_before::HappenedBefore;
 use crate::stamps::Stamps;
 use ira_event::Logs;
 use std::alloc::Allocator;
@@ -99,8 +100,7 @@ impl<'a, A: Allocator> Ordered<'a, A> {
         requires second { (1 ≤ b) × (b ≤ length (log_of self.now.logs j)) }
         ensures { IsTrue result ↔ Before self.now.logs i a j b }
     {
-        let count = self.count(j, b, i);
-        a <= count && (i != j || a != b)
+        HappenedBefore::before(self, i, a, j, b)
     }
 
     /// How many counters are kept: as many for each receipt as the ring has nodes.
@@ -108,5 +108,23 @@ impl<'a, A: Allocator> Ordered<'a, A> {
         ensures { result ≡ length self.now.logs * receipt_count self.now.logs }
     {
         self.stamps.stored(self.logs)
+    }
+}
+
+impl<'a, A: Allocator> HappenedBefore for Ordered<'a, A> {
+    type Alloc = A;
+
+    ghost logs_of = { λ o. o.logs };
+
+    fn logs(&self) -> &Logs<A> {
+        self.logs
+    }
+
+    fn count(&self, j: u8, b: u32, i: u8) -> u32 {
+        Ordered::count(self, j, b, i)
+    }
+
+    fn write_counts(&self, j: u8, b: u32, counts: &mut [u32]) {
+        counts.copy_from_slice(self.counts(j, b));
     }
 }

@@ -5,7 +5,7 @@ use crate::ranges::{add, count_range, judge_range};
 use crate::table::Table;
 use ira_cert::{CertStep, SectionFault};
 use ira_links::Gate;
-use ira_order::Ordered;
+use ira_order::HappenedBefore;
 use std::alloc::{AllocError, Allocator};
 use std::marker::Model;
 use std::mem;
@@ -83,21 +83,21 @@ impl<A: Allocator> Leaf<A> {
 
     /// Passes the gate, and finds the first step of the range that isn't sound, if those before the range
     /// are.
-    pub(crate) fn judge<R: Wait + Clock, G: Gate>(
+    pub(crate) fn judge<R: Wait + Clock, G: Gate, C: HappenedBefore>(
         &mut self,
         rt: &R,
         gate: &G,
         number: usize,
-        ordered: &Ordered<'_, A>,
+        ordered: &C,
         tables: &[Option<Table<A>>],
         steps: &[CertStep],
     )
         requires number { number < 2 ^ 32 }
-        requires places { length tables.now ≤ length ordered.now.logs }
+        requires places { length tables.now ≤ length (C.logs_of ordered.now) }
         requires range { (self.old.from ≤ self.old.to) × (self.old.to ≤ length steps.now) }
         requires placed { IsPlaced steps.now (length tables.now) self.old }
         ensures range { (self.new.from ≡ self.old.from) × (self.new.to ≡ self.old.to) }
-        ensures judged { IsJudged ordered.now.logs tables.now steps.now self.new }
+        ensures judged { IsJudged (C.logs_of ordered.now) tables.now steps.now self.new }
     {
         gate.pass(rt, number as u32);
         self.fault = judge_range(ordered, tables, steps, self.from, self.to, &mut self.counts);

@@ -12,7 +12,7 @@ ghost use Rattle.ira_par.specs.Ranges.{AreMade, AreMadeFrom, IsRangeFault};
 
 use crate::table::Table;
 use ira_cert::{CertStep, Left, SectionFault, judge_step};
-use ira_order::Ordered;
+use ira_order::HappenedBefore;
 use std::alloc::Allocator;
 
 /// Counts for each place the steps `from..to` that eliminate a state of it, in counts that are 0.
@@ -46,20 +46,20 @@ pub(crate) fn add(sums: &mut [usize], counts: &[usize])
 
 /// The first of the steps `from..to` that isn't sound, if those before them are. The counts are those of
 /// the steps before; each step that is found sound is counted, too.
-pub(crate) fn judge_range<A: Allocator>(
-    ordered: &Ordered<'_, A>,
+pub(crate) fn judge_range<C: HappenedBefore, A: Allocator>(
+    ordered: &C,
     tables: &[Option<Table<A>>],
     steps: &[CertStep],
     from: usize,
     to: usize,
     counts: &mut [usize],
 ) -> Option<SectionFault>
-    requires places { (length tables.now ≤ length ordered.now.logs)
+    requires places { (length tables.now ≤ length (C.logs_of ordered.now))
         × (length counts.old ≡ length tables.now) }
     requires range { (from ≤ to) × (to ≤ length steps.now) }
     requires counts { AreMade (take from steps.now) counts.old }
-    ensures { (case : List Conjunct) → HasDifferentPlaces case → AreFronts ordered.now.logs case tables.now
-        → IsRangeFault ordered.now.logs case steps.now from to result }
+    ensures { (case : List Conjunct) → HasDifferentPlaces case → AreFronts (C.logs_of ordered.now) case tables.now
+        → IsRangeFault (C.logs_of ordered.now) case steps.now from to result }
 {
     for k in from..to {
         let step = &steps[k];

@@ -11,7 +11,7 @@ use crate::leaves::{add_up, first_fault};
 use crate::table::Table;
 use ira_cert::{CertStep, SectionFault};
 use ira_links::Gate;
-use ira_order::Ordered;
+use ira_order::HappenedBefore;
 use std::alloc::Allocator;
 use std::sync::Wait;
 use std::thread;
@@ -20,10 +20,10 @@ use std::time::Clock;
 
 /// Finds the first step that isn't sound, by the ranges of the steps in two rounds. The counts are 0 before
 /// and those of all steps behind it.
-pub(crate) fn judge_steps<R, G, A>(
+pub(crate) fn judge_steps<R, G, C, A>(
     rt: &R,
     gate: &G,
-    ordered: &Ordered<'_, A>,
+    ordered: &C,
     tables: &[Option<Table<A>>],
     steps: &[CertStep],
     leaves: &mut [Leaf<A>],
@@ -32,17 +32,19 @@ pub(crate) fn judge_steps<R, G, A>(
 where
     R: Threads + Wait + Clock + Sync,
     G: Gate + Sync,
+    C: HappenedBefore + Sync,
+    C::Alloc: Send + Sync,
     A: Allocator + Send + Sync,
     requires few { length leaves.old ≤ 16 }
-    requires places { (length tables.now ≤ length ordered.now.logs)
+    requires places { (length tables.now ≤ length (C.logs_of ordered.now))
         × (length counts.old.items ≡ length tables.now) }
     requires blank { AreMade [] counts.old.items
         × AreRanges (IsBlank (length tables.now)) 0 leaves.old (length steps.now) }
     ensures places { length counts.new.items ≡ length tables.now }
     ensures counts { AreMade steps.now counts.new.items }
     ensures fault { (case : List Conjunct) → HasDifferentPlaces case
-        → AreFronts ordered.now.logs case tables.now
-        → IsRangeFault ordered.now.logs case steps.now 0 (length steps.now) result }
+        → AreFronts (C.logs_of ordered.now) case tables.now
+        → IsRangeFault (C.logs_of ordered.now) case steps.now 0 (length steps.now) result }
 {
     count_all(rt, steps, leaves);
     add_up(leaves, counts);
@@ -81,10 +83,10 @@ fn count_all<R: Threads + Sync, A: Allocator + Send + Sync>(
 }
 
 /// Judges the steps of each range. Each passes the gate first, with its number from the left.
-fn judge_all<R, G, A>(
+fn judge_all<R, G, C, A>(
     rt: &R,
     gate: &G,
-    ordered: &Ordered<'_, A>,
+    ordered: &C,
     tables: &[Option<Table<A>>],
     steps: &[CertStep],
     leaves: &mut [Leaf<A>],
@@ -92,19 +94,21 @@ fn judge_all<R, G, A>(
 where
     R: Threads + Wait + Clock + Sync,
     G: Gate + Sync,
+    C: HappenedBefore + Sync,
+    C::Alloc: Send + Sync,
     A: Allocator + Send + Sync,
     requires few { length leaves.old ≤ 16 }
-    requires places { length tables.now ≤ length ordered.now.logs }
+    requires places { length tables.now ≤ length (C.logs_of ordered.now) }
     requires placed { AreRanges (IsPlaced steps.now (length tables.now)) 0 leaves.old (length steps.now) }
-    ensures { AreRanges (IsJudged ordered.now.logs tables.now steps.now) 0 leaves.new (length steps.now) }
+    ensures { AreRanges (IsJudged (C.logs_of ordered.now) tables.now steps.now) 0 leaves.new (length steps.now) }
 {
     let threads = threads(leaves.len(), steps.len());
     let judge = |number: usize, leaf: &mut Leaf<A>|
-        requires { (number < 2 ^ 32) × (length tables.now ≤ length ordered.now.logs)
+        requires { (number < 2 ^ 32) × (length tables.now ≤ length (C.logs_of ordered.now))
             × (leaf.old.from ≤ leaf.old.to) × (leaf.old.to ≤ length steps.now)
             × IsPlaced steps.now (length tables.now) leaf.old }
         ensures { (leaf.new.from ≡ leaf.old.from) × (leaf.new.to ≡ leaf.old.to)
-            × IsJudged ordered.entry.now.logs tables.entry.now steps.entry.now leaf.new }
+            × IsJudged (C.logs_of ordered.entry.now) tables.entry.now steps.entry.now leaf.new }
     { leaf.judge(rt, gate, number, ordered, tables, steps) };
     thread::for_each_mut(rt, leaves, threads, &judge);
 }

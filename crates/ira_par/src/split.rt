@@ -17,7 +17,7 @@ use ira_cand::Profile;
 use ira_cert::{Left, Section, SectionFault, Verdict, check_fronts, check_plain, profiled_fronts};
 use ira_event::{Logs, OutOfMemory};
 use ira_links::Gate;
-use ira_order::Ordered;
+use ira_order::{HappenedBefore, Ordered};
 use ira_pred::Case;
 use std::alloc::Allocator;
 use std::sync::Wait;
@@ -67,11 +67,11 @@ where
 
 /// Judges a section as `check_split` does, with the profiles of the logs, place by place: for many cases of
 /// the same logs no state is computed again.
-pub fn split_profiled<R, G, A>(
+pub fn split_profiled<R, G, C, A>(
     rt: &R,
     alloc: A,
     profiles: &[Profile<'_, A>],
-    ordered: &Ordered<'_, A>,
+    ordered: &C,
     case: &Case<A>,
     section: &Section<A>,
     depth: u8,
@@ -80,9 +80,11 @@ pub fn split_profiled<R, G, A>(
 where
     R: Threads + Wait + Clock + Sync,
     G: Gate + Sync,
+    C: HappenedBefore + Sync,
+    C::Alloc: Send + Sync,
     A: Allocator + Clone + Send + Sync,
     requires depth { depth ≤ 4 }
-    requires order { ordered.now.logs ≡ profiles.now }
+    requires order { (C.logs_of ordered.now) ≡ profiles.now }
     requires places { HasPlacesOf profiles.now case.now }
     ensures yes { UnlessErr result (record {})
         ((result ≡ Ok Verdict.Yes) ↔ IsSoundSection profiles.now case.now section.now) }
@@ -102,10 +104,10 @@ where
 
 /// Judges a section as `check_split` does, for a case of which the candidates are at hand, place by place:
 /// those of a place that the case asks, and none of another.
-pub fn check_tables<R, G, A>(
+pub fn check_tables<R, G, C, A>(
     rt: &R,
     alloc: A,
-    ordered: &Ordered<'_, A>,
+    ordered: &C,
     tables: &[Option<Table<A>>],
     section: &Section<A>,
     depth: u8,
@@ -114,12 +116,14 @@ pub fn check_tables<R, G, A>(
 where
     R: Threads + Wait + Clock + Sync,
     G: Gate + Sync,
+    C: HappenedBefore + Sync,
+    C::Alloc: Send + Sync,
     A: Allocator + Clone + Send + Sync,
     requires depth { depth ≤ 4 }
-    requires places { length tables.now ≤ length ordered.now.logs }
+    requires places { length tables.now ≤ length (C.logs_of ordered.now) }
     ensures { IfOk result
         (λ verdict. (case : List Conjunct) → HasDifferentPlaces case
-        → AreFronts ordered.now.logs case tables.now → IsVerdict ordered.now.logs case section.now verdict) }
+        → AreFronts (C.logs_of ordered.now) case tables.now → IsVerdict (C.logs_of ordered.now) case section.now verdict) }
 {
     let steps = section.steps.as_slice();
     let mut leaves = all_leaves(alloc.clone()?, tables.len(), steps.len(), depth)?;

@@ -1,9 +1,7 @@
 use Rattle.std.proofs.Common.{◌≡◌, List, length, refl, subst, ◌∙◌, rules}
 use Rattle.std.proofs.lemmas.Option.{slice_get_read}
 use Rattle.ira_event.specs.Log.{Log}
-use Rattle.std.specs.Prelude.{IfSome}
-use Rattle.ira_elim.specs.Found.{IsAbsence, IsFound}
-use Rattle.ira_elim.specs.declared.found.Found.TheVariants.{Absent}
+use Rattle.ira_elim.specs.Found.{IsFound}
 use Rattle.ira_audit.proofs.LogTexts.{next_taken}
 use Rattle.ira_audit.proofs.Zipped.{zipped_more}
 use Rattle.ira_audit.proofs.cases.decide_cases.Goals as goal
@@ -15,6 +13,5 @@ loop-case-preserved g c =
     let case = c.case-item.result in
     let at = slice_get_read cases (length cases) c.loop-case.case-index case refl (search rules) c.case-item.is in
     let same : c.deref.result.now ≡ logs = c.deref.ensures.value ∙ c.in_ok-profiles.ensures in
-    let absent = subst (λ s. IfSome s (λ section. IsAbsence c.deref.result.now case section)) c.in-Some.is c.in_ok-section.ensures in
-    let found = subst (λ (ls : List Log). IsAbsence ls case c.in-Some.section) same absent in
-    rw (c.in_ok-push.ensures.items, ← next_taken cases c.loop-case.case-index case at) (zipped_more (IsFound logs) _ _ case (Absent c.in-Some.section) c.loop-case.invariant found)
+    let found = subst (λ (ls : List Log). IsFound ls case c.in_ok-decide_profiled.field-0) same c.in_ok-decide_profiled.ensures in
+    rw (c.in_ok-push.ensures.items, ← next_taken cases c.loop-case.case-index case at) (zipped_more (IsFound logs) _ _ case c.in_ok-decide_profiled.field-0 c.loop-case.invariant found)

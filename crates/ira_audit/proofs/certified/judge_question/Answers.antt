@@ -1,5 +1,6 @@
-use Rattle.std.proofs.Common.{◌≡◌, Some, Err, length, subst, ap, ◌∙◌, rules}
+use Rattle.std.proofs.Common.{◌≡◌, Some, Err, length, sym, subst, ap, ◌∙◌, rules}
 use Rattle.std.specs.Prelude.{slice_get}
+use Rattle.ira_cert.specs.Asked.{HasPlacesOf}
 use Rattle.ira_audit.specs.Posed.{Posed}
 use Rattle.ira_audit.specs.Refusal.{IsQuestionRefusal, IsCertificateRefusal}
 use Rattle.ira_audit.proofs.Places.{places_of_logs}
@@ -30,8 +31,8 @@ returns-in_err-certificate g c = λ texts good.
 
 pub check_sections-requires-clause-places : goal.check_sections-requires-clause-places
 check_sections-requires-clause-places g c κs within = λ i case at.
-    places_of_logs c.in_ok-question.question c.args.logs.now c.cases-cases.ensures.valid (c.in_ok-question.ensures.1 ∙ c.size.ensures.value) i case
-    (subst (λ cases. slice_get cases i ≡ Some case) c.cases-cases.ensures.value at)
+    subst (λ logs. HasPlacesOf logs case) (sym c.in_ok-dependencies.ensures) (places_of_logs c.in_ok-question.question c.args.logs.now c.cases-cases.ensures.valid (c.in_ok-question.ensures.1 ∙ c.size.ensures.value) i case
+    (subst (λ cases. slice_get cases i ≡ Some case) c.cases-cases.ensures.value at))
 
 pub returns : goal.returns
 returns g c = λ texts good.
@@ -41,7 +42,8 @@ returns g c = λ texts good.
     let posed : Posed texts c.args.question.now c.args.logs.now asked =
     record { logs_are = good; question_is = c.in_ok-question.ensures.0; ring = c.in_ok-question.ensures.1 ∙ c.size.ensures.value } in
     let number : length k.sections ≡ length asked.cases = h.2 ∙ ap length c.cases-cases.ensures.value in
-    let sections : c.deref-2.result.now ≡ k.sections = search rules in
+    let sections : c.deref.result.now ≡ k.sections = search rules in
     sections_judged texts c.args.question.now c.args.certificate.now c.args.logs.now asked posed k h.0 (h.1 ∙ c.size-2.ensures.value) number c.check_sections.result
     (subst (λ xs. SectionsJudged c.args.logs.now asked.cases xs c.check_sections.result) sections
-    (subst (λ cases. SectionsJudged c.args.logs.now cases c.deref-2.result.now c.check_sections.result) c.cases-cases.ensures.value c.check_sections.ensures))
+    (subst (λ cases. SectionsJudged c.args.logs.now cases c.deref.result.now c.check_sections.result) c.cases-cases.ensures.value
+    (subst (λ logs. SectionsJudged logs c.cases-cases.result.now c.deref.result.now c.check_sections.result) c.in_ok-dependencies.ensures c.check_sections.ensures)))

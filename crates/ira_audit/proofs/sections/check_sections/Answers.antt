@@ -8,11 +8,11 @@ use Rattle.ira_cert.specs.SectionFault.{IsSectionFault}
 use Rattle.ira_audit.proofs.SoundSections.{sound_more}
 use Rattle.ira_audit.proofs.sections.check_sections.Goals as goal
 
-pub judge_section-requires-clause-places : goal.judge_section-requires-clause-places
-judge_section-requires-clause-places g c κs within =
+pub split_profiled-requires-clause-places : goal.split_profiled-requires-clause-places
+split_profiled-requires-clause-places g c κs within =
     let case = c.index-cases-case.result in
     let case_at = slice_get_read c.args.cases.now _ c.loop-case.case case refl (search rules) c.index-cases-case.is in
-    let same : c.deref.result.now ≡ c.args.logs.now = c.deref.ensures.value ∙ c.in_ok-profiles.ensures in
+    let same : c.deref.result.now ≡ c.args.dependencies.now = c.deref.ensures.value ∙ c.in_ok-profiles.ensures ∙ c.logs.ensures in
     subst (λ (ls : List Log). HasPlacesOf ls case) (sym same) (c.requires.places c.loop-case.case case case_at)
 
 pub loop-case-preserved : goal.loop-case-preserved
@@ -21,9 +21,9 @@ loop-case-preserved g c =
     let section = c.index-sections-case.result in
     let case_at = slice_get_read c.args.cases.now _ c.loop-case.case case refl (search rules) c.index-cases-case.is in
     let section_at = slice_get_read c.args.sections.now (length c.args.cases.now) c.loop-case.case section (sym c.requires.number) (search rules) c.index-sections-case.is in
-    let same : c.deref.result.now ≡ c.args.logs.now = c.deref.ensures.value ∙ c.in_ok-profiles.ensures in
+    let same : c.deref.result.now ≡ c.args.dependencies.now = c.deref.ensures.value ∙ c.in_ok-profiles.ensures ∙ c.logs.ensures in
     let sound = (unless_ok c.in_ok-verdict.verdict _ _ c.in_ok-verdict.ensures.yes).0 (ap Ok c.in-Yes.is) in
-    sound_more c.args.logs.now c.args.cases.now c.args.sections.now c.loop-case.case case section case_at section_at c.loop-case.invariant
+    sound_more c.args.dependencies.now c.args.cases.now c.args.sections.now c.loop-case.case case section case_at section_at c.loop-case.invariant
     (subst (λ (ls : List Log). IsSoundSection ls case section) same sound)
 
 pub returns-in-No : goal.returns-in-No
@@ -31,7 +31,7 @@ returns-in-No g c =
     let case = c.index-cases-case.result in
     let section = c.index-sections-case.result in
     let fault = c.in-No.fault in
-    let same : c.deref.result.now ≡ c.args.logs.now = c.deref.ensures.value ∙ c.in_ok-profiles.ensures in (
+    let same : c.deref.result.now ≡ c.args.dependencies.now = c.deref.ensures.value ∙ c.in_ok-profiles.ensures ∙ c.logs.ensures in (
       c.loop-case.case,
       fault,
       refl,

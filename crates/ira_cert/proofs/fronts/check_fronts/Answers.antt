@@ -8,14 +8,14 @@ use Rattle.ira_cert.proofs.fronts.check_fronts.Goals as goal
 
 pub returns-in-Err : goal.returns-in-Err
 returns-in-Err g c = λ case differ fronts.
-    let logs = c.args.ordered.now.logs in
+    let logs = (g.C.HappenedBefore.logs_of c.args.ordered.now) in
     let steps : c.deref.result.now ≡ c.args.section.now.steps = c.deref.ensures.value ∙ ap (λ (s : Section). s.steps) c.section.view_is in
     let given = subst (λ (fs : List (Option (List ℕ))). AreFronts logs case fs) (sym c.deref_mut.ensures.value) fronts in
     first_is_fault logs case c.args.section.now c.deref.result.now steps c.in-Err.fault (c.in-Err.ensures.err case differ given)
 
 pub returns-then-not-is_spent : goal.returns-then-not-is_spent
 returns-then-not-is_spent g c = λ case differ fronts.
-    let logs = c.args.ordered.now.logs in
+    let logs = (g.C.HappenedBefore.logs_of c.args.ordered.now) in
     let steps : c.deref.result.now ≡ c.args.section.now.steps = c.deref.ensures.value ∙ ap (λ (s : Section). s.steps) c.section.view_is in
     let given = subst (λ (fs : List (Option (List ℕ))). AreFronts logs case fs) (sym c.deref_mut.ensures.value) fronts in
     let whole : c.deref-2.result.now ≡ c.make_steps.new.fronts =
@@ -26,7 +26,7 @@ returns-then-not-is_spent g c = λ case differ fronts.
 
 pub returns : goal.returns
 returns g c = λ case differ fronts.
-    let logs = c.args.ordered.now.logs in
+    let logs = (g.C.HappenedBefore.logs_of c.args.ordered.now) in
     let steps : c.deref.result.now ≡ c.args.section.now.steps = c.deref.ensures.value ∙ ap (λ (s : Section). s.steps) c.section.view_is in
     let given = subst (λ (fs : List (Option (List ℕ))). AreFronts logs case fs) (sym c.deref_mut.ensures.value) fronts in
     let whole : c.deref-2.result.now ≡ c.make_steps.new.fronts =

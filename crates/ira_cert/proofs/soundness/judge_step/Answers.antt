@@ -9,7 +9,7 @@ use Rattle.ira_cert.proofs.soundness.judge_step.Goals.{then-step-front-via-then-
 
 pub returns-then-step-front-clause-verdict : goal.returns-then-step-front-clause-verdict
 returns-then-step-front-clause-verdict g c = λ case before differ own other.
-    let logs = c.args.ordered.now.logs in let s = c.args.step.now in
+    let logs = (g.C.HappenedBefore.logs_of c.args.ordered.now) in let s = c.args.step.now in
     let front : IsFront logs case before s.node c.in-First.front = subst (λ (l : Left). IsLeft logs case before s.node l) c.in-First.is own in
     let other_front : IsFront logs case before s.other c.in-First-other.other_front = subst (λ (l : Left). IsLeft logs case before s.other l) c.in-First-other.is other in
     not_front c.if-step.false (c.in-First.front, front) (c.in-First-other.other_front, other_front)
@@ -21,7 +21,7 @@ returns-then-step-front-clause-verdict g c = λ case before differ own other.
 
 pub returns-then-not-rules_out-clause-verdict : goal.returns-then-not-rules_out-clause-verdict
 returns-then-not-rules_out-clause-verdict g c = λ case before differ own other.
-    let logs = c.args.ordered.now.logs in let s = c.args.step.now in
+    let logs = (g.C.HappenedBefore.logs_of c.args.ordered.now) in let s = c.args.step.now in
     let front : IsFront logs case before s.node c.in-First.front = subst (λ (l : Left). IsLeft logs case before s.node l) c.in-First.is own in
     let other_front : IsFront logs case before s.other c.in-First-other.other_front = subst (λ (l : Left). IsLeft logs case before s.other l) c.in-First-other.is other in
     not_before c.if-step.false

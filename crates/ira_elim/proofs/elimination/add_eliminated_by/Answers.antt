@@ -10,6 +10,14 @@ use Rattle.ira_elim.proofs.elimination.add_eliminated_by.Goals.{then-counts-inde
 pub bounds-stands-from : goal.bounds-stands-from
 bounds-stands-from g c = omega (arith, c.from.ensures, is_within c.args.stands.now c.args.asked.now c.args.other c.requires.asked c.requires.other)
 
+pub offset_bounds-stands-from : goal.offset_bounds-stands-from
+offset_bounds-stands-from g c = omega (arith, c.from.ensures, is_within c.args.stands.now c.args.asked.now c.args.other c.requires.asked c.requires.other)
+
+pub offset_bounds-stands-index : goal.offset_bounds-stands-index
+offset_bounds-stands-index g c =
+    let asked = c.args.asked.now in
+    omega (arith, c.from-index.ensures, is_within c.args.stands.now asked (get_or asked c.loop-node.node-index 0) c.requires.asked (at_place asked c.loop-node.node-index c.loop-node-test.true))
+
 pub bounds-counts-index : goal.bounds-counts-index
 bounds-counts-index g c =
     let stands = c.args.stands.now in let asked = c.args.asked.now in

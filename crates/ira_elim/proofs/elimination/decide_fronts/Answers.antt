@@ -5,7 +5,7 @@ use Rattle.ira_event.specs.Log.{Log}
 use Rattle.ira_cert_text.specs.declared.cert_step.CertStep.{CertStep}
 use Rattle.ira_cert.proofs.Behind.{all_left, one_fewer}
 use Rattle.ira_cert.specs.Fronts.{HasList}
-use Rattle.ira_elim.specs.Elimination.{ArePlaces, AreStands, AreWithin, AreGreatestCounts, HasEliminations, IsElimination, IsFirstLeft}
+use Rattle.ira_elim.specs.Elimination.{ArePlaces, AreStands, AreWithin, HasEliminations, IsElimination, IsFirstLeft}
 use Rattle.ira_elim.specs.LeastCut.{IsLeastCut}
 use Rattle.ira_elim.specs.PairSet.{Has}
 use Rattle.ira_elim.specs.Stand.{Stand, AreStanding, IsStand}
@@ -24,20 +24,20 @@ first_spent-requires g c =
 
 pub returns-in-Some : goal.returns-in-Some
 returns-in-Some g c = λ case differ fronts_are.
-    let logs = c.args.ordered.now.logs in let fronts = c.args.fronts.items in
+    let logs = (g.C.HappenedBefore.logs_of c.args.ordered.now) in let fronts = c.args.fronts.items in
     let empty = subst (λ (fs : List (Option (List ℕ))). slice_get fs c.in-Some.spent ≡ Some (Some [])) c.deref-2.ensures.value c.in-Some.ensures in
     absent logs case fronts fronts c.new-steps.result.items c.in-Some.spent fronts_are (none_made logs case c.new-steps.result.items fronts fronts_are c.new-steps.ensures.items)
     (omega (arith, ap (λ (ss : List CertStep). length ss) c.new-steps.ensures.items)) empty
 
 pub stands-requires-clause-within : goal.stands-requires-clause-within
 stands-requires-clause-within g c =
-    let logs = c.args.ordered.now.logs in
+    let logs = (g.C.HappenedBefore.logs_of c.args.ordered.now) in
     let some = c.requires.fronts in
     subst (AreWithin logs) (sym c.deref-4.ensures.value) (within logs some.0 [] c.args.fronts.items (all_left logs some.0 c.args.fronts.items some.2))
 
 pub eliminating_pairs-requires : goal.eliminating_pairs-requires
 eliminating_pairs-requires g c =
-    let logs = c.args.ordered.now.logs in
+    let logs = (g.C.HappenedBefore.logs_of c.args.ordered.now) in
     let some = c.requires.fronts in
     let listed = subst (λ (fs : List (Option (List ℕ))). ArePlaces fs c.in_ok-asked.asked.items) c.deref.ensures.value c.in_ok-asked.ensures in
     let fronts = c.args.fronts.items in let stands = c.in_ok-stands.stands.items in
@@ -50,7 +50,7 @@ eliminating_pairs-requires g c =
 
 pub steps-init : goal.steps-init
 steps-init g c =
-    let logs = c.args.ordered.now.logs in
+    let logs = (g.C.HappenedBefore.logs_of c.args.ordered.now) in
     let some = c.requires.fronts in
     let listed = subst (λ (fs : List (Option (List ℕ))). ArePlaces fs c.in_ok-asked.asked.items) c.deref.ensures.value c.in_ok-asked.ensures in
     let fronts = c.args.fronts.items in let stands = c.in_ok-stands.stands.items in
@@ -72,7 +72,7 @@ steps-init g c =
 
 pub eliminate-requires : goal.eliminate-requires
 eliminate-requires g c =
-    let logs = c.args.ordered.now.logs in
+    let logs = (g.C.HappenedBefore.logs_of c.args.ordered.now) in
     let some = c.requires.fronts in
     let fronts = c.steps.fronts.items in let s = c.in-Some-next_step.step in let so_far = c.steps.invariant in
     let made = so_far.made some.0 some.1 some.2 in
@@ -83,7 +83,7 @@ eliminate-requires g c =
 
 pub returns-in_default-front : goal.returns-in_default-front
 returns-in_default-front g c = λ case differ fronts_are.
-    let logs = c.args.ordered.now.logs in
+    let logs = (g.C.HappenedBefore.logs_of c.args.ordered.now) in
     let some = c.requires.fronts in
     let fronts = c.steps.fronts.items in let s = c.in-Some-next_step.step in let so_far = c.steps.invariant in
     let made = so_far.made some.0 some.1 some.2 in
@@ -101,7 +101,7 @@ returns-in_default-front g c = λ case differ fronts_are.
 
 pub advance-requires-clause-asked : goal.advance-requires-clause-asked
 advance-requires-clause-asked g c =
-    let logs = c.args.ordered.now.logs in
+    let logs = (g.C.HappenedBefore.logs_of c.args.ordered.now) in
     let some = c.requires.fronts in
     let fronts = c.steps.fronts.items in let s = c.in-Some-next_step.step in let so_far = c.steps.invariant in
     let made = so_far.made some.0 some.1 some.2 in
@@ -109,12 +109,12 @@ advance-requires-clause-asked g c =
     let is : IsElimination logs fronts s = viewed logs fronts c.deref-in-steps-2.result.now c.steps.stands.items c.deref-in-steps.result.now c.steps.pairs (λ (fs : List (Option (List ℕ))). IsElimination logs fs s) c.deref-in-steps-2.ensures.value c.deref-in-steps.ensures.value (c.in-Some-next_step.ensures.step logs) inside so_far.stands so_far.pairs in
     let listed = subst (λ (fs : List (Option (List ℕ))). ArePlaces fs c.in_ok-asked.asked.items) c.deref.ensures.value c.in_ok-asked.ensures in
     let places = places_stay logs some.0 c.steps.steps.items fronts made.behind c.args.fronts.items c.in_ok-asked.asked.items some.2 listed in
-    subst (λ (ss : List Stand). AreStanding ss c.deref-in-Some-next_step-2.result.now) (sym c.deref_mut-in-Some-next_step.ensures.value) (subst (AreStanding c.steps.stands.items) (sym c.deref-in-Some-next_step-2.ensures.value)
-    (standing logs fronts c.steps.stands.items inside so_far.stands c.in_ok-asked.asked.items places so_far.left so_far.nodes))
+    subst (AreStanding c.steps.stands.items) (sym c.deref-in-Some-next_step-2.ensures.value)
+    (standing logs fronts c.steps.stands.items inside so_far.stands c.in_ok-asked.asked.items places so_far.left so_far.nodes)
 
 pub advance-requires-clause-node : goal.advance-requires-clause-node
 advance-requires-clause-node g c =
-    let logs = c.args.ordered.now.logs in
+    let logs = (g.C.HappenedBefore.logs_of c.args.ordered.now) in
     let some = c.requires.fronts in
     let fronts = c.steps.fronts.items in let s = c.in-Some-next_step.step in let so_far = c.steps.invariant in
     let made = so_far.made some.0 some.1 some.2 in
@@ -126,7 +126,7 @@ advance-requires-clause-node g c =
 
 pub advance-requires-clause-place : goal.advance-requires-clause-place
 advance-requires-clause-place g c =
-    let logs = c.args.ordered.now.logs in
+    let logs = (g.C.HappenedBefore.logs_of c.args.ordered.now) in
     let some = c.requires.fronts in
     let fronts = c.steps.fronts.items in let s = c.in-Some-next_step.step in let so_far = c.steps.invariant in
     let made = so_far.made some.0 some.1 some.2 in
@@ -136,7 +136,7 @@ advance-requires-clause-place g c =
 
 pub advance-requires-clause-position : goal.advance-requires-clause-position
 advance-requires-clause-position g c =
-    let logs = c.args.ordered.now.logs in
+    let logs = (g.C.HappenedBefore.logs_of c.args.ordered.now) in
     let some = c.requires.fronts in
     let fronts = c.steps.fronts.items in let s = c.in-Some-next_step.step in let so_far = c.steps.invariant in
     let made = so_far.made some.0 some.1 some.2 in
@@ -150,7 +150,7 @@ advance-requires-clause-position g c =
 
 pub advance-requires-clause-stand : goal.advance-requires-clause-stand
 advance-requires-clause-stand g c = λ t at.
-    let logs = c.args.ordered.now.logs in
+    let logs = (g.C.HappenedBefore.logs_of c.args.ordered.now) in
     let some = c.requires.fronts in
     let fronts = c.steps.fronts.items in let s = c.in-Some-next_step.step in let so_far = c.steps.invariant in
     let made = so_far.made some.0 some.1 some.2 in
@@ -159,14 +159,13 @@ advance-requires-clause-stand g c = λ t at.
     let left = take_at c.eliminate.new.fronts (drop (length c.eliminate.new.fronts) fronts) c.steps.fronts.len (c.eliminate.auto.fronts ∙ c.deref_mut.ensures.len) ∙ c.eliminate.ensures ∙ ap (λ (fs : List (Option (List ℕ))). one_fewer fs s.node) c.deref_mut.ensures.value in
     let pushed = c.in_ok-push.ensures.items in
     let first = subst (λ (fs : List (Option (List ℕ))). IsFirstLeft fs s.node c.in-Some-front.position) c.deref-in-Some-next_step.ensures.value c.in-Some-front.ensures in
-    let stood = ap (λ (ss : List Stand). slice_get ss s.node) (sym c.deref_mut-in-Some-next_step.ensures.value) ∙ at in
-    let stand = stand_is logs fronts c.steps.stands.items inside so_far.stands s.node s.pos t is.front stood in
+    let stand = stand_is logs fronts c.steps.stands.items inside so_far.stands s.node s.pos t is.front at in
     let onward = own_first logs some.0 c.steps.steps.items fronts _ made.behind s is left c.in-Some-front.position first in
     (omega (arith, stand.position, onward), subst (λ (n : ℕ). IsStand logs s.node n t) (sym stand.position) stand)
 
 pub steps-smaller : goal.steps-smaller
 steps-smaller g c =
-    let logs = c.args.ordered.now.logs in
+    let logs = (g.C.HappenedBefore.logs_of c.args.ordered.now) in
     let some = c.requires.fronts in
     let fronts = c.steps.fronts.items in let s = c.in-Some-next_step.step in let so_far = c.steps.invariant in
     let made = so_far.made some.0 some.1 some.2 in
@@ -178,7 +177,7 @@ steps-smaller g c =
 
 pub steps-preserved : goal.steps-preserved
 steps-preserved g c =
-    let logs = c.args.ordered.now.logs in
+    let logs = (g.C.HappenedBefore.logs_of c.args.ordered.now) in
     let some = c.requires.fronts in
     let fronts = c.steps.fronts.items in let s = c.in-Some-next_step.step in let so_far = c.steps.invariant in
     let made = so_far.made some.0 some.1 some.2 in
@@ -190,14 +189,13 @@ steps-preserved g c =
     let first = subst (λ (fs : List (Option (List ℕ))). IsFirstLeft fs s.node c.in-Some-front.position) c.deref-in-Some-next_step.ensures.value c.in-Some-front.ensures in
     let listed = subst (λ (fs : List (Option (List ℕ))). ArePlaces fs c.in_ok-asked.asked.items) c.deref.ensures.value c.in_ok-asked.ensures in
     let stands = c.steps.stands.items in let moved = c.advance.ensures.moved in
-    let new = take_at c.advance.new.stands (drop (length c.advance.new.stands) stands) c.steps.stands.len (c.advance.auto.stands ∙ c.deref_mut-in-Some-next_step.ensures.len) in
-    let set = new ∙ moved.1 ∙ ap (λ (ss : List Stand). slice_set ss s.node moved.0) c.deref_mut-in-Some-next_step.ensures.value in
+    let set = moved.1 in
     let inside_left = within logs some.0 c.push.new.self.items _ next.behind in
     let again = stands_again logs fronts stands inside so_far.stands some.0 c.steps.steps.items made.behind s is _ left _ moved.0 set c.in-Some-front.position first moved.2 in
     let old = viewed logs fronts c.deref-in-steps-2.result.now stands c.deref-in-steps.result.now c.steps.pairs (λ (fs : List (Option (List ℕ))). HasEliminations logs fs c.next_step.new.pairs) c.deref-in-steps-2.ensures.value c.deref-in-steps.ensures.value (c.in-Some-next_step.ensures.pairs logs) inside so_far.stands so_far.pairs in
     let places = places_stay logs some.0 c.push.new.self.items _ next.behind c.args.fronts.items c.in_ok-asked.asked.items some.2 listed in
     let asked = c.deref-in-Some-next_step-2.ensures.value in
-    let added = rw (c.deref_mut-in-Some-next_step.ensures.value, asked, ← new) at c.advance.ensures.added in
+    let added = rw asked at c.advance.ensures.added in
     record {
       made = λ case differ fronts_are. made_more logs case c.steps.steps.items c.push.new.self.items fronts _ s differ (so_far.made case differ fronts_are) is pushed left;
       count = omega (arith, total_less fronts s.node s.pos is.front, ap total left, ap (λ (ss : List CertStep). length ss) pushed, length-append c.steps.steps.items (s ∷ []), so_far.count);
@@ -210,28 +208,31 @@ steps-preserved g c =
           (adds logs some.0 c.steps.steps.items fronts _ made.behind s is left stands _ inside so_far.stands inside_left again c.in_ok-asked.asked.items c.next_step.new.pairs c.advance.new.pairs places old c.advance.ensures.kept added);
     }
 
-pub least_cut-requires-clause-asked : goal.least_cut-requires-clause-asked
-least_cut-requires-clause-asked g c =
-    let logs = c.args.ordered.now.logs in
-    let listed = subst (λ (fs : List (Option (List ℕ))). ArePlaces fs c.in_ok-asked.asked.items) c.deref.ensures.value c.in_ok-asked.ensures in
-    let some = c.requires.fronts in
-    let made = c.steps.invariant.made some.0 some.1 some.2 in
-    let places = places_stay logs some.0 c.steps.steps.items c.steps.fronts.items made.behind c.args.fronts.items c.in_ok-asked.asked.items some.2 listed in
-    subst (λ (fs : List (Option (List ℕ))). ArePlaces fs c.deref-8.result.now) (sym c.deref-7.ensures.value) (subst (ArePlaces c.steps.fronts.items) (sym c.deref-8.ensures.value) places)
+pub least_cut-requires-clause-nodes : goal.least_cut-requires-clause-nodes
+least_cut-requires-clause-nodes g c =
+    c.get-nodes.ensures.value ∙ c.size.ensures.value ∙ ap (λ (ls : List Log). length ls) c.logs.ensures ∙ sym (ap (λ (ss : List Stand). length ss) c.deref-7.ensures.value ∙ c.steps.invariant.nodes)
 
-pub least_cut-requires-clause-within : goal.least_cut-requires-clause-within
-least_cut-requires-clause-within g c =
-    let logs = c.args.ordered.now.logs in
-    let some = c.requires.fronts in
-    let made = c.steps.invariant.made some.0 some.1 some.2 in
-    subst (AreWithin logs) (sym c.deref-7.ensures.value) (within logs some.0 c.steps.steps.items c.steps.fronts.items made.behind)
+pub least_cut-requires-clause-standing : goal.least_cut-requires-clause-standing
+least_cut-requires-clause-standing g c =
+    let logs = (g.C.HappenedBefore.logs_of c.args.ordered.now) in
+    let listed = subst (λ (fs : List (Option (List ℕ))). ArePlaces fs c.in_ok-asked.asked.items) c.deref.ensures.value c.in_ok-asked.ensures in
+    let some = c.requires.fronts in let so_far = c.steps.invariant in let fronts = c.steps.fronts.items in
+    let made = so_far.made some.0 some.1 some.2 in
+    let inside = within logs some.0 c.steps.steps.items fronts made.behind in
+    let places = places_stay logs some.0 c.steps.steps.items fronts made.behind c.args.fronts.items c.in_ok-asked.asked.items some.2 listed in
+    subst (λ (ss : List Stand). AreStanding ss c.deref-8.result.now) (sym c.deref-7.ensures.value) (subst (AreStanding c.steps.stands.items) (sym c.deref-8.ensures.value)
+    (standing logs fronts c.steps.stands.items inside so_far.stands c.in_ok-asked.asked.items places so_far.left so_far.nodes))
 
 pub returns : goal.returns
 returns g c = λ case differ fronts_are.
-    let logs = c.args.ordered.now.logs in let fronts = c.steps.fronts.items in let so_far = c.steps.invariant in
+    let logs = (g.C.HappenedBefore.logs_of c.args.ordered.now) in let fronts = c.steps.fronts.items in let so_far = c.steps.invariant in
     let made = so_far.made case differ fronts_are in
     let inside = within logs case c.steps.steps.items fronts made.behind in
-    let greatest = subst (λ (fs : List (Option (List ℕ))). AreGreatestCounts logs fs c.in_ok-cut.cut.items) c.deref-7.ensures.value c.in_ok-cut.ensures in
+    let listed = subst (λ (fs : List (Option (List ℕ))). ArePlaces fs c.in_ok-asked.asked.items) c.deref.ensures.value c.in_ok-asked.ensures in
+    let places = places_stay logs case c.steps.steps.items fronts made.behind c.args.fronts.items c.in_ok-asked.asked.items fronts_are listed in
+    let greatest =
+    c.in_ok-cut.ensures logs fronts (c.get-nodes.ensures.value ∙ c.size.ensures.value ∙ ap (λ (ls : List Log). length ls) c.logs.ensures)
+    (subst (ArePlaces fronts) (sym c.deref-8.ensures.value) places) so_far.left inside (subst (AreStands logs fronts) (sym c.deref-7.ensures.value) so_far.stands) in
     let none = viewed logs fronts c.deref-in-steps-2.result.now c.steps.stands.items c.deref-in-steps.result.now c.steps.pairs (λ (fs : List (Option (List ℕ))). (s : CertStep) → IsElimination logs fs s → ⊥) c.deref-in-steps-2.ensures.value c.deref-in-steps.ensures.value (c.in_default-next_step.ensures.step logs) inside so_far.stands so_far.pairs in
     subst (IsLeastCut logs case) (sym c.of_positions.ensures)
     (present logs case c.steps.steps.items fronts differ made c.in_ok-cut.cut.items greatest none so_far.left)

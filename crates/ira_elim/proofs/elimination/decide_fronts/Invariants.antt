@@ -8,13 +8,13 @@ use Rattle.ira_elim.proofs.elimination.decide_fronts.Given as goal
 
 abbrev pub invariant-steps : goal.invariant-steps
 invariant-steps g l = record {
-  made : (case : List Conjunct) → HasDifferentPlaces case → AreFronts l.ordered.logs case l.fn.fronts.items → AreMade l.ordered.logs case l.steps.items l.fronts.items;
+  made : (case : List Conjunct) → HasDifferentPlaces case → AreFronts (g.C.HappenedBefore.logs_of l.ordered) case l.fn.fronts.items → AreMade (g.C.HappenedBefore.logs_of l.ordered) case l.steps.items l.fronts.items;
   count : length l.steps.items + total l.fronts.items ≡ total l.fn.fronts.items;
-  places : length l.fronts.items ≤ length l.ordered.logs;
+  places : length l.fronts.items ≤ length (g.C.HappenedBefore.logs_of l.ordered);
   left : (i : ℕ) → HasList l.fronts.items i → (p : ℕ) × IsFirstLeft l.fronts.items i p;
-  nodes : length l.stands.items ≡ length l.ordered.logs;
-  stands : AreStands l.ordered.logs l.fronts.items l.stands.items;
-  pairs : HasEliminations l.ordered.logs l.fronts.items l.pairs;
+  nodes : length l.stands.items ≡ length (g.C.HappenedBefore.logs_of l.ordered);
+  stands : AreStands (g.C.HappenedBefore.logs_of l.ordered) l.fronts.items l.stands.items;
+  pairs : HasEliminations (g.C.HappenedBefore.logs_of l.ordered) l.fronts.items l.pairs;
 }
 
 abbrev pub decreases-steps : goal.decreases-steps

@@ -1,9 +1,9 @@
-use Rattle.std.proofs.Common.{◌≡◌, ℕ, ◌<◌, get_or, length}
-use Rattle.ira_elim.specs.Elimination.{IsGreatestCount}
+use Rattle.std.proofs.Common.{◌≡◌, ℕ, ◌<◌, List, Option, get_or, length}
+use Rattle.ira_event.specs.Log.{Log}
+use Rattle.ira_elim.specs.Elimination.{ArePlaces, AreStands, AreWithin, HasFirstLefts, IsGreatestCount}
 use Rattle.ira_elim.proofs.elimination.least_cut.Given as goal
 
 abbrev pub invariant-loop-place : goal.invariant-loop-place
-invariant-loop-place g l = record {
-  count : length l.cut.items ≡ l.place;
-  counts : (i : ℕ) → i < l.place → IsGreatestCount l.ordered.logs l.fronts i (get_or l.cut.items i 0);
-}
+invariant-loop-place g l =
+    (logs : List Log) (fronts : List (Option (List ℕ))) → l.nodes ≡ length logs → ArePlaces fronts l.asked → HasFirstLefts fronts → AreWithin logs fronts → AreStands logs fronts l.stands
+    → (length l.cut.items ≡ l.place) × ((i : ℕ) → i < l.place → IsGreatestCount logs fronts i (get_or l.cut.items i 0))

@@ -3,19 +3,19 @@ use Rattle.ira_elim.specs.Stand.{IsStand}
 use Rattle.ira_elim.proofs.Places.{one_first}
 use Rattle.ira_elim.proofs.Standing.{one_stand_more}
 use Rattle.ira_elim.proofs.elimination.stands.Goals as goal
-use Rattle.ira_elim.proofs.elimination.stands.Goals.{in-Some, in-None}
+use Rattle.ira_elim.proofs.elimination.stands.Goals.{in-Some+in_ok-stand-in-Some, in-None}
 
-pub at-stand-requires-clause-position : goal.at-stand-requires-clause-position
-at-stand-requires-clause-position g c = (c.requires.within _ _ c.in-Some.ensures).1
+pub at-requires-clause-position : goal.at-requires-clause-position
+at-requires-clause-position g c = (c.requires.within _ _ c.in-Some.ensures).1
 
 pub loop-place-preserved : goal.loop-place-preserved
 loop-place-preserved g c =
-    let logs = c.args.ordered.now.logs in let fronts = c.args.fronts.now in let so_far = c.loop-place.invariant in
+    let logs = (g.C.HappenedBefore.logs_of c.args.ordered.now) in let fronts = c.args.fronts.now in let so_far = c.loop-place.invariant in
     let more = one_stand_more logs fronts c.loop-place.stands.items c.push.new.self.items c.match-front.stand c.loop-place.place c.in_ok-push.ensures.items so_far.count so_far.stands
     (elim c.match-front.branch [
-      | in-Some w ↦ λ q first.
+      | in-Some+in_ok-stand-in-Some w ↦ λ q first.
           let same : w.in-Some.position ≡ q = one_first fronts c.loop-place.place c.loop-place.place w.in-Some.position q refl w.in-Some.ensures first in
-          rw w.stand-is (subst (λ (n : ℕ). IsStand logs c.loop-place.place n w.at-stand.result) same w.at-stand.ensures)
+          rw w.stand-is (subst (λ (n : ℕ). IsStand logs c.loop-place.place n w.in_ok-stand-in-Some.stand) same w.in_ok-stand-in-Some.ensures)
       | in-None w ↦ λ q first. absurd (w.in-None.ensures q first)
     ]) in
     record { count = more.0; stands = more.1 }

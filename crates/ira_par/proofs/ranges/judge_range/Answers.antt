@@ -15,7 +15,7 @@ none = record { node = 0; pos = 0; other = 0; other_pos = 0 }
 pub returns-in-Err : goal.returns-in-Err
 unfolding none
 returns-in-Err g c = λ case differ fronts.
-    let logs = c.args.ordered.now.logs in let steps = c.args.steps.now in let k = c.loop-k.k in (
+    let logs = (g.C.HappenedBefore.logs_of c.args.ordered.now) in let steps = c.args.steps.now in let k = c.loop-k.k in (
       k,
       c.in-Err.why,
       refl,
@@ -36,7 +36,7 @@ returns-in-Err g c = λ case differ fronts.
 pub loop-k-preserved : goal.loop-k-preserved
 unfolding none
 loop-k-preserved g c =
-    let logs = c.args.ordered.now.logs in let steps = c.args.steps.now in let k = c.loop-k.k in let counts = c.loop-k.counts in
+    let logs = (g.C.HappenedBefore.logs_of c.args.ordered.now) in let steps = c.args.steps.now in let k = c.loop-k.k in let counts = c.loop-k.counts in
     let s : CertStep = get_or steps k none in
     let at = slice_get-get_or steps k none (omega (arith, c.loop-k-test.true, c.requires.range)) in
     let within : s.node < length c.args.tables.now = c.left_at-own.ensures.place c.in_default.ensures.asked in
@@ -58,4 +58,4 @@ loop-k-preserved g c =
 pub returns : goal.returns
 returns g c = λ case differ fronts before.
     let end : c.loop-k.k ≡ c.args.to = omega (arith, c.loop-k-test.false, c.loop-k.auto.k-end, c.requires.range) in
-    subst (λ k. AreSoundSteps c.args.ordered.now.logs case (take k c.args.steps.now)) end (c.loop-k.invariant.sound case differ fronts before)
+    subst (λ k. AreSoundSteps (g.C.HappenedBefore.logs_of c.args.ordered.now) case (take k c.args.steps.now)) end (c.loop-k.invariant.sound case differ fronts before)

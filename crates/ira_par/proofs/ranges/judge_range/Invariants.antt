@@ -10,5 +10,5 @@ abbrev pub invariant-loop-k : goal.invariant-loop-k
 invariant-loop-k g l = record {
   places : length l.counts ≡ length l.tables;
   counts : AreMade (take l.k l.steps) l.counts;
-  sound : (case : List Conjunct) → HasDifferentPlaces case → AreFronts l.ordered.logs case l.tables → AreSoundSteps l.ordered.logs case (take l.from l.steps) → AreSoundSteps l.ordered.logs case (take l.k l.steps);
+  sound : (case : List Conjunct) → HasDifferentPlaces case → AreFronts (g.C.HappenedBefore.logs_of l.ordered) case l.tables → AreSoundSteps (g.C.HappenedBefore.logs_of l.ordered) case (take l.from l.steps) → AreSoundSteps (g.C.HappenedBefore.logs_of l.ordered) case (take l.k l.steps);
 }

@@ -13,8 +13,8 @@ for_each_mut-requires-clause-accepts g c κs within = λ i p l at.
 pub returns : goal.returns
 returns g c =
     let steps = c.args.steps.now in let olds = c.args.leaves.now in let news = c.for_each_mut.new.s in
-    let Judged : Leaf → Leaf → Type 0 = λ old new. (new.from ≡ old.from) × (new.to ≡ old.to) × IsJudged c.args.ordered.now.logs c.args.tables.now steps new in
-    ranges_changed (IsPlaced steps (length c.args.tables.now)) (IsJudged c.args.ordered.now.logs c.args.tables.now steps) Judged (λ old new placed is. is)
+    let Judged : Leaf → Leaf → Type 0 = λ old new. (new.from ≡ old.from) × (new.to ≡ old.to) × IsJudged (g.C.HappenedBefore.logs_of c.args.ordered.now) c.args.tables.now steps new in
+    ranges_changed (IsPlaced steps (length c.args.tables.now)) (IsJudged (g.C.HappenedBefore.logs_of c.args.ordered.now) c.args.tables.now steps) Judged (λ old new placed is. is)
     0 (length steps) olds news c.for_each_mut.auto.s
     (λ i d l.
     let changed = (c.for_each_mut.ensures i d l).1 in

@@ -31,6 +31,6 @@ returns-clause-counts g c =
 
 pub returns-clause-fault : goal.returns-clause-fault
 returns-clause-fault g c = λ case differ fronts.
-    let logs = c.args.ordered.now.logs in let steps = c.args.steps.now in
+    let logs = (g.C.HappenedBefore.logs_of c.args.ordered.now) in let steps = c.args.steps.now in
     subst (IsRangeFault logs case steps 0 (length steps)) (sym c.first_fault.ensures)
     (leftmost logs case steps c.args.tables.now differ fronts 0 (length steps) c.judge_all.new.leaves c.judge_all.ensures)

@@ -19,15 +19,15 @@ same : (g : _) (c : After-judge_steps-fault g) → c.as_slice-steps.result.now �
 same g c = c.as_slice-steps.ensures.value ∙ ap (λ (s : Section). s.steps) c.section.view_is
 
 -- where no step is unsound, all are sound
-sound : (g : _) (c : After-left_at g) (case : List Conjunct) → HasDifferentPlaces case → AreFronts c.args.ordered.now.logs case c.args.tables.now → AreSoundSteps c.args.ordered.now.logs case c.as_slice-steps.result.now
+sound : (g : _) (c : After-left_at g) (case : List Conjunct) → HasDifferentPlaces case → AreFronts (g.C.HappenedBefore.logs_of c.args.ordered.now) case c.args.tables.now → AreSoundSteps (g.C.HappenedBefore.logs_of c.args.ordered.now) case c.as_slice-steps.result.now
 sound g c case differ fronts =
-    all_sound c.args.ordered.now.logs case c.args.section.now c.as_slice-steps.result.now (c.as_slice-steps.ensures.value ∙ ap (λ (s : Section). s.steps) c.section.view_is)
+    all_sound (g.C.HappenedBefore.logs_of c.args.ordered.now) case c.args.section.now c.as_slice-steps.result.now (c.as_slice-steps.ensures.value ∙ ap (λ (s : Section). s.steps) c.section.view_is)
     c.judge_steps-fault.result c.in_default.is (c.judge_steps-fault.ensures.fault case differ fronts)
 
 -- and it is known what they leave of the node that should be spent
-left : (g : _) (c : After-left_at g) (case : List Conjunct) → HasDifferentPlaces case → AreFronts c.args.ordered.now.logs case c.args.tables.now → IsLeft c.args.ordered.now.logs case c.as_slice-steps.result.now c.section.inside.spent c.left_at.result
+left : (g : _) (c : After-left_at g) (case : List Conjunct) → HasDifferentPlaces case → AreFronts (g.C.HappenedBefore.logs_of c.args.ordered.now) case c.args.tables.now → IsLeft (g.C.HappenedBefore.logs_of c.args.ordered.now) case c.as_slice-steps.result.now c.section.inside.spent c.left_at.result
 left g c case differ fronts =
-    c.left_at.ensures.left c.args.ordered.now.logs case c.as_slice-steps.result.now differ fronts
+    c.left_at.ensures.left (g.C.HappenedBefore.logs_of c.args.ordered.now) case c.as_slice-steps.result.now differ fronts
     (subst (AreMade c.as_slice-steps.result.now) (sym c.deref.ensures.value) c.judge_steps-fault.ensures.counts)
     (sound g c case differ fronts)
 
@@ -45,19 +45,19 @@ judge_steps-fault-requires-clause-blank g c κs within =
 
 pub returns-in-Some : goal.returns-in-Some
 returns-in-Some g c = λ case differ fronts.
-    fault_is c.args.ordered.now.logs case c.args.section.now c.as_slice-steps.result.now (same g (goal.at.returns-in-Some g c).After-judge_steps-fault)
+    fault_is (g.C.HappenedBefore.logs_of c.args.ordered.now) case c.args.section.now c.as_slice-steps.result.now (same g (goal.at.returns-in-Some g c).After-judge_steps-fault)
     c.judge_steps-fault.result c.in-Some.fault c.in-Some.is (c.judge_steps-fault.ensures.fault case differ fronts)
 
 pub returns-in_default-left_at : goal.returns-in_default-left_at
 returns-in_default-left_at g c = λ case differ fronts.
     let at = goal.at.returns-in_default-left_at g c in
     let other : c.left_at.result ≢ Spent = search rules in
-    left_is_fault c.args.ordered.now.logs case c.args.section.now c.as_slice-steps.result.now (same g at.After-judge_steps-fault)
+    left_is_fault (g.C.HappenedBefore.logs_of c.args.ordered.now) case c.args.section.now c.as_slice-steps.result.now (same g at.After-judge_steps-fault)
     c.section.inside.spent (ap (λ (s : Section). s.spent) c.section.view_is) (sound g at.After-left_at case differ fronts) c.left_at.result (left g at.After-left_at case differ fronts) differ other
 
 pub returns : goal.returns
 returns g c = λ case differ fronts.
     let at = goal.at.returns g c in
     let spent : c.left_at.result ≡ Spent = c.in-Spent.is in
-    spent_is_sound c.args.ordered.now.logs case c.args.section.now c.as_slice-steps.result.now (same g at.After-judge_steps-fault)
+    spent_is_sound (g.C.HappenedBefore.logs_of c.args.ordered.now) case c.args.section.now c.as_slice-steps.result.now (same g at.After-judge_steps-fault)
     c.section.inside.spent (ap (λ (s : Section). s.spent) c.section.view_is) (sound g at.After-left_at case differ fronts) c.left_at.result (left g at.After-left_at case differ fronts) spent

@@ -6,7 +6,7 @@ use Rattle.ira_elim.proofs.stand.Stand.advance.Goals as goal
 
 pub returns-then-not-receives-clause-new : goal.returns-then-not-receives-clause-new
 returns-then-not-receives-clause-new g c =
-    let logs = c.args.ordered.now.logs in
+    let logs = (g.C.HappenedBefore.logs_of c.args.ordered.now) in
     let viewed = sym c.self.view_is in
     let old = subst (λ (s : Stand). IsStand logs c.args.place s.position s) viewed c.requires.old in
     let onward = subst (λ (s : Stand). s.position ≤ c.args.position) viewed c.requires.onward in
@@ -17,6 +17,6 @@ returns-then-not-receives-clause-new g c =
     ] in
     record {
       position = refl;
-      counts = still_counts logs old.order.1 old.order.2 c.args.place c.self.inside.position c.self.inside.counts.now c.requires.place old.counts c.log-log.result.now c.args.position log onward c.requires.position quiet;
+      counts = still_counts logs old.order.1 old.order.2 c.args.place c.self.inside.position c.self.inside.counts.items c.requires.place old.counts c.log-log.result.now c.args.position log onward c.requires.position quiet;
       order = old.order;
     }

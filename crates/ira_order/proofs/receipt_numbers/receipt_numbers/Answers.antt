@@ -2,7 +2,7 @@ use Rattle.std.proofs.Common.{◌≡◌, ◌∷◌, ◌∙◌, [], sym, arith, r
 use Rattle.ira_event.specs.declared.event.Event.TheVariants.{Got}
 use Rattle.std.proofs.lemmas.Option.{slice_get_within}
 use Rattle.ira_order.proofs.Receipts.{got_le, receipts_le, next_ahead, none_ahead, number_more, number_over, numbers_end}
-use Rattle.ira_order.proofs.node_stamps.numbers_of.Goals as goal
+use Rattle.ira_order.proofs.receipt_numbers.receipt_numbers.Goals as goal
 
 pub loop-event-preserved-in-Continue-branch-2 : goal.loop-event-preserved-in-Continue-branch-2
 loop-event-preserved-in-Continue-branch-2 g c =

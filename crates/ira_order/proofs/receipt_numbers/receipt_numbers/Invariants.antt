@@ -1,6 +1,6 @@
 use Rattle.std.proofs.Common.{◌≡◌, ◌≤◌, drop, length}
 use Rattle.ira_order.proofs.Receipts.{HasNumbers}
-use Rattle.ira_order.proofs.node_stamps.numbers_of.Given as goal
+use Rattle.ira_order.proofs.receipt_numbers.receipt_numbers.Given as goal
 
 abbrev pub invariant-loop-event : goal.invariant-loop-event
 invariant-loop-event g l = record {
