@@ -93,6 +93,12 @@ const CASES: &[Case] = &[
         out: "upgraded 2 logs\n",
         written: &[("d/0.log", UPGRADED_0), ("d/1.log", UPGRADED_1)],
     },
+    Case {
+        words: &["mend", "--out=d", "0.log", "1.log"],
+        status: 0,
+        out: "node 0: 4 events\nnode 1: 4 events\n",
+        written: ELECTION,
+    },
 ];
 
 /// The statuses and lines of a call that gives up: memory ran out, or a thread wasn't started.
