@@ -224,5 +224,16 @@ judged $? "1: no: log 0: line 5: " "a long line on standard input"
 judged $? "1: no: log 0: line 5: " "a long line in a file"
 rm -r "$folder"
 
+# Mended logs are a yes.
+folder=$(mktemp -d)
+found=$("$ira" mend --out "$folder" $(logs_of killed_ring) < /dev/null)
+if [ "$found" = "node 0: 3 of 4 events
+node 1: 3 events" ] && [ "$("$ira" logs $(logs_of "$folder") < /dev/null)" = yes ]; then
+    passed=$((passed + 1))
+else
+    fail "mend of killed_ring: $found"
+fi
+rm -r "$folder"
+
 echo "examples: $passed as expected, $failed not"
 [ "$passed" -gt 0 ] && [ "$failed" -eq 0 ]

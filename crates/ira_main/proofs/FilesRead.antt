@@ -53,6 +53,14 @@ of_back reads before names shelf texts f read (inl stop) =
       told = stop.told;
     })
 
+-- the files of the names up to an index were read, and then the one there
+pub reads_next : {S : Type 0} (reads : Reading S) (names : List (List ℕ)) (i : ℕ) (name : List ℕ) (shelf : S)
+    (texts : List (List ℕ)) (text : List ℕ) → slice_get names i ≡ Some name → ReadsFiles reads (take i names) shelf texts
+    → reads shelf name (Ok text) → ReadsFiles reads (take (i + 1) names) shelf (texts ++ text ∷ [])
+reads_next reads names i name shelf texts text at before read =
+    let both = reads_both reads (take i names) (name ∷ []) shelf texts (text ∷ []) before (read, tt) in
+    subst (λ ns. ReadsFiles reads ns shelf (texts ++ text ∷ [])) (sym (take_next names i name at)) both
+
 -- the texts of the files of the names up to an index were taken, and then that of the one there
 pub taken_next : {S : Type 0} (reads : Reading S) (names : List (List ℕ)) (i : ℕ) (name : List ℕ) (shelf : S)
     (old new : RingAudit) (text : List ℕ) → slice_get names i ≡ Some name → HasTakenFiles reads (take i names) shelf old
@@ -60,8 +68,7 @@ pub taken_next : {S : Type 0} (reads : Reading S) (names : List (List ℕ)) (i :
     → HasTakenFiles reads (take (i + 1) names) shelf new
 taken_next reads names i name shelf old new text at before read takes =
     let texts = before.0 in
-    let both = reads_both reads (take i names) (name ∷ []) shelf texts (text ∷ []) before.2 (read, tt) in
-    (texts ++ text ∷ [], takes texts before.1, subst (λ ns. ReadsFiles reads ns shelf (texts ++ text ∷ [])) (sym (take_next names i name at)) both)
+    (texts ++ text ∷ [], takes texts before.1, reads_next reads names i name shelf texts text at before.2 read)
 
 -- the files of the names up to an index were read, and the one there is at fault
 pub of_next : {S : Type 0} (reads : Reading S) (names : List (List ℕ)) (i : ℕ) (name : List ℕ) (shelf : S)

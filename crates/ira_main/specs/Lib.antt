@@ -6,7 +6,10 @@ pub mod Decide
 pub mod FilesRead
 pub mod InputAudit
 pub mod LogFiles
+pub mod Mend
+pub mod MendedLines
 pub mod Outcome
+pub mod Overwriting
 pub mod Progress
 pub mod ReadText
 pub mod Serve

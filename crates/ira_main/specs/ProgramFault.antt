@@ -8,7 +8,7 @@ use Rattle.ira_run.specs.declared.run_fault.RunFault.TheVariants as run
 use Rattle.ira_words.specs.declared.words_fault.WordsFault.{WordsFault}
 use Rattle.ira_words.specs.declared.words_fault.WordsFault.TheVariants as words
 use Rattle.ira_main.specs.declared.program_fault.ProgramFault.{ProgramFault}
-use Rattle.ira_main.specs.declared.program_fault.ProgramFault.TheVariants.{CannotRead, CannotWrite, CannotWriteAnswer, CannotWriteLog, CertificatePastLimits, OutOfMemory, RingSize, RunRefused, WordIsNoText, Words}
+use Rattle.ira_main.specs.declared.program_fault.ProgramFault.TheVariants.{CannotRead, CannotWrite, CannotWriteAnswer, CannotWriteLog, CertificatePastLimits, OutOfMemory, RingSize, RunRefused, WordIsNoText, Words, WouldOverwrite}
 use Rattle.ira_main.specs.declared.shelf_fault.ShelfFault.{ShelfFault}
 use Rattle.ira_main.specs.declared.shelf_fault.ShelfFault.TheVariants as shelf
 
@@ -45,6 +45,7 @@ program_fault_text (CannotRead name) = codes "ira: cannot read " ++ name.now ++ 
 program_fault_text RingSize = codes "ira: ring size\n"
 program_fault_text (RunRefused fault) = codes "ira: run refused " ++ decimal (run_fault_number fault) ++ codes "\n"
 program_fault_text (CannotWriteLog folder place) = codes "ira: cannot write " ++ folder.now ++ (codes "/" ++ decimal place ++ codes ".log\n")
+program_fault_text (WouldOverwrite name) = codes "ira: would overwrite " ++ name.now ++ codes "\n"
 program_fault_text (CannotWrite name) = codes "ira: cannot write " ++ name.now ++ codes "\n"
 program_fault_text CertificatePastLimits = codes "ira: certificate past the limits\n"
 program_fault_text CannotWriteAnswer = codes "ira: cannot write the answer\n"

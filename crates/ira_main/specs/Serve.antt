@@ -14,17 +14,18 @@ use Rattle.ira_audit.specs.declared.answer.Answer.{Answer}
 use Rattle.ira_ring.specs.EndsWriter.{ends_text}
 use Rattle.ira_ring.specs.Run.{Run}
 use Rattle.ira_run.specs.declared.run_fault.RunFault.{RunFault}
-use Rattle.ira_words.specs.Request.{AskForCheck, AskForDecide, AskForLogs, AskForPairs, AskForRun, AskForUpgrade, MayBeRefused}
+use Rattle.ira_words.specs.Request.{AskForCheck, AskForDecide, AskForLogs, AskForMend, AskForPairs, AskForRun, AskForUpgrade, MayBeRefused}
 use Rattle.ira_words.specs.declared.check_request.CheckRequest.{CheckRequest}
 use Rattle.ira_words.specs.declared.decide_request.DecideRequest.{DecideRequest}
+use Rattle.ira_words.specs.declared.rewrite_request.RewriteRequest.{RewriteRequest}
 use Rattle.ira_words.specs.declared.run_request.RunRequest.{RunRequest}
-use Rattle.ira_words.specs.declared.upgrade_request.UpgradeRequest.{UpgradeRequest}
 use Rattle.ira_words.specs.declared.words_fault.WordsFault.{WordsFault}
 use Rattle.ira_main.specs.AskedRun.{IsAskedRun, IsAskedRunFault}
 use Rattle.ira_main.specs.Counted.{Reads}
 use Rattle.ira_main.specs.Decide.{Decides, decide_names}
 use Rattle.ira_main.specs.FilesRead.{IsFilesFault, ReadsFiles}
 use Rattle.ira_main.specs.LogFiles.{StopsInLogs, WritesLogs}
+use Rattle.ira_main.specs.Mend.{Mends}
 use Rattle.ira_main.specs.Outcome.{GivesNoAnswer, Outcome, Prints, Reports}
 use Rattle.ira_main.specs.ProgramFault.{run_fault, words_fault}
 use Rattle.ira_main.specs.ReadText.{IsReadTo}
@@ -110,9 +111,9 @@ pub data Records {S : Type 0} (writes : Writing S) (request : RunRequest) (shelf
 -- what is done for words: they are refused; or they ask for the logs in some files, and the texts of these are judged
 -- together; or to check the logs in some files, and their texts are judged with those of a question and of a
 -- certificate; or to decide a question of them, and it is decided of their texts; or for the question of all pairs, and
--- it is printed; or for a ring, and it is run; or to upgrade the logs in some files, and it is done. Or no answer is
--- given, for a fault that the command can have. The shelf is as it was but for the files of a run and of upgraded logs, and
--- a certificate's
+-- it is printed; or for a ring, and it is run; or to upgrade the logs in some files, or to mend them, and it is done. Or no
+-- answer is given, for a fault that the command can have. The shelf is as it was but for the files of a run and of upgraded
+-- or mended logs, and a certificate's
 pub data Done (A : Type 0) {S : Type 0} (reads : Reading S) (writes : Writing S)
     (words : List (List ℕ)) (shelf shelf' : S) (out out' : SinkState)
     (outcome : Outcome) : Type 0 where
@@ -139,8 +140,11 @@ pub data Done (A : Type 0) {S : Type 0} (reads : Reading S) (writes : Writing S)
   recorded : (request : RunRequest) → AskForRun words request
       → Records writes request shelf shelf' out out' outcome
       → Done A reads writes words shelf shelf' out out' outcome
-  upgraded : (upgrade : UpgradeRequest) → AskForUpgrade words upgrade
+  upgraded : (upgrade : RewriteRequest) → AskForUpgrade words upgrade
       → Upgrades reads writes upgrade shelf shelf' out out' outcome
+      → Done A reads writes words shelf shelf' out out' outcome
+  mended : (mend : RewriteRequest) → AskForMend words mend
+      → Mends reads writes mend shelf shelf' out out' outcome
       → Done A reads writes words shelf shelf' out out' outcome
 
 -- without words the input is judged, and the shelf is as it was; with words the input isn't read, and what they ask

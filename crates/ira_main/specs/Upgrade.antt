@@ -10,7 +10,7 @@ use Rattle.ira_audit.specs.LogsAnswer.{IsLogsAnswer}
 use Rattle.ira_audit.specs.Refusal.{IsTextOrHeadsReason}
 use Rattle.ira_audit.specs.declared.answer.Answer.TheVariants.{No}
 use Rattle.ira_audit.specs.declared.reason.Reason.{Reason}
-use Rattle.ira_words.specs.declared.upgrade_request.UpgradeRequest.{UpgradeRequest}
+use Rattle.ira_words.specs.declared.rewrite_request.RewriteRequest.{RewriteRequest}
 use Rattle.ira_main.specs.FilesRead.{IsFilesFault, ReadsFiles}
 use Rattle.ira_main.specs.LogFiles.{StopsInLogs, WritesLogs}
 use Rattle.ira_main.specs.Outcome.{GivesNoAnswer, Outcome, Prints, Reports}
@@ -34,20 +34,20 @@ pub data KeepsUpgrades {S : Type 0} (writes : Writing S) (folder : Bor (List ℕ
   no_memory : shelf' ≡ shelf → out' ≡ out → outcome ≡ Err OutOfMemory
       → KeepsUpgrades writes folder logs shelf shelf' out out' outcome
 
--- the names of the files to upgrade
-abbrev pub upgrade_names : UpgradeRequest → List (List ℕ)
-upgrade_names upgrade = map (λ name. name.now) upgrade.logs.items
+-- the names of the files to write anew
+abbrev pub rewrite_names : RewriteRequest → List (List ℕ)
+rewrite_names rewrite = map (λ name. name.now) rewrite.logs.items
 
 -- the files that are named were read, their texts are those of the logs of one ring, and what comes of these is the
 -- outcome; or they aren't, and the reason was reported, which is the one that is given where the logs are judged; or no
 -- texts were had
-pub data Upgrades {S : Type 0} (reads : Reading S) (writes : Writing S) (upgrade : UpgradeRequest) (shelf shelf' : S)
+pub data Upgrades {S : Type 0} (reads : Reading S) (writes : Writing S) (upgrade : RewriteRequest) (shelf shelf' : S)
     (out out' : SinkState) (outcome : Outcome) : Type 0 where
-  of_ring : (texts : List (List ℕ)) (logs : List Log) → ReadsFiles reads (upgrade_names upgrade) shelf texts
+  of_ring : (texts : List (List ℕ)) (logs : List Log) → ReadsFiles reads (rewrite_names upgrade) shelf texts
       → AreLogTexts texts logs → AreLogs logs → KeepsUpgrades writes upgrade.folder logs shelf shelf' out out' outcome
       → Upgrades reads writes upgrade shelf shelf' out out' outcome
-  no_ring : (texts : List (List ℕ)) (r : Reason) → ReadsFiles reads (upgrade_names upgrade) shelf texts
+  no_ring : (texts : List (List ℕ)) (r : Reason) → ReadsFiles reads (rewrite_names upgrade) shelf texts
       → IsLogsAnswer texts (No r) → IsTextOrHeadsReason r → shelf' ≡ shelf → Reports (No r) out out' outcome
       → Upgrades reads writes upgrade shelf shelf' out out' outcome
-  unread : shelf' ≡ shelf → GivesNoAnswer (IsFilesFault reads (upgrade_names upgrade) shelf) out out' outcome
+  unread : shelf' ≡ shelf → GivesNoAnswer (IsFilesFault reads (rewrite_names upgrade) shelf) out out' outcome
       → Upgrades reads writes upgrade shelf shelf' out out' outcome

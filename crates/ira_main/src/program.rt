@@ -8,6 +8,7 @@ ghost use Rattle.ira_main.specs.Shelf.{WritesFile};
 use crate::counted::Counted;
 use crate::decide_files::decide_files;
 use crate::input_audit::audit_input;
+use crate::mend_files::mend_files;
 use crate::print_pairs::print_pairs;
 use crate::program_fault::{ProgramFault, report_outcome};
 use crate::progress::Progress;
@@ -165,7 +166,7 @@ where
 
 /// The program: `words` are those behind its name, `input` is its standard input, the files lie on
 /// `shelf`, and `out` and `err` are its standard streams. It gives the status: 0 yes, every case absent,
-/// a node elected, or logs upgraded; 1 no, a case present, or none elected; 2 refused words, a refused ring, a failed read or
+/// a node elected, or logs upgraded or mended; 1 no, a case present, or none elected; 2 refused words, a refused ring, a failed read or
 /// write, or a certificate past the limits; 3 out of memory. A failed write to `err` changes no status.
 ///
 /// Without words it judges the log on `input`, of which it reads at most one byte more than
@@ -173,8 +174,8 @@ where
 /// files together; `check` judges them with the question and the certificate in the files of its options; `decide`
 /// decides the question of them, and writes a certificate to a file if one is named and all cases are absent;
 /// `pairs` and a number prints the question of all pairs of nodes; `run` and its options runs a ring and writes the
-/// logs of its nodes to files; `upgrade` writes the logs in those files in version 2, each to a file of its folder; and all
-/// other words are refused. `logs`, `check`, `decide` and `upgrade` read the logs on threads, `check` judges a section on some, and a run without `--alone` has a thread for each node; all of them are waited for.
+/// logs of its nodes to files; `upgrade` writes the logs in those files in version 2, each to a file of its folder; `mend` writes of
+/// each of them the longest beginning such that all are consistent; and all other words are refused. `logs`, `check`, `decide` and `upgrade` read the logs on threads, `check` judges a section on some, and a run without `--alone` has a thread for each node; all of them are waited for.
 pub fn serve<R, A, I, F, W, V>(
     rt: &R,
     alloc: A,

@@ -27,6 +27,8 @@ pub enum ProgramFault<'a> {
     RunRefused(RunFault),
     /// The log of the node at this place can't be written to its file in this folder.
     CannotWriteLog(&'a str, u8),
+    /// A log would be written over the file of this name, which is one of the input.
+    WouldOverwrite(&'a str),
     /// The certificate can't be written to the file of this name.
     CannotWrite(&'a str),
     /// The text of the certificate couldn't be read back.
@@ -98,6 +100,9 @@ impl<'a> ProgramFault<'a> {
                 &log_in_folder(*place),
                 err,
             ),
+            ProgramFault::WouldOverwrite(name) => {
+                write_named(b"ira: would overwrite ", name.as_bytes(), &line_end(), err)
+            }
             ProgramFault::CannotWrite(name) => {
                 write_named(b"ira: cannot write ", name.as_bytes(), &line_end(), err)
             }

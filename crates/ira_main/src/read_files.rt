@@ -11,7 +11,7 @@ use std::num::NonZeroUsize;
 use std::thread::{self, Threads};
 
 /// Reads the text of the file of this name.
-fn read_into<'a, A: Allocator, F: TextSource>(
+pub(crate) fn read_into<'a, A: Allocator, F: TextSource>(
     name: &'a str,
     text: &mut TextBuffer<A>,
     shelf: &F,

@@ -10,7 +10,7 @@ use crate::shelf::Shelf;
 use crate::status::Status;
 use ira_audit::{Answer, Refusal};
 use ira_event::{Line, Logs, RingSize, Sink, WriteFault};
-use ira_words::UpgradeRequest;
+use ira_words::RewriteRequest;
 use std::alloc::Allocator;
 use std::thread::Threads;
 
@@ -49,7 +49,7 @@ fn keep_upgrades<'a, A: Allocator + Clone, F: Shelf, W: Sink>(
 pub(crate) fn upgrade_files<'a, R, A, F, W>(
     rt: &R,
     alloc: A,
-    upgrade: &UpgradeRequest<'a>,
+    upgrade: &RewriteRequest<'a>,
     shelf: &mut F,
     out: &mut W,
 ) -> Result<Status, ProgramFault<'a>>

@@ -316,3 +316,19 @@ pub(crate) fn assert_served(
     assert_served_on(rt, words, &mut shelf, input, status, out, err);
     shelf.assert_written(rt, &[]);
 }
+
+/// The same on a shelf with these files, where these are written and the input isn't read.
+pub(crate) fn assert_written(
+    rt: &(impl Abort + AllocGlobal + Threads + Wait + Clock + Sync),
+    words: &[&str],
+    files: &[(&str, File<'_>)],
+    status: u8,
+    out: &str,
+    err: &str,
+    written: &[(&str, &str)],
+) {
+    let mut input = Counted::new(Input::empty());
+    let mut shelf = MemoryShelf::new(rt.alloc(), files);
+    assert_served_on(rt, words, &mut shelf, &mut input, status, out, err);
+    assert!(rt; input.reads() == 0 && shelf.has_written(written));
+}

@@ -16,6 +16,8 @@ mod kept;
 #[cfg(test)]
 mod logs;
 #[cfg(test)]
+mod mends;
+#[cfg(test)]
 mod one_log;
 #[cfg(test)]
 mod recorded;

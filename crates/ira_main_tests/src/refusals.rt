@@ -151,6 +151,12 @@ const CASES: &[Case] = &[
         err: "",
         written: &[("d/0.log", UPGRADED_0), ("d/1.log", UPGRADED_1)],
     },
+    Case {
+        words: &["mend", "--out=d", "0.log", "1.log"],
+        status: 0,
+        out: "node 0: 4 events\nnode 1: 4 events\n",
+        written: ELECTION,
+    },
 ];
 
 impl Case {

@@ -1,6 +1,6 @@
 //! The command `upgrade`: logs are written in version 2.
 
-use crate::fakes::{File, Input, MemoryShelf, assert_served_on};
+use crate::fakes::{File, Input, assert_written};
 use crate::full_device::assert_unanswered;
 use crate::samples::{ELECTED_0, ELECTED_1, SECOND_TERM_0, SECOND_TERM_1, UPGRADED_0, UPGRADED_1};
 use ira_main::Counted;
@@ -13,22 +13,6 @@ const TEXTS: [(&str, File<'static>); 2] = [
     ("0.log", File::Text(ELECTED_0)),
     ("1.log", File::Text(ELECTED_1)),
 ];
-
-/// Serves an upgrade of these words on a shelf with these files, and compares what it wrote.
-fn assert_upgrade(
-    rt: &(impl Abort + AllocGlobal + Threads + Wait + Clock + Sync),
-    words: &[&str],
-    files: &[(&str, File<'_>)],
-    status: u8,
-    out: &str,
-    err: &str,
-    written: &[(&str, &str)],
-) {
-    let mut input = Counted::new(Input::empty());
-    let mut shelf = MemoryShelf::new(rt.alloc(), files);
-    assert_served_on(rt, words, &mut shelf, &mut input, status, out, err);
-    assert!(rt; input.reads() == 0 && shelf.has_written(written));
-}
 
 /// Upgrades two logs of these texts to these.
 fn assert_upgraded(
@@ -43,7 +27,7 @@ fn assert_upgraded(
     ];
     let words = ["upgrade", "--out", "d", "d/0.log", "d/1.log"];
     let written = [("d/0.log", first_new), ("d/1.log", second_new)];
-    assert_upgrade(rt, &words, &files, 0, "upgraded 2 logs\n", "", &written);
+    assert_written(rt, &words, &files, 0, "upgraded 2 logs\n", "", &written);
 }
 
 /// Upgrades no log of these texts, for this reason.
@@ -54,7 +38,7 @@ fn assert_no(
 ) {
     let files = [("0.log", File::Text(first)), ("1.log", File::Text(second))];
     let words = ["upgrade", "0.log", "1.log", "--out=d"];
-    assert_upgrade(rt, &words, &files, 1, line, "", &[]);
+    assert_written(rt, &words, &files, 1, line, "", &[]);
 }
 
 #[test]
@@ -90,7 +74,7 @@ fn files_that_cannot_be_read(rt: HostRuntime) {
     ];
     let words = ["upgrade", "--out=d", "0.log", "1.log"];
     let line = "ira: cannot read 1.log\n";
-    assert_upgrade(&rt, &words, &files, 2, "", line, &[]);
+    assert_written(&rt, &words, &files, 2, "", line, &[]);
 }
 
 #[test]
@@ -120,10 +104,10 @@ fn files_that_cannot_be_written(rt: HostRuntime) {
         ),
     ] {
         let files = [first, second, ("d/0.log", file)];
-        assert_upgrade(&rt, &words, &files, status, "", line_0, &[]);
+        assert_written(&rt, &words, &files, status, "", line_0, &[]);
         let files = [first, second, ("d/1.log", file)];
         let written = [("d/0.log", UPGRADED_0)];
-        assert_upgrade(&rt, &words, &files, status, "", line_1, &written);
+        assert_written(&rt, &words, &files, status, "", line_1, &written);
     }
 }
 

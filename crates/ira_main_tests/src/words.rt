@@ -12,7 +12,8 @@ const USAGE: &str = "\n\nUsage: ira < LOG\n       ira logs <LOG>...\n       \
                      ira decide --question <Q> [--out <C>] <LOG>...\n       \
                      ira pairs <N>\n       \
                      ira run --nodes <N> --seed <S> --out <DIR> [OPTIONS]\n       \
-                     ira upgrade --out <DIR> <LOG>...\n\n\
+                     ira upgrade --out <DIR> <LOG>...\n       \
+                     ira mend --out <DIR> <LOG>...\n\n\
                      For more information, try '--help'.\n";
 
 /// What ends most refusals.
@@ -39,7 +40,7 @@ fn words_that_are_no_command(rt: HostRuntime) {
         (
             "--",
             "error: 'ira' requires a subcommand but one was not provided\n  \
-             [subcommands: logs, check, decide, pairs, run, upgrade, help]",
+             [subcommands: logs, check, decide, pairs, run, upgrade, mend, help]",
         ),
     ] {
         assert_refused(&rt, &[word], first_line, USAGE);
@@ -61,7 +62,8 @@ fn help_is_a_refused_word(rt: HostRuntime) {
                 ira decide --question <Q> [--out <C>] <LOG>...\n       \
                 ira pairs <N>\n       \
                 ira run --nodes <N> --seed <S> --out <DIR> [OPTIONS]\n       \
-                ira upgrade --out <DIR> <LOG>...\n\n\
+                ira upgrade --out <DIR> <LOG>...\n       \
+                ira mend --out <DIR> <LOG>...\n\n\
                 Commands:\n\
                 \x20 logs     Judges the logs of all nodes of a ring together\n\
                 \x20 check    Judges logs together with a certificate that no moment met a case of a question\n\
@@ -69,12 +71,13 @@ fn help_is_a_refused_word(rt: HostRuntime) {
                 \x20 pairs    Prints the question whether two nodes of a ring ever lead at once\n\
                 \x20 run      Runs an election, and writes the log of each node to a file\n\
                 \x20 upgrade  Writes the logs of all nodes of a ring in version 2, each to a file\n\
+                \x20 mend     Writes of each log of a ring the longest beginning such that all are consistent\n\
                 \x20 help     Print this message or the help of the given subcommand(s)\n\n\
                 Options:\n  -h, --help  Print help\n\n\
                 Without words ira judges the log of one node, on standard input. It prints \
                 `yes`, or `no` and\nthe first reason. The status is 0 for yes, absent cases, an \
-                elected leader or upgraded logs,\n1 for no, a case that is present or no leader, 2 for refused \
-                words, a refused ring, a failed\nread or a failed write, 3 out of memory.\n";
+                elected leader, upgraded or mended\nlogs, 1 for no, a case that is present or no leader, 2 for \
+                refused words, a refused ring, a\nfailed read or a failed write, 3 out of memory.\n";
     for words in [
         &["--help"].as_slice(),
         &["-h"].as_slice(),
@@ -198,4 +201,12 @@ fn help_of_an_upgrade(rt: HostRuntime) {
                 \x20     --out <DIR>  The folder, which exists, for the logs 0.log, 1.log and so on\n\
                 \x20 -h, --help       Print help\n";
     assert_refused(&rt, &["upgrade", "--help"], help, "");
+}
+
+#[test]
+fn mend_without_its_words(rt: HostRuntime) {
+    let text =
+        "error: the following required arguments were not provided:\n  --out <DIR>\n  <LOG>...\n\n\
+                Usage: ira mend --out <DIR> <LOG>...";
+    assert_refused(&rt, &["mend"], text, TRY_HELP);
 }

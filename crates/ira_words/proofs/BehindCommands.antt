@@ -11,9 +11,9 @@ use Rattle.clap.specs.Values.{kind_of}
 use Rattle.clap.specs.declared.error.Error.{Error}
 use Rattle.clap.specs.declared.error.kind.ErrorKind.TheVariants as kind
 use Rattle.clap.specs.declared.parser.matches.ArgMatches.{ArgMatches}
-use Rattle.ira_words.specs.CommandLine.{check_app, decide_app, ira_app, pairs_app, run_app, upgrade_app}
+use Rattle.ira_words.specs.CommandLine.{check_app, decide_app, ira_app, mend_app, pairs_app, run_app, upgrade_app}
 use Rattle.ira_words.specs.TakenValues.{AreFound, AreTaken}
-use Rattle.ira_words.proofs.FirstWord.{first_none, met_by_first, names, rows_of_check, rows_of_decide, rows_of_logs, rows_of_pairs, rows_of_run, rows_of_upgrade, second_none, stays, top}
+use Rattle.ira_words.proofs.FirstWord.{first_none, met_by_first, names, rows_of_check, rows_of_decide, rows_of_logs, rows_of_mend, rows_of_pairs, rows_of_run, rows_of_upgrade, second_none, stays, top}
 use Rattle.ira_words.proofs.FoundValues.{rows_found}
 use Rattle.ira_words.proofs.TakenValues.{AllFit, check_passes, given_some, required_given, rows_taken}
 
@@ -37,6 +37,9 @@ run_fit =
 
 upgrade_fit : AllFit (command (codes "upgrade")).rules (command (codes "upgrade")).rules
 upgrade_fit = ((refl, refl), ((refl, refl), ((refl, refl), tt)))
+
+mend_fit : AllFit (command (codes "mend")).rules (command (codes "mend")).rules
+mend_fit = ((refl, refl), ((refl, refl), ((refl, refl), tt)))
 
 pairs_fit : AllFit (command (codes "pairs")).rules (command (codes "pairs")).rules
 pairs_fit = ((refl, refl), ((refl, refl), tt))
@@ -85,6 +88,13 @@ unfolding walked
 upgrade_fine others none =
     let stop = stays top.rules names (walk_from nothing_held) (codes "upgrade") [] others in
     let behind = second_none (walk_fault top names (walk_from nothing_held) (codes "upgrade" ∷ others)) _ none in
+    subst (λ o. entered_fault (built ira_app) o ≡ []) stop (first_none _ _ behind)
+
+mend_fine : (others : List Text) → fault_of ira_app (codes "mend" ∷ others) ≡ [] → HasNoFault (codes "mend") others
+unfolding walked
+mend_fine others none =
+    let stop = stays top.rules names (walk_from nothing_held) (codes "mend") [] others in
+    let behind = second_none (walk_fault top names (walk_from nothing_held) (codes "mend" ∷ others)) _ none in
     subst (λ o. entered_fault (built ira_app) o ≡ []) stop (first_none _ _ behind)
 
 -- there are names of logs, where the command has them as its required argument
@@ -230,3 +240,27 @@ module _ (a : App) (m : ArgMatches) (words : List Text) (found : List Row) (is :
       let fine = upgrade_fine first.0 (faultless a words (codes "upgrade") first.0 is none first.1) in
       subst (AreFound (built_leaf upgrade_app.top).rules) (sym rows)
       (rows_found (command (codes "upgrade")) refl upgrade_fit refl refl refl first.0 fine)
+
+  pub mend_named : Some (codes "mend") ≡ subcommand_name_of m → unwrap_or (all_of (codes "LOG") found) [] ≢ []
+  mend_named name =
+      let first = met_by_first a m words (codes "mend") is has none name in
+      let rows = rows_of_mend a m first.0 found is (subst (λ ws. HasMatchesOf a ws m) first.1 has) read in
+      let fine = mend_fine first.0 (faultless a words (codes "mend") first.0 is none first.1) in
+      subst (λ rs. unwrap_or (all_of (codes "LOG") rs) [] ≢ []) (sym rows)
+      (some_names (command (codes "mend")) _ first.0 refl mend_fit refl refl refl refl refl refl fine)
+
+  pub mend_taken : Some (codes "mend") ≡ subcommand_name_of m → AreTaken (built_leaf mend_app.top).rules found
+  mend_taken name =
+      let first = met_by_first a m words (codes "mend") is has none name in
+      let rows = rows_of_mend a m first.0 found is (subst (λ ws. HasMatchesOf a ws m) first.1 has) read in
+      let fine = mend_fine first.0 (faultless a words (codes "mend") first.0 is none first.1) in
+      subst (AreTaken (built_leaf mend_app.top).rules) (sym rows)
+      (rows_taken (command (codes "mend")) refl mend_fit first.0 fine)
+
+  pub mend_found : Some (codes "mend") ≡ subcommand_name_of m → AreFound (built_leaf mend_app.top).rules found
+  mend_found name =
+      let first = met_by_first a m words (codes "mend") is has none name in
+      let rows = rows_of_mend a m first.0 found is (subst (λ ws. HasMatchesOf a ws m) first.1 has) read in
+      let fine = mend_fine first.0 (faultless a words (codes "mend") first.0 is none first.1) in
+      subst (AreFound (built_leaf mend_app.top).rules) (sym rows)
+      (rows_found (command (codes "mend")) refl mend_fit refl refl refl first.0 fine)

@@ -90,9 +90,17 @@ run_rules =
 abbrev pub run_app : App
 run_app = on_top (λ s. record s { rules = run_rules }) (new_app (codes "run"))
 
--- the command `upgrade`, with its option and files
+-- a command that writes logs anew, with its option and files
+abbrev pub rewrite_app : Text → App
+rewrite_app name = with_rule (with_rule (new_app name) folder_rule) logs_rule
+
+-- the command `upgrade`
 abbrev pub upgrade_app : App
-upgrade_app = with_rule (with_rule (new_app (codes "upgrade")) folder_rule) logs_rule
+upgrade_app = rewrite_app (codes "upgrade")
+
+-- the command `mend`
+abbrev pub mend_app : App
+mend_app = rewrite_app (codes "mend")
 
 -- the program's command line without its commands
 abbrev pub ira_top : App
@@ -101,5 +109,5 @@ ira_top = on_top (λ s. record s { no_binary_name = true; subcommand_required = 
 -- the program's command line
 abbrev pub ira_app : App
 ira_app =
-    with_subcommand (with_subcommand (with_subcommand (with_subcommand (with_subcommand (with_subcommand ira_top logs_app.top)
-    check_app.top) decide_app.top) pairs_app.top) run_app.top) upgrade_app.top
+    with_subcommand (with_subcommand (with_subcommand (with_subcommand (with_subcommand (with_subcommand (with_subcommand ira_top logs_app.top)
+    check_app.top) decide_app.top) pairs_app.top) run_app.top) upgrade_app.top) mend_app.top

@@ -2,6 +2,6 @@ pub mod CheckRequest
 pub mod CommandLine
 pub mod DecideRequest
 pub mod Request
+pub mod RewriteRequest
 pub mod RunRequest
 pub mod TakenValues
-pub mod UpgradeRequest

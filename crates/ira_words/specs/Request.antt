@@ -5,16 +5,16 @@ use Rattle.clap.specs.Simple.{HasMatchesOf, built_leaf}
 use Rattle.clap.specs.Walk.{all_of, rows_after}
 use Rattle.clap.specs.declared.parser.matches.ArgMatches.{ArgMatches}
 use Rattle.ira_words.specs.CheckRequest.{HasFiles}
-use Rattle.ira_words.specs.CommandLine.{check_app, decide_app, ira_app, logs_app, pairs_app, run_app, upgrade_app}
+use Rattle.ira_words.specs.CommandLine.{check_app, decide_app, ira_app, logs_app, mend_app, pairs_app, run_app, upgrade_app}
 use Rattle.ira_words.specs.DecideRequest.{HasFilesToDecide}
+use Rattle.ira_words.specs.RewriteRequest.{HasFilesToRewrite}
 use Rattle.ira_words.specs.RunRequest.{HasNumber, HasOptions}
-use Rattle.ira_words.specs.UpgradeRequest.{HasFilesToUpgrade}
 use Rattle.ira_words.specs.declared.check_request.CheckRequest.{CheckRequest}
 use Rattle.ira_words.specs.declared.decide_request.DecideRequest.{DecideRequest}
+use Rattle.ira_words.specs.declared.rewrite_request.RewriteRequest.{RewriteRequest}
 use Rattle.ira_words.specs.declared.run_request.RunRequest.{RunRequest}
 use Rattle.ira_words.specs.declared.request.Request.{Request}
-use Rattle.ira_words.specs.declared.request.Request.TheVariants.{OneLog, Logs, Check, Decide, Pairs, Run, Upgrade}
-use Rattle.ira_words.specs.declared.upgrade_request.UpgradeRequest.{UpgradeRequest}
+use Rattle.ira_words.specs.declared.request.Request.TheVariants.{OneLog, Logs, Check, Decide, Pairs, Run, Upgrade, Mend}
 use Rattle.ira_words.specs.declared.words_fault.WordsFault.{WordsFault}
 use Rattle.ira_words.specs.declared.words_fault.WordsFault.TheVariants.{OutOfMemory, Refused}
 
@@ -68,11 +68,18 @@ pub record AskForRun (words : List (List ℕ)) (ring : RunRequest) : Type 0 wher
   pub options : HasOptions (rows_after (built_leaf run_app.top).rules [] others) ring
 
 -- the command line accepts the words: `upgrade`, an option and names, which ask for these files
-pub record AskForUpgrade (words : List (List ℕ)) (upgrade : UpgradeRequest) : Type 0 where
+pub record AskForUpgrade (words : List (List ℕ)) (upgrade : RewriteRequest) : Type 0 where
   pub accepted : AreAcceptedWords words
   pub others : List (List ℕ)
   pub first : words ≡ codes "upgrade" ∷ others
-  pub files : HasFilesToUpgrade (rows_after (built_leaf upgrade_app.top).rules [] others) upgrade
+  pub files : HasFilesToRewrite (rows_after (built_leaf upgrade_app.top).rules [] others) upgrade
+
+-- the command line accepts the words: `mend`, an option and names, which ask for these files
+pub record AskForMend (words : List (List ℕ)) (mend : RewriteRequest) : Type 0 where
+  pub accepted : AreAcceptedWords words
+  pub others : List (List ℕ)
+  pub first : words ≡ codes "mend" ∷ others
+  pub files : HasFilesToRewrite (rows_after (built_leaf mend_app.top).rules [] others) mend
 
 -- these words make the request
 abbrev pub IsMadeOf : List (List ℕ) → Request → Type 0
@@ -83,6 +90,7 @@ IsMadeOf words (Decide decide) = AskForDecide words decide
 IsMadeOf words (Pairs nodes) = AskForPairs words nodes
 IsMadeOf words (Run ring) = AskForRun words ring
 IsMadeOf words (Upgrade upgrade) = AskForUpgrade words upgrade
+IsMadeOf words (Mend mend) = AskForMend words mend
 
 -- such words may be refused so: for want of memory any, and else only those that the command line doesn't accept
 abbrev pub MayBeRefused : List (List ℕ) → WordsFault → Type 0

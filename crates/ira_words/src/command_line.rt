@@ -2,21 +2,21 @@ ghost use Rattle.std.specs.Prelude.{◌≡◌, ◌≢◌, ℕ, List, [], Ok, IfE
 ghost use Rattle.clap.specs.Simple.{built_leaf};
 ghost use Rattle.clap.specs.Words.{AddsSubcommand, all_of, app_of, found_of, kind_of, rows_of, rule_of};
 ghost use Rattle.clap.specs.declared.error.kind.ErrorKind.TheVariants as kind;
-ghost use Rattle.ira_words.specs.CommandLine.{alone_rule, check_app, decide_app, depth_rule, draws_rule, folder_rule, ira_app, ira_top, logs_app, logs_rule, number_rule, option_rule, pairs_app, run_app, run_required_app, upgrade_app};
+ghost use Rattle.ira_words.specs.CommandLine.{alone_rule, check_app, decide_app, depth_rule, draws_rule, folder_rule, ira_app, ira_top, logs_app, logs_rule, number_rule, option_rule, pairs_app, rewrite_app, run_app, run_required_app, upgrade_app};
 ghost use Rattle.ira_words.specs.CheckRequest.{HasFiles};
 ghost use Rattle.ira_words.specs.DecideRequest.{HasFilesToDecide};
 ghost use Rattle.ira_words.specs.Request.{AreMatchesOf, AreAcceptedWords, IsMadeOf, MayBeRefused};
+ghost use Rattle.ira_words.specs.RewriteRequest.{HasFilesToRewrite};
 ghost use Rattle.ira_words.specs.RunRequest.{HasNumber, HasOptions};
 ghost use Rattle.ira_words.specs.TakenValues.{AreFound, AreTaken};
-ghost use Rattle.ira_words.specs.UpgradeRequest.{HasFilesToUpgrade};
 ghost use Rattle.ira_words.specs.declared.request.Request.TheVariants as request;
 ghost use Rattle.ira_words.specs.declared.words_fault.WordsFault.TheVariants as fault;
 
 use crate::check_request::CheckRequest;
 use crate::decide_request::DecideRequest;
 use crate::request::Request;
+use crate::rewrite_request::RewriteRequest;
 use crate::run_request::RunRequest;
-use crate::upgrade_request::UpgradeRequest;
 use crate::words_fault::WordsFault;
 use clap::builder::ValueParser;
 use clap::error::ErrorKind;
@@ -28,13 +28,19 @@ const USAGE: &str = "ira < LOG\n       ira logs <LOG>...\n       \
     ira decide --question <Q> [--out <C>] <LOG>...\n       \
     ira pairs <N>\n       \
     ira run --nodes <N> --seed <S> --out <DIR> [OPTIONS]\n       \
-    ira upgrade --out <DIR> <LOG>...";
+    ira upgrade --out <DIR> <LOG>...\n       \
+    ira mend --out <DIR> <LOG>...";
 
 const NOTE: &str =
     "Without words ira judges the log of one node, on standard input. It prints `yes`, or \
-    `no` and\nthe first reason. The status is 0 for yes, absent cases, an elected leader or \
-    upgraded logs,\n1 for no, a case that is present or no leader, 2 for refused words, a \
-    refused ring, a failed\nread or a failed write, 3 out of memory.";
+    `no` and\nthe first reason. The status is 0 for yes, absent cases, an elected leader, upgraded \
+    or mended\nlogs, 1 for no, a case that is present or no leader, 2 for refused words, a refused \
+    ring, a\nfailed read or a failed write, 3 out of memory.";
+
+const UPGRADE: &str = "Writes the logs of all nodes of a ring in version 2, each to a file";
+
+const MEND: &str =
+    "Writes of each log of a ring the longest beginning such that all are consistent";
 
 /// The program's command line.
 fn command<'a>(alloc: Global) -> Result<Command<'a>, AllocError>
@@ -46,7 +52,8 @@ fn command<'a>(alloc: Global) -> Result<Command<'a>, AllocError>
     let command = add_command(command, decide_command(alloc))?;
     let command = add_command(command, pairs_command(alloc))?;
     let command = add_command(command, run_command(alloc))?;
-    add_command(command, upgrade_command(alloc))
+    let command = add_command(command, rewrite_command(alloc, "upgrade", UPGRADE))?;
+    add_command(command, rewrite_command(alloc, "mend", MEND))
 }
 
 /// The command with this one below it, if that could be made.
@@ -297,25 +304,30 @@ fn run_request<'a>(matches: &ArgMatches<'a>) -> RunRequest<'a>
     }
 }
 
-fn upgrade_command<'a>(alloc: Global) -> Result<Command<'a>, AllocError>
-    ensures { IfOk result (λ c. app_of c ≡ upgrade_app) }
+/// A command that writes logs anew.
+fn rewrite_command<'a>(
+    alloc: Global,
+    name: &'a str,
+    about: &'a str,
+) -> Result<Command<'a>, AllocError>
+    ensures { IfOk result (λ c. app_of c ≡ rewrite_app name.entry.now) }
 {
-    Command::new(alloc, "upgrade")
-        .about("Writes the logs of all nodes of a ring in version 2, each to a file")
+    Command::new(alloc, name)
+        .about(about)
         .arg(folder(alloc))?
         .arg(log_files(alloc))
 }
 
-/// The files to upgrade.
-fn upgrade_request<'a>(matches: &ArgMatches<'a>, logs: Vec<&'a str>) -> UpgradeRequest<'a>
+/// The files to write anew.
+fn rewrite_request<'a>(matches: &ArgMatches<'a>, logs: Vec<&'a str>) -> RewriteRequest<'a>
     requires taken { AreTaken (built_leaf upgrade_app.top).rules (rows_of (found_of matches.now)) }
     requires found { AreFound (built_leaf upgrade_app.top).rules (rows_of (found_of matches.now)) }
     requires names { map (λ name. name.now) logs.items
         ≡ unwrap_or (all_of (codes "LOG") (rows_of (found_of matches.now))) [] }
     requires some { logs.items ≢ [] }
-    ensures { HasFilesToUpgrade (rows_of (found_of matches.now)) result }
+    ensures { HasFilesToRewrite (rows_of (found_of matches.now)) result }
 {
-    UpgradeRequest {
+    RewriteRequest {
         folder: matches.get_str("out").unwrap(),
         logs,
     }
@@ -338,7 +350,11 @@ fn found_request<'a>(alloc: Global, matches: &ArgMatches<'a>) -> Result<Request<
         ))),
         Some(("pairs", found)) => Ok(Request::Pairs(pairs_nodes(found))),
         Some(("run", found)) => Ok(Request::Run(run_request(found))),
-        Some(("upgrade", found)) => Ok(Request::Upgrade(upgrade_request(
+        Some(("upgrade", found)) => Ok(Request::Upgrade(rewrite_request(
+            found,
+            log_names(alloc, found)?,
+        ))),
+        Some(("mend", found)) => Ok(Request::Mend(rewrite_request(
             found,
             log_names(alloc, found)?,
         ))),

@@ -5,14 +5,14 @@ mod check_request;
 mod command_line;
 mod decide_request;
 mod request;
+mod rewrite_request;
 mod run_request;
-mod upgrade_request;
 mod words_fault;
 
 pub use check_request::CheckRequest;
 pub use command_line::read_words;
 pub use decide_request::DecideRequest;
 pub use request::Request;
+pub use rewrite_request::RewriteRequest;
 pub use run_request::RunRequest;
-pub use upgrade_request::UpgradeRequest;
 pub use words_fault::WordsFault;

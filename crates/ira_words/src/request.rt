@@ -1,7 +1,7 @@
 use crate::check_request::CheckRequest;
 use crate::decide_request::DecideRequest;
+use crate::rewrite_request::RewriteRequest;
 use crate::run_request::RunRequest;
-use crate::upgrade_request::UpgradeRequest;
 
 /// What the words behind the program's name ask for.
 #[derive(Drop)]
@@ -20,5 +20,7 @@ pub enum Request<'a> {
     /// To run a ring, and to write down what its nodes do.
     Run(RunRequest<'a>),
     /// To write the logs in the files of these names in version 2, each to a file.
-    Upgrade(UpgradeRequest<'a>),
+    Upgrade(RewriteRequest<'a>),
+    /// To write of each log in the files of these names the longest beginning such that all are consistent.
+    Mend(RewriteRequest<'a>),
 }

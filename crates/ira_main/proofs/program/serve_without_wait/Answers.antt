@@ -1,7 +1,7 @@
 use Rattle.std.proofs.Common.{◌≡◌, ◌∙◌, Err, List, [], ◌∷◌, Ok, Result, ap, map, inl, inr, refl, subst, sym}
 use Rattle.std.proofs.lemmas.Result.{err_from_is_err_and}
 use Rattle.ira_words.specs.Request.{IsMadeOf}
-use Rattle.ira_main.specs.Serve.Done.{certified, decided, judged, pairs, recorded, refused, undecided, upgraded}
+use Rattle.ira_main.specs.Serve.Done.{decided, judged, mended, pairs, recorded, refused, undecided, upgraded}
 use Rattle.ira_main.specs.Serve.Serves.{with_words, without_words}
 use Rattle.ira_main.proofs.program.serve_without_wait.Goals as goal
 
@@ -58,3 +58,9 @@ returns-in-Upgrade-clause-served g c =
     let made = subst (IsMadeOf (map (λ w. w.now) c.args.words.now)) c.in-Upgrade.is c.in-Ok.ensures.made in
     let first = made.first in
     with_words (λ none. cc) refl (upgraded _ made c.upgrade_files.ensures)
+
+pub returns-in-Mend-clause-served : goal.returns-in-Mend-clause-served
+returns-in-Mend-clause-served g c =
+    let made = subst (IsMadeOf (map (λ w. w.now) c.args.words.now)) c.in-Mend.is c.in-Ok.ensures.made in
+    let first = made.first in
+    with_words (λ none. cc) refl (mended _ made c.mend_files.ensures)

@@ -20,4 +20,5 @@ returns c =
     let with_decide = added _ _ _ _ _ refl c.decide_command.ensures with_check c.in_ok-command-4.ensures in
     let with_pairs = added _ _ _ _ _ refl c.pairs_command.ensures with_decide c.in_ok-command-5.ensures in
     let with_run = added _ _ _ _ _ refl c.run_command.ensures with_pairs c.in_ok-command-6.ensures in
-    IfOk-weaker c.add_command-6.result _ _ (λ r h. added _ _ _ _ _ refl c.upgrade_command.ensures with_run h) c.add_command-6.ensures
+    let with_upgrade = added _ _ _ _ _ refl c.rewrite_command.ensures with_run c.in_ok-command-7.ensures in
+    IfOk-weaker c.add_command-7.result _ _ (λ r h. added _ _ _ _ _ refl c.rewrite_command-2.ensures with_upgrade h) c.add_command-7.ensures

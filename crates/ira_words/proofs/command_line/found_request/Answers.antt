@@ -5,10 +5,10 @@ use Rattle.ira_words.specs.CommandLine.{ira_app}
 use Rattle.ira_words.specs.CheckRequest.{HasFiles}
 use Rattle.ira_words.specs.DecideRequest.{HasFilesToDecide}
 use Rattle.ira_words.specs.Request.{IsFileName}
+use Rattle.ira_words.specs.RewriteRequest.{HasFilesToRewrite}
 use Rattle.ira_words.specs.RunRequest.{HasNumber, HasOptions}
-use Rattle.ira_words.specs.UpgradeRequest.{HasFilesToUpgrade}
-use Rattle.ira_words.proofs.BehindCommands.{check_found, check_named, check_taken, decide_found, decide_named, decide_taken, logs_named, pairs_found, pairs_taken, run_found, run_taken, upgrade_found, upgrade_named, upgrade_taken}
-use Rattle.ira_words.proofs.FirstWord.{IsCommand, command_met, met_by_first, rows_of_check, rows_of_decide, rows_of_logs, rows_of_pairs, rows_of_run, rows_of_upgrade}
+use Rattle.ira_words.proofs.BehindCommands.{check_found, check_named, check_taken, decide_found, decide_named, decide_taken, logs_named, mend_found, mend_named, mend_taken, pairs_found, pairs_taken, run_found, run_taken, upgrade_found, upgrade_named, upgrade_taken}
+use Rattle.ira_words.proofs.FirstWord.{IsCommand, command_met, met_by_first, rows_of_check, rows_of_decide, rows_of_logs, rows_of_mend, rows_of_pairs, rows_of_run, rows_of_upgrade}
 use Rattle.ira_words.proofs.GivenNames.{given_behind, words_behind, words_given}
 use Rattle.ira_words.proofs.command_line.found_request.Goals.{in_default-via-in-Some+in_default, in_default-via-in_default}
 use Rattle.ira_words.proofs.command_line.found_request.Goals as goal
@@ -77,25 +77,45 @@ run_request-requires-clause-found c =
     let arm = c.in-Some-run-default in
     run_found _ _ c.requires.0 _ refl parse.found (λ _. parse.accepted) arm.ensures.rows (ap (λ n. Some n) (sym arm.is-run) ∙ arm.ensures.name)
 
-pub upgrade_request-requires-clause-taken : goal.upgrade_request-requires-clause-taken
-upgrade_request-requires-clause-taken c =
+pub rewrite_request-requires-clause-taken : goal.rewrite_request-requires-clause-taken
+rewrite_request-requires-clause-taken c =
     let parse = c.requires.1 in
     let arm = c.in-Some-upgrade-default in
     upgrade_taken _ _ c.requires.0 _ refl parse.found (λ _. parse.accepted) arm.ensures.rows (ap (λ n. Some n) (sym arm.is-upgrade) ∙ arm.ensures.name)
 
-pub upgrade_request-requires-clause-found : goal.upgrade_request-requires-clause-found
-upgrade_request-requires-clause-found c =
+pub rewrite_request-requires-clause-found : goal.rewrite_request-requires-clause-found
+rewrite_request-requires-clause-found c =
     let parse = c.requires.1 in
     let arm = c.in-Some-upgrade-default in
     upgrade_found _ _ c.requires.0 _ refl parse.found (λ _. parse.accepted) arm.ensures.rows (ap (λ n. Some n) (sym arm.is-upgrade) ∙ arm.ensures.name)
 
-pub upgrade_request-requires-clause-some : goal.upgrade_request-requires-clause-some
-upgrade_request-requires-clause-some c =
+pub rewrite_request-requires-clause-some : goal.rewrite_request-requires-clause-some
+rewrite_request-requires-clause-some c =
     let parse = c.requires.1 in
     let arm = c.in-Some-upgrade-default in
     let names = c.in_ok-log_names-in-Some-upgrade-default in
     λ none.
     upgrade_named _ _ c.requires.0 _ refl parse.found (λ _. parse.accepted) arm.ensures.rows (ap (λ n. Some n) (sym arm.is-upgrade) ∙ arm.ensures.name) (sym names.ensures ∙ ap (map (λ name. name.now)) none)
+
+pub rewrite_request-requires-in-Some-mend-default-clause-taken : goal.rewrite_request-requires-in-Some-mend-default-clause-taken
+rewrite_request-requires-in-Some-mend-default-clause-taken c =
+    let parse = c.requires.1 in
+    let arm = c.in-Some-mend-default in
+    mend_taken _ _ c.requires.0 _ refl parse.found (λ _. parse.accepted) arm.ensures.rows (ap (λ n. Some n) (sym arm.is-mend) ∙ arm.ensures.name)
+
+pub rewrite_request-requires-in-Some-mend-default-clause-found : goal.rewrite_request-requires-in-Some-mend-default-clause-found
+rewrite_request-requires-in-Some-mend-default-clause-found c =
+    let parse = c.requires.1 in
+    let arm = c.in-Some-mend-default in
+    mend_found _ _ c.requires.0 _ refl parse.found (λ _. parse.accepted) arm.ensures.rows (ap (λ n. Some n) (sym arm.is-mend) ∙ arm.ensures.name)
+
+pub rewrite_request-requires-in-Some-mend-default-clause-some : goal.rewrite_request-requires-in-Some-mend-default-clause-some
+rewrite_request-requires-in-Some-mend-default-clause-some c =
+    let parse = c.requires.1 in
+    let arm = c.in-Some-mend-default in
+    let names = c.in_ok-log_names-in-Some-mend-default in
+    λ none.
+    mend_named _ _ c.requires.0 _ refl parse.found (λ _. parse.accepted) arm.ensures.rows (ap (λ n. Some n) (sym arm.is-mend) ∙ arm.ensures.name) (sym names.ensures ∙ ap (map (λ name. name.now)) none)
 
 pub returns-in_ok-log_names-in-Some-logs-default : goal.returns-in_ok-log_names-in-Some-logs-default
 returns-in_ok-log_names-in-Some-logs-default c = λ words parse.
@@ -154,7 +174,16 @@ returns-in_ok-log_names-in-Some-upgrade-default c = λ words parse.
     let first = met_by_first _ _ words (codes "upgrade") refl parse.found (λ _. parse.accepted) name in
     let Has : List (List ℕ) → Type 0 = λ ws. HasMatchesOf ira_app ws c.args.matches.now in
     let rows = rows_of_upgrade _ _ first.0 _ refl (subst Has first.1 parse.found) arm.ensures.rows in
-    record { others = first.0; first = first.1; accepted = parse.accepted; files = subst (λ found. HasFilesToUpgrade found c.upgrade_request.result) rows c.upgrade_request.ensures }
+    record { others = first.0; first = first.1; accepted = parse.accepted; files = subst (λ found. HasFilesToRewrite found c.rewrite_request.result) rows c.rewrite_request.ensures }
+
+pub returns-in_ok-log_names-in-Some-mend-default : goal.returns-in_ok-log_names-in-Some-mend-default
+returns-in_ok-log_names-in-Some-mend-default c = λ words parse.
+    let arm = c.in-Some-mend-default in
+    let name = ap (λ n. Some n) (sym arm.is-mend) ∙ arm.ensures.name in
+    let first = met_by_first _ _ words (codes "mend") refl parse.found (λ _. parse.accepted) name in
+    let Has : List (List ℕ) → Type 0 = λ ws. HasMatchesOf ira_app ws c.args.matches.now in
+    let rows = rows_of_mend _ _ first.0 _ refl (subst Has first.1 parse.found) arm.ensures.rows in
+    record { others = first.0; first = first.1; accepted = parse.accepted; files = subst (λ found. HasFilesToRewrite found c.rewrite_request-in-Some-mend-default.result) rows c.rewrite_request-in-Some-mend-default.ensures }
 
 not_both : {X : Type 0} (o : Option X) (x : X) → o ≡ None → o ≡ Some x → ⊥
 not_both o x none some = cc
@@ -162,13 +191,14 @@ not_both o x none some = cc
 same_text : (n m : List ℕ) → Some n ≡ Some m → n ≡ m
 same_text n m same = cc
 
-no_command : (n m : List ℕ) → Some n ≡ Some m → IsCommand m → (n ≡ codes "logs" → ⊥) → (n ≡ codes "check" → ⊥) → (n ≡ codes "decide" → ⊥) → (n ≡ codes "pairs" → ⊥) → (n ≡ codes "run" → ⊥) → (n ≡ codes "upgrade" → ⊥) → ⊥
-no_command n m same (inl is) logs check decide pairs run upgrade = logs (same_text n m same ∙ sym is)
-no_command n m same (inr (inl is)) logs check decide pairs run upgrade = check (same_text n m same ∙ sym is)
-no_command n m same (inr (inr (inl is))) logs check decide pairs run upgrade = decide (same_text n m same ∙ sym is)
-no_command n m same (inr (inr (inr (inl is)))) logs check decide pairs run upgrade = pairs (same_text n m same ∙ sym is)
-no_command n m same (inr (inr (inr (inr (inl is))))) logs check decide pairs run upgrade = run (same_text n m same ∙ sym is)
-no_command n m same (inr (inr (inr (inr (inr is))))) logs check decide pairs run upgrade = upgrade (same_text n m same ∙ sym is)
+no_command : (n m : List ℕ) → Some n ≡ Some m → IsCommand m → (n ≡ codes "logs" → ⊥) → (n ≡ codes "check" → ⊥) → (n ≡ codes "decide" → ⊥) → (n ≡ codes "pairs" → ⊥) → (n ≡ codes "run" → ⊥) → (n ≡ codes "upgrade" → ⊥) → (n ≡ codes "mend" → ⊥) → ⊥
+no_command n m same (inl is) logs check decide pairs run upgrade mend = logs (same_text n m same ∙ sym is)
+no_command n m same (inr (inl is)) logs check decide pairs run upgrade mend = check (same_text n m same ∙ sym is)
+no_command n m same (inr (inr (inl is))) logs check decide pairs run upgrade mend = decide (same_text n m same ∙ sym is)
+no_command n m same (inr (inr (inr (inl is)))) logs check decide pairs run upgrade mend = pairs (same_text n m same ∙ sym is)
+no_command n m same (inr (inr (inr (inr (inl is))))) logs check decide pairs run upgrade mend = run (same_text n m same ∙ sym is)
+no_command n m same (inr (inr (inr (inr (inr (inl is)))))) logs check decide pairs run upgrade mend = upgrade (same_text n m same ∙ sym is)
+no_command n m same (inr (inr (inr (inr (inr (inr is)))))) logs check decide pairs run upgrade mend = mend (same_text n m same ∙ sym is)
 
 pub unreachable-requires : goal.unreachable-requires
 unreachable-requires c =
@@ -183,7 +213,8 @@ unreachable-requires c =
           let other_than_pairs : n ≡ codes "pairs" → ⊥ = search rules in
           let other_than_run : n ≡ codes "run" → ⊥ = search rules in
           let other_than_upgrade : n ≡ codes "upgrade" → ⊥ = search rules in
-          no_command n met.0 is met.2 other_than_logs other_than_check other_than_decide other_than_pairs other_than_run other_than_upgrade
+          let other_than_mend : n ≡ codes "mend" → ⊥ = search rules in
+          no_command n met.0 is met.2 other_than_logs other_than_check other_than_decide other_than_pairs other_than_run other_than_upgrade other_than_mend
       | in_default-via-in_default v ↦
           let none = sym (ap (option_map (λ p. p.0.now)) v.in_default.is) ∙ c.subcommand.ensures.name in
           not_both _ _ (sym none) met.1

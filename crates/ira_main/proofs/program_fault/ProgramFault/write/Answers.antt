@@ -12,6 +12,10 @@ pub returns-in-CannotWrite : goal.returns-in-CannotWrite
 returns-in-CannotWrite g c =
     rw c.in-CannotWrite.is (rw (c.as_bytes-in-CannotWrite.ensures.value, c.line_end-in-CannotWrite.ensures) at c.write_named-in-CannotWrite.ensures)
 
+pub returns-in-WouldOverwrite : goal.returns-in-WouldOverwrite
+returns-in-WouldOverwrite g c =
+    rw c.in-WouldOverwrite.is (rw (c.as_bytes-in-WouldOverwrite.ensures.value, c.line_end-in-WouldOverwrite.ensures) at c.write_named-in-WouldOverwrite.ensures)
+
 pub returns-in-RingSize : goal.returns-in-RingSize
 returns-in-RingSize g c = rw c.in-RingSize.is c.write_bytes-in-RingSize.ensures
 

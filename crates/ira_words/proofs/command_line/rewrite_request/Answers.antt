@@ -3,7 +3,7 @@ use Rattle.std.specs.Prelude.{option_map}
 use Rattle.clap.proofs.WalkLemmas.{first_value-rows}
 use Rattle.clap.specs.Words.{found_of}
 use Rattle.ira_words.proofs.FoundValues.{text_found}
-use Rattle.ira_words.proofs.command_line.upgrade_request.Goals as goal
+use Rattle.ira_words.proofs.command_line.rewrite_request.Goals as goal
 
 pub unwrap-requires : goal.unwrap-requires
 unwrap-requires c =

@@ -1,0 +1,39 @@
+ghost use Rattle.std.specs.Prelude.{◌≡◌, length};
+ghost use Rattle.ira_event.specs.Sink.{Wrote};
+ghost use Rattle.ira_main.specs.MendedLines.{mended_line, mended_lines};
+
+use ira_event::{Line, Logs, NodeLog, Sink, WriteFault};
+use std::alloc::Allocator;
+
+/// How many of a node's events are kept, of how many where not all are.
+fn mended_line<A: Allocator>(log: &NodeLog<A>, mended: &NodeLog<A>) -> Line
+    ensures { result ≡ mended_line (log.now, mended.now) }
+{
+    let (all, kept) = (log.len(), mended.len());
+    let mut line = Line::new();
+    line.add(b"node ");
+    line.add_number(u32::from(log.place()));
+    line.add(b": ");
+    if kept < all {
+        line.add_number(kept as u32);
+        line.add(b" of ");
+    }
+    line.add_number(all as u32);
+    line.add(b" events\n");
+    line
+}
+
+/// Writes a line for each node, in the order of the places.
+pub(crate) fn write_mended<A: Allocator, W: Sink>(
+    logs: &Logs<A>,
+    mended: &Logs<A>,
+    sink: &mut W,
+) -> Result<(), WriteFault>
+    requires { length mended.now ≡ length logs.now }
+    ensures { Wrote result (mended_lines logs.now mended.now) (W.state sink.old) (W.state sink.new) }
+{
+    for place in 0..logs.size().get() {
+        mended_line(logs.log(place), mended.log(place)).write(sink)?;
+    }
+    Ok(())
+}

@@ -1,0 +1,49 @@
+ghost use Rattle.std.specs.Prelude.{◌↔◌, IfOk, IsTrue, MatchOption, length, map, string_bytes};
+ghost use Rattle.ira_main.specs.Overwriting.{IsOverwritten, IsPathOf, IsSamePath, KeepsInput};
+
+use ira_event::MAX_NODES;
+use std::alloc::{AllocError, Allocator};
+use std::path::Path;
+
+/// The name as a path, where a relative one begins with the folder in which the program runs, so that a leading `./` in
+/// some names doesn't matter.
+fn path_of<A: Allocator>(alloc: A, name: &str) -> Result<String<A>, AllocError>
+    ensures { IfOk result (λ path. IsPathOf name.now (string_bytes path)) }
+{
+    if Path::new(name).is_absolute() {
+        String::from_str(alloc, name)
+    } else {
+        format!(in alloc; "./{name}")
+    }
+}
+
+/// Whether two names are the same path. Links between files and `..` are not followed.
+fn are_same_path<A: Allocator>(alloc: &A, name: &str, other: &str) -> Result<bool, AllocError>
+    ensures { IfOk result (λ same. IsTrue same ↔ IsSamePath name.now other.now) }
+{
+    let path = path_of(alloc, name)?;
+    let other = path_of(alloc, other)?;
+    Ok(Path::new(path.as_str()) == Path::new(other.as_str()))
+}
+
+/// The first of the names whose file one of the logs would be written to, where there is a log for each name.
+pub(crate) fn overwritten<'a, A: Allocator>(
+    alloc: &A,
+    folder: &str,
+    names: &[&'a str],
+) -> Result<Option<&'a str>, AllocError>
+    ensures { IfOk result (λ found. MatchOption found
+        (KeepsInput folder.now (map (λ name. name.now) names.now))
+        (λ name. IsOverwritten folder.now (length (map (λ name. name.now) names.now)) name.now)) }
+{
+    let places = names.len().min(MAX_NODES);
+    for name in names {
+        for place in 0..places {
+            let log = format!(in alloc; "{folder}/{place}.log")?;
+            if are_same_path(alloc, name, log.as_str())? {
+                return Ok(Some(name));
+            }
+        }
+    }
+    Ok(None)
+}
