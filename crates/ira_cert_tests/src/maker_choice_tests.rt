@@ -209,10 +209,10 @@ fn least_cut(
 }
 
 /// The text of the question whether these nodes ever meet these clauses at once, and the nodes that it asks.
-fn posed(alloc: Global, samples: &[Sample]) -> Result<(String, Vec<Asked>), AllocError> {
-    let mut text = format!(in alloc; "irask 1\nnodes {}\ncase\n", samples.len())?;
+fn posed(alloc: Global, nodes: u8, samples: &[Sample]) -> Result<(String, Vec<Asked>), AllocError> {
+    let mut text = format!(in alloc; "irask 1\nnodes {nodes}\ncase\n")?;
     let mut asked = Vec::new(alloc);
-    for (place, sample) in (0..).zip(samples) {
+    for (place, sample) in (0..nodes).zip(samples) {
         if !sample.clause.is_empty() {
             let line = format!(in alloc; "{place}: {}\n", sample.clause)?;
             text.push_str(&line)?;
@@ -237,7 +237,8 @@ fn assert_as_searched(
     requires { ordered.now.logs ≡ logs.now }
 {
     let alloc = rt.alloc();
-    let (text, mut asked) = posed(alloc, samples).expect(rt, "memory");
+    let nodes = logs.size().get();
+    let (text, mut asked) = posed(alloc, nodes, samples).expect(rt, "memory");
     let question = read_question(alloc, text.as_bytes()).expect(rt, "a question");
     let case = first_case(&question, logs).expect(rt, "a question of the same ring");
     let found = decide(alloc, logs, ordered, case).expect(rt, "memory");
@@ -245,7 +246,6 @@ fn assert_as_searched(
     let is_found = match least_spent(&asked) {
         Some(spent) => is_absent_by(&found, &steps, spent),
         None => {
-            let nodes = logs.size().get();
             let cut = least_cut(alloc, known, &asked, nodes).expect(rt, "memory");
             is_present_at(&found, &cut)
         }
