@@ -134,6 +134,7 @@ where
         Request::Upgrade(upgrade) => Progress::Ended(upgrade_files(
             rt, alloc, &upgrade, shelf, out,
         )),
+        Request::Mend(mend) => Progress::Ended(mend_files(alloc, &mend, shelf, out)),
     }
 }
 
