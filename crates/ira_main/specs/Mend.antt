@@ -1,5 +1,5 @@
 -- What the program does that is asked to mend logs.
-use Rattle.std.specs.Prelude.{◌≡◌, ℕ, List, Err, length}
+use Rattle.std.specs.Prelude.{◌≡◌, ℕ, List, Err}
 use Rattle.std.specs.Borrow.{Bor}
 use Rattle.ira_event.specs.Log.{Log}
 use Rattle.ira_event.specs.Logs.{AreLogs}
@@ -15,7 +15,7 @@ use Rattle.ira_main.specs.FilesRead.{IsFilesFault, ReadsFiles}
 use Rattle.ira_main.specs.LogFiles.{StopsInLogs, WritesLogs}
 use Rattle.ira_main.specs.MendedLines.{mended_lines}
 use Rattle.ira_main.specs.Outcome.{GivesNoAnswer, Outcome, Prints, Reports}
-use Rattle.ira_main.specs.Overwriting.{IsOverwritten, KeepsInput}
+use Rattle.ira_main.specs.Overwriting.{KeepsInput, Overwrites}
 use Rattle.ira_main.specs.Shelf.{Reading, Writing}
 use Rattle.ira_main.specs.Upgrade.{rewrite_names}
 use Rattle.ira_main.specs.declared.program_fault.ProgramFault.{ProgramFault}
@@ -40,7 +40,7 @@ pub data KeepsMended {S : Type 0} (writes : Writing S) (folder : Bor (List ℕ))
 -- a log would be written over this file of the input
 abbrev pub IsOverwriting : RewriteRequest → ProgramFault → Type 0
 IsOverwriting mend f =
-    (name : Bor (List ℕ)) × IsOverwritten mend.folder.now (length (rewrite_names mend)) name.now × (f ≡ WouldOverwrite name)
+    (name : Bor (List ℕ)) × Overwrites mend.folder.now (rewrite_names mend) name.now × (f ≡ WouldOverwrite name)
 
 -- no log would be written over a file of the input; the files that are named were read, and their texts, cut or not, are
 -- those of the logs of one ring, which were mended, and what comes of the mended ones is the outcome; or they have a

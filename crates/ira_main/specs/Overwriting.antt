@@ -9,7 +9,8 @@ use Rattle.ira_main.specs.LogFiles.{log_name}
 abbrev pub IsPathOf : List ℕ → List ℕ → Type 0
 IsPathOf name path = (IsAbsolute name × (path ≡ name)) ⊎ (¬ (IsAbsolute name) × (path ≡ codes "./" ++ name))
 
--- two names are the same path. Links between files and `..` are not followed
+-- two names are the same path. Links between files and `..` are not followed, and an absolute name is never the same path as a
+-- relative one
 pub record IsSamePath (name other : List ℕ) : Type 0 where
   pub path : List ℕ
   pub is_path : IsPathOf name path
@@ -23,6 +24,12 @@ pub record IsOverwritten (folder : List ℕ) (names : ℕ) (name : List ℕ) : T
   pub few : place < names
   pub in_ring : place < MAX_NODES
   pub same : IsSamePath name (log_name folder place)
+
+-- this is one of the names, and where there is a log for each of them, one is written to its file
+pub record Overwrites (folder : List ℕ) (names : List (List ℕ)) (name : List ℕ) : Type 0 where
+  pub index : ℕ
+  pub named : slice_get names index ≡ Some name
+  pub written : IsOverwritten folder (length names) name
 
 -- none is written to a file of these names
 abbrev pub KeepsInput : List ℕ → List (List ℕ) → Type 0

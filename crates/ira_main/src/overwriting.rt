@@ -1,5 +1,5 @@
-ghost use Rattle.std.specs.Prelude.{◌↔◌, IfOk, IsTrue, MatchOption, length, map, string_bytes};
-ghost use Rattle.ira_main.specs.Overwriting.{IsOverwritten, IsPathOf, IsSamePath, KeepsInput};
+ghost use Rattle.std.specs.Prelude.{◌↔◌, IfOk, IsTrue, MatchOption, map, string_bytes};
+ghost use Rattle.ira_main.specs.Overwriting.{IsPathOf, IsSamePath, KeepsInput, Overwrites};
 
 use ira_event::MAX_NODES;
 use std::alloc::{AllocError, Allocator};
@@ -34,7 +34,7 @@ pub(crate) fn overwritten<'a, A: Allocator>(
 ) -> Result<Option<&'a str>, AllocError>
     ensures { IfOk result (λ found. MatchOption found
         (KeepsInput folder.now (map (λ name. name.now) names.now))
-        (λ name. IsOverwritten folder.now (length (map (λ name. name.now) names.now)) name.now)) }
+        (λ name. Overwrites folder.now (map (λ name. name.now) names.now) name.now)) }
 {
     let places = names.len().min(MAX_NODES);
     for name in names {

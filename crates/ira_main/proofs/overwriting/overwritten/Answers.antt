@@ -27,10 +27,14 @@ returns-then-branch g c =
     let named : c.as_str.result.now ≡ log_name c.args.folder.now c.loop-place.place-counter = search (rules, append_assoc) in
     let many = length-map c.args.names.now (λ (name : Bor (List ℕ)). name.now) in
     record {
-      place = c.loop-place.place-counter;
-      few = omega (arith, c.loop-place-test.true, c.min-places.ensures, many);
-      in_ring = omega (arith, c.loop-place-test.true, c.min-places.ensures);
-      same = rw named at (c.in_ok-are_same_path.ensures.0 c.if-branch.true);
+      index = c.loop-name.name-index;
+      named = lent c.args.names.now c.loop-name.name-index _ c.loop-name-test.true;
+      written = record {
+        place = c.loop-place.place-counter;
+        few = omega (arith, c.loop-place-test.true, c.min-places.ensures, many);
+        in_ring = omega (arith, c.loop-place-test.true, c.min-places.ensures);
+        same = rw named at (c.in_ok-are_same_path.ensures.0 c.if-branch.true);
+      };
     }
 
 pub loop-place-preserved : goal.loop-place-preserved
