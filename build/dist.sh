@@ -5,6 +5,12 @@ set -e
 name=ira-linux-x86_64
 folder=bin/$name
 
+# A program that needs the C library of the machine isn't packed.
+if ldd bin/ira > /dev/null 2>&1; then
+    echo "bin/ira isn't static: install libc.a (glibc's static library), then: rm bin/ira.proved; make dist" >&2
+    exit 1
+fi
+
 rm -rf "$folder" "bin/$name.tar.gz"
 make --no-print-directory install DESTDIR="$PWD/$folder" PREFIX= > /dev/null
 mkdir -p "$folder/docs"

@@ -155,6 +155,7 @@ const CASES: &[Case] = &[
         words: &["mend", "--out=d", "0.log", "1.log"],
         status: 0,
         out: "node 0: 4 events\nnode 1: 4 events\n",
+        err: "",
         written: ELECTION,
     },
 ];
