@@ -224,13 +224,12 @@ fn is_cut_behind(
     let mut input = Counted::new(Input::new(ELECTED_0.as_bytes()));
     let found = served_amply(rt, case.words, &mut shelf, &mut input, [taken.len(), NEVER]);
     let told = b"ira: cannot write the answer\n".as_slice();
-    let written = if case.is_of("decide") {
-        &[]
+    let is_kept = if case.is_of("decide") {
+        shelf.has_written(&[])
     } else {
-        case.written
+        shelf.has_written(case.written)
     };
-    let is_told = (found.status, found.out.bytes(), found.err.bytes()) == (2, taken, told);
-    is_told && shelf.has_written(written)
+    is_kept && (found.status, found.out.bytes(), found.err.bytes()) == (2, taken, told)
 }
 
 #[test]
