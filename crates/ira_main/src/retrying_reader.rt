@@ -1,4 +1,4 @@
-ghost use Rattle.std.specs.Prelude.{◌≢◌, IfErr};
+ghost use Rattle.std.specs.Prelude.{◌≡◌, ◌≢◌, IfErr};
 ghost use Rattle.std.specs.Io.{ReadsAtMost};
 ghost use Rattle.std.specs.Io.KnownBytes.{ReadConsumes};
 ghost use Rattle.std.specs.IoError.{error_kind};
@@ -13,7 +13,10 @@ pub struct RetryingReader<I: Read> {
 }
 
 impl<I: Read> RetryingReader<I> {
-    pub fn new(reader: I) -> RetryingReader<I> {
+    /// Reads what this reader has left.
+    pub fn new(reader: I) -> RetryingReader<I>
+        ensures { result.reader ≡ reader }
+    {
         RetryingReader { reader }
     }
 }
