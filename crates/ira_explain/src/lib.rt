@@ -1,8 +1,17 @@
 //! Why an answer is as it is: the lines that follow an answer for a person who asks.
 #![tactic(auto)]
 
+mod explain;
+mod field;
+mod heads_block;
+mod line_form;
+mod line_stop;
 mod named_text;
 mod page;
+mod slip;
+mod text_block;
+mod text_head;
 
+pub use explain::{explain_logs, explain_one};
 pub use named_text::NamedText;
 pub use page::{Mark, Page};
