@@ -34,7 +34,7 @@ pub fn explain_logs<A: Allocator + Clone>(
 }
 
 /// The same of the text of one log that is judged alone.
-pub fn explain_one<A: Allocator + Clone>(
+pub fn explain_log<A: Allocator + Clone>(
     alloc: A,
     file: &NamedText<'_>,
     answer: &Answer,

@@ -12,6 +12,6 @@ mod slip;
 mod text_block;
 mod text_head;
 
-pub use explain::{explain_logs, explain_one};
+pub use explain::{explain_log, explain_logs};
 pub use named_text::NamedText;
 pub use page::{Mark, Page};
