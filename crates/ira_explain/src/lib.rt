@@ -3,6 +3,7 @@
 
 mod explain;
 mod field;
+mod first_line;
 mod heads_block;
 mod line_form;
 mod line_stop;
