@@ -9,13 +9,14 @@ use Rattle.ira_event.specs.Log.{Log}
 use Rattle.ira_order.specs.Before.{Before, message, onward, own}
 use Rattle.ira_order.specs.Counts.{Covers}
 use Rattle.ira_order.specs.Cut.{IsCut}
+use Rattle.ira_order.specs.Order.{IsPair}
 use Rattle.ira_order.specs.Matching.{Matches, got, receipt, sending, sent}
 use Rattle.ira_order.specs.Ring.{log_of, next}
 use Rattle.ira_order.proofs.Acyclic.{before_within}
 use Rattle.ira_order.proofs.Bridge.{before_places, covers_consistent, pair_of}
 use Rattle.ira_order.proofs.Places.{Ranked, ranked}
 use Rattle.ira_order.proofs.Ranks.{next_below, rank_mono}
-use Rattle.ira_mend.specs.Beginning.{AreBegun, IsConsistentBeginning, IsGreatestBeginning}
+use Rattle.ira_mend.specs.Beginning.{AreBegun, IsConsistentBeginning, IsGreatestBeginning, receipts_in, sendings_in}
 use Rattle.ira_mend.specs.Laws.{HasItsPast}
 use Rattle.ira_mend.proofs.Begun.{begun_events}
 use Rattle.ira_mend.proofs.Lattice.{Lacks, lowered, lowered_within, settled, whole_at, whole_cut, whole_is_cut}
@@ -26,7 +27,8 @@ no_events (log ∷ logs) zero l = absurd (omega arith)
 no_events (log ∷ logs) (suc i) l = no_events logs i (omega arith)
 
 -- what happened before an event happened before the later ones of its node
-before_later : (logs : List Log) (i a j b c : ℕ) → Before logs i a j b → b ≤ c → c ≤ length (log_of logs j) → Before logs i a j c
+before_later : (logs : List Log) (i a j b c : ℕ) → Before logs i a j b → b ≤ c → c ≤ length (log_of logs j)
+    → Before logs i a j c
 before_later logs i a j b c before le within = elim (cases_eq b c) [
   | inl same ↦ subst (λ x. Before logs i a j x) same before
   | inr other ↦
@@ -35,44 +37,62 @@ before_later logs i a j b c before le within = elim (cases_eq b c) [
 ]
 
 module _ (whole left : List Log) (cut : List ℕ) (are : AreBegun whole cut left) where
-  -- the first events that are left are the first of the whole log
-  pub first_left : (i n : ℕ) → i < length whole → n ≤ length (log_of left i)
-      → take n (log_of left i) ≡ take n (log_of whole i)
-  first_left i n l le =
-      let events = begun_events whole cut left i are l in
-      let few : length (log_of left i) ≤ slice_index cut i =
-      omega (arith, ap (λ (es : List Event). length es) events, length-take (slice_index cut i) (log_of whole i)) in
-      ap (take n) events ∙ take-take n (slice_index cut i) (log_of whole i) (omega (arith, le, few))
+  n : length left ≡ length whole
+  n = are.places
 
-  -- and no more than those
-  pub left_within : (i : ℕ) → i < length whole → length (log_of left i) ≤ length (log_of whole i)
-  left_within i l =
-      omega (arith, ap (λ (es : List Event). length es) (begun_events whole cut left i are l), length-take (slice_index cut i) (log_of whole i))
+  -- how many events are left
+  pub left_count : (i : ℕ) → i < length whole
+      → (length (log_of left i) ≤ slice_index cut i) × (length (log_of left i) ≤ length (log_of whole i))
+  left_count i l =
+      let events = ap (λ (es : List Event). length es) (begun_events whole cut left i are l) in
+      let least = length-take (slice_index cut i) (log_of whole i) in
+      (omega (arith, events, least), omega (arith, events, least))
+
+  -- they are the first of the whole log
+  first_left : (i m : ℕ) → i < length whole → m ≤ length (log_of left i)
+      → take m (log_of left i) ≡ take m (log_of whole i)
+  first_left i m l le =
+      ap (take m) (begun_events whole cut left i are l)
+      ∙ take-take m (slice_index cut i) (log_of whole i) (omega (arith, le, (left_count i l).0))
+
+  -- the node that link i leads to
+  abbrev reader : ℕ → ℕ
+  reader i = next (length whole) i
+
+  -- a cut of what is left, on link i
+  module _ (at : List ℕ) (is : IsCut left at) (i : ℕ) (l : i < length whole) where
+    within : slice_index at i ≤ length (log_of left i)
+    within = is.within i (omega (arith, l, n))
+
+    reader_is : reader i < length whole
+    reader_is = next_below (length whole) i l
+
+    reader_within : slice_index at (reader i) ≤ length (log_of left (reader i))
+    reader_within = is.within (reader i) (omega (arith, reader_is, n))
+
+    same_sendings : sendings_in left i (slice_index at i) ≡ sendings_in whole i (slice_index at i)
+    same_sendings = ap (λ (es : List Event). length (sent es)) (first_left i (slice_index at i) l within)
+
+    same_receipts :
+        receipts_in left (reader i) (slice_index at (reader i))
+        ≡ receipts_in whole (reader i) (slice_index at (reader i))
+    same_receipts =
+        ap (λ (es : List Event). length (got es))
+        (first_left (reader i) (slice_index at (reader i)) reader_is reader_within)
 
   -- a consistent beginning of what is left has its sendings in the whole logs too
   pub beginning_covers : (at : List ℕ) → IsConsistentBeginning left at → Covers whole (slice_index at)
   beginning_covers at is i l =
-      let n : length left ≡ length whole = are.places in
-      let l' : i < length left = omega (arith, l, n) in
-      let lj : next (length whole) i < length whole = next_below (length whole) i l in
-      let lj' : next (length whole) i < length left = omega (arith, lj, n) in
-      let writer = first_left i (slice_index at i) l (is.cut_is.within i l') in
-      let reader = first_left (next (length whole) i) (slice_index at (next (length whole) i)) lj (is.cut_is.within (next (length whole) i) lj') in
-      let holds = rw n at (is.sendings i l') in
-      rw (← writer, ← reader) holds
+      let held = rw n at (is.sendings i (omega (arith, l, n))) in
+      omega (arith, held, same_sendings at is.cut_is i l, same_receipts at is.cut_is i l)
 
   -- and the other way round
   pub covers_beginning : (at : List ℕ) → IsCut left at → Covers whole (slice_index at) → IsConsistentBeginning left at
   covers_beginning at is covers = record {
     cut_is = is;
     sendings = λ i l'.
-        let n : length left ≡ length whole = are.places in
         let l : i < length whole = omega (arith, l', n) in
-        let lj : next (length whole) i < length whole = next_below (length whole) i l in
-        let lj' : next (length whole) i < length left = omega (arith, lj, n) in
-        let writer = first_left i (slice_index at i) l (is.within i l') in
-        let reader = first_left (next (length whole) i) (slice_index at (next (length whole) i)) lj (is.within (next (length whole) i) lj') in
-        rw n (rw (writer, reader) (covers i l));
+        rw n (omega (arith, covers i l, same_sendings at is i l, same_receipts at is i l));
   }
 
   -- ---- events with their past stay while others are given up
@@ -81,67 +101,74 @@ module _ (whole left : List Log) (cut : List ℕ) (are : AreBegun whole cut left
   Holds at = (i a : ℕ) → i < length whole → HasItsPast whole left i a → a ≤ slice_index at i
 
   module _ (matches : Matches whole) where
-    -- the last event of a link's reader that lacks a sending has not all its past
-    no_past : (at : List ℕ) (link : ℕ) → IsCut left at → link < length whole → Lacks left at link → Holds at
-        → HasItsPast whole left (next (length whole) link) (slice_index at (next (length whole) link)) → ⊥
-    no_past at link is l bad holds past =
-        let n : length left ≡ length whole = are.places in
-        let l' : link < length left = omega (arith, l, n) in
-        let es : List Event = log_of whole link in
-        let lj : next (length whole) link < length whole = next_below (length whole) link l in
-        let lj' : next (length whole) link < length left = omega (arith, lj, n) in
-        let writer = first_left link (slice_index at link) l (is.within link l') in
-        let reader = first_left (next (length whole) link) (slice_index at (next (length whole) link)) lj (is.within (next (length whole) link) lj') in
-        let within : slice_index at (next (length whole) link) ≤ length (log_of whole (next (length whole) link)) =
-        omega (arith, is.within (next (length whole) link) lj', left_within (next (length whole) link) lj) in
-        let bad' : length (sent (take (slice_index at link) (log_of whole link)))
-        < length (got (take (slice_index at (next (length whole) link)) (log_of whole (next (length whole) link)))) =
-        rw (← writer, ← reader) (rw n at bad) in
-        let b : Ranked receipt (log_of whole (next (length whole) link)) (slice_index at (next (length whole) link))
-        (length (sent (take (slice_index at link) (log_of whole link)))) (Draw 0) =
-        ranked receipt (log_of whole (next (length whole) link)) (slice_index at (next (length whole) link))
-        (length (sent (take (slice_index at link) (log_of whole link)))) (Draw 0) within bad' in
-        let p = pair_of whole link (slice_index at (next (length whole) link)) (length (sent (take (slice_index at link) (log_of whole link)))) matches l within b in
-        let sends : Before whole link (suc p.0.place) (next (length whole) link) (suc b.place) = message refl p.1 in
-        let first : Before whole link (suc p.0.place) (next (length whole) link) (slice_index at (next (length whole) link)) =
-        before_later whole link (suc p.0.place) (next (length whole) link) (suc b.place) (slice_index at (next (length whole) link)) sends (omega (arith, b.below)) within in
-        let its : HasItsPast whole left link (suc p.0.place) = λ j c before. past j c (inr (elim before [
-          | inl e ↦ rw (e.0, e.1) first
-          | inr earlier ↦ onward earlier first
-        ])) in
-        let held : suc p.0.place ≤ slice_index at link = holds link (suc p.0.place) l its in
-        absurd (omega (arith, p.0.next_rank, rank_mono sending (log_of whole link) (p.0.place + 1) (slice_index at link) (omega (arith, held))))
+    -- the last event of the reader of a link that lacks a sending isn't left with all its past
+    module _ (at : List ℕ) (link : ℕ) (is : IsCut left at) (l : link < length whole) (bad : Lacks left at link)
+        (holds : Holds at) (past : HasItsPast whole left (reader link) (slice_index at (reader link))) where
+      abbrev last : ℕ
+      last = slice_index at (reader link)
 
-    holds_on : (at : List ℕ) (link : ℕ) → IsCut left at → link < length left → Lacks left at link → Holds at → Holds (lowered left at link)
+      abbrev rank : ℕ
+      rank = sendings_in whole link (slice_index at link)
+
+      last_within : slice_index at (reader link) ≤ length (log_of whole (reader link))
+      last_within = omega (arith, reader_within at is link l, (left_count (reader link) (reader_is at is link l)).1)
+
+      receipt_lacks : Ranked receipt (log_of whole (reader link)) last rank (Draw 0)
+      receipt_lacks =
+          let many = rw n at bad in
+          ranked receipt (log_of whole (reader link)) last rank (Draw 0) last_within
+          (omega (arith, many, same_sendings at is link l, same_receipts at is link l))
+
+      pair : (a : Ranked sending (log_of whole link) (length (log_of whole link)) rank (Draw 0))
+          × IsPair whole link (suc a.place) (suc receipt_lacks.place)
+      pair = pair_of whole link last rank matches l last_within receipt_lacks
+
+      sent_before : Before whole link (suc pair.0.place) (reader link) last
+      sent_before =
+          before_later whole link (suc pair.0.place) (reader link) (suc receipt_lacks.place) last (message refl pair.1)
+          (omega (arith, receipt_lacks.below)) last_within
+
+      sending_past : HasItsPast whole left link (suc pair.0.place)
+      sending_past j c known = past j c (inr (elim known [
+        | inl same ↦ rw (same.0, same.1) sent_before
+        | inr earlier ↦ onward earlier sent_before
+      ]))
+
+      no_past : ⊥
+      no_past =
+          let held = holds link (suc pair.0.place) l sending_past in
+          let up_to : pair.0.place + 1 ≤ slice_index at link = omega (arith, held) in
+          let more = rank_mono sending (log_of whole link) (pair.0.place + 1) (slice_index at link) up_to in
+          absurd (omega (arith, pair.0.next_rank, more))
+
+    holds_on : (at : List ℕ) (link : ℕ) → IsCut left at → link < length left → Lacks left at link → Holds at
+        → Holds (lowered left at link)
     holds_on at link is l' bad holds i a l past =
-        let n : length left ≡ length whole = are.places in
-        let link_in : link < length whole = omega (arith, l', n) in
         lowered_within left at link is l' bad i a (holds i a l past) (λ same.
         elim (cases_lt a (slice_index at i)) [
           | inl lt ↦ lt
           | inr ge ↦
-              let here : i ≡ next (length whole) link = same ∙ ap (λ m. next m link) n in
-              let top : slice_index at i ≡ slice_index at (next (length whole) link) = ap (slice_index at) here in
-              let last : a ≡ slice_index at (next (length whole) link) = omega (arith, ge, holds i a l past, top) in
-              let past' : HasItsPast whole left (next (length whole) link) (slice_index at (next (length whole) link)) =
+              let here : i ≡ reader link = same ∙ ap (λ m. next m link) n in
+              let last : a ≡ slice_index at (reader link) =
+              omega (arith, ge, holds i a l past, ap (slice_index at) here) in
+              let past' : HasItsPast whole left (reader link) (slice_index at (reader link)) =
               rw (here, last) at past in
-              absurd (no_past at link is link_in bad holds past')
+              absurd (no_past at link is (omega (arith, l', n)) bad holds past')
         ])
 
     -- an event with its past is in the greatest consistent beginning
     pub past_is_kept : (at : List ℕ) → IsGreatestBeginning left at → Holds at
     past_is_kept at greatest i a l past =
-        let n : length left ≡ length whole = are.places in
-        let l' : i < length left = omega (arith, l, n) in
         let found = settled left Holds holds_on (whole_cut left) (whole_is_cut left)
         (λ j c lj its. rw (whole_at left j (omega (arith, lj, n))) (its j c (inl (refl, refl)))) in
-        omega (arith, found.2 i a l past, greatest.greatest found.0 found.1 i l')
+        omega (arith, found.2 i a l past, greatest.greatest found.0 found.1 i (omega (arith, l, n)))
 
   -- an event of a consistent beginning has its past
-  pub kept_has_past : (at : List ℕ) → IsConsistentBeginning left at → (i a : ℕ) → i < length whole → a ≤ slice_index at i
-      → HasItsPast whole left i a
+  pub kept_has_past : (at : List ℕ) → IsConsistentBeginning left at
+      → (i a : ℕ) → i < length whole → a ≤ slice_index at i → HasItsPast whole left i a
   kept_has_past at is i a l le j b (inl same) =
-      rw (same.0, same.1) (omega (arith, le, is.cut_is.within i (omega (arith, l, are.places))))
+      rw (same.0, same.1) (omega (arith, le, is.cut_is.within i (omega (arith, l, n))))
   kept_has_past at is i a l le j b (inr before) =
+      let held = covers_consistent whole (slice_index at) (beginning_covers at is) j b i a before le in
       let lj = (before_places whole j b i a before).0 in
-      omega (arith, covers_consistent whole (slice_index at) (beginning_covers at is) j b i a before le, is.cut_is.within j (omega (arith, lj, are.places)))
+      omega (arith, held, is.cut_is.within j (omega (arith, lj, n)))

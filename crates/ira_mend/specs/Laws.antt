@@ -18,14 +18,14 @@ use Rattle.ira_mend.specs.Mended.{HasDifference, IsGreatestOf}
 -- the join of two consistent beginnings is one
 abbrev pub JoinsAreBeginnings : Type 0
 JoinsAreBeginnings =
-    (logs : List Log) (a b cut : List ℕ) → IsConsistentBeginning logs a → IsConsistentBeginning logs b → IsJoin logs a b cut
-    → IsConsistentBeginning logs cut
+    (logs : List Log) (a b cut : List ℕ) → IsConsistentBeginning logs a → IsConsistentBeginning logs b
+    → IsJoin logs a b cut → IsConsistentBeginning logs cut
 
 -- and so is their meet
 abbrev pub MeetsAreBeginnings : Type 0
 MeetsAreBeginnings =
-    (logs : List Log) (a b cut : List ℕ) → IsConsistentBeginning logs a → IsConsistentBeginning logs b → IsMeet logs a b cut
-    → IsConsistentBeginning logs cut
+    (logs : List Log) (a b cut : List ℕ) → IsConsistentBeginning logs a → IsConsistentBeginning logs b
+    → IsMeet logs a b cut → IsConsistentBeginning logs cut
 
 -- any logs have a greatest one
 abbrev pub LogsHaveAGreatestBeginning : Type 0
@@ -52,7 +52,8 @@ ConsistentCutsAreKept =
 -- and finds no receipt that differs from its sending
 abbrev pub CutOffLogsDontDiffer : Type 0
 CutOffLogsDontDiffer =
-    (whole left : List Log) (cut : List ℕ) (f : MatchFault) → Matches whole → AreBegun whole cut left → ¬ (HasDifference left f)
+    (whole left : List Log) (cut : List ℕ) (f : MatchFault) → Matches whole → AreBegun whole cut left
+    → ¬ (HasDifference left f)
 
 -- where the whole logs are those of a ring, match, have an order and are local runs, so it is with the mended ones
 abbrev pub MendedRunsAreRuns : Type 0
@@ -63,5 +64,6 @@ MendedRunsAreRuns =
 -- and the answer of their texts is yes
 abbrev pub MendedRunsGetYes : Type 0
 MendedRunsGetYes =
-    (whole left mended : List Log) (cut : List ℕ) (texts : List (List ℕ)) → AreLogs whole → HasOrder whole → AreLocalRuns whole
-    → AreBegun whole cut left → IsGreatestOf left mended → AreLogTexts texts mended → IsLogsAnswer texts Yes
+    (whole left mended : List Log) (cut : List ℕ) (texts : List (List ℕ)) → AreLogs whole → HasOrder whole
+    → AreLocalRuns whole → AreBegun whole cut left → IsGreatestOf left mended → AreLogTexts texts mended
+    → IsLogsAnswer texts Yes
