@@ -46,7 +46,7 @@ module _ (logs : List Log) (cut : List ℕ) (are : AreLogs logs) (matches : Matc
       omega (arith, longer, once_more p.order i, p.holds i l)
 
   -- the events so far of node i
-  at : ℕ → ℕ
+  abbrev at : ℕ → ℕ
   at i = slice_index cut i
 
   covered : (i : ℕ) → i < length logs → length (got (take (at (next (length logs) i)) (log_of logs (next (length logs) i)))) ≤ length (sent (take (at i) (log_of logs i)))

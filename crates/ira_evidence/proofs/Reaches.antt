@@ -1,7 +1,8 @@
 -- How far nodes come, an event more at a time, and that no order holds more.
-use Rattle.std.proofs.Common.{◌≡◌, ◌≢◌, ℕ, zero, suc, ◌+◌, ◌-◌, ◌<◌, ◌≤◌, ◌⊎◌, inl, inr, List, [], ◌∷◌, ◌++◌, Some, length, refl, sym, ◌∙◌, ap, subst, arith, replicate, set, take, get_or-set_other, get_or-set_same, length-set}
+use Rattle.std.proofs.Common.{◌≡◌, ◌≢◌, ℕ, zero, suc, ◌+◌, ◌-◌, ◌<◌, ◌≤◌, ◌⊎◌, inl, inr, List, [], ◌∷◌, ◌++◌, Some, length, refl, sym, ◌∙◌, ap, subst, arith, drop, replicate, set, take, get_or-set_other, get_or-set_same, length-set}
 use Rattle.std.specs.List.{sum_by}
 use Rattle.std.specs.Prelude.{slice_get, slice_index, map}
+use Rattle.std.proofs.Math.Seq.{take-append_seam}
 use Rattle.std.proofs.lemmas.Bool.{cases_eq, eq-eqb, ne_eqb}
 use Rattle.std.proofs.lemmas.List.{get_or-map, get_or-replicate, length-map, length-replicate, take_all}
 use Rattle.std.proofs.lemmas.List.Sums.{sum_by_push, sum_by-cons, sum_by-set}
@@ -173,3 +174,7 @@ none_reached logs are = record {
   ordered = (no_step_yet logs are).schedule;
   holds = λ i l. rw (get_or-replicate (length logs) i no_events no_events l) refl;
 }
+
+-- what stands in a list whose part was written
+pub written_back : (new items : List Reach) (n : ℕ) → n ≡ length new → take n (new ++ drop (length new) items) ≡ new
+written_back new items n is = ap (λ k. take k (new ++ drop (length new) items)) is ∙ take-append_seam new (drop (length new) items)
