@@ -24,6 +24,7 @@ use Rattle.ira_order.proofs.Places.{Ranked, fewer_receipts, is_receipt}
 use Rattle.ira_order.proofs.Ranks.{next_below, rank_mono}
 use Rattle.ira_order.proofs.Runs.{next_prev, prev_below, prev_next}
 use Rattle.ira_evidence.specs.CircleEvidence.{IsCircle, IsLongestPrefix}
+use Rattle.ira_evidence.specs.StuckNodes.{IsWaiting}
 use Rattle.ira_evidence.proofs.Around.{around}
 use Rattle.ira_evidence.proofs.Counted.{at_number, counted_more}
 use Rattle.ira_evidence.proofs.Reaches.{once_more}
@@ -183,6 +184,13 @@ module _ (logs : List Log) (cut : List ℕ) (are : AreLogs logs) (matches : Matc
         } in
         let found = pair_of logs i (length (log_of logs (next (length logs) i))) (length (sent (take (at i) (log_of logs i)))) matches l (omega arith) b in
         (suc found.0.place, rw (add-one (at (next (length logs) i))) found.1)
+
+    pub waiting : (j : ℕ) → j < length logs → IsWaiting logs j (at j)
+    waiting j lj =
+        let r = received j lj in
+        let found = stuck_pair (prev (length logs) j) (prev_below (length logs) j lj) in
+        let pair : IsPair logs (prev (length logs) j) found.0 (at j + 1) = subst (λ k. IsPair logs (prev (length logs) j) found.0 (at k + 1)) (next_prev (length logs) j lj) found.1 in
+        record { load = r.0; receives = r.1; sending = found.0; pair = pair }
 
     pub circle : IsCircle logs cut
     circle = record {
