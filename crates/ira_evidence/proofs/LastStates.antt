@@ -2,6 +2,7 @@
 use Rattle.std.proofs.Common.{◌≡◌, ℕ, zero, suc, ◌+◌, ◌-◌, ◌<◌, ◌≤◌, inl, inr, Bool, true, false, cond, leb, List, [], ◌∷◌, ◌++◌, Some, Ok, Err, length, refl, sym, ◌∙◌, ap, subst, arith, drop, length-drop, add-one}
 use Rattle.std.specs.List.{enumerate_from}
 use Rattle.std.specs.Prelude.{slice_get}
+use Rattle.std.proofs.Math.ListN.{drop_of_length-le}
 use Rattle.std.proofs.lemmas.Bool.{cases_lt, le-leb, leb-true}
 use Rattle.ira_event.specs.declared.event.Event.{Event}
 use Rattle.ira_event.specs.Log.{Log}
@@ -20,7 +21,7 @@ use Rattle.ira_replay.proofs.Reached.{same_next}
 use Rattle.ira_evidence.specs.NodeEvidence.{IsNodeEvidence}
 
 -- those of placed states that stand from a position on
-pub kept : ℕ → List (ℕ × NodeState) → List NodeState
+abbrev pub kept : ℕ → List (ℕ × NodeState) → List NodeState
 kept first [] = []
 kept first (x ∷ xs) = cond (leb first x.0) (x.1 ∷ kept first xs) (kept first xs)
 
@@ -38,12 +39,8 @@ not_below first p l = by_test (leb first p) refl
 pub kept_over : (first p : ℕ) (s : NodeState) (xs : List (ℕ × NodeState)) → p < first → kept first ((p, s) ∷ xs) ≡ kept first xs
 kept_over first p s xs l = (let test : leb first p ≡ false = not_below first p l in rw test refl)
 
-drop_none : (n : ℕ) → drop n ([] {A = NodeState}) ≡ []
-drop_none zero = refl
-drop_none (suc n) = refl
-
 kept_from : (first p : ℕ) (ts : List NodeState) → kept first (enumerate_from p ts) ≡ drop (first - p) ts
-kept_from first p [] = sym (drop_none (first - p))
+kept_from first p [] = sym (drop_of_length-le [] (omega arith))
 kept_from first p (t ∷ ts) = elim (cases_lt p first) [
   | inl low ↦
       let less : first - p ≡ suc (first - (p + 1)) = omega (arith, low) in
@@ -78,7 +75,7 @@ event_between (b ∷ before) e after = event_between before e after
 
 dropped : (ts : List NodeState) (k m : ℕ) → slice_get (drop k ts) m ≡ slice_get ts (k + m)
 dropped ts zero m = (let same : m ≡ 0 + m = omega arith in ap (slice_get ts) same)
-dropped [] (suc k) m = (let same : suc (k + m) ≡ suc k + m = omega arith in ap (slice_get ([] {A = NodeState})) same)
+dropped [] (suc k) m = refl
 dropped (t ∷ ts) (suc k) m = (let same : suc (k + m) ≡ suc k + m = omega arith in dropped ts k m ∙ ap (slice_get (t ∷ ts)) same)
 
 pub node_evidence : (log : Log) (f : ReplayFault) (states : List NodeState) (placed : List (ℕ × NodeState)) → IsFirstFault log f → ArePlacedStates log.nodes (first_state log.initiator) log.events placed → states ≡ kept (f.position - 5) placed → IsNodeEvidence log f (f.position - 5) states
