@@ -1,18 +1,18 @@
 -- The receipts at which nodes are stuck are a circle once round the ring.
-use Rattle.std.proofs.Common.{◌≡◌, ◌≢◌, ℕ, zero, suc, ◌+◌, ◌-◌, ◌<◌, ◌≤◌, ◌⊎◌, inl, inr, List, [], ◌∷◌, ◌++◌, Option, Some, None, length, refl, sym, ◌∙◌, ap, subst, arith, get_or, take, add-one}
+use Rattle.std.proofs.Common.{◌≡◌, ℕ, suc, ◌+◌, ◌<◌, ◌≤◌, ◌⊎◌, inl, inr, List, [], ◌∷◌, ◌++◌, Option, Some, None, length, refl, sym, ◌∙◌, ap, subst, arith, get_or, take, add-one}
 use Rattle.std.specs.List.{cons_option}
 use Rattle.std.specs.Prelude.{slice_get, slice_index}
 use Rattle.std.proofs.lemmas.Bool.{cases_eq, cases_lt}
 use Rattle.std.proofs.lemmas.List.{take_all}
-use Rattle.std.proofs.lemmas.Option.{get_or_from_slice_get, slice_get-get_or, slice_get_within}
+use Rattle.std.proofs.lemmas.Option.{get_or_from_slice_get, slice_get-get_or}
 use Rattle.ira_event.specs.declared.event.Event.{Event}
 use Rattle.ira_event.specs.declared.event.Event.TheVariants.{Draw, Got, Sent}
 use Rattle.ira_event.specs.declared.load.Load.{Load}
 use Rattle.ira_event.specs.Log.{Log}
 use Rattle.ira_event.specs.Logs.{AreLogs}
 use Rattle.ira_order.specs.Before.{Before, message, onward, own}
-use Rattle.ira_order.specs.Circle.{HasCircle, HasOrder}
-use Rattle.ira_order.specs.Counts.{IsReady, IsSchedule, IsWholeSchedule}
+use Rattle.ira_order.specs.Circle.{HasOrder}
+use Rattle.ira_order.specs.Counts.{IsReady}
 use Rattle.ira_order.specs.Matching.{Matches, got, receipt, sending, sent}
 use Rattle.ira_order.specs.Order.{IsOrder, IsPair, occurrences}
 use Rattle.ira_order.specs.Ring.{log_of, next, numbered, prev}
@@ -132,11 +132,15 @@ module _ (logs : List Log) (cut : List ℕ) (are : AreLogs logs) (matches : Matc
 
   -- where none is, the prefix is an order
   pub whole_order : ((i : ℕ) → i < length logs → length (log_of logs i) ≤ at i) → HasOrder logs
-  whole_order whole = (matches, p.order, kept_order logs p.order are.ring.0 (record {
-    matches = matches;
-    schedule = p.ordered;
-    whole = λ i l. omega (arith, whole i l, p.holds i l, p.ordered.within i l);
-  }))
+  whole_order whole = (
+    matches,
+    p.order,
+    kept_order logs p.order are.ring.0 (record {
+      matches = matches;
+      schedule = p.ordered;
+      whole = λ i l. omega (arith, whole i l, p.holds i l, p.ordered.within i l);
+    }),
+  )
 
   module _ (short : (i : ℕ) → i < length logs → at i < length (log_of logs i)) where
     -- the event at which node i is stuck is no sending

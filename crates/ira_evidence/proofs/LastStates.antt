@@ -1,5 +1,5 @@
 -- The last states up to an event without a step.
-use Rattle.std.proofs.Common.{◌≡◌, ℕ, zero, suc, ◌+◌, ◌-◌, ◌<◌, ◌≤◌, inl, inr, Bool, true, false, cond, leb, List, [], ◌∷◌, ◌++◌, Some, Ok, Err, length, refl, sym, ◌∙◌, ap, subst, arith, drop, length-drop, add-one}
+use Rattle.std.proofs.Common.{◌≡◌, ℕ, zero, suc, ◌+◌, ◌-◌, ◌<◌, ◌≤◌, inl, inr, Bool, true, false, cond, leb, List, [], ◌∷◌, ◌++◌, Some, Ok, Err, length, refl, sym, ◌∙◌, ap, subst, arith, drop, length-drop}
 use Rattle.std.specs.List.{enumerate_from}
 use Rattle.std.specs.Prelude.{slice_get}
 use Rattle.std.proofs.Math.ListN.{drop_of_length-le}
@@ -7,7 +7,6 @@ use Rattle.std.proofs.lemmas.Bool.{cases_lt, le-leb, leb-true}
 use Rattle.ira_event.specs.declared.event.Event.{Event}
 use Rattle.ira_event.specs.Log.{Log}
 use Rattle.ira_node.specs.NodeState.{first_state}
-use Rattle.ira_node.specs.NodeStep.{NodeStep}
 use Rattle.ira_node.specs.NodeStepFault.{NodeStepFault}
 use Rattle.ira_node.specs.StepAnswer.{answer}
 use Rattle.ira_node.specs.declared.node_state.NodeState.{NodeState}
@@ -15,7 +14,7 @@ use Rattle.ira_node.specs.declared.step_fault.StepFault.{StepFault}
 use Rattle.ira_node.proofs.Answers.{fault_gives, step_gives}
 use Rattle.ira_order.specs.Ring.{numbered}
 use Rattle.ira_replay.specs.LocalRun.{IsFirstFault, LeadsTo}
-use Rattle.ira_replay.specs.StatesOfLog.{ArePlacedStates, AreStates, AreStatesOfLog}
+use Rattle.ira_replay.specs.StatesOfLog.{ArePlacedStates, AreStates}
 use Rattle.ira_replay.specs.declared.replay_fault.ReplayFault.{ReplayFault}
 use Rattle.ira_replay.proofs.Reached.{same_next}
 use Rattle.ira_evidence.specs.NodeEvidence.{IsNodeEvidence}

@@ -1,7 +1,6 @@
 use Rattle.std.proofs.Common.{◌≡◌, arith, true, false}
 use Rattle.std.proofs.lemmas.Option.{slice_get_within}
 use Rattle.ira_evidence.specs.Beginning.{HappenedBefore}
-use Rattle.ira_evidence.specs.declared.stop.Stop.{Stop}
 use Rattle.ira_evidence.proofs.BeginningLists.{event_listed, stop_at, stop_listed, stops_below}
 use Rattle.ira_evidence.proofs.beginning.is_least.Goals as goal
 
@@ -24,9 +23,9 @@ returns-then-before g c = (
 pub loop-stop-preserved : goal.loop-stop-preserved
 loop-stop-preserved g c =
     stops_below c.args.stops.now (λ s. HappenedBefore (g.H.HappenedBefore.logs_of c.args.ordered.now) s.at c.args.at → ⊥) c.loop-stop.stop-index c.loop-stop-test.true c.loop-stop.invariant (λ happened.
-        let yes_is : c.before-in-loop-stop.result ≡ true = c.before-in-loop-stop.ensures.1 happened in
-        let no_is : c.before-in-loop-stop.result ≡ false = c.if-before.false in
-        cc)
+    let yes_is : c.before-in-loop-stop.result ≡ true = c.before-in-loop-stop.ensures.1 happened in
+    let no_is : c.before-in-loop-stop.result ≡ false = c.if-before.false in
+    cc)
 
 pub returns : goal.returns
 returns g c = λ s is happened.

@@ -1,9 +1,9 @@
-use Rattle.std.proofs.Common.{◌≡◌, ◌∙◌, ◌+◌, ◌*◌, ◌<◌, ◌≤◌, ap, arith, length, take}
-use Rattle.std.proofs.lemmas.List.{length_push, take_all}
+use Rattle.std.proofs.Common.{◌<◌, ◌≤◌, arith, length}
+use Rattle.std.proofs.lemmas.List.{length_push}
 use Rattle.std.proofs.lemmas.List.Sums.{sum_by_more}
 use Rattle.ira_event.specs.Limits.{MAX_RECORDS}
 use Rattle.ira_evidence.specs.CircleEvidence.{IsStuckAt}
-use Rattle.ira_evidence.specs.Reach.{reach_of, total_reached}
+use Rattle.ira_evidence.specs.Reach.{reach_of}
 use Rattle.ira_evidence.specs.declared.reach.Reach.{Reach}
 use Rattle.ira_evidence.proofs.Pushed.{each_pushed}
 use Rattle.ira_evidence.proofs.Reaches.{no_events}
