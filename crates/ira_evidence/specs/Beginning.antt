@@ -19,5 +19,5 @@ pub record IsBeginning (logs : List Log) (s : Stop) : Type 0 where
 -- all such events, in the order of places, each with whether it happened before the named one
 pub record AreBeginnings (logs : List Log) (named : EventAt) (beginnings : List Beginning) : Type 0 where
   pub each : (k : ℕ) (b : Beginning) → slice_get beginnings k ≡ Some b → IsBeginning logs b.stop × (IsTrue b.happened_before ↔ HappenedBefore logs b.stop.at named)
-  pub all : (s : Stop) → IsBeginning logs s → (k : ℕ) (b : Beginning) × (slice_get beginnings k ≡ Some b) × (b.stop ≡ s)
+  pub all : (s : Stop) → IsBeginning logs s → (k : ℕ) × (b : Beginning) × (slice_get beginnings k ≡ Some b) × (b.stop ≡ s)
   pub rise : (k h : ℕ) (a b : Beginning) → k < h → slice_get beginnings k ≡ Some a → slice_get beginnings h ≡ Some b → a.stop.at.place < b.stop.at.place
