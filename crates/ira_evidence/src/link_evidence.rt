@@ -1,4 +1,9 @@
+ghost use Rattle.std.specs.Prelude.{◌≡◌, ◌<◌, Some, length};
+ghost use Rattle.ira_event.specs.declared.load.Load.{Load};
+ghost use Rattle.ira_order.specs.Matching.{got};
 ghost use Rattle.ira_order.specs.MatchFault.{IsMatchFault};
+ghost use Rattle.ira_order.specs.Ring.{log_of, next, numbered};
+ghost use Rattle.ira_evidence.specs.Exchange.{IsNthReceipt};
 ghost use Rattle.ira_evidence.specs.LinkEvidence.{IsLinkEvidence};
 
 use crate::exchange::{Exchange, nth_receipt, nth_sending};
@@ -14,21 +19,34 @@ pub struct LinkEvidence {
     pub sending: Option<Exchange>,
 }
 
+/// Receipt `k` of a link that has as many.
+fn known_receipt<A: Allocator>(logs: &Logs<A>, link: u8, k: u32) -> Exchange
+    requires link { link < length logs.now }
+    requires known { (load : Load)
+        × (numbered (got (log_of logs.now (next (length logs.now) link))) k ≡ Some load) }
+    ensures { IsNthReceipt logs.now link k result }
+{
+    match nth_receipt(logs, link, k) {
+        Some(receipt) => receipt,
+        None => unreachable!(),
+    }
+}
+
 impl LinkEvidence {
     /// The two sides of a fault that logs have.
     pub fn of_fault<A: Allocator>(logs: &Logs<A>, fault: MatchFault) -> LinkEvidence
         requires { IsMatchFault logs.now fault }
         ensures { IsLinkEvidence logs.now fault result }
     {
-        let (link, k) = match fault {
-            MatchFault::NoSending { link, k } | MatchFault::Differs { link, k } => (link, k),
-        };
-        let Some(receipt) = nth_receipt(logs, link, k) else {
-            unreachable!()
-        };
-        LinkEvidence {
-            receipt,
-            sending: nth_sending(logs, link, k),
+        match fault {
+            MatchFault::NoSending { link, k } => LinkEvidence {
+                receipt: known_receipt(logs, link, k),
+                sending: None,
+            },
+            MatchFault::Differs { link, k } => LinkEvidence {
+                receipt: known_receipt(logs, link, k),
+                sending: nth_sending(logs, link, k),
+            },
         }
     }
 }

@@ -1,6 +1,6 @@
-ghost use Rattle.std.specs.Prelude.{◌≡◌, ◌<◌, ℕ, IfOk, MatchBool, MatchOption, length};
+ghost use Rattle.std.specs.Prelude.{◌≡◌, ◌<◌, ◌≤◌, ℕ, IfOk, MatchBool, MatchOption, length};
 ghost use Rattle.ira_order.specs.Ring.{log_of, prev};
-ghost use Rattle.ira_evidence.specs.Reach.{IsReach, IsNextReach, IsHeldAt, AreReached, AreHeld, HasGoneOn, reach_of};
+ghost use Rattle.ira_evidence.specs.Reach.{IsReach, IsNextReach, IsHeldAt, AreReached, AreHeld, HasGoneOn, HaveGoneOn, reach_of};
 
 use ira_event::{Event, Logs, NodeLog, OutOfMemory};
 use std::alloc::Allocator;
@@ -62,13 +62,27 @@ fn advance<A: Allocator>(logs: &Logs<A>, reaches: &mut [Reach], place: u8) -> bo
     }
 }
 
-/// Lets each node in turn go on as far as it may, and says whether one did.
+/// Adds a node's events as far as they may come, and says whether there were any.
+fn run<A: Allocator>(logs: &Logs<A>, reaches: &mut [Reach], place: u8) -> bool
+    requires reached { AreReached logs.now reaches.old }
+    requires place { place < length logs.now }
+    ensures { HasGoneOn logs.now place reaches.old reaches.new result }
+{
+    let mut further = false;
+    while advance(logs, reaches, place) {
+        further = true;
+    }
+    further
+}
+
+/// Runs each node in turn, and says whether one went on.
 fn round<A: Allocator>(logs: &Logs<A>, reaches: &mut [Reach]) -> bool
     requires { AreReached logs.now reaches.old }
+    ensures { HaveGoneOn logs.now reaches.old reaches.new result }
 {
     let mut further = false;
     for place in 0..logs.size().get() {
-        while advance(logs, reaches, place) {
+        if run(logs, reaches, place) {
             further = true;
         }
     }
@@ -80,7 +94,8 @@ pub(crate) fn longest_reaches<A: Allocator>(
     alloc: A,
     logs: &Logs<A>,
 ) -> Result<Vec<Reach, A>, OutOfMemory>
-    ensures { IfOk result (λ reaches. AreReached logs.now reaches.items × AreHeld logs.now reaches.items) }
+    ensures reached { IfOk result (λ reaches. AreReached logs.now reaches.items) }
+    ensures held { IfOk result (λ reaches. AreHeld logs.now reaches.items) }
 {
     let nodes = usize::from(logs.size().get());
     let start = Reach {
@@ -96,6 +111,10 @@ pub(crate) fn longest_reaches<A: Allocator>(
 /// Whether each node has made all its events.
 pub(crate) fn is_whole<A: Allocator>(logs: &Logs<A>, reaches: &[Reach]) -> bool
     requires { length reaches.now ≡ length logs.now }
+    ensures { MatchBool result
+        ((i : ℕ) → i < length logs.now → length (log_of logs.now i) ≤ (reach_of reaches.now i).events)
+        ((i : ℕ) × (i < length logs.now)
+        × ((reach_of reaches.now i).events < length (log_of logs.now i))) }
 {
     for place in 0..logs.size().get() {
         if (reaches[usize::from(place)].events as usize) < logs.log(place).len() {
