@@ -11,10 +11,10 @@ next_last n i l = grind (arith, nat_tests)
 
 module _ (n : ℕ) (P : ℕ → Type 0) (on : (j : ℕ) → j < n → P j → P (next n j)) where
   up : (k i : ℕ) → i + k < n → P i → P (i + k)
-  up zero i l here = here
+  up zero i l here = (let same : i ≡ i + 0 = omega arith in subst P same here)
   up (suc k) i l here =
       let before : P (i + k) = up k i (omega (arith, l)) here in
-      let to : next n (i + k) ≡ i + suc k = next_up n (i + k) (omega (arith, l)) in
+      let to : next n (i + k) ≡ i + suc k = (let e = next_up n (i + k) (omega (arith, l)) in omega (arith, e)) in
       subst P to (on (i + k) (omega (arith, l)) before)
 
   higher : (i j : ℕ) → i ≤ j → j < n → P i → P j

@@ -1,18 +1,18 @@
 -- The receipts at which nodes are stuck are a circle once round the ring.
-use Rattle.std.proofs.Common.{◌≡◌, ◌≢◌, ℕ, zero, suc, ◌+◌, ◌-◌, ◌<◌, ◌≤◌, ◌⊎◌, inl, inr, List, [], ◌∷◌, ◌++◌, Option, Some, None, length, refl, sym, ◌∙◌, ap, subst, arith, get_or, take, add-one}
+use Rattle.std.proofs.Common.{◌≡◌, ℕ, suc, ◌+◌, ◌<◌, ◌≤◌, ◌⊎◌, inl, inr, List, [], ◌∷◌, ◌++◌, Option, Some, None, length, refl, sym, ◌∙◌, ap, subst, arith, get_or, take, add-one}
 use Rattle.std.specs.List.{cons_option}
 use Rattle.std.specs.Prelude.{slice_get, slice_index}
 use Rattle.std.proofs.lemmas.Bool.{cases_eq, cases_lt}
 use Rattle.std.proofs.lemmas.List.{take_all}
-use Rattle.std.proofs.lemmas.Option.{get_or_from_slice_get, slice_get-get_or, slice_get_within}
+use Rattle.std.proofs.lemmas.Option.{get_or_from_slice_get, slice_get-get_or}
 use Rattle.ira_event.specs.declared.event.Event.{Event}
 use Rattle.ira_event.specs.declared.event.Event.TheVariants.{Draw, Got, Sent}
 use Rattle.ira_event.specs.declared.load.Load.{Load}
 use Rattle.ira_event.specs.Log.{Log}
 use Rattle.ira_event.specs.Logs.{AreLogs}
 use Rattle.ira_order.specs.Before.{Before, message, onward, own}
-use Rattle.ira_order.specs.Circle.{HasCircle, HasOrder}
-use Rattle.ira_order.specs.Counts.{IsReady, IsSchedule, IsWholeSchedule}
+use Rattle.ira_order.specs.Circle.{HasOrder}
+use Rattle.ira_order.specs.Counts.{IsReady}
 use Rattle.ira_order.specs.Matching.{Matches, got, receipt, sending, sent}
 use Rattle.ira_order.specs.Order.{IsOrder, IsPair, occurrences}
 use Rattle.ira_order.specs.Ring.{log_of, next, numbered, prev}
@@ -24,6 +24,7 @@ use Rattle.ira_order.proofs.Places.{Ranked, fewer_receipts, is_receipt}
 use Rattle.ira_order.proofs.Ranks.{next_below, rank_mono}
 use Rattle.ira_order.proofs.Runs.{next_prev, prev_below, prev_next}
 use Rattle.ira_evidence.specs.CircleEvidence.{IsCircle, IsLongestPrefix}
+use Rattle.ira_evidence.specs.StuckNodes.{IsWaiting}
 use Rattle.ira_evidence.proofs.Around.{around}
 use Rattle.ira_evidence.proofs.Counted.{at_number, counted_more}
 use Rattle.ira_evidence.proofs.Reaches.{once_more}
@@ -46,7 +47,7 @@ module _ (logs : List Log) (cut : List ℕ) (are : AreLogs logs) (matches : Matc
       omega (arith, longer, once_more p.order i, p.holds i l)
 
   -- the events so far of node i
-  at : ℕ → ℕ
+  abbrev at : ℕ → ℕ
   at i = slice_index cut i
 
   covered : (i : ℕ) → i < length logs → length (got (take (at (next (length logs) i)) (log_of logs (next (length logs) i)))) ≤ length (sent (take (at i) (log_of logs i)))
@@ -131,11 +132,15 @@ module _ (logs : List Log) (cut : List ℕ) (are : AreLogs logs) (matches : Matc
 
   -- where none is, the prefix is an order
   pub whole_order : ((i : ℕ) → i < length logs → length (log_of logs i) ≤ at i) → HasOrder logs
-  whole_order whole = (matches, p.order, kept_order logs p.order are.ring.0 (record {
-    matches = matches;
-    schedule = p.ordered;
-    whole = λ i l. omega (arith, whole i l, p.holds i l, p.ordered.within i l);
-  }))
+  whole_order whole = (
+    matches,
+    p.order,
+    kept_order logs p.order are.ring.0 (record {
+      matches = matches;
+      schedule = p.ordered;
+      whole = λ i l. omega (arith, whole i l, p.holds i l, p.ordered.within i l);
+    }),
+  )
 
   module _ (short : (i : ℕ) → i < length logs → at i < length (log_of logs i)) where
     -- the event at which node i is stuck is no sending
@@ -183,6 +188,13 @@ module _ (logs : List Log) (cut : List ℕ) (are : AreLogs logs) (matches : Matc
         } in
         let found = pair_of logs i (length (log_of logs (next (length logs) i))) (length (sent (take (at i) (log_of logs i)))) matches l (omega arith) b in
         (suc found.0.place, rw (add-one (at (next (length logs) i))) found.1)
+
+    pub waiting : (j : ℕ) → j < length logs → IsWaiting logs j (at j)
+    waiting j lj =
+        let r = received j lj in
+        let found = stuck_pair (prev (length logs) j) (prev_below (length logs) j lj) in
+        let pair : IsPair logs (prev (length logs) j) found.0 (at j + 1) = subst (λ k. IsPair logs (prev (length logs) j) found.0 (at k + 1)) (next_prev (length logs) j lj) found.1 in
+        record { load = r.0; receives = r.1; sending = found.0; pair = pair }
 
     pub circle : IsCircle logs cut
     circle = record {

@@ -13,7 +13,7 @@ use Rattle.ira_order.specs.Matching.{Matches}
 use Rattle.ira_order.specs.Ring.{log_of, prev}
 use Rattle.ira_evidence.specs.declared.reach.Reach.{Reach}
 use Rattle.ira_evidence.specs.CircleEvidence.{IsCircle, IsLongestPrefix}
-use Rattle.ira_evidence.specs.Reach.{AreHeld, AreReached, IsHeld, IsHeldAt, IsNextReach, IsReach, reach_of, total_reached}
+use Rattle.ira_evidence.specs.Reach.{AreReached, IsHeld, IsHeldAt, IsNextReach, IsReach, reach_of, total_reached}
 use Rattle.ira_evidence.proofs.Circles.{ends_in_circle}
 use Rattle.ira_evidence.proofs.Reaches.{advanced, event_count, events_reached, few_reached, longest_reached, next_reach, none_reached, total_more}
 

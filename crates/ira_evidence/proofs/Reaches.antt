@@ -1,17 +1,17 @@
 -- How far nodes come, an event more at a time, and that no order holds more.
-use Rattle.std.proofs.Common.{◌≡◌, ◌≢◌, ℕ, zero, suc, ◌+◌, ◌-◌, ◌<◌, ◌≤◌, ◌⊎◌, inl, inr, List, [], ◌∷◌, ◌++◌, Some, length, refl, sym, ◌∙◌, ap, subst, arith, replicate, set, take, get_or-set_other, get_or-set_same, length-set}
+use Rattle.std.proofs.Common.{◌≡◌, ◌≢◌, ℕ, suc, ◌+◌, ◌<◌, ◌≤◌, inl, inr, List, [], ◌∷◌, ◌++◌, Some, length, refl, sym, ◌∙◌, ap, arith, drop, replicate, set, take, get_or-set_other, get_or-set_same, length-set}
 use Rattle.std.specs.List.{sum_by}
 use Rattle.std.specs.Prelude.{slice_get, slice_index, map}
+use Rattle.std.proofs.Math.Seq.{take-append_seam}
 use Rattle.std.proofs.lemmas.Bool.{cases_eq, eq-eqb, ne_eqb}
 use Rattle.std.proofs.lemmas.List.{get_or-map, get_or-replicate, length-map, length-replicate, take_all}
 use Rattle.std.proofs.lemmas.List.Sums.{sum_by_push, sum_by-cons, sum_by-set}
 use Rattle.std.proofs.lemmas.Option.{slice_get_within}
 use Rattle.ira_event.specs.declared.event.Event.{Event}
 use Rattle.ira_event.specs.declared.event.Event.TheVariants.{Got}
-use Rattle.ira_event.specs.declared.load.Load.{Load}
 use Rattle.ira_event.specs.Log.{Log}
 use Rattle.ira_event.specs.Logs.{AreLogs}
-use Rattle.ira_order.specs.Counts.{IsReady, IsSchedule}
+use Rattle.ira_order.specs.Counts.{IsReady}
 use Rattle.ira_order.specs.Matching.{got, receipt, sending, sent}
 use Rattle.ira_order.specs.Order.{occurrences}
 use Rattle.ira_order.specs.OrderPrefix.{got_by, sent_by}
@@ -23,7 +23,7 @@ use Rattle.ira_order.proofs.Runs.{next_prev, prev_below, prev_next}
 use Rattle.ira_order.proofs.Stuck.{all_below}
 use Rattle.ira_evidence.specs.declared.reach.Reach.{Reach}
 use Rattle.ira_evidence.specs.CircleEvidence.{IsLongestPrefix}
-use Rattle.ira_evidence.specs.Reach.{AreHeld, AreReached, IsHeld, IsHeldAt, IsNextReach, IsReach, reach_of, total_reached}
+use Rattle.ira_evidence.specs.Reach.{AreHeld, AreReached, IsHeld, IsNextReach, IsReach, reach_of, total_reached}
 use Rattle.ira_evidence.proofs.Counted.{counted_more}
 
 -- a place more at the end of an order
@@ -173,3 +173,7 @@ none_reached logs are = record {
   ordered = (no_step_yet logs are).schedule;
   holds = λ i l. rw (get_or-replicate (length logs) i no_events no_events l) refl;
 }
+
+-- what stands in a list whose part was written
+pub written_back : (new items : List Reach) (n : ℕ) → n ≡ length new → take n (new ++ drop (length new) items) ≡ new
+written_back new items n is = ap (λ k. take k (new ++ drop (length new) items)) is ∙ take-append_seam new (drop (length new) items)

@@ -1,9 +1,7 @@
 -- The two sides of a fault of matching.
-use Rattle.std.proofs.Common.{◌≡◌, ◌≢◌, ℕ, ◌<◌, List, Option, Some, None, length, sym, subst, ◌∙◌}
+use Rattle.std.proofs.Common.{◌≡◌, ℕ, ◌<◌, List, Option, Some, None, length, sym, subst}
 use Rattle.std.specs.Prelude.{MatchOption}
 use Rattle.ira_event.specs.Log.{Log}
-use Rattle.ira_event.specs.declared.load.Load.{Load}
-use Rattle.ira_order.specs.declared.match_fault.MatchFault.{MatchFault}
 use Rattle.ira_order.specs.declared.match_fault.MatchFault.TheVariants.{NoSending, Differs}
 use Rattle.ira_order.specs.Matching.{got, sent}
 use Rattle.ira_order.specs.MatchFault.{HasNoSending, HasOther, IsLinkFault, IsMatchFault}

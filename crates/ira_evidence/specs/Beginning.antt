@@ -1,11 +1,18 @@
 -- Where to begin, of events without a step.
-use Rattle.std.specs.Prelude.{◌≡◌, ◌↔◌, ℕ, ◌<◌, IsTrue, List, Some, slice_get}
+use Rattle.std.specs.Prelude.{◌≡◌, ◌↔◌, ℕ, ◌<◌, ◌≤◌, IsTrue, List, Some, length, slice_get}
 use Rattle.ira_event.specs.Log.{Log}
 use Rattle.ira_order.specs.Before.{Before}
+use Rattle.ira_order.specs.Ring.{log_of}
 use Rattle.ira_evidence.specs.declared.beginning.Beginning.{Beginning}
 use Rattle.ira_evidence.specs.declared.event_at.EventAt.{EventAt}
 use Rattle.ira_evidence.specs.declared.stop.Stop.{Stop}
 use Rattle.ira_evidence.specs.Stop.{IsFirstStop}
+
+-- there is such an event
+pub record IsEventAt (logs : List Log) (at : EventAt) : Type 0 where
+  pub place : at.place < length logs
+  pub first : 1 ≤ at.position
+  pub last : at.position ≤ length (log_of logs at.place)
 
 -- the one event happened before the other
 abbrev pub HappenedBefore : List Log → EventAt → EventAt → Type 0

@@ -22,13 +22,13 @@ pub record IsCircle (logs : List Log) (cut : List ℕ) : Type 0 where
   pub places : length cut ≡ length logs
   pub waits : (i : ℕ) → i < length logs → (a : ℕ) × IsPair logs i a (slice_index cut (next (length logs) i) + 1) × (slice_index cut i + 1 < a)
 
--- the receipt at which node j is stuck, and its sending
-pub record IsStuckAt (logs : List Log) (cut : List ℕ) (j : ℕ) (s : StuckAt) : Type 0 where
+-- the receipt at which node j is stuck after n events, and its sending
+pub record IsStuckAt (logs : List Log) (j n : ℕ) (s : StuckAt) : Type 0 where
   pub node : s.receipt.place ≡ j
-  pub position : s.receipt.position ≡ slice_index cut j + 1
-  pub received : numbered (log_of logs j) s.receipt.position ≡ Some (Got s.load)
+  pub position : s.receipt.position ≡ n + 1
+  pub received : numbered (log_of logs j) (n + 1) ≡ Some (Got s.load)
   pub sender : s.sending.place ≡ prev (length logs) j
-  pub pair : IsPair logs s.sending.place s.sending.position s.receipt.position
+  pub pair : IsPair logs (prev (length logs) j) s.sending.position (n + 1)
 
 -- so many events can be put in order, and these are the receipts at which the nodes are stuck, in the order of places: a
 -- circle once round the ring
@@ -38,4 +38,4 @@ pub record IsCircleEvidence (logs : List Log) (ordered : ℕ) (stuck : List Stuc
   pub longest : IsLongestPrefix logs cut
   pub total : ordered ≡ sum cut
   pub circle : IsCircle logs cut
-  pub each : (j : ℕ) (s : StuckAt) → slice_get stuck j ≡ Some s → IsStuckAt logs cut j s
+  pub each : (j : ℕ) (s : StuckAt) → slice_get stuck j ≡ Some s → IsStuckAt logs j (slice_index cut j) s

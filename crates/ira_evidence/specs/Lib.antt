@@ -6,3 +6,4 @@ pub mod LinkEvidence
 pub mod NodeEvidence
 pub mod Reach
 pub mod Stop
+pub mod StuckNodes

@@ -1,6 +1,8 @@
-ghost use Rattle.std.specs.Prelude.{IfOk};
-ghost use Rattle.ira_evidence.specs.Stop.{AreFirstStops};
-ghost use Rattle.ira_evidence.specs.Beginning.{AreBeginnings};
+ghost use Rattle.std.specs.Prelude.{◌<◌, ◌≤◌, IfOk, MatchBool, length};
+ghost use Rattle.ira_order.specs.Ring.{log_of};
+ghost use Rattle.ira_evidence.specs.Beginning.{AreBeginnings, IsEventAt, HappenedBefore as Happened};
+ghost use Rattle.ira_evidence.specs.Stop.{AreFirstStops, IsFirstStop};
+ghost use Rattle.ira_evidence.specs.declared.stop.Stop.{Stop};
 
 use crate::event_at::EventAt;
 use crate::stop::Stop;
@@ -18,7 +20,13 @@ pub struct Beginning {
 }
 
 /// Whether none of the stops happened before this event.
-fn is_least<H: HappenedBefore>(ordered: &H, stops: &[Stop], at: EventAt) -> bool {
+fn is_least<H: HappenedBefore>(ordered: &H, stops: &[Stop], at: EventAt) -> bool
+    requires stops { AreFirstStops (H.logs_of ordered.now) stops.now }
+    requires event { IsEventAt (H.logs_of ordered.now) at }
+    ensures { MatchBool result
+        ((s : Stop) → IsFirstStop (H.logs_of ordered.now) s → ¬ (Happened (H.logs_of ordered.now) s.at at))
+        ((s : Stop) × IsFirstStop (H.logs_of ordered.now) s × Happened (H.logs_of ordered.now) s.at at) }
+{
     for stop in stops {
         if ordered.before(stop.at.place, stop.at.position, at.place, at.position) {
             return false;
@@ -35,7 +43,8 @@ pub fn beginnings<H: HappenedBefore, A: Allocator>(
     stops: &[Stop],
     named: EventAt,
 ) -> Result<Vec<Beginning, A>, OutOfMemory>
-    requires { AreFirstStops (H.logs_of ordered.now) stops.now }
+    requires stops { AreFirstStops (H.logs_of ordered.now) stops.now }
+    requires named { IsEventAt (H.logs_of ordered.now) named }
     ensures { IfOk result
         (λ beginnings. AreBeginnings (H.logs_of ordered.now) named beginnings.items) }
 {

@@ -1,9 +1,8 @@
-use Rattle.std.proofs.Common.{◌≡◌, ◌∷◌, ◌∙◌, ◌+◌, [], ap, sym, arith, rules, suc, take, length}
+use Rattle.std.proofs.Common.{◌≡◌, ◌∷◌, ◌∙◌, [], ap, sym, arith, rules, take, length}
 use Rattle.std.proofs.lemmas.List.{take_all}
 use Rattle.std.proofs.lemmas.Option.{slice_get_within}
 use Rattle.ira_event.specs.declared.event.Event.TheVariants.{Got}
 use Rattle.ira_order.specs.Matching.{receipt, got}
-use Rattle.ira_order.specs.Ring.{numbered}
 use Rattle.ira_order.proofs.OrderPrefixes.{rank_le, receives_nothing}
 use Rattle.ira_order.proofs.Receipts.{next_ahead, none_ahead}
 use Rattle.ira_evidence.proofs.Counted.{counted_more, none_numbered, nth_got}

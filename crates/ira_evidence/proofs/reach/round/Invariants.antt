@@ -1,4 +1,4 @@
-use Rattle.std.proofs.Common.{◌≡◌, ◌<◌, ◌≤◌, ℕ, true, false}
+use Rattle.std.proofs.Common.{◌≡◌, ◌<◌, ℕ, true, false}
 use Rattle.ira_evidence.specs.Reach.{AreReached, IsHeld, total_reached}
 use Rattle.ira_evidence.proofs.reach.round.Given as goal
 

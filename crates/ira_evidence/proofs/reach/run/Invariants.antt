@@ -1,4 +1,4 @@
-use Rattle.std.proofs.Common.{◌≡◌, ◌<◌, ◌≤◌, ◌-◌, true, false}
+use Rattle.std.proofs.Common.{◌≡◌, ◌<◌, ◌-◌, true, false}
 use Rattle.std.specs.List.{sum_by}
 use Rattle.ira_evidence.specs.Reach.{AreReached, total_reached}
 use Rattle.ira_evidence.proofs.Reaches.{event_count}

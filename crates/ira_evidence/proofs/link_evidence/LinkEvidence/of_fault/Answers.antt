@@ -1,6 +1,5 @@
-use Rattle.std.proofs.Common.{refl, subst, sym}
+use Rattle.std.proofs.Common.{refl, subst}
 use Rattle.ira_order.specs.MatchFault.{IsMatchFault}
-use Rattle.ira_evidence.specs.LinkEvidence.{IsLinkEvidence}
 use Rattle.ira_evidence.proofs.Sides.{missing_side, other_found, other_side}
 use Rattle.ira_evidence.proofs.link_evidence.LinkEvidence.of_fault.Goals as goal
 
