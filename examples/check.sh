@@ -77,25 +77,37 @@ for ask in */*.ask; do
     echo "$rows" | grep -q "^${ask%.ask}$tab" || fail "$ask: no row in README.md"
 done
 
-# Runs each line behind `$`, and prints it, what it prints and its status.
+# A copy of an example's logs, as folder d.
+take() {
+    rm -rf d
+    cp -r "$examples/$1" d
+}
+
+# Runs each line behind `$`, and prints it, what it prints and its status; a line behind `#` is printed alone.
 replay() {
     ira() { "$ira" "$@" < /dev/null; }
     while read -r prompt line; do
-        [ "$prompt" = '$' ] || continue
-        echo "$ $line"
-        eval "$line" 2>&1
-        echo "status $?"
+        case $prompt in
+        '#') echo "# $line" ;;
+        '$')
+            echo "$ $line"
+            eval "$line" 2>&1
+            echo "status $?"
+            ;;
+        esac
     done
 }
 
-folder=$(mktemp -d)
-path=$PWD/from_run_to_check.txt
-if (cd "$folder" && replay < "$path") | diff "$path" -; then
-    passed=$((passed + 1))
-else
-    fail "from_run_to_check.txt: other lines than expected"
-fi
-rm -r "$folder"
+examples=$PWD
+for talk in from_run_to_check.txt; do
+    folder=$(mktemp -d)
+    if (cd "$folder" && replay < "$examples/$talk") | diff "$examples/$talk" -; then
+        passed=$((passed + 1))
+    else
+        fail "$talk: other lines than expected"
+    fi
+    rm -r "$folder"
+done
 
 # Logs in version 2 are those of version 1 but for their first line.
 folder=$(mktemp -d)

@@ -3,7 +3,12 @@
 
 mod carets;
 mod event_words;
+mod explain;
+mod field;
 mod good_block;
+mod heads_block;
+mod line_form;
+mod line_stop;
 mod link_cause;
 mod link_sides;
 mod load_words;
@@ -14,8 +19,12 @@ mod page;
 mod places;
 mod round_words;
 mod rule;
+mod slip;
 mod state_words;
 mod table;
+mod text_block;
+mod text_head;
 
+pub use explain::{explain_log, explain_logs};
 pub use named_text::NamedText;
 pub use page::{Mark, Page};

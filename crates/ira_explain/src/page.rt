@@ -3,6 +3,7 @@ ghost use Rattle.ira_event.specs.Sink.{Wrote};
 ghost use Rattle.ira_explain.specs.Printable.{IsPrintable, hex_digit_of, shown, shown_byte};
 ghost use Rattle.ira_explain.specs.Page.{mark_text};
 
+use crate::named_text::NamedText;
 use ira_event::{OutOfMemory, Sink, WriteFault, write_bytes};
 use itoa::Buffer;
 use std::alloc::Allocator;
@@ -131,6 +132,30 @@ impl<A: Allocator> Page<A> {
         Ok(())
     }
 
+    /// Adds a line of a file as the one that the answer speaks of, and begins the next with carets below the bytes `from`
+    /// to `to` of it, one at least. Bytes count from 0.
+    pub fn point(
+        &mut self,
+        file: &NamedText<'_>,
+        number: usize,
+        from: usize,
+        to: usize,
+    ) -> Result<(), OutOfMemory> {
+        let line = file.line(number);
+        self.begin(Mark::Named)?;
+        self.place(file.name, number)?;
+        self.push(b":")?;
+        let column = self.column().saturating_add(1);
+        if !line.is_empty() {
+            self.push(b" ")?;
+            self.quote(line)?;
+        }
+        self.end()?;
+        let first = quoted_column(line, from);
+        self.pad_to(column.saturating_add(first))?;
+        self.carets(quoted_column(line, to).saturating_sub(first))
+    }
+
     /// Adds so many carets, one at least.
     pub fn carets(&mut self, count: usize) -> Result<(), OutOfMemory> {
         for _ in 0..count.max(1) {
@@ -161,6 +186,14 @@ impl<A: Allocator> Page<A> {
         ensures { OnOk result (self.new ≡ self.old ++ shown (decimal n)) }
     {
         self.show(Buffer::new().format(n).as_bytes())
+    }
+
+    /// Adds a number that ends at a column, counted from 0, or where there is room.
+    pub fn number_to(&mut self, column: usize, n: u64) -> Result<(), OutOfMemory> {
+        let mut buffer = Buffer::new();
+        let digits = buffer.format(n);
+        self.pad_to(column.saturating_sub(digits.len()))?;
+        self.words(digits)
     }
 
     /// Adds a number with commas between its thousands, as 67,108,864.
@@ -269,12 +302,11 @@ fn quoted_front(line: &[u8]) -> usize
     line.len()
 }
 
-/// The column at which the byte of a line stands in its quote.
-pub(crate) fn quoted_column(line: &[u8], byte: usize) -> usize
-    requires { byte ≤ length line.now }
+/// The column at which the byte of a line stands in its quote; a byte behind the line stands at its end.
+fn quoted_column(line: &[u8], byte: usize) -> usize
     ensures { result ≤ 80 }
 {
-    shown_width(&line[..byte]).min(QUOTED)
+    shown_width(&line[..byte.min(line.len())]).min(QUOTED)
 }
 
 /// The digit of a number below 16.

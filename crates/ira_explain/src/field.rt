@@ -1,0 +1,61 @@
+use ira_event::{skip_word, take_number};
+
+/// A field of a line of a log, behind the words that it begins with.
+#[derive(Clone, Copy, Debug, PartialEq, Eq)]
+pub(crate) enum Field {
+    Round,
+    Id,
+    Hop,
+    Bit,
+    Count,
+}
+
+impl Field {
+    /// Its name in the form of a line.
+    pub(crate) fn name(self) -> &'static str {
+        match self {
+            Field::Round => "ROUND",
+            Field::Id => "ID",
+            Field::Hop => "HOP",
+            Field::Bit => "BIT",
+            Field::Count => "COUNT",
+        }
+    }
+
+    /// What is said to be due where it is missing in a log of this version.
+    pub(crate) fn due(self, version: u8) -> &'static str {
+        match self {
+            Field::Round if version > 1 => "the round or `reset`",
+            Field::Round => "the round",
+            Field::Id => "the ID",
+            Field::Hop => "the hop",
+            Field::Bit => "`clean` or `dirty`",
+            Field::Count => "the number of records",
+        }
+    }
+
+    /// Several of it.
+    pub(crate) fn plural(self) -> &'static str {
+        match self {
+            Field::Round => "rounds",
+            Field::Id => "IDs",
+            Field::Hop => "hops",
+            Field::Bit => "bits",
+            Field::Count => "counts",
+        }
+    }
+
+    /// What follows the field where the text begins with one.
+    pub(crate) fn skip(self, text: &[u8]) -> Option<&[u8]> {
+        match self {
+            Field::Bit => match skip_word(text, b"clean") {
+                Some(rest) => Some(rest),
+                None => skip_word(text, b"dirty"),
+            },
+            Field::Round | Field::Id | Field::Hop | Field::Count => {
+                let (_, rest) = take_number(text)?;
+                Some(rest)
+            }
+        }
+    }
+}
