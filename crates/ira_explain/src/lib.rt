@@ -1,15 +1,28 @@
 //! Why an answer is as it is: the lines that follow an answer for a person who asks.
 #![tactic(auto)]
 
+mod carets;
+mod event_words;
 mod explain;
 mod field;
 mod first_line;
+mod good_block;
 mod heads_block;
 mod line_form;
 mod line_stop;
+mod link_cause;
+mod link_sides;
+mod load_words;
 mod named_text;
+mod number_of;
+mod ordinal;
 mod page;
+mod places;
+mod round_words;
+mod rule;
 mod slip;
+mod state_words;
+mod table;
 mod text_block;
 mod text_head;
 

@@ -88,12 +88,12 @@ no_log : Log
 no_log = record { version = 0; nodes = 0; place = 0; initiator = false; events = [] }
 
 -- whose beginning a log is
-record IsBegunOf (logs : List Log) (cut : List ℕ) (i : ℕ) (new : Log) : Type 0 where
-  log : Log
-  at : slice_get logs i ≡ Some log
-  is : new ≡ begun log (slice_index cut i)
+pub record IsBegunOf (logs : List Log) (cut : List ℕ) (i : ℕ) (new : Log) : Type 0 where
+  pub log : Log
+  pub at : slice_get logs i ≡ Some log
+  pub is : new ≡ begun log (slice_index cut i)
 
-begun_of : (logs : List Log) (cut : List ℕ) (news : List Log) (i : ℕ) (new : Log) → AreBegun logs cut news → slice_get news i ≡ Some new → IsBegunOf logs cut i new
+pub begun_of : (logs : List Log) (cut : List ℕ) (news : List Log) (i : ℕ) (new : Log) → AreBegun logs cut news → slice_get news i ≡ Some new → IsBegunOf logs cut i new
 begun_of logs cut news i new are at =
     let within : i < length logs = omega (arith, slice_get_within news i new at, are.places) in
     let found = slice_get-get_or logs i no_log within in

@@ -60,17 +60,21 @@ meet_begins logs a b cut ca cb meet = record {
 
 -- ---- the greatest one, by giving up an event at a time
 
+-- the link lacks a sending of a receipt in the cut
+abbrev pub Lacks : List Log → List ℕ → ℕ → Type 0
+Lacks logs cut link =
+    sendings_in logs link (slice_index cut link)
+    < receipts_in logs (next (length logs) link) (slice_index cut (next (length logs) link))
+
+-- the cut without the last event of the link's reader
+abbrev pub lowered : List Log → List ℕ → ℕ → List ℕ
+lowered logs cut link = set cut (next (length logs) link) (slice_index cut (next (length logs) link) - 1)
+
 module _ (logs : List Log) where
-  Holds : List ℕ → ℕ → Type 0
-  Holds cut i = receipts_in logs (next (length logs) i) (slice_index cut (next (length logs) i)) ≤ sendings_in logs i (slice_index cut i)
-
-  Bounds : List ℕ → Type 0
-  Bounds cut = (other : List ℕ) → IsConsistentBeginning logs other → (i : ℕ) → i < length logs → slice_index other i ≤ slice_index cut i
-
   -- all links have their sendings, or one hasn't
   all_or_one : (cut : List ℕ) (k : ℕ) → k ≤ length logs
       → ((i : ℕ) → i < k → receipts_in logs (next (length logs) i) (slice_index cut (next (length logs) i)) ≤ sendings_in logs i (slice_index cut i))
-      ⊎ ((i : ℕ) × (i < length logs) × (sendings_in logs i (slice_index cut i) < receipts_in logs (next (length logs) i) (slice_index cut (next (length logs) i))))
+      ⊎ ((i : ℕ) × (i < length logs) × Lacks logs cut i)
   all_or_one cut zero l = inl (λ i lt. absurd (omega (arith, lt)))
   all_or_one cut (suc k) l = elim (all_or_one cut k (omega arith)) [
     | inr one ↦ inr one
@@ -83,15 +87,12 @@ module _ (logs : List Log) where
     ]
   ]
 
-  -- a position with too many receipts is given up
-  module _ (cut : List ℕ) (is : IsCut logs cut)
-      (bounds : (other : List ℕ) → IsConsistentBeginning logs other → (i : ℕ) → i < length logs → slice_index other i ≤ slice_index cut i)
-      (link : ℕ) (within : link < length logs)
-      (bad : sendings_in logs link (slice_index cut link) < receipts_in logs (next (length logs) link) (slice_index cut (next (length logs) link))) where
+  -- where a link lacks a sending, its reader gives up an event
+  module _ (cut : List ℕ) (link : ℕ) (is : IsCut logs cut) (within : link < length logs) (bad : Lacks logs cut link) where
     below : next (length logs) link < length cut
     below = omega (arith, is.places, next_below (length logs) link within)
 
-    -- there is an event to give up
+    -- there is one to give up
     some : 1 ≤ slice_index cut (next (length logs) link)
     some = elim (cases_lt 0 (slice_index cut (next (length logs) link))) [
       | inl more ↦ omega (arith, more)
@@ -101,7 +102,20 @@ module _ (logs : List Log) where
           absurd (omega (arith, bad, no))
     ]
 
-    pub lower_cut : IsCut logs (set cut (next (length logs) link) (slice_index cut (next (length logs) link) - 1))
+    -- a position there that is less stays within, and so does any elsewhere
+    pub lowered_within : (i n : ℕ) → n ≤ slice_index cut i → (i ≡ next (length logs) link → n < slice_index cut i)
+        → n ≤ slice_index (lowered logs cut link) i
+    lowered_within i n le less = elim (cases_eq i (next (length logs) link)) [
+      | inl same ↦
+          let here : slice_index (lowered logs cut link) (next (length logs) link) ≡ slice_index cut (next (length logs) link) - 1 =
+          get_or-set_same cut (next (length logs) link) (slice_index cut (next (length logs) link) - 1) 0 below in
+          let lt : n < slice_index cut (next (length logs) link) = rw same at (less same) in
+          rw (same, here) (omega (arith, lt))
+      | inr other ↦
+          rw (get_or-set_other cut (next (length logs) link) i (slice_index cut (next (length logs) link) - 1) 0 other) le
+    ]
+
+    lower_cut : IsCut logs (lowered logs cut link)
     lower_cut = record {
       places = length-set cut (next (length logs) link) (slice_index cut (next (length logs) link) - 1) ∙ is.places;
       within = λ i l. elim (cases_eq i (next (length logs) link)) [
@@ -110,46 +124,55 @@ module _ (logs : List Log) where
       ];
     }
 
-    pub lower_bounds : (other : List ℕ) → IsConsistentBeginning logs other → (i : ℕ) → i < length logs → slice_index other i ≤ slice_index (set cut (next (length logs) link) (slice_index cut (next (length logs) link) - 1)) i
-    lower_bounds other consistent i l = elim (cases_eq i (next (length logs) link)) [
-      | inl same ↦
-          let at_most = bounds other consistent (next (length logs) link) (next_below (length logs) link within) in
-          let sent_less = more_sendings logs link (slice_index other link) (slice_index cut link) (bounds other consistent link within) in
-          let held = consistent.sendings link within in
-          let less : slice_index other (next (length logs) link) < slice_index cut (next (length logs) link) =
-          elim (cases_lt (slice_index other (next (length logs) link)) (slice_index cut (next (length logs) link))) [
-            | inl lt ↦ lt
-            | inr ge ↦
-                let got_more = more_receipts logs (next (length logs) link) (slice_index cut (next (length logs) link)) (slice_index other (next (length logs) link)) ge in
-                absurd (omega (arith, got_more, held, sent_less, bad))
-          ] in
-          rw (same, get_or-set_same cut (next (length logs) link) (slice_index cut (next (length logs) link) - 1) 0 below) (omega (arith, less))
-      | inr ne ↦ rw (get_or-set_other cut (next (length logs) link) i (slice_index cut (next (length logs) link) - 1) 0 ne) (bounds other consistent i l)
-    ]
-
-    pub lower_sum : sum_by (λ (n : ℕ). n) (set cut (next (length logs) link) (slice_index cut (next (length logs) link) - 1)) < sum_by (λ (n : ℕ). n) cut
+    lower_sum : sum_by (λ (n : ℕ). n) (lowered logs cut link) < sum_by (λ (n : ℕ). n) cut
     lower_sum = omega (arith, sum_by-set (λ (n : ℕ). n) cut (next (length logs) link) (slice_index cut (next (length logs) link) - 1) 0 below, some)
 
-  descend : (n : ℕ) (cut : List ℕ) → IsCut logs cut
-      → ((other : List ℕ) → IsConsistentBeginning logs other → (i : ℕ) → i < length logs → slice_index other i ≤ slice_index cut i)
-      → sum_by (λ (n : ℕ). n) cut < n → (g : List ℕ) × IsGreatestBeginning logs g
-  descend zero cut is bounds few = absurd (omega (arith, few))
-  descend (suc n) cut is bounds few = elim (all_or_one cut (length logs) (omega arith)) [
-    | inl all ↦ (cut, record { consistent = record { cut_is = is; sendings = all }; greatest = bounds })
-    | inr one ↦ descend n (set cut (next (length logs) one.0) (slice_index cut (next (length logs) one.0) - 1))
-        (lower_cut cut is bounds one.0 one.1 one.2) (lower_bounds cut is bounds one.0 one.1 one.2) (omega (arith, lower_sum cut is bounds one.0 one.1 one.2, few))
-  ]
+  -- what stays true as events are given up is true of a consistent beginning
+  module _ (Q : List ℕ → Type 0)
+      (stays : (cut : List ℕ) (link : ℕ) → IsCut logs cut → link < length logs → Lacks logs cut link → Q cut → Q (lowered logs cut link)) where
+    descend : (n : ℕ) (cut : List ℕ) → IsCut logs cut → Q cut → sum_by (λ (n : ℕ). n) cut < n
+        → (g : List ℕ) × IsConsistentBeginning logs g × Q g
+    descend zero cut is q few = absurd (omega (arith, few))
+    descend (suc n) cut is q few = elim (all_or_one cut (length logs) (omega arith)) [
+      | inl all ↦ (cut, record { cut_is = is; sendings = all }, q)
+      | inr one ↦ descend n (lowered logs cut one.0) (lower_cut cut one.0 is one.1 one.2) (stays cut one.0 is one.1 one.2 q)
+          (omega (arith, lower_sum cut one.0 is one.1 one.2, few))
+    ]
 
-  no_log : Log
-  no_log = record { version = 0; nodes = 0; place = 0; initiator = false; events = [] }
+    pub settled : (cut : List ℕ) → IsCut logs cut → Q cut → (g : List ℕ) × IsConsistentBeginning logs g × Q g
+    settled cut is q = descend (sum_by (λ (n : ℕ). n) cut + 1) cut is q (omega arith)
 
-  whole_at : (i : ℕ) → i < length logs → slice_index (map (λ (log : Log). length log.events) logs) i ≡ length (log_of logs i)
+  -- all of each log
+  abbrev pub whole_cut : List ℕ
+  whole_cut = map (λ (log : Log). length log.events) logs
+
+  pub whole_at : (i : ℕ) → i < length logs → slice_index whole_cut i ≡ length (log_of logs i)
   whole_at i l =
       get_or-map (λ (log : Log). length log.events) logs i no_log 0 l ∙ sym (ap (λ o. length (events_of o)) (slice_get-get_or logs i no_log l))
+    where
+      no_log : Log
+      no_log = record { version = 0; nodes = 0; place = 0; initiator = false; events = [] }
+
+  pub whole_is_cut : IsCut logs whole_cut
+  whole_is_cut = record { places = length-map logs (λ (log : Log). length log.events); within = λ i l. rw (whole_at i l) (omega arith) }
+
+  abbrev Bounds : List ℕ → Type 0
+  Bounds cut = (other : List ℕ) → IsConsistentBeginning logs other → (i : ℕ) → i < length logs → slice_index other i ≤ slice_index cut i
+
+  bounds_stay : (cut : List ℕ) (link : ℕ) → IsCut logs cut → link < length logs → Lacks logs cut link → Bounds cut → Bounds (lowered logs cut link)
+  bounds_stay cut link is within bad bounds other consistent i l =
+      lowered_within cut link is within bad i (slice_index other i) (bounds other consistent i l) (λ same.
+      let sent_less = more_sendings logs link (slice_index other link) (slice_index cut link) (bounds other consistent link within) in
+      let held = consistent.sendings link within in
+      elim (cases_lt (slice_index other i) (slice_index cut i)) [
+        | inl lt ↦ lt
+        | inr ge ↦
+            let ge' : slice_index cut (next (length logs) link) ≤ slice_index other (next (length logs) link) = rw same at ge in
+            let got_more = more_receipts logs (next (length logs) link) (slice_index cut (next (length logs) link)) (slice_index other (next (length logs) link)) ge' in
+            absurd (omega (arith, got_more, held, sent_less, bad))
+      ])
 
   pub greatest : (g : List ℕ) × IsGreatestBeginning logs g
   greatest =
-      descend (sum_by (λ (n : ℕ). n) (map (λ (log : Log). length log.events) logs) + 1) (map (λ (log : Log). length log.events) logs)
-      (record { places = length-map logs (λ (log : Log). length log.events); within = λ i l. rw (whole_at i l) (omega arith) })
-      (λ other consistent i l. rw (whole_at i l) (consistent.cut_is.within i l))
-      (omega arith)
+      let found = settled Bounds bounds_stay whole_cut whole_is_cut (λ other consistent i l. rw (whole_at i l) (consistent.cut_is.within i l)) in
+      (found.0, record { consistent = found.1; greatest = found.2 })

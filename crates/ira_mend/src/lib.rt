@@ -8,7 +8,7 @@ mod mend_fault;
 mod mending;
 mod recorded_logs;
 
-pub use laws::beginnings_are_a_lattice;
+pub use laws::{beginnings_are_a_lattice, mended_runs_are_runs, mending_keeps_whole_pasts};
 pub use mend_fault::MendFault;
 pub use mending::mend;
 pub use recorded_logs::RecordedLogs;

@@ -1,21 +1,20 @@
 -- What is found of the words behind a command, where they have no fault.
-use Rattle.std.proofs.Common.{inl, inr, ◌≡◌, ◌≢◌, ◌∙◌, true, false, List, [], ◌∷◌, Some, refl, sym, ap, subst, codes}
+use Rattle.std.proofs.Common.{inl, inr, ◌≡◌, true, false, List, [], ◌∷◌, Some, refl, sym, ap, subst, codes}
 use Rattle.std.specs.Prelude.{find, option_map, unwrap_or}
 use Rattle.clap.specs.Faults.{entered_fault, fault_of, is_simple_and_free, level_fault, walk_fault}
 use Rattle.clap.specs.Simple.{App, HasMatchesOf, Shape, built, built_leaf, label_of, subcommand_rows_of}
-use Rattle.clap.specs.Takes.{is_given}
-use Rattle.clap.specs.Walk.{Row, Rule, Text, all_of, answers_to, arg_by_id, nothing_held, rows_after, walk_from, walked}
+use Rattle.clap.specs.Walk.{Row, Text, answers_to, nothing_held, walk_from, walked}
 use Rattle.clap.specs.Kinds.{HasKind}
 use Rattle.clap.specs.Matches.{subcommand_name_of}
 use Rattle.clap.specs.Values.{kind_of}
 use Rattle.clap.specs.declared.error.Error.{Error}
 use Rattle.clap.specs.declared.error.kind.ErrorKind.TheVariants as kind
 use Rattle.clap.specs.declared.parser.matches.ArgMatches.{ArgMatches}
-use Rattle.ira_words.specs.CommandLine.{check_app, decide_app, ira_app, mend_app, pairs_app, run_app, upgrade_app}
+use Rattle.ira_words.specs.CommandLine.{check_app, decide_app, explain_app, ira_app, logs_app, mend_app, pairs_app, run_app, upgrade_app}
 use Rattle.ira_words.specs.TakenValues.{AreFound, AreTaken}
-use Rattle.ira_words.proofs.FirstWord.{first_none, met_by_first, names, rows_of_check, rows_of_decide, rows_of_logs, rows_of_mend, rows_of_pairs, rows_of_run, rows_of_upgrade, second_none, stays, top}
+use Rattle.ira_words.proofs.FirstWord.{first_none, met_by_first, names, rows_of_check, rows_of_decide, rows_of_explain, rows_of_logs, rows_of_mend, rows_of_pairs, rows_of_run, rows_of_upgrade, second_none, stays, top}
 use Rattle.ira_words.proofs.FoundValues.{rows_found}
-use Rattle.ira_words.proofs.TakenValues.{AllFit, check_passes, given_some, required_given, rows_taken}
+use Rattle.ira_words.proofs.TakenValues.{AllFit, rows_taken}
 
 -- a command as the program's has it
 abbrev command : Text → Shape
@@ -23,23 +22,26 @@ command name = unwrap_or (find (λ s. answers_to name (label_of s)) (built ira_a
 
 -- the arguments of each command are such that values are found of them
 logs_fit : AllFit (command (codes "logs")).rules (command (codes "logs")).rules
-logs_fit = ((refl, refl), ((refl, refl), tt))
+logs_fit = ((refl, refl), ((refl, refl), ((refl, refl), tt)))
+
+explain_fit : AllFit (command (codes "explain")).rules (command (codes "explain")).rules
+explain_fit = ((refl, refl), ((refl, refl), ((refl, refl), tt)))
 
 check_fit : AllFit (command (codes "check")).rules (command (codes "check")).rules
-check_fit = ((refl, refl), ((refl, refl), ((refl, refl), ((refl, refl), ((refl, refl), tt)))))
+check_fit = ((refl, refl), ((refl, refl), ((refl, refl), ((refl, refl), ((refl, refl), ((refl, refl), tt))))))
 
 decide_fit : AllFit (command (codes "decide")).rules (command (codes "decide")).rules
-decide_fit = ((refl, refl), ((refl, refl), ((refl, refl), ((refl, refl), tt))))
+decide_fit = ((refl, refl), ((refl, refl), ((refl, refl), ((refl, refl), ((refl, refl), tt)))))
 
 run_fit : AllFit (command (codes "run")).rules (command (codes "run")).rules
 run_fit =
     ((refl, refl), ((refl, refl), ((refl, refl), ((refl, refl), ((refl, refl), ((refl, refl), ((refl, refl), ((refl, refl), ((refl, refl), tt)))))))))
 
 upgrade_fit : AllFit (command (codes "upgrade")).rules (command (codes "upgrade")).rules
-upgrade_fit = ((refl, refl), ((refl, refl), ((refl, refl), tt)))
+upgrade_fit = ((refl, refl), ((refl, refl), ((refl, refl), ((refl, refl), tt))))
 
 mend_fit : AllFit (command (codes "mend")).rules (command (codes "mend")).rules
-mend_fit = ((refl, refl), ((refl, refl), ((refl, refl), tt)))
+mend_fit = ((refl, refl), ((refl, refl), ((refl, refl), ((refl, refl), tt))))
 
 pairs_fit : AllFit (command (codes "pairs")).rules (command (codes "pairs")).rules
 pairs_fit = ((refl, refl), ((refl, refl), tt))
@@ -53,6 +55,13 @@ unfolding walked
 logs_fine others none =
     let stop = stays top.rules names (walk_from nothing_held) (codes "logs") [] others in
     let behind = second_none (walk_fault top names (walk_from nothing_held) (codes "logs" ∷ others)) _ none in
+    subst (λ o. entered_fault (built ira_app) o ≡ []) stop (first_none _ _ behind)
+
+explain_fine : (others : List Text) → fault_of ira_app (codes "explain" ∷ others) ≡ [] → HasNoFault (codes "explain") others
+unfolding walked
+explain_fine others none =
+    let stop = stays top.rules names (walk_from nothing_held) (codes "explain") [] others in
+    let behind = second_none (walk_fault top names (walk_from nothing_held) (codes "explain" ∷ others)) _ none in
     subst (λ o. entered_fault (built ira_app) o ≡ []) stop (first_none _ _ behind)
 
 check_fine : (others : List Text) → fault_of ira_app (codes "check" ∷ others) ≡ [] → HasNoFault (codes "check") others
@@ -97,16 +106,6 @@ mend_fine others none =
     let behind = second_none (walk_fault top names (walk_from nothing_held) (codes "mend" ∷ others)) _ none in
     subst (λ o. entered_fault (built ira_app) o ≡ []) stop (first_none _ _ behind)
 
--- there are names of logs, where the command has them as its required argument
-some_names : (s : Shape) (a : Rule) (others : List Text) → s.args_override_self ≡ false → AllFit s.rules s.rules → s.subcommand_required ≡ false → s.arg_required_else_help ≡ false
-    → s.subcommand_negates_reqs ≡ false → arg_by_id s.rules (codes "LOG") ≡ Some a → a.id ≡ codes "LOG" → a.required ≡ true
-    → level_fault s [] nothing_held others false [] ≡ [] → unwrap_or (all_of (codes "LOG") (rows_after s.rules [] others)) [] ≢ []
-some_names s a others once fit alone helpless asks its named required none =
-    let rows = rows_after s.rules [] others in
-    let its_own : arg_by_id s.rules a.id ≡ Some a = ap (arg_by_id s.rules) named ∙ its in
-    let given = required_given s a rows alone helpless asks its_own required (check_passes s once fit others none) in
-    given_some s.rules (codes "LOG") rows (rows_taken s once fit others none) (subst (λ id. is_given id rows ≡ true) named given)
-
 -- words that are read without a fault have none
 pub words_accepted : (a : App) (words : List Text) → a ≡ ira_app → (is_simple_and_free a ≡ true → fault_of a words ≡ []) → fault_of ira_app words ≡ []
 words_accepted a words is none =
@@ -129,21 +128,21 @@ faultless a words name others is none are = subst (λ ws. fault_of ira_app ws �
 
 module _ (a : App) (m : ArgMatches) (words : List Text) (found : List Row) (is : a ≡ ira_app) (has : HasMatchesOf a words m)
     (none : is_simple_and_free a ≡ true → fault_of a words ≡ []) (read : Some found ≡ option_map (λ s. s.1) (subcommand_rows_of m)) where
-  pub logs_named : Some (codes "logs") ≡ subcommand_name_of m → unwrap_or (all_of (codes "LOG") found) [] ≢ []
-  logs_named name =
+  pub logs_taken : Some (codes "logs") ≡ subcommand_name_of m → AreTaken (built_leaf logs_app.top).rules found
+  logs_taken name =
       let first = met_by_first a m words (codes "logs") is has none name in
       let rows = rows_of_logs a m first.0 found is (subst (λ ws. HasMatchesOf a ws m) first.1 has) read in
       let fine = logs_fine first.0 (faultless a words (codes "logs") first.0 is none first.1) in
-      subst (λ rs. unwrap_or (all_of (codes "LOG") rs) [] ≢ []) (sym rows)
-      (some_names (command (codes "logs")) _ first.0 refl logs_fit refl refl refl refl refl refl fine)
+      subst (AreTaken (built_leaf logs_app.top).rules) (sym rows)
+      (rows_taken (command (codes "logs")) refl logs_fit first.0 fine)
 
-  pub check_named : Some (codes "check") ≡ subcommand_name_of m → unwrap_or (all_of (codes "LOG") found) [] ≢ []
-  check_named name =
-      let first = met_by_first a m words (codes "check") is has none name in
-      let rows = rows_of_check a m first.0 found is (subst (λ ws. HasMatchesOf a ws m) first.1 has) read in
-      let fine = check_fine first.0 (faultless a words (codes "check") first.0 is none first.1) in
-      subst (λ rs. unwrap_or (all_of (codes "LOG") rs) [] ≢ []) (sym rows)
-      (some_names (command (codes "check")) _ first.0 refl check_fit refl refl refl refl refl refl fine)
+  pub explain_taken : Some (codes "explain") ≡ subcommand_name_of m → AreTaken (built_leaf explain_app.top).rules found
+  explain_taken name =
+      let first = met_by_first a m words (codes "explain") is has none name in
+      let rows = rows_of_explain a m first.0 found is (subst (λ ws. HasMatchesOf a ws m) first.1 has) read in
+      let fine = explain_fine first.0 (faultless a words (codes "explain") first.0 is none first.1) in
+      subst (AreTaken (built_leaf explain_app.top).rules) (sym rows)
+      (rows_taken (command (codes "explain")) refl explain_fit first.0 fine)
 
   pub check_taken : Some (codes "check") ≡ subcommand_name_of m → AreTaken (built_leaf check_app.top).rules found
   check_taken name =
@@ -152,14 +151,6 @@ module _ (a : App) (m : ArgMatches) (words : List Text) (found : List Row) (is :
       let fine = check_fine first.0 (faultless a words (codes "check") first.0 is none first.1) in
       subst (AreTaken (built_leaf check_app.top).rules) (sym rows)
       (rows_taken (command (codes "check")) refl check_fit first.0 fine)
-
-  pub decide_named : Some (codes "decide") ≡ subcommand_name_of m → unwrap_or (all_of (codes "LOG") found) [] ≢ []
-  decide_named name =
-      let first = met_by_first a m words (codes "decide") is has none name in
-      let rows = rows_of_decide a m first.0 found is (subst (λ ws. HasMatchesOf a ws m) first.1 has) read in
-      let fine = decide_fine first.0 (faultless a words (codes "decide") first.0 is none first.1) in
-      subst (λ rs. unwrap_or (all_of (codes "LOG") rs) [] ≢ []) (sym rows)
-      (some_names (command (codes "decide")) _ first.0 refl decide_fit refl refl refl refl refl refl fine)
 
   pub run_taken : Some (codes "run") ≡ subcommand_name_of m → AreTaken (built_leaf run_app.top).rules found
   run_taken name =
@@ -217,14 +208,6 @@ module _ (a : App) (m : ArgMatches) (words : List Text) (found : List Row) (is :
       subst (AreFound (built_leaf run_app.top).rules) (sym rows)
       (rows_found (command (codes "run")) refl run_fit refl refl refl first.0 fine)
 
-  pub upgrade_named : Some (codes "upgrade") ≡ subcommand_name_of m → unwrap_or (all_of (codes "LOG") found) [] ≢ []
-  upgrade_named name =
-      let first = met_by_first a m words (codes "upgrade") is has none name in
-      let rows = rows_of_upgrade a m first.0 found is (subst (λ ws. HasMatchesOf a ws m) first.1 has) read in
-      let fine = upgrade_fine first.0 (faultless a words (codes "upgrade") first.0 is none first.1) in
-      subst (λ rs. unwrap_or (all_of (codes "LOG") rs) [] ≢ []) (sym rows)
-      (some_names (command (codes "upgrade")) _ first.0 refl upgrade_fit refl refl refl refl refl refl fine)
-
   pub upgrade_taken : Some (codes "upgrade") ≡ subcommand_name_of m → AreTaken (built_leaf upgrade_app.top).rules found
   upgrade_taken name =
       let first = met_by_first a m words (codes "upgrade") is has none name in
@@ -240,14 +223,6 @@ module _ (a : App) (m : ArgMatches) (words : List Text) (found : List Row) (is :
       let fine = upgrade_fine first.0 (faultless a words (codes "upgrade") first.0 is none first.1) in
       subst (AreFound (built_leaf upgrade_app.top).rules) (sym rows)
       (rows_found (command (codes "upgrade")) refl upgrade_fit refl refl refl first.0 fine)
-
-  pub mend_named : Some (codes "mend") ≡ subcommand_name_of m → unwrap_or (all_of (codes "LOG") found) [] ≢ []
-  mend_named name =
-      let first = met_by_first a m words (codes "mend") is has none name in
-      let rows = rows_of_mend a m first.0 found is (subst (λ ws. HasMatchesOf a ws m) first.1 has) read in
-      let fine = mend_fine first.0 (faultless a words (codes "mend") first.0 is none first.1) in
-      subst (λ rs. unwrap_or (all_of (codes "LOG") rs) [] ≢ []) (sym rows)
-      (some_names (command (codes "mend")) _ first.0 refl mend_fit refl refl refl refl refl refl fine)
 
   pub mend_taken : Some (codes "mend") ≡ subcommand_name_of m → AreTaken (built_leaf mend_app.top).rules found
   mend_taken name =

@@ -12,7 +12,7 @@ use Rattle.clap.specs.Simple.{App, HasMatchesOf, Shape, built, built_leaf, enter
 use Rattle.clap.specs.Walk.{Held, Names, Row, Rule, Step, Text, Walk, answers_to, arg_by_long, after_step, bundle_met, bundle_step, has_long, has_short, idle, long_word, trailing, nothing_held, plain, rows_after, subcommand_or_other, long_or_other, short_or_plain, after_flag, walk_from, walked}
 use Rattle.clap.specs.Matches.{subcommand_name_of}
 use Rattle.clap.specs.declared.parser.matches.ArgMatches.{ArgMatches}
-use Rattle.ira_words.specs.CommandLine.{check_app, decide_app, ira_app, logs_app, mend_app, pairs_app, run_app, upgrade_app}
+use Rattle.ira_words.specs.CommandLine.{check_app, decide_app, explain_app, ira_app, logs_app, mend_app, pairs_app, run_app, upgrade_app, version_app}
 
 -- this is the first of the words
 abbrev pub BeginsWithWord : Text → List Text → Type 0
@@ -73,6 +73,13 @@ logs_rows rest = ap (λ o. entered (built ira_app) o) (stays top.rules names (wa
 logs_met : (rest : List Text) → name_met (subcommand_of ira_app (codes "logs" ∷ rest)) ≡ Some (codes "logs")
 logs_met rest = ap name_met (logs_rows rest)
 
+explain_rows : (rest : List Text) → subcommand_of ira_app (codes "explain" ∷ rest) ≡ Some (codes "explain", rows_after (built_leaf explain_app.top).rules [] rest)
+unfolding walked
+explain_rows rest = ap (λ o. entered (built ira_app) o) (stays top.rules names (walk_from nothing_held) (codes "explain") [] rest)
+
+explain_met : (rest : List Text) → name_met (subcommand_of ira_app (codes "explain" ∷ rest)) ≡ Some (codes "explain")
+explain_met rest = ap name_met (explain_rows rest)
+
 check_rows : (rest : List Text) → subcommand_of ira_app (codes "check" ∷ rest) ≡ Some (codes "check", rows_after (built_leaf check_app.top).rules [] rest)
 unfolding walked
 check_rows rest = ap (λ o. entered (built ira_app) o) (stays top.rules names (walk_from nothing_held) (codes "check") [] rest)
@@ -114,6 +121,13 @@ mend_rows rest = ap (λ o. entered (built ira_app) o) (stays top.rules names (wa
 
 mend_met : (rest : List Text) → name_met (subcommand_of ira_app (codes "mend" ∷ rest)) ≡ Some (codes "mend")
 mend_met rest = ap name_met (mend_rows rest)
+
+version_rows : (rest : List Text) → subcommand_of ira_app (codes "version" ∷ rest) ≡ Some (codes "version", rows_after (built_leaf version_app.top).rules [] rest)
+unfolding walked
+version_rows rest = ap (λ o. entered (built ira_app) o) (stays top.rules names (walk_from nothing_held) (codes "version") [] rest)
+
+version_met : (rest : List Text) → name_met (subcommand_of ira_app (codes "version" ∷ rest)) ≡ Some (codes "version")
+version_met rest = ap name_met (version_rows rest)
 
 help_is_fault : (rest : List Text) → IsFault (fault_of ira_app (codes "help" ∷ rest))
 unfolding walk_fault
@@ -234,54 +248,111 @@ named_by_first name w rest n is meets met =
 pub named : (words : List Text) (n : Text) → fault_of ira_app words ≡ [] → name_met (subcommand_of ira_app words) ≡ Some n → BeginsWithWord n words
 named [] n none met = cc
 named (w ∷ rest) n none met =
-    go (bytes_eq (codes "logs") w) (bytes_eq (codes "check") w) (bytes_eq (codes "decide") w) (bytes_eq (codes "pairs") w) (bytes_eq (codes "run") w) (bytes_eq (codes "upgrade") w) (bytes_eq (codes "mend") w) (bytes_eq (codes "help") w)
-    refl refl refl refl refl refl refl refl
+    go (bytes_eq (codes "logs") w) (bytes_eq (codes "explain") w) (bytes_eq (codes "check") w)
+    (bytes_eq (codes "decide") w) (bytes_eq (codes "pairs") w) (bytes_eq (codes "run") w)
+    (bytes_eq (codes "upgrade") w) (bytes_eq (codes "mend") w) (bytes_eq (codes "version") w)
+    (bytes_eq (codes "help") w) refl refl refl refl refl refl refl refl refl refl
   where
-    go : (logs check decide pairs run upgrade mend help : Bool) → bytes_eq (codes "logs") w ≡ logs → bytes_eq (codes "check") w ≡ check → bytes_eq (codes "decide") w ≡ decide
-        → bytes_eq (codes "pairs") w ≡ pairs → bytes_eq (codes "run") w ≡ run → bytes_eq (codes "upgrade") w ≡ upgrade → bytes_eq (codes "mend") w ≡ mend → bytes_eq (codes "help") w ≡ help → BeginsWithWord n (w ∷ rest)
-    go true check decide pairs run upgrade mend help is_logs is_check is_decide is_pairs is_run is_upgrade is_mend is_help = named_by_first (codes "logs") w rest n is_logs (logs_met rest) met
-    go false true decide pairs run upgrade mend help is_logs is_check is_decide is_pairs is_run is_upgrade is_mend is_help = named_by_first (codes "check") w rest n is_check (check_met rest) met
-    go false false true pairs run upgrade mend help is_logs is_check is_decide is_pairs is_run is_upgrade is_mend is_help = named_by_first (codes "decide") w rest n is_decide (decide_met rest) met
-    go false false false true run upgrade mend help is_logs is_check is_decide is_pairs is_run is_upgrade is_mend is_help = named_by_first (codes "pairs") w rest n is_pairs (pairs_met rest) met
-    go false false false false true upgrade mend help is_logs is_check is_decide is_pairs is_run is_upgrade is_mend is_help = named_by_first (codes "run") w rest n is_run (run_met rest) met
-    go false false false false false true mend help is_logs is_check is_decide is_pairs is_run is_upgrade is_mend is_help = named_by_first (codes "upgrade") w rest n is_upgrade (upgrade_met rest) met
-    go false false false false false false true help is_logs is_check is_decide is_pairs is_run is_upgrade is_mend is_help = named_by_first (codes "mend") w rest n is_mend (mend_met rest) met
-    go false false false false false false false true is_logs is_check is_decide is_pairs is_run is_upgrade is_mend is_help =
+    go : (logs explain check decide pairs run upgrade mend version help : Bool)
+        → bytes_eq (codes "logs") w ≡ logs → bytes_eq (codes "explain") w ≡ explain
+        → bytes_eq (codes "check") w ≡ check → bytes_eq (codes "decide") w ≡ decide
+        → bytes_eq (codes "pairs") w ≡ pairs → bytes_eq (codes "run") w ≡ run → bytes_eq (codes "upgrade") w ≡ upgrade
+        → bytes_eq (codes "mend") w ≡ mend → bytes_eq (codes "version") w ≡ version → bytes_eq (codes "help") w ≡ help
+        → BeginsWithWord n (w ∷ rest)
+    go true explain check decide pairs run upgrade mend version help is_logs is_explain is_check is_decide is_pairs
+        is_run is_upgrade is_mend is_version is_help =
+        named_by_first (codes "logs") w rest n is_logs (logs_met rest) met
+    go false true check decide pairs run upgrade mend version help is_logs is_explain is_check is_decide is_pairs
+        is_run is_upgrade is_mend is_version is_help =
+        named_by_first (codes "explain") w rest n is_explain (explain_met rest) met
+    go false false true decide pairs run upgrade mend version help is_logs is_explain is_check is_decide is_pairs
+        is_run is_upgrade is_mend is_version is_help =
+        named_by_first (codes "check") w rest n is_check (check_met rest) met
+    go false false false true pairs run upgrade mend version help is_logs is_explain is_check is_decide is_pairs is_run
+        is_upgrade is_mend is_version is_help =
+        named_by_first (codes "decide") w rest n is_decide (decide_met rest) met
+    go false false false false true run upgrade mend version help is_logs is_explain is_check is_decide is_pairs is_run
+        is_upgrade is_mend is_version is_help =
+        named_by_first (codes "pairs") w rest n is_pairs (pairs_met rest) met
+    go false false false false false true upgrade mend version help is_logs is_explain is_check is_decide is_pairs
+        is_run is_upgrade is_mend is_version is_help =
+        named_by_first (codes "run") w rest n is_run (run_met rest) met
+    go false false false false false false true mend version help is_logs is_explain is_check is_decide is_pairs is_run
+        is_upgrade is_mend is_version is_help =
+        named_by_first (codes "upgrade") w rest n is_upgrade (upgrade_met rest) met
+    go false false false false false false false true version help is_logs is_explain is_check is_decide is_pairs
+        is_run is_upgrade is_mend is_version is_help =
+        named_by_first (codes "mend") w rest n is_mend (mend_met rest) met
+    go false false false false false false false false true help is_logs is_explain is_check is_decide is_pairs is_run
+        is_upgrade is_mend is_version is_help =
+        named_by_first (codes "version") w rest n is_version (version_met rest) met
+    go false false false false false false false false false true is_logs is_explain is_check is_decide is_pairs is_run
+        is_upgrade is_mend is_version is_help =
         let same : codes "help" ≡ w = (bytes_eq-Decides (codes "help") w).0 is_help in
         absurd (no_fault _ (help_is_fault rest) (subst (λ x. fault_of ira_app (x ∷ rest) ≡ []) (sym same) none))
-    go false false false false false false false false is_logs is_check is_decide is_pairs is_run is_upgrade is_mend is_help =
-        absurd (unnamed w rest (rw (is_logs, is_check, is_decide, is_pairs, is_run, is_upgrade, is_mend, is_help) refl) none)
+    go false false false false false false false false false false is_logs is_explain is_check is_decide is_pairs
+        is_run is_upgrade is_mend is_version is_help =
+        absurd (unnamed w rest (rw (is_logs, is_explain, is_check, is_decide, is_pairs, is_run, is_upgrade, is_mend, is_version, is_help) refl) none)
 
 -- one of the program's commands
 abbrev pub IsCommand : Text → Type 0
-IsCommand n = (codes "logs" ≡ n) ⊎ ((codes "check" ≡ n) ⊎ ((codes "decide" ≡ n) ⊎ ((codes "pairs" ≡ n) ⊎ ((codes "run" ≡ n) ⊎ ((codes "upgrade" ≡ n) ⊎ (codes "mend" ≡ n))))))
+IsCommand n =
+    (codes "logs" ≡ n) ⊎ ((codes "explain" ≡ n) ⊎ ((codes "check" ≡ n) ⊎ ((codes "decide" ≡ n) ⊎ ((codes "pairs" ≡ n) ⊎
+    ((codes "run" ≡ n) ⊎ ((codes "upgrade" ≡ n) ⊎ ((codes "mend" ≡ n) ⊎ (codes "version" ≡ n))))))))
 
 -- and they do meet one
 meets : (words : List Text) → fault_of ira_app words ≡ [] → (n : Text) × (name_met (subcommand_of ira_app words) ≡ Some n) × IsCommand n
 unfolding defaults_fault walk_fault walked
 meets [] none = absurd (no_fault (fault_of ira_app []) tt none)
 meets (w ∷ rest) none =
-    go (bytes_eq (codes "logs") w) (bytes_eq (codes "check") w) (bytes_eq (codes "decide") w) (bytes_eq (codes "pairs") w) (bytes_eq (codes "run") w) (bytes_eq (codes "upgrade") w) (bytes_eq (codes "mend") w) (bytes_eq (codes "help") w)
-    refl refl refl refl refl refl refl refl
+    go (bytes_eq (codes "logs") w) (bytes_eq (codes "explain") w) (bytes_eq (codes "check") w)
+    (bytes_eq (codes "decide") w) (bytes_eq (codes "pairs") w) (bytes_eq (codes "run") w)
+    (bytes_eq (codes "upgrade") w) (bytes_eq (codes "mend") w) (bytes_eq (codes "version") w)
+    (bytes_eq (codes "help") w) refl refl refl refl refl refl refl refl refl refl
   where
     first : (name : Text) → bytes_eq name w ≡ true → name_met (subcommand_of ira_app (name ∷ rest)) ≡ Some name → name_met (subcommand_of ira_app (w ∷ rest)) ≡ Some name
     first name is met = subst (λ x. name_met (subcommand_of ira_app (x ∷ rest)) ≡ Some name) ((bytes_eq-Decides name w).0 is) met
 
-    go : (logs check decide pairs run upgrade mend help : Bool) → bytes_eq (codes "logs") w ≡ logs → bytes_eq (codes "check") w ≡ check → bytes_eq (codes "decide") w ≡ decide
-        → bytes_eq (codes "pairs") w ≡ pairs → bytes_eq (codes "run") w ≡ run → bytes_eq (codes "upgrade") w ≡ upgrade → bytes_eq (codes "mend") w ≡ mend → bytes_eq (codes "help") w ≡ help
+    go : (logs explain check decide pairs run upgrade mend version help : Bool)
+        → bytes_eq (codes "logs") w ≡ logs → bytes_eq (codes "explain") w ≡ explain
+        → bytes_eq (codes "check") w ≡ check → bytes_eq (codes "decide") w ≡ decide
+        → bytes_eq (codes "pairs") w ≡ pairs → bytes_eq (codes "run") w ≡ run → bytes_eq (codes "upgrade") w ≡ upgrade
+        → bytes_eq (codes "mend") w ≡ mend → bytes_eq (codes "version") w ≡ version → bytes_eq (codes "help") w ≡ help
         → (n : Text) × (name_met (subcommand_of ira_app (w ∷ rest)) ≡ Some n) × IsCommand n
-    go true check decide pairs run upgrade mend help is_logs is_check is_decide is_pairs is_run is_upgrade is_mend is_help = (codes "logs", first (codes "logs") is_logs (logs_met rest), inl refl)
-    go false true decide pairs run upgrade mend help is_logs is_check is_decide is_pairs is_run is_upgrade is_mend is_help = (codes "check", first (codes "check") is_check (check_met rest), inr (inl refl))
-    go false false true pairs run upgrade mend help is_logs is_check is_decide is_pairs is_run is_upgrade is_mend is_help = (codes "decide", first (codes "decide") is_decide (decide_met rest), inr (inr (inl refl)))
-    go false false false true run upgrade mend help is_logs is_check is_decide is_pairs is_run is_upgrade is_mend is_help = (codes "pairs", first (codes "pairs") is_pairs (pairs_met rest), inr (inr (inr (inl refl))))
-    go false false false false true upgrade mend help is_logs is_check is_decide is_pairs is_run is_upgrade is_mend is_help = (codes "run", first (codes "run") is_run (run_met rest), inr (inr (inr (inr (inl refl)))))
-    go false false false false false true mend help is_logs is_check is_decide is_pairs is_run is_upgrade is_mend is_help = (codes "upgrade", first (codes "upgrade") is_upgrade (upgrade_met rest), inr (inr (inr (inr (inr (inl refl))))))
-    go false false false false false false true help is_logs is_check is_decide is_pairs is_run is_upgrade is_mend is_help = (codes "mend", first (codes "mend") is_mend (mend_met rest), inr (inr (inr (inr (inr (inr refl))))))
-    go false false false false false false false true is_logs is_check is_decide is_pairs is_run is_upgrade is_mend is_help =
+    go true explain check decide pairs run upgrade mend version help is_logs is_explain is_check is_decide is_pairs
+        is_run is_upgrade is_mend is_version is_help =
+        (codes "logs", first (codes "logs") is_logs (logs_met rest), inl refl)
+    go false true check decide pairs run upgrade mend version help is_logs is_explain is_check is_decide is_pairs
+        is_run is_upgrade is_mend is_version is_help =
+        (codes "explain", first (codes "explain") is_explain (explain_met rest), inr (inl refl))
+    go false false true decide pairs run upgrade mend version help is_logs is_explain is_check is_decide is_pairs
+        is_run is_upgrade is_mend is_version is_help =
+        (codes "check", first (codes "check") is_check (check_met rest), inr (inr (inl refl)))
+    go false false false true pairs run upgrade mend version help is_logs is_explain is_check is_decide is_pairs is_run
+        is_upgrade is_mend is_version is_help =
+        (codes "decide", first (codes "decide") is_decide (decide_met rest), inr (inr (inr (inl refl))))
+    go false false false false true run upgrade mend version help is_logs is_explain is_check is_decide is_pairs is_run
+        is_upgrade is_mend is_version is_help =
+        (codes "pairs", first (codes "pairs") is_pairs (pairs_met rest), inr (inr (inr (inr (inl refl)))))
+    go false false false false false true upgrade mend version help is_logs is_explain is_check is_decide is_pairs
+        is_run is_upgrade is_mend is_version is_help =
+        (codes "run", first (codes "run") is_run (run_met rest), inr (inr (inr (inr (inr (inl refl))))))
+    go false false false false false false true mend version help is_logs is_explain is_check is_decide is_pairs is_run
+        is_upgrade is_mend is_version is_help =
+        (codes "upgrade", first (codes "upgrade") is_upgrade (upgrade_met rest), inr (inr (inr (inr (inr (inr (inl refl)))))))
+    go false false false false false false false true version help is_logs is_explain is_check is_decide is_pairs
+        is_run is_upgrade is_mend is_version is_help =
+        (codes "mend", first (codes "mend") is_mend (mend_met rest), inr (inr (inr (inr (inr (inr (inr (inl refl))))))))
+    go false false false false false false false false true help is_logs is_explain is_check is_decide is_pairs is_run
+        is_upgrade is_mend is_version is_help =
+        (codes "version", first (codes "version") is_version (version_met rest), inr (inr (inr (inr (inr (inr (inr (inr refl))))))))
+    go false false false false false false false false false true is_logs is_explain is_check is_decide is_pairs is_run
+        is_upgrade is_mend is_version is_help =
         let same : codes "help" ≡ w = (bytes_eq-Decides (codes "help") w).0 is_help in
         absurd (no_fault _ (help_is_fault rest) (subst (λ x. fault_of ira_app (x ∷ rest) ≡ []) (sym same) none))
-    go false false false false false false false false is_logs is_check is_decide is_pairs is_run is_upgrade is_mend is_help =
-        absurd (unnamed w rest (rw (is_logs, is_check, is_decide, is_pairs, is_run, is_upgrade, is_mend, is_help) refl) none)
+    go false false false false false false false false false false is_logs is_explain is_check is_decide is_pairs
+        is_run is_upgrade is_mend is_version is_help =
+        absurd (unnamed w rest (rw (is_logs, is_explain, is_check, is_decide, is_pairs, is_run, is_upgrade, is_mend, is_version, is_help) refl) none)
 
 pub command_met : (a : App) (m : ArgMatches) (words : List Text) → a ≡ ira_app → HasMatchesOf a words m → fault_of ira_app words ≡ []
     → (n : Text) × (subcommand_name_of m ≡ Some n) × IsCommand n
@@ -310,6 +381,10 @@ rows_behind a m words name rows found is has read met =
 pub rows_of_logs : (a : App) (m : ArgMatches) (others : List Text) (found : List Row) → a ≡ ira_app → HasMatchesOf a (codes "logs" ∷ others) m
     → Some found ≡ option_map (λ s. s.1) (subcommand_rows_of m) → found ≡ rows_after (built_leaf logs_app.top).rules [] others
 rows_of_logs a m others found is has read = rows_behind a m (codes "logs" ∷ others) (codes "logs") _ found is has read (logs_rows others)
+
+pub rows_of_explain : (a : App) (m : ArgMatches) (others : List Text) (found : List Row) → a ≡ ira_app → HasMatchesOf a (codes "explain" ∷ others) m
+    → Some found ≡ option_map (λ s. s.1) (subcommand_rows_of m) → found ≡ rows_after (built_leaf explain_app.top).rules [] others
+rows_of_explain a m others found is has read = rows_behind a m (codes "explain" ∷ others) (codes "explain") _ found is has read (explain_rows others)
 
 pub rows_of_run : (a : App) (m : ArgMatches) (others : List Text) (found : List Row) → a ≡ ira_app → HasMatchesOf a (codes "run" ∷ others) m
     → Some found ≡ option_map (λ s. s.1) (subcommand_rows_of m) → found ≡ rows_after (built_leaf run_app.top).rules [] others

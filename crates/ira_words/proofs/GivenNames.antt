@@ -1,26 +1,21 @@
 -- The files that words behind `logs` name: those up to `--`, where none of them begins with a dash, and
 -- each behind it.
-use Rattle.std.proofs.Common.{◌≡◌, ◌≢◌, ℕ, Bool, true, false, List, [], ◌∷◌, ◌++◌, Option, None, Some, All, refl, sym, ap, subst, ◌∙◌, codes, append_assoc, arith, suc}
-use Rattle.std.specs.Prelude.{fold, ◌==◌, if◌then◌else◌, map, option_map, unwrap_or}
+use Rattle.std.proofs.Common.{◌≡◌, ◌≢◌, ℕ, Bool, true, false, List, [], ◌∷◌, ◌++◌, None, Some, All, refl, sym, ap, subst, ◌∙◌, codes, append_assoc, arith, suc}
+use Rattle.std.specs.Prelude.{fold, ◌==◌, if◌then◌else◌, map}
 use Rattle.std.proofs.lemmas.Bool.Decides.{Decides-eqb}
 use Rattle.std.proofs.lemmas.List.{append-nil}
 use Rattle.clap.specs.Lexer.{strip_byte}
-use Rattle.clap.proofs.WalkLemmas.{raw_values-rows}
-use Rattle.clap.specs.Matches.{matched_of, raw_values}
 use Rattle.clap.specs.Simple.{built_leaf}
-use Rattle.clap.specs.Walk.{Rule, Text, Walk, all_of, finished, positional, rows_after, rows_of, walk_from, nothing_held, walked}
-use Rattle.clap.specs.declared.parser.matches.Found.{Found}
-use Rattle.std.specs.Borrow.{Bor}
+use Rattle.clap.specs.Walk.{Row, Rule, Text, Walk, finished, positional, rows_after, walk_from, nothing_held, walked}
 use Rattle.ira_words.specs.CommandLine.{logs_app}
+use Rattle.ira_words.specs.LogSource.{HasLogs, IsOfFiles}
 use Rattle.ira_words.specs.Request.{IsFileName}
+use Rattle.ira_words.specs.declared.log_source.LogSource.{LogSource}
+use Rattle.ira_words.specs.declared.log_source.LogSource.TheVariants.{Files, Folder}
 
 -- what a parse reads of `logs`
 abbrev rules : List Rule
 rules = (built_leaf logs_app.top).rules
-
--- the names that are read of these words behind `logs`
-abbrev pub given_behind : List Text → List Text
-given_behind words = unwrap_or (all_of (codes "LOG") (rows_after rules [] words)) []
 
 -- the walk after some file names
 abbrev named : List Text → Walk
@@ -55,13 +50,14 @@ all_names : (w : Text) (rest : List Text) → All IsFileName (w ∷ rest) → fo
 all_names w rest are =
     ap (λ x. fold (walked rules []) x rest) (first_name w (are 0 w (omega arith))) ∙ next_names (w ∷ []) rest (λ k d lt. are (suc k) d (omega (arith, lt)))
 
--- they are the values of `LOG`
-names_given : (w : Text) (rest : List Text) → All IsFileName (w ∷ rest) → all_of (codes "LOG") (rows_after rules [] (w ∷ rest)) ≡ Some (w ∷ rest)
-names_given w rest are = ap (λ x. all_of (codes "LOG") (finished rules x.held)) (all_names w rest are)
+-- what is found where these names are read
+abbrev pub rows_named : List Text → List Row
+rows_named [] = []
+rows_named (w ∷ ws) = finished rules (named (w ∷ ws)).held
 
-pub words_given : (words : List Text) → All IsFileName words → given_behind words ≡ words
-words_given [] are = refl
-words_given (w ∷ rest) are = ap (λ o. unwrap_or o []) (names_given w rest are)
+pub words_rows : (words : List Text) → All IsFileName words → rows_after rules [] words ≡ rows_named words
+words_rows [] are = refl
+words_rows (w ∷ rest) are = ap (λ x. finished rules x.held) (all_names w rest are)
 
 -- the walk behind `--`, after some names
 abbrev marked : List Text → Walk
@@ -88,27 +84,29 @@ dashes_next : (ws : List Text) → walked rules [] (named ws) (codes "--") ≡ m
 unfolding walked
 dashes_next ws = refl
 
-dashes_alone : all_of (codes "LOG") (rows_after rules [] (codes "--" ∷ [])) ≡ None
+dashes_alone : rows_after rules [] (codes "--" ∷ []) ≡ []
 unfolding walked
 dashes_alone = refl
 
-abbrev given_at : Walk → List Text
-given_at x = unwrap_or (all_of (codes "LOG") (finished rules x.held)) []
-
-pub words_behind : (front back : List Text) → All IsFileName front → given_behind (front ++ codes "--" ∷ back) ≡ front ++ back
-words_behind [] [] are = ap (λ o. unwrap_or o []) dashes_alone
-words_behind [] (w ∷ back) are = ap given_at (ap (λ x. fold (walked rules []) x back) (dashes_first w) ∙ all_marked (w ∷ []) back)
-words_behind (w ∷ front) back are =
-    ap given_at (walk_on (walk_from nothing_held) (w ∷ front) (codes "--" ∷ back) ∙ ap (λ x. fold (walked rules []) x (codes "--" ∷ back)) (all_names w front are)
+pub dashes_rows : (front back : List Text) → All IsFileName front → rows_after rules [] (front ++ codes "--" ∷ back) ≡ rows_named (front ++ back)
+dashes_rows [] [] are = dashes_alone
+dashes_rows [] (w ∷ back) are =
+    ap (λ x. finished rules x.held) (ap (λ x. fold (walked rules []) x back) (dashes_first w) ∙ all_marked (w ∷ []) back)
+dashes_rows (w ∷ front) back are =
+    ap (λ x. finished rules x.held) (walk_on (walk_from nothing_held) (w ∷ front) (codes "--" ∷ back) ∙ ap (λ x. fold (walked rules []) x (codes "--" ∷ back)) (all_names w front are)
     ∙ ap (λ x. fold (walked rules []) x back) (dashes_next (w ∷ front)) ∙ all_marked (w ∷ front) back)
 
--- the names that are read of what was found
-pub names_read : (o : Option (Bor (List (Bor Text)))) (none : Bor (List (Bor Text))) (f : Found) → none.now ≡ []
-    → option_map (λ s. map (λ v. v.now) s.now) o ≡ option_map raw_values (matched_of f (codes "LOG"))
-    → map (λ v. v.now) (unwrap_or o none).now ≡ unwrap_or (all_of (codes "LOG") (rows_of f)) []
-names_read None none f empty read =
-    let found : None ≡ all_of (codes "LOG") (rows_of f) = read ∙ raw_values-rows f (codes "LOG") in
-    ap (map (λ v. v.now)) empty ∙ ap (λ o. unwrap_or o []) found
-names_read (Some s) none f empty read =
-    let found : Some (map (λ v. v.now) s.now) ≡ all_of (codes "LOG") (rows_of f) = read ∙ raw_values-rows f (codes "LOG") in
-    ap (λ o. unwrap_or o []) found
+-- they are names of files
+pub of_files : (source : LogSource) (ws : List Text) → HasLogs (rows_named ws) source → IsOfFiles source ws
+of_files (Files names) [] has =
+    let none = has.0 in
+    cc
+of_files (Files names) (w ∷ ws) has =
+    let all : Some (w ∷ ws) ≡ Some (map (λ name. name.now) names.items) = has.0 in
+    cc
+of_files (Folder folder) [] has =
+    let none = has.0 in
+    cc
+of_files (Folder folder) (w ∷ ws) has =
+    let none : None ≡ Some folder.now = has.0 in
+    cc

@@ -1,18 +1,16 @@
 -- A parse without a fault has found values that the arguments take, and those that are required.
 use Rattle.std.proofs.Common.{◌≡◌, ◌≢◌, ◌∙◌, ℕ, zero, suc, Bool, true, false, not, ◌&&◌, ◌||◌, List, [], ◌∷◌, ◌++◌, Option, None, Some, length, is_some, arith, eqb-true, true≢false, refl, sym, ap, subst}
-use Rattle.std.specs.Prelude.{◌==◌, find, fold, option_map, if◌then◌else◌, nat_lt, slice_get, encode_utf8, drop, unwrap_or}
-use Rattle.std.specs.List.{list_any}
+use Rattle.std.specs.Prelude.{◌==◌, find, fold, option_map, if◌then◌else◌, nat_lt, slice_get, encode_utf8, drop}
 use Rattle.std.specs.Option.{option_map_or}
 use Rattle.std.specs.Str.{bytes_eq, chars}
 use Rattle.std.proofs.lemmas.Bool.{ne_eqb}
 use Rattle.std.proofs.lemmas.List.{append-nil}
 use Rattle.std.proofs.lemmas.Slice.Eq.{bytes_eq-Decides}
-use Rattle.clap.specs.Facts.{explicit_source, parser_of_value, unwrap_or_range}
+use Rattle.clap.specs.Facts.{parser_of_value, unwrap_or_range}
 use Rattle.clap.specs.Faults.{action_fault, repeat_fault, bundle_fault, bundle_step_fault, check_fault, default_fault, defaults_fault, flag_word_fault, flags_fault, given_default_fault, level_fault, long_fault, option_fault, other_fault, positional_fault, react_fault, settle_fault, short_fault, step_fault, stray_fault, turn_fault, use_fault, values_fault, walk_fault, word_fault}
 use Rattle.clap.specs.Kinds.{Kinds, or_else, range_kinds, request_kinds, value_kinds, values_kinds}
 use Rattle.clap.specs.Lexer.{long_of, short_of}
 use Rattle.clap.specs.Simple.{Shape}
-use Rattle.clap.specs.Takes.{is_given}
 use Rattle.clap.specs.Walk.{Held, Outcome, Row, Rule, Step, Text, Waiting, Walk, action_of, after_flag, after_step, all_of, arg_by_id, arg_by_index, arg_by_long, arg_by_short, at_row, attached_value, bundle, bundle_met, bundle_step, default_rows, done, flag_met, has_row, idle, is_empty, is_pending, long_met, long_or_other, more_values, most_values, next, nothing_held, option, option_met, option_word, plain, plain_word, positional, positional_held, reacted, reading_by, refused, rows_after, settled, settled_rows, short_met, short_or_plain, subcommand, subcommand_or_other, takes_several, takes_values, to_positional, trailing, used, used_as, used_by_id, value, values_or_missing, waits, walk, walk_from, walked, walked_from, with_default, without, word_met}
 use Rattle.clap.specs.declared.builder.action.ArgAction.{ArgAction}
 use Rattle.clap.specs.declared.builder.action.ArgAction.TheVariants as action
@@ -389,40 +387,12 @@ row_found c id (x ∷ rows) r are found = go (bytes_eq x.id id) refl (row_found 
         subst Good same (are.0, (bytes_eq-Decides x.id id).0 is)
     go false is rest here = rest here
 
--- the values of an argument that was given
-pub given_some : (c : List Rule) (id : Text) (rows : List Row) → AreTaken c rows → is_given id rows ≡ true → unwrap_or (all_of id rows) [] ≢ []
-given_some c id rows are given = go (find (λ x. bytes_eq x.id id) rows) refl given
+-- an argument that was found has a value
+pub values_some : (c : List Rule) (id : Text) (rows : List Row) (vs : List Text) → AreTaken c rows → all_of id rows ≡ Some vs → vs ≢ []
+values_some c id rows vs are found = go (find (λ x. bytes_eq x.id id) rows) refl found
   where
-    go : (o : Option Row) → find (λ x. bytes_eq x.id id) rows ≡ o → option_map_or (λ x. explicit_source x.source) o false ≡ true
-        → unwrap_or (option_map (λ x. x.values) o) [] ≢ []
-    go None found is = cc
-    go (Some r) found is = (row_found c id rows r are found).0.some
-
-none_missing : (p q : Rule → Bool) (xs : List Rule) (a : Rule) → list_any p xs ≡ false → find q xs ≡ Some a → p a ≡ false
-none_missing p q [] a none found = cc
-none_missing p q (x ∷ xs) a none found = go (p x) (q x) refl none (none_missing p q xs a) found
-  where
-    go : (b here : Bool) → p x ≡ b → (b || list_any p xs) ≡ false → (list_any p xs ≡ false → find q xs ≡ Some a → p a ≡ false) → (if here then Some x else find q xs) ≡ Some a → p a ≡ false
-    go true here is none rest found = absurd (true≢false none)
-    go false true is none rest found =
-        let same : x ≡ a = cc in
-        ap p (sym same) ∙ is
-    go false false is none rest found = rest none found
-
--- an argument that is required was given
-pub required_given : (s : Shape) (a : Rule) (rows : List Row) → s.subcommand_required ≡ false → s.arg_required_else_help ≡ false → s.subcommand_negates_reqs ≡ false
-    → arg_by_id s.rules a.id ≡ Some a → a.required ≡ true → check_fault s rows false ≡ [] → is_given a.id rows ≡ true
-required_given s a rows alone helpless asks its required none =
-    let wants : Rule → Bool = λ x. x.required && not (is_given x.id rows) in
-    let here = rw (alone, helpless, asks) at none in
-    go (is_given a.id rows) (none_missing wants (λ x. bytes_eq x.id a.id) s.rules a (all_there (list_any wants s.rules) here) its)
-  where
-    all_there : (b : Bool) → (if b then kind.MissingRequiredArgument ∷ [] else []) ≡ [] → b ≡ false
-    all_there true e = cc
-    all_there false e = refl
-
-    go : (b : Bool) → (a.required && not b) ≡ false → b ≡ true
-    go true e = refl
-    go false e =
-        let bad : (true && true) ≡ false = rw required at e in
-        cc
+    go : (o : Option Row) → find (λ x. bytes_eq x.id id) rows ≡ o → option_map (λ x. x.values) o ≡ Some vs → vs ≢ []
+    go None none is = cc
+    go (Some r) its is =
+        let same : r.values ≡ vs = cc in
+        subst (λ (ts : List Text). ts ≢ []) same (row_found c id rows r are its).0.some

@@ -19,23 +19,35 @@ abbrev pub logs_rule : Rule
 logs_rule = record (new_rule (codes "LOG")) {
   action = Some Append;
   range = Some (record { start_inclusive = 1; end_inclusive = usize_max });
-  required = true;
 }
+
+-- or the folder that has them
+abbrev pub dir_rule : Rule
+dir_rule = record (option_rule (codes "dir")) { parser = Some NonEmptyString }
+
+-- a command with logs alone
+abbrev pub log_app : Text → App
+log_app name = with_rule (with_rule (new_app name) dir_rule) logs_rule
 
 -- the command `logs`
 abbrev pub logs_app : App
-logs_app = with_rule (new_app (codes "logs")) logs_rule
+logs_app = log_app (codes "logs")
+
+-- the command `explain`
+abbrev pub explain_app : App
+explain_app = log_app (codes "explain")
 
 -- the option `--depth` of `check`
 abbrev pub depth_rule : Rule
 depth_rule = record (option_rule (codes "depth")) { parser = Some (Unsigned 0 4); defaults = codes "2" ∷ [] }
 
--- the options and files of `check`
+-- the options and logs of `check`
 abbrev pub check_rules : List Rule
 check_rules =
     record (option_rule (codes "question")) { required = true }
     ∷ record (option_rule (codes "cert")) { required = true }
     ∷ depth_rule
+    ∷ dir_rule
     ∷ logs_rule
     ∷ []
 
@@ -43,11 +55,11 @@ check_rules =
 abbrev pub check_app : App
 check_app = on_top (λ s. record s { rules = check_rules }) (new_app (codes "check"))
 
--- the command `decide`, with its options and files
+-- the command `decide`, with its options and logs
 abbrev pub decide_app : App
 decide_app =
-    with_rule (with_rule (with_rule (new_app (codes "decide")) (record (option_rule (codes "question")) { required = true }))
-    (option_rule (codes "out"))) logs_rule
+    with_rule (with_rule (with_rule (with_rule (new_app (codes "decide"))
+    (record (option_rule (codes "question")) { required = true })) (option_rule (codes "out"))) dir_rule) logs_rule
 
 -- the size of a ring
 abbrev pub pairs_rule : Rule
@@ -90,9 +102,9 @@ run_rules =
 abbrev pub run_app : App
 run_app = on_top (λ s. record s { rules = run_rules }) (new_app (codes "run"))
 
--- a command that writes logs anew, with its option and files
+-- a command that writes logs anew, with its option and logs
 abbrev pub rewrite_app : Text → App
-rewrite_app name = with_rule (with_rule (new_app name) folder_rule) logs_rule
+rewrite_app name = with_rule (with_rule (with_rule (new_app name) folder_rule) dir_rule) logs_rule
 
 -- the command `upgrade`
 abbrev pub upgrade_app : App
@@ -102,6 +114,10 @@ upgrade_app = rewrite_app (codes "upgrade")
 abbrev pub mend_app : App
 mend_app = rewrite_app (codes "mend")
 
+-- the command `version`
+abbrev pub version_app : App
+version_app = new_app (codes "version")
+
 -- the program's command line without its commands
 abbrev pub ira_top : App
 ira_top = on_top (λ s. record s { no_binary_name = true; subcommand_required = true }) (new_app (codes "ira"))
@@ -109,5 +125,6 @@ ira_top = on_top (λ s. record s { no_binary_name = true; subcommand_required = 
 -- the program's command line
 abbrev pub ira_app : App
 ira_app =
-    with_subcommand (with_subcommand (with_subcommand (with_subcommand (with_subcommand (with_subcommand (with_subcommand ira_top logs_app.top)
-    check_app.top) decide_app.top) pairs_app.top) run_app.top) upgrade_app.top) mend_app.top
+    with_subcommand (with_subcommand (with_subcommand (with_subcommand (with_subcommand (with_subcommand
+    (with_subcommand (with_subcommand (with_subcommand ira_top logs_app.top) explain_app.top) check_app.top)
+    decide_app.top) pairs_app.top) run_app.top) upgrade_app.top) mend_app.top) version_app.top

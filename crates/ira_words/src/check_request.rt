@@ -1,3 +1,5 @@
+use crate::log_source::LogSource;
+
 /// Logs to judge together with a question and a certificate, as the words name them.
 #[derive(Drop)]
 pub struct CheckRequest<'a> {
@@ -7,6 +9,5 @@ pub struct CheckRequest<'a> {
     pub certificate: &'a str,
     /// How often the steps of a section are to be halved among threads, 0 to 4.
     pub depth: u8,
-    /// The files of the logs, in the order of the ring's places.
-    pub logs: Vec<&'a str>,
+    pub logs: LogSource<'a>,
 }

@@ -1,11 +1,12 @@
-ghost use Rattle.std.specs.Prelude.{◌≡◌, ◌≢◌, ℕ, List, [], Ok, IfErr, IfOk, IsOkAnd, codes, false, map, unwrap_or};
+ghost use Rattle.std.specs.Prelude.{◌≡◌, ℕ, List, [], Ok, IfErr, IfOk, IsOkAnd, codes, false, map};
 ghost use Rattle.clap.specs.Simple.{built_leaf};
-ghost use Rattle.clap.specs.Words.{AddsSubcommand, all_of, app_of, found_of, kind_of, rows_of, rule_of};
+ghost use Rattle.clap.specs.Words.{AddsSubcommand, Rule, app_of, found_of, kind_of, rows_of, rule_of};
 ghost use Rattle.clap.specs.declared.error.kind.ErrorKind.TheVariants as kind;
-ghost use Rattle.ira_words.specs.CommandLine.{alone_rule, check_app, decide_app, depth_rule, draws_rule, folder_rule, ira_app, ira_top, logs_app, logs_rule, number_rule, option_rule, pairs_app, rewrite_app, run_app, run_required_app, upgrade_app};
+ghost use Rattle.ira_words.specs.CommandLine.{alone_rule, check_app, decide_app, depth_rule, dir_rule, draws_rule, explain_app, folder_rule, ira_app, ira_top, logs_app, logs_rule, number_rule, option_rule, pairs_app, rewrite_app, run_app, run_required_app, upgrade_app, version_app};
 ghost use Rattle.ira_words.specs.CheckRequest.{HasFiles};
 ghost use Rattle.ira_words.specs.DecideRequest.{HasFilesToDecide};
-ghost use Rattle.ira_words.specs.Request.{AreMatchesOf, AreAcceptedWords, IsMadeOf, MayBeRefused};
+ghost use Rattle.ira_words.specs.LogSource.{HasLogs, MayHaveLogs, MayNameLogs, NamesLogs};
+ghost use Rattle.ira_words.specs.Request.{AreMatchesOf, AreAcceptedWords, IsMadeOf, MayBeRefused, NameLogsOnce};
 ghost use Rattle.ira_words.specs.RewriteRequest.{HasFilesToRewrite};
 ghost use Rattle.ira_words.specs.RunRequest.{HasNumber, HasOptions};
 ghost use Rattle.ira_words.specs.TakenValues.{AreFound, AreTaken};
@@ -14,6 +15,8 @@ ghost use Rattle.ira_words.specs.declared.words_fault.WordsFault.TheVariants as 
 
 use crate::check_request::CheckRequest;
 use crate::decide_request::DecideRequest;
+use crate::explain_request::ExplainRequest;
+use crate::log_source::LogSource;
 use crate::request::Request;
 use crate::rewrite_request::RewriteRequest;
 use crate::run_request::RunRequest;
@@ -23,19 +26,24 @@ use clap::error::ErrorKind;
 use clap::{Arg, ArgAction, ArgMatches, Command, Error, value_parser};
 use std::alloc::{AllocError, Global};
 
-const USAGE: &str = "ira < LOG\n       ira logs <LOG>...\n       \
-    ira check --question <Q> --cert <C> [--depth <D>] <LOG>...\n       \
-    ira decide --question <Q> [--out <C>] <LOG>...\n       \
+const USAGE: &str = "ira < LOG\n       ira logs <LOGS>\n       \
+    ira explain [<LOGS>]\n       \
+    ira check --question <Q> --cert <C> [--depth <D>] <LOGS>\n       \
+    ira decide --question <Q> [--out <C>] <LOGS>\n       \
     ira pairs <N>\n       \
     ira run --nodes <N> --seed <S> --out <DIR> [OPTIONS]\n       \
-    ira upgrade --out <DIR> <LOG>...\n       \
-    ira mend --out <DIR> <LOG>...";
+    ira upgrade --out <DIR> <LOGS>\n       \
+    ira mend --out <DIR> <LOGS>\n       \
+    ira version\n\n\
+    LOGS is either <LOG>... or --dir <DIR>";
 
 const NOTE: &str =
     "Without words ira judges the log of one node, on standard input. It prints `yes`, or \
     `no` and\nthe first reason. The status is 0 for yes, absent cases, an elected leader, upgraded \
     or mended\nlogs, 1 for no, a case that is present or no leader, 2 for refused words, a refused \
     ring, a\nfailed read or a failed write, 3 out of memory.";
+
+const ONE_SOURCE: &str = "the logs are named either by <LOG>... or by --dir <DIR>";
 
 const UPGRADE: &str = "Writes the logs of all nodes of a ring in version 2, each to a file";
 
@@ -48,12 +56,14 @@ fn command<'a>(alloc: Global) -> Result<Command<'a>, AllocError>
 {
     let command = top_command(alloc)?;
     let command = add_command(command, logs_command(alloc))?;
+    let command = add_command(command, explain_command(alloc))?;
     let command = add_command(command, check_command(alloc))?;
     let command = add_command(command, decide_command(alloc))?;
     let command = add_command(command, pairs_command(alloc))?;
     let command = add_command(command, run_command(alloc))?;
     let command = add_command(command, rewrite_command(alloc, "upgrade", UPGRADE))?;
-    add_command(command, rewrite_command(alloc, "mend", MEND))
+    let command = add_command(command, rewrite_command(alloc, "mend", MEND))?;
+    add_command(command, version_command(alloc))
 }
 
 /// The command with this one below it, if that could be made.
@@ -91,17 +101,49 @@ fn log_files<'a>(alloc: Global) -> Arg<'a>
         .help("A file with the log of a node, in the order of the ring's places")
         .action(ArgAction::Append)
         .num_args(1..)
-        .required(true)
 }
 
-/// The names of these files.
-fn log_names<'a>(alloc: Global, matches: &ArgMatches<'a>) -> Result<Vec<&'a str>, AllocError>
-    ensures { IfOk result
-        (λ names. map (λ name. name.now) names.items
-        ≡ unwrap_or (all_of (codes "LOG") (rows_of (found_of matches.now))) []) }
+/// The folder with the logs of a ring.
+fn log_folder<'a>(alloc: Global) -> Arg<'a>
+    ensures rule { rule_of result ≡ dir_rule }
+    ensures local { result.global ≡ false }
 {
-    let names: &[&'a str] = matches.get_strs("LOG").unwrap_or([].as_slice());
-    names.to_vec(alloc)
+    let help = "The folder with the logs 0.log, 1.log and so on, as many as the first says";
+    option(alloc, "dir", "DIR", help).value_parser(ValueParser::NonEmptyString)
+}
+
+/// Where logs come from, if any are named. They aren't named twice.
+fn found_logs<'a>(
+    alloc: Global,
+    matches: &ArgMatches<'a>,
+) -> Result<Option<LogSource<'a>>, ErrorKind>
+    requires { (rules : List Rule) × AreTaken rules (rows_of (found_of matches.now)) }
+    ensures found { IfOk result (MayHaveLogs (rows_of (found_of matches.now))) }
+    ensures refused { IfErr result
+        (λ why. MayNameLogs (rows_of (found_of matches.now)) → why ≡ kind.OutOfMemory) }
+{
+    match (matches.get_str("dir"), matches.get_strs("LOG")) {
+        (None, None) => Ok(None),
+        (Some(folder), None) => Ok(Some(LogSource::Folder(folder))),
+        (None, Some(names)) => match names.to_vec(alloc) {
+            Ok(names) => Ok(Some(LogSource::Files(names))),
+            Err(AllocError) => Err(ErrorKind::OutOfMemory),
+        },
+        (Some(_), Some(_)) => Err(ErrorKind::ArgumentConflict),
+    }
+}
+
+/// Where the logs come from, which are named.
+fn log_source<'a>(alloc: Global, matches: &ArgMatches<'a>) -> Result<LogSource<'a>, ErrorKind>
+    requires { (rules : List Rule) × AreTaken rules (rows_of (found_of matches.now)) }
+    ensures found { IfOk result (HasLogs (rows_of (found_of matches.now))) }
+    ensures refused { IfErr result
+        (λ why. NamesLogs (rows_of (found_of matches.now)) → why ≡ kind.OutOfMemory) }
+{
+    match found_logs(alloc, matches)? {
+        Some(source) => Ok(source),
+        None => Err(ErrorKind::MissingRequiredArgument),
+    }
 }
 
 fn logs_command<'a>(alloc: Global) -> Result<Command<'a>, AllocError>
@@ -109,6 +151,16 @@ fn logs_command<'a>(alloc: Global) -> Result<Command<'a>, AllocError>
 {
     Command::new(alloc, "logs")
         .about("Judges the logs of all nodes of a ring together")
+        .arg(log_folder(alloc))?
+        .arg(log_files(alloc))
+}
+
+fn explain_command<'a>(alloc: Global) -> Result<Command<'a>, AllocError>
+    ensures { IfOk result (λ c. app_of c ≡ explain_app) }
+{
+    Command::new(alloc, "explain")
+        .about("Judges logs, or one log on standard input, and says why the answer is so")
+        .arg(log_folder(alloc))?
         .arg(log_files(alloc))
 }
 
@@ -120,6 +172,7 @@ fn check_command<'a>(alloc: Global) -> Result<Command<'a>, AllocError>
         .arg(option(alloc, "question", "Q", "The file with the question").required(true))?
         .arg(option(alloc, "cert", "C", "The file with the certificate").required(true))?
         .arg(depth(alloc))?
+        .arg(log_folder(alloc))?
         .arg(log_files(alloc))
 }
 
@@ -138,12 +191,10 @@ fn depth<'a>(alloc: Global) -> Arg<'a>
 }
 
 /// The files to judge.
-fn check_request<'a>(matches: &ArgMatches<'a>, logs: Vec<&'a str>) -> CheckRequest<'a>
+fn check_request<'a>(matches: &ArgMatches<'a>, logs: LogSource<'a>) -> CheckRequest<'a>
     requires taken { AreTaken (built_leaf check_app.top).rules (rows_of (found_of matches.now)) }
-    requires names { map (λ name. name.now) logs.items
-        ≡ unwrap_or (all_of (codes "LOG") (rows_of (found_of matches.now))) [] }
     requires found { AreFound (built_leaf check_app.top).rules (rows_of (found_of matches.now)) }
-    requires some { logs.items ≢ [] }
+    requires logs { HasLogs (rows_of (found_of matches.now)) logs }
     ensures { HasFiles (rows_of (found_of matches.now)) result }
 {
     CheckRequest {
@@ -162,16 +213,15 @@ fn decide_command<'a>(alloc: Global) -> Result<Command<'a>, AllocError>
         .about("Decides for each case of a question whether some moment of the logged run met it")
         .arg(option(alloc, "question", "Q", "The file with the question").required(true))?
         .arg(option(alloc, "out", "C", certificate))?
+        .arg(log_folder(alloc))?
         .arg(log_files(alloc))
 }
 
 /// The files to decide of.
-fn decide_request<'a>(matches: &ArgMatches<'a>, logs: Vec<&'a str>) -> DecideRequest<'a>
+fn decide_request<'a>(matches: &ArgMatches<'a>, logs: LogSource<'a>) -> DecideRequest<'a>
     requires taken { AreTaken (built_leaf decide_app.top).rules (rows_of (found_of matches.now)) }
     requires found { AreFound (built_leaf decide_app.top).rules (rows_of (found_of matches.now)) }
-    requires names { map (λ name. name.now) logs.items
-        ≡ unwrap_or (all_of (codes "LOG") (rows_of (found_of matches.now))) [] }
-    requires some { logs.items ≢ [] }
+    requires logs { HasLogs (rows_of (found_of matches.now)) logs }
     ensures { HasFilesToDecide (rows_of (found_of matches.now)) result }
 {
     DecideRequest {
@@ -315,16 +365,21 @@ fn rewrite_command<'a>(
     Command::new(alloc, name)
         .about(about)
         .arg(folder(alloc))?
+        .arg(log_folder(alloc))?
         .arg(log_files(alloc))
 }
 
+fn version_command<'a>(alloc: Global) -> Result<Command<'a>, AllocError>
+    ensures { IfOk result (λ c. app_of c ≡ version_app) }
+{
+    Ok(Command::new(alloc, "version").about("Prints which version this is, and what proved it"))
+}
+
 /// The files to write anew.
-fn rewrite_request<'a>(matches: &ArgMatches<'a>, logs: Vec<&'a str>) -> RewriteRequest<'a>
+fn rewrite_request<'a>(matches: &ArgMatches<'a>, logs: LogSource<'a>) -> RewriteRequest<'a>
     requires taken { AreTaken (built_leaf upgrade_app.top).rules (rows_of (found_of matches.now)) }
     requires found { AreFound (built_leaf upgrade_app.top).rules (rows_of (found_of matches.now)) }
-    requires names { map (λ name. name.now) logs.items
-        ≡ unwrap_or (all_of (codes "LOG") (rows_of (found_of matches.now))) [] }
-    requires some { logs.items ≢ [] }
+    requires logs { HasLogs (rows_of (found_of matches.now)) logs }
     ensures { HasFilesToRewrite (rows_of (found_of matches.now)) result }
 {
     RewriteRequest {
@@ -334,30 +389,36 @@ fn rewrite_request<'a>(matches: &ArgMatches<'a>, logs: Vec<&'a str>) -> RewriteR
 }
 
 // What words ask for, by what was found of them.
-fn found_request<'a>(alloc: Global, matches: &ArgMatches<'a>) -> Result<Request<'a>, AllocError>
+fn found_request<'a>(alloc: Global, matches: &ArgMatches<'a>) -> Result<Request<'a>, ErrorKind>
     requires { (words : List (List ℕ)) × AreMatchesOf words matches.now }
-    ensures { IfOk result (λ r. (words : List (List ℕ)) → AreMatchesOf words matches.now → IsMadeOf words r) }
+    ensures made { IfOk result (λ r. (words : List (List ℕ)) → AreMatchesOf words matches.now → IsMadeOf words r) }
+    ensures refused { IfErr result (λ why. (words : List (List ℕ)) → AreMatchesOf words matches.now
+        → NameLogsOnce words → why ≡ kind.OutOfMemory) }
 {
     match matches.subcommand() {
-        Some(("logs", found)) => Ok(Request::Logs(log_names(alloc, found)?)),
-        Some(("check", found)) => Ok(Request::Check(check_request(
-            found,
-            log_names(alloc, found)?,
-        ))),
-        Some(("decide", found)) => Ok(Request::Decide(decide_request(
-            found,
-            log_names(alloc, found)?,
-        ))),
+        Some(("logs", found)) => Ok(Request::Logs(log_source(alloc, found)?)),
+        Some(("explain", found)) => Ok(Request::Explain(ExplainRequest {
+            logs: found_logs(alloc, found)?,
+        })),
+        Some(("check", found)) => {
+            let logs = log_source(alloc, found)?;
+            Ok(Request::Check(check_request(found, logs)))
+        }
+        Some(("decide", found)) => {
+            let logs = log_source(alloc, found)?;
+            Ok(Request::Decide(decide_request(found, logs)))
+        }
         Some(("pairs", found)) => Ok(Request::Pairs(pairs_nodes(found))),
         Some(("run", found)) => Ok(Request::Run(run_request(found))),
-        Some(("upgrade", found)) => Ok(Request::Upgrade(rewrite_request(
-            found,
-            log_names(alloc, found)?,
-        ))),
-        Some(("mend", found)) => Ok(Request::Mend(rewrite_request(
-            found,
-            log_names(alloc, found)?,
-        ))),
+        Some(("upgrade", found)) => {
+            let logs = log_source(alloc, found)?;
+            Ok(Request::Upgrade(rewrite_request(found, logs)))
+        }
+        Some(("mend", found)) => {
+            let logs = log_source(alloc, found)?;
+            Ok(Request::Mend(rewrite_request(found, logs)))
+        }
+        Some(("version", _)) => Ok(Request::Version),
         _ => unreachable!(),
     }
 }
@@ -366,10 +427,13 @@ fn found_request<'a>(alloc: Global, matches: &ArgMatches<'a>) -> Result<Request<
 fn request_of_words<'a>(alloc: Global, words: &'a [&'a str]) -> Result<Request<'a>, Error>
     ensures made { IfOk result (IsMadeOf (map (λ word. word.now) words.now)) }
     ensures refused { IfErr result (λ e. AreAcceptedWords (map (λ word. word.now) words.now)
-        → kind_of e ≡ kind.OutOfMemory) }
+        → NameLogsOnce (map (λ word. word.now) words.now) → kind_of e ≡ kind.OutOfMemory) }
 {
     let matches = command(alloc)?.try_get_matches_from(words)?;
-    Ok(found_request(alloc, &matches)?)
+    match found_request(alloc, &matches) {
+        Ok(request) => Ok(request),
+        Err(why) => Err(command(alloc)?.error(why, ONE_SOURCE)?),
+    }
 }
 
 // The text of a refusal.

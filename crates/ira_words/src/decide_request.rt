@@ -1,3 +1,5 @@
+use crate::log_source::LogSource;
+
 /// A question to decide of logs, as the words name them.
 #[derive(Drop)]
 pub struct DecideRequest<'a> {
@@ -5,6 +7,5 @@ pub struct DecideRequest<'a> {
     pub question: &'a str,
     /// The file that the certificate is written to, where one is wanted.
     pub certificate: Option<&'a str>,
-    /// The files of the logs, in the order of the ring's places.
-    pub logs: Vec<&'a str>,
+    pub logs: LogSource<'a>,
 }

@@ -4,6 +4,8 @@
 mod check_request;
 mod command_line;
 mod decide_request;
+mod explain_request;
+mod log_source;
 mod request;
 mod rewrite_request;
 mod run_request;
@@ -12,6 +14,8 @@ mod words_fault;
 pub use check_request::CheckRequest;
 pub use command_line::read_words;
 pub use decide_request::DecideRequest;
+pub use explain_request::ExplainRequest;
+pub use log_source::LogSource;
 pub use request::Request;
 pub use rewrite_request::RewriteRequest;
 pub use run_request::RunRequest;

@@ -1,5 +1,7 @@
 use crate::check_request::CheckRequest;
 use crate::decide_request::DecideRequest;
+use crate::explain_request::ExplainRequest;
+use crate::log_source::LogSource;
 use crate::rewrite_request::RewriteRequest;
 use crate::run_request::RunRequest;
 
@@ -8,8 +10,10 @@ use crate::run_request::RunRequest;
 pub enum Request<'a> {
     /// To judge the log on standard input.
     OneLog,
-    /// To judge the logs in the files of these names together, in the order of the ring's places.
-    Logs(Vec<&'a str>),
+    /// To judge the logs of a ring together.
+    Logs(LogSource<'a>),
+    /// To judge logs as `OneLog` and `Logs` do, and to say why the answer is what it is.
+    Explain(ExplainRequest<'a>),
     /// To judge logs together with a question and a certificate that no moment met a case of it.
     Check(CheckRequest<'a>),
     /// To decide a question of logs: whether some moment met a case of it.
@@ -19,8 +23,10 @@ pub enum Request<'a> {
     Pairs(u64),
     /// To run a ring, and to write down what its nodes do.
     Run(RunRequest<'a>),
-    /// To write the logs in the files of these names in version 2, each to a file.
+    /// To write the logs of a ring in version 2, each to a file.
     Upgrade(RewriteRequest<'a>),
-    /// To write of each log in the files of these names the longest beginning such that all are consistent.
+    /// To write of each log of a ring the longest beginning such that all are consistent.
     Mend(RewriteRequest<'a>),
+    /// To say which version of the program this is.
+    Version,
 }

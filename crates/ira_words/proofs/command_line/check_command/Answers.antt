@@ -15,4 +15,5 @@ returns c =
     let with_question = c.in_ok-arg.ensures.shape (rw c.required.ensures c.option.ensures.local) ∙ ap₂ with_rule named question in
     let with_certificate = c.in_ok-arg-2.ensures.shape (rw c.required-2.ensures c.option-2.ensures.local) ∙ ap₂ with_rule with_question certificate in
     let with_depth = c.in_ok-arg-3.ensures.shape c.depth.ensures.local ∙ ap₂ with_rule with_certificate c.depth.ensures.rule in
-    IfOk-weaker c.arg-4.result _ _ (λ r h. h.shape c.log_files.ensures.local ∙ ap₂ with_rule with_depth c.log_files.ensures.rule) c.arg-4.ensures
+    let with_folder = c.in_ok-arg-4.ensures.shape c.log_folder.ensures.local ∙ ap₂ with_rule with_depth c.log_folder.ensures.rule in
+    IfOk-weaker c.arg-5.result _ _ (λ r h. h.shape c.log_files.ensures.local ∙ ap₂ with_rule with_folder c.log_files.ensures.rule) c.arg-5.ensures

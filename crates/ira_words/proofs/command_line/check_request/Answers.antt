@@ -28,6 +28,5 @@ returns c =
       certificate = sym (c.get_str-2.ensures ∙ first_value-rows f (codes "cert")) ∙ ap (option_map (λ s. s.now)) c.unwrap-2.ensures;
       depth = number_read 8 f (codes "depth") _ none value;
       shallow = number_in_range 8 4 _ _ f (codes "depth") _ refl refl c.requires.taken none value;
-      logs = c.requires.names;
-      some = c.requires.some;
+      logs = c.requires.logs;
     }

@@ -12,4 +12,5 @@ returns c =
     rw c.required.ensures (ap (λ (r : Rule). record r { required = true }) c.option.ensures.rule) in
     let with_question = c.in_ok-arg.ensures.shape (rw c.required.ensures c.option.ensures.local) ∙ ap₂ with_rule named question in
     let with_certificate = c.in_ok-arg-2.ensures.shape c.option-2.ensures.local ∙ ap₂ with_rule with_question c.option-2.ensures.rule in
-    IfOk-weaker c.arg-3.result _ _ (λ r h. h.shape c.log_files.ensures.local ∙ ap₂ with_rule with_certificate c.log_files.ensures.rule) c.arg-3.ensures
+    let with_folder = c.in_ok-arg-3.ensures.shape c.log_folder.ensures.local ∙ ap₂ with_rule with_certificate c.log_folder.ensures.rule in
+    IfOk-weaker c.arg-4.result _ _ (λ r h. h.shape c.log_files.ensures.local ∙ ap₂ with_rule with_folder c.log_files.ensures.rule) c.arg-4.ensures

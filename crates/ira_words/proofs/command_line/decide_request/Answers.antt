@@ -15,6 +15,5 @@ returns c =
     record {
       question = sym (c.get_str.ensures ∙ first_value-rows f (codes "question")) ∙ ap (option_map (λ s. s.now)) c.unwrap.ensures;
       certificate = sym (c.get_str-2.ensures ∙ first_value-rows f (codes "out"));
-      logs = c.requires.names;
-      some = c.requires.some;
+      logs = c.requires.logs;
     }

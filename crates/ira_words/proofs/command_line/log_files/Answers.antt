@@ -1,4 +1,4 @@
-use Rattle.std.proofs.Common.{◌≡◌, ◌∙◌, Option, None, Some, ap, true}
+use Rattle.std.proofs.Common.{◌≡◌, ◌∙◌, Option, None, Some, ap}
 use Rattle.std.specs.Prelude.{IsSomeAnd}
 use Rattle.clap.specs.Lexer.{usize_max}
 use Rattle.clap.specs.Words.{Rule}
@@ -14,4 +14,4 @@ pub returns-clause-rule : goal.returns-clause-rule
 returns-clause-rule c =
     let range : ValueRange = record { start_inclusive = 1; end_inclusive = usize_max } in
     let with_range = c.num_args.ensures.0 ∙ ap (λ o. record c.action.result { num_vals = o }) (the_value _ range c.num_args.ensures.1) in
-    rw (c.required.ensures, with_range, c.action.ensures, c.help.ensures) (ap (λ (r : Rule). record r { action = Some Append; range = Some range; required = true }) c.new.ensures.rule)
+    rw (with_range, c.action.ensures, c.help.ensures) (ap (λ (r : Rule). record r { action = Some Append; range = Some range }) c.new.ensures.rule)

@@ -14,6 +14,5 @@ returns c =
     let f = found_of c.args.matches.now in
     record {
       folder = sym (c.get_str.ensures ∙ first_value-rows f (codes "out")) ∙ ap (option_map (λ s. s.now)) c.unwrap.ensures;
-      logs = c.requires.names;
-      some = c.requires.some;
+      logs = c.requires.logs;
     }

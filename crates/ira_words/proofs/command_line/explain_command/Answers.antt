@@ -1,0 +1,10 @@
+use Rattle.std.proofs.Common.{rules, ◌≡◌, codes, ◌∙◌, ap₂}
+use Rattle.std.proofs.lemmas.Result.{IfOk-weaker}
+use Rattle.clap.specs.Words.{app_of, new_app, with_rule}
+use Rattle.ira_words.proofs.command_line.explain_command.Goals as goal
+
+pub returns : goal.returns
+returns c =
+    let named : app_of c.about.result ≡ new_app (codes "explain") = search rules in
+    let with_folder = c.in_ok-arg.ensures.shape c.log_folder.ensures.local ∙ ap₂ with_rule named c.log_folder.ensures.rule in
+    IfOk-weaker c.arg-2.result _ _ (λ r h. h.shape c.log_files.ensures.local ∙ ap₂ with_rule with_folder c.log_files.ensures.rule) c.arg-2.ensures
