@@ -5,6 +5,7 @@ mod carets;
 mod event_words;
 mod explain;
 mod field;
+mod first_line;
 mod good_block;
 mod heads_block;
 mod line_form;
