@@ -1,8 +1,9 @@
 -- What the program ends with: a status, or a fault, which is written to standard error.
-use Rattle.std.specs.Prelude.{◌≡◌, ◌⊎◌, ℕ, List, Result, Ok, Err}
+use Rattle.std.specs.Prelude.{◌≡◌, ◌⊎◌, ℕ, List, ◌++◌, Result, Ok, Err}
 use Rattle.ira_event.specs.Sink.{SinkState, Takes, StopsIn}
 use Rattle.ira_audit.specs.Report.{report_line}
 use Rattle.ira_audit.specs.declared.answer.Answer.{Answer}
+use Rattle.ira_explain.specs.Printable.{IsPrintable}
 use Rattle.ira_main.specs.ProgramFault.{program_fault_text}
 use Rattle.ira_main.specs.Status.{answer_status, program_fault_status, status_number}
 use Rattle.ira_main.specs.declared.program_fault.ProgramFault.{ProgramFault}
@@ -32,6 +33,15 @@ Prints text status out out' outcome =
 -- the line of the answer was printed, with the answer's status
 abbrev pub Reports : Answer → SinkState → SinkState → Outcome → Type 0
 Reports answer = Prints (report_line answer) (answer_status answer)
+
+-- the same, and a page of printable text after the line
+abbrev pub Explains : Answer → SinkState → SinkState → Outcome → Type 0
+Explains answer out out' outcome =
+    (page : List ℕ) × IsPrintable page × Prints (report_line answer ++ page) (answer_status answer) out out' outcome
+
+-- what is printed of an answer, and what comes of it
+abbrev pub Telling : Type 1
+Telling = Answer → SinkState → SinkState → Outcome → Type 0
 
 -- nothing was printed, and the outcome is a fault of this kind
 abbrev pub GivesNoAnswer : (ProgramFault → Type 0) → SinkState → SinkState → Outcome → Type 0

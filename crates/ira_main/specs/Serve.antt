@@ -29,7 +29,7 @@ use Rattle.ira_main.specs.FileName.{file_name}
 use Rattle.ira_main.specs.FilesRead.{IsFilesFault, ReadsFiles, names_of}
 use Rattle.ira_main.specs.LogFiles.{StopsInLogs, WritesLogs}
 use Rattle.ira_main.specs.Mend.{Mends}
-use Rattle.ira_main.specs.Outcome.{GivesNoAnswer, Outcome, Prints, Reports}
+use Rattle.ira_main.specs.Outcome.{Explains, GivesNoAnswer, Outcome, Prints, Reports, Telling}
 use Rattle.ira_main.specs.ProgramFault.{run_fault, words_fault}
 use Rattle.ira_main.specs.ReadText.{IsReadTo}
 use Rattle.ira_main.specs.Shelf.{Reading, Writing}
@@ -43,29 +43,29 @@ use Rattle.ira_main.specs.declared.program_fault.ProgramFault.TheVariants.{Canno
 use Rattle.ira_main.specs.declared.status.Status.{Status}
 use Rattle.ira_main.specs.declared.status.Status.TheVariants.{Yes}
 
--- without words: the text that the input had left was judged, and its answer reported; or a read
--- failed, or there was no memory, and nothing was written
-pub data Judges (old new : Reads) (out out' : SinkState) (outcome : Outcome) : Type 0 where
+-- the text that the input had left was judged, and its answer told; or a read failed, or there was no memory, and nothing
+-- was written
+pub data Judges (Tells : Telling) (old new : Reads) (out out' : SinkState) (outcome : Outcome) : Type 0 where
   judged : (text : List ℕ) (answer : Answer) → IsReadTo (MAX_TEXT + 1) old new text → IsAnswer text answer
-      → Reports answer out out' outcome → Judges old new out out' outcome
+      → Tells answer out out' outcome → Judges Tells old new out out' outcome
   unread : (name : FileName) → file_name name ≡ codes "-" → new.has_failed ≡ true → new.is_over ≡ true
-      → out' ≡ out → outcome ≡ Err (CannotRead name) → Judges old new out out' outcome
-  no_memory : out' ≡ out → outcome ≡ Err OutOfMemory → Judges old new out out' outcome
+      → out' ≡ out → outcome ≡ Err (CannotRead name) → Judges Tells old new out out' outcome
+  no_memory : out' ≡ out → outcome ≡ Err OutOfMemory → Judges Tells old new out out' outcome
 
--- the files of these names were read, their texts were judged together, and their answer reported
-pub record JudgesTogether {S : Type 0} (reads : Reading S) (names : List (List ℕ)) (shelf : S)
+-- the files of these names were read, their texts were judged together, and their answer told
+pub record JudgesTogether (Tells : Telling) {S : Type 0} (reads : Reading S) (names : List (List ℕ)) (shelf : S)
     (out out' : SinkState) (outcome : Outcome) : Type 0 where
   pub texts : List (List ℕ)
   pub given : ReadsFiles reads names shelf texts
   pub answer : Answer
   pub judged : IsLogsAnswer texts answer
-  pub reported : Reports answer out out' outcome
+  pub told : Tells answer out out' outcome
 
--- the logs of a source were judged together, and their answer reported; or no answer is given
-abbrev pub JudgesLogs : {S : Type 0} → Reading S → LogSource → S → SinkState → SinkState → Outcome → Type 0
-JudgesLogs reads source shelf out out' outcome =
+-- the logs of a source were judged together, and their answer told; or no answer is given
+abbrev pub JudgesLogs : Telling → {S : Type 0} → Reading S → LogSource → S → SinkState → SinkState → Outcome → Type 0
+JudgesLogs Tells reads source shelf out out' outcome =
     OfSource reads source shelf shelf out out' outcome (λ names.
-    JudgesTogether reads (names_of names) shelf out out' outcome
+    JudgesTogether Tells reads (names_of names) shelf out out' outcome
     ⊎ GivesNoAnswer (IsFilesFault reads (names_of names) shelf) out out' outcome)
 
 -- the names of the files to check: the question's, the certificate's and the logs'
@@ -149,10 +149,10 @@ pub data Done (A : Type 0) {S : Type 0} (reads : Reading S) (writes : Writing S)
       → outcome ≡ Err (words_fault fault)
       → Done A reads writes words shelf shelf' out out' outcome
   judged : (source : LogSource) → AskForLogs words source → shelf' ≡ shelf
-      → JudgesLogs reads source shelf out out' outcome
+      → JudgesLogs Reports reads source shelf out out' outcome
       → Done A reads writes words shelf shelf' out out' outcome
   explained : (explain : ExplainRequest) (source : LogSource) → AskForEvidence words explain → explain.logs ≡ Some source
-      → shelf' ≡ shelf → JudgesLogs reads source shelf out out' outcome
+      → shelf' ≡ shelf → JudgesLogs Explains reads source shelf out out' outcome
       → Done A reads writes words shelf shelf' out out' outcome
   certified : (check : CheckRequest) → AskForCheck words check → shelf' ≡ shelf
       → JudgesCheck reads check shelf out out' outcome
@@ -182,10 +182,10 @@ pub data Done (A : Type 0) {S : Type 0} (reads : Reading S) (writes : Writing S)
 pub data Serves (A : Type 0) {S : Type 0} (reads : Reading S) (writes : Writing S)
     (words : List (List ℕ)) (input input' : Reads) (shelf shelf' : S)
     (out out' : SinkState) (outcome : Outcome) : Type 0 where
-  without_words : words ≡ [] → shelf' ≡ shelf → Judges input input' out out' outcome
+  without_words : words ≡ [] → shelf' ≡ shelf → Judges Reports input input' out out' outcome
       → Serves A reads writes words input input' shelf shelf' out out' outcome
   explained : (explain : ExplainRequest) → AskForEvidence words explain → explain.logs ≡ None → shelf' ≡ shelf
-      → Judges input input' out out' outcome
+      → Judges Explains input input' out out' outcome
       → Serves A reads writes words input input' shelf shelf' out out' outcome
   with_words : words ≢ [] → input' ≡ input → Done A reads writes words shelf shelf' out out' outcome
       → Serves A reads writes words input input' shelf shelf' out out' outcome

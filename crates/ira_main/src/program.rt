@@ -1,11 +1,12 @@
 ghost use Rattle.std.specs.Prelude.{◌≡◌, ◌≤◌, ◌+◌, map};
-ghost use Rattle.ira_main.specs.Outcome.{Outcome, ReportsOutcome, outcome_number};
+ghost use Rattle.ira_main.specs.Outcome.{Outcome, Reports, ReportsOutcome, outcome_number};
 ghost use Rattle.ira_main.specs.Progress.{ServesOrLeaves};
 ghost use Rattle.ira_main.specs.Serve.{Judges, JudgesCheck, JudgesLogs, Serves};
 ghost use Rattle.ira_main.specs.Shelf.{WritesFile};
 
 use crate::counted::Counted;
 use crate::decide_files::decide_files;
+use crate::explain_files::{explain_files, explain_input};
 use crate::file_name::FileName;
 use crate::input_audit::audit_input;
 use crate::mend_files::mend_files;
@@ -35,7 +36,7 @@ fn judge_input<'a, A: Allocator, I: Read, W: Sink>(
     input: &mut Counted<I>,
     out: &mut W,
 ) -> Result<Status, ProgramFault<'a>>
-    ensures judged { Judges input.old input.new (W.state out.old) (W.state out.new) result }
+    ensures judged { Judges Reports input.old input.new (W.state out.old) (W.state out.new) result }
     ensures reads { input.new.reads ≤ input.old.reads + (MAX_TEXT + 1) }
 {
     match audit_input(alloc, input) {
@@ -57,7 +58,7 @@ where
     A: Allocator + Clone + Send + Sync,
     F: Shelf + Sync,
     W: Sink,
-    ensures { JudgesLogs F.reads source.now shelf.now (W.state out.old) (W.state out.new) result }
+    ensures { JudgesLogs Reports F.reads source.now shelf.now (W.state out.old) (W.state out.new) result }
 {
     let names = source_names(&alloc, source, shelf)?;
     let audit = read_logs(rt, alloc, &names, shelf)?;
@@ -120,8 +121,8 @@ where
         Request::OneLog => Progress::Ended(judge_input(alloc, input, out)),
         Request::Logs(source) => Progress::Ended(judge_files(rt, alloc, &source, shelf, out)),
         Request::Explain(explain) => match &explain.logs {
-            Some(source) => Progress::Ended(judge_files(rt, alloc, source, shelf, out)),
-            None => Progress::Ended(judge_input(alloc, input, out)),
+            Some(source) => Progress::Ended(explain_files(rt, alloc, source, shelf, out)),
+            None => Progress::Ended(explain_input(alloc, input, out)),
         },
         Request::Check(check) => Progress::Check(check),
         Request::Decide(decide) => Progress::Ended(decide_files(rt, alloc, &decide, shelf, out)),

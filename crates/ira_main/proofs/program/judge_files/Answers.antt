@@ -21,7 +21,7 @@ returns g c =
         given = rw c.deref.ensures.value at taken.2;
         answer = answer;
         judged = exact.0 refl;
-        reported = c.report.ensures;
+        told = c.report.ensures;
       }),
     )
 

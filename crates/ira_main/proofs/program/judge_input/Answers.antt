@@ -3,6 +3,7 @@ use Rattle.std.specs.Prelude.{codes}
 use Rattle.ira_event.specs.Sink.{SinkState}
 use Rattle.ira_main.specs.Counted.{Reads}
 use Rattle.ira_main.specs.FileName.{file_name}
+use Rattle.ira_main.specs.Outcome.{Reports}
 use Rattle.ira_main.specs.ProgramFault.{read_fault}
 use Rattle.ira_main.specs.Serve.{Judges}
 use Rattle.ira_main.specs.Serve.Judges.{judged, no_memory, unread}
@@ -13,7 +14,7 @@ use Rattle.ira_main.specs.declared.shelf_fault.ShelfFault.TheVariants.{Device, O
 use Rattle.ira_main.proofs.program.judge_input.Goals as goal
 
 unjudged : (name : FileName) (why : ShelfFault) (f : ProgramFault) (old new : Reads) (out : SinkState) → file_name name ≡ codes "-"
-    → f ≡ read_fault name why → (why ≡ Device → (new.has_failed ≡ true) × (new.is_over ≡ true)) → Judges old new out out (Err f)
+    → f ≡ read_fault name why → (why ≡ Device → (new.has_failed ≡ true) × (new.is_over ≡ true)) → Judges Reports old new out out (Err f)
 unjudged name Device f old new out dash is failed = unread name dash (failed refl).0 (failed refl).1 refl (ap (λ x. Err x) is)
 unjudged name OutOfMemory f old new out dash is failed = no_memory refl (ap (λ x. Err x) is)
 

@@ -32,12 +32,12 @@ returns-in-Logs-clause-served g c =
 pub returns-in-Some-clause-served : goal.returns-in-Some-clause-served
 returns-in-Some-clause-served g c =
     let made = subst (IsMadeOf (map (λ w. w.now) c.args.words.now)) c.in-Explain.is c.in-Ok.ensures.made in
-    with_words (some_words _ _ _ made.first) refl (explained_of_logs _ _ made c.in-Some.is refl c.judge_files-in-Some.ensures)
+    with_words (some_words _ _ _ made.first) refl (explained_of_logs _ _ made c.in-Some.is refl c.explain_files.ensures)
 
 pub returns-in-Explain-clause-served : goal.returns-in-Explain-clause-served
 returns-in-Explain-clause-served g c =
     let made = subst (IsMadeOf (map (λ w. w.now) c.args.words.now)) c.in-Explain.is c.in-Ok.ensures.made in
-    explained _ made c.in-None.is refl c.judge_input-in-None.ensures.judged
+    explained _ made c.in-None.is refl c.explain_input.ensures.judged
 
 pub returns-in-Check-clause-served : goal.returns-in-Check-clause-served
 returns-in-Check-clause-served g c =

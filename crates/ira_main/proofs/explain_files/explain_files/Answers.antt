@@ -1,0 +1,17 @@
+use Rattle.std.proofs.Common.{inl, inr, refl, rules}
+use Rattle.ira_main.specs.declared.program_fault.ProgramFault.TheVariants.{OutOfMemory}
+use Rattle.ira_main.proofs.explain_files.explain_files.Goals as goal
+
+pub returns : goal.returns
+returns g c =
+    inl (
+      _,
+      c.in_ok-names.ensures,
+      inl (record {
+        texts = c.in_ok-files.files.items;
+        given = c.in_ok-files.ensures;
+        answer = c.in_ok-answer.answer;
+        judged = c.in_ok-answer.ensures.answer;
+        told = c.print_explained.ensures;
+      }),
+    )
