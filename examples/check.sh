@@ -88,9 +88,9 @@ replay() {
     ira() { "$ira" "$@" < /dev/null; }
     while read -r prompt line; do
         case $prompt in
-        '#') echo "# $line" ;;
+        '#') printf '# %s\n' "$line" ;;
         '$')
-            echo "$ $line"
+            printf '$ %s\n' "$line"
             eval "$line" 2>&1
             echo "status $?"
             ;;

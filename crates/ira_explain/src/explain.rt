@@ -11,8 +11,8 @@ use ira_audit::{Answer, Reason};
 use ira_event::OutOfMemory;
 use std::alloc::Allocator;
 
-/// Why the answer of the logs of a ring, or of texts that should be them, is as it is: an empty line, and what stands in
-/// which lines of which files, what is due there, the rule, and usual causes that the files point to.
+/// Why the answer of the logs of a ring, or of texts that should be them, is as it is: an empty line, and what stands
+/// in which lines of which files, what is due there, the rule, and usual causes that the files point to.
 pub fn explain_logs<A: Allocator + Clone>(
     alloc: A,
     files: &[NamedText<'_>],
