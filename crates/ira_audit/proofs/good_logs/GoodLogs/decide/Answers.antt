@@ -10,7 +10,8 @@ use Rattle.ira_audit.proofs.good_logs.GoodLogs.decide.Goals as goal
 pub returns-in_err-question : goal.returns-in_err-question
 returns-in_err-question g c = λ texts are.
     let good = good_logs texts c.args.self.now are c.in_err-question.ensures.good in
-    refused_again _ _ _ _ c.from_residual.result c.in_err-question.field-0.0 (search rules) c.in_err-question.ensures.posed
+    refused_again _ _ _ _ c.from_residual.result c.in_err-question.field-0.0 (search rules)
+    c.in_err-question.ensures.posed
     (question_reason texts c.args.question.now c.args.self.now good)
 
 pub decide_cases-requires : goal.decide_cases-requires
@@ -30,5 +31,6 @@ returns g c = λ texts are.
     let asked = c.in_ok-question.question in
     let is = c.in_ok-question.ensures in
     let posed = is_posed texts c.args.question.now logs asked are is.good is.posed.0 is.posed.1 in
-    let found = subst (λ cases. AllZip (IsFound logs) cases c.in_ok-found.found.items) c.cases.ensures.value c.in_ok-found.ensures in
-    ((logs, asked, posed, c.size.ensures.value ∙ ap length c.self.view_is, found), tt)
+    let found = c.in_ok-found.found.items in
+    let are_found = subst (λ cases. AllZip (IsFound logs) cases found) c.cases.ensures.value c.in_ok-found.ensures in
+    ((logs, asked, posed, c.size.ensures.value ∙ ap length c.self.view_is, are_found), tt)

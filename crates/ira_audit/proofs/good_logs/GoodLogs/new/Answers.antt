@@ -10,7 +10,8 @@ returns-in_err-order g c = λ texts are.
     let r = c.from_residual.result in
     let f = c.in_err-order.field-0.0 in
     let is : c.args.order ≡ Err f = search rules in
-    order_refused texts c.args.logs are _ r f (search rules) c.requires.ring (subst (IsSearched c.args.logs) is c.requires.order)
+    order_refused texts c.args.logs are _ r f (search rules) c.requires.ring
+    (subst (IsSearched c.args.logs) is c.requires.order)
 
 pub returns-in_err-steps : goal.returns-in_err-steps
 returns-in_err-steps g c = λ texts are.
