@@ -6,7 +6,7 @@ use Rattle.ira_order.specs.Ring.{log_of}
 use Rattle.ira_evidence.specs.declared.beginning.Beginning.{Beginning}
 use Rattle.ira_evidence.specs.declared.event_at.EventAt.{EventAt}
 use Rattle.ira_evidence.specs.declared.stop.Stop.{Stop}
-use Rattle.ira_evidence.specs.Stop.{IsFirstStop}
+use Rattle.ira_evidence.specs.Stop.{IsFirstStop, Rises}
 
 -- there is such an event
 pub record IsEventAt (logs : List Log) (at : EventAt) : Type 0 where
@@ -23,8 +23,17 @@ pub record IsBeginning (logs : List Log) (s : Stop) : Type 0 where
   pub stop : IsFirstStop logs s
   pub least : (other : Stop) → IsFirstStop logs other → ¬ (HappenedBefore logs other.at s.at)
 
+-- it is such an event, with whether it happened before the named one
+abbrev pub IsToldBeginning : List Log → EventAt → Beginning → Type 0
+IsToldBeginning logs named b =
+    IsBeginning logs b.stop × (IsTrue b.happened_before ↔ HappenedBefore logs b.stop.at named)
+
+-- it is one of them
+abbrev pub IsAmong : List Beginning → Stop → Type 0
+IsAmong beginnings s = (k : ℕ) × (b : Beginning) × (slice_get beginnings k ≡ Some b) × (b.stop ≡ s)
+
 -- all such events, in the order of places, each with whether it happened before the named one
 pub record AreBeginnings (logs : List Log) (named : EventAt) (beginnings : List Beginning) : Type 0 where
-  pub each : (k : ℕ) (b : Beginning) → slice_get beginnings k ≡ Some b → IsBeginning logs b.stop × (IsTrue b.happened_before ↔ HappenedBefore logs b.stop.at named)
-  pub all : (s : Stop) → IsBeginning logs s → (k : ℕ) × (b : Beginning) × (slice_get beginnings k ≡ Some b) × (b.stop ≡ s)
-  pub rise : (k h : ℕ) (a b : Beginning) → k < h → slice_get beginnings k ≡ Some a → slice_get beginnings h ≡ Some b → a.stop.at.place < b.stop.at.place
+  pub each : (k : ℕ) (b : Beginning) → slice_get beginnings k ≡ Some b → IsToldBeginning logs named b
+  pub all : (s : Stop) → IsBeginning logs s → IsAmong beginnings s
+  pub rise : Rises (λ b. b.stop.at.place) beginnings

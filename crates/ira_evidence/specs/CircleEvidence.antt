@@ -7,6 +7,11 @@ use Rattle.ira_order.specs.Order.{IsPair, occurrences}
 use Rattle.ira_order.specs.Ring.{log_of, next, numbered, prev}
 use Rattle.ira_evidence.specs.declared.stuck_at.StuckAt.{StuckAt}
 
+-- no order holds more events of a node
+abbrev pub BoundsOrders : List Log → List ℕ → Type 0
+BoundsOrders logs cut =
+    (order : List ℕ) → IsSchedule logs order → (i : ℕ) → i < length logs → occurrences order i ≤ slice_index cut i
+
 -- for each node how many of its events can be put in order: there is an order of just these events, and none that holds
 -- more of a node
 pub record IsLongestPrefix (logs : List Log) (cut : List ℕ) : Type 0 where
@@ -14,13 +19,17 @@ pub record IsLongestPrefix (logs : List Log) (cut : List ℕ) : Type 0 where
   pub order : List ℕ
   pub ordered : IsSchedule logs order
   pub holds : (i : ℕ) → i < length logs → slice_index cut i ≡ occurrences order i
-  pub longest : (other : List ℕ) → IsSchedule logs other → (i : ℕ) → i < length logs → occurrences other i ≤ slice_index cut i
+  pub longest : BoundsOrders logs cut
 
--- for each node how many events stand before the one at which it is stuck: a receipt, whose sending stands in the log of the
--- node before, after the event at which that node is stuck
+-- the next node is stuck at a receipt whose sending node i makes only after the event at which it is stuck itself
+abbrev pub IsWaitedFor : List Log → List ℕ → ℕ → Type 0
+IsWaitedFor logs cut i =
+    (a : ℕ) × IsPair logs i a (slice_index cut (next (length logs) i) + 1) × (slice_index cut i + 1 < a)
+
+-- for each node how many events stand before the one at which it is stuck, a circle once round the ring
 pub record IsCircle (logs : List Log) (cut : List ℕ) : Type 0 where
   pub places : length cut ≡ length logs
-  pub waits : (i : ℕ) → i < length logs → (a : ℕ) × IsPair logs i a (slice_index cut (next (length logs) i) + 1) × (slice_index cut i + 1 < a)
+  pub waits : (i : ℕ) → i < length logs → IsWaitedFor logs cut i
 
 -- the receipt at which node j is stuck after n events, and its sending
 pub record IsStuckAt (logs : List Log) (j n : ℕ) (s : StuckAt) : Type 0 where
@@ -30,8 +39,8 @@ pub record IsStuckAt (logs : List Log) (j n : ℕ) (s : StuckAt) : Type 0 where
   pub sender : s.sending.place ≡ prev (length logs) j
   pub pair : IsPair logs (prev (length logs) j) s.sending.position (n + 1)
 
--- so many events can be put in order, and these are the receipts at which the nodes are stuck, in the order of places: a
--- circle once round the ring
+-- so many events can be put in order, and these are the receipts at which the nodes are stuck, in the order of places:
+-- a circle once round the ring
 pub record IsCircleEvidence (logs : List Log) (ordered : ℕ) (stuck : List StuckAt) : Type 0 where
   pub places : length stuck ≡ length logs
   pub cut : List ℕ

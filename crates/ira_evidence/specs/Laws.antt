@@ -21,11 +21,13 @@ CirclesHaveNoOrder = (logs : List Log) (cut order : List ℕ) → AreLogs logs �
 -- the longest prefix of logs that match is an order of all events, or the receipts after it are such a circle
 abbrev pub LongestPrefixesEndInCircles : Type 0
 LongestPrefixesEndInCircles =
-    (logs : List Log) (cut : List ℕ) → AreLogs logs → Matches logs → IsLongestPrefix logs cut → HasOrder logs ⊎ IsCircle logs cut
+    (logs : List Log) (cut : List ℕ) → AreLogs logs → Matches logs → IsLongestPrefix logs cut
+    → HasOrder logs ⊎ IsCircle logs cut
 
 -- logs that match have an order or such a circle
 abbrev pub AnOrderOrACircle : Type 0
-AnOrderOrACircle = (logs : List Log) → AreLogs logs → Matches logs → HasOrder logs ⊎ ((cut : List ℕ) × IsCircle logs cut)
+AnOrderOrACircle =
+    (logs : List Log) → AreLogs logs → Matches logs → HasOrder logs ⊎ ((cut : List ℕ) × IsCircle logs cut)
 
 -- where some event has no step there is a beginning: the named event, or one that happened before it
 abbrev pub SomeBeginning : Type 0
@@ -36,5 +38,6 @@ SomeBeginning =
 -- all events that happened before a beginning have steps: the log of each leads on to a state
 abbrev pub StepsBeforeABeginning : Type 0
 StepsBeforeABeginning =
-    (logs : List Log) (s : Stop) (j b : ℕ) (log : Log) → IsBeginning logs s → Before logs j b s.at.place s.at.position → slice_get logs j ≡ Some log
+    (logs : List Log) (s : Stop) (j b : ℕ) (log : Log) → IsBeginning logs s
+    → Before logs j b s.at.place s.at.position → slice_get logs j ≡ Some log
     → (t : NodeState) × LeadsTo log.nodes (first_state log.initiator) (take b log.events) t

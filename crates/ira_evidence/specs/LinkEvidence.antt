@@ -12,8 +12,9 @@ abbrev pub IsOtherSending : List Log → ℕ → ℕ → Exchange → Option Exc
 IsOtherSending logs link k receipt None = ⊥
 IsOtherSending logs link k receipt (Some x) = IsNthSending logs link k x × (x.load ≢ receipt.load)
 
--- the receipt that the fault names; and no sending where the link has none of that number, else the sending of that number,
--- which is of another load
+-- the receipt that the fault names; and no sending where the link has none of that number, else the sending of that
+-- number, which is of another load
 abbrev pub IsLinkEvidence : List Log → MatchFault → LinkEvidence → Type 0
 IsLinkEvidence logs (NoSending link k) e = IsNthReceipt logs link k e.receipt × (e.sending ≡ None)
-IsLinkEvidence logs (Differs link k) e = IsNthReceipt logs link k e.receipt × IsOtherSending logs link k e.receipt e.sending
+IsLinkEvidence logs (Differs link k) e =
+    IsNthReceipt logs link k e.receipt × IsOtherSending logs link k e.receipt e.sending

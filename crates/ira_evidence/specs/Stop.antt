@@ -10,8 +10,13 @@ pub record IsFirstStop (logs : List Log) (s : Stop) : Type 0 where
   pub log_is : slice_get logs s.at.place ≡ Some log
   pub fault : IsFirstFault log (record { position = s.at.position; fault = s.fault })
 
+-- the numbers of a list's members rise
+abbrev pub Rises : {X : Type 0} → (X → ℕ) → List X → Type 0
+Rises {X} number xs =
+    (k h : ℕ) (x y : X) → k < h → slice_get xs k ≡ Some x → slice_get xs h ≡ Some y → number x < number y
+
 -- those of all logs that have one, in the order of places
 pub record AreFirstStops (logs : List Log) (stops : List Stop) : Type 0 where
   pub each : (k : ℕ) (s : Stop) → slice_get stops k ≡ Some s → IsFirstStop logs s
   pub all : (s : Stop) → IsFirstStop logs s → (k : ℕ) × (slice_get stops k ≡ Some s)
-  pub rise : (k h : ℕ) (s t : Stop) → k < h → slice_get stops k ≡ Some s → slice_get stops h ≡ Some t → s.at.place < t.at.place
+  pub rise : Rises (λ s. s.at.place) stops

@@ -15,7 +15,7 @@ use std::alloc::Allocator;
 #[derive(Clone, Copy, Debug, PartialEq, Eq)]
 pub struct Beginning {
     pub stop: Stop,
-    /// Whether it happened before the event that was named.
+    /// Whether it happened before the one that was named.
     pub happened_before: bool,
 }
 
@@ -36,17 +36,17 @@ fn is_least<H: HappenedBefore>(ordered: &H, stops: &[Stop], at: EventAt) -> bool
 }
 
 /// Those of the nodes' first stops before which none of them happened, in the order of places, each with whether it
-/// happened before the named event.
+/// happened before the named one.
 pub fn beginnings<H: HappenedBefore, A: Allocator>(
     alloc: A,
     ordered: &H,
     stops: &[Stop],
-    named: EventAt,
+    named: Stop,
 ) -> Result<Vec<Beginning, A>, OutOfMemory>
     requires stops { AreFirstStops (H.logs_of ordered.now) stops.now }
-    requires named { IsEventAt (H.logs_of ordered.now) named }
+    requires named { IsFirstStop (H.logs_of ordered.now) named }
     ensures { IfOk result
-        (λ beginnings. AreBeginnings (H.logs_of ordered.now) named beginnings.items) }
+        (λ beginnings. AreBeginnings (H.logs_of ordered.now) named.at beginnings.items) }
 {
     let mut beginnings = Vec::new(alloc);
     for stop in stops {
@@ -54,8 +54,8 @@ pub fn beginnings<H: HappenedBefore, A: Allocator>(
             let happened_before = ordered.before(
                 stop.at.place,
                 stop.at.position,
-                named.place,
-                named.position,
+                named.at.place,
+                named.at.position,
             );
             beginnings.push(Beginning {
                 stop: *stop,

@@ -25,7 +25,8 @@ impl<A: Allocator> NodeEvidence<A> {
     /// Nothing where each event of the log has a step.
     pub fn find(alloc: A, log: &NodeLog<A>) -> Result<Option<NodeEvidence<A>>, OutOfMemory>
         ensures { IfOk result
-            (λ found. MatchOption found (IsLocalRun log.now) (λ e. IsNodeEvidence log.now e.fault e.first e.states.items)) }
+            (λ found. MatchOption found (IsLocalRun log.now)
+            (λ e. IsNodeEvidence log.now e.fault e.first e.states.items)) }
     {
         let Err(fault) = replay(log) else {
             return Ok(None);
