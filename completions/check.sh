@@ -1,5 +1,6 @@
 #!/bin/sh
-# Compares the commands and options that the completions beside this script know with those of the program's help.
+# Compares the commands and options that the completions beside this script know with those of the program's help, and
+# the toolchain that its version names with the one that is there.
 #
 #     sh completions/check.sh bin/ira
 
@@ -40,5 +41,14 @@ for it in 'bash -n ira.bash' 'zsh -n _ira' 'fish -n ira.fish'; do
     command -v "${it%% *}" > /dev/null || continue
     $it || differ=1
 done
+
+# The version names the toolchain, where that is there.
+if command -v rt > /dev/null; then
+    said=$("$ira" version)
+    case $said in
+        "ira "*" (proved by $(rt version))") ;;
+        *) echo "completions: version: $said, and the toolchain is $(rt version)"; differ=1 ;;
+    esac
+fi
 
 [ "$differ" -eq 0 ] && echo 'completions: as the help says'

@@ -1,15 +1,16 @@
 # Completion of `ira` for bash. `make install` puts it where bash-completion looks; else: source completions/ira.bash
 
-_ira_commands='logs check decide pairs run upgrade mend help'
+_ira_commands='logs explain check decide pairs run upgrade mend version help'
 
 # The options of a command.
 _ira_options() {
     case $1 in
-        check) echo --question --cert --depth --help ;;
-        decide) echo --question --out --help ;;
+        check) echo --question --cert --depth --dir --help ;;
+        decide) echo --question --out --dir --help ;;
         run) echo --nodes --seed --out --initiators --draws --cap --terms --alone --help ;;
-        upgrade | mend) echo --out --help ;;
-        logs | pairs) echo --help ;;
+        upgrade | mend) echo --out --dir --help ;;
+        logs | explain) echo --dir --help ;;
+        pairs | version) echo --help ;;
     esac
 }
 
@@ -27,8 +28,8 @@ _ira() {
     case $command:$before in
         help:*) mapfile -t COMPREPLY < <(compgen -W "${_ira_commands% help}" -- "$word") ;;
         check:--depth) mapfile -t COMPREPLY < <(compgen -W '0 1 2 3 4' -- "$word") ;;
-        run:--out | upgrade:--out | mend:--out) mapfile -t COMPREPLY < <(compgen -d -- "$word") ;;
-        pairs:* | run:*) COMPREPLY=() ;;
+        *:--dir | run:--out | upgrade:--out | mend:--out) mapfile -t COMPREPLY < <(compgen -d -- "$word") ;;
+        pairs:* | run:* | version:*) COMPREPLY=() ;;
         *) mapfile -t COMPREPLY < <(compgen -f -- "$word") ;;
     esac
 }

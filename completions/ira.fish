@@ -1,12 +1,14 @@
 # Completion of `ira` for fish. `make install` puts it into share/fish/vendor_completions.d; else: source completions/ira.fish
 
 complete -c ira -f -n __fish_use_subcommand -a logs -d 'Judge the logs of all nodes of a ring together'
+complete -c ira -f -n __fish_use_subcommand -a explain -d 'Judge logs, and say why the answer is so'
 complete -c ira -f -n __fish_use_subcommand -a check -d 'Judge logs together with a certificate'
 complete -c ira -f -n __fish_use_subcommand -a decide -d 'Decide whether some moment met a case of a question'
 complete -c ira -f -n __fish_use_subcommand -a pairs -d 'Print the question whether two nodes ever lead at once'
 complete -c ira -f -n __fish_use_subcommand -a run -d 'Run an election, and write the log of each node'
 complete -c ira -f -n __fish_use_subcommand -a upgrade -d 'Write logs in version 2'
 complete -c ira -f -n __fish_use_subcommand -a mend -d 'Write what is consistent of the logs of a ring that crashed'
+complete -c ira -f -n __fish_use_subcommand -a version -d 'Print which version this is'
 complete -c ira -f -n __fish_use_subcommand -a help -d 'Print the help of a command'
 
 complete -c ira -n '__fish_seen_subcommand_from check' -l question -r -F -d 'The question'
@@ -31,5 +33,9 @@ complete -c ira -n '__fish_seen_subcommand_from upgrade' -l out -x -a '(__fish_c
 
 complete -c ira -n '__fish_seen_subcommand_from mend' -l out -x -a '(__fish_complete_directories)' -d 'The folder for the logs'
 
-complete -c ira -n '__fish_seen_subcommand_from logs check decide pairs run upgrade mend' -l help -d 'Print help'
-complete -c ira -f -n '__fish_seen_subcommand_from help' -a 'logs check decide pairs run upgrade mend'
+complete -c ira -n '__fish_seen_subcommand_from logs explain check decide upgrade mend' -l dir -x -a '(__fish_complete_directories)' -d 'The folder with the logs'
+
+complete -c ira -f -n '__fish_seen_subcommand_from version'
+
+complete -c ira -n '__fish_seen_subcommand_from logs explain check decide pairs run upgrade mend version' -l help -d 'Print help'
+complete -c ira -f -n '__fish_seen_subcommand_from help' -a 'logs explain check decide pairs run upgrade mend version'

@@ -6,6 +6,7 @@ mod circle_block;
 mod event_words;
 mod explain;
 mod field;
+mod first_line;
 mod good_block;
 mod heads_block;
 mod line_form;

@@ -1,3 +1,8 @@
+ghost use Rattle.std.specs.Prelude.{◌≡◌, ◌≤◌, ◌==◌, count_by};
+ghost use Rattle.ira_explain.specs.Lines.{IsFromLine, IsLine};
+
+use crate::first_line::split_line;
+
 /// A text with the name of the file that it is of.
 #[derive(Clone, Copy, Debug)]
 pub struct NamedText<'a> {
@@ -7,13 +12,17 @@ pub struct NamedText<'a> {
 
 impl<'a> NamedText<'a> {
     /// How many lines end in a line feed.
-    pub(crate) fn whole_lines(&self) -> usize {
+    pub(crate) fn whole_lines(&self) -> usize
+        ensures { result ≡ count_by (λ c. c == 10) self.now.text.now }
+    {
         self.text.iter().filter(|c| **c == b'\n').count()
     }
 
     /// A line, counted from 1, without its line feed: a piece behind the last line feed is one too, and further ones are
     /// empty.
-    pub(crate) fn line(&self, number: usize) -> &'a [u8] {
+    pub(crate) fn line(&self, number: usize) -> &'a [u8]
+        ensures { 1 ≤ number → IsLine self.now.text.now number result.now }
+    {
         let rest = self.from_line(number);
         match split_line(rest) {
             Some((line, _)) => line,
@@ -22,20 +31,16 @@ impl<'a> NamedText<'a> {
     }
 
     /// All from a line on.
-    pub(crate) fn from_line(&self, number: usize) -> &'a [u8] {
+    pub(crate) fn from_line(&self, number: usize) -> &'a [u8]
+        ensures { 1 ≤ number → IsFromLine self.now.text.now number result.now }
+    {
         let mut rest = self.text;
-        for _ in 1..number {
-            match split_line(rest) {
-                Some((_, after)) => rest = after,
-                None => return b"",
-            }
+        for line in 1..number {
+            rest = match split_line(rest) {
+                Some((_, after)) => after,
+                None => b"",
+            };
         }
         rest
     }
-}
-
-/// The first line without its line feed, and what follows that.
-fn split_line(text: &[u8]) -> Option<(&[u8], &[u8])> {
-    let end = text.iter().position(|c| *c == b'\n')?;
-    Some((&text[..end], &text[end + 1..]))
 }

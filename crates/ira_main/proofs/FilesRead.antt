@@ -1,13 +1,21 @@
 -- Files that are read, and why the texts of some names' files aren't judged.
-use Rattle.std.proofs.Common.{◌≡◌, ◌∙◌, ℕ, ◌+◌, List, [], ◌∷◌, ◌++◌, Err, Ok, Some, ap, append_assoc, drop, inl, inr, refl, slice_get, subst, sym, take}
-use Rattle.std.specs.Borrow.{Bor}
+use Rattle.std.proofs.Common.{◌≡◌, ◌∙◌, ℕ, zero, suc, ◌+◌, ◌<◌, List, [], ◌∷◌, ◌++◌, Err, Ok, Some, ap, append_assoc, arith, drop, inl, inr, length, refl, slice_get, subst, sym, take}
+use Rattle.std.specs.Prelude.{slice_index_or}
 use Rattle.ira_audit.specs.RingAudit.{HasTaken, RingAudit}
 use Rattle.ira_main.proofs.PartsAt.{parts_at, take_next}
-use Rattle.ira_main.specs.FilesRead.{HasTakenFiles, IsFilesFault, ReadsFiles}
+use Rattle.ira_main.specs.FileName.{file_name}
+use Rattle.ira_main.specs.FilesRead.{HasTakenFiles, IsFilesFault, ReadsFiles, names_of}
 use Rattle.ira_main.specs.ProgramFault.{read_fault}
 use Rattle.ira_main.specs.Shelf.{Reading}
+use Rattle.ira_main.specs.declared.file_name.FileName.{FileName}
 use Rattle.ira_main.specs.declared.program_fault.ProgramFault.{ProgramFault}
 use Rattle.ira_main.specs.declared.shelf_fault.ShelfFault.{ShelfFault}
+
+-- the name at an index
+pub named_at : (names : List FileName) (i : ℕ) (d : FileName) → i < length names → slice_get (names_of names) i ≡ Some (file_name (slice_index_or names i d))
+named_at [] i d lt = absurd (omega (arith, lt))
+named_at (n ∷ ns) zero d lt = refl
+named_at (n ∷ ns) (suc i) d lt = named_at ns i d (omega (arith, lt))
 
 -- the files of some names were read, and those of others
 pub reads_both : {S : Type 0} (reads : Reading S) (names more : List (List ℕ)) (shelf : S) (texts others : List (List ℕ))
@@ -28,7 +36,7 @@ of_front reads names behind shelf f (inl stop) =
       front = stop.front;
       name = stop.name;
       back = stop.back ++ behind;
-      parts = sym (append_assoc stop.front (stop.name.now ∷ stop.back) behind) ∙ ap (λ ns. ns ++ behind) stop.parts;
+      parts = sym (append_assoc stop.front (file_name stop.name ∷ stop.back) behind) ∙ ap (λ ns. ns ++ behind) stop.parts;
       texts = stop.texts;
       given = stop.given;
       why = stop.why;
@@ -45,7 +53,7 @@ of_back reads before names shelf texts f read (inl stop) =
       front = before ++ stop.front;
       name = stop.name;
       back = stop.back;
-      parts = append_assoc before stop.front (stop.name.now ∷ stop.back) ∙ ap (λ ns. before ++ ns) stop.parts;
+      parts = append_assoc before stop.front (file_name stop.name ∷ stop.back) ∙ ap (λ ns. before ++ ns) stop.parts;
       texts = texts ++ stop.texts;
       given = reads_both reads before stop.front shelf texts stop.texts read stop.given;
       why = stop.why;
@@ -80,7 +88,7 @@ of_next reads names i name shelf texts f at before fault =
     (of_front reads (name ∷ []) (drop (i + 1) names) shelf f fault))
 
 -- the fault of one file
-pub of_one : {S : Type 0} (reads : Reading S) (name : Bor (List ℕ)) (why : ShelfFault) (shelf : S) (f : ProgramFault)
-    → reads shelf name.now (Err why) → f ≡ read_fault name why → IsFilesFault reads (name.now ∷ []) shelf f
+pub of_one : {S : Type 0} (reads : Reading S) (name : FileName) (why : ShelfFault) (shelf : S) (f : ProgramFault)
+    → reads shelf (file_name name) (Err why) → f ≡ read_fault name why → IsFilesFault reads (file_name name ∷ []) shelf f
 of_one reads name why shelf f failed is =
     inl (record { front = []; name = name; back = []; parts = refl; texts = []; given = tt; why = why; unread = failed; told = is })

@@ -4,7 +4,8 @@ use Rattle.std.specs.Prelude.{slice_get}
 use Rattle.ira_event.specs.Log.{Log}
 use Rattle.ira_event.specs.LogText.{log_text}
 use Rattle.ira_main.proofs.PartsAt.{take_next}
-use Rattle.ira_main.specs.LogFiles.{WritesLogs, log_name}
+use Rattle.ira_main.specs.FileName.{log_name}
+use Rattle.ira_main.specs.LogFiles.{WritesLogs}
 use Rattle.ira_main.specs.Shelf.{Writing}
 
 -- one log more was written

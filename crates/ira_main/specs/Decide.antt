@@ -1,5 +1,5 @@
 -- What the program does that is asked to decide a question.
-use Rattle.std.specs.Prelude.{◌≡◌, ◌⊎◌, ℕ, List, ◌∷◌, Option, Some, None, Ok, Err, map}
+use Rattle.std.specs.Prelude.{◌≡◌, ◌⊎◌, ℕ, List, ◌∷◌, Option, Some, None, Ok, Err}
 use Rattle.std.specs.Borrow.{Bor}
 use Rattle.ira_event.specs.Sink.{SinkState, Takes, StopsIn}
 use Rattle.ira_cert_text.specs.Certificate.{Certificate}
@@ -8,15 +8,16 @@ use Rattle.ira_audit.specs.FindingsText.{findings_text}
 use Rattle.ira_audit.specs.declared.findings.Findings.{Findings}
 use Rattle.ira_words.specs.declared.decide_request.DecideRequest.{DecideRequest}
 use Rattle.ira_main.specs.CertFile.{KeepsCertificate}
-use Rattle.ira_main.specs.FilesRead.{ReadsFiles}
+use Rattle.ira_main.specs.FilesRead.{ReadsFiles, names_of}
 use Rattle.ira_main.specs.Outcome.{Outcome}
 use Rattle.ira_main.specs.Shelf.{Reading, Writing}
+use Rattle.ira_main.specs.declared.file_name.FileName.{FileName}
 use Rattle.ira_main.specs.declared.program_fault.ProgramFault.TheVariants.{CannotWriteAnswer, OutOfMemory}
 use Rattle.ira_main.specs.declared.status.Status.TheVariants.{Yes, No}
 
 -- the names of the files to decide of: the question's and the logs'
-abbrev pub decide_names : DecideRequest → List (List ℕ)
-decide_names decide = decide.question.now ∷ map (λ name. name.now) decide.logs.items
+abbrev pub decide_names : DecideRequest → List FileName → List (List ℕ)
+decide_names decide names = decide.question.now ∷ names_of names
 
 -- what comes of findings that were printed: no, where a case is present or they are a refusal; else, without a file's
 -- name, yes, and with one what comes of keeping the certificate there, or there was no memory for it. The shelf is as
@@ -35,10 +36,11 @@ pub data KeepsFindings {A S : Type 0} (writes : Writing S) (findings : Findings 
 -- the files that are named were read; the findings of the texts of the logs and of the question were printed whole, and
 -- what comes of them on the shelf is the outcome; or the output stopped within them
 pub record Decides (A : Type 0) {S : Type 0} (reads : Reading S) (writes : Writing S)
-    (decide : DecideRequest) (shelf shelf' : S) (out out' : SinkState) (outcome : Outcome) : Type 0 where
+    (decide : DecideRequest) (names : List FileName) (shelf shelf' : S) (out out' : SinkState)
+    (outcome : Outcome) : Type 0 where
   pub question : List ℕ
   pub texts : List (List ℕ)
-  pub given : ReadsFiles reads (decide_names decide) shelf (question ∷ texts)
+  pub given : ReadsFiles reads (decide_names decide names) shelf (question ∷ texts)
   pub findings : Findings A
   pub found : AreFindings texts question findings
   pub printed :

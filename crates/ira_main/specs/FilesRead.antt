@@ -1,17 +1,18 @@
 -- How the texts of files are read.
 use Rattle.std.specs.Prelude.{◌≡◌, ◌⊎◌, ℕ, ◌≤◌, List, ◌∷◌, ◌++◌, Result, Ok, Err, MatchResult, length, map, take}
-use Rattle.std.specs.Borrow.{Bor}
 use Rattle.std.specs.List.{AllZip}
 use Rattle.ira_audit.specs.RingAudit.{HasTaken, RingAudit}
+use Rattle.ira_main.specs.FileName.{file_name}
 use Rattle.ira_main.specs.ProgramFault.{read_fault}
 use Rattle.ira_main.specs.Shelf.{Reading}
+use Rattle.ira_main.specs.declared.file_name.FileName.{FileName}
 use Rattle.ira_main.specs.declared.program_fault.ProgramFault.{ProgramFault}
 use Rattle.ira_main.specs.declared.program_fault.ProgramFault.TheVariants.{OutOfMemory}
 use Rattle.ira_main.specs.declared.shelf_fault.ShelfFault.{ShelfFault}
 
--- the bytes of the names
-abbrev pub names_of : List (Bor (List ℕ)) → List (List ℕ)
-names_of names = map (λ name. name.now) names
+-- the names, whole
+abbrev pub names_of : List FileName → List (List ℕ)
+names_of names = map file_name names
 
 -- the files of these names were read and gave these texts, each name's file the text at its place
 abbrev pub ReadsFiles : {S : Type 0} → Reading S → List (List ℕ) → S → List (List ℕ) → Type 0
@@ -21,13 +22,13 @@ ReadsFiles reads names shelf texts = AllZip (λ name text. reads shelf name (Ok 
 -- been read too, which changes nothing
 pub record StopsReading {S : Type 0} (reads : Reading S) (names : List (List ℕ)) (shelf : S) (f : ProgramFault) : Type 0 where
   pub front : List (List ℕ)
-  pub name : Bor (List ℕ)
+  pub name : FileName
   pub back : List (List ℕ)
-  pub parts : front ++ name.now ∷ back ≡ names
+  pub parts : front ++ file_name name ∷ back ≡ names
   pub texts : List (List ℕ)
   pub given : ReadsFiles reads front shelf texts
   pub why : ShelfFault
-  pub unread : reads shelf name.now (Err why)
+  pub unread : reads shelf (file_name name) (Err why)
   pub told : f ≡ read_fault name why
 
 -- why the texts in the files of these names aren't judged: a file of theirs wasn't read, or memory ran out

@@ -3,6 +3,7 @@ pub mod CertFile
 pub mod ProgramFault
 pub mod Counted
 pub mod Decide
+pub mod FileName
 pub mod FilesRead
 pub mod InputAudit
 pub mod LogFiles
@@ -15,5 +16,7 @@ pub mod ReadText
 pub mod Serve
 pub mod Shelf
 pub mod ShelfFault
+pub mod SourceNames
 pub mod Status
 pub mod Upgrade
+pub mod Version

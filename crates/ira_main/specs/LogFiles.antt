@@ -1,17 +1,14 @@
 -- How the logs of a ring come to files.
-use Rattle.std.specs.Prelude.{◌≡◌, ◌⊎◌, ℕ, List, [], ◌∷◌, ◌++◌, Ok, Err, codes, decimal}
+use Rattle.std.specs.Prelude.{◌≡◌, ◌⊎◌, ℕ, List, [], ◌∷◌, ◌++◌, Ok, Err}
 use Rattle.std.specs.Borrow.{Bor}
 use Rattle.ira_event.specs.Log.{Log}
 use Rattle.ira_event.specs.LogText.{log_text}
+use Rattle.ira_main.specs.FileName.{log_name}
 use Rattle.ira_main.specs.ProgramFault.{write_log_fault}
 use Rattle.ira_main.specs.Shelf.{Writing}
 use Rattle.ira_main.specs.declared.program_fault.ProgramFault.{ProgramFault}
 use Rattle.ira_main.specs.declared.shelf_fault.ShelfFault.{ShelfFault}
 use Rattle.ira_main.specs.declared.shelf_fault.ShelfFault.TheVariants.{OutOfMemory}
-
--- the name of the file for the log of the node at this place
-abbrev pub log_name : List ℕ → ℕ → List ℕ
-log_name folder place = folder ++ codes "/" ++ decimal place ++ codes ".log"
 
 -- the text of each log was written whole to the file of its place in this folder, one after the other
 abbrev pub WritesLogs : {S : Type 0} → Writing S → List ℕ → List Log → S → S → Type 0

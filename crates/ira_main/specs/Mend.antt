@@ -11,13 +11,14 @@ use Rattle.ira_audit.specs.declared.answer.Answer.TheVariants.{No}
 use Rattle.ira_audit.specs.declared.reason.Reason.{Reason}
 use Rattle.ira_audit.specs.declared.reason.Reason.TheVariants.{Match}
 use Rattle.ira_words.specs.declared.rewrite_request.RewriteRequest.{RewriteRequest}
-use Rattle.ira_main.specs.FilesRead.{IsFilesFault, ReadsFiles}
+use Rattle.ira_main.specs.FileName.{file_name}
+use Rattle.ira_main.specs.FilesRead.{IsFilesFault, ReadsFiles, names_of}
 use Rattle.ira_main.specs.LogFiles.{StopsInLogs, WritesLogs}
 use Rattle.ira_main.specs.MendedLines.{mended_lines}
 use Rattle.ira_main.specs.Outcome.{GivesNoAnswer, Outcome, Prints, Reports}
 use Rattle.ira_main.specs.Overwriting.{KeepsInput, Overwrites}
 use Rattle.ira_main.specs.Shelf.{Reading, Writing}
-use Rattle.ira_main.specs.Upgrade.{rewrite_names}
+use Rattle.ira_main.specs.declared.file_name.FileName.{FileName}
 use Rattle.ira_main.specs.declared.program_fault.ProgramFault.{ProgramFault}
 use Rattle.ira_main.specs.declared.program_fault.ProgramFault.TheVariants.{OutOfMemory, WouldOverwrite}
 use Rattle.ira_main.specs.declared.status.Status.TheVariants.{Yes}
@@ -38,27 +39,28 @@ pub data KeepsMended {S : Type 0} (writes : Writing S) (folder : Bor (List ℕ))
       → KeepsMended writes folder logs mended shelf shelf' out out' outcome
 
 -- a log would be written over this file of the input
-abbrev pub IsOverwriting : RewriteRequest → ProgramFault → Type 0
-IsOverwriting mend f =
-    (name : Bor (List ℕ)) × Overwrites mend.folder.now (rewrite_names mend) name.now × (f ≡ WouldOverwrite name)
+abbrev pub IsOverwriting : RewriteRequest → List FileName → ProgramFault → Type 0
+IsOverwriting mend names f =
+    (name : FileName) × Overwrites mend.folder.now (names_of names) (file_name name) × (f ≡ WouldOverwrite name)
 
 -- no log would be written over a file of the input; the files that are named were read, and their texts, cut or not, are
 -- those of the logs of one ring, which were mended, and what comes of the mended ones is the outcome; or they have a
 -- difference, or aren't those of one ring, and it was reported; or a log would be written over a file of the input; or no
 -- texts were had. Where none was written the shelf is as it was
-pub data Mends {S : Type 0} (reads : Reading S) (writes : Writing S) (mend : RewriteRequest) (shelf shelf' : S)
-    (out out' : SinkState) (outcome : Outcome) : Type 0 where
-  mended : (texts : List (List ℕ)) (logs mended : List Log) → KeepsInput mend.folder.now (rewrite_names mend)
-      → ReadsFiles reads (rewrite_names mend) shelf texts → AreRecordedTexts texts logs → AreLogs logs → AreMended logs mended
+pub data Mends {S : Type 0} (reads : Reading S) (writes : Writing S) (mend : RewriteRequest) (names : List FileName)
+    (shelf shelf' : S) (out out' : SinkState) (outcome : Outcome) : Type 0 where
+  mended : (texts : List (List ℕ)) (logs mended : List Log) → KeepsInput mend.folder.now (names_of names)
+      → ReadsFiles reads (names_of names) shelf texts → AreRecordedTexts texts logs → AreLogs logs
+      → AreMended logs mended
       → KeepsMended writes mend.folder logs mended shelf shelf' out out' outcome
-      → Mends reads writes mend shelf shelf' out out' outcome
-  differ : (texts : List (List ℕ)) (logs : List Log) (f : MatchFault) → ReadsFiles reads (rewrite_names mend) shelf texts
+      → Mends reads writes mend names shelf shelf' out out' outcome
+  differ : (texts : List (List ℕ)) (logs : List Log) (f : MatchFault) → ReadsFiles reads (names_of names) shelf texts
       → AreRecordedTexts texts logs → AreLogs logs → HasDifference logs f → shelf' ≡ shelf
-      → Reports (No (Match f)) out out' outcome → Mends reads writes mend shelf shelf' out out' outcome
-  no_ring : (texts : List (List ℕ)) (r : Reason) → ReadsFiles reads (rewrite_names mend) shelf texts
+      → Reports (No (Match f)) out out' outcome → Mends reads writes mend names shelf shelf' out out' outcome
+  no_ring : (texts : List (List ℕ)) (r : Reason) → ReadsFiles reads (names_of names) shelf texts
       → IsRecordedReason texts r → shelf' ≡ shelf → Reports (No r) out out' outcome
-      → Mends reads writes mend shelf shelf' out out' outcome
-  overwriting : shelf' ≡ shelf → GivesNoAnswer (IsOverwriting mend) out out' outcome
-      → Mends reads writes mend shelf shelf' out out' outcome
-  unread : shelf' ≡ shelf → GivesNoAnswer (IsFilesFault reads (rewrite_names mend) shelf) out out' outcome
-      → Mends reads writes mend shelf shelf' out out' outcome
+      → Mends reads writes mend names shelf shelf' out out' outcome
+  overwriting : shelf' ≡ shelf → GivesNoAnswer (IsOverwriting mend names) out out' outcome
+      → Mends reads writes mend names shelf shelf' out out' outcome
+  unread : shelf' ≡ shelf → GivesNoAnswer (IsFilesFault reads (names_of names) shelf) out out' outcome
+      → Mends reads writes mend names shelf shelf' out out' outcome

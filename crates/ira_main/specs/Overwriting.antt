@@ -3,7 +3,7 @@ use Rattle.std.specs.Prelude.{◌≡◌, ◌<◌, ◌⊎◌, ℕ, List, ◌++◌
 use Rattle.std.specs.Path.{IsAbsolute, path_cmp}
 use Rattle.std.specs.declared.cmp.Ordering.TheVariants.{Equal}
 use Rattle.ira_event.specs.Limits.{MAX_NODES}
-use Rattle.ira_main.specs.LogFiles.{log_name}
+use Rattle.ira_main.specs.FileName.{log_name}
 
 -- the name as a path, where a relative one begins with the folder in which the program runs
 abbrev pub IsPathOf : List ℕ → List ℕ → Type 0

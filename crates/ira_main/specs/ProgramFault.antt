@@ -7,13 +7,15 @@ use Rattle.ira_run.specs.declared.run_fault.RunFault.{RunFault}
 use Rattle.ira_run.specs.declared.run_fault.RunFault.TheVariants as run
 use Rattle.ira_words.specs.declared.words_fault.WordsFault.{WordsFault}
 use Rattle.ira_words.specs.declared.words_fault.WordsFault.TheVariants as words
+use Rattle.ira_main.specs.FileName.{file_name}
+use Rattle.ira_main.specs.declared.file_name.FileName.{FileName}
 use Rattle.ira_main.specs.declared.program_fault.ProgramFault.{ProgramFault}
 use Rattle.ira_main.specs.declared.program_fault.ProgramFault.TheVariants.{CannotRead, CannotWrite, CannotWriteAnswer, CannotWriteLog, CertificatePastLimits, OutOfMemory, RingSize, RunRefused, WordIsNoText, Words, WouldOverwrite}
 use Rattle.ira_main.specs.declared.shelf_fault.ShelfFault.{ShelfFault}
 use Rattle.ira_main.specs.declared.shelf_fault.ShelfFault.TheVariants as shelf
 
 -- the fault where the file of this name wasn't read
-abbrev pub read_fault : Bor (List ℕ) → ShelfFault → ProgramFault
+abbrev pub read_fault : FileName → ShelfFault → ProgramFault
 read_fault name shelf.Device = CannotRead name
 read_fault name shelf.OutOfMemory = OutOfMemory
 
@@ -41,11 +43,11 @@ write_fault name shelf.OutOfMemory = OutOfMemory
 abbrev pub program_fault_text : ProgramFault → List ℕ
 program_fault_text (Words text) = string_bytes text
 program_fault_text WordIsNoText = codes "ira: a word is not UTF-8\n"
-program_fault_text (CannotRead name) = codes "ira: cannot read " ++ name.now ++ codes "\n"
+program_fault_text (CannotRead name) = codes "ira: cannot read " ++ file_name name ++ codes "\n"
 program_fault_text RingSize = codes "ira: ring size\n"
 program_fault_text (RunRefused fault) = codes "ira: run refused " ++ decimal (run_fault_number fault) ++ codes "\n"
 program_fault_text (CannotWriteLog folder place) = codes "ira: cannot write " ++ folder.now ++ (codes "/" ++ decimal place ++ codes ".log\n")
-program_fault_text (WouldOverwrite name) = codes "ira: would overwrite " ++ name.now ++ codes "\n"
+program_fault_text (WouldOverwrite name) = codes "ira: would overwrite " ++ file_name name ++ codes "\n"
 program_fault_text (CannotWrite name) = codes "ira: cannot write " ++ name.now ++ codes "\n"
 program_fault_text CertificatePastLimits = codes "ira: certificate past the limits\n"
 program_fault_text CannotWriteAnswer = codes "ira: cannot write the answer\n"

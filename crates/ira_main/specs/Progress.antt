@@ -1,5 +1,5 @@
 -- What the program does without waiting.
-use Rattle.std.specs.Prelude.{◌≡◌, ◌≢◌, ℕ, false, List, []}
+use Rattle.std.specs.Prelude.{◌≡◌, ℕ, false, List}
 use Rattle.ira_event.specs.Sink.{SinkState}
 use Rattle.ira_words.specs.Request.{AskForCheck, AskForRun}
 use Rattle.ira_main.specs.Counted.{Reads}

@@ -1,6 +1,5 @@
 -- What the program does.
-use Rattle.std.specs.Prelude.{◌≡◌, ◌≢◌, ◌⊎◌, ℕ, ◌+◌, true, List, [], ◌∷◌, Ok, Err, codes, map}
-use Rattle.std.specs.Borrow.{Bor}
+use Rattle.std.specs.Prelude.{◌≡◌, ◌≢◌, ◌⊎◌, ℕ, ◌+◌, true, List, [], ◌∷◌, Some, None, Ok, Err, codes}
 use Rattle.ira_event.specs.Limits.{MAX_TEXT}
 use Rattle.ira_event.specs.RingSize.{IsRingSize}
 use Rattle.ira_event.specs.Sink.{SinkState, Takes, StopsIn}
@@ -14,24 +13,31 @@ use Rattle.ira_audit.specs.declared.answer.Answer.{Answer}
 use Rattle.ira_ring.specs.EndsWriter.{ends_text}
 use Rattle.ira_ring.specs.Run.{Run}
 use Rattle.ira_run.specs.declared.run_fault.RunFault.{RunFault}
-use Rattle.ira_words.specs.Request.{AskForCheck, AskForDecide, AskForLogs, AskForMend, AskForPairs, AskForRun, AskForUpgrade, MayBeRefused}
+use Rattle.ira_words.specs.Request.{AskForCheck, AskForDecide, AskForEvidence, AskForLogs, AskForMend, AskForPairs}
+use Rattle.ira_words.specs.Request.{AskForRun, AskForUpgrade, AskForVersion, MayBeRefused}
 use Rattle.ira_words.specs.declared.check_request.CheckRequest.{CheckRequest}
 use Rattle.ira_words.specs.declared.decide_request.DecideRequest.{DecideRequest}
+use Rattle.ira_words.specs.declared.explain_request.ExplainRequest.{ExplainRequest}
+use Rattle.ira_words.specs.declared.log_source.LogSource.{LogSource}
 use Rattle.ira_words.specs.declared.rewrite_request.RewriteRequest.{RewriteRequest}
 use Rattle.ira_words.specs.declared.run_request.RunRequest.{RunRequest}
 use Rattle.ira_words.specs.declared.words_fault.WordsFault.{WordsFault}
 use Rattle.ira_main.specs.AskedRun.{IsAskedRun, IsAskedRunFault}
 use Rattle.ira_main.specs.Counted.{Reads}
 use Rattle.ira_main.specs.Decide.{Decides, decide_names}
-use Rattle.ira_main.specs.FilesRead.{IsFilesFault, ReadsFiles}
+use Rattle.ira_main.specs.FileName.{file_name}
+use Rattle.ira_main.specs.FilesRead.{IsFilesFault, ReadsFiles, names_of}
 use Rattle.ira_main.specs.LogFiles.{StopsInLogs, WritesLogs}
 use Rattle.ira_main.specs.Mend.{Mends}
 use Rattle.ira_main.specs.Outcome.{GivesNoAnswer, Outcome, Prints, Reports}
 use Rattle.ira_main.specs.ProgramFault.{run_fault, words_fault}
 use Rattle.ira_main.specs.ReadText.{IsReadTo}
 use Rattle.ira_main.specs.Shelf.{Reading, Writing}
+use Rattle.ira_main.specs.SourceNames.{OfSource}
 use Rattle.ira_main.specs.Status.{IsElectionStatus}
 use Rattle.ira_main.specs.Upgrade.{Upgrades}
+use Rattle.ira_main.specs.Version.{version_line}
+use Rattle.ira_main.specs.declared.file_name.FileName.{FileName}
 use Rattle.ira_main.specs.declared.program_fault.ProgramFault.{ProgramFault}
 use Rattle.ira_main.specs.declared.program_fault.ProgramFault.TheVariants.{CannotRead, CannotWriteAnswer, OutOfMemory, RingSize}
 use Rattle.ira_main.specs.declared.status.Status.{Status}
@@ -42,7 +48,7 @@ use Rattle.ira_main.specs.declared.status.Status.TheVariants.{Yes}
 pub data Judges (old new : Reads) (out out' : SinkState) (outcome : Outcome) : Type 0 where
   judged : (text : List ℕ) (answer : Answer) → IsReadTo (MAX_TEXT + 1) old new text → IsAnswer text answer
       → Reports answer out out' outcome → Judges old new out out' outcome
-  unread : (name : Bor (List ℕ)) → name.now ≡ codes "-" → new.has_failed ≡ true → new.is_over ≡ true
+  unread : (name : FileName) → file_name name ≡ codes "-" → new.has_failed ≡ true → new.is_over ≡ true
       → out' ≡ out → outcome ≡ Err (CannotRead name) → Judges old new out out' outcome
   no_memory : out' ≡ out → outcome ≡ Err OutOfMemory → Judges old new out out' outcome
 
@@ -55,21 +61,43 @@ pub record JudgesTogether {S : Type 0} (reads : Reading S) (names : List (List �
   pub judged : IsLogsAnswer texts answer
   pub reported : Reports answer out out' outcome
 
+-- the logs of a source were judged together, and their answer reported; or no answer is given
+abbrev pub JudgesLogs : {S : Type 0} → Reading S → LogSource → S → SinkState → SinkState → Outcome → Type 0
+JudgesLogs reads source shelf out out' outcome =
+    OfSource reads source shelf shelf out out' outcome (λ names.
+    JudgesTogether reads (names_of names) shelf out out' outcome
+    ⊎ GivesNoAnswer (IsFilesFault reads (names_of names) shelf) out out' outcome)
+
 -- the names of the files to check: the question's, the certificate's and the logs'
-abbrev pub check_names : CheckRequest → List (List ℕ)
-check_names check = check.question.now ∷ check.certificate.now ∷ map (λ name. name.now) check.logs.items
+abbrev pub check_names : CheckRequest → List FileName → List (List ℕ)
+check_names check names = check.question.now ∷ check.certificate.now ∷ names_of names
 
 -- the files that are named were read, the texts of the logs were judged together with the text of the question and the
 -- text of the certificate, and their answer reported
-pub record JudgesCertified {S : Type 0} (reads : Reading S) (check : CheckRequest) (shelf : S)
+pub record JudgesCertified {S : Type 0} (reads : Reading S) (check : CheckRequest) (names : List FileName) (shelf : S)
     (out out' : SinkState) (outcome : Outcome) : Type 0 where
   pub question : List ℕ
   pub certificate : List ℕ
   pub texts : List (List ℕ)
-  pub given : ReadsFiles reads (check_names check) shelf (question ∷ certificate ∷ texts)
+  pub given : ReadsFiles reads (check_names check names) shelf (question ∷ certificate ∷ texts)
   pub answer : Answer
   pub judged : IsAuditAnswer texts question certificate answer
   pub reported : Reports answer out out' outcome
+
+-- the logs of the source that is named were judged with the question and the certificate; or no answer is given
+abbrev pub JudgesCheck : {S : Type 0} → Reading S → CheckRequest → S → SinkState → SinkState → Outcome → Type 0
+JudgesCheck reads check shelf out out' outcome =
+    OfSource reads check.logs shelf shelf out out' outcome (λ names.
+    JudgesCertified reads check names shelf out out' outcome
+    ⊎ GivesNoAnswer (IsFilesFault reads (check_names check names) shelf) out out' outcome)
+
+-- the question is decided of the logs of the source that is named; or no answer is given, and the shelf is as it was
+abbrev pub DecidesLogs : Type 0 → {S : Type 0} → Reading S → Writing S → DecideRequest → S → S → SinkState → SinkState
+    → Outcome → Type 0
+DecidesLogs A reads writes decide shelf shelf' out out' outcome =
+    OfSource reads decide.logs shelf shelf' out out' outcome (λ names.
+    Decides A reads writes decide names shelf shelf' out out' outcome
+    ⊎ ((shelf' ≡ shelf) × GivesNoAnswer (IsFilesFault reads (decide_names decide names) shelf) out out' outcome))
 
 -- the question whether two nodes of a ring of so many ever lead at once was printed
 pub record AsksPairs (nodes : ℕ) (out out' : SinkState) (outcome : Outcome) : Type 0 where
@@ -108,31 +136,29 @@ pub data Records {S : Type 0} (writes : Writing S) (request : RunRequest) (shelf
   not_run : shelf' ≡ shelf → GivesNoAnswer (IsRunFault request) out out' outcome
       → Records writes request shelf shelf' out out' outcome
 
--- what is done for words: they are refused; or they ask for the logs in some files, and the texts of these are judged
--- together; or to check the logs in some files, and their texts are judged with those of a question and of a
--- certificate; or to decide a question of them, and it is decided of their texts; or for the question of all pairs, and
--- it is printed; or for a ring, and it is run; or to upgrade the logs in some files, or to mend them, and it is done. Or no
--- answer is given, for a fault that the command can have. The shelf is as it was but for the files of a run and of upgraded
--- or mended logs, and a certificate's
+-- what is done for words: they are refused; or they ask for logs, or for the evidence of these, and their texts are
+-- judged together; or to check logs, and their texts are judged with those of a question and of a certificate; or to
+-- decide a question of them, and it is decided of their texts; or for the question of all pairs, and it is printed; or
+-- for a ring, and it is run; or to upgrade logs, or to mend them, and it is done; or for the version, and it is printed.
+-- Or no answer is given, for a fault that the command can have. The shelf is as it was but for the files of a run and of upgraded or
+-- mended logs, and a certificate's
 pub data Done (A : Type 0) {S : Type 0} (reads : Reading S) (writes : Writing S)
     (words : List (List ℕ)) (shelf shelf' : S) (out out' : SinkState)
     (outcome : Outcome) : Type 0 where
   refused : (fault : WordsFault) → MayBeRefused words fault → shelf' ≡ shelf → out' ≡ out
       → outcome ≡ Err (words_fault fault)
       → Done A reads writes words shelf shelf' out out' outcome
-  judged : (names : List (List ℕ)) → AskForLogs words names → shelf' ≡ shelf
-      → JudgesTogether reads names shelf out out' outcome
-      ⊎ GivesNoAnswer (IsFilesFault reads names shelf) out out' outcome
+  judged : (source : LogSource) → AskForLogs words source → shelf' ≡ shelf
+      → JudgesLogs reads source shelf out out' outcome
+      → Done A reads writes words shelf shelf' out out' outcome
+  explained : (explain : ExplainRequest) (source : LogSource) → AskForEvidence words explain → explain.logs ≡ Some source
+      → shelf' ≡ shelf → JudgesLogs reads source shelf out out' outcome
       → Done A reads writes words shelf shelf' out out' outcome
   certified : (check : CheckRequest) → AskForCheck words check → shelf' ≡ shelf
-      → JudgesCertified reads check shelf out out' outcome
-      ⊎ GivesNoAnswer (IsFilesFault reads (check_names check) shelf) out out' outcome
+      → JudgesCheck reads check shelf out out' outcome
       → Done A reads writes words shelf shelf' out out' outcome
   decided : (decide : DecideRequest) → AskForDecide words decide
-      → Decides A reads writes decide shelf shelf' out out' outcome
-      → Done A reads writes words shelf shelf' out out' outcome
-  undecided : (decide : DecideRequest) → AskForDecide words decide → shelf' ≡ shelf
-      → GivesNoAnswer (IsFilesFault reads (decide_names decide) shelf) out out' outcome
+      → DecidesLogs A reads writes decide shelf shelf' out out' outcome
       → Done A reads writes words shelf shelf' out out' outcome
   pairs : (nodes : ℕ) → AskForPairs words nodes → shelf' ≡ shelf
       → AsksPairs nodes out out' outcome ⊎ GivesNoAnswer (IsPairsFault nodes) out out' outcome
@@ -141,18 +167,25 @@ pub data Done (A : Type 0) {S : Type 0} (reads : Reading S) (writes : Writing S)
       → Records writes request shelf shelf' out out' outcome
       → Done A reads writes words shelf shelf' out out' outcome
   upgraded : (upgrade : RewriteRequest) → AskForUpgrade words upgrade
-      → Upgrades reads writes upgrade shelf shelf' out out' outcome
+      → OfSource reads upgrade.logs shelf shelf' out out' outcome
+      (λ names. Upgrades reads writes upgrade (names_of names) shelf shelf' out out' outcome)
       → Done A reads writes words shelf shelf' out out' outcome
   mended : (mend : RewriteRequest) → AskForMend words mend
-      → Mends reads writes mend shelf shelf' out out' outcome
+      → OfSource reads mend.logs shelf shelf' out out' outcome
+      (λ names. Mends reads writes mend names shelf shelf' out out' outcome)
+      → Done A reads writes words shelf shelf' out out' outcome
+  versioned : AskForVersion words → shelf' ≡ shelf → Prints version_line Yes out out' outcome
       → Done A reads writes words shelf shelf' out out' outcome
 
--- without words the input is judged, and the shelf is as it was; with words the input isn't read, and what they ask
--- for is done
+-- without words the input is judged, and the shelf is as it was, and so it is where they ask for the evidence of one
+-- log; with other words the input isn't read, and what they ask for is done
 pub data Serves (A : Type 0) {S : Type 0} (reads : Reading S) (writes : Writing S)
     (words : List (List ℕ)) (input input' : Reads) (shelf shelf' : S)
     (out out' : SinkState) (outcome : Outcome) : Type 0 where
   without_words : words ≡ [] → shelf' ≡ shelf → Judges input input' out out' outcome
+      → Serves A reads writes words input input' shelf shelf' out out' outcome
+  explained : (explain : ExplainRequest) → AskForEvidence words explain → explain.logs ≡ None → shelf' ≡ shelf
+      → Judges input input' out out' outcome
       → Serves A reads writes words input input' shelf shelf' out out' outcome
   with_words : words ≢ [] → input' ≡ input → Done A reads writes words shelf shelf' out out' outcome
       → Serves A reads writes words input input' shelf shelf' out out' outcome

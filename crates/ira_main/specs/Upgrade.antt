@@ -34,20 +34,16 @@ pub data KeepsUpgrades {S : Type 0} (writes : Writing S) (folder : Bor (List ℕ
   no_memory : shelf' ≡ shelf → out' ≡ out → outcome ≡ Err OutOfMemory
       → KeepsUpgrades writes folder logs shelf shelf' out out' outcome
 
--- the names of the files to write anew
-abbrev pub rewrite_names : RewriteRequest → List (List ℕ)
-rewrite_names rewrite = map (λ name. name.now) rewrite.logs.items
-
 -- the files that are named were read, their texts are those of the logs of one ring, and what comes of these is the
 -- outcome; or they aren't, and the reason was reported, which is the one that is given where the logs are judged; or no
 -- texts were had
-pub data Upgrades {S : Type 0} (reads : Reading S) (writes : Writing S) (upgrade : RewriteRequest) (shelf shelf' : S)
-    (out out' : SinkState) (outcome : Outcome) : Type 0 where
-  of_ring : (texts : List (List ℕ)) (logs : List Log) → ReadsFiles reads (rewrite_names upgrade) shelf texts
+pub data Upgrades {S : Type 0} (reads : Reading S) (writes : Writing S) (upgrade : RewriteRequest)
+    (names : List (List ℕ)) (shelf shelf' : S) (out out' : SinkState) (outcome : Outcome) : Type 0 where
+  of_ring : (texts : List (List ℕ)) (logs : List Log) → ReadsFiles reads names shelf texts
       → AreLogTexts texts logs → AreLogs logs → KeepsUpgrades writes upgrade.folder logs shelf shelf' out out' outcome
-      → Upgrades reads writes upgrade shelf shelf' out out' outcome
-  no_ring : (texts : List (List ℕ)) (r : Reason) → ReadsFiles reads (rewrite_names upgrade) shelf texts
+      → Upgrades reads writes upgrade names shelf shelf' out out' outcome
+  no_ring : (texts : List (List ℕ)) (r : Reason) → ReadsFiles reads names shelf texts
       → IsLogsAnswer texts (No r) → IsTextOrHeadsReason r → shelf' ≡ shelf → Reports (No r) out out' outcome
-      → Upgrades reads writes upgrade shelf shelf' out out' outcome
-  unread : shelf' ≡ shelf → GivesNoAnswer (IsFilesFault reads (rewrite_names upgrade) shelf) out out' outcome
-      → Upgrades reads writes upgrade shelf shelf' out out' outcome
+      → Upgrades reads writes upgrade names shelf shelf' out out' outcome
+  unread : shelf' ≡ shelf → GivesNoAnswer (IsFilesFault reads names shelf) out out' outcome
+      → Upgrades reads writes upgrade names shelf shelf' out out' outcome

@@ -1,13 +1,14 @@
-ghost use Rattle.std.specs.Prelude.{◌≡◌, ◌⊎◌};
-ghost use Rattle.ira_main.specs.Decide.{Decides, KeepsFindings, decide_names};
-ghost use Rattle.ira_main.specs.FilesRead.{IsFilesFault};
-ghost use Rattle.ira_main.specs.Outcome.{GivesNoAnswer};
+ghost use Rattle.std.specs.Prelude.{◌≡◌};
+ghost use Rattle.ira_main.specs.Decide.{KeepsFindings};
+ghost use Rattle.ira_main.specs.Serve.{DecidesLogs};
 ghost use Rattle.ira_main.specs.Shelf.{WritesFile};
 
 use crate::cert_file::keep;
+use crate::file_name::FileName;
 use crate::program_fault::ProgramFault;
 use crate::read_files::{read_file, read_logs};
 use crate::shelf::Shelf;
+use crate::source_names::source_names;
 use crate::status::Status;
 use ira_audit::{Findings, write_findings};
 use ira_event::{MemorySink, Sink, WriteFault, write_bytes};
@@ -47,14 +48,12 @@ where
     A: Allocator + Clone + Send + Sync,
     F: Shelf + Sync,
     W: Sink,
-    ensures { Decides A F.reads (WritesFile F.creates F.closes F.Out.state) decide.now
-        shelf.old shelf.new (W.state out.old) (W.state out.new) result
-        ⊎ ((shelf.new ≡ shelf.old)
-        × GivesNoAnswer (IsFilesFault F.reads (decide_names decide.now) shelf.old)
-        (W.state out.old) (W.state out.new) result) }
+    ensures { DecidesLogs A F.reads (WritesFile F.creates F.closes F.Out.state) decide.now
+        shelf.old shelf.new (W.state out.old) (W.state out.new) result }
 {
-    let question = read_file(&alloc, decide.question, shelf)?;
-    let audit = read_logs(rt, alloc.clone()?, &decide.logs, shelf)?;
+    let names = source_names(&alloc, &decide.logs, shelf)?;
+    let question = read_file(&alloc, FileName::Given(decide.question), shelf)?;
+    let audit = read_logs(rt, alloc.clone()?, &names, shelf)?;
     let findings = audit.decide(question.bytes())?;
     let mut text = MemorySink::new(alloc);
     let Ok(()) = write_findings(&findings, &mut text) else {

@@ -1,6 +1,7 @@
 ghost use Rattle.std.specs.Prelude.{◌≡◌, ◌⊎◌, Err, MatchResult};
 ghost use Rattle.ira_event.specs.LogText.{log_text};
-ghost use Rattle.ira_main.specs.LogFiles.{StopsInLogs, WritesLogs, log_name};
+ghost use Rattle.ira_main.specs.FileName.{log_name};
+ghost use Rattle.ira_main.specs.LogFiles.{StopsInLogs, WritesLogs};
 ghost use Rattle.ira_main.specs.Shelf.{WritesFile};
 
 use crate::program_fault::ProgramFault;

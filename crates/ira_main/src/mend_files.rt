@@ -1,8 +1,10 @@
-ghost use Rattle.std.specs.Prelude.{◌≡◌, MatchResult, length, map};
-ghost use Rattle.ira_main.specs.FilesRead.{IsFilesFault};
+ghost use Rattle.std.specs.Prelude.{◌≡◌, MatchResult, length};
+ghost use Rattle.ira_main.specs.FilesRead.{IsFilesFault, names_of};
 ghost use Rattle.ira_main.specs.Mend.{HasRecordedFiles, KeepsMended, Mends};
 ghost use Rattle.ira_main.specs.Shelf.{WritesFile};
+ghost use Rattle.ira_main.specs.SourceNames.{OfSource};
 
+use crate::file_name::FileName;
 use crate::log_files::write_files;
 use crate::mended_lines::write_mended;
 use crate::overwriting::overwritten;
@@ -10,6 +12,7 @@ use crate::program_fault::ProgramFault;
 use crate::read_files::read_into;
 use crate::report::report;
 use crate::shelf::Shelf;
+use crate::source_names::source_names;
 use crate::status::Status;
 use crate::text_buffer::TextBuffer;
 use crate::text_source::TextSource;
@@ -22,17 +25,17 @@ use std::alloc::Allocator;
 // The logs in the files of these names, which are read in turn, cut or not.
 fn read_recorded<'a, A: Allocator + Clone, F: TextSource>(
     alloc: &A,
-    names: &[&'a str],
+    names: &[FileName<'a>],
     shelf: &F,
 ) -> Result<RecordedLogs<A>, ProgramFault<'a>>
     ensures { MatchResult result
-        (HasRecordedFiles F.reads (map (λ name. name.now) names.now) shelf.now)
-        (IsFilesFault F.reads (map (λ name. name.now) names.now) shelf.now) }
+        (HasRecordedFiles F.reads (names_of names.now) shelf.now)
+        (IsFilesFault F.reads (names_of names.now) shelf.now) }
 {
     let mut recorded = RecordedLogs::new(alloc.clone()?);
     let mut text = TextBuffer::new(alloc.clone()?);
     for name in names {
-        read_into(name, &mut text, shelf)?;
+        read_into(alloc, *name, &mut text, shelf)?;
         recorded.take(text.bytes())?;
     }
     Ok(recorded)
@@ -75,13 +78,15 @@ where
     A: Allocator + Clone,
     F: Shelf,
     W: Sink,
-    ensures { Mends F.reads (WritesFile F.creates F.closes F.Out.state) request.now shelf.old shelf.new
-        (W.state out.old) (W.state out.new) result }
+    ensures { OfSource F.reads request.now.logs shelf.old shelf.new (W.state out.old) (W.state out.new) result
+        (λ names. Mends F.reads (WritesFile F.creates F.closes F.Out.state) request.now names shelf.old shelf.new
+        (W.state out.old) (W.state out.new) result) }
 {
-    if let Some(name) = overwritten(&alloc, request.folder, &request.logs)? {
+    let names = source_names(&alloc, &request.logs, shelf)?;
+    if let Some(name) = overwritten(&alloc, request.folder, &names)? {
         return Err(ProgramFault::WouldOverwrite(name));
     }
-    let recorded = read_recorded(&alloc, &request.logs, shelf)?;
+    let recorded = read_recorded(&alloc, &names, shelf)?;
     let logs = match recorded.gather() {
         Ok(logs) => logs,
         Err(Refusal::No(reason)) => return report(&Answer::No(reason), out),

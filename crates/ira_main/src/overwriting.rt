@@ -1,6 +1,9 @@
-ghost use Rattle.std.specs.Prelude.{◌↔◌, IfOk, IsTrue, MatchOption, map, string_bytes};
+ghost use Rattle.std.specs.Prelude.{◌↔◌, IfOk, IsTrue, MatchOption, string_bytes};
+ghost use Rattle.ira_main.specs.FileName.{file_name};
+ghost use Rattle.ira_main.specs.FilesRead.{names_of};
 ghost use Rattle.ira_main.specs.Overwriting.{IsPathOf, IsSamePath, KeepsInput, Overwrites};
 
+use crate::file_name::FileName;
 use ira_event::MAX_NODES;
 use std::alloc::{AllocError, Allocator};
 use std::path::Path;
@@ -30,18 +33,19 @@ fn are_same_path<A: Allocator>(alloc: &A, name: &str, other: &str) -> Result<boo
 pub(crate) fn overwritten<'a, A: Allocator>(
     alloc: &A,
     folder: &str,
-    names: &[&'a str],
-) -> Result<Option<&'a str>, AllocError>
+    names: &[FileName<'a>],
+) -> Result<Option<FileName<'a>>, AllocError>
     ensures { IfOk result (λ found. MatchOption found
-        (KeepsInput folder.now (map (λ name. name.now) names.now))
-        (λ name. Overwrites folder.now (map (λ name. name.now) names.now) name.now)) }
+        (KeepsInput folder.now (names_of names.now))
+        (λ name. Overwrites folder.now (names_of names.now) (file_name name))) }
 {
     let places = names.len().min(MAX_NODES);
     for name in names {
+        let path = name.path(alloc)?;
         for place in 0..places {
             let log = format!(in alloc; "{folder}/{place}.log")?;
-            if are_same_path(alloc, name, log.as_str())? {
-                return Ok(Some(name));
+            if are_same_path(alloc, path.as_str(), log.as_str())? {
+                return Ok(Some(*name));
             }
         }
     }

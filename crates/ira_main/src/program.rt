@@ -1,12 +1,12 @@
-ghost use Rattle.std.specs.Prelude.{◌≡◌, ◌⊎◌, ◌≤◌, ◌+◌, map};
-ghost use Rattle.ira_main.specs.FilesRead.{IsFilesFault};
-ghost use Rattle.ira_main.specs.Outcome.{GivesNoAnswer, Outcome, ReportsOutcome, outcome_number};
+ghost use Rattle.std.specs.Prelude.{◌≡◌, ◌≤◌, ◌+◌, map};
+ghost use Rattle.ira_main.specs.Outcome.{Outcome, ReportsOutcome, outcome_number};
 ghost use Rattle.ira_main.specs.Progress.{ServesOrLeaves};
-ghost use Rattle.ira_main.specs.Serve.{Judges, JudgesCertified, JudgesTogether, Serves, check_names};
+ghost use Rattle.ira_main.specs.Serve.{Judges, JudgesCheck, JudgesLogs, Serves};
 ghost use Rattle.ira_main.specs.Shelf.{WritesFile};
 
 use crate::counted::Counted;
 use crate::decide_files::decide_files;
+use crate::file_name::FileName;
 use crate::input_audit::audit_input;
 use crate::mend_files::mend_files;
 use crate::print_pairs::print_pairs;
@@ -16,11 +16,13 @@ use crate::read_files::{read_file, read_logs};
 use crate::record_run::{record_run_alone, record_run_on_threads};
 use crate::report::report;
 use crate::shelf::Shelf;
+use crate::source_names::source_names;
 use crate::status::Status;
 use crate::upgrade_files::upgrade_files;
+use crate::version::print_version;
 use ira_event::{MAX_TEXT, Sink};
 use ira_links::OpenGate;
-use ira_words::{CheckRequest, Request, read_words};
+use ira_words::{CheckRequest, LogSource, Request, read_words};
 use std::alloc::Allocator;
 use std::io::Read;
 use std::sync::Wait;
@@ -38,15 +40,15 @@ fn judge_input<'a, A: Allocator, I: Read, W: Sink>(
 {
     match audit_input(alloc, input) {
         Ok(answer) => report(&answer, out),
-        Err(fault) => Err(ProgramFault::cannot_read("-", fault)),
+        Err(fault) => Err(ProgramFault::cannot_read(FileName::Given("-"), fault)),
     }
 }
 
-// Judges the logs in the files of these names together. Each file is read before an answer is given.
+// Judges the logs of this source together. Each file is read before an answer is given.
 fn judge_files<'a, R, A, F, W>(
     rt: &R,
     alloc: A,
-    names: &[&'a str],
+    source: &LogSource<'a>,
     shelf: &F,
     out: &mut W,
 ) -> Result<Status, ProgramFault<'a>>
@@ -55,18 +57,16 @@ where
     A: Allocator + Clone + Send + Sync,
     F: Shelf + Sync,
     W: Sink,
-    ensures { JudgesTogether F.reads (map (λ name. name.now) names.now) shelf.now
-        (W.state out.old) (W.state out.new) result
-        ⊎ GivesNoAnswer (IsFilesFault F.reads (map (λ name. name.now) names.now) shelf.now)
-        (W.state out.old) (W.state out.new) result }
+    ensures { JudgesLogs F.reads source.now shelf.now (W.state out.old) (W.state out.new) result }
 {
-    let audit = read_logs(rt, alloc, names, shelf)?;
+    let names = source_names(&alloc, source, shelf)?;
+    let audit = read_logs(rt, alloc, &names, shelf)?;
     let answer = audit.finish(rt)?;
     report(&answer, out)
 }
 
-// Judges the logs in the files that are named with the question and the certificate in theirs. The files are
-// read in this order, all before an answer is given: question, certificate, logs.
+// Judges the logs with the question and the certificate in the files that are named. The files are read in this order, all
+// before an answer is given: question, certificate, logs.
 fn check_files<'a, R, A, F, W>(
     rt: &R,
     alloc: A,
@@ -80,14 +80,12 @@ where
     F: Shelf + Sync,
     W: Sink,
     requires depth { check.now.depth ≤ 4 }
-    ensures { JudgesCertified F.reads check.now shelf.now
-        (W.state out.old) (W.state out.new) result
-        ⊎ GivesNoAnswer (IsFilesFault F.reads (check_names check.now) shelf.now)
-        (W.state out.old) (W.state out.new) result }
+    ensures { JudgesCheck F.reads check.now shelf.now (W.state out.old) (W.state out.new) result }
 {
-    let question = read_file(&alloc, check.question, shelf)?;
-    let certificate = read_file(&alloc, check.certificate, shelf)?;
-    let audit = read_logs(rt, alloc, &check.logs, shelf)?;
+    let names = source_names(&alloc, &check.logs, shelf)?;
+    let question = read_file(&alloc, FileName::Given(check.question), shelf)?;
+    let certificate = read_file(&alloc, FileName::Given(check.certificate), shelf)?;
+    let audit = read_logs(rt, alloc, &names, shelf)?;
     let (question, certificate) = (question.bytes(), certificate.bytes());
     let answer = audit.finish_with(rt, question, certificate, check.depth, &OpenGate)?;
     report(&answer, out)
@@ -120,7 +118,11 @@ where
     };
     match request {
         Request::OneLog => Progress::Ended(judge_input(alloc, input, out)),
-        Request::Logs(names) => Progress::Ended(judge_files(rt, alloc, &names, shelf, out)),
+        Request::Logs(source) => Progress::Ended(judge_files(rt, alloc, &source, shelf, out)),
+        Request::Explain(explain) => match &explain.logs {
+            Some(source) => Progress::Ended(judge_files(rt, alloc, source, shelf, out)),
+            None => Progress::Ended(judge_input(alloc, input, out)),
+        },
         Request::Check(check) => Progress::Check(check),
         Request::Decide(decide) => Progress::Ended(decide_files(rt, alloc, &decide, shelf, out)),
         Request::Pairs(nodes) => Progress::Ended(print_pairs(alloc, nodes, out)),
@@ -135,6 +137,7 @@ where
             rt, alloc, &upgrade, shelf, out,
         )),
         Request::Mend(mend) => Progress::Ended(mend_files(alloc, &mend, shelf, out)),
+        Request::Version => Progress::Ended(print_version(out)),
     }
 }
 
@@ -171,12 +174,12 @@ where
 /// write, or a certificate past the limits; 3 out of memory. A failed write to `err` changes no status.
 ///
 /// Without words it judges the log on `input`, of which it reads at most one byte more than
-/// `MAX_TEXT`. With words it reads nothing of `input`: `logs` and some names judges the logs in those
-/// files together; `check` judges them with the question and the certificate in the files of its options; `decide`
+/// `MAX_TEXT`, and so it does for `explain` without logs. With other words it reads nothing of `input`: `logs`, and
+/// `explain` with logs, judge the logs in the files that are named, or in a folder, together; `check` judges them with the question and the certificate in the files of its options; `decide`
 /// decides the question of them, and writes a certificate to a file if one is named and all cases are absent;
 /// `pairs` and a number prints the question of all pairs of nodes; `run` and its options runs a ring and writes the
 /// logs of its nodes to files; `upgrade` writes the logs in those files in version 2, each to a file of its folder; `mend` writes of
-/// each of them the longest beginning such that all are consistent; and all other words are refused. `logs`, `check`, `decide` and `upgrade` read the logs on threads, `check` judges a section on some, and a run without `--alone` has a thread for each node; all of them are waited for.
+/// each of them the longest beginning such that all are consistent; `version` prints the version; and all other words are refused. `logs`, `explain`, `check`, `decide` and `upgrade` read the logs on threads, `check` judges a section on some, and a run without `--alone` has a thread for each node; all of them are waited for.
 pub fn serve<R, A, I, F, W, V>(
     rt: &R,
     alloc: A,

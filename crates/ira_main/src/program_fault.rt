@@ -1,10 +1,12 @@
 ghost use Rattle.std.specs.Prelude.{◌≡◌, ◌++◌, codes, decimal};
 ghost use Rattle.ira_event.specs.Sink.{Wrote};
 ghost use Rattle.ira_run.specs.RunFault.{run_fault_number};
+ghost use Rattle.ira_main.specs.FileName.{file_name};
 ghost use Rattle.ira_main.specs.ProgramFault.{program_fault_text, read_fault, write_fault, write_log_fault};
 ghost use Rattle.ira_main.specs.Outcome.{ReportsOutcome, outcome_number};
 ghost use Rattle.ira_main.specs.Status.{program_fault_status};
 
+use crate::file_name::FileName;
 use crate::shelf_fault::ShelfFault;
 use crate::status::Status;
 use ira_event::{Line, OutOfMemory, Sink, WriteFault, write_bytes};
@@ -19,8 +21,8 @@ pub enum ProgramFault<'a> {
     Words(String),
     /// A word isn't UTF-8.
     WordIsNoText,
-    /// The file of this name can't be read; `-` stands for standard input.
-    CannotRead(&'a str),
+    /// The file of this name can't be read.
+    CannotRead(FileName<'a>),
     /// A ring of so many nodes is none.
     RingSize,
     /// The run was refused, or came to nothing.
@@ -28,7 +30,7 @@ pub enum ProgramFault<'a> {
     /// The log of the node at this place can't be written to its file in this folder.
     CannotWriteLog(&'a str, u8),
     /// A log would be written over the file of this name, which is one of the input.
-    WouldOverwrite(&'a str),
+    WouldOverwrite(FileName<'a>),
     /// The certificate can't be written to the file of this name.
     CannotWrite(&'a str),
     /// The text of the certificate couldn't be read back.
@@ -39,7 +41,7 @@ pub enum ProgramFault<'a> {
 
 impl<'a> ProgramFault<'a> {
     /// The file of this name, or standard input, wasn't read.
-    pub(crate) fn cannot_read(name: &'a str, fault: ShelfFault) -> ProgramFault<'a>
+    pub(crate) fn cannot_read(name: FileName<'a>, fault: ShelfFault) -> ProgramFault<'a>
         ensures { result ≡ read_fault name.entry fault }
     {
         match fault {
@@ -89,9 +91,7 @@ impl<'a> ProgramFault<'a> {
         match self {
             ProgramFault::Words(text) => write_bytes(text.as_bytes(), err),
             ProgramFault::WordIsNoText => write_bytes(b"ira: a word is not UTF-8\n", err),
-            ProgramFault::CannotRead(name) => {
-                write_named(b"ira: cannot read ", name.as_bytes(), &line_end(), err)
-            }
+            ProgramFault::CannotRead(name) => write_file_named(b"ira: cannot read ", *name, err),
             ProgramFault::RingSize => write_bytes(b"ira: ring size\n", err),
             ProgramFault::RunRefused(fault) => refused_run(*fault).write(err),
             ProgramFault::CannotWriteLog(folder, place) => write_named(
@@ -101,7 +101,7 @@ impl<'a> ProgramFault<'a> {
                 err,
             ),
             ProgramFault::WouldOverwrite(name) => {
-                write_named(b"ira: would overwrite ", name.as_bytes(), &line_end(), err)
+                write_file_named(b"ira: would overwrite ", *name, err)
             }
             ProgramFault::CannotWrite(name) => {
                 write_named(b"ira: cannot write ", name.as_bytes(), &line_end(), err)
@@ -143,6 +143,22 @@ fn refused_run(fault: RunFault) -> Line
     line.add_number(u32::from(fault.number()));
     line.add(b"\n");
     line
+}
+
+// A line that names a file which is read.
+fn write_file_named<V: Sink>(
+    before: &[u8],
+    name: FileName<'_>,
+    err: &mut V,
+) -> Result<(), WriteFault>
+    ensures { Wrote result (before.now ++ file_name name.entry ++ codes "\n") (V.state err.old) (V.state err.new) }
+{
+    match name {
+        FileName::Given(name) => write_named(before, name.as_bytes(), &line_end(), err),
+        FileName::Log(folder, place) => {
+            write_named(before, folder.as_bytes(), &log_in_folder(place), err)
+        }
+    }
 }
 
 #[tactic(auto, using(ira_event::proofs::Writing::writes))]

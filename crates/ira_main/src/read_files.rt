@@ -1,6 +1,8 @@
 ghost use Rattle.std.specs.Prelude.{◌≡◌, ◌<◌, ◌≤◌, [], ◌∷◌, Ok, OnOk, IfErr, IfOk, drop, length, take};
+ghost use Rattle.ira_main.specs.FileName.{file_name};
 ghost use Rattle.ira_main.specs.FilesRead.{HasRead, HasTakenFiles, IsFilesAudit, IsFilesFault, names_of};
 
+use crate::file_name::FileName;
 use crate::program_fault::ProgramFault;
 use crate::text_buffer::TextBuffer;
 use crate::text_source::TextSource;
@@ -11,15 +13,17 @@ use std::num::NonZeroUsize;
 use std::thread::{self, Threads};
 
 /// Reads the text of the file of this name.
-pub(crate) fn read_into<'a, A: Allocator, F: TextSource>(
-    name: &'a str,
+pub(crate) fn read_into<'a, A: Allocator + Clone, F: TextSource>(
+    alloc: &A,
+    name: FileName<'a>,
     text: &mut TextBuffer<A>,
     shelf: &F,
 ) -> Result<(), ProgramFault<'a>>
-    ensures read { IfOk result (λ _. F.reads shelf.now name.now (Ok text.new)) }
-    ensures fault { IfErr result (IsFilesFault F.reads (name.now ∷ []) shelf.now) }
+    ensures read { IfOk result (λ _. F.reads shelf.now (file_name name.entry) (Ok text.new)) }
+    ensures fault { IfErr result (IsFilesFault F.reads (file_name name.entry ∷ []) shelf.now) }
 {
-    match shelf.read(name, text) {
+    let path = name.path(alloc)?;
+    match shelf.read(path.as_str(), text) {
         Ok(()) => Ok(()),
         Err(fault) => Err(ProgramFault::cannot_read(name, fault)),
     }
@@ -28,14 +32,14 @@ pub(crate) fn read_into<'a, A: Allocator, F: TextSource>(
 /// The text of the file of this name.
 pub(crate) fn read_file<'a, A: Allocator + Clone, F: TextSource>(
     alloc: &A,
-    name: &'a str,
+    name: FileName<'a>,
     shelf: &F,
 ) -> Result<TextBuffer<A>, ProgramFault<'a>>
-    ensures read { IfOk result (λ text. F.reads shelf.now name.now (Ok text)) }
-    ensures fault { IfErr result (IsFilesFault F.reads (name.now ∷ []) shelf.now) }
+    ensures read { IfOk result (λ text. F.reads shelf.now (file_name name.entry) (Ok text)) }
+    ensures fault { IfErr result (IsFilesFault F.reads (file_name name.entry ∷ []) shelf.now) }
 {
     let mut text = TextBuffer::new(alloc.clone()?);
-    read_into(name, &mut text, shelf)?;
+    read_into(alloc, name, &mut text, shelf)?;
     Ok(text)
 }
 
@@ -53,7 +57,8 @@ impl<A: Allocator + Clone> Share<A> {
     /// Reads those of the files of these names that weren't read yet, in turn, up to the first that can't be.
     fn read_on<'a, F: TextSource>(
         &mut self,
-        names: &[&'a str],
+        alloc: &A,
+        names: &[FileName<'a>],
         shelf: &F,
     ) -> Result<(), ProgramFault<'a>>
         requires { HasRead F.reads (names_of names.now) shelf.now self.old.read self.old.audit }
@@ -62,7 +67,7 @@ impl<A: Allocator + Clone> Share<A> {
         ensures fault { IfErr result (IsFilesFault F.reads (names_of names.now) shelf.now) }
     {
         while self.read < names.len() {
-            read_into(names[self.read], &mut self.text, shelf)?;
+            read_into(alloc, names[self.read], &mut self.text, shelf)?;
             self.audit.take(self.text.bytes())?;
             self.read += 1;
         }
@@ -73,7 +78,7 @@ impl<A: Allocator + Clone> Share<A> {
 /// The logs in the files of these names, up to the first that can't be read now.
 fn read_share<A: Allocator + Clone, F: TextSource>(
     alloc: &A,
-    names: &[&str],
+    names: &[FileName<'_>],
     shelf: &F,
 ) -> Result<Share<A>, OutOfMemory>
     ensures { IfOk result (λ share. HasRead F.reads (names_of names.now) shelf.now share.read share.audit) }
@@ -84,20 +89,21 @@ fn read_share<A: Allocator + Clone, F: TextSource>(
         read: 0,
     };
     // A file that was refused since others are open can be opened once these were read.
-    let _stopped = share.read_on(names, shelf);
+    let _stopped = share.read_on(alloc, names, shelf);
     Ok(share)
 }
 
 /// The logs in the files of a share, of which those that weren't read yet are read.
 fn finish_share<'a, A: Allocator + Clone, F: TextSource>(
+    alloc: &A,
     mut share: Share<A>,
-    names: &[&'a str],
+    names: &[FileName<'a>],
     shelf: &F,
 ) -> Result<RingAudit<A>, ProgramFault<'a>>
     requires { HasRead F.reads (names_of names.now) shelf.now share.read share.audit }
     ensures { IsFilesAudit F.reads (names_of names.now) shelf.now result }
 {
-    share.read_on(names, shelf)?;
+    share.read_on(alloc, names, shelf)?;
     let Share {
         audit,
         text: _,
@@ -107,7 +113,7 @@ fn finish_share<'a, A: Allocator + Clone, F: TextSource>(
 }
 
 /// The names of the share that begins there.
-fn chunk_from<'n, 'a>(names: &'n [&'a str], start: usize, size: usize) -> &'n [&'a str]
+fn chunk_from<'n, 'a>(names: &'n [FileName<'a>], start: usize, size: usize) -> &'n [FileName<'a>]
     requires { start ≤ length names.now }
     ensures { result.now ≡ take size (drop start names.now) }
 {
@@ -127,7 +133,7 @@ fn thread_count(rt: &impl Threads) -> usize
 pub(crate) fn read_logs<'a, R, A, F>(
     rt: &R,
     alloc: A,
-    names: &[&'a str],
+    names: &[FileName<'a>],
     shelf: &F,
 ) -> Result<RingAudit<A>, ProgramFault<'a>>
 where
@@ -142,7 +148,7 @@ where
         alloc.clone()?,
         names,
         size,
-        &|_, some: &[&str]| -> Result<Share<A>, OutOfMemory>
+        &|_, some: &[FileName<'_>]| -> Result<Share<A>, OutOfMemory>
             ensures { IfOk result (λ share. HasRead F.reads (names_of some.now) shelf.entry.now share.read share.audit) }
         { read_share(&alloc, some, shelf) },
     )?;
@@ -150,7 +156,7 @@ where
     let mut done = 0;
     for share in shares {
         let some = chunk_from(names, done, size);
-        audit.append(finish_share(share?, some, shelf)?)?;
+        audit.append(finish_share(&alloc, share?, some, shelf)?)?;
         done += some.len();
     }
     Ok(audit)

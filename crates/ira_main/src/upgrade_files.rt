@@ -1,5 +1,7 @@
 ghost use Rattle.std.specs.Prelude.{◌≡◌};
+ghost use Rattle.ira_main.specs.FilesRead.{names_of};
 ghost use Rattle.ira_main.specs.Shelf.{WritesFile};
+ghost use Rattle.ira_main.specs.SourceNames.{OfSource};
 ghost use Rattle.ira_main.specs.Upgrade.{KeepsUpgrades, Upgrades, upgraded_line};
 
 use crate::log_files::write_files;
@@ -7,6 +9,7 @@ use crate::program_fault::ProgramFault;
 use crate::read_files::read_logs;
 use crate::report::report;
 use crate::shelf::Shelf;
+use crate::source_names::source_names;
 use crate::status::Status;
 use ira_audit::{Answer, Refusal};
 use ira_event::{Line, Logs, RingSize, Sink, WriteFault};
@@ -58,10 +61,12 @@ where
     A: Allocator + Clone + Send + Sync,
     F: Shelf + Sync,
     W: Sink,
-    ensures { Upgrades F.reads (WritesFile F.creates F.closes F.Out.state) upgrade.now shelf.old shelf.new
-        (W.state out.old) (W.state out.new) result }
+    ensures { OfSource F.reads upgrade.now.logs shelf.old shelf.new (W.state out.old) (W.state out.new) result
+        (λ names. Upgrades F.reads (WritesFile F.creates F.closes F.Out.state) upgrade.now (names_of names)
+        shelf.old shelf.new (W.state out.old) (W.state out.new) result) }
 {
-    let audit = read_logs(rt, alloc.clone()?, &upgrade.logs, shelf)?;
+    let names = source_names(&alloc, &upgrade.logs, shelf)?;
+    let audit = read_logs(rt, alloc.clone()?, &names, shelf)?;
     match audit.gather() {
         Ok(logs) => keep_upgrades(alloc, logs, upgrade.folder, shelf, out),
         Err(Refusal::No(reason)) => report(&Answer::No(reason), out),

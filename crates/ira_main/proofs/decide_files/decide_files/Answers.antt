@@ -1,7 +1,8 @@
-use Rattle.std.proofs.Common.{◌≡◌, ◌∙◌, ◌++◌, [], ◌∷◌, ap, inl, inr, map, rules, refl, subst}
+use Rattle.std.proofs.Common.{◌≡◌, ◌∙◌, ◌++◌, [], ◌∷◌, ap, inl, inr, rules, refl, subst}
 use Rattle.ira_audit.specs.FindingsText.{findings_text}
 use Rattle.ira_event.specs.Sink.{Memory, StopsIn, Takes}
 use Rattle.ira_main.proofs.FilesRead.{of_back, of_front}
+use Rattle.ira_main.specs.FilesRead.{names_of}
 use Rattle.ira_main.specs.declared.program_fault.ProgramFault.TheVariants.{OutOfMemory}
 use Rattle.ira_main.proofs.decide_files.decide_files.Goals as goal
 
@@ -16,14 +17,18 @@ returns-in-Ok-write_bytes g c =
     let findings = c.in_ok-findings.findings in
     let found = c.in_ok-findings.ensures.found taken.0 taken.1 in
     let text_is : c.bytes-2.result.now ≡ findings_text findings = c.bytes-2.ensures ∙ c.in-Ok.ensures.took ∙ ap (λ (m : Memory). m.bytes ++ findings_text findings) c.new-text.ensures in
-    inl (record {
-      question = c.in_ok-question.question;
-      texts = taken.0;
-      given = (c.in_ok-question.ensures.read, rw c.deref.ensures.value at taken.2);
-      findings = findings;
-      found = rw c.bytes.ensures at found;
-      printed = inl (subst (λ t. Takes t (g.W.Sink.state c.args.out.now) (g.W.Sink.state c.write_bytes.new.sink)) text_is c.in-Ok-write_bytes.ensures, c.keep_findings.ensures);
-    })
+    inl (
+      _,
+      c.in_ok-names.ensures,
+      inl (record {
+        question = c.in_ok-question.question;
+        texts = taken.0;
+        given = (c.in_ok-question.ensures.read, rw c.deref.ensures.value at taken.2);
+        findings = findings;
+        found = rw c.bytes.ensures at found;
+        printed = inl (subst (λ t. Takes t (g.W.Sink.state c.args.out.now) (g.W.Sink.state c.write_bytes.new.sink)) text_is c.in-Ok-write_bytes.ensures, c.keep_findings.ensures);
+      }),
+    )
 
 pub returns : goal.returns
 returns g c =
@@ -31,31 +36,40 @@ returns g c =
     let findings = c.in_ok-findings.findings in
     let found = c.in_ok-findings.ensures.found taken.0 taken.1 in
     let text_is : c.bytes-2.result.now ≡ findings_text findings = c.bytes-2.ensures ∙ c.in-Ok.ensures.took ∙ ap (λ (m : Memory). m.bytes ++ findings_text findings) c.new-text.ensures in
-    inl (record {
-      question = c.in_ok-question.question;
-      texts = taken.0;
-      given = (c.in_ok-question.ensures.read, rw c.deref.ensures.value at taken.2);
-      findings = findings;
-      found = rw c.bytes.ensures at found;
-      printed = inr (subst (λ t. StopsIn t (g.W.Sink.state c.args.out.now) (g.W.Sink.state c.write_bytes.new.sink)) text_is c.in-Err.ensures, refl, refl);
-    })
+    inl (
+      _,
+      c.in_ok-names.ensures,
+      inl (record {
+        question = c.in_ok-question.question;
+        texts = taken.0;
+        given = (c.in_ok-question.ensures.read, rw c.deref.ensures.value at taken.2);
+        findings = findings;
+        found = rw c.bytes.ensures at found;
+        printed = inr (subst (λ t. StopsIn t (g.W.Sink.state c.args.out.now) (g.W.Sink.state c.write_bytes.new.sink)) text_is c.in-Err.ensures, refl, refl);
+      }),
+    )
+
+pub returns-in_err-names : goal.returns-in_err-names
+returns-in_err-names g c = inr (refl, (_, c.in_err-names.ensures, refl, search rules))
 
 pub returns-in_err-question : goal.returns-in_err-question
 returns-in_err-question g c =
     let decide = c.args.decide.now in
-    let logs = map (λ name. name.now) decide.logs.items in
-    inr (refl, (_, of_front g.F.TextSource.reads (decide.question.now ∷ []) logs _ _ c.in_err-question.ensures.fault, refl, search rules))
+    let logs = names_of c.in_ok-names.names.items in
+    inl (_, c.in_ok-names.ensures, inr (refl, (_, of_front g.F.TextSource.reads (decide.question.now ∷ []) logs _ _ c.in_err-question.ensures.fault, refl, search rules)))
+
+pub returns-in_err-clone : goal.returns-in_err-clone
+returns-in_err-clone g c = inl (_, c.in_ok-names.ensures, inr (refl, (OutOfMemory, inr refl, refl, search rules)))
 
 pub returns-in_err-audit : goal.returns-in_err-audit
 returns-in_err-audit g c =
     let decide = c.args.decide.now in
-    let logs = map (λ name. name.now) decide.logs.items in
+    let logs = names_of c.in_ok-names.names.items in
     let fault = rw c.deref.ensures.value at c.in_err-audit.ensures in
-    inr (refl, (_, of_back g.F.TextSource.reads (decide.question.now ∷ []) logs _ (_ ∷ []) _ (c.in_ok-question.ensures.read, tt) fault, refl, search rules))
+    inl (_, c.in_ok-names.ensures, inr (refl, (_, of_back g.F.TextSource.reads (decide.question.now ∷ []) logs _ (_ ∷ []) _ (c.in_ok-question.ensures.read, tt) fault, refl, search rules)))
 
 pub returns-in_err-findings : goal.returns-in_err-findings
-returns-in_err-findings g c =
-    inr (refl, (OutOfMemory, inr refl, refl, search rules))
+returns-in_err-findings g c = inl (_, c.in_ok-names.ensures, inr (refl, (OutOfMemory, inr refl, refl, search rules)))
 
 pub returns-in_default : goal.returns-in_default
-returns-in_default g c = inr (refl, (OutOfMemory, inr refl, refl, refl))
+returns-in_default g c = inl (_, c.in_ok-names.ensures, inr (refl, (OutOfMemory, inr refl, refl, refl)))

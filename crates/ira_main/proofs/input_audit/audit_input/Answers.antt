@@ -1,4 +1,4 @@
-use Rattle.std.proofs.Common.{◌≡◌, ◌++◌, ◌+◌, arith, ap, false, length, rules, true}
+use Rattle.std.proofs.Common.{◌≡◌, ◌++◌, arith, ap, false, length, rules, true}
 use Rattle.std.proofs.KnownBytes.{Consumes-trans}
 use Rattle.ira_main.proofs.InputAudits.{length-read}
 use Rattle.ira_main.proofs.Reading.{reads_left}

@@ -1,5 +1,5 @@
 use Rattle.std.proofs.Common.{◌≡◌, append_assoc, inl, rules}
-use Rattle.ira_main.specs.LogFiles.{log_name}
+use Rattle.ira_main.specs.FileName.{log_name}
 use Rattle.ira_main.specs.Shelf.WritesFile.{closed, stopped, unmade}
 use Rattle.ira_main.proofs.log_files.write_file.Goals as goal
 

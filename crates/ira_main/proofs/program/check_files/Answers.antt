@@ -1,6 +1,8 @@
-use Rattle.std.proofs.Common.{inl, inr, refl, rules, map, [], ◌∷◌}
+use Rattle.std.proofs.Common.{inl, inr, refl, rules, [], ◌∷◌}
 use Rattle.ira_event.proofs.Unless.{unless_ok}
 use Rattle.ira_main.proofs.FilesRead.{of_back, of_front}
+use Rattle.ira_main.specs.FilesRead.{names_of}
+use Rattle.ira_main.specs.declared.program_fault.ProgramFault.TheVariants.{OutOfMemory}
 use Rattle.ira_main.proofs.program.check_files.Goals as goal
 
 pub report-requires : goal.report-requires
@@ -14,34 +16,44 @@ returns g c =
     let answer = c.in_ok-answer.answer in
     let exact = unless_ok answer _ _ (c.in_ok-answer.ensures.answer taken.0 answer taken.1) in
     let is = exact.0 refl in
-    inl (record {
-      question = c.in_ok-question.question;
-      certificate = c.in_ok-certificate.certificate;
-      texts = taken.0;
-      given = (c.in_ok-question.ensures.read, (c.in_ok-certificate.ensures.read, rw c.deref.ensures.value at taken.2));
-      answer = answer;
-      judged = rw (c.bytes-question.ensures, c.bytes-certificate.ensures) at is;
-      reported = c.report.ensures;
-    })
+    inl (
+      _,
+      c.in_ok-names.ensures,
+      inl (record {
+        question = c.in_ok-question.question;
+        certificate = c.in_ok-certificate.certificate;
+        texts = taken.0;
+        given = (c.in_ok-question.ensures.read, (c.in_ok-certificate.ensures.read, rw c.deref.ensures.value at taken.2));
+        answer = answer;
+        judged = rw (c.bytes-question.ensures, c.bytes-certificate.ensures) at is;
+        reported = c.report.ensures;
+      }),
+    )
+
+pub returns-in_err-names : goal.returns-in_err-names
+returns-in_err-names g c = inr (refl, (_, c.in_err-names.ensures, refl, search rules))
 
 pub returns-in_err-question : goal.returns-in_err-question
 returns-in_err-question g c =
     let check = c.args.check.now in
-    let others = check.certificate.now ∷ map (λ name. name.now) check.logs.items in
-    inr (_, of_front g.F.TextSource.reads (check.question.now ∷ []) others _ _ c.in_err-question.ensures.fault, refl, search rules)
+    let others = check.certificate.now ∷ names_of c.in_ok-names.names.items in
+    inl (_, c.in_ok-names.ensures, inr (_, of_front g.F.TextSource.reads (check.question.now ∷ []) others _ _ c.in_err-question.ensures.fault, refl, search rules))
 
 pub returns-in_err-certificate : goal.returns-in_err-certificate
 returns-in_err-certificate g c =
     let check = c.args.check.now in
     let reads = g.F.TextSource.reads in
-    let logs = map (λ name. name.now) check.logs.items in
+    let logs = names_of c.in_ok-names.names.items in
     let others = of_front reads (check.certificate.now ∷ []) logs _ _ c.in_err-certificate.ensures.fault in
-    inr (_, of_back reads (check.question.now ∷ []) (check.certificate.now ∷ logs) _ (_ ∷ []) _ (c.in_ok-question.ensures.read, tt) others, refl, search rules)
+    inl (_, c.in_ok-names.ensures, inr (_, of_back reads (check.question.now ∷ []) (check.certificate.now ∷ logs) _ (_ ∷ []) _ (c.in_ok-question.ensures.read, tt) others, refl, search rules))
 
 pub returns-in_err-audit : goal.returns-in_err-audit
 returns-in_err-audit g c =
     let check = c.args.check.now in
     let reads = g.F.TextSource.reads in
-    let logs = map (λ name. name.now) check.logs.items in
+    let logs = names_of c.in_ok-names.names.items in
     let fault = rw c.deref.ensures.value at c.in_err-audit.ensures in
-    inr (_, of_back reads (check.question.now ∷ check.certificate.now ∷ []) logs _ (_ ∷ _ ∷ []) _ (c.in_ok-question.ensures.read, (c.in_ok-certificate.ensures.read, tt)) fault, refl, search rules)
+    inl (_, c.in_ok-names.ensures, inr (_, of_back reads (check.question.now ∷ check.certificate.now ∷ []) logs _ (_ ∷ _ ∷ []) _ (c.in_ok-question.ensures.read, (c.in_ok-certificate.ensures.read, tt)) fault, refl, search rules))
+
+pub returns-in_err-answer : goal.returns-in_err-answer
+returns-in_err-answer g c = inl (_, c.in_ok-names.ensures, inr (OutOfMemory, inr refl, refl, search rules))

@@ -1,5 +1,6 @@
 use Rattle.std.proofs.Common.{inl, inr, refl, rules}
 use Rattle.ira_event.proofs.Unless.{unless_ok}
+use Rattle.ira_main.specs.declared.program_fault.ProgramFault.TheVariants.{OutOfMemory}
 use Rattle.ira_main.proofs.program.judge_files.Goals as goal
 
 pub report-requires : goal.report-requires
@@ -12,7 +13,24 @@ returns g c =
     let taken = c.in_ok-audit.ensures in
     let answer = c.in_ok-answer.answer in
     let exact = unless_ok answer _ _ (c.in_ok-answer.ensures.answer taken.0 answer taken.1) in
-    inl (record { texts = taken.0; given = taken.2; answer = answer; judged = exact.0 refl; reported = c.report.ensures })
+    inl (
+      _,
+      c.in_ok-names.ensures,
+      inl (record {
+        texts = taken.0;
+        given = rw c.deref.ensures.value at taken.2;
+        answer = answer;
+        judged = exact.0 refl;
+        reported = c.report.ensures;
+      }),
+    )
+
+pub returns-in_err-names : goal.returns-in_err-names
+returns-in_err-names g c = inr (refl, (_, c.in_err-names.ensures, refl, search rules))
 
 pub returns-in_err-audit : goal.returns-in_err-audit
-returns-in_err-audit g c = inr (_, c.in_err-audit.ensures, refl, search rules)
+returns-in_err-audit g c =
+    inl (_, c.in_ok-names.ensures, inr (_, rw c.deref.ensures.value at c.in_err-audit.ensures, refl, search rules))
+
+pub returns-in_err-answer : goal.returns-in_err-answer
+returns-in_err-answer g c = inl (_, c.in_ok-names.ensures, inr (OutOfMemory, inr refl, refl, search rules))

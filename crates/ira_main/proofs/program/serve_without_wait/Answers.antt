@@ -1,13 +1,16 @@
-use Rattle.std.proofs.Common.{◌≡◌, ◌∙◌, Err, List, [], ◌∷◌, Ok, Result, ap, map, inl, inr, refl, subst, sym}
-use Rattle.std.proofs.lemmas.Result.{err_from_is_err_and}
+use Rattle.std.proofs.Common.{◌≡◌, ◌∙◌, Err, List, [], ◌∷◌, Ok, Result, ℕ, ap, map, refl, subst, sym}
 use Rattle.ira_words.specs.Request.{IsMadeOf}
-use Rattle.ira_main.specs.Serve.Done.{decided, judged, mended, pairs, recorded, refused, undecided, upgraded}
-use Rattle.ira_main.specs.Serve.Serves.{with_words, without_words}
+use Rattle.ira_main.specs.Serve.Done.{decided, judged, mended, pairs, recorded, refused, upgraded, explained as explained_of_logs}
+use Rattle.ira_main.specs.Serve.Serves.{explained, with_words, without_words}
 use Rattle.ira_main.proofs.program.serve_without_wait.Goals as goal
 
 none_of_none : {X Y : Type 0} (f : X → Y) (xs : List X) → map f xs ≡ [] → xs ≡ []
 none_of_none f [] e = refl
 none_of_none f (x ∷ xs) e = cc
+
+-- words that begin with one are some
+some_words : (words others : List (List ℕ)) (word : List ℕ) → words ≡ word ∷ others → words ≡ [] → ⊥
+some_words words others word first none = cc
 
 never_both : {X Y : Type 0} (x : X) (y : Y) → ◌≡◌ {A = Result X Y} (Ok x) (Err y) → ⊥
 never_both x y both = cc
@@ -24,8 +27,17 @@ returns-in-OneLog-clause-served g c =
 pub returns-in-Logs-clause-served : goal.returns-in-Logs-clause-served
 returns-in-Logs-clause-served g c =
     let made = subst (IsMadeOf (map (λ w. w.now) c.args.words.now)) c.in-Logs.is c.in-Ok.ensures.made in
-    let first = made.first in
-    with_words (λ none. cc) refl (judged _ made refl (rw c.deref.ensures.value at c.judge_files.ensures))
+    with_words (some_words _ _ _ made.first) refl (judged _ made refl c.judge_files.ensures)
+
+pub returns-in-Some-clause-served : goal.returns-in-Some-clause-served
+returns-in-Some-clause-served g c =
+    let made = subst (IsMadeOf (map (λ w. w.now) c.args.words.now)) c.in-Explain.is c.in-Ok.ensures.made in
+    with_words (some_words _ _ _ made.first) refl (explained_of_logs _ _ made c.in-Some.is refl c.judge_files-in-Some.ensures)
+
+pub returns-in-Explain-clause-served : goal.returns-in-Explain-clause-served
+returns-in-Explain-clause-served g c =
+    let made = subst (IsMadeOf (map (λ w. w.now) c.args.words.now)) c.in-Explain.is c.in-Ok.ensures.made in
+    explained _ made c.in-None.is refl c.judge_input-in-None.ensures.judged
 
 pub returns-in-Check-clause-served : goal.returns-in-Check-clause-served
 returns-in-Check-clause-served g c =
@@ -35,32 +47,24 @@ returns-in-Check-clause-served g c =
 pub returns-in-Decide-clause-served : goal.returns-in-Decide-clause-served
 returns-in-Decide-clause-served g c =
     let made = subst (IsMadeOf (map (λ w. w.now) c.args.words.now)) c.in-Decide.is c.in-Ok.ensures.made in
-    let first = made.first in
-    with_words (λ none. cc) refl (elim c.decide_files.ensures [
-      | inl h ↦ decided _ made h
-      | inr h ↦ undecided _ made h.0 h.1
-    ])
+    with_words (some_words _ _ _ made.first) refl (decided _ made c.decide_files.ensures)
 
 pub returns-in-Pairs-clause-served : goal.returns-in-Pairs-clause-served
 returns-in-Pairs-clause-served g c =
     let made = subst (IsMadeOf (map (λ w. w.now) c.args.words.now)) c.in-Pairs.is c.in-Ok.ensures.made in
-    let first = made.first in
-    with_words (λ none. cc) refl (pairs _ made refl c.print_pairs.ensures)
+    with_words (some_words _ _ _ made.first) refl (pairs _ made refl c.print_pairs.ensures)
 
 pub returns-then-ring-clause-served : goal.returns-then-ring-clause-served
 returns-then-ring-clause-served g c =
     let made = subst (IsMadeOf (map (λ w. w.now) c.args.words.now)) c.in-Run.is c.in-Ok.ensures.made in
-    let first = made.first in
-    with_words (λ none. cc) refl (recorded _ made c.record_run_alone.ensures)
+    with_words (some_words _ _ _ made.first) refl (recorded _ made c.record_run_alone.ensures)
 
 pub returns-in-Upgrade-clause-served : goal.returns-in-Upgrade-clause-served
 returns-in-Upgrade-clause-served g c =
     let made = subst (IsMadeOf (map (λ w. w.now) c.args.words.now)) c.in-Upgrade.is c.in-Ok.ensures.made in
-    let first = made.first in
-    with_words (λ none. cc) refl (upgraded _ made c.upgrade_files.ensures)
+    with_words (some_words _ _ _ made.first) refl (upgraded _ made c.upgrade_files.ensures)
 
 pub returns-in-Mend-clause-served : goal.returns-in-Mend-clause-served
 returns-in-Mend-clause-served g c =
     let made = subst (IsMadeOf (map (λ w. w.now) c.args.words.now)) c.in-Mend.is c.in-Ok.ensures.made in
-    let first = made.first in
-    with_words (λ none. cc) refl (mended _ made c.mend_files.ensures)
+    with_words (some_words _ _ _ made.first) refl (mended _ made c.mend_files.ensures)

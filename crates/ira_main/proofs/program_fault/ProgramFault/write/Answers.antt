@@ -2,19 +2,19 @@ use Rattle.ira_main.proofs.program_fault.ProgramFault.write.Goals as goal
 
 pub returns-in-CannotRead : goal.returns-in-CannotRead
 returns-in-CannotRead g c =
-    rw c.in-CannotRead.is (rw (c.as_bytes-in-CannotRead.ensures.value, c.line_end.ensures) at c.write_named.ensures)
+    rw c.in-CannotRead.is c.write_file_named.ensures
 
 pub returns-in-CannotWriteLog : goal.returns-in-CannotWriteLog
 returns-in-CannotWriteLog g c =
-    rw c.in-CannotWriteLog.is (rw (c.as_bytes-in-CannotWriteLog.ensures.value, c.log_in_folder.ensures) at c.write_named-in-CannotWriteLog.ensures)
+    rw c.in-CannotWriteLog.is (rw (c.as_bytes-in-CannotWriteLog.ensures.value, c.log_in_folder.ensures) at c.write_named.ensures)
 
 pub returns-in-CannotWrite : goal.returns-in-CannotWrite
 returns-in-CannotWrite g c =
-    rw c.in-CannotWrite.is (rw (c.as_bytes-in-CannotWrite.ensures.value, c.line_end-in-CannotWrite.ensures) at c.write_named-in-CannotWrite.ensures)
+    rw c.in-CannotWrite.is (rw (c.as_bytes-in-CannotWrite.ensures.value, c.line_end.ensures) at c.write_named-in-CannotWrite.ensures)
 
 pub returns-in-WouldOverwrite : goal.returns-in-WouldOverwrite
 returns-in-WouldOverwrite g c =
-    rw c.in-WouldOverwrite.is (rw (c.as_bytes-in-WouldOverwrite.ensures.value, c.line_end-in-WouldOverwrite.ensures) at c.write_named-in-WouldOverwrite.ensures)
+    rw c.in-WouldOverwrite.is c.write_file_named-in-WouldOverwrite.ensures
 
 pub returns-in-RingSize : goal.returns-in-RingSize
 returns-in-RingSize g c = rw c.in-RingSize.is c.write_bytes-in-RingSize.ensures

@@ -1,0 +1,20 @@
+use Rattle.std.proofs.Common.{◌≡◌, ◌++◌, ℕ, List, sym, ap, subst, ◌∙◌, take, drop}
+use Rattle.std.specs.Prelude.{codes}
+use Rattle.ira_event.specs.NextLine.{HasNoLineFeed}
+use Rattle.ira_event.proofs.LogReading.{no_line_end, line_end_at}
+use Rattle.ira_explain.proofs.FirstLines.{first_feed}
+use Rattle.ira_explain.proofs.first_line.split_line.Goals as goal
+
+pub returns-in_default : goal.returns-in_default
+returns-in_default c = no_line_end c.args.text.now (sym c.line_end.ensures ∙ c.in_default.is)
+
+pub returns : goal.returns
+returns c =
+    let text = c.args.text.now in
+    let at = sym c.line_end.ensures ∙ c.in-Some.is in
+    let front = sym c.split_at.ensures.front in
+    let after : drop 1 (drop c.in-Some.end text) ≡ c.split_at-2.result.1.now = sym (c.split_at-2.ensures.back ∙ ap (drop 1) c.split_at.ensures.back) in (
+      first_feed text c.in-Some.end at ∙ ap (λ (x : List ℕ). take c.in-Some.end text ++ codes "\n" ++ x) after
+          ∙ ap (λ (x : List ℕ). x ++ codes "\n" ++ c.split_at-2.result.1.now) front,
+      subst HasNoLineFeed front (line_end_at text c.in-Some.end at).whole,
+    )

@@ -1,0 +1,15 @@
+use Rattle.std.proofs.Common.{subst}
+use Rattle.ira_explain.specs.Lines.{IsFromLine, first, behind, past}
+use Rattle.ira_explain.proofs.named_text.NamedText.from_line.Goals as goal
+use Rattle.ira_explain.proofs.named_text.NamedText.from_line.Goals.{in-Some, in-None}
+
+pub loop-line-init : goal.loop-line-init
+loop-line-init c = first
+
+pub loop-line-preserved : goal.loop-line-preserved
+loop-line-preserved c = elim c.match-split_line.branch [
+  | in-Some w ↦
+      let from = subst (IsFromLine c.args.self.now.text.now c.loop-line.line) w.in-Some.ensures.0 c.loop-line.invariant in
+      rw w.rest-is (behind c.loop-line.line w.in-Some.field-0-0.now w.in-Some.after.now from w.in-Some.ensures.1)
+  | in-None w ↦ rw w.rest-is (past c.loop-line.line c.loop-line.rest.now c.loop-line.invariant w.in-None.ensures)
+]

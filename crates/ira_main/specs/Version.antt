@@ -1,0 +1,6 @@
+-- Which version of the program this is.
+use Rattle.std.specs.Prelude.{ℕ, List, codes}
+
+-- the program's version, and the toolchain that proved it
+abbrev pub version_line : List ℕ
+version_line = codes "ira 0.1.0 (proved by rattle-kit-13f logic dac8208d650f15bf)\n"

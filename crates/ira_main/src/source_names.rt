@@ -1,0 +1,69 @@
+ghost use Rattle.std.specs.Prelude.{◌≡◌, IfOk, MatchResult, map};
+ghost use Rattle.std.specs.List.{range_with_len};
+ghost use Rattle.ira_main.specs.SourceNames.{HasNames, IsNamesFault, SaysLogs};
+ghost use Rattle.ira_main.specs.declared.file_name.FileName.TheVariants.{Given, Log};
+
+use crate::file_name::FileName;
+use crate::program_fault::ProgramFault;
+use crate::read_files::read_file;
+use crate::text_source::TextSource;
+use ira_event::open_log;
+use ira_words::LogSource;
+use std::alloc::{AllocError, Allocator};
+
+// How many logs there are, by the text of the first.
+fn number_of_logs(text: &[u8]) -> u8
+    ensures { SaysLogs text.now result }
+{
+    match open_log(text) {
+        Ok((head, _)) => head.nodes.get(),
+        Err(_) => 1,
+    }
+}
+
+// The names that words give.
+fn given_names<'a, A: Allocator>(
+    alloc: A,
+    words: &[&'a str],
+) -> Result<Vec<FileName<'a>, A>, AllocError>
+    ensures { IfOk result (λ names. names.items ≡ map (λ word. Given word) words.now) }
+{
+    words
+        .iter()
+        .map(|word| FileName::Given(word))
+        .collect(alloc)
+}
+
+// The names of the first logs in a folder.
+fn names_in_folder<'a, A: Allocator>(
+    alloc: A,
+    folder: &'a str,
+    number: u8,
+) -> Result<Vec<FileName<'a>, A>, AllocError>
+    ensures { IfOk result
+        (λ names. names.items ≡ map (λ place. Log folder.entry place) (range_with_len 0 number)) }
+{
+    (0..number)
+        .map(|place| FileName::Log(folder, place))
+        .collect(alloc)
+}
+
+/// The names of the files that logs come from. Of a folder the first log is read, which says how many there are; it is read
+/// again with the others.
+pub(crate) fn source_names<'a, A: Allocator + Clone, F: TextSource>(
+    alloc: &A,
+    source: &LogSource<'a>,
+    shelf: &F,
+) -> Result<Vec<FileName<'a>, A>, ProgramFault<'a>>
+    ensures { MatchResult result (λ names. HasNames F.reads shelf.now source.now names.items)
+        (IsNamesFault F.reads shelf.now source.now) }
+{
+    match source {
+        LogSource::Files(words) => Ok(given_names(alloc.clone()?, words)?),
+        LogSource::Folder(folder) => {
+            let first = read_file(alloc, FileName::Log(folder, 0), shelf)?;
+            let number = number_of_logs(first.bytes());
+            Ok(names_in_folder(alloc.clone()?, folder, number)?)
+        }
+    }
+}

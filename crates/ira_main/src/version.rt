@@ -1,0 +1,20 @@
+ghost use Rattle.ira_main.specs.Outcome.{Prints};
+ghost use Rattle.ira_main.specs.Version.{version_line};
+ghost use Rattle.ira_main.specs.declared.status.Status.TheVariants.{Yes};
+
+use crate::program_fault::ProgramFault;
+use crate::status::Status;
+use ira_event::{Sink, WriteFault, write_bytes};
+
+/// The program's version, and the toolchain that proved it, as `rt version` names it.
+const VERSION: &[u8] = b"ira 0.1.0 (proved by rattle-kit-13f logic dac8208d650f15bf)\n";
+
+/// Prints which version this is.
+pub(crate) fn print_version<'a, W: Sink>(out: &mut W) -> Result<Status, ProgramFault<'a>>
+    ensures { Prints version_line Yes (W.state out.old) (W.state out.new) result }
+{
+    match write_bytes(VERSION, out) {
+        Ok(()) => Ok(Status::Yes),
+        Err(WriteFault) => Err(ProgramFault::CannotWriteAnswer),
+    }
+}
