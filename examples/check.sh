@@ -83,14 +83,24 @@ take() {
     cp -r "$examples/$1" d
 }
 
+# Writes the log of a node to folder d: its version, ring size, place, start kind, and its records, parted by commas.
+log() {
+    mkdir -p d
+    {
+        printf 'irlog %s\nnodes %s\nplace %s\nstart %s\n' "$1" "$2" "$3" "$4"
+        echo "$5" | sed 's/, /\n/g; /^$/d'
+        echo "end $(echo "$5" | sed 's/, /\n/g' | grep -c .)"
+    } > "d/$3.log"
+}
+
 # Runs each line behind `$`, and prints it, what it prints and its status; a line behind `#` is printed alone.
 replay() {
     ira() { "$ira" "$@" < /dev/null; }
     while read -r prompt line; do
         case $prompt in
-        '#') echo "# $line" ;;
+        '#') printf '# %s\n' "$line" ;;
         '$')
-            echo "$ $line"
+            printf '$ %s\n' "$line"
             eval "$line" 2>&1
             echo "status $?"
             ;;

@@ -1,5 +1,5 @@
 -- The text of one log alone, which is judged piece by piece.
-use Rattle.std.proofs.Common.{◌≡◌, ◌≤◌, ℕ, ◌+◌, ◌-◌, List, [], ◌∷◌, ◌++◌, length, take, drop, Ok, Err, refl, ap, subst, sym, arith, append_assoc, length-append, Option, Some, None, ◌∙◌, inr}
+use Rattle.std.proofs.Common.{◌≡◌, ◌≤◌, ℕ, ◌-◌, List, [], ◌∷◌, ◌++◌, length, take, drop, Ok, Err, refl, ap, subst, sym, arith, append_assoc, length-append, Option, Some, None, ◌∙◌, inr}
 use Rattle.std.proofs.lemmas.List.{append-nil, append_cancel_right, drop_at, take_at}
 use Rattle.std.specs.Prelude.{codes}
 use Rattle.ira_event.specs.declared.event.Event.{Event}

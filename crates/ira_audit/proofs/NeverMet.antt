@@ -13,7 +13,6 @@ use Rattle.ira_node.specs.declared.phase.Phase.TheVariants.{Leader}
 use Rattle.ira_node.specs.NodeState.{first_state}
 use Rattle.ira_replay.proofs.Reached.{states_are_reached}
 use Rattle.ira_order.specs.Circle.{HasOrder}
-use Rattle.ira_order.specs.Run.{AreLocalRuns}
 use Rattle.ira_order.proofs.Cuts.{moment_cut}
 use Rattle.ira_order.proofs.RunsOfLogs.{every_order_is_run}
 use Rattle.ira_cert_text.specs.Certificate.{Section}
@@ -27,9 +26,9 @@ use Rattle.ira_audit.specs.declared.answer.Answer.TheVariants.{Yes}
 use Rattle.ira_audit.specs.LogTexts.{AreLogTexts}
 use Rattle.ira_audit.specs.AuditAnswer.{AreSound, IsAuditAnswer, not_posed, no_certificate, other_size, other_number, unsound, yes}
 use Rattle.ira_audit.specs.Posed.{Posed}
-use Rattle.ira_audit.specs.GoodLogs.{AreGoodLogs}
+use Rattle.ira_audit.specs.GoodLogs.{AreGood, AreGoodLogs}
 use Rattle.ira_audit.specs.LogsAnswer.{IsLogsAnswer, no_log, no_ring, unmatched, circled, stopped, yes as logs_yes}
-use Rattle.ira_audit.specs.Never.{NoCutMeetsAny, IsNeverMet, NoMomentMeetsAny, Leads, NeverTwoLeaders, NoCutMeetsAPair, YesWithoutQuestion}
+use Rattle.ira_audit.specs.Never.{Leads, NeverTwoLeaders, NoCaseIsMet, NoCutMeetsAPair, NoCutMeetsAny, NoMomentMeetsAny, YesMeansNoCaseIsMet, YesWithoutQuestion}
 use Rattle.ira_audit.proofs.LogTexts.{one_list}
 use Rattle.ira_audit.proofs.Places.{different_places}
 use Rattle.ira_audit.proofs.Zipped.{zipped_at, partner_at}
@@ -43,30 +42,39 @@ no_cut texts question logs asked sections posed sound = λ case cut has consiste
     (zipped_at (IsSoundSection logs) asked.cases sections has.0 case section.0 sound at section.1) consistent
 
 -- the texts are answered yes
-pub yes_never : (texts : List (List ℕ)) (question certificate : List ℕ) (a : Answer) → IsAuditAnswer texts question certificate a → a ≡ Yes → IsNeverMet texts question
+pub yes_never : (texts : List (List ℕ)) (question certificate : List ℕ) (a : Answer)
+    → IsAuditAnswer texts question certificate a → a ≡ Yes → NoCaseIsMet texts question certificate
 yes_never texts question certificate a (not_posed r h e) is = absurd cc
 yes_never texts question certificate a (no_certificate logs asked f p h e) is = absurd cc
 yes_never texts question certificate a (other_size logs asked c p t other e) is = absurd cc
 yes_never texts question certificate a (other_number logs asked c p t size other e) is = absurd cc
 yes_never texts question certificate a (unsound logs asked c i f p t size number h e) is = absurd cc
-yes_never texts question certificate a (yes logs asked c p t size sound e) is = record {
-  logs = logs;
-  asked = asked;
-  logs_are = p.logs_are.texts_are;
-  ring = p.logs_are.ring;
-  question_is = p.question_is;
-  order = p.logs_are.order;
-  runs = every_order_is_run logs p.logs_are.ring p.logs_are.order.0 p.logs_are.runs;
-  never = no_cut texts question logs asked c.sections p sound;
-}
+yes_never texts question certificate a (yes logs asked c p t size sound e) is =
+    let good = p.logs_are.are_good in
+    record {
+      logs = logs;
+      logs_are = p.logs_are.texts_are;
+      ring = good.ring;
+      order = good.order;
+      runs = every_order_is_run logs good.ring good.order.0 good.runs;
+      asked = asked;
+      question_is = p.question_is;
+      asked_of_ring = p.ring;
+      certified = c;
+      certificate_is = t;
+      certified_for_ring = size;
+      sound = sound;
+      never = no_cut texts question logs asked c.sections p sound;
+    }
 
--- ---- laws
+pub no_case : YesMeansNoCaseIsMet
+no_case texts question certificate h = yes_never texts question certificate Yes h refl
 
-module _ (texts : List (List ℕ)) (question certificate : List ℕ) (logs : List Log) (asked : Asked) (yes_is : IsAuditAnswer texts question certificate Yes)
-    (logs_are : AreLogTexts texts logs) (question_is : IsQuestionText question asked) where
-  never : IsNeverMet texts question
-  never = yes_never texts question certificate Yes yes_is refl
+-- ---- moments
 
+module _ (texts : List (List ℕ)) (question certificate : List ℕ) (logs : List Log) (asked : Asked)
+    (never : NoCaseIsMet texts question certificate) (logs_are : AreLogTexts texts logs)
+    (question_is : IsQuestionText question asked) where
   same_logs : never.logs ≡ logs
   same_logs = one_list texts never.logs logs never.logs_are logs_are
 
@@ -74,16 +82,18 @@ module _ (texts : List (List ℕ)) (question certificate : List ℕ) (logs : Lis
   same_question = one_question question never.asked asked never.question_is question_is
 
   no_cut_meets : NoCutMeetsAny logs asked.cases
-  no_cut_meets = subst (λ (q : Asked). NoCutMeetsAny logs q.cases) same_question (subst (λ ls. NoCutMeetsAny ls never.asked.cases) same_logs never.never)
+  no_cut_meets =
+      subst (λ (q : Asked). NoCutMeetsAny logs q.cases) same_question
+      (subst (λ ls. NoCutMeetsAny ls never.asked.cases) same_logs never.never)
 
 pub no_moment : NoMomentMeetsAny
 no_moment texts question certificate logs asked yes_is logs_are question_is order cut t case is moment has meets =
-    let met = never texts question certificate logs asked yes_is logs_are question_is in
-    let same = same_logs texts question certificate logs asked yes_is logs_are question_is in
-    let ring = subst AreLogs same met.ring in
-    let matches = (subst HasOrder same met.order).0 in
+    let never = no_case texts question certificate yes_is in
+    let same = same_logs texts question certificate logs asked never logs_are question_is in
+    let ring = subst AreLogs same never.ring in
+    let matches = (subst HasOrder same never.order).0 in
     let consistent = moment_cut logs order cut t ring.ring.0 matches is moment.within moment.places moment.made in
-    no_cut_meets texts question certificate logs asked yes_is logs_are question_is case cut has consistent meets
+    no_cut_meets texts question certificate logs asked never logs_are question_is case cut has consistent meets
 
 -- ---- leaders
 
@@ -102,15 +112,15 @@ yes_without_question texts question certificate yes_is =
     logs_yes good.0 good.1 refl
 
 -- the logs of a yes
-good_logs : (texts : List (List ℕ)) (logs : List Log) (a : Answer) → IsLogsAnswer texts a → a ≡ Yes → AreLogTexts texts logs → AreLogs logs × HasOrder logs × AreLocalRuns logs
+good_logs : (texts : List (List ℕ)) (logs : List Log) (a : Answer) → IsLogsAnswer texts a → a ≡ Yes
+    → AreLogTexts texts logs → AreGood logs
 good_logs texts logs a (no_log number f h e) is texts_are = absurd cc
 good_logs texts logs a (no_ring ls f t h e) is texts_are = absurd cc
 good_logs texts logs a (unmatched ls f t r h e) is texts_are = absurd cc
 good_logs texts logs a (circled ls t r h e) is texts_are = absurd cc
 good_logs texts logs a (stopped ls place f t r o h e) is texts_are = absurd cc
 good_logs texts logs a (logs_yes ls good e) is texts_are =
-    let P : List Log → Type 0 = λ x. AreLogs x × HasOrder x × AreLocalRuns x in
-    subst P (one_list texts ls logs good.texts_are texts_are) (good.ring, good.order, good.runs)
+    subst AreGood (one_list texts ls logs good.texts_are texts_are) good.are_good
 
 leads_there : (logs : List Log) (cut : List ℕ) (i : ℕ) → Leads logs cut i → LeadsAfter logs i (slice_index cut i)
 leads_there logs cut i (log, at, holds) =
@@ -128,7 +138,8 @@ leads_there logs cut i (log, at, holds) =
 pub no_two_leaders : NeverTwoLeaders
 no_two_leaders texts logs yes_is texts_are cut i j consistent other one two =
     let good = good_logs texts logs Yes yes_is refl texts_are in
-    other (one_leader_at_a_cut logs cut good.0 good.1.0 good.2 consistent i j (leads_there logs cut i one) (leads_there logs cut j two))
+    other (one_leader_at_a_cut logs cut good.ring good.order.0 good.runs consistent i j (leads_there logs cut i one)
+    (leads_there logs cut j two))
 
 pub no_cut_meets_a_pair : NoCutMeetsAPair
 no_cut_meets_a_pair texts logs yes_is texts_are case cut has consistent =

@@ -86,7 +86,7 @@ module _ (texts : List (List ℕ)) (logs : List Log) (are : AreLogTexts texts lo
   only_no_ring f h a (unmatched ms g u ring k e) = absurd (no-fault logs f (here AreLogs ms u ring) h)
   only_no_ring f h a (circled ms u ring k e) = absurd (no-fault logs f (here AreLogs ms u ring) h)
   only_no_ring f h a (stopped ms p g u ring o k e) = absurd (no-fault logs f (here AreLogs ms u ring) h)
-  only_no_ring f h a (yes ms good e) = absurd (no-fault logs f (here AreLogs ms good.texts_are good.ring) h)
+  only_no_ring f h a (yes ms good e) = absurd (no-fault logs f (here AreLogs ms good.texts_are good.are_good.ring) h)
 
   module _ (ring : AreLogs logs) where
     only_unmatched : (f : MatchFault) → IsMatchFault logs f → (a : Answer) → IsLogsAnswer texts a → a ≡ No (reason.Match f)
@@ -95,7 +95,7 @@ module _ (texts : List (List ℕ)) (logs : List Log) (are : AreLogTexts texts lo
     only_unmatched f h a (unmatched ms g u r k e) = (let same = matching.one_fault logs f g h (here (λ x. IsMatchFault x g) ms u k) in cc)
     only_unmatched f h a (circled ms u r k e) = absurd (matched_circle logs f h (here HasCircle ms u k))
     only_unmatched f h a (stopped ms p g u r o k e) = absurd (matched_order logs f h (here HasOrder ms u o))
-    only_unmatched f h a (yes ms good e) = absurd (matched_order logs f h (here HasOrder ms good.texts_are good.order))
+    only_unmatched f h a (yes ms good e) = absurd (matched_order logs f h (here HasOrder ms good.texts_are good.are_good.order))
 
     only_circled : HasCircle logs → (a : Answer) → IsLogsAnswer texts a → a ≡ No reason.Circle
     only_circled h a (no_log m g k e) = absurd (logs_or_fault texts logs m g are k)
@@ -103,7 +103,7 @@ module _ (texts : List (List ℕ)) (logs : List Log) (are : AreLogTexts texts lo
     only_circled h a (unmatched ms g u r k e) = absurd (matched_circle logs g (here (λ x. IsMatchFault x g) ms u k) h)
     only_circled h a (circled ms u r k e) = e
     only_circled h a (stopped ms p g u r o k e) = absurd (circle_or_order logs h (here HasOrder ms u o))
-    only_circled h a (yes ms good e) = absurd (circle_or_order logs h (here HasOrder ms good.texts_are good.order))
+    only_circled h a (yes ms good e) = absurd (circle_or_order logs h (here HasOrder ms good.texts_are good.are_good.order))
 
     module _ (order : HasOrder logs) where
       only_stopped : (place : ℕ) (f : ReplayFault) → IsFirstStop logs place f → (a : Answer) → IsLogsAnswer texts a → a ≡ No (reason.Replay place f.position f.fault)
@@ -112,7 +112,7 @@ module _ (texts : List (List ℕ)) (logs : List Log) (are : AreLogTexts texts lo
       only_stopped place f h a (unmatched ms g u r k e) = absurd (matched_order logs g (here (λ x. IsMatchFault x g) ms u k) order)
       only_stopped place f h a (circled ms u r k e) = absurd (circle_or_order logs (here HasCircle ms u k) order)
       only_stopped place f h a (stopped ms p g u r o k e) = (let same = one_first_stop logs place p f g h (here (λ x. IsFirstStop x p g) ms u k) in cc)
-      only_stopped place f h a (yes ms good e) = absurd (stop_or_runs logs place f h (here AreLocalRuns ms good.texts_are good.runs))
+      only_stopped place f h a (yes ms good e) = absurd (stop_or_runs logs place f h (here AreLocalRuns ms good.texts_are good.are_good.runs))
 
       only_yes : AreLocalRuns logs → (a : Answer) → IsLogsAnswer texts a → a ≡ Yes
       only_yes h a (no_log m g k e) = absurd (logs_or_fault texts logs m g are k)
@@ -128,4 +128,4 @@ one_logs_answer texts a b (no_ring ls f t h e) k = e ∙ sym (only_no_ring texts
 one_logs_answer texts a b (unmatched ls f t ring h e) k = e ∙ sym (only_unmatched texts ls t ring f h b k)
 one_logs_answer texts a b (circled ls t ring h e) k = e ∙ sym (only_circled texts ls t ring h b k)
 one_logs_answer texts a b (stopped ls p f t ring o h e) k = e ∙ sym (only_stopped texts ls t ring o p f h b k)
-one_logs_answer texts a b (yes ls good e) k = e ∙ sym (only_yes texts ls good.texts_are good.ring good.order good.runs b k)
+one_logs_answer texts a b (yes ls good e) k = e ∙ sym (only_yes texts ls good.texts_are good.are_good.ring good.are_good.order good.are_good.runs b k)

@@ -1,10 +1,14 @@
 -- What is answered where a text of logs, of a question or of a certificate is refused.
 use Rattle.std.proofs.Common.{◌≡◌, ◌≢◌, ℕ, List, length, Result, Ok, Err, inl, inr, refl}
-use Rattle.ira_event.specs.Log.{Log}
+use Rattle.ira_event.specs.declared.log_fault.LogFault.{LogFault}
+use Rattle.ira_event.specs.declared.head_fault.HeadFault.{HeadFault}
+use Rattle.ira_event.specs.Log as log
+use Rattle.ira_event.specs.Logs.{HeadFaultOf}
 use Rattle.ira_pred.specs.declared.ask_fault.AskFault.{AskFault}
 use Rattle.ira_pred.specs.declared.ask_fault.AskFault.TheVariants as ask
 use Rattle.ira_pred.specs.Case.{Conjunct}
 use Rattle.ira_pred.specs.Question.{Asked}
+use Rattle.ira_pred.specs.QuestionText.{IsQuestionText}
 use Rattle.ira_pred.specs.QuestionTextFault.{QuestionTextFault}
 use Rattle.ira_cert_text.specs.declared.cert_fault.CertFault.{CertFault}
 use Rattle.ira_cert_text.specs.declared.cert_fault.CertFault.TheVariants as cert
@@ -13,45 +17,35 @@ use Rattle.ira_cert_text.specs.CertText.{IsCertText}
 use Rattle.ira_cert_text.specs.CertTextFault.{CertTextFault}
 use Rattle.ira_cert.specs.declared.section_fault.SectionFault.{SectionFault}
 use Rattle.ira_audit.specs.declared.reason.Reason.{Reason}
-use Rattle.ira_audit.specs.declared.reason.Reason.TheVariants.{Section}
+use Rattle.ira_audit.specs.declared.reason.Reason.TheVariants.{Heads, Log, Section}
 use Rattle.ira_audit.specs.declared.refusal.Refusal.{Refusal}
 use Rattle.ira_audit.specs.declared.refusal.Refusal.TheVariants as refusal
 use Rattle.ira_audit.specs.declared.answer.Answer.{Answer}
 use Rattle.ira_audit.specs.declared.answer.Answer.TheVariants.{No}
 use Rattle.ira_audit.specs.AuditAnswer.{AreSound, IsFirstUnsound, IsAuditAnswer, not_posed}
 use Rattle.ira_audit.specs.AuditAnswer as answer
-use Rattle.ira_audit.specs.GoodLogs.{AreGoodLogs}
-use Rattle.ira_audit.specs.LogsAnswer.{IsLogsAnswer, no_log}
+use Rattle.ira_audit.specs.GoodLogs.{AreGood, AreGoodLogs}
+use Rattle.ira_audit.specs.LogTexts.{AreLogTexts, IsFirstTextFault}
+use Rattle.ira_audit.specs.LogsAnswer.{no_log, no_ring}
 use Rattle.ira_audit.specs.Posed.{Posed, bad_logs, no_question, other_ring}
-use Rattle.ira_audit.specs.Refusal.{Judged, MatchRefusal, RefusesQuestion, RefusesCertificate, IsTextReason, IsLogsReason, IsTextOrHeadsReason, IsRingReason, IsFindingsReason, IsQuestionRefusal, IsCertificateRefusal, no_certificate, other_size, other_number}
+use Rattle.ira_audit.specs.Refusal.{Judged, MatchRefusal, RefusesQuestion, RefusesCertificate, IsLogsReason, IsRingReason, IsFindingsReason, IsQuestionRefusal, IsCertificateRefusal, no_certificate, other_size, other_number}
 use Rattle.ira_audit.specs.Report.{IsReportableReason}
 use Rattle.ira_audit.proofs.Replaying.{text_fault_other}
 
 -- a text is no log's
-pub text_reason : (texts : List (List ℕ)) (r : Reason) → IsTextReason texts r → IsLogsAnswer texts (No r) × IsReportableReason r
-text_reason texts r h =
-    let first = h.2 in
-    rw h.3 (no_log h.0 h.1 first refl, text_fault_other first.text h.1 first.fault)
+pub text_reason : (texts : List (List ℕ)) (number : ℕ) (f : LogFault) → IsFirstTextFault texts number f
+    → IsRingReason texts (Log number f)
+text_reason texts number f first = (no_log number f first refl, tt, text_fault_other first.text f first.fault)
 
-pub text_refused : {T : Type 0} (texts : List (List ℕ)) (r : Result T Refusal) (s : Reason) → r ≡ Err (refusal.No s) → IsTextReason texts s → Judged r (IsLogsAnswer texts)
-text_refused texts r s is h = rw is (text_reason texts s h)
+-- the logs are no ring's
+pub heads_refused : {T : Type 0} (P : T → Type 0) (texts : List (List ℕ)) (logs : List log.Log) (r : Result T Refusal)
+    (f : HeadFault) → AreLogTexts texts logs → r ≡ Err (refusal.No (Heads f)) → HeadFaultOf logs f
+    → MatchRefusal r P (IsRingReason texts)
+heads_refused P texts logs r f are is h = rw is (no_ring logs f are h refl, tt, tt)
 
--- what is said of logs alone is said of them with a question and a certificate
-pub logs_refused : {T : Type 0} (texts : List (List ℕ)) (question certificate : List ℕ) (r : Result T Refusal) (s : Refusal) → r ≡ Err s → Judged r (IsLogsAnswer texts) → Judged r (IsAuditAnswer texts question certificate)
-logs_refused texts question certificate (Ok v) s is h = absurd cc
-logs_refused texts question certificate (Err (refusal.No x)) s is h = (not_posed x (bad_logs h.0) refl, h.1)
-logs_refused texts question certificate (Err refusal.OutOfMemory) s is h = tt
-
--- it is a reason against them
-pub judged_refused : {T : Type 0} (P : T → Type 0) (texts : List (List ℕ)) (r : Result T Refusal) (s : Refusal) → r ≡ Err s → Judged r (IsLogsAnswer texts) → MatchRefusal r P (IsLogsReason texts)
-judged_refused P texts (Ok v) s is h = absurd cc
-judged_refused P texts (Err (refusal.No x)) s is h = h
-judged_refused P texts (Err refusal.OutOfMemory) s is h = tt
-
-pub findings_refused : {T : Type 0} (P : T → Type 0) (texts : List (List ℕ)) (question : List ℕ) (r : Result T Refusal) (s : Refusal) → r ≡ Err s → Judged r (IsLogsAnswer texts) → MatchRefusal r P (IsFindingsReason texts question)
-findings_refused P texts question (Ok v) s is h = absurd cc
-findings_refused P texts question (Err (refusal.No x)) s is h = (bad_logs h.0, h.1)
-findings_refused P texts question (Err refusal.OutOfMemory) s is h = tt
+-- texts that aren't those of a ring's logs are those of no good ones
+pub ring_reason : (texts : List (List ℕ)) (r : Reason) → IsRingReason texts r → IsLogsReason texts r
+ring_reason texts r h = (h.0, h.2)
 
 -- a reason against the logs is one against a question about them
 pub logs_reason : (texts : List (List ℕ)) (question : List ℕ) (r : Reason) → IsLogsReason texts r → IsFindingsReason texts question r
@@ -72,17 +66,6 @@ pub refused_again : {T U : Type 0} (P : T → Type 0) (Q : Reason → Type 0) (S
 refused_again P Q S V r (refusal.No x) is h so = rw is (so x h)
 refused_again P Q S V r refusal.OutOfMemory is h so = rw is tt
 
--- a text is no log's, or the logs are no ring's
-pub text_no_ring : {T : Type 0} (P : T → Type 0) (texts : List (List ℕ)) (r : Result T Refusal) (s : Reason) → r ≡ Err (refusal.No s) → IsTextReason texts s → MatchRefusal r P (IsRingReason texts)
-text_no_ring P texts r s is h =
-    let reason = text_reason texts s h in
-    rw is (reason.0, rw h.3 tt, reason.1)
-
-pub heads_no_ring : {T U : Type 0} (P : T → Type 0) (Q Any : U → Type 0) (texts : List (List ℕ)) (r : Result T Refusal) (s : Refusal) → r ≡ Err s → MatchRefusal {T = U} (Err s) Q (IsLogsReason texts)
-    → MatchRefusal {T = U} (Err s) Any IsTextOrHeadsReason → MatchRefusal r P (IsRingReason texts)
-heads_no_ring P Q Any texts r (refusal.No x) is h early = rw is (h.0, early, h.1)
-heads_no_ring P Q Any texts r refusal.OutOfMemory is h early = rw is tt
-
 -- a text is no question's
 pub question_refused : {T : Type 0} (P : T → Type 0) (text : List ℕ) (nodes : ℕ) (r : Result T Refusal) (s : Refusal) (f : AskFault) → r ≡ Err s → RefusesQuestion f s → (f ≢ ask.OutOfMemory → QuestionTextFault text f)
     → MatchRefusal r P (IsQuestionRefusal text nodes)
@@ -98,15 +81,27 @@ certificate_refused P text nodes cases r s f is (inr h) fault = rw (is, h.1) (no
 -- ---- where nothing is said against the logs
 
 -- sections that were held against their cases
-abbrev pub SectionsJudged : List Log → List (List Conjunct) → List CertSection → Result (Unit {0}) Refusal → Type 0
+abbrev pub SectionsJudged : List log.Log → List (List Conjunct) → List CertSection → Result (Unit {0}) Refusal → Type 0
 SectionsJudged logs cases sections r =
     MatchRefusal r (λ _. AreSound logs cases sections) (λ x. (i : ℕ) × (f : SectionFault) × (x ≡ Section i f) × IsFirstUnsound logs cases sections i f)
 
-pub question_reason : (texts : List (List ℕ)) (question : List ℕ) (logs : List Log) → AreGoodLogs texts logs → (r : Reason) → IsQuestionRefusal question (length logs) r → IsFindingsReason texts question r
+pub good_logs : (texts : List (List ℕ)) (logs : List log.Log) → AreLogTexts texts logs → AreGood logs → AreGoodLogs texts logs
+good_logs texts logs are good = record { texts_are = are; are_good = good }
+
+-- the question is asked of the ring of good logs
+pub is_posed : (texts : List (List ℕ)) (question : List ℕ) (logs : List log.Log) (asked : Asked) → AreLogTexts texts logs
+    → AreGood logs → IsQuestionText question asked → asked.nodes ≡ length logs → Posed texts question logs asked
+is_posed texts question logs asked are good is ring = record {
+  logs_are = good_logs texts logs are good;
+  question_is = is;
+  ring = ring;
+}
+
+pub question_reason : (texts : List (List ℕ)) (question : List ℕ) (logs : List log.Log) → AreGoodLogs texts logs → (r : Reason) → IsQuestionRefusal question (length logs) r → IsFindingsReason texts question r
 question_reason texts question logs good r (inl h) = rw h.3 (no_question logs h.0 good h.1 refl, h.2)
 question_reason texts question logs good r (inr h) = rw h.3 (other_ring logs h.0 good h.1 h.2 refl, tt)
 
-module _ (texts : List (List ℕ)) (question certificate : List ℕ) (logs : List Log) (asked : Asked) (posed : Posed texts question logs asked) where
+module _ (texts : List (List ℕ)) (question certificate : List ℕ) (logs : List log.Log) (asked : Asked) (posed : Posed texts question logs asked) where
   pub certificate_reason : (r : Reason) → IsCertificateRefusal certificate (length logs) (length asked.cases) r → IsAuditAnswer texts question certificate (No r) × IsReportableReason r
   certificate_reason r (no_certificate f fault other e) = rw e (answer.no_certificate logs asked f posed fault refl, other)
   certificate_reason r (other_size c is other e) = rw e (answer.other_size logs asked c posed is other refl, tt)

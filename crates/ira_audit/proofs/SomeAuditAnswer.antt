@@ -63,7 +63,7 @@ module _ (texts : List (List ℕ)) (question certificate : List ℕ) where
       | inr other ↦ (No reason.CertificateSize, other_size logs asked c.0 posed c.1 other refl)
       | inl size ↦ elim (cases_eq (length c.0.sections) (length asked.cases)) [
         | inr other ↦ (No (reason.Sections (length asked.cases) (length c.0.sections)), other_number logs asked c.0 posed c.1 size other refl)
-        | inl number ↦ elim (sound_or_first logs asked.cases c.0.sections posed.logs_are.order (different_places asked posed.question_is.valid) (places_of_logs asked logs posed.question_is.valid posed.ring) number) [
+        | inl number ↦ elim (sound_or_first logs asked.cases c.0.sections posed.logs_are.are_good.order (different_places asked posed.question_is.valid) (places_of_logs asked logs posed.question_is.valid posed.ring) number) [
           | inr h ↦ (No (reason.Section h.0 h.1), unsound logs asked c.0 h.0 h.1 posed c.1 size number h.2 refl)
           | inl sound ↦ (Yes, yes logs asked c.0 posed c.1 size sound refl)
         ]

@@ -75,7 +75,7 @@ bad_or_good texts = elim (logs_or_fault texts) [
         | inr h ↦ inl (reason.Circle, circled logs.0 logs.1 ring h refl)
         | inl order ↦ elim (runs_or_stop logs.0) [
           | inr h ↦ inl (reason.Replay h.0 h.1.position h.1.fault, stopped logs.0 h.0 h.1 logs.1 ring order h.2 refl)
-          | inl runs ↦ inr (logs.0, record { texts_are = logs.1; ring = ring; order = order; runs = runs })
+          | inl runs ↦ inr (logs.0, record { texts_are = logs.1; are_good = record { ring = ring; order = order; runs = runs } })
         ]
       ]
     ]

@@ -1,7 +1,6 @@
 -- The texts of upgraded logs have the answer of the old texts.
-use Rattle.std.proofs.Common.{◌≡◌, ◌≢◌, ℕ, zero, suc, List, [], ◌∷◌, Some, length, ◌↔◌, refl, sym, subst, ◌∙◌}
-use Rattle.std.specs.Prelude.{map, take, slice_get}
-use Rattle.std.specs.List.{AllZip}
+use Rattle.std.proofs.Common.{◌≡◌, ℕ, zero, suc, List, [], ◌∷◌, ◌↔◌, refl, sym, subst, ◌∙◌}
+use Rattle.std.specs.Prelude.{map, take}
 use Rattle.ira_event.specs.Log.{Log}
 use Rattle.ira_event.specs.Logs.{EachLog}
 use Rattle.ira_event.specs.LogText.{IsLogText, log_text}
@@ -16,7 +15,6 @@ use Rattle.ira_pred.specs.Case.{Conjunct}
 use Rattle.ira_pred.specs.Question.{Asked}
 use Rattle.ira_cert_text.specs.Certificate.{Section}
 use Rattle.ira_cert.specs.declared.section_fault.SectionFault.{SectionFault}
-use Rattle.ira_cert.specs.SoundSection.{IsSoundSection}
 use Rattle.ira_cert.proofs.Upgraded.{sound_section, section_fault}
 use Rattle.ira_audit.specs.declared.answer.Answer.{Answer}
 use Rattle.ira_audit.specs.declared.answer.Answer.TheVariants.{No}
@@ -27,7 +25,7 @@ use Rattle.ira_audit.specs.LogsAnswer.{IsLogsAnswer, IsFirstStop}
 use Rattle.ira_audit.specs.LogsAnswer as together
 use Rattle.ira_audit.specs.GoodLogs.{AreGoodLogs}
 use Rattle.ira_audit.specs.Posed.{Posed, WhyNotPosed, bad_logs, no_question, other_ring}
-use Rattle.ira_audit.specs.AuditAnswer.{AreSound, IsFirstUnsound, IsAuditAnswer, not_posed, no_certificate, other_size, other_number, unsound, yes}
+use Rattle.ira_audit.specs.AuditAnswer.{IsFirstUnsound, IsAuditAnswer, not_posed, no_certificate, other_size, other_number, unsound, yes}
 use Rattle.ira_audit.specs.Upgrade.{IsUpgraded, AreUpgraded}
 use Rattle.ira_audit.proofs.LogTexts.{logs_or_fault}
 use Rattle.ira_audit.proofs.OneAnswer.{one_answer, one_logs_answer}
@@ -116,9 +114,11 @@ module _ (texts news : List (List ℕ)) (u : AreUpgraded texts news) where
   good_logs : (logs : List Log) → AreGoodLogs texts logs → AreGoodLogs news (map upgraded logs)
   good_logs logs good = record {
     texts_are = new_texts texts news logs u good.texts_are;
-    ring = are_upgraded_logs logs good.ring;
-    order = has_order logs (map upgraded logs) (old_events logs) good.order;
-    runs = each_upgraded logs _ _ (λ i log run. run) good.runs;
+    are_good = record {
+      ring = are_upgraded_logs logs good.are_good.ring;
+      order = has_order logs (map upgraded logs) (old_events logs) good.are_good.order;
+      runs = each_upgraded logs _ _ (λ i log run. run) good.are_good.runs;
+    };
   }
 
   logs_answer : (a : Answer) → IsLogsAnswer texts a → IsLogsAnswer news a

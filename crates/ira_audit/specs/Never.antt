@@ -13,26 +13,40 @@ use Rattle.ira_order.specs.Order.{IsOrder, occurrences}
 use Rattle.ira_order.specs.RunsOfLogs.{EveryOrderIsRun}
 use Rattle.ira_cand.specs.HoldsAt.{HoldsAt}
 use Rattle.ira_cand.specs.Meets.{Meets}
+use Rattle.ira_cert_text.specs.Certificate.{Certificate}
+use Rattle.ira_cert_text.specs.CertText.{IsCertText}
 use Rattle.ira_audit.specs.declared.answer.Answer.TheVariants.{Yes}
 use Rattle.ira_audit.specs.LogTexts.{AreLogTexts}
-use Rattle.ira_audit.specs.AuditAnswer.{IsAuditAnswer}
+use Rattle.ira_audit.specs.AuditAnswer.{AreSound, IsAuditAnswer}
 use Rattle.ira_audit.specs.LogsAnswer.{IsLogsAnswer}
 
 -- no consistent cut of the logs meets any of the cases
 abbrev pub NoCutMeetsAny : List Log → List (List Conjunct) → Type 0
 NoCutMeetsAny logs cases = (case : List Conjunct) (cut : List ℕ) → Contains cases case → IsConsistentCut logs cut → ¬ (Meets logs case cut)
 
--- the texts are those of a ring's logs, which have an order, and each order of them is a run of the ring; the
--- question is that of some cases; and no consistent cut of the logs meets any of these
-pub record IsNeverMet (texts : List (List ℕ)) (question : List ℕ) : Type 0 where
+-- the texts are those of a ring's logs, which have an order, and each order of them is a run of the ring; the question
+-- asks some cases of that ring; the certificate is for that ring and has a sound section for each case; and no consistent
+-- cut of the logs meets any of the cases
+pub record NoCaseIsMet (texts : List (List ℕ)) (question certificate : List ℕ) : Type 0 where
   pub logs : List Log
-  pub asked : Asked
   pub logs_are : AreLogTexts texts logs
   pub ring : AreLogs logs
-  pub question_is : IsQuestionText question asked
   pub order : HasOrder logs
   pub runs : EveryOrderIsRun logs
+  pub asked : Asked
+  pub question_is : IsQuestionText question asked
+  pub asked_of_ring : asked.nodes ≡ length logs
+  pub certified : Certificate
+  pub certificate_is : IsCertText certificate certified
+  pub certified_for_ring : certified.nodes ≡ length logs
+  pub sound : AreSound logs asked.cases certified.sections
   pub never : NoCutMeetsAny logs asked.cases
+
+-- after a yes with a question and a certificate this holds
+abbrev pub YesMeansNoCaseIsMet : Type 0
+YesMeansNoCaseIsMet =
+    (texts : List (List ℕ)) (question certificate : List ℕ) → IsAuditAnswer texts question certificate Yes
+    → NoCaseIsMet texts question certificate
 
 -- the cut says how many events each node has made after t places of the order
 pub record IsMoment (logs : List Log) (order : List ℕ) (t : ℕ) (cut : List ℕ) : Type 0 where

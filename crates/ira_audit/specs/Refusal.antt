@@ -1,6 +1,5 @@
 -- Why there is no yes, where a call hands on more than an answer.
 use Rattle.std.specs.Prelude.{◌≡◌, ◌≢◌, ◌⊎◌, ℕ, List, Result, Ok, Err, length, ⊤}
-use Rattle.ira_event.specs.declared.log_fault.LogFault.{LogFault}
 use Rattle.ira_event.specs.declared.out_of_memory.OutOfMemory as memory
 use Rattle.ira_order.specs.declared.order_fault.OrderFault.{OrderFault}
 use Rattle.ira_order.specs.declared.order_fault.OrderFault.TheVariants as order
@@ -22,7 +21,6 @@ use Rattle.ira_audit.specs.declared.answer.Answer.{Answer}
 use Rattle.ira_audit.specs.declared.answer.Answer.TheVariants as answer
 use Rattle.ira_audit.specs.declared.findings.Findings.{Findings}
 use Rattle.ira_audit.specs.declared.findings.Findings.TheVariants.{Refused}
-use Rattle.ira_audit.specs.LogTexts.{IsFirstTextFault}
 use Rattle.ira_audit.specs.LogsAnswer.{IsLogsAnswer}
 use Rattle.ira_audit.specs.Posed.{WhyNotPosed}
 use Rattle.ira_audit.specs.Report.{IsReportableReason}
@@ -66,10 +64,6 @@ abbrev pub MatchRefusal : {T : Type 0} → Result T Refusal → (T → Type 0) �
 MatchRefusal (Ok v) P Q = P v
 MatchRefusal (Err (No reason)) P Q = Q reason
 MatchRefusal (Err OutOfMemory) P Q = ⊤
-
--- the reason names the first text that is no log's
-abbrev pub IsTextReason : List (List ℕ) → Reason → Type 0
-IsTextReason texts r = (number : ℕ) × (f : LogFault) × IsFirstTextFault texts number f × (r ≡ Log number f)
 
 -- the reason is the answer of the texts of logs, and doesn't say that memory ran out
 abbrev pub IsLogsReason : List (List ℕ) → Reason → Type 0

@@ -1,7 +1,8 @@
 ghost use Rattle.ira_audit.specs.Answer.{EachTextHasAnAnswer, NoTextHasTwoAnswers};
 ghost use Rattle.ira_audit.specs.AuditAnswer.{AnyTextsHaveAnAuditAnswer, NoTextsHaveTwoAuditAnswers};
 ghost use Rattle.ira_audit.specs.LogsAnswer.{AnyTextsHaveAnAnswer, NoTextsHaveTwoAnswers};
-ghost use Rattle.ira_audit.specs.Never.{NoMomentMeetsAny, NeverTwoLeaders, NoCutMeetsAPair, YesWithoutQuestion};
+ghost use Rattle.ira_audit.specs.Never.{NoMomentMeetsAny, NeverTwoLeaders, NoCutMeetsAPair, YesMeansNoCaseIsMet, YesWithoutQuestion};
+ghost use Rattle.ira_audit.specs.TextRuns.{YesMeansRuns, NoMeansNoRun};
 ghost use Rattle.ira_audit.specs.Upgrade.{TextsAreUpgraded, UpgradesKeepAnswer, UpgradesKeepLogsAnswer, UpgradesKeepAuditAnswer};
 
 /// A law: the text of one log, the texts of the logs of a ring, and these with a question and a
@@ -17,6 +18,19 @@ pub fn texts_have_answers()
     ensures one_log { EachTextHasAnAnswer }
     ensures ring_logs { AnyTextsHaveAnAnswer }
     ensures certified { AnyTextsHaveAnAuditAnswer }
+{}
+
+/// A law: after a yes the logs have an order, and each order of them is a run of the ring; and after a reason of matching,
+/// circle or replay no run of the ring is a run of them.
+pub fn answers_tell_of_runs()
+    ensures yes { YesMeansRuns }
+    ensures no { NoMeansNoRun }
+{}
+
+/// A law: after a yes with a question and a certificate the logs are those of runs, and no consistent cut of them meets an
+/// asked case.
+pub fn no_case_is_met()
+    ensures { YesMeansNoCaseIsMet }
 {}
 
 /// A law: after a yes no order of the logs meets an asked case at any of its moments.

@@ -3,35 +3,31 @@
 #![tactic(auto)]
 
 mod answer;
-mod cases;
-mod certified;
+mod audits;
 mod findings;
 mod findings_writer;
+mod good_logs;
 mod laws;
 mod log_audit;
-mod one_log;
 mod reason;
 mod refusal;
 mod replay_so_far;
 mod replayed_log;
 mod report;
 mod ring_audit;
-mod ring_logs;
 mod sections;
 
 pub use answer::Answer;
-pub use cases::decide_all;
-pub use certified::audit;
+pub use audits::{audit, audit_logs, audit_one, decide_all};
 pub use findings::Findings;
 pub use findings_writer::write_findings;
+pub use good_logs::GoodLogs;
 pub use laws::{
-    answers_are_one, never_two_leaders, no_moment_meets_a_case, texts_have_answers,
-    upgrades_keep_answers,
+    answers_are_one, answers_tell_of_runs, never_two_leaders, no_case_is_met,
+    no_moment_meets_a_case, texts_have_answers, upgrades_keep_answers,
 };
 pub use log_audit::LogAudit;
-pub use one_log::audit_one;
 pub use reason::Reason;
 pub use refusal::Refusal;
 pub use report::write_report;
 pub use ring_audit::RingAudit;
-pub use ring_logs::audit_logs;

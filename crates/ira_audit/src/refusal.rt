@@ -18,11 +18,11 @@ pub enum Refusal {
 }
 
 /// The answer of texts that were judged: yes where nothing stands against them.
-pub(crate) fn answer_of(judged: Result<(), Refusal>) -> Result<Answer, OutOfMemory>
+pub(crate) fn answer_of<T: Drop>(judged: Result<T, Refusal>) -> Result<Answer, OutOfMemory>
     ensures { result ≡ answered judged }
 {
     match judged {
-        Ok(()) => Ok(Answer::Yes),
+        Ok(_) => Ok(Answer::Yes),
         Err(Refusal::No(reason)) => Ok(Answer::No(reason)),
         Err(Refusal::OutOfMemory) => Err(OutOfMemory),
     }

@@ -1,31 +1,30 @@
-ghost use Rattle.std.specs.Prelude.{◌≡◌, ◌↔◌, ◌++◌, ◌∷◌, ◌≤◌, [], ℕ, List, Ok, IfOk, MatchResult, OnOk, OnErr};
+ghost use Rattle.std.specs.Prelude.{◌≡◌, ◌↔◌, ◌++◌, ◌∷◌, ◌≤◌, [], ℕ, List, Ok, IfOk, OnOk, OnErr, map};
 ghost use Rattle.ira_event.specs.Logs.{AreLogs};
 ghost use Rattle.ira_event.specs.Result.{UnlessErr};
-ghost use Rattle.ira_node.specs.declared.step_fault.StepFault.{StepFault};
-ghost use Rattle.ira_order.specs.declared.match_fault.MatchFault.{MatchFault};
 ghost use Rattle.ira_audit.specs.AuditAnswer.{IsAuditAnswer};
 ghost use Rattle.ira_audit.specs.Findings.{AreFindings, AreReportable};
+ghost use Rattle.ira_audit.specs.GoodLogs.{AreGoodLogs};
 ghost use Rattle.ira_audit.specs.LogsAnswer.{IsLogsAnswer};
-ghost use Rattle.ira_audit.specs.Never.{IsNeverMet};
+ghost use Rattle.ira_audit.specs.Never.{NoCaseIsMet};
 ghost use Rattle.ira_audit.specs.LogTexts.{AreLogTexts};
 ghost use Rattle.ira_audit.specs.Posed.{WhyNotPosed};
-ghost use Rattle.ira_audit.specs.Refusal.{Judged, MatchRefusal, IsTextReason, IsFindingsReason, IsRingReason};
+ghost use Rattle.ira_audit.specs.Refusal.{Judged, MatchRefusal, IsFindingsReason, IsLogsReason, IsRingReason};
+ghost use Rattle.ira_audit.specs.ReplayedLogs.{AreReplayed};
 ghost use Rattle.ira_audit.specs.Report.{IsReportable};
 ghost use Rattle.ira_audit.specs.RingAudit.{HasTaken};
-ghost use Rattle.ira_audit.specs.TextRuns.{AreTextsOfRuns, AreTextsWithoutRun};
+ghost use Rattle.ira_audit.specs.TextRuns.{AreTextsOfRuns, AreTextsWithoutRun, IsOfRing};
 ghost use Rattle.ira_audit.specs.declared.answer.Answer.{Answer};
 ghost use Rattle.ira_audit.specs.declared.reason.Reason.{Reason};
 
 use crate::answer::Answer;
-use crate::cases::decide_posed;
-use crate::certified::judge_certified;
 use crate::findings::Findings;
+use crate::good_logs::GoodLogs;
 use crate::reason::Reason;
 use crate::refusal::{Refusal, answer_of, findings_of};
-use crate::replayed_log::ReplayedLog;
-use crate::ring_logs::{gather_logs, judge_logs, judge_logs_on_threads};
+use crate::replayed_log::{ReplayedLog, split_steps};
 use ira_event::{LogFault, Logs, OutOfMemory};
 use ira_links::Gate;
+use ira_order::{find_order, find_order_on_threads};
 use std::alloc::Allocator;
 use std::marker::Model;
 use std::sync::Wait;
@@ -60,6 +59,17 @@ impl<A: Allocator + Clone> RingAudit<A> {
             logs: Vec::new(alloc),
             fault: None,
         }
+    }
+
+    /// An audit that has taken these texts.
+    pub(crate) fn of_texts(alloc: A, texts: &[&[u8]]) -> Result<RingAudit<A>, OutOfMemory>
+        ensures { IfOk result (λ audit. HasTaken audit (map (λ text. text.now) texts.now)) }
+    {
+        let mut audit = RingAudit::new(alloc);
+        for text in texts {
+            audit.take(text)?;
+        }
+        Ok(audit)
     }
 
     /// Takes the text that comes next. Where memory runs out the audit is as it was.
@@ -106,14 +116,10 @@ impl<A: Allocator + Clone> RingAudit<A> {
         ensures reportable { (texts : List (List ℕ)) → HasTaken self texts → IfOk result IsReportable }
         ensures runs { (texts : List (List ℕ)) → HasTaken self texts → result ≡ Ok Answer.Yes
             → AreTextsOfRuns texts }
-        ensures unmatched { (texts : List (List ℕ)) (f : MatchFault) → HasTaken self texts
-            → result ≡ Ok (Answer.No (Reason.Match f)) → AreTextsWithoutRun texts }
-        ensures circled { (texts : List (List ℕ)) → HasTaken self texts
-            → result ≡ Ok (Answer.No Reason.Circle) → AreTextsWithoutRun texts }
-        ensures stopped { (texts : List (List ℕ)) (place position : ℕ) (f : StepFault) → HasTaken self texts
-            → result ≡ Ok (Answer.No (Reason.Replay place position f)) → AreTextsWithoutRun texts }
+        ensures no_run { (texts : List (List ℕ)) (r : Reason) → HasTaken self texts → IsOfRing r
+            → result ≡ Ok (Answer.No r) → AreTextsWithoutRun texts }
     {
-        answer_of(self.judge_on_threads(rt))
+        answer_of(self.good_logs_on_threads(rt))
     }
 
     /// The answer of the texts that were taken, of a question and of a certificate: the first reason
@@ -136,9 +142,9 @@ impl<A: Allocator + Clone> RingAudit<A> {
             ((result ≡ Ok a) ↔ IsAuditAnswer texts question.now certificate.now a) }
         ensures reportable { (texts : List (List ℕ)) → HasTaken self texts → IfOk result IsReportable }
         ensures yes { (texts : List (List ℕ)) → HasTaken self texts → result ≡ Ok Answer.Yes
-            → IsNeverMet texts question.now }
+            → NoCaseIsMet texts question.now certificate.now }
     {
-        answer_of(self.judge_with(rt, question, certificate, depth, gate))
+        answer_of(self.check(rt, question, certificate, depth, gate))
     }
 
     /// What is found for each case of a question about the logs that were taken, or the first reason against
@@ -151,29 +157,11 @@ impl<A: Allocator + Clone> RingAudit<A> {
             → IfOk result (AreFindings texts question.now) }
         ensures reportable { (texts : List (List ℕ)) → HasTaken self texts → IfOk result AreReportable }
     {
-        findings_of(self.decide_taken(question))
+        findings_of(self.find_cases(question))
     }
 
-    /// The logs of the texts that were taken, if they are those of one ring. Whether they match and have steps isn't
-    /// looked at.
-    pub fn gather(self) -> Result<Logs<A>, Refusal>
-        ensures { (texts : List (List ℕ)) → HasTaken self texts
-            → MatchRefusal result (λ logs. AreLogTexts texts logs × AreLogs logs) (IsRingReason texts) }
-    {
-        let (logs, _steps) = gather_logs(self.into_logs()?)?;
-        Ok(logs)
-    }
-
-    fn decide_taken(self, question: &[u8]) -> Result<Findings<A>, Refusal>
-        ensures { (texts : List (List ℕ)) → HasTaken self texts
-            → MatchRefusal result
-            (λ findings. AreFindings texts question.now findings × AreReportable findings)
-            (IsFindingsReason texts question.now) }
-    {
-        decide_posed(self.into_logs()?, question)
-    }
-
-    fn judge_with<R, G>(
+    /// Whether the certificate answers the question, and nothing stands against the texts that were taken.
+    fn check<R, G>(
         self,
         rt: &R,
         question: &[u8],
@@ -189,37 +177,69 @@ impl<A: Allocator + Clone> RingAudit<A> {
         ensures { (texts : List (List ℕ)) → HasTaken self texts
             → Judged result (IsAuditAnswer texts question.now certificate.now) }
     {
-        judge_certified(rt, self.into_logs()?, question, certificate, depth, gate)
+        let logs = self.good_logs_on_threads(rt)?;
+        logs.check(rt, question, certificate, depth, gate)
     }
 
-    fn judge_on_threads<R>(self, rt: &R) -> Result<(), Refusal>
+    /// What is found for each case of the question, or why it isn't posed of the texts that were taken.
+    fn find_cases(self, question: &[u8]) -> Result<Findings<A>, Refusal>
+        ensures { (texts : List (List ℕ)) → HasTaken self texts
+            → MatchRefusal result
+            (λ findings. AreFindings texts question.now findings × AreReportable findings)
+            (IsFindingsReason texts question.now) }
+    {
+        let logs = self.good_logs()?;
+        logs.decide(question)
+    }
+
+    /// The logs of the texts that were taken, if there is no reason against them. It starts no thread.
+    pub fn good_logs(self) -> Result<GoodLogs<A>, Refusal>
+        ensures { (texts : List (List ℕ)) → HasTaken self texts
+            → MatchRefusal result (AreGoodLogs texts) (IsLogsReason texts) }
+    {
+        let alloc = self.logs.allocator().clone()?;
+        let (logs, steps) = self.gather_replayed()?;
+        let order = find_order(alloc.clone()?, &logs);
+        GoodLogs::new(alloc, logs, order, steps)
+    }
+
+    /// What `good_logs` gives. The links are matched by a thread of their own where one can be started.
+    pub fn good_logs_on_threads<R>(self, rt: &R) -> Result<GoodLogs<A>, Refusal>
     where
         R: Threads,
         A: Sync,
-        ensures { (texts : List (List ℕ)) → HasTaken self texts → Judged result (IsLogsAnswer texts) }
-    {
-        judge_logs_on_threads(rt, self.into_logs()?)
-    }
-
-    /// Whether anything stands against the texts that were taken. It starts no thread.
-    pub(crate) fn judge(self) -> Result<(), Refusal>
-        ensures { (texts : List (List ℕ)) → HasTaken self texts → Judged result (IsLogsAnswer texts) }
-    {
-        judge_logs(self.into_logs()?)
-    }
-
-    /// The logs of the texts that were taken, or why the first text that is no log's is none.
-    fn into_logs(self) -> Result<Vec<ReplayedLog<A>, A>, Reason>
         ensures { (texts : List (List ℕ)) → HasTaken self texts
-            → MatchResult result (λ logs. AreLogTexts texts logs.items) (IsTextReason texts) }
+            → MatchRefusal result (AreGoodLogs texts) (IsLogsReason texts) }
+    {
+        let alloc = self.logs.allocator().clone()?;
+        let (logs, steps) = self.gather_replayed()?;
+        let order = find_order_on_threads(rt, alloc.clone()?, &logs);
+        GoodLogs::new(alloc, logs, order, steps)
+    }
+
+    /// The logs of the texts that were taken, if they are those of one ring. Whether they match and have steps isn't
+    /// looked at.
+    pub fn gather(self) -> Result<Logs<A>, Refusal>
+        ensures { (texts : List (List ℕ)) → HasTaken self texts
+            → MatchRefusal result (λ logs. AreLogTexts texts logs × AreLogs logs) (IsRingReason texts) }
+    {
+        let (logs, _steps) = self.gather_replayed()?;
+        Ok(logs)
+    }
+
+    /// The logs of the texts that were taken, if they are those of one ring, and whether each event of each of them has
+    /// a step.
+    fn gather_replayed(self) -> Result<(Logs<A>, Result<(), Reason>), Refusal>
+        ensures replayed { IfOk result (λ found. AreLogs found.0 × AreReplayed found.0 found.1) }
+        ensures texts { (texts : List (List ℕ)) → HasTaken self texts
+            → MatchRefusal result (λ found. AreLogTexts texts found.0) (IsRingReason texts) }
     {
         let RingAudit { logs, fault } = self;
-        match fault {
-            None => Ok(logs),
-            Some(fault) => Err(Reason::Log {
-                number: logs.len(),
-                fault,
-            }),
+        if let Some(fault) = fault {
+            let number = logs.len();
+            return Err(Refusal::No(Reason::Log { number, fault }));
         }
+        let (logs, steps) = split_steps(logs)?;
+        Ok((Logs::gather(logs)?, steps))
     }
 }

@@ -8,12 +8,11 @@ ghost use Rattle.ira_audit.specs.Refusal.{MatchRefusal};
 use crate::reason::Reason;
 use crate::refusal::Refusal;
 use ira_cand::Profile;
-use ira_cert::Verdict;
 use ira_cert_text::Section;
 use ira_event::{Logs, OutOfMemory};
 use ira_links::Gate;
 use ira_order::{DirectDependencies, HappenedBefore};
-use ira_par::split_profiled;
+use ira_par::split_sections;
 use ira_pred::Case;
 use std::alloc::Allocator;
 use std::sync::Wait;
@@ -44,24 +43,23 @@ where
         × IsFirstUnsound dependencies.now cases.now sections.now i f) }
 {
     let profiles = all_profiles(alloc.clone()?, dependencies.logs())?;
-    for case in 0..cases.len() {
-        let alloc = alloc.clone()?;
-        let verdict = split_profiled(
-            rt,
-            alloc,
-            &profiles,
-            dependencies,
-            &cases[case],
-            &sections[case],
-            depth,
-            gate,
-        )?;
-        match verdict {
-            Verdict::Yes => {}
-            Verdict::No(fault) => return Err(Refusal::No(Reason::Section { case, fault })),
-        }
+    let found = split_sections(
+        rt,
+        alloc,
+        &profiles,
+        dependencies,
+        cases,
+        sections,
+        depth,
+        gate,
+    )?;
+    match found {
+        None => Ok(()),
+        Some(unsound) => Err(Refusal::No(Reason::Section {
+            case: unsound.section,
+            fault: unsound.fault,
+        })),
     }
-    Ok(())
 }
 
 /// The profile of each log.

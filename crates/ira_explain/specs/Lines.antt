@@ -8,7 +8,9 @@ pub data IsFromLine (text : List ℕ) : ℕ → List ℕ → Type 0 where
   behind :
       (number : ℕ) (line rest : List ℕ) → IsFromLine text number (line ++ codes "\n" ++ rest) → HasNoLineFeed line
       → IsFromLine text (number + 1) rest
-  past : (number : ℕ) (line : List ℕ) → IsFromLine text number line → HasNoLineFeed line → IsFromLine text (number + 1) []
+  past :
+      (number : ℕ) (line : List ℕ) → IsFromLine text number line → HasNoLineFeed line
+      → IsFromLine text (number + 1) []
 
 -- it is the text's first line, without its line feed where it has one
 pub record IsFirstLine (text line : List ℕ) : Type 0 where

@@ -6,13 +6,14 @@ ghost use Rattle.ira_audit.specs.Report.{IsReportable};
 use crate::heads_block::explain_heads;
 use crate::named_text::NamedText;
 use crate::page::Page;
+use crate::ring_block::{explain_alone, explain_ring};
 use crate::text_block::explain_text;
 use ira_audit::{Answer, Reason};
 use ira_event::OutOfMemory;
 use std::alloc::Allocator;
 
-/// Why the answer of the logs of a ring, or of texts that should be them, is as it is: an empty line, and what stands in
-/// which lines of which files, what is due there, the rule, and usual causes that the files point to.
+/// Why the answer of the logs of a ring, or of texts that should be them, is as it is: an empty line, and what stands
+/// in which lines of which files, what is due there, the rule, and usual causes that the files point to.
 pub fn explain_logs<A: Allocator + Clone>(
     alloc: A,
     files: &[NamedText<'_>],
@@ -28,7 +29,7 @@ pub fn explain_logs<A: Allocator + Clone>(
             explain_text(alloc, &mut page, &files[number], fault)?;
         }
         Answer::No(Reason::Heads(fault)) => explain_heads(alloc, &mut page, files, fault)?,
-        _ => {}
+        _ => explain_ring(alloc, &mut page, files)?,
     }
     Ok(page)
 }
@@ -46,7 +47,7 @@ pub fn explain_log<A: Allocator + Clone>(
     page.blank()?;
     match *answer {
         Answer::No(Reason::Log { fault, .. }) => explain_text(alloc, &mut page, file, fault)?,
-        _ => {}
+        _ => explain_alone(alloc, &mut page, file)?,
     }
     Ok(page)
 }

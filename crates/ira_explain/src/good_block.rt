@@ -55,9 +55,14 @@ impl Traffic {
         let Traffic { sent, received, .. } = self;
         let under_way = sent.saturating_sub(received);
         let words = if self.has_resets {
-            format!(in alloc; "{sent} messages and resets sent, {received} received, {under_way} on the way.")
+            format!(in alloc;
+                "{sent} messages and resets sent, {received} received, {under_way} on the way."
+            )
         } else {
-            format!(in alloc; "{} sent, {received} received, {under_way} on the way.", NumberOf(sent, "message"))
+            format!(in alloc;
+                "{} sent, {received} received, {under_way} on the way.",
+                NumberOf(sent, "message")
+            )
         };
         Ok(words?)
     }
@@ -66,11 +71,13 @@ impl Traffic {
 /// Who leads where the logs end: the least place.
 fn leader_words<A: Allocator>(alloc: A, logs: &Logs<A>) -> Result<String<A>, OutOfMemory> {
     for place in 0..logs.size().get() {
-        if let Ok(NodeState {
-            phase: Phase::Leader { round, id },
-            term,
-            ..
-        }) = replay(logs.log(place))
+        if let Ok(
+            NodeState {
+                phase: Phase::Leader { round, id },
+                term,
+                ..
+            },
+        ) = replay(logs.log(place))
         {
             let round = RoundWords { round, term };
             return Ok(format!(in alloc; "Node {place} leads in {round} with ID {id}.")?);
@@ -105,5 +112,7 @@ pub(crate) fn explain_end_alone<A: Allocator + Copy, P: Allocator>(
     let end = StateWords(end);
     page.paragraph(format!(in alloc;
         "The log of place {place} of {nodes}: {events}, each has a step. At its end: {end}. Nothing is said of the other \
-         nodes: give all logs to `ira explain`.")?.as_str())
+         nodes: give all logs to `ira explain`."
+    )?
+    .as_str())
 }

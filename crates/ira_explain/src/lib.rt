@@ -2,6 +2,7 @@
 #![tactic(auto)]
 
 mod carets;
+mod circle_block;
 mod event_words;
 mod explain;
 mod field;
@@ -10,18 +11,22 @@ mod good_block;
 mod heads_block;
 mod line_form;
 mod line_stop;
+mod link_block;
 mod link_cause;
 mod link_sides;
 mod load_words;
 mod named_text;
+mod node_block;
 mod number_of;
 mod ordinal;
 mod page;
 mod places;
+mod ring_block;
 mod round_words;
 mod rule;
 mod slip;
 mod state_words;
+mod stopped;
 mod table;
 mod text_block;
 mod text_head;

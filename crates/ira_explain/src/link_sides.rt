@@ -10,10 +10,7 @@ pub(crate) struct LinkSides<A: Allocator> {
 }
 
 /// The loads that a node sent.
-fn loads_sent<A: Allocator>(
-    alloc: A,
-    log: &NodeLog<A>,
-) -> Result<Vec<Load, A>, OutOfMemory> {
+fn loads_sent<A: Allocator>(alloc: A, log: &NodeLog<A>) -> Result<Vec<Load, A>, OutOfMemory> {
     let mut loads = Vec::new(alloc);
     for event in log.events() {
         if let Event::Sent(load) = event {
@@ -24,10 +21,7 @@ fn loads_sent<A: Allocator>(
 }
 
 /// The loads that a node received.
-fn loads_received<A: Allocator>(
-    alloc: A,
-    log: &NodeLog<A>,
-) -> Result<Vec<Load, A>, OutOfMemory> {
+fn loads_received<A: Allocator>(alloc: A, log: &NodeLog<A>) -> Result<Vec<Load, A>, OutOfMemory> {
     let mut loads = Vec::new(alloc);
     for event in log.events() {
         if let Event::Got(load) = event {
@@ -57,14 +51,18 @@ impl<A: Allocator> LinkSides<A> {
         let receipts = self.received.iter().skip(passed);
         let sendings = self.sent.iter().skip(skipped);
         self.received.len().saturating_sub(passed) <= self.sent.len().saturating_sub(skipped)
-            && receipts.zip(sendings).all(|(receipt, sending)| receipt == sending)
+            && receipts
+                .zip(sendings)
+                .all(|(receipt, sending)| receipt == sending)
     }
 
     /// Whether each receipt after the first `passed` ones has the hop of its sending raised by one.
     fn have_raised_hops(&self, passed: usize) -> bool {
         let receipts = self.received.iter().skip(passed);
         let sendings = self.sent.iter().skip(passed);
-        receipts.zip(sendings).all(|(receipt, sending)| is_raised(*receipt, *sending))
+        receipts
+            .zip(sendings)
+            .all(|(receipt, sending)| is_raised(*receipt, *sending))
     }
 
     /// Whether the receipts after the first `passed` ones begin with the two next sendings, exchanged.

@@ -8,12 +8,14 @@ pub(crate) struct LoadWords(pub(crate) Load);
 impl fmt::Display for LoadWords {
     fn fmt<W: fmt::Write>(&self, f: &mut fmt::Formatter<W>) -> fmt::Result {
         match self.0 {
-            Load::Msg(Msg {
-                round,
-                id,
-                hop,
-                dirty,
-            }) => {
+            Load::Msg(
+                Msg {
+                    round,
+                    id,
+                    hop,
+                    dirty,
+                },
+            ) => {
                 let bit = if dirty { "dirty" } else { "clean" };
                 write!(f, "{round} {id} {hop} {bit}")
             }

@@ -18,8 +18,8 @@ impl<'a> NamedText<'a> {
         self.text.iter().filter(|c| **c == b'\n').count()
     }
 
-    /// A line, counted from 1, without its line feed: a piece behind the last line feed is one too, and further ones are
-    /// empty.
+    /// A line, counted from 1, without its line feed: a piece behind the last line feed is one too, and further ones
+    /// are empty.
     pub(crate) fn line(&self, number: usize) -> &'a [u8]
         ensures { 1 ≤ number → IsLine self.now.text.now number result.now }
     {

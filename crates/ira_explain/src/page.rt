@@ -22,8 +22,8 @@ pub enum Mark {
     Named,
 }
 
-/// Lines of printable ASCII, put together in memory: whatever is added, each byte of it that isn't printable is shown by
-/// those that are. Contracts see it as the list of its bytes.
+/// Lines of printable ASCII, put together in memory: whatever is added, each byte of it that isn't printable is shown
+/// by those that are. Contracts see it as the list of its bytes.
 #[derive(Drop)]
 pub struct Page<A: Allocator> {
     text: Vec<u8, A>,
@@ -132,8 +132,8 @@ impl<A: Allocator> Page<A> {
         Ok(())
     }
 
-    /// Adds a line of a file as the one that the answer speaks of, and begins the next with carets below the bytes `from`
-    /// to `to` of it, one at least. Bytes count from 0.
+    /// Adds a line of a file as the one that the answer speaks of, and begins the next with carets below the bytes
+    /// `from` to `to` of it, one at least. Bytes count from 0.
     pub fn point(
         &mut self,
         file: &NamedText<'_>,

@@ -4,6 +4,7 @@ ghost use Rattle.ira_order.specs.Ring.{next};
 use crate::event_words::EventWords;
 use crate::named_text::NamedText;
 use ira_event::{Event, Logs, NodeLog, OutOfMemory};
+use ira_evidence::EventAt;
 use std::alloc::Allocator;
 
 /// How many lines stand in front of a log's first record.
@@ -45,6 +46,11 @@ pub(crate) fn log_at<A: Allocator>(logs: &Logs<A>, place: u8) -> Option<&NodeLog
         return None;
     }
     Some(logs.log(place))
+}
+
+/// An event of logs, where they have it.
+pub(crate) fn event_at<A: Allocator>(logs: &Logs<A>, at: EventAt) -> Option<Event> {
+    event_of(log_at(logs, at.place)?, at.position)
 }
 
 /// `FILE:LINE: RECORD` of an event.

@@ -65,9 +65,7 @@ impl Rule {
             Rule::LeaderEnds => {
                 "Rule 6: a leader may yield, in a log of version 2, and has no other event."
             }
-            Rule::Yields => {
-                "Rule 6: a leader that yields owes a reset with hop 1."
-            }
+            Rule::Yields => { "Rule 6: a leader that yields owes a reset with hop 1." }
             Rule::OnlyLeaderYields => "Rule 6: a leader may yield, and no other node.",
             Rule::PassesReset => {
                 "Rule 7: a passive node that receives a reset with a hop below N owes it with the hop raised by one, and \

@@ -2,11 +2,26 @@ use crate::page::{Mark, Page, shown_width};
 use ira_event::OutOfMemory;
 use std::alloc::Allocator;
 
-/// A row of a table.
+/// A row of a table: its cells, and whether it's the line that the answer speaks of.
 #[derive(Drop)]
-struct Row<A: Allocator> {
+pub(crate) struct Row<A: Allocator> {
     mark: Mark,
     cells: Vec<String<A>, A>,
+}
+
+impl<A: Allocator> Row<A> {
+    pub(crate) fn new(alloc: A, mark: Mark) -> Row<A> {
+        Row {
+            mark,
+            cells: Vec::new(alloc),
+        }
+    }
+
+    /// Adds a cell behind the others.
+    pub(crate) fn add(&mut self, cell: String<A>) -> Result<(), OutOfMemory> {
+        self.cells.push(cell)?;
+        Ok(())
+    }
 }
 
 /// Rows of cells, whose columns begin below one another, two spaces apart.
@@ -23,12 +38,8 @@ impl<A: Allocator> Table<A> {
     }
 
     /// Adds a row at the end.
-    pub(crate) fn add(
-        &mut self,
-        mark: Mark,
-        cells: Vec<String<A>, A>,
-    ) -> Result<(), OutOfMemory> {
-        self.rows.push(Row { mark, cells })?;
+    pub(crate) fn add(&mut self, row: Row<A>) -> Result<(), OutOfMemory> {
+        self.rows.push(row)?;
         Ok(())
     }
 

@@ -9,6 +9,15 @@ use crate::text_head::explain_head;
 use ira_event::{LogFault, MAX_RECORDS, MAX_TEXT, OutOfMemory, open_log, skip_word, take_number};
 use std::alloc::Allocator;
 
+/// Why an end line gives another number than there are records.
+#[derive(Clone, Copy, Debug, PartialEq, Eq)]
+enum CountCause {
+    /// The four lines of the head are counted too.
+    HeadCounted,
+    /// So many records are missing.
+    LinesLost(usize),
+}
+
 /// Why a text is no log's: its line, what is due there, and a usual cause.
 pub(crate) fn explain_text<A: Allocator + Clone>(
     alloc: A,
@@ -185,13 +194,19 @@ fn count_records(file: &NamedText<'_>) -> usize
 }
 
 /// The number of an end line.
-fn said_count(line: &[u8]) -> usize {
-    match skip_word(line, b"end ") {
-        Some(rest) => match take_number(rest) {
-            Some((count, _)) => count as usize,
-            None => 0,
-        },
-        None => 0,
+fn said_count(line: &[u8]) -> Option<usize> {
+    let (count, _) = take_number(skip_word(line, b"end ")?)?;
+    Some(count as usize)
+}
+
+/// What makes an end line say so many where so many records were found, if that is known.
+fn count_cause(said: usize, found: usize) -> Option<CountCause> {
+    if said == found.saturating_add(4) {
+        Some(CountCause::HeadCounted)
+    } else if said > found && said <= MAX_RECORDS {
+        Some(CountCause::LinesLost(said - found))
+    } else {
+        None
     }
 }
 
@@ -218,19 +233,19 @@ fn explain_count<A: Allocator + Clone>(
         page.words(")")?;
     }
     page.end()?;
-    let said = said_count(line);
-    if said == found + 4 {
-        return add_hint(page, "the head is counted too: count the records alone.");
+    match said_count(line).and_then(|said| count_cause(said, found)) {
+        Some(CountCause::HeadCounted) => {
+            add_hint(page, "the head is counted too: count the records alone.")
+        }
+        Some(CountCause::LinesLost(lost)) => {
+            let records = if lost == 1 { "record" } else { "records" };
+            let hint = format!(in alloc;
+                "{lost} {records} fewer than the writer counted: lines were lost."
+            )?;
+            add_hint(page, &hint)
+        }
+        None => Ok(()),
     }
-    if said <= found {
-        return Ok(());
-    }
-    let lost = said - found;
-    let records = if lost == 1 { "record" } else { "records" };
-    let hint = format!(in alloc;
-        "{lost} {records} fewer than the writer counted: lines were lost."
-    )?;
-    add_hint(page, &hint)
 }
 
 fn explain_trailing<A: Allocator>(

@@ -9,7 +9,9 @@ use Rattle.ira_pred.specs.QuestionText.{question_text}
 use Rattle.ira_audit.specs.Answer.{IsAnswer}
 use Rattle.ira_audit.specs.AuditAnswer.{IsAuditAnswer}
 use Rattle.ira_audit.specs.LogsAnswer.{IsLogsAnswer}
+use Rattle.ira_audit.specs.Never.{NoCaseIsMet}
 use Rattle.ira_audit.specs.declared.answer.Answer.{Answer}
+use Rattle.ira_audit.specs.declared.answer.Answer.TheVariants as audit
 use Rattle.ira_ring.specs.EndsWriter.{ends_text}
 use Rattle.ira_ring.specs.Run.{Run}
 use Rattle.ira_run.specs.declared.run_fault.RunFault.{RunFault}
@@ -73,7 +75,7 @@ abbrev pub check_names : CheckRequest → List FileName → List (List ℕ)
 check_names check names = check.question.now ∷ check.certificate.now ∷ names_of names
 
 -- the files that are named were read, the texts of the logs were judged together with the text of the question and the
--- text of the certificate, and their answer reported
+-- text of the certificate, and their answer reported; after a yes no case of the question is met
 pub record JudgesCertified {S : Type 0} (reads : Reading S) (check : CheckRequest) (names : List FileName) (shelf : S)
     (out out' : SinkState) (outcome : Outcome) : Type 0 where
   pub question : List ℕ
@@ -82,6 +84,7 @@ pub record JudgesCertified {S : Type 0} (reads : Reading S) (check : CheckReques
   pub given : ReadsFiles reads (check_names check names) shelf (question ∷ certificate ∷ texts)
   pub answer : Answer
   pub judged : IsAuditAnswer texts question certificate answer
+  pub never : answer ≡ audit.Yes → NoCaseIsMet texts question certificate
   pub reported : Reports answer out out' outcome
 
 -- the logs of the source that is named were judged with the question and the certificate; or no answer is given

@@ -1,3 +1,5 @@
+ghost use Rattle.std.specs.Prelude.{◌≡◌};
+
 use crate::counted::Counted;
 use crate::retrying_reader::RetryingReader;
 use crate::shelf::Shelf;
@@ -19,7 +21,11 @@ pub struct FileShelf<'a, R: Files, A: Allocator> {
 }
 
 impl<'a, R: Files, A: Allocator> FileShelf<'a, R, A> {
-    pub fn new(rt: &'a R, alloc: A) -> FileShelf<'a, R, A> {
+    /// Files that are opened through this runtime, and written through buffers of this memory.
+    pub fn new(rt: &'a R, alloc: A) -> FileShelf<'a, R, A>
+        ensures runtime { result.rt ≡ rt.entry }
+        ensures memory { result.alloc ≡ alloc }
+    {
         FileShelf { rt, alloc }
     }
 }

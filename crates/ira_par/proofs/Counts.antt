@@ -12,9 +12,6 @@ use Rattle.ira_par.specs.Ranges.{AreMade, AreMadeFrom}
 pub made_le : (steps : List CertStep) (k i : ℕ) → made (take k steps) i ≤ k
 made_le steps k i = let few = count_by-le-length (λ (s : CertStep). s.node == i) (take k steps) in omega (arith, few, length-take k steps)
 
-pub made_few : (steps : List CertStep) (k i : ℕ) → made (take k steps) i ≤ length steps
-made_few steps k i = let few = count_by-le-length (λ (s : CertStep). s.node == i) (take k steps) in omega (arith, few, length-take k steps)
-
 -- of no step there is none
 pub none_from : (steps : List CertStep) (from : ℕ) (counts : List ℕ) → AreMade [] counts → AreMadeFrom steps from from counts
 none_from steps from counts none i l = let zero : slice_index counts i ≡ 0 = none i l in omega (arith, zero)

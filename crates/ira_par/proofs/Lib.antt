@@ -1,8 +1,13 @@
+pub mod Added
 pub mod Adding
 pub mod Answered
+pub mod Batches
+pub mod Changed
 pub mod Counts
 pub mod Faults
+pub mod Found
 pub mod Halves
 pub mod Places
 pub mod Rows
+pub mod TaskVerdicts
 pub mod Verdicts

@@ -1,2 +1,4 @@
+pub mod Batch
 pub mod Leaf
 pub mod Ranges
+pub mod Sections

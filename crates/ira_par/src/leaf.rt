@@ -1,5 +1,6 @@
-ghost use Rattle.std.specs.Prelude.{◌≡◌, ◌+◌, ◌^◌, ◌<◌, ◌≤◌, ℕ, None, IfOk, length, replicate, slice_index};
-ghost use Rattle.ira_par.specs.Leaf.{HasPlaces, IsBlank, IsCounted, IsPlaced, IsJudged};
+ghost use Rattle.std.specs.Prelude.{◌≡◌, ◌^◌, ◌<◌, ◌≤◌, ℕ, List, None, IfOk, length, replicate};
+ghost use Rattle.ira_cert_text.specs.declared.cert_step.CertStep.{CertStep};
+ghost use Rattle.ira_par.specs.Leaf.{IsBlank, IsCounted, IsPlaced, IsJudged, AreSoFar};
 
 use crate::ranges::{add, count_range, judge_range};
 use crate::table::Table;
@@ -15,7 +16,7 @@ use std::time::Clock;
 /// A range of a section's steps that is judged by itself: the steps `from..to`, a count for each place of
 /// the ring, and what was found.
 #[derive(Drop)]
-pub struct Leaf<A: Allocator> {
+pub(crate) struct Leaf<A: Allocator> {
     pub(crate) from: usize,
     pub(crate) to: usize,
     pub(crate) counts: Vec<usize, A>,
@@ -59,26 +60,29 @@ impl<A: Allocator> Leaf<A> {
         count_range(steps, self.from, self.to, &mut self.counts);
     }
 
-    /// Takes the counts of the steps before the range, and leaves those of the steps before its end in their
-    /// place.
-    pub(crate) fn place(&mut self, counts: &mut Vec<usize, A>)
-        requires places { length self.old.counts ≡ length counts.old.items }
-        requires small { (i : ℕ) → i < length self.old.counts
-            → slice_index self.old.counts i + slice_index counts.old.items i < 2 ^ 64 }
-        ensures leaf { self.new
-            ≡ record {
-              from = self.old.from;
-              to = self.old.to;
-              counts = counts.old.items;
-              fault = self.old.fault;
-            } }
-        ensures places { length counts.new.items ≡ length counts.old.items }
-        ensures sums { (i : ℕ) → i < length self.old.counts
-            → slice_index counts.new.items i
-            ≡ slice_index self.old.counts i + slice_index counts.old.items i }
+    /// The number of the first step after the range.
+    fn end(&self) -> usize
+        ensures { result ≡ self.now.to }
     {
-        add(&mut self.counts, counts);
-        mem::swap(&mut self.counts, counts);
+        self.to
+    }
+
+    /// Takes the counts of the steps before the range, which end where it begins, and adds its own to them.
+    pub(crate) fn place(&mut self, so_far: &mut Leaf<A>)
+        requires counted { (steps : List CertStep) × (places : ℕ) × (so_far.old.to ≡ self.old.from)
+            × AreSoFar steps places so_far.old × IsCounted steps places self.old }
+        ensures range { (self.new.from ≡ self.old.from) × (self.new.to ≡ self.old.to) }
+        ensures placed { (steps : List CertStep) (places : ℕ) → so_far.old.to ≡ self.old.from
+            → AreSoFar steps places so_far.old → IsPlaced steps places self.new }
+        ensures so_far { so_far.new.to ≡ self.old.to }
+        ensures counted { (steps : List CertStep) (places : ℕ) → so_far.old.to ≡ self.old.from
+            → AreSoFar steps places so_far.old → IsCounted steps places self.old
+            → AreSoFar steps places so_far.new }
+    {
+        let to = self.end();
+        add(&mut self.counts, &so_far.counts);
+        mem::swap(&mut self.counts, &mut so_far.counts);
+        so_far.to = to;
     }
 
     /// Passes the gate, and finds the first step of the range that isn't sound, if those before the range

@@ -1,21 +1,19 @@
-ghost use Rattle.std.specs.Prelude.{◌≡◌, ◌↔◌, ◌≤◌, List, Ok, IfOk, length};
+ghost use Rattle.std.specs.Prelude.{◌≡◌, ◌↔◌, ◌+◌, ◌<◌, ◌≤◌, ℕ, List, Ok, Some, IfOk, length, slice_get};
 ghost use Rattle.ira_event.specs.Result.{UnlessErr};
 ghost use Rattle.ira_pred.specs.Case.{Conjunct};
 ghost use Rattle.ira_cert.specs.declared.section_fault.SectionFault.{SectionFault};
-ghost use Rattle.ira_cert.specs.Asked.{HasDifferentPlaces, HasPlacesOf};
-ghost use Rattle.ira_cert.specs.Fronts.{AreFronts};
+ghost use Rattle.ira_cert.specs.Asked.{HasPlacesOf};
 ghost use Rattle.ira_cert.specs.SoundSection.{IsSoundSection};
 ghost use Rattle.ira_cert.specs.SectionFault.{IsSectionFault};
-ghost use Rattle.ira_cert.specs.Verdict.{IsVerdict};
+ghost use Rattle.ira_par.specs.Batch.{IsBlankBatch, AreTasksOf};
+ghost use Rattle.ira_par.specs.Sections.{IsFound};
 
-use crate::leaves::all_leaves;
-use crate::ranges::left_at;
-use crate::rounds::judge_steps;
-use crate::table::Table;
+use crate::batch::Batch;
 use crate::tables::{case_tables, profiled_tables};
+use crate::unsound_section::UnsoundSection;
 use ira_cand::Profile;
-use ira_cert::{Left, Section, SectionFault, Verdict, check_fronts, check_plain, profiled_fronts};
-use ira_event::{Logs, OutOfMemory};
+use ira_cert::{Section, Verdict, case_fronts, check_fronts, profiled_fronts};
+use ira_event::{Logs, OutOfMemory, RingSize};
 use ira_links::Gate;
 use ira_order::{HappenedBefore, Ordered};
 use ira_pred::Case;
@@ -31,9 +29,9 @@ use std::time::Clock;
 /// The steps are halved `depth` times. In a first round the steps of each range are counted, node by
 /// node, so that it is known how many candidates of each node are eliminated before a range; in a second
 /// round each range is judged, behind the gate, which it passes with its number from the left. At depth 0
-/// there is one range, which the plain checker judges. All memory is taken before the first thread starts:
-/// the list of the candidates of each node that is asked, and a counter of each node for each range. Where
-/// a thread can't be started, the one that asked for it does the work.
+/// there is one range, which is judged as `check_plain` does. All memory is taken before the gate is passed
+/// and before the first thread starts: the list of the candidates of each node that is asked, and a counter
+/// of each node for each range. Where a thread can't be started, the one that asked for it does the work.
 pub fn check_split<R, G, A>(
     rt: &R,
     alloc: A,
@@ -58,25 +56,37 @@ where
         ((result ≡ Ok (Verdict.No f)) ↔ IsSectionFault logs.now case.now section.now f) }
 {
     if depth == 0 {
+        let fronts = case_fronts(alloc, logs, case)?;
         gate.pass(rt, 0);
-        return check_plain(alloc, logs, ordered, case, section);
+        return Ok(check_fronts(ordered, fronts, section));
     }
     let tables = case_tables(alloc.clone()?, logs, case)?;
-    check_tables(rt, alloc, ordered, &tables, section, depth, gate)
+    let mut batch = Batch::new(alloc.clone()?, depth)?;
+    batch.push(alloc, tables, section)?;
+    match batch.judge(rt, gate, ordered) {
+        None => Ok(Verdict::Yes),
+        Some(found) => Ok(Verdict::No(found.fault)),
+    }
 }
 
-/// Judges a section as `check_split` does, with the profiles of the logs, place by place: for many cases of
-/// the same logs no state is computed again.
-pub fn split_profiled<R, G, C, A>(
+/// Finds the first section that isn't sound for the case of its number, with the profiles of the logs, place by
+/// place; none where all are sound. Each is judged as by `check_split`, and what is found is the same at every
+/// depth, with every gate, and however the threads are scheduled.
+///
+/// At depth 0 the sections are judged one by one. Else as many are judged together as have some million
+/// candidates and counters, at least one, and threads are started once for all of these: each counts, and
+/// then judges, the ranges of one number. Each range of each section passes the gate, also of those behind the
+/// first that isn't sound, up to the last that is judged together with it.
+pub fn split_sections<R, G, C, A>(
     rt: &R,
     alloc: A,
     profiles: &[Profile<'_, A>],
     ordered: &C,
-    case: &Case<A>,
-    section: &Section<A>,
+    cases: &[Case<A>],
+    sections: &[Section<A>],
     depth: u8,
     gate: &G,
-) -> Result<Verdict, OutOfMemory>
+) -> Result<Option<UnsoundSection>, OutOfMemory>
 where
     R: Threads + Wait + Clock + Sync,
     G: Gate + Sync,
@@ -85,55 +95,90 @@ where
     A: Allocator + Clone + Send + Sync,
     requires depth { depth ≤ 4 }
     requires order { (C.logs_of ordered.now) ≡ profiles.now }
-    requires places { HasPlacesOf profiles.now case.now }
-    ensures yes { UnlessErr result (record {})
-        ((result ≡ Ok Verdict.Yes) ↔ IsSoundSection profiles.now case.now section.now) }
-    ensures no { (f : SectionFault)
-        → UnlessErr result (record {})
-        ((result ≡ Ok (Verdict.No f)) ↔ IsSectionFault profiles.now case.now section.now f) }
+    requires places { (k : ℕ) (case : List Conjunct) → slice_get cases.now k ≡ Some case
+        → HasPlacesOf profiles.now case }
+    requires number { length sections.now ≡ length cases.now }
+    ensures { IfOk result (IsFound profiles.now cases.now sections.now) }
 {
-    let nodes = ordered.logs().size();
     if depth == 0 {
-        gate.pass(rt, 0);
-        let fronts = profiled_fronts(alloc, nodes, profiles, case)?;
-        return Ok(check_fronts(ordered, fronts, section));
+        return check_one_by_one(rt, alloc, profiles, ordered, cases, sections, gate);
     }
-    let tables = profiled_tables(alloc.clone()?, nodes, profiles, case)?;
-    check_tables(rt, alloc, ordered, &tables, section, depth, gate)
+    let nodes = ordered.logs().size();
+    let mut first = 0;
+    while first < cases.len() {
+        let batch = next_batch(&alloc, nodes, profiles, cases, sections, first, depth)?;
+        let count = batch.len();
+        if let Some(found) = batch.judge(rt, gate, ordered) {
+            return Ok(Some(UnsoundSection {
+                section: first + found.section,
+                fault: found.fault,
+            }));
+        }
+        first += count;
+    }
+    Ok(None)
 }
 
-/// Judges a section as `check_split` does, for a case of which the candidates are at hand, place by place:
-/// those of a place that the case asks, and none of another.
-pub fn check_tables<R, G, C, A>(
+/// Finds the first section that isn't sound at depth 0.
+fn check_one_by_one<R, G, C, A>(
     rt: &R,
     alloc: A,
+    profiles: &[Profile<'_, A>],
     ordered: &C,
-    tables: &[Option<Table<A>>],
-    section: &Section<A>,
-    depth: u8,
+    cases: &[Case<A>],
+    sections: &[Section<A>],
     gate: &G,
-) -> Result<Verdict, OutOfMemory>
+) -> Result<Option<UnsoundSection>, OutOfMemory>
 where
-    R: Threads + Wait + Clock + Sync,
-    G: Gate + Sync,
-    C: HappenedBefore + Sync,
-    C::Alloc: Send + Sync,
-    A: Allocator + Clone + Send + Sync,
-    requires depth { depth ≤ 4 }
-    requires places { length tables.now ≤ length (C.logs_of ordered.now) }
-    ensures { IfOk result
-        (λ verdict. (case : List Conjunct) → HasDifferentPlaces case
-        → AreFronts (C.logs_of ordered.now) case tables.now → IsVerdict (C.logs_of ordered.now) case section.now verdict) }
+    R: Wait + Clock,
+    G: Gate,
+    C: HappenedBefore,
+    A: Allocator + Clone,
+    requires order { (C.logs_of ordered.now) ≡ profiles.now }
+    requires places { (k : ℕ) (case : List Conjunct) → slice_get cases.now k ≡ Some case
+        → HasPlacesOf profiles.now case }
+    requires number { length sections.now ≡ length cases.now }
+    ensures { IfOk result (IsFound profiles.now cases.now sections.now) }
 {
-    let steps = section.steps.as_slice();
-    let mut leaves = all_leaves(alloc.clone()?, tables.len(), steps.len(), depth)?;
-    let mut counts = vec![in alloc; 0; tables.len()]?;
-    let fault = judge_steps(rt, gate, ordered, tables, steps, &mut leaves, &mut counts);
-    if let Some(fault) = fault {
-        return Ok(Verdict::No(fault));
+    let nodes = ordered.logs().size();
+    for section in 0..cases.len() {
+        let fronts = profiled_fronts(alloc.clone()?, nodes, profiles, &cases[section])?;
+        gate.pass(rt, 0);
+        if let Verdict::No(fault) = check_fronts(ordered, fronts, &sections[section]) {
+            return Ok(Some(UnsoundSection { section, fault }));
+        }
     }
-    let Left::Spent = left_at(tables, &counts, section.spent) else {
-        return Ok(Verdict::No(SectionFault::NotSpent(section.spent)));
-    };
-    Ok(Verdict::Yes)
+    Ok(None)
+}
+
+/// The sections that are judged together, from this one on.
+fn next_batch<'a, A: Allocator + Clone>(
+    alloc: &A,
+    nodes: RingSize,
+    profiles: &[Profile<'_, A>],
+    cases: &[Case<A>],
+    sections: &'a [Section<A>],
+    first: usize,
+    depth: u8,
+) -> Result<Batch<'a, A>, OutOfMemory>
+    requires depth { depth ≤ 4 }
+    requires nodes { length profiles.now ≡ nodes }
+    requires places { (k : ℕ) (case : List Conjunct) → slice_get cases.now k ≡ Some case
+        → HasPlacesOf profiles.now case }
+    requires number { length sections.now ≡ length cases.now }
+    requires first { first < length cases.now }
+    ensures some { IfOk result (λ batch. 0 < length batch.tasks) }
+    ensures blank { IfOk result (λ batch. IsBlankBatch batch) }
+    ensures tasks { IfOk result (λ batch. AreTasksOf profiles.now cases.now sections.now first batch.tasks) }
+    ensures room { IfOk result (λ batch. first + length batch.tasks ≤ length cases.now) }
+{
+    let mut batch = Batch::new(alloc.clone()?, depth)?;
+    for section in first..cases.len() {
+        let tables = profiled_tables(alloc.clone()?, nodes, profiles, &cases[section])?;
+        batch.push(alloc.clone()?, tables, &sections[section])?;
+        if batch.is_full() {
+            return Ok(batch);
+        }
+    }
+    Ok(batch)
 }

@@ -5,7 +5,7 @@ use std::marker::Model;
 
 /// The candidates of a node, all of them; seen by contracts as their list.
 #[derive(Drop)]
-pub struct Table<A: Allocator> {
+pub(crate) struct Table<A: Allocator> {
     positions: Vec<u32, A>,
 }
 
@@ -19,10 +19,15 @@ impl<A: Allocator> Model for Table<A> {
 
 impl<A: Allocator> Table<A> {
     /// The candidates at these positions.
-    pub fn new(positions: Vec<u32, A>) -> Table<A>
+    pub(crate) fn new(positions: Vec<u32, A>) -> Table<A>
         ensures { result ≡ positions.items }
     {
         Table { positions }
+    }
+
+    /// How many candidates there are.
+    pub(crate) fn len(&self) -> usize {
+        self.positions.len()
     }
 
     /// The candidate of this number, from 0.

@@ -11,10 +11,11 @@ returns-in_default c = no_line_end c.args.text.now (sym c.line_end.ensures ∙ c
 pub returns : goal.returns
 returns c =
     let text = c.args.text.now in
+    let end = c.in-Some.end in
+    let more = c.split_at-2.result.1.now in
     let at = sym c.line_end.ensures ∙ c.in-Some.is in
-    let front = sym c.split_at.ensures.front in
-    let after : drop 1 (drop c.in-Some.end text) ≡ c.split_at-2.result.1.now = sym (c.split_at-2.ensures.back ∙ ap (drop 1) c.split_at.ensures.back) in (
-      first_feed text c.in-Some.end at ∙ ap (λ (x : List ℕ). take c.in-Some.end text ++ codes "\n" ++ x) after
-          ∙ ap (λ (x : List ℕ). x ++ codes "\n" ++ c.split_at-2.result.1.now) front,
-      subst HasNoLineFeed front (line_end_at text c.in-Some.end at).whole,
-    )
+    let front : take end text ≡ c.split_at.result.0.now = sym c.split_at.ensures.front in
+    let after : drop 1 (drop end text) ≡ more = sym (c.split_at-2.ensures.back ∙ ap (drop 1) c.split_at.ensures.back) in
+    let behind = ap (λ (x : List ℕ). take end text ++ codes "\n" ++ x) after in
+    let line = ap (λ (x : List ℕ). x ++ codes "\n" ++ more) front in
+    (first_feed text end at ∙ behind ∙ line, subst HasNoLineFeed front (line_end_at text end at).whole)

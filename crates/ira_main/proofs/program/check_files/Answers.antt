@@ -1,4 +1,4 @@
-use Rattle.std.proofs.Common.{inl, inr, refl, rules, [], ◌∷◌}
+use Rattle.std.proofs.Common.{Ok, ap, inl, inr, refl, rules, [], ◌∷◌}
 use Rattle.ira_event.proofs.Unless.{unless_ok}
 use Rattle.ira_main.proofs.FilesRead.{of_back, of_front}
 use Rattle.ira_main.specs.FilesRead.{names_of}
@@ -26,6 +26,9 @@ returns g c =
         given = (c.in_ok-question.ensures.read, (c.in_ok-certificate.ensures.read, rw c.deref.ensures.value at taken.2));
         answer = answer;
         judged = rw (c.bytes-question.ensures, c.bytes-certificate.ensures) at is;
+        never = λ e.
+            let never = c.in_ok-answer.ensures.yes taken.0 taken.1 (ap Ok e) in
+            rw (c.bytes-question.ensures, c.bytes-certificate.ensures) at never;
         reported = c.report.ensures;
       }),
     )

@@ -1,4 +1,4 @@
-use Rattle.std.proofs.Common.{◌≡◌, ◌≤◌, ◌++◌, ◌+◌, ◌-◌, ap, arith, drop, length, length-append, take}
+use Rattle.std.proofs.Common.{◌≡◌, ◌≤◌, ◌++◌, ◌-◌, ap, arith, drop, length, length-append, take}
 use Rattle.std.proofs.lemmas.List.{length-take-le}
 use Rattle.ira_audit.proofs.LogAudits.{left_behind, suffix_shorter, suffix_trans, taken_lines}
 use Rattle.ira_audit.proofs.log_audit.LogAudit.take.Goals as goal

@@ -1,21 +1,26 @@
-use Rattle.std.proofs.Common.{refl, sym, ◌∙◌}
+use Rattle.std.proofs.Common.{sym, ◌∙◌}
 use Rattle.ira_audit.specs.declared.answer.Answer.TheVariants.{Yes}
 use Rattle.ira_audit.specs.AuditAnswer.{IsAuditAnswer}
 use Rattle.ira_audit.proofs.Judging.{answered_exactly, answered_holds, answered_reportable}
-use Rattle.ira_audit.proofs.NeverMet.{yes_never}
+use Rattle.ira_audit.proofs.NeverMet.{no_case}
 use Rattle.ira_audit.proofs.OneAuditAnswer.{one_audit_answer}
 use Rattle.ira_audit.proofs.ring_audit.RingAudit.finish_with.Goals as goal
 
 pub returns-clause-answer : goal.returns-clause-answer
 returns-clause-answer g c = λ texts a taken.
-    let Is = IsAuditAnswer texts c.args.question.now c.args.certificate.now in
-    rw c.answer_of.ensures (answered_exactly Is (one_audit_answer texts c.args.question.now c.args.certificate.now) c.judge_with.result (c.judge_with.ensures texts taken) a)
+    let question = c.args.question.now in
+    let certificate = c.args.certificate.now in
+    let one = one_audit_answer texts question certificate in
+    rw c.answer_of.ensures
+    (answered_exactly (IsAuditAnswer texts question certificate) one c.check.result (c.check.ensures texts taken) a)
 
 pub returns-clause-reportable : goal.returns-clause-reportable
 returns-clause-reportable g c = λ texts taken.
-    rw c.answer_of.ensures (answered_reportable (IsAuditAnswer texts c.args.question.now c.args.certificate.now) c.judge_with.result (c.judge_with.ensures texts taken))
+    let Is = IsAuditAnswer texts c.args.question.now c.args.certificate.now in
+    rw c.answer_of.ensures (answered_reportable Is c.check.result (c.check.ensures texts taken))
 
 pub returns-clause-yes : goal.returns-clause-yes
 returns-clause-yes g c = λ texts taken e.
     let Is = IsAuditAnswer texts c.args.question.now c.args.certificate.now in
-    yes_never texts c.args.question.now c.args.certificate.now Yes (answered_holds Is c.judge_with.result (c.judge_with.ensures texts taken) Yes (sym c.answer_of.ensures ∙ e)) refl
+    no_case texts c.args.question.now c.args.certificate.now
+    (answered_holds Is c.check.result (c.check.ensures texts taken) Yes (sym c.answer_of.ensures ∙ e))

@@ -9,7 +9,10 @@ loop-line-init c = first
 pub loop-line-preserved : goal.loop-line-preserved
 loop-line-preserved c = elim c.match-split_line.branch [
   | in-Some w ↦
-      let from = subst (IsFromLine c.args.self.now.text.now c.loop-line.line) w.in-Some.ensures.0 c.loop-line.invariant in
+      let text = c.args.self.now.text.now in
+      let from = subst (IsFromLine text c.loop-line.line) w.in-Some.ensures.0 c.loop-line.invariant in
       rw w.rest-is (behind c.loop-line.line w.in-Some.field-0-0.now w.in-Some.after.now from w.in-Some.ensures.1)
-  | in-None w ↦ rw w.rest-is (past c.loop-line.line c.loop-line.rest.now c.loop-line.invariant w.in-None.ensures)
+  | in-None w ↦
+      let from = c.loop-line.invariant in
+      rw w.rest-is (past c.loop-line.line c.loop-line.rest.now from w.in-None.ensures)
 ]

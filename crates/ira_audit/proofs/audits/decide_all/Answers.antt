@@ -1,0 +1,11 @@
+use Rattle.std.proofs.Common.{map}
+use Rattle.ira_audit.proofs.audits.decide_all.Goals as goal
+
+pub returns : goal.returns
+returns g c =
+    let texts = map (λ t. t.now) c.args.texts.now in
+    record {
+      refused = λ r. c.decide.ensures.refused texts r c.in_ok-of_texts.ensures;
+      found = c.decide.ensures.found texts c.in_ok-of_texts.ensures;
+      reportable = c.decide.ensures.reportable texts c.in_ok-of_texts.ensures;
+    }

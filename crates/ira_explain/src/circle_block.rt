@@ -1,0 +1,93 @@
+use crate::named_text::NamedText;
+use crate::page::{Mark, Page};
+use crate::places::{file_of, line_of, record_cell};
+use crate::table::{Row, Table};
+use ira_event::{Event, Logs, OutOfMemory};
+use ira_evidence::{CircleEvidence, StuckAt, first_stops};
+use std::alloc::Allocator;
+
+/// The line of the receipt at which a node is stuck; nothing where the place has none.
+fn stuck_line(stuck: &[StuckAt], place: u8) -> usize {
+    match stuck.get(usize::from(place)) {
+        Some(stuck) => line_of(stuck.receipt.position),
+        None => 0,
+    }
+}
+
+/// Adds where a node is stuck, and where the sending stands that it waits for.
+fn add_stuck<A: Allocator + Copy>(
+    alloc: A,
+    table: &mut Table<A>,
+    files: &[NamedText<'_>],
+    stuck: &[StuckAt],
+    at: StuckAt,
+) -> Result<(), OutOfMemory> {
+    let StuckAt {
+        receipt,
+        load,
+        sending,
+    } = at;
+    let node = format!(in alloc; "node {}", receipt.place)?;
+    let record = record_cell(
+        alloc,
+        file_of(files, receipt.place),
+        receipt.position,
+        Event::Got(load),
+    )?;
+    let sender = format!(in alloc; "is sent by node {}", sending.place)?;
+    let sent = format!(in alloc;
+        "{}:{}, behind its line {}",
+        file_of(files, sending.place),
+        line_of(sending.position),
+        stuck_line(stuck, sending.place)
+    )?;
+    let mut row = Row::new(alloc, Mark::Plain);
+    row.add(node)?;
+    row.add(record)?;
+    row.add(sender)?;
+    row.add(sent)?;
+    table.add(row)
+}
+
+/// How many events logs have.
+pub(crate) fn number_of_events<A: Allocator>(logs: &Logs<A>) -> usize {
+    let mut events = 0usize;
+    for place in 0..logs.size().get() {
+        events = events.saturating_add(logs.log(place).len());
+    }
+    events
+}
+
+/// Adds the receipts that wait for one another.
+pub(crate) fn explain_circle<A: Allocator + Copy, P: Allocator>(
+    alloc: A,
+    page: &mut Page<P>,
+    files: &[NamedText<'_>],
+    logs: &Logs<A>,
+    evidence: &CircleEvidence<A>,
+) -> Result<(), OutOfMemory> {
+    page.paragraph(
+        "Each of these receipts waits for a sending that its sender made only behind its own such receipt:",
+    )?;
+    page.blank()?;
+    let mut table = Table::new(alloc);
+    for at in &evidence.stuck {
+        add_stuck(alloc, &mut table, files, &evidence.stuck, *at)?;
+    }
+    table.print(page)?;
+    page.blank()?;
+    let (ordered, events) = (evidence.ordered, number_of_events(logs));
+    page.paragraph(format!(in alloc;
+        "So none of them can come first. {ordered} of {events} events can be put in order; these come next."
+    )?.as_str())?;
+    if let Some(stop) = first_stops(alloc, logs)?.first() {
+        page.paragraph(format!(in alloc;
+            "Besides, node {} has no step for event {}: {}.",
+            stop.at.place, stop.at.position, stop.fault
+        )?
+        .as_str())?;
+    }
+    page.hint(
+        "records that are not in the order of the node: two threads write one log, or records were sorted by a clock.",
+    )
+}
