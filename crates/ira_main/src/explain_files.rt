@@ -15,7 +15,7 @@ use crate::status::Status;
 use crate::text_buffer::TextBuffer;
 use crate::text_source::TextSource;
 use ira_audit::{Answer, RingAudit, audit_one, write_report};
-use ira_event::{MAX_TEXT, OutOfMemory, Sink, WriteFault};
+use ira_event::{MAX_TEXT, OutOfMemory, Sink, WriteFault, write_bytes};
 use ira_explain::{NamedText, Page, explain_log, explain_logs};
 use ira_words::LogSource;
 use std::alloc::{AllocError, Allocator};
@@ -67,16 +67,12 @@ fn named_texts<'t, A: Allocator>(
 
 // Writes the line of an answer, and the page after it.
 #[tactic(auto, using(ira_event::proofs::Writing::writes))]
-fn write_explained<A: Allocator, W: Sink>(
-    answer: &Answer,
-    page: &Page<A>,
-    sink: &mut W,
-) -> Result<(), WriteFault>
+fn write_explained<W: Sink>(answer: &Answer, page: &[u8], sink: &mut W) -> Result<(), WriteFault>
     requires { IsReportable answer.now }
-    ensures text { Wrote result (report_line answer.now ++ page.now) (W.state sink.old) (W.state sink.new) }
+    ensures { Wrote result (report_line answer.now ++ page.now) (W.state sink.old) (W.state sink.new) }
 {
     write_report(answer, sink)?;
-    page.write(sink)
+    write_bytes(page, sink)
 }
 
 // The status of an answer whose line was printed with the page after it.
@@ -88,7 +84,7 @@ fn print_explained<'a, A: Allocator, W: Sink>(
     requires { IsReportable answer.now }
     ensures { Explains answer.now (W.state out.old) (W.state out.new) result }
 {
-    match write_explained(answer, page, out) {
+    match write_explained(answer, page.text(), out) {
         Ok(()) => Ok(Status::of_answer(answer)),
         Err(WriteFault) => Err(ProgramFault::CannotWriteAnswer),
     }

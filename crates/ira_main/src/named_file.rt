@@ -35,12 +35,12 @@ impl<A: Allocator> NamedFile<A> {
     ) -> Result<NamedFile<A>, ProgramFault<'a>>
     where
         A: Clone,
-        ensures read { IfOk result (λ file. F.reads shelf.now (file_name name) (Ok file)) }
-        ensures fault { IfErr result (IsFilesFault F.reads (file_name name ∷ []) shelf.now) }
+        ensures read { IfOk result (λ file. F.reads shelf.now (file_name name.entry) (Ok file)) }
+        ensures fault { IfErr result (IsFilesFault F.reads (file_name name.entry ∷ []) shelf.now) }
     {
         let text = read_file(alloc, name, shelf)?;
-        let name = name.path(alloc.clone()?)?;
-        Ok(NamedFile { name, text })
+        let path = name.path(alloc.clone()?)?;
+        Ok(NamedFile { name: path, text })
     }
 
     /// Its text.

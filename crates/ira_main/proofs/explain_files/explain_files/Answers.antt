@@ -1,5 +1,4 @@
 use Rattle.std.proofs.Common.{inl, inr, refl, rules}
-use Rattle.ira_main.specs.declared.program_fault.ProgramFault.TheVariants.{OutOfMemory}
 use Rattle.ira_main.proofs.explain_files.explain_files.Goals as goal
 
 pub returns : goal.returns
@@ -9,9 +8,9 @@ returns g c =
       c.in_ok-names.ensures,
       inl (record {
         texts = c.in_ok-files.files.items;
-        given = c.in_ok-files.ensures;
+        given = rw c.deref.ensures.value at c.in_ok-files.ensures;
         answer = c.in_ok-answer.answer;
-        judged = c.in_ok-answer.ensures.answer;
+        judged = rw c.deref-2.ensures.value at c.in_ok-answer.ensures.answer;
         told = c.print_explained.ensures;
       }),
     )
