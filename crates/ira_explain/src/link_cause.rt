@@ -1,0 +1,16 @@
+/// What the two sides of a link have in common from a receipt on that isn't of the load of its sending.
+#[derive(Clone, Copy, Debug, PartialEq, Eq)]
+pub(crate) enum LinkCause {
+    /// Each receipt has the hop of its sending raised by one.
+    HopRaised,
+    /// This receipt and the next one are the next sending and this one.
+    Exchanged,
+    /// Each receipt is the sending after its own.
+    Lost,
+    /// Each receipt is the sending before its own.
+    CameTwice,
+    /// Only the bit differs.
+    Bit,
+    /// What was received was never sent.
+    NeverSent,
+}

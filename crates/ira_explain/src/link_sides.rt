@@ -1,0 +1,135 @@
+use crate::link_cause::LinkCause;
+use ira_event::{Event, Load, Msg, NodeLog, OutOfMemory};
+use std::alloc::Allocator;
+
+/// What the two nodes of a link recorded of it, each in its own order.
+#[derive(Drop)]
+pub(crate) struct LinkSides<A: Allocator> {
+    pub(crate) sent: Vec<Load, A>,
+    pub(crate) received: Vec<Load, A>,
+}
+
+/// The loads that a node sent.
+fn loads_sent<A: Allocator>(
+    alloc: A,
+    log: &NodeLog<A>,
+) -> Result<Vec<Load, A>, OutOfMemory> {
+    let mut loads = Vec::new(alloc);
+    for event in log.events() {
+        if let Event::Sent(load) = event {
+            loads.push(load)?;
+        }
+    }
+    Ok(loads)
+}
+
+/// The loads that a node received.
+fn loads_received<A: Allocator>(
+    alloc: A,
+    log: &NodeLog<A>,
+) -> Result<Vec<Load, A>, OutOfMemory> {
+    let mut loads = Vec::new(alloc);
+    for event in log.events() {
+        if let Event::Got(load) = event {
+            loads.push(load)?;
+        }
+    }
+    Ok(loads)
+}
+
+impl<A: Allocator + Copy> LinkSides<A> {
+    /// The sides of a link that leads from the node of one log to that of the other.
+    pub(crate) fn of(
+        alloc: A,
+        writer: &NodeLog<A>,
+        reader: &NodeLog<A>,
+    ) -> Result<LinkSides<A>, OutOfMemory> {
+        Ok(LinkSides {
+            sent: loads_sent(alloc, writer)?,
+            received: loads_received(alloc, reader)?,
+        })
+    }
+}
+
+impl<A: Allocator> LinkSides<A> {
+    /// Whether the receipts after the first `passed` ones are the sendings after the first `skipped` ones, one by one.
+    pub(crate) fn go_on_alike(&self, passed: usize, skipped: usize) -> bool {
+        let receipts = self.received.iter().skip(passed);
+        let sendings = self.sent.iter().skip(skipped);
+        self.received.len().saturating_sub(passed) <= self.sent.len().saturating_sub(skipped)
+            && receipts.zip(sendings).all(|(receipt, sending)| receipt == sending)
+    }
+
+    /// Whether each receipt after the first `passed` ones has the hop of its sending raised by one.
+    fn have_raised_hops(&self, passed: usize) -> bool {
+        let receipts = self.received.iter().skip(passed);
+        let sendings = self.sent.iter().skip(passed);
+        receipts.zip(sendings).all(|(receipt, sending)| is_raised(*receipt, *sending))
+    }
+
+    /// Whether the receipts after the first `passed` ones begin with the two next sendings, exchanged.
+    fn are_exchanged(&self, passed: usize) -> bool {
+        match (
+            self.received.as_slice().get(passed..),
+            self.sent.as_slice().get(passed..),
+        ) {
+            (Some([receipt, next_receipt, ..]), Some([sending, next_sending, ..])) => {
+                receipt == next_sending && next_receipt == sending
+            }
+            _ => false,
+        }
+    }
+
+    /// What the receipts from number `k` on and the sendings have in common, the first that holds. Receipt `k` isn't of
+    /// the load of sending `k`.
+    pub(crate) fn cause(&self, k: u32) -> Option<LinkCause> {
+        let k = k as usize;
+        let passed = k.saturating_sub(1);
+        let receipt = *self.received.get(passed)?;
+        let sending = *self.sent.get(passed)?;
+        if self.have_raised_hops(passed) {
+            Some(LinkCause::HopRaised)
+        } else if self.are_exchanged(passed) {
+            Some(LinkCause::Exchanged)
+        } else if self.go_on_alike(passed, k) {
+            Some(LinkCause::Lost)
+        } else if k > 1 && self.go_on_alike(passed, k - 2) {
+            Some(LinkCause::CameTwice)
+        } else if differ_by_bit(receipt, sending) {
+            Some(LinkCause::Bit)
+        } else if !self.sent.contains(&receipt) {
+            Some(LinkCause::NeverSent)
+        } else {
+            None
+        }
+    }
+}
+
+/// Whether the receipt is the sending with its hop raised by one.
+fn is_raised(receipt: Load, sending: Load) -> bool {
+    match (receipt, sending) {
+        (Load::Msg(receipt), Load::Msg(sending)) => {
+            receipt
+                == Msg {
+                    hop: sending.hop.saturating_add(1),
+                    ..sending
+                }
+        }
+        (Load::Reset(receipt), Load::Reset(sending)) => receipt == sending.saturating_add(1),
+        _ => false,
+    }
+}
+
+/// Whether two loads are messages that differ by the bit alone.
+fn differ_by_bit(receipt: Load, sending: Load) -> bool {
+    match (receipt, sending) {
+        (Load::Msg(receipt), Load::Msg(sending)) => {
+            receipt
+                == Msg {
+                    dirty: !sending.dirty,
+                    ..sending
+                }
+        }
+        _ => false,
+    }
+}

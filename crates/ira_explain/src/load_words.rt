@@ -1,0 +1,23 @@
+use ira_event::{Load, Msg};
+use std::fmt;
+
+/// A load as logs spell it.
+#[derive(Clone, Copy)]
+pub(crate) struct LoadWords(pub(crate) Load);
+
+impl fmt::Display for LoadWords {
+    fn fmt<W: fmt::Write>(&self, f: &mut fmt::Formatter<W>) -> fmt::Result {
+        match self.0 {
+            Load::Msg(Msg {
+                round,
+                id,
+                hop,
+                dirty,
+            }) => {
+                let bit = if dirty { "dirty" } else { "clean" };
+                write!(f, "{round} {id} {hop} {bit}")
+            }
+            Load::Reset(hop) => write!(f, "reset {hop}"),
+        }
+    }
+}

@@ -1,0 +1,58 @@
+ghost use Rattle.std.specs.Prelude.{◌≡◌, ◌<◌};
+ghost use Rattle.ira_order.specs.Ring.{next};
+
+use crate::event_words::EventWords;
+use crate::named_text::NamedText;
+use ira_event::{Event, Logs, NodeLog, OutOfMemory};
+use std::alloc::Allocator;
+
+/// How many lines stand in front of a log's first record.
+const HEAD_LINES: usize = 4;
+
+/// The line of a log's text that an event stands on.
+pub(crate) fn line_of(position: u32) -> usize {
+    position as usize + HEAD_LINES
+}
+
+/// The file of the log of a place.
+pub(crate) fn file_of<'a>(files: &[NamedText<'a>], place: u8) -> &'a str {
+    match files.get(usize::from(place)) {
+        Some(file) => file.name,
+        None => "-",
+    }
+}
+
+/// The place that a node sends to, in a ring of so many nodes.
+pub(crate) fn next_place(nodes: u8, place: u8) -> u8
+    requires { place < nodes }
+    ensures value { result ≡ next nodes place }
+    ensures place { result < nodes }
+{
+    if place + 1 < nodes { place + 1 } else { 0 }
+}
+
+/// An event of a log, counted from 1, where it has so many.
+pub(crate) fn event_of<A: Allocator>(log: &NodeLog<A>, position: u32) -> Option<Event> {
+    if position < 1 || position as usize > log.len() {
+        return None;
+    }
+    Some(log.event(position))
+}
+
+/// The log of a place, where there is one.
+pub(crate) fn log_at<A: Allocator>(logs: &Logs<A>, place: u8) -> Option<&NodeLog<A>> {
+    if place >= logs.size().get() {
+        return None;
+    }
+    Some(logs.log(place))
+}
+
+/// `FILE:LINE: RECORD` of an event.
+pub(crate) fn record_cell<A: Allocator>(
+    alloc: A,
+    file: &str,
+    position: u32,
+    event: Event,
+) -> Result<String<A>, OutOfMemory> {
+    Ok(format!(in alloc; "{file}:{}: {}", line_of(position), EventWords(event))?)
+}
