@@ -17,5 +17,9 @@ mod rule;
 mod state_words;
 mod table;
 
+pub use load_words::LoadWords;
 pub use named_text::NamedText;
+pub use number_of::NumberOf;
 pub use page::{Mark, Page};
+pub use round_words::RoundWords;
+pub use state_words::StateWords;

@@ -26,5 +26,6 @@ BeginsWithCut logs order t cut = (i : ℕ) → i < length logs → slice_index c
 abbrev pub MomentsAreConfigurations : Type 0
 MomentsAreConfigurations =
     (logs : List Log) (cut order : List ℕ) (t : ℕ) (run : List (ℕ × Event)) (m : Moment)
-    → AreLogs logs → Matches logs → AreLocalRuns logs → IsOrder logs order → Means logs order run → BeginsWithCut logs order t cut → IsMoment logs cut m
+    → AreLogs logs → Matches logs → AreLocalRuns logs → IsOrder logs order → Means logs order run
+    → BeginsWithCut logs order t cut → IsMoment logs cut m
     → (c : Configuration) × Reaches (length logs) (opening logs) (take t run) c × IsConfiguration m c
