@@ -32,5 +32,9 @@ mod text_block;
 mod text_head;
 
 pub use explain::{explain_log, explain_logs};
+pub use load_words::LoadWords;
 pub use named_text::NamedText;
+pub use number_of::NumberOf;
 pub use page::{Mark, Page};
+pub use round_words::RoundWords;
+pub use state_words::StateWords;

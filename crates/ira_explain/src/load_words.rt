@@ -3,7 +3,7 @@ use std::fmt;
 
 /// A load as logs spell it.
 #[derive(Clone, Copy)]
-pub(crate) struct LoadWords(pub(crate) Load);
+pub struct LoadWords(pub Load);
 
 impl fmt::Display for LoadWords {
     fn fmt<W: fmt::Write>(&self, f: &mut fmt::Formatter<W>) -> fmt::Result {

@@ -2,7 +2,7 @@ use std::fmt;
 
 /// So many things, with the word for one of them.
 #[derive(Clone, Copy)]
-pub(crate) struct NumberOf(pub(crate) usize, pub(crate) &'static str);
+pub struct NumberOf(pub usize, pub &'static str);
 
 impl fmt::Display for NumberOf {
     fn fmt<W: fmt::Write>(&self, f: &mut fmt::Formatter<W>) -> fmt::Result {

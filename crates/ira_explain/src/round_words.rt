@@ -2,9 +2,9 @@ use std::fmt;
 
 /// A round, with its term where that isn't the first one.
 #[derive(Clone, Copy)]
-pub(crate) struct RoundWords {
-    pub(crate) round: u32,
-    pub(crate) term: u32,
+pub struct RoundWords {
+    pub round: u32,
+    pub term: u32,
 }
 
 impl fmt::Display for RoundWords {

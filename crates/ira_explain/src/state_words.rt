@@ -5,7 +5,7 @@ use std::fmt;
 
 /// What a node is doing, and what it owes.
 #[derive(Clone, Copy)]
-pub(crate) struct StateWords(pub(crate) NodeState);
+pub struct StateWords(pub NodeState);
 
 impl StateWords {
     fn write_phase<W: fmt::Write>(&self, f: &mut fmt::Formatter<W>) -> fmt::Result {

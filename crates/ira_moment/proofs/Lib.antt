@@ -1,0 +1,3 @@
+pub mod Configurations
+pub mod OnTheWay
+pub mod Progress
