@@ -6,3 +6,4 @@ pub mod PartsAt
 pub mod Reading
 pub mod Reporting
 pub mod Shares
+pub mod Unjudged

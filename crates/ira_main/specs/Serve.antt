@@ -10,6 +10,7 @@ use Rattle.ira_audit.specs.Answer.{IsAnswer}
 use Rattle.ira_audit.specs.AuditAnswer.{IsAuditAnswer}
 use Rattle.ira_audit.specs.LogsAnswer.{IsLogsAnswer}
 use Rattle.ira_audit.specs.Never.{NoCaseIsMet}
+use Rattle.ira_audit.specs.TextRuns.{AreTextsOfRuns}
 use Rattle.ira_audit.specs.declared.answer.Answer.{Answer}
 use Rattle.ira_audit.specs.declared.answer.Answer.TheVariants as audit
 use Rattle.ira_ring.specs.EndsWriter.{ends_text}
@@ -54,13 +55,15 @@ pub data Judges (Tells : Telling) (old new : Reads) (out out' : SinkState) (outc
       → out' ≡ out → outcome ≡ Err (CannotRead name) → Judges Tells old new out out' outcome
   no_memory : out' ≡ out → outcome ≡ Err OutOfMemory → Judges Tells old new out out' outcome
 
--- the files of these names were read, their texts were judged together, and their answer told
+-- the files of these names were read, their texts were judged together, and their answer told; after a yes they are the
+-- texts of runs
 pub record JudgesTogether (Tells : Telling) {S : Type 0} (reads : Reading S) (names : List (List ℕ)) (shelf : S)
     (out out' : SinkState) (outcome : Outcome) : Type 0 where
   pub texts : List (List ℕ)
   pub given : ReadsFiles reads names shelf texts
   pub answer : Answer
   pub judged : IsLogsAnswer texts answer
+  pub runs : answer ≡ audit.Yes → AreTextsOfRuns texts
   pub told : Tells answer out out' outcome
 
 -- the logs of a source were judged together, and their answer told; or no answer is given

@@ -1,7 +1,9 @@
-ghost use Rattle.std.specs.Prelude.{◌≡◌, ◌≤◌, ◌+◌, ◌++◌, IfOk, MatchResult, map};
+ghost use Rattle.std.specs.Prelude.{◌≡◌, ◌≤◌, ◌+◌, ◌++◌, IfOk, MatchResult, Ok, map};
 ghost use Rattle.ira_event.specs.Sink.{Wrote};
 ghost use Rattle.ira_audit.specs.LogsAnswer.{IsLogsAnswer};
 ghost use Rattle.ira_audit.specs.Report.{IsReportable, report_line};
+ghost use Rattle.ira_audit.specs.TextRuns.{AreTextsOfRuns};
+ghost use Rattle.ira_audit.specs.declared.answer.Answer.TheVariants as answer;
 ghost use Rattle.ira_main.specs.FilesRead.{IsFilesFault, ReadsFiles, names_of};
 ghost use Rattle.ira_main.specs.Outcome.{Explains};
 ghost use Rattle.ira_main.specs.Serve.{Judges, JudgesLogs};
@@ -47,6 +49,7 @@ fn judge_texts<R: Threads, A: Allocator + Clone + Sync>(
 ) -> Result<Answer, OutOfMemory>
     ensures answer { IfOk result (IsLogsAnswer files.now) }
     ensures reportable { IfOk result IsReportable }
+    ensures runs { result ≡ Ok answer.Yes → AreTextsOfRuns files.now }
 {
     let mut audit = RingAudit::new(alloc);
     for file in files {
@@ -62,7 +65,11 @@ fn named_texts<'t, A: Allocator>(
 ) -> Result<Vec<NamedText<'t>, A>, AllocError>
     ensures { IfOk result (λ named. map (λ text. text.text.now) named.items ≡ files.now) }
 {
-    files.iter().map(NamedFile::named).collect(alloc)
+    let mut named = Vec::with_capacity(alloc, files.len())?;
+    for file in files {
+        named.push(file.named())?;
+    }
+    Ok(named)
 }
 
 // Writes the line of an answer, and the page after it.

@@ -19,5 +19,7 @@ loop-name-preserved g c =
     let at = named_at c.args.names.now i _ (omega arith) in
     record {
       within = omega arith;
-      given = reads_next g.F.TextSource.reads names i _ c.args.shelf.now _ _ at c.loop-name.invariant.given c.in_ok-read.ensures.read;
+      given =
+          rw c.in_ok-push.ensures.items
+          (reads_next g.F.TextSource.reads names i _ c.args.shelf.now _ _ at c.loop-name.invariant.given c.in_ok-read.ensures.read);
     }

@@ -1,4 +1,4 @@
-use Rattle.std.proofs.Common.{inl, inr, refl, rules}
+use Rattle.std.proofs.Common.{Ok, ap, inl, inr, refl, rules}
 use Rattle.ira_event.proofs.Unless.{unless_ok}
 use Rattle.ira_main.specs.declared.program_fault.ProgramFault.TheVariants.{OutOfMemory}
 use Rattle.ira_main.proofs.program.judge_files.Goals as goal
@@ -21,6 +21,7 @@ returns g c =
         given = rw c.deref.ensures.value at taken.2;
         answer = answer;
         judged = exact.0 refl;
+        runs = λ e. c.in_ok-answer.ensures.runs taken.0 taken.1 (ap Ok e);
         told = c.report.ensures;
       }),
     )
