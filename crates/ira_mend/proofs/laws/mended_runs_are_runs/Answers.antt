@@ -9,4 +9,4 @@ returns-clause-runs c = λ whole left mended cut logs order runs are is. runs_me
 pub returns-clause-answer : goal.returns-clause-answer
 returns-clause-answer c = λ whole left mended cut texts logs order runs are is texts_are.
     let r = runs_mended whole left mended cut are is logs order runs in
-    yes mended (record { texts_are = texts_are; ring = r.0; order = r.1; runs = r.2 }) refl
+    yes mended (record { texts_are = texts_are; are_good = record { ring = r.0; order = r.1; runs = r.2 } }) refl
