@@ -223,7 +223,7 @@ fn words_of_check(rt: HostRuntime) {
         (
             "--cert=d",
             "error: the argument '--cert <C>' cannot be used multiple times\n\n\
-             Usage: ira check [OPTIONS] --question <Q> --cert <C> <LOG>...",
+             Usage: ira check [OPTIONS] --question <Q> --cert <C> [LOG]...",
         ),
     ] {
         let words = ["check", "--question=q", "--cert=c", "0.log", word];

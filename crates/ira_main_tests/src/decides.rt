@@ -113,7 +113,7 @@ fn pairs_of_no_ring(rt: HostRuntime) {
 }
 
 #[test]
-fn words_of_pairs_and_decide(rt: HostRuntime) {
+fn words_of_pairs(rt: HostRuntime) {
     for (words, first_lines) in [
         (
             ["pairs", "x"].as_slice(),
@@ -122,11 +122,6 @@ fn words_of_pairs_and_decide(rt: HostRuntime) {
         (
             ["pairs", "2", "3"].as_slice(),
             "error: unexpected argument '3' found\n\nUsage: ira pairs <N>",
-        ),
-        (
-            ["decide", "--question=q"].as_slice(),
-            "error: the following required arguments were not provided:\n  <LOG>...\n\n\
-             Usage: ira decide --question <Q> <LOG>...",
         ),
     ] {
         assert_refused(&rt, words, first_lines, TRY_HELP);

@@ -10,6 +10,8 @@ mod fakes;
 #[cfg(test)]
 mod files;
 #[cfg(test)]
+mod folders;
+#[cfg(test)]
 mod full_device;
 #[cfg(test)]
 mod kept;

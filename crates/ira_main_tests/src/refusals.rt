@@ -26,6 +26,8 @@ struct Case {
 const FILES: &[(&str, File<'static>)] = &[
     ("0.log", File::Text(ELECTED_0)),
     ("1.log", File::Text(ELECTED_1)),
+    ("ring/0.log", File::Text(ELECTED_0)),
+    ("ring/1.log", File::Text(ELECTED_1)),
     ("one", File::Text(LEADER_AND_ACTIVE)),
     ("two", File::Text(TWO_CASES)),
     ("c", File::Text(TWO_STEPS)),
@@ -54,6 +56,13 @@ const CASES: &[Case] = &[
     },
     Case {
         words: &["logs", "0.log", "1.log"],
+        status: 0,
+        out: "yes\n",
+        err: "",
+        written: &[],
+    },
+    Case {
+        words: &["logs", "--dir=ring"],
         status: 0,
         out: "yes\n",
         err: "",

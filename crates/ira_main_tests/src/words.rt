@@ -7,13 +7,15 @@ use std::sync::Wait;
 use std::thread::Threads;
 use std::time::Clock;
 
-const USAGE: &str = "\n\nUsage: ira < LOG\n       ira logs <LOG>...\n       \
-                     ira check --question <Q> --cert <C> [--depth <D>] <LOG>...\n       \
-                     ira decide --question <Q> [--out <C>] <LOG>...\n       \
+pub(crate) const USAGE: &str =
+    "\n\nUsage: ira < LOG\n       ira logs <LOGS>\n       ira explain [<LOGS>]\n       \
+                     ira check --question <Q> --cert <C> [--depth <D>] <LOGS>\n       \
+                     ira decide --question <Q> [--out <C>] <LOGS>\n       \
                      ira pairs <N>\n       \
                      ira run --nodes <N> --seed <S> --out <DIR> [OPTIONS]\n       \
-                     ira upgrade --out <DIR> <LOG>...\n       \
-                     ira mend --out <DIR> <LOG>...\n\n\
+                     ira upgrade --out <DIR> <LOGS>\n       \
+                     ira mend --out <DIR> <LOGS>\n       \
+                     ira version\n\nLOGS is either <LOG>... or --dir <DIR>\n\n\
                      For more information, try '--help'.\n";
 
 /// What ends most refusals.
@@ -40,7 +42,7 @@ fn words_that_are_no_command(rt: HostRuntime) {
         (
             "--",
             "error: 'ira' requires a subcommand but one was not provided\n  \
-             [subcommands: logs, check, decide, pairs, run, upgrade, mend, help]",
+             [subcommands: logs, explain, check, decide, pairs, run, upgrade, mend, version, help]",
         ),
     ] {
         assert_refused(&rt, &[word], first_line, USAGE);
@@ -48,30 +50,26 @@ fn words_that_are_no_command(rt: HostRuntime) {
 }
 
 #[test]
-fn logs_without_a_file(rt: HostRuntime) {
-    let text = "error: the following required arguments were not provided:\n  <LOG>...\n\n\
-                Usage: ira logs <LOG>...";
-    assert_refused(&rt, &["logs"], text, TRY_HELP);
-}
-
-#[test]
 fn help_is_a_refused_word(rt: HostRuntime) {
     let help = "Judges and makes logs of Itai-Rodeh elections on anonymous rings.\n\n\
-                Usage: ira < LOG\n       ira logs <LOG>...\n       \
-                ira check --question <Q> --cert <C> [--depth <D>] <LOG>...\n       \
-                ira decide --question <Q> [--out <C>] <LOG>...\n       \
+                Usage: ira < LOG\n       ira logs <LOGS>\n       ira explain [<LOGS>]\n       \
+                ira check --question <Q> --cert <C> [--depth <D>] <LOGS>\n       \
+                ira decide --question <Q> [--out <C>] <LOGS>\n       \
                 ira pairs <N>\n       \
                 ira run --nodes <N> --seed <S> --out <DIR> [OPTIONS]\n       \
-                ira upgrade --out <DIR> <LOG>...\n       \
-                ira mend --out <DIR> <LOG>...\n\n\
+                ira upgrade --out <DIR> <LOGS>\n       \
+                ira mend --out <DIR> <LOGS>\n       \
+                ira version\n\nLOGS is either <LOG>... or --dir <DIR>\n\n\
                 Commands:\n\
                 \x20 logs     Judges the logs of all nodes of a ring together\n\
+                \x20 explain  Judges logs, or one log on standard input, and says why the answer is so\n\
                 \x20 check    Judges logs together with a certificate that no moment met a case of a question\n\
                 \x20 decide   Decides for each case of a question whether some moment of the logged run met it\n\
                 \x20 pairs    Prints the question whether two nodes of a ring ever lead at once\n\
                 \x20 run      Runs an election, and writes the log of each node to a file\n\
                 \x20 upgrade  Writes the logs of all nodes of a ring in version 2, each to a file\n\
                 \x20 mend     Writes of each log of a ring the longest beginning such that all are consistent\n\
+                \x20 version  Prints which version this is, and what proved it\n\
                 \x20 help     Print this message or the help of the given subcommand(s)\n\n\
                 Options:\n  -h, --help  Print help\n\n\
                 Without words ira judges the log of one node, on standard input. It prints \
@@ -182,31 +180,20 @@ fn help_of_a_run(rt: HostRuntime) {
 }
 
 #[test]
-fn upgrade_without_its_words(rt: HostRuntime) {
-    let text =
-        "error: the following required arguments were not provided:\n  --out <DIR>\n  <LOG>...\n\n\
-                Usage: ira upgrade --out <DIR> <LOG>...";
+fn upgrade_without_a_folder(rt: HostRuntime) {
+    let text = "error: the following required arguments were not provided:\n  --out <DIR>\n\n\
+                Usage: ira upgrade --out <DIR> [LOG]...";
     assert_refused(&rt, &["upgrade"], text, TRY_HELP);
-    let text = "error: the following required arguments were not provided:\n  <LOG>...\n\n\
-                Usage: ira upgrade --out <DIR> <LOG>...";
-    assert_refused(&rt, &["upgrade", "--out=d"], text, TRY_HELP);
 }
 
 #[test]
 fn help_of_an_upgrade(rt: HostRuntime) {
     let help = "Writes the logs of all nodes of a ring in version 2, each to a file\n\n\
-                Usage: ira upgrade --out <DIR> <LOG>...\n\n\
-                Arguments:\n  <LOG>...  A file with the log of a node, in the order of the ring's places\n\n\
+                Usage: ira upgrade [OPTIONS] --out <DIR> [LOG]...\n\n\
+                Arguments:\n  [LOG]...  A file with the log of a node, in the order of the ring's places\n\n\
                 Options:\n\
                 \x20     --out <DIR>  The folder, which exists, for the logs 0.log, 1.log and so on\n\
+                \x20     --dir <DIR>  The folder with the logs 0.log, 1.log and so on, as many as the first says\n\
                 \x20 -h, --help       Print help\n";
     assert_refused(&rt, &["upgrade", "--help"], help, "");
-}
-
-#[test]
-fn mend_without_its_words(rt: HostRuntime) {
-    let text =
-        "error: the following required arguments were not provided:\n  --out <DIR>\n  <LOG>...\n\n\
-                Usage: ira mend --out <DIR> <LOG>...";
-    assert_refused(&rt, &["mend"], text, TRY_HELP);
 }
