@@ -18,6 +18,11 @@ const FILES: &[(&str, File<'static>)] = &[
     ("c", File::Text(TWO_STEPS)),
 ];
 
+/// What `explain` prints of the logs in that folder.
+const EXPLAINED: &str =
+    "yes\n\n  Node 0 leads in round 1 with ID 2. 2 nodes, 8 events; 3 messages sent, 3 received, \
+     0 on the way.\n";
+
 #[test]
 fn ring_of_twelve(rt: HostRuntime) {
     let mut shelf = MemoryShelf::new(rt.alloc(), &[]);
@@ -55,7 +60,7 @@ fn each_command_on_a_folder(rt: HostRuntime) {
     let mend = ["mend", "--out=e", "--dir=d"];
     assert_written(&rt, &mend, FILES, 0, lines, "", &elected);
     let explain = ["explain", "--dir=d"];
-    assert_written(&rt, &explain, FILES, 0, "yes\n", "", &[]);
+    assert_written(&rt, &explain, FILES, 0, EXPLAINED, "", &[]);
 }
 
 /// Serves `logs` on a folder with these logs.
