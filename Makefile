@@ -28,8 +28,8 @@ help:
 	@echo 'make dist       makes ira, and packs it with its manual, completions, examples and pages, for machines without the kit'
 	@echo 'make test       the gate: all proofs from nothing, the edits that must be refused, all tests and'
 	@echo '                programs: `N passed, 0 failed`; and all examples. See docs/ARCHITECTURE.md for its time'
-	@echo 'make sweep      makes ira, refuses each growth of its memory and each start of a thread in turn, and looks at what'
-	@echo '                it answers then'
+	@echo 'make sweep      makes ira, refuses each growth of its memory and each start of a thread in turn, interrupts each'
+	@echo '                read and write of a file, lets it open but one file at a time, and looks at what it answers then'
 	@echo 'make recorders  makes ira, records elections with each recorder of examples/recorders, and judges their logs'
 	@echo 'make clean      removes what was built and proved'
 
@@ -95,7 +95,7 @@ test:
 	@sh examples/check.sh crates/ira/out/ira
 
 # Each growth of the program is refused in turn, those of the command line's library and of the threads too, and each
-# start of a thread. It needs glibc and Python.
+# start of a thread; each read and write of a file is interrupted. It needs glibc and Python.
 sweep: ira
 	@python3 -B sweep/sweep.py bin/ira.o
 

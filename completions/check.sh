@@ -1,6 +1,6 @@
 #!/bin/sh
 # Compares the commands and options that the completions beside this script know with those of the program's help, and
-# the toolchain that its version names with the one that is there.
+# the logic that its version names with that of the toolchain that is there.
 #
 #     sh completions/check.sh bin/ira
 
@@ -42,11 +42,12 @@ for it in 'bash -n ira.bash' 'zsh -n _ira' 'fish -n ira.fish'; do
     $it || differ=1
 done
 
-# The version names the toolchain, where that is there.
+# The version names the toolchain's logic, where that is there.
 if command -v rt > /dev/null; then
     said=$("$ira" version)
+    logic=$(rt version | grep -o 'logic .*')
     case $said in
-        "ira "*" (proved by $(rt version))") ;;
+        "ira "*" (proved by rattle, $logic)") ;;
         *) echo "completions: version: $said, and the toolchain is $(rt version)"; differ=1 ;;
     esac
 fi

@@ -5,11 +5,12 @@ _ira_commands='logs explain check decide pairs run upgrade mend version help'
 # The options of a command.
 _ira_options() {
     case $1 in
+        explain) echo --question --case --cert --dir --help ;;
         check) echo --question --cert --depth --dir --help ;;
         decide) echo --question --out --dir --help ;;
         run) echo --nodes --seed --out --initiators --draws --cap --terms --alone --help ;;
         upgrade | mend) echo --out --dir --help ;;
-        logs | explain) echo --dir --help ;;
+        logs) echo --dir --help ;;
         pairs | version) echo --help ;;
     esac
 }
@@ -27,6 +28,7 @@ _ira() {
     compopt -o filenames 2> /dev/null
     case $command:$before in
         help:*) mapfile -t COMPREPLY < <(compgen -W "${_ira_commands% help}" -- "$word") ;;
+        explain:--case) COMPREPLY=() ;;
         check:--depth) mapfile -t COMPREPLY < <(compgen -W '0 1 2 3 4' -- "$word") ;;
         *:--dir | run:--out | upgrade:--out | mend:--out) mapfile -t COMPREPLY < <(compgen -d -- "$word") ;;
         pairs:* | run:* | version:*) COMPREPLY=() ;;

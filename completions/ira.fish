@@ -11,6 +11,10 @@ complete -c ira -f -n __fish_use_subcommand -a mend -d 'Write what is consistent
 complete -c ira -f -n __fish_use_subcommand -a version -d 'Print which version this is'
 complete -c ira -f -n __fish_use_subcommand -a help -d 'Print the help of a command'
 
+complete -c ira -n '__fish_seen_subcommand_from explain' -l question -r -F -d 'The question'
+complete -c ira -n '__fish_seen_subcommand_from explain' -l case -x -d 'The case to explain, from 0'
+complete -c ira -n '__fish_seen_subcommand_from explain' -l cert -r -F -d 'The certificate'
+
 complete -c ira -n '__fish_seen_subcommand_from check' -l question -r -F -d 'The question'
 complete -c ira -n '__fish_seen_subcommand_from check' -l cert -r -F -d 'The certificate'
 complete -c ira -n '__fish_seen_subcommand_from check' -l depth -x -a '0 1 2 3 4' -d 'How often steps are halved among threads'

@@ -5,8 +5,8 @@
 #
 # A row that names a folder is judged by `ira logs` on its logs, one that names a file by `ira` alone, one that names
 # a question and its certificate by `ira check` on these and the logs of their folder, and one that names a question alone
-# by `ira decide` on it and these logs. The commands of from_run_to_check.txt, explain.txt and
-# explain_ring.txt run in a folder of their own.
+# by `ira decide` on it and these logs. The commands of from_run_to_check.txt, explain.txt,
+# explain_ring.txt and explain_question.txt run in a folder of their own.
 
 ira=$(realpath "$1") || exit 2
 [ -x "$ira" ] || { echo "examples: no program at $1"; exit 2; }
@@ -94,6 +94,21 @@ log() {
     } > "d/$3.log"
 }
 
+# Writes a text: its first line, the ring size, and the further lines, parted by commas.
+text() {
+    printf '%s\nnodes %s\n' "$1" "$2"
+    echo "$3" | sed 's/, */\n/g'
+}
+
+# Writes a question to q.ask, a certificate to c.cert: the ring size, and its lines.
+ask() {
+    text 'irask 1' "$1" "$2" > q.ask
+}
+
+cert() {
+    text 'ircert 1' "$1" "$2" > c.cert
+}
+
 # Runs each line behind `$`, and prints it, what it prints and its status; a line behind `#` is printed alone.
 replay() {
     ira() { "$ira" "$@" < /dev/null; }
@@ -110,7 +125,7 @@ replay() {
 }
 
 examples=$PWD
-for talk in from_run_to_check.txt explain.txt explain_ring.txt; do
+for talk in from_run_to_check.txt explain.txt explain_ring.txt explain_question.txt; do
     folder=$(mktemp -d)
     if (cd "$folder" && replay < "$examples/$talk") | diff "$examples/$talk" -; then
         passed=$((passed + 1))

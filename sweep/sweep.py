@@ -1,16 +1,18 @@
 """Refuses each growth of the program in turn: malloc and realloc, of all its threads and of the libraries in it; and
-then each start of a thread.
+then each start of a thread. Then it interrupts each read and write of a file in turn, and lets the program have but one
+file open at a time.
 
 python3 sweep/sweep.py IRA.o: links this object, and runs each command line with its first growth refused, then with
 its second, and so on until no run meets a refusal. Each run must answer as with ample memory, or with status 3 and
 `ira: out of memory`, or with status 2 and `ira: run refused 3`, which says that a thread couldn't be started. Where
 it gives up it has printed nothing, or all (`decide` makes the certificate behind its findings), and each file that it
-wrote is a first part of what it should be.
+wrote is a first part of what it should be. An interrupted read or write is tried again, and a file that can't be opened
+while others are is opened later, so these runs answer as with ample memory.
 
 The program is linked as the kit does, over the C library of the machine, whose calls a preloaded library can stand
 before. It needs glibc, and the clang of the Rattle kit."""
 
-import os, shutil, subprocess, sys, tempfile
+import os, resource, shutil, subprocess, sys, tempfile
 
 HERE = os.path.dirname(os.path.abspath(__file__))
 ELECTION = os.path.join(HERE, "..", "examples", "two_node_election")
@@ -37,6 +39,9 @@ LINES = [
     ["decide", "--question", "two_leaders.ask", "1.log", "0.log"],
     ["pairs", "5"],
     ["pairs", "1"],
+    ["upgrade", "--out", "d", "0.log", "1.log"],
+    ["mend", "--out", "d", "0.log", "1.log"],
+    ["explain", "1.log", "0.log"],
     RUN,
     [*RUN, "--alone"],
     [*RUN, "--initiators", "1", "--draws", "0"],
@@ -57,16 +62,40 @@ def contents(folder):
     return found
 
 
-def served(ira, words, refused, number, shim):
+def served(ira, words, refused, number, shim, more={}, descriptors=1024):
     """What a run with the growth or the start of this number refused answers and writes; with 0 none is."""
     with tempfile.TemporaryDirectory() as room:
         shutil.copytree(ELECTION, room, dirs_exist_ok=True)
         os.mkdir(f"{room}/d")
         with open(f"{room}/0.log", "rb") as text:
-            env = {"LD_PRELOAD": shim, refused: str(number)}
+            env = {"LD_PRELOAD": shim, refused: str(number), **more}
             how = {"stdin": text, "cwd": room, "capture_output": True, "timeout": 60}
-            ran = subprocess.run([ira, *words], env=env, **how)
+            limit = lambda: resource.setrlimit(resource.RLIMIT_NOFILE, (descriptors, descriptors))
+            ran = subprocess.run([ira, *words], env=env, preexec_fn=limit, **how)
         return (ran.returncode, ran.stdout, ran.stderr), contents(f"{room}/d")
+
+
+def interrupted(ira, words, ample, shim):
+    """How many reads and writes of files there are to interrupt, and of how many runs the answer was another then."""
+    number = wrong = 0
+    while True:
+        with tempfile.TemporaryDirectory() as marks:
+            mark = f"{marks}/met"
+            found = served(ira, words, "INTERRUPT", number + 1, shim, {"MARK": mark})
+            if not os.path.exists(mark):
+                return number, wrong
+        number += 1
+        if found != ample:
+            wrong += 1
+            print(f"WRONG: ira {' '.join(words)}: INTERRUPT {number}: {found[0]}")
+
+
+def starved(ira, words, ample, shim):
+    """Whether the answer is another where one file can be open at a time, besides the standard streams."""
+    found = served(ira, words, "REFUSE", 0, shim, {}, 4)
+    if found != ample:
+        print(f"WRONG: ira {' '.join(words)}: one file at a time: {found[0]}")
+    return found != ample
 
 
 def has_given_up(found, ample):
@@ -110,7 +139,7 @@ def linked(program, folder):
 
 
 def main(program):
-    all_told = all_wrong = 0
+    all_told = all_moves = all_wrong = 0
     with tempfile.TemporaryDirectory() as folder:
         ira = linked(program, folder)
         shim = f"{folder}/refuse_nth.so"
@@ -119,10 +148,14 @@ def main(program):
         for words in LINES:
             growths, wrong = swept(ira, words, "REFUSE", shim)
             starts, also_wrong = swept(ira, words, "REFUSE_THREAD", shim)
+            ample = served(ira, words, "REFUSE", 0, shim)
+            moves, other = interrupted(ira, words, ample, shim)
             all_told += growths + starts
-            all_wrong += wrong + also_wrong
-            print(f"ira {' '.join(words)}: {growths} growths and {starts} starts told", flush=True)
-    print(f"sweep: {all_told} refusals told, {all_wrong} wrong answers")
+            all_moves += moves
+            all_wrong += wrong + also_wrong + other + starved(ira, words, ample, shim)
+            told = f"{growths} growths and {starts} starts told, {moves} reads and writes interrupted"
+            print(f"ira {' '.join(words)}: {told}", flush=True)
+    print(f"sweep: {all_told} refusals told, {all_moves} reads and writes interrupted, {all_wrong} wrong answers")
     return min(all_wrong, 1)
 
 

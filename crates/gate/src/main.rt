@@ -3,7 +3,8 @@
 #![tactic(auto)]
 
 use ira_event::{MemorySink, ToWriter};
-use ira_main::{Counted, FileShelf, ShelfFault, TextBuffer, TextSource, serve, start};
+use ira_files::{Counted, FileShelf, ShelfFault, TextBuffer, TextSource};
+use ira_main::{serve, start};
 use std::alloc::AllocError;
 use std::io;
 use std::io::{Stdin, Stdout, Write};

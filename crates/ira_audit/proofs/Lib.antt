@@ -1,5 +1,6 @@
 pub mod Deciding
 pub mod Judging
+pub mod KeptHeads
 pub mod LogAudits
 pub mod LogTexts
 pub mod LogsAnswered
@@ -18,4 +19,5 @@ pub mod SoundSections
 pub mod Stages
 pub mod TextRuns
 pub mod Upgraded
+pub mod Written
 pub mod Zipped

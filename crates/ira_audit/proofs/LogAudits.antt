@@ -59,7 +59,7 @@ pub none_taken : (replay : Option ReplaySoFar) (text : List ℕ) → replay ≡ 
 none_taken None text is h = h
 none_taken (Some r) text is h = absurd cc
 
--- more stands behind what is left
+-- more stands after what is left
 pub begun_longer : (text more : List ℕ) (r : ReplaySoFar) (v n : ℕ) → IsBegun text r (record { version = v; rest = []; count = n }) → IsBegun (text ++ more) r (record { version = v; rest = more; count = n })
 begun_longer text more r v n b = record {
   rest = b.rest ++ more;

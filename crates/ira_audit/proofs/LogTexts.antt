@@ -2,7 +2,7 @@
 use Rattle.std.proofs.Common.{Bor, true, false, Option, None, map, length, slice_index_or, ◌≡◌, ℕ, zero, suc, ◌+◌, ◌<◌, ◌≤◌, List, [], ◌∷◌, ◌++◌, Some, take, refl, sym, ap, subst, ◌∙◌, arith}
 use Rattle.std.specs.Prelude.{slice_get}
 use Rattle.std.proofs.lemmas.List.{take-append-le, take_more, take_all, length-map}
-use Rattle.std.proofs.lemmas.Option.{slice_get_within, get_or_from_slice_get}
+use Rattle.std.proofs.lemmas.Option.{slice_get_within, get_or_from_slice_get, same_Some}
 use Rattle.ira_event.specs.declared.log_fault.LogFault.{LogFault}
 use Rattle.ira_event.specs.Log.{Log}
 use Rattle.ira_event.specs.LogText.{IsLogText}
@@ -11,9 +11,6 @@ use Rattle.ira_event.proofs.LogAnswers.{one_log, log_or_fault, one_fault}
 use Rattle.std.specs.Option.{is_some}
 use Rattle.ira_audit.specs.LogTexts.{AreLogTexts, IsFirstTextFault}
 use Rattle.ira_audit.specs.RingAudit.{AreKept}
-
-some_is : {X : Type 0} (x y : X) → Some x ≡ Some y → x ≡ y
-some_is x y e = cc
 
 -- a beginning of a list has the list's members
 pub taken : {X : Type 0} (xs : List X) (i n : ℕ) → i < n → slice_get (take n xs) i ≡ slice_get xs i
@@ -36,7 +33,7 @@ one_list (t ∷ ts) (l ∷ ls) (m ∷ ms) a b = (let here = one_log t l m a.0 b.
 log_at : (texts : List (List ℕ)) (logs : List Log) (i : ℕ) (text : List ℕ) → AreLogTexts texts logs → slice_get texts i ≡ Some text → (log : Log) × IsLogText text log
 log_at [] logs i text a e = absurd cc
 log_at (t ∷ ts) [] i text a e = absurd a
-log_at (t ∷ ts) (l ∷ ls) zero text a e = (l, subst (λ x. IsLogText x l) (some_is t text e) a.0)
+log_at (t ∷ ts) (l ∷ ls) zero text a e = (l, subst (λ x. IsLogText x l) (same_Some t text e) a.0)
 log_at (t ∷ ts) (l ∷ ls) (suc i) text a e = log_at ts ls i text a.1 e
 
 -- the texts of logs have no fault
@@ -52,7 +49,7 @@ no_earlier texts i j f g h k lt =
 pub one_first : (texts : List (List ℕ)) (i j : ℕ) (f g : LogFault) → IsFirstTextFault texts i f → IsFirstTextFault texts j g → (i ≡ j) × (f ≡ g)
 one_first texts i j f g h k =
     let here : i ≡ j = omega (arith, no_earlier texts i j f g h k, no_earlier texts j i g f k h) in
-    let text : h.text ≡ k.text = some_is _ _ (sym h.at ∙ ap (slice_get texts) here ∙ k.at) in
+    let text : h.text ≡ k.text = same_Some _ _ (sym h.at ∙ ap (slice_get texts) here ∙ k.at) in
     (here, one_fault k.text f g (subst (λ x. LogTextFault x f) text h.fault) k.fault)
 
 -- a member of a list is a member of a longer one
@@ -68,7 +65,7 @@ one_more [] (l ∷ ls) text log a is = absurd a
 one_more (t ∷ ts) [] text log a is = absurd a
 one_more (t ∷ ts) (l ∷ ls) text log a is = (a.0, one_more ts ls text log a.1 is)
 
--- the text behind those of some logs
+-- the text after those of some logs
 next_at : (texts : List (List ℕ)) (logs : List Log) (text : List ℕ) → AreLogTexts texts logs → slice_get (texts ++ text ∷ []) (length logs) ≡ Some text
 next_at [] [] text a = refl
 next_at [] (l ∷ ls) text a = absurd a
@@ -99,7 +96,7 @@ pub keeps_fault : (texts : List (List ℕ)) (logs : List Log) (fault : Option Lo
 keeps_fault texts logs None text f none kept h = (before_next texts logs text kept, (text, next_at texts logs text kept, h))
 keeps_fault texts logs (Some g) text f none kept h = absurd cc
 
--- more texts, behind one that is no log's
+-- more texts, after one that is no log's
 pub keeps_first : (texts more : List (List ℕ)) (logs : List Log) (fault : Option LogFault) → true ≡ is_some fault → AreKept texts logs fault → AreKept (texts ++ more) logs fault
 keeps_first texts more logs None some kept = absurd cc
 keeps_first texts more logs (Some f) some kept =
@@ -108,7 +105,7 @@ keeps_first texts more logs (Some f) some kept =
       (kept.1.0, member texts more (length logs) kept.1.0 kept.1.1, kept.1.2),
     )
 
--- more texts, behind those of logs
+-- more texts, after those of logs
 keeps_both : (texts more : List (List ℕ)) (logs others : List Log) (fault : Option LogFault) → AreLogTexts texts logs → AreKept more others fault → AreKept (texts ++ more) (logs ++ others) fault
 keeps_both [] more [] others fault kept next = next
 keeps_both [] more (l ∷ ls) others fault kept next = absurd kept
@@ -121,7 +118,7 @@ pub keeps_all : (texts more : List (List ℕ)) (logs others : List Log) (fault n
 keeps_all texts more logs others None next none kept both = keeps_both texts more logs others next kept both
 keeps_all texts more logs others (Some f) next none kept both = absurd cc
 
--- the text behind those of the logs is the first that is no log's
+-- the text after those of the logs is the first that is no log's
 pub first_fault : (texts : List (List ℕ)) (logs : List Log) (f : LogFault) → AreKept texts logs (Some f) → IsFirstTextFault texts (length logs) f
 first_fault texts logs f kept = record {
   before = logs;

@@ -1,7 +1,7 @@
 -- What the replay of some logs, and of one more, gave.
 use Rattle.std.proofs.Common.{◌≡◌, ℕ, zero, suc, ◌<◌, List, [], ◌∷◌, ◌++◌, true, false, Result, Ok, Err, Some, length, refl, sym, ◌∙◌, subst, arith}
 use Rattle.std.specs.Prelude.{slice_get, is_ok}
-use Rattle.std.proofs.lemmas.Option.{slice_get_within}
+use Rattle.std.proofs.lemmas.Option.{slice_get_within, same_Some}
 use Rattle.ira_event.specs.Log.{Log}
 use Rattle.ira_event.specs.Logs.{AreLogs}
 use Rattle.ira_replay.specs.declared.replay_fault.ReplayFault.{ReplayFault}
@@ -11,14 +11,6 @@ use Rattle.ira_audit.specs.declared.reason.Reason.{Reason}
 use Rattle.ira_audit.specs.declared.reason.Reason.TheVariants.{Replay}
 use Rattle.ira_audit.specs.LogsAnswer.{IsFirstStop}
 use Rattle.ira_audit.specs.ReplayedLogs.{IsReplayed, AreReplayed}
-
--- a list without members
-pub none_left : {X : Type 0} (xs : List X) → length xs ≡ 0 → xs ≡ []
-none_left [] e = refl
-none_left (x ∷ xs) e = absurd (omega arith)
-
-some_is : {X : Type 0} (x y : X) → Some x ≡ Some y → x ≡ y
-some_is x y e = cc
 
 -- a member before the last one
 before_last : (logs : List Log) (last : Log) (i : ℕ) → i < length logs → slice_get (logs ++ last ∷ []) i ≡ slice_get logs i
@@ -33,12 +25,12 @@ at_last (l ∷ ls) last = at_last ls last
 
 -- one local run more
 runs_more : (logs : List Log) (log : Log) → AreLocalRuns logs → IsLocalRun log → AreLocalRuns (logs ++ log ∷ [])
-runs_more [] log all own zero x e = subst IsLocalRun (some_is log x e) own
+runs_more [] log all own zero x e = subst IsLocalRun (same_Some log x e) own
 runs_more [] log all own (suc i) x e = absurd cc
 runs_more (l ∷ ls) log all own zero x e = all 0 x e
 runs_more (l ∷ ls) log all own (suc i) x e = runs_more ls log (λ j y h. all (suc j) y h) own i x e
 
--- one log more behind local runs
+-- one log more after local runs
 pub more_runs : (logs : List Log) (log : Log) (steps own : Result (Unit {0}) Reason) → true ≡ is_ok steps → AreReplayed logs steps → IsReplayed log own → AreReplayed (logs ++ log ∷ []) own
 more_runs logs log (Ok done) (Ok own) good all is = runs_more logs log all is
 more_runs logs log (Ok done) (Err r) good all is =
@@ -51,7 +43,7 @@ more_runs logs log (Ok done) (Err r) good all is =
     (length logs, is.0, stop, is.1)
 more_runs logs log (Err r) own good all is = absurd cc
 
--- one log more behind an event without a step
+-- one log more after an event without a step
 pub more_stopped : (logs : List Log) (log : Log) (steps : Result (Unit {0}) Reason) → false ≡ is_ok steps → AreReplayed logs steps → AreReplayed (logs ++ log ∷ []) steps
 more_stopped logs log (Ok done) bad h = absurd cc
 more_stopped logs log (Err r) bad h =

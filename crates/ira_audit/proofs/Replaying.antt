@@ -47,7 +47,7 @@ module _ (nodes : ℕ) (first : NodeState) (events : List Event) (state after : 
   }
   stops_there (Some g) f h none at bad = absurd cc
 
-  -- it comes behind one without a step
+  -- it comes after one without a step
   pub stays_stopped : (stop : Option ReplayFault) → LeadsOrStops nodes first events state stop → is_some stop ≡ true
       → LeadsOrStops nodes first (events ++ e ∷ []) after stop
   stays_stopped None h some = absurd cc

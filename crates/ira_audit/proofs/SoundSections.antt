@@ -1,6 +1,7 @@
 -- Sections that are held against their cases one by one.
 use Rattle.std.proofs.Common.{◌≡◌, ◌<◌, ◌+◌, ℕ, List, Some, take, sym, ap, subst, ◌∙◌, arith}
 use Rattle.std.specs.Prelude.{slice_get}
+use Rattle.std.proofs.lemmas.Option.{same_Some}
 use Rattle.ira_event.specs.Log.{Log}
 use Rattle.ira_pred.specs.Case.{Conjunct}
 use Rattle.ira_cert_text.specs.Certificate.{Section}
@@ -13,9 +14,6 @@ use Rattle.ira_cert.proofs.OneVerdict.{one_verdict}
 use Rattle.ira_audit.specs.AuditAnswer.{AreSound, IsFirstUnsound}
 use Rattle.ira_audit.proofs.LogTexts.{taken, next_taken}
 use Rattle.ira_audit.proofs.Zipped.{zipped_at, zipped_more}
-
-some_is : {X : Type 0} (x y : X) → Some x ≡ Some y → x ≡ y
-some_is x y e = cc
 
 sound_or_fault : (logs : List Log) (case : List Conjunct) (section : Section) (f : SectionFault) → HasDifferentPlaces case → IsSoundSection logs case section → IsSectionFault logs case section f → ⊥
 sound_or_fault logs case section f differ sound fault = let same = one_verdict logs case differ section verdict.Yes (verdict.No f) sound fault in cc
@@ -45,7 +43,7 @@ module _ (logs : List Log) (cases : List (List Conjunct)) (sections : List Secti
     pub one_first_unsound : (i j : ℕ) (f g : SectionFault) → IsFirstUnsound logs cases sections i f → IsFirstUnsound logs cases sections j g → (i ≡ j) × (f ≡ g)
     one_first_unsound i j f g h k =
         let here : i ≡ j = omega (arith, no_earlier i j f g h k, no_earlier j i g f k h) in
-        let case : h.case ≡ k.case = some_is _ _ (sym h.case_at ∙ ap (slice_get cases) here ∙ k.case_at) in
-        let section : h.section ≡ k.section = some_is _ _ (sym h.section_at ∙ ap (slice_get sections) here ∙ k.section_at) in
+        let case : h.case ≡ k.case = same_Some _ _ (sym h.case_at ∙ ap (slice_get cases) here ∙ k.case_at) in
+        let section : h.section ≡ k.section = same_Some _ _ (sym h.section_at ∙ ap (slice_get sections) here ∙ k.section_at) in
         let fault : IsSectionFault logs k.case k.section f = subst (λ s. IsSectionFault logs k.case s f) section (subst (λ x. IsSectionFault logs x h.section f) case h.fault) in
         (here, one_fault logs k.case k.section f g (differ j k.case k.case_at) fault k.fault)

@@ -3,7 +3,7 @@
 use Rattle.std.proofs.Common.{◌≡◌, ◌⊎◌, inl, inr, sym, ap, subst, ◌∙◌}
 use Rattle.ira_audit.specs.declared.answer.Answer.{Answer}
 
--- the answer of a stage: what is said of the bad, or what the rest says behind the good
+-- the answer of a stage: what is said of the bad, or what the rest says after the good
 abbrev pub Stage : {X Y : Type 0} → (X → Type 0) → (X → Answer) → (Y → Type 0) → (Y → Answer → Type 0) → Answer → Type 0
 Stage {X} {Y} Bad said Good Rest a = ((x : X) × Bad x × (a ≡ said x)) ⊎ ((y : Y) × Good y × Rest y a)
 

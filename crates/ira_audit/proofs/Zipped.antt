@@ -2,16 +2,14 @@
 use Rattle.std.proofs.Common.{◌≡◌, ◌++◌, ℕ, zero, suc, List, [], ◌∷◌, Some, length, refl, ap}
 use Rattle.std.specs.Prelude.{slice_get}
 use Rattle.std.specs.List.{AllZip}
-
-some_is : {X : Type 0} (x y : X) → Some x ≡ Some y → x ≡ y
-some_is x y e = cc
+use Rattle.std.proofs.lemmas.Option.{same_Some}
 
 -- what ties two lists ties their members
 pub zipped_at : {X Y : Type 0} (R : X → Y → Type 0) (xs : List X) (ys : List Y) (i : ℕ) (x : X) (y : Y) → AllZip R xs ys → slice_get xs i ≡ Some x → slice_get ys i ≡ Some y → R x y
 zipped_at R [] [] i x y h a b = absurd cc
 zipped_at R [] (v ∷ ys) i x y h a b = absurd h
 zipped_at R (u ∷ xs) [] i x y h a b = absurd h
-zipped_at R (u ∷ xs) (v ∷ ys) zero x y h a b = rw (← some_is u x a, ← some_is v y b) h.0
+zipped_at R (u ∷ xs) (v ∷ ys) zero x y h a b = rw (← same_Some u x a, ← same_Some v y b) h.0
 zipped_at R (u ∷ xs) (v ∷ ys) (suc i) x y h a b = zipped_at R xs ys i x y h.1 a b
 
 -- a member has one that it is tied to
@@ -42,3 +40,10 @@ zipped_into R S into [] [] h = tt
 zipped_into R S into [] (y ∷ ys) h = absurd h
 zipped_into R S into (x ∷ xs) [] h = absurd h
 zipped_into R S into (x ∷ xs) (y ∷ ys) h = (into x y h.0, zipped_into R S into xs ys h.1)
+
+-- as many members
+pub as_many : {X Y : Type 0} (R : X → Y → Type 0) (xs : List X) (ys : List Y) → AllZip R xs ys → length ys ≡ length xs
+as_many R [] [] h = refl
+as_many R [] (v ∷ ys) h = absurd h
+as_many R (u ∷ xs) [] h = absurd h
+as_many R (u ∷ xs) (v ∷ ys) h = ap suc (as_many R xs ys h.1)

@@ -8,11 +8,14 @@ use Rattle.ira_audit.specs.declared.findings.Findings.{Findings}
 use Rattle.ira_audit.specs.declared.findings.Findings.TheVariants.{Refused, Cases}
 use Rattle.ira_audit.specs.Report.{numbered, report_line}
 
--- what is found for a case, in words: how long its section is and which node it spends, or the position of
--- each place
+-- that no cut meets a case, in words: how many steps its section has, and which node it spends
+abbrev pub absent_words : ℕ → ℕ → List ℕ
+absent_words steps spent =
+    numbered (codes ": absent, ") steps ++ numbered (codes " steps, node ") spent ++ codes " spent"
+
+-- what is found for a case, in words: that it is absent, or the position of each place
 abbrev pub found_words : {A : Type 0} → Found A → List ℕ
-found_words (Absent section) =
-    numbered (codes ": absent, ") (length section.steps) ++ numbered (codes " steps, node ") section.spent ++ codes " spent"
+found_words (Absent section) = absent_words (length section.steps) section.spent
 found_words (Present cut) = codes ": present at" ++ flat_map (numbered (codes " ")) cut
 
 -- the line of a case: its number, from 0, and what is found for it

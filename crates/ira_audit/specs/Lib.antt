@@ -15,3 +15,4 @@ pub mod Report
 pub mod RingAudit
 pub mod TextRuns
 pub mod Upgrade
+pub mod WrittenFindings

@@ -21,7 +21,7 @@ use Rattle.ira_audit.specs.declared.reason.Reason.TheVariants.{Log, Heads, Match
 use Rattle.ira_audit.specs.declared.answer.Answer.{Answer}
 use Rattle.ira_audit.specs.declared.answer.Answer.TheVariants.{Yes, No}
 
--- the words, and a number behind them
+-- the words, and a number after them
 abbrev pub numbered : List ℕ → ℕ → List ℕ
 numbered words n = words ++ decimal n
 
@@ -44,14 +44,14 @@ head_fault_words (Size i) = numbered (codes "size ") i
 head_fault_words (Place i) = numbered (codes "place ") i
 head_fault_words (Version i) = numbered (codes "version ") i
 
--- the receipt k of link i, in words
+-- a reason that speaks of receipt k of link i, up to what is wrong with it
 abbrev pub receipt_words : ℕ → ℕ → List ℕ
-receipt_words i k = numbered (codes "link ") i ++ numbered (codes ": receipt ") k
+receipt_words i k = numbered (codes "no: link ") i ++ numbered (codes ": receipt ") k
 
--- why logs don't match, in words
-abbrev pub match_fault_words : MatchFault → List ℕ
-match_fault_words (NoSending link k) = receipt_words link k ++ codes " has no sending"
-match_fault_words (Differs link k) = receipt_words link k ++ codes " differs"
+-- the reason that logs don't match, in words
+abbrev pub match_reason_words : MatchFault → List ℕ
+match_reason_words (NoSending link k) = receipt_words link k ++ codes " has no sending"
+match_reason_words (Differs link k) = receipt_words link k ++ codes " differs"
 
 -- why an event has no step, in words
 abbrev pub step_fault_words : StepFault → List ℕ
@@ -110,7 +110,7 @@ section_fault_words (NotSpent node) = numbered (codes "node ") node ++ codes " n
 abbrev pub reason_words : Reason → List ℕ
 reason_words (Log number fault) = numbered (codes "no: log ") number ++ codes ": " ++ log_fault_words fault
 reason_words (Heads fault) = codes "no: heads: " ++ head_fault_words fault
-reason_words (Match fault) = codes "no: " ++ match_fault_words fault
+reason_words (Match fault) = match_reason_words fault
 reason_words Circle = codes "no: circle"
 reason_words (Replay place position fault) =
     numbered (codes "no: node ") place ++ numbered (codes ": event ") position ++ codes ": " ++ step_fault_words fault

@@ -63,8 +63,8 @@ pub fn audit_logs<A: Allocator + Clone>(alloc: A, texts: &[&[u8]]) -> Result<Ans
 /// recorded, and nothing that the question asks was ever met: no consistent cut of the logs meets any of
 /// its cases. The answer is the same at every depth, 0 to 4, and with every gate.
 ///
-/// The links are matched by a thread of their own where one can be started. The steps of each section are halved `depth`
-/// times, and their parts judged on up to `2^depth` threads, each behind the gate, which it passes with its number from
+/// The links are matched by a thread of their own where one can be started. The steps of each section are cut into
+/// `2^depth` parts, which are judged on up to as many threads, each after the gate, which it passes with its number from
 /// the left.
 ///
 /// Beside the logs it takes a byte or two for each event, two numbers for each sending and one for each receipt and, for one

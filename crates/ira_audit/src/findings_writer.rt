@@ -1,25 +1,26 @@
 ghost use Rattle.std.specs.Prelude.{codes};
 ghost use Rattle.std.specs.List.{enumerate_from, flat_map};
 ghost use Rattle.ira_event.specs.Sink.{Wrote};
-ghost use Rattle.ira_elim.specs.declared.found.Found.TheVariants.{Absent, Present};
+ghost use Rattle.ira_elim.specs.declared.found.Found.{Found};
+ghost use Rattle.ira_elim.specs.declared.found.Found.TheVariants.{Present};
 ghost use Rattle.ira_audit.specs.Findings.{AreReportable};
-ghost use Rattle.ira_audit.specs.FindingsText.{found_words, case_line, findings_text};
+ghost use Rattle.ira_audit.specs.FindingsText.{absent_words, found_words, case_line, findings_text};
+ghost use Rattle.ira_audit.specs.WrittenFindings.{IsCounted};
 ghost use Rattle.ira_audit.specs.Report.{numbered};
 
 use crate::answer::Answer;
 use crate::findings::Findings;
 use crate::report::{write_numbered, write_report};
-use ira_cert_text::Section;
-use ira_elim::{Cut, Found};
+use ira_elim::{Cut, Decided, Found, StepCount};
 use ira_event::{Sink, WriteFault, write_bytes};
 use std::alloc::Allocator;
 
 #[tactic(auto, using(ira_event::proofs::Writing::writes))]
-fn write_absent<A: Allocator, W: Sink>(section: &Section<A>, sink: &mut W) -> Result<(), WriteFault>
-    ensures { Wrote result (found_words {A = A} (Absent section.now)) (W.state sink.old) (W.state sink.new) }
+fn write_absent<W: Sink>(steps: u64, spent: u8, sink: &mut W) -> Result<(), WriteFault>
+    ensures { Wrote result (absent_words steps spent) (W.state sink.old) (W.state sink.new) }
 {
-    write_numbered(b": absent, ", section.steps.len() as u64, sink)?;
-    write_numbered(b" steps, node ", u64::from(section.spent), sink)?;
+    write_numbered(b": absent, ", steps, sink)?;
+    write_numbered(b" steps, node ", u64::from(spent), sink)?;
     write_bytes(b" spent", sink)
 }
 
@@ -45,7 +46,7 @@ fn write_found<A: Allocator, W: Sink>(found: &Found<A>, sink: &mut W) -> Result<
     ensures { Wrote result (found_words found.now) (W.state sink.old) (W.state sink.new) }
 {
     match found {
-        Found::Absent(section) => write_absent(section, sink),
+        Found::Absent(section) => { write_absent(section.steps.len() as u64, section.spent, sink) }
         Found::Present(cut) => write_present(cut, sink),
     }
 }
@@ -60,6 +61,33 @@ fn write_case<A: Allocator, W: Sink>(
 {
     write_numbered(b"case ", case, sink)?;
     write_found(found, sink)?;
+    write_bytes(b"\n", sink)
+}
+
+fn write_decided<A: Allocator, W: Sink>(
+    decided: &Decided<StepCount, A>,
+    sink: &mut W,
+) -> Result<(), WriteFault>
+    ensures { (found : Found A) → IsCounted found decided.now
+        → Wrote result (found_words found) (W.state sink.old) (W.state sink.new) }
+{
+    match decided {
+        Decided::Absent { steps, spent } => write_absent(steps.get(), *spent, sink),
+        Decided::Present(cut) => write_present(cut, sink),
+    }
+}
+
+/// Writes the line of a case of which the steps were counted.
+pub(crate) fn write_decided_case<A: Allocator, W: Sink>(
+    case: u64,
+    decided: &Decided<StepCount, A>,
+    sink: &mut W,
+) -> Result<(), WriteFault>
+    ensures { (found : Found A) → IsCounted found decided.now
+        → Wrote result (case_line (case, found)) (W.state sink.old) (W.state sink.new) }
+{
+    write_numbered(b"case ", case, sink)?;
+    write_decided(decided, sink)?;
     write_bytes(b"\n", sink)
 }
 

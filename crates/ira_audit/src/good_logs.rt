@@ -6,17 +6,21 @@ ghost use Rattle.ira_pred.specs.QuestionText.{IsQuestionText};
 ghost use Rattle.ira_cert_text.specs.CertText.{IsCertText};
 ghost use Rattle.ira_cert.specs.Asked.{HasPlacesOf};
 ghost use Rattle.ira_elim.specs.Found.{IsFound};
+ghost use Rattle.ira_elim.specs.declared.found.Found.{Found};
 ghost use Rattle.ira_audit.specs.AuditAnswer.{IsAuditAnswer};
 ghost use Rattle.ira_audit.specs.Findings.{AreFindings, AreReportable};
 ghost use Rattle.ira_audit.specs.GoodLogs.{AreGood, AreGoodLogs};
 ghost use Rattle.ira_audit.specs.LogTexts.{AreLogTexts};
 ghost use Rattle.ira_audit.specs.Refusal.{Judged, IsQuestionRefusal, IsCertificateRefusal, IsFindingsReason, IsLogsReason, MatchRefusal};
 ghost use Rattle.ira_audit.specs.ReplayedLogs.{AreReplayed, IsSearched};
+ghost use Rattle.ira_audit.specs.WrittenFindings.{AreDrafted, AreWrittenFindings};
 
 use crate::findings::Findings;
+use crate::findings_draft::FindingsDraft;
 use crate::reason::Reason;
 use crate::refusal::Refusal;
 use crate::sections::{all_profiles, check_sections};
+use crate::written_findings::WrittenFindings;
 use ira_cert_text::{Certificate, read_cert};
 use ira_elim::{Found, decide_profiled};
 use ira_event::{Logs, OutOfMemory};
@@ -137,6 +141,44 @@ impl<A: Allocator + Clone> GoodLogs<A> {
             found.push(decide_profiled(alloc, &profiles, &dependencies, case)?)?;
         }
         Ok(found)
+    }
+
+    /// What `decide` finds, written down case by case: no section is kept, but for the text of the certificate, if it is asked
+    /// for and as long as each case is absent.
+    pub fn decide_in_writing(
+        &self,
+        question: &[u8],
+        certify: bool,
+    ) -> Result<WrittenFindings<A>, Refusal>
+        ensures { (texts : List (List ℕ)) → AreLogTexts texts self.now
+            → MatchRefusal result (AreWrittenFindings A texts question.now certify)
+            (IsFindingsReason texts question.now) }
+    {
+        let question = self.read_posed(question)?;
+        let alloc = self.alloc.clone()?;
+        let draft = self.draft_cases(alloc, question.cases(), certify)?;
+        Ok(draft.finish()?)
+    }
+
+    /// What is found for each case, as it is written down.
+    fn draft_cases(
+        &self,
+        alloc: A,
+        cases: &[Case<A>],
+        certify: bool,
+    ) -> Result<FindingsDraft<A>, OutOfMemory>
+        requires { (i : ℕ) (case : List Conjunct) → slice_get cases.now i ≡ Some case → HasPlacesOf self.now case }
+        ensures { IfOk result (λ draft. (found : List (Found A)) × AllZip (IsFound self.now) cases.now found
+            × AreDrafted (length self.now) certify found draft) }
+    {
+        let dependencies = DirectDependencies::new(self.alloc.clone()?, &self.logs)?;
+        let profiles = all_profiles(self.alloc.clone()?, &self.logs)?;
+        let mut draft = FindingsDraft::new(alloc, self.logs.size(), certify)?;
+        for (number, case) in cases.iter().enumerate() {
+            let alloc = self.alloc.clone()?;
+            draft.decide_next(alloc, &profiles, &dependencies, number as u64, case)?;
+        }
+        Ok(draft)
     }
 
     /// The question of the text, which must be asked of this ring.

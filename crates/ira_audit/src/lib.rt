@@ -5,6 +5,7 @@
 mod answer;
 mod audits;
 mod findings;
+mod findings_draft;
 mod findings_writer;
 mod good_logs;
 mod laws;
@@ -16,6 +17,7 @@ mod replayed_log;
 mod report;
 mod ring_audit;
 mod sections;
+mod written_findings;
 
 pub use answer::Answer;
 pub use audits::{audit, audit_logs, audit_one, decide_all};
@@ -31,3 +33,4 @@ pub use reason::Reason;
 pub use refusal::Refusal;
 pub use report::write_report;
 pub use ring_audit::RingAudit;
+pub use written_findings::WrittenFindings;

@@ -58,7 +58,7 @@ impl LogAudit {
     /// Takes what a piece begins with: the head, unless it was taken before, and whole records; and gives how many bytes
     /// these are. It takes none where the piece makes the text too long. What it left stands at the front of the next
     /// piece, or of what `finish` is given: a piece of the head or of a line, or an end line or a fault with all that is
-    /// behind it.
+    /// after it.
     pub fn take(&mut self, piece: &[u8]) -> usize
         ensures within { result ≤ length piece.now }
         ensures count { self.new.taken ≡ self.old.taken + result }
@@ -78,7 +78,7 @@ impl LogAudit {
         taken
     }
 
-    /// The answer of the text, which goes on like this to its end behind what was taken.
+    /// The answer of the text, which goes on like this to its end after what was taken.
     pub fn finish(self, rest: &[u8]) -> Answer
         ensures answer { (text : List ℕ) (a : Answer) → HasTakenBytes self text
             → (result ≡ a) ↔ IsAnswer (text ++ rest.now) a }

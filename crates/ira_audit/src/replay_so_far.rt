@@ -13,7 +13,7 @@ pub(crate) struct ReplaySoFar {
     head: LogHead,
     /// How many events were read.
     count: usize,
-    /// The state behind them, where they all have steps.
+    /// The state after them, where they all have steps.
     state: NodeState,
     /// The first of them without a step.
     stop: Option<ReplayFault>,
@@ -39,7 +39,7 @@ impl ReplaySoFar {
         }
     }
 
-    /// The same, with the records that a text goes on with behind those that were read.
+    /// The same, with the records that a text goes on with after those that were read.
     pub(crate) fn with(self, text: &[u8]) -> (ReplaySoFar, Records<'_>)
         requires { self.count ≤ MAX_RECORDS }
         ensures same { result.0 ≡ self }

@@ -1,4 +1,5 @@
 ghost use Rattle.std.specs.Prelude.{◌≡◌, IfOk};
+ghost use Rattle.ira_event.specs.LogText.{head_of};
 ghost use Rattle.ira_event.specs.LogTextFault.{RecordsRead};
 ghost use Rattle.ira_audit.specs.ReplayedLogs.{IsReplayed, AreReplayed};
 ghost use Rattle.ira_audit.specs.Replaying.{ReplayGives};
@@ -47,6 +48,32 @@ impl<A: Allocator> ReplayedLog<A> {
         };
         let log = NodeLog::of_records(head, events);
         Ok(ReplayedLog { log, steps })
+    }
+
+    /// How many nodes the ring of the log has.
+    pub(crate) fn nodes(&self) -> RingSize
+        ensures { result ≡ self.now.nodes }
+    {
+        self.log.nodes()
+    }
+
+    /// What is left of the log without its events, which takes no memory.
+    pub(crate) fn without_events(self, alloc: A) -> ReplayedLog<A>
+        ensures { head_of result ≡ head_of self }
+    {
+        let ReplayedLog { log, steps: _ } = self;
+        let events = Vec::new(alloc);
+        let head = NodeLog::of_parts(
+            log.version(),
+            log.nodes(),
+            log.place(),
+            log.initiator(),
+            events,
+        );
+        ReplayedLog {
+            log: head,
+            steps: Ok(()),
+        }
     }
 }
 

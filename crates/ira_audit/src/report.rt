@@ -1,6 +1,6 @@
 ghost use Rattle.std.specs.Prelude.{◌≡◌, ◌≢◌, ◌++◌, decimal};
 ghost use Rattle.ira_event.specs.Sink.{Wrote};
-ghost use Rattle.ira_audit.specs.Report.{log_fault_words, ask_fault_words, cert_fault_words, head_fault_words, receipt_words, match_fault_words, step_fault_words, unsound_words, section_fault_words, reason_words, report_line, IsReportable, IsReportableReason};
+ghost use Rattle.ira_audit.specs.Report.{log_fault_words, ask_fault_words, cert_fault_words, head_fault_words, receipt_words, step_fault_words, unsound_words, section_fault_words, reason_words, report_line, IsReportable, IsReportableReason};
 
 use crate::answer::Answer;
 use crate::reason::Reason;
@@ -85,13 +85,13 @@ fn write_head_fault<W: Sink>(fault: HeadFault, sink: &mut W) -> Result<(), Write
 fn write_receipt<W: Sink>(link: u64, k: u64, words: &[u8], sink: &mut W) -> Result<(), WriteFault>
     ensures { Wrote result (receipt_words link k ++ words.now) (W.state sink.old) (W.state sink.new) }
 {
-    write_numbered(b"link ", link, sink)?;
+    write_numbered(b"no: link ", link, sink)?;
     write_numbered(b": receipt ", k, sink)?;
     write_bytes(words, sink)
 }
 
-fn write_match_fault<W: Sink>(fault: MatchFault, sink: &mut W) -> Result<(), WriteFault>
-    ensures { Wrote result (match_fault_words fault) (W.state sink.old) (W.state sink.new) }
+fn write_match_reason<W: Sink>(fault: MatchFault, sink: &mut W) -> Result<(), WriteFault>
+    ensures { Wrote result (reason_words (Reason.Match fault)) (W.state sink.old) (W.state sink.new) }
 {
     match fault {
         MatchFault::NoSending { link, k } => {
@@ -158,14 +158,6 @@ fn write_heads_reason<W: Sink>(fault: HeadFault, sink: &mut W) -> Result<(), Wri
 {
     write_bytes(b"no: heads: ", sink)?;
     write_head_fault(fault, sink)
-}
-
-#[tactic(auto, using(ira_event::proofs::Writing::writes))]
-fn write_match_reason<W: Sink>(fault: MatchFault, sink: &mut W) -> Result<(), WriteFault>
-    ensures { Wrote result (reason_words (Reason.Match fault)) (W.state sink.old) (W.state sink.new) }
-{
-    write_bytes(b"no: ", sink)?;
-    write_match_fault(fault, sink)
 }
 
 #[tactic(auto, using(ira_event::proofs::Writing::writes))]

@@ -1,4 +1,5 @@
-ghost use Rattle.std.specs.Prelude.{◌≡◌, ◌↔◌, ◌++◌, ◌∷◌, ◌≤◌, [], ℕ, List, Ok, IfOk, OnOk, OnErr, map};
+ghost use Rattle.std.specs.Prelude.{◌≡◌, ◌↔◌, ◌++◌, ◌∷◌, ◌≤◌, [], ℕ, List, Ok, IfOk, IsTrue, OnOk, OnErr, Some, length, map, slice_get};
+ghost use Rattle.ira_event.specs.Log.{Log};
 ghost use Rattle.ira_event.specs.Logs.{AreLogs};
 ghost use Rattle.ira_event.specs.Result.{UnlessErr};
 ghost use Rattle.ira_audit.specs.AuditAnswer.{IsAuditAnswer};
@@ -13,6 +14,7 @@ ghost use Rattle.ira_audit.specs.ReplayedLogs.{AreReplayed};
 ghost use Rattle.ira_audit.specs.Report.{IsReportable};
 ghost use Rattle.ira_audit.specs.RingAudit.{HasTaken};
 ghost use Rattle.ira_audit.specs.TextRuns.{AreTextsOfRuns, AreTextsWithoutRun, IsOfRing};
+ghost use Rattle.ira_audit.specs.WrittenFindings.{AreWrittenFindings};
 ghost use Rattle.ira_audit.specs.declared.answer.Answer.{Answer};
 ghost use Rattle.ira_audit.specs.declared.reason.Reason.{Reason};
 
@@ -22,6 +24,7 @@ use crate::good_logs::GoodLogs;
 use crate::reason::Reason;
 use crate::refusal::{Refusal, answer_of, findings_of};
 use crate::replayed_log::{ReplayedLog, split_steps};
+use crate::written_findings::WrittenFindings;
 use ira_event::{LogFault, Logs, OutOfMemory};
 use ira_links::Gate;
 use ira_order::{find_order, find_order_on_threads};
@@ -33,12 +36,12 @@ use std::time::Clock;
 
 /// Judges the texts of a ring's logs, which it takes one by one, or from an audit that has taken those that come next,
 /// in the order of the ring's places. Of a text it keeps the log and what its replay gave, so that the texts needn't all
-/// be in memory at once.
+/// be in memory at once; of the logs past the ring's size, as the first log names it, nothing but their heads.
 #[derive(Drop)]
 pub struct RingAudit<A: Allocator> {
     /// The logs of the texts, up to the first that is no log's.
     logs: Vec<ReplayedLog<A>, A>,
-    /// What is wrong with the text behind these.
+    /// What is wrong with the text after these.
     fault: Option<LogFault>,
 }
 
@@ -82,14 +85,32 @@ impl<A: Allocator + Clone> RingAudit<A> {
             return Ok(());
         }
         match ReplayedLog::read(self.logs.allocator().clone()?, text) {
-            Ok(log) => self.logs.push(log)?,
+            Ok(log) => {
+                let kept = if self.are_all_there() {
+                    log.without_events(self.logs.allocator().clone()?)
+                } else {
+                    log
+                };
+                self.logs.push(kept)?;
+            }
             Err(LogFault::OutOfMemory) => return Err(OutOfMemory),
             Err(fault) => self.fault = Some(fault),
         }
         Ok(())
     }
 
-    /// Takes the texts that another audit has taken, behind its own. Behind a text that is no log's none counts. Where
+    /// Whether there are as many logs as the first one names nodes, so that with one more they aren't those of one ring.
+    fn are_all_there(&self) -> bool
+        ensures { IsTrue result
+            → (first : Log) × (slice_get self.now.logs 0 ≡ Some first) × (first.nodes ≤ length self.now.logs) }
+    {
+        match self.logs.first() {
+            Some(first) => self.logs.len() >= usize::from(first.nodes().get()),
+            None => false,
+        }
+    }
+
+    /// Takes the texts that another audit has taken, after its own. After a text that is no log's none counts. Where
     /// memory runs out the audit is as it was.
     pub fn append(&mut self, mut next: RingAudit<A>) -> Result<(), OutOfMemory>
         ensures ok { OnOk result
@@ -158,6 +179,35 @@ impl<A: Allocator + Clone> RingAudit<A> {
         ensures reportable { (texts : List (List ℕ)) → HasTaken self texts → IfOk result AreReportable }
     {
         findings_of(self.find_cases(question))
+    }
+
+    /// What `decide` finds, written down case by case: no section is kept, but for the text of the certificate, if it is asked
+    /// for and as long as each case is absent.
+    pub fn decide_in_writing(
+        self,
+        question: &[u8],
+        certify: bool,
+    ) -> Result<WrittenFindings<A>, OutOfMemory>
+        requires { (texts : List (List ℕ)) × HasTaken self texts }
+        ensures { (texts : List (List ℕ)) → HasTaken self texts
+            → IfOk result (AreWrittenFindings A texts question.now certify) }
+    {
+        let alloc = self.logs.allocator().clone()?;
+        match self.write_cases(question, certify) {
+            Ok(written) => Ok(written),
+            Err(Refusal::No(reason)) => WrittenFindings::of_reason(alloc, reason),
+            Err(Refusal::OutOfMemory) => Err(OutOfMemory),
+        }
+    }
+
+    /// What is written of each case of the question, or why it isn't posed of the texts that were taken.
+    fn write_cases(self, question: &[u8], certify: bool) -> Result<WrittenFindings<A>, Refusal>
+        ensures { (texts : List (List ℕ)) → HasTaken self texts
+            → MatchRefusal result (AreWrittenFindings A texts question.now certify)
+            (IsFindingsReason texts question.now) }
+    {
+        let logs = self.good_logs()?;
+        logs.decide_in_writing(question, certify)
     }
 
     /// Whether the certificate answers the question, and nothing stands against the texts that were taken.

@@ -62,7 +62,7 @@ fn unsound([node, pos, other, other_pos]: Step, left: [&[u32]; 2]) -> Option<Uns
     }
 }
 
-/// Behind its first.
+/// After its first.
 fn rest(positions: &'static [u32]) -> &'static [u32] {
     match positions.split_first() {
         Some((_, rest)) => rest,

@@ -19,7 +19,7 @@ enum Going {
 }
 
 impl Going {
-    /// The first position left behind it.
+    /// The first position left after it.
     fn on<I: Iterator<Item = u32> + Listed>(self, ahead: &mut Ahead<I>) -> Option<u32> {
         match self {
             Going::Advance => ahead.advance(),
@@ -92,7 +92,7 @@ fn second_term(rt: HostRuntime) {
     assert_table(&rt, second, Clause::Choosing, &[0, 5, 6]);
 }
 
-/// The log of a passive node that passes 2,000 messages on: it owes one behind each receipt.
+/// The log of a passive node that passes 2,000 messages on: it owes one after each receipt.
 fn long_log(rt: &(impl Abort + AllocGlobal)) -> NodeLog<Global> {
     let passed_on = [Event::Got(clean(1, 1, 1)), Event::Sent(clean(1, 1, 2))];
     let events = passed_on.repeat(rt.alloc(), 2_000).expect(rt, "memory");

@@ -45,7 +45,7 @@ const PAIRS_OF_THREE: &[u8] = b"irask 1\nnodes 3\n\
 const NESTED: &[u8] =
     b"irask 1\nnodes 2\ncase\n0: (leader and (not (yielding or term < 2)))\nend\n";
 
-/// The election's log without its last line, with another count, with a byte behind, and with both.
+/// The election's log without its last line, with another count, with a byte after, and with both.
 const ENDINGS: [(&[u8], LogFault); 4] = [
     (
         b"irlog 1\nnodes 2\nplace 0\nstart initiator\n\
@@ -69,7 +69,7 @@ const ENDINGS: [(&[u8], LogFault); 4] = [
     ),
 ];
 
-/// Questions of a case that is read, with a fault behind it.
+/// Questions of a case that is read, with a fault after it.
 const ASK_FAULTS: [(&[u8], AskFault); 6] = [
     (
         b"irask 1\nnodes 2\ncase\n0: (leader and owes)\n1: leader and owes\nend\n",

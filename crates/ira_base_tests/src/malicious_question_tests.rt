@@ -5,7 +5,7 @@ use crate::samples::text_of;
 use ira_pred::AskFault;
 use std::process::Abort;
 
-/// Compares what reading the text behind the head of a ring of two answers: these lines so often, and then the last
+/// Compares what reading the text after the head of a ring of two answers: these lines so often, and then the last
 /// bytes.
 fn assert_lines(
     rt: &(impl Abort + AllocGlobal),

@@ -12,7 +12,7 @@ fn negations(rt: &(impl Abort + AllocGlobal), depth: usize) -> Vec<u8> {
     text_of(rt, &front, b")", depth, b"\nend\n")
 }
 
-/// Compares what reading these lines behind the head answers. A text that is read is written as it was.
+/// Compares what reading these lines after the head answers. A text that is read is written as it was.
 fn assert_lines(rt: &(impl Abort + AllocGlobal), lines: &[u8], wanted: Result<usize, AskFault>) {
     let text = text_of(rt, HEAD, lines, 1, b"");
     assert_answer(rt, &text, wanted);

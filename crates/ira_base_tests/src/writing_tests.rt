@@ -90,7 +90,7 @@ impl Writer for LogText<'_> {
     }
 }
 
-/// Writes the log of node 0 of a ring of two to a sink that fails behind each byte in turn.
+/// Writes the log of node 0 of a ring of two to a sink that fails after each byte in turn.
 fn assert_each_byte_refused(
     rt: &(impl Abort + AllocGlobal),
     version: u8,

@@ -1,5 +1,7 @@
 -- The positions that are picked run by run are the candidates.
-use Rattle.std.proofs.Common.{◌≡◌, ◌≤◌, ◌+◌, ℕ, suc, Bool, true, false, cond, not, ◌&&◌, ◌||◌, List, [], ◌∷◌, ◌++◌, Option, Some, None, option_map, slice_get, All, map, length, filter, append_assoc, length-append, drop, take, get_or, ◌<◌, refl, sym, ap, subst, ◌∙◌, arith}
+use Rattle.std.proofs.Common.{◌≡◌, ◌≤◌, ◌+◌, ℕ, suc, Bool, true, false, cond, not, ◌&&◌, ◌||◌, List, [], ◌∷◌, ◌++◌}
+use Rattle.std.proofs.Common.{Option, Some, None, option_map, slice_get, All, map, length, filter, append_assoc}
+use Rattle.std.proofs.Common.{length-append, drop, take, get_or, ◌<◌, refl, sym, ap, subst, ◌∙◌, arith}
 use Rattle.std.specs.Prelude.{is_some}
 use Rattle.std.specs.List.{flat_map, enumerate_from}
 use Rattle.std.proofs.lemmas.Grind.{flat_map-append}
@@ -15,8 +17,10 @@ use Rattle.ira_node.specs.declared.phase.Phase.{Phase}
 use Rattle.ira_node.specs.declared.phase.Phase.TheVariants.{Choosing, Active, Passive, Leader, Yielding}
 use Rattle.ira_node.specs.NodeState.{first_state}
 use Rattle.ira_node.specs.StepAnswer.{answer}
-use Rattle.ira_pred.specs.ClauseAnswer.{compare_some_test, holds_test, id_of, is_active, is_choosing, is_leader, is_owing, is_passive, is_yielding}
-use Rattle.ira_pred.specs.Formula.{Formula, always, leader, active, passive, choosing, yielding, owes, round, id, term, both, either, negated, names_round_or_term}
+use Rattle.ira_pred.specs.ClauseAnswer.{compare_some_test, holds_test, id_of, is_active, is_choosing, is_leader}
+use Rattle.ira_pred.specs.ClauseAnswer.{is_owing, is_passive, is_yielding}
+use Rattle.ira_pred.specs.Formula.{Formula, always, leader, active, passive, choosing, yielding, owes, round, id, term}
+use Rattle.ira_pred.specs.Formula.{both, either, negated, names_round_or_term}
 use Rattle.ira_replay.specs.StatesOfLog.{ArePlacedStates}
 use Rattle.ira_replay.specs.StatesLeft.{states_left, advanced}
 use Rattle.ira_replay.proofs.Along.{are_placed_states}
@@ -24,7 +28,8 @@ use Rattle.ira_cand.specs.Holding.{positions_passing}
 use Rattle.ira_cand.specs.Candidates.{AreCandidates}
 use Rattle.ira_cand.specs.declared.phase_run.PhaseRun.{PhaseRun}
 use Rattle.ira_cand.specs.declared.stage.Stage.{Stage}
-use Rattle.ira_cand.specs.Profile.{HasKind, IsProfile, answers_in, in_first_round, phase_in_first_round, run_marks, stage, mark, marks_of, marks_passing, picked, sample, some_load}
+use Rattle.ira_cand.specs.Profile.{HasKind, IsProfile, answers_in, in_first_round, phase_in_first_round, run_marks}
+use Rattle.ira_cand.specs.Profile.{stage, mark, marks_of, marks_passing, picked, sample, some_load}
 use Rattle.ira_cand.proofs.Passing.{are_candidates_as}
 
 -- ---- a formula sees no more of a state than its mark
@@ -44,8 +49,10 @@ seen owes s = owing_seen s.owed
 seen (round rel n) s = refl
 seen (id rel n) s = refl
 seen (term rel n) s = refl
-seen (both a b) s = ap (λ x. x && holds_test b s) (seen a s) ∙ ap (λ y. holds_test a (sample (stage s) (is_some s.owed)) && y) (seen b s)
-seen (either a b) s = ap (λ x. x || holds_test b s) (seen a s) ∙ ap (λ y. holds_test a (sample (stage s) (is_some s.owed)) || y) (seen b s)
+seen (both a b) s = ap (λ x. x && holds_test b s) (seen a s)
+    ∙ ap (λ y. holds_test a (sample (stage s) (is_some s.owed)) && y) (seen b s)
+seen (either a b) s = ap (λ x. x || holds_test b s) (seen a s)
+    ∙ ap (λ y. holds_test a (sample (stage s) (is_some s.owed)) || y) (seen b s)
 seen (negated a) s = ap not (seen a s)
 
 -- the test of a formula on marks
@@ -55,7 +62,8 @@ test_of f stage o = holds_test f (sample stage o)
 -- ---- a formula that names neither a round nor a term tells no more stages apart than their kinds
 
 -- no atom but a round sees more of a phase than is the same in the first round
-same_kind : (p : Phase) → (is_leader (phase_in_first_round p) ≡ is_leader p) × (is_active (phase_in_first_round p) ≡ is_active p)
+same_kind : (p : Phase) → (is_leader (phase_in_first_round p) ≡ is_leader p)
+    × (is_active (phase_in_first_round p) ≡ is_active p)
     × (is_passive (phase_in_first_round p) ≡ is_passive p) × (is_choosing (phase_in_first_round p) ≡ is_choosing p)
     × (is_yielding (phase_in_first_round p) ≡ is_yielding p) × (id_of (phase_in_first_round p) ≡ id_of p)
 same_kind (Choosing r) = (refl, refl, refl, refl, refl, refl)
@@ -68,7 +76,8 @@ neither : (a b : Bool) → (a || b) ≡ false → (a ≡ false) × (b ≡ false)
 neither false b e = (refl, e)
 neither true b e = cc
 
-told_by_kind : (f : Formula) (at : Stage) (o : Bool) → names_round_or_term f ≡ false → test_of f (in_first_round at) o ≡ test_of f at o
+told_by_kind : (f : Formula) (at : Stage) (o : Bool) → names_round_or_term f ≡ false
+    → test_of f (in_first_round at) o ≡ test_of f at o
 told_by_kind always at o e = refl
 told_by_kind leader at o e = (same_kind at.phase).0
 told_by_kind active at o e = (same_kind at.phase).1
@@ -81,32 +90,42 @@ told_by_kind (id rel n) at o e = ap (λ x. compare_some_test x rel n) (same_kind
 told_by_kind (term rel n) at o e = cc
 told_by_kind (both a b) at o e =
     let apart = neither (names_round_or_term a) (names_round_or_term b) e in
-    ap (λ x. x && test_of b (in_first_round at) o) (told_by_kind a at o apart.0) ∙ ap (λ y. test_of a at o && y) (told_by_kind b at o apart.1)
+    ap (λ x. x && test_of b (in_first_round at) o) (told_by_kind a at o apart.0)
+    ∙ ap (λ y. test_of a at o && y) (told_by_kind b at o apart.1)
 told_by_kind (either a b) at o e =
     let apart = neither (names_round_or_term a) (names_round_or_term b) e in
-    ap (λ x. x || test_of b (in_first_round at) o) (told_by_kind a at o apart.0) ∙ ap (λ y. test_of a at o || y) (told_by_kind b at o apart.1)
+    ap (λ x. x || test_of b (in_first_round at) o) (told_by_kind a at o apart.0)
+    ∙ ap (λ y. test_of a at o || y) (told_by_kind b at o apart.1)
 told_by_kind (negated a) at o e = ap not (told_by_kind a at o e)
 
 -- what is known of a kind is the answer of each stage of that kind
-pub known_read : (f : Formula) (kinds : List Stage) (known : List (Bool × Bool)) → names_round_or_term f ≡ false → known ≡ map (answers_in f) kinds
-    → (k : ℕ) (at : Stage) (pair : Bool × Bool) → slice_get kinds k ≡ Some (in_first_round at) → slice_get known k ≡ Some pair → pair ≡ answers_in f at
+pub known_read : (f : Formula) (kinds : List Stage) (known : List (Bool × Bool)) → names_round_or_term f ≡ false
+    → known ≡ map (answers_in f) kinds
+    → (k : ℕ) (at : Stage) (pair : Bool × Bool) → slice_get kinds k ≡ Some (in_first_round at)
+    → slice_get known k ≡ Some pair → pair ≡ answers_in f at
 known_read f kinds known unnamed is k at pair here there =
     let read : slice_get known k ≡ Some (answers_in f (in_first_round at)) =
     ap (λ xs. slice_get xs k) is ∙ slice_get-map (answers_in f) kinds k ∙ ap (option_map (answers_in f)) here in
     let same : pair ≡ answers_in f (in_first_round at) = cc in
-    same ∙ ap (λ x. (x, test_of f (in_first_round at) true)) (told_by_kind f at false unnamed) ∙ ap (λ y. (test_of f at false, y)) (told_by_kind f at true unnamed)
+    same ∙ ap (λ x. (x, test_of f (in_first_round at) true)) (told_by_kind f at false unnamed)
+    ∙ ap (λ y. (test_of f at false, y)) (told_by_kind f at true unnamed)
 
 -- runs have their kinds also once there are more of these
-still_have_kinds : {A : Type 0} (old new : List Stage) (runs : List (PhaseRun A)) → ((k : ℕ) (kind : Stage) → slice_get old k ≡ Some kind → slice_get new k ≡ Some kind)
+still_have_kinds : {A : Type 0} (old new : List Stage) (runs : List (PhaseRun A))
+    → ((k : ℕ) (kind : Stage) → slice_get old k ≡ Some kind → slice_get new k ≡ Some kind)
     → All (HasKind old) runs → All (HasKind new) runs
-still_have_kinds old new runs kept h = All-weaker (HasKind old) (HasKind new) (λ r. kept r.kind (in_first_round r.stage)) runs h
+still_have_kinds old new runs kept h =
+    All-weaker (HasKind old) (HasKind new) (λ r. kept r.kind (in_first_round r.stage)) runs h
 
-pub one_run_more : {A : Type 0} (old new : List Stage) (runs : List (PhaseRun A)) (run : PhaseRun A) → ((k : ℕ) (kind : Stage) → slice_get old k ≡ Some kind → slice_get new k ≡ Some kind)
+pub one_run_more : {A : Type 0} (old new : List Stage) (runs : List (PhaseRun A)) (run : PhaseRun A)
+    → ((k : ℕ) (kind : Stage) → slice_get old k ≡ Some kind → slice_get new k ≡ Some kind)
     → All (HasKind old) runs → HasKind old run → All (HasKind new) (runs ++ run ∷ [])
 one_run_more old new runs run kept theirs its =
-    All-push (HasKind new) runs run (still_have_kinds old new runs kept theirs) (kept run.kind (in_first_round run.stage) its)
+    All-push (HasKind new) runs run (still_have_kinds old new runs kept theirs)
+    (kept run.kind (in_first_round run.stage) its)
 
-pub kind_of_run : {A : Type 0} (kinds : List Stage) (runs : List (PhaseRun A)) (k : ℕ) (r : PhaseRun A) → All (HasKind kinds) runs → k < length runs → r ≡ get_or runs k r
+pub kind_of_run : {A : Type 0} (kinds : List Stage) (runs : List (PhaseRun A)) (k : ℕ) (r : PhaseRun A)
+    → All (HasKind kinds) runs → k < length runs → r ≡ get_or runs k r
     → HasKind kinds r
 kind_of_run kinds runs k r h lt is = subst (HasKind kinds) (sym is) (All-get_or (HasKind kinds) runs k r lt h)
 
@@ -117,7 +136,8 @@ taken_or_not : (b : Bool) (p : ℕ) (us vs ws : List ℕ) → us ≡ vs ++ ws �
 taken_or_not true p us vs ws e = ap (λ zs. p ∷ zs) e
 taken_or_not false p us vs ws e = e
 
-pub passing-append : (test : Stage → Bool → Bool) (p : ℕ) (xs ys : List (Stage × Bool)) → marks_passing test p (xs ++ ys) ≡ marks_passing test p xs ++ marks_passing test (p + length xs) ys
+pub passing-append : (test : Stage → Bool → Bool) (p : ℕ) (xs ys : List (Stage × Bool))
+    → marks_passing test p (xs ++ ys) ≡ marks_passing test p xs ++ marks_passing test (p + length xs) ys
 passing-append test p [] ys = ap (λ q. marks_passing test q ys) (omega arith)
 passing-append test p (x ∷ xs) ys =
     let on = passing-append test (p + 1) xs ys in
@@ -126,13 +146,15 @@ passing-append test p (x ∷ xs) ys =
     taken_or_not (test x.0 x.1) p _ _ _ moved
 
 -- the marks of one phase
-pub run_passing : (test : Stage → Bool → Bool) (at : Stage) (p : ℕ) (os : List Bool) → marks_passing test p (map (λ o. (at, o)) os) ≡ picked (test at false) (test at true) p os
+pub run_passing : (test : Stage → Bool → Bool) (at : Stage) (p : ℕ) (os : List Bool)
+    → marks_passing test p (map (λ o. (at, o)) os) ≡ picked (test at false) (test at true) p os
 run_passing test at p [] = refl
 run_passing test at p (true ∷ os) = ap (λ zs. cond (test at true) (p ∷ zs) zs) (run_passing test at (p + 1) os)
 run_passing test at p (false ∷ os) = ap (λ zs. cond (test at false) (p ∷ zs) zs) (run_passing test at (p + 1) os)
 
 -- one state more is picked, or not
-pub picked-more : (free owing : Bool) (p : ℕ) (os : List Bool) (o : Bool) → picked free owing p (os ++ o ∷ []) ≡ picked free owing p os ++ cond (cond o owing free) ((p + length os) ∷ []) []
+pub picked-more : (free owing : Bool) (p : ℕ) (os : List Bool) (o : Bool)
+    → picked free owing p (os ++ o ∷ []) ≡ picked free owing p os ++ cond (cond o owing free) ((p + length os) ∷ []) []
 picked-more free owing p [] o = last (cond o owing free)
   where
     last : (b : Bool) → cond b (p ∷ []) [] ≡ cond b ((p + 0) ∷ []) []
@@ -145,40 +167,49 @@ picked-more free owing p (x ∷ os) o =
     taken_or_not (cond x owing free) p _ _ _ moved
 
 -- nothing is picked where neither is answered
-pub picked-none : (free owing : Bool) (p : ℕ) (os : List Bool) → free ≡ false → owing ≡ false → picked free owing p os ≡ []
+pub picked-none : (free owing : Bool) (p : ℕ) (os : List Bool) → free ≡ false → owing ≡ false
+    → picked free owing p os ≡ []
 picked-none free owing p [] a b = refl
 picked-none free owing p (true ∷ os) a b = rw b (picked-none free owing (p + 1) os a b)
 picked-none free owing p (false ∷ os) a b = rw a (picked-none free owing (p + 1) os a b)
 
 -- one state more is looked at
-pub pick_more : (free owing : Bool) (p k : ℕ) (os : List Bool) (o : Bool) (base found : List ℕ) → k < length os → o ≡ get_or os k o → found ≡ base ++ picked free owing p (take k os)
+pub pick_more : (free owing : Bool) (p k : ℕ) (os : List Bool) (o : Bool) (base found : List ℕ) → k < length os
+    → o ≡ get_or os k o → found ≡ base ++ picked free owing p (take k os)
     → found ++ cond (cond o owing free) ((p + k) ∷ []) [] ≡ base ++ picked free owing p (take (k + 1) os)
 pick_more free owing p k os o base found lt is e =
     let more : take (k + 1) os ≡ take k os ++ o ∷ [] = take_more os k o lt ∙ ap (λ q. take k os ++ q ∷ []) (sym is) in
     let long : length (take k os) ≡ k = length-take-le k os (omega (arith, lt)) in
-    let step = picked-more free owing p (take k os) o ∙ ap (λ n. picked free owing p (take k os) ++ cond (cond o owing free) ((p + n) ∷ []) []) long in
-    ap (λ us. us ++ cond (cond o owing free) ((p + k) ∷ []) []) e ∙ append_assoc base (picked free owing p (take k os)) (cond (cond o owing free) ((p + k) ∷ []) [])
+    let step = picked-more free owing p (take k os) o
+    ∙ ap (λ n. picked free owing p (take k os) ++ cond (cond o owing free) ((p + n) ∷ []) []) long in
+    ap (λ us. us ++ cond (cond o owing free) ((p + k) ∷ []) []) e
+    ∙ append_assoc base (picked free owing p (take k os)) (cond (cond o owing free) ((p + k) ∷ []) [])
     ∙ ap (λ us. base ++ us) (sym (ap (picked free owing p) more ∙ step))
 
 -- ---- the marks of a log
 
 -- the positions of placed states that pass are those of their marks that do
-marked : (f : Formula) (p : ℕ) (ts : List NodeState) → marks_passing (test_of f) p (map (λ x. mark x.1) (enumerate_from p ts)) ≡ positions_passing (holds_test f) (enumerate_from p ts)
+marked : (f : Formula) (p : ℕ) (ts : List NodeState)
+    → marks_passing (test_of f) p (map (λ x. mark x.1) (enumerate_from p ts))
+    ≡ positions_passing (holds_test f) (enumerate_from p ts)
 marked f p [] = refl
 marked f p (t ∷ ts) =
     let on = marked f (p + 1) ts in
     let here : test_of f (stage t) (is_some t.owed) ≡ holds_test f t = sym (seen f t) in
     rw here (step (holds_test f t) _ (filter (λ x. holds_test f x.1) (enumerate_from (p + 1) ts)) on)
   where
-    step : (b : Bool) (us : List ℕ) (xs : List (ℕ × NodeState)) → us ≡ map (λ x. x.0) xs → cond b (p ∷ us) us ≡ map (λ x. x.0) (cond b ((p, t) ∷ xs) xs)
+    step : (b : Bool) (us : List ℕ) (xs : List (ℕ × NodeState)) → us ≡ map (λ x. x.0) xs
+        → cond b (p ∷ us) us ≡ map (λ x. x.0) (cond b ((p, t) ∷ xs) xs)
     step true us xs e = ap (λ zs. p ∷ zs) e
     step false us xs e = e
 
-pub marks_are_candidates : (log : Log) (f : Formula) (found : List ℕ) → found ≡ marks_passing (test_of f) 0 (marks_of log) → AreCandidates log f found
+pub marks_are_candidates : (log : Log) (f : Formula) (found : List ℕ)
+    → found ≡ marks_passing (test_of f) 0 (marks_of log) → AreCandidates log f found
 marks_are_candidates log f found e =
     let s : NodeState = first_state log.initiator in
     let h : ArePlacedStates log.nodes s log.events _ = are_placed_states log.nodes s log.events in
-    let P : List (ℕ × NodeState) → Type 0 = λ xs. marks_passing (test_of f) 0 (map (λ x. mark x.1) xs) ≡ positions_passing (holds_test f) xs in
+    let P : List (ℕ × NodeState) → Type 0 =
+    λ xs. marks_passing (test_of f) 0 (map (λ x. mark x.1) xs) ≡ positions_passing (holds_test f) xs in
     are_candidates_as log f found (e ∙ subst P (sym h.2) (marked f 0 h.0))
 
 -- there is a state more than events at most
@@ -195,22 +226,28 @@ marks_count log most few =
     omega (arith, few, count, same)
 
 -- the runs, and the last one, have all marks
-pub profile_ends : {A : Type 0} (log : Log) (runs all : List (PhaseRun A)) (run : PhaseRun A) (kinds : List Stage) (left : List (ℕ × NodeState)) → length log.events ≤ MAX_RECORDS
-    → marks_of log ≡ flat_map run_marks runs ++ run_marks run ++ map (λ x. mark x.1) left → left ≡ [] → all ≡ runs ++ run ∷ []
+pub profile_ends : {A : Type 0} (log : Log) (runs all : List (PhaseRun A)) (run : PhaseRun A) (kinds : List Stage)
+    (left : List (ℕ × NodeState)) → length log.events ≤ MAX_RECORDS
+    → marks_of log ≡ flat_map run_marks runs ++ run_marks run ++ map (λ x. mark x.1) left → left ≡ []
+    → all ≡ runs ++ run ∷ []
     → All (HasKind kinds) runs → HasKind kinds run → IsProfile log all kinds
 profile_ends log runs all run kinds left few e none is theirs its = record {
   marks =
-      ap (flat_map run_marks) is ∙ flat_map-append run_marks runs (run ∷ []) ∙ ap (λ us. flat_map run_marks runs ++ us) (append-nil (run_marks run))
-      ∙ sym (e ∙ ap (λ xs. flat_map run_marks runs ++ run_marks run ++ map (λ x. mark x.1) xs) none ∙ append-nil (flat_map run_marks runs ++ run_marks run));
+      ap (flat_map run_marks) is ∙ flat_map-append run_marks runs (run ∷ [])
+      ∙ ap (λ us. flat_map run_marks runs ++ us) (append-nil (run_marks run))
+      ∙ sym (e ∙ ap (λ xs. flat_map run_marks runs ++ run_marks run ++ map (λ x. mark x.1) xs) none
+      ∙ append-nil (flat_map run_marks runs ++ run_marks run));
   count = marks_count log MAX_RECORDS few;
   kinds_are = subst (All (HasKind kinds)) (sym is) (All-push (HasKind kinds) runs run theirs its);
 }
 
 -- ---- a table that is found run by run
 
--- behind k runs, whose states end before the position, the positions found are those that pass so far
-pub record TableAt {A : Type 0} (log : Log) (f : Formula) (runs : List (PhaseRun A)) (k position : ℕ) (found : List ℕ) : Type 0 where
-  pub passing : marks_passing (test_of f) 0 (marks_of log) ≡ found ++ marks_passing (test_of f) position (flat_map run_marks (drop k runs))
+-- after k runs, whose states end before the position, the positions found are those that pass so far
+pub record TableAt {A : Type 0} (log : Log) (f : Formula) (runs : List (PhaseRun A)) (k position : ℕ) (found : List ℕ)
+    : Type 0 where
+  pub passing : marks_passing (test_of f) 0 (marks_of log) ≡ found
+      ++ marks_passing (test_of f) position (flat_map run_marks (drop k runs))
   pub room : position + length (flat_map run_marks (drop k runs)) ≤ MAX_RECORDS + 1
 
 module _ {A : Type 0} (log : Log) (f : Formula) (runs : List (PhaseRun A)) where
@@ -221,32 +258,44 @@ module _ {A : Type 0} (log : Log) (f : Formula) (runs : List (PhaseRun A)) where
   }
 
   module _ (k p : ℕ) (found : List ℕ) (at : TableAt log f runs k p found) where
-    -- the next run, and those behind it
-    next_run : (r : PhaseRun A) → k < length runs → r ≡ get_or runs k r → flat_map run_marks (drop k runs) ≡ run_marks r ++ flat_map run_marks (drop (k + 1) runs)
+    -- the next run, and those after it
+    next_run : (r : PhaseRun A) → k < length runs → r ≡ get_or runs k r
+        → flat_map run_marks (drop k runs) ≡ run_marks r ++ flat_map run_marks (drop (k + 1) runs)
     next_run r lt is = ap (flat_map run_marks) (drop_more runs k r lt ∙ ap (λ q. q ∷ drop (k + 1) runs) (sym is))
 
-    next_length : (r : PhaseRun A) → k < length runs → r ≡ get_or runs k r → length (flat_map run_marks (drop k runs)) ≡ length r.owes.items + length (flat_map run_marks (drop (k + 1) runs))
+    next_length : (r : PhaseRun A) → k < length runs → r ≡ get_or runs k r
+        → length (flat_map run_marks (drop k runs))
+        ≡ length r.owes.items + length (flat_map run_marks (drop (k + 1) runs))
     next_length r lt is =
         ap length (next_run r lt is) ∙ length-append (run_marks r) (flat_map run_marks (drop (k + 1) runs))
         ∙ ap (λ n. n + length (flat_map run_marks (drop (k + 1) runs))) (length-map r.owes.items (λ o. (r.stage, o)))
 
-    pub table_room : (r : PhaseRun A) → k < length runs → r ≡ get_or runs k r → p + length r.owes.items ≤ MAX_RECORDS + 1
+    pub table_room : (r : PhaseRun A) → k < length runs → r ≡ get_or runs k r
+        → p + length r.owes.items ≤ MAX_RECORDS + 1
     table_room r lt is = let room = at.room in let long = next_length r lt is in omega (arith, room, long)
 
     pub table_more : (r : PhaseRun A) (more : List ℕ) → k < length runs → r ≡ get_or runs k r
-        → more ≡ found ++ picked (test_of f r.stage false) (test_of f r.stage true) p r.owes.items → TableAt log f runs (k + 1) (p + length r.owes.items) more
+        → more ≡ found ++ picked (test_of f r.stage false) (test_of f r.stage true) p r.owes.items
+        → TableAt log f runs (k + 1) (p + length r.owes.items) more
     table_more r more lt is e =
         let rest = flat_map run_marks (drop (k + 1) runs) in
         let test = test_of f in
-        let parts : marks_passing test p (flat_map run_marks (drop k runs)) ≡ marks_passing test p (run_marks r) ++ marks_passing test (p + length (run_marks r)) rest =
+        let parts : marks_passing test p (flat_map run_marks (drop k runs)) ≡ marks_passing test p (run_marks r)
+        ++ marks_passing test (p + length (run_marks r)) rest =
         ap (marks_passing test p) (next_run r lt is) ∙ passing-append test p (run_marks r) rest in
         let long : length (run_marks r) ≡ length r.owes.items = length-map r.owes.items (λ o. (r.stage, o)) in
-        let here : marks_passing test p (run_marks r) ≡ picked (test r.stage false) (test r.stage true) p r.owes.items = run_passing test r.stage p r.owes.items in
-        let both : marks_passing test p (flat_map run_marks (drop k runs)) ≡ picked (test r.stage false) (test r.stage true) p r.owes.items ++ marks_passing test (p + length r.owes.items) rest =
+        let here : marks_passing test p (run_marks r) ≡ picked (test r.stage false) (test r.stage true) p r.owes.items =
+        run_passing test r.stage p r.owes.items in
+        let both : marks_passing test p (flat_map run_marks (drop k runs))
+        ≡ picked (test r.stage false) (test r.stage true) p r.owes.items
+        ++ marks_passing test (p + length r.owes.items) rest =
         parts ∙ ap (λ us. us ++ marks_passing test (p + length (run_marks r)) rest) here
-        ∙ ap (λ n. picked (test r.stage false) (test r.stage true) p r.owes.items ++ marks_passing test (p + n) rest) long in
+        ∙ ap (λ n. picked (test r.stage false) (test r.stage true) p r.owes.items
+        ++ marks_passing test (p + n) rest) long in
         record {
-          passing = at.passing ∙ ap (λ us. found ++ us) both ∙ sym (append_assoc found (picked (test r.stage false) (test r.stage true) p r.owes.items) (marks_passing test (p + length r.owes.items) rest))
+          passing = at.passing ∙ ap (λ us. found ++ us) both
+              ∙ sym (append_assoc found (picked (test r.stage false) (test r.stage true) p r.owes.items)
+              (marks_passing test (p + length r.owes.items) rest))
               ∙ ap (λ us. us ++ marks_passing test (p + length r.owes.items) rest) (sym e);
           room = let room = at.room in let far = next_length r lt is in omega (arith, room, far);
         }
@@ -254,4 +303,6 @@ module _ {A : Type 0} (log : Log) (f : Formula) (runs : List (PhaseRun A)) where
     pub table_end : length runs ≤ k → AreCandidates log f found
     table_end all =
         let none : drop k runs ≡ [] = drop_all k runs all in
-        marks_are_candidates log f found (sym (at.passing ∙ ap (λ rs. found ++ marks_passing (test_of f) p (flat_map run_marks rs)) none ∙ append-nil found))
+        marks_are_candidates log f found
+        (sym (at.passing ∙ ap (λ rs. found ++ marks_passing (test_of f) p (flat_map run_marks rs)) none
+        ∙ append-nil found))

@@ -1,17 +1,19 @@
 -- Rising lists of numbers.
-use Rattle.std.proofs.Common.{◌≡◌, ℕ, zero, suc, ◌+◌, ◌<◌, ◌≤◌, ◌↔◌, true, List, [], ◌∷◌, Contains, Option, Some, None, is_some, MatchOption, refl, sym, subst, arith}
+use Rattle.std.proofs.Common.{◌≡◌, ℕ, zero, suc, ◌+◌, ◌<◌, ◌≤◌, ◌↔◌, true, List, [], ◌∷◌, Contains, Option, Some, None}
+use Rattle.std.proofs.Common.{is_some, MatchOption, refl, sym, subst, arith}
 use Rattle.std.specs.List.Sorted.{IsStrictlyIncreasing}
 use Rattle.std.proofs.lemmas.List.Kept.{AllPairs-from_increasing}
 use Rattle.std.proofs.lemmas.Map.Made.{Contains-tail}
 use Rattle.ira_cand.specs.Ahead.{with_front}
 
--- behind the first number of a rising list the others rise
+-- after the first number of a rising list the others rise
 pub rises_behind : (x : ℕ) (xs : List ℕ) → IsStrictlyIncreasing (x ∷ xs) → IsStrictlyIncreasing xs
 rises_behind x xs h k l = AllPairs-from_increasing (x ∷ xs) h (suc k) (suc (k + 1)) 0 (omega arith) (omega arith)
 
 -- and are above it
 pub above_first : (x : ℕ) (xs : List ℕ) (a : ℕ) → IsStrictlyIncreasing (x ∷ xs) → Contains xs a → x < a
-above_first x xs a h c = subst (λ y. x < y) c.2 (AllPairs-from_increasing (x ∷ xs) h 0 (suc c.0) a (omega arith) (omega (arith, c.1)))
+above_first x xs a h c = subst (λ y. x < y) c.2
+    (AllPairs-from_increasing (x ∷ xs) h 0 (suc c.0) a (omega arith) (omega (arith, c.1)))
 
 pub contains_behind : (x : ℕ) (xs : List ℕ) (a : ℕ) → Contains xs a → Contains (x ∷ xs) a
 contains_behind x xs a c = (suc c.0, omega (arith, c.1), c.2)
@@ -23,16 +25,20 @@ from_first : (x : ℕ) (xs : List ℕ) (a : ℕ) → IsStrictlyIncreasing (x ∷
 from_first x xs a h (zero, l, e) = omega (arith, e)
 from_first x xs a h (suc k, l, e) = let r : x < a = above_first x xs a h (k, omega (arith, l), e) in omega arith
 
-to_behind : (x y : ℕ) (xs ys : List ℕ) (a : ℕ) → x ≡ y → IsStrictlyIncreasing (x ∷ xs) → (Contains (x ∷ xs) a → Contains (y ∷ ys) a) → Contains xs a → Contains ys a
+to_behind : (x y : ℕ) (xs ys : List ℕ) (a : ℕ) → x ≡ y → IsStrictlyIncreasing (x ∷ xs)
+    → (Contains (x ∷ xs) a → Contains (y ∷ ys) a) → Contains xs a → Contains ys a
 to_behind x y xs ys a e h to c =
     let r : x < a = above_first x xs a h c in
     Contains-tail y ys a (λ s. omega arith) (to (contains_behind x xs a c))
 
 -- rising lists with the same members are one
-pub same_rising : (xs ys : List ℕ) → IsStrictlyIncreasing xs → IsStrictlyIncreasing ys → ((a : ℕ) → Contains xs a ↔ Contains ys a) → xs ≡ ys
+pub same_rising : (xs ys : List ℕ) → IsStrictlyIncreasing xs → IsStrictlyIncreasing ys
+    → ((a : ℕ) → Contains xs a ↔ Contains ys a) → xs ≡ ys
 same_rising [] [] h k same = refl
-same_rising [] (y ∷ ys) h k same = let c : Contains [] y = (same y).1 (contains_first y ys) in absurd (omega (arith, c.1))
-same_rising (x ∷ xs) [] h k same = let c : Contains [] x = (same x).0 (contains_first x xs) in absurd (omega (arith, c.1))
+same_rising [] (y ∷ ys) h k same = let c : Contains [] y = (same y).1 (contains_first y ys) in
+    absurd (omega (arith, c.1))
+same_rising (x ∷ xs) [] h k same = let c : Contains [] x = (same x).0 (contains_first x xs) in
+    absurd (omega (arith, c.1))
 same_rising (x ∷ xs) (y ∷ ys) h k same =
     let a : y ≤ x = from_first y ys x k ((same x).0 (contains_first x xs)) in
     let b : x ≤ y = from_first x xs y h ((same y).1 (contains_first y ys)) in
@@ -44,7 +50,10 @@ same_rising (x ∷ xs) (y ∷ ys) h k same =
     rw (e, rest) refl
 
 -- a rising list rises on once its first number, which was taken out already, makes way for the next
-pub rises_on : (front next : Option ℕ) (rest later : List ℕ) → is_some front ≡ true → IsStrictlyIncreasing (with_front front rest) → MatchOption next ((rest ≡ []) × (later ≡ [])) (λ x. rest ≡ x ∷ later) → IsStrictlyIncreasing (with_front next later)
+pub rises_on : (front next : Option ℕ) (rest later : List ℕ) → is_some front ≡ true
+    → IsStrictlyIncreasing (with_front front rest)
+    → MatchOption next ((rest ≡ []) × (later ≡ [])) (λ x. rest ≡ x ∷ later)
+    → IsStrictlyIncreasing (with_front next later)
 rises_on None next rest later some h e = cc
 rises_on (Some x) None rest later some h e = λ k l. absurd (omega (arith, l))
 rises_on (Some x) (Some y) rest later some h e = subst IsStrictlyIncreasing e (rises_behind x rest h)

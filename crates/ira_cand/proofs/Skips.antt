@@ -1,5 +1,6 @@
 -- What a skip to a position removes from a rising list, and what it keeps.
-use Rattle.std.proofs.Common.{◌≡◌, ℕ, ◌<◌, ◌≤◌, List, [], ◌∷◌, true, false, nat_le, Some, None, slice_get, filter, drop, length, refl, ap, arith}
+use Rattle.std.proofs.Common.{◌≡◌, ℕ, ◌<◌, ◌≤◌, List, [], ◌∷◌, true, false, nat_le, Some, None, slice_get, filter, drop}
+use Rattle.std.proofs.Common.{length, refl, ap, arith}
 use Rattle.std.specs.List.Sorted.{IsStrictlyIncreasing}
 use Rattle.std.proofs.lemmas.Bool.Decides.{nat_tests}
 use Rattle.ira_cand.proofs.Rising.{rises_behind}
@@ -17,14 +18,16 @@ all_kept p x (y ∷ ys) h r =
     rw (le_true p x h) (ap (λ zs. x ∷ zs) (all_kept p y ys (omega arith) (rises_behind x (y ∷ ys) r)))
 
 -- where the first is p or more, nothing is removed
-pub kept_from_first : (p x : ℕ) (xs : List ℕ) → slice_get xs 0 ≡ Some x → p ≤ x → IsStrictlyIncreasing xs → filter (nat_le p) xs ≡ xs
+pub kept_from_first : (p x : ℕ) (xs : List ℕ) → slice_get xs 0 ≡ Some x → p ≤ x → IsStrictlyIncreasing xs
+    → filter (nat_le p) xs ≡ xs
 kept_from_first p x [] e h r = refl
 kept_from_first p x (y ∷ ys) e h r =
     let same : y ≡ x = cc in
     all_kept p y ys (omega arith) r
 
 -- a first below p may be removed
-pub first_removed : (p x : ℕ) (xs : List ℕ) → slice_get xs 0 ≡ Some x → x < p → filter (nat_le p) (drop 1 xs) ≡ filter (nat_le p) xs
+pub first_removed : (p x : ℕ) (xs : List ℕ) → slice_get xs 0 ≡ Some x → x < p
+    → filter (nat_le p) (drop 1 xs) ≡ filter (nat_le p) xs
 first_removed p x [] e h = refl
 first_removed p x (y ∷ ys) e h =
     let same : y ≡ x = cc in

@@ -10,4 +10,5 @@ use Rattle.ira_cand.specs.Holding.{positions_passing}
 
 -- the positions of the log's states at which the formula's test gives true
 abbrev pub candidates_of : Log → Formula → List ℕ
-candidates_of log f = positions_passing (holds_test f) (states_left log.nodes (Some (0, first_state log.initiator)) log.events)
+candidates_of log f = positions_passing (holds_test f)
+    (states_left log.nodes (Some (0, first_state log.initiator)) log.events)

@@ -6,4 +6,5 @@ use Rattle.ira_cand.specs.Candidates.{AreCandidates}
 
 -- a log has one list of candidates for what is asked
 abbrev pub OneListOfCandidates : Type 0
-OneListOfCandidates = (log : Log) (f : Formula) (xs ys : List ℕ) → AreCandidates log f xs → AreCandidates log f ys → xs ≡ ys
+OneListOfCandidates = (log : Log) (f : Formula) (xs ys : List ℕ) → AreCandidates log f xs → AreCandidates log f ys
+    → xs ≡ ys

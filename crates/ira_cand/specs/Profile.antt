@@ -1,6 +1,7 @@
 -- What a clause can see of a log's states, told in short. Helpers, no definitions: the public calls of a
 -- profile say what they give by Candidates.
-use Rattle.std.specs.Prelude.{◌≡◌, ℕ, ◌+◌, ◌≤◌, Bool, true, false, cond, List, [], ◌∷◌, All, Some, None, length, map, is_some, slice_get}
+use Rattle.std.specs.Prelude.{◌≡◌, ℕ, ◌+◌, ◌≤◌, Bool, true, false, cond, List, [], ◌∷◌, All, Some, None, length, map}
+use Rattle.std.specs.Prelude.{is_some, slice_get}
 use Rattle.std.specs.List.{flat_map}
 use Rattle.ira_event.specs.Limits.{MAX_RECORDS}
 use Rattle.ira_event.specs.declared.load.Load.{Load}
@@ -63,7 +64,8 @@ marks_passing test p (m ∷ ms) = cond (test m.0 m.1) (p ∷ marks_passing test 
 -- the same of the marks of one stage: where something is owed the test gives `owing`, elsewhere `free`
 abbrev pub picked : Bool → Bool → ℕ → List Bool → List ℕ
 picked free owing p [] = []
-picked free owing p (o ∷ os) = cond (cond o owing free) (p ∷ picked free owing (p + 1) os) (picked free owing (p + 1) os)
+picked free owing p (o ∷ os) =
+    cond (cond o owing free) (p ∷ picked free owing (p + 1) os) (picked free owing (p + 1) os)
 
 -- some load, which stands for any
 abbrev pub some_load : Load

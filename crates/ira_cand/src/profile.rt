@@ -76,7 +76,7 @@ impl<'a, A: Allocator + Clone> Profile<'a, A> {
     }
 }
 
-/// Where the kinds have this one. Where they lack it, it is put behind them.
+/// Where the kinds have this one. Where they lack it, it is put after them.
 fn find_kind<A: Allocator>(kinds: &mut Vec<Stage, A>, kind: Stage) -> Result<usize, OutOfMemory>
     ensures found { IfOk result (λ k. slice_get kinds.new.items k ≡ Some kind) }
     ensures kept { (k : ℕ) (other : Stage) → slice_get kinds.old.items k ≡ Some other
@@ -91,7 +91,7 @@ fn find_kind<A: Allocator>(kinds: &mut Vec<Stage, A>, kind: Stage) -> Result<usi
     Ok(kinds.len() - 1)
 }
 
-/// Adds a state behind those of the runs and of the last run.
+/// Adds a state after those of the runs and of the last run.
 fn add_state<A: Allocator + Clone>(
     alloc: &A,
     runs: &mut Vec<PhaseRun<A>, A>,

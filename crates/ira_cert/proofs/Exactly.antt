@@ -16,7 +16,9 @@ rising_differ case rising i j d l within same = let h = rising i j d l within in
 same_answer : (a b : Verdict) → ◌≡◌ {A = Result Verdict OutOfMemory} (Ok a) (Ok b) → a ≡ b
 same_answer a b e = cc
 
-pub exactly : (logs : List Log) (case : List Conjunct) (section : Section) (a b : Verdict) → HasDifferentPlaces case → IsVerdict logs case section a → (◌≡◌ {A = Result Verdict OutOfMemory} (Ok a) (Ok b)) ↔ IsVerdict logs case section b
+pub exactly : (logs : List Log) (case : List Conjunct) (section : Section) (a b : Verdict) → HasDifferentPlaces case
+    → IsVerdict logs case section a → (◌≡◌ {A = Result Verdict OutOfMemory} (Ok a) (Ok b))
+    ↔ IsVerdict logs case section b
 exactly logs case section a b differ is = (
   λ e. subst (λ (v : Verdict). IsVerdict logs case section v) (same_answer a b e) is,
   λ h. ap (λ (v : Verdict). Ok v) (one_verdict logs case differ section a b is h),

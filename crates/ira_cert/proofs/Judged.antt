@@ -1,5 +1,6 @@
 -- What steps made along a case's candidates say of the section.
-use Rattle.std.proofs.Common.{◌≡◌, ℕ, zero, suc, ◌≤◌, List, [], ◌∷◌, Option, Some, length, slice_get, drop, refl, sym, ◌∙◌, ap, subst, arith}
+use Rattle.std.proofs.Common.{◌≡◌, ℕ, zero, suc, ◌≤◌, List, [], ◌∷◌, Option, Some, length, slice_get, drop, refl, sym}
+use Rattle.std.proofs.Common.{◌∙◌, ap, subst, arith}
 use Rattle.ira_event.specs.Log.{Log}
 use Rattle.ira_pred.specs.Case.{Conjunct}
 use Rattle.ira_cert_text.specs.declared.cert_step.CertStep.{CertStep}
@@ -21,11 +22,15 @@ drop_all zero (x ∷ xs) l = absurd (omega arith)
 drop_all (suc n) [] l = refl
 drop_all (suc n) (x ∷ xs) l = drop_all n xs (omega arith)
 
-module _ (logs : List Log) (case : List Conjunct) (section : Section) (steps : List CertStep) (same : steps ≡ section.steps) where
-  pub first_is_fault : (f : SectionFault) → (k : ℕ) × (why : Unsound) × (f ≡ Step k why) × IsFirstUnsoundStep logs case steps k why → IsSectionFault logs case section f
-  first_is_fault f h = unsound h.0 h.1 (subst (λ (xs : List CertStep). IsFirstUnsoundStep logs case xs h.0 h.1) same h.3) h.2
+module _ (logs : List Log) (case : List Conjunct) (section : Section) (steps : List CertStep) (same : steps
+    ≡ section.steps) where
+  pub first_is_fault : (f : SectionFault) → (k : ℕ) × (why : Unsound) × (f ≡ Step k why)
+      × IsFirstUnsoundStep logs case steps k why → IsSectionFault logs case section f
+  first_is_fault f h = unsound h.0 h.1
+      (subst (λ (xs : List CertStep). IsFirstUnsoundStep logs case xs h.0 h.1) same h.3) h.2
 
-  module _ (differ : HasDifferentPlaces case) (fronts : List (Option (List ℕ))) (made_all : AreSoundSteps logs case steps × AreFrontsBehind logs case steps fronts) where
+  module _ (differ : HasDifferentPlaces case) (fronts : List (Option (List ℕ)))
+      (made_all : AreSoundSteps logs case steps × AreFrontsBehind logs case steps fronts) where
     all_sound : AreSoundSteps logs case section.steps
     all_sound = subst (λ (xs : List CertStep). AreSoundSteps logs case xs) same made_all.0
 
@@ -39,14 +44,20 @@ module _ (logs : List Log) (case : List Conjunct) (section : Section) (steps : L
         let empty : left.0 ≡ [] = h.3 ∙ drop_all (made steps i) h.0 (omega (arith, spent.2)) in
         left.1 ∙ ap (λ (xs : List ℕ). Some (Some xs)) empty
 
-    pub left_is_fault : (spent : ℕ) → spent ≡ section.spent → ¬ (slice_get fronts spent ≡ Some (Some [])) → IsSectionFault logs case section (NotSpent spent)
+    pub left_is_fault : (spent : ℕ) → spent ≡ section.spent → ¬ (slice_get fronts spent ≡ Some (Some []))
+        → IsSectionFault logs case section (NotSpent spent)
     left_is_fault spent e left =
         not_spent all_sound
-        (λ h. left (spent_empty spent (subst (λ (i : ℕ). IsSpent logs case steps i) (sym e) (subst (λ (xs : List CertStep). IsSpent logs case xs section.spent) (sym same) h))))
+        (λ h. left (spent_empty spent
+        (subst (λ (i : ℕ). IsSpent logs case steps i) (sym e)
+        (subst (λ (xs : List CertStep). IsSpent logs case xs section.spent) (sym same) h))))
         (ap (λ (i : ℕ). NotSpent i) e)
 
-    pub empty_is_sound : (spent : ℕ) → spent ≡ section.spent → slice_get fronts spent ≡ Some (Some []) → IsSoundSection logs case section
+    pub empty_is_sound : (spent : ℕ) → spent ≡ section.spent → slice_get fronts spent ≡ Some (Some [])
+        → IsSoundSection logs case section
     empty_is_sound spent e empty = record {
       steps = all_sound;
-      spent = subst (λ (i : ℕ). IsSpent logs case section.steps i) e (subst (λ (xs : List CertStep). IsSpent logs case xs spent) same (spent_at logs case steps fronts made_all.1 spent [] empty refl));
+      spent = subst (λ (i : ℕ). IsSpent logs case section.steps i) e
+          (subst (λ (xs : List CertStep). IsSpent logs case xs spent) same
+          (spent_at logs case steps fronts made_all.1 spent [] empty refl));
     }

@@ -17,7 +17,8 @@ use Rattle.ira_cert.specs.declared.section_fault.SectionFault.{SectionFault}
 use Rattle.ira_cert.specs.Asked.{CandidatesOf}
 use Rattle.ira_cert.specs.Front.{IsFront, IsSpent}
 use Rattle.ira_cert.specs.SoundSection.{IsSoundStep, AreSoundSteps, IsSoundSection}
-use Rattle.ira_cert.specs.SectionFault.{HasFront, WhyUnsound, not_asked, same_node, node_spent, not_front, not_before, IsSectionFault, unsound, not_spent}
+use Rattle.ira_cert.specs.SectionFault.{HasFront, WhyUnsound, not_asked, same_node, node_spent, not_front, not_before}
+use Rattle.ira_cert.specs.SectionFault.{IsSectionFault, unsound, not_spent}
 
 module _ (logs : List Log) (case : List Conjunct) where
   candidates : (i : ℕ) (ps : List ℕ) → CandidatesOf logs case i ps → CandidatesOf (map upgraded logs) case i ps
@@ -37,7 +38,8 @@ module _ (logs : List Log) (case : List Conjunct) where
         asked = c.asked;
         log = o.0;
         log_is = o.1;
-        candidates_are = old_candidates o.0 c.formula ps (subst (λ (l : Log). AreCandidates l c.formula ps) (sym o.2) c.candidates_are);
+        candidates_are = old_candidates o.0 c.formula ps
+            (subst (λ (l : Log). AreCandidates l c.formula ps) (sym o.2) c.candidates_are);
       }
 
   module _ (steps : List CertStep) where
@@ -72,26 +74,33 @@ module _ (logs : List Log) (case : List Conjunct) where
         happened_before = happened s.node (s.pos + 1) s.other s.other_pos step.happened_before;
       }
 
-  pub sound_section : (section : Section) → IsSoundSection logs case section → IsSoundSection (map upgraded logs) case section
+  pub sound_section : (section : Section) → IsSoundSection logs case section
+      → IsSoundSection (map upgraded logs) case section
   sound_section section h = record {
     steps = sound_steps section.steps h.steps;
     spent = spent section.steps section.spent h.spent;
   }
 
-  why_unsound : (steps : List CertStep) (s : CertStep) (why : Unsound) → WhyUnsound logs case steps s why → WhyUnsound (map upgraded logs) case steps s why
+  why_unsound : (steps : List CertStep) (s : CertStep) (why : Unsound) → WhyUnsound logs case steps s why
+      → WhyUnsound (map upgraded logs) case steps s why
   why_unsound steps s why (not_asked h e) = not_asked h e
   why_unsound steps s why (same_node asked same e) = same_node asked same e
   why_unsound steps s why (node_spent asked other differ h e) =
-      node_spent asked other differ (elim h [ inl x ↦ inl (spent steps s.node x) | inr y ↦ inr (spent steps s.other y) ]) e
+      node_spent asked other differ (elim h [
+        | inl x ↦ inl (spent steps s.node x)
+        | inr y ↦ inr (spent steps s.other y)
+      ]) e
   why_unsound steps s why (not_front differ has other h e) =
       not_front differ (has_front steps s.node has) (has_front steps s.other other) (elim h [
         | inl x ↦ inl (λ f. x (old_front steps s.node s.pos f))
         | inr y ↦ inr (λ f. y (old_front steps s.other s.other_pos f))
       ]) e
   why_unsound steps s why (not_before differ first other h e) =
-      not_before differ (front steps s.node s.pos first) (front steps s.other s.other_pos other) (λ b. h (old_happened s.node (s.pos + 1) s.other s.other_pos b)) e
+      not_before differ (front steps s.node s.pos first) (front steps s.other s.other_pos other) (λ b.
+      h (old_happened s.node (s.pos + 1) s.other s.other_pos b)) e
 
-  pub section_fault : (section : Section) (f : SectionFault) → IsSectionFault logs case section f → IsSectionFault (map upgraded logs) case section f
+  pub section_fault : (section : Section) (f : SectionFault) → IsSectionFault logs case section f
+      → IsSectionFault (map upgraded logs) case section f
   section_fault section f (unsound k why h e) =
       unsound k why (record {
         before = sound_steps (take k section.steps) h.before;

@@ -11,11 +11,14 @@ HasList fronts i = (positions : List ℕ) × (slice_get fronts i ≡ Some (Some 
 -- a list at each place that the case asks and at no other, and it has the candidates of that place
 pub record AreFronts (logs : List Log) (case : List Conjunct) (fronts : List (Option (List ℕ))) : Type 0 where
   pub asked : (i : ℕ) → IsAsked case i → HasList fronts i
-  pub lists : (i : ℕ) (positions : List ℕ) → slice_get fronts i ≡ Some (Some positions) → CandidatesOf logs case i positions
+  pub lists : (i : ℕ) (positions : List ℕ) → slice_get fronts i ≡ Some (Some positions)
+      → CandidatesOf logs case i positions
 
 -- nothing where the case doesn't ask node i; else P holds of the number of node i's conjunct and of what was found
 abbrev pub IsFoundFor : {T : Type 0} → (ℕ → T → Type 0) → List Conjunct → ℕ → Option T → Type 0
-IsFoundFor P case i found = MatchOption found (¬ (IsAsked case i)) (λ t. (n : ℕ) × (c : Conjunct) × (slice_get case n ≡ Some c) × (c.place ≡ i) × P n t)
+IsFoundFor P case i found =
+    MatchOption found (¬ (IsAsked case i)) (λ t. (n : ℕ) × (c : Conjunct) × (slice_get case n ≡ Some c) × (c.place ≡ i)
+    × P n t)
 
 -- so it is for each place
 abbrev pub AreFoundFor : {T : Type 0} → (ℕ → T → Type 0) → List Conjunct → List (Option T) → Type 0
@@ -23,4 +26,5 @@ AreFoundFor P case all = (i : ℕ) (found : Option _) → slice_get all i ≡ So
 
 -- these are the candidates for conjunct n of the case, at its place
 abbrev pub AreCandidatesFor : List Log → List Conjunct → ℕ → List ℕ → Type 0
-AreCandidatesFor logs case n positions = (c : Conjunct) × (slice_get case n ≡ Some c) × CandidatesOf logs case c.place positions
+AreCandidatesFor logs case n positions = (c : Conjunct) × (slice_get case n ≡ Some c)
+    × CandidatesOf logs case c.place positions

@@ -1,4 +1,4 @@
--- Helpers, no definitions: the candidates left behind some steps, place by place.
+-- Helpers, no definitions: the candidates left after some steps, place by place.
 use Rattle.std.specs.Prelude.{◌≡◌, ℕ, ◌≤◌, List, Option, Some, length, slice_get, drop}
 use Rattle.ira_event.specs.Log.{Log}
 use Rattle.ira_pred.specs.Case.{Conjunct}
@@ -8,8 +8,10 @@ use Rattle.ira_cert.specs.Front.{made}
 use Rattle.ira_cert.specs.Fronts.{HasList}
 
 -- the list of a place has the candidates left: all but the first ones, one for each of its eliminations
-pub record AreFrontsBehind (logs : List Log) (case : List Conjunct) (before : List CertStep) (fronts : List (Option (List ℕ))) : Type 0 where
+pub record AreFrontsBehind (logs : List Log) (case : List Conjunct) (before : List CertStep)
+    (fronts : List (Option (List ℕ))) : Type 0 where
   pub asked : (i : ℕ) → IsAsked case i → HasList fronts i
   pub lists :
       (i : ℕ) (left : List ℕ) → slice_get fronts i ≡ Some (Some left)
-      → (positions : List ℕ) × CandidatesOf logs case i positions × (made before i ≤ length positions) × (left ≡ drop (made before i) positions)
+      → (positions : List ℕ) × CandidatesOf logs case i positions × (made before i ≤ length positions)
+      × (left ≡ drop (made before i) positions)

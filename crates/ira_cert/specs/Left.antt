@@ -8,7 +8,7 @@ use Rattle.ira_cert.specs.declared.left.Left.TheVariants.{NotAsked, Spent, First
 use Rattle.ira_cert.specs.Asked.{IsAsked}
 use Rattle.ira_cert.specs.Front.{IsFront, IsSpent}
 
--- this is left of node i's behind these steps
+-- this is left of node i's after these steps
 abbrev pub IsLeft : List Log → List Conjunct → List CertStep → ℕ → Left → Type 0
 IsLeft logs case before i NotAsked = ¬ (IsAsked case i)
 IsLeft logs case before i Spent = IsSpent logs case before i

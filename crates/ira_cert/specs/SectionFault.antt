@@ -13,12 +13,13 @@ use Rattle.ira_cert.specs.Asked.{IsAsked}
 use Rattle.ira_cert.specs.Front.{IsFront, IsSpent}
 use Rattle.ira_cert.specs.SoundSection.{AreSoundSteps}
 
--- behind these steps node i has a first candidate left
+-- after these steps node i has a first candidate left
 abbrev pub HasFront : List Log → List Conjunct → List CertStep → ℕ → Type 0
 HasFront logs case before i = (p : ℕ) × IsFront logs case before i p
 
--- why the step isn't sound behind these steps, all of which are sound
-pub data WhyUnsound (logs : List Log) (case : List Conjunct) (before : List CertStep) (s : CertStep) (why : Unsound) : Type 0 where
+-- why the step isn't sound after these steps, all of which are sound
+pub data WhyUnsound (logs : List Log) (case : List Conjunct) (before : List CertStep) (s : CertStep) (why : Unsound)
+    : Type 0 where
   -- one of its nodes isn't asked
   not_asked :
       ¬ (IsAsked case s.node) ⊎ ¬ (IsAsked case s.other)
@@ -44,14 +45,16 @@ pub data WhyUnsound (logs : List Log) (case : List Conjunct) (before : List Cert
       → why ≡ NotBefore → WhyUnsound logs case before s why
 
 -- step k, counted from 0, is the first that isn't sound, and this is why
-pub record IsFirstUnsoundStep (logs : List Log) (case : List Conjunct) (steps : List CertStep) (k : ℕ) (why : Unsound) : Type 0 where
+pub record IsFirstUnsoundStep (logs : List Log) (case : List Conjunct) (steps : List CertStep) (k : ℕ) (why : Unsound)
+    : Type 0 where
   pub before : AreSoundSteps logs case (take k steps)
   pub step : CertStep
   pub at : slice_get steps k ≡ Some step
   pub reason : WhyUnsound logs case (take k steps) step why
 
 -- the section's fault
-pub data IsSectionFault (logs : List Log) (case : List Conjunct) (section : Section) (fault : SectionFault) : Type 0 where
+pub data IsSectionFault (logs : List Log) (case : List Conjunct) (section : Section) (fault : SectionFault)
+    : Type 0 where
   -- a step isn't sound: the first one
   unsound :
       (k : ℕ) (why : Unsound) → IsFirstUnsoundStep logs case section.steps k why

@@ -8,7 +8,7 @@ use Rattle.ira_cert_text.specs.declared.cert_step.CertStep.{CertStep}
 use Rattle.ira_cert_text.specs.Certificate.{Section}
 use Rattle.ira_cert.specs.Front.{IsFront, IsSpent}
 
--- behind these steps the step is sound: it names the first candidates left of two different nodes, and
+-- after these steps the step is sound: it names the first candidates left of two different nodes, and
 -- the event that leads on from the one state happened before the event that led to the other
 pub record IsSoundStep (logs : List Log) (case : List Conjunct) (before : List CertStep) (s : CertStep) : Type 0 where
   pub differ : s.node ≢ s.other
@@ -16,11 +16,12 @@ pub record IsSoundStep (logs : List Log) (case : List Conjunct) (before : List C
   pub other_front : IsFront logs case before s.other s.other_pos
   pub happened_before : Before logs s.node (s.pos + 1) s.other s.other_pos
 
--- each step is sound behind those before it
+-- each step is sound after those before it
 abbrev pub AreSoundSteps : List Log → List Conjunct → List CertStep → Type 0
-AreSoundSteps logs case steps = (k : ℕ) (s : CertStep) → slice_get steps k ≡ Some s → IsSoundStep logs case (take k steps) s
+AreSoundSteps logs case steps = (k : ℕ) (s : CertStep) → slice_get steps k ≡ Some s
+    → IsSoundStep logs case (take k steps) s
 
--- the section is sound for the case: its steps are, and behind them its node is spent
+-- the section is sound for the case: its steps are, and after them its node is spent
 pub record IsSoundSection (logs : List Log) (case : List Conjunct) (section : Section) : Type 0 where
   pub steps : AreSoundSteps logs case section.steps
   pub spent : IsSpent logs case section.steps section.spent

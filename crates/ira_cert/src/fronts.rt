@@ -76,7 +76,7 @@ fn make_steps<C: HappenedBefore, I: Iterator<Item = u32> + Listed>(
     Ok(())
 }
 
-/// Whether the step is sound behind those that were made, and why not.
+/// Whether the step is sound after those that were made, and why not.
 fn check_step<C: HappenedBefore, I: Iterator<Item = u32> + Listed>(
     ordered: &C,
     fronts: &[Option<Ahead<I>>],

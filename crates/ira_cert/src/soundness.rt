@@ -14,7 +14,7 @@ use crate::unsound::Unsound;
 use ira_cert_text::CertStep;
 use ira_order::HappenedBefore;
 
-/// Whether the step is sound behind those that were made, and why not, where it is known what they left of
+/// Whether the step is sound after those that were made, and why not, where it is known what they left of
 /// the candidates of its two nodes. It costs one look-up of a stamp.
 pub fn judge_step<C: HappenedBefore>(
     ordered: &C,

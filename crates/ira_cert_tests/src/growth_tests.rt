@@ -1,4 +1,4 @@
-//! Each growth of a call is refused in turn, and a writer's sink fails behind each byte. A call gives up then for want of
+//! Each growth of a call is refused in turn, and a writer's sink fails after each byte. A call gives up then for want of
 //! memory, or gives its own answer all the same.
 
 use crate::found_tests::{is_absent_by, is_present_at};

@@ -102,7 +102,7 @@ const KNOWN_IN_FOUR: [&[Receipt]; 4] = [
     &[(1, &[2, 2, 2, 1])],
 ];
 
-/// How many events of a node the last of these receipts tells of that isn't behind this position.
+/// How many events of a node the last of these receipts tells of that isn't after this position.
 fn count_told(receipts: &[Receipt], position: u32, of: u8) -> u32 {
     let mut told = 0;
     for (event, counts) in receipts {

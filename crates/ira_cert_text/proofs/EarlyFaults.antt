@@ -6,10 +6,13 @@ use Rattle.ira_cert_text.specs.declared.cert_fault.CertFault.{CertFault}
 use Rattle.ira_cert_text.specs.declared.cert_fault.CertFault.TheVariants as fault
 use Rattle.ira_cert_text.specs.Certificate.{Certificate}
 use Rattle.ira_cert_text.specs.CertLaws.{NoTextIsOutOfMemory}
-use Rattle.ira_cert_text.specs.CertTextFault.{OutsideFault, too_many_sections, no_section_or_end, trailing, InsideFault, too_many_steps, no_step_or_spent, step_range, spent_range, BeginsWithCertHead, SectionsFault, outside, inside, CertLinesFault, no_head, behind_head, CertTextFault}
+use Rattle.ira_cert_text.specs.CertTextFault.{OutsideFault, too_many_sections, no_section_or_end, trailing, InsideFault}
+use Rattle.ira_cert_text.specs.CertTextFault.{too_many_steps, no_step_or_spent, step_range, spent_range}
+use Rattle.ira_cert_text.specs.CertTextFault.{BeginsWithCertHead, SectionsFault, outside, inside, CertLinesFault}
+use Rattle.ira_cert_text.specs.CertTextFault.{no_head, behind_head, CertTextFault}
 use Rattle.ira_cert_text.proofs.CertAnswers.{CertificateRead, certificate_or_fault, one_fault, err_is}
 
--- a fault of what stands behind a head
+-- a fault of what stands after a head
 abbrev IsLate : CertFault → Type 0
 IsLate fault.TooLong = ⊥
 IsLate fault.Head = ⊥
@@ -28,8 +31,10 @@ inside_fault_late nodes k n line f (step_range s a b c e) = subst IsLate (sym e)
 inside_fault_late nodes k n line f (spent_range m a b e) = subst IsLate (sym e) tt
 
 sections_fault_late : (nodes : ℕ) (text : List ℕ) (f : CertFault) → SectionsFault nodes text f → IsLate f
-sections_fault_late nodes text f (outside ss rest b d) = next_fault_is fault.Cut _ IsLate tt (outside_fault_late _ (length ss)) rest f d
-sections_fault_late nodes text f (inside ss steps body rest b few c d) = next_fault_is fault.Cut _ IsLate tt (λ line more. inside_fault_late nodes _ (length steps) line) rest f d
+sections_fault_late nodes text f (outside ss rest b d) =
+    next_fault_is fault.Cut _ IsLate tt (outside_fault_late _ (length ss)) rest f d
+sections_fault_late nodes text f (inside ss steps body rest b few c d) =
+    next_fault_is fault.Cut _ IsLate tt (λ line more. inside_fault_late nodes _ (length steps) line) rest f d
 
 -- ---- no text is out of memory
 
@@ -69,11 +74,16 @@ early_no_memory f (inr e) q = absurd cc
 -- ---- what a reader answers of early faults, whatever memory does
 
 -- where the text's fault was answered
-pub fault_exactly : (text : List ℕ) (g f : CertFault) → CertTextFault text g → ◌≡◌ {A = Result Certificate CertFault} (Err g) (Err f) ↔ CertTextFault text f
+pub fault_exactly : (text : List ℕ) (g f : CertFault) → CertTextFault text g
+    → ◌≡◌ {A = Result Certificate CertFault} (Err g) (Err f) ↔ CertTextFault text f
 fault_exactly text g f h = (λ e. subst (CertTextFault text) (err_is g f e) h, λ k. ap Err (one_fault text g f h k))
 
--- where what stands behind the head was looked at
-pub early_exactly : (r : Result Certificate CertFault) (text : List ℕ) (f : CertFault) → CertificateRead r text → HasHead text → IsEarly f → (r ≡ Err f) ↔ CertTextFault text f
+-- where what stands after the head was looked at
+pub early_exactly : (r : Result Certificate CertFault) (text : List ℕ) (f : CertFault) → CertificateRead r text
+    → HasHead text → IsEarly f → (r ≡ Err f) ↔ CertTextFault text f
 early_exactly (Ok c) text f h has early = (λ e. absurd cc, λ k. absurd (certificate_or_fault text c f h k))
-early_exactly (Err g) text f (inl e) has early = (λ q. absurd (early_no_memory f early (let same = err_is g f q in cc)), λ k. absurd (early_is_late f early (fault_late text f has k)))
+early_exactly (Err g) text f (inl e) has early = (
+  λ q. absurd (early_no_memory f early (let same = err_is g f q in cc)),
+  λ k. absurd (early_is_late f early (fault_late text f has k)),
+)
 early_exactly (Err g) text f (inr h) has early = fault_exactly text g f h

@@ -1,5 +1,6 @@
 pub mod CertAnswers
 pub mod CertTexts
+pub mod Drafts
 pub mod EarlyFaults
 pub mod Heads
 pub mod Lines

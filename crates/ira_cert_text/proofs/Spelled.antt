@@ -1,5 +1,6 @@
 -- A certificate within the limits is spelled as it is written out.
-use Rattle.std.proofs.Common.{◌≡◌, ◌≤◌, ℕ, List, [], ◌∷◌, ◌++◌, ◌↔◌, All, length, refl, sym, ap, subst, ◌∙◌, arith, append_assoc}
+use Rattle.std.proofs.Common.{◌≡◌, ◌≤◌, ℕ, List, [], ◌∷◌, ◌++◌, ◌↔◌, All, length, refl, sym, ap, subst, ◌∙◌, arith}
+use Rattle.std.proofs.Common.{append_assoc}
 use Rattle.std.specs.Prelude.{codes, decimal}
 use Rattle.std.specs.List.{flat_map}
 use Rattle.std.proofs.lemmas.List.Elements.{All-head, All-tail}
@@ -7,12 +8,15 @@ use Rattle.ira_event.specs.Limits.{MAX_NODES, MAX_TEXT}
 use Rattle.ira_event.proofs.Spelled.{numeral_is_decimal, decimal_is_numeral}
 use Rattle.ira_cert_text.specs.declared.cert_step.CertStep.{CertStep}
 use Rattle.ira_cert_text.specs.Certificate.{Section, Certificate, IsStep, IsSection, IsCertificate}
-use Rattle.ira_cert_text.specs.CertText.{IsStepLine, AreStepLines, IsSectionText, AreSectionTexts, IsCertText, step_text, section_text, cert_text}
+use Rattle.ira_cert_text.specs.CertText.{IsStepLine, AreStepLines, IsSectionText, AreSectionTexts, IsCertText}
+use Rattle.ira_cert_text.specs.CertText.{step_text, section_text, cert_text}
 
 module _ (nodes : ℕ) (few : nodes ≤ MAX_NODES) where
-  step_line_spelled : (line : List ℕ) (s : CertStep) → IsStep nodes s → IsStepLine line s → line ++ codes "\n" ≡ step_text s
+  step_line_spelled : (line : List ℕ) (s : CertStep) → IsStep nodes s → IsStepLine line s
+      → line ++ codes "\n" ≡ step_text s
   step_line_spelled line s within h =
-      let spelled : line ≡ codes "drop " ++ decimal s.node ++ codes " " ++ decimal s.pos ++ codes " by " ++ decimal s.other ++ codes " " ++ decimal s.other_pos =
+      let spelled : line ≡ codes "drop " ++ decimal s.node ++ codes " " ++ decimal s.pos ++ codes " by "
+      ++ decimal s.other ++ codes " " ++ decimal s.other_pos =
       h.parts
       ∙ rw (
         numeral_is_decimal h.node s.node h.node_is (omega (arith, within.node, few)),
@@ -22,9 +26,11 @@ module _ (nodes : ℕ) (few : nodes ≤ MAX_NODES) where
       ) refl in
       ap (λ w. w ++ codes "\n") spelled
 
-  step_line_is : (s : CertStep) → IsStep nodes s → (line : List ℕ) × (line ++ codes "\n" ≡ step_text s) × IsStepLine line s
+  step_line_is : (s : CertStep) → IsStep nodes s → (line : List ℕ) × (line ++ codes "\n" ≡ step_text s)
+      × IsStepLine line s
   step_line_is s within = (
-    codes "drop " ++ decimal s.node ++ codes " " ++ decimal s.pos ++ codes " by " ++ decimal s.other ++ codes " " ++ decimal s.other_pos,
+    codes "drop " ++ decimal s.node ++ codes " " ++ decimal s.pos ++ codes " by " ++ decimal s.other ++ codes " "
+        ++ decimal s.other_pos,
     refl,
     record {
       node = decimal s.node;
@@ -39,7 +45,8 @@ module _ (nodes : ℕ) (few : nodes ≤ MAX_NODES) where
     },
   )
 
-  step_lines_spelled : (text : List ℕ) (ss : List CertStep) → All (IsStep nodes) ss → AreStepLines text ss → text ≡ flat_map step_text ss
+  step_lines_spelled : (text : List ℕ) (ss : List CertStep) → All (IsStep nodes) ss → AreStepLines text ss
+      → text ≡ flat_map step_text ss
   step_lines_spelled text [] within h = h
   step_lines_spelled text (s ∷ ss) within h =
       h.2 ∙ ap (λ w. w ++ h.1) (step_line_spelled h.0 s (All-head (IsStep nodes) s ss within) h.3)
@@ -48,13 +55,24 @@ module _ (nodes : ℕ) (few : nodes ≤ MAX_NODES) where
   step_lines_are : (ss : List CertStep) → All (IsStep nodes) ss → AreStepLines (flat_map step_text ss) ss
   step_lines_are [] within = refl
   step_lines_are (s ∷ ss) within =
-      let first = step_line_is s (All-head (IsStep nodes) s ss within) in
-      (first.0, flat_map step_text ss, ap (λ w. w ++ flat_map step_text ss) (sym first.1), first.2, step_lines_are ss (All-tail (IsStep nodes) s ss within))
+      let first = step_line_is s (All-head (IsStep nodes) s ss within) in (
+        first.0,
+        flat_map step_text ss,
+        ap (λ w. w ++ flat_map step_text ss) (sym first.1),
+        first.2,
+        step_lines_are ss (All-tail (IsStep nodes) s ss within),
+      )
 
   section_spelled : (text : List ℕ) (s : Section) → IsSection nodes s → IsSectionText text s → text ≡ section_text s
   section_spelled text s within h =
-      let spent : h.spent ≡ codes "spent " ++ decimal s.spent = h.spent_is.1 ∙ ap (λ w. codes "spent " ++ w) (numeral_is_decimal h.spent_is.0 s.spent h.spent_is.2 (omega (arith, within.spent, few))) in
-      h.parts ∙ rw (step_lines_spelled h.steps s.steps within.steps h.steps_are, spent) (append_assoc (codes "section\n" ++ flat_map step_text s.steps) (codes "spent " ++ decimal s.spent) (codes "\n"))
+      let spent : h.spent ≡ codes "spent " ++ decimal s.spent =
+      h.spent_is.1 ∙ ap (λ w. codes "spent "
+      ++ w) (numeral_is_decimal h.spent_is.0 s.spent h.spent_is.2 (omega (arith, within.spent, few))) in
+      h.parts ∙ rw (
+        step_lines_spelled h.steps s.steps within.steps h.steps_are,
+        spent,
+      ) (append_assoc (codes "section\n" ++ flat_map step_text s.steps) (codes "spent "
+      ++ decimal s.spent) (codes "\n"))
 
   section_is : (s : Section) → IsSection nodes s → IsSectionText (section_text s) s
   section_is s within = record {
@@ -62,10 +80,12 @@ module _ (nodes : ℕ) (few : nodes ≤ MAX_NODES) where
     spent = codes "spent " ++ decimal s.spent;
     steps_are = step_lines_are s.steps within.steps;
     spent_is = (decimal s.spent, refl, decimal_is_numeral s.spent (omega (arith, within.spent, few)));
-    parts = sym (append_assoc (codes "section\n" ++ flat_map step_text s.steps) (codes "spent " ++ decimal s.spent) (codes "\n"));
+    parts = sym (append_assoc (codes "section\n" ++ flat_map step_text s.steps) (codes "spent "
+        ++ decimal s.spent) (codes "\n"));
   }
 
-  sections_spelled : (text : List ℕ) (ss : List Section) → All (IsSection nodes) ss → AreSectionTexts text ss → text ≡ flat_map section_text ss
+  sections_spelled : (text : List ℕ) (ss : List Section) → All (IsSection nodes) ss → AreSectionTexts text ss
+      → text ≡ flat_map section_text ss
   sections_spelled text [] within h = h
   sections_spelled text (s ∷ ss) within h =
       h.2 ∙ ap (λ w. w ++ h.1) (section_spelled h.0 s (All-head (IsSection nodes) s ss within) h.3)
@@ -73,8 +93,13 @@ module _ (nodes : ℕ) (few : nodes ≤ MAX_NODES) where
 
   sections_are : (ss : List Section) → All (IsSection nodes) ss → AreSectionTexts (flat_map section_text ss) ss
   sections_are [] within = refl
-  sections_are (s ∷ ss) within =
-      (section_text s, flat_map section_text ss, refl, section_is s (All-head (IsSection nodes) s ss within), sections_are ss (All-tail (IsSection nodes) s ss within))
+  sections_are (s ∷ ss) within = (
+    section_text s,
+    flat_map section_text ss,
+    refl,
+    section_is s (All-head (IsSection nodes) s ss within),
+    sections_are ss (All-tail (IsSection nodes) s ss within),
+  )
 
 pub cert_text_spelled : (text : List ℕ) (c : Certificate) → IsCertText text c → text ≡ cert_text c
 cert_text_spelled text c h =
@@ -94,7 +119,8 @@ cert_text_is c v short = record {
   valid = v;
 }
 
-pub one_text : (text : List ℕ) (c : Certificate) → IsCertText text c ↔ (IsCertificate c × (length (cert_text c) ≤ MAX_TEXT) × (text ≡ cert_text c))
+pub one_text : (text : List ℕ) (c : Certificate)
+    → IsCertText text c ↔ (IsCertificate c × (length (cert_text c) ≤ MAX_TEXT) × (text ≡ cert_text c))
 one_text text c = (
   λ h. let e = cert_text_spelled text c h in (h.valid, subst (λ t. length t ≤ MAX_TEXT) e h.short, e),
   λ h. subst (λ t. IsCertText t c) (sym h.2) (cert_text_is c h.0 h.1),

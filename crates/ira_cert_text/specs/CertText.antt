@@ -36,7 +36,7 @@ pub record IsSectionText (text : List ℕ) (s : Section) : Type 0 where
   pub spent_is : IsSpentLine spent s.spent
   pub parts : text ≡ codes "section\n" ++ steps ++ spent ++ codes "\n"
 
--- the texts of these sections, one behind the other
+-- the texts of these sections, one after the other
 abbrev pub AreSectionTexts : List ℕ → List Section → Type 0
 AreSectionTexts text [] = text ≡ []
 AreSectionTexts text (s ∷ ss) =
@@ -72,4 +72,5 @@ section_text s = codes "section\n" ++ flat_map step_text s.steps ++ (codes "spen
 -- a certificate
 abbrev pub cert_text : Certificate → List ℕ
 cert_text c =
-    codes "ircert 1\n" ++ codes "nodes " ++ decimal c.nodes ++ codes "\n" ++ flat_map section_text c.sections ++ codes "end\n"
+    codes "ircert 1\n" ++ codes "nodes " ++ decimal c.nodes ++ codes "\n" ++ flat_map section_text c.sections
+    ++ codes "end\n"

@@ -1,4 +1,5 @@
 pub mod CertAnswer
+pub mod CertDraft
 pub mod CertLaws
 pub mod CertLines
 pub mod CertScan

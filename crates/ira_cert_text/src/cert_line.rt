@@ -15,7 +15,7 @@ pub(crate) struct SpelledStep {
     pub other_pos: u32,
 }
 
-/// A line of a section behind its first one, its numbers as they are spelled.
+/// A line of a section after its first one, its numbers as they are spelled.
 #[derive(Clone, Copy)]
 pub(crate) enum SpelledLine {
     Step(SpelledStep),
@@ -53,7 +53,7 @@ pub(crate) fn place_in_range(place: u32, nodes: u8) -> Option<u8>
     Some(place)
 }
 
-/// The line of a section, behind its first one, that the text begins with, and what follows its line
+/// The line of a section, after its first one, that the text begins with, and what follows its line
 /// feed.
 #[inline(always)]
 pub(crate) fn take_section_line(text: &[u8]) -> Option<(SpelledLine, &[u8])>

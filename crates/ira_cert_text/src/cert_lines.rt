@@ -12,7 +12,7 @@ use crate::limits::{MAX_SECTIONS, MAX_STEPS};
 use ira_event::{line_end, skip_word};
 use std::marker::Model;
 
-/// What stands behind the head of a certificate's text, read line by line.
+/// What stands after the head of a certificate's text, read line by line.
 #[derive(Drop)]
 pub(crate) struct CertLines<'a> {
     rest: &'a [u8],
@@ -31,7 +31,7 @@ impl<'a> Model for CertLines<'a> {
     ghost invariant = { λ r. r.number + length r.rest.now ≤ MAX_TEXT };
 }
 
-/// A line of a section behind its first one.
+/// A line of a section after its first one.
 #[derive(Clone, Copy)]
 pub(crate) enum SectionLine {
     Step(CertStep),
@@ -39,7 +39,7 @@ pub(crate) enum SectionLine {
 }
 
 impl<'a> CertLines<'a> {
-    /// The lines of what stands behind a head.
+    /// The lines of what stands after a head.
     pub fn new(text: &'a [u8]) -> CertLines<'a>
         requires { 3 + length text.now ≤ MAX_TEXT }
         ensures { result ≡ record { rest = text.now; number = 3 } }
@@ -58,7 +58,7 @@ impl<'a> CertLines<'a> {
         self.number += 1;
     }
 
-    /// Whether the first line of a section follows behind so many sections: it is read then. Else the
+    /// Whether the first line of a section follows after so many sections: it is read then. Else the
     /// end line follows and ends the text, or something with a fault.
     pub fn next_section(&mut self, sections: usize) -> Result<bool, CertFault>
         ensures { ReadsOutside sections self.old self.new result }
@@ -79,7 +79,7 @@ impl<'a> CertLines<'a> {
         Ok(false)
     }
 
-    /// The next line of a section behind so many of its steps, or the fault of what follows.
+    /// The next line of a section after so many of its steps, or the fault of what follows.
     #[inline(always)]
     pub fn next_in_section(&mut self, nodes: u8, steps: usize) -> Result<SectionLine, CertFault>
         ensures { ReadsInside nodes steps self.old self.new result }
@@ -122,7 +122,7 @@ fn outside_fault(text: &[u8], number: u32) -> CertFault
     }
 }
 
-/// The fault where line `number` begins in a section, behind so many steps, and is neither a step nor
+/// The fault where line `number` begins in a section, after so many steps, and is neither a step nor
 /// the spent node.
 #[cold]
 fn inside_fault(text: &[u8], number: u32, steps: usize) -> CertFault

@@ -34,7 +34,7 @@ pub fn read_cert<A: Allocator + Clone>(alloc: A, text: &[u8]) -> Result<Certific
     })
 }
 
-/// The sections of all lines behind a head, none of which was read yet.
+/// The sections of all lines after a head, none of which was read yet.
 fn read_sections<A: Allocator + Clone>(
     alloc: A,
     nodes: u8,

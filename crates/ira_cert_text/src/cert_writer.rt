@@ -1,5 +1,6 @@
 ghost use Rattle.std.specs.List.{flat_map};
 ghost use Rattle.std.specs.Prelude.{◌≡◌, ◌++◌, codes, decimal};
+ghost use Rattle.ira_event.specs.RingSize.{IsRingSize};
 ghost use Rattle.ira_event.specs.Sink.{Wrote};
 ghost use Rattle.ira_cert_text.specs.CertText.{step_text, section_text, cert_text};
 
@@ -35,8 +36,9 @@ fn spent_line(spent: u8) -> Line
     line
 }
 
-fn head(nodes: RingSize) -> Line
-    ensures { result ≡ codes "ircert 1\n" ++ codes "nodes " ++ decimal nodes ++ codes "\n" }
+pub(crate) fn head(nodes: RingSize) -> Line
+    ensures size { IsRingSize nodes }
+    ensures text { result ≡ codes "ircert 1\n" ++ codes "nodes " ++ decimal nodes ++ codes "\n" }
 {
     let mut line = Line::new();
     line.add(b"ircert 1\nnodes ");
@@ -54,7 +56,7 @@ fn write_steps<W: Sink>(steps: &[CertStep], sink: &mut W) -> Result<(), WriteFau
     Ok(())
 }
 
-fn write_section<A: Allocator, W: Sink>(
+pub(crate) fn write_section<A: Allocator, W: Sink>(
     section: &Section<A>,
     sink: &mut W,
 ) -> Result<(), WriteFault>

@@ -1,6 +1,7 @@
 //! Certificates: why no consistent cut meets a case, written down step by step, and the text of one.
 #![tactic(auto)]
 
+mod cert_draft;
 mod cert_fault;
 mod cert_head;
 mod cert_line;
@@ -14,6 +15,7 @@ mod limits;
 mod section;
 mod text_len;
 
+pub use cert_draft::CertDraft;
 pub use cert_fault::CertFault;
 pub use cert_reader::read_cert;
 pub use cert_step::CertStep;

@@ -1,4 +1,4 @@
--- Behind an elimination, whatever is eliminated anew is so by the node that moved: each other elimination is of
+-- After an elimination, whatever is eliminated anew is so by the node that moved: each other elimination is of
 -- two nodes that had one before.
 use Rattle.std.proofs.Common.{◌≡◌, ◌≢◌, ℕ, ◌+◌, ◌<◌, ◌≤◌, inl, inr, List, Option, Some, None, slice_get, slice_index, slice_index_or, drop, refl, sym, ◌∙◌, ap, subst, arith}
 use Rattle.std.specs.Option.{option_map}

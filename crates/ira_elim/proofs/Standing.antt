@@ -1,4 +1,4 @@
--- Eliminations are told by where the nodes stand, before and behind a step.
+-- Eliminations are told by where the nodes stand, before and after a step.
 use Rattle.std.proofs.Common.{◌≡◌, ◌≢◌, ℕ, zero, suc, ◌+◌, ◌<◌, ◌≤◌, ◌⊎◌, inl, inr, List, [], ◌∷◌, ◌++◌, Option, Some, Contains, length, slice_get, slice_index, slice_index_or, slice_set, refl, sym, ◌∙◌, ap, subst, below_more, length-set, arith}
 use Rattle.std.proofs.lemmas.Bool.{cases_eq}
 use Rattle.std.proofs.lemmas.List.{get_or_default, length_push}
@@ -59,7 +59,7 @@ module _ (logs : List Log) (fronts : List (Option (List ℕ))) (stands : List St
       let st = are i first.0 first.1 in
       (st.0, st.1, st.2.counts.places ∙ sym count)
 
-  -- behind a step, where its node stands at its next candidate
+  -- after a step, where its node stands at its next candidate
   module _ (case : List Conjunct) (before : List CertStep) (behind : AreFrontsBehind logs case before fronts) (s : CertStep) (is : IsElimination logs fronts s) (left : List (Option (List ℕ))) (moved : left ≡ one_fewer fronts s.node) (new : List Stand) (t : Stand) (set : new ≡ slice_set stands s.node t) where
     pub stands_again : (p : ℕ) → IsFirstLeft left s.node p → IsStand logs s.node p t → AreStands logs left new
     stands_again p own_first stand j q first = elim (cases_eq j s.node) [

@@ -29,7 +29,7 @@ pub last_at : {X : Type 0} → (xs : List X) (x : X) → slice_get (xs ++ x ∷ 
 last_at [] x = refl
 last_at (y ∷ xs) x = last_at xs x
 
--- the steps made are sound, and the lists are those left behind them
+-- the steps made are sound, and the lists are those left after them
 pub record AreMade (logs : List Log) (case : List Conjunct) (steps : List CertStep) (fronts : List (Option (List ℕ))) : Type 0 where
   pub sound : AreSoundSteps logs case steps
   pub behind : AreFrontsBehind logs case steps fronts
@@ -74,7 +74,7 @@ total_less fronts i p first =
 pub one_fewer-length : (fronts : List (Option (List ℕ))) (i : ℕ) → length (one_fewer fronts i) ≡ length fronts
 one_fewer-length fronts i = length-set fronts i (option_map (λ xs. drop 1 xs) (slice_index_or fronts i None))
 
--- behind the steps made a node without a candidate left is spent
+-- after the steps made a node without a candidate left is spent
 pub absent : (logs : List Log) (case : List Conjunct) (first fronts : List (Option (List ℕ))) (steps : List CertStep) (spent : ℕ) → AreFronts logs case first → AreMade logs case steps fronts → length steps + total fronts ≡ total first → slice_get fronts spent ≡ Some (Some []) → IsAbsence logs case (record { steps = steps; spent = spent })
 absent logs case first fronts steps spent fronts_are made count empty = record {
   sound = record { steps = made.sound; spent = spent_at logs case steps fronts made.behind spent [] empty refl };

@@ -1,3 +1,4 @@
+pub mod Decided
 pub mod Elimination
 pub mod Found
 pub mod Laws

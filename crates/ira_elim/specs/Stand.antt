@@ -25,7 +25,7 @@ StandsUpTo logs stands i p = (s : Stand) → slice_get stands i ≡ Some s → (
 abbrev pub HasMovedOn : List Log → List Stand → List Stand → ℕ → ℕ → Type 0
 HasMovedOn logs old new i p = (s : Stand) × (new ≡ slice_set old i s) × IsStand logs i p s
 
--- none of the events behind the first `from`, up to the first `to`, is a receipt
+-- none of the events after the first `from`, up to the first `to`, is a receipt
 abbrev pub AreNoReceipts : Log → ℕ → ℕ → Type 0
 AreNoReceipts log from to = (k : ℕ) (m : Load) → from ≤ k → k < to → slice_get log.events k ≢ Some (Got m)
 

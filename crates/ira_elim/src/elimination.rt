@@ -5,52 +5,55 @@ ghost use Rattle.ira_order.specs.Ring.{log_of};
 ghost use Rattle.ira_cert_text.specs.declared.cert_step.CertStep.{CertStep};
 ghost use Rattle.ira_cert.specs.Asked.{HasDifferentPlaces};
 ghost use Rattle.ira_cert.specs.Fronts.{AreFronts};
+ghost use Rattle.ira_elim.specs.Decided.{IsDecided};
 ghost use Rattle.ira_elim.specs.Elimination.{AreFrontsOfSomeCase, AreGreatestCounts, ArePlaces, AreStands, AreWithin, HasEliminations, HasFirstLefts, IsElimination, IsFirstLeft, IsGreatestCount};
-ghost use Rattle.ira_elim.specs.Found.{IsFound};
 ghost use Rattle.ira_elim.specs.PairSet.{Has};
 ghost use Rattle.ira_elim.specs.Stand.{AreStanding, HasMovedOn, HasSameCounts, KnowsNext, StandsUpTo};
 
 use crate::cut::Cut;
-use crate::found::Found;
+use crate::decided::Decided;
 use crate::pair_set::PairSet;
 use crate::stand::Stand;
+use crate::step_sink::StepSink;
 use ira_cand::Ahead;
-use ira_cert::{CertStep, Section, candidates_left, eliminate};
+use ira_cert::{CertStep, candidates_left, eliminate};
 use ira_event::{Listed, OutOfMemory};
 use ira_order::HappenedBefore;
 use std::alloc::Allocator;
 
 /// Decides a case of which the candidates are at hand, place by place: those of a place that the case
 /// asks, and none of another. Where they come from doesn't matter; nothing but one position is kept of
-/// each.
-pub fn decide_fronts<C, A, I>(
+/// each. The steps go where the caller says.
+pub fn decide_fronts<C, A, I, S>(
     alloc: A,
     ordered: &C,
     mut fronts: Vec<Option<Ahead<I>>, A>,
-) -> Result<Found<A>, OutOfMemory>
+    mut steps: S,
+) -> Result<Decided<S, A>, OutOfMemory>
 where
     C: HappenedBefore,
     A: Allocator + Clone,
     I: Iterator<Item = u32> + Listed + Drop,
+    S: StepSink,
+    requires none { S.has_taken steps [] }
     requires places { length fronts.items ≤ length (C.logs_of ordered.now) }
     requires fronts { AreFrontsOfSomeCase (C.logs_of ordered.now) fronts.items }
     ensures { (case : List Conjunct) → HasDifferentPlaces case → AreFronts (C.logs_of ordered.now) case fronts.items
-        → IfOk result (λ found. IsFound (C.logs_of ordered.now) case found) }
+        → IfOk result (λ decided. IsDecided S.has_taken (C.logs_of ordered.now) case decided) }
 {
     let nodes = ordered.logs().size().get();
     let asked = asked_places(alloc.clone()?, nodes, &fronts)?;
-    let mut steps = Vec::new(alloc.clone()?);
     if let Some(spent) = first_spent(&fronts, &asked) {
-        return Ok(Found::Absent(Section { steps, spent }));
+        return Ok(Decided::Absent { steps, spent });
     }
     let mut stands = stands(alloc.clone()?, ordered, nodes, &fronts)?;
     let mut pairs = eliminating_pairs(alloc.clone()?, &stands, &asked)?;
     'steps: while let Some(step) = next_step(&mut pairs, &stands, &fronts) {
-        steps.push(step)?;
+        steps.take(step)?;
         eliminate(&mut fronts, step.node);
         let Some(position) = front(&fronts, step.node) else {
             let spent = step.node;
-            return Ok(Found::Absent(Section { steps, spent }));
+            return Ok(Decided::Absent { steps, spent });
         };
         advance(
             &mut stands,
@@ -62,7 +65,7 @@ where
         );
     }
     let cut = least_cut(alloc, nodes, &stands, &asked)?;
-    Ok(Found::Present(Cut::of_positions(cut)))
+    Ok(Decided::Present(Cut::of_positions(cut)))
 }
 
 /// The places at which there is a list.

@@ -3,15 +3,19 @@
 #![tactic(auto)]
 
 mod cut;
+mod decided;
 mod elimination;
 mod found;
 mod laws;
 mod maker;
 mod pair_set;
 mod stand;
+mod step_sink;
 
 pub use cut::Cut;
+pub use decided::Decided;
 pub use elimination::decide_fronts;
 pub use found::Found;
 pub use laws::a_case_is_absent_or_present;
-pub use maker::{decide, decide_profiled};
+pub use maker::{decide, decide_into, decide_profiled};
+pub use step_sink::{StepCount, StepSink};

@@ -1,9 +1,12 @@
-ghost use Rattle.std.specs.Prelude.{◌≡◌, IfOk};
+ghost use Rattle.std.specs.Prelude.{◌≡◌, [], IfOk};
 ghost use Rattle.ira_cert.specs.Asked.{HasPlacesOf};
+ghost use Rattle.ira_elim.specs.Decided.{IsDecided};
 ghost use Rattle.ira_elim.specs.Found.{IsFound};
 
+use crate::decided::Decided;
 use crate::elimination::decide_fronts;
 use crate::found::Found;
+use crate::step_sink::StepSink;
 use ira_cand::Profile;
 use ira_cert::{case_fronts, profiled_fronts};
 use ira_event::{Logs, OutOfMemory};
@@ -28,7 +31,8 @@ pub fn decide<A: Allocator + Clone>(
     ensures { IfOk result (λ found. IsFound logs.now case.now found) }
 {
     let fronts = case_fronts(alloc.clone()?, logs, case)?;
-    decide_fronts(alloc, ordered, fronts)
+    let steps = Vec::new(alloc.clone()?);
+    Ok(Found::of_decided(decide_fronts(alloc, ordered, fronts, steps)?))
 }
 
 /// Decides a case as `decide` does, with the profiles of the logs, place by place: for many cases of the same
@@ -44,7 +48,24 @@ pub fn decide_profiled<C: HappenedBefore, A: Allocator + Clone>(
     requires places { HasPlacesOf profiles.now case.now }
     ensures { IfOk result (λ found. IsFound profiles.now case.now found) }
 {
+    let steps = Vec::new(alloc.clone()?);
+    Ok(Found::of_decided(decide_into(alloc, profiles, ordered, case, steps)?))
+}
+
+/// Decides a case as `decide_profiled` does. The steps go where the caller says.
+pub fn decide_into<C: HappenedBefore, A: Allocator + Clone, S: StepSink>(
+    alloc: A,
+    profiles: &[Profile<'_, A>],
+    ordered: &C,
+    case: &Case<A>,
+    steps: S,
+) -> Result<Decided<S, A>, OutOfMemory>
+    requires none { S.has_taken steps [] }
+    requires order { (C.logs_of ordered.now) ≡ profiles.now }
+    requires places { HasPlacesOf profiles.now case.now }
+    ensures { IfOk result (λ decided. IsDecided S.has_taken profiles.now case.now decided) }
+{
     let nodes = ordered.logs().size();
     let fronts = profiled_fronts(alloc.clone()?, nodes, profiles, case)?;
-    decide_fronts(alloc, ordered, fronts)
+    decide_fronts(alloc, ordered, fronts, steps)
 }

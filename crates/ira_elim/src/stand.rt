@@ -100,7 +100,7 @@ impl<A: Allocator> Stand<A> {
     }
 }
 
-/// Whether the node receives a message behind the first position, up to the second.
+/// Whether the node receives a message after the first position, up to the second.
 fn receives<A: Allocator>(log: &NodeLog<A>, from: u32, to: u32) -> bool
     requires onward { from ≤ to }
     requires within { to ≤ length log.now.events }

@@ -6,11 +6,12 @@ use Rattle.ira_event.specs.declared.log_head.LogHead.{LogHead}
 use Rattle.ira_event.specs.Limits.{MAX_TEXT}
 use Rattle.ira_event.specs.Log.{Log}
 use Rattle.ira_event.specs.LogLaws.{NoTextIsOutOfMemory}
-use Rattle.ira_event.specs.LogTextFault.{BeginsWithHead, LineFault, too_many, no_line, out_of_range, other_count, trailing, RecordsFault, LinesFault, no_head, behind_head, LogTextFault}
+use Rattle.ira_event.specs.LogTextFault.{BeginsWithHead, LineFault, too_many, no_line, out_of_range, other_count}
+use Rattle.ira_event.specs.LogTextFault.{trailing, RecordsFault, LinesFault, no_head, behind_head, LogTextFault}
 use Rattle.ira_event.proofs.LogAnswers.{LogRead, log_or_fault, one_fault, err_is}
 use Rattle.ira_event.proofs.NextLines.{next_fault_is}
 
--- a fault of what stands behind a head
+-- a fault of what stands after a head
 abbrev IsLate : LogFault → Type 0
 IsLate fault.TooLong = ⊥
 IsLate fault.Head = ⊥
@@ -25,7 +26,9 @@ line_fault_late v k line more f (other_count n a b e) = subst IsLate (sym e) tt
 line_fault_late v k line more f (trailing a b e) = subst IsLate (sym e) tt
 
 records_fault_late : (v : ℕ) (text : List ℕ) (f : LogFault) → RecordsFault v text f → IsLate f
-records_fault_late v text f h = next_fault_is fault.Cut (LineFault v (length h.events)) IsLate tt (line_fault_late v (length h.events)) h.rest f h.fault
+records_fault_late v text f h =
+    next_fault_is fault.Cut (LineFault v (length h.events)) IsLate tt (line_fault_late v (length h.events)) h.rest f
+    h.fault
 
 -- ---- no text is out of memory
 
@@ -65,11 +68,16 @@ early_no_memory f (inr e) q = absurd cc
 -- ---- what a reader answers of early faults, whatever memory does
 
 -- where the text's fault was answered
-pub fault_exactly : (text : List ℕ) (g f : LogFault) → LogTextFault text g → ◌≡◌ {A = Result Log LogFault} (Err g) (Err f) ↔ LogTextFault text f
+pub fault_exactly : (text : List ℕ) (g f : LogFault) → LogTextFault text g
+    → ◌≡◌ {A = Result Log LogFault} (Err g) (Err f) ↔ LogTextFault text f
 fault_exactly text g f h = (λ e. subst (LogTextFault text) (err_is g f e) h, λ k. ap Err (one_fault text g f h k))
 
--- where what stands behind the head was looked at
-pub early_exactly : (r : Result Log LogFault) (text : List ℕ) (f : LogFault) → LogRead r text → HasHead text → IsEarly f → (r ≡ Err f) ↔ LogTextFault text f
+-- where what stands after the head was looked at
+pub early_exactly : (r : Result Log LogFault) (text : List ℕ) (f : LogFault) → LogRead r text → HasHead text → IsEarly f
+    → (r ≡ Err f) ↔ LogTextFault text f
 early_exactly (Ok log) text f h has early = (λ e. absurd cc, λ k. absurd (log_or_fault text log f h k))
-early_exactly (Err g) text f (inl e) has early = (λ q. absurd (early_no_memory f early (let same = err_is g f q in cc)), λ k. absurd (early_is_late f early (fault_late text f has k)))
+early_exactly (Err g) text f (inl e) has early = (
+  λ q. absurd (early_no_memory f early (let same = err_is g f q in cc)),
+  λ k. absurd (early_is_late f early (fault_late text f has k)),
+)
 early_exactly (Err g) text f (inr h) has early = fault_exactly text g f h

@@ -1,5 +1,6 @@
 -- A number that is read is spelled so, and what is spelled so is read.
-use Rattle.std.proofs.Common.{◌≡◌, ◌≤◌, ◌<◌, ℕ, ◌+◌, ◌*◌, ◌-◌, ◌&&◌, Bool, true, false, cond, List, [], ◌∷◌, ◌++◌, Some, None, refl, sym, ap, subst, ◌∙◌, arith, inl, inr, nat_eq}
+use Rattle.std.proofs.Common.{◌≡◌, ◌≤◌, ◌<◌, ℕ, ◌+◌, ◌*◌, ◌-◌, ◌&&◌, Bool, true, false, cond, List, [], ◌∷◌, ◌++◌, Some}
+use Rattle.std.proofs.Common.{None, refl, sym, ap, subst, ◌∙◌, arith, inl, inr, nat_eq}
 use Rattle.std.specs.Char.{is_ascii_digit}
 use Rattle.std.proofs.lemmas.Bool.Decides.{nat_tests}
 use Rattle.ira_event.specs.Scan.{digits_from, number_at}
@@ -24,15 +25,19 @@ pub record Digits (n : ℕ) (bs : List ℕ) (p : ℕ × List ℕ) : Type 0 where
   pub value : p.0 ≡ value_from n ds
   pub stop : NoDigit p.1
 
-digits-cons : (n c : ℕ) (cs : List ℕ) (b : Bool) → is_ascii_digit c ≡ b → Digits (10 * n + (c - 48)) cs (digits_from (10 * n + (c - 48)) cs) → Digits n (c ∷ cs) (cond b (digits_from (10 * n + (c - 48)) cs) (n, c ∷ cs))
-digits-cons n c cs true e d = record { ds = c ∷ d.ds; parts = ap (λ w. c ∷ w) d.parts; all = rw e d.all; value = d.value; stop = d.stop }
+digits-cons : (n c : ℕ) (cs : List ℕ) (b : Bool) → is_ascii_digit c ≡ b
+    → Digits (10 * n + (c - 48)) cs (digits_from (10 * n + (c - 48)) cs)
+    → Digits n (c ∷ cs) (cond b (digits_from (10 * n + (c - 48)) cs) (n, c ∷ cs))
+digits-cons n c cs true e d =
+    record { ds = c ∷ d.ds; parts = ap (λ w. c ∷ w) d.parts; all = rw e d.all; value = d.value; stop = d.stop }
 digits-cons n c cs false e d = record { ds = []; parts = refl; all = refl; value = refl; stop = e }
 
 pub digits-takes : (n : ℕ) (bs : List ℕ) → Digits n bs (digits_from n bs)
 digits-takes n [] = record { ds = []; parts = refl; all = refl; value = refl; stop = tt }
 digits-takes n (c ∷ cs) = digits-cons n c cs (is_ascii_digit c) refl (digits-takes (10 * n + (c - 48)) cs)
 
-pub digits-again : (n : ℕ) (ds rest : List ℕ) → all_ascii_digits ds ≡ true → NoDigit rest → digits_from n (ds ++ rest) ≡ (value_from n ds, rest)
+pub digits-again : (n : ℕ) (ds rest : List ℕ) → all_ascii_digits ds ≡ true → NoDigit rest
+    → digits_from n (ds ++ rest) ≡ (value_from n ds, rest)
 digits-again n [] [] h s = refl
 digits-again n [] (c ∷ cs) h s = rw s refl
 digits-again n (d ∷ ds) rest h s =
@@ -59,14 +64,19 @@ number-cons c cs p false true ez ed e =
     let range = digit_range c ed in
     let above : 49 ≤ c = grind (arith, nat_tests) in
     let t = digits-takes (c - 48) cs in
-    subst (Number (c ∷ cs)) q (record { text = c ∷ t.ds; parts = ap (λ w. c ∷ w) t.parts; is = inr (above, range.1, t.all, t.value) })
+    subst (Number (c ∷ cs)) q (record {
+      text = c ∷ t.ds;
+      parts = ap (λ w. c ∷ w) t.parts;
+      is = inr (above, range.1, t.all, t.value);
+    })
 number-cons c cs p false false ez ed e = absurd cc
 
 pub number-takes : (bs : List ℕ) (p : ℕ × List ℕ) → number_at bs ≡ Some p → Number bs p
 number-takes [] p e = absurd cc
 number-takes (c ∷ cs) p e = number-cons c cs p (nat_eq c 48) (is_ascii_digit c) refl refl e
 
-pub number-again : (text : List ℕ) (n : ℕ) (rest : List ℕ) → IsNumeral text n → NoDigit rest → number_at (text ++ rest) ≡ Some (n, rest)
+pub number-again : (text : List ℕ) (n : ℕ) (rest : List ℕ) → IsNumeral text n → NoDigit rest
+    → number_at (text ++ rest) ≡ Some (n, rest)
 number-again [] n rest h s = absurd h
 number-again (c ∷ cs) n rest (inl h) s = rw (h.0, h.1, h.2) refl
 number-again (c ∷ cs) n rest (inr h) s =
@@ -91,10 +101,12 @@ at_least d c h k = grind (arith, nat_tests)
 
 Lacks-digits : (c : ℕ) (ds : List ℕ) → c < 48 → all_ascii_digits ds ≡ true → Lacks c ds
 Lacks-digits c [] k h = refl
-Lacks-digits c (d ∷ ds) k h = let p = and_parts (is_ascii_digit d) (all_ascii_digits ds) h in rw (not_below d c p.0 k) (Lacks-digits c ds k p.1)
+Lacks-digits c (d ∷ ds) k h = let p = and_parts (is_ascii_digit d) (all_ascii_digits ds) h in
+    rw (not_below d c p.0 k) (Lacks-digits c ds k p.1)
 
 -- no separator stands in a numeral
 pub Lacks-numeral : (c : ℕ) (text : List ℕ) (n : ℕ) → c < 48 → IsNumeral text n → Lacks c text
 Lacks-numeral c [] n k h = absurd h
 Lacks-numeral c (d ∷ ds) n k (inl h) = let first : 48 ≤ d = omega (arith, h.0) in rw (at_least d c first k, h.1) refl
-Lacks-numeral c (d ∷ ds) n k (inr h) = let first : 48 ≤ d = omega (arith, h.0) in rw (at_least d c first k) (Lacks-digits c ds k h.2)
+Lacks-numeral c (d ∷ ds) n k (inr h) = let first : 48 ≤ d = omega (arith, h.0) in
+    rw (at_least d c first k) (Lacks-digits c ds k h.2)

@@ -1,5 +1,6 @@
 -- Texts that are written in several turns.
-use Rattle.std.proofs.Common.{◌≡◌, ℕ, List, [], ◌++◌, Option, Some, None, Result, Ok, Err, refl, sym, ◌∙◌, ap, subst, append_assoc}
+use Rattle.std.proofs.Common.{◌≡◌, ℕ, List, [], ◌++◌, Option, Some, None, Result, Ok, Err, refl, sym, ◌∙◌, ap, subst}
+use Rattle.std.proofs.Common.{append_assoc}
 use Rattle.std.proofs.lemmas.List.{append-nil}
 use Rattle.std.specs.Io.KnownBytes.{Appends, Keeps}
 use Rattle.ira_event.specs.Sink.{SinkState, Wrote, Takes, StopsIn, one_more}
@@ -48,7 +49,8 @@ StopsIn-append s t a b p = record {
   failed = p.failed;
 }
 
-pub Wrote-then : {T E : Type 0} (r : Result T E) (s t u : SinkState) (a b : List ℕ) → Takes a s t → Wrote r b t u → Wrote r (a ++ b) s u
+pub Wrote-then : {T E : Type 0} (r : Result T E) (s t u : SinkState) (a b : List ℕ) → Takes a s t → Wrote r b t u
+    → Wrote r (a ++ b) s u
 Wrote-then (Ok _) s t u a b p q = Takes-append s t u a b p q
 Wrote-then (Err _) s t u a b p q = Takes-StopsIn s t u a b p q
 
@@ -59,10 +61,12 @@ pub record HasWritten (text rest : List ℕ) (old new : SinkState) : Type 0 wher
   pub takes : Takes front old new
 
 pub HasWritten-start : (text : List ℕ) (s : SinkState) → HasWritten text text s s
-HasWritten-start text s = record { front = []; parts = refl; takes = record { took = Appends-nothing s.taken; same = refl } }
+HasWritten-start text s =
+    record { front = []; parts = refl; takes = record { took = Appends-nothing s.taken; same = refl } }
 
 -- a piece more is written
-pub HasWritten-more : (text left piece rest : List ℕ) (s t u : SinkState) → HasWritten text left s t → piece ++ rest ≡ left → Takes piece t u → HasWritten text rest s u
+pub HasWritten-more : (text left piece rest : List ℕ) (s t u : SinkState) → HasWritten text left s t
+    → piece ++ rest ≡ left → Takes piece t u → HasWritten text rest s u
 HasWritten-more text left piece rest s t u p e q = record {
   front = p.front ++ piece;
   parts = append_assoc p.front piece rest ∙ ap (λ w. p.front ++ w) e ∙ p.parts;
@@ -70,13 +74,18 @@ HasWritten-more text left piece rest s t u p e q = record {
 }
 
 -- the sink fails in the next piece
-pub HasWritten-stops : {T E : Type 0} (r : Result T E) (y : E) → r ≡ Err y → (text left piece rest : List ℕ) (s t u : SinkState) → HasWritten text left s t → piece ++ rest ≡ left → StopsIn piece t u → Wrote r text s u
+pub HasWritten-stops : {T E : Type 0} (r : Result T E) (y : E) → r ≡ Err y
+    → (text left piece rest : List ℕ) (s t u : SinkState) → HasWritten text left s t → piece ++ rest ≡ left
+    → StopsIn piece t u → Wrote r text s u
 HasWritten-stops r y is text left piece rest s t u p e q =
-    rw is (subst (λ (x : List ℕ). StopsIn x s u) (ap (λ w. p.front ++ w) e ∙ p.parts) (Takes-StopsIn s t u p.front (piece ++ rest) p.takes (StopsIn-append t u piece rest q)))
+    rw is (subst (λ (x : List ℕ). StopsIn x s u) (ap (λ w. p.front ++ w) e
+    ∙ p.parts) (Takes-StopsIn s t u p.front (piece ++ rest) p.takes (StopsIn-append t u piece rest q)))
 
 -- the last piece is written, or the sink fails in it
-pub HasWritten-last : {T E : Type 0} (r : Result T E) (text left piece : List ℕ) (s t u : SinkState) → HasWritten text left s t → piece ≡ left → Wrote r piece t u → Wrote r text s u
+pub HasWritten-last : {T E : Type 0} (r : Result T E) (text left piece : List ℕ) (s t u : SinkState)
+    → HasWritten text left s t → piece ≡ left → Wrote r piece t u → Wrote r text s u
 HasWritten-last r text left piece s t u p e q =
-    subst (λ (x : List ℕ). Wrote r x s u) (ap (λ w. p.front ++ w) e ∙ p.parts) (Wrote-then r s t u p.front piece p.takes q)
+    subst (λ (x : List ℕ). Wrote r x s u) (ap (λ w. p.front ++ w) e
+    ∙ p.parts) (Wrote-then r s t u p.front piece p.takes q)
 
 pub ruleset writes = (Takes-append, Takes-StopsIn, StopsIn-append, Wrote-then)

@@ -7,4 +7,5 @@ use Rattle.ira_event.specs.Version.{IsVersion}
 -- there are such a version and such a ring, of which logs of that version may be, and it has the place
 abbrev pub AreInRange : HeadLines → Type 0
 AreInRange lines =
-    IsVersion lines.version × IsRingSize lines.nodes × FitsVersion lines.version lines.nodes × (lines.place < lines.nodes)
+    IsVersion lines.version × IsRingSize lines.nodes × FitsVersion lines.version lines.nodes
+    × (lines.place < lines.nodes)

@@ -14,7 +14,8 @@ use Rattle.ira_event.specs.declared.log_head.HeadLines.{HeadLines}
 
 -- the bit at the end of a message's line, and what follows the line
 abbrev pub bit_at : List ℕ → Option (Bool × List ℕ)
-bit_at text = or (option_map (λ rest. (false, rest)) (after_word (codes " clean\n") text)) (option_map (λ rest. (true, rest)) (after_word (codes " dirty\n") text))
+bit_at text = or (option_map (λ rest. (false, rest)) (after_word (codes " clean\n") text))
+    (option_map (λ rest. (true, rest)) (after_word (codes " dirty\n") text))
 
 -- a message to its line's end, and what follows the line
 unfoldable pub message_at : List ℕ → Option (Msg × List ℕ)
@@ -40,7 +41,8 @@ reset_at text = after_word (codes "reset ") text >>= number_line
 
 -- a load to its line's end, and what follows the line
 abbrev pub load_at : List ℕ → Option (Load × List ℕ)
-load_at text = or (option_map (λ p. (Message p.0, p.1)) (message_at text)) (option_map (λ p. (Reset p.0, p.1)) (reset_at text))
+load_at text = or (option_map (λ p. (Message p.0, p.1)) (message_at text))
+    (option_map (λ p. (Reset p.0, p.1)) (reset_at text))
 
 -- a yield to its line's end, and what follows the line
 abbrev pub yield_at : List ℕ → Option (LogLine × List ℕ)
@@ -64,7 +66,8 @@ line_at text =
 
 -- the word for a start kind at its line's end, and what follows the line
 abbrev pub start_at : List ℕ → Option (Bool × List ℕ)
-start_at text = or (option_map (λ rest. (true, rest)) (after_word (codes "initiator\n") text)) (option_map (λ rest. (false, rest)) (after_word (codes "passive\n") text))
+start_at text = or (option_map (λ rest. (true, rest)) (after_word (codes "initiator\n") text))
+    (option_map (λ rest. (false, rest)) (after_word (codes "passive\n") text))
 
 -- the head's four lines, their numbers of any size, and what follows them
 unfoldable pub head_at : List ℕ → Option (HeadLines × List ℕ)

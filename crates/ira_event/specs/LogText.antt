@@ -84,7 +84,8 @@ pub record IsLogText (text : List ℕ) (log : Log) : Type 0 where
 
 -- a message
 abbrev pub message_text : Msg → List ℕ
-message_text m = decimal m.round ++ codes " " ++ decimal m.id ++ codes " " ++ decimal m.hop ++ codes " " ++ bit_word m.dirty
+message_text m = decimal m.round ++ codes " " ++ decimal m.id ++ codes " " ++ decimal m.hop ++ codes " "
+    ++ bit_word m.dirty
 
 -- a load
 abbrev pub load_text : Load → List ℕ
@@ -101,7 +102,8 @@ record_text Yield = codes "yield\n"
 -- a head
 abbrev pub head_text : LogHead → List ℕ
 head_text head =
-    codes "irlog " ++ decimal head.version ++ codes "\nnodes " ++ decimal head.nodes ++ codes "\nplace " ++ decimal head.place
+    codes "irlog " ++ decimal head.version ++ codes "\nnodes " ++ decimal head.nodes ++ codes "\nplace "
+    ++ decimal head.place
     ++ codes "\nstart " ++ start_word head.initiator ++ codes "\n"
 
 -- the end line of so many records

@@ -1,10 +1,12 @@
 -- The fault of a text that is no log's: the first one, line by line.
-use Rattle.std.specs.Prelude.{◌≡◌, ◌≢◌, ℕ, ◌+◌, ◌<◌, ◌≤◌, ◌⊎◌, true, false, List, [], ◌++◌, length, codes, Result, Ok, Err}
+use Rattle.std.specs.Prelude.{◌≡◌, ◌≢◌, ℕ, ◌+◌, ◌<◌, ◌≤◌, ◌⊎◌, true, false, List, [], ◌++◌, length, codes, Result, Ok}
+use Rattle.std.specs.Prelude.{Err}
 use Rattle.std.specs.List.{list_all}
 use Rattle.ira_event.specs.Limits.{MAX_RECORDS, MAX_TEXT}
 use Rattle.ira_event.specs.declared.event.Event.{Event}
 use Rattle.ira_event.specs.declared.log_fault.LogFault.{LogFault}
-use Rattle.ira_event.specs.declared.log_fault.LogFault.TheVariants.{TooLong, Head, Line, Range, TooMany, Cut, Count, Trailing, OutOfMemory}
+use Rattle.ira_event.specs.declared.log_fault.LogFault.TheVariants.{TooLong, Head, Line, Range, TooMany, Cut, Count}
+use Rattle.ira_event.specs.declared.log_fault.LogFault.TheVariants.{Trailing, OutOfMemory}
 use Rattle.ira_event.specs.declared.log_head.LogHead.{LogHead}
 use Rattle.ira_event.specs.Event.{is_event, is_of_version}
 use Rattle.ira_event.specs.LogText.{IsHead, IsRecord, AreRecords, IsEnd}
@@ -48,27 +50,30 @@ BeginsWithWord line =
 abbrev pub BeginsAsRecord : ℕ → List ℕ → Type 0
 BeginsAsRecord version line = BeginsWithWord line ⊎ ((1 < version) × (line ≡ codes "yield"))
 
--- the fault of a complete line behind the head of a log of this version and k records, with `more` behind its line feed; it
+-- the fault of a complete line after the head of a log of this version and k records, with `more` after its line
+-- feed; it
 -- is line k + 5 of the text
 pub data LineFault (version k : ℕ) (line more : List ℕ) (f : LogFault) : Type 0 where
-  -- it begins as a record does, behind the last record allowed
+  -- it begins as a record does, after the last record allowed
   too_many : k ≡ MAX_RECORDS → BeginsAsRecord version line → f ≡ TooMany → LineFault version k line more f
   -- it is neither a record of this version nor an end line
   no_line :
-      (k ≡ MAX_RECORDS → ¬ (BeginsAsRecord version line)) → ((e : Event) → is_of_version version e ≡ true → ¬ (IsRecord line e)) → ((n : ℕ) → ¬ (IsEnd line n))
+      (k ≡ MAX_RECORDS → ¬ (BeginsAsRecord version line))
+      → ((e : Event) → is_of_version version e ≡ true → ¬ (IsRecord line e)) → ((n : ℕ) → ¬ (IsEnd line n))
       → f ≡ Line (k + 5) → LineFault version k line more f
   -- it is a record of this version with a number out of range
-  out_of_range : (e : Event) → k ≢ MAX_RECORDS → is_of_version version e ≡ true → IsRecord line e → is_event e ≡ false → f ≡ Range (k + 5) → LineFault version k line more f
+  out_of_range : (e : Event) → k ≢ MAX_RECORDS → is_of_version version e ≡ true → IsRecord line e → is_event e ≡ false
+      → f ≡ Range (k + 5) → LineFault version k line more f
   -- it is an end line of another number of records
   other_count : (n : ℕ) → IsEnd line n → n ≢ k → f ≡ Count → LineFault version k line more f
   -- it is the end line, and something follows it
   trailing : IsEnd line k → more ≢ [] → f ≡ Trailing → LineFault version k line more f
 
--- the fault of what stands behind the head and k records
+-- the fault of what stands after the head and k records
 abbrev pub RestFault : ℕ → ℕ → List ℕ → LogFault → Type 0
 RestFault version k rest f = NextLineFault Cut (LineFault version k) rest f
 
--- the fault of what stands behind the head: behind records within the limits comes something with a fault
+-- the fault of what stands after the head: after records within the limits comes something with a fault
 pub record RecordsFault (version : ℕ) (text : List ℕ) (f : LogFault) : Type 0 where
   pub events : List Event
   pub rest : List ℕ
@@ -79,7 +84,7 @@ pub record RecordsFault (version : ℕ) (text : List ℕ) (f : LogFault) : Type 
 pub data LinesFault (text : List ℕ) (f : LogFault) : Type 0 where
   -- it begins with no head
   no_head : BeginsWithNoHead text → f ≡ Head → LinesFault text f
-  -- what stands behind its head has a fault
+  -- what stands after its head has a fault
   behind_head :
       (head : LogHead) (rest : List ℕ) → BeginsWithHead text head rest → RecordsFault head.version rest f
       → LinesFault text f
@@ -100,7 +105,7 @@ pub record AreAllRecords (version : ℕ) (text : List ℕ) (events : List Event)
   pub end_is : IsEnd end (length events)
   pub begins : BeginsWithRecords version text events (end ++ codes "\n")
 
--- a reader of what stands behind a head answered its events, its fault, or that memory ran out
+-- a reader of what stands after a head answered its events, its fault, or that memory ran out
 abbrev pub RecordsRead : {X : Type 0} → ℕ → (X → List Event) → Result X LogFault → List ℕ → Type 0
 RecordsRead version view (Ok v) text = AreAllRecords version text (view v)
 RecordsRead version view (Err f) text = (f ≡ OutOfMemory) ⊎ RecordsFault version text f

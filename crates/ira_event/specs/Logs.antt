@@ -42,11 +42,15 @@ pub record IsFirstOther (logs : List Log) (P : ℕ → Log → Type 0) (i : ℕ)
 -- version
 pub data HeadFaultOf (logs : List Log) (f : HeadFault) : Type 0 where
   wrong_number : ((nodes : ℕ) → ¬ (HasNumber logs nodes)) → f ≡ Number → HeadFaultOf logs f
-  wrong_size : (nodes i : ℕ) → HasNumber logs nodes → IsFirstOther logs (λ _ log. log.nodes ≡ nodes) i → f ≡ Size i → HeadFaultOf logs f
-  wrong_place : (nodes i : ℕ) → HasNumber logs nodes → EachLog logs (λ _ log. log.nodes ≡ nodes) → IsFirstOther logs (λ j log. log.place ≡ j) i → f ≡ Place i → HeadFaultOf logs f
+  wrong_size : (nodes i : ℕ) → HasNumber logs nodes → IsFirstOther logs (λ _ log. log.nodes ≡ nodes) i → f ≡ Size i
+      → HeadFaultOf logs f
+  wrong_place : (nodes i : ℕ) → HasNumber logs nodes → EachLog logs (λ _ log. log.nodes ≡ nodes)
+      → IsFirstOther logs (λ j log. log.place ≡ j) i → f ≡ Place i → HeadFaultOf logs f
   wrong_version :
-      (nodes version i : ℕ) → HasNumber logs nodes → EachLog logs (λ _ log. log.nodes ≡ nodes) → EachLog logs (λ j log. log.place ≡ j)
-      → HasVersion logs version → IsFirstOther logs (λ _ log. log.version ≡ version) i → f ≡ Version i → HeadFaultOf logs f
+      (nodes version i : ℕ) → HasNumber logs nodes → EachLog logs (λ _ log. log.nodes ≡ nodes)
+      → EachLog logs (λ j log. log.place ≡ j)
+      → HasVersion logs version → IsFirstOther logs (λ _ log. log.version ≡ version) i → f ≡ Version i
+      → HeadFaultOf logs f
 
 -- no list of logs has two head faults
 abbrev pub NoLogsHaveTwoHeadFaults : Type 0

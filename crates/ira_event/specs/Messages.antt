@@ -27,6 +27,6 @@ sent events = filter_map sending events
 abbrev pub got : List Event → List Load
 got events = filter_map receipt events
 
--- `left` is what stands behind some first ones of these events, none of which has a load by `load`
+-- `left` is what stands after some first ones of these events, none of which has a load by `load`
 abbrev pub PassesNo : (Event → Option Load) → List Event → List Event → Type 0
 PassesNo load events left = (passed : List Event) × (events ≡ passed ++ left) × (filter_map load passed ≡ [])

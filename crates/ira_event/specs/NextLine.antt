@@ -8,8 +8,10 @@ HasNoLineFeed text = list_any (λ c. c == 10) text ≡ false
 
 -- the fault of what stands where a line is due: `unended` where no complete line does, else the fault of
 -- the line; `F line more g` says that a line has fault g where `more` follows it
-pub data NextLineFault {E : Type 0} (unended : E) (F : List ℕ → List ℕ → E → Type 0) (rest : List ℕ) (f : E) : Type 0 where
+pub data NextLineFault {E : Type 0} (unended : E) (F : List ℕ → List ℕ → E
+    → Type 0) (rest : List ℕ) (f : E) : Type 0 where
   -- a piece of a line, or nothing
   cut : HasNoLineFeed rest → f ≡ unended → NextLineFault unended F rest f
   -- a complete line with a fault
-  at_line : (line more : List ℕ) → rest ≡ line ++ codes "\n" ++ more → HasNoLineFeed line → F line more f → NextLineFault unended F rest f
+  at_line : (line more : List ℕ) → rest ≡ line ++ codes "\n" ++ more → HasNoLineFeed line → F line more f
+      → NextLineFault unended F rest f

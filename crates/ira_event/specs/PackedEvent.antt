@@ -1,5 +1,6 @@
 -- Helpers, no definitions: how an event is packed into a word, two bits of kind, one of dirt, and 20 for each
--- number. A reset is what no message is: its hop alone, as no message has round 0. A yield is what no draw is: one of ID 0.
+-- number. A reset is what no message is: its hop alone, as no message has round 0. A yield is what no draw is: one of
+-- ID 0.
 -- That an event within the limits comes back is proved.
 use Rattle.std.specs.Prelude.{ℕ, ◌+◌, ◌*◌, ◌/◌, ◌%◌, ◌==◌, if◌then◌else◌}
 use Rattle.ira_event.specs.declared.msg.Msg.{Msg}

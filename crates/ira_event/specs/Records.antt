@@ -1,5 +1,6 @@
--- Helpers, no definitions: what stands behind the head of a log text, read record by record.
-use Rattle.std.specs.Prelude.{◌≡◌, ◌≢◌, ℕ, ◌+◌, ◌⊎◌, true, false, List, ◌++◌, length, ⊤, codes, Option, Some, None, Result, Ok, Err}
+-- Helpers, no definitions: what stands after the head of a log text, read record by record.
+use Rattle.std.specs.Prelude.{◌≡◌, ◌≢◌, ℕ, ◌+◌, ◌⊎◌, true, false, List, ◌++◌, length, ⊤, codes, Option, Some, None}
+use Rattle.std.specs.Prelude.{Result, Ok, Err}
 use Rattle.ira_event.specs.Limits.{MAX_RECORDS}
 use Rattle.ira_event.specs.declared.event.Event.{Event}
 use Rattle.ira_event.specs.declared.log_fault.LogFault.{LogFault}

@@ -7,7 +7,7 @@ use crate::load::Load;
 use crate::msg::Msg;
 use crate::scan::{skip_word, take_number};
 
-/// A line of a log text behind its head.
+/// A line of a log text after its head.
 #[derive(Clone, Copy)]
 pub enum LogLine {
     Record(Event),

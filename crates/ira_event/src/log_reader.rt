@@ -30,7 +30,7 @@ pub fn read_log<A: Allocator>(alloc: A, text: &[u8]) -> Result<NodeLog<A>, LogFa
     Ok(NodeLog::of_records(head, events))
 }
 
-/// The head of a log's text and the records behind it, none of them read, or the first fault of a
+/// The head of a log's text and the records after it, none of them read, or the first fault of a
 /// text that is too long or begins with no head. It takes no memory.
 pub fn open_log(text: &[u8]) -> Result<(LogHead, Records<'_>), LogFault>
     ensures { MatchResult result

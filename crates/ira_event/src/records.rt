@@ -10,7 +10,7 @@ use crate::log_line::{LogLine, take_line};
 use crate::short_record::take_short_record;
 use std::marker::Model;
 
-/// What stands behind the head of a log text of some version, read record by record; nothing is kept of those that
+/// What stands after the head of a log text of some version, read record by record; nothing is kept of those that
 /// were read but their number.
 #[derive(Drop)]
 pub struct Records<'a> {
@@ -32,7 +32,7 @@ impl<'a> Model for Records<'a> {
 }
 
 impl<'a> Records<'a> {
-    /// The records of what stands behind a head and so many records, which were read before.
+    /// The records of what stands after a head and so many records, which were read before.
     #[inline(always)]
     pub fn new(version: u8, text: &'a [u8], count: usize) -> Records<'a>
         requires { count ≤ MAX_RECORDS }
@@ -115,7 +115,7 @@ impl<'a> Records<'a> {
     }
 }
 
-/// The fault behind so many records, where the line of no record of the version follows, nor an end line.
+/// The fault after so many records, where the line of no record of the version follows, nor an end line.
 #[cold]
 fn unread_fault(text: &[u8], records: usize, version: u8) -> LogFault
     requires unread { IsUnread version text.now }

@@ -2,7 +2,7 @@ ghost use Rattle.std.specs.Prelude.{◌≡◌, ◌≤◌, ◌+◌, ◌-◌, ◌*
 ghost use Rattle.std.specs.Char.{is_ascii_digit};
 ghost use Rattle.ira_event.specs.Scan.{digits_from, kept, kept_at, after_word, Gives};
 
-/// More digits than any number within the limits has behind its first one. So many turns are
+/// More digits than any number within the limits has after its first one. So many turns are
 /// unrolled.
 const FEW: usize = 7;
 

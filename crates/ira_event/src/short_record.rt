@@ -12,7 +12,7 @@ use crate::msg::Msg;
 use crate::scan::{skip_word, to_digit};
 
 /// A short number has at most six digits and isn't 0, so it is within the limits. This is room for
-/// its digits and the byte behind them.
+/// its digits and the byte after them.
 const NUMBER_ROOM: usize = 7;
 
 const MESSAGE_ROOM: usize = 3 * NUMBER_ROOM;

@@ -1,9 +1,12 @@
+pub mod Absence
 pub mod Beginning
 pub mod CircleEvidence
+pub mod Elimination
 pub mod Exchange
 pub mod Laws
 pub mod LinkEvidence
 pub mod NodeEvidence
 pub mod Reach
+pub mod SectionEvidence
 pub mod Stop
 pub mod StuckNodes

@@ -2,7 +2,7 @@
 use Rattle.std.specs.Prelude.{◌≡◌, ℕ, ◌+◌, ◌⊎◌, List, [], ◌++◌, codes}
 use Rattle.ira_event.specs.NextLine.{HasNoLineFeed}
 
--- the text from a line on; behind its end it is empty
+-- the text from a line on; after its end it is empty
 pub data IsFromLine (text : List ℕ) : ℕ → List ℕ → Type 0 where
   first : IsFromLine text 1 text
   behind :

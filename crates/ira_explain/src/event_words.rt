@@ -4,7 +4,7 @@ use std::fmt;
 
 /// An event as logs spell its record.
 #[derive(Clone, Copy)]
-pub(crate) struct EventWords(pub(crate) Event);
+pub struct EventWords(pub Event);
 
 impl fmt::Display for EventWords {
     fn fmt<W: fmt::Write>(&self, f: &mut fmt::Formatter<W>) -> fmt::Result {

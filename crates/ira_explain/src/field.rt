@@ -1,6 +1,6 @@
 use ira_event::{skip_word, take_number};
 
-/// A field of a line of a log, behind the words that it begins with.
+/// A field of a line of a log, after the words that it begins with.
 #[derive(Clone, Copy, Debug, PartialEq, Eq)]
 pub(crate) enum Field {
     Round,

@@ -31,10 +31,14 @@ mod table;
 mod text_block;
 mod text_head;
 
+pub use event_words::EventWords;
 pub use explain::{explain_log, explain_logs};
+pub use first_line::split_line;
 pub use load_words::LoadWords;
 pub use named_text::NamedText;
 pub use number_of::NumberOf;
-pub use page::{Mark, Page};
+pub use page::{Mark, Page, shown_width};
+pub use places::{event_at, file_of, line_of};
 pub use round_words::RoundWords;
+pub use slip::Slip;
 pub use state_words::StateWords;

@@ -45,7 +45,7 @@ impl LineForm {
         Some((LineForm::Message, rest))
     }
 
-    /// What stands behind the words.
+    /// What stands after the words.
     pub(crate) fn fields(self) -> &'static [Field] {
         match self {
             LineForm::Draw => &DRAW,

@@ -27,7 +27,7 @@ pub(crate) struct LineStop {
 }
 
 impl LineStop {
-    /// Of a line behind the head of a log of this version.
+    /// Of a line after the head of a log of this version.
     pub(crate) fn find(line: &[u8], version: u8) -> LineStop {
         let Some((form, rest)) = LineForm::of_line(line, version) else {
             return LineStop {

@@ -119,7 +119,7 @@ fn add_exchange<A: Allocator + Copy>(
     Ok(())
 }
 
-/// The exchanges around the named one: two before it and three behind it.
+/// The exchanges around the named one: two before it and three after it.
 fn exchange_table<A: Allocator + Copy>(
     alloc: A,
     files: LinkFiles<'_>,

@@ -12,15 +12,15 @@ pub struct NamedText<'a> {
 
 impl<'a> NamedText<'a> {
     /// How many lines end in a line feed.
-    pub(crate) fn whole_lines(&self) -> usize
+    pub fn whole_lines(&self) -> usize
         ensures { result ≡ count_by (λ c. c == 10) self.now.text.now }
     {
         self.text.iter().filter(|c| **c == b'\n').count()
     }
 
-    /// A line, counted from 1, without its line feed: a piece behind the last line feed is one too, and further ones
+    /// A line, counted from 1, without its line feed: a piece after the last line feed is one too, and further ones
     /// are empty.
-    pub(crate) fn line(&self, number: usize) -> &'a [u8]
+    pub fn line(&self, number: usize) -> &'a [u8]
         ensures { 1 ≤ number → IsLine self.now.text.now number result.now }
     {
         let rest = self.from_line(number);
@@ -31,7 +31,7 @@ impl<'a> NamedText<'a> {
     }
 
     /// All from a line on.
-    pub(crate) fn from_line(&self, number: usize) -> &'a [u8]
+    pub fn from_line(&self, number: usize) -> &'a [u8]
         ensures { 1 ≤ number → IsFromLine self.now.text.now number result.now }
     {
         let mut rest = self.text;

@@ -266,7 +266,7 @@ impl<A: Allocator> Page<A> {
 }
 
 /// How many characters show these bytes; `usize::MAX` stands for itself and everything above.
-pub(crate) fn shown_width(bytes: &[u8]) -> usize {
+pub fn shown_width(bytes: &[u8]) -> usize {
     let mut width = 0usize;
     for byte in bytes {
         width = width.saturating_add(byte_width(*byte));
@@ -285,7 +285,7 @@ fn byte_width(byte: u8) -> usize
     }
 }
 
-/// How many bytes of a line are shown: all, or so many that two points have room behind them.
+/// How many bytes of a line are shown: all, or so many that two points have room after them.
 fn quoted_front(line: &[u8]) -> usize
     ensures { result ≤ length line.now }
 {
@@ -302,7 +302,7 @@ fn quoted_front(line: &[u8]) -> usize
     line.len()
 }
 
-/// The column at which the byte of a line stands in its quote; a byte behind the line stands at its end.
+/// The column at which the byte of a line stands in its quote; a byte after the line stands at its end.
 fn quoted_column(line: &[u8], byte: usize) -> usize
     ensures { result ≤ 80 }
 {

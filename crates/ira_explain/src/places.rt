@@ -11,12 +11,12 @@ use std::alloc::Allocator;
 const HEAD_LINES: usize = 4;
 
 /// The line of a log's text that an event stands on.
-pub(crate) fn line_of(position: u32) -> usize {
+pub fn line_of(position: u32) -> usize {
     position as usize + HEAD_LINES
 }
 
 /// The file of the log of a place.
-pub(crate) fn file_of<'a>(files: &[NamedText<'a>], place: u8) -> &'a str {
+pub fn file_of<'a>(files: &[NamedText<'a>], place: u8) -> &'a str {
     match files.get(usize::from(place)) {
         Some(file) => file.name,
         None => "-",
@@ -49,7 +49,7 @@ pub(crate) fn log_at<A: Allocator>(logs: &Logs<A>, place: u8) -> Option<&NodeLog
 }
 
 /// An event of logs, where they have it.
-pub(crate) fn event_at<A: Allocator>(logs: &Logs<A>, at: EventAt) -> Option<Event> {
+pub fn event_at<A: Allocator>(logs: &Logs<A>, at: EventAt) -> Option<Event> {
     event_of(log_at(logs, at.place)?, at.position)
 }
 

@@ -4,7 +4,7 @@ use crate::line_stop::{Due, LineStop};
 
 /// A slip that a person makes who writes logs by hand or by a program.
 #[derive(Clone, Copy, Debug, PartialEq, Eq)]
-pub(crate) enum Slip {
+pub enum Slip {
     CarriageReturn,
     ByteOrderMark,
     Tab,
@@ -20,7 +20,7 @@ pub(crate) enum Slip {
 
 impl Slip {
     /// What the file's format does to a line.
-    pub(crate) fn of_format(line: &[u8]) -> Option<Slip> {
+    pub fn of_format(line: &[u8]) -> Option<Slip> {
         if line.ends_with(b"\r") {
             return Some(Slip::CarriageReturn);
         }
@@ -30,7 +30,7 @@ impl Slip {
         None
     }
 
-    /// What a line behind the head of a log of this version shows, which goes on as none does from there on.
+    /// What a line after the head of a log of this version shows, which goes on as none does from there on.
     pub(crate) fn of_line(line: &[u8], stop: LineStop, version: u8) -> Option<Slip> {
         if let Some(slip) = Slip::of_format(line) {
             return Some(slip);
@@ -61,7 +61,7 @@ impl Slip {
     }
 
     /// What it is, and what to write.
-    pub(crate) fn hint(self) -> &'static str {
+    pub fn hint(self) -> &'static str {
         match self {
             Slip::CarriageReturn => {
                 "the line ends in a carriage return: `file` says CRLF. Write line feeds alone; to mend a file: sed -i 's/\\r$//' FILE"

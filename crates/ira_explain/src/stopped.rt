@@ -17,7 +17,7 @@ pub(crate) struct Stopped {
     pub(crate) state: NodeState,
     /// The event before it, and the state before that one.
     last: Option<(NodeState, Event)>,
-    /// The event behind it.
+    /// The event after it.
     next: Option<Event>,
 }
 
@@ -212,7 +212,7 @@ impl Stopped {
         matches!(self.state.owed, Some(Load::Reset(_)))
     }
 
-    /// Whether the event behind it is the receipt by which an active node with this pair leads.
+    /// Whether the event after it is the receipt by which an active node with this pair leads.
     fn leads_next(&self, round: u32, id: u32) -> bool {
         let home = Msg {
             round,

@@ -17,7 +17,7 @@ impl<A: Allocator> Row<A> {
         }
     }
 
-    /// Adds a cell behind the others.
+    /// Adds a cell after the others.
     pub(crate) fn add(&mut self, cell: String<A>) -> Result<(), OutOfMemory> {
         self.cells.push(cell)?;
         Ok(())

@@ -90,7 +90,7 @@ fn explain_line<A: Allocator>(
     }
 }
 
-/// What lines stand behind the head of a log of this version.
+/// What lines stand after the head of a log of this version.
 fn line_forms(version: u8) -> &'static str {
     if version == 1 {
         "Records: `draw ID`, `send ROUND ID HOP BIT`, `recv ROUND ID HOP BIT`; last line: `end COUNT`."

@@ -1,6 +1,7 @@
 -- A setup that keeps the rules has a full run: as long as some node has a next event it is made, and there is
 -- less room for events each time.
-use Rattle.std.proofs.Common.{◌≡◌, ◌≢◌, ℕ, zero, suc, ◌+◌, ◌<◌, ◌≤◌, ◌⊎◌, inl, inr, All, List, [], ◌∷◌, length, get_or, refl, sym, ◌∙◌, subst, ap, arith}
+use Rattle.std.proofs.Common.{◌≡◌, ◌≢◌, ℕ, zero, suc, ◌+◌, ◌<◌, ◌≤◌, ◌⊎◌, inl, inr, All, List, [], ◌∷◌, length, get_or}
+use Rattle.std.proofs.Common.{refl, sym, ◌∙◌, subst, ap, arith}
 use Rattle.std.specs.Prelude.{map}
 use Rattle.std.specs.List.{range_with_len}
 use Rattle.std.proofs.Math.ListN.{set}
@@ -13,7 +14,8 @@ use Rattle.ira_event.specs.Limits.{MAX_NUMBER}
 use Rattle.ira_event.specs.Log.{Log}
 use Rattle.ira_node.specs.declared.node_state.NodeState.{NodeState}
 use Rattle.ira_node.specs.declared.wanted.Wanted.{Wanted}
-use Rattle.ira_node.specs.declared.wanted.Wanted.TheVariants.{Draw as WantsDraw, Send, Receipt, Yield as WantsYield, Nothing}
+use Rattle.ira_node.specs.declared.wanted.Wanted.TheVariants.{Draw as WantsDraw, Send, Receipt, Yield as WantsYield}
+use Rattle.ira_node.specs.declared.wanted.Wanted.TheVariants.{Nothing}
 use Rattle.ira_node.specs.NodeStep.{HasStep}
 use Rattle.ira_node.specs.NodeStepFault.{NodeStepFault}
 use Rattle.ira_node.specs.Wanted.{CanCome, wanted_of}
@@ -28,7 +30,8 @@ use Rattle.ira_run.proofs.FullRuns.{no_log}
 use Rattle.ira_lone.specs.LoneNode.{LoneNode, IsNext, HasNoNext, after_event, after_put}
 use Rattle.ira_lone.specs.LoneRing.{idle, node_at, IsMoved, IsReached, AreAtEnd}
 use Rattle.ira_lone.proofs.LoneLogs.{log_at, all_logs}
-use Rattle.ira_lone.proofs.LoneNodes.{wants_nothing, wants_yield, ends_nothing, leads_last, next_yield, next_draw, next_got, next_sent, spent, no_step, quiet, full_ends}
+use Rattle.ira_lone.proofs.LoneNodes.{wants_nothing, wants_yield, ends_nothing, leads_last, next_yield, next_draw}
+use Rattle.ira_lone.proofs.LoneNodes.{next_got, next_sent, spent, no_step, quiet, full_ends}
 use Rattle.ira_lone.proofs.LoneRuns.{full_logs}
 use Rattle.ira_lone.proofs.LoneStarts.{first_node, started}
 use Rattle.ira_lone.proofs.LoneSteps.{turn_reaches}
@@ -48,34 +51,45 @@ no_step_where_fault n s e fault step =
     cc
 
 module _ (n most terms : ℕ) (node : LoneNode) (room : length node.events < most) (few : terms ≤ MAX_NUMBER) where
-  drawing : (ids : List ℕ) → node.ids ≡ ids → All (λ d. (1 ≤ d) × (d ≤ n)) ids → WantsDraw ≡ wanted_of node.state.term node.state.phase node.state.owed → CanCome n node.state WantsDraw → HasNext n most terms node ⊎ HasNoNext n most terms node
+  drawing : (ids : List ℕ) → node.ids ≡ ids → All (λ d. (1 ≤ d) × (d ≤ n)) ids
+      → WantsDraw ≡ wanted_of node.state.term node.state.phase node.state.owed → CanCome n node.state WantsDraw
+      → HasNext n most terms node ⊎ HasNoNext n most terms node
   drawing [] is all wants can = inr (spent n most terms node wants room (ap length is))
   drawing (id ∷ rest) is all wants can =
       let within : (1 ≤ id) × (id ≤ n) = all 0 0 (omega arith) in
       let step : HasStep n node.state (Draw id) = can id within.0 within.1 in
       inl (Draw id, step.0, next_draw n most terms node id rest step.0 wants room is step.1)
 
-  receiving : (input : List Load) → node.input ≡ input → Receipt ≡ wanted_of node.state.term node.state.phase node.state.owed → HasNext n most terms node ⊎ HasNoNext n most terms node
+  receiving : (input : List Load) → node.input ≡ input
+      → Receipt ≡ wanted_of node.state.term node.state.phase node.state.owed → HasNext n most terms node
+      ⊎ HasNoNext n most terms node
   receiving [] is wants = inr (quiet n most terms node wants room (λ some. omega (arith, some, ap length is)))
   receiving (m ∷ rest) is wants =
       let some : 0 < length node.input = omega (arith, ap length is) in
       let first : m ≡ get_or node.input 0 m = sym (ap (λ (ms : List Load). get_or ms 0 m) is) in
       elim (a_step_or_a_fault n node.state (Got m)) [
         | inl step ↦ inl (Got m, step.0, next_got n most terms node m step.0 wants room some first step.1)
-        | inr fault ↦ inr (no_step n most terms node m wants room some first (no_step_where_fault n node.state (Got m) fault))
+        | inr fault ↦ inr (no_step n most terms node m wants room some first
+            (no_step_where_fault n node.state (Got m) fault))
       ]
 
-  by_want : (w : Wanted) → w ≡ wanted_of node.state.term node.state.phase node.state.owed → All (λ d. (1 ≤ d) × (d ≤ n)) node.ids → CanCome n node.state w → HasNext n most terms node ⊎ HasNoNext n most terms node
-  by_want Nothing wants all can = inr (leads_last n most terms node (wants_nothing node.state.term node.state.phase node.state.owed wants) (omega (arith, few, ends_nothing node.state.term node.state.phase node.state.owed wants)))
+  by_want : (w : Wanted) → w ≡ wanted_of node.state.term node.state.phase node.state.owed
+      → All (λ d. (1 ≤ d) × (d ≤ n)) node.ids → CanCome n node.state w → HasNext n most terms node
+      ⊎ HasNoNext n most terms node
+  by_want Nothing wants all can =
+      inr (leads_last n most terms node (wants_nothing node.state.term node.state.phase node.state.owed wants)
+      (omega (arith, few, ends_nothing node.state.term node.state.phase node.state.owed wants)))
   by_want WantsYield wants all can = elim (cases_lt node.state.term terms) [
     | inl below ↦ inl (Yield, can.0, next_yield n most terms node can.0 below room can.1)
-    | inr past ↦ inr (leads_last n most terms node (wants_yield node.state.term node.state.phase node.state.owed wants) (omega arith))
+    | inr past ↦ inr (leads_last n most terms node (wants_yield node.state.term node.state.phase node.state.owed wants)
+        (omega arith))
   ]
   by_want WantsDraw wants all can = drawing node.ids refl all wants can
   by_want (Send m) wants all can = inl (Sent m, can.0, next_sent n most terms node m can.0 wants room can.1)
   by_want Receipt wants all can = receiving node.input refl wants
 
-next_or_none : (s : Setup) (node : LoneNode) → KeepsRules s → All (λ d. (1 ≤ d) × (d ≤ s.nodes)) node.ids → HasNext s.nodes s.cap s.terms node ⊎ HasNoNext s.nodes s.cap s.terms node
+next_or_none : (s : Setup) (node : LoneNode) → KeepsRules s → All (λ d. (1 ≤ d) × (d ≤ s.nodes)) node.ids
+    → HasNext s.nodes s.cap s.terms node ⊎ HasNoNext s.nodes s.cap s.terms node
 next_or_none s node rules all = elim (cases_lt (length node.events) s.cap) [
   | inl room ↦
       let w : Wanted = wanted_of node.state.term node.state.phase node.state.owed in
@@ -124,7 +138,8 @@ module _ (n i : ℕ) (after : NodeState) (old : List LoneNode) (two : 2 ≤ n) (
 module _ (s : Setup) (rules : KeepsRules s) where
   -- some node of the first ones has a next event, or none of them has one
   some_next : (nodes : List LoneNode) → IsReached s nodes → (k : ℕ) → k ≤ s.nodes
-      → ((i : ℕ) × (i < s.nodes) × HasNext s.nodes s.cap s.terms (node_at nodes i)) ⊎ ((i : ℕ) → i < k → HasNoNext s.nodes s.cap s.terms (node_at nodes i))
+      → ((i : ℕ) × (i < s.nodes) × HasNext s.nodes s.cap s.terms (node_at nodes i))
+      ⊎ ((i : ℕ) → i < k → HasNoNext s.nodes s.cap s.terms (node_at nodes i))
   some_next nodes reached zero within = inr (λ i l. absurd (omega (arith, l)))
   some_next nodes reached (suc k) within = elim (some_next nodes reached k (omega arith)) [
     | inl found ↦ inl found
@@ -137,7 +152,8 @@ module _ (s : Setup) (rules : KeepsRules s) where
     ]
   ]
 
-  goes_to_end : (k : ℕ) (nodes : List LoneNode) → IsReached s nodes → room_in s.cap nodes < k → (last : List LoneNode) × AreAtEnd s last
+  goes_to_end : (k : ℕ) (nodes : List LoneNode) → IsReached s nodes → room_in s.cap nodes < k → (last : List LoneNode)
+      × AreAtEnd s last
   goes_to_end zero nodes reached room = absurd (omega arith)
   goes_to_end (suc k) nodes reached room = elim (some_next nodes reached s.nodes (omega arith)) [
     | inr none ↦ (nodes, (reached, none))
@@ -147,8 +163,11 @@ module _ (s : Setup) (rules : KeepsRules s) where
         let after : NodeState = found.2.1 in
         let is_next : IsNext s.nodes s.cap s.terms (node_at nodes i) e after = found.2.2 in
         let new = moves s.nodes i after nodes rules.size.0 found.1 reached.many e in
-        let less : room_in s.cap new.0 < room_in s.cap nodes = less_room s.nodes s.cap s.terms i e after nodes new.0 (omega (arith, found.1, reached.many)) new.1 is_next new.2 in
-        goes_to_end k new.0 (turn_reaches s nodes new.0 i e after rules.size.0 found.1 reached is_next new.2 new.1) (omega (arith, less))
+        let less : room_in s.cap new.0 < room_in s.cap nodes =
+        less_room s.nodes s.cap s.terms i e after nodes new.0 (omega (arith, found.1, reached.many)) new.1 is_next
+        new.2 in
+        goes_to_end k new.0 (turn_reaches s nodes new.0 i e after rules.size.0 found.1 reached is_next new.2 new.1)
+        (omega (arith, less))
   ]
 
 -- ---- a full run
@@ -158,12 +177,20 @@ first_nodes s = map (first_node s) (range_with_len 0 s.nodes)
 
 first_reached : (s : Setup) → IsReached s (first_nodes s)
 unfolding first_nodes
-first_reached s = started s (map (first_node s) (range_with_len 0 s.nodes)) (length-map-range_with_len (first_node s) 0 s.nodes)
+first_reached s = started s (map (first_node s) (range_with_len 0 s.nodes))
+    (length-map-range_with_len (first_node s) 0 s.nodes)
     (λ i l. get_or-map-range_with_len (first_node s) 0 s.nodes i i idle l (omega arith))
 
 pub full_run_exists : (s : Setup) → KeepsRules s → (logs : List Log) × AreFullLogs s logs
 full_run_exists s rules =
-    let last = goes_to_end s rules (room_in s.cap (first_nodes s) + 1) (first_nodes s) (first_reached s) (omega arith) in
+    let last = goes_to_end s rules (room_in s.cap (first_nodes s) + 1) (first_nodes s) (first_reached s) (omega arith)
+    in
     let logs : List Log = map (log_at s last.0) (range_with_len 0 s.nodes) in
-    let many : length logs ≡ length last.0 = length-map-range_with_len (log_at s last.0) 0 s.nodes ∙ sym last.1.0.many in
-    (logs, full_logs s last.0 logs rules last.1 (all_logs s last.0 logs many (λ j l. get_or-map-range_with_len (log_at s last.0) 0 s.nodes j j no_log (omega (arith, l, last.1.0.many)) (omega arith))))
+    let many : length logs ≡ length last.0 =
+    length-map-range_with_len (log_at s last.0) 0 s.nodes ∙ sym last.1.0.many in (
+      logs,
+      full_logs s last.0 logs rules last.1
+          (all_logs s last.0 logs many (λ j l.
+          get_or-map-range_with_len (log_at s last.0) 0 s.nodes j j no_log (omega (arith, l, last.1.0.many))
+          (omega arith))),
+    )

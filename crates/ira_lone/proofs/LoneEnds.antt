@@ -1,5 +1,6 @@
 -- A node that has ended can't step.
-use Rattle.std.proofs.Common.{◌≡◌, ℕ, ◌+◌, ◌++◌, ◌<◌, inl, inr, List, [], ◌∷◌, None, length, get_or, refl, sym, subst, ap, length-append, arith}
+use Rattle.std.proofs.Common.{◌≡◌, ℕ, ◌+◌, ◌++◌, ◌<◌, inl, inr, List, [], ◌∷◌, None, length, get_or, refl, sym, subst}
+use Rattle.std.proofs.Common.{ap, length-append, arith}
 use Rattle.std.proofs.lemmas.Bool.{cases_lt}
 use Rattle.std.proofs.lemmas.Option.{get_or_from_slice_get, slice_get_within}
 use Rattle.ira_event.specs.declared.event.Event.{Event}
@@ -24,36 +25,49 @@ use Rattle.ira_lone.proofs.LoneNodes.{choosing_leads_not, first_load, parts}
 use Rattle.ira_lone.proofs.LoneStarts.{each_more}
 use Rattle.ira_lone.proofs.LoneTurns.{read_at}
 
-pub ended_no_event : (n most terms : ℕ) (ids : List ℕ) (node : LoneNode) (end : NodeEnd) → ids ≡ drawn node.events ++ node.ids → Ends n most terms node end
-    → ¬ (IsLastLeader terms node.state) → length node.events < most → HasEvent n terms ids node.state node.events node.input → ⊥
+pub ended_no_event : (n most terms : ℕ) (ids : List ℕ) (node : LoneNode) (end : NodeEnd)
+    → ids ≡ drawn node.events ++ node.ids → Ends n most terms node end
+    → ¬ (IsLastLeader terms node.state) → length node.events < most
+    → HasEvent n terms ids node.state node.events node.input → ⊥
 ended_no_event n most terms ids node Leader left h not_last room event = not_last h
 ended_no_event n most terms ids node Stopped left h not_last room event = h
 ended_no_event n most terms ids node LogFull left h not_last room event = omega (arith, h.1)
-ended_no_event n most terms ids node DrawsSpent left h not_last room (yields leads below) = choosing_no_leader h.1.0 h.1.1 node.state h.1.2 leads
+ended_no_event n most terms ids node DrawsSpent left h not_last room (yields leads below) =
+    choosing_no_leader h.1.0 h.1.1 node.state h.1.2 leads
 ended_no_event n most terms ids node DrawsSpent left h not_last room (owes m o) = let is = h.1.2 in cc
-ended_no_event n most terms ids node DrawsSpent left h not_last room (chooses term round is unused) = omega (arith, ap length left, length-append (drawn node.events) node.ids, ap length h.2)
-ended_no_event n most terms ids node DrawsSpent left h not_last room (receives m others is step) = choosing_no_receipt n h.1.0 h.1.1 node.state m h.1.2 step
-ended_no_event n most terms ids node (NoStep k) left h not_last room (yields leads below) = leader_no_waiting node.state.phase leads h.2
+ended_no_event n most terms ids node DrawsSpent left h not_last room (chooses term round is unused) =
+    omega (arith, ap length left, length-append (drawn node.events) node.ids, ap length h.2)
+ended_no_event n most terms ids node DrawsSpent left h not_last room (receives m others is step) =
+    choosing_no_receipt n h.1.0 h.1.1 node.state m h.1.2 step
+ended_no_event n most terms ids node (NoStep k) left h not_last room (yields leads below) =
+    leader_no_waiting node.state.phase leads h.2
 ended_no_event n most terms ids node (NoStep k) left h not_last room (owes m o) = let is = h.1 in cc
-ended_no_event n most terms ids node (NoStep k) left h not_last room (chooses term round is unused) = choosing_no_waiting term round node.state is h.2
+ended_no_event n most terms ids node (NoStep k) left h not_last room (chooses term round is unused) =
+    choosing_no_waiting term round node.state is h.2
 ended_no_event n most terms ids node (NoStep k) left h not_last room (receives m others is step) =
     let first = h.3.1 in
     let same : m ≡ k = cc in
     let P : Load → Type 0 = λ x. HasStep n node.state (Got x) in
     h.4 (subst P same step)
-ended_no_event n most terms ids node Quiet left h not_last room (yields leads below) = leader_no_waiting node.state.phase leads h.2
+ended_no_event n most terms ids node Quiet left h not_last room (yields leads below) =
+    leader_no_waiting node.state.phase leads h.2
 ended_no_event n most terms ids node Quiet left h not_last room (owes m o) = let is = h.1 in cc
-ended_no_event n most terms ids node Quiet left h not_last room (chooses term round is unused) = choosing_no_waiting term round node.state is h.2
+ended_no_event n most terms ids node Quiet left h not_last room (chooses term round is unused) =
+    choosing_no_waiting term round node.state is h.2
 ended_no_event n most terms ids node Quiet left h not_last room (receives m others is step) = let none = h.3 in cc
 
 -- so it can't step
-pub ended_no_step : (s : Setup) (nodes : List LoneNode) (reached : IsReached s nodes) (i : ℕ) → i < s.nodes → HasNoNext s.nodes s.cap s.terms (node_at nodes i) → ¬ (CanStep s reached.run reached.point i)
+pub ended_no_step : (s : Setup) (nodes : List LoneNode) (reached : IsReached s nodes) (i : ℕ) → i < s.nodes
+    → HasNoNext s.nodes s.cap s.terms (node_at nodes i) → ¬ (CanStep s reached.run reached.point i)
 ended_no_step s nodes reached i l ended can =
     let node : LoneNode = node_at nodes i in
     let P : NodeState → Type 0 = λ x. ¬ (IsLastLeader s.terms x) in
-    let Q : NodeState → Type 0 = λ x. HasEvent s.nodes s.terms (node_draws s i) x (node_at nodes i).events (node_at nodes i).input in
-    let R : List Event → Type 0 = λ x. HasEvent s.nodes s.terms (node_draws s i) (reached.point.state i) x (node_at nodes i).input in
-    let S : List Load → Type 0 = λ x. HasEvent s.nodes s.terms (node_draws s i) (reached.point.state i) (events_at reached.run i) x in
+    let Q : NodeState → Type 0 =
+    λ x. HasEvent s.nodes s.terms (node_draws s i) x (node_at nodes i).events (node_at nodes i).input in
+    let R : List Event → Type 0 =
+    λ x. HasEvent s.nodes s.terms (node_draws s i) (reached.point.state i) x (node_at nodes i).input in
+    let S : List Load → Type 0 =
+    λ x. HasEvent s.nodes s.terms (node_draws s i) (reached.point.state i) (events_at reached.run i) x in
     ended_no_event s.nodes s.cap s.terms (node_draws s i) (node_at nodes i) ended.0 (reached.draws i l) ended.1
     (subst P (reached.states i l) can.not_last)
     (omega (arith, can.room, ap length (reached.events i l)))
@@ -61,48 +75,82 @@ ended_no_step s nodes reached i l ended can =
 
 -- ---- the ends, as the code finds them
 
-spent_ids : (n most terms term round : ℕ) (node : LoneNode) (end : NodeEnd) (ids : List ℕ) → node.ids ≡ ids → Ends n most terms node end → node.state ≡ free term (Choosing round) → length node.events < most → ids ≡ []
+spent_ids : (n most terms term round : ℕ) (node : LoneNode) (end : NodeEnd) (ids : List ℕ) → node.ids ≡ ids
+    → Ends n most terms node end → node.state ≡ free term (Choosing round) → length node.events < most → ids ≡ []
 spent_ids n most terms term round node end [] is ends choosing room = refl
 spent_ids n most terms term round node end (id ∷ ids) is ends choosing room =
-    absurd (ended_no_event n most terms (drawn node.events ++ node.ids) node end refl ends (λ l. choosing_leads_not node.state term round choosing l.0) room
+    absurd (ended_no_event n most terms (drawn node.events ++ node.ids) node end refl ends (λ l.
+    choosing_leads_not node.state term round choosing l.0) room
     (chooses term round choosing (omega (arith, length-append (drawn node.events) node.ids, ap length is))))
 
-pub ends_spent : (n most terms : ℕ) (state : NodeState) (ids : List ℕ) (input : List Load) (events : List Event) (node : LoneNode) → parts state ids input events ≡ node → WantsDraw ≡ wanted_of state.term state.phase state.owed → length events < most
+pub ends_spent : (n most terms : ℕ) (state : NodeState) (ids : List ℕ) (input : List Load) (events : List Event)
+    (node : LoneNode) → parts state ids input events ≡ node → WantsDraw ≡ wanted_of state.term state.phase state.owed
+    → length events < most
     → HasNoNext n most terms node → Ends n most terms node DrawsSpent
 ends_spent n most terms state ids input events node is wants room =
     let P : LoneNode → Type 0 = λ x. HasNoNext n most terms x → Ends n most terms x DrawsSpent in
-    let w : (round : ℕ) × (state ≡ free state.term (Choosing round)) = wants_draw state.term state.phase state.owed wants in
-    subst P is (λ ended. (room, (state.term, w.0, w.1), spent_ids n most terms state.term w.0 (parts state ids input events) ended.0 ids refl ended.1 w.1 room))
+    let w : (round : ℕ) × (state ≡ free state.term (Choosing round)) =
+    wants_draw state.term state.phase state.owed wants in
+    subst P is (λ ended. (
+      room,
+      (state.term, w.0, w.1),
+      spent_ids n most terms state.term w.0 (parts state ids input events) ended.0 ids refl ended.1 w.1 room,
+    ))
 
-pub ends_waiting : (n most terms : ℕ) (state : NodeState) (ids : List ℕ) (input : List Load) (events : List Event) (node : LoneNode) (m : Load) → parts state ids input events ≡ node → Receipt ≡ wanted_of state.term state.phase state.owed → length events < most
+pub ends_waiting : (n most terms : ℕ) (state : NodeState) (ids : List ℕ) (input : List Load) (events : List Event)
+    (node : LoneNode) (m : Load) → parts state ids input events ≡ node
+    → Receipt ≡ wanted_of state.term state.phase state.owed → length events < most
     → 0 < length input → m ≡ get_or input 0 m → HasNoNext n most terms node → Ends n most terms node (NoStep m)
 ends_waiting n most terms state ids input events node m is wants room some first =
     let P : LoneNode → Type 0 = λ x. HasNoNext n most terms x → Ends n most terms x (NoStep m) in
     let w : (state.owed ≡ None) × Receives state.phase = wants_receipt state.term state.phase state.owed wants in
     let f : (rest : List Load) × (input ≡ m ∷ rest) = first_load input m some first in
-    subst P is (λ ended. (room, w.0, w.1, f, λ step. ended_no_event n most terms (drawn events ++ ids) (parts state ids input events) ended.0 refl ended.1 (λ l. receiving_leads_not state.phase w.1 l.0) room (receives m f.0 f.1 step)))
+    subst P is (λ ended. (
+      room,
+      w.0,
+      w.1,
+      f,
+      λ step. ended_no_event n most terms (drawn events
+          ++ ids) (parts state ids input events) ended.0 refl ended.1 (λ l.
+          receiving_leads_not state.phase w.1 l.0) room (receives m f.0 f.1 step),
+    ))
 
-pub owing_goes_on : (n most terms : ℕ) (state : NodeState) (ids : List ℕ) (input : List Load) (events : List Event) (node : LoneNode) (m : Load) → parts state ids input events ≡ node → Send m ≡ wanted_of state.term state.phase state.owed → length events < most
+pub owing_goes_on : (n most terms : ℕ) (state : NodeState) (ids : List ℕ) (input : List Load) (events : List Event)
+    (node : LoneNode) (m : Load) → parts state ids input events ≡ node
+    → Send m ≡ wanted_of state.term state.phase state.owed → length events < most
     → HasNoNext n most terms node → ⊥
 owing_goes_on n most terms state ids input events node m is wants room =
     let P : LoneNode → Type 0 = λ x. HasNoNext n most terms x → ⊥ in
-    subst P is (λ ended. ended_no_event n most terms (drawn events ++ ids) (parts state ids input events) ended.0 refl ended.1 (λ l. owing_leads_not state.term state.phase state.owed m wants l.0) room (owes m (wants_send state.term state.phase state.owed m wants)))
+    subst P is (λ ended. ended_no_event n most terms (drawn events
+    ++ ids) (parts state ids input events) ended.0 refl ended.1 (λ l.
+    owing_leads_not state.term state.phase state.owed m wants l.0) room
+    (owes m (wants_send state.term state.phase state.owed m wants)))
 
-pub ended_at : (s : Setup) (nodes : List LoneNode) (i most terms : ℕ) (node : LoneNode) → AreAtEnd s nodes → i < length nodes → most ≡ s.cap → terms ≡ s.terms → node ≡ get_or nodes i node → HasNoNext s.nodes most terms node
+pub ended_at : (s : Setup) (nodes : List LoneNode) (i most terms : ℕ) (node : LoneNode) → AreAtEnd s nodes
+    → i < length nodes → most ≡ s.cap → terms ≡ s.terms → node ≡ get_or nodes i node → HasNoNext s.nodes most terms node
 ended_at s nodes i most terms node done l room last read =
     let P : ℕ → ℕ → Type 0 = λ x y. HasNoNext s.nodes x y node in
-    subst (λ (y : ℕ). P most y) (sym last) (subst (λ (x : ℕ). P x s.terms) (sym room) (subst (HasNoNext s.nodes s.cap s.terms) (sym (read_at nodes i i node l refl read)) (done.1 i (omega (arith, done.0.many)))))
+    subst (λ (y : ℕ). P most y) (sym last)
+    (subst (λ (x : ℕ). P x s.terms) (sym room)
+    (subst (HasNoNext s.nodes s.cap s.terms) (sym (read_at nodes i i node l refl read))
+    (done.1 i (omega (arith, done.0.many)))))
 
-pub ends_more : (s : Setup) (nodes : List LoneNode) (i most terms : ℕ) (node : LoneNode) (ends : List NodeEnd) (end : NodeEnd) → AreAtEnd s nodes → i < length nodes → most ≡ s.cap → terms ≡ s.terms → node ≡ get_or nodes i node
-    → (HasNoNext s.nodes most terms node → Ends s.nodes most terms node end) → length ends ≡ i → ((j : ℕ) → j < i → Ends s.nodes s.cap s.terms (node_at nodes j) (get_or ends j Quiet))
+pub ends_more : (s : Setup) (nodes : List LoneNode) (i most terms : ℕ) (node : LoneNode) (ends : List NodeEnd)
+    (end : NodeEnd) → AreAtEnd s nodes → i < length nodes → most ≡ s.cap → terms ≡ s.terms → node ≡ get_or nodes i node
+    → (HasNoNext s.nodes most terms node → Ends s.nodes most terms node end) → length ends ≡ i
+    → ((j : ℕ) → j < i → Ends s.nodes s.cap s.terms (node_at nodes j) (get_or ends j Quiet))
     → (j : ℕ) → j < i + 1 → Ends s.nodes s.cap s.terms (node_at nodes j) (get_or (ends ++ end ∷ []) j Quiet)
 ends_more s nodes i most terms node ends end done l room last read so many each =
     let P : ℕ → ℕ → Type 0 = λ x y. Ends s.nodes x y node end in
     let Q : LoneNode → Type 0 = λ x. Ends s.nodes s.cap s.terms x end in
     each_more (λ j x. Ends s.nodes s.cap s.terms (node_at nodes j) x) Quiet ends end i many each
-    (subst Q (read_at nodes i i node l refl read) (subst (λ (y : ℕ). P s.cap y) last (subst (λ (x : ℕ). P x terms) room (so (ended_at s nodes i most terms node done l room last read)))))
+    (subst Q (read_at nodes i i node l refl read)
+    (subst (λ (y : ℕ). P s.cap y) last
+    (subst (λ (x : ℕ). P x terms) room (so (ended_at s nodes i most terms node done l room last read)))))
 
-pub all_ends : (s : Setup) (nodes : List LoneNode) (ends : List NodeEnd) → length ends ≡ length nodes → ((j : ℕ) → j < length nodes → Ends s.nodes s.cap s.terms (node_at nodes j) (get_or ends j Quiet)) → AreEndsOfNodes s nodes ends
+pub all_ends : (s : Setup) (nodes : List LoneNode) (ends : List NodeEnd) → length ends ≡ length nodes
+    → ((j : ℕ) → j < length nodes → Ends s.nodes s.cap s.terms (node_at nodes j) (get_or ends j Quiet))
+    → AreEndsOfNodes s nodes ends
 all_ends s nodes ends many each = (
   many,
   λ i end at.
@@ -111,11 +159,14 @@ all_ends s nodes ends many each = (
 )
 
 -- a leader in a term before the last goes on
-pub leading_goes_on : (n most terms : ℕ) (state : NodeState) (ids : List ℕ) (input : List Load) (events : List Event) (node : LoneNode) → parts state ids input events ≡ node → IsLeader state.phase → ¬ (IsLastLeader terms state) → length events < most
+pub leading_goes_on : (n most terms : ℕ) (state : NodeState) (ids : List ℕ) (input : List Load) (events : List Event)
+    (node : LoneNode) → parts state ids input events ≡ node → IsLeader state.phase → ¬ (IsLastLeader terms state)
+    → length events < most
     → HasNoNext n most terms node → ⊥
 leading_goes_on n most terms state ids input events node is leads not_last room =
     let P : LoneNode → Type 0 = λ x. HasNoNext n most terms x → ⊥ in
     subst P is (λ ended. elim (cases_lt state.term terms) [
-      | inl below ↦ ended_no_event n most terms (drawn events ++ ids) (parts state ids input events) ended.0 refl ended.1 not_last room (yields leads below)
+      | inl below ↦ ended_no_event n most terms (drawn events
+          ++ ids) (parts state ids input events) ended.0 refl ended.1 not_last room (yields leads below)
       | inr past ↦ not_last (leads, omega arith)
     ])

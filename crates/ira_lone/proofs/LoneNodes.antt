@@ -1,5 +1,6 @@
 -- What a node of a lone run does next, or how it ends.
-use Rattle.std.proofs.Common.{◌≡◌, ℕ, suc, Bool, true, false, ◌<◌, ◌≤◌, inl, inr, All, length-append, List, [], ◌∷◌, Option, Some, None, ◌++◌, length, get_or, drop, refl, sym, ◌∙◌, subst, ap, arith}
+use Rattle.std.proofs.Common.{◌≡◌, ℕ, suc, Bool, true, false, ◌<◌, ◌≤◌, inl, inr, All, length-append, List, [], ◌∷◌}
+use Rattle.std.proofs.Common.{Option, Some, None, ◌++◌, length, get_or, drop, refl, sym, ◌∙◌, subst, ap, arith}
 use Rattle.std.specs.Prelude.{nat_lt, if◌then◌else◌}
 use Rattle.std.proofs.lemmas.Bool.Decides.{nat_tests}
 use Rattle.ira_event.specs.Limits.{MAX_NUMBER}
@@ -9,7 +10,8 @@ use Rattle.ira_event.specs.declared.event.Event.TheVariants.{Draw, Sent, Got, Yi
 use Rattle.ira_node.specs.declared.phase.Phase.{Phase}
 use Rattle.ira_node.specs.declared.phase.Phase.TheVariants.{Choosing, Active, Passive, Leader, Yielding}
 use Rattle.ira_node.specs.declared.node_state.NodeState.{NodeState}
-use Rattle.ira_node.specs.declared.wanted.Wanted.TheVariants.{Draw as WantsDraw, Send, Receipt, Yield as WantsYield, Nothing}
+use Rattle.ira_node.specs.declared.wanted.Wanted.TheVariants.{Draw as WantsDraw, Send, Receipt, Yield as WantsYield}
+use Rattle.ira_node.specs.declared.wanted.Wanted.TheVariants.{Nothing}
 use Rattle.ira_node.specs.Wanted.{wanted_of}
 use Rattle.ira_node.specs.NodeStep.{NodeStep, HasStep}
 use Rattle.ira_node.specs.NodeState.{free, IsLeader, Receives}
@@ -19,7 +21,8 @@ use Rattle.ira_run.specs.declared.node_end.NodeEnd.TheVariants.{Leader as Leads,
 use Rattle.ira_lone.specs.LoneNode.{LoneNode, IsNext, HasNoNext, MakesOwn, MakesSending, GoesTo, drawn_by, after_event}
 
 -- a node that is to yield, or that has nothing to do, leads
-pub wants_yield : (term : ℕ) (phase : Phase) (owed : Option Load) → WantsYield ≡ wanted_of term phase owed → IsLeader phase
+pub wants_yield : (term : ℕ) (phase : Phase) (owed : Option Load) → WantsYield ≡ wanted_of term phase owed
+    → IsLeader phase
 wants_yield term (Leader round id) owed h = tt
 wants_yield term (Choosing round) None h = cc
 wants_yield term (Active round id) None h = cc
@@ -30,7 +33,8 @@ wants_yield term (Active round id) (Some m) h = cc
 wants_yield term Passive (Some m) h = cc
 wants_yield term Yielding (Some m) h = cc
 
-pub wants_nothing : (term : ℕ) (phase : Phase) (owed : Option Load) → Nothing ≡ wanted_of term phase owed → IsLeader phase
+pub wants_nothing : (term : ℕ) (phase : Phase) (owed : Option Load) → Nothing ≡ wanted_of term phase owed
+    → IsLeader phase
 wants_nothing term (Leader round id) owed h = tt
 wants_nothing term (Choosing round) None h = cc
 wants_nothing term (Active round id) None h = cc
@@ -42,10 +46,12 @@ wants_nothing term Passive (Some m) h = cc
 wants_nothing term Yielding (Some m) h = cc
 
 -- the last term that a node counts is over for a leader that has nothing to do
-pub ends_nothing : (term : ℕ) (phase : Phase) (owed : Option Load) → Nothing ≡ wanted_of term phase owed → MAX_NUMBER ≤ term
+pub ends_nothing : (term : ℕ) (phase : Phase) (owed : Option Load) → Nothing ≡ wanted_of term phase owed
+    → MAX_NUMBER ≤ term
 ends_nothing term (Leader round id) owed h = by_test (nat_lt term MAX_NUMBER) refl h
   where
-    by_test : (b : Bool) → nat_lt term MAX_NUMBER ≡ b → Nothing ≡ (if b then WantsYield else Nothing) → MAX_NUMBER ≤ term
+    by_test : (b : Bool) → nat_lt term MAX_NUMBER ≡ b → Nothing ≡ (if b then WantsYield else Nothing)
+        → MAX_NUMBER ≤ term
     by_test true less h = absurd cc
     by_test false less h = grind (arith, nat_tests)
 ends_nothing term (Choosing round) None h = cc
@@ -74,43 +80,78 @@ first_load (x ∷ ms) m l h = (ms, cc)
 
 -- ---- the next event, by what the state wants
 
-pub next_draw : (n most terms : ℕ) (node : LoneNode) (id : ℕ) (rest : List ℕ) (after : NodeState) → WantsDraw ≡ wanted_of node.state.term node.state.phase node.state.owed → length node.events < most → node.ids ≡ id ∷ rest → NodeStep n node.state (Draw id) after
+pub next_draw : (n most terms : ℕ) (node : LoneNode) (id : ℕ) (rest : List ℕ) (after : NodeState)
+    → WantsDraw ≡ wanted_of node.state.term node.state.phase node.state.owed → length node.events < most
+    → node.ids ≡ id ∷ rest → NodeStep n node.state (Draw id) after
     → IsNext n most terms node (Draw id) after
 next_draw n most terms node id rest after wants room first step =
-    let w : (round : ℕ) × (node.state ≡ free node.state.term (Choosing round)) = wants_draw node.state.term node.state.phase node.state.owed wants in
-    record { not_last = λ l. choosing_leads_not node.state node.state.term w.0 w.1 l.0; room = room; step = step; first = (rest, first) }
+    let w : (round : ℕ) × (node.state ≡ free node.state.term (Choosing round)) =
+    wants_draw node.state.term node.state.phase node.state.owed wants in
+    record {
+      not_last = λ l. choosing_leads_not node.state node.state.term w.0 w.1 l.0;
+      room = room;
+      step = step;
+      first = (rest, first);
+    }
 
-pub next_got : (n most terms : ℕ) (node : LoneNode) (m : Load) (after : NodeState) → Receipt ≡ wanted_of node.state.term node.state.phase node.state.owed → length node.events < most → 0 < length node.input → m ≡ get_or node.input 0 m → NodeStep n node.state (Got m) after
+pub next_got : (n most terms : ℕ) (node : LoneNode) (m : Load) (after : NodeState)
+    → Receipt ≡ wanted_of node.state.term node.state.phase node.state.owed → length node.events < most
+    → 0 < length node.input → m ≡ get_or node.input 0 m → NodeStep n node.state (Got m) after
     → IsNext n most terms node (Got m) after
 next_got n most terms node m after wants room some first step =
-    let w : (node.state.owed ≡ None) × Receives node.state.phase = wants_receipt node.state.term node.state.phase node.state.owed wants in
-    record { not_last = λ l. receiving_leads_not node.state.phase w.1 l.0; room = room; step = step; first = first_load node.input m some first }
+    let w : (node.state.owed ≡ None) × Receives node.state.phase =
+    wants_receipt node.state.term node.state.phase node.state.owed wants in
+    record {
+      not_last = λ l. receiving_leads_not node.state.phase w.1 l.0;
+      room = room;
+      step = step;
+      first = first_load node.input m some first;
+    }
 
-pub next_sent : (n most terms : ℕ) (node : LoneNode) (m : Load) (after : NodeState) → Send m ≡ wanted_of node.state.term node.state.phase node.state.owed → length node.events < most → NodeStep n node.state (Sent m) after → IsNext n most terms node (Sent m) after
-next_sent n most terms node m after wants room step = record { not_last = λ l. owing_leads_not node.state.term node.state.phase node.state.owed m wants l.0; room = room; step = step; first = tt }
+pub next_sent : (n most terms : ℕ) (node : LoneNode) (m : Load) (after : NodeState)
+    → Send m ≡ wanted_of node.state.term node.state.phase node.state.owed → length node.events < most
+    → NodeStep n node.state (Sent m) after → IsNext n most terms node (Sent m) after
+next_sent n most terms node m after wants room step =
+    record {
+      not_last = λ l. owing_leads_not node.state.term node.state.phase node.state.owed m wants l.0;
+      room = room;
+      step = step;
+      first = tt;
+    }
 
-pub next_yield : (n most terms : ℕ) (node : LoneNode) (after : NodeState) → node.state.term < terms → length node.events < most → NodeStep n node.state Yield after → IsNext n most terms node Yield after
-next_yield n most terms node after below room step = record { not_last = λ l. omega (arith, below, l.1); room = room; step = step; first = tt }
+pub next_yield : (n most terms : ℕ) (node : LoneNode) (after : NodeState) → node.state.term < terms
+    → length node.events < most → NodeStep n node.state Yield after → IsNext n most terms node Yield after
+next_yield n most terms node after below room step =
+    record { not_last = λ l. omega (arith, below, l.1); room = room; step = step; first = tt }
 
 -- ---- no next event, by what the state wants
 
 -- a leader in the last term has ended
-pub leads_last : (n most terms : ℕ) (node : LoneNode) → IsLeader node.state.phase → terms ≤ node.state.term → HasNoNext n most terms node
+pub leads_last : (n most terms : ℕ) (node : LoneNode) → IsLeader node.state.phase → terms ≤ node.state.term
+    → HasNoNext n most terms node
 leads_last n most terms node leads past = (Leads, (leads, past))
 
-pub spent : (n most terms : ℕ) (node : LoneNode) → WantsDraw ≡ wanted_of node.state.term node.state.phase node.state.owed → length node.events < most → length node.ids ≡ 0 → HasNoNext n most terms node
+pub spent : (n most terms : ℕ) (node : LoneNode)
+    → WantsDraw ≡ wanted_of node.state.term node.state.phase node.state.owed → length node.events < most
+    → length node.ids ≡ 0 → HasNoNext n most terms node
 spent n most terms node wants room none =
-    let w : (round : ℕ) × (node.state ≡ free node.state.term (Choosing round)) = wants_draw node.state.term node.state.phase node.state.owed wants in
+    let w : (round : ℕ) × (node.state ≡ free node.state.term (Choosing round)) =
+    wants_draw node.state.term node.state.phase node.state.owed wants in
     (DrawsSpent, (room, (node.state.term, w.0, w.1), no_number node.ids none))
 
-pub no_step : (n most terms : ℕ) (node : LoneNode) (m : Load) → Receipt ≡ wanted_of node.state.term node.state.phase node.state.owed → length node.events < most → 0 < length node.input → m ≡ get_or node.input 0 m → ¬ (HasStep n node.state (Got m)) → HasNoNext n most terms node
+pub no_step : (n most terms : ℕ) (node : LoneNode) (m : Load)
+    → Receipt ≡ wanted_of node.state.term node.state.phase node.state.owed → length node.events < most
+    → 0 < length node.input → m ≡ get_or node.input 0 m → ¬ (HasStep n node.state (Got m)) → HasNoNext n most terms node
 no_step n most terms node m wants room some first none =
-    let w : (node.state.owed ≡ None) × Receives node.state.phase = wants_receipt node.state.term node.state.phase node.state.owed wants in
+    let w : (node.state.owed ≡ None) × Receives node.state.phase =
+    wants_receipt node.state.term node.state.phase node.state.owed wants in
     (NoStep m, (room, w.0, w.1, first_load node.input m some first, none))
 
-pub quiet : (n most terms : ℕ) (node : LoneNode) → Receipt ≡ wanted_of node.state.term node.state.phase node.state.owed → length node.events < most → ¬ (0 < length node.input) → HasNoNext n most terms node
+pub quiet : (n most terms : ℕ) (node : LoneNode) → Receipt ≡ wanted_of node.state.term node.state.phase node.state.owed
+    → length node.events < most → ¬ (0 < length node.input) → HasNoNext n most terms node
 quiet n most terms node wants room none =
-    let w : (node.state.owed ≡ None) × Receives node.state.phase = wants_receipt node.state.term node.state.phase node.state.owed wants in
+    let w : (node.state.owed ≡ None) × Receives node.state.phase =
+    wants_receipt node.state.term node.state.phase node.state.owed wants in
     (Quiet, (room, w.0, w.1, no_load node.input none))
 
 -- ---- the same, as the code holds the parts of a node and its state
@@ -118,36 +159,47 @@ quiet n most terms node wants room none =
 abbrev pub parts : NodeState → List ℕ → List Load → List Event → LoneNode
 parts state ids input events = record { state = state; ids = ids; input = input; events = events }
 
-pub makes_draw : (n most terms : ℕ) (state : NodeState) (ids : List ℕ) (input : List Load) (events : List Event) (node : LoneNode) (held after : NodeState) (id : ℕ) (rest : List ℕ) (pushed : List Event)
-    → parts state ids input events ≡ node → held ≡ node.state → WantsDraw ≡ wanted_of held.term held.phase held.owed → length node.events < most
-    → ids ≡ id ∷ rest → NodeStep n held (Draw id) after → pushed ≡ events ++ Draw id ∷ [] → MakesOwn n most terms node (parts after rest input pushed) (Some after)
+pub makes_draw : (n most terms : ℕ) (state : NodeState) (ids : List ℕ) (input : List Load) (events : List Event)
+    (node : LoneNode) (held after : NodeState) (id : ℕ) (rest : List ℕ) (pushed : List Event)
+    → parts state ids input events ≡ node → held ≡ node.state → WantsDraw ≡ wanted_of held.term held.phase held.owed
+    → length node.events < most
+    → ids ≡ id ∷ rest → NodeStep n held (Draw id) after → pushed ≡ events ++ Draw id ∷ []
+    → MakesOwn n most terms node (parts after rest input pushed) (Some after)
 makes_draw n most terms state ids input events node held after id rest pushed is same wants room first step more =
     let W : NodeState → Type 0 = λ x. WantsDraw ≡ wanted_of x.term x.phase x.owed in
     let S : NodeState → Type 0 = λ x. NodeStep n x (Draw id) after in
     let N : LoneNode → Type 0 = λ x. parts after rest input pushed ≡ after_event x (Draw id) after in (
       Draw id,
       λ m e. cc,
-      next_draw n most terms node id rest after (subst W same wants) room (sym (ap (λ (x : LoneNode). x.ids) is) ∙ first) (subst S same step),
+      next_draw n most terms node id rest after (subst W same wants) room (sym (ap (λ (x : LoneNode). x.ids) is)
+          ∙ first) (subst S same step),
       subst N is (rw (first, more) refl),
     )
 
-pub makes_got : (n most terms : ℕ) (state : NodeState) (ids : List ℕ) (input : List Load) (events : List Event) (node : LoneNode) (held after : NodeState) (m : Load) (rest : List Load) (pushed : List Event)
-    → parts state ids input events ≡ node → held ≡ node.state → Receipt ≡ wanted_of held.term held.phase held.owed → length node.events < most
-    → 0 < length input → m ≡ get_or input 0 m → NodeStep n held (Got m) after → pushed ≡ events ++ Got m ∷ [] → rest ≡ drop 1 input → MakesOwn n most terms node (parts after ids rest pushed) (Some after)
-makes_got n most terms state ids input events node held after m rest pushed is same wants room some first step more behind =
+pub makes_got : (n most terms : ℕ) (state : NodeState) (ids : List ℕ) (input : List Load) (events : List Event)
+    (node : LoneNode) (held after : NodeState) (m : Load) (rest : List Load) (pushed : List Event)
+    → parts state ids input events ≡ node → held ≡ node.state → Receipt ≡ wanted_of held.term held.phase held.owed
+    → length node.events < most
+    → 0 < length input → m ≡ get_or input 0 m → NodeStep n held (Got m) after → pushed ≡ events ++ Got m ∷ []
+    → rest ≡ drop 1 input → MakesOwn n most terms node (parts after ids rest pushed) (Some after)
+makes_got n most terms state ids input events node held after m rest pushed is same wants room some first step more
+    behind =
     let W : NodeState → Type 0 = λ x. Receipt ≡ wanted_of x.term x.phase x.owed in
     let S : NodeState → Type 0 = λ x. NodeStep n x (Got m) after in
     let F : LoneNode → Type 0 = λ x. m ≡ get_or x.input 0 m in
     let N : LoneNode → Type 0 = λ x. parts after ids rest pushed ≡ after_event x (Got m) after in (
       Got m,
       λ k e. cc,
-      next_got n most terms node m after (subst W same wants) room (omega (arith, some, ap (λ (x : LoneNode). length x.input) is)) (subst F is first) (subst S same step),
+      next_got n most terms node m after (subst W same wants) room
+          (omega (arith, some, ap (λ (x : LoneNode). length x.input) is)) (subst F is first) (subst S same step),
       subst N is (rw (behind, more) refl),
     )
 
-pub makes_yield : (n most terms : ℕ) (state : NodeState) (ids : List ℕ) (input : List Load) (events : List Event) (node : LoneNode) (held after : NodeState) (pushed : List Event)
+pub makes_yield : (n most terms : ℕ) (state : NodeState) (ids : List ℕ) (input : List Load) (events : List Event)
+    (node : LoneNode) (held after : NodeState) (pushed : List Event)
     → parts state ids input events ≡ node → held ≡ node.state → held.term < terms → length node.events < most
-    → NodeStep n held Yield after → pushed ≡ events ++ Yield ∷ [] → MakesOwn n most terms node (parts after ids input pushed) (Some after)
+    → NodeStep n held Yield after → pushed ≡ events ++ Yield ∷ []
+    → MakesOwn n most terms node (parts after ids input pushed) (Some after)
 makes_yield n most terms state ids input events node held after pushed is same below room step more =
     let B : NodeState → Type 0 = λ x. x.term < terms in
     let S : NodeState → Type 0 = λ x. NodeStep n x Yield after in
@@ -159,15 +211,19 @@ makes_yield n most terms state ids input events node held after pushed is same b
     )
 
 -- a leader in the last term makes none
-pub yields_none : (n most terms : ℕ) (node : LoneNode) (held : NodeState) → held ≡ node.state → IsLeader held.phase → terms ≤ held.term → HasNoNext n most terms node
+pub yields_none : (n most terms : ℕ) (node : LoneNode) (held : NodeState) → held ≡ node.state → IsLeader held.phase
+    → terms ≤ held.term → HasNoNext n most terms node
 yields_none n most terms node held same leads past =
     let L : NodeState → Type 0 = λ x. IsLeader x.phase in
     let B : NodeState → Type 0 = λ x. terms ≤ x.term in
     leads_last n most terms node (subst L same leads) (subst B same past)
 
-pub makes_sending : (n most terms : ℕ) (state : NodeState) (ids : List ℕ) (input : List Load) (events : List Event) (node : LoneNode) (held after : NodeState) (m : Load) (pushed : List Event)
-    → parts state ids input events ≡ node → held ≡ node.state → Send m ≡ wanted_of held.term held.phase held.owed → length node.events < most
-    → NodeStep n held (Sent m) after → pushed ≡ events ++ Sent m ∷ [] → MakesSending n most terms node (parts after ids input pushed) m
+pub makes_sending : (n most terms : ℕ) (state : NodeState) (ids : List ℕ) (input : List Load) (events : List Event)
+    (node : LoneNode) (held after : NodeState) (m : Load) (pushed : List Event)
+    → parts state ids input events ≡ node → held ≡ node.state → Send m ≡ wanted_of held.term held.phase held.owed
+    → length node.events < most
+    → NodeStep n held (Sent m) after → pushed ≡ events ++ Sent m ∷ []
+    → MakesSending n most terms node (parts after ids input pushed) m
 makes_sending n most terms state ids input events node held after m pushed is same wants room step more =
     let W : NodeState → Type 0 = λ x. Send m ≡ wanted_of x.term x.phase x.owed in
     let S : NodeState → Type 0 = λ x. NodeStep n x (Sent m) after in
@@ -177,29 +233,39 @@ makes_sending n most terms state ids input events node held after m pushed is sa
       subst N is (rw more refl),
     )
 
-pub draws_none : (n most terms : ℕ) (state : NodeState) (ids : List ℕ) (input : List Load) (events : List Event) (node : LoneNode) (held : NodeState) → parts state ids input events ≡ node → held ≡ node.state
-    → WantsDraw ≡ wanted_of held.term held.phase held.owed → length node.events < most → length ids ≡ 0 → HasNoNext n most terms node
+pub draws_none : (n most terms : ℕ) (state : NodeState) (ids : List ℕ) (input : List Load) (events : List Event)
+    (node : LoneNode) (held : NodeState) → parts state ids input events ≡ node → held ≡ node.state
+    → WantsDraw ≡ wanted_of held.term held.phase held.owed → length node.events < most → length ids ≡ 0
+    → HasNoNext n most terms node
 draws_none n most terms state ids input events node held is same wants room none =
     let W : NodeState → Type 0 = λ x. WantsDraw ≡ wanted_of x.term x.phase x.owed in
     spent n most terms node (subst W same wants) room (omega (arith, none, ap (λ (x : LoneNode). length x.ids) is))
 
-pub takes_none : (n most terms : ℕ) (state : NodeState) (ids : List ℕ) (input : List Load) (events : List Event) (node : LoneNode) (held : NodeState) (m : Load) → parts state ids input events ≡ node → held ≡ node.state
-    → Receipt ≡ wanted_of held.term held.phase held.owed → length node.events < most → 0 < length input → m ≡ get_or input 0 m → ¬ (HasStep n held (Got m)) → HasNoNext n most terms node
+pub takes_none : (n most terms : ℕ) (state : NodeState) (ids : List ℕ) (input : List Load) (events : List Event)
+    (node : LoneNode) (held : NodeState) (m : Load) → parts state ids input events ≡ node → held ≡ node.state
+    → Receipt ≡ wanted_of held.term held.phase held.owed → length node.events < most → 0 < length input
+    → m ≡ get_or input 0 m → ¬ (HasStep n held (Got m)) → HasNoNext n most terms node
 takes_none n most terms state ids input events node held m is same wants room some first none =
     let W : NodeState → Type 0 = λ x. Receipt ≡ wanted_of x.term x.phase x.owed in
     let S : NodeState → Type 0 = λ x. ¬ (HasStep n x (Got m)) in
     let F : LoneNode → Type 0 = λ x. m ≡ get_or x.input 0 m in
-    no_step n most terms node m (subst W same wants) room (omega (arith, some, ap (λ (x : LoneNode). length x.input) is)) (subst F is first) (subst S same none)
+    no_step n most terms node m (subst W same wants) room
+    (omega (arith, some, ap (λ (x : LoneNode). length x.input) is)) (subst F is first) (subst S same none)
 
-pub finds_none : (n most terms : ℕ) (state : NodeState) (ids : List ℕ) (input : List Load) (events : List Event) (node : LoneNode) (held : NodeState) → parts state ids input events ≡ node → held ≡ node.state
-    → Receipt ≡ wanted_of held.term held.phase held.owed → length node.events < most → ¬ (0 < length input) → HasNoNext n most terms node
+pub finds_none : (n most terms : ℕ) (state : NodeState) (ids : List ℕ) (input : List Load) (events : List Event)
+    (node : LoneNode) (held : NodeState) → parts state ids input events ≡ node → held ≡ node.state
+    → Receipt ≡ wanted_of held.term held.phase held.owed → length node.events < most → ¬ (0 < length input)
+    → HasNoNext n most terms node
 finds_none n most terms state ids input events node held is same wants room none =
     let W : NodeState → Type 0 = λ x. Receipt ≡ wanted_of x.term x.phase x.owed in
-    quiet n most terms node (subst W same wants) room (λ l. none (omega (arith, l, ap (λ (x : LoneNode). length x.input) is)))
+    quiet n most terms node (subst W same wants) room (λ l.
+    none (omega (arith, l, ap (λ (x : LoneNode). length x.input) is)))
 
 -- ---- a node that goes on
 
-pub stopped : (n most terms k : ℕ) (first old new : LoneNode) (next : Option NodeState) → GoesTo n most terms k first old → MakesOwn n most terms old new next → next ≡ None → ((k : ℕ) × GoesTo n most terms k first new) × HasNoNext n most terms new
+pub stopped : (n most terms k : ℕ) (first old new : LoneNode) (next : Option NodeState)
+    → GoesTo n most terms k first old → MakesOwn n most terms old new next → next ≡ None
+    → ((k : ℕ) × GoesTo n most terms k first new) × HasNoNext n most terms new
 stopped n most terms k first old new (Some after) goes made none = cc
 stopped n most terms k first old new None goes made none = (
   (k, subst (λ (x : LoneNode). GoesTo n most terms k first x) (sym made.1) goes),
@@ -213,14 +279,16 @@ all_behind_drop P (Sent m) ids all = all
 all_behind_drop P (Got m) ids all = all
 all_behind_drop P Yield ids all = all
 
--- what is known behind an event of its own
+-- what is known after an event of its own
 pub record IsFurther (n most terms : ℕ) (first old new : LoneNode) (after : NodeState) : Type 0 where
   pub goes : (k : ℕ) × GoesTo n most terms k first new
   pub state : after ≡ new.state
   pub ids : All (λ d. (1 ≤ d) × (d ≤ n)) new.ids
   pub longer : length old.events < length new.events
 
-pub further : (n most terms k : ℕ) (first old new : LoneNode) (next : Option NodeState) (after : NodeState) → GoesTo n most terms k first old → All (λ d. (1 ≤ d) × (d ≤ n)) old.ids → MakesOwn n most terms old new next → next ≡ Some after → IsFurther n most terms first old new after
+pub further : (n most terms k : ℕ) (first old new : LoneNode) (next : Option NodeState) (after : NodeState)
+    → GoesTo n most terms k first old → All (λ d. (1 ≤ d) × (d ≤ n)) old.ids → MakesOwn n most terms old new next
+    → next ≡ Some after → IsFurther n most terms first old new after
 further n most terms k first old new None after goes ids made is = cc
 further n most terms k first old new (Some t) after goes ids made is =
     let same : t ≡ after = cc in
@@ -228,17 +296,21 @@ further n most terms k first old new (Some t) after goes ids made is =
     record {
       goes = (suc k, (old, goes, (t, made)));
       state = sym same ∙ sym (ap (λ (x : LoneNode). x.state) made.3);
-      ids = subst P (sym (ap (λ (x : LoneNode). x.ids) made.3)) (all_behind_drop (λ d. (1 ≤ d) × (d ≤ n)) made.0 old.ids ids);
+      ids = subst P (sym (ap (λ (x : LoneNode). x.ids) made.3))
+          (all_behind_drop (λ d. (1 ≤ d) × (d ≤ n)) made.0 old.ids ids);
       longer = omega (arith, ap (λ (x : LoneNode). length x.events) made.3, length-append old.events (made.0 ∷ []));
     }
 
-full_by_phase : (n most terms : ℕ) (node : LoneNode) (phase : Phase) → node.state.phase ≡ phase → most ≤ length node.events → HasNoNext n most terms node
+full_by_phase : (n most terms : ℕ) (node : LoneNode) (phase : Phase) → node.state.phase ≡ phase
+    → most ≤ length node.events → HasNoNext n most terms node
 full_by_phase n most terms node (Leader round id) is full = elim (cases_lt node.state.term terms) [
   | inl below ↦ (LogFull, (λ l. omega (arith, below, l.1), full))
   | inr past ↦ (Leads, (subst (λ (x : Phase). IsLeader x) (sym is) tt, omega arith))
 ]
-full_by_phase n most terms node (Choosing round) is full = (LogFull, (λ l. subst (λ (x : Phase). IsLeader x) is l.0, full))
-full_by_phase n most terms node (Active round id) is full = (LogFull, (λ l. subst (λ (x : Phase). IsLeader x) is l.0, full))
+full_by_phase n most terms node (Choosing round) is full =
+    (LogFull, (λ l. subst (λ (x : Phase). IsLeader x) is l.0, full))
+full_by_phase n most terms node (Active round id) is full =
+    (LogFull, (λ l. subst (λ (x : Phase). IsLeader x) is l.0, full))
 full_by_phase n most terms node Passive is full = (LogFull, (λ l. subst (λ (x : Phase). IsLeader x) is l.0, full))
 full_by_phase n most terms node Yielding is full = (LogFull, (λ l. subst (λ (x : Phase). IsLeader x) is l.0, full))
 

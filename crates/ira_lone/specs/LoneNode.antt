@@ -41,8 +41,10 @@ Ends n most terms node DrawsSpent =
     (length node.events < most) × HasToDraw node.state × (node.ids ≡ [])
 Ends n most terms node LogFull = ¬ (IsLastLeader terms node.state) × (most ≤ length node.events)
 Ends n most terms node (NoStep l) =
-    (length node.events < most) × (node.state.owed ≡ None) × Receives node.state.phase × ((rest : List Load) × (node.input ≡ l ∷ rest)) × ¬ (HasStep n node.state (Got l))
-Ends n most terms node Quiet = (length node.events < most) × (node.state.owed ≡ None) × Receives node.state.phase × (node.input ≡ [])
+    (length node.events < most) × (node.state.owed ≡ None) × Receives node.state.phase
+    × ((rest : List Load) × (node.input ≡ l ∷ rest)) × ¬ (HasStep n node.state (Got l))
+Ends n most terms node Quiet = (length node.events < most) × (node.state.owed ≡ None) × Receives node.state.phase
+    × (node.input ≡ [])
 
 -- the node has no next event
 abbrev pub HasNoNext : ℕ → ℕ → ℕ → LoneNode → Type 0
@@ -64,7 +66,12 @@ taken_by Yield = 0
 -- the node after an event
 abbrev pub after_event : LoneNode → Event → NodeState → LoneNode
 after_event node event after =
-    record { state = after; ids = drop (drawn_by event) node.ids; input = drop (taken_by event) node.input; events = node.events ++ event ∷ [] }
+    record {
+      state = after;
+      ids = drop (drawn_by event) node.ids;
+      input = drop (taken_by event) node.input;
+      events = node.events ++ event ∷ [];
+    }
 
 -- the node with one load more on the link that leads to it
 abbrev pub after_put : LoneNode → Load → LoneNode
@@ -89,7 +96,8 @@ MakesSending n most terms old new l =
 abbrev pub GoesTo : ℕ → ℕ → ℕ → ℕ → LoneNode → LoneNode → Type 0
 GoesTo n most terms zero old new = new ≡ old
 GoesTo n most terms (suc k) old new =
-    (node : LoneNode) × GoesTo n most terms k old node × ((after : NodeState) × MakesOwn n most terms node new (Some after))
+    (node : LoneNode) × GoesTo n most terms k old node
+    × ((after : NodeState) × MakesOwn n most terms node new (Some after))
 
 -- events that send nothing, and then the sending of this load, or no next event
 abbrev pub GoesToSending : ℕ → ℕ → ℕ → LoneNode → LoneNode → Option Load → Type 0

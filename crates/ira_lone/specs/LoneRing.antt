@@ -1,5 +1,6 @@
 -- Helpers, no definitions: what the lone runner keeps of the ring, and what a step of it changes.
-use Rattle.std.specs.Prelude.{◌≡◌, ◌≢◌, ℕ, ◌+◌, ◌<◌, ◌⊎◌, List, [], ◌++◌, false, Option, Some, None, length, slice_get, slice_index_or}
+use Rattle.std.specs.Prelude.{◌≡◌, ◌≢◌, ℕ, ◌+◌, ◌<◌, ◌⊎◌, List, [], ◌++◌, false, Option, Some, None, length, slice_get}
+use Rattle.std.specs.Prelude.{slice_index_or}
 use Rattle.ira_event.specs.declared.load.Load.{Load}
 use Rattle.ira_event.specs.declared.event.Event.{Event}
 use Rattle.ira_event.specs.declared.event.Event.TheVariants.{Draw, Sent, Got, Yield}
@@ -76,9 +77,17 @@ AreAtEnd s nodes = IsReached s nodes × ((i : ℕ) → i < s.nodes → HasNoNext
 abbrev pub AreLogsOfNodes : Setup → List LoneNode → List Log → Type 0
 AreLogsOfNodes s nodes logs =
     (length logs ≡ length nodes)
-    × ((i : ℕ) (log : Log) → slice_get logs i ≡ Some log → log ≡ record { version = version_of s.nodes s.terms; nodes = s.nodes; place = i; initiator = is_initiator s i; events = (node_at nodes i).events })
+    × ((i : ℕ) (log : Log) → slice_get logs i ≡ Some log
+    → log ≡ record {
+      version = version_of s.nodes s.terms;
+      nodes = s.nodes;
+      place = i;
+      initiator = is_initiator s i;
+      events = (node_at nodes i).events;
+    })
 
 -- the ends of the nodes
 abbrev pub AreEndsOfNodes : Setup → List LoneNode → List NodeEnd → Type 0
 AreEndsOfNodes s nodes ends =
-    (length ends ≡ length nodes) × ((i : ℕ) (end : NodeEnd) → slice_get ends i ≡ Some end → Ends s.nodes s.cap s.terms (node_at nodes i) end)
+    (length ends ≡ length nodes)
+    × ((i : ℕ) (end : NodeEnd) → slice_get ends i ≡ Some end → Ends s.nodes s.cap s.terms (node_at nodes i) end)

@@ -8,7 +8,13 @@ use Rattle.ira_run.specs.Draws.{draws}
 -- terms
 abbrev pub seeded : ℕ → List Bool → ℕ → ℕ → ℕ → ℕ → Setup
 seeded n kinds seed k cap terms =
-    record { nodes = n; initiators = kinds; draws = map (λ place. draws n seed place k) (range_with_len 0 n); cap = cap; terms = terms }
+    record {
+      nodes = n;
+      initiators = kinds;
+      draws = map (λ place. draws n seed place k) (range_with_len 0 n);
+      cap = cap;
+      terms = terms;
+    }
 
 -- Helper, no definition: a setup is this one, as the code makes it.
 pub record IsSeeded (n : ℕ) (kinds : List Bool) (seed k cap terms : ℕ) (s : Setup) : Type 0 where

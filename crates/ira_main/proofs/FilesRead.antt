@@ -2,14 +2,14 @@
 use Rattle.std.proofs.Common.{◌≡◌, ◌∙◌, ℕ, zero, suc, ◌+◌, ◌<◌, List, [], ◌∷◌, ◌++◌, Err, Ok, Some, ap, append_assoc, arith, drop, inl, inr, length, refl, slice_get, subst, sym, take}
 use Rattle.std.specs.Prelude.{slice_index_or}
 use Rattle.ira_audit.specs.RingAudit.{HasTaken, RingAudit}
+use Rattle.ira_files.specs.FileName.{file_name}
+use Rattle.ira_files.specs.Shelf.{Reading}
+use Rattle.ira_files.specs.declared.file_name.FileName.{FileName}
+use Rattle.ira_files.specs.declared.shelf_fault.ShelfFault.{ShelfFault}
 use Rattle.ira_main.proofs.PartsAt.{parts_at, take_next}
-use Rattle.ira_main.specs.FileName.{file_name}
 use Rattle.ira_main.specs.FilesRead.{HasTakenFiles, IsFilesFault, ReadsFiles, names_of}
 use Rattle.ira_main.specs.ProgramFault.{read_fault}
-use Rattle.ira_main.specs.Shelf.{Reading}
-use Rattle.ira_main.specs.declared.file_name.FileName.{FileName}
 use Rattle.ira_main.specs.declared.program_fault.ProgramFault.{ProgramFault}
-use Rattle.ira_main.specs.declared.shelf_fault.ShelfFault.{ShelfFault}
 
 -- the name at an index
 pub named_at : (names : List FileName) (i : ℕ) (d : FileName) → i < length names → slice_get (names_of names) i ≡ Some (file_name (slice_index_or names i d))
@@ -27,7 +27,7 @@ reads_both reads (n ∷ ns) more shelf [] others none behind = absurd none
 reads_both reads (n ∷ ns) more shelf (t ∷ ts) others front behind =
     (front.0, reads_both reads ns more shelf ts others front.1 behind)
 
--- the fault of some files is one of these and those behind them
+-- the fault of some files is one of these and those after them
 pub of_front : {S : Type 0} (reads : Reading S) (names behind : List (List ℕ)) (shelf : S) (f : ProgramFault)
     → IsFilesFault reads names shelf f → IsFilesFault reads (names ++ behind) shelf f
 of_front reads names behind shelf f (inr full) = inr full
@@ -44,7 +44,7 @@ of_front reads names behind shelf f (inl stop) =
       told = stop.told;
     })
 
--- the fault of some files behind others that were read is one of all of them
+-- the fault of some files after others that were read is one of all of them
 pub of_back : {S : Type 0} (reads : Reading S) (before names : List (List ℕ)) (shelf : S) (texts : List (List ℕ)) (f : ProgramFault)
     → ReadsFiles reads before shelf texts → IsFilesFault reads names shelf f → IsFilesFault reads (before ++ names) shelf f
 of_back reads before names shelf texts f read (inr full) = inr full

@@ -3,7 +3,6 @@ pub mod FilesRead
 pub mod InputAudits
 pub mod LogFiles
 pub mod PartsAt
-pub mod Reading
 pub mod Reporting
 pub mod Shares
 pub mod Unjudged

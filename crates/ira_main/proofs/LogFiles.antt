@@ -3,10 +3,10 @@ use Rattle.std.proofs.Common.{◌≡◌, ℕ, ◌+◌, List, [], ◌∷◌, ◌+
 use Rattle.std.specs.Prelude.{slice_get}
 use Rattle.ira_event.specs.Log.{Log}
 use Rattle.ira_event.specs.LogText.{log_text}
+use Rattle.ira_files.specs.FileName.{log_name}
+use Rattle.ira_files.specs.Shelf.{Writing}
 use Rattle.ira_main.proofs.PartsAt.{take_next}
-use Rattle.ira_main.specs.FileName.{log_name}
 use Rattle.ira_main.specs.LogFiles.{WritesLogs}
-use Rattle.ira_main.specs.Shelf.{Writing}
 
 -- one log more was written
 written_more : {S : Type 0} (writes : Writing S) (folder : List ℕ) (logs : List Log) (log : Log) (a b c : S)

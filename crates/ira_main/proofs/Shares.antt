@@ -4,11 +4,11 @@ use Rattle.std.proofs.Common.{◌≡◌, ◌∙◌, ℕ, zero, suc, ◌+◌, ◌
 use Rattle.std.proofs.Math.Nat.{suc-mul}
 use Rattle.std.proofs.lemmas.List.{drop-drop, length-drop, map-append, take-append-drop}
 use Rattle.ira_audit.specs.RingAudit.{HasTaken, RingAudit}
+use Rattle.ira_files.specs.FileName.{file_name}
+use Rattle.ira_files.specs.Shelf.{Reading}
+use Rattle.ira_files.specs.declared.file_name.FileName.{FileName}
 use Rattle.ira_main.proofs.FilesRead.{of_back, of_front, reads_both}
-use Rattle.ira_main.specs.FileName.{file_name}
 use Rattle.ira_main.specs.FilesRead.{HasRead, HasTakenFiles, IsFilesFault, names_of}
-use Rattle.ira_main.specs.Shelf.{Reading}
-use Rattle.ira_main.specs.declared.file_name.FileName.{FileName}
 use Rattle.ira_main.specs.declared.read_files.Share.{Share}
 use Rattle.ira_main.specs.declared.program_fault.ProgramFault.{ProgramFault}
 
@@ -16,7 +16,7 @@ use Rattle.ira_main.specs.declared.program_fault.ProgramFault.{ProgramFault}
 abbrev pub IsShare : {S A E : Type 0} → Reading S → S → List (List ℕ) → Result (Share A) E → Type 0
 IsShare reads shelf names share = IfOk share (λ share. HasRead reads names shelf share.read share.audit)
 
--- what stands behind a chunk is what stands behind as many names as it has
+-- what stands after a chunk is what stands after as many names as it has
 behind : (size : ℕ) (names : List FileName) → drop (length (take size names)) names ≡ drop size names
 behind zero names = refl
 behind (suc size) [] = refl

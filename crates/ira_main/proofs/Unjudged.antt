@@ -2,16 +2,16 @@
 use Rattle.std.proofs.Common.{◌≡◌, Err, ap, refl, true}
 use Rattle.std.specs.Prelude.{codes}
 use Rattle.ira_event.specs.Sink.{SinkState}
-use Rattle.ira_main.specs.Counted.{Reads}
-use Rattle.ira_main.specs.FileName.{file_name}
+use Rattle.ira_files.specs.Counted.{Reads}
+use Rattle.ira_files.specs.FileName.{file_name}
+use Rattle.ira_files.specs.declared.file_name.FileName.{FileName}
+use Rattle.ira_files.specs.declared.shelf_fault.ShelfFault.{ShelfFault}
+use Rattle.ira_files.specs.declared.shelf_fault.ShelfFault.TheVariants.{Device, OutOfMemory}
 use Rattle.ira_main.specs.Outcome.{Telling}
 use Rattle.ira_main.specs.ProgramFault.{read_fault}
 use Rattle.ira_main.specs.Serve.{Judges}
 use Rattle.ira_main.specs.Serve.Judges.{no_memory, unread}
-use Rattle.ira_main.specs.declared.file_name.FileName.{FileName}
 use Rattle.ira_main.specs.declared.program_fault.ProgramFault.{ProgramFault}
-use Rattle.ira_main.specs.declared.shelf_fault.ShelfFault.{ShelfFault}
-use Rattle.ira_main.specs.declared.shelf_fault.ShelfFault.TheVariants.{Device, OutOfMemory}
 
 -- it wasn't read, whatever would have been told of its answer
 pub unjudged : (Tells : Telling) (name : FileName) (why : ShelfFault) (f : ProgramFault) (old new : Reads) (out : SinkState)

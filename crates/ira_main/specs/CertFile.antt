@@ -3,11 +3,11 @@ use Rattle.std.specs.Prelude.{◌≡◌, ℕ, List, Ok, Err}
 use Rattle.std.specs.Borrow.{Bor}
 use Rattle.ira_cert_text.specs.Certificate.{Certificate}
 use Rattle.ira_cert_text.specs.CertText.{IsCertText, cert_text}
+use Rattle.ira_files.specs.Shelf.{Writing}
+use Rattle.ira_files.specs.declared.shelf_fault.ShelfFault.{ShelfFault}
 use Rattle.ira_main.specs.Outcome.{Outcome}
 use Rattle.ira_main.specs.ProgramFault.{write_fault}
-use Rattle.ira_main.specs.Shelf.{Writing}
 use Rattle.ira_main.specs.declared.program_fault.ProgramFault.TheVariants.{CertificatePastLimits}
-use Rattle.ira_main.specs.declared.shelf_fault.ShelfFault.{ShelfFault}
 use Rattle.ira_main.specs.declared.status.Status.TheVariants.{Yes}
 
 -- what comes of keeping a certificate on a shelf, in a new file of this name: nothing is done where its text is past

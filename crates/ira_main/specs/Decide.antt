@@ -1,23 +1,33 @@
 -- What the program does that is asked to decide a question.
-use Rattle.std.specs.Prelude.{◌≡◌, ◌⊎◌, ℕ, List, ◌∷◌, Option, Some, None, Ok, Err}
+use Rattle.std.specs.Prelude.{◌≡◌, ◌⊎◌, ℕ, List, ◌∷◌, ◌++◌, Option, Some, None, Ok, Err}
 use Rattle.std.specs.Borrow.{Bor}
 use Rattle.ira_event.specs.Sink.{SinkState, Takes, StopsIn}
 use Rattle.ira_cert_text.specs.Certificate.{Certificate}
 use Rattle.ira_audit.specs.Findings.{AreFindings, IsCertificateOf, MakeNoCertificate}
 use Rattle.ira_audit.specs.FindingsText.{findings_text}
 use Rattle.ira_audit.specs.declared.findings.Findings.{Findings}
+use Rattle.ira_explain.specs.Printable.{IsPrintable}
 use Rattle.ira_words.specs.declared.decide_request.DecideRequest.{DecideRequest}
+use Rattle.ira_files.specs.Shelf.{Reading, Writing}
+use Rattle.ira_files.specs.declared.file_name.FileName.{FileName}
 use Rattle.ira_main.specs.CertFile.{KeepsCertificate}
-use Rattle.ira_main.specs.FilesRead.{ReadsFiles, names_of}
-use Rattle.ira_main.specs.Outcome.{Outcome}
-use Rattle.ira_main.specs.Shelf.{Reading, Writing}
-use Rattle.ira_main.specs.declared.file_name.FileName.{FileName}
+use Rattle.ira_main.specs.FilesRead.{IsFilesFault, ReadsFiles, names_of}
+use Rattle.ira_main.specs.Outcome.{Outcome, Prints}
+use Rattle.ira_main.specs.Overwriting.{IsReplacing, KeepsFiles}
+use Rattle.ira_main.specs.Status.{IsFindingsStatus}
+use Rattle.ira_main.specs.declared.program_fault.ProgramFault.{ProgramFault}
 use Rattle.ira_main.specs.declared.program_fault.ProgramFault.TheVariants.{CannotWriteAnswer, OutOfMemory}
+use Rattle.ira_main.specs.declared.status.Status.{Status}
 use Rattle.ira_main.specs.declared.status.Status.TheVariants.{Yes, No}
 
 -- the names of the files to decide of: the question's and the logs'
 abbrev pub decide_names : DecideRequest → List FileName → List (List ℕ)
 decide_names decide names = decide.question.now ∷ names_of names
+
+-- why nothing is decided: the certificate would be written over a file that is read, or the texts weren't had
+abbrev pub IsUndecided : {S : Type 0} → Reading S → DecideRequest → List FileName → S → ProgramFault → Type 0
+IsUndecided reads decide names shelf f =
+    IsReplacing decide.certificate (decide_names decide names) f ⊎ IsFilesFault reads (decide_names decide names) shelf f
 
 -- what comes of findings that were printed: no, where a case is present or they are a refusal; else, without a file's
 -- name, yes, and with one what comes of keeping the certificate there, or there was no memory for it. The shelf is as
@@ -33,17 +43,34 @@ pub data KeepsFindings {A S : Type 0} (writes : Writing S) (findings : Findings 
   no_memory : (file : Bor (List ℕ)) → ¬ (MakeNoCertificate findings) → name ≡ Some file → new ≡ old
       → outcome ≡ Err OutOfMemory → KeepsFindings writes findings name old new outcome
 
--- the files that are named were read; the findings of the texts of the logs and of the question were printed whole, and
--- what comes of them on the shelf is the outcome; or the output stopped within them
+-- the files of a question and of logs were read, and what is found for their texts is told
+pub record DecidesTogether {A S : Type 0} (Tells : Findings A → Type 0) (reads : Reading S) (asked : List ℕ)
+    (names : List FileName) (shelf : S) : Type 0 where
+  pub question : List ℕ
+  pub texts : List (List ℕ)
+  pub given : ReadsFiles reads (asked ∷ names_of names) shelf (question ∷ texts)
+  pub findings : Findings A
+  pub found : AreFindings texts question findings
+  pub told : Tells findings
+
+-- the findings were printed whole, and what comes of them on the shelf is the outcome; or the output stopped within them
+abbrev pub PrintsFindings : {A S : Type 0} → Writing S → Option (Bor (List ℕ)) → S → S → SinkState → SinkState → Outcome
+    → Findings A → Type 0
+PrintsFindings writes name shelf shelf' out out' outcome findings =
+    (Takes (findings_text findings) out out' × KeepsFindings writes findings name shelf shelf' outcome)
+    ⊎ (StopsIn (findings_text findings) out out' × (shelf' ≡ shelf) × (outcome ≡ Err CannotWriteAnswer))
+
+-- the findings were printed, and a page of printable text after them, with their status
+abbrev pub ExplainsFindings : {A : Type 0} → SinkState → SinkState → Outcome → Findings A → Type 0
+ExplainsFindings out out' outcome findings =
+    (page : List ℕ) × IsPrintable page × (status : Status) × IsFindingsStatus findings status
+    × Prints (findings_text findings ++ page) status out out' outcome
+
+-- the certificate would be written over none of the files that are named, and these were read; what is found was printed,
+-- and perhaps kept
 pub record Decides (A : Type 0) {S : Type 0} (reads : Reading S) (writes : Writing S)
     (decide : DecideRequest) (names : List FileName) (shelf shelf' : S) (out out' : SinkState)
     (outcome : Outcome) : Type 0 where
-  pub question : List ℕ
-  pub texts : List (List ℕ)
-  pub given : ReadsFiles reads (decide_names decide names) shelf (question ∷ texts)
-  pub findings : Findings A
-  pub found : AreFindings texts question findings
-  pub printed :
-      (Takes (findings_text findings) out out'
-      × KeepsFindings writes findings decide.certificate shelf shelf' outcome)
-      ⊎ (StopsIn (findings_text findings) out out' × (shelf' ≡ shelf) × (outcome ≡ Err CannotWriteAnswer))
+  pub kept : KeepsFiles decide.certificate (decide_names decide names)
+  pub decided : DecidesTogether {A = A} (PrintsFindings writes decide.certificate shelf shelf' out out' outcome) reads
+      decide.question.now names shelf

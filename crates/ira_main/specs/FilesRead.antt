@@ -2,13 +2,13 @@
 use Rattle.std.specs.Prelude.{◌≡◌, ◌⊎◌, ℕ, ◌≤◌, List, ◌∷◌, ◌++◌, Result, Ok, Err, MatchResult, length, map, take}
 use Rattle.std.specs.List.{AllZip}
 use Rattle.ira_audit.specs.RingAudit.{HasTaken, RingAudit}
-use Rattle.ira_main.specs.FileName.{file_name}
+use Rattle.ira_files.specs.FileName.{file_name}
+use Rattle.ira_files.specs.Shelf.{Reading}
+use Rattle.ira_files.specs.declared.file_name.FileName.{FileName}
+use Rattle.ira_files.specs.declared.shelf_fault.ShelfFault.{ShelfFault}
 use Rattle.ira_main.specs.ProgramFault.{read_fault}
-use Rattle.ira_main.specs.Shelf.{Reading}
-use Rattle.ira_main.specs.declared.file_name.FileName.{FileName}
 use Rattle.ira_main.specs.declared.program_fault.ProgramFault.{ProgramFault}
 use Rattle.ira_main.specs.declared.program_fault.ProgramFault.TheVariants.{OutOfMemory}
-use Rattle.ira_main.specs.declared.shelf_fault.ShelfFault.{ShelfFault}
 
 -- the names, whole
 abbrev pub names_of : List FileName → List (List ℕ)
@@ -18,7 +18,7 @@ names_of names = map file_name names
 abbrev pub ReadsFiles : {S : Type 0} → Reading S → List (List ℕ) → S → List (List ℕ) → Type 0
 ReadsFiles reads names shelf texts = AllZip (λ name text. reads shelf name (Ok text)) names texts
 
--- the files before one were read, and that one gave a fault, of which the program's fault tells. Files behind it may have
+-- the files before one were read, and that one gave a fault, of which the program's fault tells. Files after it may have
 -- been read too, which changes nothing
 pub record StopsReading {S : Type 0} (reads : Reading S) (names : List (List ℕ)) (shelf : S) (f : ProgramFault) : Type 0 where
   pub front : List (List ℕ)

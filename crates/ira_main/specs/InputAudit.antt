@@ -2,7 +2,7 @@
 use Rattle.std.specs.Prelude.{◌≡◌, ℕ, ◌+◌, List, ◌++◌, length}
 use Rattle.ira_audit.specs.LogAudit.{LogAudit, HasTakenBytes}
 
--- an audit of the text's front, what was read behind it, and for how many bytes there is room in all, these among them
+-- an audit of the text's front, what was read after it, and for how many bytes there is room in all, these among them
 pub record InputAudit : Type 0 where
   pub audit : LogAudit
   pub bytes : List ℕ

@@ -1,9 +1,7 @@
 pub mod AskedRun
 pub mod CertFile
 pub mod ProgramFault
-pub mod Counted
 pub mod Decide
-pub mod FileName
 pub mod FilesRead
 pub mod InputAudit
 pub mod LogFiles
@@ -12,10 +10,7 @@ pub mod MendedLines
 pub mod Outcome
 pub mod Overwriting
 pub mod Progress
-pub mod ReadText
 pub mod Serve
-pub mod Shelf
-pub mod ShelfFault
 pub mod SourceNames
 pub mod Status
 pub mod Upgrade

@@ -3,12 +3,12 @@ use Rattle.std.specs.Prelude.{◌≡◌, ◌⊎◌, ℕ, List, [], ◌∷◌, �
 use Rattle.std.specs.Borrow.{Bor}
 use Rattle.ira_event.specs.Log.{Log}
 use Rattle.ira_event.specs.LogText.{log_text}
-use Rattle.ira_main.specs.FileName.{log_name}
+use Rattle.ira_files.specs.FileName.{log_name}
+use Rattle.ira_files.specs.Shelf.{Writing}
+use Rattle.ira_files.specs.declared.shelf_fault.ShelfFault.{ShelfFault}
+use Rattle.ira_files.specs.declared.shelf_fault.ShelfFault.TheVariants.{OutOfMemory}
 use Rattle.ira_main.specs.ProgramFault.{write_log_fault}
-use Rattle.ira_main.specs.Shelf.{Writing}
 use Rattle.ira_main.specs.declared.program_fault.ProgramFault.{ProgramFault}
-use Rattle.ira_main.specs.declared.shelf_fault.ShelfFault.{ShelfFault}
-use Rattle.ira_main.specs.declared.shelf_fault.ShelfFault.TheVariants.{OutOfMemory}
 
 -- the text of each log was written whole to the file of its place in this folder, one after the other
 abbrev pub WritesLogs : {S : Type 0} → Writing S → List ℕ → List Log → S → S → Type 0
@@ -18,7 +18,7 @@ WritesLogs {S} writes folder (log ∷ logs) old new =
     × WritesLogs writes folder logs between new
 
 -- the logs before one were written, and that one wasn't, or there was no memory for the name of its file; no file was
--- made for those behind it
+-- made for those after it
 pub record StopsInLogs {S : Type 0} (writes : Writing S) (folder : Bor (List ℕ)) (logs : List Log)
     (old new : S) (f : ProgramFault) : Type 0 where
   pub front : List Log

@@ -11,14 +11,14 @@ use Rattle.ira_audit.specs.declared.answer.Answer.TheVariants.{No}
 use Rattle.ira_audit.specs.declared.reason.Reason.{Reason}
 use Rattle.ira_audit.specs.declared.reason.Reason.TheVariants.{Match}
 use Rattle.ira_words.specs.declared.rewrite_request.RewriteRequest.{RewriteRequest}
-use Rattle.ira_main.specs.FileName.{file_name}
+use Rattle.ira_files.specs.FileName.{file_name}
+use Rattle.ira_files.specs.Shelf.{Reading, Writing}
+use Rattle.ira_files.specs.declared.file_name.FileName.{FileName}
 use Rattle.ira_main.specs.FilesRead.{IsFilesFault, ReadsFiles, names_of}
 use Rattle.ira_main.specs.LogFiles.{StopsInLogs, WritesLogs}
 use Rattle.ira_main.specs.MendedLines.{mended_lines}
 use Rattle.ira_main.specs.Outcome.{GivesNoAnswer, Outcome, Prints, Reports}
 use Rattle.ira_main.specs.Overwriting.{KeepsInput, Overwrites}
-use Rattle.ira_main.specs.Shelf.{Reading, Writing}
-use Rattle.ira_main.specs.declared.file_name.FileName.{FileName}
 use Rattle.ira_main.specs.declared.program_fault.ProgramFault.{ProgramFault}
 use Rattle.ira_main.specs.declared.program_fault.ProgramFault.TheVariants.{OutOfMemory, WouldOverwrite}
 use Rattle.ira_main.specs.declared.status.Status.TheVariants.{Yes}

@@ -7,12 +7,12 @@ use Rattle.ira_run.specs.declared.run_fault.RunFault.{RunFault}
 use Rattle.ira_run.specs.declared.run_fault.RunFault.TheVariants as run
 use Rattle.ira_words.specs.declared.words_fault.WordsFault.{WordsFault}
 use Rattle.ira_words.specs.declared.words_fault.WordsFault.TheVariants as words
-use Rattle.ira_main.specs.FileName.{file_name}
-use Rattle.ira_main.specs.declared.file_name.FileName.{FileName}
+use Rattle.ira_files.specs.FileName.{file_name}
+use Rattle.ira_files.specs.declared.file_name.FileName.{FileName}
+use Rattle.ira_files.specs.declared.shelf_fault.ShelfFault.{ShelfFault}
+use Rattle.ira_files.specs.declared.shelf_fault.ShelfFault.TheVariants as shelf
 use Rattle.ira_main.specs.declared.program_fault.ProgramFault.{ProgramFault}
 use Rattle.ira_main.specs.declared.program_fault.ProgramFault.TheVariants.{CannotRead, CannotWrite, CannotWriteAnswer, CannotWriteLog, CertificatePastLimits, OutOfMemory, RingSize, RunRefused, WordIsNoText, Words, WouldOverwrite}
-use Rattle.ira_main.specs.declared.shelf_fault.ShelfFault.{ShelfFault}
-use Rattle.ira_main.specs.declared.shelf_fault.ShelfFault.TheVariants as shelf
 
 -- the fault where the file of this name wasn't read
 abbrev pub read_fault : FileName → ShelfFault → ProgramFault

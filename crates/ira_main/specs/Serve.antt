@@ -21,26 +21,28 @@ use Rattle.ira_words.specs.Request.{AskForRun, AskForUpgrade, AskForVersion, May
 use Rattle.ira_words.specs.declared.check_request.CheckRequest.{CheckRequest}
 use Rattle.ira_words.specs.declared.decide_request.DecideRequest.{DecideRequest}
 use Rattle.ira_words.specs.declared.explain_request.ExplainRequest.{ExplainRequest}
+use Rattle.ira_words.specs.declared.explained_answer.ExplainedAnswer.{ExplainedAnswer}
+use Rattle.ira_words.specs.declared.explained_answer.ExplainedAnswer.TheVariants.{OneLog, Logs, Findings, Certificate}
 use Rattle.ira_words.specs.declared.log_source.LogSource.{LogSource}
 use Rattle.ira_words.specs.declared.rewrite_request.RewriteRequest.{RewriteRequest}
 use Rattle.ira_words.specs.declared.run_request.RunRequest.{RunRequest}
 use Rattle.ira_words.specs.declared.words_fault.WordsFault.{WordsFault}
+use Rattle.ira_files.specs.Counted.{Reads}
+use Rattle.ira_files.specs.FileName.{file_name}
+use Rattle.ira_files.specs.ReadText.{IsReadTo}
+use Rattle.ira_files.specs.Shelf.{Reading, Writing}
+use Rattle.ira_files.specs.declared.file_name.FileName.{FileName}
 use Rattle.ira_main.specs.AskedRun.{IsAskedRun, IsAskedRunFault}
-use Rattle.ira_main.specs.Counted.{Reads}
-use Rattle.ira_main.specs.Decide.{Decides, decide_names}
-use Rattle.ira_main.specs.FileName.{file_name}
+use Rattle.ira_main.specs.Decide.{Decides, DecidesTogether, ExplainsFindings, IsUndecided}
 use Rattle.ira_main.specs.FilesRead.{IsFilesFault, ReadsFiles, names_of}
 use Rattle.ira_main.specs.LogFiles.{StopsInLogs, WritesLogs}
 use Rattle.ira_main.specs.Mend.{Mends}
 use Rattle.ira_main.specs.Outcome.{Explains, GivesNoAnswer, Outcome, Prints, Reports, Telling}
 use Rattle.ira_main.specs.ProgramFault.{run_fault, words_fault}
-use Rattle.ira_main.specs.ReadText.{IsReadTo}
-use Rattle.ira_main.specs.Shelf.{Reading, Writing}
 use Rattle.ira_main.specs.SourceNames.{OfSource}
 use Rattle.ira_main.specs.Status.{IsElectionStatus}
 use Rattle.ira_main.specs.Upgrade.{Upgrades}
 use Rattle.ira_main.specs.Version.{version_line}
-use Rattle.ira_main.specs.declared.file_name.FileName.{FileName}
 use Rattle.ira_main.specs.declared.program_fault.ProgramFault.{ProgramFault}
 use Rattle.ira_main.specs.declared.program_fault.ProgramFault.TheVariants.{CannotRead, CannotWriteAnswer, OutOfMemory, RingSize}
 use Rattle.ira_main.specs.declared.status.Status.{Status}
@@ -74,28 +76,29 @@ JudgesLogs Tells reads source shelf out out' outcome =
     ⊎ GivesNoAnswer (IsFilesFault reads (names_of names) shelf) out out' outcome)
 
 -- the names of the files to check: the question's, the certificate's and the logs'
-abbrev pub check_names : CheckRequest → List FileName → List (List ℕ)
-check_names check names = check.question.now ∷ check.certificate.now ∷ names_of names
+abbrev pub check_names : List ℕ → List ℕ → List FileName → List (List ℕ)
+check_names asked certified names = asked ∷ certified ∷ names_of names
 
--- the files that are named were read, the texts of the logs were judged together with the text of the question and the
--- text of the certificate, and their answer reported; after a yes no case of the question is met
-pub record JudgesCertified {S : Type 0} (reads : Reading S) (check : CheckRequest) (names : List FileName) (shelf : S)
-    (out out' : SinkState) (outcome : Outcome) : Type 0 where
+-- the files of a question, a certificate and logs were read, the texts of the logs were judged together with the text of
+-- the question and the text of the certificate, and their answer told; after a yes no case of the question is met
+pub record JudgesCertified (Tells : Telling) {S : Type 0} (reads : Reading S) (asked certified : List ℕ)
+    (names : List FileName) (shelf : S) (out out' : SinkState) (outcome : Outcome) : Type 0 where
   pub question : List ℕ
   pub certificate : List ℕ
   pub texts : List (List ℕ)
-  pub given : ReadsFiles reads (check_names check names) shelf (question ∷ certificate ∷ texts)
+  pub given : ReadsFiles reads (check_names asked certified names) shelf (question ∷ certificate ∷ texts)
   pub answer : Answer
   pub judged : IsAuditAnswer texts question certificate answer
   pub never : answer ≡ audit.Yes → NoCaseIsMet texts question certificate
-  pub reported : Reports answer out out' outcome
+  pub told : Tells answer out out' outcome
 
--- the logs of the source that is named were judged with the question and the certificate; or no answer is given
-abbrev pub JudgesCheck : {S : Type 0} → Reading S → CheckRequest → S → SinkState → SinkState → Outcome → Type 0
-JudgesCheck reads check shelf out out' outcome =
-    OfSource reads check.logs shelf shelf out out' outcome (λ names.
-    JudgesCertified reads check names shelf out out' outcome
-    ⊎ GivesNoAnswer (IsFilesFault reads (check_names check names) shelf) out out' outcome)
+-- the logs of a source were judged with a question and a certificate, and their answer told; or no answer is given
+abbrev pub JudgesCheck : Telling → {S : Type 0} → Reading S → List ℕ → List ℕ → LogSource → S → SinkState → SinkState
+    → Outcome → Type 0
+JudgesCheck Tells reads asked certified source shelf out out' outcome =
+    OfSource reads source shelf shelf out out' outcome (λ names.
+    JudgesCertified Tells reads asked certified names shelf out out' outcome
+    ⊎ GivesNoAnswer (IsFilesFault reads (check_names asked certified names) shelf) out out' outcome)
 
 -- the question is decided of the logs of the source that is named; or no answer is given, and the shelf is as it was
 abbrev pub DecidesLogs : Type 0 → {S : Type 0} → Reading S → Writing S → DecideRequest → S → S → SinkState → SinkState
@@ -103,7 +106,24 @@ abbrev pub DecidesLogs : Type 0 → {S : Type 0} → Reading S → Writing S →
 DecidesLogs A reads writes decide shelf shelf' out out' outcome =
     OfSource reads decide.logs shelf shelf' out out' outcome (λ names.
     Decides A reads writes decide names shelf shelf' out out' outcome
-    ⊎ ((shelf' ≡ shelf) × GivesNoAnswer (IsFilesFault reads (decide_names decide names) shelf) out out' outcome))
+    ⊎ ((shelf' ≡ shelf) × GivesNoAnswer (IsUndecided reads decide names shelf) out out' outcome))
+
+-- a question is decided of the logs of a source, and why what is found is so is told; or no answer is given
+abbrev pub ExplainsQuestion : Type 0 → {S : Type 0} → Reading S → List ℕ → LogSource → S → SinkState → SinkState → Outcome
+    → Type 0
+ExplainsQuestion A reads asked source shelf out out' outcome =
+    OfSource reads source shelf shelf out out' outcome (λ names.
+    DecidesTogether {A = A} (ExplainsFindings out out' outcome) reads asked names shelf
+    ⊎ GivesNoAnswer (IsFilesFault reads (asked ∷ names_of names) shelf) out out' outcome)
+
+-- the answer that is asked for was told with a page; that of one log is none of these, since it comes of the input
+abbrev pub ExplainsAnswer : Type 0 → {S : Type 0} → Reading S → ExplainedAnswer → S → SinkState → SinkState → Outcome → Type 0
+ExplainsAnswer A reads OneLog shelf out out' outcome = ⊥
+ExplainsAnswer A reads (Logs source) shelf out out' outcome = JudgesLogs Explains reads source shelf out out' outcome
+ExplainsAnswer A reads (Findings asked source) shelf out out' outcome =
+    ExplainsQuestion A reads asked.question.now source shelf out out' outcome
+ExplainsAnswer A reads (Certificate question certificate source) shelf out out' outcome =
+    JudgesCheck Explains reads question.now certificate.now source shelf out out' outcome
 
 -- the question whether two nodes of a ring of so many ever lead at once was printed
 pub record AsksPairs (nodes : ℕ) (out out' : SinkState) (outcome : Outcome) : Type 0 where
@@ -142,7 +162,7 @@ pub data Records {S : Type 0} (writes : Writing S) (request : RunRequest) (shelf
   not_run : shelf' ≡ shelf → GivesNoAnswer (IsRunFault request) out out' outcome
       → Records writes request shelf shelf' out out' outcome
 
--- what is done for words: they are refused; or they ask for logs, or for the evidence of these, and their texts are
+-- what is done for words: they are refused; or they ask for logs, or for the evidence of an answer, and their texts are
 -- judged together; or to check logs, and their texts are judged with those of a question and of a certificate; or to
 -- decide a question of them, and it is decided of their texts; or for the question of all pairs, and it is printed; or
 -- for a ring, and it is run; or to upgrade logs, or to mend them, and it is done; or for the version, and it is printed.
@@ -157,11 +177,11 @@ pub data Done (A : Type 0) {S : Type 0} (reads : Reading S) (writes : Writing S)
   judged : (source : LogSource) → AskForLogs words source → shelf' ≡ shelf
       → JudgesLogs Reports reads source shelf out out' outcome
       → Done A reads writes words shelf shelf' out out' outcome
-  explained : (explain : ExplainRequest) (source : LogSource) → AskForEvidence words explain → explain.logs ≡ Some source
-      → shelf' ≡ shelf → JudgesLogs Explains reads source shelf out out' outcome
+  explained : (explain : ExplainRequest) → AskForEvidence words explain → shelf' ≡ shelf
+      → ExplainsAnswer A reads explain.answer shelf out out' outcome
       → Done A reads writes words shelf shelf' out out' outcome
   certified : (check : CheckRequest) → AskForCheck words check → shelf' ≡ shelf
-      → JudgesCheck reads check shelf out out' outcome
+      → JudgesCheck Reports reads check.question.now check.certificate.now check.logs shelf out out' outcome
       → Done A reads writes words shelf shelf' out out' outcome
   decided : (decide : DecideRequest) → AskForDecide words decide
       → DecidesLogs A reads writes decide shelf shelf' out out' outcome
@@ -190,7 +210,7 @@ pub data Serves (A : Type 0) {S : Type 0} (reads : Reading S) (writes : Writing 
     (out out' : SinkState) (outcome : Outcome) : Type 0 where
   without_words : words ≡ [] → shelf' ≡ shelf → Judges Reports input input' out out' outcome
       → Serves A reads writes words input input' shelf shelf' out out' outcome
-  explained : (explain : ExplainRequest) → AskForEvidence words explain → explain.logs ≡ None → shelf' ≡ shelf
+  explained : (explain : ExplainRequest) → AskForEvidence words explain → explain.answer ≡ OneLog → shelf' ≡ shelf
       → Judges Explains input input' out out' outcome
       → Serves A reads writes words input input' shelf shelf' out out' outcome
   with_words : words ≢ [] → input' ≡ input → Done A reads writes words shelf shelf' out out' outcome

@@ -11,10 +11,10 @@ use Rattle.ira_audit.specs.Refusal.{IsTextOrHeadsReason}
 use Rattle.ira_audit.specs.declared.answer.Answer.TheVariants.{No}
 use Rattle.ira_audit.specs.declared.reason.Reason.{Reason}
 use Rattle.ira_words.specs.declared.rewrite_request.RewriteRequest.{RewriteRequest}
+use Rattle.ira_files.specs.Shelf.{Reading, Writing}
 use Rattle.ira_main.specs.FilesRead.{IsFilesFault, ReadsFiles}
 use Rattle.ira_main.specs.LogFiles.{StopsInLogs, WritesLogs}
 use Rattle.ira_main.specs.Outcome.{GivesNoAnswer, Outcome, Prints, Reports}
-use Rattle.ira_main.specs.Shelf.{Reading, Writing}
 use Rattle.ira_main.specs.declared.program_fault.ProgramFault.TheVariants.{OutOfMemory}
 use Rattle.ira_main.specs.declared.status.Status.TheVariants.{Yes}
 

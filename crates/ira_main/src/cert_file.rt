@@ -1,15 +1,14 @@
 ghost use Rattle.std.specs.Prelude.{◌≡◌};
 ghost use Rattle.ira_cert_text.specs.CertText.{cert_text};
+ghost use Rattle.ira_files.specs.Shelf.{WritesFile};
 ghost use Rattle.ira_main.specs.CertFile.{KeepsCertificate};
 ghost use Rattle.ira_main.specs.Outcome.{Outcome, ReportsOutcome, outcome_number};
-ghost use Rattle.ira_main.specs.Shelf.{WritesFile};
 
 use crate::program_fault::{ProgramFault, report_outcome};
-use crate::shelf::Shelf;
-use crate::shelf_fault::ShelfFault;
 use crate::status::Status;
 use ira_cert_text::{Certificate, write_cert};
 use ira_event::Sink;
+use ira_files::{Shelf, ShelfFault};
 use std::alloc::Allocator;
 
 // Writes the text of the certificate to a new file of this name.

@@ -1,17 +1,17 @@
 ghost use Rattle.std.specs.Prelude.{◌≡◌};
+ghost use Rattle.ira_files.specs.Shelf.{WritesFile};
 ghost use Rattle.ira_main.specs.Decide.{KeepsFindings};
 ghost use Rattle.ira_main.specs.Serve.{DecidesLogs};
-ghost use Rattle.ira_main.specs.Shelf.{WritesFile};
 
 use crate::cert_file::keep;
-use crate::file_name::FileName;
+use crate::overwriting::keep_inputs;
 use crate::program_fault::ProgramFault;
 use crate::read_files::{read_file, read_logs};
-use crate::shelf::Shelf;
 use crate::source_names::source_names;
 use crate::status::Status;
 use ira_audit::{Findings, write_findings};
 use ira_event::{MemorySink, Sink, WriteFault, write_bytes};
+use ira_files::{FileName, Shelf};
 use ira_words::DecideRequest;
 use std::alloc::Allocator;
 use std::thread::Threads;
@@ -35,7 +35,8 @@ fn keep_findings<'a, A: Allocator + Clone, F: Shelf>(
 }
 
 /// Reads the question and then the logs, all before one is judged, decides the question, and prints what is found. A
-/// certificate is kept only once that is printed. The lines are put together first, since the output isn't buffered.
+/// certificate is kept only once that is printed, and never over one of these files. The lines are put together first,
+/// since the output isn't buffered.
 pub(crate) fn decide_files<'a, R, A, F, W>(
     rt: &R,
     alloc: A,
@@ -52,6 +53,7 @@ where
         shelf.old shelf.new (W.state out.old) (W.state out.new) result }
 {
     let names = source_names(&alloc, &decide.logs, shelf)?;
+    keep_inputs(&alloc, decide.certificate, Some(decide.question), &names)?;
     let question = read_file(&alloc, FileName::Given(decide.question), shelf)?;
     let audit = read_logs(rt, alloc.clone()?, &names, shelf)?;
     let findings = audit.decide(question.bytes())?;

@@ -1,26 +1,24 @@
 ghost use Rattle.std.specs.Prelude.{◌≡◌, ◌+◌, ◌≤◌, ◌<◌, ◌++◌, true, false, [], List, ℕ, IfOk, IfErr, OnOk, length};
 ghost use Rattle.ira_audit.specs.Answer.{IsAnswer};
 ghost use Rattle.ira_audit.specs.Report.{IsReportable};
-ghost use Rattle.ira_main.specs.ReadText.{IsReadOnce, IsReadTo};
+ghost use Rattle.ira_files.specs.ReadText.{IsReadOnce, IsReadTo};
 
-use crate::counted::Counted;
-use crate::read_text::read_behind;
-use crate::shelf_fault::ShelfFault;
 use ira_audit::{Answer, LogAudit};
 use ira_event::MAX_TEXT;
+use ira_files::{Counted, ShelfFault, read_behind};
 use std::alloc::Allocator;
 use std::io::Read;
 use std::marker::Model;
 
 /// How many bytes of the text are in memory at a time. They are more only where a line is longer, or the text has a fault:
-/// what stands behind a fault is kept to the end.
+/// what stands after a fault is kept to the end.
 const WINDOW: usize = 65_536;
 
 /// Judges the text of one log while it is read.
 #[derive(Drop)]
 struct InputAudit<A: Allocator> {
     audit: LogAudit,
-    /// What was read and not taken by the audit, and behind it what is no part of the text.
+    /// What was read and not taken by the audit, and after it what is no part of the text.
     room: Vec<u8, A>,
     /// How many bytes were read and not taken.
     filled: usize,

@@ -1,23 +1,20 @@
 ghost use Rattle.std.specs.Prelude.{◌≡◌, MatchResult, length};
+ghost use Rattle.ira_files.specs.Shelf.{WritesFile};
 ghost use Rattle.ira_main.specs.FilesRead.{IsFilesFault, names_of};
 ghost use Rattle.ira_main.specs.Mend.{HasRecordedFiles, KeepsMended, Mends};
-ghost use Rattle.ira_main.specs.Shelf.{WritesFile};
 ghost use Rattle.ira_main.specs.SourceNames.{OfSource};
 
-use crate::file_name::FileName;
 use crate::log_files::write_files;
 use crate::mended_lines::write_mended;
 use crate::overwriting::overwritten;
 use crate::program_fault::ProgramFault;
 use crate::read_files::read_into;
 use crate::report::report;
-use crate::shelf::Shelf;
 use crate::source_names::source_names;
 use crate::status::Status;
-use crate::text_buffer::TextBuffer;
-use crate::text_source::TextSource;
 use ira_audit::{Answer, Reason, Refusal};
 use ira_event::{Logs, MemorySink, Sink, WriteFault, write_bytes};
+use ira_files::{FileName, Shelf, TextBuffer, TextSource};
 use ira_mend::{MendFault, RecordedLogs, mend};
 use ira_words::RewriteRequest;
 use std::alloc::Allocator;

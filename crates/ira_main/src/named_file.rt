@@ -1,14 +1,13 @@
-ghost use Rattle.std.specs.Prelude.{◌≡◌, ◌∷◌, [], IfErr, IfOk, Ok};
-ghost use Rattle.ira_main.specs.FileName.{file_name};
-ghost use Rattle.ira_main.specs.FilesRead.{IsFilesFault};
+ghost use Rattle.std.specs.Prelude.{◌≡◌, ◌∷◌, [], IfErr, IfOk, MatchResult, Ok};
+ghost use Rattle.ira_files.specs.FileName.{file_name};
+ghost use Rattle.ira_main.specs.FilesRead.{IsFilesFault, ReadsFiles, names_of};
+ghost use Rattle.ira_views.specs.Texts.{texts_of};
 
-use crate::file_name::FileName;
 use crate::program_fault::ProgramFault;
 use crate::read_files::read_file;
-use crate::text_buffer::TextBuffer;
-use crate::text_source::TextSource;
 use ira_explain::NamedText;
-use std::alloc::Allocator;
+use ira_files::{FileName, TextBuffer, TextSource};
+use std::alloc::{AllocError, Allocator};
 use std::marker::Model;
 
 /// A file that was read: its name, and its text. Contracts see it as the text.
@@ -59,4 +58,35 @@ impl<A: Allocator> NamedFile<A> {
             text: self.text.bytes(),
         }
     }
+}
+
+/// The files of these names, which are read in turn.
+pub(crate) fn read_named<'a, A: Allocator + Clone, F: TextSource>(
+    alloc: &A,
+    names: &[FileName<'a>],
+    shelf: &F,
+) -> Result<Vec<NamedFile<A>, A>, ProgramFault<'a>>
+    ensures { MatchResult result
+        (λ files. ReadsFiles F.reads (names_of names.now) shelf.now files.items)
+        (IsFilesFault F.reads (names_of names.now) shelf.now) }
+{
+    let mut files = Vec::with_capacity(alloc.clone()?, names.len())?;
+    for name in names {
+        files.push(NamedFile::read(alloc, *name, shelf)?)?;
+    }
+    Ok(files)
+}
+
+/// The texts with their names.
+pub(crate) fn named_texts<'t, A: Allocator>(
+    alloc: A,
+    files: &'t [NamedFile<A>],
+) -> Result<Vec<NamedText<'t>, A>, AllocError>
+    ensures { IfOk result (λ named. texts_of named.items ≡ files.now) }
+{
+    let mut named = Vec::with_capacity(alloc, files.len())?;
+    for file in files {
+        named.push(file.named())?;
+    }
+    Ok(named)
 }

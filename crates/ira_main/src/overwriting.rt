@@ -1,10 +1,12 @@
-ghost use Rattle.std.specs.Prelude.{◌↔◌, IfOk, IsTrue, MatchOption, string_bytes};
-ghost use Rattle.ira_main.specs.FileName.{file_name};
+ghost use Rattle.std.specs.Prelude.{◌≡◌, ◌⊎◌, ◌↔◌, IfOk, IsTrue, MatchOption, MatchResult, string_bytes};
+ghost use Rattle.ira_files.specs.FileName.{file_name};
 ghost use Rattle.ira_main.specs.FilesRead.{names_of};
-ghost use Rattle.ira_main.specs.Overwriting.{IsPathOf, IsSamePath, KeepsInput, Overwrites};
+ghost use Rattle.ira_main.specs.Overwriting.{IsPathOf, IsReplacing, IsSamePath, KeepsFiles, KeepsInput, Overwrites, Replaces, ReplacesNone, input_names};
+ghost use Rattle.ira_main.specs.declared.program_fault.ProgramFault.TheVariants.{OutOfMemory};
 
-use crate::file_name::FileName;
+use crate::program_fault::ProgramFault;
 use ira_event::MAX_NODES;
+use ira_files::FileName;
 use std::alloc::{AllocError, Allocator};
 use std::path::Path;
 
@@ -50,4 +52,63 @@ pub(crate) fn overwritten<'a, A: Allocator>(
         }
     }
     Ok(None)
+}
+
+// The first of the names that is, as a path, the one that is written.
+fn replaced<'a, A: Allocator>(
+    alloc: &A,
+    written: &str,
+    names: &[FileName<'a>],
+) -> Result<Option<FileName<'a>>, AllocError>
+    ensures { IfOk result (λ found. MatchOption found
+        (ReplacesNone written.now (names_of names.now))
+        (λ name. Replaces written.now (names_of names.now) (file_name name))) }
+{
+    for name in names {
+        let path = name.path(alloc)?;
+        if are_same_path(alloc, path.as_str(), written)? {
+            return Ok(Some(*name));
+        }
+    }
+    Ok(None)
+}
+
+// The same of the question, if there is one, and the logs.
+fn replaced_input<'a, A: Allocator>(
+    alloc: &A,
+    written: &str,
+    question: Option<&'a str>,
+    logs: &[FileName<'a>],
+) -> Result<Option<FileName<'a>>, AllocError>
+    ensures { IfOk result (λ found. MatchOption found
+        (ReplacesNone written.now (input_names question.entry logs.now))
+        (λ name. Replaces written.now (input_names question.entry logs.now) (file_name name))) }
+{
+    let Some(question) = question else {
+        return replaced(alloc, written, logs);
+    };
+    if are_same_path(alloc, question, written)? {
+        return Ok(Some(FileName::Given(question)));
+    }
+    replaced(alloc, written, logs)
+}
+
+/// Sees that the new file, if one is wanted, is none of those that are read: the question, if there is one, and the logs.
+pub(crate) fn keep_inputs<'a, A: Allocator>(
+    alloc: &A,
+    written: Option<&'a str>,
+    question: Option<&'a str>,
+    logs: &[FileName<'a>],
+) -> Result<(), ProgramFault<'a>>
+    ensures { MatchResult result
+        (λ _. KeepsFiles written.entry (input_names question.entry logs.now))
+        (λ f. IsReplacing written.entry (input_names question.entry logs.now) f ⊎ (f ≡ OutOfMemory)) }
+{
+    let Some(written) = written else {
+        return Ok(());
+    };
+    match replaced_input(alloc, written, question, logs)? {
+        Some(name) => Err(ProgramFault::WouldOverwrite(name)),
+        None => Ok(()),
+    }
 }

@@ -1,13 +1,12 @@
 ghost use Rattle.std.specs.Prelude.{◌≡◌, ◌≤◌, ◌+◌, map};
+ghost use Rattle.ira_files.specs.Shelf.{WritesFile};
 ghost use Rattle.ira_main.specs.Outcome.{Outcome, Reports, ReportsOutcome, outcome_number};
 ghost use Rattle.ira_main.specs.Progress.{ServesOrLeaves};
 ghost use Rattle.ira_main.specs.Serve.{Judges, JudgesCheck, JudgesLogs, Serves};
-ghost use Rattle.ira_main.specs.Shelf.{WritesFile};
 
-use crate::counted::Counted;
 use crate::decide_files::decide_files;
 use crate::explain_files::{explain_files, explain_input};
-use crate::file_name::FileName;
+use crate::explain_question::{explain_check_files, explain_question_files};
 use crate::input_audit::audit_input;
 use crate::mend_files::mend_files;
 use crate::print_pairs::print_pairs;
@@ -16,14 +15,14 @@ use crate::progress::Progress;
 use crate::read_files::{read_file, read_logs};
 use crate::record_run::{record_run_alone, record_run_on_threads};
 use crate::report::report;
-use crate::shelf::Shelf;
 use crate::source_names::source_names;
 use crate::status::Status;
 use crate::upgrade_files::upgrade_files;
 use crate::version::print_version;
 use ira_event::{MAX_TEXT, Sink};
+use ira_files::{Counted, FileName, Shelf};
 use ira_links::OpenGate;
-use ira_words::{CheckRequest, LogSource, Request, read_words};
+use ira_words::{CheckRequest, ExplainRequest, ExplainedAnswer, LogSource, Request, read_words};
 use std::alloc::Allocator;
 use std::io::Read;
 use std::sync::Wait;
@@ -81,7 +80,8 @@ where
     F: Shelf + Sync,
     W: Sink,
     requires depth { check.now.depth ≤ 4 }
-    ensures { JudgesCheck F.reads check.now shelf.now (W.state out.old) (W.state out.new) result }
+    ensures { JudgesCheck Reports F.reads check.now.question.now check.now.certificate.now check.now.logs shelf.now
+        (W.state out.old) (W.state out.new) result }
 {
     let names = source_names(&alloc, &check.logs, shelf)?;
     let question = read_file(&alloc, FileName::Given(check.question), shelf)?;
@@ -92,7 +92,8 @@ where
     report(&answer, out)
 }
 
-/// Does what the words ask for, unless that waits: it leaves a check and a run with a thread for each node. So all else is
+/// Does what the words ask for, unless that waits: it leaves a check, the evidence of one, and a run with a thread for each
+/// node. So all else is
 /// done when it returns, which it does. (The threads that read logs end by themselves.)
 pub fn serve_without_wait<'a, R, A, I, F, W>(
     rt: &R,
@@ -120,9 +121,23 @@ where
     match request {
         Request::OneLog => Progress::Ended(judge_input(alloc, input, out)),
         Request::Logs(source) => Progress::Ended(judge_files(rt, alloc, &source, shelf, out)),
-        Request::Explain(explain) => match &explain.logs {
-            Some(source) => Progress::Ended(explain_files(rt, alloc, source, shelf, out)),
-            None => Progress::Ended(explain_input(alloc, input, out)),
+        Request::Explain(ExplainRequest { answer }) => match answer {
+            ExplainedAnswer::OneLog => Progress::Ended(explain_input(alloc, input, out)),
+            ExplainedAnswer::Logs(logs) => {
+                Progress::Ended(explain_files(rt, alloc, &logs, shelf, out))
+            }
+            ExplainedAnswer::Findings { asked, logs } => {
+                Progress::Ended(explain_question_files(alloc, asked, &logs, shelf, out))
+            }
+            ExplainedAnswer::Certificate {
+                question,
+                certificate,
+                logs,
+            } => Progress::ExplainCheck {
+                question,
+                certificate,
+                logs,
+            },
         },
         Request::Check(check) => Progress::Check(check),
         Request::Decide(decide) => Progress::Ended(decide_files(rt, alloc, &decide, shelf, out)),
@@ -165,11 +180,16 @@ where
     match serve_without_wait(rt, alloc.clone()?, words, input, shelf, out) {
         Progress::Ended(outcome) => outcome,
         Progress::Check(check) => check_files(rt, alloc, &check, shelf, out),
+        Progress::ExplainCheck {
+            question,
+            certificate,
+            logs,
+        } => explain_check_files(rt, alloc, question, certificate, &logs, shelf, out),
         Progress::Run(ring) => record_run_on_threads(rt, alloc, &ring, shelf, out),
     }
 }
 
-/// The program: `words` are those behind its name, `input` is its standard input, the files lie on
+/// The program: `words` are those after its name, `input` is its standard input, the files lie on
 /// `shelf`, and `out` and `err` are its standard streams. It gives the status: 0 yes, every case absent,
 /// a node elected, or logs upgraded or mended; 1 no, a case present, or none elected; 2 refused words, a refused ring, a failed read or
 /// write, or a certificate past the limits; 3 out of memory. A failed write to `err` changes no status.

@@ -1,6 +1,6 @@
 use crate::program_fault::ProgramFault;
 use crate::status::Status;
-use ira_words::{CheckRequest, RunRequest};
+use ira_words::{CheckRequest, LogSource, RunRequest};
 
 /// How far the program comes without waiting.
 #[derive(Drop)]
@@ -9,6 +9,12 @@ pub enum Progress<'a> {
     Ended(Result<Status, ProgramFault<'a>>),
     /// They ask for a check, of which nothing was done.
     Check(CheckRequest<'a>),
+    /// They ask for the evidence of a check, of which nothing was done.
+    ExplainCheck {
+        question: &'a str,
+        certificate: &'a str,
+        logs: LogSource<'a>,
+    },
     /// They ask for a run with a thread for each node, of which nothing was done.
     Run(RunRequest<'a>),
 }

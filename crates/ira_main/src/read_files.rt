@@ -1,13 +1,11 @@
 ghost use Rattle.std.specs.Prelude.{◌≡◌, ◌<◌, ◌≤◌, [], ◌∷◌, Ok, OnOk, IfErr, IfOk, drop, length, take};
-ghost use Rattle.ira_main.specs.FileName.{file_name};
+ghost use Rattle.ira_files.specs.FileName.{file_name};
 ghost use Rattle.ira_main.specs.FilesRead.{HasRead, HasTakenFiles, IsFilesAudit, IsFilesFault, names_of};
 
-use crate::file_name::FileName;
 use crate::program_fault::ProgramFault;
-use crate::text_buffer::TextBuffer;
-use crate::text_source::TextSource;
 use ira_audit::RingAudit;
 use ira_event::OutOfMemory;
+use ira_files::{FileName, TextBuffer, TextSource};
 use std::alloc::Allocator;
 use std::num::NonZeroUsize;
 use std::thread::{self, Threads};

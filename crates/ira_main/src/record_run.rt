@@ -1,15 +1,15 @@
 ghost use Rattle.std.specs.Prelude.{◌≡◌, false, true};
+ghost use Rattle.ira_files.specs.Shelf.{WritesFile};
 ghost use Rattle.ira_main.specs.AskedRun.{IsAskedRun};
 ghost use Rattle.ira_main.specs.Serve.{Records};
-ghost use Rattle.ira_main.specs.Shelf.{WritesFile};
 
 use crate::asked_run::{run_alone, run_on_threads};
 use crate::log_files::write_files;
 use crate::program_fault::ProgramFault;
 use crate::ring_size::ring_size;
-use crate::shelf::Shelf;
 use crate::status::Status;
 use ira_event::{MemorySink, Sink, WriteFault, write_bytes};
+use ira_files::Shelf;
 use ira_ring::{Run, write_ends};
 use ira_words::RunRequest;
 use std::alloc::Allocator;

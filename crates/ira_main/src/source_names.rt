@@ -1,13 +1,12 @@
 ghost use Rattle.std.specs.Prelude.{◌≡◌, IfOk, MatchResult, map};
 ghost use Rattle.std.specs.List.{range_with_len};
+ghost use Rattle.ira_files.specs.declared.file_name.FileName.TheVariants.{Given, Log};
 ghost use Rattle.ira_main.specs.SourceNames.{HasNames, IsNamesFault, SaysLogs};
-ghost use Rattle.ira_main.specs.declared.file_name.FileName.TheVariants.{Given, Log};
 
-use crate::file_name::FileName;
 use crate::program_fault::ProgramFault;
 use crate::read_files::read_file;
-use crate::text_source::TextSource;
 use ira_event::open_log;
+use ira_files::{FileName, TextSource};
 use ira_words::LogSource;
 use std::alloc::{AllocError, Allocator};
 

@@ -1,11 +1,10 @@
 ghost use Rattle.std.specs.Prelude.{◌≤◌, IfOk};
 ghost use Rattle.std.specs.Process.{exit_status};
 
-use crate::counted::Counted;
-use crate::file_shelf::FileShelf;
 use crate::program::serve;
 use crate::program_fault::{ProgramFault, report_outcome};
 use ira_event::{Sink, ToWriter};
+use ira_files::{Counted, FileShelf};
 use std::alloc::{AllocError, Global};
 use std::io::{ErrorKind, Read, Write};
 use std::process::ExitCode;
@@ -14,7 +13,7 @@ use std::sync::Wait;
 use std::thread::Threads;
 use std::time::Clock;
 
-// The words behind the program's name.
+// The words after the program's name.
 fn words_given<R: AllocGlobal + Env>(rt: &R) -> Result<Vec<String>, ProgramFault<'static>> {
     match std::env::args(rt) {
         Ok(words) => Ok(words.skip(1).collect(rt.alloc())?),

@@ -1,6 +1,6 @@
 ghost use Rattle.std.specs.Prelude.{◌≡◌};
+ghost use Rattle.ira_files.specs.Shelf.{WritesFile};
 ghost use Rattle.ira_main.specs.FilesRead.{names_of};
-ghost use Rattle.ira_main.specs.Shelf.{WritesFile};
 ghost use Rattle.ira_main.specs.SourceNames.{OfSource};
 ghost use Rattle.ira_main.specs.Upgrade.{KeepsUpgrades, Upgrades, upgraded_line};
 
@@ -8,11 +8,11 @@ use crate::log_files::write_files;
 use crate::program_fault::ProgramFault;
 use crate::read_files::read_logs;
 use crate::report::report;
-use crate::shelf::Shelf;
 use crate::source_names::source_names;
 use crate::status::Status;
 use ira_audit::{Answer, Refusal};
 use ira_event::{Line, Logs, RingSize, Sink, WriteFault};
+use ira_files::Shelf;
 use ira_words::RewriteRequest;
 use std::alloc::Allocator;
 use std::thread::Threads;

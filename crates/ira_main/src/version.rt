@@ -6,8 +6,8 @@ use crate::program_fault::ProgramFault;
 use crate::status::Status;
 use ira_event::{Sink, WriteFault, write_bytes};
 
-/// The program's version, and the toolchain that proved it, as `rt version` names it.
-const VERSION: &[u8] = b"ira 0.1.0 (proved by rattle-kit-13f logic dac8208d650f15bf)\n";
+/// The program's version, and the logic that it was proved in, as `rt version` names that.
+const VERSION: &[u8] = b"ira 0.1.0 (proved by rattle, logic dac8208d650f15bf)\n";
 
 /// Prints which version this is.
 pub(crate) fn print_version<'a, W: Sink>(out: &mut W) -> Result<Status, ProgramFault<'a>>

@@ -6,7 +6,7 @@ use crate::samples::{
     PAIRS_OF_THREE, TIED_0, TIED_1, TWO_STEPS,
 };
 use crate::words::{TRY_HELP, assert_refused};
-use ira_main::Counted;
+use ira_files::Counted;
 use std::process::Abort;
 use std::sync::Wait;
 use std::thread::Threads;

@@ -7,7 +7,7 @@ use crate::samples::{
     PAIRS_OF_THREE, TWO_CASES, TWO_STEPS,
 };
 use crate::words::{TRY_HELP, assert_refused};
-use ira_main::Counted;
+use ira_files::Counted;
 use std::process::Abort;
 use std::sync::Wait;
 use std::thread::Threads;
@@ -78,6 +78,27 @@ fn files_that_are_refused(rt: HostRuntime) {
         let words = ["decide", "--out=d", "--question", question, log, "1"];
         let file = File::Text("irask 2\n");
         assert_decided(&rt, &words, file, status, out, err, &[]);
+    }
+}
+
+#[test]
+fn certificates_over_an_input(rt: HostRuntime) {
+    // the question that can't be read isn't read
+    for (question, certificate, line) in [
+        ("one", ".//one", "ira: would overwrite one\n"),
+        ("./one", "one", "ira: would overwrite ./one\n"),
+        ("none", "1", "ira: would overwrite 1\n"),
+    ] {
+        let words = [
+            "decide",
+            "--question",
+            question,
+            "--out",
+            certificate,
+            "0",
+            "1",
+        ];
+        assert_decided(&rt, &words, File::Locked, 2, "", line, &[]);
     }
 }
 

@@ -1,11 +1,15 @@
 //! Files, readers and sinks in memory, some of them broken, and the program run over them.
+ghost use Rattle.std.specs.Prelude.{◌≢◌, ◌++◌, All, IfSome, MatchOption};
+ghost use Rattle.ira_main_tests.specs.MemoryFiles.{HasFirst};
 
 use ira_event::{Sink, SinkFault};
-use ira_main::{Counted, Shelf, ShelfFault, TextBuffer, TextSource, serve};
+use ira_files::{Counted, Shelf, ShelfFault, TextBuffer, TextSource};
+use ira_main::serve;
 use ira_refusing::{FailingSink, Refusing};
 use std::alloc::{Allocator, Global};
 use std::io;
 use std::io::{ErrorKind, Read};
+use std::marker::Model;
 use std::process::Abort;
 use std::sync::Wait;
 use std::thread::Threads;
@@ -60,6 +64,23 @@ pub(crate) struct MemoryShelf<'a> {
     written: Vec<NewFile>,
 }
 
+impl<'a> Model for MemoryShelf<'a> {
+    ghost use Rattle.std.specs.Prelude.{None, Some, filter_map, map, string_bytes};
+    ghost use Rattle.ira_main_tests.specs.MemoryFiles.{MemoryFiles};
+    ghost use Rattle.ira_main_tests.specs.declared.fakes.File.TheVariants as file;
+
+    ghost Value = { MemoryFiles };
+
+    ghost view = { λ s. record {
+      written = map (λ f. record { name = string_bytes f.name; bytes = f.bytes.items }) s.written.items;
+      given = filter_map
+          (λ f. elim f.1 [
+            | file.Text text ↦ Some (record { name = f.0.now; bytes = text.now })
+            | _ ↦ None
+          ]) s.files.now;
+    } };
+}
+
 impl<'a> MemoryShelf<'a> {
     pub(crate) fn new(alloc: Global, files: &'a [(&'a str, File<'a>)]) -> MemoryShelf<'a> {
         MemoryShelf {
@@ -72,6 +93,46 @@ impl<'a> MemoryShelf<'a> {
     fn file(&self, name: &str) -> Option<File<'a>> {
         let (_, file) = self.files.iter().find(|file| file.0 == name)?;
         Some(*file)
+    }
+
+    /// The bytes of the first file of this name that was written.
+    fn bytes_written(&self, name: &str) -> Option<&[u8]>
+        ensures { MatchOption result (All (λ file. file.name ≢ name.now) self.now.written)
+            (λ bytes. HasFirst self.now.written name.now bytes.now) }
+    {
+        for i in 0..self.written.len() {
+            let file = &self.written[i];
+            if file.name.as_str() == name {
+                return Some(file.bytes.as_slice());
+            }
+        }
+        None
+    }
+
+    /// The bytes of the first file of this name that is given, where it has a text.
+    fn bytes_given(&self, name: &str) -> Option<&[u8]>
+        ensures { IfSome result (λ bytes. HasFirst self.now.given name.now bytes.now) }
+    {
+        for i in 0..self.files.len() {
+            let (given, file) = self.files[i];
+            if given == name {
+                return match file {
+                    File::Text(text) => Some(text.as_bytes()),
+                    _ => None,
+                };
+            }
+        }
+        None
+    }
+
+    /// The bytes of the first file of this name, of those that were written or else of those that are given.
+    fn bytes_of(&self, name: &str) -> Option<&[u8]>
+        ensures { IfSome result (λ bytes. HasFirst (self.now.written ++ self.now.given) name.now bytes.now) }
+    {
+        match self.bytes_written(name) {
+            Some(bytes) => Some(bytes),
+            None => self.bytes_given(name),
+        }
     }
 
     /// Whether these files were written, in this order, and no other.
@@ -96,17 +157,19 @@ impl<'a> MemoryShelf<'a> {
 }
 
 impl TextSource for MemoryShelf<'_> {
-    ghost use Rattle.std.specs.Prelude.{⊤};
+    ghost use Rattle.std.specs.Prelude.{◌≡◌, ◌+◌, ◌++◌, ℕ, List, MatchResult, ⊤, take};
+    ghost use Rattle.ira_event.specs.Limits.{MAX_TEXT};
+    ghost use Rattle.ira_main_tests.specs.MemoryFiles.{HasFirst};
 
-    ghost reads = { λ _ _ _. ⊤ };
+    // a text is that of the first file of the name, as far as it is read
+    ghost reads = { λ s name result. MatchResult result
+        (λ text. (bytes : List ℕ) × (text ≡ take (MAX_TEXT + 1) bytes) × HasFirst (s.written ++ s.given) name bytes)
+        (λ _. ⊤) };
 
     fn read<A: Allocator>(&self, name: &str, text: &mut TextBuffer<A>) -> Result<(), ShelfFault> {
-        if let Some(file) = self.written.iter().find(|file| file.name.as_str() == name) {
-            return text.fill(&mut Counted::new(file.bytes.as_slice()));
-        }
-        match self.file(name) {
-            Some(File::Text(given)) => text.fill(&mut Counted::new(given.as_bytes())),
-            _ => Err(ShelfFault::Device),
+        match self.bytes_of(name) {
+            Some(bytes) => text.fill(&mut Counted::new(bytes)),
+            None => Err(ShelfFault::Device),
         }
     }
 }
@@ -114,24 +177,18 @@ impl TextSource for MemoryShelf<'_> {
 impl Shelf for MemoryShelf<'_> {
     type Out = NewFile;
 
-    ghost use Rattle.std.specs.Prelude.{◌≡◌, ◌++◌, [], ◌∷◌, None, Some, IfOk, MatchResult, filter_map, map, string_bytes};
-    ghost use Rattle.ira_main_tests.specs.declared.fakes.File.TheVariants as file;
+    ghost use Rattle.std.specs.Prelude.{◌≡◌, ◌++◌, [], ◌∷◌, Some, IfOk, MatchResult, string_bytes};
 
     // those that were written, and those that are given with their text
-    ghost files = { λ s. Some
-        (map (λ f. record { name = string_bytes f.name; bytes = f.bytes.items }) s.written.items
-        ++ filter_map
-        (λ f. elim f.1 [
-          | file.Text text ↦ Some (record { name = f.0.now; bytes = text.now })
-          | _ ↦ None
-        ]) s.files.now) };
+    ghost files = { λ s. Some (s.written ++ s.given) };
 
     ghost creates = { λ old name result new. (new ≡ old)
         × IfOk result (λ file. (string_bytes file.name ≡ name) × (file.bytes.items ≡ [])) };
 
-    ghost closes = { λ old file result new. (new.files ≡ old.files)
-        × MatchResult result (λ _. new.written.items ≡ old.written.items ++ file ∷ [])
-        (λ _. new.written.items ≡ old.written.items) };
+    ghost closes = { λ old file result new. (new.given ≡ old.given)
+        × MatchResult result
+        (λ _. new.written ≡ old.written ++ record { name = string_bytes file.name; bytes = file.bytes.items } ∷ [])
+        (λ _. new.written ≡ old.written) };
 
     fn create(&mut self, name: &str) -> Result<NewFile, ShelfFault> {
         let file = self.file(name);
@@ -173,7 +230,7 @@ impl<'a> Input<'a> {
         Input::new(&[])
     }
 
-    /// An input that ends behind these bytes.
+    /// An input that ends after these bytes.
     pub(crate) fn new(bytes: &'a [u8]) -> Input<'a> {
         Input {
             rest: bytes,
@@ -217,7 +274,7 @@ pub(crate) struct Output {
     pub(crate) err: FailingSink,
 }
 
-/// Serves these words with this memory, where each stream fails once behind so many bytes. All tests call the program
+/// Serves these words with this memory, where each stream fails once after so many bytes. All tests call the program
 /// here, with the same types: what it is made of is compiled once.
 pub(crate) fn served<R>(
     rt: &R,

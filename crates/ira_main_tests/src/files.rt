@@ -2,7 +2,7 @@
 
 use crate::fakes::Memory;
 use ira_event::write_bytes;
-use ira_main::{FileShelf, Shelf, ShelfFault, TextBuffer, TextSource};
+use ira_files::{FileShelf, Shelf, ShelfFault, TextBuffer, TextSource};
 use ira_refusing::each_growth_refused;
 use std::alloc::Allocator;
 use std::fs;

@@ -1,9 +1,11 @@
 //! Logs that a folder names: `--dir`.
 
 use crate::fakes::{File, Input, MemoryShelf, assert_served_on, assert_written};
-use crate::samples::{ELECTED_0, ELECTED_1, LEADER_AND_ACTIVE, TWO_STEPS, UPGRADED_0, UPGRADED_1};
+use crate::samples::{
+    ELECTED_0, ELECTED_1, EXPLAINED, LEADER_AND_ACTIVE, TWO_STEPS, UPGRADED_0, UPGRADED_1,
+};
 use crate::words::{TRY_HELP, USAGE, assert_refused};
-use ira_main::Counted;
+use ira_files::Counted;
 use std::process::Abort;
 use std::sync::Wait;
 use std::thread::Threads;
@@ -17,11 +19,6 @@ const FILES: &[(&str, File<'static>)] = &[
     ("one", File::Text(LEADER_AND_ACTIVE)),
     ("c", File::Text(TWO_STEPS)),
 ];
-
-/// What `explain` prints of the logs in that folder.
-const EXPLAINED: &str =
-    "yes\n\n  Node 0 leads in round 1 with ID 2. 2 nodes, 8 events; 3 messages sent, 3 received, \
-     0 on the way.\n";
 
 #[test]
 fn ring_of_twelve(rt: HostRuntime) {
@@ -117,7 +114,25 @@ fn logs_that_are_named_twice_or_not_at_all(rt: HostRuntime) {
 }
 
 #[test]
+fn options_that_do_not_go_together(rt: HostRuntime) {
+    let alone = "error: --case <K> and --cert <C> need --question <Q>";
+    let both = "error: --case <K> and --cert <C> exclude one another";
+    let logs = "error: the logs are named either by <LOG>... or by --dir <DIR>";
+    for (words, text) in [
+        (&["explain", "--case=0", "0.log"].as_slice(), alone),
+        (&["explain", "--cert=c", "0.log"].as_slice(), alone),
+        (
+            &["explain", "--question=q", "--case=0", "--cert=c", "0.log"].as_slice(),
+            both,
+        ),
+        (&["explain", "--question=q"].as_slice(), logs),
+    ] {
+        assert_refused(&rt, words, text, USAGE);
+    }
+}
+
+#[test]
 fn version(rt: HostRuntime) {
-    let line = "ira 0.1.0 (proved by rattle-kit-13f logic dac8208d650f15bf)\n";
+    let line = "ira 0.1.0 (proved by rattle, logic dac8208d650f15bf)\n";
     assert_written(&rt, &["version"], &[], 0, line, "", &[]);
 }

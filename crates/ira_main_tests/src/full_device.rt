@@ -1,7 +1,7 @@
 //! The program where its output is on a full device.
 
 use crate::fakes::{File, Input, MemoryShelf, NEVER, served_amply};
-use ira_main::Counted;
+use ira_files::Counted;
 use std::process::Abort;
 use std::sync::Wait;
 use std::thread::Threads;

@@ -3,7 +3,8 @@
 use crate::fakes::{MemoryShelf, NEVER};
 use ira_cert_text::{Certificate, Section};
 use ira_event::RingSize;
-use ira_main::{TextBuffer, TextSource, keep_cert};
+use ira_files::{TextBuffer, TextSource};
+use ira_main::keep_cert;
 use ira_refusing::FailingSink;
 use std::alloc::Global;
 use std::process::Abort;

@@ -3,7 +3,7 @@
 use crate::fakes::{File, Input, assert_written};
 use crate::full_device::assert_unanswered;
 use crate::samples::{ELECTED_0, ELECTED_1, SECOND_TERM_0, SECOND_TERM_1};
-use ira_main::Counted;
+use ira_files::Counted;
 use std::process::Abort;
 use std::sync::Wait;
 use std::thread::Threads;
@@ -55,7 +55,7 @@ fn assert_no(
 fn node_killed_in_the_middle(rt: HostRuntime) {
     // its last receipt lacks its sending, and what it kept is whole
     assert_mended(&rt, [ELECTED_0, KILLED_1], [BEGUN_0, BEGUN_1], LINES);
-    // a log that ends behind a line, and one that ends behind its head
+    // a log that ends after a line, and one that ends after its head
     let (begun, _) = BEGUN_1.split_once("end 3").expect(&rt, "an end line");
     assert_mended(&rt, [ELECTED_0, begun], [BEGUN_0, BEGUN_1], LINES);
 }
@@ -79,7 +79,7 @@ fn logs_that_need_no_mending(rt: HostRuntime) {
 
 #[test]
 fn cascade_round_the_ring(rt: HostRuntime) {
-    // each receipt that is given up gives up a sending behind it, three times round
+    // each receipt that is given up gives up a sending after it, three times round
     let first = "irlog 1\nnodes 2\nplace 0\nstart passive\nrecv 1 1 1 clean\nsend 1 1 1 clean\n\
                  recv 1 1 1 clean\nsend 1 1 1 clean\nrecv 1 1 1 clean\nsend 1 1 1 clean\nend 6\n";
     let second = "irlog 1\nnodes 2\nplace 1\nstart passive\nrecv 1 1 1 clean\nrecv 1 1 1 clean\n\

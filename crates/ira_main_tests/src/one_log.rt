@@ -3,7 +3,7 @@
 use crate::fakes::{Input, assert_served};
 use crate::full_device::assert_unanswered;
 use crate::samples::SECOND_TERM_0;
-use ira_main::Counted;
+use ira_files::Counted;
 use std::alloc::Global;
 use std::process::Abort;
 use std::sync::Wait;
@@ -120,7 +120,7 @@ fn input_of_several_reads(rt: HostRuntime) -> Result<(), Fail> {
         ("draw 1\n", "end 19999\n", "no: log 0: count\n", 4),
         ("draw 1\n", "end 20000\nx", "no: log 0: trailing\n", 4),
         ("draw 1\n", "end 20000\n", "no: node 0: event 2: owes\n", 4),
-        // The room grows over what stands behind a fault.
+        // The room grows over what stands after a fault.
         ("draw x\n", "end 20000\n", "no: log 0: line 5\n", 5),
     ] {
         let text = long_text(rt.alloc(), first, end)?;

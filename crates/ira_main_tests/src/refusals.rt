@@ -1,13 +1,13 @@
-//! What the program answers where a growth is refused, or a write of its answer fails behind each byte. What the library of its
+//! What the program answers where a growth is refused, or a write of its answer fails after each byte. What the library of its
 //! command line allocates comes from the system's allocator alone, and is never refused here. What a shelf gives to be read
 //! is in no contract, so that answers are compared.
 
 use crate::fakes::{File, Input, Memory, MemoryShelf, NEVER, Output, served, served_amply};
 use crate::samples::{
-    ELECTED_0, ELECTED_1, LEADER_AND_ACTIVE, PAIRS_OF_THREE, TWO_CASES, TWO_STEPS, UPGRADED_0,
-    UPGRADED_1,
+    ELECTED_0, ELECTED_1, EXPLAINED, LEADER_AND_ACTIVE, PAIRS_OF_THREE, TWO_CASES, TWO_STEPS,
+    UPGRADED_0, UPGRADED_1,
 };
-use ira_main::Counted;
+use ira_files::Counted;
 use ira_refusing::each_growth_refused;
 use std::process::Abort;
 use std::sync::Wait;
@@ -72,6 +72,34 @@ const CASES: &[Case] = &[
         words: &["logs", "1.log", "0.log"],
         status: 1,
         out: "no: heads: place 0\n",
+        err: "",
+        written: &[],
+    },
+    Case {
+        words: &["explain", "--dir=ring"],
+        status: 0,
+        out: EXPLAINED,
+        err: "",
+        written: &[],
+    },
+    Case {
+        words: &["explain", "--question=two", "--case=1", "0.log", "1.log"],
+        status: 1,
+        out: "case 0: absent, 2 steps, node 1 spent\ncase 1: present at 2 3\n\n  \
+              case 1 (0: active, 1: passive)\n    \
+              Of the moments that meet it this is the first: each other is there or later at every node.\n    \
+              node 0  asked active   is active in round 1 with ID 2, behind 0.log:6: send 1 2 1 clean\n    \
+              node 1  asked passive  is passive, owes 1 2 2 clean, behind 1.log:7: recv 1 2 1 clean\n    \
+              On their way: 1 1 1 clean from node 1.\n    \
+              The way there: ira show --events --question two --case 1 LOG..\n",
+        err: "",
+        written: &[],
+    },
+    Case {
+        words: &["explain", "--question=one", "--cert=c", "0.log", "1.log"],
+        status: 0,
+        out: "yes\n\n  Node 0 leads in round 1 with ID 2. 2 nodes, 8 events; 3 messages sent, 3 received, \
+              0 on the way.\n  1 case, 2 steps: no moment of any order of these events met any case.\n",
         err: "",
         written: &[],
     },
@@ -204,7 +232,7 @@ where
     if is_told && found.status == case.status && shelf.has_written(case.written) {
         return Some(true);
     }
-    // behind its findings it may give up while it makes the certificate of them
+    // after its findings it may give up while it makes the certificate of them
     let is_cut = out.is_empty() || is_whole && case.is_of("decide");
     (case.gives_up(&found) && is_cut).then_some(false)
 }

@@ -3,7 +3,7 @@
 use crate::fakes::{File, Input, MemoryShelf, NEVER, Output, assert_served_on, served_amply};
 use crate::full_device::assert_unanswered;
 use crate::samples::{ELECTED_0, ELECTED_1, LONE_0, LONE_1, LONE_2, SECOND_TERM_0, SECOND_TERM_1};
-use ira_main::Counted;
+use ira_files::Counted;
 use std::alloc::{AllocError, Global};
 use std::process::Abort;
 use std::sync::Wait;

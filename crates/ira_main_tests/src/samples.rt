@@ -72,3 +72,8 @@ pub(crate) const PAIRS_OF_THREE: &str =
 /// The certificate that they didn't where node 0 alone initiated.
 pub(crate) const NO_PAIR_OF_THREE: &str =
     "ircert 1\nnodes 3\nsection\nspent 1\nsection\nspent 2\nsection\nspent 1\nend\n";
+
+/// What `explain` prints of the first two.
+pub(crate) const EXPLAINED: &str =
+    "yes\n\n  Node 0 leads in round 1 with ID 2. 2 nodes, 8 events; 3 messages sent, 3 received, \
+     0 on the way.\n";

@@ -3,7 +3,7 @@
 use crate::fakes::{File, Input, assert_written};
 use crate::full_device::assert_unanswered;
 use crate::samples::{ELECTED_0, ELECTED_1, SECOND_TERM_0, SECOND_TERM_1, UPGRADED_0, UPGRADED_1};
-use ira_main::Counted;
+use ira_files::Counted;
 use std::process::Abort;
 use std::sync::Wait;
 use std::thread::Threads;

@@ -1,7 +1,7 @@
 //! Words that are refused, and what is said of them.
 
 use crate::fakes::{Input, MemoryShelf, NEVER, assert_served, served_amply};
-use ira_main::Counted;
+use ira_files::Counted;
 use std::process::Abort;
 use std::sync::Wait;
 use std::thread::Threads;
@@ -9,6 +9,7 @@ use std::time::Clock;
 
 pub(crate) const USAGE: &str =
     "\n\nUsage: ira < LOG\n       ira logs <LOGS>\n       ira explain [<LOGS>]\n       \
+                     ira explain --question <Q> [--case <K> | --cert <C>] <LOGS>\n       \
                      ira check --question <Q> --cert <C> [--depth <D>] <LOGS>\n       \
                      ira decide --question <Q> [--out <C>] <LOGS>\n       \
                      ira pairs <N>\n       \
@@ -53,6 +54,7 @@ fn words_that_are_no_command(rt: HostRuntime) {
 fn help_is_a_refused_word(rt: HostRuntime) {
     let help = "Judges and makes logs of Itai-Rodeh elections on anonymous rings.\n\n\
                 Usage: ira < LOG\n       ira logs <LOGS>\n       ira explain [<LOGS>]\n       \
+                ira explain --question <Q> [--case <K> | --cert <C>] <LOGS>\n       \
                 ira check --question <Q> --cert <C> [--depth <D>] <LOGS>\n       \
                 ira decide --question <Q> [--out <C>] <LOGS>\n       \
                 ira pairs <N>\n       \

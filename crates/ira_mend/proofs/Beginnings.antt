@@ -1,5 +1,6 @@
 -- A beginning of a log, an event longer or shorter.
-use Rattle.std.proofs.Common.{◌≡◌, ℕ, ◌+◌, ◌-◌, ◌<◌, ◌≤◌, inl, inr, List, [], ◌∷◌, length, refl, sym, ◌∙◌, ap, subst, arith, drop, take, Option, Some}
+use Rattle.std.proofs.Common.{◌≡◌, ℕ, ◌+◌, ◌-◌, ◌<◌, ◌≤◌, inl, inr, List, [], ◌∷◌, length, refl, sym, ◌∙◌, ap, subst}
+use Rattle.std.proofs.Common.{arith, drop, take, Option, Some}
 use Rattle.std.specs.List.{filter_map, cons_option}
 use Rattle.std.specs.Prelude.{slice_get}
 use Rattle.std.proofs.lemmas.Bool.{cases_eq}
@@ -14,10 +15,12 @@ use Rattle.ira_order.proofs.Receipts.{next_ahead}
 use Rattle.ira_mend.specs.Longest.{IsBeginning, IsLongestWith}
 use Rattle.ira_mend.specs.declared.beginning.Beginning.{Beginning}
 
-rank_next : (h : Event → Option Load) (es : List Event) (n : ℕ) (e : Event) → slice_get es n ≡ Some e → length (filter_map h (take (n + 1) es)) ≡ length (filter_map h (take n es)) + length (cons_option (h e) [])
+rank_next : (h : Event → Option Load) (es : List Event) (n : ℕ) (e : Event) → slice_get es n ≡ Some e
+    → length (filter_map h (take (n + 1) es)) ≡ length (filter_map h (take n es)) + length (cons_option (h e) [])
 rank_next h es n e is =
     rank_more h es n (Draw 0) (slice_get_within es n e is)
-    ∙ ap (λ (x : Event). length (filter_map h (take n es)) + length (cons_option (h x) [])) (get_or_from_slice_get es n e (Draw 0) is)
+    ∙ ap (λ (x : Event). length (filter_map h (take n es)) + length (cons_option (h x) []))
+    (get_or_from_slice_get es n e (Draw 0) is)
 
 -- the events from the first on, one by one: so many were counted, and these are left
 pub record Counting (es : List Event) (n r s : ℕ) (rest : List Event) : Type 0 where
@@ -29,7 +32,8 @@ pub record Counting (es : List Event) (n r s : ℕ) (rest : List Event) : Type 0
 pub counting_none : (es : List Event) → Counting es 0 0 0 es
 counting_none es = record { within = omega arith; receipts = refl; sendings = refl; left = refl }
 
-pub counting_more : (es : List Event) (n r s r' s' : ℕ) (e : Event) (rest rest' : List Event) → Counting es n r s rest → rest ≡ e ∷ rest' → r' ≡ r + got_by e → s' ≡ s + sent_by e → Counting es (n + 1) r' s' rest'
+pub counting_more : (es : List Event) (n r s r' s' : ℕ) (e : Event) (rest rest' : List Event) → Counting es n r s rest
+    → rest ≡ e ∷ rest' → r' ≡ r + got_by e → s' ≡ s + sent_by e → Counting es (n + 1) r' s' rest'
 counting_more es n r s r' s' e rest rest' c next re se =
     let ahead = next_ahead es n e rest' (sym next ∙ c.left) in
     record {
@@ -41,16 +45,21 @@ counting_more es n r s r' s' e rest rest' c next re se =
 
 -- fewer receipts, and fewer sendings, than events
 pub few_counted : (es : List Event) (n r s : ℕ) (rest : List Event) → Counting es n r s rest → (r ≤ n) × (s ≤ n)
-few_counted es n r s rest c = (omega (arith, c.receipts, rank_le receipt es n), omega (arith, c.sendings, rank_le sending es n))
+few_counted es n r s rest c =
+    (omega (arith, c.receipts, rank_le receipt es n), omega (arith, c.sendings, rank_le sending es n))
 
 -- a beginning without its last event
-pub one_less : (es : List Event) (b b' : Beginning) (e : Event) → IsBeginning es b → 1 ≤ b.events → slice_get es (b.events - 1) ≡ Some e → b'.events ≡ b.events - 1 → b.receipts ≡ b'.receipts + got_by e → b.sendings ≡ b'.sendings + sent_by e → IsBeginning es b'
+pub one_less : (es : List Event) (b b' : Beginning) (e : Event) → IsBeginning es b → 1 ≤ b.events
+    → slice_get es (b.events - 1) ≡ Some e → b'.events ≡ b.events - 1 → b.receipts ≡ b'.receipts + got_by e
+    → b.sendings ≡ b'.sendings + sent_by e → IsBeginning es b'
 one_less es b b' e is some at ev re se =
     let back : (b.events - 1) + 1 ≡ b.events = omega arith in
     let gots : length (got (take b.events es)) ≡ length (got (take (b.events - 1) es)) + got_by e =
-    subst (λ n. length (got (take n es)) ≡ length (got (take (b.events - 1) es)) + got_by e) back (rank_next receipt es (b.events - 1) e at) in
+    subst (λ n. length (got (take n es)) ≡ length (got (take (b.events - 1) es)) + got_by e) back
+    (rank_next receipt es (b.events - 1) e at) in
     let sents : length (sent (take b.events es)) ≡ length (sent (take (b.events - 1) es)) + sent_by e =
-    subst (λ n. length (sent (take n es)) ≡ length (sent (take (b.events - 1) es)) + sent_by e) back (rank_next sending es (b.events - 1) e at) in
+    subst (λ n. length (sent (take n es)) ≡ length (sent (take (b.events - 1) es)) + sent_by e) back
+    (rank_next sending es (b.events - 1) e at) in
     record {
       within = omega (arith, is.within);
       receipts = rw ev (omega (arith, is.receipts, gots, re));
@@ -58,13 +67,16 @@ one_less es b b' e is some at ev re se =
     }
 
 -- what the last event adds is in the beginning
-pub holds_last : (es : List Event) (b : Beginning) (e : Event) → IsBeginning es b → 1 ≤ b.events → slice_get es (b.events - 1) ≡ Some e → (got_by e ≤ b.receipts) × (sent_by e ≤ b.sendings)
+pub holds_last : (es : List Event) (b : Beginning) (e : Event) → IsBeginning es b → 1 ≤ b.events
+    → slice_get es (b.events - 1) ≡ Some e → (got_by e ≤ b.receipts) × (sent_by e ≤ b.sendings)
 holds_last es b e is some at =
     let back : (b.events - 1) + 1 ≡ b.events = omega arith in
     let gots : length (got (take b.events es)) ≡ length (got (take (b.events - 1) es)) + got_by e =
-    subst (λ n. length (got (take n es)) ≡ length (got (take (b.events - 1) es)) + got_by e) back (rank_next receipt es (b.events - 1) e at) in
+    subst (λ n. length (got (take n es)) ≡ length (got (take (b.events - 1) es)) + got_by e) back
+    (rank_next receipt es (b.events - 1) e at) in
     let sents : length (sent (take b.events es)) ≡ length (sent (take (b.events - 1) es)) + sent_by e =
-    subst (λ n. length (sent (take n es)) ≡ length (sent (take (b.events - 1) es)) + sent_by e) back (rank_next sending es (b.events - 1) e at) in
+    subst (λ n. length (sent (take n es)) ≡ length (sent (take (b.events - 1) es)) + sent_by e) back
+    (rank_next sending es (b.events - 1) e at) in
     (omega (arith, is.receipts, gots), omega (arith, is.sendings, sents))
 
 -- where there are receipts there are events
@@ -75,7 +87,8 @@ pub longest_at_first : (es : List Event) (from most : ℕ) → IsLongestWith es 
 longest_at_first es from most = record { shorter = omega arith; longest = λ m le few. le }
 
 -- a beginning with too many receipts isn't the longest
-pub longest_less : (es : List Event) (b : Beginning) (from most n : ℕ) → IsBeginning es b → most < b.receipts → n ≡ b.events - 1 → IsLongestWith es from most b.events → IsLongestWith es from most n
+pub longest_less : (es : List Event) (b : Beginning) (from most n : ℕ) → IsBeginning es b → most < b.receipts
+    → n ≡ b.events - 1 → IsLongestWith es from most b.events → IsLongestWith es from most n
 longest_less es b from most n is many at longest = record {
   shorter = omega (arith, longest.shorter);
   longest = λ m le few. elim (cases_eq m b.events) [

@@ -1,5 +1,6 @@
 -- Logs of which a beginning was kept.
-use Rattle.std.proofs.Common.{◌≡◌, ℕ, zero, suc, ◌+◌, ◌<◌, ◌≤◌, inl, inr, List, [], ◌∷◌, ◌++◌, length, refl, sym, ◌∙◌, ap, arith, take, drop, true, false, ◌&&◌, Bool, Option, Some, None, get_or}
+use Rattle.std.proofs.Common.{◌≡◌, ℕ, zero, suc, ◌+◌, ◌<◌, ◌≤◌, inl, inr, List, [], ◌∷◌, ◌++◌, length, refl, sym, ◌∙◌}
+use Rattle.std.proofs.Common.{ap, arith, take, drop, true, false, ◌&&◌, Bool, Option, Some, None, get_or}
 use Rattle.std.specs.Prelude.{slice_index, slice_get}
 use Rattle.std.specs.List.{list_all}
 use Rattle.std.proofs.lemmas.Bool.{cases_eq}
@@ -27,7 +28,8 @@ left_true false b e = e
 
 all_of_first : (p : Event → Bool) (xs : List Event) (n : ℕ) → list_all p xs ≡ true → list_all p (take n xs) ≡ true
 all_of_first p xs n all =
-    left_true (list_all p (take n xs)) (list_all p (drop n xs)) (sym (list_all-append p (take n xs) (drop n xs)) ∙ ap (list_all p) (take-append-drop n xs) ∙ all)
+    left_true (list_all p (take n xs)) (list_all p (drop n xs)) (sym (list_all-append p (take n xs) (drop n xs))
+    ∙ ap (list_all p) (take-append-drop n xs) ∙ all)
 
 -- a beginning of a log is one
 pub begun_is_log : (log : Log) (n : ℕ) → IsLog log → IsLog (begun log n)
@@ -44,9 +46,11 @@ begun_is_log log n is = record {
 -- an event more of it
 pub first_more : (es : List Event) (n : ℕ) (e : Event) → slice_get es n ≡ Some e → take n es ++ e ∷ [] ≡ take (n + 1) es
 first_more es n e is =
-    ap (λ (x : Event). take n es ++ x ∷ []) (sym (get_or_from_slice_get es n e e is)) ∙ sym (take_more es n e (slice_get_within es n e is))
+    ap (λ (x : Event). take n es ++ x ∷ []) (sym (get_or_from_slice_get es n e e is))
+    ∙ sym (take_more es n e (slice_get_within es n e is))
 
-before_last : (logs : List Log) (last : Log) (i : ℕ) → i < length logs → slice_get (logs ++ last ∷ []) i ≡ slice_get logs i
+before_last : (logs : List Log) (last : Log) (i : ℕ) → i < length logs
+    → slice_get (logs ++ last ∷ []) i ≡ slice_get logs i
 before_last [] last i l = absurd (omega arith)
 before_last (log ∷ logs) last zero l = refl
 before_last (log ∷ logs) last (suc i) l = before_last logs last i (omega arith)
@@ -58,27 +62,33 @@ at_last (log ∷ logs) last = at_last logs last
 -- the first so many logs were begun
 pub record BegunSoFar (logs : List Log) (cut : List ℕ) (news : List Log) (place : ℕ) : Type 0 where
   pub count : length news ≡ place
-  pub each : (i : ℕ) (log : Log) → i < place → slice_get logs i ≡ Some log → slice_get news i ≡ Some (begun log (slice_index cut i))
+  pub each : (i : ℕ) (log : Log) → i < place → slice_get logs i ≡ Some log
+      → slice_get news i ≡ Some (begun log (slice_index cut i))
 
 pub begun_none : (logs : List Log) (cut : List ℕ) → BegunSoFar logs cut [] 0
 begun_none logs cut = record { count = refl; each = λ i log l. absurd (omega arith) }
 
-pub begun_more : (logs : List Log) (cut : List ℕ) (news : List Log) (place : ℕ) (log new : Log) → BegunSoFar logs cut news place → slice_get logs place ≡ Some log → new ≡ begun log (slice_index cut place) → BegunSoFar logs cut (news ++ new ∷ []) (place + 1)
+pub begun_more : (logs : List Log) (cut : List ℕ) (news : List Log) (place : ℕ) (log new : Log)
+    → BegunSoFar logs cut news place → slice_get logs place ≡ Some log → new ≡ begun log (slice_index cut place)
+    → BegunSoFar logs cut (news ++ new ∷ []) (place + 1)
 begun_more logs cut news place log new so_far at is = record {
   count = omega (arith, length_push news new, so_far.count);
   each = λ i other l at_i. elim (cases_eq i place) [
     | inl same ↦
         let one : Some other ≡ Some log = sym at_i ∙ ap (slice_get logs) same ∙ at in
         let same_log : log ≡ other = cc in
-        let last : slice_get (news ++ new ∷ []) i ≡ Some new = ap (slice_get (news ++ new ∷ [])) (same ∙ sym so_far.count) ∙ at_last news new in
-        last ∙ ap Some is ∙ ap (λ (x : Log). Some (begun x (slice_index cut place))) same_log ∙ ap (λ n. Some (begun other (slice_index cut n))) (sym same)
+        let last : slice_get (news ++ new ∷ []) i ≡ Some new =
+        ap (slice_get (news ++ new ∷ [])) (same ∙ sym so_far.count) ∙ at_last news new in
+        last ∙ ap Some is ∙ ap (λ (x : Log). Some (begun x (slice_index cut place))) same_log
+        ∙ ap (λ n. Some (begun other (slice_index cut n))) (sym same)
     | inr ne ↦
         let low : i < place = omega (arith, l, ne) in
         before_last news new i (omega (arith, so_far.count, low)) ∙ so_far.each i other low at_i
   ];
 }
 
-pub begun_all : (logs : List Log) (cut : List ℕ) (news : List Log) (place : ℕ) → BegunSoFar logs cut news place → place ≡ length logs → AreBegun logs cut news
+pub begun_all : (logs : List Log) (cut : List ℕ) (news : List Log) (place : ℕ) → BegunSoFar logs cut news place
+    → place ≡ length logs → AreBegun logs cut news
 begun_all logs cut news place so_far all = record {
   places = so_far.count ∙ all;
   each = λ i log at. so_far.each i log (omega (arith, slice_get_within logs i log at, all)) at;
@@ -93,35 +103,43 @@ pub record IsBegunOf (logs : List Log) (cut : List ℕ) (i : ℕ) (new : Log) : 
   pub at : slice_get logs i ≡ Some log
   pub is : new ≡ begun log (slice_index cut i)
 
-pub begun_of : (logs : List Log) (cut : List ℕ) (news : List Log) (i : ℕ) (new : Log) → AreBegun logs cut news → slice_get news i ≡ Some new → IsBegunOf logs cut i new
+pub begun_of : (logs : List Log) (cut : List ℕ) (news : List Log) (i : ℕ) (new : Log) → AreBegun logs cut news
+    → slice_get news i ≡ Some new → IsBegunOf logs cut i new
 begun_of logs cut news i new are at =
     let within : i < length logs = omega (arith, slice_get_within news i new at, are.places) in
     let found = slice_get-get_or logs i no_log within in
-    let one : Some new ≡ Some (begun (slice_get-log logs i) (slice_index cut i)) = sym at ∙ are.each i (slice_get-log logs i) found in
+    let one : Some new ≡ Some (begun (slice_get-log logs i) (slice_index cut i)) =
+    sym at ∙ are.each i (slice_get-log logs i) found in
     record { log = slice_get-log logs i; at = found; is = cc }
   where
     slice_get-log : List Log → ℕ → Log
     slice_get-log logs i = get_or logs i no_log
 
 -- beginnings of the logs of a ring are logs of a ring
-pub begun_are_logs : (logs : List Log) (cut : List ℕ) (news : List Log) → AreLogs logs → AreBegun logs cut news → AreLogs news
+pub begun_are_logs : (logs : List Log) (cut : List ℕ) (news : List Log) → AreLogs logs → AreBegun logs cut news
+    → AreLogs news
 begun_are_logs logs cut news are begun_are = record {
   ring = rw begun_are.places are.ring;
-  sizes = λ i new at. (let of = begun_of logs cut news i new begun_are at in rw of.is (are.sizes i of.log of.at ∙ sym begun_are.places));
+  sizes = λ i new at. (let of = begun_of logs cut news i new begun_are at in
+      rw of.is (are.sizes i of.log of.at ∙ sym begun_are.places));
   places = λ i new at. (let of = begun_of logs cut news i new begun_are at in rw of.is (are.places i of.log of.at));
-  valid = λ i new at. (let of = begun_of logs cut news i new begun_are at in rw of.is (begun_is_log of.log (slice_index cut i) (are.valid i of.log of.at)));
+  valid = λ i new at. (let of = begun_of logs cut news i new begun_are at in
+      rw of.is (begun_is_log of.log (slice_index cut i) (are.valid i of.log of.at)));
   version = are.version;
   versions = λ i new at. (let of = begun_of logs cut news i new begun_are at in rw of.is (are.versions i of.log of.at));
 }
 
 -- the events that are left of node i
-pub begun_events : (logs : List Log) (cut : List ℕ) (news : List Log) (i : ℕ) → AreBegun logs cut news → i < length logs → log_of news i ≡ take (slice_index cut i) (log_of logs i)
+pub begun_events : (logs : List Log) (cut : List ℕ) (news : List Log) (i : ℕ) → AreBegun logs cut news → i < length logs
+    → log_of news i ≡ take (slice_index cut i) (log_of logs i)
 begun_events logs cut news i are l =
     let found = slice_get-get_or logs i no_log l in
-    ap events_of (are.each i (get_or logs i no_log) found) ∙ ap (λ (o : Option Log). take (slice_index cut i) (events_of o)) (sym found)
+    ap events_of (are.each i (get_or logs i no_log) found)
+    ∙ ap (λ (o : Option Log). take (slice_index cut i) (events_of o)) (sym found)
 
 -- fewer sendings than receipts have no sending
-too_few : (writer reader : List Event) (k : ℕ) → length (got reader) ≤ length (sent writer) → HasNoSending writer reader k → ⊥
+too_few : (writer reader : List Event) (k : ℕ) → length (got reader) ≤ length (sent writer)
+    → HasNoSending writer reader k → ⊥
 too_few writer reader zero few h = (let none : None ≡ Some h.0 = h.1 in cc)
 too_few writer reader (suc k) few h =
     let within = numbered-within (got reader) (suc k) h.0 h.1 in
@@ -131,7 +149,8 @@ too_few writer reader (suc k) few h =
     cc
 
 -- so a fault of matching is one of a receipt that differs
-pub begun_differ : (logs : List Log) (cut : List ℕ) (news : List Log) (f : MatchFault) → IsGreatestBeginning logs cut → AreBegun logs cut news → IsMatchFault news f → HasDifference logs f
+pub begun_differ : (logs : List Log) (cut : List ℕ) (news : List Log) (f : MatchFault) → IsGreatestBeginning logs cut
+    → AreBegun logs cut news → IsMatchFault news f → HasDifference logs f
 begun_differ logs cut news (NoSending link k) greatest are fault =
     let i = fault.0 in
     let n : length news ≡ length logs = are.places in
@@ -139,7 +158,8 @@ begun_differ logs cut news (NoSending link k) greatest are fault =
     let l' : next (length logs) i < length logs = next_below (length logs) i l in
     let holds = greatest.consistent.sendings i l in
     let writer : log_of news i ≡ take (slice_index cut i) (log_of logs i) = begun_events logs cut news i are l in
-    let reader : log_of news (next (length news) i) ≡ take (slice_index cut (next (length logs) i)) (log_of logs (next (length logs) i)) =
+    let reader : log_of news (next (length news) i)
+    ≡ take (slice_index cut (next (length logs) i)) (log_of logs (next (length logs) i)) =
     ap (λ m. log_of news (next m i)) n ∙ begun_events logs cut news (next (length logs) i) are l' in
     absurd (too_few (log_of news i) (log_of news (next (length news) i)) k (rw (writer, reader) holds) fault.3.2)
 begun_differ logs cut news (Differs link k) greatest are fault = record {

@@ -1,5 +1,6 @@
 -- Mended logs of a run that was cut off are those of a run.
-use Rattle.std.proofs.Common.{◌≡◌, ℕ, zero, suc, ◌<◌, ◌≤◌, ◌↔◌, inl, inr, get_or, List, [], ◌∷◌, ◌++◌, length, refl, sym, ◌∙◌, ap, arith, drop, take, Option, Some}
+use Rattle.std.proofs.Common.{◌≡◌, ℕ, zero, suc, ◌<◌, ◌≤◌, ◌↔◌, inl, inr, get_or, List, [], ◌∷◌, ◌++◌, length, refl}
+use Rattle.std.proofs.Common.{sym, ◌∙◌, ap, arith, drop, take, Option, Some}
 use Rattle.std.specs.Prelude.{slice_get, slice_index}
 use Rattle.std.specs.List.{filter_map}
 use Rattle.std.proofs.lemmas.Bool.{cases_lt}
@@ -30,7 +31,8 @@ use Rattle.ira_mend.specs.Beginning.{AreBegun, begun}
 use Rattle.ira_mend.specs.Laws.{HasItsPast}
 use Rattle.ira_mend.specs.Mended.{HasDifference, IsGreatestOf}
 use Rattle.ira_mend.proofs.Begun.{begun_are_logs, begun_events, begun_of}
-use Rattle.ira_mend.proofs.Pasts.{beginning_covers, covers_beginning, kept_has_past, left_count, no_events, past_is_kept}
+use Rattle.ira_mend.proofs.Pasts.{beginning_covers, covers_beginning, kept_has_past, left_count, no_events}
+use Rattle.ira_mend.proofs.Pasts.{past_is_kept}
 
 -- what was sent or received at first is what was at all, as far as it goes
 numbered_first : (h : Event → Option Load) (es : List Event) (n k : ℕ) → k ≤ length (filter_map h (take n es))
@@ -115,7 +117,8 @@ module _ (whole mended : List Log) (at : List ℕ) (are : AreBegun whole at mend
           ∙ ap (λ (es : List Event). length (sent (take a es))) (sym (events i link))
           ∙ pair.rank
           ∙ ap (λ (es : List Event). length (got (take b es))) reader_first
-          ∙ ap (λ (es : List Event). length (got es)) (take-take b (slice_index at reader) (log_of whole reader) receive.1);
+          ∙ ap (λ (es : List Event). length (got es))
+          (take-take b (slice_index at reader) (log_of whole reader) receive.1);
     }
 
   -- the beginning of an order that stands for them is an order of them

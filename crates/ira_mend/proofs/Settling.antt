@@ -1,5 +1,6 @@
 -- What is kept of the logs, a link more settled.
-use Rattle.std.proofs.Common.{◌≡◌, ◌≢◌, ℕ, ◌+◌, ◌<◌, ◌≤◌, ◌⊎◌, inl, inr, List, ◌++◌, Bool, length, refl, sym, ◌∙◌, ap, arith, drop, take, true, false, set, length-set, get_or-set_same, get_or-set_other}
+use Rattle.std.proofs.Common.{◌≡◌, ◌≢◌, ℕ, ◌+◌, ◌<◌, ◌≤◌, ◌⊎◌, inl, inr, List, ◌++◌, Bool, length, refl, sym, ◌∙◌, ap}
+use Rattle.std.proofs.Common.{arith, drop, take, true, false, set, length-set, get_or-set_same, get_or-set_other}
 use Rattle.std.specs.Prelude.{slice_index}
 use Rattle.std.proofs.Math.Seq.{take-append_seam}
 use Rattle.std.proofs.lemmas.Bool.{cases_eq}
@@ -11,12 +12,14 @@ use Rattle.ira_order.specs.Matching.{got, receipt, sending}
 use Rattle.ira_order.specs.Ring.{log_of, next}
 use Rattle.ira_order.proofs.Ranks.{next_below, next_other, rank_mono}
 use Rattle.ira_mend.specs.Beginning.{IsGreatestBeginning, receipts_in}
-use Rattle.ira_mend.specs.Longest.{AreBeginnings, BoundsAll, HasSendings, IsBeginning, IsLongestWith, IsSettled, events_kept, kept_of, nothing}
+use Rattle.ira_mend.specs.Longest.{AreBeginnings, BoundsAll, HasSendings, IsBeginning, IsLongestWith, IsSettled}
+use Rattle.ira_mend.specs.Longest.{events_kept, kept_of, nothing}
 use Rattle.ira_mend.specs.declared.beginning.Beginning.{Beginning}
 
 -- a link that has its sendings
 pub settled_before : (logs : List Log) (kept : List Beginning) (link : ℕ) → AreBeginnings logs kept
-    → (kept_of kept (next (length logs) link)).receipts ≤ (kept_of kept link).sendings → IsSettled logs link kept kept false
+    → (kept_of kept (next (length logs) link)).receipts ≤ (kept_of kept link).sendings
+    → IsSettled logs link kept kept false
 settled_before logs kept link are few = record {
   kept = are;
   bounds = λ bounds. bounds;
@@ -27,10 +30,12 @@ settled_before logs kept link are few = record {
 }
 
 -- a link whose reader was shortened to this beginning
-module _ (logs : List Log) (kept : List Beginning) (link : ℕ) (b : Beginning) (two : 2 ≤ length logs) (are : AreBeginnings logs kept) (within : link < length logs)
+module _ (logs : List Log) (kept : List Beginning) (link : ℕ) (b : Beginning) (two : 2
+    ≤ length logs) (are : AreBeginnings logs kept) (within : link < length logs)
     (many : (kept_of kept link).sendings < (kept_of kept (next (length logs) link)).receipts)
     (is : IsBeginning (log_of logs (next (length logs) link)) b)
-    (longest : IsLongestWith (log_of logs (next (length logs) link)) (kept_of kept (next (length logs) link)).events (kept_of kept link).sendings b.events)
+    (longest : IsLongestWith (log_of logs (next (length logs) link)) (kept_of kept (next (length logs) link)).events
+    (kept_of kept link).sendings b.events)
     (few : b.receipts ≤ (kept_of kept link).sendings) where
   reader : ℕ
   reader = next (length logs) link
@@ -51,12 +56,15 @@ module _ (logs : List Log) (kept : List Beginning) (link : ℕ) (b : Beginning) 
   at_other i ne = get_or-set_other kept (next (length logs) link) i b nothing ne
 
   -- receipts don't get more
-  fewer : (i : ℕ) → i < length logs → (kept_of (set kept (next (length logs) link) b) i).receipts ≤ (kept_of kept i).receipts
+  fewer : (i : ℕ) → i < length logs → (kept_of (set kept (next (length logs) link) b) i).receipts
+      ≤ (kept_of kept i).receipts
   fewer i l = elim (cases_eq i (next (length logs) link)) [
     | inl same ↦
         let old = are.each (next (length logs) link) below in
-        let mono = rank_mono receipt (log_of logs (next (length logs) link)) b.events (kept_of kept (next (length logs) link)).events longest.shorter in
-        let less : b.receipts ≤ (kept_of kept (next (length logs) link)).receipts = omega (arith, is.receipts, old.receipts, mono) in
+        let mono = rank_mono receipt (log_of logs (next (length logs) link)) b.events
+        (kept_of kept (next (length logs) link)).events longest.shorter in
+        let less : b.receipts ≤ (kept_of kept (next (length logs) link)).receipts =
+        omega (arith, is.receipts, old.receipts, mono) in
         rw (same, at_reader) less
     | inr other ↦ rw (at_other i other) (omega arith)
   ]
@@ -66,7 +74,9 @@ module _ (logs : List Log) (kept : List Beginning) (link : ℕ) (b : Beginning) 
       let old = are.each (next (length logs) link) below in
       elim (cases_eq b.events (kept_of kept (next (length logs) link)).events) [
         | inl same ↦
-            let here : length (got (take b.events (log_of logs (next (length logs) link)))) ≡ length (got (take (kept_of kept (next (length logs) link)).events (log_of logs (next (length logs) link)))) =
+            let here : length (got (take b.events (log_of logs (next (length logs) link))))
+            ≡ length (got (take (kept_of kept (next (length logs) link)).events
+            (log_of logs (next (length logs) link)))) =
             ap (λ n. length (got (take n (log_of logs (next (length logs) link))))) same in
             absurd (omega (arith, is.receipts, old.receipts, here, few, many))
         | inr other ↦ omega (arith, longest.shorter, other)
@@ -84,26 +94,36 @@ module _ (logs : List Log) (kept : List Beginning) (link : ℕ) (b : Beginning) 
     bounds = λ bounds cut consistent i l. elim (cases_eq i (next (length logs) link)) [
       | inl same ↦
           let old = are.each link within in
-          let mono = rank_mono sending (log_of logs link) (slice_index cut link) (kept_of kept link).events (bounds cut consistent link within) in
+          let mono = rank_mono sending (log_of logs link) (slice_index cut link) (kept_of kept link).events
+          (bounds cut consistent link within) in
           let holds = consistent.sendings link within in
-          let at_most : receipts_in logs (next (length logs) link) (slice_index cut (next (length logs) link)) ≤ (kept_of kept link).sendings = omega (arith, old.sendings, mono, holds) in
-          rw (same, at_reader) (longest.longest (slice_index cut (next (length logs) link)) (bounds cut consistent (next (length logs) link) below) at_most)
+          let at_most : receipts_in logs (next (length logs) link) (slice_index cut (next (length logs) link))
+          ≤ (kept_of kept link).sendings = omega (arith, old.sendings, mono, holds) in
+          rw (same, at_reader) (longest.longest (slice_index cut (next (length logs) link))
+          (bounds cut consistent (next (length logs) link) below) at_most)
       | inr other ↦ rw (at_other i other) (bounds cut consistent i l)
     ];
     here = rw (places, at_reader, at_other link (λ e. next_other (length logs) link two within (sym e))) few;
     others = λ i l ne holds.
-        let holds' : (kept_of kept (next (length logs) i)).receipts ≤ (kept_of kept i).sendings = rw are.places at holds in
+        let holds' : (kept_of kept (next (length logs) i)).receipts ≤ (kept_of kept i).sendings =
+        rw are.places at holds in
         rw (places, at_other i ne) (omega (arith, holds', fewer (next (length logs) i) (next_below (length logs) i l)));
-    fell = λ e. omega (arith, sum_by-set (λ b. b.events) kept (next (length logs) link) b nothing (omega (arith, are.places, below)), shorter);
+    fell = λ e. omega (
+      arith,
+      sum_by-set (λ b. b.events) kept (next (length logs) link) b nothing (omega (arith, are.places, below)),
+      shorter,
+    );
     stayed = λ e. (let z : ⊥ = cc in absurd z);
   }
 
 -- the positions of what is kept
-pub events_at : (kept : List Beginning) (i : ℕ) → i < length kept → slice_index (events_kept kept) i ≡ (kept_of kept i).events
+pub events_at : (kept : List Beginning) (i : ℕ) → i < length kept
+    → slice_index (events_kept kept) i ≡ (kept_of kept i).events
 events_at kept i l = get_or-map (λ b. b.events) kept i nothing 0 l
 
 -- where each link has its sendings, what is kept is the greatest beginning
-pub greatest_kept : (logs : List Log) (kept : List Beginning) → AreBeginnings logs kept → BoundsAll logs kept → ((i : ℕ) → i < length logs → HasSendings kept i) → IsGreatestBeginning logs (events_kept kept)
+pub greatest_kept : (logs : List Log) (kept : List Beginning) → AreBeginnings logs kept → BoundsAll logs kept
+    → ((i : ℕ) → i < length logs → HasSendings kept i) → IsGreatestBeginning logs (events_kept kept)
 greatest_kept logs kept are bounds holds = record {
   consistent = record {
     cut_is = record {
@@ -111,9 +131,14 @@ greatest_kept logs kept are bounds holds = record {
       within = λ i l. rw (events_at kept i (omega (arith, are.places, l))) ((are.each i l).within);
     };
     sendings = λ i l.
-        let holds' : (kept_of kept (next (length logs) i)).receipts ≤ (kept_of kept i).sendings = rw are.places at (holds i l) in
+        let holds' : (kept_of kept (next (length logs) i)).receipts ≤ (kept_of kept i).sendings =
+        rw are.places at (holds i l) in
         let below = next_below (length logs) i l in
-        rw (events_at kept (next (length logs) i) (omega (arith, are.places, below)), events_at kept i (omega (arith, are.places, l))) (omega (arith, holds', (are.each i l).sendings, (are.each (next (length logs) i) below).receipts));
+        rw (
+          events_at kept (next (length logs) i) (omega (arith, are.places, below)),
+          events_at kept i (omega (arith, are.places, l)),
+        )
+        (omega (arith, holds', (are.each i l).sendings, (are.each (next (length logs) i) below).receipts));
   };
   greatest = λ other consistent i l. rw (events_at kept i (omega (arith, are.places, l))) (bounds other consistent i l);
 }
@@ -124,8 +149,9 @@ not_reader : (n i link : ℕ) → i < link → (0 < i) ⊎ (link + 1 < n) → i 
 not_reader n i link below (inl some) e = grind (arith, nat_tests)
 not_reader n i link below (inr more) e = grind (arith, nat_tests)
 
-module _ (logs : List Log) (link : ℕ) (old new : List Beginning) (shorter : Bool) (s : IsSettled logs link old new shorter) where
-  -- the links up to one more have their sendings, but for the first behind the last
+module _ (logs : List Log) (link : ℕ) (old new : List Beginning) (shorter : Bool)
+    (s : IsSettled logs link old new shorter) where
+  -- the links up to one more have their sendings, but for the first after the last
   pub settled_round : link < length logs → ((i : ℕ) → i < link → (0 < i) ⊎ (link < length logs) → HasSendings old i)
       → (i : ℕ) → i < link + 1 → (0 < i) ⊎ (link + 1 < length logs) → HasSendings new i
   settled_round within before i below which = elim (cases_eq i link) [
@@ -136,14 +162,16 @@ module _ (logs : List Log) (link : ℕ) (old new : List Beginning) (shorter : Bo
   ]
 
   -- all links but the next one have
-  pub settled_on : ((i : ℕ) → i < length logs → i ≢ link → HasSendings old i) → (i : ℕ) → i < length logs → i ≢ next (length logs) link → HasSendings new i
+  pub settled_on : ((i : ℕ) → i < length logs → i ≢ link → HasSendings old i) → (i : ℕ) → i < length logs
+      → i ≢ next (length logs) link → HasSendings new i
   settled_on before i within ne = elim (cases_eq i link) [
     | inl same ↦ rw same s.here
     | inr other ↦ s.others i within ne (before i within other)
   ]
 
   -- all links have, where nothing was shortened
-  pub settled_all : shorter ≡ false → ((i : ℕ) → i < length logs → i ≢ link → HasSendings old i) → (i : ℕ) → i < length logs → HasSendings new i
+  pub settled_all : shorter ≡ false → ((i : ℕ) → i < length logs → i ≢ link → HasSendings old i) → (i : ℕ)
+      → i < length logs → HasSendings new i
   settled_all none before i within = elim (cases_eq i link) [
     | inl same ↦ rw same s.here
     | inr other ↦ rw (s.stayed none) (before i within other)
@@ -151,4 +179,5 @@ module _ (logs : List Log) (link : ℕ) (old new : List Beginning) (shorter : Bo
 
 -- what stands in a list whose part was written
 pub written_back : (new items : List Beginning) (n : ℕ) → n ≡ length new → take n (new ++ drop (length new) items) ≡ new
-written_back new items n is = ap (λ k. take k (new ++ drop (length new) items)) is ∙ take-append_seam new (drop (length new) items)
+written_back new items n is = ap (λ k. take k (new ++ drop (length new) items)) is
+    ∙ take-append_seam new (drop (length new) items)

@@ -12,7 +12,8 @@ begun log n = record log { events = take n log.events }
 -- of each log as many events as the cut holds
 pub record AreBegun (logs : List Log) (cut : List ℕ) (beginnings : List Log) : Type 0 where
   pub places : length beginnings ≡ length logs
-  pub each : (i : ℕ) (log : Log) → slice_get logs i ≡ Some log → slice_get beginnings i ≡ Some (begun log (slice_index cut i))
+  pub each : (i : ℕ) (log : Log) → slice_get logs i ≡ Some log
+      → slice_get beginnings i ≡ Some (begun log (slice_index cut i))
 
 -- how many receipts, and how many sendings, the first n events of node i are
 abbrev pub receipts_in : List Log → ℕ → ℕ → ℕ
@@ -24,9 +25,12 @@ sendings_in logs i n = length (sent (take n (log_of logs i)))
 -- the cut holds no more receipts of a link than sendings
 pub record IsConsistentBeginning (logs : List Log) (cut : List ℕ) : Type 0 where
   pub cut_is : IsCut logs cut
-  pub sendings : (i : ℕ) → i < length logs → receipts_in logs (next (length logs) i) (slice_index cut (next (length logs) i)) ≤ sendings_in logs i (slice_index cut i)
+  pub sendings : (i : ℕ) → i < length logs
+      → receipts_in logs (next (length logs) i) (slice_index cut (next (length logs) i))
+      ≤ sendings_in logs i (slice_index cut i)
 
 -- and each other such cut is at most this one
 pub record IsGreatestBeginning (logs : List Log) (cut : List ℕ) : Type 0 where
   pub consistent : IsConsistentBeginning logs cut
-  pub greatest : (other : List ℕ) → IsConsistentBeginning logs other → (i : ℕ) → i < length logs → slice_index other i ≤ slice_index cut i
+  pub greatest : (other : List ℕ) → IsConsistentBeginning logs other → (i : ℕ) → i < length logs
+      → slice_index other i ≤ slice_index cut i

@@ -1,5 +1,6 @@
 -- Helpers, no definitions: what is kept of each log while the greatest consistent beginning is looked for.
-use Rattle.std.specs.Prelude.{◌≡◌, ◌≢◌, ℕ, ◌<◌, ◌≤◌, Bool, true, false, List, length, map, slice_index, slice_index_or, take}
+use Rattle.std.specs.Prelude.{◌≡◌, ◌≢◌, ℕ, ◌<◌, ◌≤◌, Bool, true, false, List, length, map, slice_index, slice_index_or}
+use Rattle.std.specs.Prelude.{take}
 use Rattle.std.specs.List.{sum_by}
 use Rattle.ira_event.specs.declared.event.Event.{Event}
 use Rattle.ira_event.specs.Log.{Log}
@@ -41,7 +42,8 @@ pub record AreBeginnings (logs : List Log) (kept : List Beginning) : Type 0 wher
 -- each consistent beginning is at most what is kept
 abbrev pub BoundsAll : List Log → List Beginning → Type 0
 BoundsAll logs kept =
-    (cut : List ℕ) → IsConsistentBeginning logs cut → (i : ℕ) → i < length logs → slice_index cut i ≤ (kept_of kept i).events
+    (cut : List ℕ) → IsConsistentBeginning logs cut → (i : ℕ) → i < length logs
+    → slice_index cut i ≤ (kept_of kept i).events
 
 -- each receipt of link i that is kept has a sending that is kept
 abbrev pub HasSendings : List Beginning → ℕ → Type 0

@@ -1,5 +1,6 @@
 -- Texts of logs that may have been cut off.
-use Rattle.std.specs.Prelude.{◌≡◌, ◌≢◌, ◌≤◌, ◌⊎◌, ℕ, List, ◌++◌, Option, Some, None, Result, Ok, Err, codes, length, slice_get, take}
+use Rattle.std.specs.Prelude.{◌≡◌, ◌≢◌, ◌≤◌, ◌⊎◌, ℕ, List, ◌++◌, Option, Some, None, Result, Ok, Err, codes, length}
+use Rattle.std.specs.Prelude.{slice_get, take}
 use Rattle.std.specs.List.{AllZip}
 use Rattle.ira_event.specs.Limits.{MAX_TEXT}
 use Rattle.ira_event.specs.declared.event.Event.{Event}
@@ -8,7 +9,8 @@ use Rattle.ira_event.specs.declared.log_fault.LogFault.{LogFault}
 use Rattle.ira_event.specs.declared.log_fault.LogFault.TheVariants.{Cut, OutOfMemory}
 use Rattle.ira_event.specs.Log.{Log}
 use Rattle.ira_event.specs.LogText.{IsEnd, IsLogText, head_of}
-use Rattle.ira_event.specs.LogTextFault.{BeginsWithHead, BeginsWithRecords, HasNoLineFeed, LogTextFault, RecordsFault, RestFault}
+use Rattle.ira_event.specs.LogTextFault.{BeginsWithHead, BeginsWithRecords, HasNoLineFeed, LogTextFault, RecordsFault}
+use Rattle.ira_event.specs.LogTextFault.{RestFault}
 use Rattle.ira_event.specs.Logs.{HeadFaultOf}
 use Rattle.ira_event.specs.Records.{IsAtEnd, ReadsRecord, RecordsLeft}
 use Rattle.ira_audit.specs.declared.reason.Reason.{Reason}
@@ -42,8 +44,10 @@ pub record IsFirstOtherFault (texts : List (List ℕ)) (i : ℕ) (f : LogFault) 
 
 -- why the texts, cut or not, aren't those of the logs of one ring
 pub data IsRecordedReason (texts : List (List ℕ)) (r : Reason) : Type 0 where
-  no_log : (number : ℕ) (f : LogFault) → IsFirstOtherFault texts number f → r ≡ reason.Log number f → IsRecordedReason texts r
-  no_ring : (logs : List Log) (f : HeadFault) → AreRecordedTexts texts logs → HeadFaultOf logs f → r ≡ reason.Heads f → IsRecordedReason texts r
+  no_log : (number : ℕ) (f : LogFault) → IsFirstOtherFault texts number f → r ≡ reason.Log number f
+      → IsRecordedReason texts r
+  no_ring : (logs : List Log) (f : HeadFault) → AreRecordedTexts texts logs → HeadFaultOf logs f → r ≡ reason.Heads f
+      → IsRecordedReason texts r
 
 -- What follows helps to say what was taken.
 
@@ -61,7 +65,7 @@ pub record HasReadLines (version : ℕ) (text : List ℕ) (events : List Event) 
   pub begins : BeginsWithRecords version text events tail
   pub ends : ((end : List ℕ) × IsEnd end (length events) × (tail ≡ end ++ codes "\n")) ⊎ HasNoLineFeed tail
 
--- a reader of what stands behind a head answered its events, its fault, or that memory ran out
+-- a reader of what stands after a head answered its events, its fault, or that memory ran out
 abbrev pub AreReadLines : {X : Type 0} → ℕ → (X → List Event) → Result X LogFault → List ℕ → Type 0
 AreReadLines version view (Ok v) text = HasReadLines version text (view v)
 AreReadLines version view (Err f) text = (f ≡ OutOfMemory) ⊎ (RecordsFault version text f × (f ≢ Cut))
@@ -71,13 +75,14 @@ abbrev pub IsRecordedReading : List ℕ → Result Log LogFault → Type 0
 IsRecordedReading text (Ok log) = IsRecordedText text log
 IsRecordedReading text (Err f) = (f ≡ OutOfMemory) ⊎ (LogTextFault text f × (f ≢ Cut))
 
--- some logs, and what is wrong with the text behind theirs, if something is
+-- some logs, and what is wrong with the text after theirs, if something is
 pub record RecordedLogs : Type 0 where
   pub logs : List Log
   pub fault : Option LogFault
 
--- without a fault the texts are those of the logs; with one the first texts, as many as there are logs, are those of the
--- logs, and the text behind these has the fault
+-- without a fault the texts are those of the logs; with one the first texts, as many as there are logs, are those of
+-- the
+-- logs, and the text after these has the fault
 abbrev pub AreRecorded : List (List ℕ) → List Log → Option LogFault → Type 0
 AreRecorded texts logs None = AreRecordedTexts texts logs
 AreRecorded texts logs (Some f) =

@@ -56,7 +56,7 @@ fn begin_logs<A: Allocator + Clone>(
 
 /// The greatest consistent beginning of the logs of a ring: of each log the longest beginning such that on each link the
 /// receipts are no more than the sendings. A receipt in it that is of another message than its sending is a fault; what
-/// stands behind the beginnings isn't looked at.
+/// stands after the beginnings isn't looked at.
 pub fn mend<A: Allocator + Clone>(alloc: A, logs: &Logs<A>) -> Result<Logs<A>, MendFault>
     ensures { IsMending logs.now result }
 {

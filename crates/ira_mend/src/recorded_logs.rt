@@ -49,7 +49,7 @@ fn read_recorded<A: Allocator>(alloc: A, text: &[u8]) -> Result<NodeLog<A>, LogF
 pub struct RecordedLogs<A: Allocator> {
     /// The logs of the texts, up to the first with another fault.
     logs: Vec<NodeLog<A>, A>,
-    /// What is wrong with the text behind these.
+    /// What is wrong with the text after these.
     fault: Option<LogFault>,
 }
 

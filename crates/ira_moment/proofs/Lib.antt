@@ -1,3 +1,4 @@
 pub mod Configurations
+pub mod Lacking
 pub mod OnTheWay
 pub mod Progress

@@ -1,3 +1,4 @@
+pub mod CutFault
 pub mod Laws
 pub mod Moment
 pub mod NodeProgress

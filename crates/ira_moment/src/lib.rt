@@ -1,10 +1,14 @@
 //! A ring at a moment: the state of each node at a consistent cut of its logs, and the loads on the links.
 #![tactic(auto)]
 
+mod cut_fault;
+mod cuts;
 mod laws;
 mod moment;
 mod node_progress;
 
+pub use cut_fault::CutFault;
+pub use cuts::{check_cut, cut_at_end};
 pub use laws::moments_are_configurations;
 pub use moment::Moment;
 pub use node_progress::NodeProgress;

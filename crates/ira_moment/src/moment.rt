@@ -9,6 +9,7 @@ ghost use Rattle.ira_order.specs.Run.{AreLocalRuns};
 ghost use Rattle.ira_moment.specs.NodeProgress.{IsProgress};
 ghost use Rattle.ira_moment.specs.Moment.{IsMoment, AreOnTheirWay, LeadsAt, whole_cut};
 
+use crate::cuts::cut_at_end;
 use crate::node_progress::NodeProgress;
 use ira_event::{Event, Load, Logs, NodeLog, OutOfMemory};
 use ira_node::Phase;
@@ -125,18 +126,6 @@ fn loads_of_links<A: Allocator + Clone>(
     Ok(links)
 }
 
-/// The number of events of each log.
-fn ends<A: Allocator>(alloc: A, logs: &Logs<A>) -> Result<Vec<u32, A>, OutOfMemory>
-    ensures { IfOk result (λ cut. cut.items ≡ whole_cut logs.now) }
-{
-    let size = logs.size().get();
-    let mut cut = Vec::with_capacity(alloc, usize::from(size))?;
-    for place in 0..size {
-        cut.push(logs.log(place).len() as u32)?;
-    }
-    Ok(cut)
-}
-
 impl<A: Allocator> Moment<A> {
     /// The ring when all events of the logs have happened.
     pub fn at_end(alloc: A, logs: &Logs<A>) -> Result<Moment<A>, OutOfMemory>
@@ -146,7 +135,7 @@ impl<A: Allocator> Moment<A> {
         requires local { AreLocalRuns logs.now }
         ensures { IfOk result (IsMoment logs.now (whole_cut logs.now)) }
     {
-        let cut = ends(alloc.clone()?, logs)?;
+        let cut = cut_at_end(alloc.clone()?, logs)?;
         Moment::at_cut(alloc, logs, &cut)
     }
 

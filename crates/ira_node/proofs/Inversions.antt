@@ -5,12 +5,15 @@ use Rattle.ira_event.specs.declared.event.Event.TheVariants.{Draw, Sent, Yield}
 use Rattle.ira_node.specs.declared.phase.Phase.TheVariants.{Choosing}
 use Rattle.ira_node.specs.declared.node_state.NodeState.{NodeState}
 use Rattle.ira_node.specs.NodeState.{free, IsLeader}
-use Rattle.ira_node.specs.NodeStep.{NodeStep, sends, draws, passes, gives_in, purges, meets, ties, wins, yields, restarts, comes_home}
+use Rattle.ira_node.specs.NodeStep.{NodeStep, sends, draws, passes, gives_in, purges, meets, ties, wins, yields}
+use Rattle.ira_node.specs.NodeStep.{restarts, comes_home}
 
 -- a node that draws chooses, and draws an ID of the ring
-pub drawing_chooses : (n : ℕ) (s t : NodeState) (x : ℕ) → NodeStep n s (Draw x) t → (term round : ℕ) × (s ≡ free term (Choosing round)) × (1 ≤ x) × (x ≤ n)
+pub drawing_chooses : (n : ℕ) (s t : NodeState) (x : ℕ) → NodeStep n s (Draw x) t → (term round : ℕ)
+    × (s ≡ free term (Choosing round)) × (1 ≤ x) × (x ≤ n)
 drawing_chooses n s t x (sends m runs o ee et) = cc
-drawing_chooses n s t x (draws term round id es ee lo hi et) = let same : id ≡ x = cc in (term, round, es, subst (λ y. 1 ≤ y) same lo, subst (λ y. y ≤ n) same hi)
+drawing_chooses n s t x (draws term round id es ee lo hi et) = let same : id ≡ x = cc in
+    (term, round, es, subst (λ y. 1 ≤ y) same lo, subst (λ y. y ≤ n) same hi)
 drawing_chooses n s t x (passes term m es ee h et) = cc
 drawing_chooses n s t x (gives_in term round id m es ee g h et) = cc
 drawing_chooses n s t x (purges term round id m es ee g et) = cc

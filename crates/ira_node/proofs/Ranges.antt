@@ -13,7 +13,8 @@ use Rattle.ira_node.specs.declared.phase.Phase.TheVariants.{Choosing, Active, Pa
 use Rattle.ira_node.specs.declared.node_state.NodeState.{NodeState}
 use Rattle.ira_node.specs.Msg.{first_message, raised, dirtied}
 use Rattle.ira_node.specs.NodeState.{free, owing, is_phase, is_debt, is_state}
-use Rattle.ira_node.specs.NodeStep.{NodeStep, sends, draws, passes, gives_in, purges, meets, ties, wins, yields, restarts, comes_home}
+use Rattle.ira_node.specs.NodeStep.{NodeStep, sends, draws, passes, gives_in, purges, meets, ties, wins, yields}
+use Rattle.ira_node.specs.NodeStep.{restarts, comes_home}
 
 raised_stays : (m : Msg) → is_msg m ≡ true → m.hop < MAX_NUMBER → is_msg (raised m) ≡ true
 raised_stays m h low = grind (arith, nat_tests)
@@ -21,17 +22,16 @@ raised_stays m h low = grind (arith, nat_tests)
 dirtied_stays : (m : Msg) → is_msg m ≡ true → m.hop < MAX_NUMBER → is_msg (dirtied m) ≡ true
 dirtied_stays m h low = grind (arith, nat_tests)
 
-first_message_stays : (term round id : ℕ) → is_number term ≡ true → is_number round ≡ true → is_number id ≡ true → is_state (owing term (Active round id) (Message (first_message round id))) ≡ true
+first_message_stays : (term round id : ℕ) → is_number term ≡ true → is_number round ≡ true → is_number id ≡ true
+    → is_state (owing term (Active round id) (Message (first_message round id))) ≡ true
 first_message_stays term round id g h k = rw (g, h, k) refl
 
 next_stays : (x : ℕ) → x < MAX_NUMBER → is_number (x + 1) ≡ true
 next_stays x h = grind (arith, nat_tests)
 
 next_reset_stays : (n h : ℕ) → IsRingSize n → h < n → is_number (h + 1) ≡ true
-next_reset_stays n h size below = let few : h + 1 ≤ MAX_NUMBER = omega (arith, size.1, below) in grind (arith, nat_tests)
-
-both : (a b : Bool) → a ≡ true → b ≡ true → (a && b) ≡ true
-both a b h k = rw (h, k) refl
+next_reset_stays n h size below = let few : h + 1 ≤ MAX_NUMBER = omega (arith, size.1, below) in
+    grind (arith, nat_tests)
 
 first_of_both : (a b : Bool) → (a && b) ≡ true → a ≡ true
 first_of_both a b h = grind (arith, nat_tests)
@@ -49,29 +49,35 @@ phase_of s h = second_of_both (is_number s.term) (is_phase s.phase) (first_of_bo
 three : (a b c : Bool) → a ≡ true → b ≡ true → c ≡ true → (a && b && c) ≡ true
 three a b c h k l = rw (h, k, l) refl
 
-pub stays : (n : ℕ) (s : NodeState) (e : Event) (t : NodeState) → IsRingSize n → is_state s ≡ true → is_event e ≡ true → NodeStep n s e t → is_state t ≡ true
+pub stays : (n : ℕ) (s : NodeState) (e : Event) (t : NodeState) → IsRingSize n → is_state s ≡ true → is_event e ≡ true
+    → NodeStep n s e t → is_state t ≡ true
 stays n s e t size h k (sends l runs o ee et) = rw et (three _ _ _ (term_of s h) (phase_of s h) refl)
 stays n s e t size h k (draws term round id es ee lo hi et) =
     let x = subst (λ x. is_state x ≡ true) es h in
     let c = free term (Choosing round) in
     rw et (first_message_stays term round id (term_of c x) (phase_of c x) (subst (λ x. is_event x ≡ true) ee k))
 stays n s e t size h k (passes term m es ee low et) =
-    rw et (three _ _ _ (term_of (free term Passive) (subst (λ x. is_state x ≡ true) es h)) refl (raised_stays m (subst (λ x. is_event x ≡ true) ee k) low))
+    rw et (three _ _ _ (term_of (free term Passive) (subst (λ x. is_state x ≡ true) es h)) refl
+    (raised_stays m (subst (λ x. is_event x ≡ true) ee k) low))
 stays n s e t size h k (gives_in term round id m es ee g low et) =
-    rw et (three _ _ _ (term_of (free term (Active round id)) (subst (λ x. is_state x ≡ true) es h)) refl (raised_stays m (subst (λ x. is_event x ≡ true) ee k) low))
+    rw et (three _ _ _ (term_of (free term (Active round id)) (subst (λ x. is_state x ≡ true) es h)) refl
+    (raised_stays m (subst (λ x. is_event x ≡ true) ee k) low))
 stays n s e t size h k (purges term round id m es ee g et) = rw et h
 stays n s e t size h k (meets term round id m es ee g short low et) =
     let x = subst (λ x. is_state x ≡ true) es h in
     let a = free term (Active round id) in
     rw et (three _ _ _ (term_of a x) (phase_of a x) (dirtied_stays m (subst (λ x. is_event x ≡ true) ee k) low))
 stays n s e t size h k (ties term round id m es ee g whole d low et) =
-    rw et (three _ _ _ (term_of (free term (Active round id)) (subst (λ x. is_state x ≡ true) es h)) (next_stays round low) refl)
+    rw et (three _ _ _ (term_of (free term (Active round id)) (subst (λ x. is_state x ≡ true) es h))
+    (next_stays round low) refl)
 stays n s e t size h k (wins term round id m es ee g whole d et) = rw et (subst (λ x. is_state x ≡ true) es h)
 stays n s e t size h k (yields leads ee low et) = rw et (three _ _ _ (term_of s h) refl refl)
-stays n s e t size h k (restarts term hop es ee below low et) = rw et (three _ _ _ (next_stays term low) refl (next_reset_stays n hop size below))
+stays n s e t size h k (restarts term hop es ee below low et) =
+    rw et (three _ _ _ (next_stays term low) refl (next_reset_stays n hop size below))
 stays n s e t size h k (comes_home term es ee low et) = rw et (three _ _ _ (next_stays term low) refl refl)
 
-pub sendings : (n : ℕ) (s : NodeState) (l : Load) (t : NodeState) → is_state s ≡ true → NodeStep n s (Sent l) t → is_load l ≡ true
+pub sendings : (n : ℕ) (s : NodeState) (l : Load) (t : NodeState) → is_state s ≡ true → NodeStep n s (Sent l) t
+    → is_load l ≡ true
 sendings n s l t h (sends k runs o ee et) =
     let same : l ≡ k = cc in rw same (subst (λ x. is_debt x ≡ true) o (second_of_both _ _ h))
 sendings n s l t h (draws term round id es ee lo hi et) = cc

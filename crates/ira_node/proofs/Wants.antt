@@ -1,5 +1,6 @@
 -- Each step is of the kind that the state wants, a step of that kind is there, and what the want says of the state.
-use Rattle.std.proofs.Common.{◌≡◌, ◌≢◌, ℕ, ◌+◌, ◌<◌, ◌≤◌, ◌⊎◌, inl, inr, Option, Some, None, Bool, true, false, refl, ◌∙◌, ap, subst, arith, nat_lt}
+use Rattle.std.proofs.Common.{◌≡◌, ◌≢◌, ℕ, ◌+◌, ◌<◌, ◌≤◌, ◌⊎◌, inl, inr, Option, Some, None, Bool, true, false, refl}
+use Rattle.std.proofs.Common.{◌∙◌, ap, subst, arith, nat_lt}
 use Rattle.std.proofs.lemmas.Bool.Decides.{nat_tests}
 use Rattle.ira_event.specs.RingSize.{IsRingSize}
 use Rattle.ira_event.specs.Limits.{MAX_NUMBER}
@@ -13,13 +14,16 @@ use Rattle.ira_node.specs.declared.phase.Phase.{Phase}
 use Rattle.ira_node.specs.declared.phase.Phase.TheVariants.{Choosing, Active, Passive, Leader, Yielding}
 use Rattle.ira_node.specs.declared.node_state.NodeState.{NodeState}
 use Rattle.ira_node.specs.declared.wanted.Wanted.{Wanted}
-use Rattle.ira_node.specs.declared.wanted.Wanted.TheVariants.{Draw as WantsDraw, Send, Receipt, Yield as WantsYield, Nothing}
+use Rattle.ira_node.specs.declared.wanted.Wanted.TheVariants.{Draw as WantsDraw, Send, Receipt, Yield as WantsYield}
+use Rattle.ira_node.specs.declared.wanted.Wanted.TheVariants.{Nothing}
 use Rattle.ira_node.specs.Msg.{first_message, raised, dirtied, IsGreater, IsLess, IsEqual}
 use Rattle.ira_node.specs.NodeState.{free, owing, IsLeader, Receives}
-use Rattle.ira_node.specs.NodeStep.{NodeStep, sends, draws, passes, gives_in, purges, meets, ties, wins, yields, restarts, comes_home, HasStep}
+use Rattle.ira_node.specs.NodeStep.{NodeStep, sends, draws, passes, gives_in, purges, meets, ties, wins, yields}
+use Rattle.ira_node.specs.NodeStep.{restarts, comes_home, HasStep}
 use Rattle.ira_node.specs.Wanted.{IsOfKind, CanCome, wanted_leading, wanted_of}
 
-sends_wanted : (term : ℕ) (phase : Phase) (l : Load) → ¬ (IsLeader phase) → IsOfKind (wanted_of term phase (Some l)) (Sent l)
+sends_wanted : (term : ℕ) (phase : Phase) (l : Load) → ¬ (IsLeader phase)
+    → IsOfKind (wanted_of term phase (Some l)) (Sent l)
 sends_wanted term (Choosing round) l runs = refl
 sends_wanted term (Active round id) l runs = refl
 sends_wanted term Passive l runs = refl
@@ -27,17 +31,21 @@ sends_wanted term (Leader round id) l runs = absurd (runs tt)
 sends_wanted term Yielding l runs = refl
 
 -- a leader that may yield wants to
-pub leader_wants_yield : (term : ℕ) (phase : Phase) (owed : Option Load) → IsLeader phase → term < MAX_NUMBER → wanted_of term phase owed ≡ WantsYield
+pub leader_wants_yield : (term : ℕ) (phase : Phase) (owed : Option Load) → IsLeader phase → term < MAX_NUMBER
+    → wanted_of term phase owed ≡ WantsYield
 leader_wants_yield term (Choosing round) owed leads low = absurd leads
 leader_wants_yield term (Active round id) owed leads low = absurd leads
 leader_wants_yield term Passive owed leads low = absurd leads
-leader_wants_yield term (Leader round id) owed leads low = let may : nat_lt term MAX_NUMBER ≡ true = grind (arith, nat_tests) in rw may refl
+leader_wants_yield term (Leader round id) owed leads low = let may : nat_lt term MAX_NUMBER ≡ true =
+    grind (arith, nat_tests) in rw may refl
 leader_wants_yield term Yielding owed leads low = absurd leads
 
-yields_wanted : (term : ℕ) (phase : Phase) (owed : Option Load) → IsLeader phase → term < MAX_NUMBER → IsOfKind (wanted_of term phase owed) Yield
+yields_wanted : (term : ℕ) (phase : Phase) (owed : Option Load) → IsLeader phase → term < MAX_NUMBER
+    → IsOfKind (wanted_of term phase owed) Yield
 yields_wanted term phase owed leads low = rw (leader_wants_yield term phase owed leads low) tt
 
-pub step_wanted : (n : ℕ) (s : NodeState) (e : Event) (t : NodeState) → NodeStep n s e t → IsOfKind (wanted_of s.term s.phase s.owed) e
+pub step_wanted : (n : ℕ) (s : NodeState) (e : Event) (t : NodeState) → NodeStep n s e t
+    → IsOfKind (wanted_of s.term s.phase s.owed) e
 step_wanted n s e t (sends l runs o ee et) = rw (o, ee) (sends_wanted s.term s.phase l runs)
 step_wanted n s e t (draws term round d es ee lo hi et) = rw (es, ee) tt
 step_wanted n s e t (passes term m es ee h et) = rw (es, ee) tt
@@ -55,30 +63,56 @@ compares : (m : Msg) (round id : ℕ) → IsGreater m round id ⊎ IsLess m roun
 compares m round id = grind arith
 
 -- an active node has a step at the receipt of a message with hop 1
-active_receives : (n term round id : ℕ) (m : Msg) → 2 ≤ n → m.hop ≡ 1 → IsGreater m round id ⊎ IsLess m round id ⊎ IsEqual m round id → HasStep n (free term (Active round id)) (Got (Message m))
-active_receives n term round id m h one (inl greater) = (owing term Passive (Message (raised m)), gives_in term round id m refl refl greater (omega arith) refl)
-active_receives n term round id m h one (inr (inl less)) = (free term (Active round id), purges term round id m refl refl less refl)
-active_receives n term round id m h one (inr (inr same)) = (owing term (Active round id) (Message (dirtied m)), meets term round id m refl refl same (omega arith) (omega arith) refl)
+active_receives : (n term round id : ℕ) (m : Msg) → 2 ≤ n → m.hop ≡ 1 → IsGreater m round id ⊎ IsLess m round id
+    ⊎ IsEqual m round id → HasStep n (free term (Active round id)) (Got (Message m))
+active_receives n term round id m h one (inl greater) =
+    (owing term Passive (Message (raised m)), gives_in term round id m refl refl greater (omega arith) refl)
+active_receives n term round id m h one (inr (inl less)) =
+    (free term (Active round id), purges term round id m refl refl less refl)
+active_receives n term round id m h one (inr (inr same)) = (
+  owing term (Active round id) (Message (dirtied m)),
+  meets term round id m refl refl same (omega arith) (omega arith) refl,
+)
 
 ring_is_number : (n : ℕ) → IsRingSize n → is_number n ≡ true
-ring_is_number n size = let few : n ≤ MAX_NUMBER = omega (arith, size.1) in let some : 2 ≤ n = size.0 in grind (arith, nat_tests)
+ring_is_number n size = let few : n ≤ MAX_NUMBER = omega (arith, size.1) in let some : 2 ≤ n = size.0 in
+    grind (arith, nat_tests)
 
 -- a leader's want can come, whether it may yield or not
-leading_can_come : (n term round id : ℕ) (owed : Option Load) (b : Bool) → nat_lt term MAX_NUMBER ≡ b → CanCome n (record { phase = Leader round id; owed = owed; term = term }) (wanted_leading term)
+leading_can_come : (n term round id : ℕ) (owed : Option Load) (b : Bool) → nat_lt term MAX_NUMBER ≡ b
+    → CanCome n (record { phase = Leader round id; owed = owed; term = term }) (wanted_leading term)
 leading_can_come n term round id owed true may =
     let low : term < MAX_NUMBER = grind (arith, nat_tests) in
     rw may (owing term Yielding (Reset 1), yields tt refl low refl)
 leading_can_come n term round id owed false may =
     let none : wanted_leading term ≡ Nothing = rw may refl in
-    rw none (λ e h. let k = step_wanted n (record { phase = Leader round id; owed = owed; term = term }) e h.0 h.1 in subst (λ (w : Wanted). IsOfKind w e) none k)
+    rw none (λ e h. let k = step_wanted n (record { phase = Leader round id; owed = owed; term = term }) e h.0 h.1 in
+    subst (λ (w : Wanted). IsOfKind w e) none k)
 
 -- what is wanted can come
-can_come_of : (n term : ℕ) (phase : Phase) (owed : Option Load) → IsRingSize n → CanCome n (record { phase = phase; owed = owed; term = term }) (wanted_of term phase owed)
-can_come_of n term (Choosing round) None size = λ id low high. (owing term (Active round id) (Message (first_message round id)), draws term round id refl refl low high refl)
-can_come_of n term (Active round id) None size = λ next.
-    (Message (first_message 1 1), refl, active_receives n term round id (first_message 1 1) size.0 refl (compares (first_message 1 1) round id))
-can_come_of n term Passive None size = λ next. (Message (first_message 1 1), refl, (owing term Passive (Message (raised (first_message 1 1))), passes term (first_message 1 1) refl refl (omega arith) refl))
-can_come_of n term Yielding None size = λ next. (Reset n, ring_is_number n size, (free (term + 1) (Choosing 1), comes_home term refl refl (next refl) refl))
+can_come_of : (n term : ℕ) (phase : Phase) (owed : Option Load) → IsRingSize n
+    → CanCome n (record { phase = phase; owed = owed; term = term }) (wanted_of term phase owed)
+can_come_of n term (Choosing round) None size =
+    λ id low high. (
+      owing term (Active round id) (Message (first_message round id)),
+      draws term round id refl refl low high refl,
+    )
+can_come_of n term (Active round id) None size = λ next. (
+  Message (first_message 1 1),
+  refl,
+  active_receives n term round id (first_message 1 1) size.0 refl (compares (first_message 1 1) round id),
+)
+can_come_of n term Passive None size =
+    λ next. (
+      Message (first_message 1 1),
+      refl,
+      (
+        owing term Passive (Message (raised (first_message 1 1))),
+        passes term (first_message 1 1) refl refl (omega arith) refl,
+      ),
+    )
+can_come_of n term Yielding None size =
+    λ next. (Reset n, ring_is_number n size, (free (term + 1) (Choosing 1), comes_home term refl refl (next refl) refl))
 can_come_of n term (Choosing round) (Some l) size = (free term (Choosing round), sends l (λ h. h) refl refl refl)
 can_come_of n term (Active round id) (Some l) size = (free term (Active round id), sends l (λ h. h) refl refl refl)
 can_come_of n term Passive (Some l) size = (free term Passive, sends l (λ h. h) refl refl refl)
@@ -91,7 +125,8 @@ can_come n s w is size = rw is (can_come_of n s.term s.phase s.owed size)
 -- ---- what a state's want says of it
 
 -- a leader wants a yield or nothing
-leading_cases : (w : Wanted) (term : ℕ) (b : Bool) → nat_lt term MAX_NUMBER ≡ b → w ≡ wanted_leading term → w ≢ WantsYield → w ≢ Nothing → ⊥
+leading_cases : (w : Wanted) (term : ℕ) (b : Bool) → nat_lt term MAX_NUMBER ≡ b → w ≡ wanted_leading term
+    → w ≢ WantsYield → w ≢ Nothing → ⊥
 leading_cases w term true may is yields_not nor = yields_not (is ∙ rw may refl)
 leading_cases w term false may is yields_not nor = nor (is ∙ rw may refl)
 
@@ -99,7 +134,8 @@ leading_wants : (w : Wanted) (term : ℕ) → w ≡ wanted_leading term → w �
 leading_wants w term is yields_not nor = leading_cases w term (nat_lt term MAX_NUMBER) refl is yields_not nor
 
 -- a node that is to draw chooses, and owes nothing
-pub wants_draw : (term : ℕ) (phase : Phase) (owed : Option Load) → WantsDraw ≡ wanted_of term phase owed → (round : ℕ) × (record { phase = phase; owed = owed; term = term } ≡ free term (Choosing round))
+pub wants_draw : (term : ℕ) (phase : Phase) (owed : Option Load) → WantsDraw ≡ wanted_of term phase owed → (round : ℕ)
+    × (record { phase = phase; owed = owed; term = term } ≡ free term (Choosing round))
 wants_draw term (Choosing round) None h = (round, refl)
 wants_draw term (Active round id) None h = cc
 wants_draw term Passive None h = cc
@@ -111,7 +147,8 @@ wants_draw term Yielding None h = cc
 wants_draw term Yielding (Some m) h = cc
 
 -- a node that is to receive owes nothing
-pub wants_receipt : (term : ℕ) (phase : Phase) (owed : Option Load) → Receipt ≡ wanted_of term phase owed → (owed ≡ None) × Receives phase
+pub wants_receipt : (term : ℕ) (phase : Phase) (owed : Option Load) → Receipt ≡ wanted_of term phase owed
+    → (owed ≡ None) × Receives phase
 wants_receipt term (Choosing round) None h = cc
 wants_receipt term (Active round id) None h = (refl, tt)
 wants_receipt term Passive None h = (refl, tt)
@@ -123,7 +160,8 @@ wants_receipt term Yielding None h = (refl, tt)
 wants_receipt term Yielding (Some m) h = cc
 
 -- a node that is to send owes the load
-pub wants_send : (term : ℕ) (phase : Phase) (owed : Option Load) (l : Load) → Send l ≡ wanted_of term phase owed → owed ≡ Some l
+pub wants_send : (term : ℕ) (phase : Phase) (owed : Option Load) (l : Load) → Send l ≡ wanted_of term phase owed
+    → owed ≡ Some l
 wants_send term (Choosing round) None m h = cc
 wants_send term (Active round id) None m h = cc
 wants_send term Passive None m h = cc
@@ -135,7 +173,8 @@ wants_send term Yielding None m h = cc
 wants_send term Yielding (Some k) m h = cc
 
 -- a node that is to send doesn't lead
-pub owing_leads_not : (term : ℕ) (phase : Phase) (owed : Option Load) (l : Load) → Send l ≡ wanted_of term phase owed → ¬ (IsLeader phase)
+pub owing_leads_not : (term : ℕ) (phase : Phase) (owed : Option Load) (l : Load) → Send l ≡ wanted_of term phase owed
+    → ¬ (IsLeader phase)
 owing_leads_not term (Choosing round) owed m wants l = l
 owing_leads_not term (Active round id) owed m wants l = l
 owing_leads_not term Passive owed m wants l = l
@@ -143,7 +182,8 @@ owing_leads_not term (Leader round id) owed m wants l = absurd (leading_wants (S
 owing_leads_not term Yielding owed m wants l = l
 
 -- a node that wants neither a yield nor nothing doesn't lead
-pub wanting_leads_not : (term : ℕ) (phase : Phase) (owed : Option Load) (w : Wanted) → w ≡ wanted_of term phase owed → w ≢ WantsYield → w ≢ Nothing → ¬ (IsLeader phase)
+pub wanting_leads_not : (term : ℕ) (phase : Phase) (owed : Option Load) (w : Wanted) → w ≡ wanted_of term phase owed
+    → w ≢ WantsYield → w ≢ Nothing → ¬ (IsLeader phase)
 wanting_leads_not term (Choosing round) owed w wants yields_not nor l = l
 wanting_leads_not term (Active round id) owed w wants yields_not nor l = l
 wanting_leads_not term Passive owed w wants yields_not nor l = l
@@ -167,7 +207,8 @@ drawing (Sent l) h = absurd h
 drawing (Got l) h = absurd h
 drawing Yield h = absurd h
 
-pub choosing_draws : (n term round : ℕ) (s : NodeState) (e : Event) → s ≡ free term (Choosing round) → HasStep n s e → (id : ℕ) × (e ≡ Draw id)
+pub choosing_draws : (n term round : ℕ) (s : NodeState) (e : Event) → s ≡ free term (Choosing round) → HasStep n s e
+    → (id : ℕ) × (e ≡ Draw id)
 choosing_draws n term round s e is step =
     let P : NodeState → Type 0 = λ x. IsOfKind (wanted_of x.term x.phase x.owed) e in
     drawing e (subst P is (step_wanted n s e step.0 step.1))
@@ -179,14 +220,16 @@ receiving (Sent l) h = absurd h
 receiving (Got l) h = (l, refl)
 receiving Yield h = absurd h
 
-waiting_wants_receipt : (term : ℕ) (phase : Phase) (owed : Option Load) → owed ≡ None → Receives phase → wanted_of term phase owed ≡ Receipt
+waiting_wants_receipt : (term : ℕ) (phase : Phase) (owed : Option Load) → owed ≡ None → Receives phase
+    → wanted_of term phase owed ≡ Receipt
 waiting_wants_receipt term (Choosing round) owed is r = absurd r
 waiting_wants_receipt term (Active round id) owed is r = ap (wanted_of term (Active round id)) is
 waiting_wants_receipt term Passive owed is r = ap (wanted_of term Passive) is
 waiting_wants_receipt term (Leader round id) owed is r = absurd r
 waiting_wants_receipt term Yielding owed is r = ap (wanted_of term Yielding) is
 
-pub waiting_receives : (n : ℕ) (s : NodeState) (e : Event) → s.owed ≡ None → Receives s.phase → HasStep n s e → (l : Load) × (e ≡ Got l)
+pub waiting_receives : (n : ℕ) (s : NodeState) (e : Event) → s.owed ≡ None → Receives s.phase → HasStep n s e
+    → (l : Load) × (e ≡ Got l)
 waiting_receives n s e is r step =
     let P : Wanted → Type 0 = λ w. IsOfKind w e in
     receiving e (subst P (waiting_wants_receipt s.term s.phase s.owed is r) (step_wanted n s e step.0 step.1))
@@ -205,7 +248,8 @@ yielding term (Got l) true may h = absurd (subst (λ (w : Wanted). IsOfKind w (G
 yielding term Yield true may h = refl
 yielding term e false may h = absurd (subst (λ (w : Wanted). IsOfKind w e) (leading_last term may) h)
 
-leading_yields_of : (term : ℕ) (phase : Phase) (owed : Option Load) (e : Event) → IsLeader phase → IsOfKind (wanted_of term phase owed) e → e ≡ Yield
+leading_yields_of : (term : ℕ) (phase : Phase) (owed : Option Load) (e : Event) → IsLeader phase
+    → IsOfKind (wanted_of term phase owed) e → e ≡ Yield
 leading_yields_of term (Choosing round) owed e leads h = absurd leads
 leading_yields_of term (Active round id) owed e leads h = absurd leads
 leading_yields_of term Passive owed e leads h = absurd leads

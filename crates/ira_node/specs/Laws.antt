@@ -32,13 +32,16 @@ AStepOrAFault = (n : ℕ) (s : NodeState) (e : Event) → HasStep n s e ⊎ ((f 
 
 -- the hop of a message that a receipt makes owed is the received one's, raised, within the limit
 abbrev pub RaisedHopIsRecordable : Type 0
-RaisedHopIsRecordable = (n : ℕ) (s : NodeState) (m k : Msg) (t : NodeState) → NodeStep n s (Got (Message m)) t → t.owed ≡ Some (Message k) → (k.hop ≡ m.hop + 1) × (k.hop ≤ MAX_NUMBER)
+RaisedHopIsRecordable = (n : ℕ) (s : NodeState) (m k : Msg) (t : NodeState) → NodeStep n s (Got (Message m)) t
+    → t.owed ≡ Some (Message k) → (k.hop ≡ m.hop + 1) × (k.hop ≤ MAX_NUMBER)
 
 -- where a record may hold the numbers of the state and of the event, it may hold those of the next
 -- state
 abbrev pub NumbersStayRecordable : Type 0
-NumbersStayRecordable = (n : ℕ) (s : NodeState) (e : Event) (t : NodeState) → IsRingSize n → is_state s ≡ true → is_event e ≡ true → NodeStep n s e t → is_state t ≡ true
+NumbersStayRecordable = (n : ℕ) (s : NodeState) (e : Event) (t : NodeState) → IsRingSize n → is_state s ≡ true
+    → is_event e ≡ true → NodeStep n s e t → is_state t ≡ true
 
 -- where a record may hold the numbers of the state, it may hold those of what the node sends
 abbrev pub SendingsAreRecordable : Type 0
-SendingsAreRecordable = (n : ℕ) (s : NodeState) (l : Load) (t : NodeState) → is_state s ≡ true → NodeStep n s (Sent l) t → is_load l ≡ true
+SendingsAreRecordable = (n : ℕ) (s : NodeState) (l : Load) (t : NodeState) → is_state s ≡ true → NodeStep n s (Sent l) t
+    → is_load l ≡ true

@@ -18,25 +18,34 @@ pub data NodeStep (n : ℕ) (s : NodeState) (e : Event) (t : NodeState) : Type 0
   -- a node sends what it owes, and owes nothing more
   sends : (l : Load) → ¬ (IsLeader s.phase) → s.owed ≡ Some l → e ≡ Sent l → t ≡ free s.term s.phase → NodeStep n s e t
   -- a choosing node draws an ID of 1 to n, becomes active and owes its own message
-  draws : (term round id : ℕ) → s ≡ free term (Choosing round) → e ≡ Draw id → 1 ≤ id → id ≤ n → t ≡ owing term (Active round id) (Message (first_message round id)) → NodeStep n s e t
+  draws : (term round id : ℕ) → s ≡ free term (Choosing round) → e ≡ Draw id → 1 ≤ id → id ≤ n
+      → t ≡ owing term (Active round id) (Message (first_message round id)) → NodeStep n s e t
   -- a passive node passes each message on
-  passes : (term : ℕ) (m : Msg) → s ≡ free term Passive → e ≡ Got (Message m) → m.hop < MAX_NUMBER → t ≡ owing term Passive (Message (raised m)) → NodeStep n s e t
+  passes : (term : ℕ) (m : Msg) → s ≡ free term Passive → e ≡ Got (Message m) → m.hop < MAX_NUMBER
+      → t ≡ owing term Passive (Message (raised m)) → NodeStep n s e t
   -- an active node that receives a greater pair becomes passive and passes the message on
-  gives_in : (term round id : ℕ) (m : Msg) → s ≡ free term (Active round id) → e ≡ Got (Message m) → IsGreater m round id → m.hop < MAX_NUMBER → t ≡ owing term Passive (Message (raised m)) → NodeStep n s e t
+  gives_in : (term round id : ℕ) (m : Msg) → s ≡ free term (Active round id) → e ≡ Got (Message m)
+      → IsGreater m round id → m.hop < MAX_NUMBER → t ≡ owing term Passive (Message (raised m)) → NodeStep n s e t
   -- an active node purges a message with a lesser pair
-  purges : (term round id : ℕ) (m : Msg) → s ≡ free term (Active round id) → e ≡ Got (Message m) → IsLess m round id → t ≡ s → NodeStep n s e t
+  purges : (term round id : ℕ) (m : Msg) → s ≡ free term (Active round id) → e ≡ Got (Message m) → IsLess m round id
+      → t ≡ s → NodeStep n s e t
   -- an active node that receives its own pair before the whole way round passes it on as dirty
-  meets : (term round id : ℕ) (m : Msg) → s ≡ free term (Active round id) → e ≡ Got (Message m) → IsEqual m round id → m.hop < n → m.hop < MAX_NUMBER → t ≡ owing term (Active round id) (Message (dirtied m)) → NodeStep n s e t
+  meets : (term round id : ℕ) (m : Msg) → s ≡ free term (Active round id) → e ≡ Got (Message m) → IsEqual m round id
+      → m.hop < n → m.hop < MAX_NUMBER → t ≡ owing term (Active round id) (Message (dirtied m)) → NodeStep n s e t
   -- an active node whose message comes back dirty chooses again in the next round
-  ties : (term round id : ℕ) (m : Msg) → s ≡ free term (Active round id) → e ≡ Got (Message m) → IsEqual m round id → m.hop ≡ n → m.dirty ≡ true → round < MAX_NUMBER → t ≡ free term (Choosing (round + 1)) → NodeStep n s e t
+  ties : (term round id : ℕ) (m : Msg) → s ≡ free term (Active round id) → e ≡ Got (Message m) → IsEqual m round id
+      → m.hop ≡ n → m.dirty ≡ true → round < MAX_NUMBER → t ≡ free term (Choosing (round + 1)) → NodeStep n s e t
   -- an active node whose message comes back clean is the leader
-  wins : (term round id : ℕ) (m : Msg) → s ≡ free term (Active round id) → e ≡ Got (Message m) → IsEqual m round id → m.hop ≡ n → m.dirty ≡ false → t ≡ free term (Leader round id) → NodeStep n s e t
+  wins : (term round id : ℕ) (m : Msg) → s ≡ free term (Active round id) → e ≡ Got (Message m) → IsEqual m round id
+      → m.hop ≡ n → m.dirty ≡ false → t ≡ free term (Leader round id) → NodeStep n s e t
   -- a leader yields, and owes a reset with hop 1
   yields : IsLeader s.phase → e ≡ Yield → s.term < MAX_NUMBER → t ≡ owing s.term Yielding (Reset 1) → NodeStep n s e t
   -- a passive node passes a reset on that is not yet home, and chooses in the first round of the next term
-  restarts : (term h : ℕ) → s ≡ free term Passive → e ≡ Got (Reset h) → h < n → term < MAX_NUMBER → t ≡ owing (term + 1) (Choosing 1) (Reset (h + 1)) → NodeStep n s e t
+  restarts : (term h : ℕ) → s ≡ free term Passive → e ≡ Got (Reset h) → h < n → term < MAX_NUMBER
+      → t ≡ owing (term + 1) (Choosing 1) (Reset (h + 1)) → NodeStep n s e t
   -- a node that yielded gets its reset back from the whole way round, and chooses in the next term
-  comes_home : (term : ℕ) → s ≡ free term Yielding → e ≡ Got (Reset n) → term < MAX_NUMBER → t ≡ free (term + 1) (Choosing 1) → NodeStep n s e t
+  comes_home : (term : ℕ) → s ≡ free term Yielding → e ≡ Got (Reset n) → term < MAX_NUMBER
+      → t ≡ free (term + 1) (Choosing 1) → NodeStep n s e t
 
 -- the event leads on from the state
 abbrev pub HasStep : ℕ → NodeState → Event → Type 0

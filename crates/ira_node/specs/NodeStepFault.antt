@@ -10,7 +10,9 @@ use Rattle.ira_node.specs.declared.phase.Phase.{Phase}
 use Rattle.ira_node.specs.declared.phase.Phase.TheVariants.{Choosing, Active, Passive, Leader, Yielding}
 use Rattle.ira_node.specs.declared.node_state.NodeState.{NodeState}
 use Rattle.ira_node.specs.declared.step_fault.StepFault.{StepFault}
-use Rattle.ira_node.specs.declared.step_fault.StepFault.TheVariants.{Owes, NotOwed, NotChoosing, DrawRange, MustDraw, Ended, HopPast, RoundLimit, HopLimit, NotLeader, WrongReset, NotReset, TermLimit}
+use Rattle.ira_node.specs.declared.step_fault.StepFault.TheVariants.{Owes, NotOwed, NotChoosing, DrawRange, MustDraw}
+use Rattle.ira_node.specs.declared.step_fault.StepFault.TheVariants.{Ended, HopPast, RoundLimit, HopLimit, NotLeader}
+use Rattle.ira_node.specs.declared.step_fault.StepFault.TheVariants.{WrongReset, NotReset, TermLimit}
 use Rattle.ira_node.specs.Msg.{IsGreater, IsEqual}
 use Rattle.ira_node.specs.NodeState.{free, IsLeader, Receives}
 
@@ -44,26 +46,34 @@ pub data NodeStepFault (n : ℕ) (s : NodeState) (e : Event) (f : StepFault) : T
   -- a node that owes something neither draws nor receives nor yields
   owes : (l : Load) → ¬ (IsLeader s.phase) → s.owed ≡ Some l → ¬ (IsSending e) → f ≡ Owes → NodeStepFault n s e f
   -- it sends something other than what it owes
-  another : (l k : Load) → ¬ (IsLeader s.phase) → s.owed ≡ Some l → e ≡ Sent k → k ≢ l → f ≡ NotOwed → NodeStepFault n s e f
+  another : (l k : Load) → ¬ (IsLeader s.phase) → s.owed ≡ Some l → e ≡ Sent k → k ≢ l → f ≡ NotOwed
+      → NodeStepFault n s e f
   -- it sends something and owes nothing
   nothing_owed : (l : Load) → ¬ (IsLeader s.phase) → s.owed ≡ None → e ≡ Sent l → f ≡ NotOwed → NodeStepFault n s e f
   -- it yields and doesn't lead
   not_leader : ¬ (IsLeader s.phase) → s.owed ≡ None → e ≡ Yield → f ≡ NotLeader → NodeStepFault n s e f
   -- a choosing node receives
-  must_draw : (term round : ℕ) (l : Load) → s ≡ free term (Choosing round) → e ≡ Got l → f ≡ MustDraw → NodeStepFault n s e f
+  must_draw : (term round : ℕ) (l : Load) → s ≡ free term (Choosing round) → e ≡ Got l → f ≡ MustDraw
+      → NodeStepFault n s e f
   -- a choosing node draws an ID outside 1 to n
-  draw_range : (term round id : ℕ) → s ≡ free term (Choosing round) → e ≡ Draw id → (id < 1) ⊎ (n < id) → f ≡ DrawRange → NodeStepFault n s e f
+  draw_range : (term round id : ℕ) → s ≡ free term (Choosing round) → e ≡ Draw id → (id < 1) ⊎ (n < id) → f ≡ DrawRange
+      → NodeStepFault n s e f
   -- a node that isn't choosing draws
   not_choosing : (id : ℕ) → Receives s.phase → s.owed ≡ None → e ≡ Draw id → f ≡ NotChoosing → NodeStepFault n s e f
   -- a message that is to be passed on has a hop at the limit
-  hop_limit : (m : Msg) → s.owed ≡ None → e ≡ Got (Message m) → PassesOn n s.phase m → MAX_NUMBER ≤ m.hop → f ≡ HopLimit → NodeStepFault n s e f
+  hop_limit : (m : Msg) → s.owed ≡ None → e ≡ Got (Message m) → PassesOn n s.phase m → MAX_NUMBER ≤ m.hop → f ≡ HopLimit
+      → NodeStepFault n s e f
   -- an active node's own pair has crossed more links than the ring has
-  hop_past : (term round id : ℕ) (m : Msg) → s ≡ free term (Active round id) → e ≡ Got (Message m) → IsEqual m round id → n < m.hop → f ≡ HopPast → NodeStepFault n s e f
+  hop_past : (term round id : ℕ) (m : Msg) → s ≡ free term (Active round id) → e ≡ Got (Message m) → IsEqual m round id
+      → n < m.hop → f ≡ HopPast → NodeStepFault n s e f
   -- its message comes back dirty in the last round
-  round_limit : (term round id : ℕ) (m : Msg) → s ≡ free term (Active round id) → e ≡ Got (Message m) → IsEqual m round id → m.hop ≡ n → m.dirty ≡ true → MAX_NUMBER ≤ round → f ≡ RoundLimit → NodeStepFault n s e f
+  round_limit : (term round id : ℕ) (m : Msg) → s ≡ free term (Active round id) → e ≡ Got (Message m)
+      → IsEqual m round id → m.hop ≡ n → m.dirty ≡ true → MAX_NUMBER ≤ round → f ≡ RoundLimit → NodeStepFault n s e f
   -- a reset comes that isn't due
-  wrong_reset : (h : ℕ) → Receives s.phase → s.owed ≡ None → e ≡ Got (Reset h) → ¬ (IsDue n s.phase h) → f ≡ WrongReset → NodeStepFault n s e f
+  wrong_reset : (h : ℕ) → Receives s.phase → s.owed ≡ None → e ≡ Got (Reset h) → ¬ (IsDue n s.phase h) → f ≡ WrongReset
+      → NodeStepFault n s e f
   -- a reset that is due comes in the last term
-  last_reset : (h : ℕ) → s.owed ≡ None → e ≡ Got (Reset h) → IsDue n s.phase h → MAX_NUMBER ≤ s.term → f ≡ TermLimit → NodeStepFault n s e f
+  last_reset : (h : ℕ) → s.owed ≡ None → e ≡ Got (Reset h) → IsDue n s.phase h → MAX_NUMBER ≤ s.term → f ≡ TermLimit
+      → NodeStepFault n s e f
   -- a message comes to a node that yielded
   not_reset : (term : ℕ) (m : Msg) → s ≡ free term Yielding → e ≡ Got (Message m) → f ≡ NotReset → NodeStepFault n s e f

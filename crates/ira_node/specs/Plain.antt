@@ -12,10 +12,12 @@ abbrev pub is_plain : Option Load → Bool
 is_plain None = true
 is_plain (Some l) = not (is_reset l)
 
--- behind each event that version 1 has no reset is owed, whatever was before
+-- after each event that version 1 has no reset is owed, whatever was before
 abbrev pub OwesNoReset : Type 0
-OwesNoReset = (n : ℕ) (s : NodeState) (e : Event) (t : NodeState) → is_later e ≡ false → NodeStep n s e t → is_plain t.owed ≡ true
+OwesNoReset = (n : ℕ) (s : NodeState) (e : Event) (t : NodeState) → is_later e ≡ false → NodeStep n s e t
+    → is_plain t.owed ≡ true
 
 -- a node that owes none sends none
 abbrev pub SendsNoReset : Type 0
-SendsNoReset = (n : ℕ) (s : NodeState) (l : Load) (t : NodeState) → is_plain s.owed ≡ true → NodeStep n s (Sent l) t → is_reset l ≡ false
+SendsNoReset = (n : ℕ) (s : NodeState) (l : Load) (t : NodeState) → is_plain s.owed ≡ true → NodeStep n s (Sent l) t
+    → is_reset l ≡ false

@@ -1,6 +1,7 @@
 -- A helper, no definition: the node step as a function by cases, to which proofs tie the code. That
 -- it answers what the relations of NodeStep and NodeStepFault say is proved.
-use Rattle.std.specs.Prelude.{ℕ, ◌+◌, Bool, false, cond, ◌&&◌, not, ◌||◌, nat_eq, nat_lt, Option, Some, None, Result, Ok, Err}
+use Rattle.std.specs.Prelude.{ℕ, ◌+◌, Bool, false, cond, ◌&&◌, not, ◌||◌, nat_eq, nat_lt, Option, Some, None, Result}
+use Rattle.std.specs.Prelude.{Ok, Err}
 use mathlib.Core.Bool.{beq}
 use Rattle.ira_event.specs.Limits.{MAX_NUMBER}
 use Rattle.ira_event.specs.declared.msg.Msg.{Msg}
@@ -12,7 +13,9 @@ use Rattle.ira_node.specs.declared.phase.Phase.{Phase}
 use Rattle.ira_node.specs.declared.phase.Phase.TheVariants.{Choosing, Active, Passive, Leader, Yielding}
 use Rattle.ira_node.specs.declared.node_state.NodeState.{NodeState}
 use Rattle.ira_node.specs.declared.step_fault.StepFault.{StepFault}
-use Rattle.ira_node.specs.declared.step_fault.StepFault.TheVariants.{Owes, NotOwed, NotChoosing, DrawRange, MustDraw, Ended, HopPast, RoundLimit, HopLimit, NotLeader, WrongReset, NotReset, TermLimit}
+use Rattle.ira_node.specs.declared.step_fault.StepFault.TheVariants.{Owes, NotOwed, NotChoosing, DrawRange, MustDraw}
+use Rattle.ira_node.specs.declared.step_fault.StepFault.TheVariants.{Ended, HopPast, RoundLimit, HopLimit, NotLeader}
+use Rattle.ira_node.specs.declared.step_fault.StepFault.TheVariants.{WrongReset, NotReset, TermLimit}
 use Rattle.ira_node.specs.Msg.{first_message, raised, dirtied}
 use Rattle.ira_node.specs.NodeState.{free, owing}
 
@@ -39,7 +42,8 @@ passing m after = cond (nat_lt m.hop MAX_NUMBER) (Ok after) (Err HopLimit)
 -- an active node's own message came back
 abbrev pub back_answer : ℕ → ℕ → ℕ → Msg → Result NodeState StepFault
 back_answer term round id m =
-    cond m.dirty (cond (nat_lt round MAX_NUMBER) (Ok (free term (Choosing (round + 1)))) (Err RoundLimit)) (Ok (free term (Leader round id)))
+    cond m.dirty (cond (nat_lt round MAX_NUMBER) (Ok (free term (Choosing (round + 1)))) (Err RoundLimit))
+    (Ok (free term (Leader round id)))
 
 -- an active node got its own pair
 abbrev pub own_pair_answer : ℕ → ℕ → ℕ → ℕ → Msg → Result NodeState StepFault
@@ -86,7 +90,8 @@ restart_answer n term Yielding h = reset_answer (nat_eq h n) term (free (term + 
 -- a node that owes nothing drew
 abbrev pub drawn_answer : ℕ → ℕ → Phase → ℕ → Result NodeState StepFault
 drawn_answer n term (Choosing round) d =
-    cond (nat_lt 0 d && not (nat_lt n d)) (Ok (owing term (Active round d) (Message (first_message round d)))) (Err DrawRange)
+    cond (nat_lt 0 d && not (nat_lt n d)) (Ok (owing term (Active round d) (Message (first_message round d))))
+    (Err DrawRange)
 drawn_answer n term (Active round id) d = Err NotChoosing
 drawn_answer n term Passive d = Err NotChoosing
 drawn_answer n term (Leader round id) d = Err Ended

@@ -1,7 +1,8 @@
 -- Where logs have an order: each event stands in it after those that happened before it, so events of
 -- one node happened before one another by their numbers alone, and what is known of another node came
 -- with a receipt.
-use Rattle.std.proofs.Common.{◌≡◌, ◌≢◌, ℕ, zero, suc, ◌+◌, ◌-◌, ◌<◌, ◌≤◌, inl, inr, List, length, refl, ◌∙◌, ap, arith, take, Some}
+use Rattle.std.proofs.Common.{◌≡◌, ◌≢◌, ℕ, zero, suc, ◌+◌, ◌-◌, ◌<◌, ◌≤◌, inl, inr, List, length, refl, ◌∙◌, ap, arith}
+use Rattle.std.proofs.Common.{take, Some}
 use Rattle.ira_event.specs.declared.event.Event.{Event}
 use Rattle.ira_event.specs.declared.load.Load.{Load}
 use Rattle.ira_event.specs.Log.{Log}
@@ -22,7 +23,8 @@ numbered_event es zero e h = cc
 numbered_event es (suc a) e h = (omega arith, omega (arith, slice_get_within es a e h))
 
 -- both events are there
-pub before_within : (logs : List Log) (i a j b : ℕ) → Before logs i a j b → (1 ≤ a) × (a ≤ length (log_of logs i)) × (1 ≤ b) × (b ≤ length (log_of logs j))
+pub before_within : (logs : List Log) (i a j b : ℕ) → Before logs i a j b → (1 ≤ a) × (a ≤ length (log_of logs i))
+    × (1 ≤ b) × (b ≤ length (log_of logs j))
 before_within logs i a j b (own e l one lower upper) = rw (← e) (one, (omega arith), (omega arith), upper)
 before_within logs i a j b (message e pair) =
     let s = numbered_event (log_of logs i) a _ pair.sends in
@@ -33,8 +35,9 @@ before_within logs i a j b (onward f g) =
     let y = before_within logs _ _ _ _ g in
     (x.0, x.1, y.2, y.3)
 
--- what is known at an event happened before what comes behind that event
-pub known_before : (logs : List Log) (i a k s j r : ℕ) → AtOrBefore logs i a k s → Before logs k s j r → Before logs i a j r
+-- what is known at an event happened before what comes after that event
+pub known_before : (logs : List Log) (i a k s j r : ℕ) → AtOrBefore logs i a k s → Before logs k s j r
+    → Before logs i a j r
 known_before logs i a k s j r (inl e) before = rw (e.0, e.1) before
 known_before logs i a k s j r (inr h) before = onward h before
 
@@ -57,7 +60,8 @@ module _ (logs : List Log) (order : List ℕ) (o : IsOrder logs order) where
       let s = stands order (length order) j (b - 1) (omega arith) room in
       (s.0, (slice_get-get_or order s.0 0 s.1 ∙ ap Some s.2, omega (arith, s.3)))
 
-  pub before_stands : (i a j b : ℕ) → Before logs i a j b → (s t : ℕ) → StandsAt order s i a → StandsAt order t j b → s < t
+  pub before_stands : (i a j b : ℕ) → Before logs i a j b → (s t : ℕ) → StandsAt order s i a → StandsAt order t j b
+      → s < t
   before_stands i a j b (own e l one lower upper) s t si tj = elim (cases_lt s t) [
     | inl fine ↦ fine
     | inr late ↦ (let tj' = rw (← e) at tj in absurd (omega (arith, occurrences_mono order t s i late, si.1, tj'.1)))
@@ -84,7 +88,16 @@ module _ (logs : List Log) (order : List ℕ) (o : IsOrder logs order) where
   -- what comes from another node came with a receipt
   pub came_with : (i a j b : ℕ) → Before logs i a j b → i ≢ j → CameWith logs i a j b
   came_with i a j b (own e l one lower upper) ne = absurd (ne e)
-  came_with i a j b (message e pair) ne = record { receipt = b; sender = i; sending = a; upto = omega arith; link = e; pair = pair; known = inl (refl, refl) }
+  came_with i a j b (message e pair) ne =
+      record {
+        receipt = b;
+        sender = i;
+        sending = a;
+        upto = omega arith;
+        link = e;
+        pair = pair;
+        known = inl (refl, refl);
+      }
   came_with i a j b (onward {j = x} {b = y} f g) ne = elim (cases_eq x j) [
     | inr other ↦
         let c : CameWith logs x y j b = came_with x y j b g other in
@@ -113,12 +126,14 @@ module _ (logs : List Log) (order : List ℕ) (o : IsOrder logs order) where
   ]
 
   -- what comes from another node before an event that is no receipt comes before the event below it
-  pub steady : (i a j b : ℕ) → Before logs i a j (suc b) → i ≢ j → ((m : Load) → numbered (log_of logs j) (suc b) ≡ Some (Got m) → ⊥) → Before logs i a j b
+  pub steady : (i a j b : ℕ) → Before logs i a j (suc b) → i ≢ j
+      → ((m : Load) → numbered (log_of logs j) (suc b) ≡ Some (Got m) → ⊥) → Before logs i a j b
   steady i a j b h ne quiet =
       let c : CameWith logs i a j (suc b) = came_with i a j (suc b) h ne in
       let at_j : numbered (log_of logs j) c.receipt ≡ Some (Got c.pair.taken) = rw c.link at c.pair.receives in
       let w = numbered_event (log_of logs j) c.receipt _ at_j in
-      let arrived : Before logs i a j c.receipt = known_before logs i a c.sender c.sending j c.receipt c.known (message c.link c.pair) in
+      let arrived : Before logs i a j c.receipt =
+      known_before logs i a c.sender c.sending j c.receipt c.known (message c.link c.pair) in
       elim (cases_eq c.receipt (suc b)) [
         | inl same ↦ (let r = rw same at at_j in absurd (quiet c.pair.taken r))
         | inr lower ↦ elim (cases_eq c.receipt b) [

@@ -1,5 +1,6 @@
 -- How the count of an event follows from that of an event before it.
-use Rattle.std.proofs.Common.{◌≡◌, ◌≢◌, ℕ, zero, suc, ◌+◌, ◌<◌, ◌≤◌, inl, inr, List, [], length, refl, sym, ◌∙◌, ap, arith, take, get_or, Some, add-one, add-zero, ◌↔◌, IsTrue, not, nat_eq}
+use Rattle.std.proofs.Common.{◌≡◌, ◌≢◌, ℕ, zero, suc, ◌+◌, ◌<◌, ◌≤◌, inl, inr, List, [], length, refl, sym, ◌∙◌, ap}
+use Rattle.std.proofs.Common.{arith, take, get_or, Some, add-one, add-zero, ◌↔◌, IsTrue, not, nat_eq}
 use Rattle.std.specs.List.{cons_option}
 use Rattle.std.specs.Prelude.{slice_get}
 use Rattle.ira_event.specs.declared.event.Event.{Event}
@@ -49,24 +50,34 @@ count_first logs j i = record {
   within = omega arith;
   events = λ a one. (
     λ h. absurd (omega arith),
-    λ h. absurd (elim h [ inl e ↦ omega (arith, e.1) | inr before ↦ (let w = before_within logs i a j 0 before in omega (arith, w.2)) ]),
+    λ h. absurd (elim h [
+      | inl e ↦ omega (arith, e.1)
+      | inr before ↦ (let w = before_within logs i a j 0 before in omega (arith, w.2))
+    ]),
   );
 }
 
 -- a receipt has its sending
-pub sending_before : (logs : List Log) → Matches logs → (k b : ℕ) (m : Load) → k < length logs → slice_get (log_of logs (next (length logs) k)) b ≡ Some (Got m) → (a : ℕ) × IsPair logs k a (suc b)
+pub sending_before : (logs : List Log) → Matches logs → (k b : ℕ) (m : Load) → k < length logs
+    → slice_get (log_of logs (next (length logs) k)) b ≡ Some (Got m) → (a : ℕ) × IsPair logs k a (suc b)
 sending_before logs matches k b m lk is =
-    let within : b < length (log_of logs (next (length logs) k)) = slice_get_within (log_of logs (next (length logs) k)) b (Got m) is in
-    let e : get_or (log_of logs (next (length logs) k)) b (Draw 0) ≡ Got m = get_or_from_slice_get (log_of logs (next (length logs) k)) b (Got m) (Draw 0) is in
-    let rank : Ranked receipt (log_of logs (next (length logs) k)) (suc b) (length (got (take b (log_of logs (next (length logs) k))))) (Draw 0) = record {
+    let within : b < length (log_of logs (next (length logs) k)) =
+    slice_get_within (log_of logs (next (length logs) k)) b (Got m) is in
+    let e : get_or (log_of logs (next (length logs) k)) b (Draw 0) ≡ Got m =
+    get_or_from_slice_get (log_of logs (next (length logs) k)) b (Got m) (Draw 0) is in
+    let rank : Ranked receipt (log_of logs (next (length logs) k)) (suc b)
+    (length (got (take b (log_of logs (next (length logs) k))))) (Draw 0) = record {
       place = b;
       below = omega arith;
       rank = refl;
-      next_rank = rank_more receipt (log_of logs (next (length logs) k)) b (Draw 0) within ∙ ap (λ (x : Event). length (got (take b (log_of logs (next (length logs) k)))) + length (cons_option (receipt x) [])) e;
+      next_rank = rank_more receipt (log_of logs (next (length logs) k)) b (Draw 0) within
+          ∙ ap (λ (x : Event). length (got (take b (log_of logs (next (length logs) k)))) + length
+          (cons_option (receipt x) [])) e;
       message = m;
       is = ap receipt e;
     } in
-    let p = pair_of logs k (suc b) (length (got (take b (log_of logs (next (length logs) k))))) matches lk (omega arith) rank in
+    let p = pair_of logs k (suc b) (length (got (take b (log_of logs (next (length logs) k))))) matches lk (omega arith)
+    rank in
     (suc p.0.place, p.1)
 
 module _ (logs : List Log) (order : List ℕ) (o : IsOrder logs order) where
@@ -81,9 +92,13 @@ module _ (logs : List Log) (order : List ℕ) (o : IsOrder logs order) where
   }
 
   -- of its own node an event comes after those that it counts, but itself
-  pub own_test : (i a j b n : ℕ) → i ≡ j → 1 ≤ a → a ≤ n → IsCount logs j b i n → IsTrue (not (nat_eq a b)) ↔ Before logs i a j b
+  pub own_test : (i a j b n : ℕ) → i ≡ j → 1 ≤ a → a ≤ n → IsCount logs j b i n
+      → IsTrue (not (nat_eq a b)) ↔ Before logs i a j b
   own_test i a j b n same one l count = (
-    λ t. elim ((count.events a one).0 l) [ inl e ↦ absurd (let ne : a ≢ b = grind (arith, nat_tests) in ne e.1) | inr before ↦ before ],
+    λ t. elim ((count.events a one).0 l) [
+      | inl e ↦ absurd (let ne : a ≢ b = grind (arith, nat_tests) in ne e.1)
+      | inr before ↦ before
+    ],
     λ before.
         let before' : Before logs j a j b = rw same at before in
         let less : a < b = before_own logs order o j a b before' in
@@ -91,7 +106,9 @@ module _ (logs : List Log) (order : List ℕ) (o : IsOrder logs order) where
   )
 
   -- an event that is no receipt counts of the other nodes what the one before it does
-  pub count_stays : (j b i n : ℕ) → j < length logs → i ≢ j → suc b ≤ length (log_of logs j) → ((m : Load) → numbered (log_of logs j) (suc b) ≡ Some (Got m) → ⊥) → IsCount logs j b i n → IsCount logs j (suc b) i n
+  pub count_stays : (j b i n : ℕ) → j < length logs → i ≢ j → suc b ≤ length (log_of logs j)
+      → ((m : Load) → numbered (log_of logs j) (suc b) ≡ Some (Got m) → ⊥) → IsCount logs j b i n
+      → IsCount logs j (suc b) i n
   count_stays j b i n lj ne l quiet count = record {
     within = count.within;
     events = λ a one. (
@@ -99,31 +116,43 @@ module _ (logs : List Log) (order : List ℕ) (o : IsOrder logs order) where
         | inl e ↦ absurd (ne e.0)
         | inr before ↦ (let w = before_within logs i a j b before in onward before (own refl lj w.2 (omega arith) l))
       ]),
-      λ h. (count.events a one).1 (elim h [ inl e ↦ absurd (ne e.0) | inr before ↦ inr (steady logs order o i a j b before ne quiet) ]),
+      λ h. (count.events a one).1 (elim h [
+        | inl e ↦ absurd (ne e.0)
+        | inr before ↦ inr (steady logs order o i a j b before ne quiet)
+      ]),
     );
   }
 
   -- a receipt counts of the other nodes what its sending does
-  pub count_taken : (k a b i n : ℕ) → i ≢ next (length logs) k → IsPair logs k a b → IsCount logs k a i n → IsCount logs (next (length logs) k) b i n
+  pub count_taken : (k a b i n : ℕ) → i ≢ next (length logs) k → IsPair logs k a b → IsCount logs k a i n
+      → IsCount logs (next (length logs) k) b i n
   count_taken k a b i n ne pair count = record {
     within = count.within;
     events = λ c one. (
       λ h. inr (known_before logs i c k a (next (length logs) k) b ((count.events c one).0 h) (message refl pair)),
-      λ h. (count.events c one).1 (elim h [ inl e ↦ absurd (ne e.0) | inr before ↦ known c (came_with logs order o i c (next (length logs) k) b before ne) ]),
+      λ h. (count.events c one).1 (elim h [
+        | inl e ↦ absurd (ne e.0)
+        | inr before ↦ known c (came_with logs order o i c (next (length logs) k) b before ne)
+      ]),
     );
   }
     where
       known : (c : ℕ) → CameWith logs i c (next (length logs) k) b → AtOrBefore logs i c k a
       known c came =
-          let at : next (length logs) k < length logs = (let z : next (length logs) k < length logs = next_below (length logs) k pair.link in z) in
-          let same : came.sender ≡ k = prev_next (length logs) (next (length logs) k) came.sender at came.pair.link came.link ∙ sym (prev_next (length logs) (next (length logs) k) k at pair.link refl) in
+          let at : next (length logs) k < length logs =
+          (let z : next (length logs) k < length logs = next_below (length logs) k pair.link in z) in
+          let same : came.sender ≡ k =
+          prev_next (length logs) (next (length logs) k) came.sender at came.pair.link came.link
+          ∙ sym (prev_next (length logs) (next (length logs) k) k at pair.link refl) in
           let pair' : IsPair logs k came.sending came.receipt = rw same at came.pair in
           let known' : AtOrBefore logs i c k came.sending = rw same at came.known in
           let l : came.sending ≤ a = sent_later logs k came.sending came.receipt a b pair' pair came.upto in
           elim (cases_eq came.sending a) [
             | inl e ↦ rw (← e) known'
             | inr other ↦
-                let before : Before logs k came.sending k a = own refl pair.link (one_of logs k came.sending came.receipt pair').0 (omega arith) (one_of logs k a b pair).1 in
+                let before : Before logs k came.sending k a =
+                own refl pair.link (one_of logs k came.sending came.receipt pair').0 (omega arith)
+                (one_of logs k a b pair).1 in
                 inr (known_before logs i c k came.sending k a known' before)
           ]
 
@@ -132,30 +161,48 @@ module _ (logs : List Log) (order : List ℕ) (o : IsOrder logs order) where
       (covers : Covers logs at)
       (stamped : CountsSent logs stamps at) where
     -- a receipt up to there counts as its sending
-    counts_receipt : (k b : ℕ) (m : Load) → k < length logs → suc b ≤ at (next (length logs) k) → slice_get (log_of logs (next (length logs) k)) b ≡ Some (Got m) → CountsAt logs stamps (next (length logs) k) (suc b)
+    counts_receipt : (k b : ℕ) (m : Load) → k < length logs → suc b ≤ at (next (length logs) k)
+        → slice_get (log_of logs (next (length logs) k)) b ≡ Some (Got m)
+        → CountsAt logs stamps (next (length logs) k) (suc b)
     counts_receipt k b m lk l is =
         let p = sending_before logs matches k b m lk is in
-        stamped k p.0 (suc b) p.1 (covers_consistent logs at covers k p.0 (next (length logs) k) (suc b) (message refl p.1) l)
+        stamped k p.0 (suc b) p.1
+        (covers_consistent logs at covers k p.0 (next (length logs) k) (suc b) (message refl p.1) l)
 
-    counts_other : (j b : ℕ) (e : Event) → j < length logs → slice_get (log_of logs j) b ≡ Some e → ((m : Load) → e ≡ Got m → ⊥) → CountsAt logs stamps j b → CountsAt logs stamps j (suc b)
+    counts_other : (j b : ℕ) (e : Event) → j < length logs → slice_get (log_of logs j) b ≡ Some e
+        → ((m : Load) → e ≡ Got m → ⊥) → CountsAt logs stamps j b → CountsAt logs stamps j (suc b)
     counts_other j b e lj is never before i li ne =
         let within : b < length (log_of logs j) = slice_get_within (log_of logs j) b e is in
-        let same : receipts_by logs j (suc b) ≡ receipts_by logs j b = no_more e (get_or_from_slice_get (log_of logs j) b e (Draw 0) is) never within in
-        rw same (count_stays j b i _ lj ne (omega arith) (λ m q. never m (let z : Some e ≡ Some (Got m) = sym is ∙ q in cc)) (before i li ne))
+        let same : receipts_by logs j (suc b) ≡ receipts_by logs j b =
+        no_more e (get_or_from_slice_get (log_of logs j) b e (Draw 0) is) never within in
+        rw same (count_stays j b i _ lj ne (omega arith) (λ m q. never m (let z : Some e ≡ Some (Got m) = sym is ∙ q in
+        cc)) (before i li ne))
       where
-        no_more : (e : Event) → get_or (log_of logs j) b (Draw 0) ≡ e → ((m : Load) → e ≡ Got m → ⊥) → b < length (log_of logs j) → receipts_by logs j (suc b) ≡ receipts_by logs j b
+        no_more : (e : Event) → get_or (log_of logs j) b (Draw 0) ≡ e → ((m : Load) → e ≡ Got m → ⊥)
+            → b < length (log_of logs j) → receipts_by logs j (suc b) ≡ receipts_by logs j b
         no_more (Got m) at_e never l = absurd (never m refl)
-        no_more (Sent m) at_e never l = rw (← add-one b) (rank_more receipt (log_of logs j) b (Draw 0) l ∙ ap (λ (x : Event). receipts_by logs j b + length (cons_option (receipt x) [])) at_e ∙ add-zero (receipts_by logs j b))
-        no_more (Draw m) at_e never l = rw (← add-one b) (rank_more receipt (log_of logs j) b (Draw 0) l ∙ ap (λ (x : Event). receipts_by logs j b + length (cons_option (receipt x) [])) at_e ∙ add-zero (receipts_by logs j b))
-        no_more Yield at_e never l = rw (← add-one b) (rank_more receipt (log_of logs j) b (Draw 0) l ∙ ap (λ (x : Event). receipts_by logs j b + length (cons_option (receipt x) [])) at_e ∙ add-zero (receipts_by logs j b))
+        no_more (Sent m) at_e never l =
+            rw (← add-one b) (rank_more receipt (log_of logs j) b (Draw 0) l
+            ∙ ap (λ (x : Event). receipts_by logs j b + length (cons_option (receipt x) [])) at_e
+            ∙ add-zero (receipts_by logs j b))
+        no_more (Draw m) at_e never l =
+            rw (← add-one b) (rank_more receipt (log_of logs j) b (Draw 0) l
+            ∙ ap (λ (x : Event). receipts_by logs j b + length (cons_option (receipt x) [])) at_e
+            ∙ add-zero (receipts_by logs j b))
+        no_more Yield at_e never l =
+            rw (← add-one b) (rank_more receipt (log_of logs j) b (Draw 0) l
+            ∙ ap (λ (x : Event). receipts_by logs j b + length (cons_option (receipt x) [])) at_e
+            ∙ add-zero (receipts_by logs j b))
 
     -- where each receipt counts as its sending, each event's counters count
     pub counts_all : (j b : ℕ) → j < length logs → b ≤ at j → b ≤ length (log_of logs j) → CountsAt logs stamps j b
     counts_all j zero lj l within = λ i li ne. count_first logs j i
     counts_all j (suc b) lj l within =
-        by_event (get_or (log_of logs j) b (Draw 0)) (slice_get-get_or (log_of logs j) b (Draw 0) (omega arith)) (counts_all j b lj (omega arith) (omega arith))
+        by_event (get_or (log_of logs j) b (Draw 0)) (slice_get-get_or (log_of logs j) b (Draw 0) (omega arith))
+        (counts_all j b lj (omega arith) (omega arith))
       where
-        by_event : (e : Event) → slice_get (log_of logs j) b ≡ Some e → CountsAt logs stamps j b → CountsAt logs stamps j (suc b)
+        by_event : (e : Event) → slice_get (log_of logs j) b ≡ Some e → CountsAt logs stamps j b
+            → CountsAt logs stamps j (suc b)
         by_event (Got m) is before =
             let e : next (length logs) (prev (length logs) j) ≡ j = next_prev (length logs) j lj in
             let is' : slice_get (log_of logs (next (length logs) (prev (length logs) j))) b ≡ Some (Got m) = rw e is in

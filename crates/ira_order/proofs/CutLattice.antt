@@ -9,12 +9,14 @@ use Rattle.ira_order.proofs.Acyclic.{before_within}
 use Rattle.ira_order.proofs.Bridge.{before_places}
 
 -- what counts the events up to one event holds all that happened before what it holds
-pub counts_hold : (logs : List Log) (j b : ℕ) (at : ℕ → ℕ) → ((i : ℕ) → i < length logs → IsCount logs j b i (at i)) → HoldsAllBefore logs at
+pub counts_hold : (logs : List Log) (j b : ℕ) (at : ℕ → ℕ) → ((i : ℕ) → i < length logs → IsCount logs j b i (at i))
+    → HoldsAllBefore logs at
 counts_hold logs j b at counts i a k c before held =
     let p = before_places logs i a k c before in
     let w = before_within logs i a k c before in
     let known : AtOrBefore logs k c j b = ((counts k p.1).events c w.2).0 held in
-    let known_too : AtOrBefore logs i a j b = inr (elim known [ inl e ↦ rw (← e.0, ← e.1) before | inr h ↦ onward before h ]) in
+    let known_too : AtOrBefore logs i a j b =
+    inr (elim known [ inl e ↦ rw (← e.0, ← e.1) before | inr h ↦ onward before h ]) in
     ((counts i p.0).events a w.0).1 known_too
 
 pub counts_cut : (logs : List Log) (j b : ℕ) (counts : List ℕ) → AreCounts logs j b counts → IsConsistentCut logs counts
@@ -24,7 +26,8 @@ counts_cut logs j b counts are = (
 )
 
 -- what holds an event holds as many events of each node as the event counts
-pub count_below : (logs : List Log) (j b i n : ℕ) (at : ℕ → ℕ) → IsCount logs j b i n → HoldsAllBefore logs at → b ≤ at j → n ≤ at i
+pub count_below : (logs : List Log) (j b i n : ℕ) (at : ℕ → ℕ) → IsCount logs j b i n → HoldsAllBefore logs at
+    → b ≤ at j → n ≤ at i
 count_below logs j b i zero at count holds held = omega arith
 count_below logs j b i (suc n) at count holds held = elim ((count.events (suc n) (omega arith)).0 (omega arith)) [
   | inl e ↦ (let held' : b ≤ at i = rw e.0 held in omega (arith, e.1))
@@ -36,7 +39,9 @@ pub count_self : (logs : List Log) (j b n : ℕ) → IsCount logs j b j n → b 
 count_self logs j zero n count = omega arith
 count_self logs j (suc b) n count = (count.events (suc b) (omega arith)).1 (inl (refl, refl))
 
-pub counts_least : (logs : List Log) (j b : ℕ) (counts cut : List ℕ) → j < length logs → AreCounts logs j b counts → IsConsistentCut logs cut → (b ≤ slice_index counts j) × (b ≤ slice_index cut j → (i : ℕ) → i < length logs → slice_index counts i ≤ slice_index cut i)
+pub counts_least : (logs : List Log) (j b : ℕ) (counts cut : List ℕ) → j < length logs → AreCounts logs j b counts
+    → IsConsistentCut logs cut → (b ≤ slice_index counts j)
+    × (b ≤ slice_index cut j → (i : ℕ) → i < length logs → slice_index counts i ≤ slice_index cut i)
 counts_least logs j b counts cut lj are cut_is = (
   count_self logs j b (slice_index counts j) (are.each j lj),
   λ held i li. count_below logs j b i (slice_index counts i) (slice_index cut) (are.each i li) cut_is.1 held,
@@ -44,14 +49,18 @@ counts_least logs j b counts cut lj are cut_is = (
 
 -- where each position is at most that of some part that lies at or below it everywhere, and the parts
 -- hold all before, so do the positions
-pub join_holds : (logs : List Log) (at : ℕ → ℕ) → ((j : ℕ) → j < length logs → (part : ℕ → ℕ) × HoldsAllBefore logs part × (at j ≤ part j) × ((i : ℕ) → i < length logs → part i ≤ at i)) → HoldsAllBefore logs at
+pub join_holds : (logs : List Log) (at : ℕ → ℕ)
+    → ((j : ℕ) → j < length logs → (part : ℕ → ℕ) × HoldsAllBefore logs part × (at j ≤ part j)
+    × ((i : ℕ) → i < length logs → part i ≤ at i)) → HoldsAllBefore logs at
 join_holds logs at parts i a j b before held =
     let p = before_places logs i a j b before in
     let part = parts j p.1 in
     omega (arith, part.1 i a j b before (omega (arith, part.2)), part.3 i p.0)
 
 -- where each position is at least that of some part that lies at or above it everywhere, likewise
-pub meet_holds : (logs : List Log) (at : ℕ → ℕ) → ((i : ℕ) → i < length logs → (part : ℕ → ℕ) × HoldsAllBefore logs part × (part i ≤ at i) × ((j : ℕ) → j < length logs → at j ≤ part j)) → HoldsAllBefore logs at
+pub meet_holds : (logs : List Log) (at : ℕ → ℕ)
+    → ((i : ℕ) → i < length logs → (part : ℕ → ℕ) × HoldsAllBefore logs part × (part i ≤ at i)
+    × ((j : ℕ) → j < length logs → at j ≤ part j)) → HoldsAllBefore logs at
 meet_holds logs at parts i a j b before held =
     let p = before_places logs i a j b before in
     let part = parts i p.0 in
@@ -60,7 +69,8 @@ meet_holds logs at parts i a j b before held =
 either : (a b : ℕ) → (a ≤ b) ⊎ (b ≤ a)
 either a b = grind arith
 
-pub join_cut : (logs : List Log) (a b cut : List ℕ) → IsConsistentCut logs a → IsConsistentCut logs b → IsJoin logs a b cut → IsConsistentCut logs cut
+pub join_cut : (logs : List Log) (a b cut : List ℕ) → IsConsistentCut logs a → IsConsistentCut logs b
+    → IsJoin logs a b cut → IsConsistentCut logs cut
 join_cut logs a b cut ca cb join = (
   record { places = join.places; within = λ i l. omega (arith, join.greater i l, ca.0.within i l, cb.0.within i l) },
   join_holds logs (slice_index cut) (λ j l. elim (either (slice_index a j) (slice_index b j)) [
@@ -69,7 +79,8 @@ join_cut logs a b cut ca cb join = (
   ]),
 )
 
-pub meet_cut : (logs : List Log) (a b cut : List ℕ) → IsConsistentCut logs a → IsConsistentCut logs b → IsMeet logs a b cut → IsConsistentCut logs cut
+pub meet_cut : (logs : List Log) (a b cut : List ℕ) → IsConsistentCut logs a → IsConsistentCut logs b
+    → IsMeet logs a b cut → IsConsistentCut logs cut
 meet_cut logs a b cut ca cb meet = (
   record { places = meet.places; within = λ i l. omega (arith, meet.lesser i l, ca.0.within i l, cb.0.within i l) },
   meet_holds logs (slice_index cut) (λ i l. elim (either (slice_index a i) (slice_index b i)) [

@@ -12,7 +12,8 @@ pub record AreFirst (logs : List Log) (n : ℕ) (nodes : List NodeDependencies) 
   pub many : length nodes ≡ n
   pub each : (j : ℕ) (node : NodeDependencies) → slice_get nodes j ≡ Some node → AreDependencies (log_of logs j) node
 
-pub one_node_more : (logs : List Log) (n : ℕ) (nodes : List NodeDependencies) (node : NodeDependencies) → AreFirst logs n nodes → AreDependencies (log_of logs n) node → AreFirst logs (n + 1) (nodes ++ node ∷ [])
+pub one_node_more : (logs : List Log) (n : ℕ) (nodes : List NodeDependencies) (node : NodeDependencies)
+    → AreFirst logs n nodes → AreDependencies (log_of logs n) node → AreFirst logs (n + 1) (nodes ++ node ∷ [])
 one_node_more logs n nodes node are its = record {
   many = omega (arith, length_push nodes node, are.many);
   each = λ j other at. elim (found_in_push nodes node j other at) [

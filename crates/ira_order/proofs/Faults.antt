@@ -1,5 +1,6 @@
 -- Logs have at most one fault of matching, and none where they match.
-use Rattle.std.proofs.Common.{◌≡◌, ℕ, ◌<◌, ◌≤◌, ◌⊎◌, ◌↔◌, List, inl, inr, length, sym, ◌∙◌, ap, arith, subst, Some, None, Ok, Err, Result}
+use Rattle.std.proofs.Common.{◌≡◌, ℕ, ◌<◌, ◌≤◌, ◌⊎◌, ◌↔◌, List, inl, inr, length, sym, ◌∙◌, ap, arith, subst, Some}
+use Rattle.std.proofs.Common.{None, Ok, Err, Result}
 use Rattle.std.specs.Prelude.{IsOk, slice_get}
 use Rattle.ira_event.specs.declared.event.Event.{Event}
 use Rattle.ira_event.specs.Log.{Log}
@@ -11,7 +12,8 @@ use Rattle.ira_order.specs.MatchFault.{HasNoSending, HasOther, IsLinkFault, IsMa
 
 module _ (writer reader : List Event) where
   missing_unpaired : (k : ℕ) → HasNoSending writer reader k → IsPaired writer reader k → ⊥
-  missing_unpaired k h p = (let e : numbered (sent writer) k ≡ Some h.0 = p h.0 h.1 in let n : numbered (sent writer) k ≡ None = h.2 in cc)
+  missing_unpaired k h p = (let e : numbered (sent writer) k ≡ Some h.0 = p h.0 h.1 in
+      let n : numbered (sent writer) k ≡ None = h.2 in cc)
 
   other_unpaired : (k : ℕ) → HasOther writer reader k → IsPaired writer reader k → ⊥
   other_unpaired k h p =
@@ -21,10 +23,12 @@ module _ (writer reader : List Event) where
       h.4 same
 
   missing_or_other : (k : ℕ) → HasNoSending writer reader k → HasOther writer reader k → ⊥
-  missing_or_other k h o = (let e : numbered (sent writer) k ≡ Some o.1 = o.3 in let n : numbered (sent writer) k ≡ None = h.2 in cc)
+  missing_or_other k h o = (let e : numbered (sent writer) k ≡ Some o.1 = o.3 in
+      let n : numbered (sent writer) k ≡ None = h.2 in cc)
 
   -- the least of two unpaired receipts is both
-  one_least : (k l : ℕ) → ((h : ℕ) → h < k → IsPaired writer reader h) → ((h : ℕ) → h < l → IsPaired writer reader h) → (IsPaired writer reader k → ⊥) → (IsPaired writer reader l → ⊥) → k ≡ l
+  one_least : (k l : ℕ) → ((h : ℕ) → h < k → IsPaired writer reader h) → ((h : ℕ) → h < l → IsPaired writer reader h)
+      → (IsPaired writer reader k → ⊥) → (IsPaired writer reader l → ⊥) → k ≡ l
   one_least k l before_k before_l not_k not_l = elim (below_or_not k l) [
     | inl low ↦ absurd (not_k (before_l k low))
     | inr high ↦ elim (below_or_not l k) [ inl low ↦ absurd (not_l (before_k l low)) | inr same ↦ omega arith ]
@@ -33,7 +37,8 @@ module _ (writer reader : List Event) where
       below_or_not : (a b : ℕ) → (a < b) ⊎ (b ≤ a)
       below_or_not a b = grind arith
 
-  pub one_link_fault : (i : ℕ) (f g : MatchFault) → IsLinkFault i writer reader f → IsLinkFault i writer reader g → f ≡ g
+  pub one_link_fault : (i : ℕ) (f g : MatchFault) → IsLinkFault i writer reader f → IsLinkFault i writer reader g
+      → f ≡ g
   one_link_fault i (NoSending a k) (NoSending b l) p q =
       let e : k ≡ l = one_least k l p.1 q.1 (missing_unpaired k p.2) (missing_unpaired l q.2) in
       let s : a ≡ b = p.0 ∙ sym q.0 in
@@ -49,7 +54,8 @@ module _ (writer reader : List Event) where
       let s : a ≡ b = p.0 ∙ sym q.0 in
       cc
 
-  pub link_unmatched : (i : ℕ) (f : MatchFault) → IsLinkFault i writer reader f → ((k : ℕ) → IsPaired writer reader k) → ⊥
+  pub link_unmatched : (i : ℕ) (f : MatchFault) → IsLinkFault i writer reader f → ((k : ℕ) → IsPaired writer reader k)
+      → ⊥
   link_unmatched i (NoSending a k) p all = missing_unpaired k p.2 (all k)
   link_unmatched i (Differs a k) p all = other_unpaired k p.2 (all k)
 
@@ -76,17 +82,21 @@ pub matched_exactly : (logs : List Log) → Matches logs → (f : MatchFault) �
 matched_exactly logs matches f = (λ e. (let z : ⊥ = cc in absurd z), λ h. absurd (unmatched logs f h matches))
 
 -- the answer where they don't
-pub faulty_exactly : (logs : List Log) (r : Result (Unit {0}) MatchFault) (f : MatchFault) → r ≡ Err f → IsMatchFault logs f → (g : MatchFault) → (r ≡ Err g) ↔ IsMatchFault logs g
+pub faulty_exactly : (logs : List Log) (r : Result (Unit {0}) MatchFault) (f : MatchFault) → r ≡ Err f
+    → IsMatchFault logs f → (g : MatchFault) → (r ≡ Err g) ↔ IsMatchFault logs g
 faulty_exactly logs r f is h g = (
   λ e. (let s : f ≡ g = cc in subst (IsMatchFault logs) s h),
   λ k. is ∙ ap Err (one_fault logs f g h k),
 )
 
-pub faulty_unmatched : (logs : List Log) (r : Result (Unit {0}) MatchFault) (f : MatchFault) → r ≡ Err f → IsMatchFault logs f → IsOk r ↔ Matches logs
+pub faulty_unmatched : (logs : List Log) (r : Result (Unit {0}) MatchFault) (f : MatchFault) → r ≡ Err f
+    → IsMatchFault logs f → IsOk r ↔ Matches logs
 faulty_unmatched logs r f is h = (λ ok. (let z : ⊥ = cc in absurd z), λ matches. absurd (unmatched logs f h matches))
 
 -- the fault of a link whose two logs were looked up
-pub link_fault : (logs : List Log) (i j : ℕ) (writer reader : Log) (f : MatchFault) → i < length logs → j ≡ next (length logs) i → ((h : ℕ) → h < i → LinkMatches logs h) → slice_get logs i ≡ Some writer → slice_get logs j ≡ Some reader → IsLinkFault i writer.events reader.events f → IsMatchFault logs f
+pub link_fault : (logs : List Log) (i j : ℕ) (writer reader : Log) (f : MatchFault) → i < length logs
+    → j ≡ next (length logs) i → ((h : ℕ) → h < i → LinkMatches logs h) → slice_get logs i ≡ Some writer
+    → slice_get logs j ≡ Some reader → IsLinkFault i writer.events reader.events f → IsMatchFault logs f
 link_fault logs i j writer reader f here is before at_i at_j fault =
     let w : log_of logs i ≡ writer.events = ap events_of at_i in
     let r : log_of logs (next (length logs) i) ≡ reader.events = ap (log_of logs) (sym is) ∙ ap events_of at_j in

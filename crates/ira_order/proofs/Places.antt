@@ -1,5 +1,6 @@
 -- Where a given receipt, sending or standing is found.
-use Rattle.std.proofs.Common.{◌≡◌, ℕ, zero, suc, ◌+◌, ◌<◌, ◌≤◌, inl, inr, List, [], ◌∷◌, length, refl, ap, arith, get_or, take, Option, Some, None, add-one}
+use Rattle.std.proofs.Common.{◌≡◌, ℕ, zero, suc, ◌+◌, ◌<◌, ◌≤◌, inl, inr, List, [], ◌∷◌, length, refl, ap, arith}
+use Rattle.std.proofs.Common.{get_or, take, Option, Some, None, add-one}
 use Rattle.std.specs.List.{filter_map, cons_option}
 use Rattle.ira_event.specs.declared.event.Event.{Event}
 use Rattle.ira_event.specs.declared.load.Load.{Load}
@@ -34,21 +35,27 @@ some_of : (o : Option Load) (k r : ℕ) → k ≤ r → r < k + length (cons_opt
 some_of None k r a b = absurd (omega arith)
 some_of (Some x) k r a b = (x, refl, omega arith)
 
-pub ranked : (h : Event → Option Load) (es : List Event) (n r : ℕ) (d : Event) → n ≤ length es → r < length (filter_map h (take n es)) → Ranked h es n r d
+pub ranked : (h : Event → Option Load) (es : List Event) (n r : ℕ) (d : Event) → n ≤ length es
+    → r < length (filter_map h (take n es)) → Ranked h es n r d
 ranked h es n r d within high =
     let c = crossing (λ t. length (filter_map h (take t es))) n r (omega arith) high in
-    let more : length (filter_map h (take (c.0 + 1) es)) ≡ length (filter_map h (take c.0 es)) + length (cons_option (h (get_or es c.0 d)) []) = rank_more h es c.0 d (omega (arith, c.1)) in
+    let more : length (filter_map h (take (c.0 + 1) es))
+    ≡ length (filter_map h (take c.0 es)) + length (cons_option (h (get_or es c.0 d)) []) =
+    rank_more h es c.0 d (omega (arith, c.1)) in
     let s = some_of (h (get_or es c.0 d)) (length (filter_map h (take c.0 es))) r c.2 (omega (arith, more, c.3)) in
-    let one : length (cons_option (h (get_or es c.0 d)) []) ≡ 1 = ap (λ (x : Option Load). length (cons_option x [])) s.1 in
+    let one : length (cons_option (h (get_or es c.0 d)) []) ≡ 1 =
+    ap (λ (x : Option Load). length (cons_option x [])) s.1 in
     record { place = c.0; below = c.1; rank = s.2; next_rank = omega (arith, more, s.2, one); message = s.0; is = s.1 }
 
 -- where a place stands for a given time
-pub stands : (order : List ℕ) (n i a : ℕ) → n ≤ length order → a < occurrences (take n order) i → (t : ℕ) × (t < n) × (get_or order t 0 ≡ i) × (occurrences (take t order) i ≡ a) × (occurrences (take (t + 1) order) i ≡ a + 1)
+pub stands : (order : List ℕ) (n i a : ℕ) → n ≤ length order → a < occurrences (take n order) i → (t : ℕ) × (t < n)
+    × (get_or order t 0 ≡ i) × (occurrences (take t order) i ≡ a) × (occurrences (take (t + 1) order) i ≡ a + 1)
 stands order n i a within high =
     let c = crossing (λ t. occurrences (take t order) i) n a (omega arith) high in
     let here : c.0 < length order = omega (arith, c.1) in
     elim (cases_eq (get_or order c.0 0) i) [
-      | inl same ↦ (let more = occurrences_same order c.0 i here same in (c.0, c.1, same, omega (arith, more, c.2, c.3), omega (arith, more, c.2, c.3)))
+      | inl same ↦ (let more = occurrences_same order c.0 i here same in
+          (c.0, c.1, same, omega (arith, more, c.2, c.3), omega (arith, more, c.2, c.3)))
       | inr other ↦ absurd (omega (arith, occurrences_other order c.0 i here other, c.2, c.3))
     ]
 
@@ -70,10 +77,16 @@ numbered_some (x ∷ xs) zero h = (x, refl)
 numbered_some (x ∷ xs) (suc k) h = numbered_some xs k (omega arith)
 
 -- where logs match, there are no more receipts than sendings
-pub fewer_receipts : (logs : List Log) (i : ℕ) → Matches logs → i < length logs → length (got (log_of logs (next (length logs) i))) ≤ length (sent (log_of logs i))
-fewer_receipts logs i matches l = elim (cases_lt (length (sent (log_of logs i))) (length (got (log_of logs (next (length logs) i))))) [
-  | inr fine ↦ fine
-  | inl more ↦
-      let m = numbered_some (got (log_of logs (next (length logs) i))) (length (sent (log_of logs i))) more in
-      absurd (omega (arith, numbered-within (sent (log_of logs i)) (suc (length (sent (log_of logs i)))) m.0 (matches i l (suc (length (sent (log_of logs i)))) m.0 m.1)))
-]
+pub fewer_receipts : (logs : List Log) (i : ℕ) → Matches logs → i < length logs
+    → length (got (log_of logs (next (length logs) i))) ≤ length (sent (log_of logs i))
+fewer_receipts logs i matches l =
+    elim (cases_lt (length (sent (log_of logs i))) (length (got (log_of logs (next (length logs) i))))) [
+      | inr fine ↦ fine
+      | inl more ↦
+          let m = numbered_some (got (log_of logs (next (length logs) i))) (length (sent (log_of logs i))) more in
+          absurd (omega (
+            arith,
+            numbered-within (sent (log_of logs i)) (suc (length (sent (log_of logs i)))) m.0
+                (matches i l (suc (length (sent (log_of logs i)))) m.0 m.1),
+          ))
+    ]

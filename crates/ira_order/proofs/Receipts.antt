@@ -1,5 +1,7 @@
 -- How many receipts there are, and their numbers in a log.
-use Rattle.std.proofs.Common.{◌≡◌, ℕ, zero, suc, ◌+◌, ◌-◌, ◌*◌, ◌<◌, ◌≤◌, ◌↔◌, inl, inr, List, false, [], ◌∷◌, ◌++◌, length, refl, sym, ◌∙◌, ap, arith, take, get_or, Some, length-append, slice_index, drop, add-one, leb, true}
+use Rattle.std.proofs.Common.{◌≡◌, ℕ, zero, suc, ◌+◌, ◌-◌, ◌*◌, ◌<◌, ◌≤◌, ◌↔◌, inl, inr, List, false, [], ◌∷◌, ◌++◌}
+use Rattle.std.proofs.Common.{length, refl, sym, ◌∙◌, ap, arith, take, get_or, Some, length-append, slice_index, drop}
+use Rattle.std.proofs.Common.{add-one, leb, true}
 use Rattle.std.specs.List.{cons_option, All}
 use Rattle.ira_event.specs.declared.event.Event.{Event}
 use Rattle.ira_event.specs.declared.event.Event.TheVariants.{Got, Draw}
@@ -27,7 +29,8 @@ received log = length (got log.events)
 abbrev no_log : Log
 no_log = record { version = 0; nodes = 0; place = 0; initiator = false; events = [] }
 
-received_is : (logs : List Log) (j : ℕ) → j < length logs → received (get_or logs j no_log) ≡ length (got (log_of logs j))
+received_is : (logs : List Log) (j : ℕ) → j < length logs
+    → received (get_or logs j no_log) ≡ length (got (log_of logs j))
 received_is logs j l = sym (ap (λ o. length (got (events_of o))) (slice_get-get_or logs j no_log l))
 
 -- a log has no more receipts than events
@@ -54,8 +57,10 @@ abbrev pub first_receipt : List Log → ℕ → ℕ
 first_receipt logs j = receipt_count (take j logs)
 
 -- and one node more
-pub first_more : (logs : List Log) (j : ℕ) → j < length logs → first_receipt logs (j + 1) ≡ first_receipt logs j + length (got (log_of logs j))
-first_more logs j l = sum_by_more received logs j no_log l ∙ ap (λ (x : ℕ). first_receipt logs j + x) (received_is logs j l)
+pub first_more : (logs : List Log) (j : ℕ) → j < length logs
+    → first_receipt logs (j + 1) ≡ first_receipt logs j + length (got (log_of logs j))
+first_more logs j l = sum_by_more received logs j no_log l
+    ∙ ap (λ (x : ℕ). first_receipt logs j + x) (received_is logs j l)
 
 pub first_all : (logs : List Log) → first_receipt logs (length logs) ≡ receipt_count logs
 first_all logs = ap receipt_count (take_all (length logs) logs (omega arith))
@@ -64,37 +69,46 @@ first_all logs = ap receipt_count (take_all (length logs) logs (omega arith))
 pub few_receipts : (logs : List Log) → AreLogs logs → receipt_count logs ≤ MAX_NODES * MAX_RECORDS
 few_receipts logs are =
     let each : All (λ log. received log ≤ 100000) logs =
-    All-from_get_or (λ log. received log ≤ 100000) logs no_log (λ i l. (let v = (are.valid i (get_or logs i no_log) (slice_get-get_or logs i no_log l)).count in omega (arith, receipts_le (get_or logs i no_log).events, v))) in
+    All-from_get_or (λ log. received log ≤ 100000) logs no_log (λ i l.
+    (let v = (are.valid i (get_or logs i no_log) (slice_get-get_or logs i no_log l)).count in
+    omega (arith, receipts_le (get_or logs i no_log).events, v))) in
     omega (arith, sum_by-le received 100000 logs each, are.ring.1)
 
 pub few_first : (logs : List Log) (j : ℕ) → AreLogs logs → first_receipt logs j ≤ MAX_NODES * MAX_RECORDS
 few_first logs j are = omega (arith, few_receipts logs are, sum_by-take-le received logs j)
 
--- a receipt more or none, behind the first n events
-pub got_more : (es : List Event) (n : ℕ) (e : Event) → slice_get es n ≡ Some e → length (got (take (n + 1) es)) ≡ length (got (take n es)) + length (cons_option (receipt e) [])
+-- a receipt more or none, after the first n events
+pub got_more : (es : List Event) (n : ℕ) (e : Event) → slice_get es n ≡ Some e
+    → length (got (take (n + 1) es)) ≡ length (got (take n es)) + length (cons_option (receipt e) [])
 got_more es n e is =
     rank_more receipt es n (Draw 0) (slice_get_within es n e is)
-    ∙ ap (λ (x : Event). length (got (take n es)) + length (cons_option (receipt x) [])) (get_or_from_slice_get es n e (Draw 0) is)
+    ∙ ap (λ (x : Event). length (got (take n es)) + length (cons_option (receipt x) []))
+    (get_or_from_slice_get es n e (Draw 0) is)
 
 -- the numbers of the receipts among the first n events
 pub record HasNumbers (es : List Event) (n : ℕ) (numbers : List ℕ) : Type 0 where
   pub count : length numbers ≡ length (got (take n es))
   pub upto : (r x : ℕ) → r < length numbers → (slice_index numbers r ≤ x) ↔ (r < length (got (take x es)))
 
-pub number_over : (es : List Event) (n : ℕ) (e : Event) (numbers : List ℕ) → slice_get es n ≡ Some e → ((m : Load) → e ≡ Got m → ⊥) → HasNumbers es n numbers → HasNumbers es (n + 1) numbers
+pub number_over : (es : List Event) (n : ℕ) (e : Event) (numbers : List ℕ) → slice_get es n ≡ Some e
+    → ((m : Load) → e ≡ Got m → ⊥) → HasNumbers es n numbers → HasNumbers es (n + 1) numbers
 number_over es n e numbers is never h = record {
   count = omega (arith, h.count, got_more es n e is, receives_nothing e never);
   upto = h.upto;
 }
 
-pub number_more : (es : List Event) (n : ℕ) (m : Load) (numbers : List ℕ) → slice_get es n ≡ Some (Got m) → HasNumbers es n numbers → HasNumbers es (n + 1) (numbers ++ (n + 1) ∷ [])
+pub number_more : (es : List Event) (n : ℕ) (m : Load) (numbers : List ℕ) → slice_get es n ≡ Some (Got m)
+    → HasNumbers es n numbers → HasNumbers es (n + 1) (numbers ++ (n + 1) ∷ [])
 number_more es n m numbers is h = record {
   count = omega (arith, length-append numbers ((n + 1) ∷ []), h.count, one_more);
   upto = λ r x l. elim (cases_lt r (length numbers)) [
     | inl below ↦ rw (get_or_append_left numbers ((n + 1) ∷ []) 0 r below) (h.upto r x below)
     | inr top ↦
         let here : r ≡ length numbers = omega (arith, length-append numbers ((n + 1) ∷ []), l) in
-        let at : slice_index (numbers ++ (n + 1) ∷ []) r ≡ n + 1 = ap (slice_index (numbers ++ (n + 1) ∷ [])) here ∙ get_or-append_right numbers ((n + 1) ∷ []) (length numbers) (length numbers) 0 refl (omega arith) ∙ nothing_over in
+        let at : slice_index (numbers ++ (n + 1) ∷ []) r ≡ n + 1 =
+        ap (slice_index (numbers ++ (n + 1) ∷ [])) here
+        ∙ get_or-append_right numbers ((n + 1) ∷ []) (length numbers) (length numbers) 0 refl (omega arith)
+        ∙ nothing_over in
         rw at (
           λ le. omega (arith, here, h.count, one_more, rank_mono receipt es (n + 1) x le),
           λ more. elim (cases_lt n x) [
@@ -111,11 +125,14 @@ number_more es n m numbers is h = record {
     nothing_over : get_or ((n + 1) ∷ []) (length numbers - length numbers) 0 ≡ n + 1
     nothing_over = (let z : length numbers - length numbers ≡ 0 = omega arith in rw z refl)
 
-pub numbers_end : (es : List Event) (n : ℕ) (numbers : List ℕ) → length es ≤ n → HasNumbers es n numbers → AreReceipts es numbers
-numbers_end es n numbers past h = record { count = h.count ∙ ap (λ x. length (got x)) (take_all n es past); upto = h.upto }
+pub numbers_end : (es : List Event) (n : ℕ) (numbers : List ℕ) → length es ≤ n → HasNumbers es n numbers
+    → AreReceipts es numbers
+numbers_end es n numbers past h =
+    record { count = h.count ∙ ap (λ x. length (got x)) (take_all n es past); upto = h.upto }
 
 -- the next event of those ahead
-pub next_ahead : (es : List Event) (n : ℕ) (e : Event) (rest : List Event) → e ∷ rest ≡ drop n es → (slice_get es n ≡ Some e) × (rest ≡ drop (n + 1) es)
+pub next_ahead : (es : List Event) (n : ℕ) (e : Event) (rest : List Event) → e ∷ rest ≡ drop n es
+    → (slice_get es n ≡ Some e) × (rest ≡ drop (n + 1) es)
 next_ahead es n e rest is = (at es n is, rw (add-one n) (behind es n is))
   where
     at : (es : List Event) (n : ℕ) → e ∷ rest ≡ drop n es → slice_get es n ≡ Some e
@@ -141,12 +158,14 @@ module _ (es : List Event) (b : ℕ) (numbers : List ℕ) (are : AreReceipts es 
   numbers_rise i k d l within low =
       let low' : slice_index numbers k ≤ b = leb-true _ _ (rw (get_or_default numbers k d 0 within) at low) in
       let up : k < length (got (take b es)) = (are.upto k b within).0 low' in
-      rw (get_or_default numbers i d 0 (omega arith)) (le-leb _ _ ((are.upto i b (omega arith)).1 (omega (arith, up, l))))
+      rw (get_or_default numbers i d 0 (omega arith))
+      (le-leb _ _ ((are.upto i b (omega arith)).1 (omega (arith, up, l))))
 
   fewer : length (got (take b es)) ≤ length numbers
   fewer = omega (arith, are.count, got_le es b)
 
-  pub numbers_point : (r : ℕ) → r ≤ length numbers → IsPartitionPoint (λ y. leb y b ≡ true) (λ y. leb y b ≡ false) numbers r → r ≡ length (got (take b es))
+  pub numbers_point : (r : ℕ) → r ≤ length numbers
+      → IsPartitionPoint (λ y. leb y b ≡ true) (λ y. leb y b ≡ false) numbers r → r ≡ length (got (take b es))
   numbers_point r bound point = elim (cases_lt r (length (got (take b es)))) [
     | inl less ↦
         let lr : r < length numbers = omega (arith, less, fewer) in
@@ -158,7 +177,8 @@ module _ (es : List Event) (b : ℕ) (numbers : List ℕ) (are : AreReceipts es 
       | inr ne ↦
           let less : length (got (take b es)) < r = omega arith in
           let lr : length (got (take b es)) < length numbers = omega (arith, less, bound) in
-          let below : leb (slice_index numbers (length (got (take b es)))) b ≡ true = point.0 (length (got (take b es))) 0 (omega arith) less in
+          let below : leb (slice_index numbers (length (got (take b es)))) b ≡ true =
+          point.0 (length (got (take b es))) 0 (omega arith) less in
           absurd (omega (arith, (are.upto (length (got (take b es))) b lr).0 (leb-true _ _ below)))
     ]
   ]

@@ -1,10 +1,12 @@
--- Rows of counters, one behind the other.
-use Rattle.std.proofs.Common.{◌≡◌, ℕ, zero, suc, ◌-◌, ◌*◌, ◌≤◌, List, length, ◌∙◌, arith, take, drop, replicate, length-drop}
+-- Rows of counters, one after the other.
+use Rattle.std.proofs.Common.{◌≡◌, ℕ, zero, suc, ◌-◌, ◌*◌, ◌≤◌, List, length, ◌∙◌, arith, take, drop, replicate}
+use Rattle.std.proofs.Common.{length-drop}
 use Rattle.ira_order.specs.Stamps.{IsRow}
 use Rattle.std.proofs.lemmas.List.{get_or-take, get_or-drop, get_or-replicate, length-replicate, length-take-le}
 
 -- where row g stands
-pub row_part : (n g : ℕ) (counters : List ℕ) → 1 ≤ g → g * n ≤ length counters → IsRow n counters g (take (g * n - (g * n - n)) (drop (g * n - n) counters))
+pub row_part : (n g : ℕ) (counters : List ℕ) → 1 ≤ g → g * n ≤ length counters
+    → IsRow n counters g (take (g * n - (g * n - n)) (drop (g * n - n) counters))
 row_part n zero counters some fits = absurd (omega arith)
 row_part n (suc r) counters some fits =
     let start : suc r * n - n ≡ r * n = omega arith in

@@ -1,5 +1,7 @@
 -- Each order of matched logs that are local runs is a run of the ring.
-use Rattle.std.proofs.Common.{◌≡◌, ◌≢◌, ℕ, zero, suc, ◌+◌, ◌<◌, ◌≤◌, ◌⊎◌, inl, inr, List, [], ◌∷◌, ◌++◌, length, refl, sym, ◌∙◌, ap, arith, get_or, take, drop, Option, Some, None, add-one, append-nil, add-zero}
+use Rattle.std.proofs.Common.{◌≡◌, ◌≢◌, ℕ, zero, suc, ◌+◌, ◌<◌, ◌≤◌, ◌⊎◌, inl, inr, List, [], ◌∷◌, ◌++◌, length, refl}
+use Rattle.std.proofs.Common.{sym, ◌∙◌, ap, arith, get_or, take, drop, Option, Some, None, add-one, append-nil}
+use Rattle.std.proofs.Common.{add-zero}
 use Rattle.std.specs.Prelude.{slice_get}
 use Rattle.std.specs.List.{cons_option}
 use Rattle.ira_event.specs.declared.event.Event.{Event}
@@ -36,7 +38,8 @@ prev_below n (suc i) l = omega arith
 
 -- the messages that link k holds when the nodes have made (at j) events each
 abbrev pub on_link : List Log → (ℕ → ℕ) → ℕ → List Load
-on_link logs at k = drop (length (got (take (at (next (length logs) k)) (log_of logs (next (length logs) k))))) (sent (take (at k) (log_of logs k)))
+on_link logs at k = drop (length (got (take (at (next (length logs) k)) (log_of logs (next (length logs) k)))))
+    (sent (take (at k) (log_of logs k)))
 
 module _ (logs : List Log) (at at' : ℕ → ℕ) (i : ℕ) (e : Event)
     (two : 2 ≤ length logs)
@@ -51,64 +54,91 @@ module _ (logs : List Log) (at at' : ℕ → ℕ) (i : ℕ) (e : Event)
   the_event = get_or_from_slice_get (log_of logs i) (at i) e (Draw 0) is
 
   sent_here : sent (take (at' i) (log_of logs i)) ≡ sent (take (at i) (log_of logs i)) ++ cons_option (sending e) []
-  sent_here = rw more (filter_map_more sending (log_of logs i) (at i) (Draw 0) within ∙ ap (λ (x : Event). sent (take (at i) (log_of logs i)) ++ cons_option (sending x) []) the_event)
+  sent_here = rw more (filter_map_more sending (log_of logs i) (at i) (Draw 0) within
+      ∙ ap (λ (x : Event). sent (take (at i) (log_of logs i)) ++ cons_option (sending x) []) the_event)
 
-  got_here : length (got (take (at' i) (log_of logs i))) ≡ length (got (take (at i) (log_of logs i))) + length (cons_option (receipt e) [])
-  got_here = rw more (rank_more receipt (log_of logs i) (at i) (Draw 0) within ∙ ap (λ (x : Event). length (got (take (at i) (log_of logs i))) + length (cons_option (receipt x) [])) the_event)
+  got_here : length (got (take (at' i) (log_of logs i)))
+      ≡ length (got (take (at i) (log_of logs i))) + length (cons_option (receipt e) [])
+  got_here = rw more (rank_more receipt (log_of logs i) (at i) (Draw 0) within
+      ∙ ap (λ (x : Event). length (got (take (at i) (log_of logs i))) + length (cons_option (receipt x) [])) the_event)
 
   -- what a link's sender has sent stays the same
-  sent_same : (k : ℕ) → (k ≢ i) ⊎ (sending e ≡ None) → sent (take (at' k) (log_of logs k)) ≡ sent (take (at k) (log_of logs k))
+  sent_same : (k : ℕ) → (k ≢ i) ⊎ (sending e ≡ None)
+      → sent (take (at' k) (log_of logs k)) ≡ sent (take (at k) (log_of logs k))
   sent_same k (inl ne) = ap (λ (x : ℕ). sent (take x (log_of logs k))) (same k ne)
   sent_same k (inr quiet) = elim (cases_eq k i) [
-    | inl e' ↦ rw e' (sent_here ∙ ap (λ (x : Option Load). sent (take (at i) (log_of logs i)) ++ cons_option x []) quiet ∙ append-nil _)
+    | inl e' ↦ rw e' (sent_here ∙ ap (λ (x : Option Load). sent (take (at i) (log_of logs i)) ++ cons_option x []) quiet
+        ∙ append-nil _)
     | inr ne ↦ ap (λ (x : ℕ). sent (take x (log_of logs k))) (same k ne)
   ]
 
-  got_same : (j : ℕ) → (j ≢ i) ⊎ (receipt e ≡ None) → length (got (take (at' j) (log_of logs j))) ≡ length (got (take (at j) (log_of logs j)))
+  got_same : (j : ℕ) → (j ≢ i) ⊎ (receipt e ≡ None)
+      → length (got (take (at' j) (log_of logs j))) ≡ length (got (take (at j) (log_of logs j)))
   got_same j (inl ne) = ap (λ (x : ℕ). length (got (take x (log_of logs j)))) (same j ne)
   got_same j (inr quiet) = elim (cases_eq j i) [
-    | inl e' ↦ rw e' (got_here ∙ ap (λ (x : Option Load). length (got (take (at i) (log_of logs i))) + length (cons_option x [])) quiet ∙ add-zero _)
+    | inl e' ↦ rw e' (got_here
+        ∙ ap (λ (x : Option Load). length (got (take (at i) (log_of logs i))) + length (cons_option x [])) quiet
+        ∙ add-zero _)
     | inr ne ↦ ap (λ (x : ℕ). length (got (take x (log_of logs j)))) (same j ne)
   ]
 
-  link_same : (k : ℕ) → (k ≢ i) ⊎ (sending e ≡ None) → (next (length logs) k ≢ i) ⊎ (receipt e ≡ None) → on_link logs at' k ≡ on_link logs at k
+  link_same : (k : ℕ) → (k ≢ i) ⊎ (sending e ≡ None) → (next (length logs) k ≢ i) ⊎ (receipt e ≡ None)
+      → on_link logs at' k ≡ on_link logs at k
   link_same k s g = rw (sent_same k s, got_same (next (length logs) k) g) refl
 
   -- a sending puts its message last
   link_sent : (m : Load) → e ≡ Sent m → Covers logs at → on_link logs at' i ≡ on_link logs at i ++ m ∷ []
   link_sent m e_is covers =
-      let s : sent (take (at' i) (log_of logs i)) ≡ sent (take (at i) (log_of logs i)) ++ m ∷ [] = sent_here ∙ ap (λ (x : Event). sent (take (at i) (log_of logs i)) ++ cons_option (sending x) []) e_is in
+      let s : sent (take (at' i) (log_of logs i)) ≡ sent (take (at i) (log_of logs i)) ++ m ∷ [] =
+      sent_here ∙ ap (λ (x : Event). sent (take (at i) (log_of logs i)) ++ cons_option (sending x) []) e_is in
       rw (s, got_same (next (length logs) i) (inl (next_other (length logs) i two here)))
-      (drop-append-le (length (got (take (at (next (length logs) i)) (log_of logs (next (length logs) i))))) (sent (take (at i) (log_of logs i))) (m ∷ []) (covers i here))
+      (drop-append-le (length (got (take (at (next (length logs) i)) (log_of logs (next (length logs) i)))))
+      (sent (take (at i) (log_of logs i))) (m ∷ []) (covers i here))
 
   -- a receipt takes the first message away
-  link_got : (m : Load) (k : ℕ) → e ≡ Got m → k < length logs → next (length logs) k ≡ i → Matches logs → Covers logs at' → on_link logs at k ≡ m ∷ on_link logs at' k
+  link_got : (m : Load) (k : ℕ) → e ≡ Got m → k < length logs → next (length logs) k ≡ i → Matches logs
+      → Covers logs at' → on_link logs at k ≡ m ∷ on_link logs at' k
   link_got m k e_is lk into matches covers =
       let ne : k ≢ i = λ q. next_other (length logs) k two lk (into ∙ sym q) in
-      let g' : length (got (take (at' i) (log_of logs i))) ≡ length (got (take (at i) (log_of logs i))) + 1 = got_here ∙ ap (λ (x : Event). length (got (take (at i) (log_of logs i))) + length (cons_option (receipt x) [])) e_is in
+      let g' : length (got (take (at' i) (log_of logs i))) ≡ length (got (take (at i) (log_of logs i))) + 1 =
+      got_here ∙ ap (λ (x : Event). length (got (take (at i) (log_of logs i))) + length
+      (cons_option (receipt x) [])) e_is in
       let s : sent (take (at' k) (log_of logs k)) ≡ sent (take (at k) (log_of logs k)) = sent_same k (inl ne) in
-      let room : length (got (take (at i) (log_of logs i))) < length (sent (take (at k) (log_of logs k))) = omega (arith, rw (into, s, g') at (covers k lk)) in
-      let whole_got : got (log_of logs i) ≡ got (take (at i) (log_of logs i)) ++ (m ∷ got (drop (at i + 1) (log_of logs i))) =
-      filter_map_split receipt (log_of logs i) (at i) (Draw 0) within ∙ ap (λ (x : Event). got (take (at i) (log_of logs i)) ++ cons_option (receipt x) (got (drop (at i + 1) (log_of logs i)))) (the_event ∙ e_is) in
+      let room : length (got (take (at i) (log_of logs i))) < length (sent (take (at k) (log_of logs k))) =
+      omega (arith, rw (into, s, g') at (covers k lk)) in
+      let whole_got : got (log_of logs i) ≡ got (take (at i) (log_of logs i))
+      ++ (m ∷ got (drop (at i + 1) (log_of logs i))) =
+      filter_map_split receipt (log_of logs i) (at i) (Draw 0) within
+      ∙ ap (λ (x : Event). got (take (at i) (log_of logs i))
+      ++ cons_option (receipt x) (got (drop (at i + 1) (log_of logs i)))) (the_event ∙ e_is) in
       let taken : numbered (got (log_of logs i)) (suc (length (got (take (at i) (log_of logs i))))) ≡ Some m =
-      ap (λ (x : List Load). numbered x (suc (length (got (take (at i) (log_of logs i)))))) whole_got ∙ numbered-after (got (take (at i) (log_of logs i))) (got (drop (at i + 1) (log_of logs i))) m in
+      ap (λ (x : List Load). numbered x (suc (length (got (take (at i) (log_of logs i)))))) whole_got
+      ∙ numbered-after (got (take (at i) (log_of logs i))) (got (drop (at i + 1) (log_of logs i))) m in
       let put : numbered (sent (log_of logs k)) (suc (length (got (take (at i) (log_of logs i))))) ≡ Some m =
       matches k lk (suc (length (got (take (at i) (log_of logs i))))) m (rw into taken) in
       let whole_sent : sent (log_of logs k) ≡ sent (take (at k) (log_of logs k)) ++ sent (drop (at k) (log_of logs k)) =
-      ap sent (sym (take-append-drop (at k) (log_of logs k))) ∙ filter_map-append sending (take (at k) (log_of logs k)) (drop (at k) (log_of logs k)) in
+      ap sent (sym (take-append-drop (at k) (log_of logs k)))
+      ∙ filter_map-append sending (take (at k) (log_of logs k)) (drop (at k) (log_of logs k)) in
       let first : slice_get (sent (take (at k) (log_of logs k))) (length (got (take (at i) (log_of logs i)))) ≡ Some m =
-      sym (numbered-append (sent (take (at k) (log_of logs k))) (sent (drop (at k) (log_of logs k))) (suc (length (got (take (at i) (log_of logs i))))) (omega arith))
+      sym (numbered-append (sent (take (at k) (log_of logs k))) (sent (drop (at k) (log_of logs k)))
+      (suc (length (got (take (at i) (log_of logs i))))) (omega arith))
       ∙ ap (λ (x : List Load). numbered x (suc (length (got (take (at i) (log_of logs i)))))) (sym whole_sent) ∙ put in
-      let value : get_or (sent (take (at k) (log_of logs k))) (length (got (take (at i) (log_of logs i)))) m ≡ m = get_or_from_slice_get (sent (take (at k) (log_of logs k))) (length (got (take (at i) (log_of logs i)))) m m first in
-      rw (into, s, g') (drop_more (sent (take (at k) (log_of logs k))) (length (got (take (at i) (log_of logs i)))) m room ∙ ap (λ (x : Load). x ∷ drop (length (got (take (at i) (log_of logs i))) + 1) (sent (take (at k) (log_of logs k)))) value)
+      let value : get_or (sent (take (at k) (log_of logs k))) (length (got (take (at i) (log_of logs i)))) m ≡ m =
+      get_or_from_slice_get (sent (take (at k) (log_of logs k))) (length (got (take (at i) (log_of logs i)))) m m
+      first in
+      rw (into, s, g') (drop_more (sent (take (at k) (log_of logs k))) (length (got (take (at i) (log_of logs i)))) m
+      room ∙ ap (λ (x : Load). x
+      ∷ drop (length (got (take (at i) (log_of logs i))) + 1) (sent (take (at k) (log_of logs k)))) value)
 
-  links : (e' : Event) → e ≡ e' → Matches logs → Covers logs at → Covers logs at' → LinkStep (length logs) i e' (on_link logs at) (on_link logs at')
+  links : (e' : Event) → e ≡ e' → Matches logs → Covers logs at → Covers logs at'
+      → LinkStep (length logs) i e' (on_link logs at) (on_link logs at')
   links (Sent m) e_is matches covers covers' = (
     link_sent m e_is covers,
     λ j lj ne. link_same j (inl ne) (inr (ap receipt e_is)),
   )
   links (Got m) e_is matches covers covers' = (
-    link_got m (prev (length logs) i) e_is (prev_below (length logs) i here) (next_prev (length logs) i here) matches covers',
+    link_got m (prev (length logs) i) e_is (prev_below (length logs) i here) (next_prev (length logs) i here) matches
+        covers',
     λ j lj ne. link_same j (inr (ap sending e_is)) (inl (λ q. ne (prev_next (length logs) i j here lj q))),
   )
   links (Draw x) e_is matches covers covers' = λ j lj. link_same j (inr (ap sending e_is)) (inr (ap receipt e_is))
@@ -120,33 +150,40 @@ cons_nil x r h = cc
 -- the run has the order's places, and each entry is the event that its place means there
 pub record Means (logs : List Log) (order : List ℕ) (run : List (ℕ × Event)) : Type 0 where
   pub many : length run ≡ length order
-  pub each : (t i : ℕ) (e : Event) → slice_get run t ≡ Some (i, e) → (slice_get order t ≡ Some i) × (slice_get (log_of logs i) (occurrences (take t order) i) ≡ Some e)
+  pub each : (t i : ℕ) (e : Event) → slice_get run t ≡ Some (i, e) → (slice_get order t ≡ Some i)
+      × (slice_get (log_of logs i) (occurrences (take t order) i) ≡ Some e)
 
 module _ (logs : List Log) (order : List ℕ) (run : List (ℕ × Event)) (states : ℕ → ℕ → NodeState)
     (two : 2 ≤ length logs)
     (w : IsWholeSchedule logs order)
     (means : Means logs order run)
-    (local : (i : ℕ) → i < length logs → (a : ℕ) (e : Event) → slice_get (log_of logs i) a ≡ Some e → NodeStep (length logs) (states i a) e (states i (suc a))) where
+    (local : (i : ℕ) → i < length logs → (a : ℕ) (e : Event) → slice_get (log_of logs i) a ≡ Some e
+    → NodeStep (length logs) (states i a) e (states i (suc a))) where
   config : (ℕ → ℕ) → Configuration
   config at = record { state = λ j. states j (at j); link = on_link logs at }
 
-  ring_step : (t i : ℕ) (e : Event) → slice_get run t ≡ Some (i, e) → RingStep (length logs) i e (config (occurrences (take t order))) (config (occurrences (take (t + 1) order)))
+  ring_step : (t i : ℕ) (e : Event) → slice_get run t ≡ Some (i, e)
+      → RingStep (length logs) i e (config (occurrences (take t order))) (config (occurrences (take (t + 1) order)))
   unfolding config
   ring_step t i e at =
       let m = means.each t i e at in
       let lt : t < length order = slice_get_within order t i m.0 in
       let at_t : get_or order t 0 ≡ i = get_or_from_slice_get order t i 0 m.0 in
       let here : i < length logs = rw at_t at (w.schedule.places t 0 lt) in
-      let more : occurrences (take (t + 1) order) i ≡ occurrences (take t order) i + 1 = occurrences_same order t i lt at_t in
-      let same : (j : ℕ) → j ≢ i → occurrences (take (t + 1) order) j ≡ occurrences (take t order) j = λ j ne. occurrences_other order t j lt (λ q. ne (sym q ∙ at_t)) in
+      let more : occurrences (take (t + 1) order) i ≡ occurrences (take t order) i + 1 =
+      occurrences_same order t i lt at_t in
+      let same : (j : ℕ) → j ≢ i → occurrences (take (t + 1) order) j ≡ occurrences (take t order) j =
+      λ j ne. occurrences_other order t j lt (λ q. ne (sym q ∙ at_t)) in
       record {
         place = here;
         node = rw (more, add-one (occurrences (take t order) i)) (local i here (occurrences (take t order) i) e m.1);
         others = λ j lj ne. ap (states j) (same j ne);
-        links = links logs (occurrences (take t order)) (occurrences (take (t + 1) order)) i e two here m.1 more same e refl w.matches (w.schedule.kept t (omega arith)) (w.schedule.kept (t + 1) (omega arith));
+        links = links logs (occurrences (take t order)) (occurrences (take (t + 1) order)) i e two here m.1 more same e
+            refl w.matches (w.schedule.kept t (omega arith)) (w.schedule.kept (t + 1) (omega arith));
       }
 
-  chains : (r : List (ℕ × Event)) (t : ℕ) → r ≡ drop t run → Chains (length logs) (config (occurrences (take t order))) r
+  chains : (r : List (ℕ × Event)) (t : ℕ) → r ≡ drop t run
+      → Chains (length logs) (config (occurrences (take t order))) r
   chains [] t is = tt
   chains (x ∷ r) t is = elim (cases_lt t (length run)) [
     | inr past ↦ (let none : drop t run ≡ [] = drop_all t run past in absurd (cons_nil x r (is ∙ none)))

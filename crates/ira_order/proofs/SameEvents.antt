@@ -43,8 +43,12 @@ module _ (logs others : List Log) (same : HaveSameEvents logs others) where
   matches h i l = link_matches i (h i (on_old_ring i l))
 
   pub match_fault : (f : MatchFault) → IsMatchFault logs f → IsMatchFault others f
-  match_fault f h =
-      (h.0, on_ring h.0 h.1, λ j l. link_matches j (h.2 j l), of_both (λ w r. IsLinkFault h.0 w r f) _ _ _ _ (same.events h.0) (at_next h.0) h.3)
+  match_fault f h = (
+    h.0,
+    on_ring h.0 h.1,
+    λ j l. link_matches j (h.2 j l),
+    of_both (λ w r. IsLinkFault h.0 w r f) _ _ _ _ (same.events h.0) (at_next h.0) h.3,
+  )
 
   pub pair : (i a b : ℕ) → IsPair logs i a b → IsPair others i a b
   pair i a b h = record {
@@ -53,11 +57,13 @@ module _ (logs others : List Log) (same : HaveSameEvents logs others) where
     link = on_ring i h.link;
     sends = subst (λ es. numbered es a ≡ Some (Sent h.message)) (same.events i) h.sends;
     receives = subst (λ es. numbered es b ≡ Some (Got h.taken)) (at_next i) h.receives;
-    rank = of_both (λ w r. length (sent (take a w)) ≡ length (got (take b r))) _ _ _ _ (same.events i) (at_next i) h.rank;
+    rank = of_both (λ w r. length (sent (take a w)) ≡ length (got (take b r))) _ _ _ _ (same.events i) (at_next i)
+        h.rank;
   }
 
   pub before : (i a j b : ℕ) → Before logs i a j b → Before others i a j b
-  before i a j b (own e l one lower upper) = own e (on_ring i l) one lower (subst (λ es. b ≤ length es) (same.events i) upper)
+  before i a j b (own e l one lower upper) =
+      own e (on_ring i l) one lower (subst (λ es. b ≤ length es) (same.events i) upper)
   before i a j b (message e h) = message (subst (λ n. next n i ≡ j) same.count e) (pair i a b h)
   before i a k c (onward {j = j} {b = b} f g) = onward (before i a j b f) (before j b k c g)
 
@@ -75,10 +81,13 @@ order logs others same o h =
     record {
       places = subst (λ n. All (λ p. p < n) o) same.count h.places;
       whole = λ i l. h.whole i (on_old_ring logs others same i l) ∙ ap (λ es. length es) (same.events i);
-      after = λ i a b s t p si tj. h.after i a b s t (pair others logs back i a b p) si (subst (λ n. StandsAt o t (next n i) b) (sym same.count) tj);
+      after = λ i a b s t p si tj.
+          h.after i a b s t (pair others logs back i a b p) si
+          (subst (λ n. StandsAt o t (next n i) b) (sym same.count) tj);
     }
 
-pub consistent : (logs others : List Log) → HaveSameEvents logs others → (c : List ℕ) → IsConsistentCut logs c → IsConsistentCut others c
+pub consistent : (logs others : List Log) → HaveSameEvents logs others → (c : List ℕ) → IsConsistentCut logs c
+    → IsConsistentCut others c
 consistent logs others same c h =
     (cut logs others same c h.0, λ i a j b f. h.1 i a j b (before others logs (turned logs others same) i a j b f))
 

@@ -1,5 +1,6 @@
 -- The sendings of a log, gathered from its front.
-use Rattle.std.proofs.Common.{◌≡◌, ◌≢◌, ℕ, suc, ◌+◌, ◌<◌, ◌≤◌, inl, inr, List, [], ◌∷◌, ◌++◌, length, refl, sym, ◌∙◌, ap, subst, arith, take, Some, add-one, length-append}
+use Rattle.std.proofs.Common.{◌≡◌, ◌≢◌, ℕ, suc, ◌+◌, ◌<◌, ◌≤◌, inl, inr, List, [], ◌∷◌, ◌++◌, length, refl, sym, ◌∙◌}
+use Rattle.std.proofs.Common.{ap, subst, arith, take, Some, add-one, length-append}
 use Rattle.std.specs.Prelude.{slice_get}
 use Rattle.std.specs.List.{cons_option}
 use Rattle.std.proofs.lemmas.List.{take_all}
@@ -20,18 +21,23 @@ pub record HasSendings (es : List Event) (n : ℕ) (sendings : List Sending) : T
   pub count : length sendings ≡ length (sent (take n es))
   pub each : (r : ℕ) (s : Sending) → slice_get sendings r ≡ Some s → IsSending es r s
 
-sent_more : (es : List Event) (n : ℕ) (e : Event) → slice_get es n ≡ Some e → length (sent (take (n + 1) es)) ≡ length (sent (take n es)) + length (cons_option (sending e) [])
+sent_more : (es : List Event) (n : ℕ) (e : Event) → slice_get es n ≡ Some e
+    → length (sent (take (n + 1) es)) ≡ length (sent (take n es)) + length (cons_option (sending e) [])
 sent_more es n e is =
     rank_more sending es n (Draw 0) (slice_get_within es n e is)
-    ∙ ap (λ (x : Event). length (sent (take n es)) + length (cons_option (sending x) [])) (get_or_from_slice_get es n e (Draw 0) is)
+    ∙ ap (λ (x : Event). length (sent (take n es)) + length (cons_option (sending x) []))
+    (get_or_from_slice_get es n e (Draw 0) is)
 
-pub sending_over : (es : List Event) (n : ℕ) (e : Event) (sendings : List Sending) → slice_get es n ≡ Some e → ((m : Load) → e ≡ Sent m → ⊥) → HasSendings es n sendings → HasSendings es (n + 1) sendings
+pub sending_over : (es : List Event) (n : ℕ) (e : Event) (sendings : List Sending) → slice_get es n ≡ Some e
+    → ((m : Load) → e ≡ Sent m → ⊥) → HasSendings es n sendings → HasSendings es (n + 1) sendings
 sending_over es n e sendings is never h = record {
   count = omega (arith, h.count, sent_more es n e is, sends_nothing e never);
   each = h.each;
 }
 
-pub sending_more : (es : List Event) (n : ℕ) (m : Load) (s : Sending) (sendings : List Sending) → slice_get es n ≡ Some (Sent m) → s.number ≡ n + 1 → s.received ≡ length (got (take n es)) → HasSendings es n sendings → HasSendings es (n + 1) (sendings ++ s ∷ [])
+pub sending_more : (es : List Event) (n : ℕ) (m : Load) (s : Sending) (sendings : List Sending)
+    → slice_get es n ≡ Some (Sent m) → s.number ≡ n + 1 → s.received ≡ length (got (take n es))
+    → HasSendings es n sendings → HasSendings es (n + 1) (sendings ++ s ∷ [])
 sending_more es n m s sendings is number received h = record {
   count = omega (arith, length-append sendings (s ∷ []), h.count, one_more);
   each = λ r t at. elim (found_in_push sendings s r t at) [
@@ -50,5 +56,7 @@ sending_more es n m s sendings is number received h = record {
     one_more : length (sent (take (n + 1) es)) ≡ length (sent (take n es)) + 1
     one_more = sent_more es n (Sent m) is
 
-pub sendings_end : (es : List Event) (n : ℕ) (sendings : List Sending) → length es ≤ n → HasSendings es n sendings → AreSendings es sendings
-sendings_end es n sendings past h = record { count = h.count ∙ ap (λ x. length (sent x)) (take_all n es past); each = h.each }
+pub sendings_end : (es : List Event) (n : ℕ) (sendings : List Sending) → length es ≤ n → HasSendings es n sendings
+    → AreSendings es sendings
+sendings_end es n sendings past h =
+    record { count = h.count ∙ ap (λ x. length (sent x)) (take_all n es past); each = h.each }

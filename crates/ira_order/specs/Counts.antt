@@ -9,7 +9,8 @@ use Rattle.ira_order.specs.Order.{occurrences}
 -- on each link at most as many receipts as sendings, where node i has made (at i) events
 abbrev pub Covers : List Log → (ℕ → ℕ) → Type 0
 Covers logs at =
-    (i : ℕ) → i < length logs → length (got (take (at (next (length logs) i)) (log_of logs (next (length logs) i)))) ≤ length (sent (take (at i) (log_of logs i)))
+    (i : ℕ) → i < length logs → length (got (take (at (next (length logs) i)) (log_of logs (next (length logs) i))))
+    ≤ length (sent (take (at i) (log_of logs i)))
 
 -- the same of each beginning of a list of places
 abbrev pub IsKept : List Log → List ℕ → Type 0
@@ -24,7 +25,9 @@ pub record IsSchedule (logs : List Log) (order : List ℕ) : Type 0 where
 -- the next event of node i may come: there is one, and if it is a receipt, it is covered
 abbrev pub IsReady : List Log → (ℕ → ℕ) → ℕ → Type 0
 IsReady logs at i =
-    (at i < length (log_of logs i)) × ((j : ℕ) → j < length logs → next (length logs) j ≡ i → length (got (take (at i + 1) (log_of logs i))) ≤ length (sent (take (at j) (log_of logs j))))
+    (at i < length (log_of logs i))
+    × ((j : ℕ) → j < length logs → next (length logs) j ≡ i
+    → length (got (take (at i + 1) (log_of logs i))) ≤ length (sent (take (at j) (log_of logs j))))
 
 -- each place stands as often as its log has events
 abbrev pub IsWhole : List Log → List ℕ → Type 0

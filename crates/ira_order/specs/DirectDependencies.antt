@@ -1,5 +1,6 @@
 -- Helpers, no definitions: the lists in which direct dependencies are kept, and the way back along them.
-use Rattle.std.specs.Prelude.{◌≡◌, ◌≢◌, ℕ, ◌+◌, ◌-◌, ◌<◌, ◌≤◌, List, Some, length, slice_get, slice_index, take, nat_lt, if◌then◌else◌}
+use Rattle.std.specs.Prelude.{◌≡◌, ◌≢◌, ℕ, ◌+◌, ◌-◌, ◌<◌, ◌≤◌, List, Some, length, slice_get, slice_index, take, nat_lt}
+use Rattle.std.specs.Prelude.{if◌then◌else◌}
 use Rattle.ira_event.specs.declared.event.Event.{Event}
 use Rattle.ira_event.specs.declared.event.Event.TheVariants.{Sent}
 use Rattle.ira_event.specs.declared.load.Load.{Load}
@@ -52,10 +53,13 @@ pub record IsWayBack (logs : List Log) (j b i k received : ℕ) : Type 0 where
   pub receipts : received ≡ receipts_by logs k event
   pub counts : (n : ℕ) → IsCount logs k event i n → IsCount logs j b i n
 
--- the same for each node that the way back from node j to itself hasn't passed; those that it has passed have their counts
+-- the same for each node that the way back from node j to itself hasn't passed; those that it has passed have their
+-- counts
 pub record AreCountsSoFar (logs : List Log) (j b k received : ℕ) (counts : List ℕ) : Type 0 where
   pub place : k < length logs
   pub receipts : received ≤ length (got (log_of logs k))
   pub places : length counts ≡ length logs
-  pub passed : (i : ℕ) → i < length logs → i ≢ j → distance (length logs) j k ≤ distance (length logs) i k → IsCount logs j b i (slice_index counts i)
-  pub ahead : (i : ℕ) → i < length logs → distance (length logs) i k < distance (length logs) j k → (slice_index counts i ≡ 0) × IsWayBack logs j b i k received
+  pub passed : (i : ℕ) → i < length logs → i ≢ j → distance (length logs) j k ≤ distance (length logs) i k
+      → IsCount logs j b i (slice_index counts i)
+  pub ahead : (i : ℕ) → i < length logs → distance (length logs) i k < distance (length logs) j k
+      → (slice_index counts i ≡ 0) × IsWayBack logs j b i k received

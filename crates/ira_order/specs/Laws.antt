@@ -19,7 +19,8 @@ use Rattle.ira_order.specs.RunsOfLogs.{Means, EveryOrderIsRun, HaveNoRun}
 
 -- each order means events
 abbrev pub OrdersMeanEvents : Type 0
-OrdersMeanEvents = (logs : List Log) (order : List ℕ) → IsOrder logs order → (run : List (ℕ × Event)) × Means logs order run
+OrdersMeanEvents = (logs : List Log) (order : List ℕ) → IsOrder logs order → (run : List (ℕ × Event))
+    × Means logs order run
 
 -- each order of matched logs that are local runs is a run of the ring: it means events, and whatever
 -- events it means are one
@@ -58,15 +59,18 @@ MomentsAreCuts =
 abbrev pub CutsAreMoments : Type 0
 CutsAreMoments =
     (logs : List Log) (order cut : List ℕ) → AreLogs logs → Matches logs → IsOrder logs order → IsConsistentCut logs cut
-    → (other : List ℕ) × (t : ℕ) × IsOrder logs other × (t ≤ length other) × ((i : ℕ) → i < length logs → slice_index cut i ≡ occurrences (take t other) i)
+    → (other : List ℕ) × (t : ℕ) × IsOrder logs other × (t ≤ length other)
+    × ((i : ℕ) → i < length logs → slice_index cut i ≡ occurrences (take t other) i)
 
 -- in logs that have an order each event has its counts, and so has the beginning of each log
 abbrev pub EventsHaveCounts : Type 0
-EventsHaveCounts = (logs : List Log) (j b : ℕ) → HasOrder logs → j < length logs → b ≤ length (log_of logs j) → (counts : List ℕ) × AreCounts logs j b counts
+EventsHaveCounts = (logs : List Log) (j b : ℕ) → HasOrder logs → j < length logs → b ≤ length (log_of logs j)
+    → (counts : List ℕ) × AreCounts logs j b counts
 
 -- and whether one event happened before another is decided
 abbrev pub HappenedBeforeIsDecided : Type 0
-HappenedBeforeIsDecided = (logs : List Log) (i a j b : ℕ) → HasOrder logs → Before logs i a j b ⊎ ¬ (Before logs i a j b)
+HappenedBeforeIsDecided = (logs : List Log) (i a j b : ℕ) → HasOrder logs → Before logs i a j b
+    ⊎ ¬ (Before logs i a j b)
 
 -- the counts of an event are a consistent cut
 abbrev pub CountsAreCuts : Type 0
@@ -75,13 +79,17 @@ CountsAreCuts = (logs : List Log) (j b : ℕ) (counts : List ℕ) → AreCounts 
 -- and the least consistent cut that holds the event
 abbrev pub CountsAreLeast : Type 0
 CountsAreLeast =
-    (logs : List Log) (j b : ℕ) (counts cut : List ℕ) → j < length logs → AreCounts logs j b counts → IsConsistentCut logs cut
-    → (b ≤ slice_index counts j) × (b ≤ slice_index cut j → (i : ℕ) → i < length logs → slice_index counts i ≤ slice_index cut i)
+    (logs : List Log) (j b : ℕ) (counts cut : List ℕ) → j < length logs → AreCounts logs j b counts
+    → IsConsistentCut logs cut
+    → (b ≤ slice_index counts j)
+    × (b ≤ slice_index cut j → (i : ℕ) → i < length logs → slice_index counts i ≤ slice_index cut i)
 
 -- the join of two consistent cuts is one
 abbrev pub JoinsAreCuts : Type 0
-JoinsAreCuts = (logs : List Log) (a b cut : List ℕ) → IsConsistentCut logs a → IsConsistentCut logs b → IsJoin logs a b cut → IsConsistentCut logs cut
+JoinsAreCuts = (logs : List Log) (a b cut : List ℕ) → IsConsistentCut logs a → IsConsistentCut logs b
+    → IsJoin logs a b cut → IsConsistentCut logs cut
 
 -- and so is their meet
 abbrev pub MeetsAreCuts : Type 0
-MeetsAreCuts = (logs : List Log) (a b cut : List ℕ) → IsConsistentCut logs a → IsConsistentCut logs b → IsMeet logs a b cut → IsConsistentCut logs cut
+MeetsAreCuts = (logs : List Log) (a b cut : List ℕ) → IsConsistentCut logs a → IsConsistentCut logs b
+    → IsMeet logs a b cut → IsConsistentCut logs cut

@@ -31,4 +31,5 @@ pub record IsPair (logs : List Log) (i a b : ℕ) : Type 0 where
 pub record IsOrder (logs : List Log) (order : List ℕ) : Type 0 where
   pub places : All (λ p. p < length logs) order
   pub whole : (i : ℕ) → i < length logs → occurrences order i ≡ length (log_of logs i)
-  pub after : (i a b s t : ℕ) → IsPair logs i a b → StandsAt order s i a → StandsAt order t (next (length logs) i) b → s < t
+  pub after : (i a b s t : ℕ) → IsPair logs i a b → StandsAt order s i a → StandsAt order t (next (length logs) i) b
+      → s < t

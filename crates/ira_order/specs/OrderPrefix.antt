@@ -24,8 +24,10 @@ pub record IsOrderPrefix (logs : List Log) (done sents gots places : List ℕ) :
   pub all_sents : length sents ≡ length logs
   pub all_gots : length gots ≡ length logs
   pub done_is : (i : ℕ) → i < length logs → slice_index done i ≡ occurrences places i
-  pub sents_is : (i : ℕ) → i < length logs → slice_index sents i ≡ length (sent (take (occurrences places i) (log_of logs i)))
-  pub gots_is : (i : ℕ) → i < length logs → slice_index gots i ≡ length (got (take (occurrences places i) (log_of logs i)))
+  pub sents_is : (i : ℕ) → i < length logs
+      → slice_index sents i ≡ length (sent (take (occurrences places i) (log_of logs i)))
+  pub gots_is : (i : ℕ) → i < length logs
+      → slice_index gots i ≡ length (got (take (occurrences places i) (log_of logs i)))
   pub total : sum done ≡ length places
   pub schedule : IsSchedule logs places
 

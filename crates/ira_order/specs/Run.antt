@@ -1,6 +1,7 @@
 -- Runs of a ring of nodes that follow the algorithm of Itai and Rodeh (Symmetry breaking in
 -- distributed networks, Information and Computation 88, 1990), with resets that begin a next term.
-use Rattle.std.specs.Prelude.{◌≡◌, ◌≢◌, ℕ, ◌<◌, ◌==◌, List, [], ◌∷◌, ◌++◌, Bool, false, Option, Some, None, length, slice_get, cond, map}
+use Rattle.std.specs.Prelude.{◌≡◌, ◌≢◌, ℕ, ◌<◌, ◌==◌, List, [], ◌∷◌, ◌++◌, Bool, false, Option, Some, None, length}
+use Rattle.std.specs.Prelude.{slice_get, cond, map}
 use Rattle.std.specs.List.{filter_map}
 use Rattle.ira_event.specs.declared.load.Load.{Load}
 use Rattle.ira_event.specs.declared.event.Event.{Event}

@@ -13,7 +13,8 @@ Means logs order run = (places_of run ≡ order) × IsRunOfLogs logs run
 abbrev pub EveryOrderIsRun : List Log → Type 0
 EveryOrderIsRun logs =
     (order : List ℕ) → IsOrder logs order
-    → ((run : List (ℕ × Event)) × Means logs order run) × ((run : List (ℕ × Event)) → Means logs order run → IsRingRun logs run)
+    → ((run : List (ℕ × Event)) × Means logs order run)
+    × ((run : List (ℕ × Event)) → Means logs order run → IsRingRun logs run)
 
 -- the logs are those of no run of the ring
 abbrev pub HaveNoRun : List Log → Type 0

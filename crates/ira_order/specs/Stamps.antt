@@ -1,5 +1,6 @@
 -- Helpers, no definitions: the lists in which stamps are kept.
-use Rattle.std.specs.Prelude.{◌≡◌, ◌≢◌, ℕ, zero, suc, ◌+◌, ◌*◌, ◌<◌, ◌≤◌, ◌↔◌, min, List, [], ◌++◌, length, slice_index, slice_index_or, take}
+use Rattle.std.specs.Prelude.{◌≡◌, ◌≢◌, ℕ, zero, suc, ◌+◌, ◌*◌, ◌<◌, ◌≤◌, ◌↔◌, min, List, [], ◌++◌, length, slice_index}
+use Rattle.std.specs.Prelude.{slice_index_or, take}
 use Rattle.ira_event.specs.declared.event.Event.{Event}
 use Rattle.ira_event.specs.Log.{Log}
 use Rattle.ira_order.specs.Ring.{log_of, next}
@@ -11,7 +12,7 @@ use Rattle.ira_order.specs.VectorClock.{IsCount}
 abbrev pub receipts_by : List Log → ℕ → ℕ → ℕ
 receipts_by logs j b = length (got (take b (log_of logs j)))
 
--- the numbers of a node's receipts, and the counters of their stamps, one behind the other
+-- the numbers of a node's receipts, and the counters of their stamps, one after the other
 pub record NodeStamps : Type 0 where
   pub numbers : List ℕ
   pub counters : List ℕ
@@ -54,7 +55,8 @@ pub record AreUnstamped (logs : List Log) (stamps : List NodeStamps) : Type 0 wh
 
 -- the counters of the last receipt up to event b of node j count the events of the other nodes
 abbrev pub CountsAt : List Log → List NodeStamps → ℕ → ℕ → Type 0
-CountsAt logs stamps j b = (i : ℕ) → i < length logs → i ≢ j → IsCount logs j b i (counter (length logs) (counters_at stamps j) (receipts_by logs j b) i)
+CountsAt logs stamps j b = (i : ℕ) → i < length logs → i ≢ j
+    → IsCount logs j b i (counter (length logs) (counters_at stamps j) (receipts_by logs j b) i)
 
 -- they do so for each receipt whose sending is among the first (at k) events of its node k
 abbrev pub CountsSent : List Log → List NodeStamps → (ℕ → ℕ) → Type 0
@@ -63,7 +65,9 @@ CountsSent logs stamps at = (k a b : ℕ) → IsPair logs k a b → a ≤ at k �
 -- just these receipts have a stamp
 abbrev pub HaveStamps : List Log → List NodeStamps → (ℕ → ℕ) → Type 0
 HaveStamps logs stamps at =
-    (k : ℕ) → k < length logs → length (counters_at stamps (next (length logs) k)) ≡ min (length (sent (take (at k) (log_of logs k)))) (length (got (log_of logs (next (length logs) k)))) * length logs
+    (k : ℕ) → k < length logs → length (counters_at stamps (next (length logs) k))
+    ≡ min (length (sent (take (at k) (log_of logs k)))) (length (got (log_of logs (next (length logs) k)))) * length
+    logs
 
 -- each receipt has a stamp, and each event's counters count
 pub record AreStamps (logs : List Log) (stamps : List NodeStamps) : Type 0 where
@@ -81,5 +85,7 @@ pub record IsStamp (logs : List Log) (stamps : List NodeStamps) (k h a : ℕ) (r
 pub record IsStamping (logs : List Log) (old new : List NodeStamps) (k h s a : ℕ) : Type 0 where
   pub table : IsTable logs new
   pub others : (l : ℕ) → l ≢ next (length logs) k → counters_at new l ≡ counters_at old l
-  pub none : length (got (log_of logs (next (length logs) k))) ≤ s → counters_at new (next (length logs) k) ≡ counters_at old (next (length logs) k)
-  pub more : s < length (got (log_of logs (next (length logs) k))) → (row : List ℕ) × IsStamp logs old k h a row × (counters_at new (next (length logs) k) ≡ counters_at old (next (length logs) k) ++ take (length logs) row)
+  pub none : length (got (log_of logs (next (length logs) k))) ≤ s
+      → counters_at new (next (length logs) k) ≡ counters_at old (next (length logs) k)
+  pub more : s < length (got (log_of logs (next (length logs) k))) → (row : List ℕ) × IsStamp logs old k h a row
+      × (counters_at new (next (length logs) k) ≡ counters_at old (next (length logs) k) ++ take (length logs) row)

@@ -30,4 +30,5 @@ UpgradesKeepCuts = (logs : List Log) (cut : List ℕ) → IsCut (map upgraded lo
 
 -- and their consistent cuts
 abbrev pub UpgradesKeepConsistentCuts : Type 0
-UpgradesKeepConsistentCuts = (logs : List Log) (cut : List ℕ) → IsConsistentCut (map upgraded logs) cut ↔ IsConsistentCut logs cut
+UpgradesKeepConsistentCuts = (logs : List Log) (cut : List ℕ)
+    → IsConsistentCut (map upgraded logs) cut ↔ IsConsistentCut logs cut

@@ -94,8 +94,8 @@ impl<A: Allocator> OrderPrefix<A> {
         Ok(())
     }
 
-    /// Runs each node in turn. After the first round a node can get on only behind the one before it,
-    /// and node 0 only behind the last one; so every node gets on in each round but the first and the
+    /// Runs each node in turn. After the first round a node can get on only after the one before it,
+    /// and node 0 only after the last one; so every node gets on in each round but the first and the
     /// last two, and the rounds cost no more than the events and a few times the nodes.
     fn round(&mut self, logs: &Logs<A>) -> Result<(), AllocError>
         requires prefix { IsOrderPrefix logs.now self.old.tally.done.items self.old.tally.sent.items
@@ -150,7 +150,7 @@ impl<A: Allocator> OrderPrefix<A> {
         true
     }
 
-    /// The places of a beginning that no event may come behind, where it holds every event of logs that match.
+    /// The places of a beginning that no event may come after, where it holds every event of logs that match.
     pub(crate) fn into_order(self, logs: &Logs<A>) -> Result<Vec<u8, A>, OrderFault>
         requires matches { Matches logs.now }
         requires prefix { IsOrderPrefix logs.now self.tally.done.items self.tally.sent.items

@@ -9,7 +9,7 @@ use Rattle.ira_cert_text.specs.Certificate.{Section}
 use Rattle.ira_cert.specs.declared.section_fault.SectionFault.{SectionFault}
 use Rattle.ira_cert.specs.declared.verdict.Verdict.TheVariants.{Yes, No}
 use Rattle.ira_cert.specs.SoundSection.{IsSoundSection}
-use Rattle.ira_par.specs.Batch.{Task, IsTaskOf, AreTasksOf, IsVerdictOf, AreYes, IsFoundIn}
+use Rattle.ira_par.specs.Task.{Task, IsTaskOf, AreTasksOf, IsVerdictOf, AreYes, IsFoundIn}
 use Rattle.ira_par.specs.declared.unsound_section.UnsoundSection.{UnsoundSection}
 use Rattle.ira_par.specs.Sections.{AreSoundBefore, IsFirstUnsoundSection}
 
@@ -72,7 +72,7 @@ module _ (logs : List Log) (cases : List (List Conjunct)) (sections : List Secti
               let case_is : is.case ≡ case = same_Some is.case case (sym is.case_at ∙ ap (λ (j : ℕ). slice_get cases j) same ∙ at) in
               let section_is : h.0.section ≡ section = same_Some h.0.section section (sym is.section_at ∙ ap (λ (j : ℕ). slice_get sections j) same ∙ there) in
               subst (λ (s : Section). IsSoundSection logs case s) section_is
-              (subst (λ (c : List Conjunct). IsSoundSection logs c h.0.section) case_is (sound (k - first) h.0 number h.2 is.case is.different is.fronts))
+              (subst (λ (c : List Conjunct). IsSoundSection logs c h.0.section) case_is (sound (k - first) h.0 number h.2 is.case is.different is.tables))
           | inr h ↦ absurd (omega (arith, h.0, number, within))
         ]
   ]
@@ -82,7 +82,7 @@ module _ (logs : List Log) (cases : List (List Conjunct)) (sections : List Secti
       → AreSoundBefore (first + j) logs cases sections → IsFirstUnsoundSection logs cases sections (first + j) fault
   first_of_all first j fault tasks task at are verdict before =
       let is = are j task at in
-      record { before = before; case = is.case; case_at = is.case_at; section = task.section; section_at = is.section_at; is_fault = verdict is.case is.different is.fronts }
+      record { before = before; case = is.case; case_at = is.case_at; section = task.section; section_at = is.section_at; is_fault = verdict is.case is.different is.tables }
 
   -- a batch with the next section
   pub tasks_more : (first : ℕ) (tasks more : List Task) (task : Task) → more ≡ tasks ++ task ∷ [] → AreTasksOf logs cases sections first tasks → IsTaskOf logs cases sections (first + length tasks) task → AreTasksOf logs cases sections first more

@@ -1,13 +1,10 @@
-pub mod Added
-pub mod Adding
 pub mod Answered
-pub mod Batches
-pub mod Changed
+pub mod Begins
+pub mod Clear
 pub mod Counts
-pub mod Faults
+pub mod First
 pub mod Found
 pub mod Halves
 pub mod Places
-pub mod Rows
-pub mod TaskVerdicts
+pub mod CaseTables
 pub mod Verdicts

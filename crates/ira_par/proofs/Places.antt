@@ -1,5 +1,5 @@
 -- What tables and counts tell of a node's candidates.
-use Rattle.std.proofs.Common.{◌≡◌, ◌≢◌, ℕ, ◌≤◌, inl, inr, List, Option, Some, None, length, slice_get, take, sym, ◌∙◌, subst, arith}
+use Rattle.std.proofs.Common.{◌≡◌, ℕ, ◌≤◌, inl, inr, List, Some, None, length, slice_get, take, sym, ◌∙◌, subst, arith}
 use Rattle.std.proofs.lemmas.List.{take_all}
 use Rattle.std.proofs.lemmas.Option.{slice_get_cases}
 use Rattle.ira_event.specs.Log.{Log}
@@ -7,37 +7,37 @@ use Rattle.ira_pred.specs.Case.{Conjunct}
 use Rattle.ira_cert_text.specs.declared.cert_step.CertStep.{CertStep}
 use Rattle.ira_cert.specs.Asked.{IsAsked, CandidatesOf, HasDifferentPlaces}
 use Rattle.ira_cert.specs.Front.{made, IsFront, IsSpent}
-use Rattle.ira_cert.specs.Fronts.{AreFronts}
+use Rattle.ira_par.specs.Table.{Table, IsListAt, AreTables}
 use Rattle.ira_cert.specs.SoundSection.{AreSoundSteps}
 use Rattle.ira_cert.proofs.OneList.{one_list}
 use Rattle.ira_cert.proofs.SomeVerdict.{enough}
 
-module _ (logs : List Log) (case : List Conjunct) (differ : HasDifferentPlaces case) (tables : List (Option (List ℕ))) (fronts : AreFronts logs case tables) where
+module _ (logs : List Log) (case : List Conjunct) (differ : HasDifferentPlaces case) (tables : List Table) (are : AreTables logs case tables) where
   -- a node without a table isn't asked
-  pub none_asked : (i : ℕ) → ((xs : List ℕ) → slice_get tables i ≢ Some (Some xs)) → ¬ (IsAsked case i)
-  none_asked i none asked = let h = fronts.asked i asked in none h.0 h.1
+  pub none_asked : (i : ℕ) → ((xs : List ℕ) → ¬ (IsListAt tables i xs)) → ¬ (IsAsked case i)
+  none_asked i none asked = let h = are.asked i asked in none h.0 h.1
 
   candidates_at : (i : ℕ) → IsAsked case i → (positions : List ℕ) × CandidatesOf logs case i positions
-  candidates_at i asked = let h = fronts.asked i asked in (h.0, fronts.lists i h.0 h.1)
+  candidates_at i asked = let h = are.asked i asked in (h.0, are.lists i h.0 h.1)
 
   -- sound steps eliminate no more than the table has
-  no_more : (before : List CertStep) (i : ℕ) (xs : List ℕ) → AreSoundSteps logs case before → slice_get tables i ≡ Some (Some xs) → made before i ≤ length xs
+  no_more : (before : List CertStep) (i : ℕ) (xs : List ℕ) → AreSoundSteps logs case before → IsListAt tables i xs → made before i ≤ length xs
   no_more before i xs sound at =
-      let of = fronts.lists i xs at in
+      let of = are.lists i xs at in
       let whole : take (length before) before ≡ before = take_all (length before) before (omega arith) in
       let h = enough logs case candidates_at before (length before) (omega arith) (subst (λ (steps : List CertStep). AreSoundSteps logs case steps) (sym whole) sound) i (of.formula, of.asked) in
       let few : made before i ≤ length h.0 = subst (λ (steps : List CertStep). made steps i ≤ length h.0) whole h.2 in
       let same : h.0 ≡ xs = one_list logs case i h.0 xs differ h.1 of in
       subst (λ (ys : List ℕ). made before i ≤ length ys) same few
 
-  module _ (before : List CertStep) (i : ℕ) (xs : List ℕ) (at : slice_get tables i ≡ Some (Some xs)) where
+  module _ (before : List CertStep) (i : ℕ) (xs : List ℕ) (at : IsListAt tables i xs) where
     pub first_at : (p : ℕ) → slice_get xs (made before i) ≡ Some p → IsFront logs case before i p
-    first_at p first = (xs, fronts.lists i xs at, first)
+    first_at p first = (xs, are.lists i xs at, first)
 
     pub spent_at : AreSoundSteps logs case before → slice_get xs (made before i) ≡ None → IsSpent logs case before i
     spent_at sound none = (
       xs,
-      fronts.lists i xs at,
+      are.lists i xs at,
       elim (slice_get_cases xs (made before i)).1 [
         | inl h ↦ absurd (let e = sym h.2 ∙ none in cc)
         | inr h ↦ omega (arith, h.0, no_more before i xs sound at)

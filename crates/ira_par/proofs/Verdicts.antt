@@ -1,5 +1,5 @@
--- What the first unsound step of all, and what is left of the node that should be spent, say of a section.
-use Rattle.std.proofs.Common.{◌≡◌, ◌≢◌, ℕ, List, Option, Some, None, length, refl, sym, ap, subst, arith}
+-- What is found in a range, by its first unsound step and by what is left of the node that should be spent.
+use Rattle.std.proofs.Common.{◌≡◌, ◌≢◌, ℕ, ◌+◌, ◌<◌, List, Option, Some, None, length, take, refl, sym, ap, subst, arith}
 use Rattle.std.proofs.lemmas.List.{take_all}
 use Rattle.ira_event.specs.Log.{Log}
 use Rattle.ira_pred.specs.Case.{Conjunct}
@@ -12,42 +12,53 @@ use Rattle.ira_cert.specs.declared.section_fault.SectionFault.TheVariants.{NotSp
 use Rattle.ira_cert.specs.Asked.{HasDifferentPlaces}
 use Rattle.ira_cert.specs.Front.{IsSpent}
 use Rattle.ira_cert.specs.Left.{IsLeft}
-use Rattle.ira_cert.specs.SoundSection.{AreSoundSteps, IsSoundSection}
-use Rattle.ira_cert.specs.SectionFault.{IsSectionFault, not_spent}
-use Rattle.ira_cert.proofs.Judged.{first_is_fault}
+use Rattle.ira_cert.specs.SoundSection.{AreSoundSteps}
+use Rattle.ira_cert.specs.SectionFault.{unsound, not_spent}
 use Rattle.ira_cert.proofs.OneVerdict.{front_unspent}
-use Rattle.ira_par.specs.Ranges.{IsRangeFault}
+use Rattle.ira_par.specs.Ranges.{begin_of, IsRangeFault}
+use Rattle.ira_par.specs.Task.{IsFoundInRange}
+use Rattle.ira_par.proofs.Begins.{begin_last}
 
-module _ (logs : List Log) (case : List Conjunct) (section : Section) (steps : List CertStep) (same : steps ≡ section.steps) where
-  -- the first unsound step is the section's fault
-  pub fault_is : (found : Option SectionFault) (f : SectionFault) → found ≡ Some f → IsRangeFault logs case steps 0 (length steps) found → IsSectionFault logs case section f
-  fault_is found f is h =
-      let named = subst (IsRangeFault logs case steps 0 (length steps)) is h in
-      first_is_fault logs case section steps same f (named.0, named.1, named.2, named.5 (λ k s at. cc))
+-- the steps before range r
+abbrev pub before_range : Section → ℕ → ℕ → List CertStep
+before_range section n r = take (begin_of (length section.steps) n r) section.steps
 
-  -- where there is none all are sound
-  pub all_sound : (found : Option SectionFault) → found ≡ None → IsRangeFault logs case steps 0 (length steps) found → AreSoundSteps logs case steps
-  all_sound found is h =
-      subst (λ (xs : List CertStep). AreSoundSteps logs case xs) (take_all (length steps) steps (omega arith))
-      (subst (IsRangeFault logs case steps 0 (length steps)) is h (λ k s at. cc))
+-- a range of the section's steps
+pub range_of : (logs : List Log) (case : List Conjunct) (steps others : List CertStep) (n r from to : ℕ) → steps ≡ others → from ≡ begin_of (length steps) n r → to ≡ begin_of (length steps) n (r + 1) → (found : Option SectionFault)
+    → IsRangeFault logs case steps from to found → IsRangeFault logs case others (begin_of (length others) n r) (begin_of (length others) n (r + 1)) found
+range_of logs case steps others n r from to same first last found h =
+    subst (λ (ss : List CertStep). IsRangeFault logs case ss (begin_of (length ss) n r) (begin_of (length ss) n (r + 1)) found) same
+    (subst (λ (k : ℕ). IsRangeFault logs case steps k (begin_of (length steps) n (r + 1)) found) first
+    (subst (λ (k : ℕ). IsRangeFault logs case steps from k found) last h))
 
-  unspent : HasDifferentPlaces case → (i : ℕ) (left : Left) → IsLeft logs case steps i left → left ≢ Spent → ¬ (IsSpent logs case steps i)
-  unspent differ i NotAsked none other = λ spent. none (spent.1.formula, spent.1.asked)
-  unspent differ i Spent spent other = absurd (other refl)
-  unspent differ i (First p) front other = front_unspent logs case differ steps i p front
+module _ (logs : List Log) (case : List Conjunct) (section : Section) (n r : ℕ) where
+  -- a step that isn't sound
+  pub step_found : (fault : SectionFault) → IsRangeFault logs case section.steps (begin_of (length section.steps) n r) (begin_of (length section.steps) n (r + 1)) (Some fault) → IsFoundInRange logs case section n r (Some fault)
+  step_found fault h before = unsound h.0 h.1 (h.3 before.0) h.2
 
-  module _ (spent : ℕ) (named : spent ≡ section.spent) (sound : AreSoundSteps logs case steps) (left : Left) (is_left : IsLeft logs case steps spent left) where
-    sound_there : AreSoundSteps logs case section.steps
-    sound_there = subst (λ (xs : List CertStep). AreSoundSteps logs case xs) same sound
+  module _ (clear : IsRangeFault logs case section.steps (begin_of (length section.steps) n r) (begin_of (length section.steps) n (r + 1)) None) where
+    -- none, and another range follows
+    pub none_found : r + 1 < n → IsFoundInRange logs case section n r None
+    none_found more before = (clear before.0, λ last. absurd (omega (arith, more, last)))
 
-    there : (xs : List CertStep) (i : ℕ) → xs ≡ section.steps → i ≡ section.spent → IsSpent logs case xs i → IsSpent logs case section.steps section.spent
-    there xs i e f h = subst (λ (j : ℕ). IsSpent logs case section.steps j) f (subst (λ (ys : List CertStep). IsSpent logs case ys i) e h)
+    module _ (some : 0 < n) (last : r + 1 ≡ n) (left : Left) (is_left : AreSoundSteps logs case (before_range section n (r + 1)) → IsLeft logs case (before_range section n (r + 1)) section.spent left) where
+      all : before_range section n (r + 1) ≡ section.steps
+      all = let end = begin_last (length section.steps) n some in take_all (begin_of (length section.steps) n (r + 1)) section.steps (let e = ap (λ (k : ℕ). begin_of (length section.steps) n k) last in omega (arith, end, e))
 
-    back : IsSpent logs case section.steps section.spent → IsSpent logs case steps spent
-    back h = subst (λ (j : ℕ). IsSpent logs case steps j) (sym named) (subst (λ (ys : List CertStep). IsSpent logs case ys section.spent) (sym same) h)
+      -- the node is spent at the end
+      pub spent_found : left ≡ Spent → IsFoundInRange logs case section n r None
+      spent_found is before =
+          let sound = clear before.0 in
+          (sound, λ _. subst (λ (steps : List CertStep). IsSpent logs case steps section.spent) all (subst (λ (l : Left). IsLeft logs case (before_range section n (r + 1)) section.spent l) is (is_left sound)))
 
-    pub left_is_fault : HasDifferentPlaces case → left ≢ Spent → IsSectionFault logs case section (NotSpent spent)
-    left_is_fault differ other = not_spent sound_there (λ h. unspent differ spent left is_left other (back h)) (ap (λ (i : ℕ). NotSpent i) named)
+      unspent : HasDifferentPlaces case → (other : Left) → other ≢ Spent → IsLeft logs case (before_range section n (r + 1)) section.spent other → ¬ (IsSpent logs case (before_range section n (r + 1)) section.spent)
+      unspent differ NotAsked not none = λ spent. none (spent.1.formula, spent.1.asked)
+      unspent differ Spent not spent = absurd (not refl)
+      unspent differ (First p) not front = front_unspent logs case differ (before_range section n (r + 1)) section.spent p front
 
-    pub spent_is_sound : left ≡ Spent → IsSoundSection logs case section
-    spent_is_sound e = record { steps = sound_there; spent = there steps spent same named (subst (IsLeft logs case steps spent) e is_left) }
+      -- or it isn't
+      pub unspent_found : HasDifferentPlaces case → left ≢ Spent → IsFoundInRange logs case section n r (Some (NotSpent section.spent))
+      unspent_found differ not before =
+          let sound = clear before.0 in
+          not_spent (subst (λ (steps : List CertStep). AreSoundSteps logs case steps) all sound)
+          (λ spent. unspent differ left not (is_left sound) (subst (λ (steps : List CertStep). IsSpent logs case steps section.spent) (sym all) spent)) refl

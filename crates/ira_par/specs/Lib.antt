@@ -1,4 +1,5 @@
-pub mod Batch
-pub mod Leaf
 pub mod Ranges
 pub mod Sections
+pub mod Share
+pub mod Table
+pub mod Task

@@ -1,5 +1,5 @@
--- Helpers, no definitions: what holds of a range of steps, and of how many of each node come before it.
-use Rattle.std.specs.Prelude.{◌≡◌, ℕ, ◌+◌, ◌<◌, ◌≤◌, List, Option, Some, None, length, slice_index, take}
+-- Helpers, no definitions: the ranges of a section's steps, and how many steps of each node come before one.
+use Rattle.std.specs.Prelude.{◌≡◌, ℕ, ◌*◌, ◌/◌, ◌<◌, List, Option, Some, None, length, slice_index, take}
 use Rattle.ira_event.specs.Log.{Log}
 use Rattle.ira_pred.specs.Case.{Conjunct}
 use Rattle.ira_cert_text.specs.declared.cert_step.CertStep.{CertStep}
@@ -10,17 +10,17 @@ use Rattle.ira_cert.specs.Front.{made}
 use Rattle.ira_cert.specs.SoundSection.{AreSoundSteps}
 use Rattle.ira_cert.specs.SectionFault.{IsFirstUnsoundStep}
 
+-- the step with which range r begins where so many steps are cut into n ranges; it is the last one's end for r = n
+abbrev pub begin_of : ℕ → ℕ → ℕ → ℕ
+begin_of steps n r = steps * r / n
+
 -- the counts say of each place how many of the steps eliminate a state of the node there
 abbrev pub AreMade : List CertStep → List ℕ → Type 0
 AreMade steps counts = (i : ℕ) → i < length counts → slice_index counts i ≡ made steps i
-
--- the counts say of each place how many of the steps from..to do
-abbrev pub AreMadeFrom : List CertStep → ℕ → ℕ → List ℕ → Type 0
-AreMadeFrom steps from to counts = (i : ℕ) → i < length counts → made (take from steps) i + slice_index counts i ≡ made (take to steps) i
 
 -- what is answered of the steps from..to. Nothing: where those before them are sound, these are, too. Step k: it is one
 -- of them, and where those before them are sound, it is the first of all that isn't
 abbrev pub IsRangeFault : List Log → List Conjunct → List CertStep → ℕ → ℕ → Option SectionFault → Type 0
 IsRangeFault logs case steps from to None = AreSoundSteps logs case (take from steps) → AreSoundSteps logs case (take to steps)
 IsRangeFault logs case steps from to (Some fault) =
-    (k : ℕ) × (why : Unsound) × (fault ≡ Step k why) × (from ≤ k) × (k < to) × (AreSoundSteps logs case (take from steps) → IsFirstUnsoundStep logs case steps k why)
+    (k : ℕ) × (why : Unsound) × (fault ≡ Step k why) × (AreSoundSteps logs case (take from steps) → IsFirstUnsoundStep logs case steps k why)

@@ -1,12 +1,9 @@
 //! The checker of certificates on several threads: the steps of sections are judged range by range.
 #![tactic(auto)]
 
-mod batch;
-mod leaf;
-mod leaves;
 mod ranges;
-mod rounds;
 mod share;
+mod shares;
 mod split;
 mod table;
 mod tables;

@@ -1,28 +1,40 @@
-// What is done of a range of steps: the steps of each node are counted, and the first that isn't sound is found.
-ghost use Rattle.std.specs.Prelude.{◌≡◌, ◌≢◌, ◌+◌, ◌^◌, ◌<◌, ◌≤◌, ℕ, List, [], MatchOption, Some, length, slice_get, slice_index, take};
+// What is done of a range of steps: those before it are counted, node by node, and the first that isn't sound is found.
+ghost use Rattle.std.specs.Prelude.{◌≡◌, ◌≢◌, ◌<◌, ◌≤◌, List, None, length, take};
 ghost use Rattle.ira_event.specs.Log.{Log};
 ghost use Rattle.ira_pred.specs.Case.{Conjunct};
 ghost use Rattle.ira_cert_text.specs.declared.cert_step.CertStep.{CertStep};
 ghost use Rattle.ira_cert.specs.declared.left.Left.{Left};
 ghost use Rattle.ira_cert.specs.Asked.{HasDifferentPlaces};
-ghost use Rattle.ira_cert.specs.Fronts.{AreFronts};
 ghost use Rattle.ira_cert.specs.Left.{IsLeft};
 ghost use Rattle.ira_cert.specs.SoundSection.{AreSoundSteps};
-ghost use Rattle.ira_par.specs.Ranges.{AreMade, AreMadeFrom, IsRangeFault};
+ghost use Rattle.ira_par.specs.Table.{AreTables, AreBelow};
+ghost use Rattle.ira_par.specs.Ranges.{AreMade, IsRangeFault, begin_of as begin_of_range};
 
 use crate::table::Table;
+use crate::tables::table_at;
 use ira_cert::{CertStep, Left, SectionFault, judge_step};
 use ira_order::HappenedBefore;
 use std::alloc::Allocator;
 
-/// Counts for each place the steps `from..to` that eliminate a state of it, in counts that are 0.
-pub(crate) fn count_range(steps: &[CertStep], from: usize, to: usize, counts: &mut [usize])
-    requires range { (from ≤ to) × (to ≤ length steps.now) }
-    requires blank { AreMade [] counts.old }
-    ensures places { length counts.new ≡ length counts.old }
-    ensures counts { AreMadeFrom steps.now from to counts.new }
+/// The step with which a range of this number begins, where so many steps are cut into ranges of about the same length.
+/// For the number of the ranges it is the end of the last one.
+pub(crate) fn begin_of(steps: usize, ranges: usize, number: usize) -> usize
+    requires some { 0 < ranges }
+    requires few { ranges ≤ 16 }
+    requires number { number ≤ ranges }
+    ensures { result ≡ begin_of_range steps ranges number }
 {
-    for k in from..to {
+    steps / ranges * number + steps % ranges * number / ranges
+}
+
+/// Counts for each place the first steps, up to this one, that eliminate a state of it.
+pub(crate) fn count_before(steps: &[CertStep], end: usize, counts: &mut [usize])
+    requires { end ≤ length steps.now }
+    ensures places { length counts.new ≡ length counts.old }
+    ensures counts { AreMade (take end steps.now) counts.new }
+{
+    counts.fill(0);
+    for k in 0..end {
         let place = usize::from(steps[k].node);
         if place < counts.len() {
             counts[place] += 1;
@@ -30,35 +42,23 @@ pub(crate) fn count_range(steps: &[CertStep], from: usize, to: usize, counts: &m
     }
 }
 
-/// Adds one row of counts to another.
-pub(crate) fn add(sums: &mut [usize], counts: &[usize])
-    requires places { length sums.old ≡ length counts.now }
-    requires small { (i : ℕ) → i < length sums.old
-        → slice_index sums.old i + slice_index counts.now i < 2 ^ 64 }
-    ensures places { length sums.new ≡ length sums.old }
-    ensures sums { (i : ℕ) → i < length sums.old
-        → slice_index sums.new i ≡ slice_index sums.old i + slice_index counts.now i }
-{
-    for i in 0..sums.len() {
-        sums[i] += counts[i];
-    }
-}
-
 /// The first of the steps `from..to` that isn't sound, if those before them are. The counts are those of
 /// the steps before; each step that is found sound is counted, too.
 pub(crate) fn judge_range<C: HappenedBefore, A: Allocator>(
     ordered: &C,
-    tables: &[Option<Table<A>>],
+    tables: &[Table<A>],
     steps: &[CertStep],
     from: usize,
     to: usize,
     counts: &mut [usize],
 ) -> Option<SectionFault>
-    requires places { (length tables.now ≤ length (C.logs_of ordered.now))
-        × (length counts.old ≡ length tables.now) }
+    requires places { AreBelow (length (C.logs_of ordered.now)) tables.now }
+    requires room { length counts.old ≡ length (C.logs_of ordered.now) }
     requires range { (from ≤ to) × (to ≤ length steps.now) }
     requires counts { AreMade (take from steps.now) counts.old }
-    ensures { (case : List Conjunct) → HasDifferentPlaces case → AreFronts (C.logs_of ordered.now) case tables.now
+    ensures places { length counts.new ≡ length counts.old }
+    ensures counts { result ≡ None → AreMade (take to steps.now) counts.new }
+    ensures fault { (case : List Conjunct) → HasDifferentPlaces case → AreTables (C.logs_of ordered.now) case tables.now
         → IsRangeFault (C.logs_of ordered.now) case steps.now from to result }
 {
     for k in from..to {
@@ -73,16 +73,12 @@ pub(crate) fn judge_range<C: HappenedBefore, A: Allocator>(
     None
 }
 
-/// What is left of the node's candidates behind steps of which there are so many for each place.
-pub(crate) fn left_at<A: Allocator>(
-    tables: &[Option<Table<A>>],
-    counts: &[usize],
-    place: u8,
-) -> Left
-    requires { length counts.now ≡ length tables.now }
-    ensures place { result ≢ Left.NotAsked → place < length tables.now }
+/// What is left of the node's candidates after steps of which there are so many for each place.
+pub(crate) fn left_at<A: Allocator>(tables: &[Table<A>], counts: &[usize], place: u8) -> Left
+    requires { AreBelow (length counts.now) tables.now }
+    ensures place { result ≢ Left.NotAsked → place < length counts.now }
     ensures left { (logs : List Log) (case : List Conjunct) (before : List CertStep) → HasDifferentPlaces case
-        → AreFronts logs case tables.now → AreMade before counts.now → AreSoundSteps logs case before
+        → AreTables logs case tables.now → AreMade before counts.now → AreSoundSteps logs case before
         → IsLeft logs case before place result }
 {
     let Some(table) = table_at(tables, place) else {
@@ -92,12 +88,4 @@ pub(crate) fn left_at<A: Allocator>(
         Some(position) => Left::First(position),
         None => Left::Spent,
     }
-}
-
-/// The candidates of the node, if it is asked.
-fn table_at<A: Allocator>(tables: &[Option<Table<A>>], place: u8) -> Option<&Table<A>>
-    ensures { MatchOption result ((xs : List ℕ) → slice_get tables.now place ≢ Some (Some xs))
-        (λ table. slice_get tables.now place ≡ Some (Some table.now)) }
-{
-    tables.get(usize::from(place))?.as_ref()
 }

@@ -5,15 +5,17 @@ ghost use Rattle.ira_cert.specs.declared.section_fault.SectionFault.{SectionFaul
 ghost use Rattle.ira_cert.specs.Asked.{HasPlacesOf};
 ghost use Rattle.ira_cert.specs.SoundSection.{IsSoundSection};
 ghost use Rattle.ira_cert.specs.SectionFault.{IsSectionFault};
-ghost use Rattle.ira_par.specs.Batch.{IsBlankBatch, AreTasksOf};
+ghost use Rattle.ira_par.specs.Task.{AreTasksOf};
 ghost use Rattle.ira_par.specs.Sections.{IsFound};
 
-use crate::batch::Batch;
+use crate::shares::judge_batch;
+use crate::table::Table;
 use crate::tables::{case_tables, profiled_tables};
+use crate::task::Task;
 use crate::unsound_section::UnsoundSection;
 use ira_cand::Profile;
 use ira_cert::{Section, Verdict, case_fronts, check_fronts, profiled_fronts};
-use ira_event::{Logs, OutOfMemory, RingSize};
+use ira_event::{Logs, OutOfMemory};
 use ira_links::Gate;
 use ira_order::{HappenedBefore, Ordered};
 use ira_pred::Case;
@@ -22,16 +24,19 @@ use std::sync::Wait;
 use std::thread::Threads;
 use std::time::Clock;
 
+/// With so many tables and candidates a batch is full.
+const FULL: usize = 1 << 20;
+
 /// Judges whether the section shows that no consistent cut of the logs meets the case, as `check_plain`
 /// does, on up to `2^depth` threads. The verdict is the same at every depth, with every gate, and however
 /// the threads are scheduled.
 ///
-/// The steps are halved `depth` times. In a first round the steps of each range are counted, node by
-/// node, so that it is known how many candidates of each node are eliminated before a range; in a second
-/// round each range is judged, behind the gate, which it passes with its number from the left. At depth 0
-/// there is one range, which is judged as `check_plain` does. All memory is taken before the gate is passed
-/// and before the first thread starts: the list of the candidates of each node that is asked, and a counter
-/// of each node for each range. Where a thread can't be started, the one that asked for it does the work.
+/// The steps are cut into `2^depth` ranges. Each is judged by itself, after the gate, which it passes with its
+/// number from the left, by a thread that first counts the steps before it, node by node: so it knows how many
+/// candidates of each node are eliminated there. At depth 0 there is one range, which is judged as `check_plain`
+/// does. All memory is taken before the gate is passed and before the first thread starts: the list of the
+/// candidates of each node that is asked, and a counter of each node for each range. Where a thread can't be
+/// started, the one that asked for it does the work.
 pub fn check_split<R, G, A>(
     rt: &R,
     alloc: A,
@@ -61,11 +66,12 @@ where
         return Ok(check_fronts(ordered, fronts, section));
     }
     let tables = case_tables(alloc.clone()?, logs, case)?;
-    let mut batch = Batch::new(alloc.clone()?, depth)?;
-    batch.push(alloc, tables, section)?;
-    match batch.judge(rt, gate, ordered) {
+    let mut tasks = Vec::new(alloc.clone()?);
+    tasks.push(Task { tables, section })?;
+    let found = judge_batch(rt, &alloc, gate, ordered, &tasks, depth)?;
+    match found {
         None => Ok(Verdict::Yes),
-        Some(found) => Ok(Verdict::No(found.fault)),
+        Some(unsound) => Ok(Verdict::No(unsound.fault)),
     }
 }
 
@@ -74,9 +80,9 @@ where
 /// depth, with every gate, and however the threads are scheduled.
 ///
 /// At depth 0 the sections are judged one by one. Else as many are judged together as have some million
-/// candidates and counters, at least one, and threads are started once for all of these: each counts, and
-/// then judges, the ranges of one number. Each range of each section passes the gate, also of those behind the
-/// first that isn't sound, up to the last that is judged together with it.
+/// candidates, at least one, and threads are started once for all of these: each judges the ranges of one
+/// number. Each range of each section passes the gate, also of those after the first that isn't sound, up to
+/// the last that is judged together with it.
 pub fn split_sections<R, G, C, A>(
     rt: &R,
     alloc: A,
@@ -103,18 +109,17 @@ where
     if depth == 0 {
         return check_one_by_one(rt, alloc, profiles, ordered, cases, sections, gate);
     }
-    let nodes = ordered.logs().size();
     let mut first = 0;
     while first < cases.len() {
-        let batch = next_batch(&alloc, nodes, profiles, cases, sections, first, depth)?;
-        let count = batch.len();
-        if let Some(found) = batch.judge(rt, gate, ordered) {
+        let batch = next_batch(&alloc, profiles, cases, sections, first)?;
+        let found = judge_batch(rt, &alloc, gate, ordered, &batch, depth)?;
+        if let Some(unsound) = found {
             return Ok(Some(UnsoundSection {
-                section: first + found.section,
-                fault: found.fault,
+                section: first + unsound.section,
+                fault: unsound.fault,
             }));
         }
-        first += count;
+        first += batch.len();
     }
     Ok(None)
 }
@@ -154,31 +159,38 @@ where
 /// The sections that are judged together, from this one on.
 fn next_batch<'a, A: Allocator + Clone>(
     alloc: &A,
-    nodes: RingSize,
     profiles: &[Profile<'_, A>],
     cases: &[Case<A>],
     sections: &'a [Section<A>],
     first: usize,
-    depth: u8,
-) -> Result<Batch<'a, A>, OutOfMemory>
-    requires depth { depth ≤ 4 }
-    requires nodes { length profiles.now ≡ nodes }
+) -> Result<Vec<Task<'a, A>, A>, OutOfMemory>
     requires places { (k : ℕ) (case : List Conjunct) → slice_get cases.now k ≡ Some case
         → HasPlacesOf profiles.now case }
     requires number { length sections.now ≡ length cases.now }
     requires first { first < length cases.now }
-    ensures some { IfOk result (λ batch. 0 < length batch.tasks) }
-    ensures blank { IfOk result (λ batch. IsBlankBatch batch) }
-    ensures tasks { IfOk result (λ batch. AreTasksOf profiles.now cases.now sections.now first batch.tasks) }
-    ensures room { IfOk result (λ batch. first + length batch.tasks ≤ length cases.now) }
+    ensures some { IfOk result (λ batch. 0 < length batch.items) }
+    ensures tasks { IfOk result (λ batch. AreTasksOf profiles.now cases.now sections.now first batch.items) }
+    ensures room { IfOk result (λ batch. first + length batch.items ≤ length cases.now) }
 {
-    let mut batch = Batch::new(alloc.clone()?, depth)?;
-    for section in first..cases.len() {
-        let tables = profiled_tables(alloc.clone()?, nodes, profiles, &cases[section])?;
-        batch.push(alloc.clone()?, tables, &sections[section])?;
-        if batch.is_full() {
+    let mut batch = Vec::new(alloc.clone()?);
+    let mut entries = 0usize;
+    for number in first..cases.len() {
+        let tables = profiled_tables(alloc.clone()?, profiles, &cases[number])?;
+        let section = &sections[number];
+        entries = entries.saturating_add(entries_of(&tables));
+        batch.push(Task { tables, section })?;
+        if entries >= FULL {
             return Ok(batch);
         }
     }
     Ok(batch)
+}
+
+/// How many tables there are, and candidates in them.
+fn entries_of<A: Allocator>(tables: &[Table<A>]) -> usize {
+    let mut count = tables.len();
+    for table in tables {
+        count = count.saturating_add(table.len());
+    }
+    count
 }

@@ -3,26 +3,34 @@ ghost use Rattle.std.specs.Prelude.{◌≡◌, slice_get};
 use std::alloc::Allocator;
 use std::marker::Model;
 
-/// The candidates of a node, all of them; seen by contracts as their list.
+/// The candidates of a node that a case asks, all of them.
 #[derive(Drop)]
 pub(crate) struct Table<A: Allocator> {
+    place: u8,
     positions: Vec<u32, A>,
 }
 
 impl<A: Allocator> Model for Table<A> {
-    ghost use Rattle.std.specs.Prelude.{List, ℕ};
+    ghost use Rattle.ira_par.specs.Table.{Table};
 
-    ghost Value = { List ℕ };
+    ghost Value = { Table };
 
-    ghost view = { λ t. t.positions.items };
+    ghost view = { λ t. record { place = t.place; positions = t.positions.items } };
 }
 
 impl<A: Allocator> Table<A> {
-    /// The candidates at these positions.
-    pub(crate) fn new(positions: Vec<u32, A>) -> Table<A>
-        ensures { result ≡ positions.items }
+    /// The candidates of the node at the place, which are at these positions.
+    pub(crate) fn new(place: u8, positions: Vec<u32, A>) -> Table<A>
+        ensures { result ≡ record { place = place; positions = positions.items } }
     {
-        Table { positions }
+        Table { place, positions }
+    }
+
+    /// The place of the node.
+    pub(crate) fn place(&self) -> u8
+        ensures { result ≡ self.now.place }
+    {
+        self.place
     }
 
     /// How many candidates there are.
@@ -32,7 +40,7 @@ impl<A: Allocator> Table<A> {
 
     /// The candidate of this number, from 0.
     pub(crate) fn get(&self, number: usize) -> Option<u32>
-        ensures { result ≡ slice_get self.now number }
+        ensures { result ≡ slice_get self.now.positions number }
     {
         self.positions.get(number).copied()
     }

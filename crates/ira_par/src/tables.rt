@@ -1,12 +1,11 @@
-// The candidates of a case as lists, place by place.
-ghost use Rattle.std.specs.Prelude.{◌≡◌, ◌<◌, IfOk, OnOk, length};
+// The candidates of a case as lists, one for each node that it asks.
+ghost use Rattle.std.specs.Prelude.{◌≡◌, ◌<◌, ℕ, List, Ok, Some, IfOk, OnOk, MatchOption, length, slice_get};
 ghost use Rattle.ira_cert.specs.Asked.{HasDifferentPlaces, HasPlacesOf};
-ghost use Rattle.ira_cert.specs.Fronts.{AreFronts, AreCandidatesFor};
+ghost use Rattle.ira_par.specs.Table.{IsTableFor, IsListAt, AreTables, AreBelow};
 
 use crate::table::Table;
 use ira_cand::{Profile, table};
-use ira_cert::find_asked;
-use ira_event::{Logs, OutOfMemory, RingSize};
+use ira_event::{Logs, OutOfMemory};
 use ira_pred::Case;
 use std::alloc::Allocator;
 
@@ -15,22 +14,22 @@ pub(crate) fn case_tables<A: Allocator + Clone>(
     alloc: A,
     logs: &Logs<A>,
     case: &Case<A>,
-) -> Result<Vec<Option<Table<A>>, A>, OutOfMemory>
+) -> Result<Vec<Table<A>, A>, OutOfMemory>
     requires places { HasPlacesOf logs.now case.now }
     ensures different { OnOk result (HasDifferentPlaces case.now) }
-    ensures count { IfOk result (λ tables. length tables.items ≡ length logs.now) }
-    ensures tables { IfOk result (λ tables. AreFronts logs.now case.now tables.items) }
+    ensures places { IfOk result (λ tables. AreBelow (length logs.now) tables.items) }
+    ensures tables { IfOk result (λ tables. AreTables logs.now case.now tables.items) }
 {
-    find_asked(
+    find_all(
         alloc.clone()?,
-        logs.size(),
         case,
         |n|
             requires { (n < length case.now) × HasPlacesOf logs.now case.now }
-            ensures { IfOk result (λ positions. AreCandidatesFor logs.entry.now case.entry.now n positions) }
+            ensures { IfOk result (IsTableFor logs.entry.now case.entry.now n) }
         {
-            let positions = table(alloc.clone()?, logs.log(case.place(n)), case.clause(n))?;
-            Ok(Table::new(positions))
+            let place = case.place(n);
+            let positions = table(alloc.clone()?, logs.log(place), case.clause(n))?;
+            Ok(Table::new(place, positions))
         },
     )
 }
@@ -38,27 +37,59 @@ pub(crate) fn case_tables<A: Allocator + Clone>(
 /// The candidates of the case, found in the profiles of the logs.
 pub(crate) fn profiled_tables<A: Allocator + Clone>(
     alloc: A,
-    nodes: RingSize,
     profiles: &[Profile<'_, A>],
     case: &Case<A>,
-) -> Result<Vec<Option<Table<A>>, A>, OutOfMemory>
-    requires nodes { length profiles.now ≡ nodes }
+) -> Result<Vec<Table<A>, A>, OutOfMemory>
     requires places { HasPlacesOf profiles.now case.now }
     ensures different { OnOk result (HasDifferentPlaces case.now) }
-    ensures count { IfOk result (λ tables. length tables.items ≡ length profiles.now) }
-    ensures tables { IfOk result (λ tables. AreFronts profiles.now case.now tables.items) }
+    ensures places { IfOk result (λ tables. AreBelow (length profiles.now) tables.items) }
+    ensures tables { IfOk result (λ tables. AreTables profiles.now case.now tables.items) }
 {
-    find_asked(
+    find_all(
         alloc.clone()?,
-        nodes,
         case,
         |n|
             requires { (n < length case.now) × HasPlacesOf profiles.now case.now }
-            ensures { IfOk result
-                (λ positions. AreCandidatesFor profiles.entry.now case.entry.now n positions) }
+            ensures { IfOk result (IsTableFor profiles.entry.now case.entry.now n) }
         {
-            let profile = &profiles[usize::from(case.place(n))];
-            Ok(Table::new(profile.table(alloc.clone()?, case.clause(n))?))
+            let place = case.place(n);
+            let positions = profiles[usize::from(place)].table(alloc.clone()?, case.clause(n))?;
+            Ok(Table::new(place, positions))
         },
     )
+}
+
+/// What is found for each clause of the case, which is told by its number.
+fn find_all<T: Drop, F, A: Allocator>(
+    alloc: A,
+    case: &Case<A>,
+    find: F,
+) -> Result<Vec<T, A>, OutOfMemory>
+where
+    F: Fn(usize) -> Result<T, OutOfMemory>,
+    requires { (n : ℕ) → n < length case.now → F.pre find n }
+    ensures different { OnOk result (HasDifferentPlaces case.now) }
+    ensures count { IfOk result (λ found. length found.items ≡ length case.now) }
+    ensures each { IfOk result (λ found. (n : ℕ) (t : T) → slice_get found.items n ≡ Some t → F.post find n (Ok t)) }
+{
+    let count = case.len();
+    let mut found = Vec::with_capacity(alloc, count)?;
+    for n in 0..count {
+        found.push(find(n)?)?;
+    }
+    Ok(found)
+}
+
+/// The table of the place, if there is one.
+pub(crate) fn table_at<A: Allocator>(tables: &[Table<A>], place: u8) -> Option<&Table<A>>
+    ensures { MatchOption result ((positions : List ℕ) → ¬ (IsListAt tables.now place positions))
+        (λ table. IsListAt tables.now place table.now.positions) }
+{
+    for n in 0..tables.len() {
+        let table = &tables[n];
+        if table.place() == place {
+            return Some(table);
+        }
+    }
+    None
 }

@@ -1,20 +1,62 @@
+ghost use Rattle.std.specs.Prelude.{◌≡◌, ◌<◌, ◌≤◌, length};
+ghost use Rattle.ira_par.specs.Table.{AreBelow};
+ghost use Rattle.ira_par.specs.Task.{IsFoundFor};
+
+use crate::ranges::{begin_of, count_before, judge_range, left_at};
 use crate::table::Table;
-use ira_cert::Section;
+use ira_cert::{Left, Section, SectionFault};
+use ira_order::HappenedBefore;
 use std::alloc::Allocator;
 use std::marker::Model;
 
-/// A section that is to be judged, and the candidates of its case, place by place: those of a place that
-/// the case asks, and none of another.
+/// A section that is to be judged, and the candidates of its case.
 #[derive(Drop)]
 pub(crate) struct Task<'a, A: Allocator> {
-    pub(crate) tables: Vec<Option<Table<A>>, A>,
+    pub(crate) tables: Vec<Table<A>, A>,
     pub(crate) section: &'a Section<A>,
 }
 
 impl<'a, A: Allocator> Model for Task<'a, A> {
-    ghost use Rattle.ira_par.specs.Batch.{Task};
+    ghost use Rattle.ira_par.specs.Task.{Task};
 
     ghost Value = { Task };
 
     ghost view = { λ t. record { tables = t.tables.items; section = t.section.now } };
+}
+
+impl<'a, A: Allocator> Task<'a, A> {
+    /// What is found in the range of this number: its first step that isn't sound, or at the end of the last
+    /// one that the node isn't spent. The steps before the range, which are taken for sound, are counted in
+    /// the room for counts.
+    pub(crate) fn judge<C: HappenedBefore>(
+        &self,
+        ordered: &C,
+        number: usize,
+        ranges: usize,
+        counts: &mut [usize],
+    ) -> Option<SectionFault>
+        requires number { number < ranges }
+        requires few { ranges ≤ 16 }
+        requires places { AreBelow (length (C.logs_of ordered.now)) self.now.tables }
+        requires room { length counts.old ≡ length (C.logs_of ordered.now) }
+        ensures places { length counts.new ≡ length counts.old }
+        ensures found { IsFoundFor (C.logs_of ordered.now) ranges number self.now result }
+    {
+        let section = self.section;
+        let steps = section.steps.as_slice();
+        let tables = self.tables.as_slice();
+        let from = begin_of(steps.len(), ranges, number);
+        let to = begin_of(steps.len(), ranges, number + 1);
+        count_before(steps, from, counts);
+        if let Some(fault) = judge_range(ordered, tables, steps, from, to, counts) {
+            return Some(fault);
+        }
+        if number + 1 < ranges {
+            return None;
+        }
+        let Left::Spent = left_at(tables, counts, section.spent) else {
+            return Some(SectionFault::NotSpent(section.spent));
+        };
+        None
+    }
 }

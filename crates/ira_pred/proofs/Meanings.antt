@@ -1,5 +1,6 @@
 -- A formula holds of a state exactly where its test gives true.
-use Rattle.std.proofs.Common.{◌≡◌, ◌↔◌, IsTrue, ℕ, Bool, true, false, not, ◌&&◌, ◌||◌, ◌⊎◌, Option, Some, None, refl, ap, arith, inl, inr}
+use Rattle.std.proofs.Common.{◌≡◌, ◌↔◌, IsTrue, ℕ, Bool, true, false, not, ◌&&◌, ◌||◌, ◌⊎◌, Option, Some, None, refl}
+use Rattle.std.proofs.Common.{ap, arith, inl, inr}
 use Rattle.std.proofs.lemmas.Bool.Decides.{nat_tests}
 use Rattle.ira_event.specs.declared.load.Load.{Load}
 use Rattle.ira_node.specs.declared.phase.Phase.{Phase}
@@ -8,8 +9,10 @@ use Rattle.ira_node.specs.declared.node_state.NodeState.{NodeState}
 use Rattle.ira_pred.specs.declared.rel.Rel.{Rel}
 use Rattle.ira_pred.specs.declared.rel.Rel.TheVariants.{Less, Equal, Greater}
 use Rattle.ira_pred.specs.Clause.{Compares, HasRound, HasId, Holds}
-use Rattle.ira_pred.specs.ClauseAnswer.{compare_test, compare_some_test, round_of, id_of, holds_test, is_leader, is_active, is_passive, is_choosing, is_yielding, is_owing}
-use Rattle.ira_pred.specs.Formula.{Formula, always, leader, active, passive, choosing, yielding, owes, round, id, term, both, either, negated}
+use Rattle.ira_pred.specs.ClauseAnswer.{compare_test, compare_some_test, round_of, id_of, holds_test, is_leader}
+use Rattle.ira_pred.specs.ClauseAnswer.{is_active, is_passive, is_choosing, is_yielding, is_owing}
+use Rattle.ira_pred.specs.Formula.{Formula, always, leader, active, passive, choosing, yielding, owes, round, id, term}
+use Rattle.ira_pred.specs.Formula.{both, either, negated}
 
 pub compare_exactly : (rel : Rel) (x n : ℕ) → IsTrue (compare_test rel x n) ↔ Compares rel x n
 compare_exactly Less x n = (λ t. grind (arith, nat_tests), λ h. grind (arith, nat_tests))
@@ -29,18 +32,24 @@ found : (o : Option ℕ) (rel : Rel) (r n : ℕ) → o ≡ Some r → Compares r
 found o rel r n is h = rw is ((compare_exactly rel r n).1 h)
 
 -- the round compares so with the number where the function says so
-pub round_exactly : (phase : Phase) (rel : Rel) (n : ℕ) → IsTrue (compare_some_test (round_of phase) rel n) ↔ ((r : ℕ) × HasRound phase r × Compares rel r n)
+pub round_exactly : (phase : Phase) (rel : Rel) (n : ℕ)
+    → IsTrue (compare_some_test (round_of phase) rel n) ↔ ((r : ℕ) × HasRound phase r × Compares rel r n)
 round_exactly (Choosing r) rel n =
     (λ t. (r, inl refl, (compare_exactly rel r n).0 t), λ h. found _ rel h.0 n (round_found (Choosing r) h.0 h.1) h.2)
-round_exactly (Active r i) rel n =
-    (λ t. (r, inr (inl (i, refl)), (compare_exactly rel r n).0 t), λ h. found _ rel h.0 n (round_found (Active r i) h.0 h.1) h.2)
+round_exactly (Active r i) rel n = (
+  λ t. (r, inr (inl (i, refl)), (compare_exactly rel r n).0 t),
+  λ h. found _ rel h.0 n (round_found (Active r i) h.0 h.1) h.2,
+)
 round_exactly Passive rel n = (λ t. absurd cc, λ h. found _ rel h.0 n (round_found Passive h.0 h.1) h.2)
-round_exactly (Leader r i) rel n =
-    (λ t. (r, inr (inr (i, refl)), (compare_exactly rel r n).0 t), λ h. found _ rel h.0 n (round_found (Leader r i) h.0 h.1) h.2)
+round_exactly (Leader r i) rel n = (
+  λ t. (r, inr (inr (i, refl)), (compare_exactly rel r n).0 t),
+  λ h. found _ rel h.0 n (round_found (Leader r i) h.0 h.1) h.2,
+)
 round_exactly Yielding rel n = (λ t. absurd cc, λ h. found _ rel h.0 n (round_found Yielding h.0 h.1) h.2)
 
 -- the ID compares so with the number where the function says so
-pub id_exactly : (phase : Phase) (rel : Rel) (n : ℕ) → IsTrue (compare_some_test (id_of phase) rel n) ↔ ((i : ℕ) × HasId phase i × Compares rel i n)
+pub id_exactly : (phase : Phase) (rel : Rel) (n : ℕ)
+    → IsTrue (compare_some_test (id_of phase) rel n) ↔ ((i : ℕ) × HasId phase i × Compares rel i n)
 id_exactly (Choosing r) rel n = (λ t. absurd cc, λ h. found _ rel h.0 n (id_found (Choosing r) h.0 h.1) h.2)
 id_exactly (Active r i) rel n =
     (λ t. (i, inl (r, refl), (compare_exactly rel i n).0 t), λ h. found _ rel h.0 n (id_found (Active r i) h.0 h.1) h.2)
@@ -96,7 +105,8 @@ and_exactly false b P Q p q = (λ t. absurd cc, λ h. p.1 h.0)
 
 or_exactly : (a b : Bool) (P Q : Type 0) → IsTrue a ↔ P → IsTrue b ↔ Q → IsTrue (a || b) ↔ (P ⊎ Q)
 or_exactly true b P Q p q = (λ t. inl (p.0 refl), λ h. refl)
-or_exactly false b P Q p q = (λ t. inr (q.0 t), elim [ inl h ↦ absurd (let t : false ≡ true = p.1 h in cc) | inr h ↦ q.1 h ])
+or_exactly false b P Q p q =
+    (λ t. inr (q.0 t), elim [ inl h ↦ absurd (let t : false ≡ true = p.1 h in cc) | inr h ↦ q.1 h ])
 
 not_exactly : (a : Bool) (P : Type 0) → IsTrue a ↔ P → IsTrue (not a) ↔ (¬ P)
 not_exactly true P p = (λ t. absurd cc, λ h. absurd (h (p.0 refl)))

@@ -1,5 +1,6 @@
 -- The question of pairs keeps all limits.
-use Rattle.std.proofs.Common.{◌≡◌, ◌<◌, ◌≤◌, ℕ, zero, suc, ◌+◌, ◌*◌, ◌-◌, List, [], ◌∷◌, ◌++◌, map, length, refl, sym, ap, ◌∙◌, arith, length-append, append_assoc, codes}
+use Rattle.std.proofs.Common.{◌≡◌, ◌<◌, ◌≤◌, ℕ, zero, suc, ◌+◌, ◌*◌, ◌-◌, List, [], ◌∷◌, ◌++◌, map, length, refl, sym}
+use Rattle.std.proofs.Common.{ap, ◌∙◌, arith, length-append, append_assoc, codes}
 use Rattle.std.specs.Prelude.{All, decimal}
 use Rattle.std.specs.List.{flat_map}
 use Rattle.std.proofs.lemmas.List.Elements.{All-nil, All-cons, All-head, All-tail, All-append}
@@ -23,7 +24,8 @@ pub last-number : (i n : ℕ) → n ≤ i → numbers_from i (n - i) ≡ []
 last-number i n h = let e : n - i ≡ 0 = omega arith in ap (numbers_from i) e
 
 -- what is left grows shorter by its first piece
-pub shifted : {X : Type 0} (done : List X) (piece left rest : List X) → left ≡ piece ++ rest → (done ++ piece) ++ rest ≡ done ++ left
+pub shifted : {X : Type 0} (done : List X) (piece left rest : List X) → left ≡ piece ++ rest
+    → (done ++ piece) ++ rest ≡ done ++ left
 shifted done piece left rest e = append_assoc done piece rest ∙ ap (λ x. done ++ x) (sym e)
 
 -- ---- each case of the pairs
@@ -41,21 +43,31 @@ pair-is-case nodes i j low high =
     let second = record { place = j; formula = leader } ∷ [] in record {
       some = not-nil _ _;
       conjuncts_are = record {
-        each = All-cons (IsConjunct nodes) _ second one (All-cons (IsConjunct nodes) _ [] two (All-nil (IsConjunct nodes)));
-        rising = AllPairs-cons (λ a b. a.place < b.place) _ second (All-cons (λ b. i < b.place) _ [] low (All-nil (λ b. i < b.place))) (AllPairs-cons (λ a b. a.place < b.place) _ [] (All-nil (λ b. j < b.place)) (λ p q d lt within. absurd (omega arith)));
+        each = All-cons (IsConjunct nodes) _ second one
+            (All-cons (IsConjunct nodes) _ [] two (All-nil (IsConjunct nodes)));
+        rising = AllPairs-cons (λ a b. a.place < b.place) _ second
+            (All-cons (λ b. i < b.place) _ [] low (All-nil (λ b. i < b.place)))
+            (AllPairs-cons (λ a b. a.place < b.place) _ [] (All-nil (λ b. j < b.place)) (λ p q d lt within.
+            absurd (omega arith)));
       };
     }
 
-row : (P : List Conjunct → Type 0) (n i : ℕ) → ((j : ℕ) → i < j → j < n → P (pair_case i j)) → (j k : ℕ) → i < j → j + k ≤ n → All P (map (pair_case i) (numbers_from j k))
+row : (P : List Conjunct → Type 0) (n i : ℕ) → ((j : ℕ) → i < j → j < n → P (pair_case i j)) → (j k : ℕ) → i < j
+    → j + k ≤ n → All P (map (pair_case i) (numbers_from j k))
 row P n i h j zero low high = All-nil P
-row P n i h j (suc k) low high = All-cons P _ _ (h j low (omega arith)) (row P n i h (j + 1) k (omega arith) (omega arith))
+row P n i h j (suc k) low high =
+    All-cons P _ _ (h j low (omega arith)) (row P n i h (j + 1) k (omega arith) (omega arith))
 
-rows : (P : List Conjunct → Type 0) (n : ℕ) → ((i j : ℕ) → i < j → j < n → P (pair_case i j)) → (i k : ℕ) → i + k ≤ n → All P (flat_map (cases_of_place n) (numbers_from i k))
+rows : (P : List Conjunct → Type 0) (n : ℕ) → ((i j : ℕ) → i < j → j < n → P (pair_case i j)) → (i k : ℕ) → i + k ≤ n
+    → All P (flat_map (cases_of_place n) (numbers_from i k))
 rows P n h i zero high = All-nil P
-rows P n h i (suc k) high = All-append P _ _ (row P n i (h i) (i + 1) (n - (i + 1)) (omega arith) (omega arith)) (rows P n h (i + 1) k (omega arith))
+rows P n h i (suc k) high =
+    All-append P _ _ (row P n i (h i) (i + 1) (n - (i + 1)) (omega arith) (omega arith))
+    (rows P n h (i + 1) k (omega arith))
 
 -- what holds of each pair below n holds of each case
-pub All-pairs : (P : List Conjunct → Type 0) (n : ℕ) → ((i j : ℕ) → i < j → j < n → P (pair_case i j)) → All P (pairs_asked n).cases
+pub All-pairs : (P : List Conjunct → Type 0) (n : ℕ) → ((i j : ℕ) → i < j → j < n → P (pair_case i j))
+    → All P (pairs_asked n).cases
 All-pairs P n h = rows P n h 0 n (omega arith)
 
 -- ---- how many there are
@@ -134,7 +146,8 @@ case-short i j low high =
     let second = place-short j high in
     omega arith
 
-texts-short : (cases : List (List Conjunct)) → All (λ x. length (case_text x) ≤ 29) cases → length (flat_map case_text cases) ≤ 29 * length cases
+texts-short : (cases : List (List Conjunct)) → All (λ x. length (case_text x) ≤ 29) cases
+    → length (flat_map case_text cases) ≤ 29 * length cases
 texts-short [] h = omega arith
 texts-short (x ∷ xs) h =
     let first = All-head (λ y. length (case_text y) ≤ 29) x xs h in
@@ -145,7 +158,8 @@ texts-short (x ∷ xs) h =
 pub pairs-short : (n : ℕ) → n ≤ MAX_NODES → IsShort (pairs_asked n)
 pairs-short n h =
     let cases = (pairs_asked n).cases in
-    let each = texts-short cases (All-pairs (λ x. length (case_text x) ≤ 29) n (λ i j low high. case-short i j (omega arith) (omega arith))) in
+    let each = texts-short cases
+    (All-pairs (λ x. length (case_text x) ≤ 29) n (λ i j low high. case-short i j (omega arith) (omega arith))) in
     let count = pairs-count n h in
     let digits = length-decimal-le 3 n (omega arith) (omega arith) (omega arith) in
     let head = codes "irask 1\n" ++ codes "nodes " in

@@ -8,7 +8,8 @@ use Rattle.ira_pred.specs.declared.rel.Rel.{Rel}
 use Rattle.ira_pred.specs.declared.rel.Rel.TheVariants.{Less, Equal, Greater}
 use Rattle.ira_pred.specs.declared.clause.Clause.{Clause}
 use Rattle.ira_pred.specs.declared.clause.Clause.TheVariants as clause
-use Rattle.ira_pred.specs.Formula.{Formula, always, leader, active, passive, choosing, yielding, owes, round, id, term, both, either, negated}
+use Rattle.ira_pred.specs.Formula.{Formula, always, leader, active, passive, choosing, yielding, owes, round, id, term}
+use Rattle.ira_pred.specs.Formula.{both, either, negated}
 
 -- what the clause says; a box counts as what lies in it
 abbrev pub formula : {A : Type 0} → Clause A → Formula

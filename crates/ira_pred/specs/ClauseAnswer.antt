@@ -7,7 +7,8 @@ use Rattle.ira_node.specs.declared.phase.Phase.TheVariants.{Choosing, Active, Pa
 use Rattle.ira_node.specs.declared.node_state.NodeState.{NodeState}
 use Rattle.ira_pred.specs.declared.rel.Rel.{Rel}
 use Rattle.ira_pred.specs.declared.rel.Rel.TheVariants.{Less, Equal, Greater}
-use Rattle.ira_pred.specs.Formula.{Formula, always, leader, active, passive, choosing, yielding, owes, round, id, term, both, either, negated}
+use Rattle.ira_pred.specs.Formula.{Formula, always, leader, active, passive, choosing, yielding, owes, round, id, term}
+use Rattle.ira_pred.specs.Formula.{both, either, negated}
 
 -- whether a number compares so with n
 abbrev pub compare_test : Rel → ℕ → ℕ → Bool

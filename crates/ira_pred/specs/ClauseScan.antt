@@ -6,9 +6,10 @@ use Rattle.ira_pred.specs.Limits.{MAX_NUMBER}
 use Rattle.ira_event.specs.Scan.{kept_at, after_word, ◌>>=◌, behind}
 use Rattle.ira_pred.specs.declared.rel.Rel.{Rel}
 use Rattle.ira_pred.specs.declared.rel.Rel.TheVariants.{Less, Equal, Greater}
-use Rattle.ira_pred.specs.Formula.{Formula, always, leader, active, passive, choosing, yielding, owes, round, id, term, both, either, negated}
+use Rattle.ira_pred.specs.Formula.{Formula, always, leader, active, passive, choosing, yielding, owes, round, id, term}
+use Rattle.ira_pred.specs.Formula.{both, either, negated}
 
--- the sign of a comparison and the space behind it, and what follows them
+-- the sign of a comparison and the space after it, and what follows them
 abbrev pub rel_at : List ℕ → Option (Rel × List ℕ)
 rel_at text =
     behind (after_word (codes "< ") text) (λ r. Some (Less, r))
@@ -48,17 +49,19 @@ abbrev pub joined : Bool → Formula → Formula → Formula
 joined true a b = both a b
 joined false a b = either a b
 
--- what stands behind `(not `, scanned by `inner`, its `)`, and what follows it
+-- what stands after `(not `, scanned by `inner`, its `)`, and what follows it
 abbrev pub negated_at : (List ℕ → Option (Formula × List ℕ)) → List ℕ → Option (Formula × List ℕ)
 negated_at inner text = inner text >>= (λ a. option_map (λ r. (negated a.0, r)) (after_word (codes ")") a.1))
 
--- what stands behind `(`: two clauses scanned by `inner`, the word between them, the `)`, and what follows it
+-- what stands after `(`: two clauses scanned by `inner`, the word between them, the `)`, and what follows it
 abbrev pub joined_at : (List ℕ → Option (Formula × List ℕ)) → List ℕ → Option (Formula × List ℕ)
 joined_at inner text =
-    inner text >>= (λ a. joint_at a.1 >>= (λ w. inner w.1 >>= (λ b. option_map (λ r. (joined w.0 a.0 b.0, r)) (after_word (codes ")") b.1))))
+    inner text >>= (λ a. joint_at a.1 >>= (λ w.
+    inner w.1 >>= (λ b. option_map (λ r. (joined w.0 a.0 b.0, r)) (after_word (codes ")") b.1))))
 
 -- a clause that is nested no deeper than this, and what follows it
 abbrev pub clause_at : ℕ → List ℕ → Option (Formula × List ℕ)
 clause_at zero text = atom_at text
 clause_at (suc d) text =
-    behind (after_word (codes "(not ") text) (negated_at (clause_at d)) (behind (after_word (codes "(") text) (joined_at (clause_at d)) (atom_at text))
+    behind (after_word (codes "(not ") text) (negated_at (clause_at d))
+    (behind (after_word (codes "(") text) (joined_at (clause_at d)) (atom_at text))

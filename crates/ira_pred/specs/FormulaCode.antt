@@ -4,7 +4,8 @@ use Rattle.std.specs.Prelude.{◌≡◌, ℕ, List, [], ◌∷◌, ◌==◌, if�
 use Rattle.std.proofs.Common.{refl, ap, ◌∙◌}
 use Rattle.ira_pred.specs.declared.rel.Rel.{Rel}
 use Rattle.ira_pred.specs.declared.rel.Rel.TheVariants.{Less, Equal, Greater}
-use Rattle.ira_pred.specs.Formula.{Formula, always, leader, active, passive, choosing, yielding, owes, round, id, term, both, either, negated}
+use Rattle.ira_pred.specs.Formula.{Formula, always, leader, active, passive, choosing, yielding, owes, round, id, term}
+use Rattle.ira_pred.specs.Formula.{both, either, negated}
 
 -- a kind, a comparison and a number
 abbrev Token : Type 0
@@ -94,4 +95,5 @@ formula-tokens f = ap first (read-tokens f [] [])
 
 abbrev pub formula_code : Coded Formula
 formula_code =
-    code_by (List Token) (coded_list (coded× coded_ℕ (coded× coded_ℕ coded_ℕ))) (λ f. tokens f []) (λ ts. first (read ts [])) formula-tokens
+    code_by (List Token) (coded_list (coded× coded_ℕ (coded× coded_ℕ coded_ℕ))) (λ f. tokens f []) (λ ts.
+    first (read ts [])) formula-tokens

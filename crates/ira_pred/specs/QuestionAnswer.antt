@@ -19,4 +19,5 @@ AnswersFaults result text = (f : AskFault) → UnlessErr result OutOfMemory ((re
 -- whatever memory does, a text that is too long, or else has no head, is answered so
 pub record AnswersBadFronts (result : Result Asked AskFault) (text : List ℕ) : Type 0 where
   pub too_long : MAX_TEXT < length text → result ≡ Err TooLong
-  pub no_head : length text ≤ MAX_TEXT → ((nodes : ℕ) (rest : List ℕ) → ¬ (BeginsWithQuestionHead text nodes rest)) → result ≡ Err Head
+  pub no_head : length text ≤ MAX_TEXT → ((nodes : ℕ) (rest : List ℕ) → ¬ (BeginsWithQuestionHead text nodes rest))
+      → result ≡ Err Head

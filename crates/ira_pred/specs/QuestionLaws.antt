@@ -10,7 +10,8 @@ use Rattle.ira_pred.specs.QuestionTextFault.{IsTooDeep, QuestionTextFault}
 
 -- each question whose text isn't too long has one text, the one written out
 abbrev pub EachQuestionHasOneText : Type 0
-EachQuestionHasOneText = (text : List ℕ) (q : Asked) → IsQuestionText text q ↔ (IsQuestion q × IsShort q × (text ≡ question_text q))
+EachQuestionHasOneText = (text : List ℕ) (q : Asked)
+    → IsQuestionText text q ↔ (IsQuestion q × IsShort q × (text ≡ question_text q))
 
 -- no text belongs to two questions
 abbrev pub NoTextIsTwoQuestions : Type 0
@@ -22,7 +23,8 @@ TextsAreAsDeepAsClauses = (text : List ℕ) (f : Formula) → IsClauseText text 
 
 -- the text of a question has no fault
 abbrev pub NoQuestionTextHasFaults : Type 0
-NoQuestionTextHasFaults = (text : List ℕ) (q : Asked) (f : AskFault) → IsQuestionText text q → ¬ (QuestionTextFault text f)
+NoQuestionTextHasFaults = (text : List ℕ) (q : Asked) (f : AskFault) → IsQuestionText text q
+    → ¬ (QuestionTextFault text f)
 
 -- no text has two faults
 abbrev pub NoTextHasTwoFaults : Type 0
@@ -30,7 +32,8 @@ NoTextHasTwoFaults = (text : List ℕ) (f g : AskFault) → QuestionTextFault te
 
 -- each text is a question's, or has a fault
 abbrev pub EachTextHasAnAnswer : Type 0
-EachTextHasAnAnswer = (text : List ℕ) → ((q : Asked) × IsQuestionText text q) ⊎ ((f : AskFault) × QuestionTextFault text f)
+EachTextHasAnAnswer = (text : List ℕ) → ((q : Asked) × IsQuestionText text q)
+    ⊎ ((f : AskFault) × QuestionTextFault text f)
 
 -- to be out of memory is no fault of a text
 abbrev pub NoTextIsOutOfMemory : Type 0

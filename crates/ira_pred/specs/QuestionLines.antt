@@ -1,4 +1,4 @@
--- Helpers, no definitions: what stands behind the head of a question's text, read line by line.
+-- Helpers, no definitions: what stands after the head of a question's text, read line by line.
 use Rattle.std.specs.Prelude.{◌≡◌, ◌≢◌, ℕ, ◌+◌, ◌<◌, ◌≤◌, ◌⊎◌, List, [], ◌++◌, length, codes, All, Result, Ok, Err}
 use Rattle.ira_pred.specs.Limits.{MAX_CASES}
 use Rattle.ira_pred.specs.declared.ask_fault.AskFault.{AskFault}
@@ -29,8 +29,10 @@ ReadsFirst old new (Err f) = NextLineFault (λ line more g. FirstLineFault line 
 -- text, or a fault
 abbrev pub ReadsInCase : {A : Type 0} → ℕ → Spot → LinesLeft → LinesLeft → Result (QuestionLine A) AskFault → Type 0
 ReadsInCase nodes at old new (Ok (Clause c)) =
-    (line : List ℕ) × ReadsLine old new line × IsConjunctLine line (conjunct c) × IsConjunct nodes (conjunct c) × All (λ d. d.place < c.place) at.conjuncts
-ReadsInCase nodes at old new (Ok Case) = ReadsLine old new (codes "case") × (at.conjuncts ≢ []) × (at.cases + 1 < MAX_CASES)
+    (line : List ℕ) × ReadsLine old new line × IsConjunctLine line (conjunct c) × IsConjunct nodes (conjunct c)
+    × All (λ d. d.place < c.place) at.conjuncts
+ReadsInCase nodes at old new (Ok Case) = ReadsLine old new (codes "case") × (at.conjuncts ≢ [])
+    × (at.cases + 1 < MAX_CASES)
 ReadsInCase nodes at old new (Ok End) = (old.rest ≡ codes "end\n") × (at.conjuncts ≢ [])
 ReadsInCase nodes at old new (Err f) = (f ≡ OutOfMemory) ⊎ NextLineFault (CaseLineFault nodes at) old.rest f
 
@@ -38,7 +40,7 @@ ReadsInCase nodes at old new (Err f) = (f ≡ OutOfMemory) ⊎ NextLineFault (Ca
 abbrev pub ClauseFault : AskFault → ℕ → List ℕ → AskFault → Type 0
 ClauseFault other number text f = (IsTooDeep text × (f ≡ Depth number)) ⊎ ((¬ (IsTooDeep text)) × (f ≡ other))
 
--- these cases are the whole text behind a head, with the end line
+-- these cases are the whole text after a head, with the end line
 pub record AreAllCases (nodes : ℕ) (text : List ℕ) (cases : List (List Conjunct)) : Type 0 where
   pub front : List ℕ
   pub cases_are : AreCaseTexts front cases
@@ -47,7 +49,7 @@ pub record AreAllCases (nodes : ℕ) (text : List ℕ) (cases : List (List Conju
   pub valid : All (IsCase nodes) cases
   pub parts : text ≡ front ++ codes "end\n"
 
--- a reader of what stands behind a head answered its cases, its fault, or out of memory
+-- a reader of what stands after a head answered its cases, its fault, or out of memory
 abbrev pub CasesRead : {X : Type 0} → ℕ → (X → List (List Conjunct)) → Result X AskFault → List ℕ → Type 0
 CasesRead nodes view (Ok v) text = AreAllCases nodes text (view v)
 CasesRead nodes view (Err f) text = (f ≡ OutOfMemory) ⊎ CasesFault nodes text f

@@ -11,6 +11,6 @@ head_at text = do
   a ← after_word (codes "nodes ") v
   number_line a
 
--- the place in front of a clause and the colon and the space behind it, and what follows them
+-- the place in front of a clause and the colon and the space after it, and what follows them
 abbrev pub place_at : List ℕ → Option (ℕ × List ℕ)
 place_at text = kept_at text >>= (λ n. option_map (λ r. (n.0, r)) (after_word (codes ": ") n.1))

@@ -5,7 +5,8 @@ use Rattle.ira_pred.specs.Limits.{MAX_NUMBER, MAX_TEXT}
 use Rattle.ira_event.specs.Numeral.{IsNumeral}
 use Rattle.ira_pred.specs.declared.rel.Rel.{Rel}
 use Rattle.ira_pred.specs.declared.rel.Rel.TheVariants.{Less, Equal, Greater}
-use Rattle.ira_pred.specs.Formula.{Formula, always, leader, active, passive, choosing, yielding, owes, round, id, term, both, either, negated}
+use Rattle.ira_pred.specs.Formula.{Formula, always, leader, active, passive, choosing, yielding, owes, round, id, term}
+use Rattle.ira_pred.specs.Formula.{both, either, negated}
 use Rattle.ira_pred.specs.Case.{Conjunct}
 use Rattle.ira_pred.specs.Question.{Asked, IsQuestion}
 
@@ -17,7 +18,8 @@ rel_sign Greater = codes ">"
 
 -- the spelling of a comparison with n, which is at most `MAX_NUMBER`
 abbrev pub IsComparisonText : List ℕ → Rel → ℕ → Type 0
-IsComparisonText text rel n = (number : List ℕ) × (text ≡ rel_sign rel ++ codes " " ++ number) × IsNumeral number n × (n ≤ MAX_NUMBER)
+IsComparisonText text rel n = (number : List ℕ) × (text ≡ rel_sign rel ++ codes " " ++ number) × IsNumeral number n
+    × (n ≤ MAX_NUMBER)
 
 -- the spelling of a clause
 abbrev pub IsClauseText : List ℕ → Formula → Type 0
@@ -32,9 +34,11 @@ IsClauseText text (round rel n) = (rest : List ℕ) × (text ≡ codes "round " 
 IsClauseText text (id rel n) = (rest : List ℕ) × (text ≡ codes "id " ++ rest) × IsComparisonText rest rel n
 IsClauseText text (term rel n) = (rest : List ℕ) × (text ≡ codes "term " ++ rest) × IsComparisonText rest rel n
 IsClauseText text (both a b) =
-    (left : List ℕ) × (right : List ℕ) × (text ≡ codes "(" ++ left ++ codes " and " ++ right ++ codes ")") × IsClauseText left a × IsClauseText right b
+    (left : List ℕ) × (right : List ℕ) × (text ≡ codes "(" ++ left ++ codes " and " ++ right ++ codes ")")
+    × IsClauseText left a × IsClauseText right b
 IsClauseText text (either a b) =
-    (left : List ℕ) × (right : List ℕ) × (text ≡ codes "(" ++ left ++ codes " or " ++ right ++ codes ")") × IsClauseText left a × IsClauseText right b
+    (left : List ℕ) × (right : List ℕ) × (text ≡ codes "(" ++ left ++ codes " or " ++ right ++ codes ")")
+    × IsClauseText left a × IsClauseText right b
 IsClauseText text (negated a) = (inner : List ℕ) × (text ≡ codes "(not " ++ inner ++ codes ")") × IsClauseText inner a
 
 -- a line that begins with this number, a colon and a space, and goes on with the text
@@ -49,13 +53,14 @@ IsConjunctLine line c = (text : List ℕ) × IsPlaced line c.place text × IsCla
 abbrev pub AreConjunctLines : List ℕ → List Conjunct → Type 0
 AreConjunctLines text [] = text ≡ []
 AreConjunctLines text (c ∷ cs) =
-    (line : List ℕ) × (rest : List ℕ) × (text ≡ line ++ codes "\n" ++ rest) × IsConjunctLine line c × AreConjunctLines rest cs
+    (line : List ℕ) × (rest : List ℕ) × (text ≡ line ++ codes "\n" ++ rest) × IsConjunctLine line c
+    × AreConjunctLines rest cs
 
 -- the line `case`, and the lines of its conjuncts
 abbrev pub IsCaseText : List ℕ → List Conjunct → Type 0
 IsCaseText text conjuncts = (lines : List ℕ) × (text ≡ codes "case\n" ++ lines) × AreConjunctLines lines conjuncts
 
--- the texts of these cases, one behind the other
+-- the texts of these cases, one after the other
 abbrev pub AreCaseTexts : List ℕ → List (List Conjunct) → Type 0
 AreCaseTexts text [] = text ≡ []
 AreCaseTexts text (c ∷ cs) =

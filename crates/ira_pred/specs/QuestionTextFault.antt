@@ -1,10 +1,12 @@
 -- The fault of a text that is no question's: the first one, line by line.
-use Rattle.std.specs.Prelude.{◌≡◌, ◌≢◌, ℕ, ◌+◌, ◌<◌, ◌≤◌, ◌⊎◌, List, [], ◌++◌, ◌==◌, length, codes, All, sum_by, count_by}
+use Rattle.std.specs.Prelude.{◌≡◌, ◌≢◌, ℕ, ◌+◌, ◌<◌, ◌≤◌, ◌⊎◌, List, [], ◌++◌, ◌==◌, length, codes, All, sum_by}
+use Rattle.std.specs.Prelude.{count_by}
 use Rattle.ira_pred.specs.Limits.{MAX_CASES, MAX_DEPTH, MAX_TEXT}
 use Rattle.ira_event.specs.NextLine as next
 use Rattle.ira_event.specs.RingSize.{IsRingSize}
 use Rattle.ira_pred.specs.declared.ask_fault.AskFault.{AskFault}
-use Rattle.ira_pred.specs.declared.ask_fault.AskFault.TheVariants.{TooLong, Head, Line, Place, Depth, Empty, Cases, Cut, Trailing}
+use Rattle.ira_pred.specs.declared.ask_fault.AskFault.TheVariants.{TooLong, Head, Line, Place, Depth, Empty, Cases, Cut}
+use Rattle.ira_pred.specs.declared.ask_fault.AskFault.TheVariants.{Trailing}
 use Rattle.ira_pred.specs.Formula.{Formula}
 use Rattle.ira_pred.specs.Case.{Conjunct, AreConjuncts, IsCase}
 use Rattle.ira_pred.specs.QuestionText.{IsClauseText, IsPlaced, AreConjunctLines, AreCaseTexts, IsQuestionHead}
@@ -39,13 +41,15 @@ pub record Spot : Type 0 where
 abbrev pub MayFollow : ℕ → Spot → ℕ → Type 0
 MayFollow nodes at place = (place < nodes) × All (λ c. c.place < place) at.conjuncts
 
--- the fault of a complete line at the spot, with `more` behind its line feed
+-- the fault of a complete line at the spot, with `more` after its line feed
 pub data CaseLineFault (nodes : ℕ) (at : Spot) (line more : List ℕ) (f : AskFault) : Type 0 where
   -- it ends the case, which asks nothing
-  empty : ((line ≡ codes "case") ⊎ (line ≡ codes "end")) → at.conjuncts ≡ [] → f ≡ Empty at.number → CaseLineFault nodes at line more f
+  empty : ((line ≡ codes "case") ⊎ (line ≡ codes "end")) → at.conjuncts ≡ [] → f ≡ Empty at.number
+      → CaseLineFault nodes at line more f
   -- it begins one case more than is allowed
-  too_many : line ≡ codes "case" → at.conjuncts ≢ [] → MAX_CASES ≤ at.cases + 1 → f ≡ Cases → CaseLineFault nodes at line more f
-  -- it is none of `case`, `end`, and a number with a colon and a space behind it
+  too_many : line ≡ codes "case" → at.conjuncts ≢ [] → MAX_CASES ≤ at.cases + 1 → f ≡ Cases
+      → CaseLineFault nodes at line more f
+  -- it is none of `case`, `end`, and a number with a colon and a space after it
   no_place :
       line ≢ codes "case" → line ≢ codes "end" → ((n : ℕ) (text : List ℕ) → ¬ (IsPlaced line n text))
       → f ≡ Line at.number → CaseLineFault nodes at line more f
@@ -53,11 +57,11 @@ pub data CaseLineFault (nodes : ℕ) (at : Spot) (line more : List ℕ) (f : Ask
   wrong_place :
       (n : ℕ) (text : List ℕ) → IsPlaced line n text → ¬ (MayFollow nodes at n)
       → f ≡ Place at.number → CaseLineFault nodes at line more f
-  -- what stands behind its place is nested too deep
+  -- what stands after its place is nested too deep
   too_deep :
       (n : ℕ) (text : List ℕ) → IsPlaced line n text → MayFollow nodes at n → IsTooDeep text
       → f ≡ Depth at.number → CaseLineFault nodes at line more f
-  -- what stands behind its place is no clause
+  -- what stands after its place is no clause
   no_clause :
       (n : ℕ) (text : List ℕ) → IsPlaced line n text → MayFollow nodes at n → ¬ (IsTooDeep text)
       → ((g : Formula) → ¬ (IsClauseText text g)) → f ≡ Line at.number → CaseLineFault nodes at line more f
@@ -77,7 +81,8 @@ pub record BeginsWithQuestionHead (text : List ℕ) (nodes : ℕ) (rest : List �
 
 -- the text begins with these cases, and of one more, whose `case` line was read, with these conjuncts,
 -- all within the limits, and goes on with the rest
-pub record BeginsInCase (nodes : ℕ) (text : List ℕ) (cases : List (List Conjunct)) (conjuncts : List Conjunct) (rest : List ℕ) : Type 0 where
+pub record BeginsInCase (nodes : ℕ) (text : List ℕ) (cases : List (List Conjunct)) (conjuncts : List Conjunct)
+    (rest : List ℕ) : Type 0 where
   pub closed : List ℕ
   pub lines : List ℕ
   pub closed_are : AreCaseTexts closed cases
@@ -91,26 +96,33 @@ pub record BeginsInCase (nodes : ℕ) (text : List ℕ) (cases : List (List Conj
 abbrev pub lines_of : List (List Conjunct) → ℕ
 lines_of cases = sum_by (λ c. length c + 1) cases
 
--- where the line behind these cases and these conjuncts stands: two lines of the head, those of the
+-- where the line after these cases and these conjuncts stands: two lines of the head, those of the
 -- cases, a `case` line and those of the conjuncts are before it
 abbrev pub spot : List (List Conjunct) → List Conjunct → Spot
-spot cases conjuncts = record { number = 2 + lines_of cases + 1 + length conjuncts + 1; cases = length cases; conjuncts = conjuncts }
+spot cases conjuncts = record {
+  number = 2 + lines_of cases + 1 + length conjuncts + 1;
+  cases = length cases;
+  conjuncts = conjuncts;
+}
 
--- the fault of what stands behind the head
+-- the fault of what stands after the head
 pub data CasesFault (nodes : ℕ) (text : List ℕ) (f : AskFault) : Type 0 where
   -- where the first `case` is due
   before_cases : NextLineFault (λ line more g. FirstLineFault line g) text f → CasesFault nodes text f
   -- in a case
   in_case :
-      (cases : List (List Conjunct)) (conjuncts : List Conjunct) (rest : List ℕ) → BeginsInCase nodes text cases conjuncts rest
+      (cases : List (List Conjunct)) (conjuncts : List Conjunct) (rest : List ℕ)
+      → BeginsInCase nodes text cases conjuncts rest
       → NextLineFault (CaseLineFault nodes (spot cases conjuncts)) rest f → CasesFault nodes text f
 
 -- the fault of a text that isn't too long
 pub data QuestionLinesFault (text : List ℕ) (f : AskFault) : Type 0 where
   -- it begins with no head
-  no_head : ((nodes : ℕ) (rest : List ℕ) → ¬ (BeginsWithQuestionHead text nodes rest)) → f ≡ Head → QuestionLinesFault text f
-  -- what stands behind its head has a fault
-  behind_head : (nodes : ℕ) (rest : List ℕ) → BeginsWithQuestionHead text nodes rest → CasesFault nodes rest f → QuestionLinesFault text f
+  no_head : ((nodes : ℕ) (rest : List ℕ) → ¬ (BeginsWithQuestionHead text nodes rest)) → f ≡ Head
+      → QuestionLinesFault text f
+  -- what stands after its head has a fault
+  behind_head : (nodes : ℕ) (rest : List ℕ) → BeginsWithQuestionHead text nodes rest → CasesFault nodes rest f
+      → QuestionLinesFault text f
 
 -- the fault of a text
 abbrev pub QuestionTextFault : List ℕ → AskFault → Type 0

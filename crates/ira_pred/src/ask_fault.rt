@@ -10,7 +10,7 @@ pub enum AskFault {
     /// The first two lines aren't version and ring size, or the size is out of range.
     #[error("head")]
     Head,
-    /// A line that isn't allowed where it stands, or has no clause behind its place.
+    /// A line that isn't allowed where it stands, or has no clause after its place.
     #[error("line {0}")]
     Line(u32),
     /// A clause's place isn't in the ring, or not above the one before in its case.

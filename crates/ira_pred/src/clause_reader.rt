@@ -145,7 +145,7 @@ fn take_comparison(text: &[u8]) -> Option<(Rel, u32, &[u8])>
     Some((rel, n, rest))
 }
 
-/// The sign of a comparison and the space behind it, and what follows them.
+/// The sign of a comparison and the space after it, and what follows them.
 fn take_rel(text: &[u8]) -> Option<(Rel, &[u8])>
     ensures { Gives (λ found. (found.0, found.1.now)) result (rel_at text.now) }
 {

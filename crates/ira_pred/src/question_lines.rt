@@ -14,7 +14,7 @@ use ira_event::{line_end, skip_word, take_number};
 use std::alloc::{AllocError, Allocator};
 use std::marker::Model;
 
-/// What stands behind the head of a question's text, read line by line.
+/// What stands after the head of a question's text, read line by line.
 #[derive(Drop)]
 pub(crate) struct QuestionLines<'a> {
     rest: &'a [u8],
@@ -33,7 +33,7 @@ impl<'a> Model for QuestionLines<'a> {
 }
 
 impl<'a> QuestionLines<'a> {
-    /// The lines of what stands behind a head.
+    /// The lines of what stands after a head.
     pub fn new(text: &'a [u8]) -> QuestionLines<'a>
         requires { 3 + length text.now ≤ 67108864 }
         ensures { result ≡ record { rest = text.now; number = 3 } }
@@ -67,7 +67,7 @@ impl<'a> QuestionLines<'a> {
         Err(complete(self.rest, AskFault::Line(self.number)))
     }
 
-    /// The next line of a case that asks this so far and is behind so many cases, or the fault of
+    /// The next line of a case that asks this so far and is after so many cases, or the fault of
     /// what follows.
     pub fn next_in_case<A: Allocator + Clone>(
         &mut self,
@@ -149,7 +149,7 @@ impl<'a> QuestionLines<'a> {
 }
 
 /// The place in front of a clause, its number as it is spelled, and what follows the colon and the
-/// space behind it.
+/// space after it.
 fn take_place(text: &[u8]) -> Option<(u32, &[u8])>
     ensures { Gives (λ found. (found.0, found.1.now)) result (place_at text.now) }
 {

@@ -29,7 +29,7 @@ pub fn read_question<A: Allocator + Clone>(alloc: A, text: &[u8]) -> Result<Ques
     Ok(Question::of_parts(head.nodes, cases))
 }
 
-/// The cases of all lines behind a head, none of which was read yet.
+/// The cases of all lines after a head, none of which was read yet.
 fn read_cases<A: Allocator + Clone>(
     alloc: A,
     nodes: u8,

@@ -7,8 +7,8 @@ pub trait Writer {
     fn is_refused(&self, sink: &mut FailingSink) -> bool;
 }
 
-/// Whether the text, written to a sink that fails behind each of its bytes in turn, leaves those before there. Gives the
-/// first byte behind which it doesn't.
+/// Whether the text, written to a sink that fails after each of its bytes in turn, leaves those before there. Gives the
+/// first byte after which it doesn't.
 pub fn each_byte_refused<W: Writer>(alloc: Global, writer: &W, text: &[u8]) -> Result<(), usize> {
     for k in 0..text.len() {
         let mut sink = FailingSink::new(alloc, k);

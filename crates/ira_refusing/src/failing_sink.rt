@@ -4,7 +4,7 @@ use std::alloc::Global;
 /// The most bytes that it takes at a time.
 const PIECE: usize = 3;
 
-/// A sink that keeps what it takes, in pieces, fails once behind so many bytes, and then goes on.
+/// A sink that keeps what it takes, in pieces, fails once after so many bytes, and then goes on.
 #[derive(Drop)]
 pub struct FailingSink {
     bytes: Vec<u8>,
@@ -14,7 +14,7 @@ pub struct FailingSink {
 }
 
 impl FailingSink {
-    /// A sink that has taken nothing, and fails behind so many bytes.
+    /// A sink that has taken nothing, and fails after so many bytes.
     pub fn new(alloc: Global, left: usize) -> FailingSink {
         FailingSink {
             bytes: Vec::new(alloc),

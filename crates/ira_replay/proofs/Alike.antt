@@ -6,7 +6,8 @@ use Rattle.ira_event.specs.declared.event.Event.TheVariants.{Draw, Sent, Got, Yi
 use Rattle.ira_event.specs.Log.{Log}
 use Rattle.ira_node.specs.declared.node_state.NodeState.{NodeState}
 use Rattle.ira_node.specs.declared.wanted.Wanted.{Wanted}
-use Rattle.ira_node.specs.declared.wanted.Wanted.TheVariants.{Draw as WantsDraw, Send, Receipt, Yield as WantsYield, Nothing}
+use Rattle.ira_node.specs.declared.wanted.Wanted.TheVariants.{Draw as WantsDraw, Send, Receipt, Yield as WantsYield}
+use Rattle.ira_node.specs.declared.wanted.Wanted.TheVariants.{Nothing}
 use Rattle.ira_node.specs.NodeState.{first_state}
 use Rattle.ira_node.specs.NodeStep.{NodeStep}
 use Rattle.ira_node.specs.Wanted.{IsOfKind, wanted_of}
@@ -25,14 +26,16 @@ one_end n s (e ∷ es) t u h k =
     one_end n h.0 es t u h.2 (subst P (same_next n s e k.0 h.0 k.1 h.1) k.2)
 
 -- the first of the events lead to a state, and the others on from there
-pub leads_split : (n : ℕ) (s : NodeState) (es fs : List Event) (t : NodeState) → LeadsTo n s (es ++ fs) t → (u : NodeState) × LeadsTo n s es u × LeadsTo n u fs t
+pub leads_split : (n : ℕ) (s : NodeState) (es fs : List Event) (t : NodeState) → LeadsTo n s (es ++ fs) t
+    → (u : NodeState) × LeadsTo n s es u × LeadsTo n u fs t
 leads_split n s [] fs t h = (s, refl, h)
 leads_split n s (e ∷ es) fs t h =
     let rest = leads_split n h.0 es fs t h.2 in
     (rest.0, (h.0, h.1, rest.1), rest.2)
 
 -- the state before event k, and its step
-step_at : (n : ℕ) (s : NodeState) (es : List Event) (t : NodeState) (k : ℕ) (e : Event) → LeadsTo n s es t → slice_get es k ≡ Some e → (u : NodeState) × (v : NodeState) × LeadsTo n s (take k es) u × NodeStep n u e v
+step_at : (n : ℕ) (s : NodeState) (es : List Event) (t : NodeState) (k : ℕ) (e : Event) → LeadsTo n s es t
+    → slice_get es k ≡ Some e → (u : NodeState) × (v : NodeState) × LeadsTo n s (take k es) u × NodeStep n u e v
 step_at n s [] t k e h at = absurd cc
 step_at n s (x ∷ es) t zero e h at =
     let same : x ≡ e = cc in
@@ -79,10 +82,13 @@ one_kind Nothing (Got a) f h k = absurd h
 one_kind Nothing Yield f h k = absurd h
 
 -- two events that lead on from one state
-pub steps_alike : (n : ℕ) (s : NodeState) (e f : Event) (t u : NodeState) → NodeStep n s e t → NodeStep n s f u → AreAlike e f
-steps_alike n s e f t u h k = one_kind (wanted_of s.term s.phase s.owed) e f (step_wanted n s e t h) (step_wanted n s f u k)
+pub steps_alike : (n : ℕ) (s : NodeState) (e f : Event) (t u : NodeState) → NodeStep n s e t → NodeStep n s f u
+    → AreAlike e f
+steps_alike n s e f t u h k =
+    one_kind (wanted_of s.term s.phase s.owed) e f (step_wanted n s e t h) (step_wanted n s f u k)
 
-go_on_alike : (n : ℕ) (s : NodeState) (es fs : List Event) (t u : NodeState) (k : ℕ) (e f : Event) → LeadsTo n s es t → LeadsTo n s fs u → take k es ≡ take k fs → slice_get es k ≡ Some e → slice_get fs k ≡ Some f → AreAlike e f
+go_on_alike : (n : ℕ) (s : NodeState) (es fs : List Event) (t u : NodeState) (k : ℕ) (e f : Event) → LeadsTo n s es t
+    → LeadsTo n s fs u → take k es ≡ take k fs → slice_get es k ≡ Some e → slice_get fs k ≡ Some f → AreAlike e f
 go_on_alike n s es fs t u k e f h g same at there =
     let a = step_at n s es t k e h at in
     let b = step_at n s fs u k f g there in
@@ -90,7 +96,10 @@ go_on_alike n s es fs t u k e f h g same at there =
     let Q : NodeState → Type 0 = λ x. NodeStep n x f b.1 in
     steps_alike n a.0 e f a.1 b.1 a.3 (subst Q (one_end n s (take k fs) b.0 a.0 b.2 (subst P same a.2)) b.3)
 
-pub local_runs_alike : (a b : Log) (k : ℕ) (e f : Event) → IsLocalRun a → IsLocalRun b → a.nodes ≡ b.nodes → a.initiator ≡ b.initiator → take k a.events ≡ take k b.events → slice_get a.events k ≡ Some e → slice_get b.events k ≡ Some f → AreAlike e f
+pub local_runs_alike : (a b : Log) (k : ℕ) (e f : Event) → IsLocalRun a → IsLocalRun b → a.nodes ≡ b.nodes
+    → a.initiator ≡ b.initiator → take k a.events ≡ take k b.events → slice_get a.events k ≡ Some e
+    → slice_get b.events k ≡ Some f → AreAlike e f
 local_runs_alike a b k e f h g nodes kind same at there =
     let P : ℕ × Bool → Type 0 = λ z. LeadsTo z.0 (first_state z.1) b.events g.0 in
-    go_on_alike a.nodes (first_state a.initiator) a.events b.events h.0 g.0 k e f h.1 (subst P (λ j. (sym nodes j, sym kind j)) g.1) same at there
+    go_on_alike a.nodes (first_state a.initiator) a.events b.events h.0 g.0 k e f h.1
+    (subst P (λ j. (sym nodes j, sym kind j)) g.1) same at there

@@ -29,7 +29,9 @@ one_stop log f g a b =
 pub run_or_stop : (log : Log) → IsLocalRun log ⊎ ((f : ReplayFault) × IsFirstFault log f)
 run_or_stop log = by_answer (replayed log.nodes 0 (Ok (first_state log.initiator)) log.events) refl
   where
-    by_answer : (r : Result NodeState ReplayFault) → r ≡ replayed log.nodes 0 (Ok (first_state log.initiator)) log.events → IsLocalRun log ⊎ ((f : ReplayFault) × IsFirstFault log f)
+    by_answer : (r : Result NodeState ReplayFault)
+        → r ≡ replayed log.nodes 0 (Ok (first_state log.initiator)) log.events → IsLocalRun log
+        ⊎ ((f : ReplayFault) × IsFirstFault log f)
     by_answer (Ok t) is = inl (t, (leads_exactly log.nodes (first_state log.initiator) log.events (Ok t) is t).0 refl)
     by_answer (Err f) is = inr (f, (stops_exactly log.nodes (first_state log.initiator) log.events (Err f) is f).0 refl)
 

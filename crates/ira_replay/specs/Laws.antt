@@ -10,11 +10,13 @@ use Rattle.ira_replay.specs.StatesOfLog.{AreStates, AreStatesOfLog}
 
 -- events have one list of states
 abbrev pub OneListOfStates : Type 0
-OneListOfStates = (n : ℕ) (s : NodeState) (es : List Event) (ts us : List NodeState) → AreStates n s es ts → AreStates n s es us → ts ≡ us
+OneListOfStates = (n : ℕ) (s : NodeState) (es : List Event) (ts us : List NodeState) → AreStates n s es ts
+    → AreStates n s es us → ts ≡ us
 
 -- state a is the one to which the first a events lead
 abbrev pub StatesAreReached : Type 0
-StatesAreReached = (n : ℕ) (s : NodeState) (es : List Event) (ts : List NodeState) → AreStates n s es ts → (a : ℕ) (t : NodeState) → (slice_get ts a ≡ Some t) ↔ ((a ≤ length es) × LeadsTo n s (take a es) t)
+StatesAreReached = (n : ℕ) (s : NodeState) (es : List Event) (ts : List NodeState) → AreStates n s es ts
+    → (a : ℕ) (t : NodeState) → (slice_get ts a ≡ Some t) ↔ ((a ≤ length es) × LeadsTo n s (take a es) t)
 
 -- two draws, two receipts, two yields, or two sendings of one load
 abbrev pub AreAlike : Event → Event → Type 0
@@ -34,4 +36,5 @@ LocalRunsGoOnAlike =
 
 -- an upgraded log has the states of the old one
 abbrev pub UpgradesKeepStates : Type 0
-UpgradesKeepStates = (log : Log) (states : List NodeState) → AreStatesOfLog (upgraded log) states ↔ AreStatesOfLog log states
+UpgradesKeepStates = (log : Log) (states : List NodeState)
+    → AreStatesOfLog (upgraded log) states ↔ AreStatesOfLog log states

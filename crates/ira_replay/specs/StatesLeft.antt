@@ -17,7 +17,7 @@ abbrev pub unless_ended : Bool → ℕ → NodeState → Option (ℕ × NodeStat
 unless_ended true p s = None
 unless_ended false p s = Some (p, s)
 
--- the states from the next one on, where there is one, along the events behind it
+-- the states from the next one on, where there is one, along the events after it
 abbrev pub states_left : ℕ → Option (ℕ × NodeState) → List Event → List (ℕ × NodeState)
 states_left n None es = []
 states_left n (Some x) [] = x ∷ []

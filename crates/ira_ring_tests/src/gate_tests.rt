@@ -111,7 +111,7 @@ fn draws_spent_on_both(rt: HostRuntime) {
     assert!(rt; has_run && passes == 0x55, "{passes:x}");
 }
 
-/// Holds node 1 in its first pass until node 0 has entered its fifth, behind its second sending.
+/// Holds node 1 in its first pass until node 0 has entered its fifth, after its second sending.
 #[derive(Drop)]
 struct LateReader {
     of_node_0: AtomicU64,

@@ -1,4 +1,4 @@
-//! Each growth of a call is refused in turn, and a writer's sink fails behind each byte. A call gives up then for no other
+//! Each growth of a call is refused in turn, and a writer's sink fails after each byte. A call gives up then for no other
 //! reason, or answers all the same; that its answer is the right one is proved.
 
 use ira_event::RingSize;

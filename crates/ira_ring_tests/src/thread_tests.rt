@@ -37,7 +37,7 @@ fn is_part(part: &NodePart<Global>, events: &[Event], end: NodeEnd) -> bool {
     part.place == 0 && part.end == end && part.log.place() == 0 && has_events(&part.log, events)
 }
 
-/// A message that no message of this ring can be has no step, and the node puts `Stop` behind its own.
+/// A message that no message of this ring can be has no step, and the node puts `Stop` after its own.
 fn assert_no_step<R: Abort + AllocGlobal + Wait + Clock>(rt: &R) {
     let (mut before, input) = link(rt.alloc(), 6).expect(rt, "memory");
     let (output, mut after) = link(rt.alloc(), 6).expect(rt, "memory");

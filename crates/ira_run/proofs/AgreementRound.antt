@@ -1,5 +1,6 @@
 -- Round the ring: what was recorded goes no further than a full run in which some node ended otherwise than Quiet.
-use Rattle.std.proofs.Common.{◌≡◌, ℕ, zero, suc, ◌-◌, ◌<◌, ◌≤◌, inl, inr, List, [], ◌∷◌, ◌++◌, length, sym, ◌∙◌, subst, ap, append-nil, append_assoc, length-append, arith}
+use Rattle.std.proofs.Common.{◌≡◌, ℕ, zero, suc, ◌-◌, ◌<◌, ◌≤◌, inl, inr, List, [], ◌∷◌, ◌++◌, length, sym, ◌∙◌, subst}
+use Rattle.std.proofs.Common.{ap, append-nil, append_assoc, length-append, arith}
 use Rattle.std.proofs.lemmas.List.Elements.{filter_map-append}
 use Rattle.ira_event.specs.declared.load.Load.{Load}
 use Rattle.ira_event.specs.declared.event.Event.{Event}
@@ -34,7 +35,8 @@ module _ (n : ℕ) (P : ℕ → Type 0) (round : (i : ℕ) → i < n → P (prev
   ]
 
   pub all_round : (i j : ℕ) → i < n → j < n → P i → P j
-  all_round i j here there p = onward 0 j (omega arith) there (round 0 (omega arith) (onward i (n - 1) (omega arith) (omega arith) p))
+  all_round i j here there p =
+      onward 0 j (omega arith) there (round 0 (omega arith) (onward i (n - 1) (omega arith) (omega arith) p))
 
 -- ---- a node goes no further
 
@@ -62,8 +64,11 @@ module _ (s : Setup) (i : ℕ) (log events : List Event) (state last : NodeState
   next_step e rest is =
       let P : List Event → Type 0 = λ es. LeadsTo s.nodes (first_state (is_initiator s i)) es last in
       let parts = leads_split s.nodes (first_state (is_initiator s i)) events (e ∷ rest) last (subst P is run) in
-      let Q : NodeState → Type 0 = λ x. NodeStep s.nodes x e parts.2.0 in
-      (parts.2.0, subst Q (one_end s.nodes (first_state (is_initiator s i)) events parts.0 state parts.1 leads) parts.2.1)
+      let Q : NodeState → Type 0 = λ x. NodeStep s.nodes x e parts.2.0 in (
+        parts.2.0,
+        subst Q (one_end s.nodes (first_state (is_initiator s i)) events parts.0 state parts.1 leads)
+            parts.2.1,
+      )
 
   no_draw : (d : ℕ) (rest : List Event) → drawn events ≡ node_draws s i → log ≡ events ++ Draw d ∷ rest → ⊥
   no_draw d rest spent is =
@@ -77,18 +82,29 @@ module _ (s : Setup) (i : ℕ) (log events : List Event) (state last : NodeState
         ap length spent,
       )
 
-  received : (m : Load) (rest : List Event) → log ≡ events ++ Got m ∷ rest → sendings ≡ got events ++ m ∷ (got rest ++ receipts.0)
+  received : (m : Load) (rest : List Event) → log ≡ events ++ Got m ∷ rest
+      → sendings ≡ got events ++ m ∷ (got rest ++ receipts.0)
   received m rest is =
-      receipts.1 ∙ ap (λ (x : List Event). got x ++ receipts.0) is ∙ ap (λ (x : List Load). x ++ receipts.0) (filter_map-append receipt events (Got m ∷ rest)) ∙ append_assoc (got events) (m ∷ got rest) receipts.0
+      receipts.1 ∙ ap (λ (x : List Event). got x ++ receipts.0) is
+      ∙ ap (λ (x : List Load). x ++ receipts.0) (filter_map-append receipt events (Got m ∷ rest))
+      ∙ append_assoc (got events) (m ∷ got rest) receipts.0
 
   no_receipt : (m : Load) (rest : List Event) → sendings ≡ input → got events ≡ input → log ≡ events ++ Got m ∷ rest → ⊥
   no_receipt m rest all same is =
-      omega (arith, ap length (received m rest is), length-append (got events) (m ∷ (got rest ++ receipts.0)), ap length all, ap length same)
+      omega (
+        arith,
+        ap length (received m rest is),
+        length-append (got events) (m ∷ (got rest ++ receipts.0)),
+        ap length all,
+        ap length same,
+      )
 
-  same_load : (m k : Load) (rest : List Event) → BeginsWith input (got events ++ k ∷ []) → log ≡ events ++ Got m ∷ rest → m ≡ k
+  same_load : (m k : Load) (rest : List Event) → BeginsWith input (got events ++ k ∷ []) → log ≡ events ++ Got m ∷ rest
+      → m ≡ k
   same_load m k rest front is =
       let there : sendings ≡ got events ++ k ∷ (front.0 ++ more.0) =
-      more.1 ∙ ap (λ (x : List Load). x ++ more.0) (front.1 ∙ append_assoc (got events) (k ∷ []) front.0) ∙ append_assoc (got events) (k ∷ front.0) more.0 in
+      more.1 ∙ ap (λ (x : List Load). x ++ more.0) (front.1 ∙ append_assoc (got events) (k ∷ []) front.0)
+      ∙ append_assoc (got events) (k ∷ front.0) more.0 in
       next_same (got events) (got rest ++ receipts.0) (front.0 ++ more.0) m k (sym (received m rest is) ∙ there)
 
   -- a yield that comes next is in a term before the last
@@ -97,9 +113,15 @@ module _ (s : Setup) (i : ℕ) (log events : List Event) (state last : NodeState
       let P : List Event → Type 0 = λ es. YieldsBelow s.terms s.nodes (first_state (is_initiator s i)) es in
       yields_at s.terms s.nodes (first_state (is_initiator s i)) events rest state leads (subst P is below)
 
-  over : (end : NodeEnd) (e : Event) (rest : List Event) → (IsWaiting end → sendings ≡ input) → Says s i state events input end → log ≡ events ++ e ∷ rest → HasStep s.nodes state e → ⊥
+  over : (end : NodeEnd) (e : Event) (rest : List Event) → (IsWaiting end → sendings ≡ input)
+      → Says s i state events input end → log ≡ events ++ e ∷ rest → HasStep s.nodes state e → ⊥
   over Leader e rest waits says is step =
-      omega (arith, says.1, yields_low rest (is ∙ ap (λ (x : Event). events ++ x ∷ rest) (leading_yields s.nodes state e says.0 step)))
+      omega (
+        arith,
+        says.1,
+        yields_low rest (is
+            ∙ ap (λ (x : Event). events ++ x ∷ rest) (leading_yields s.nodes state e says.0 step)),
+      )
   over LogFull e rest waits says is step = omega (arith, count, ap length is, length-append events (e ∷ rest), says.1)
   over DrawsSpent e rest waits says is step =
       let d = choosing_draws s.nodes says.1.0 says.1.1 state e says.1.2 step in
@@ -117,6 +139,7 @@ module _ (s : Setup) (i : ℕ) (log events : List Event) (state last : NodeState
       no_receipt m.0 rest (waits tt) says.1 (is ∙ ap (λ (x : Event). events ++ x ∷ rest) m.1)
 
   -- where the end of a node that waits has all the loads before it, the events are all of the log
-  pub no_further : (end : NodeEnd) (rest : List Event) → (IsWaiting end → sendings ≡ input) → Says s i state events input end → log ≡ events ++ rest → log ≡ events
+  pub no_further : (end : NodeEnd) (rest : List Event) → (IsWaiting end → sendings ≡ input)
+      → Says s i state events input end → log ≡ events ++ rest → log ≡ events
   no_further end [] waits says is = is ∙ append-nil events
   no_further end (e ∷ rest) waits says is = absurd (over end e rest waits says is (next_step e rest is))

@@ -1,5 +1,6 @@
 -- Lists that begin with others.
-use Rattle.std.proofs.Common.{◌≡◌, ℕ, suc, ◌≤◌, List, [], ◌∷◌, ◌++◌, length, Some, refl, ◌∙◌, ap, append-nil, length-append, arith}
+use Rattle.std.proofs.Common.{◌≡◌, ℕ, suc, ◌≤◌, List, [], ◌∷◌, ◌++◌, length, Some, refl, ◌∙◌, ap, append-nil}
+use Rattle.std.proofs.Common.{length-append, arith}
 use Rattle.std.specs.Prelude.{slice_get}
 use Rattle.std.proofs.lemmas.List.{append_cancel_left}
 use Rattle.std.proofs.lemmas.List.Elements.{filter_map-append}
@@ -27,7 +28,8 @@ pub sends_begin : (es fs : List Event) → BeginsWith es fs → BeginsWith (sent
 sends_begin es fs h = (sent h.0, ap sent h.1 ∙ filter_map-append sending fs h.0)
 
 -- lists of one length with the same items are the same
-pub same_items : {X : Type 0} (xs ys : List X) → length xs ≡ length ys → ((i : ℕ) (x y : X) → slice_get xs i ≡ Some x → slice_get ys i ≡ Some y → x ≡ y) → xs ≡ ys
+pub same_items : {X : Type 0} (xs ys : List X) → length xs ≡ length ys
+    → ((i : ℕ) (x y : X) → slice_get xs i ≡ Some x → slice_get ys i ≡ Some y → x ≡ y) → xs ≡ ys
 same_items [] [] many each = refl
 same_items [] (y ∷ ys) many each = absurd (omega arith)
 same_items (x ∷ xs) [] many each = absurd (omega arith)

@@ -10,15 +10,18 @@ use Rattle.ira_node.specs.NodeStep.{HasStep}
 use Rattle.ira_node.specs.Wanted.{wanted_of, IsOfKind}
 use Rattle.ira_node.proofs.Wants.{step_wanted}
 
-pub choosing_no_receipt : (n term round : ℕ) (state : NodeState) (l : Load) → state ≡ free term (Choosing round) → HasStep n state (Got l) → ⊥
+pub choosing_no_receipt : (n term round : ℕ) (state : NodeState) (l : Load) → state ≡ free term (Choosing round)
+    → HasStep n state (Got l) → ⊥
 choosing_no_receipt n term round state l is h =
     let P : NodeState → Type 0 = λ x. IsOfKind (wanted_of x.term x.phase x.owed) (Got l) in
     subst P is (step_wanted n state (Got l) h.0 h.1)
 
-pub choosing_no_waiting : (term round : ℕ) (state : NodeState) → state ≡ free term (Choosing round) → Receives state.phase → ⊥
+pub choosing_no_waiting : (term round : ℕ) (state : NodeState) → state ≡ free term (Choosing round)
+    → Receives state.phase → ⊥
 choosing_no_waiting term round state is r = let P : NodeState → Type 0 = λ x. Receives x.phase in subst P is r
 
-pub choosing_no_leader : (term round : ℕ) (state : NodeState) → state ≡ free term (Choosing round) → IsLeader state.phase → ⊥
+pub choosing_no_leader : (term round : ℕ) (state : NodeState) → state ≡ free term (Choosing round)
+    → IsLeader state.phase → ⊥
 choosing_no_leader term round state is l = let P : NodeState → Type 0 = λ x. IsLeader x.phase in subst P is l
 
 pub leader_no_waiting : (p : Phase) → IsLeader p → Receives p → ⊥

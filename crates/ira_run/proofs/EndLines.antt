@@ -6,7 +6,8 @@ use Rattle.std.proofs.lemmas.List.{append-nil}
 use Rattle.ira_event.specs.Sink.{SinkState, Takes}
 use Rattle.ira_event.proofs.Writing.{HasWritten}
 
-drop-zip-suc : {A B : Type 0} (xs : List A) (ys : List B) (i : ℕ) (x : A) (y : B) → slice_get xs i ≡ Some x → slice_get ys i ≡ Some y → drop i (zip xs ys) ≡ (x, y) ∷ drop (suc i) (zip xs ys)
+drop-zip-suc : {A B : Type 0} (xs : List A) (ys : List B) (i : ℕ) (x : A) (y : B) → slice_get xs i ≡ Some x
+    → slice_get ys i ≡ Some y → drop i (zip xs ys) ≡ (x, y) ∷ drop (suc i) (zip xs ys)
 drop-zip-suc [] ys i x y p q = absurd cc
 drop-zip-suc (a ∷ xs) [] i x y p q = absurd cc
 drop-zip-suc (a ∷ xs) (b ∷ ys) zero x y p q =
@@ -16,11 +17,13 @@ drop-zip-suc (a ∷ xs) (b ∷ ys) zero x y p q =
 drop-zip-suc (a ∷ xs) (b ∷ ys) (suc i) x y p q = drop-zip-suc xs ys i x y p q
 
 -- the first of the pairs that are left
-pub drop-zip : {A B : Type 0} (xs : List A) (ys : List B) (i : ℕ) (x : A) (y : B) → slice_get xs i ≡ Some x → slice_get ys i ≡ Some y → drop i (zip xs ys) ≡ (x, y) ∷ drop (i + 1) (zip xs ys)
+pub drop-zip : {A B : Type 0} (xs : List A) (ys : List B) (i : ℕ) (x : A) (y : B) → slice_get xs i ≡ Some x
+    → slice_get ys i ≡ Some y → drop i (zip xs ys) ≡ (x, y) ∷ drop (i + 1) (zip xs ys)
 drop-zip xs ys i x y p q = rw add-one (drop-zip-suc xs ys i x y p q)
 
 -- the text of the first pair that is left, and then those of the others
-pub next-text : {X : Type 0} (text : X → List ℕ) (line : List ℕ) (x : X) (xs others : List X) → line ≡ text x → xs ≡ x ∷ others → line ++ flat_map text others ≡ flat_map text xs
+pub next-text : {X : Type 0} (text : X → List ℕ) (line : List ℕ) (x : X) (xs others : List X) → line ≡ text x
+    → xs ≡ x ∷ others → line ++ flat_map text others ≡ flat_map text xs
 next-text text line x xs others is first =
     ap (λ w. w ++ flat_map text others) is ∙ ap (λ ys. flat_map text ys) (sym first)
 

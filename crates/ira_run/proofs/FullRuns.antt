@@ -14,13 +14,16 @@ use Rattle.ira_run.proofs.Walks.{walk_chains, chains_from}
 abbrev pub no_log : Log
 no_log = record { version = 1; nodes = 0; place = 0; initiator = false; events = [] }
 
-same_start : (s : Setup) (logs : List Log) → AreLogsOf s logs → (i : ℕ) → i < length logs → first_state (starts (slice_get logs i)) ≡ first_state (is_initiator s i)
+same_start : (s : Setup) (logs : List Log) → AreLogsOf s logs → (i : ℕ) → i < length logs
+    → first_state (starts (slice_get logs i)) ≡ first_state (is_initiator s i)
 same_start s logs of_setup i l =
     let at : slice_get logs i ≡ Some (get_or logs i no_log) = slice_get-get_or logs i no_log l in
     ap first_state (ap starts at ∙ of_setup.kinds i (get_or logs i no_log) at)
 
-pub full_run_is_run : (s : Setup) (logs : List Log) (run : List (ℕ × Event)) (end : Configuration) → AreLogsOf s logs → IsFullRun s run end → IsRingRun logs run
+pub full_run_is_run : (s : Setup) (logs : List Log) (run : List (ℕ × Event)) (end : Configuration) → AreLogsOf s logs
+    → IsFullRun s run end → IsRingRun logs run
 full_run_is_run s logs run end of_setup full =
     let P : ℕ → Type 0 = λ n. Chains n (opening_of s) run in
-    chains_from (length logs) (opening_of s) (ring_opening logs) run (λ i l. prev_below (length logs) i l) (same_start s logs of_setup) (λ i l. refl)
+    chains_from (length logs) (opening_of s) (ring_opening logs) run (λ i l.
+    prev_below (length logs) i l) (same_start s logs of_setup) (λ i l. refl)
     (subst P (sym of_setup.number) (walk_chains s [] (opening_of s) run end full.walk))

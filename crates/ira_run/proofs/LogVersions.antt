@@ -20,7 +20,8 @@ fits_version n terms = by_tests (nat_lt 1 terms) (nat_lt MAX_VERSION_1_NODES n) 
     few : (m : ℕ) → nat_lt MAX_VERSION_1_NODES m ≡ false → m ≤ MAX_VERSION_1_NODES
     few m h = grind (arith, nat_tests)
 
-    by_tests : (more large : Bool) → nat_lt MAX_VERSION_1_NODES n ≡ large → FitsVersion (if more || large then 2 else 1) n
+    by_tests : (more large : Bool) → nat_lt MAX_VERSION_1_NODES n ≡ large
+        → FitsVersion (if more || large then 2 else 1) n
     by_tests true large h = λ first. omega (arith, first)
     by_tests false true h = λ first. omega (arith, first)
     by_tests false false h = λ first. few n h

@@ -22,7 +22,8 @@ FullRunsHaveTheSameLogs = (s : Setup) (logs : List Log) → AreFullLogs s logs �
 
 -- the logs of each full run show an end of each node, which is not Stopped
 abbrev pub FullRunsShowEnds : Type 0
-FullRunsShowEnds = (s : Setup) (logs : List Log) → AreFullLogs s logs → (ends : List NodeEnd) × IsLoneRun s (record { logs = logs; ends = ends })
+FullRunsShowEnds = (s : Setup) (logs : List Log) → AreFullLogs s logs → (ends : List NodeEnd)
+    × IsLoneRun s (record { logs = logs; ends = ends })
 
 -- the end, with Stopped for Quiet: a node that waits alone waits on, one in a thread is told that nothing comes
 abbrev pub stopped_for_quiet : NodeEnd → NodeEnd
@@ -35,7 +36,8 @@ stopped_for_quiet Quiet = Stopped
 
 -- logs show one end of a node, with Stopped for Quiet
 abbrev pub LogsShowOneEnd : Type 0
-LogsShowOneEnd = (s : Setup) (logs : List Log) (i : ℕ) (end other : NodeEnd) → IsShown s logs i end → IsShown s logs i other → stopped_for_quiet end ≡ stopped_for_quiet other
+LogsShowOneEnd = (s : Setup) (logs : List Log) (i : ℕ) (end other : NodeEnd) → IsShown s logs i end
+    → IsShown s logs i other → stopped_for_quiet end ≡ stopped_for_quiet other
 
 -- some node of the run ended otherwise than as Quiet
 abbrev pub HasBusyEnd : Run → Type 0
@@ -44,10 +46,12 @@ HasBusyEnd run = (i : ℕ) × (end : NodeEnd) × (slice_get run.ends i ≡ Some 
 -- what the nodes of a setup's ring recorded agrees with the full runs of the setup
 pub record Agrees (s : Setup) (run : Run) : Type 0 where
   -- each log begins with that node's log by any full run
-  pub begins : (full : List Log) → AreFullLogs s full → (i : ℕ) → i < s.nodes → BeginsWith (log_of run.logs i) (log_of full i)
+  pub begins : (full : List Log) → AreFullLogs s full → (i : ℕ) → i < s.nodes
+      → BeginsWith (log_of run.logs i) (log_of full i)
   -- where some node of a full run ends otherwise than Quiet, the logs are that run's, and the ends are its
   -- ends with Stopped for Quiet
-  pub same : (lone : Run) → IsLoneRun s lone → HasBusyEnd lone → (run.logs ≡ lone.logs) × (run.ends ≡ map stopped_for_quiet lone.ends)
+  pub same : (lone : Run) → IsLoneRun s lone → HasBusyEnd lone → (run.logs ≡ lone.logs)
+      × (run.ends ≡ map stopped_for_quiet lone.ends)
   -- so the logs have an order, and every order of them is a run of the ring
   pub ordered : (lone : Run) → IsLoneRun s lone → HasBusyEnd lone → HasOrder run.logs × EveryOrderIsRun run.logs
 

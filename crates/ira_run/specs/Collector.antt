@@ -1,6 +1,7 @@
 -- What a collector has taken of the nodes of a ring: for each place the log and the end of its part,
 -- where one was taken.
-use Rattle.std.specs.Prelude.{◌≡◌, ◌≢◌, ℕ, ◌≤◌, ◌⊎◌, Bool, true, nat_eq, List, Option, Some, None, length, slice_get, map}
+use Rattle.std.specs.Prelude.{◌≡◌, ◌≢◌, ℕ, ◌≤◌, ◌⊎◌, Bool, true, nat_eq, List, Option, Some, None, length, slice_get}
+use Rattle.std.specs.Prelude.{map}
 use Rattle.std.specs.List.{zip}
 use Rattle.ira_event.specs.Log.{Log, IsLog}
 use Rattle.ira_event.specs.RingSize.{IsRingSize}
@@ -15,13 +16,16 @@ use Rattle.ira_run.specs.Run.{Run}
 pub record AreTaken (nodes : ℕ) (taken : List (Option (Log × NodeEnd))) : Type 0 where
   pub ring : IsRingSize nodes
   pub places : length taken ≡ nodes
-  pub fit : (i : ℕ) (log : Log) (end : NodeEnd) → slice_get taken i ≡ Some (Some (log, end)) → (log.nodes ≡ nodes) × (log.place ≡ i) × IsLog log
-  pub alike : (i j : ℕ) (log other : Log) (end last : NodeEnd) → slice_get taken i ≡ Some (Some (log, end)) → slice_get taken j ≡ Some (Some (other, last)) → log.version ≡ other.version
+  pub fit : (i : ℕ) (log : Log) (end : NodeEnd) → slice_get taken i ≡ Some (Some (log, end)) → (log.nodes ≡ nodes)
+      × (log.place ≡ i) × IsLog log
+  pub alike : (i j : ℕ) (log other : Log) (end last : NodeEnd) → slice_get taken i ≡ Some (Some (log, end))
+      → slice_get taken j ≡ Some (Some (other, last)) → log.version ≡ other.version
 
 -- a part was taken whose log has another version
 abbrev pub HasOtherVersion : List (Option (Log × NodeEnd)) → Log → Type 0
 HasOtherVersion taken log =
-    (i : ℕ) × (other : Log) × (end : NodeEnd) × (slice_get taken i ≡ Some (Some (other, end))) × (other.version ≢ log.version)
+    (i : ℕ) × (other : Log) × (end : NodeEnd) × (slice_get taken i ≡ Some (Some (other, end)))
+    × (other.version ≢ log.version)
 
 -- the part is for no place of the ring, or its log for another ring or another place, or of another version
 -- than one that was taken
@@ -40,7 +44,8 @@ PartFaultOf taken place log f =
     ⊎ (¬ (IsStranger taken place log) × IsTaken taken place × (f ≡ Double))
 
 -- the part stands at its place, and each other place is as it was
-pub record KeepsPart (old : List (Option (Log × NodeEnd))) (place : ℕ) (part : Log × NodeEnd) (new : List (Option (Log × NodeEnd))) : Type 0 where
+pub record KeepsPart (old : List (Option (Log × NodeEnd))) (place : ℕ) (part : Log
+    × NodeEnd) (new : List (Option (Log × NodeEnd))) : Type 0 where
   pub number : length new ≡ length old
   pub at : slice_get new place ≡ Some (Some part)
   pub others : (i : ℕ) → i ≢ place → slice_get new i ≡ slice_get old i

@@ -18,7 +18,8 @@ end_words Quiet = codes "quiet"
 -- the line of a node, from its log and its end
 abbrev pub end_text : Log × NodeEnd → List ℕ
 end_text part =
-    codes "node " ++ decimal part.0.place ++ codes ": " ++ end_words part.1 ++ codes ", " ++ decimal (length part.0.events)
+    codes "node " ++ decimal part.0.place ++ codes ": " ++ end_words part.1 ++ codes ", "
+    ++ decimal (length part.0.events)
     ++ codes " events\n"
 
 -- the lines of all nodes

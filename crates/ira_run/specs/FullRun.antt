@@ -37,11 +37,14 @@ drawn events = filter_map drawing events
 -- in a run of so many terms a node in this state, which has made these events, was given these IDs, and has
 -- these loads before it, leads in a term before the last, or owes a load, or has to draw and has an unused
 -- ID, or receives and the first load has a step
-pub data HasEvent (n terms : ℕ) (ids : List ℕ) (state : NodeState) (events : List Event) (input : List Load) : Type 0 where
+pub data HasEvent (n terms : ℕ) (ids : List ℕ) (state : NodeState) (events : List Event) (input : List Load)
+    : Type 0 where
   yields : IsLeader state.phase → state.term < terms → HasEvent n terms ids state events input
   owes : (l : Load) → state.owed ≡ Some l → HasEvent n terms ids state events input
-  chooses : (term round : ℕ) → state ≡ free term (Choosing round) → length (drawn events) < length ids → HasEvent n terms ids state events input
-  receives : (l : Load) (others : List Load) → input ≡ l ∷ others → HasStep n state (Got l) → HasEvent n terms ids state events input
+  chooses : (term round : ℕ) → state ≡ free term (Choosing round) → length (drawn events) < length ids
+      → HasEvent n terms ids state events input
+  receives : (l : Load) (others : List Load) → input ≡ l ∷ others → HasStep n state (Got l)
+      → HasEvent n terms ids state events input
 
 -- in configuration c, to which the events past led, node i can step: it is no leader in the last term, it
 -- has made fewer events than the cap, and it leads in a term before the last, or owes a load, or has to draw
@@ -55,7 +58,8 @@ pub record CanStep (s : Setup) (past : List (ℕ × Event)) (c : Configuration) 
 -- lead by ring steps to configuration d, and each is of a node that can step at its point
 abbrev pub Walks : Setup → List (ℕ × Event) → Configuration → List (ℕ × Event) → Configuration → Type 0
 Walks s past c [] d = d ≡ c
-Walks s past c (x ∷ xs) d = CanStep s past c x.0 × ((b : Configuration) × RingStep s.nodes x.0 x.1 c b × Walks s (past ++ x ∷ []) b xs d)
+Walks s past c (x ∷ xs) d = CanStep s past c x.0
+    × ((b : Configuration) × RingStep s.nodes x.0 x.1 c b × Walks s (past ++ x ∷ []) b xs d)
 
 -- a list begins with another
 abbrev pub BeginsWith : {X : Type 0} → List X → List X → Type 0

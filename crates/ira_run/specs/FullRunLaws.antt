@@ -9,4 +9,5 @@ use Rattle.ira_run.specs.FullRun.{AreLogsOf, IsFullRun}
 -- a full run of a setup is a run of the ring whose nodes start as logs of the setup's ring say
 abbrev pub FullRunsAreRuns : Type 0
 FullRunsAreRuns =
-    (s : Setup) (logs : List Log) (run : List (ℕ × Event)) (end : Configuration) → AreLogsOf s logs → IsFullRun s run end → IsRingRun logs run
+    (s : Setup) (logs : List Log) (run : List (ℕ × Event)) (end : Configuration) → AreLogsOf s logs
+    → IsFullRun s run end → IsRingRun logs run

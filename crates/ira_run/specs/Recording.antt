@@ -36,7 +36,8 @@ EndsAs n cap terms ids state events Quiet = ⊥
 
 -- node i of a ring of n nodes, with this start kind, these IDs to draw, this cap and so many terms, recorded
 -- this log and ended so
-pub record IsRecorded (n i : ℕ) (initiator : Bool) (ids : List ℕ) (cap terms : ℕ) (log : Log) (how : NodeEnd) : Type 0 where
+pub record IsRecorded (n i : ℕ) (initiator : Bool) (ids : List ℕ) (cap terms : ℕ) (log : Log) (how : NodeEnd)
+    : Type 0 where
   -- the log is of the version for that ring and so many terms, and of that ring, that place and that start kind
   pub version : log.version ≡ version_of n terms
   pub nodes : log.nodes ≡ n

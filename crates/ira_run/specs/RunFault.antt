@@ -1,7 +1,8 @@
 -- The numbers by which the program names the faults of a run.
 use Rattle.std.specs.Prelude.{ℕ}
 use Rattle.ira_run.specs.declared.run_fault.RunFault.{RunFault}
-use Rattle.ira_run.specs.declared.run_fault.RunFault.TheVariants.{Setup, OutOfMemory, Thread, NoEnd, Stranger, Double, Closed}
+use Rattle.ira_run.specs.declared.run_fault.RunFault.TheVariants.{Setup, OutOfMemory, Thread, NoEnd, Stranger, Double}
+use Rattle.ira_run.specs.declared.run_fault.RunFault.TheVariants.{Closed}
 
 -- the numbers of the faults
 abbrev pub run_fault_number : RunFault → ℕ

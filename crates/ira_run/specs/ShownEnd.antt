@@ -39,9 +39,11 @@ Says s i state events input Leader = IsLastLeader s.terms state
 -- it doesn't, and has made as many events as it may
 Says s i state events input LogFull = ¬ (IsLastLeader s.terms state) × (length events ≡ s.cap)
 -- it may go on, has to draw, and has drawn all IDs that it was given
-Says s i state events input DrawsSpent = MayGoOn s.cap s.terms state events × HasToDraw state × (drawn events ≡ node_draws s i)
--- it waits, and the load has no step and is the next one sent to it behind those that it received
-Says s i state events input (NoStep l) = Waits s.cap s.terms state events × ¬ (HasStep s.nodes state (Got l)) × BeginsWith input (got events ++ l ∷ [])
+Says s i state events input DrawsSpent = MayGoOn s.cap s.terms state events × HasToDraw state
+    × (drawn events ≡ node_draws s i)
+-- it waits, and the load has no step and is the next one sent to it after those that it received
+Says s i state events input (NoStep l) = Waits s.cap s.terms state events × ¬ (HasStep s.nodes state (Got l))
+    × BeginsWith input (got events ++ l ∷ [])
 -- it waits, and has received all loads that were sent to it
 Says s i state events input Quiet = Waits s.cap s.terms state events × (got events ≡ input)
 Says s i state events input Stopped = Waits s.cap s.terms state events × (got events ≡ input)
@@ -50,7 +52,8 @@ Says s i state events input Stopped = Waits s.cap s.terms state events × (got e
 -- these events and of the sendings of the node before it is so
 abbrev pub IsShown : Setup → List Log → ℕ → NodeEnd → Type 0
 IsShown s logs i end =
-    (state : NodeState) × LeadsTo s.nodes (first_state (is_initiator s i)) (log_of logs i) state × Says s i state (log_of logs i) (sent (log_of logs (prev s.nodes i))) end
+    (state : NodeState) × LeadsTo s.nodes (first_state (is_initiator s i)) (log_of logs i) state
+    × Says s i state (log_of logs i) (sent (log_of logs (prev s.nodes i))) end
 
 -- each end is shown
 abbrev pub AreShown : Setup → List Log → List NodeEnd → Type 0

@@ -19,4 +19,5 @@ IsLastLeader terms state = IsLeader state.phase × (terms ≤ state.term)
 -- so many; nothing is said of those after an event that is no step
 abbrev pub YieldsBelow : ℕ → ℕ → NodeState → List Event → Type 0
 YieldsBelow terms n s [] = ⊤
-YieldsBelow terms n s (e ∷ es) = (e ≡ Yield → s.term < terms) × ((u : NodeState) → NodeStep n s e u → YieldsBelow terms n u es)
+YieldsBelow terms n s (e ∷ es) = (e ≡ Yield → s.term < terms)
+    × ((u : NodeState) → NodeStep n s e u → YieldsBelow terms n u es)

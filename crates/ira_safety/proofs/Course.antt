@@ -1,5 +1,6 @@
 -- The states of one node along its events.
-use Rattle.std.proofs.Common.{◌≡◌, ℕ, zero, suc, ◌+◌, ◌≤◌, inl, inr, Bool, true, false, Option, Some, None, List, [], ◌∷◌, ◌++◌, length, take, refl, sym, ◌∙◌, ap, subst, arith, add-one}
+use Rattle.std.proofs.Common.{◌≡◌, ℕ, zero, suc, ◌+◌, ◌≤◌, inl, inr, Bool, true, false, Option, Some, None, List, []}
+use Rattle.std.proofs.Common.{◌∷◌, ◌++◌, length, take, refl, sym, ◌∙◌, ap, subst, arith, add-one}
 use Rattle.std.specs.Prelude.{slice_get}
 use Rattle.std.specs.List.{filter_map, cons_option}
 use Rattle.std.proofs.lemmas.Bool.{cases_lt}
@@ -15,7 +16,8 @@ use Rattle.ira_replay.specs.LocalRun.{LeadsTo, IsLocalRun}
 use Rattle.ira_replay.proofs.Reached.{same_next}
 use Rattle.ira_order.specs.Ring.{events_of}
 use Rattle.ira_order.proofs.Ranks.{filter_map_more}
-use Rattle.ira_safety.proofs.Steps.{resets, resets_in, yielding, Settled, settled_first, stays_settled, term_more, term_rises, balance}
+use Rattle.ira_safety.proofs.Steps.{resets, resets_in, yielding, Settled, settled_first, stays_settled, term_more}
+use Rattle.ira_safety.proofs.Steps.{term_rises, balance}
 
 -- st a is the state after the first a events, past all of them the last one
 pub record IsCourse (n : ℕ) (es : List Event) (st : ℕ → NodeState) : Type 0 where
@@ -35,7 +37,8 @@ at_first : (n : ℕ) (s : NodeState) (es : List Event) (t : NodeState) (h : Lead
 at_first n s [] t h = refl
 at_first n s (e ∷ es) t h = refl
 
-at_step : (n : ℕ) (s : NodeState) (es : List Event) (t : NodeState) (h : LeadsTo n s es t) (a : ℕ) (e : Event) → slice_get es a ≡ Some e → NodeStep n (state_at n s es t h a) e (state_at n s es t h (suc a))
+at_step : (n : ℕ) (s : NodeState) (es : List Event) (t : NodeState) (h : LeadsTo n s es t) (a : ℕ) (e : Event)
+    → slice_get es a ≡ Some e → NodeStep n (state_at n s es t h a) e (state_at n s es t h (suc a))
 at_step n s [] t h a e at = cc
 at_step n s (x ∷ es) t h zero e at =
     let same : x ≡ e = cc in
@@ -44,12 +47,14 @@ at_step n s (x ∷ es) t h zero e at =
     subst P same (subst Q (sym (at_first n h.0 es t h.2)) h.1)
 at_step n s (x ∷ es) t h (suc a) e at = at_step n h.0 es t h.2 a e at
 
-at_end : (n : ℕ) (s : NodeState) (es : List Event) (t : NodeState) (h : LeadsTo n s es t) (a : ℕ) → length es ≤ a → state_at n s es t h (suc a) ≡ state_at n s es t h a
+at_end : (n : ℕ) (s : NodeState) (es : List Event) (t : NodeState) (h : LeadsTo n s es t) (a : ℕ) → length es ≤ a
+    → state_at n s es t h (suc a) ≡ state_at n s es t h a
 at_end n s [] t h a past = refl
 at_end n s (x ∷ es) t h zero past = absurd (omega arith)
 at_end n s (x ∷ es) t h (suc a) past = at_end n h.0 es t h.2 a (omega arith)
 
-at_reached : (n : ℕ) (s : NodeState) (es : List Event) (t : NodeState) (h : LeadsTo n s es t) (a : ℕ) (u : NodeState) → LeadsTo n s (take a es) u → u ≡ state_at n s es t h a
+at_reached : (n : ℕ) (s : NodeState) (es : List Event) (t : NodeState) (h : LeadsTo n s es t) (a : ℕ) (u : NodeState)
+    → LeadsTo n s (take a es) u → u ≡ state_at n s es t h a
 at_reached n s [] t h zero u k = k
 at_reached n s [] t h (suc a) u k = k
 at_reached n s (x ∷ es) t h zero u k = k
@@ -60,20 +65,25 @@ at_reached n s (x ∷ es) t h (suc a) u k =
 -- the state of a log after its first a events
 abbrev pub log_state : (o : Option Log) → ((log : Log) → o ≡ Some log → IsLocalRun log) → ℕ → NodeState
 log_state None local a = first_state false
-log_state (Some log) local a = state_at log.nodes (first_state log.initiator) log.events (local log refl).0 (local log refl).1 a
+log_state (Some log) local a =
+    state_at log.nodes (first_state log.initiator) log.events (local log refl).0 (local log refl).1 a
 
-pub log_course : (o : Option Log) (local : (log : Log) → o ≡ Some log → IsLocalRun log) (n : ℕ) → ((log : Log) → o ≡ Some log → log.nodes ≡ n) → IsCourse n (events_of o) (log_state o local)
+pub log_course : (o : Option Log) (local : (log : Log) → o ≡ Some log → IsLocalRun log) (n : ℕ)
+    → ((log : Log) → o ≡ Some log → log.nodes ≡ n) → IsCourse n (events_of o) (log_state o local)
 log_course None local n size = record { initiator = false; first = refl; steps = λ a e at. cc; ends = λ a past. refl }
 log_course (Some log) local n size = record {
   initiator = log.initiator;
   first = at_first log.nodes (first_state log.initiator) log.events (local log refl).0 (local log refl).1;
   steps = λ a e at.
       let P : ℕ → Type 0 = λ x. NodeStep x (log_state (Some log) local a) e (log_state (Some log) local (suc a)) in
-      subst P (size log refl) (at_step log.nodes (first_state log.initiator) log.events (local log refl).0 (local log refl).1 a e at);
+      subst P (size log refl) (at_step log.nodes (first_state log.initiator) log.events (local log refl).0
+      (local log refl).1 a e at);
   ends = at_end log.nodes (first_state log.initiator) log.events (local log refl).0 (local log refl).1;
 }
 
-pub log_reached : (o : Option Log) (local : (log : Log) → o ≡ Some log → IsLocalRun log) (log : Log) (a : ℕ) (u : NodeState) → o ≡ Some log → LeadsTo log.nodes (first_state log.initiator) (take a log.events) u → u ≡ log_state o local a
+pub log_reached : (o : Option Log) (local : (log : Log) → o ≡ Some log
+    → IsLocalRun log) (log : Log) (a : ℕ) (u : NodeState) → o ≡ Some log
+    → LeadsTo log.nodes (first_state log.initiator) (take a log.events) u → u ≡ log_state o local a
 log_reached None local log a u is k = cc
 log_reached (Some x) local log a u is k =
     let same : log ≡ x = cc in
@@ -86,13 +96,15 @@ first_state_term : (initiator : Bool) → (first_state initiator).term ≡ 1
 first_state_term true = refl
 first_state_term false = refl
 
-first_balance : (initiator : Bool) → 0 + resets_in (first_state initiator).owed + 1 ≡ (first_state initiator).term + yielding (first_state initiator).phase
+first_balance : (initiator : Bool) → 0 + resets_in (first_state initiator).owed + 1
+    ≡ (first_state initiator).term + yielding (first_state initiator).phase
 first_balance true = refl
 first_balance false = refl
 
 module _ (n : ℕ) (es : List Event) (st : ℕ → NodeState) (course : IsCourse n es st) where
   -- what each step keeps
-  pub kept : (P : NodeState → Type 0) → ((s : NodeState) (e : Event) (t : NodeState) → NodeStep n s e t → P s → P t) → (a b : ℕ) → a ≤ b → P (st a) → P (st b)
+  pub kept : (P : NodeState → Type 0) → ((s : NodeState) (e : Event) (t : NodeState) → NodeStep n s e t → P s → P t)
+      → (a b : ℕ) → a ≤ b → P (st a) → P (st b)
   kept P on a zero low p = (let z : a ≡ 0 = omega arith in rw z at p)
   kept P on a (suc b) low p = elim (cases_lt b a) [
     | inl here ↦ (let z : a ≡ suc b = omega arith in rw z at p)
@@ -103,12 +115,14 @@ module _ (n : ℕ) (es : List Event) (st : ℕ → NodeState) (course : IsCourse
   ]
 
   -- the loads of one event more
-  loads_more : (load : Event → Option Load) (a : ℕ) (e : Event) → slice_get es a ≡ Some e → filter_map load (take (suc a) es) ≡ filter_map load (take a es) ++ cons_option (load e) []
+  loads_more : (load : Event → Option Load) (a : ℕ) (e : Event) → slice_get es a ≡ Some e
+      → filter_map load (take (suc a) es) ≡ filter_map load (take a es) ++ cons_option (load e) []
   loads_more load a e at =
       rw (← add-one a) (filter_map_more load es a e (slice_get_within es a e at))
       ∙ ap (λ x. filter_map load (take a es) ++ cons_option (load x) []) (get_or_from_slice_get es a e e at)
 
-  resets_more : (load : Event → Option Load) (a : ℕ) (e : Event) → slice_get es a ≡ Some e → resets (filter_map load (take (suc a) es)) ≡ resets (filter_map load (take a es)) + resets_in (load e)
+  resets_more : (load : Event → Option Load) (a : ℕ) (e : Event) → slice_get es a ≡ Some e
+      → resets (filter_map load (take (suc a) es)) ≡ resets (filter_map load (take a es)) + resets_in (load e)
   resets_more load a e at = ap resets (loads_more load a e at) ∙ resets_after (filter_map load (take a es)) (load e)
     where
       resets_after : (ls : List Load) (o : Option Load) → resets (ls ++ cons_option o []) ≡ resets ls + resets_in o
@@ -123,21 +137,30 @@ module _ (n : ℕ) (es : List Event) (st : ℕ → NodeState) (course : IsCourse
   pub term_counted : (a : ℕ) → a ≤ length es → (st a).term ≡ 1 + resets (got (take a es))
   term_counted zero low = first_term
   term_counted (suc a) low = elim (slice_get_cases es a).1 [
-    | inl more ↦ omega (arith, term_counted a (omega arith), term_more n (st a) more.0 (st (suc a)) (course.steps a more.0 more.2), resets_more receipt a more.0 more.2)
+    | inl more ↦ omega (
+      arith,
+      term_counted a (omega arith),
+      term_more n (st a) more.0 (st (suc a)) (course.steps a more.0 more.2),
+      resets_more receipt a more.0 more.2,
+    )
     | inr end ↦ absurd (omega (arith, end.0))
   ]
 
   pub settled : (a : ℕ) → Settled (st a).phase (st a).owed
-  settled a = kept (λ s. Settled s.phase s.owed) (λ s e t step h. stays_settled n s e t h step) 0 a (omega arith) (rw course.first (settled_first course.initiator))
+  settled a = kept (λ s. Settled s.phase s.owed) (λ s e t step h.
+      stays_settled n s e t h step) 0 a (omega arith) (rw course.first (settled_first course.initiator))
 
   -- and what was sent of resets goes with it
-  pub sent_counted : (a : ℕ) → a ≤ length es → resets (sent (take a es)) + resets_in (st a).owed + 1 ≡ (st a).term + yielding (st a).phase
+  pub sent_counted : (a : ℕ) → a ≤ length es
+      → resets (sent (take a es)) + resets_in (st a).owed + 1 ≡ (st a).term + yielding (st a).phase
   sent_counted zero low = rw course.first (first_balance course.initiator)
   sent_counted (suc a) low = elim (slice_get_cases es a).1 [
-    | inl more ↦ balance n (resets (sent (take a es))) (resets (sent (take (suc a) es))) (st a) more.0 (st (suc a)) (resets_more sending a more.0 more.2) (settled a) (sent_counted a (omega arith)) (course.steps a more.0 more.2)
+    | inl more ↦ balance n (resets (sent (take a es))) (resets (sent (take (suc a) es))) (st a) more.0 (st (suc a))
+        (resets_more sending a more.0 more.2) (settled a) (sent_counted a (omega arith)) (course.steps a more.0 more.2)
     | inr end ↦ absurd (omega (arith, end.0))
   ]
 
   -- the term does not fall
   pub term_kept : (a b : ℕ) → a ≤ b → (st a).term ≤ (st b).term
-  term_kept a b low = kept (λ s. (st a).term ≤ s.term) (λ s e t step h. omega (arith, term_rises n s e t step, h)) a b low (omega arith)
+  term_kept a b low = kept (λ s. (st a).term ≤ s.term) (λ s e t step h.
+      omega (arith, term_rises n s e t step, h)) a b low (omega arith)

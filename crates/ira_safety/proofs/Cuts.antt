@@ -1,5 +1,6 @@
 -- At most one node leads at a consistent cut.
-use Rattle.std.proofs.Common.{◌≡◌, ◌≢◌, ℕ, zero, suc, ◌+◌, ◌-◌, ◌<◌, ◌≤◌, inl, inr, Some, List, length, refl, sym, ◌∙◌, ap, subst, arith, add-one}
+use Rattle.std.proofs.Common.{◌≡◌, ◌≢◌, ℕ, zero, suc, ◌+◌, ◌-◌, ◌<◌, ◌≤◌, inl, inr, Some, List, length, refl, sym, ◌∙◌}
+use Rattle.std.proofs.Common.{ap, subst, arith, add-one}
 use Rattle.std.specs.Prelude.{slice_get}
 use Rattle.std.proofs.lemmas.Bool.{cases_lt}
 use Rattle.std.proofs.lemmas.Option.{slice_get_cases, slice_get_within}
@@ -23,7 +24,8 @@ use Rattle.ira_safety.proofs.Steps.{resets, resets_in, yielding, term_more, rese
 use Rattle.ira_safety.proofs.Terms.{Owing, owing, passive_before, one_leader}
 
 -- an event with which the term rises is the receipt of a reset, and it rises by one
-rising : (e : Event) (old new : ℕ) → new ≡ old + resets_in (receipt e) → old < new → (h : ℕ) × (e ≡ Got (Reset h)) × (new ≡ suc old)
+rising : (e : Event) (old new : ℕ) → new ≡ old + resets_in (receipt e) → old < new → (h : ℕ) × (e ≡ Got (Reset h))
+    × (new ≡ suc old)
 rising (Draw id) old new more up = absurd (omega arith)
 rising (Sent l) old new more up = absurd (omega arith)
 rising Yield old new more up = absurd (omega arith)
@@ -49,7 +51,8 @@ module _ (logs : List Log) (st : ℕ → ℕ → NodeState)
   -- no node yields in this term within the cut
   abbrev NoneYields : ℕ → Type 0
   NoneYields term =
-      (p a : ℕ) → p < length logs → suc a ≤ at p → IsLeader (st p a).phase → (st p (suc a)).phase ≡ Yielding → (st p a).term ≡ term → (st p (suc a)).term ≡ term → ⊥
+      (p a : ℕ) → p < length logs → suc a ≤ at p → IsLeader (st p a).phase → (st p (suc a)).phase ≡ Yielding
+      → (st p a).term ≡ term → (st p (suc a)).term ≡ term → ⊥
 
   -- so a reset that is received in the term was received one hop before
   record Earlier (term h j : ℕ) : Type 0 where
@@ -60,20 +63,29 @@ module _ (logs : List Log) (st : ℕ → ℕ → NodeState)
     gets : slice_get (log_of logs j) b ≡ Some (Got (Reset hop))
     in_term : (st j b).term ≡ term
 
-  earlier : (term h p b : ℕ) → NoneYields term → p < length logs → suc b ≤ at (next (length logs) p) → slice_get (log_of logs (next (length logs) p)) b ≡ Some (Got (Reset h)) → (st (next (length logs) p) b).term ≡ term → Earlier term h p
+  earlier : (term h p b : ℕ) → NoneYields term → p < length logs → suc b ≤ at (next (length logs) p)
+      → slice_get (log_of logs (next (length logs) p)) b ≡ Some (Got (Reset h))
+      → (st (next (length logs) p) b).term ≡ term → Earlier term h p
   earlier term h p b none lp held gets in_term =
       let n = length logs in
       let j = next (length logs) p in
       let s : HasSending logs p b (Reset h) = has_sending logs p b (Reset h) matches lp gets in
       let held_there : suc s.a ≤ at p = consistent p (suc s.a) j (suc b) (message refl s.pair) held in
       let o : Owing logs st courses matches p s.a (Reset h) = owing logs st courses matches p s.a (Reset h) s.sends in
-      let counted = term_counted n (log_of logs j) (st j) (courses j) b (omega (arith, slice_get_within (log_of logs j) b (Got (Reset h)) gets)) in
-      let balanced = rw (o.owes, o.number) at (sent_counted n (log_of logs p) (st p) (courses p) s.a (omega (arith, slice_get_within (log_of logs p) s.a (Sent (Reset h)) s.sends))) in
+      let counted = term_counted n (log_of logs j) (st j) (courses j) b
+      (omega (arith, slice_get_within (log_of logs j) b (Got (Reset h)) gets)) in
+      let balanced = rw (
+        o.owes,
+        o.number,
+      ) at (sent_counted n (log_of logs p) (st p) (courses p) s.a
+      (omega (arith, slice_get_within (log_of logs p) s.a (Sent (Reset h)) s.sends))) in
       let owes : (st p (suc o.before)).owed ≡ Some (Reset h) = rw o.number at o.owes in
       let before = ap resets (rw o.number at s.before) in
-      elim (reset_owed n (st p o.before) o.event (st p (suc o.before)) h ((courses p).steps o.before o.event o.at) owes) [
+      elim (reset_owed n (st p o.before) o.event (st p (suc o.before)) h ((courses p).steps o.before o.event o.at)
+      owes) [
         | inl y ↦
-            let same : (st p (suc o.before)).term ≡ term = omega (arith, counted, balanced, before, in_term, ap yielding y.1) in
+            let same : (st p (suc o.before)).term ≡ term =
+            omega (arith, counted, balanced, before, in_term, ap yielding y.1) in
             absurd (none p o.before lp (omega (arith, held_there, o.number)) y.0 y.1 (sym y.2 ∙ same) same)
         | inr k ↦ record {
           hop = k.0;
@@ -85,26 +97,35 @@ module _ (logs : List Log) (st : ℕ → ℕ → NodeState)
         }
       ]
 
-  earlier_there : (term h j b : ℕ) → NoneYields term → j < length logs → suc b ≤ at j → slice_get (log_of logs j) b ≡ Some (Got (Reset h)) → (st j b).term ≡ term → Earlier term h (prev (length logs) j)
+  earlier_there : (term h j b : ℕ) → NoneYields term → j < length logs → suc b ≤ at j
+      → slice_get (log_of logs j) b ≡ Some (Got (Reset h)) → (st j b).term ≡ term
+      → Earlier term h (prev (length logs) j)
   earlier_there term h j b none lj =
-      let P : ℕ → Type 0 = λ x. suc b ≤ at x → slice_get (log_of logs x) b ≡ Some (Got (Reset h)) → (st x b).term ≡ term → Earlier term h (prev (length logs) j) in
-      subst P (next_prev (length logs) j lj) (earlier term h (prev (length logs) j) b none (prev_below (length logs) j lj))
+      let P : ℕ → Type 0 = λ x. suc b ≤ at x → slice_get (log_of logs x) b ≡ Some (Got (Reset h)) → (st x b).term ≡ term
+      → Earlier term h (prev (length logs) j) in
+      subst P (next_prev (length logs) j lj)
+      (earlier term h (prev (length logs) j) b none (prev_below (length logs) j lj))
 
   -- and so none is received in it
-  no_reset : (term : ℕ) → NoneYields term → (h j b : ℕ) → j < length logs → suc b ≤ at j → slice_get (log_of logs j) b ≡ Some (Got (Reset h)) → (st j b).term ≡ term → ⊥
+  no_reset : (term : ℕ) → NoneYields term → (h j b : ℕ) → j < length logs → suc b ≤ at j
+      → slice_get (log_of logs j) b ≡ Some (Got (Reset h)) → (st j b).term ≡ term → ⊥
   no_reset term none zero j b lj held gets in_term =
       let r : Earlier term 0 (prev (length logs) j) = earlier_there term 0 j b none lj held gets in_term in
       omega (arith, r.fewer)
   no_reset term none (suc h) j b lj held gets in_term =
       let r : Earlier term (suc h) (prev (length logs) j) = earlier_there term (suc h) j b none lj held gets in_term in
       let same : r.hop ≡ h = omega (arith, r.fewer) in
-      no_reset term none h (prev (length logs) j) r.b (prev_below (length logs) j lj) r.held (r.gets ∙ ap (λ k. Some (Got (Reset k))) same) r.in_term
+      no_reset term none h (prev (length logs) j) r.b (prev_below (length logs) j lj) r.held (r.gets
+      ∙ ap (λ k. Some (Got (Reset k))) same) r.in_term
 
   -- and so no node comes past the term
-  none_comes : (d : ℕ) → NoneYields (now + d) → (j t : ℕ) → j < length logs → suc t ≤ at j → (st j t).term ≤ now + d → now + d < (st j (suc t)).term → ⊥
+  none_comes : (d : ℕ) → NoneYields (now + d) → (j t : ℕ) → j < length logs → suc t ≤ at j → (st j t).term ≤ now + d
+      → now + d < (st j (suc t)).term → ⊥
   none_comes d none j t lj held low high = elim (slice_get_cases (log_of logs j) t).1 [
     | inl more ↦
-        let r = rising more.0 (st j t).term (st j (suc t)).term (term_more (length logs) (st j t) more.0 (st j (suc t)) ((courses j).steps t more.0 more.2)) (omega arith) in
+        let r = rising more.0 (st j t).term (st j (suc t)).term
+        (term_more (length logs) (st j t) more.0 (st j (suc t)) ((courses j).steps t more.0 more.2)) (omega arith)
+        in
         no_reset (now + d) none r.0 j t lj held (more.2 ∙ ap Some r.1) (omega (arith, r.2))
     | inr end ↦ (let same = (courses j).ends t end.0 in absurd (omega (arith, rw same at high)))
   ]
@@ -123,7 +144,9 @@ module _ (logs : List Log) (st : ℕ → ℕ → NodeState)
       let one : i ≡ p = one_leader logs st courses matches i (at i) p a li lp leads l (omega arith) in
       let P : ℕ → Type 0 = λ x. suc a ≤ at x → IsStill now Yielding (st x (suc a)) → ⊥ in
       subst P one
-      (λ low over. not_over now (st i (at i)) (kept (length logs) (log_of logs i) (st i) (courses i) (IsStill now Yielding) (λ s e t step h. stays (length logs) now Yielding s e t tt step h) (suc a) (at i) low over) leads refl)
+      (λ low over. not_over now (st i (at i))
+      (kept (length logs) (log_of logs i) (st i) (courses i) (IsStill now Yielding) (λ s e t step h.
+      stays (length logs) now Yielding s e t tt step h) (suc a) (at i) low over) leads refl)
       held (inr (omega arith, yields))
   none_yields (suc d) p a lp held l yields before in_term = none_past d (none_yields d) p a lp (omega arith) before
 
@@ -140,5 +163,7 @@ module _ (logs : List Log) (st : ℕ → ℕ → NodeState)
   others_passive j lj ne =
       let r = passive_before logs st courses matches i (at i) j li lj ne leads in
       let still : IsStill now Passive (st j (at j)) =
-      kept (length logs) (log_of logs j) (st j) (courses j) (IsStill now Passive) (λ s e t step h. stays (length logs) now Passive s e t tt step h) r.b (at j) (r.held at consistent (omega arith)) (inr (r.in_term, r.passive)) in
+      kept (length logs) (log_of logs j) (st j) (courses j) (IsStill now Passive) (λ s e t step h.
+      stays (length logs) now Passive s e t tt step h) r.b (at j) (r.held at consistent (omega arith))
+      (inr (r.in_term, r.passive)) in
       elim still [ inl past ↦ absurd (omega (arith, none_later j lj)) | inr h ↦ h.1 ]

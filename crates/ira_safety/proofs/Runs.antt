@@ -1,5 +1,6 @@
 -- No run of a ring leads to two leaders.
-use Rattle.std.proofs.Common.{◌≡◌, ◌≢◌, ℕ, zero, suc, ◌+◌, ◌<◌, ◌≤◌, ◌==◌, cond, inl, inr, Bool, Some, List, [], ◌∷◌, ◌++◌, length, zero-add, refl, sym, ◌∙◌, ap, subst, arith}
+use Rattle.std.proofs.Common.{◌≡◌, ◌≢◌, ℕ, zero, suc, ◌+◌, ◌<◌, ◌≤◌, ◌==◌, cond, inl, inr, Bool, Some, List, [], ◌∷◌}
+use Rattle.std.proofs.Common.{◌++◌, length, zero-add, refl, sym, ◌∙◌, ap, subst, arith}
 use Rattle.std.specs.Prelude.{slice_get}
 use Rattle.std.proofs.lemmas.Bool.{ne_eqb, eq-eqb, cases_lt, cases_eq}
 use Rattle.std.proofs.lemmas.List.{take_all}
@@ -41,24 +42,30 @@ unfolding more_of
 more_there past i e j ne = rw (ne_eqb i j (λ q. ne (sym q))) refl
 
 module _ (n : ℕ) (two : 2 ≤ n) (initiators : ℕ → Bool) where
-  made_more : (past : ℕ → List Event) (i : ℕ) (e : Event) (c d : Configuration) → Made n initiators past c → RingStep n i e c d → Made n initiators (more_of past i e) d
+  made_more : (past : ℕ → List Event) (i : ℕ) (e : Event) (c d : Configuration) → Made n initiators past c
+      → RingStep n i e c d → Made n initiators (more_of past i e) d
   made_more past i e c d made step = record {
     leads = λ j lj. elim (cases_eq j i) [
       | inl same ↦
           let P : ℕ → Type 0 = λ k. LeadsTo n (first_state (initiators k)) (more_of past i e k) (d.state k) in
           let Q : List Event → Type 0 = λ es. LeadsTo n (first_state (initiators i)) es (d.state i) in
-          subst P (sym same) (subst Q (sym (more_here past i e)) (leads_further n (first_state (initiators i)) (past i) (c.state i) e (d.state i) (made.leads i step.place) step.node))
+          subst P (sym same) (subst Q (sym (more_here past i e))
+          (leads_further n (first_state (initiators i)) (past i) (c.state i) e (d.state i) (made.leads i step.place)
+          step.node))
       | inr ne ↦
           let P : NodeState → Type 0 = λ s. LeadsTo n (first_state (initiators j)) (past j) s in
           let Q : List Event → Type 0 = λ es. LeadsTo n (first_state (initiators j)) es (d.state j) in
           subst Q (sym (more_there past i e j ne)) (subst P (sym (step.others j lj ne)) (made.leads j lj))
     ];
-    balanced = balanced_step n i past (more_of past i e) c.link d.link two step.place (more_there past i e) made.balanced e (more_here past i e) step.links;
+    balanced = balanced_step n i past (more_of past i e) c.link d.link two step.place (more_there past i e)
+        made.balanced e (more_here past i e) step.links;
   }
 
-  made_all : (run : List (ℕ × Event)) (past : ℕ → List Event) (c d : Configuration) → Made n initiators past c → Reaches n c run d → (all : ℕ → List Event) × Made n initiators all d
+  made_all : (run : List (ℕ × Event)) (past : ℕ → List Event) (c d : Configuration) → Made n initiators past c
+      → Reaches n c run d → (all : ℕ → List Event) × Made n initiators all d
   made_all [] past c d made reaches = (past, subst (Made n initiators past) (sym reaches) made)
-  made_all (x ∷ run) past c d made reaches = made_all run (more_of past x.0 x.1) reaches.0 d (made_more past x.0 x.1 c reaches.0 made reaches.1) reaches.2
+  made_all (x ∷ run) past c d made reaches =
+      made_all run (more_of past x.0 x.1) reaches.0 d (made_more past x.0 x.1 c reaches.0 made reaches.1) reaches.2
 
   made_first : Made n initiators (λ i. []) (beginning initiators)
   made_first = record { leads = λ i li. refl; balanced = λ k lk. refl }
@@ -78,15 +85,18 @@ log_there : (log : ℕ → Log) (first k i : ℕ) → i < k → slice_get (logs_
 unfolding logs_from
 log_there log first zero i l = absurd (omega arith)
 log_there log first (suc k) zero l = (let same : first + 0 ≡ first = omega arith in ap (λ x. Some (log x)) (sym same))
-log_there log first (suc k) (suc i) l = (let same : suc first + i ≡ first + suc i = omega arith in log_there log (suc first) k i (omega arith) ∙ ap (λ x. Some (log x)) same)
+log_there log first (suc k) (suc i) l = (let same : suc first + i ≡ first + suc i = omega arith in
+    log_there log (suc first) k i (omega arith) ∙ ap (λ x. Some (log x)) same)
 
 -- all events of logs are a consistent cut
 all_held : (logs : List Log) (i a j b : ℕ) → Before logs i a j b → a ≤ length (log_of logs i)
 all_held logs i a j b (own same l one lower upper) = omega arith
-all_held logs i a j b (message same pair) = (let s = sending_of (log_of logs i) a pair.message pair.sends in omega (arith, s.number, s.below))
+all_held logs i a j b (message same pair) =
+    (let s = sending_of (log_of logs i) a pair.message pair.sends in omega (arith, s.number, s.below))
 all_held logs i a j b (onward first second) = all_held logs i a _ _ first
 
-module _ (n : ℕ) (initiators : ℕ → Bool) (past : ℕ → List Event) (c : Configuration) (made : Made n initiators past c) where
+module _ (n : ℕ) (initiators : ℕ → Bool) (past : ℕ
+    → List Event) (c : Configuration) (made : Made n initiators past c) where
   log : ℕ → Log
   log i = record { version = 1; nodes = n; place = i; initiator = initiators i; events = past i }
 
@@ -134,12 +144,14 @@ module _ (n : ℕ) (initiators : ℕ → Bool) (past : ℕ → List Event) (c : 
   is_at_end i l = record {
     log = log i;
     at = log_at i l;
-    reached = rw (take_all (length (log_of logs i)) (past i) (omega (arith, ap length (events_are i l)))) (made.leads i l);
+    reached = rw (take_all (length (log_of logs i)) (past i) (omega (arith, ap length (events_are i l))))
+        (made.leads i l);
   }
 
   others_at_the_end : (i j : ℕ) → i < n → j < n → i ≢ j → IsLeader (c.state i).phase → (c.state j).phase ≡ Passive
   others_at_the_end i j li lj ne leads =
-      others_at_a_cut logs sizes matches local (λ k. length (log_of logs k)) (λ i a j b h held. all_held logs i a j b h) i j (c.state j) ne
+      others_at_a_cut logs sizes matches local (λ k. length (log_of logs k)) (λ i a j b h held.
+      all_held logs i a j b h) i j (c.state j) ne
       (record { state = c.state i; is_in = is_at_end i li; leads = leads }) (is_at_end j lj)
 
 pub leaders_of_runs_are_alone : LeadersOfRunsAreAlone
@@ -153,5 +165,6 @@ leaders_of_runs_are_alone n initiators run c reaches i j li lj ne leads = elim (
 pub no_run_has_two_leaders : NoRunHasTwoLeaders
 no_run_has_two_leaders n initiators run c reaches i j li lj x y = elim (cases_eq i j) [
   | inl one ↦ one
-  | inr ne ↦ (let passive = leaders_of_runs_are_alone n initiators run c reaches i j li lj ne x in absurd (rw passive at y))
+  | inr ne ↦ (let passive = leaders_of_runs_are_alone n initiators run c reaches i j li lj ne x in
+      absurd (rw passive at y))
 ]

@@ -1,5 +1,6 @@
 -- The worked logs of two nodes.
-use Rattle.std.proofs.Common.{◌≡◌, ℕ, zero, suc, ◌<◌, ◌≤◌, inr, Bool, true, false, Some, List, [], ◌∷◌, ◌++◌, length, refl, subst, arith, lit≤, lit<}
+use Rattle.std.proofs.Common.{◌≡◌, ℕ, zero, suc, ◌<◌, ◌≤◌, inr, Bool, true, false, Some, List, [], ◌∷◌, ◌++◌, length}
+use Rattle.std.proofs.Common.{refl, subst, arith, lit≤, lit<}
 use Rattle.std.specs.Prelude.{slice_get}
 use Rattle.std.specs.List.{list_all}
 use Rattle.ira_event.specs.declared.msg.Msg.{Msg}
@@ -16,7 +17,8 @@ use Rattle.ira_node.specs.NodeStep.{sends, draws, passes, gives_in, purges, wins
 use Rattle.ira_order.specs.Matching.{Matches}
 use Rattle.ira_replay.specs.LocalRun.{LeadsTo, IsLocalRun}
 use Rattle.ira_safety.specs.OneLeader.{Leads}
-use Rattle.ira_safety.specs.TwoNodes.{hopped, elected, passing, giving_in, winning, log_of_two, one_elected, both_elected, elected_in_turn, OneMayLead, TwoMayLeadUnmatched, TwoMayLeadInTurn}
+use Rattle.ira_safety.specs.TwoNodes.{hopped, elected, passing, giving_in, winning, log_of_two, one_elected}
+use Rattle.ira_safety.specs.TwoNodes.{both_elected, elected_in_turn, OneMayLead, TwoMayLeadUnmatched, TwoMayLeadInTurn}
 
 -- ---- two logs
 
@@ -25,7 +27,9 @@ both a b P p q zero log at = (let same : a ≡ log = cc in subst (P 0) same p)
 both a b P p q (suc zero) log at = (let same : b ≡ log = cc in subst (P 1) same q)
 both a b P p q (suc (suc i)) log at = cc
 
-is_log : (version place : ℕ) (initiator : Bool) (events : List Event) → IsVersion version → place < 2 → length events ≤ 10 → list_all is_event events ≡ true → list_all (is_of_version version) events ≡ true → IsLog (log_of_two version place initiator events)
+is_log : (version place : ℕ) (initiator : Bool) (events : List Event) → IsVersion version → place < 2
+    → length events ≤ 10 → list_all is_event events ≡ true → list_all (is_of_version version) events ≡ true
+    → IsLog (log_of_two version place initiator events)
 is_log version place initiator events known low few numbers held = record {
   version = known;
   size = (lit≤ tt, lit≤ tt);
@@ -36,7 +40,9 @@ is_log version place initiator events known low few numbers held = record {
   held = held;
 }
 
-are_logs : (version : ℕ) (start other : Bool) (first second : List Event) → IsLog (log_of_two version 0 start first) → IsLog (log_of_two version 1 other second) → AreLogs (log_of_two version 0 start first ∷ log_of_two version 1 other second ∷ [])
+are_logs : (version : ℕ) (start other : Bool) (first second : List Event) → IsLog (log_of_two version 0 start first)
+    → IsLog (log_of_two version 1 other second)
+    → AreLogs (log_of_two version 0 start first ∷ log_of_two version 1 other second ∷ [])
 are_logs version start other first second p q =
     let a = log_of_two version 0 start first in
     let b = log_of_two version 1 other second in
@@ -58,7 +64,11 @@ elected_leads : LeadsTo 2 (free 1 (Choosing 1)) elected (free 1 (Leader 1 1))
 elected_leads = (
   owing 1 (Active 1 1) (hopped 1 1),
   draws 1 1 1 refl refl (lit≤ tt) (lit≤ tt) refl,
-  (free 1 (Active 1 1), sends (hopped 1 1) (λ l. l) refl refl refl, (free 1 (Leader 1 1), wins 1 1 1 (clean 1 2) refl refl (refl, refl) refl refl refl, refl)),
+  (
+    free 1 (Active 1 1),
+    sends (hopped 1 1) (λ l. l) refl refl refl,
+    (free 1 (Leader 1 1), wins 1 1 1 (clean 1 2) refl refl (refl, refl) refl refl refl, refl),
+  ),
 )
 
 passing_leads : LeadsTo 2 (free 1 Passive) passing (free 1 Passive)
@@ -68,7 +78,8 @@ passing_leads = (
   (free 1 Passive, sends (hopped 1 2) (λ l. l) refl refl refl, refl),
 )
 
-on : (n : ℕ) (s : NodeState) (first rest : List Event) (t u : NodeState) → LeadsTo n s first t → LeadsTo n t rest u → LeadsTo n s (first ++ rest) u
+on : (n : ℕ) (s : NodeState) (first rest : List Event) (t u : NodeState) → LeadsTo n s first t → LeadsTo n t rest u
+    → LeadsTo n s (first ++ rest) u
 on n s [] rest t u h k = subst (λ x. LeadsTo n x rest u) h k
 on n s (e ∷ es) rest t u h k = (h.0, h.1, on n h.0 es rest t u h.2 k)
 
@@ -122,9 +133,14 @@ winning_leads = on 2 (free 1 Passive) passing winning (free 1 Passive) (free 2 (
   ),
 )
 
-elected_is_leader : (logs : List Log) (version place : ℕ) → slice_get logs place ≡ Some (log_of_two version place true elected) → Leads logs place 3
+elected_is_leader : (logs : List Log) (version place : ℕ)
+    → slice_get logs place ≡ Some (log_of_two version place true elected) → Leads logs place 3
 elected_is_leader logs version place at =
-    record { state = free 1 (Leader 1 1); is_in = record { log = log_of_two version place true elected; at = at; reached = elected_leads }; leads = tt }
+    record {
+      state = free 1 (Leader 1 1);
+      is_in = record { log = log_of_two version place true elected; at = at; reached = elected_leads };
+      leads = tt;
+    }
 
 -- ---- the examples
 
@@ -133,9 +149,13 @@ elected_log place low = is_log 1 place true elected (lit≤ tt, lit≤ tt) low (
 
 pub one_may_lead : OneMayLead
 one_may_lead = (
-  are_logs 1 true false elected passing (elected_log 0 (lit< tt)) (is_log 1 1 false passing (lit≤ tt, lit≤ tt) (lit< tt) (lit≤ tt) refl refl),
+  are_logs 1 true false elected passing (elected_log 0 (lit< tt))
+      (is_log 1 1 false passing (lit≤ tt, lit≤ tt) (lit< tt) (lit≤ tt) refl refl),
   matches,
-  both (log_of_two 1 0 true elected) (log_of_two 1 1 false passing) (λ i log. IsLocalRun log) (free 1 (Leader 1 1), elected_leads) (free 1 Passive, passing_leads),
+  both (log_of_two 1 0 true elected) (log_of_two 1 1 false passing) (λ i log. IsLocalRun log) (
+    free 1 (Leader 1 1),
+    elected_leads,
+  ) (free 1 Passive, passing_leads),
   elected_is_leader one_elected 1 0 refl,
 )
   where
@@ -147,7 +167,10 @@ one_may_lead = (
 pub two_may_lead_unmatched : TwoMayLeadUnmatched
 two_may_lead_unmatched = (
   are_logs 1 true true elected elected (elected_log 0 (lit< tt)) (elected_log 1 (lit< tt)),
-  both (log_of_two 1 0 true elected) (log_of_two 1 1 true elected) (λ i log. IsLocalRun log) (free 1 (Leader 1 1), elected_leads) (free 1 (Leader 1 1), elected_leads),
+  both (log_of_two 1 0 true elected) (log_of_two 1 1 true elected) (λ i log. IsLocalRun log) (
+    free 1 (Leader 1 1),
+    elected_leads,
+  ) (free 1 (Leader 1 1), elected_leads),
   elected_is_leader both_elected 1 0 refl,
   elected_is_leader both_elected 1 1 refl,
 )
@@ -158,9 +181,20 @@ two_may_lead_in_turn = (
       (is_log 2 0 true (elected ++ giving_in) (lit≤ tt, lit≤ tt) (lit< tt) (lit≤ tt) refl refl)
       (is_log 2 1 false (passing ++ winning) (lit≤ tt, lit≤ tt) (lit< tt) (lit≤ tt) refl refl),
   matches,
-  both (log_of_two 2 0 true (elected ++ giving_in)) (log_of_two 2 1 false (passing ++ winning)) (λ i log. IsLocalRun log) (free 2 Passive, giving_in_leads) (free 2 (Leader 1 2), winning_leads),
-  record { state = free 1 (Leader 1 1); is_in = record { log = log_of_two 2 0 true (elected ++ giving_in); at = refl; reached = elected_leads }; leads = tt },
-  record { state = free 2 (Leader 1 2); is_in = record { log = log_of_two 2 1 false (passing ++ winning); at = refl; reached = winning_leads }; leads = tt },
+  both (log_of_two 2 0 true (elected ++ giving_in)) (log_of_two 2 1 false (passing ++ winning)) (λ i log.
+      IsLocalRun log) (free 2 Passive, giving_in_leads) (free 2 (Leader 1 2), winning_leads),
+  record {
+    state = free 1 (Leader 1 1);
+    is_in = record { log = log_of_two 2 0 true (elected ++ giving_in); at = refl; reached = elected_leads };
+    leads =
+        tt;
+  },
+  record {
+    state = free 2 (Leader 1 2);
+    is_in = record { log = log_of_two 2 1 false (passing ++ winning); at = refl; reached = winning_leads };
+    leads =
+        tt;
+  },
 )
   where
     matches : Matches elected_in_turn

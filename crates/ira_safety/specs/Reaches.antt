@@ -18,11 +18,13 @@ beginning initiators = record { state = λ i. first_state (initiators i); link =
 -- them are initiators, whatever they draw, and however long messages are on their links
 abbrev pub NoRunHasTwoLeaders : Type 0
 NoRunHasTwoLeaders =
-    (n : ℕ) (initiators : ℕ → Bool) (run : List (ℕ × Event)) (c : Configuration) → Reaches n (beginning initiators) run c
+    (n : ℕ) (initiators : ℕ → Bool) (run : List (ℕ × Event)) (c : Configuration)
+    → Reaches n (beginning initiators) run c
     → (i j : ℕ) → i < n → j < n → IsLeader (c.state i).phase → IsLeader (c.state j).phase → i ≡ j
 
 -- where one leads, each other node of the ring is passive
 abbrev pub LeadersOfRunsAreAlone : Type 0
 LeadersOfRunsAreAlone =
-    (n : ℕ) (initiators : ℕ → Bool) (run : List (ℕ × Event)) (c : Configuration) → Reaches n (beginning initiators) run c
+    (n : ℕ) (initiators : ℕ → Bool) (run : List (ℕ × Event)) (c : Configuration)
+    → Reaches n (beginning initiators) run c
     → (i j : ℕ) → i < n → j < n → i ≢ j → IsLeader (c.state i).phase → (c.state j).phase ≡ Passive

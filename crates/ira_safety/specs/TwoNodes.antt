@@ -24,7 +24,8 @@ passing = Got (hopped 1 1) ∷ Sent (hopped 1 2) ∷ []
 
 -- a leader that yields, and gives in to ID 2 in the next term
 abbrev pub giving_in : List Event
-giving_in = Yield ∷ Sent (Reset 1) ∷ Got (Reset 2) ∷ Draw 1 ∷ Sent (hopped 1 1) ∷ Got (hopped 2 1) ∷ Sent (hopped 2 2) ∷ []
+giving_in = Yield ∷ Sent (Reset 1) ∷ Got (Reset 2) ∷ Draw 1 ∷ Sent (hopped 1 1) ∷ Got (hopped 2 1) ∷ Sent (hopped 2 2)
+    ∷ []
 
 -- a node that passes the reset on, draws 2, and gets its message back
 abbrev pub winning : List Event
@@ -32,7 +33,8 @@ winning = Got (Reset 1) ∷ Sent (Reset 2) ∷ Draw 2 ∷ Sent (hopped 2 1) ∷ 
 
 -- the log of a node of a ring of two
 abbrev pub log_of_two : ℕ → ℕ → Bool → List Event → Log
-log_of_two version place initiator events = record { version = version; nodes = 2; place = place; initiator = initiator; events = events }
+log_of_two version place initiator events =
+    record { version = version; nodes = 2; place = place; initiator = initiator; events = events }
 
 -- node 0 is elected
 abbrev pub one_elected : List Log
@@ -57,4 +59,5 @@ TwoMayLeadUnmatched = AreLogs both_elected × AreLocalRuns both_elected × Leads
 -- of logs of version 2 two may lead, in different terms
 abbrev pub TwoMayLeadInTurn : Type 0
 TwoMayLeadInTurn =
-    AreLogs elected_in_turn × Matches elected_in_turn × AreLocalRuns elected_in_turn × Leads elected_in_turn 0 3 × Leads elected_in_turn 1 8
+    AreLogs elected_in_turn × Matches elected_in_turn × AreLocalRuns elected_in_turn × Leads elected_in_turn 0 3
+    × Leads elected_in_turn 1 8

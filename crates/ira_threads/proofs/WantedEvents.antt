@@ -1,5 +1,6 @@
 -- What a node wants, and what is known of it when it ends.
-use Rattle.std.proofs.Common.{◌≡◌, ◌≢◌, ◌<◌, ◌≤◌, ℕ, true, false, ◌&&◌, List, ◌∷◌, suc, None, sym, ◌∙◌, ap, subst, arith}
+use Rattle.std.proofs.Common.{◌≡◌, ◌≢◌, ◌<◌, ◌≤◌, ℕ, true, false, ◌&&◌, List, ◌∷◌, suc, None, sym, ◌∙◌, ap, subst}
+use Rattle.std.proofs.Common.{arith}
 use Rattle.std.specs.Prelude.{IsTrue}
 use Rattle.std.specs.List.{All}
 use Rattle.std.proofs.lemmas.Bool.Decides.{nat_tests}
@@ -36,10 +37,12 @@ choosing r s same h =
 
 -- a node that is to receive owes nothing
 pub waiting : (r s : NodeState) → r ≡ s → Receipt ≡ wanted_of r.term r.phase r.owed → (s.owed ≡ None) × Receives s.phase
-waiting r s same h = let P : NodeState → Type 0 = λ x. (x.owed ≡ None) × Receives x.phase in subst P same (wants_receipt r.term r.phase r.owed h)
+waiting r s same h = let P : NodeState → Type 0 = λ x. (x.owed ≡ None) × Receives x.phase in
+    subst P same (wants_receipt r.term r.phase r.owed h)
 
 -- a node that is to send owes a load whose numbers a record may hold
-pub owes_recordable : (r s : NodeState) (l : Load) → r ≡ s → Send l ≡ wanted_of r.term r.phase r.owed → is_state s ≡ true → is_load l ≡ true
+pub owes_recordable : (r s : NodeState) (l : Load) → r ≡ s → Send l ≡ wanted_of r.term r.phase r.owed
+    → is_state s ≡ true → is_load l ≡ true
 owes_recordable r s l same h numbers =
     let owed : is_debt r.owed ≡ is_load l = ap is_debt (wants_send r.term r.phase r.owed l h) in
     let all = subst (λ (x : NodeState). is_state x ≡ true) (sym same) numbers in
@@ -53,7 +56,8 @@ pub waiting_leads_not : (terms : ℕ) (s : NodeState) → Receives s.phase → �
 waiting_leads_not terms s waits leads = receiving_leads_not s.phase waits leads.0
 
 -- an event of the log's version that has a step is recorded
-pub no_fault : (r : Recorder) (e : Event) (f : RecordFault) → HasStep r.log.nodes r.state e → is_of_version r.log.version e ≡ true → RecordFaultOf r e f → ⊥
+pub no_fault : (r : Recorder) (e : Event) (f : RecordFault) → HasStep r.log.nodes r.state e
+    → is_of_version r.log.version e ≡ true → RecordFaultOf r e f → ⊥
 no_fault r e NoStep step of_version fault = fault step
 no_fault r e OtherVersion step of_version fault = let other = fault.1 in absurd cc
 
@@ -61,7 +65,8 @@ not_true : IsTrue false → ⊥
 not_true h = cc
 
 pub has_room : (count most cap : ℕ) → count ≤ most → most ≡ cap → (count ≡ most → IsTrue false) → count < cap
-has_room count most cap few same full = let unequal : ¬ (count ≡ most) = λ e. not_true (full e) in omega (arith, few, same, unequal)
+has_room count most cap few same full = let unequal : ¬ (count ≡ most) = λ e. not_true (full e) in
+    omega (arith, few, same, unequal)
 
 pub has_step : (n : ℕ) (s t : NodeState) (e : Event) → s ≡ t → HasStep n s e → HasStep n t e
 has_step n s t e same h = (let P : NodeState → Type 0 = λ x. HasStep n x e in subst P same h)
@@ -86,12 +91,18 @@ pub same_version : (a b : Log) → AreOfOneNode a b → a.version ≡ b.version
 same_version a b one = ap (λ (head : LogHead). head.version) one
 
 -- what a recorder of this node says when the node has ended
-pub recorded : (r q : Recorder) (log : Log) (how : NodeEnd) (ids : List ℕ) (terms : ℕ) → IsRecorder r → AreOfOneNode r.log q.log → q.log.version ≡ version_of q.log.nodes terms → r.cap ≡ q.cap → log ≡ r.log → BeginsWith ids (drawn r.log.events) → YieldsBelow terms r.log.nodes (first_state r.log.initiator) r.log.events → EndsAs q.log.nodes q.cap terms ids r.state r.log.events how → IsRecorded q.log.nodes q.log.place q.log.initiator ids q.cap terms log how
+pub recorded : (r q : Recorder) (log : Log) (how : NodeEnd) (ids : List ℕ) (terms : ℕ) → IsRecorder r
+    → AreOfOneNode r.log q.log → q.log.version ≡ version_of q.log.nodes terms → r.cap ≡ q.cap → log ≡ r.log
+    → BeginsWith ids (drawn r.log.events) → YieldsBelow terms r.log.nodes (first_state r.log.initiator) r.log.events
+    → EndsAs q.log.nodes q.cap terms ids r.state r.log.events how
+    → IsRecorded q.log.nodes q.log.place q.log.initiator ids q.cap terms log how
 recorded r q log how ids terms valid one version cap same draws below end =
     let nodes : r.log.nodes ≡ q.log.nodes = ap (λ (head : LogHead). head.nodes) one in
     let kind : r.log.initiator ≡ q.log.initiator = ap (λ (head : LogHead). head.initiator) one in
-    let leads_on : LeadsTo q.log.nodes (first_state q.log.initiator) r.log.events r.state = rw (← nodes, ← kind) valid.leads in
-    let yields_on : YieldsBelow terms q.log.nodes (first_state q.log.initiator) r.log.events = rw (← nodes, ← kind) below in
+    let leads_on : LeadsTo q.log.nodes (first_state q.log.initiator) r.log.events r.state =
+    rw (← nodes, ← kind) valid.leads in
+    let yields_on : YieldsBelow terms q.log.nodes (first_state q.log.initiator) r.log.events =
+    rw (← nodes, ← kind) below in
     rw same (record {
       version = same_version r.log q.log one ∙ version;
       nodes = nodes;

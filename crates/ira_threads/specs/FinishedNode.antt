@@ -23,7 +23,8 @@ pub record FinishedNode : Type 0 where
 -- log and this end put and took
 pub record KeepsPromise (promise : TaskPromise) (finished : FinishedNode) : Type 0 where
   pub place : finished.place ≡ promise.place
-  pub recorded : IsRecorded promise.setup.nodes promise.place (is_initiator promise.setup promise.place) (node_draws promise.setup promise.place) promise.setup.cap promise.setup.terms finished.log finished.end
+  pub recorded : IsRecorded promise.setup.nodes promise.place (is_initiator promise.setup promise.place)
+      (node_draws promise.setup promise.place) promise.setup.cap promise.setup.terms finished.log finished.end
   pub input : finished.input.link ≡ promise.input
   pub output : finished.output.link ≡ promise.output
   pub put : finished.output.frames ≡ frames_put finished.log.events
@@ -34,14 +35,16 @@ abbrev pub KeepPromises : List TaskPromise → List FinishedNode → Type 0
 KeepPromises [] [] = ⊤
 KeepPromises [] (finished ∷ finished_nodes) = ⊥
 KeepPromises (promise ∷ promises) [] = ⊥
-KeepPromises (promise ∷ promises) (finished ∷ finished_nodes) = KeepsPromise promise finished × KeepPromises promises finished_nodes
+KeepPromises (promise ∷ promises) (finished ∷ finished_nodes) = KeepsPromise promise finished
+    × KeepPromises promises finished_nodes
 
 -- they are of the setup's places from k on that are below m, one by one: the first one read link a, each
 -- next one read the link that the one before it wrote, and the last one wrote link b
 abbrev pub AreFinishedOnPlaces : Setup → ℕ → LinkName → List FinishedNode → ℕ → LinkName → Type 0
 AreFinishedOnPlaces s k a [] m b = (k ≡ m) × (a ≡ b)
 AreFinishedOnPlaces s k a (finished ∷ finished_nodes) m b =
-    KeepsPromise (record { setup = s; place = k; input = a; output = finished.output.link }) finished × AreFinishedOnPlaces s (k + 1) finished.output.link finished_nodes m b
+    KeepsPromise (record { setup = s; place = k; input = a; output = finished.output.link }) finished
+    × AreFinishedOnPlaces s (k + 1) finished.output.link finished_nodes m b
 
 -- they are of all places of the setup's ring, round it
 abbrev pub AreFinishedOnRing : Setup → List FinishedNode → Type 0
@@ -51,7 +54,8 @@ AreFinishedOnRing s finished_nodes = (link : LinkName) × AreFinishedOnPlaces s 
 -- the one before it put, and the last one put `after`
 abbrev pub FramesPass : List Frame → List FinishedNode → List Frame → Type 0
 FramesPass before [] after = before ≡ after
-FramesPass before (finished ∷ finished_nodes) after = IsPrefix finished.input.frames before × FramesPass finished.output.frames finished_nodes after
+FramesPass before (finished ∷ finished_nodes) after = IsPrefix finished.input.frames before
+    × FramesPass finished.output.frames finished_nodes after
 
 -- the same round the ring
 abbrev pub FramesPassRoundRing : List FinishedNode → Type 0

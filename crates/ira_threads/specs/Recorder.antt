@@ -33,4 +33,5 @@ pub record IsRecorder (recorder : Recorder) : Type 0 where
 -- why a recorder doesn't add an event: it has no step, or it has one and isn't of the log's version
 abbrev pub RecordFaultOf : Recorder → Event → RecordFault → Type 0
 RecordFaultOf recorder e NoStep = ¬ (HasStep recorder.log.nodes recorder.state e)
-RecordFaultOf recorder e OtherVersion = HasStep recorder.log.nodes recorder.state e × (is_of_version recorder.log.version e ≡ false)
+RecordFaultOf recorder e OtherVersion = HasStep recorder.log.nodes recorder.state e
+    × (is_of_version recorder.log.version e ≡ false)

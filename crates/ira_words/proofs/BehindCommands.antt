@@ -1,110 +1,22 @@
--- What is found of the words behind a command, where they have no fault.
-use Rattle.std.proofs.Common.{inl, inr, ◌≡◌, true, false, List, [], ◌∷◌, Some, refl, sym, ap, subst, codes}
+-- What is found of the words after a command, where they have no fault.
+use Rattle.std.proofs.Common.{inl, inr, ◌≡◌, ◌∙◌, List, [], ◌∷◌, Option, Some, false, refl, sym, ap, subst, true}
 use Rattle.std.specs.Prelude.{find, option_map, unwrap_or}
+use Rattle.std.specs.Option.{option_map_or}
 use Rattle.clap.specs.Faults.{entered_fault, fault_of, is_simple_and_free, level_fault, walk_fault}
-use Rattle.clap.specs.Simple.{App, HasMatchesOf, Shape, built, built_leaf, label_of, subcommand_rows_of}
-use Rattle.clap.specs.Walk.{Row, Text, answers_to, nothing_held, walk_from, walked}
+use Rattle.clap.specs.Simple.{App, Shape, built, built_leaf, label_of, subcommand_rows_of}
+use Rattle.clap.specs.Walk.{Row, Rule, Text, answers_to, nothing_held, rows_after, walk_from, walked}
 use Rattle.clap.specs.Kinds.{HasKind}
 use Rattle.clap.specs.Matches.{subcommand_name_of}
 use Rattle.clap.specs.Values.{kind_of}
 use Rattle.clap.specs.declared.error.Error.{Error}
 use Rattle.clap.specs.declared.error.kind.ErrorKind.TheVariants as kind
 use Rattle.clap.specs.declared.parser.matches.ArgMatches.{ArgMatches}
-use Rattle.ira_words.specs.CommandLine.{check_app, decide_app, explain_app, ira_app, logs_app, mend_app, pairs_app, run_app, upgrade_app}
-use Rattle.ira_words.specs.TakenValues.{AreFound, AreTaken}
-use Rattle.ira_words.proofs.FirstWord.{first_none, met_by_first, names, rows_of_check, rows_of_decide, rows_of_explain, rows_of_logs, rows_of_mend, rows_of_pairs, rows_of_run, rows_of_upgrade, second_none, stays, top}
+use Rattle.ira_words.specs.CommandLine.{check_app, decide_app, explain_app, ira_app, logs_app, mend_app, pairs_app, run_app, upgrade_app, version_app}
+use Rattle.ira_words.specs.Request.{AreMatchesOf, AskFor, Behind}
+use Rattle.ira_words.specs.TakenValues.{AreFound, AreFoundBehind, AreTaken}
+use Rattle.ira_words.proofs.FirstWord.{BeginsWithWord, Enters, command_rows, first_none, met_by_first, names, second_none, stopped_at, top}
 use Rattle.ira_words.proofs.FoundValues.{rows_found}
 use Rattle.ira_words.proofs.TakenValues.{AllFit, rows_taken}
-
--- a command as the program's has it
-abbrev command : Text → Shape
-command name = unwrap_or (find (λ s. answers_to name (label_of s)) (built ira_app).subs) top
-
--- the arguments of each command are such that values are found of them
-logs_fit : AllFit (command (codes "logs")).rules (command (codes "logs")).rules
-logs_fit = ((refl, refl), ((refl, refl), ((refl, refl), tt)))
-
-explain_fit : AllFit (command (codes "explain")).rules (command (codes "explain")).rules
-explain_fit = ((refl, refl), ((refl, refl), ((refl, refl), tt)))
-
-check_fit : AllFit (command (codes "check")).rules (command (codes "check")).rules
-check_fit = ((refl, refl), ((refl, refl), ((refl, refl), ((refl, refl), ((refl, refl), ((refl, refl), tt))))))
-
-decide_fit : AllFit (command (codes "decide")).rules (command (codes "decide")).rules
-decide_fit = ((refl, refl), ((refl, refl), ((refl, refl), ((refl, refl), ((refl, refl), tt)))))
-
-run_fit : AllFit (command (codes "run")).rules (command (codes "run")).rules
-run_fit =
-    ((refl, refl), ((refl, refl), ((refl, refl), ((refl, refl), ((refl, refl), ((refl, refl), ((refl, refl), ((refl, refl), ((refl, refl), tt)))))))))
-
-upgrade_fit : AllFit (command (codes "upgrade")).rules (command (codes "upgrade")).rules
-upgrade_fit = ((refl, refl), ((refl, refl), ((refl, refl), ((refl, refl), tt))))
-
-mend_fit : AllFit (command (codes "mend")).rules (command (codes "mend")).rules
-mend_fit = ((refl, refl), ((refl, refl), ((refl, refl), ((refl, refl), tt))))
-
-pairs_fit : AllFit (command (codes "pairs")).rules (command (codes "pairs")).rules
-pairs_fit = ((refl, refl), ((refl, refl), tt))
-
--- the words behind it are read without a fault, where all are
-abbrev HasNoFault : Text → List Text → Type 0
-HasNoFault name others = level_fault (command name) [] nothing_held others false [] ≡ []
-
-logs_fine : (others : List Text) → fault_of ira_app (codes "logs" ∷ others) ≡ [] → HasNoFault (codes "logs") others
-unfolding walked
-logs_fine others none =
-    let stop = stays top.rules names (walk_from nothing_held) (codes "logs") [] others in
-    let behind = second_none (walk_fault top names (walk_from nothing_held) (codes "logs" ∷ others)) _ none in
-    subst (λ o. entered_fault (built ira_app) o ≡ []) stop (first_none _ _ behind)
-
-explain_fine : (others : List Text) → fault_of ira_app (codes "explain" ∷ others) ≡ [] → HasNoFault (codes "explain") others
-unfolding walked
-explain_fine others none =
-    let stop = stays top.rules names (walk_from nothing_held) (codes "explain") [] others in
-    let behind = second_none (walk_fault top names (walk_from nothing_held) (codes "explain" ∷ others)) _ none in
-    subst (λ o. entered_fault (built ira_app) o ≡ []) stop (first_none _ _ behind)
-
-check_fine : (others : List Text) → fault_of ira_app (codes "check" ∷ others) ≡ [] → HasNoFault (codes "check") others
-unfolding walked
-check_fine others none =
-    let stop = stays top.rules names (walk_from nothing_held) (codes "check") [] others in
-    let behind = second_none (walk_fault top names (walk_from nothing_held) (codes "check" ∷ others)) _ none in
-    subst (λ o. entered_fault (built ira_app) o ≡ []) stop (first_none _ _ behind)
-
-decide_fine : (others : List Text) → fault_of ira_app (codes "decide" ∷ others) ≡ [] → HasNoFault (codes "decide") others
-unfolding walked
-decide_fine others none =
-    let stop = stays top.rules names (walk_from nothing_held) (codes "decide") [] others in
-    let behind = second_none (walk_fault top names (walk_from nothing_held) (codes "decide" ∷ others)) _ none in
-    subst (λ o. entered_fault (built ira_app) o ≡ []) stop (first_none _ _ behind)
-
-pairs_fine : (others : List Text) → fault_of ira_app (codes "pairs" ∷ others) ≡ [] → HasNoFault (codes "pairs") others
-unfolding walked
-pairs_fine others none =
-    let stop = stays top.rules names (walk_from nothing_held) (codes "pairs") [] others in
-    let behind = second_none (walk_fault top names (walk_from nothing_held) (codes "pairs" ∷ others)) _ none in
-    subst (λ o. entered_fault (built ira_app) o ≡ []) stop (first_none _ _ behind)
-
-run_fine : (others : List Text) → fault_of ira_app (codes "run" ∷ others) ≡ [] → HasNoFault (codes "run") others
-unfolding walked
-run_fine others none =
-    let stop = stays top.rules names (walk_from nothing_held) (codes "run") [] others in
-    let behind = second_none (walk_fault top names (walk_from nothing_held) (codes "run" ∷ others)) _ none in
-    subst (λ o. entered_fault (built ira_app) o ≡ []) stop (first_none _ _ behind)
-
-upgrade_fine : (others : List Text) → fault_of ira_app (codes "upgrade" ∷ others) ≡ [] → HasNoFault (codes "upgrade") others
-unfolding walked
-upgrade_fine others none =
-    let stop = stays top.rules names (walk_from nothing_held) (codes "upgrade") [] others in
-    let behind = second_none (walk_fault top names (walk_from nothing_held) (codes "upgrade" ∷ others)) _ none in
-    subst (λ o. entered_fault (built ira_app) o ≡ []) stop (first_none _ _ behind)
-
-mend_fine : (others : List Text) → fault_of ira_app (codes "mend" ∷ others) ≡ [] → HasNoFault (codes "mend") others
-unfolding walked
-mend_fine others none =
-    let stop = stays top.rules names (walk_from nothing_held) (codes "mend") [] others in
-    let behind = second_none (walk_fault top names (walk_from nothing_held) (codes "mend" ∷ others)) _ none in
-    subst (λ o. entered_fault (built ira_app) o ≡ []) stop (first_none _ _ behind)
 
 -- words that are read without a fault have none
 pub words_accepted : (a : App) (words : List Text) → a ≡ ira_app → (is_simple_and_free a ≡ true → fault_of a words ≡ []) → fault_of ira_app words ≡ []
@@ -122,120 +34,111 @@ out_of_memory a words e is fails none =
       | inr h ↦ absurd h
     ]
 
-faultless : (a : App) (words : List Text) (name : Text) (others : List Text) → a ≡ ira_app → (is_simple_and_free a ≡ true → fault_of a words ≡ [])
-    → words ≡ name ∷ others → fault_of ira_app (name ∷ others) ≡ []
-faultless a words name others is none are = subst (λ ws. fault_of ira_app ws ≡ []) are (words_accepted a words is none)
+-- ---- the program's commands
 
-module _ (a : App) (m : ArgMatches) (words : List Text) (found : List Row) (is : a ≡ ira_app) (has : HasMatchesOf a words m)
-    (none : is_simple_and_free a ≡ true → fault_of a words ≡ []) (read : Some found ≡ option_map (λ s. s.1) (subcommand_rows_of m)) where
-  pub logs_taken : Some (codes "logs") ≡ subcommand_name_of m → AreTaken (built_leaf logs_app.top).rules found
-  logs_taken name =
-      let first = met_by_first a m words (codes "logs") is has none name in
-      let rows = rows_of_logs a m first.0 found is (subst (λ ws. HasMatchesOf a ws m) first.1 has) read in
-      let fine = logs_fine first.0 (faultless a words (codes "logs") first.0 is none first.1) in
-      subst (AreTaken (built_leaf logs_app.top).rules) (sym rows)
-      (rows_taken (command (codes "logs")) refl logs_fit first.0 fine)
+-- the program enters a command with the arguments of this one, which are such that values are found of them
+pub record IsCommand (app : App) : Type 0 where
+  pub shape : Shape
+  pub enters : Enters app.top.name shape
+  pub rules : shape.rules ≡ (built_leaf app.top).rules
+  pub fits : AllFit shape.rules shape.rules
+  pub once : shape.args_override_self ≡ false
+  pub alone : shape.subcommand_required ≡ false
+  pub helpless : shape.arg_required_else_help ≡ false
+  pub strict : shape.subcommand_negates_reqs ≡ false
 
-  pub explain_taken : Some (codes "explain") ≡ subcommand_name_of m → AreTaken (built_leaf explain_app.top).rules found
-  explain_taken name =
-      let first = met_by_first a m words (codes "explain") is has none name in
-      let rows = rows_of_explain a m first.0 found is (subst (λ ws. HasMatchesOf a ws m) first.1 has) read in
-      let fine = explain_fine first.0 (faultless a words (codes "explain") first.0 is none first.1) in
-      subst (AreTaken (built_leaf explain_app.top).rules) (sym rows)
-      (rows_taken (command (codes "explain")) refl explain_fit first.0 fine)
+-- a command as the program's has it
+abbrev shape_of : App → Shape
+shape_of app = unwrap_or (find (λ s. answers_to app.top.name (label_of s)) (built ira_app).subs) top
 
-  pub check_taken : Some (codes "check") ≡ subcommand_name_of m → AreTaken (built_leaf check_app.top).rules found
-  check_taken name =
-      let first = met_by_first a m words (codes "check") is has none name in
-      let rows = rows_of_check a m first.0 found is (subst (λ ws. HasMatchesOf a ws m) first.1 has) read in
-      let fine = check_fine first.0 (faultless a words (codes "check") first.0 is none first.1) in
-      subst (AreTaken (built_leaf check_app.top).rules) (sym rows)
-      (rows_taken (command (codes "check")) refl check_fit first.0 fine)
+command : (app : App) → Enters app.top.name (shape_of app) → (shape_of app).rules ≡ (built_leaf app.top).rules
+    → AllFit (shape_of app).rules (shape_of app).rules → (shape_of app).args_override_self ≡ false → (shape_of app).subcommand_required ≡ false
+    → (shape_of app).arg_required_else_help ≡ false → (shape_of app).subcommand_negates_reqs ≡ false → IsCommand app
+command app enters rules fits once alone helpless strict =
+    record { shape = shape_of app; enters = enters; rules = rules; fits = fits; once = once; alone = alone; helpless = helpless; strict = strict }
 
-  pub run_taken : Some (codes "run") ≡ subcommand_name_of m → AreTaken (built_leaf run_app.top).rules found
-  run_taken name =
-      let first = met_by_first a m words (codes "run") is has none name in
-      let rows = rows_of_run a m first.0 found is (subst (λ ws. HasMatchesOf a ws m) first.1 has) read in
-      let fine = run_fine first.0 (faultless a words (codes "run") first.0 is none first.1) in
-      subst (AreTaken (built_leaf run_app.top).rules) (sym rows)
-      (rows_taken (command (codes "run")) refl run_fit first.0 fine)
+pub logs_command : IsCommand logs_app
+unfolding walked
+logs_command =
+    command logs_app (record { stops = refl; enters = refl; named = refl }) refl ((refl, refl), ((refl, refl), ((refl, refl), tt))) refl refl refl refl
 
-  pub decide_taken : Some (codes "decide") ≡ subcommand_name_of m → AreTaken (built_leaf decide_app.top).rules found
-  decide_taken name =
-      let first = met_by_first a m words (codes "decide") is has none name in
-      let rows = rows_of_decide a m first.0 found is (subst (λ ws. HasMatchesOf a ws m) first.1 has) read in
-      let fine = decide_fine first.0 (faultless a words (codes "decide") first.0 is none first.1) in
-      subst (AreTaken (built_leaf decide_app.top).rules) (sym rows)
-      (rows_taken (command (codes "decide")) refl decide_fit first.0 fine)
+pub explain_command : IsCommand explain_app
+unfolding walked
+explain_command =
+    command explain_app (record { stops = refl; enters = refl; named = refl }) refl
+    ((refl, refl), ((refl, refl), ((refl, refl), ((refl, refl), ((refl, refl), ((refl, refl), tt)))))) refl refl refl refl
 
-  pub pairs_taken : Some (codes "pairs") ≡ subcommand_name_of m → AreTaken (built_leaf pairs_app.top).rules found
-  pairs_taken name =
-      let first = met_by_first a m words (codes "pairs") is has none name in
-      let rows = rows_of_pairs a m first.0 found is (subst (λ ws. HasMatchesOf a ws m) first.1 has) read in
-      let fine = pairs_fine first.0 (faultless a words (codes "pairs") first.0 is none first.1) in
-      subst (AreTaken (built_leaf pairs_app.top).rules) (sym rows)
-      (rows_taken (command (codes "pairs")) refl pairs_fit first.0 fine)
+pub check_command : IsCommand check_app
+unfolding walked
+check_command =
+    command check_app (record { stops = refl; enters = refl; named = refl }) refl
+    ((refl, refl), ((refl, refl), ((refl, refl), ((refl, refl), ((refl, refl), ((refl, refl), tt)))))) refl refl refl refl
 
-  pub check_found : Some (codes "check") ≡ subcommand_name_of m → AreFound (built_leaf check_app.top).rules found
-  check_found name =
-      let first = met_by_first a m words (codes "check") is has none name in
-      let rows = rows_of_check a m first.0 found is (subst (λ ws. HasMatchesOf a ws m) first.1 has) read in
-      let fine = check_fine first.0 (faultless a words (codes "check") first.0 is none first.1) in
-      subst (AreFound (built_leaf check_app.top).rules) (sym rows)
-      (rows_found (command (codes "check")) refl check_fit refl refl refl first.0 fine)
+pub decide_command : IsCommand decide_app
+unfolding walked
+decide_command =
+    command decide_app (record { stops = refl; enters = refl; named = refl }) refl
+    ((refl, refl), ((refl, refl), ((refl, refl), ((refl, refl), ((refl, refl), tt))))) refl refl refl refl
 
-  pub decide_found : Some (codes "decide") ≡ subcommand_name_of m → AreFound (built_leaf decide_app.top).rules found
-  decide_found name =
-      let first = met_by_first a m words (codes "decide") is has none name in
-      let rows = rows_of_decide a m first.0 found is (subst (λ ws. HasMatchesOf a ws m) first.1 has) read in
-      let fine = decide_fine first.0 (faultless a words (codes "decide") first.0 is none first.1) in
-      subst (AreFound (built_leaf decide_app.top).rules) (sym rows)
-      (rows_found (command (codes "decide")) refl decide_fit refl refl refl first.0 fine)
+pub pairs_command : IsCommand pairs_app
+unfolding walked
+pairs_command = command pairs_app (record { stops = refl; enters = refl; named = refl }) refl ((refl, refl), ((refl, refl), tt)) refl refl refl refl
 
-  pub pairs_found : Some (codes "pairs") ≡ subcommand_name_of m → AreFound (built_leaf pairs_app.top).rules found
-  pairs_found name =
-      let first = met_by_first a m words (codes "pairs") is has none name in
-      let rows = rows_of_pairs a m first.0 found is (subst (λ ws. HasMatchesOf a ws m) first.1 has) read in
-      let fine = pairs_fine first.0 (faultless a words (codes "pairs") first.0 is none first.1) in
-      subst (AreFound (built_leaf pairs_app.top).rules) (sym rows)
-      (rows_found (command (codes "pairs")) refl pairs_fit refl refl refl first.0 fine)
+pub run_command : IsCommand run_app
+unfolding walked
+run_command =
+    command run_app (record { stops = refl; enters = refl; named = refl }) refl
+    ((refl, refl), ((refl, refl), ((refl, refl), ((refl, refl), ((refl, refl), ((refl, refl), ((refl, refl), ((refl, refl), ((refl, refl), tt))))))))) refl refl refl refl
 
-  pub run_found : Some (codes "run") ≡ subcommand_name_of m → AreFound (built_leaf run_app.top).rules found
-  run_found name =
-      let first = met_by_first a m words (codes "run") is has none name in
-      let rows = rows_of_run a m first.0 found is (subst (λ ws. HasMatchesOf a ws m) first.1 has) read in
-      let fine = run_fine first.0 (faultless a words (codes "run") first.0 is none first.1) in
-      subst (AreFound (built_leaf run_app.top).rules) (sym rows)
-      (rows_found (command (codes "run")) refl run_fit refl refl refl first.0 fine)
+pub upgrade_command : IsCommand upgrade_app
+unfolding walked
+upgrade_command =
+    command upgrade_app (record { stops = refl; enters = refl; named = refl }) refl ((refl, refl), ((refl, refl), ((refl, refl), ((refl, refl), tt)))) refl refl refl refl
 
-  pub upgrade_taken : Some (codes "upgrade") ≡ subcommand_name_of m → AreTaken (built_leaf upgrade_app.top).rules found
-  upgrade_taken name =
-      let first = met_by_first a m words (codes "upgrade") is has none name in
-      let rows = rows_of_upgrade a m first.0 found is (subst (λ ws. HasMatchesOf a ws m) first.1 has) read in
-      let fine = upgrade_fine first.0 (faultless a words (codes "upgrade") first.0 is none first.1) in
-      subst (AreTaken (built_leaf upgrade_app.top).rules) (sym rows)
-      (rows_taken (command (codes "upgrade")) refl upgrade_fit first.0 fine)
+pub mend_command : IsCommand mend_app
+unfolding walked
+mend_command =
+    command mend_app (record { stops = refl; enters = refl; named = refl }) refl ((refl, refl), ((refl, refl), ((refl, refl), ((refl, refl), tt)))) refl refl refl refl
 
-  pub upgrade_found : Some (codes "upgrade") ≡ subcommand_name_of m → AreFound (built_leaf upgrade_app.top).rules found
-  upgrade_found name =
-      let first = met_by_first a m words (codes "upgrade") is has none name in
-      let rows = rows_of_upgrade a m first.0 found is (subst (λ ws. HasMatchesOf a ws m) first.1 has) read in
-      let fine = upgrade_fine first.0 (faultless a words (codes "upgrade") first.0 is none first.1) in
-      subst (AreFound (built_leaf upgrade_app.top).rules) (sym rows)
-      (rows_found (command (codes "upgrade")) refl upgrade_fit refl refl refl first.0 fine)
+pub version_command : IsCommand version_app
+unfolding walked
+version_command = command version_app (record { stops = refl; enters = refl; named = refl }) refl ((refl, refl), tt) refl refl refl refl
 
-  pub mend_taken : Some (codes "mend") ≡ subcommand_name_of m → AreTaken (built_leaf mend_app.top).rules found
-  mend_taken name =
-      let first = met_by_first a m words (codes "mend") is has none name in
-      let rows = rows_of_mend a m first.0 found is (subst (λ ws. HasMatchesOf a ws m) first.1 has) read in
-      let fine = mend_fine first.0 (faultless a words (codes "mend") first.0 is none first.1) in
-      subst (AreTaken (built_leaf mend_app.top).rules) (sym rows)
-      (rows_taken (command (codes "mend")) refl mend_fit first.0 fine)
+-- ---- what is found after them
 
-  pub mend_found : Some (codes "mend") ≡ subcommand_name_of m → AreFound (built_leaf mend_app.top).rules found
-  mend_found name =
-      let first = met_by_first a m words (codes "mend") is has none name in
-      let rows = rows_of_mend a m first.0 found is (subst (λ ws. HasMatchesOf a ws m) first.1 has) read in
-      let fine = mend_fine first.0 (faultless a words (codes "mend") first.0 is none first.1) in
-      subst (AreFound (built_leaf mend_app.top).rules) (sym rows)
-      (rows_found (command (codes "mend")) refl mend_fit refl refl refl first.0 fine)
+-- the words after a command are read without a fault, where all are
+fine : (name : Text) (s : Shape) → Enters name s → (others : List Text) → fault_of ira_app (name ∷ others) ≡ [] → level_fault s [] nothing_held others false [] ≡ []
+fine name s is others none =
+    let behind = second_none (walk_fault top names (walk_from nothing_held) (name ∷ others)) _ none in
+    let below : entered_fault (built ira_app) (Some (name, others)) ≡ [] = subst (λ o. entered_fault (built ira_app) o ≡ []) (stopped_at name s is others) (first_none _ _ behind) in
+    subst (λ (o : Option Shape). option_map_or (λ x. level_fault x [] nothing_held others false []) o [] ≡ []) is.enters below
+
+module _ (app : App) (is : IsCommand app) (m : ArgMatches) (words : List Text) (parse : AreMatchesOf words m) (found : List Row)
+    (read : Some found ≡ option_map (λ s. s.1) (subcommand_rows_of m)) (name : Some app.top.name ≡ subcommand_name_of m) where
+  first : BeginsWithWord app.top.name words
+  first = met_by_first m words app.top.name parse name
+
+  rows_are : found ≡ rows_after (built_leaf app.top).rules [] first.0
+  rows_are =
+      let here = subst (λ ws. AreMatchesOf ws m) first.1 parse in
+      let both : Some found ≡ Some (rows_after is.shape.rules [] first.0) =
+      read ∙ ap (option_map (λ s. s.1)) ((here.found refl).1 ∙ command_rows app.top.name is.shape is.enters first.0) in
+      let same : found ≡ rows_after is.shape.rules [] first.0 = cc in
+      same ∙ ap (λ (rs : List Rule). rows_after rs [] first.0) is.rules
+
+  -- values of its arguments
+  pub found_behind : AreFoundBehind app found
+  found_behind =
+      let none = fine app.top.name is.shape is.enters first.0 (subst (λ ws. fault_of ira_app ws ≡ []) first.1 parse.accepted) in
+      subst (AreFoundBehind app) (sym rows_are) (record {
+        taken = subst (λ rs. AreTaken rs (rows_after rs [] first.0)) is.rules (rows_taken is.shape is.once is.fits first.0 none);
+        found = subst (λ rs. AreFound rs (rows_after rs [] first.0)) is.rules (rows_found is.shape is.once is.fits is.alone is.helpless is.strict first.0 none);
+      })
+
+  -- what is so of all that is found after it is so of this
+  pub so_behind : (IsSo : List Row → Type 0) → Behind app words IsSo → IsSo found
+  so_behind IsSo behind = subst IsSo (sym rows_are) (behind first.0 first.1)
+
+  -- and the words ask for what is so of it
+  pub asked_for : (IsSo : List Row → Type 0) → IsSo found → AskFor app words IsSo
+  asked_for IsSo so = record { accepted = parse.accepted; others = first.0; first = first.1; found = subst IsSo rows_are so }

@@ -1,18 +1,19 @@
 -- The command that a parse of words meets is named by their first one.
-use Rattle.std.proofs.Common.{◌≡◌, ◌⊎◌, inl, inr, ℕ, zero, suc, Bool, true, false, not, ◌&&◌, List, [], ◌∷◌, ◌++◌, Option, None, Some, length, refl, sym, ap, subst, ◌∙◌, codes, append_assoc}
+use Rattle.std.proofs.Common.{◌≡◌, ◌⊎◌, inl, inr, ℕ, zero, suc, Bool, true, false, not, ◌&&◌, ◌||◌, List, [], ◌∷◌, ◌++◌, Option, None, Some, length, map, refl, sym, ap, subst, ◌∙◌, codes, append_assoc}
 use Rattle.std.specs.Prelude.{option_map, find, fold, slice_get, if◌then◌else◌}
 use Rattle.std.specs.Str.{bytes_eq, chars}
 use Rattle.std.specs.Option.{option_map_or}
 use Rattle.std.proofs.lemmas.List.{append-nil}
 use Rattle.std.proofs.lemmas.Slice.Eq.{bytes_eq-Decides}
-use Rattle.clap.specs.Faults.{bundle_fault, bundle_step_fault, defaults_fault, fault_of, flag_word_fault, flags_fault, is_simple_and_free, long_fault, other_fault, short_fault, step_fault, walk_fault}
+use Rattle.clap.specs.Faults.{bundle_fault, bundle_step_fault, defaults_fault, fault_of, flag_word_fault, flags_fault, long_fault, other_fault, short_fault, step_fault, walk_fault}
 use Rattle.clap.specs.Kinds.{Kinds, or_else}
 use Rattle.clap.specs.Lexer.{long_of, short_of}
-use Rattle.clap.specs.Simple.{App, HasMatchesOf, Shape, built, built_leaf, entered, filled, help_rule, names_of, subcommand_of, subcommand_rows_of, with_index}
+use Rattle.clap.specs.Simple.{Shape, built, entered, filled, help_rule, label_of, names_of, rows_at, subcommand_of, with_index}
 use Rattle.clap.specs.Walk.{Held, Names, Row, Rule, Step, Text, Walk, answers_to, arg_by_long, after_step, bundle_met, bundle_step, has_long, has_short, idle, long_word, trailing, nothing_held, plain, rows_after, subcommand_or_other, long_or_other, short_or_plain, after_flag, walk_from, walked}
 use Rattle.clap.specs.Matches.{subcommand_name_of}
 use Rattle.clap.specs.declared.parser.matches.ArgMatches.{ArgMatches}
-use Rattle.ira_words.specs.CommandLine.{check_app, decide_app, explain_app, ira_app, logs_app, mend_app, pairs_app, run_app, upgrade_app, version_app}
+use Rattle.ira_words.specs.CommandLine.{ira_app}
+use Rattle.ira_words.specs.Request.{AreMatchesOf}
 
 -- this is the first of the words
 abbrev pub BeginsWithWord : Text → List Text → Type 0
@@ -22,6 +23,10 @@ BeginsWithWord word words = (others : List Text) × (words ≡ word ∷ others)
 abbrev IsFault : Kinds → Type 0
 IsFault [] = ⊥
 IsFault (k ∷ ks) = Unit {0}
+
+or_false : (b : Bool) → (b || false) ≡ b
+or_false true = refl
+or_false false = refl
 
 no_fault : (ks : Kinds) → IsFault ks → ks ≡ [] → ⊥
 no_fault ks is none = subst IsFault none is
@@ -38,7 +43,7 @@ first_is_fault : (a b : Kinds) → IsFault a → IsFault (or_else a b)
 first_is_fault [] b is = absurd is
 first_is_fault (k ∷ ks) b is = tt
 
--- once a subcommand is met, the walk keeps the words behind it
+-- once a subcommand is met, the walk keeps the words after it
 pub stays : (c : List Rule) (names : Names) (w : Walk) (n : Text) (ws rest : List Text)
     → (fold (walked c names) (record w { stopped = Some (n, ws) }) rest).stopped ≡ Some (n, ws ++ rest)
 unfolding walked
@@ -66,68 +71,22 @@ names = names_of (built ira_app)
 abbrev name_met : Option (Text × List Row) → Option Text
 name_met = option_map (λ s. s.0)
 
-logs_rows : (rest : List Text) → subcommand_of ira_app (codes "logs" ∷ rest) ≡ Some (codes "logs", rows_after (built_leaf logs_app.top).rules [] rest)
-unfolding walked
-logs_rows rest = ap (λ o. entered (built ira_app) o) (stays top.rules names (walk_from nothing_held) (codes "logs") [] rest)
+-- the walk over the words stops at this one, and a command of this shape is entered there
+pub record Enters (name : Text) (s : Shape) : Type 0 where
+  pub stops : walked top.rules names (walk_from nothing_held) name ≡ record (walk_from nothing_held) { stopped = Some (name, []) }
+  pub enters : find (λ x. answers_to name (label_of x)) (built ira_app).subs ≡ Some s
+  pub named : s.name ≡ name
 
-logs_met : (rest : List Text) → name_met (subcommand_of ira_app (codes "logs" ∷ rest)) ≡ Some (codes "logs")
-logs_met rest = ap name_met (logs_rows rest)
+pub stopped_at : (name : Text) (s : Shape) → Enters name s → (rest : List Text)
+    → (fold (walked top.rules names) (walk_from nothing_held) (name ∷ rest)).stopped ≡ Some (name, rest)
+stopped_at name s is rest =
+    ap (λ (w : Walk). (fold (walked top.rules names) w rest).stopped) is.stops ∙ stays top.rules names (walk_from nothing_held) name [] rest
 
-explain_rows : (rest : List Text) → subcommand_of ira_app (codes "explain" ∷ rest) ≡ Some (codes "explain", rows_after (built_leaf explain_app.top).rules [] rest)
-unfolding walked
-explain_rows rest = ap (λ o. entered (built ira_app) o) (stays top.rules names (walk_from nothing_held) (codes "explain") [] rest)
-
-explain_met : (rest : List Text) → name_met (subcommand_of ira_app (codes "explain" ∷ rest)) ≡ Some (codes "explain")
-explain_met rest = ap name_met (explain_rows rest)
-
-check_rows : (rest : List Text) → subcommand_of ira_app (codes "check" ∷ rest) ≡ Some (codes "check", rows_after (built_leaf check_app.top).rules [] rest)
-unfolding walked
-check_rows rest = ap (λ o. entered (built ira_app) o) (stays top.rules names (walk_from nothing_held) (codes "check") [] rest)
-
-check_met : (rest : List Text) → name_met (subcommand_of ira_app (codes "check" ∷ rest)) ≡ Some (codes "check")
-check_met rest = ap name_met (check_rows rest)
-
-decide_rows : (rest : List Text) → subcommand_of ira_app (codes "decide" ∷ rest) ≡ Some (codes "decide", rows_after (built_leaf decide_app.top).rules [] rest)
-unfolding walked
-decide_rows rest = ap (λ o. entered (built ira_app) o) (stays top.rules names (walk_from nothing_held) (codes "decide") [] rest)
-
-decide_met : (rest : List Text) → name_met (subcommand_of ira_app (codes "decide" ∷ rest)) ≡ Some (codes "decide")
-decide_met rest = ap name_met (decide_rows rest)
-
-pairs_rows : (rest : List Text) → subcommand_of ira_app (codes "pairs" ∷ rest) ≡ Some (codes "pairs", rows_after (built_leaf pairs_app.top).rules [] rest)
-unfolding walked
-pairs_rows rest = ap (λ o. entered (built ira_app) o) (stays top.rules names (walk_from nothing_held) (codes "pairs") [] rest)
-
-pairs_met : (rest : List Text) → name_met (subcommand_of ira_app (codes "pairs" ∷ rest)) ≡ Some (codes "pairs")
-pairs_met rest = ap name_met (pairs_rows rest)
-
-run_rows : (rest : List Text) → subcommand_of ira_app (codes "run" ∷ rest) ≡ Some (codes "run", rows_after (built_leaf run_app.top).rules [] rest)
-unfolding walked
-run_rows rest = ap (λ o. entered (built ira_app) o) (stays top.rules names (walk_from nothing_held) (codes "run") [] rest)
-
-run_met : (rest : List Text) → name_met (subcommand_of ira_app (codes "run" ∷ rest)) ≡ Some (codes "run")
-run_met rest = ap name_met (run_rows rest)
-
-upgrade_rows : (rest : List Text) → subcommand_of ira_app (codes "upgrade" ∷ rest) ≡ Some (codes "upgrade", rows_after (built_leaf upgrade_app.top).rules [] rest)
-unfolding walked
-upgrade_rows rest = ap (λ o. entered (built ira_app) o) (stays top.rules names (walk_from nothing_held) (codes "upgrade") [] rest)
-
-upgrade_met : (rest : List Text) → name_met (subcommand_of ira_app (codes "upgrade" ∷ rest)) ≡ Some (codes "upgrade")
-upgrade_met rest = ap name_met (upgrade_rows rest)
-
-mend_rows : (rest : List Text) → subcommand_of ira_app (codes "mend" ∷ rest) ≡ Some (codes "mend", rows_after (built_leaf mend_app.top).rules [] rest)
-unfolding walked
-mend_rows rest = ap (λ o. entered (built ira_app) o) (stays top.rules names (walk_from nothing_held) (codes "mend") [] rest)
-
-mend_met : (rest : List Text) → name_met (subcommand_of ira_app (codes "mend" ∷ rest)) ≡ Some (codes "mend")
-mend_met rest = ap name_met (mend_rows rest)
-
-version_rows : (rest : List Text) → subcommand_of ira_app (codes "version" ∷ rest) ≡ Some (codes "version", rows_after (built_leaf version_app.top).rules [] rest)
-unfolding walked
-version_rows rest = ap (λ o. entered (built ira_app) o) (stays top.rules names (walk_from nothing_held) (codes "version") [] rest)
-
-version_met : (rest : List Text) → name_met (subcommand_of ira_app (codes "version" ∷ rest)) ≡ Some (codes "version")
-version_met rest = ap name_met (version_rows rest)
+-- what is read of the words after it
+pub command_rows : (name : Text) (s : Shape) → Enters name s → (rest : List Text) → subcommand_of ira_app (name ∷ rest) ≡ Some (name, rows_after s.rules [] rest)
+command_rows name s is rest =
+    ap (λ o. entered (built ira_app) o) (stopped_at name s is rest) ∙ ap (option_map (λ x. rows_at x rest)) is.enters
+    ∙ ap (λ n. Some (n, rows_after s.rules [] rest)) is.named
 
 help_is_fault : (rest : List Text) → IsFault (fault_of ira_app (codes "help" ∷ rest))
 unfolding walk_fault
@@ -234,178 +193,74 @@ unnamed w rest other none =
         after_dashes w rest ((bytes_eq-Decides w (45 ∷ 45 ∷ [])).0 is) (subst (λ d. walk_fault top names (walk_by d w) rest ≡ []) is walks) none
     go false is turn walks = no_fault _ (word_is_fault (long_of w) w) (subst (λ d. word_fault_by d w ≡ []) is turn)
 
--- the words name this command, where the first of them is it and it is the one that is met
-named_by_first : (name w : Text) (rest : List Text) (n : Text) → bytes_eq name w ≡ true → name_met (subcommand_of ira_app (name ∷ rest)) ≡ Some name
-    → name_met (subcommand_of ira_app (w ∷ rest)) ≡ Some n → BeginsWithWord n (w ∷ rest)
-named_by_first name w rest n is meets met =
-    let same : name ≡ w = (bytes_eq-Decides name w).0 is in
-    let Met : Text → Type 0 = λ x. name_met (subcommand_of ira_app (x ∷ rest)) ≡ Some n in
-    let both : Some name ≡ Some n = sym meets ∙ subst Met (sym same) met in
-    let first : w ≡ n = cc in
-    (rest, ap (λ x. x ∷ rest) first)
+-- one of the commands has this name
+abbrev pub NamesOne : Text → List Shape → Type 0
+NamesOne n [] = ⊥
+NamesOne n (s ∷ ss) = (s.name ≡ n) ⊎ NamesOne n ss
 
--- the command that words without a fault meet is named by the first of them
+abbrev HaveNoAliases : List Shape → Type 0
+HaveNoAliases [] = Unit {0}
+HaveNoAliases (s ∷ ss) = (s.aliases ≡ []) × HaveNoAliases ss
+
+-- a name that is met is that of a command
+name_of_one : (w : Text) (ss : List Shape) (l : Text × List Text) → HaveNoAliases ss → find (answers_to w) (map label_of ss) ≡ Some l
+    → (s : Shape) × (find (λ x. answers_to w (label_of x)) ss ≡ Some s) × (l.0 ≡ w) × (s.name ≡ w) × NamesOne w ss
+name_of_one w [] l bare met = cc
+name_of_one w (s ∷ ss) l bare met = go (answers_to w (label_of s)) (λ later. name_of_one w ss l bare.1 later) refl met
+  where
+    own_name : (others : List Text) → others ≡ [] → answers_to w (s.name, others) ≡ true → s.name ≡ w
+    own_name others none is = (bytes_eq-Decides s.name w).0 (sym (or_false (bytes_eq s.name w)) ∙ subst (λ xs. answers_to w (s.name, xs) ≡ true) none is)
+
+    go : (b : Bool)
+        → (find (answers_to w) (map label_of ss) ≡ Some l
+        → (t : Shape) × (find (λ x. answers_to w (label_of x)) ss ≡ Some t) × (l.0 ≡ w) × (t.name ≡ w) × NamesOne w ss)
+        → answers_to w (label_of s) ≡ b → (if b then Some (label_of s) else find (answers_to w) (map label_of ss)) ≡ Some l
+        → (t : Shape) × ((if b then Some s else find (λ x. answers_to w (label_of x)) ss) ≡ Some t) × (l.0 ≡ w) × (t.name ≡ w) × NamesOne w (s ∷ ss)
+    go true rest is first =
+        let own : s.name ≡ w = own_name s.aliases bare.0 is in
+        let same : label_of s ≡ l = cc in
+        (s, refl, sym (ap (λ x. x.0) same) ∙ own, own, inl own)
+    go false rest is later =
+        let it = rest later in
+        (it.0, it.1, it.2, it.3, inr it.4)
+
+-- words without a fault begin with the name of a command
+begun : (w : Text) (rest : List Text) → fault_of ira_app (w ∷ rest) ≡ [] → (s : Shape) × Enters w s × NamesOne w (built ira_app).subs
+unfolding walked
+begun w rest none = go (find (answers_to w) names) refl
+  where
+    go : (o : Option (Text × List Text)) → find (answers_to w) names ≡ o → (s : Shape) × Enters w s × NamesOne w (built ira_app).subs
+    go None other = absurd (unnamed w rest other none)
+    go (Some l) met =
+        let one = name_of_one w (built ira_app).subs l bare met in
+        let stops : start_by (find (answers_to w) names) w ≡ record (walk_from nothing_held) { stopped = Some (w, []) } =
+        ap (λ o. start_by o w) met ∙ ap (λ n. record (walk_from nothing_held) { stopped = Some (n, []) }) one.2 in
+        (one.0, record { stops = stops; enters = one.1; named = one.3 }, one.4)
+      where
+        bare : HaveNoAliases (built ira_app).subs
+        bare = (refl, (refl, (refl, (refl, (refl, (refl, (refl, (refl, (refl, (refl, tt))))))))))
+
+-- the command that they meet is named by the first of them
 pub named : (words : List Text) (n : Text) → fault_of ira_app words ≡ [] → name_met (subcommand_of ira_app words) ≡ Some n → BeginsWithWord n words
 named [] n none met = cc
 named (w ∷ rest) n none met =
-    go (bytes_eq (codes "logs") w) (bytes_eq (codes "explain") w) (bytes_eq (codes "check") w)
-    (bytes_eq (codes "decide") w) (bytes_eq (codes "pairs") w) (bytes_eq (codes "run") w)
-    (bytes_eq (codes "upgrade") w) (bytes_eq (codes "mend") w) (bytes_eq (codes "version") w)
-    (bytes_eq (codes "help") w) refl refl refl refl refl refl refl refl refl refl
-  where
-    go : (logs explain check decide pairs run upgrade mend version help : Bool)
-        → bytes_eq (codes "logs") w ≡ logs → bytes_eq (codes "explain") w ≡ explain
-        → bytes_eq (codes "check") w ≡ check → bytes_eq (codes "decide") w ≡ decide
-        → bytes_eq (codes "pairs") w ≡ pairs → bytes_eq (codes "run") w ≡ run → bytes_eq (codes "upgrade") w ≡ upgrade
-        → bytes_eq (codes "mend") w ≡ mend → bytes_eq (codes "version") w ≡ version → bytes_eq (codes "help") w ≡ help
-        → BeginsWithWord n (w ∷ rest)
-    go true explain check decide pairs run upgrade mend version help is_logs is_explain is_check is_decide is_pairs
-        is_run is_upgrade is_mend is_version is_help =
-        named_by_first (codes "logs") w rest n is_logs (logs_met rest) met
-    go false true check decide pairs run upgrade mend version help is_logs is_explain is_check is_decide is_pairs
-        is_run is_upgrade is_mend is_version is_help =
-        named_by_first (codes "explain") w rest n is_explain (explain_met rest) met
-    go false false true decide pairs run upgrade mend version help is_logs is_explain is_check is_decide is_pairs
-        is_run is_upgrade is_mend is_version is_help =
-        named_by_first (codes "check") w rest n is_check (check_met rest) met
-    go false false false true pairs run upgrade mend version help is_logs is_explain is_check is_decide is_pairs is_run
-        is_upgrade is_mend is_version is_help =
-        named_by_first (codes "decide") w rest n is_decide (decide_met rest) met
-    go false false false false true run upgrade mend version help is_logs is_explain is_check is_decide is_pairs is_run
-        is_upgrade is_mend is_version is_help =
-        named_by_first (codes "pairs") w rest n is_pairs (pairs_met rest) met
-    go false false false false false true upgrade mend version help is_logs is_explain is_check is_decide is_pairs
-        is_run is_upgrade is_mend is_version is_help =
-        named_by_first (codes "run") w rest n is_run (run_met rest) met
-    go false false false false false false true mend version help is_logs is_explain is_check is_decide is_pairs is_run
-        is_upgrade is_mend is_version is_help =
-        named_by_first (codes "upgrade") w rest n is_upgrade (upgrade_met rest) met
-    go false false false false false false false true version help is_logs is_explain is_check is_decide is_pairs
-        is_run is_upgrade is_mend is_version is_help =
-        named_by_first (codes "mend") w rest n is_mend (mend_met rest) met
-    go false false false false false false false false true help is_logs is_explain is_check is_decide is_pairs is_run
-        is_upgrade is_mend is_version is_help =
-        named_by_first (codes "version") w rest n is_version (version_met rest) met
-    go false false false false false false false false false true is_logs is_explain is_check is_decide is_pairs is_run
-        is_upgrade is_mend is_version is_help =
-        let same : codes "help" ≡ w = (bytes_eq-Decides (codes "help") w).0 is_help in
-        absurd (no_fault _ (help_is_fault rest) (subst (λ x. fault_of ira_app (x ∷ rest) ≡ []) (sym same) none))
-    go false false false false false false false false false false is_logs is_explain is_check is_decide is_pairs
-        is_run is_upgrade is_mend is_version is_help =
-        absurd (unnamed w rest (rw (is_logs, is_explain, is_check, is_decide, is_pairs, is_run, is_upgrade, is_mend, is_version, is_help) refl) none)
+    let it = begun w rest none in
+    let both : Some w ≡ Some n = sym (ap name_met (command_rows w it.0 it.1 rest)) ∙ met in
+    let first : w ≡ n = cc in
+    (rest, ap (λ x. x ∷ rest) first)
 
--- one of the program's commands
-abbrev pub IsCommand : Text → Type 0
-IsCommand n =
-    (codes "logs" ≡ n) ⊎ ((codes "explain" ≡ n) ⊎ ((codes "check" ≡ n) ⊎ ((codes "decide" ≡ n) ⊎ ((codes "pairs" ≡ n) ⊎
-    ((codes "run" ≡ n) ⊎ ((codes "upgrade" ≡ n) ⊎ ((codes "mend" ≡ n) ⊎ (codes "version" ≡ n))))))))
-
--- and they do meet one
-meets : (words : List Text) → fault_of ira_app words ≡ [] → (n : Text) × (name_met (subcommand_of ira_app words) ≡ Some n) × IsCommand n
+-- and they do meet one, which isn't `help`
+pub command_met : (m : ArgMatches) (words : List Text) → AreMatchesOf words m
+    → (n : Text) × (subcommand_name_of m ≡ Some n) × NamesOne n (built ira_app).subs × (codes "help" ≡ n → ⊥)
 unfolding defaults_fault walk_fault walked
-meets [] none = absurd (no_fault (fault_of ira_app []) tt none)
-meets (w ∷ rest) none =
-    go (bytes_eq (codes "logs") w) (bytes_eq (codes "explain") w) (bytes_eq (codes "check") w)
-    (bytes_eq (codes "decide") w) (bytes_eq (codes "pairs") w) (bytes_eq (codes "run") w)
-    (bytes_eq (codes "upgrade") w) (bytes_eq (codes "mend") w) (bytes_eq (codes "version") w)
-    (bytes_eq (codes "help") w) refl refl refl refl refl refl refl refl refl refl
-  where
-    first : (name : Text) → bytes_eq name w ≡ true → name_met (subcommand_of ira_app (name ∷ rest)) ≡ Some name → name_met (subcommand_of ira_app (w ∷ rest)) ≡ Some name
-    first name is met = subst (λ x. name_met (subcommand_of ira_app (x ∷ rest)) ≡ Some name) ((bytes_eq-Decides name w).0 is) met
-
-    go : (logs explain check decide pairs run upgrade mend version help : Bool)
-        → bytes_eq (codes "logs") w ≡ logs → bytes_eq (codes "explain") w ≡ explain
-        → bytes_eq (codes "check") w ≡ check → bytes_eq (codes "decide") w ≡ decide
-        → bytes_eq (codes "pairs") w ≡ pairs → bytes_eq (codes "run") w ≡ run → bytes_eq (codes "upgrade") w ≡ upgrade
-        → bytes_eq (codes "mend") w ≡ mend → bytes_eq (codes "version") w ≡ version → bytes_eq (codes "help") w ≡ help
-        → (n : Text) × (name_met (subcommand_of ira_app (w ∷ rest)) ≡ Some n) × IsCommand n
-    go true explain check decide pairs run upgrade mend version help is_logs is_explain is_check is_decide is_pairs
-        is_run is_upgrade is_mend is_version is_help =
-        (codes "logs", first (codes "logs") is_logs (logs_met rest), inl refl)
-    go false true check decide pairs run upgrade mend version help is_logs is_explain is_check is_decide is_pairs
-        is_run is_upgrade is_mend is_version is_help =
-        (codes "explain", first (codes "explain") is_explain (explain_met rest), inr (inl refl))
-    go false false true decide pairs run upgrade mend version help is_logs is_explain is_check is_decide is_pairs
-        is_run is_upgrade is_mend is_version is_help =
-        (codes "check", first (codes "check") is_check (check_met rest), inr (inr (inl refl)))
-    go false false false true pairs run upgrade mend version help is_logs is_explain is_check is_decide is_pairs is_run
-        is_upgrade is_mend is_version is_help =
-        (codes "decide", first (codes "decide") is_decide (decide_met rest), inr (inr (inr (inl refl))))
-    go false false false false true run upgrade mend version help is_logs is_explain is_check is_decide is_pairs is_run
-        is_upgrade is_mend is_version is_help =
-        (codes "pairs", first (codes "pairs") is_pairs (pairs_met rest), inr (inr (inr (inr (inl refl)))))
-    go false false false false false true upgrade mend version help is_logs is_explain is_check is_decide is_pairs
-        is_run is_upgrade is_mend is_version is_help =
-        (codes "run", first (codes "run") is_run (run_met rest), inr (inr (inr (inr (inr (inl refl))))))
-    go false false false false false false true mend version help is_logs is_explain is_check is_decide is_pairs is_run
-        is_upgrade is_mend is_version is_help =
-        (codes "upgrade", first (codes "upgrade") is_upgrade (upgrade_met rest), inr (inr (inr (inr (inr (inr (inl refl)))))))
-    go false false false false false false false true version help is_logs is_explain is_check is_decide is_pairs
-        is_run is_upgrade is_mend is_version is_help =
-        (codes "mend", first (codes "mend") is_mend (mend_met rest), inr (inr (inr (inr (inr (inr (inr (inl refl))))))))
-    go false false false false false false false false true help is_logs is_explain is_check is_decide is_pairs is_run
-        is_upgrade is_mend is_version is_help =
-        (codes "version", first (codes "version") is_version (version_met rest), inr (inr (inr (inr (inr (inr (inr (inr refl))))))))
-    go false false false false false false false false false true is_logs is_explain is_check is_decide is_pairs is_run
-        is_upgrade is_mend is_version is_help =
-        let same : codes "help" ≡ w = (bytes_eq-Decides (codes "help") w).0 is_help in
-        absurd (no_fault _ (help_is_fault rest) (subst (λ x. fault_of ira_app (x ∷ rest) ≡ []) (sym same) none))
-    go false false false false false false false false false false is_logs is_explain is_check is_decide is_pairs
-        is_run is_upgrade is_mend is_version is_help =
-        absurd (unnamed w rest (rw (is_logs, is_explain, is_check, is_decide, is_pairs, is_run, is_upgrade, is_mend, is_version, is_help) refl) none)
-
-pub command_met : (a : App) (m : ArgMatches) (words : List Text) → a ≡ ira_app → HasMatchesOf a words m → fault_of ira_app words ≡ []
-    → (n : Text) × (subcommand_name_of m ≡ Some n) × IsCommand n
-command_met a m words is has none =
-    let Has : App → Type 0 = λ x. HasMatchesOf x words m in
-    let met = meets words none in
-    (met.0, sym (sym (ap (option_map (λ s. s.0)) (subst Has is has refl).1) ∙ fused _ _ _) ∙ met.1, met.2)
+command_met m [] parse = absurd (no_fault (fault_of ira_app []) tt parse.accepted)
+command_met m (w ∷ rest) parse =
+    let it = begun w rest parse.accepted in
+    let met = ap name_met (command_rows w it.0 it.1 rest) in
+    let other : codes "help" ≡ w → ⊥ = λ same. no_fault _ (help_is_fault rest) (subst (λ x. fault_of ira_app (x ∷ rest) ≡ []) (sym same) parse.accepted) in
+    (w, sym (sym (ap (option_map (λ s. s.0)) (parse.found refl).1) ∙ fused _ _ _) ∙ met, it.2, other)
 
 -- the command that is met is named by the first word
-pub met_by_first : (a : App) (m : ArgMatches) (words : List Text) (n : Text) → a ≡ ira_app → HasMatchesOf a words m → (is_simple_and_free a ≡ true → fault_of a words ≡ [])
-    → Some n ≡ subcommand_name_of m → BeginsWithWord n words
-met_by_first a m words n is has faultless name =
-    let Has : App → Type 0 = λ x. HasMatchesOf x words m in
-    let Faultless : App → Type 0 = λ x. fault_of x words ≡ [] in
-    let rows = (subst Has is has refl).1 in
-    named words n (subst Faultless is (faultless (ap is_simple_and_free is))) (sym (ap (option_map (λ s. s.0)) rows) ∙ fused _ _ _ ∙ sym name)
-
--- what is read of the words behind a command
-rows_behind : (a : App) (m : ArgMatches) (words : List Text) (name : Text) (rows found : List Row) → a ≡ ira_app → HasMatchesOf a words m
-    → Some found ≡ option_map (λ s. s.1) (subcommand_rows_of m) → subcommand_of ira_app words ≡ Some (name, rows) → found ≡ rows
-rows_behind a m words name rows found is has read met =
-    let Has : App → Type 0 = λ x. HasMatchesOf x words m in
-    let both : Some found ≡ Some rows = read ∙ ap (option_map (λ s. s.1)) ((subst Has is has refl).1 ∙ met) in
-    cc
-
-pub rows_of_logs : (a : App) (m : ArgMatches) (others : List Text) (found : List Row) → a ≡ ira_app → HasMatchesOf a (codes "logs" ∷ others) m
-    → Some found ≡ option_map (λ s. s.1) (subcommand_rows_of m) → found ≡ rows_after (built_leaf logs_app.top).rules [] others
-rows_of_logs a m others found is has read = rows_behind a m (codes "logs" ∷ others) (codes "logs") _ found is has read (logs_rows others)
-
-pub rows_of_explain : (a : App) (m : ArgMatches) (others : List Text) (found : List Row) → a ≡ ira_app → HasMatchesOf a (codes "explain" ∷ others) m
-    → Some found ≡ option_map (λ s. s.1) (subcommand_rows_of m) → found ≡ rows_after (built_leaf explain_app.top).rules [] others
-rows_of_explain a m others found is has read = rows_behind a m (codes "explain" ∷ others) (codes "explain") _ found is has read (explain_rows others)
-
-pub rows_of_run : (a : App) (m : ArgMatches) (others : List Text) (found : List Row) → a ≡ ira_app → HasMatchesOf a (codes "run" ∷ others) m
-    → Some found ≡ option_map (λ s. s.1) (subcommand_rows_of m) → found ≡ rows_after (built_leaf run_app.top).rules [] others
-rows_of_run a m others found is has read = rows_behind a m (codes "run" ∷ others) (codes "run") _ found is has read (run_rows others)
-
-pub rows_of_check : (a : App) (m : ArgMatches) (others : List Text) (found : List Row) → a ≡ ira_app → HasMatchesOf a (codes "check" ∷ others) m
-    → Some found ≡ option_map (λ s. s.1) (subcommand_rows_of m) → found ≡ rows_after (built_leaf check_app.top).rules [] others
-rows_of_check a m others found is has read = rows_behind a m (codes "check" ∷ others) (codes "check") _ found is has read (check_rows others)
-
-pub rows_of_decide : (a : App) (m : ArgMatches) (others : List Text) (found : List Row) → a ≡ ira_app → HasMatchesOf a (codes "decide" ∷ others) m
-    → Some found ≡ option_map (λ s. s.1) (subcommand_rows_of m) → found ≡ rows_after (built_leaf decide_app.top).rules [] others
-rows_of_decide a m others found is has read = rows_behind a m (codes "decide" ∷ others) (codes "decide") _ found is has read (decide_rows others)
-
-pub rows_of_pairs : (a : App) (m : ArgMatches) (others : List Text) (found : List Row) → a ≡ ira_app → HasMatchesOf a (codes "pairs" ∷ others) m
-    → Some found ≡ option_map (λ s. s.1) (subcommand_rows_of m) → found ≡ rows_after (built_leaf pairs_app.top).rules [] others
-rows_of_pairs a m others found is has read = rows_behind a m (codes "pairs" ∷ others) (codes "pairs") _ found is has read (pairs_rows others)
-
-pub rows_of_upgrade : (a : App) (m : ArgMatches) (others : List Text) (found : List Row) → a ≡ ira_app → HasMatchesOf a (codes "upgrade" ∷ others) m
-    → Some found ≡ option_map (λ s. s.1) (subcommand_rows_of m) → found ≡ rows_after (built_leaf upgrade_app.top).rules [] others
-rows_of_upgrade a m others found is has read = rows_behind a m (codes "upgrade" ∷ others) (codes "upgrade") _ found is has read (upgrade_rows others)
-
-pub rows_of_mend : (a : App) (m : ArgMatches) (others : List Text) (found : List Row) → a ≡ ira_app → HasMatchesOf a (codes "mend" ∷ others) m
-    → Some found ≡ option_map (λ s. s.1) (subcommand_rows_of m) → found ≡ rows_after (built_leaf mend_app.top).rules [] others
-rows_of_mend a m others found is has read = rows_behind a m (codes "mend" ∷ others) (codes "mend") _ found is has read (mend_rows others)
+pub met_by_first : (m : ArgMatches) (words : List Text) (n : Text) → AreMatchesOf words m → Some n ≡ subcommand_name_of m → BeginsWithWord n words
+met_by_first m words n parse name =
+    named words n parse.accepted (sym (ap (option_map (λ s. s.0)) (parse.found refl).1) ∙ fused _ _ _ ∙ sym name)

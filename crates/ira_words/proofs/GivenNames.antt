@@ -1,5 +1,5 @@
--- The files that words behind `logs` name: those up to `--`, where none of them begins with a dash, and
--- each behind it.
+-- The files that words after `logs` name: those up to `--`, where none of them begins with a dash, and
+-- each after it.
 use Rattle.std.proofs.Common.{◌≡◌, ◌≢◌, ℕ, Bool, true, false, List, [], ◌∷◌, ◌++◌, None, Some, All, refl, sym, ap, subst, ◌∙◌, codes, append_assoc, arith, suc}
 use Rattle.std.specs.Prelude.{fold, ◌==◌, if◌then◌else◌, map}
 use Rattle.std.proofs.lemmas.Bool.Decides.{Decides-eqb}
@@ -59,7 +59,7 @@ pub words_rows : (words : List Text) → All IsFileName words → rows_after rul
 words_rows [] are = refl
 words_rows (w ∷ rest) are = ap (λ x. finished rules x.held) (all_names w rest are)
 
--- the walk behind `--`, after some names
+-- the walk after `--`, after some names
 abbrev marked : List Text → Walk
 marked ws = record (named ws) { is_trailing = true }
 

@@ -4,4 +4,5 @@ pub mod FoundValues
 pub mod GivenNames
 pub mod Options
 pub mod Ranges
+pub mod Results
 pub mod TakenValues

@@ -6,18 +6,19 @@ use Rattle.std.specs.Str.{bytes_eq}
 use Rattle.std.specs.Str.Parse.{ParsesUnsigned, ExplainsUnsignedError, HasUnsignedDigitsIfOk}
 use Rattle.std.specs.declared.num.ParseIntError.{ParseIntError}
 use Rattle.clap.proofs.ValueTestLemmas.{accepts-Accepts}
-use Rattle.clap.proofs.WalkLemmas.{one_text-rows}
+use Rattle.clap.proofs.WalkLemmas.{first_value-rows, one_text-rows}
 use Rattle.clap.specs.Facts.{explicit_source, parser_of_value}
 use Rattle.clap.specs.Kinds.{Kinds, or_else, value_kinds, values_kinds}
 use Rattle.clap.specs.Takes.{is_given}
 use Rattle.clap.specs.Values.{Accepts, read_as, reading_of, refused_kind}
 use Rattle.clap.specs.ValueTests.{accepts}
-use Rattle.clap.specs.Walk.{Row, Rule, Text, action_of, arg_by_id, one_of, row_text, rows_of}
-use Rattle.clap.specs.Words.{ReadsOne, one_text}
+use Rattle.clap.specs.Walk.{Row, Rule, Text, action_of, arg_by_id, first_of, one_of, row_text, rows_of}
+use Rattle.clap.specs.Words.{ReadsOne, first_value, one_text}
 use Rattle.clap.specs.declared.builder.action.ArgAction.TheVariants.{SetTrue}
 use Rattle.clap.specs.declared.builder.value_parser.ValueParser.{ValueParser}
 use Rattle.clap.specs.declared.builder.value_parser.ValueParser.TheVariants as vp
 use Rattle.clap.specs.declared.parser.matches.Found.{Found}
+use Rattle.ira_words.specs.AskedQuestion.{IsLeftOut, MayHaveValue}
 use Rattle.ira_words.specs.RunRequest.{HasNumber, IsNumber, MayHaveNumber}
 use Rattle.ira_words.specs.TakenValues.{AreTaken, IsTaken}
 use Rattle.ira_words.proofs.TakenValues.{row_found}
@@ -112,6 +113,36 @@ number_missed c a f id None its parser are none value =
           let reads = value _ (one_text-rows f id ∙ read.1) in
           absurd (reads.1.0 (read.2.0, read.2.1))
     ]
+
+-- a number is read of an option that may be left out, or it is left out
+pub value_read : (c : List Rule) (a : Rule) (f : Found) (id : Text) (o : Option ℕ) → arg_by_id c id ≡ Some a
+    → a.parser ≡ Some (vp.Unsigned 0 18446744073709551615) → AreTaken c (rows_of f) → (one_text f id ≡ None → o ≡ None)
+    → ((t : Text) → one_text f id ≡ Some t → ReadsOne (reads_unsigned 64) t o) → MayHaveValue (rows_of f) id o
+value_read c a f id (Some n) its parser are none value = number_read 64 f id n none value
+value_read c a f id None its parser are none value =
+    elim (text_read c a (vp.Unsigned 0 18446744073709551615) id its parser (rows_of f) are) [
+      | inl missing ↦ ap (option_and_then (λ (r : Row). slice_get r.values 0)) missing
+      | inr read ↦
+          let reads = value _ (one_text-rows f id ∙ read.1) in
+          absurd (reads.1.0 (read.2.0, read.2.1))
+    ]
+
+-- where it is read, the option isn't left out
+pub value_given : (rows : List Row) (id : Text) (n : ℕ) → HasNumber rows id n → IsLeftOut id rows → ⊥
+value_given rows id n has out = go (find (λ r. bytes_eq r.id id) rows) has out
+  where
+    first : (r : Row) (o : Option Text) → IsSomeAnd (option_map (read_as r.reading) o) (IsNumber n) → o ≡ None → ⊥
+    first r None is none = is
+    first r (Some t) is none = cc
+
+    go : (o : Option Row) → IsSomeAnd (option_and_then row_text o) (IsNumber n) → option_and_then (λ (r : Row). slice_get r.values 0) o ≡ None → ⊥
+    go None is none = is
+    go (Some r) is none = first r (slice_get r.values 0) is none
+
+-- a text is read of an option, or it is left out
+pub text_is : {X : Type 0} (f : Found) (id : Text) (o x : Option X) (text : X → Text) → option_map text o ≡ first_value f id → o ≡ x
+    → first_of id (rows_of f) ≡ option_map text x
+text_is f id o x text read is = sym (read ∙ first_value-rows f id) ∙ ap (option_map text) is
 
 -- a flag is set exactly where it is given
 pub flag_read : (c : List Rule) (a : Rule) (f : Found) (id : Text) (is_set : Bool) → arg_by_id c id ≡ Some a → a.parser ≡ Some vp.Bool → action_of a ≡ SetTrue

@@ -25,17 +25,23 @@ logs_rule = record (new_rule (codes "LOG")) {
 abbrev pub dir_rule : Rule
 dir_rule = record (option_rule (codes "dir")) { parser = Some NonEmptyString }
 
--- a command with logs alone
-abbrev pub log_app : Text → App
-log_app name = with_rule (with_rule (new_app name) dir_rule) logs_rule
-
 -- the command `logs`
 abbrev pub logs_app : App
-logs_app = log_app (codes "logs")
+logs_app = with_rule (with_rule (new_app (codes "logs")) dir_rule) logs_rule
+
+-- the options and logs of `explain`
+abbrev pub explain_rules : List Rule
+explain_rules =
+    option_rule (codes "question")
+    ∷ number_rule (codes "case")
+    ∷ option_rule (codes "cert")
+    ∷ dir_rule
+    ∷ logs_rule
+    ∷ []
 
 -- the command `explain`
 abbrev pub explain_app : App
-explain_app = log_app (codes "explain")
+explain_app = on_top (λ s. record s { rules = explain_rules }) (new_app (codes "explain"))
 
 -- the option `--depth` of `check`
 abbrev pub depth_rule : Rule

@@ -1,6 +1,8 @@
+pub mod AskedQuestion
 pub mod CheckRequest
 pub mod CommandLine
 pub mod DecideRequest
+pub mod ExplainedAnswer
 pub mod LogSource
 pub mod Request
 pub mod RewriteRequest

@@ -1,13 +1,14 @@
--- What the words behind the program's name ask for.
+-- What the words after the program's name ask for.
 use Rattle.std.specs.Prelude.{◌≡◌, ◌≢◌, ℕ, All, List, [], ◌∷◌, ◌++◌, codes}
 use Rattle.clap.specs.Faults.{fault_of}
 use Rattle.clap.specs.Simple.{App, HasMatchesOf, built_leaf}
 use Rattle.clap.specs.Walk.{Row, rows_after}
 use Rattle.clap.specs.declared.parser.matches.ArgMatches.{ArgMatches}
 use Rattle.ira_words.specs.CheckRequest.{HasFiles}
-use Rattle.ira_words.specs.CommandLine.{check_app, decide_app, explain_app, ira_app, logs_app, mend_app, pairs_app, run_app, upgrade_app}
+use Rattle.ira_words.specs.CommandLine.{check_app, decide_app, explain_app, ira_app, logs_app, mend_app, pairs_app, run_app, upgrade_app, version_app}
 use Rattle.ira_words.specs.DecideRequest.{HasFilesToDecide}
-use Rattle.ira_words.specs.LogSource.{HasLogs, IsOfFiles, MayHaveLogs, MayNameLogs, NamesLogs}
+use Rattle.ira_words.specs.ExplainedAnswer.{HasAnswer, NamesAnswer}
+use Rattle.ira_words.specs.LogSource.{HasLogs, IsOfFiles, NamesLogs}
 use Rattle.ira_words.specs.RewriteRequest.{HasFilesToRewrite}
 use Rattle.ira_words.specs.RunRequest.{HasNumber, HasOptions}
 use Rattle.ira_words.specs.declared.check_request.CheckRequest.{CheckRequest}
@@ -25,16 +26,16 @@ use Rattle.ira_words.specs.declared.words_fault.WordsFault.TheVariants.{OutOfMem
 abbrev pub AreAcceptedWords : List (List ℕ) → Type 0
 AreAcceptedWords words = fault_of ira_app words ≡ []
 
--- what is found of the words behind a command, where the first word names it, is so
-abbrev Behind : App → List (List ℕ) → (List Row → Type 0) → Type 0
+-- what is found of the words after a command, where the first word names it, is so
+abbrev pub Behind : App → List (List ℕ) → (List Row → Type 0) → Type 0
 Behind app words IsSo =
     (others : List (List ℕ)) → words ≡ app.top.name ∷ others → IsSo (rows_after (built_leaf app.top).rules [] others)
 
--- the words name logs in one way, by names or by a folder, where their command takes logs; behind `explain` there may be
--- none
-pub record NameLogsOnce (words : List (List ℕ)) : Type 0 where
+-- the options and names after a command go together: logs are named in one way, by names or by a folder, where the command
+-- takes logs; after `explain` there may be none, where no question is named
+pub record GoTogether (words : List (List ℕ)) : Type 0 where
   pub logs : Behind logs_app words NamesLogs
-  pub explain : Behind explain_app words MayNameLogs
+  pub explain : Behind explain_app words NamesAnswer
   pub check : Behind check_app words NamesLogs
   pub decide : Behind decide_app words NamesLogs
   pub upgrade : Behind upgrade_app words NamesLogs
@@ -46,7 +47,7 @@ IsFileName [] = Unit {0}
 IsFileName (b ∷ bs) = b ≢ 45
 
 -- the command line accepts the words: `logs` and others, which name the source of logs. Where none of the others begins
--- with a dash, these are names of files; where one is the first that does, and is `--`, the words behind it are names
+-- with a dash, these are names of files; where one is the first that does, and is `--`, the words after it are names
 -- too
 pub record AskForLogs (words : List (List ℕ)) (source : LogSource) : Type 0 where
   pub accepted : AreAcceptedWords words
@@ -57,60 +58,44 @@ pub record AskForLogs (words : List (List ℕ)) (source : LogSource) : Type 0 wh
   pub marked : (front back : List (List ℕ)) → All IsFileName front → others ≡ front ++ codes "--" ∷ back
       → IsOfFiles source (front ++ back)
 
--- the command line accepts the words: `explain` and others, which may name the source of logs
-pub record AskForEvidence (words : List (List ℕ)) (explain : ExplainRequest) : Type 0 where
+-- the command line accepts the words: the name of this command and others, and what is found of these is so
+pub record AskFor (app : App) (words : List (List ℕ)) (IsSo : List Row → Type 0) : Type 0 where
   pub accepted : AreAcceptedWords words
   pub others : List (List ℕ)
-  pub first : words ≡ codes "explain" ∷ others
-  pub logs : MayHaveLogs (rows_after (built_leaf explain_app.top).rules [] others) explain.logs
+  pub first : words ≡ app.top.name ∷ others
+  pub found : IsSo (rows_after (built_leaf app.top).rules [] others)
 
--- the command line accepts the words: `check`, options and logs, which ask for these files
-pub record AskForCheck (words : List (List ℕ)) (check : CheckRequest) : Type 0 where
-  pub accepted : AreAcceptedWords words
-  pub others : List (List ℕ)
-  pub first : words ≡ codes "check" ∷ others
-  pub files : HasFiles (rows_after (built_leaf check_app.top).rules [] others) check
+-- `explain`, options and logs, or `explain` alone, which ask for this answer
+abbrev pub AskForEvidence : List (List ℕ) → ExplainRequest → Type 0
+AskForEvidence words explain = AskFor explain_app words (λ rows. HasAnswer rows explain.answer)
 
--- the command line accepts the words: `decide`, options and logs, which ask for these files
-pub record AskForDecide (words : List (List ℕ)) (decide : DecideRequest) : Type 0 where
-  pub accepted : AreAcceptedWords words
-  pub others : List (List ℕ)
-  pub first : words ≡ codes "decide" ∷ others
-  pub files : HasFilesToDecide (rows_after (built_leaf decide_app.top).rules [] others) decide
+-- `check`, options and logs, which ask for these files
+abbrev pub AskForCheck : List (List ℕ) → CheckRequest → Type 0
+AskForCheck words check = AskFor check_app words (λ rows. HasFiles rows check)
 
--- the command line accepts the words: `pairs` and a number of nodes
-pub record AskForPairs (words : List (List ℕ)) (nodes : ℕ) : Type 0 where
-  pub accepted : AreAcceptedWords words
-  pub others : List (List ℕ)
-  pub first : words ≡ codes "pairs" ∷ others
-  pub number : HasNumber (rows_after (built_leaf pairs_app.top).rules [] others) (codes "N") nodes
+-- `decide`, options and logs, which ask for these files
+abbrev pub AskForDecide : List (List ℕ) → DecideRequest → Type 0
+AskForDecide words decide = AskFor decide_app words (λ rows. HasFilesToDecide rows decide)
 
--- the command line accepts the words: `run` and options, which ask for this ring
-pub record AskForRun (words : List (List ℕ)) (ring : RunRequest) : Type 0 where
-  pub accepted : AreAcceptedWords words
-  pub others : List (List ℕ)
-  pub first : words ≡ codes "run" ∷ others
-  pub options : HasOptions (rows_after (built_leaf run_app.top).rules [] others) ring
+-- `pairs` and a number of nodes
+abbrev pub AskForPairs : List (List ℕ) → ℕ → Type 0
+AskForPairs words nodes = AskFor pairs_app words (λ rows. HasNumber rows (codes "N") nodes)
 
--- the command line accepts the words: `upgrade`, an option and logs, which ask for these files
-pub record AskForUpgrade (words : List (List ℕ)) (upgrade : RewriteRequest) : Type 0 where
-  pub accepted : AreAcceptedWords words
-  pub others : List (List ℕ)
-  pub first : words ≡ codes "upgrade" ∷ others
-  pub files : HasFilesToRewrite (rows_after (built_leaf upgrade_app.top).rules [] others) upgrade
+-- `run` and options, which ask for this ring
+abbrev pub AskForRun : List (List ℕ) → RunRequest → Type 0
+AskForRun words ring = AskFor run_app words (λ rows. HasOptions rows ring)
 
--- the command line accepts the words: `mend`, an option and logs, which ask for these files
-pub record AskForMend (words : List (List ℕ)) (mend : RewriteRequest) : Type 0 where
-  pub accepted : AreAcceptedWords words
-  pub others : List (List ℕ)
-  pub first : words ≡ codes "mend" ∷ others
-  pub files : HasFilesToRewrite (rows_after (built_leaf mend_app.top).rules [] others) mend
+-- `upgrade`, an option and logs, which ask for these files
+abbrev pub AskForUpgrade : List (List ℕ) → RewriteRequest → Type 0
+AskForUpgrade words upgrade = AskFor upgrade_app words (λ rows. HasFilesToRewrite rows upgrade)
 
--- the command line accepts the words: `version`
-pub record AskForVersion (words : List (List ℕ)) : Type 0 where
-  pub accepted : AreAcceptedWords words
-  pub others : List (List ℕ)
-  pub first : words ≡ codes "version" ∷ others
+-- `mend`, an option and logs, which ask for these files
+abbrev pub AskForMend : List (List ℕ) → RewriteRequest → Type 0
+AskForMend words mend = AskFor mend_app words (λ rows. HasFilesToRewrite rows mend)
+
+-- `version`
+abbrev pub AskForVersion : List (List ℕ) → Type 0
+AskForVersion words = AskFor version_app words (λ rows. Unit {0})
 
 -- these words make the request
 abbrev pub IsMadeOf : List (List ℕ) → Request → Type 0
@@ -126,9 +111,9 @@ IsMadeOf words (Mend mend) = AskForMend words mend
 IsMadeOf words Version = AskForVersion words
 
 -- such words may be refused so: for want of memory any, and else only those that the command line doesn't accept, or
--- that don't name logs in one way
+-- whose options and names don't go together
 abbrev pub MayBeRefused : List (List ℕ) → WordsFault → Type 0
-MayBeRefused words (Refused text) = AreAcceptedWords words → NameLogsOnce words → ⊥
+MayBeRefused words (Refused text) = AreAcceptedWords words → GoTogether words → ⊥
 MayBeRefused words OutOfMemory = Unit {0}
 
 -- What follows no public contract names: a parse that succeeds hands it on.

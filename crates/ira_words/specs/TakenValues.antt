@@ -3,6 +3,7 @@
 use Rattle.std.specs.Prelude.{◌≡◌, ◌≢◌, ◌||◌, List, [], ◌∷◌, Some, if◌then◌else◌, not, true}
 use Rattle.clap.specs.Facts.{explicit_source}
 use Rattle.clap.specs.Faults.{values_fault}
+use Rattle.clap.specs.Simple.{App, built_leaf}
 use Rattle.clap.specs.Walk.{Row, Rule, action_of, arg_by_id, has_row, is_empty, reading_by}
 use Rattle.clap.specs.declared.builder.action.ArgAction.TheVariants.{SetTrue}
 
@@ -24,3 +25,8 @@ AreTaken rules (row ∷ rows) = IsTaken rules row × AreTaken rules rows
 abbrev pub AreFound : List Rule → List Row → Type 0
 AreFound [] rows = Unit {0}
 AreFound (a ∷ rest) rows = ((a.required || not (is_empty a.defaults)) ≡ true → has_row a.id rows ≡ true) × AreFound rest rows
+
+-- what the arguments of this command have taken
+pub record AreFoundBehind (app : App) (rows : List Row) : Type 0 where
+  pub taken : AreTaken (built_leaf app.top).rules rows
+  pub found : AreFound (built_leaf app.top).rules rows

@@ -1,22 +1,26 @@
 ghost use Rattle.std.specs.Prelude.{◌≡◌, ℕ, List, [], Ok, IfErr, IfOk, IsOkAnd, codes, false, map};
-ghost use Rattle.clap.specs.Simple.{built_leaf};
 ghost use Rattle.clap.specs.Words.{AddsSubcommand, Rule, app_of, found_of, kind_of, rows_of, rule_of};
 ghost use Rattle.clap.specs.declared.error.kind.ErrorKind.TheVariants as kind;
-ghost use Rattle.ira_words.specs.CommandLine.{alone_rule, check_app, decide_app, depth_rule, dir_rule, draws_rule, explain_app, folder_rule, ira_app, ira_top, logs_app, logs_rule, number_rule, option_rule, pairs_app, rewrite_app, run_app, run_required_app, upgrade_app, version_app};
+ghost use Rattle.ira_words.specs.CommandLine.{alone_rule, check_app, decide_app, depth_rule, dir_rule, draws_rule, explain_app, folder_rule, ira_app, ira_top, logs_app, logs_rule, number_rule, option_rule, pairs_app, rewrite_app, run_app, run_required_app, version_app};
 ghost use Rattle.ira_words.specs.CheckRequest.{HasFiles};
 ghost use Rattle.ira_words.specs.DecideRequest.{HasFilesToDecide};
+ghost use Rattle.ira_words.specs.ExplainedAnswer.{HasAnswer, NamesAnswer};
 ghost use Rattle.ira_words.specs.LogSource.{HasLogs, MayHaveLogs, MayNameLogs, NamesLogs};
-ghost use Rattle.ira_words.specs.Request.{AreMatchesOf, AreAcceptedWords, IsMadeOf, MayBeRefused, NameLogsOnce};
+ghost use Rattle.ira_words.specs.Request.{AreMatchesOf, AreAcceptedWords, IsMadeOf, MayBeRefused, GoTogether};
 ghost use Rattle.ira_words.specs.RewriteRequest.{HasFilesToRewrite};
 ghost use Rattle.ira_words.specs.RunRequest.{HasNumber, HasOptions};
-ghost use Rattle.ira_words.specs.TakenValues.{AreFound, AreTaken};
+ghost use Rattle.ira_words.specs.TakenValues.{AreFoundBehind, AreTaken};
+ghost use Rattle.ira_words.specs.declared.options_fault.OptionsFault.TheVariants as options;
 ghost use Rattle.ira_words.specs.declared.request.Request.TheVariants as request;
 ghost use Rattle.ira_words.specs.declared.words_fault.WordsFault.TheVariants as fault;
 
+use crate::asked_question::AskedQuestion;
 use crate::check_request::CheckRequest;
 use crate::decide_request::DecideRequest;
 use crate::explain_request::ExplainRequest;
+use crate::explained_answer::ExplainedAnswer;
 use crate::log_source::LogSource;
+use crate::options_fault::OptionsFault;
 use crate::request::Request;
 use crate::rewrite_request::RewriteRequest;
 use crate::run_request::RunRequest;
@@ -28,6 +32,7 @@ use std::alloc::{AllocError, Global};
 
 const USAGE: &str = "ira < LOG\n       ira logs <LOGS>\n       \
     ira explain [<LOGS>]\n       \
+    ira explain --question <Q> [--case <K> | --cert <C>] <LOGS>\n       \
     ira check --question <Q> --cert <C> [--depth <D>] <LOGS>\n       \
     ira decide --question <Q> [--out <C>] <LOGS>\n       \
     ira pairs <N>\n       \
@@ -42,8 +47,6 @@ const NOTE: &str =
     `no` and\nthe first reason. The status is 0 for yes, absent cases, an elected leader, upgraded \
     or mended\nlogs, 1 for no, a case that is present or no leader, 2 for refused words, a refused \
     ring, a\nfailed read or a failed write, 3 out of memory.";
-
-const ONE_SOURCE: &str = "the logs are named either by <LOG>... or by --dir <DIR>";
 
 const UPGRADE: &str = "Writes the logs of all nodes of a ring in version 2, each to a file";
 
@@ -116,33 +119,33 @@ fn log_folder<'a>(alloc: Global) -> Arg<'a>
 fn found_logs<'a>(
     alloc: Global,
     matches: &ArgMatches<'a>,
-) -> Result<Option<LogSource<'a>>, ErrorKind>
+) -> Result<Option<LogSource<'a>>, OptionsFault>
     requires { (rules : List Rule) × AreTaken rules (rows_of (found_of matches.now)) }
     ensures found { IfOk result (MayHaveLogs (rows_of (found_of matches.now))) }
     ensures refused { IfErr result
-        (λ why. MayNameLogs (rows_of (found_of matches.now)) → why ≡ kind.OutOfMemory) }
+        (λ why. MayNameLogs (rows_of (found_of matches.now)) → why ≡ options.OutOfMemory) }
 {
     match (matches.get_str("dir"), matches.get_strs("LOG")) {
         (None, None) => Ok(None),
         (Some(folder), None) => Ok(Some(LogSource::Folder(folder))),
         (None, Some(names)) => match names.to_vec(alloc) {
             Ok(names) => Ok(Some(LogSource::Files(names))),
-            Err(AllocError) => Err(ErrorKind::OutOfMemory),
+            Err(AllocError) => Err(OptionsFault::OutOfMemory),
         },
-        (Some(_), Some(_)) => Err(ErrorKind::ArgumentConflict),
+        (Some(_), Some(_)) => Err(OptionsFault::Sources),
     }
 }
 
 /// Where the logs come from, which are named.
-fn log_source<'a>(alloc: Global, matches: &ArgMatches<'a>) -> Result<LogSource<'a>, ErrorKind>
+fn log_source<'a>(alloc: Global, matches: &ArgMatches<'a>) -> Result<LogSource<'a>, OptionsFault>
     requires { (rules : List Rule) × AreTaken rules (rows_of (found_of matches.now)) }
     ensures found { IfOk result (HasLogs (rows_of (found_of matches.now))) }
     ensures refused { IfErr result
-        (λ why. NamesLogs (rows_of (found_of matches.now)) → why ≡ kind.OutOfMemory) }
+        (λ why. NamesLogs (rows_of (found_of matches.now)) → why ≡ options.OutOfMemory) }
 {
     match found_logs(alloc, matches)? {
         Some(source) => Ok(source),
-        None => Err(ErrorKind::MissingRequiredArgument),
+        None => Err(OptionsFault::Sources),
     }
 }
 
@@ -158,10 +161,49 @@ fn logs_command<'a>(alloc: Global) -> Result<Command<'a>, AllocError>
 fn explain_command<'a>(alloc: Global) -> Result<Command<'a>, AllocError>
     ensures { IfOk result (λ c. app_of c ≡ explain_app) }
 {
+    let question = "The file with a question: what `decide` finds is explained";
+    let case = "The case of the question to explain, from 0; all if not given";
+    let certificate = "The file with a certificate: the answer of `check` is explained";
     Command::new(alloc, "explain")
         .about("Judges logs, or one log on standard input, and says why the answer is so")
+        .arg(option(alloc, "question", "Q", question))?
+        .arg(number(alloc, "case", "K", case))?
+        .arg(option(alloc, "cert", "C", certificate))?
         .arg(log_folder(alloc))?
         .arg(log_files(alloc))
+}
+
+/// The answer to explain.
+fn explained_answer<'a>(
+    alloc: Global,
+    matches: &ArgMatches<'a>,
+) -> Result<ExplainedAnswer<'a>, OptionsFault>
+    requires { AreFoundBehind explain_app (rows_of (found_of matches.now)) }
+    ensures asked { IfOk result (HasAnswer (rows_of (found_of matches.now))) }
+    ensures refused { IfErr result
+        (λ why. NamesAnswer (rows_of (found_of matches.now)) → why ≡ options.OutOfMemory) }
+{
+    let question = matches.get_str("question");
+    let case = matches.get_one("case");
+    let certificate = matches.get_str("cert");
+    match (question, case, certificate) {
+        (None, None, None) => match found_logs(alloc, matches)? {
+            None => Ok(ExplainedAnswer::OneLog),
+            Some(logs) => Ok(ExplainedAnswer::Logs(logs)),
+        },
+        (None, Some(_), _) => Err(OptionsFault::NoQuestion),
+        (None, None, Some(_)) => Err(OptionsFault::NoQuestion),
+        (Some(question), case, None) => Ok(ExplainedAnswer::Findings {
+            asked: AskedQuestion { question, case },
+            logs: log_source(alloc, matches)?,
+        }),
+        (Some(question), None, Some(certificate)) => Ok(ExplainedAnswer::Certificate {
+            question,
+            certificate,
+            logs: log_source(alloc, matches)?,
+        }),
+        (Some(_), Some(_), Some(_)) => Err(OptionsFault::CaseAndCertificate),
+    }
 }
 
 fn check_command<'a>(alloc: Global) -> Result<Command<'a>, AllocError>
@@ -191,18 +233,22 @@ fn depth<'a>(alloc: Global) -> Arg<'a>
 }
 
 /// The files to judge.
-fn check_request<'a>(matches: &ArgMatches<'a>, logs: LogSource<'a>) -> CheckRequest<'a>
-    requires taken { AreTaken (built_leaf check_app.top).rules (rows_of (found_of matches.now)) }
-    requires found { AreFound (built_leaf check_app.top).rules (rows_of (found_of matches.now)) }
-    requires logs { HasLogs (rows_of (found_of matches.now)) logs }
-    ensures { HasFiles (rows_of (found_of matches.now)) result }
+fn check_request<'a>(
+    alloc: Global,
+    matches: &ArgMatches<'a>,
+) -> Result<CheckRequest<'a>, OptionsFault>
+    requires { AreFoundBehind check_app (rows_of (found_of matches.now)) }
+    ensures asked { IfOk result (HasFiles (rows_of (found_of matches.now))) }
+    ensures refused { IfErr result
+        (λ why. NamesLogs (rows_of (found_of matches.now)) → why ≡ options.OutOfMemory) }
 {
-    CheckRequest {
+    let logs = log_source(alloc, matches)?;
+    Ok(CheckRequest {
         question: matches.get_str("question").unwrap(),
         certificate: matches.get_str("cert").unwrap(),
         depth: matches.get_one("depth").unwrap(),
         logs,
-    }
+    })
 }
 
 fn decide_command<'a>(alloc: Global) -> Result<Command<'a>, AllocError>
@@ -218,17 +264,21 @@ fn decide_command<'a>(alloc: Global) -> Result<Command<'a>, AllocError>
 }
 
 /// The files to decide of.
-fn decide_request<'a>(matches: &ArgMatches<'a>, logs: LogSource<'a>) -> DecideRequest<'a>
-    requires taken { AreTaken (built_leaf decide_app.top).rules (rows_of (found_of matches.now)) }
-    requires found { AreFound (built_leaf decide_app.top).rules (rows_of (found_of matches.now)) }
-    requires logs { HasLogs (rows_of (found_of matches.now)) logs }
-    ensures { HasFilesToDecide (rows_of (found_of matches.now)) result }
+fn decide_request<'a>(
+    alloc: Global,
+    matches: &ArgMatches<'a>,
+) -> Result<DecideRequest<'a>, OptionsFault>
+    requires { AreFoundBehind decide_app (rows_of (found_of matches.now)) }
+    ensures asked { IfOk result (HasFilesToDecide (rows_of (found_of matches.now))) }
+    ensures refused { IfErr result
+        (λ why. NamesLogs (rows_of (found_of matches.now)) → why ≡ options.OutOfMemory) }
 {
-    DecideRequest {
+    let logs = log_source(alloc, matches)?;
+    Ok(DecideRequest {
         question: matches.get_str("question").unwrap(),
         certificate: matches.get_str("out"),
         logs,
-    }
+    })
 }
 
 fn pairs_command<'a>(alloc: Global) -> Result<Command<'a>, AllocError>
@@ -245,8 +295,7 @@ fn pairs_command<'a>(alloc: Global) -> Result<Command<'a>, AllocError>
 
 /// The number of nodes.
 fn pairs_nodes<'a>(matches: &ArgMatches<'a>) -> u64
-    requires taken { AreTaken (built_leaf pairs_app.top).rules (rows_of (found_of matches.now)) }
-    requires found { AreFound (built_leaf pairs_app.top).rules (rows_of (found_of matches.now)) }
+    requires { AreFoundBehind pairs_app (rows_of (found_of matches.now)) }
     ensures { HasNumber (rows_of (found_of matches.now)) (codes "N") result }
 {
     matches.get_one("N").unwrap()
@@ -338,8 +387,7 @@ fn alone<'a>(alloc: Global) -> Arg<'a>
 
 /// The ring to run.
 fn run_request<'a>(matches: &ArgMatches<'a>) -> RunRequest<'a>
-    requires taken { AreTaken (built_leaf run_app.top).rules (rows_of (found_of matches.now)) }
-    requires found { AreFound (built_leaf run_app.top).rules (rows_of (found_of matches.now)) }
+    requires { AreFoundBehind run_app (rows_of (found_of matches.now)) }
     ensures { HasOptions (rows_of (found_of matches.now)) result }
 {
     RunRequest {
@@ -376,48 +424,40 @@ fn version_command<'a>(alloc: Global) -> Result<Command<'a>, AllocError>
 }
 
 /// The files to write anew.
-fn rewrite_request<'a>(matches: &ArgMatches<'a>, logs: LogSource<'a>) -> RewriteRequest<'a>
-    requires taken { AreTaken (built_leaf upgrade_app.top).rules (rows_of (found_of matches.now)) }
-    requires found { AreFound (built_leaf upgrade_app.top).rules (rows_of (found_of matches.now)) }
-    requires logs { HasLogs (rows_of (found_of matches.now)) logs }
-    ensures { HasFilesToRewrite (rows_of (found_of matches.now)) result }
+fn rewrite_request<'a>(
+    alloc: Global,
+    matches: &ArgMatches<'a>,
+) -> Result<RewriteRequest<'a>, OptionsFault>
+    requires { (name : List ℕ) × AreFoundBehind (rewrite_app name) (rows_of (found_of matches.now)) }
+    ensures asked { IfOk result (HasFilesToRewrite (rows_of (found_of matches.now))) }
+    ensures refused { IfErr result
+        (λ why. NamesLogs (rows_of (found_of matches.now)) → why ≡ options.OutOfMemory) }
 {
-    RewriteRequest {
+    let logs = log_source(alloc, matches)?;
+    Ok(RewriteRequest {
         folder: matches.get_str("out").unwrap(),
         logs,
-    }
+    })
 }
 
 // What words ask for, by what was found of them.
-fn found_request<'a>(alloc: Global, matches: &ArgMatches<'a>) -> Result<Request<'a>, ErrorKind>
+fn found_request<'a>(alloc: Global, matches: &ArgMatches<'a>) -> Result<Request<'a>, OptionsFault>
     requires { (words : List (List ℕ)) × AreMatchesOf words matches.now }
     ensures made { IfOk result (λ r. (words : List (List ℕ)) → AreMatchesOf words matches.now → IsMadeOf words r) }
     ensures refused { IfErr result (λ why. (words : List (List ℕ)) → AreMatchesOf words matches.now
-        → NameLogsOnce words → why ≡ kind.OutOfMemory) }
+        → GoTogether words → why ≡ options.OutOfMemory) }
 {
     match matches.subcommand() {
         Some(("logs", found)) => Ok(Request::Logs(log_source(alloc, found)?)),
         Some(("explain", found)) => Ok(Request::Explain(ExplainRequest {
-            logs: found_logs(alloc, found)?,
+            answer: explained_answer(alloc, found)?,
         })),
-        Some(("check", found)) => {
-            let logs = log_source(alloc, found)?;
-            Ok(Request::Check(check_request(found, logs)))
-        }
-        Some(("decide", found)) => {
-            let logs = log_source(alloc, found)?;
-            Ok(Request::Decide(decide_request(found, logs)))
-        }
+        Some(("check", found)) => Ok(Request::Check(check_request(alloc, found)?)),
+        Some(("decide", found)) => Ok(Request::Decide(decide_request(alloc, found)?)),
         Some(("pairs", found)) => Ok(Request::Pairs(pairs_nodes(found))),
         Some(("run", found)) => Ok(Request::Run(run_request(found))),
-        Some(("upgrade", found)) => {
-            let logs = log_source(alloc, found)?;
-            Ok(Request::Upgrade(rewrite_request(found, logs)))
-        }
-        Some(("mend", found)) => {
-            let logs = log_source(alloc, found)?;
-            Ok(Request::Mend(rewrite_request(found, logs)))
-        }
+        Some(("upgrade", found)) => Ok(Request::Upgrade(rewrite_request(alloc, found)?)),
+        Some(("mend", found)) => Ok(Request::Mend(rewrite_request(alloc, found)?)),
         Some(("version", _)) => Ok(Request::Version),
         _ => unreachable!(),
     }
@@ -427,12 +467,12 @@ fn found_request<'a>(alloc: Global, matches: &ArgMatches<'a>) -> Result<Request<
 fn request_of_words<'a>(alloc: Global, words: &'a [&'a str]) -> Result<Request<'a>, Error>
     ensures made { IfOk result (IsMadeOf (map (λ word. word.now) words.now)) }
     ensures refused { IfErr result (λ e. AreAcceptedWords (map (λ word. word.now) words.now)
-        → NameLogsOnce (map (λ word. word.now) words.now) → kind_of e ≡ kind.OutOfMemory) }
+        → GoTogether (map (λ word. word.now) words.now) → kind_of e ≡ kind.OutOfMemory) }
 {
     let matches = command(alloc)?.try_get_matches_from(words)?;
     match found_request(alloc, &matches) {
         Ok(request) => Ok(request),
-        Err(why) => Err(command(alloc)?.error(why, ONE_SOURCE)?),
+        Err(why) => Err(command(alloc)?.error(why.kind(), why.text())?),
     }
 }
 
@@ -449,7 +489,7 @@ fn refusal(alloc: Global, refused: &Error) -> WordsFault
     }
 }
 
-/// What the words behind the program's name ask for. Asking for help is refused as well.
+/// What the words after the program's name ask for. Asking for help is refused as well.
 pub fn read_words<'a>(alloc: Global, words: &'a [&'a str]) -> Result<Request<'a>, WordsFault>
     ensures none { words.now ≡ [] → result ≡ Ok request.OneLog }
     ensures made { IfOk result (IsMadeOf (map (λ word. word.now) words.now)) }

@@ -1,8 +1,7 @@
-use crate::log_source::LogSource;
+use crate::explained_answer::ExplainedAnswer;
 
-/// Logs to judge with the evidence for the answer, as the words name them.
+/// An answer to give with the evidence for it, as the words name it.
 #[derive(Drop)]
 pub struct ExplainRequest<'a> {
-    /// Where the logs come from; one log from standard input if this is left out.
-    pub logs: Option<LogSource<'a>>,
+    pub answer: ExplainedAnswer<'a>,
 }

@@ -5,7 +5,7 @@ use crate::log_source::LogSource;
 use crate::rewrite_request::RewriteRequest;
 use crate::run_request::RunRequest;
 
-/// What the words behind the program's name ask for.
+/// What the words after the program's name ask for.
 #[derive(Drop)]
 pub enum Request<'a> {
     /// To judge the log on standard input.

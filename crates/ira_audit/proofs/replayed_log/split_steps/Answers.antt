@@ -1,6 +1,7 @@
 use Rattle.std.proofs.Common.{◌≡◌, [], ◌∷◌, ◌++◌, ap, arith, length, append_assoc, append-nil, sym, ◌∙◌}
 use Rattle.std.specs.Vec.Iter.{into_iter_items}
-use Rattle.ira_audit.proofs.ReplayedLogs.{more_runs, more_stopped, none_left}
+use Rattle.std.proofs.lemmas.List.{nil_from_length}
+use Rattle.ira_audit.proofs.ReplayedLogs.{more_runs, more_stopped}
 use Rattle.ira_audit.proofs.replayed_log.split_steps.Goals as goal
 
 pub loop-read-preserved-then-is_ok : goal.loop-read-preserved-then-is_ok
@@ -37,5 +38,5 @@ pub returns : goal.returns
 returns g c =
     let logs = c.loop-read.logs.items in
     let done = c.in-None.ensures.steps.0 in
-    let none : into_iter_items c.loop-read.read-iterator ≡ [] = none_left _ (omega arith) in
+    let none : into_iter_items c.loop-read.read-iterator ≡ [] = nil_from_length _ (omega arith) in
     (sym (append-nil logs) ∙ ap (λ x. logs ++ x) (sym none) ∙ c.loop-read.invariant.parts, c.loop-read.invariant.steps)

@@ -11,8 +11,12 @@ returns-clause-kinds g c =
           let old = c.args.kinds.now.items in
           let new = w.find_kind.new.kinds.items in
           let more = one_run_more old new runs c.args.run.now w.find_kind.ensures.kept c.requires.0 c.requires.1 in
-          let pushed : w.push.new.self.items ≡ runs ++ c.args.run.now ∷ [] = w.in_ok-push.ensures.items ∙ ap (λ r. runs ++ r ∷ []) w.replace.ensures.value in
-          rw (w.runs-is, w.run-is, w.kinds-is, pushed, w.replace.ensures.after) (more, w.in_ok-find_kind.ensures.found ∙ ap Some w.in_first_round.ensures)
+          let pushed : w.push.new.self.items ≡ runs ++ c.args.run.now ∷ [] =
+          w.in_ok-push.ensures.items ∙ ap (λ r. runs ++ r ∷ []) w.replace.ensures.value in
+          rw (w.runs-is, w.run-is, w.kinds-is, pushed, w.replace.ensures.after) (
+            more,
+            w.in_ok-find_kind.ensures.found ∙ ap Some w.in_first_round.ensures,
+          )
           )
       | else-ne w ↦ rw (w.runs-is, w.run-is, w.kinds-is) c.requires
     ]

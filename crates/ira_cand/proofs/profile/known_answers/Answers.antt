@@ -9,5 +9,6 @@ pub returns : goal.returns
 returns g c =
     let f = formula c.args.clause.now in
     let kinds = c.args.kinds.now in
-    let all = c.loop-kind.invariant ∙ ap (map (answers_in f)) (take_all c.loop-kind.kind-index kinds c.loop-kind-test.false) in
+    let all = c.loop-kind.invariant
+    ∙ ap (map (answers_in f)) (take_all c.loop-kind.kind-index kinds c.loop-kind-test.false) in
     known_read f kinds c.loop-kind.known.items (sym c.if-names_round_or_term.ensures) all

@@ -9,28 +9,45 @@ use Rattle.ira_cert.proofs.fronts.check_fronts.Goals as goal
 pub returns-in-Err : goal.returns-in-Err
 returns-in-Err g c = λ case differ fronts.
     let logs = (g.C.HappenedBefore.logs_of c.args.ordered.now) in
-    let steps : c.deref.result.now ≡ c.args.section.now.steps = c.deref.ensures.value ∙ ap (λ (s : Section). s.steps) c.section.view_is in
-    let given = subst (λ (fs : List (Option (List ℕ))). AreFronts logs case fs) (sym c.deref_mut.ensures.value) fronts in
-    first_is_fault logs case c.args.section.now c.deref.result.now steps c.in-Err.fault (c.in-Err.ensures.err case differ given)
+    let steps : c.deref.result.now ≡ c.args.section.now.steps =
+    c.deref.ensures.value ∙ ap (λ (s : Section). s.steps) c.section.view_is in
+    let given = subst (λ (fs : List (Option (List ℕ))). AreFronts logs case fs) (sym c.deref_mut.ensures.value) fronts
+    in
+    first_is_fault logs case c.args.section.now c.deref.result.now steps c.in-Err.fault
+    (c.in-Err.ensures.err case differ given)
 
 pub returns-then-not-is_spent : goal.returns-then-not-is_spent
 returns-then-not-is_spent g c = λ case differ fronts.
     let logs = (g.C.HappenedBefore.logs_of c.args.ordered.now) in
-    let steps : c.deref.result.now ≡ c.args.section.now.steps = c.deref.ensures.value ∙ ap (λ (s : Section). s.steps) c.section.view_is in
-    let given = subst (λ (fs : List (Option (List ℕ))). AreFronts logs case fs) (sym c.deref_mut.ensures.value) fronts in
+    let steps : c.deref.result.now ≡ c.args.section.now.steps =
+    c.deref.ensures.value ∙ ap (λ (s : Section). s.steps) c.section.view_is in
+    let given = subst (λ (fs : List (Option (List ℕ))). AreFronts logs case fs) (sym c.deref_mut.ensures.value) fronts
+    in
     let whole : c.deref-2.result.now ≡ c.make_steps.new.fronts =
-    c.deref-2.ensures.value ∙ take_at c.make_steps.new.fronts (drop (length c.make_steps.new.fronts) c.args.fronts.items) c.args.fronts.len (c.make_steps.auto.fronts ∙ c.deref_mut.ensures.len) in
-    let left = subst (λ (fs : List (Option (List ℕ))). AreFrontsBehind logs case c.deref.result.now fs) (sym whole) (c.in_default.ensures.ok case differ given).1 in
-    left_is_fault logs case c.args.section.now c.deref.result.now steps differ c.deref-2.result.now ((c.in_default.ensures.ok case differ given).0, left)
-    c.section.inside.spent (ap (λ (s : Section). s.spent) c.section.view_is) (λ empty. (let t = c.is_spent.ensures.1 empty in cc))
+    c.deref-2.ensures.value ∙ take_at c.make_steps.new.fronts
+    (drop (length c.make_steps.new.fronts) c.args.fronts.items) c.args.fronts.len (c.make_steps.auto.fronts
+    ∙ c.deref_mut.ensures.len) in
+    let left = subst (λ (fs : List (Option (List ℕ))). AreFrontsBehind logs case c.deref.result.now fs) (sym whole)
+    (c.in_default.ensures.ok case differ given).1 in
+    left_is_fault logs case c.args.section.now c.deref.result.now steps differ c.deref-2.result.now
+    ((c.in_default.ensures.ok case differ given).0, left)
+    c.section.inside.spent (ap (λ (s : Section). s.spent) c.section.view_is) (λ empty.
+    (let t = c.is_spent.ensures.1 empty in cc))
 
 pub returns : goal.returns
 returns g c = λ case differ fronts.
     let logs = (g.C.HappenedBefore.logs_of c.args.ordered.now) in
-    let steps : c.deref.result.now ≡ c.args.section.now.steps = c.deref.ensures.value ∙ ap (λ (s : Section). s.steps) c.section.view_is in
-    let given = subst (λ (fs : List (Option (List ℕ))). AreFronts logs case fs) (sym c.deref_mut.ensures.value) fronts in
+    let steps : c.deref.result.now ≡ c.args.section.now.steps =
+    c.deref.ensures.value ∙ ap (λ (s : Section). s.steps) c.section.view_is in
+    let given = subst (λ (fs : List (Option (List ℕ))). AreFronts logs case fs) (sym c.deref_mut.ensures.value) fronts
+    in
     let whole : c.deref-2.result.now ≡ c.make_steps.new.fronts =
-    c.deref-2.ensures.value ∙ take_at c.make_steps.new.fronts (drop (length c.make_steps.new.fronts) c.args.fronts.items) c.args.fronts.len (c.make_steps.auto.fronts ∙ c.deref_mut.ensures.len) in
-    let left = subst (λ (fs : List (Option (List ℕ))). AreFrontsBehind logs case c.deref.result.now fs) (sym whole) (c.in_default.ensures.ok case differ given).1 in
-    empty_is_sound logs case c.args.section.now c.deref.result.now steps differ c.deref-2.result.now ((c.in_default.ensures.ok case differ given).0, left)
-    c.section.inside.spent (ap (λ (s : Section). s.spent) c.section.view_is) (c.is_spent.ensures.0 c.if-not-is_spent.false)
+    c.deref-2.ensures.value ∙ take_at c.make_steps.new.fronts
+    (drop (length c.make_steps.new.fronts) c.args.fronts.items) c.args.fronts.len (c.make_steps.auto.fronts
+    ∙ c.deref_mut.ensures.len) in
+    let left = subst (λ (fs : List (Option (List ℕ))). AreFrontsBehind logs case c.deref.result.now fs) (sym whole)
+    (c.in_default.ensures.ok case differ given).1 in
+    empty_is_sound logs case c.args.section.now c.deref.result.now steps differ c.deref-2.result.now
+    ((c.in_default.ensures.ok case differ given).0, left)
+    c.section.inside.spent (ap (λ (s : Section). s.spent) c.section.view_is)
+    (c.is_spent.ensures.0 c.if-not-is_spent.false)

@@ -4,18 +4,24 @@ use Rattle.ira_cert.proofs.Behind.{not_asked_at, spent_at, front_at}
 use Rattle.ira_cert.proofs.fronts.left_at.Goals as goal
 
 pub returns-in_default-clause-left : goal.returns-in_default-clause-left
-returns-in_default-clause-left g c = λ logs case before behind. not_asked_at logs case before c.args.fronts.now behind c.args.place (λ xs at. c.in_default.ensures (xs, at))
+returns-in_default-clause-left g c =
+    λ logs case before behind.
+    not_asked_at logs case before c.args.fronts.now behind c.args.place (λ xs at. c.in_default.ensures (xs, at))
 
 pub returns-in-Some-front-clause-place : goal.returns-in-Some-front-clause-place
-returns-in-Some-front-clause-place g c = λ _. slice_get_within c.args.fronts.now c.args.place (Some c.in-Some.left.now) c.in-Some.ensures
+returns-in-Some-front-clause-place g c =
+    λ _. slice_get_within c.args.fronts.now c.args.place (Some c.in-Some.left.now) c.in-Some.ensures
 
 pub returns-in-Some-front-clause-left : goal.returns-in-Some-front-clause-left
 returns-in-Some-front-clause-left g c = λ logs case before behind.
-    front_at logs case before c.args.fronts.now behind c.args.place c.in-Some-front.position c.in-Some.left.now c.in-Some.ensures (sym c.front.ensures.value ∙ c.in-Some-front.is)
+    front_at logs case before c.args.fronts.now behind c.args.place c.in-Some-front.position c.in-Some.left.now
+    c.in-Some.ensures (sym c.front.ensures.value ∙ c.in-Some-front.is)
 
 pub returns-in-None-clause-place : goal.returns-in-None-clause-place
-returns-in-None-clause-place g c = λ _. slice_get_within c.args.fronts.now c.args.place (Some c.in-Some.left.now) c.in-Some.ensures
+returns-in-None-clause-place g c =
+    λ _. slice_get_within c.args.fronts.now c.args.place (Some c.in-Some.left.now) c.in-Some.ensures
 
 pub returns-in-None-clause-left : goal.returns-in-None-clause-left
 returns-in-None-clause-left g c = λ logs case before behind.
-    spent_at logs case before c.args.fronts.now behind c.args.place c.in-Some.left.now c.in-Some.ensures (sym c.front.ensures.value ∙ c.in-None.is)
+    spent_at logs case before c.args.fronts.now behind c.args.place c.in-Some.left.now c.in-Some.ensures
+    (sym c.front.ensures.value ∙ c.in-None.is)

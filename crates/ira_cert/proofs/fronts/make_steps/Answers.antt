@@ -13,7 +13,8 @@ none : CertStep
 none = record { node = 0; pos = 0; other = 0; other_pos = 0 }
 
 pub loop-k-init : goal.loop-k-init
-loop-k-init g c = λ case differ fronts. (λ k s at. cc, all_left (g.C.HappenedBefore.logs_of c.args.ordered.now) case c.args.fronts.now fronts)
+loop-k-init g c = λ case differ fronts.
+    (λ k s at. cc, all_left (g.C.HappenedBefore.logs_of c.args.ordered.now) case c.args.fronts.now fronts)
 
 pub returns-in-Err-clause-err : goal.returns-in-Err-clause-err
 unfolding none
@@ -39,11 +40,13 @@ loop-k-preserved g c = λ case differ fronts.
     let at = slice_get-get_or steps k none c.loop-k-test.true in
     let sound = c.in_default.ensures.verdict case (take k steps) differ so_far.1 in (
       sound_more logs case steps k (get_or steps k none) at so_far.0 sound,
-      left_on logs case differ steps k (get_or steps k none) at sound c.loop-k.fronts so_far.1 c.eliminate.new.fronts c.eliminate.ensures,
+      left_on logs case differ steps k (get_or steps k none) at sound c.loop-k.fronts so_far.1 c.eliminate.new.fronts
+          c.eliminate.ensures,
     )
 
 pub returns-clause-ok : goal.returns-clause-ok
 returns-clause-ok g c = λ case differ fronts.
     let logs = (g.C.HappenedBefore.logs_of c.args.ordered.now) in let steps = c.args.steps.now in
     let whole : take c.loop-k.k steps ≡ steps = take_all c.loop-k.k steps (omega arith) in
-    subst (λ (xs : List CertStep). AreSoundSteps logs case xs × AreFrontsBehind logs case xs c.loop-k.fronts) whole (c.loop-k.invariant case differ fronts)
+    subst (λ (xs : List CertStep). AreSoundSteps logs case xs
+    × AreFrontsBehind logs case xs c.loop-k.fronts) whole (c.loop-k.invariant case differ fronts)

@@ -18,15 +18,19 @@ pub returns-in_err-write_bytes : goal.returns-in_err-write_bytes
 returns-in_err-write_bytes g c =
     let stop = err_from_is_err_and c.from_residual.result c.from_residual.ensures.1 in
     let s = c.args.section.now in
-    HasWritten-stops _ _ stop.1 (section_text s) (section_text s) (codes "section\n") (body_text s) _ _ _ (HasWritten-start (section_text s) _) refl c.in_err-write_bytes.ensures
+    HasWritten-stops _ _ stop.1 (section_text s) (section_text s) (codes "section\n") (body_text s) _ _ _
+    (HasWritten-start (section_text s) _) refl c.in_err-write_bytes.ensures
 
 pub returns-in_err-write_steps : goal.returns-in_err-write_steps
 returns-in_err-write_steps g c =
-    let stop = err_from_is_err_and c.from_residual-in_err-write_steps.result c.from_residual-in_err-write_steps.ensures.1 in
+    let stop = err_from_is_err_and c.from_residual-in_err-write_steps.result
+    c.from_residual-in_err-write_steps.ensures.1 in
     let s = c.args.section.now in
     let steps = c.deref.ensures.value ∙ ap (λ (x : Section). x.steps) c.section.view_is in
-    HasWritten-stops _ _ stop.1 (section_text s) (body_text s) (flat_map step_text c.deref.result.now) (spent_text s.spent) _ _ _
-    (HasWritten-more (section_text s) (section_text s) (codes "section\n") (body_text s) _ _ _ (HasWritten-start (section_text s) _) refl c.in_ok-write_bytes.ensures)
+    HasWritten-stops _ _ stop.1 (section_text s) (body_text s) (flat_map step_text c.deref.result.now)
+    (spent_text s.spent) _ _ _
+    (HasWritten-more (section_text s) (section_text s) (codes "section\n") (body_text s) _ _ _
+    (HasWritten-start (section_text s) _) refl c.in_ok-write_bytes.ensures)
     (ap (λ x. flat_map step_text x ++ spent_text s.spent) steps) c.in_err-write_steps.ensures
 
 pub returns : goal.returns
@@ -36,5 +40,6 @@ returns g c =
     let spent = c.spent_line.ensures ∙ ap (λ (x : Section). spent_text x.spent) c.section.view_is in
     HasWritten-last _ (section_text s) (spent_text s.spent) c.spent_line.result _ _ _
     (HasWritten-more (section_text s) (body_text s) (flat_map step_text c.deref.result.now) (spent_text s.spent) _ _ _
-    (HasWritten-more (section_text s) (section_text s) (codes "section\n") (body_text s) _ _ _ (HasWritten-start (section_text s) _) refl c.in_ok-write_bytes.ensures)
+    (HasWritten-more (section_text s) (section_text s) (codes "section\n") (body_text s) _ _ _
+    (HasWritten-start (section_text s) _) refl c.in_ok-write_bytes.ensures)
     (ap (λ x. flat_map step_text x ++ spent_text s.spent) steps) c.in_ok-write_steps.ensures) spent c.write.ensures

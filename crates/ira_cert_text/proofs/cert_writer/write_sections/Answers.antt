@@ -11,7 +11,9 @@ loop-section-preserved g c =
     let xs = c.args.sections.now in
     let i = c.loop-section.section-index in
     let x = c.section-item.result in
-    HasWritten-more (flat_map section_text xs) (flat_map section_text (drop i xs)) (section_text x) (flat_map section_text (drop (i + 1) xs)) _ _ _ c.loop-section.invariant (next_text section_text xs i x x (omega arith) c.section-item.is) c.in_ok-write_section.ensures
+    HasWritten-more (flat_map section_text xs) (flat_map section_text (drop i xs)) (section_text x)
+    (flat_map section_text (drop (i + 1) xs)) _ _ _ c.loop-section.invariant
+    (next_text section_text xs i x x (omega arith) c.section-item.is) c.in_ok-write_section.ensures
 
 pub returns-in_err-write_section : goal.returns-in_err-write_section
 returns-in_err-write_section g c =
@@ -19,4 +21,6 @@ returns-in_err-write_section g c =
     let xs = c.args.sections.now in
     let i = c.loop-section.section-index in
     let x = c.section-item.result in
-    HasWritten-stops _ _ stop.1 (flat_map section_text xs) (flat_map section_text (drop i xs)) (section_text x) (flat_map section_text (drop (i + 1) xs)) _ _ _ c.loop-section.invariant (next_text section_text xs i x x (omega arith) c.section-item.is) c.in_err-write_section.ensures
+    HasWritten-stops _ _ stop.1 (flat_map section_text xs) (flat_map section_text (drop i xs)) (section_text x)
+    (flat_map section_text (drop (i + 1) xs)) _ _ _ c.loop-section.invariant
+    (next_text section_text xs i x x (omega arith) c.section-item.is) c.in_err-write_section.ensures

@@ -12,7 +12,8 @@ loop-step-preserved g c =
     let i = c.loop-step.step-index in
     let rest = flat_map step_text (drop (i + 1) xs) in
     let next = ap (λ line. line ++ rest) c.step_line.ensures ∙ next_text step_text xs i _ _ (omega arith) refl in
-    HasWritten-more (flat_map step_text xs) (flat_map step_text (drop i xs)) c.step_line.result rest _ _ _ c.loop-step.invariant next c.in_ok-write.ensures
+    HasWritten-more (flat_map step_text xs) (flat_map step_text (drop i xs)) c.step_line.result rest _ _ _
+    c.loop-step.invariant next c.in_ok-write.ensures
 
 pub returns-in_err-write : goal.returns-in_err-write
 returns-in_err-write g c =
@@ -21,4 +22,5 @@ returns-in_err-write g c =
     let i = c.loop-step.step-index in
     let rest = flat_map step_text (drop (i + 1) xs) in
     let next = ap (λ line. line ++ rest) c.step_line.ensures ∙ next_text step_text xs i _ _ (omega arith) refl in
-    HasWritten-stops _ _ stop.1 (flat_map step_text xs) (flat_map step_text (drop i xs)) c.step_line.result rest _ _ _ c.loop-step.invariant next c.in_err-write.ensures
+    HasWritten-stops _ _ stop.1 (flat_map step_text xs) (flat_map step_text (drop i xs)) c.step_line.result rest _ _ _
+    c.loop-step.invariant next c.in_err-write.ensures

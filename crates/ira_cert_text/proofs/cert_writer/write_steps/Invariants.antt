@@ -6,4 +6,5 @@ use Rattle.ira_cert_text.proofs.cert_writer.write_steps.Given as goal
 
 abbrev pub invariant-loop-step : goal.invariant-loop-step
 invariant-loop-step g l =
-    HasWritten (flat_map step_text l.fn.steps) (flat_map step_text (drop l.step-index l.fn.steps)) (g.W.Sink.state l.fn.sink) (g.W.Sink.state l.sink)
+    HasWritten (flat_map step_text l.fn.steps) (flat_map step_text (drop l.step-index l.fn.steps))
+    (g.W.Sink.state l.fn.sink) (g.W.Sink.state l.sink)

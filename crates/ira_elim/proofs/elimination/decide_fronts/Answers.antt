@@ -1,4 +1,4 @@
-use Rattle.std.proofs.Common.{◌≡◌, ℕ, List, [], ◌∷◌, Option, Some, Contains, length, slice_get, slice_set, drop, sym, ◌∙◌, ap, subst, arith, length-append, length-set}
+use Rattle.std.proofs.Common.{◌≡◌, ℕ, List, [], ◌∷◌, ◌++◌, Option, Some, Contains, length, slice_get, drop, refl, sym, ◌∙◌, ap, subst, arith, length-append, length-set}
 use Rattle.std.proofs.lemmas.List.{take_at}
 use Rattle.std.proofs.lemmas.Option.{slice_get_within}
 use Rattle.ira_event.specs.Log.{Log}
@@ -7,7 +7,6 @@ use Rattle.ira_cert.proofs.Behind.{all_left, one_fewer}
 use Rattle.ira_cert.specs.Fronts.{HasList}
 use Rattle.ira_elim.specs.Elimination.{ArePlaces, AreStands, AreWithin, HasEliminations, IsElimination, IsFirstLeft}
 use Rattle.ira_elim.specs.LeastCut.{IsLeastCut}
-use Rattle.ira_elim.specs.PairSet.{Has}
 use Rattle.ira_elim.specs.Stand.{Stand, AreStanding, IsStand}
 use Rattle.ira_elim.proofs.NewEliminations.{all_again, own_first, own_list, still_left}
 use Rattle.ira_elim.proofs.Places.{none_left}
@@ -26,8 +25,7 @@ pub returns-in-Some : goal.returns-in-Some
 returns-in-Some g c = λ case differ fronts_are.
     let logs = (g.C.HappenedBefore.logs_of c.args.ordered.now) in let fronts = c.args.fronts.items in
     let empty = subst (λ (fs : List (Option (List ℕ))). slice_get fs c.in-Some.spent ≡ Some (Some [])) c.deref-2.ensures.value c.in-Some.ensures in
-    absent logs case fronts fronts c.new-steps.result.items c.in-Some.spent fronts_are (none_made logs case c.new-steps.result.items fronts fronts_are c.new-steps.ensures.items)
-    (omega (arith, ap (λ (ss : List CertStep). length ss) c.new-steps.ensures.items)) empty
+    ([], c.requires.none, absent logs case fronts fronts [] c.in-Some.spent fronts_are (none_made logs case [] fronts fronts_are refl) (omega arith) empty)
 
 pub stands-requires-clause-within : goal.stands-requires-clause-within
 stands-requires-clause-within g c =
@@ -59,24 +57,27 @@ steps-init g c =
     let are = subst (λ (fs : List (Option (List ℕ))). AreStands logs fs stands) c.deref-4.ensures.value c.in_ok-stands.ensures.stands in
     let nodes : length stands ≡ length logs = c.in_ok-stands.ensures.count ∙ (c.get-nodes.ensures.value ∙ c.size.ensures.value ∙ ap (λ (ls : List Log). length ls) c.logs.ensures) in
     let asked = c.deref-6.ensures.value in
-    let known = rw (c.deref-5.ensures.value, asked) at c.in_ok-pairs.ensures in
-    record {
-      made = λ case differ fronts_are. none_made logs case c.new-steps.result.items fronts fronts_are c.new-steps.ensures.items;
-      count = omega (arith, ap (λ (ss : List CertStep). length ss) c.new-steps.ensures.items);
-      places = c.requires.places;
-      left = left;
-      nodes = nodes;
-      stands = are;
-      pairs = has_all logs fronts stands inside are c.in_ok-asked.asked.items c.in_ok-pairs.pairs listed known;
-    }
+    let known = rw (c.deref-5.ensures.value, asked) at c.in_ok-pairs.ensures in (
+      [],
+      record {
+        has = c.requires.none;
+        made = λ case differ fronts_are. none_made logs case [] fronts fronts_are refl;
+        count = omega arith;
+        places = c.requires.places;
+        left = left;
+        nodes = nodes;
+        stands = are;
+        pairs = has_all logs fronts stands inside are c.in_ok-asked.asked.items c.in_ok-pairs.pairs listed known;
+      },
+    )
 
 pub eliminate-requires : goal.eliminate-requires
 eliminate-requires g c =
     let logs = (g.C.HappenedBefore.logs_of c.args.ordered.now) in
     let some = c.requires.fronts in
-    let fronts = c.steps.fronts.items in let s = c.in-Some-next_step.step in let so_far = c.steps.invariant in
+    let fronts = c.steps.fronts.items in let s = c.in-Some-next_step.step in let so_far = c.steps.invariant.1 in
     let made = so_far.made some.0 some.1 some.2 in
-    let inside = within logs some.0 c.steps.steps.items fronts made.behind in
+    let inside = within logs some.0 c.steps.invariant.0 fronts made.behind in
     let is : IsElimination logs fronts s = viewed logs fronts c.deref-in-steps-2.result.now c.steps.stands.items c.deref-in-steps.result.now c.steps.pairs (λ (fs : List (Option (List ℕ))). IsElimination logs fs s) c.deref-in-steps-2.ensures.value c.deref-in-steps.ensures.value (c.in-Some-next_step.ensures.step logs) inside so_far.stands so_far.pairs in
     let at : slice_get c.deref_mut.result.now s.node ≡ Some (Some is.front.0) = ap (λ (fs : List (Option (List ℕ))). slice_get fs s.node) c.deref_mut.ensures.value ∙ is.front.1 in
     slice_get_within c.deref_mut.result.now s.node (Some is.front.0) at
@@ -85,30 +86,33 @@ pub returns-in_default-front : goal.returns-in_default-front
 returns-in_default-front g c = λ case differ fronts_are.
     let logs = (g.C.HappenedBefore.logs_of c.args.ordered.now) in
     let some = c.requires.fronts in
-    let fronts = c.steps.fronts.items in let s = c.in-Some-next_step.step in let so_far = c.steps.invariant in
+    let fronts = c.steps.fronts.items in let s = c.in-Some-next_step.step in let so_far = c.steps.invariant.1 in
     let made = so_far.made some.0 some.1 some.2 in
-    let inside = within logs some.0 c.steps.steps.items fronts made.behind in
+    let inside = within logs some.0 c.steps.invariant.0 fronts made.behind in
     let is : IsElimination logs fronts s = viewed logs fronts c.deref-in-steps-2.result.now c.steps.stands.items c.deref-in-steps.result.now c.steps.pairs (λ (fs : List (Option (List ℕ))). IsElimination logs fs s) c.deref-in-steps-2.ensures.value c.deref-in-steps.ensures.value (c.in-Some-next_step.ensures.step logs) inside so_far.stands so_far.pairs in
     let left = take_at c.eliminate.new.fronts (drop (length c.eliminate.new.fronts) fronts) c.steps.fronts.len (c.eliminate.auto.fronts ∙ c.deref_mut.ensures.len) ∙ c.eliminate.ensures ∙ ap (λ (fs : List (Option (List ℕ))). one_fewer fs s.node) c.deref_mut.ensures.value in
-    let pushed = c.in_ok-push.ensures.items in
+    let pushed : c.steps.invariant.0 ++ s ∷ [] ≡ c.steps.invariant.0 ++ s ∷ [] = refl in
     let viewed_left = c.deref-in-Some-next_step.ensures.value in
-    let own = own_list logs some.0 c.steps.steps.items fronts _ made.behind s is left in
-    let none = subst (λ (fs : List (Option (List ℕ))). (p : ℕ) → IsFirstLeft fs s.node p → ⊥) viewed_left c.in_default-front.ensures in
-    absent logs case c.args.fronts.items _ c.push.new.self.items s.node fronts_are
-    (made_more logs case c.steps.steps.items c.push.new.self.items fronts _ s differ (so_far.made case differ fronts_are) is pushed left)
-    (omega (arith, total_less fronts s.node s.pos is.front, ap total left, ap (λ (ss : List CertStep). length ss) pushed, length-append c.steps.steps.items (s ∷ []), so_far.count))
-    (none_left _ s.node none (drop 1 is.front.0, own))
+    let own = own_list logs some.0 c.steps.invariant.0 fronts _ made.behind s is left in
+    let none = subst (λ (fs : List (Option (List ℕ))). (p : ℕ) → IsFirstLeft fs s.node p → ⊥) viewed_left c.in_default-front.ensures in (
+      c.steps.invariant.0 ++ s ∷ [],
+      c.in_ok-take.ensures c.steps.invariant.0 so_far.has,
+      absent logs case c.args.fronts.items _ (c.steps.invariant.0 ++ s ∷ []) s.node fronts_are
+          (made_more logs case c.steps.invariant.0 (c.steps.invariant.0 ++ s ∷ []) fronts _ s differ (so_far.made case differ fronts_are) is pushed left)
+          (omega (arith, total_less fronts s.node s.pos is.front, ap total left, length-append c.steps.invariant.0 (s ∷ []), so_far.count))
+          (none_left _ s.node none (drop 1 is.front.0, own)),
+    )
 
 pub advance-requires-clause-asked : goal.advance-requires-clause-asked
 advance-requires-clause-asked g c =
     let logs = (g.C.HappenedBefore.logs_of c.args.ordered.now) in
     let some = c.requires.fronts in
-    let fronts = c.steps.fronts.items in let s = c.in-Some-next_step.step in let so_far = c.steps.invariant in
+    let fronts = c.steps.fronts.items in let s = c.in-Some-next_step.step in let so_far = c.steps.invariant.1 in
     let made = so_far.made some.0 some.1 some.2 in
-    let inside = within logs some.0 c.steps.steps.items fronts made.behind in
+    let inside = within logs some.0 c.steps.invariant.0 fronts made.behind in
     let is : IsElimination logs fronts s = viewed logs fronts c.deref-in-steps-2.result.now c.steps.stands.items c.deref-in-steps.result.now c.steps.pairs (λ (fs : List (Option (List ℕ))). IsElimination logs fs s) c.deref-in-steps-2.ensures.value c.deref-in-steps.ensures.value (c.in-Some-next_step.ensures.step logs) inside so_far.stands so_far.pairs in
     let listed = subst (λ (fs : List (Option (List ℕ))). ArePlaces fs c.in_ok-asked.asked.items) c.deref.ensures.value c.in_ok-asked.ensures in
-    let places = places_stay logs some.0 c.steps.steps.items fronts made.behind c.args.fronts.items c.in_ok-asked.asked.items some.2 listed in
+    let places = places_stay logs some.0 c.steps.invariant.0 fronts made.behind c.args.fronts.items c.in_ok-asked.asked.items some.2 listed in
     subst (AreStanding c.steps.stands.items) (sym c.deref-in-Some-next_step-2.ensures.value)
     (standing logs fronts c.steps.stands.items inside so_far.stands c.in_ok-asked.asked.items places so_far.left so_far.nodes)
 
@@ -116,21 +120,21 @@ pub advance-requires-clause-node : goal.advance-requires-clause-node
 advance-requires-clause-node g c =
     let logs = (g.C.HappenedBefore.logs_of c.args.ordered.now) in
     let some = c.requires.fronts in
-    let fronts = c.steps.fronts.items in let s = c.in-Some-next_step.step in let so_far = c.steps.invariant in
+    let fronts = c.steps.fronts.items in let s = c.in-Some-next_step.step in let so_far = c.steps.invariant.1 in
     let made = so_far.made some.0 some.1 some.2 in
-    let inside = within logs some.0 c.steps.steps.items fronts made.behind in
+    let inside = within logs some.0 c.steps.invariant.0 fronts made.behind in
     let is : IsElimination logs fronts s = viewed logs fronts c.deref-in-steps-2.result.now c.steps.stands.items c.deref-in-steps.result.now c.steps.pairs (λ (fs : List (Option (List ℕ))). IsElimination logs fs s) c.deref-in-steps-2.ensures.value c.deref-in-steps.ensures.value (c.in-Some-next_step.ensures.step logs) inside so_far.stands so_far.pairs in
     let listed = subst (λ (fs : List (Option (List ℕ))). ArePlaces fs c.in_ok-asked.asked.items) c.deref.ensures.value c.in_ok-asked.ensures in
-    let places = places_stay logs some.0 c.steps.steps.items fronts made.behind c.args.fronts.items c.in_ok-asked.asked.items some.2 listed in
+    let places = places_stay logs some.0 c.steps.invariant.0 fronts made.behind c.args.fronts.items c.in_ok-asked.asked.items some.2 listed in
     subst (λ (xs : List ℕ). Contains xs s.node) (sym c.deref-in-Some-next_step-2.ensures.value) ((places s.node).1 (is.front.0, is.front.1))
 
 pub advance-requires-clause-place : goal.advance-requires-clause-place
 advance-requires-clause-place g c =
     let logs = (g.C.HappenedBefore.logs_of c.args.ordered.now) in
     let some = c.requires.fronts in
-    let fronts = c.steps.fronts.items in let s = c.in-Some-next_step.step in let so_far = c.steps.invariant in
+    let fronts = c.steps.fronts.items in let s = c.in-Some-next_step.step in let so_far = c.steps.invariant.1 in
     let made = so_far.made some.0 some.1 some.2 in
-    let inside = within logs some.0 c.steps.steps.items fronts made.behind in
+    let inside = within logs some.0 c.steps.invariant.0 fronts made.behind in
     let is : IsElimination logs fronts s = viewed logs fronts c.deref-in-steps-2.result.now c.steps.stands.items c.deref-in-steps.result.now c.steps.pairs (λ (fs : List (Option (List ℕ))). IsElimination logs fs s) c.deref-in-steps-2.ensures.value c.deref-in-steps.ensures.value (c.in-Some-next_step.ensures.step logs) inside so_far.stands so_far.pairs in
     (inside s.node s.pos is.front).0
 
@@ -138,101 +142,104 @@ pub advance-requires-clause-position : goal.advance-requires-clause-position
 advance-requires-clause-position g c =
     let logs = (g.C.HappenedBefore.logs_of c.args.ordered.now) in
     let some = c.requires.fronts in
-    let fronts = c.steps.fronts.items in let s = c.in-Some-next_step.step in let so_far = c.steps.invariant in
+    let fronts = c.steps.fronts.items in let s = c.in-Some-next_step.step in let so_far = c.steps.invariant.1 in
     let made = so_far.made some.0 some.1 some.2 in
-    let inside = within logs some.0 c.steps.steps.items fronts made.behind in
+    let inside = within logs some.0 c.steps.invariant.0 fronts made.behind in
     let is : IsElimination logs fronts s = viewed logs fronts c.deref-in-steps-2.result.now c.steps.stands.items c.deref-in-steps.result.now c.steps.pairs (λ (fs : List (Option (List ℕ))). IsElimination logs fs s) c.deref-in-steps-2.ensures.value c.deref-in-steps.ensures.value (c.in-Some-next_step.ensures.step logs) inside so_far.stands so_far.pairs in
     let left = take_at c.eliminate.new.fronts (drop (length c.eliminate.new.fronts) fronts) c.steps.fronts.len (c.eliminate.auto.fronts ∙ c.deref_mut.ensures.len) ∙ c.eliminate.ensures ∙ ap (λ (fs : List (Option (List ℕ))). one_fewer fs s.node) c.deref_mut.ensures.value in
-    let pushed = c.in_ok-push.ensures.items in
-    let next = made_more logs some.0 c.steps.steps.items c.push.new.self.items fronts _ s some.1 made is pushed left in
+    let pushed : c.steps.invariant.0 ++ s ∷ [] ≡ c.steps.invariant.0 ++ s ∷ [] = refl in
+    let next = made_more logs some.0 c.steps.invariant.0 (c.steps.invariant.0 ++ s ∷ []) fronts _ s some.1 made is pushed left in
     let first = subst (λ (fs : List (Option (List ℕ))). IsFirstLeft fs s.node c.in-Some-front.position) c.deref-in-Some-next_step.ensures.value c.in-Some-front.ensures in
-    (within logs some.0 c.push.new.self.items _ next.behind s.node c.in-Some-front.position first).1
+    (within logs some.0 (c.steps.invariant.0 ++ s ∷ []) _ next.behind s.node c.in-Some-front.position first).1
 
 pub advance-requires-clause-stand : goal.advance-requires-clause-stand
 advance-requires-clause-stand g c = λ t at.
     let logs = (g.C.HappenedBefore.logs_of c.args.ordered.now) in
     let some = c.requires.fronts in
-    let fronts = c.steps.fronts.items in let s = c.in-Some-next_step.step in let so_far = c.steps.invariant in
+    let fronts = c.steps.fronts.items in let s = c.in-Some-next_step.step in let so_far = c.steps.invariant.1 in
     let made = so_far.made some.0 some.1 some.2 in
-    let inside = within logs some.0 c.steps.steps.items fronts made.behind in
+    let inside = within logs some.0 c.steps.invariant.0 fronts made.behind in
     let is : IsElimination logs fronts s = viewed logs fronts c.deref-in-steps-2.result.now c.steps.stands.items c.deref-in-steps.result.now c.steps.pairs (λ (fs : List (Option (List ℕ))). IsElimination logs fs s) c.deref-in-steps-2.ensures.value c.deref-in-steps.ensures.value (c.in-Some-next_step.ensures.step logs) inside so_far.stands so_far.pairs in
     let left = take_at c.eliminate.new.fronts (drop (length c.eliminate.new.fronts) fronts) c.steps.fronts.len (c.eliminate.auto.fronts ∙ c.deref_mut.ensures.len) ∙ c.eliminate.ensures ∙ ap (λ (fs : List (Option (List ℕ))). one_fewer fs s.node) c.deref_mut.ensures.value in
-    let pushed = c.in_ok-push.ensures.items in
+    let pushed : c.steps.invariant.0 ++ s ∷ [] ≡ c.steps.invariant.0 ++ s ∷ [] = refl in
     let first = subst (λ (fs : List (Option (List ℕ))). IsFirstLeft fs s.node c.in-Some-front.position) c.deref-in-Some-next_step.ensures.value c.in-Some-front.ensures in
     let stand = stand_is logs fronts c.steps.stands.items inside so_far.stands s.node s.pos t is.front at in
-    let onward = own_first logs some.0 c.steps.steps.items fronts _ made.behind s is left c.in-Some-front.position first in
+    let onward = own_first logs some.0 c.steps.invariant.0 fronts _ made.behind s is left c.in-Some-front.position first in
     (omega (arith, stand.position, onward), subst (λ (n : ℕ). IsStand logs s.node n t) (sym stand.position) stand)
 
 pub steps-smaller : goal.steps-smaller
 steps-smaller g c =
     let logs = (g.C.HappenedBefore.logs_of c.args.ordered.now) in
     let some = c.requires.fronts in
-    let fronts = c.steps.fronts.items in let s = c.in-Some-next_step.step in let so_far = c.steps.invariant in
+    let fronts = c.steps.fronts.items in let s = c.in-Some-next_step.step in let so_far = c.steps.invariant.1 in
     let made = so_far.made some.0 some.1 some.2 in
-    let inside = within logs some.0 c.steps.steps.items fronts made.behind in
+    let inside = within logs some.0 c.steps.invariant.0 fronts made.behind in
     let is : IsElimination logs fronts s = viewed logs fronts c.deref-in-steps-2.result.now c.steps.stands.items c.deref-in-steps.result.now c.steps.pairs (λ (fs : List (Option (List ℕ))). IsElimination logs fs s) c.deref-in-steps-2.ensures.value c.deref-in-steps.ensures.value (c.in-Some-next_step.ensures.step logs) inside so_far.stands so_far.pairs in
     let left = take_at c.eliminate.new.fronts (drop (length c.eliminate.new.fronts) fronts) c.steps.fronts.len (c.eliminate.auto.fronts ∙ c.deref_mut.ensures.len) ∙ c.eliminate.ensures ∙ ap (λ (fs : List (Option (List ℕ))). one_fewer fs s.node) c.deref_mut.ensures.value in
-    let pushed = c.in_ok-push.ensures.items in
+    let pushed : c.steps.invariant.0 ++ s ∷ [] ≡ c.steps.invariant.0 ++ s ∷ [] = refl in
     omega (arith, total_less fronts s.node s.pos is.front, ap total left)
 
 pub steps-preserved : goal.steps-preserved
 steps-preserved g c =
     let logs = (g.C.HappenedBefore.logs_of c.args.ordered.now) in
     let some = c.requires.fronts in
-    let fronts = c.steps.fronts.items in let s = c.in-Some-next_step.step in let so_far = c.steps.invariant in
+    let fronts = c.steps.fronts.items in let s = c.in-Some-next_step.step in let so_far = c.steps.invariant.1 in
     let made = so_far.made some.0 some.1 some.2 in
-    let inside = within logs some.0 c.steps.steps.items fronts made.behind in
+    let inside = within logs some.0 c.steps.invariant.0 fronts made.behind in
     let is : IsElimination logs fronts s = viewed logs fronts c.deref-in-steps-2.result.now c.steps.stands.items c.deref-in-steps.result.now c.steps.pairs (λ (fs : List (Option (List ℕ))). IsElimination logs fs s) c.deref-in-steps-2.ensures.value c.deref-in-steps.ensures.value (c.in-Some-next_step.ensures.step logs) inside so_far.stands so_far.pairs in
     let left = take_at c.eliminate.new.fronts (drop (length c.eliminate.new.fronts) fronts) c.steps.fronts.len (c.eliminate.auto.fronts ∙ c.deref_mut.ensures.len) ∙ c.eliminate.ensures ∙ ap (λ (fs : List (Option (List ℕ))). one_fewer fs s.node) c.deref_mut.ensures.value in
-    let pushed = c.in_ok-push.ensures.items in
-    let next = made_more logs some.0 c.steps.steps.items c.push.new.self.items fronts _ s some.1 made is pushed left in
+    let pushed : c.steps.invariant.0 ++ s ∷ [] ≡ c.steps.invariant.0 ++ s ∷ [] = refl in
+    let next = made_more logs some.0 c.steps.invariant.0 (c.steps.invariant.0 ++ s ∷ []) fronts _ s some.1 made is pushed left in
     let first = subst (λ (fs : List (Option (List ℕ))). IsFirstLeft fs s.node c.in-Some-front.position) c.deref-in-Some-next_step.ensures.value c.in-Some-front.ensures in
     let listed = subst (λ (fs : List (Option (List ℕ))). ArePlaces fs c.in_ok-asked.asked.items) c.deref.ensures.value c.in_ok-asked.ensures in
     let stands = c.steps.stands.items in let moved = c.advance.ensures.moved in
     let set = moved.1 in
-    let inside_left = within logs some.0 c.push.new.self.items _ next.behind in
-    let again = stands_again logs fronts stands inside so_far.stands some.0 c.steps.steps.items made.behind s is _ left _ moved.0 set c.in-Some-front.position first moved.2 in
+    let inside_left = within logs some.0 (c.steps.invariant.0 ++ s ∷ []) _ next.behind in
+    let again = stands_again logs fronts stands inside so_far.stands some.0 c.steps.invariant.0 made.behind s is _ left _ moved.0 set c.in-Some-front.position first moved.2 in
     let old = viewed logs fronts c.deref-in-steps-2.result.now stands c.deref-in-steps.result.now c.steps.pairs (λ (fs : List (Option (List ℕ))). HasEliminations logs fs c.next_step.new.pairs) c.deref-in-steps-2.ensures.value c.deref-in-steps.ensures.value (c.in-Some-next_step.ensures.pairs logs) inside so_far.stands so_far.pairs in
-    let places = places_stay logs some.0 c.push.new.self.items _ next.behind c.args.fronts.items c.in_ok-asked.asked.items some.2 listed in
+    let places = places_stay logs some.0 (c.steps.invariant.0 ++ s ∷ []) _ next.behind c.args.fronts.items c.in_ok-asked.asked.items some.2 listed in
     let asked = c.deref-in-Some-next_step-2.ensures.value in
-    let added = rw asked at c.advance.ensures.added in
-    record {
-      made = λ case differ fronts_are. made_more logs case c.steps.steps.items c.push.new.self.items fronts _ s differ (so_far.made case differ fronts_are) is pushed left;
-      count = omega (arith, total_less fronts s.node s.pos is.front, ap total left, ap (λ (ss : List CertStep). length ss) pushed, length-append c.steps.steps.items (s ∷ []), so_far.count);
-      places = omega (arith, ap (λ (fs : List (Option (List ℕ))). length fs) left, one_fewer-length fronts s.node, so_far.places);
-      left = still_left logs some.0 c.steps.steps.items fronts _ made.behind s is left so_far.left c.in-Some-front.position first;
-      nodes = ap (λ (ss : List Stand). length ss) set ∙ length-set stands s.node moved.0 ∙ so_far.nodes;
-      stands = again;
-      pairs =
-          all_again logs some.0 c.steps.steps.items fronts _ made.behind s is left c.next_step.new.pairs c.advance.new.pairs old c.advance.ensures.kept
-          (adds logs some.0 c.steps.steps.items fronts _ made.behind s is left stands _ inside so_far.stands inside_left again c.in_ok-asked.asked.items c.next_step.new.pairs c.advance.new.pairs places old c.advance.ensures.kept added);
-    }
+    let added = rw asked at c.advance.ensures.added in (
+      c.steps.invariant.0 ++ s ∷ [],
+      record {
+        has = c.in_ok-take.ensures c.steps.invariant.0 so_far.has;
+        made = λ case differ fronts_are. made_more logs case c.steps.invariant.0 (c.steps.invariant.0 ++ s ∷ []) fronts _ s differ (so_far.made case differ fronts_are) is pushed left;
+        count = omega (arith, total_less fronts s.node s.pos is.front, ap total left, length-append c.steps.invariant.0 (s ∷ []), so_far.count);
+        places = omega (arith, ap (λ (fs : List (Option (List ℕ))). length fs) left, one_fewer-length fronts s.node, so_far.places);
+        left = still_left logs some.0 c.steps.invariant.0 fronts _ made.behind s is left so_far.left c.in-Some-front.position first;
+        nodes = ap (λ (ss : List Stand). length ss) set ∙ length-set stands s.node moved.0 ∙ so_far.nodes;
+        stands = again;
+        pairs =
+            all_again logs some.0 c.steps.invariant.0 fronts _ made.behind s is left c.next_step.new.pairs c.advance.new.pairs old c.advance.ensures.kept
+            (adds logs some.0 c.steps.invariant.0 fronts _ made.behind s is left stands _ inside so_far.stands inside_left again c.in_ok-asked.asked.items c.next_step.new.pairs c.advance.new.pairs places old c.advance.ensures.kept added);
+      },
+    )
 
 pub least_cut-requires-clause-nodes : goal.least_cut-requires-clause-nodes
 least_cut-requires-clause-nodes g c =
-    c.get-nodes.ensures.value ∙ c.size.ensures.value ∙ ap (λ (ls : List Log). length ls) c.logs.ensures ∙ sym (ap (λ (ss : List Stand). length ss) c.deref-7.ensures.value ∙ c.steps.invariant.nodes)
+    c.get-nodes.ensures.value ∙ c.size.ensures.value ∙ ap (λ (ls : List Log). length ls) c.logs.ensures ∙ sym (ap (λ (ss : List Stand). length ss) c.deref-7.ensures.value ∙ c.steps.invariant.1.nodes)
 
 pub least_cut-requires-clause-standing : goal.least_cut-requires-clause-standing
 least_cut-requires-clause-standing g c =
     let logs = (g.C.HappenedBefore.logs_of c.args.ordered.now) in
     let listed = subst (λ (fs : List (Option (List ℕ))). ArePlaces fs c.in_ok-asked.asked.items) c.deref.ensures.value c.in_ok-asked.ensures in
-    let some = c.requires.fronts in let so_far = c.steps.invariant in let fronts = c.steps.fronts.items in
+    let some = c.requires.fronts in let so_far = c.steps.invariant.1 in let fronts = c.steps.fronts.items in
     let made = so_far.made some.0 some.1 some.2 in
-    let inside = within logs some.0 c.steps.steps.items fronts made.behind in
-    let places = places_stay logs some.0 c.steps.steps.items fronts made.behind c.args.fronts.items c.in_ok-asked.asked.items some.2 listed in
+    let inside = within logs some.0 c.steps.invariant.0 fronts made.behind in
+    let places = places_stay logs some.0 c.steps.invariant.0 fronts made.behind c.args.fronts.items c.in_ok-asked.asked.items some.2 listed in
     subst (λ (ss : List Stand). AreStanding ss c.deref-8.result.now) (sym c.deref-7.ensures.value) (subst (AreStanding c.steps.stands.items) (sym c.deref-8.ensures.value)
     (standing logs fronts c.steps.stands.items inside so_far.stands c.in_ok-asked.asked.items places so_far.left so_far.nodes))
 
 pub returns : goal.returns
 returns g c = λ case differ fronts_are.
-    let logs = (g.C.HappenedBefore.logs_of c.args.ordered.now) in let fronts = c.steps.fronts.items in let so_far = c.steps.invariant in
+    let logs = (g.C.HappenedBefore.logs_of c.args.ordered.now) in let fronts = c.steps.fronts.items in let so_far = c.steps.invariant.1 in
     let made = so_far.made case differ fronts_are in
-    let inside = within logs case c.steps.steps.items fronts made.behind in
+    let inside = within logs case c.steps.invariant.0 fronts made.behind in
     let listed = subst (λ (fs : List (Option (List ℕ))). ArePlaces fs c.in_ok-asked.asked.items) c.deref.ensures.value c.in_ok-asked.ensures in
-    let places = places_stay logs case c.steps.steps.items fronts made.behind c.args.fronts.items c.in_ok-asked.asked.items fronts_are listed in
+    let places = places_stay logs case c.steps.invariant.0 fronts made.behind c.args.fronts.items c.in_ok-asked.asked.items fronts_are listed in
     let greatest =
     c.in_ok-cut.ensures logs fronts (c.get-nodes.ensures.value ∙ c.size.ensures.value ∙ ap (λ (ls : List Log). length ls) c.logs.ensures)
     (subst (ArePlaces fronts) (sym c.deref-8.ensures.value) places) so_far.left inside (subst (AreStands logs fronts) (sym c.deref-7.ensures.value) so_far.stands) in
     let none = viewed logs fronts c.deref-in-steps-2.result.now c.steps.stands.items c.deref-in-steps.result.now c.steps.pairs (λ (fs : List (Option (List ℕ))). (s : CertStep) → IsElimination logs fs s → ⊥) c.deref-in-steps-2.ensures.value c.deref-in-steps.ensures.value (c.in_default-next_step.ensures.step logs) inside so_far.stands so_far.pairs in
     subst (IsLeastCut logs case) (sym c.of_positions.ensures)
-    (present logs case c.steps.steps.items fronts differ made c.in_ok-cut.cut.items greatest none so_far.left)
+    (present logs case c.steps.invariant.0 fronts differ made c.in_ok-cut.cut.items greatest none so_far.left)

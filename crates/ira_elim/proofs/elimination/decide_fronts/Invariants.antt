@@ -1,5 +1,6 @@
 use Rattle.std.proofs.Common.{◌≡◌, ℕ, ◌+◌, ◌≤◌, List, length}
 use Rattle.ira_pred.specs.Case.{Conjunct}
+use Rattle.ira_cert_text.specs.declared.cert_step.CertStep.{CertStep}
 use Rattle.ira_cert.specs.Asked.{HasDifferentPlaces}
 use Rattle.ira_cert.specs.Fronts.{AreFronts, HasList}
 use Rattle.ira_elim.specs.Elimination.{AreStands, HasEliminations, IsFirstLeft}
@@ -7,9 +8,10 @@ use Rattle.ira_elim.proofs.Steps.{AreMade, total}
 use Rattle.ira_elim.proofs.elimination.decide_fronts.Given as goal
 
 abbrev pub invariant-steps : goal.invariant-steps
-invariant-steps g l = record {
-  made : (case : List Conjunct) → HasDifferentPlaces case → AreFronts (g.C.HappenedBefore.logs_of l.ordered) case l.fn.fronts.items → AreMade (g.C.HappenedBefore.logs_of l.ordered) case l.steps.items l.fronts.items;
-  count : length l.steps.items + total l.fronts.items ≡ total l.fn.fronts.items;
+invariant-steps g l = (taken : List CertStep) × record {
+  has : g.S.StepSink.has_taken l.steps taken;
+  made : (case : List Conjunct) → HasDifferentPlaces case → AreFronts (g.C.HappenedBefore.logs_of l.ordered) case l.fn.fronts.items → AreMade (g.C.HappenedBefore.logs_of l.ordered) case taken l.fronts.items;
+  count : length taken + total l.fronts.items ≡ total l.fn.fronts.items;
   places : length l.fronts.items ≤ length (g.C.HappenedBefore.logs_of l.ordered);
   left : (i : ℕ) → HasList l.fronts.items i → (p : ℕ) × IsFirstLeft l.fronts.items i p;
   nodes : length l.stands.items ≡ length (g.C.HappenedBefore.logs_of l.ordered);

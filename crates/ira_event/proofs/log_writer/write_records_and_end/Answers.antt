@@ -7,12 +7,16 @@ use Rattle.ira_event.proofs.Writing.{HasWritten-more, HasWritten-stops, HasWritt
 use Rattle.ira_event.proofs.log_writer.write_records_and_end.Goals as goal
 
 -- the line of the first of these events, and then those of the others
-next-line : (line : List ℕ) (e : Event) (events others : List Event) (end : List ℕ) → line ≡ record_text e → events ≡ e ∷ others → line ++ (flat_map record_text others ++ end) ≡ flat_map record_text events ++ end
+next-line : (line : List ℕ) (e : Event) (events others : List Event) (end : List ℕ) → line ≡ record_text e
+    → events ≡ e ∷ others → line ++ (flat_map record_text others ++ end) ≡ flat_map record_text events ++ end
 next-line line e events others end is first =
-    sym (append_assoc line (flat_map record_text others) end) ∙ ap (λ w. w ++ end) (ap (λ w. w ++ flat_map record_text others) is ∙ ap (λ x. flat_map record_text x) (sym first))
+    sym (append_assoc line (flat_map record_text others) end)
+    ∙ ap (λ w. w ++ end) (ap (λ w. w ++ flat_map record_text others) is
+    ∙ ap (λ x. flat_map record_text x) (sym first))
 
--- the end line, behind no event
-last-line : (line : List ℕ) (events : List Event) (n count : ℕ) → line ≡ end_text n → n ≡ count → events ≡ [] → line ≡ flat_map record_text events ++ end_text count
+-- the end line, after no event
+last-line : (line : List ℕ) (events : List Event) (n count : ℕ) → line ≡ end_text n → n ≡ count → events ≡ []
+    → line ≡ flat_map record_text events ++ end_text count
 last-line line events n count is same none =
     is ∙ ap (λ x. end_text x) same ∙ ap (λ x. flat_map record_text x ++ end_text count) (sym none)
 
@@ -22,7 +26,8 @@ loop-event-preserved g c =
     let text = flat_map record_text c.args.log.now.events ++ end in
     let left = flat_map record_text c.loop-event.event-iterator ++ end in
     let rest = flat_map record_text c.next.new.self ++ end in
-    let next = next-line c.add_record.new.line c.in-Some.event c.loop-event.event-iterator c.next.new.self end c.add_record.ensures c.in-Some.ensures.steps in
+    let next = next-line c.add_record.new.line c.in-Some.event c.loop-event.event-iterator c.next.new.self end
+    c.add_record.ensures c.in-Some.ensures.steps in
     HasWritten-more text left c.add_record.new.line rest _ _ _ c.loop-event.invariant next c.in_ok-write.ensures
 
 pub returns-in_err-write : goal.returns-in_err-write
@@ -32,13 +37,16 @@ returns-in_err-write g c =
     let text = flat_map record_text c.args.log.now.events ++ end in
     let left = flat_map record_text c.loop-event.event-iterator ++ end in
     let rest = flat_map record_text c.next.new.self ++ end in
-    let next = next-line c.add_record.new.line c.in-Some.event c.loop-event.event-iterator c.next.new.self end c.add_record.ensures c.in-Some.ensures.steps in
-    HasWritten-stops _ _ p.1 text left c.add_record.new.line rest _ _ _ c.loop-event.invariant next c.in_err-write.ensures
+    let next = next-line c.add_record.new.line c.in-Some.event c.loop-event.event-iterator c.next.new.self end
+    c.add_record.ensures c.in-Some.ensures.steps in
+    HasWritten-stops _ _ p.1 text left c.add_record.new.line rest _ _ _ c.loop-event.invariant next
+    c.in_err-write.ensures
 
 pub returns : goal.returns
 returns g c =
     let end = end_text (length c.args.log.now.events) in
     let text = flat_map record_text c.args.log.now.events ++ end in
     let left = flat_map record_text c.loop-event.event-iterator ++ end in
-    let last = last-line c.add_end.new.line c.loop-event.event-iterator c.len.result (length c.args.log.now.events) c.add_end.ensures c.len.ensures.value c.in-None.ensures.steps.0 in
+    let last = last-line c.add_end.new.line c.loop-event.event-iterator c.len.result (length c.args.log.now.events)
+    c.add_end.ensures c.len.ensures.value c.in-None.ensures.steps.0 in
     HasWritten-last _ text left c.add_end.new.line _ _ _ c.loop-event.invariant last c.write-2.ensures

@@ -7,8 +7,16 @@ use Rattle.ira_event.proofs.logs.check_places.Goals as goal
 pub returns-then-place-i-clause-err : goal.returns-then-place-i-clause-err
 returns-then-place-i-clause-err g c =
     let log = c.index-logs-from.result in
-    let at = slice_get_read c.args.logs.now (length c.args.logs.now) c.loop-i.i log refl (omega arith) cc in
-    (c.loop-i.i, refl, record { log = log; at = at; other = λ e. c.if-place-i.true (cc); least = c.loop-i.invariant.places })
+    let at = slice_get_read c.args.logs.now (length c.args.logs.now) c.loop-i.i log refl (omega arith) cc in (
+      c.loop-i.i,
+      refl,
+      record {
+        log = log;
+        at = at;
+        other = λ e. c.if-place-i.true (cc);
+        least = c.loop-i.invariant.places;
+      },
+    )
 
 pub loop-i-preserved : goal.loop-i-preserved
 loop-i-preserved g c =
@@ -16,7 +24,8 @@ loop-i-preserved g c =
     let at = slice_get_read c.args.logs.now (length c.args.logs.now) c.loop-i.i log refl (omega arith) cc in
     record {
       places = below-more c.args.logs.now (λ j x. x.place ≡ j) c.loop-i.i log at (cc) c.loop-i.invariant.places;
-      valid = below-more c.args.logs.now (λ _ x. IsLog x) c.loop-i.i log at c.place.ensures.valid c.loop-i.invariant.valid;
+      valid = below-more c.args.logs.now (λ _ x. IsLog x) c.loop-i.i log at c.place.ensures.valid
+          c.loop-i.invariant.valid;
     }
 
 pub returns-clause-ok : goal.returns-clause-ok

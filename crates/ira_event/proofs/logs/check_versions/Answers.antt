@@ -10,8 +10,13 @@ returns-then-version-clause-err g c =
     let some : 0 < length c.args.logs.now = omega (arith, c.requires, c.get-i-end.ensures.valid.0) in
     let begins = slice_get_read c.args.logs.now (length c.args.logs.now) 0 first refl some cc in
     let log = c.index-logs-from.result in
-    let at = slice_get_read c.args.logs.now (length c.args.logs.now) c.loop-i.i log refl (omega arith) cc in
-    (c.version-version.result, c.loop-i.i, refl, record { first = first; is_first = begins; names = sym c.version-version.ensures.value }, record { log = log; at = at; other = λ e. c.if-version.true (cc); least = c.loop-i.invariant })
+    let at = slice_get_read c.args.logs.now (length c.args.logs.now) c.loop-i.i log refl (omega arith) cc in (
+      c.version-version.result,
+      c.loop-i.i,
+      refl,
+      record { first = first; is_first = begins; names = sym c.version-version.ensures.value },
+      record { log = log; at = at; other = λ e. c.if-version.true (cc); least = c.loop-i.invariant },
+    )
 
 pub loop-i-preserved : goal.loop-i-preserved
 loop-i-preserved g c =

@@ -28,7 +28,9 @@ loop-i-preserved c =
     let range = digit_range (slice_index_or c.args.text.now at 0) c.in-Some.ensures.0 in
     let most : slice_index_or c.args.text.now at 0 - 48 ≤ 9 = omega (arith, range.1) in
     record {
-      digits = rw c.in-Some.ensures.1 (digits-turn c.args.text.now at _ c.loop-i.value (omega arith) (omega arith) c.in-Some.ensures.0 ∙ c.loop-i.invariant.digits);
+      digits = rw c.in-Some.ensures.1
+          (digits-turn c.args.text.now at _ c.loop-i.value (omega arith) (omega arith) c.in-Some.ensures.0
+          ∙ c.loop-i.invariant.digits);
       small = rw c.in-Some.ensures.1 (power-turn c.loop-i.value _ c.loop-i.i c.loop-i.invariant.small most);
       positive = omega arith;
     }
@@ -39,7 +41,8 @@ returns-in_default-to_digit-clause-number c =
     let at = c.args.start + c.loop-i.i in
     let small = six-digits c.loop-i.value c.loop-i.i c.loop-i.invariant.small (omega arith) in
     let end = digits-end text at c.loop-i.value (omega arith) c.in_default-to_digit.ensures in
-    number-there text c.args.start at c.loop-i.value (omega arith) (omega arith) (omega arith) small (sym c.loop-i.invariant.digits ∙ end)
+    number-there text c.args.start at c.loop-i.value (omega arith) (omega arith) (omega arith) small
+    (sym c.loop-i.invariant.digits ∙ end)
 
 pub returns-in_default-to_digit-clause-in_range : goal.returns-in_default-to_digit-clause-in_range
 returns-in_default-to_digit-clause-in_range c =

@@ -19,7 +19,8 @@ loop-rest-preserved g c =
     record {
       front = (
         f.0 ++ take n xs,
-        append_assoc f.0 (take n xs) c.split_at.result.1.now ∙ ap (λ w. f.0 ++ (take n xs ++ w)) c.split_at.ensures.back ∙ ap (λ w. f.0 ++ w) (take-append-drop n xs) ∙ f.1,
+        append_assoc f.0 (take n xs) c.split_at.result.1.now ∙ ap (λ w. f.0 ++ (take n xs ++ w)) c.split_at.ensures.back
+            ∙ ap (λ w. f.0 ++ w) (take-append-drop n xs) ∙ f.1,
         Appends-append _ _ _ _ _ f.2 c.in-Ok.ensures.bytes,
       );
       same = c.in-Ok.ensures.failures ∙ unfailed SinkFault n xs _ c.if-n-gt0.true ∙ c.loop-rest.invariant.same;

@@ -10,5 +10,6 @@ returns-then-initiators-from c = λ seed k.
     let size : IsRingSize c.args.nodes = search rules in
     let within : (1 ≤ c.args.cap) × (c.args.cap ≤ MAX_RECORDS) = search rules in
     let last : (1 ≤ c.args.terms) × (c.args.terms ≤ MAX_NUMBER) = search rules in
-    let some : IsTrue c.contains-then-initiators-from.result ↔ ((i : ℕ) × (i < c.args.nodes) × (slice_index_or c.args.initiators.now i false ≡ true)) = search rules in
+    let some : IsTrue c.contains-then-initiators-from.result
+    ↔ ((i : ℕ) × (i < c.args.nodes) × (slice_index_or c.args.initiators.now i false ≡ true)) = search rules in
     (λ yes. keeps_all _ _ seed k _ _ size many (some.0 yes) within last, λ kept. some.1 kept.initiator)

@@ -10,7 +10,8 @@ run_to_end-requires g c = same_rules _ _ _ _ _ _ _ _ _ (seeded_is _ _ _ _ _ _) c
 pub returns-then-not-lack_draws : goal.returns-then-not-lack_draws
 returns-then-not-lack_draws g c =
     lone_of_more _ _ _ _ _ _ _ _ _ _ c.in_ok-few.ensures (seeded_is _ _ _ _ _ _) (omega arith)
-    (sym (c.lack_draws.ensures ∙ ap (list_any is_draws_spent) c.ends.ensures.value) ∙ c.if-not-lack_draws.true) c.in_ok-run.ensures
+    (sym (c.lack_draws.ensures ∙ ap (list_any is_draws_spent) c.ends.ensures.value)
+    ∙ c.if-not-lack_draws.true) c.in_ok-run.ensures
 
 pub run_to_end-requires-2 : goal.run_to_end-requires-2
 run_to_end-requires-2 g c = same_rules _ _ _ _ _ _ _ _ _ (seeded_is _ _ _ _ _ _) c.in_ok-all.ensures c.requires

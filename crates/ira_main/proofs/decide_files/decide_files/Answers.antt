@@ -1,8 +1,11 @@
-use Rattle.std.proofs.Common.{◌≡◌, ◌∙◌, ◌++◌, [], ◌∷◌, ap, inl, inr, rules, refl, subst}
+use Rattle.std.proofs.Common.{◌≡◌, ◌∙◌, ◌++◌, List, [], ◌∷◌, ap, inl, inr, rules, refl, subst}
 use Rattle.ira_audit.specs.FindingsText.{findings_text}
 use Rattle.ira_event.specs.Sink.{Memory, StopsIn, Takes}
+use Rattle.ira_files.specs.declared.file_name.FileName.{FileName}
 use Rattle.ira_main.proofs.FilesRead.{of_back, of_front}
+use Rattle.ira_main.specs.Decide.{decide_names}
 use Rattle.ira_main.specs.FilesRead.{names_of}
+use Rattle.ira_main.specs.Overwriting.{KeepsFiles}
 use Rattle.ira_main.specs.declared.program_fault.ProgramFault.TheVariants.{OutOfMemory}
 use Rattle.ira_main.proofs.decide_files.decide_files.Goals as goal
 
@@ -21,12 +24,15 @@ returns-in-Ok-write_bytes g c =
       _,
       c.in_ok-names.ensures,
       inl (record {
-        question = c.in_ok-question.question;
-        texts = taken.0;
-        given = (c.in_ok-question.ensures.read, rw c.deref.ensures.value at taken.2);
-        findings = findings;
-        found = rw c.bytes.ensures at found;
-        printed = inl (subst (λ t. Takes t (g.W.Sink.state c.args.out.now) (g.W.Sink.state c.write_bytes.new.sink)) text_is c.in-Ok-write_bytes.ensures, c.keep_findings.ensures);
+        kept = subst (λ (logs : List FileName). KeepsFiles c.args.decide.now.certificate (decide_names c.args.decide.now logs)) c.deref.ensures.value c.in_ok-keep_inputs.ensures;
+        decided = record {
+          question = c.in_ok-question.question;
+          texts = taken.0;
+          given = (c.in_ok-question.ensures.read, rw c.deref-2.ensures.value at taken.2);
+          findings = findings;
+          found = rw c.bytes.ensures at found;
+          told = inl (subst (λ t. Takes t (g.W.Sink.state c.args.out.now) (g.W.Sink.state c.write_bytes.new.sink)) text_is c.in-Ok-write_bytes.ensures, c.keep_findings.ensures);
+        };
       }),
     )
 
@@ -40,36 +46,47 @@ returns g c =
       _,
       c.in_ok-names.ensures,
       inl (record {
-        question = c.in_ok-question.question;
-        texts = taken.0;
-        given = (c.in_ok-question.ensures.read, rw c.deref.ensures.value at taken.2);
-        findings = findings;
-        found = rw c.bytes.ensures at found;
-        printed = inr (subst (λ t. StopsIn t (g.W.Sink.state c.args.out.now) (g.W.Sink.state c.write_bytes.new.sink)) text_is c.in-Err.ensures, refl, refl);
+        kept = subst (λ (logs : List FileName). KeepsFiles c.args.decide.now.certificate (decide_names c.args.decide.now logs)) c.deref.ensures.value c.in_ok-keep_inputs.ensures;
+        decided = record {
+          question = c.in_ok-question.question;
+          texts = taken.0;
+          given = (c.in_ok-question.ensures.read, rw c.deref-2.ensures.value at taken.2);
+          findings = findings;
+          found = rw c.bytes.ensures at found;
+          told = inr (subst (λ t. StopsIn t (g.W.Sink.state c.args.out.now) (g.W.Sink.state c.write_bytes.new.sink)) text_is c.in-Err.ensures, refl, refl);
+        };
       }),
     )
 
 pub returns-in_err-names : goal.returns-in_err-names
 returns-in_err-names g c = inr (refl, (_, c.in_err-names.ensures, refl, search rules))
 
+pub returns-in_err-keep_inputs : goal.returns-in_err-keep_inputs
+returns-in_err-keep_inputs g c =
+    let why = rw c.deref.ensures.value at c.in_err-keep_inputs.ensures in
+    elim why [
+      | inl replacing ↦ inl (_, c.in_ok-names.ensures, inr (refl, (_, inl replacing, refl, search rules)))
+      | inr memory ↦ inl (_, c.in_ok-names.ensures, inr (refl, (_, inr (inr memory), refl, search rules)))
+    ]
+
 pub returns-in_err-question : goal.returns-in_err-question
 returns-in_err-question g c =
     let decide = c.args.decide.now in
     let logs = names_of c.in_ok-names.names.items in
-    inl (_, c.in_ok-names.ensures, inr (refl, (_, of_front g.F.TextSource.reads (decide.question.now ∷ []) logs _ _ c.in_err-question.ensures.fault, refl, search rules)))
+    inl (_, c.in_ok-names.ensures, inr (refl, (_, inr (of_front g.F.TextSource.reads (decide.question.now ∷ []) logs _ _ c.in_err-question.ensures.fault), refl, search rules)))
 
 pub returns-in_err-clone : goal.returns-in_err-clone
-returns-in_err-clone g c = inl (_, c.in_ok-names.ensures, inr (refl, (OutOfMemory, inr refl, refl, search rules)))
+returns-in_err-clone g c = inl (_, c.in_ok-names.ensures, inr (refl, (OutOfMemory, inr (inr refl), refl, search rules)))
 
 pub returns-in_err-audit : goal.returns-in_err-audit
 returns-in_err-audit g c =
     let decide = c.args.decide.now in
     let logs = names_of c.in_ok-names.names.items in
-    let fault = rw c.deref.ensures.value at c.in_err-audit.ensures in
-    inl (_, c.in_ok-names.ensures, inr (refl, (_, of_back g.F.TextSource.reads (decide.question.now ∷ []) logs _ (_ ∷ []) _ (c.in_ok-question.ensures.read, tt) fault, refl, search rules)))
+    let fault = rw c.deref-2.ensures.value at c.in_err-audit.ensures in
+    inl (_, c.in_ok-names.ensures, inr (refl, (_, inr (of_back g.F.TextSource.reads (decide.question.now ∷ []) logs _ (_ ∷ []) _ (c.in_ok-question.ensures.read, tt) fault), refl, search rules)))
 
 pub returns-in_err-findings : goal.returns-in_err-findings
-returns-in_err-findings g c = inl (_, c.in_ok-names.ensures, inr (refl, (OutOfMemory, inr refl, refl, search rules)))
+returns-in_err-findings g c = inl (_, c.in_ok-names.ensures, inr (refl, (OutOfMemory, inr (inr refl), refl, search rules)))
 
 pub returns-in_default : goal.returns-in_default
-returns-in_default g c = inl (_, c.in_ok-names.ensures, inr (refl, (OutOfMemory, inr refl, refl, refl)))
+returns-in_default g c = inl (_, c.in_ok-names.ensures, inr (refl, (OutOfMemory, inr (inr refl), refl, refl)))

@@ -1,10 +1,10 @@
 use Rattle.std.proofs.Common.{◌≡◌, ◌∙◌, ◌+◌, ◌≤◌, ap, arith, drop, inl, inr, length, subst, sym, take}
 use Rattle.std.proofs.lemmas.List.{take_all}
+use Rattle.ira_files.specs.Shelf.{WritesFile}
 use Rattle.ira_main.proofs.LogFiles.{written_next}
 use Rattle.ira_main.proofs.PartsAt.{parts_at}
 use Rattle.ira_main.specs.LogFiles.{WritesLogs}
 use Rattle.ira_main.specs.ProgramFault.{write_log_fault}
-use Rattle.ira_main.specs.Shelf.{WritesFile}
 use Rattle.ira_main.proofs.log_files.write_files.Goals as goal
 
 pub loop-place-preserved : goal.loop-place-preserved

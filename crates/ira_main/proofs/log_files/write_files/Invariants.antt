@@ -1,6 +1,6 @@
 use Rattle.std.proofs.Common.{take}
+use Rattle.ira_files.specs.Shelf.{WritesFile}
 use Rattle.ira_main.specs.LogFiles.{WritesLogs}
-use Rattle.ira_main.specs.Shelf.{WritesFile}
 use Rattle.ira_main.proofs.log_files.write_files.Given as goal
 
 abbrev pub invariant-loop-place : goal.invariant-loop-place

@@ -29,7 +29,7 @@ returns g c =
         never = λ e.
             let never = c.in_ok-answer.ensures.yes taken.0 taken.1 (ap Ok e) in
             rw (c.bytes-question.ensures, c.bytes-certificate.ensures) at never;
-        reported = c.report.ensures;
+        told = c.report.ensures;
       }),
     )
 

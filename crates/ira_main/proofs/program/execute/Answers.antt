@@ -2,13 +2,13 @@ use Rattle.std.proofs.Common.{◌≡◌, Err, List, [], ◌∷◌, ℕ, ap, refl
 use Rattle.std.proofs.lemmas.Result.{err_from_is_err_and}
 use Rattle.ira_event.specs.Sink.{SinkState}
 use Rattle.ira_words.specs.declared.words_fault.WordsFault.TheVariants as fault
-use Rattle.ira_main.specs.Counted.{Reads}
+use Rattle.ira_files.specs.Counted.{Reads}
+use Rattle.ira_files.specs.Shelf.{Reading, Writing}
 use Rattle.ira_main.specs.Outcome.{Outcome}
 use Rattle.ira_main.specs.Serve.{Serves}
-use Rattle.ira_main.specs.Serve.Done.{certified, recorded, refused}
+use Rattle.ira_main.specs.Serve.Done.{certified, explained, recorded, refused}
 use Rattle.ira_main.specs.Serve.Judges.{no_memory}
 use Rattle.ira_main.specs.Serve.Serves.{with_words, without_words}
-use Rattle.ira_main.specs.Shelf.{Reading, Writing}
 use Rattle.ira_main.specs.declared.program_fault.ProgramFault.TheVariants.{OutOfMemory}
 use Rattle.ira_main.proofs.program.execute.Goals as goal
 
@@ -30,6 +30,15 @@ returns-in-Check-clause-executed g c =
     let first = made.first in
     let same = left.1 in
     with_words (λ none. cc) same.input_is (certified _ made same.shelf_is (rw (same.shelf_is, same.out_is) at c.check_files.ensures))
+
+pub returns-in-ExplainCheck-clause-executed : goal.returns-in-ExplainCheck-clause-executed
+returns-in-ExplainCheck-clause-executed g c =
+    let left = c.in-ExplainCheck.ensures.served in
+    let made = left.1 in
+    let first = made.first in
+    let same = left.3 in
+    with_words (λ none. cc) same.input_is
+    (explained _ made same.shelf_is (rw left.2 (rw (same.shelf_is, same.out_is) at c.explain_check_files.ensures)))
 
 pub returns-clause-executed : goal.returns-clause-executed
 returns-clause-executed g c =

@@ -29,15 +29,25 @@ returns-in-Logs-clause-served g c =
     let made = subst (IsMadeOf (map (λ w. w.now) c.args.words.now)) c.in-Logs.is c.in-Ok.ensures.made in
     with_words (some_words _ _ _ made.first) refl (judged _ made refl c.judge_files.ensures)
 
-pub returns-in-Some-clause-served : goal.returns-in-Some-clause-served
-returns-in-Some-clause-served g c =
+pub returns-in-OneLog-answer-clause-served : goal.returns-in-OneLog-answer-clause-served
+returns-in-OneLog-answer-clause-served g c =
     let made = subst (IsMadeOf (map (λ w. w.now) c.args.words.now)) c.in-Explain.is c.in-Ok.ensures.made in
-    with_words (some_words _ _ _ made.first) refl (explained_of_logs _ _ made c.in-Some.is refl c.explain_files.ensures)
+    explained _ made c.in-OneLog-answer.is refl c.explain_input.ensures.judged
 
-pub returns-in-Explain-clause-served : goal.returns-in-Explain-clause-served
-returns-in-Explain-clause-served g c =
+pub returns-in-Logs-answer-clause-served : goal.returns-in-Logs-answer-clause-served
+returns-in-Logs-answer-clause-served g c =
     let made = subst (IsMadeOf (map (λ w. w.now) c.args.words.now)) c.in-Explain.is c.in-Ok.ensures.made in
-    explained _ made c.in-None.is refl c.explain_input.ensures.judged
+    with_words (some_words _ _ _ made.first) refl (explained_of_logs _ made refl (rw c.in-Logs-answer.is c.explain_files.ensures))
+
+pub returns-in-Findings-clause-served : goal.returns-in-Findings-clause-served
+returns-in-Findings-clause-served g c =
+    let made = subst (IsMadeOf (map (λ w. w.now) c.args.words.now)) c.in-Explain.is c.in-Ok.ensures.made in
+    with_words (some_words _ _ _ made.first) refl (explained_of_logs _ made refl (rw c.in-Findings.is c.explain_question_files.ensures))
+
+pub returns-in-Certificate-clause-served : goal.returns-in-Certificate-clause-served
+returns-in-Certificate-clause-served g c =
+    let made = subst (IsMadeOf (map (λ w. w.now) c.args.words.now)) c.in-Explain.is c.in-Ok.ensures.made in
+    (_, made, c.in-Certificate.is, record { input_is = refl; shelf_is = refl; out_is = refl })
 
 pub returns-in-Check-clause-served : goal.returns-in-Check-clause-served
 returns-in-Check-clause-served g c =

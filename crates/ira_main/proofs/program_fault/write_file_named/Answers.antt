@@ -2,7 +2,7 @@ use Rattle.std.proofs.Common.{◌≡◌, ◌∙◌, ◌++◌, List, ℕ, ap, app
 use Rattle.ira_event.specs.Sink.{Wrote}
 use Rattle.ira_main.proofs.program_fault.write_file_named.Goals as goal
 
--- what stands before a name of four parts and behind it
+-- what stands before a name of four parts and after it
 regrouped : (before folder slash place log end : List ℕ)
     → before ++ (folder ++ slash ++ place ++ log) ++ end ≡ before ++ folder ++ (slash ++ place ++ (log ++ end))
 regrouped before folder slash place log end =

@@ -13,10 +13,17 @@ loop-link-preserved g c =
     let link = c.loop-link.link in
     let h = c.loop-link.invariant in
     let s : IsSettled c.args.logs.now c.loop-link.link c.loop-link.kept.items c.settle.new.kept c.settle.result =
-    subst (λ o. IsSettled c.args.logs.now c.loop-link.link o c.settle.new.kept c.settle.result) c.deref_mut.ensures.value c.settle.ensures in
-    let within : c.loop-link.link < length c.args.logs.now = omega (arith, c.loop-link-test.true, c.get-nodes.ensures.value, c.size.ensures.value) in
-    let back = written_back new old c.loop-link.kept.len (omega (arith, s.kept.places, h.are.places, c.deref_mut.ensures.len, ap length c.deref_mut.ensures.value)) in
-    rw back (record { are = s.kept; bounds = s.bounds h.bounds; settled = settled_round logs link old new c.settle.result s within h.settled })
+    subst (λ o. IsSettled c.args.logs.now c.loop-link.link o c.settle.new.kept c.settle.result)
+    c.deref_mut.ensures.value c.settle.ensures in
+    let within : c.loop-link.link < length c.args.logs.now =
+    omega (arith, c.loop-link-test.true, c.get-nodes.ensures.value, c.size.ensures.value) in
+    let back = written_back new old c.loop-link.kept.len
+    (omega (arith, s.kept.places, h.are.places, c.deref_mut.ensures.len, ap length c.deref_mut.ensures.value)) in
+    rw back (record {
+      are = s.kept;
+      bounds = s.bounds h.bounds;
+      settled = settled_round logs link old new c.settle.result s within h.settled;
+    })
 
 pub loop-link-2-preserved : goal.loop-link-2-preserved
 loop-link-2-preserved g c =
@@ -25,9 +32,18 @@ loop-link-2-preserved g c =
     let new = c.settle-in-loop-link-2.new.kept in
     let link = c.loop-link-2.link in
     let h = c.loop-link-2.invariant in
-    let s : IsSettled c.args.logs.now c.loop-link-2.link c.loop-link-2.kept.items c.settle-in-loop-link-2.new.kept c.settle-in-loop-link-2.result =
-    subst (λ o. IsSettled c.args.logs.now c.loop-link-2.link o c.settle-in-loop-link-2.new.kept c.settle-in-loop-link-2.result) c.deref_mut-in-loop-link-2.ensures.value c.settle-in-loop-link-2.ensures in
-    let back = written_back new old c.loop-link-2.kept.len (omega (arith, s.kept.places, h.are.places, c.deref_mut-in-loop-link-2.ensures.len, ap length c.deref_mut-in-loop-link-2.ensures.value)) in
+    let s : IsSettled c.args.logs.now c.loop-link-2.link c.loop-link-2.kept.items c.settle-in-loop-link-2.new.kept
+    c.settle-in-loop-link-2.result =
+    subst (λ o. IsSettled c.args.logs.now c.loop-link-2.link o c.settle-in-loop-link-2.new.kept
+    c.settle-in-loop-link-2.result) c.deref_mut-in-loop-link-2.ensures.value c.settle-in-loop-link-2.ensures in
+    let back = written_back new old c.loop-link-2.kept.len
+    (omega (
+      arith,
+      s.kept.places,
+      h.are.places,
+      c.deref_mut-in-loop-link-2.ensures.len,
+      ap length c.deref_mut-in-loop-link-2.ensures.value,
+    )) in
     let to : c.reader_of-link.result ≡ next (length c.args.logs.now) c.loop-link-2.link =
     c.reader_of-link.ensures ∙ ap (λ n. next n c.loop-link-2.link) (c.get-nodes.ensures.value ∙ c.size.ensures.value) in
     rw (back, to) (record {
@@ -44,7 +60,17 @@ returns g c =
     let new = c.settle-in-loop-link-2.new.kept in
     let link = c.loop-link-2.link in
     let h = c.loop-link-2.invariant in
-    let s : IsSettled c.args.logs.now c.loop-link-2.link c.loop-link-2.kept.items c.settle-in-loop-link-2.new.kept c.settle-in-loop-link-2.result =
-    subst (λ o. IsSettled c.args.logs.now c.loop-link-2.link o c.settle-in-loop-link-2.new.kept c.settle-in-loop-link-2.result) c.deref_mut-in-loop-link-2.ensures.value c.settle-in-loop-link-2.ensures in
-    let back = written_back new old c.loop-link-2.kept.len (omega (arith, s.kept.places, h.are.places, c.deref_mut-in-loop-link-2.ensures.len, ap length c.deref_mut-in-loop-link-2.ensures.value)) in
-    rw back (greatest_kept logs new s.kept (s.bounds h.bounds) (settled_all logs link old new c.settle-in-loop-link-2.result s c.loop-link-2-test.false h.settled))
+    let s : IsSettled c.args.logs.now c.loop-link-2.link c.loop-link-2.kept.items c.settle-in-loop-link-2.new.kept
+    c.settle-in-loop-link-2.result =
+    subst (λ o. IsSettled c.args.logs.now c.loop-link-2.link o c.settle-in-loop-link-2.new.kept
+    c.settle-in-loop-link-2.result) c.deref_mut-in-loop-link-2.ensures.value c.settle-in-loop-link-2.ensures in
+    let back = written_back new old c.loop-link-2.kept.len
+    (omega (
+      arith,
+      s.kept.places,
+      h.are.places,
+      c.deref_mut-in-loop-link-2.ensures.len,
+      ap length c.deref_mut-in-loop-link-2.ensures.value,
+    )) in
+    rw back (greatest_kept logs new s.kept (s.bounds h.bounds)
+    (settled_all logs link old new c.settle-in-loop-link-2.result s c.loop-link-2-test.false h.settled))

@@ -16,9 +16,12 @@ returns g c =
     let same : log_of c.args.logs.now (next (length c.args.logs.now) c.args.link) ≡ c.log.result.now.events =
     ap (log_of c.args.logs.now) (sym reader) ∙ ap events_of c.log.ensures.value in
     let many = rw (c.from.ensures, to) at c.if-old-sendings.false in
-    let is : IsBeginning (log_of c.args.logs.now (next (length c.args.logs.now) c.args.link)) c.with_receipts.result = rw same c.with_receipts.ensures.is in
+    let is : IsBeginning (log_of c.args.logs.now (next (length c.args.logs.now) c.args.link)) c.with_receipts.result =
+    rw same c.with_receipts.ensures.is in
     let from_here = rw (to, c.from.ensures) at c.with_receipts.ensures.longest in
-    let longest : IsLongestWith (log_of c.args.logs.now (next (length c.args.logs.now) c.args.link)) (kept_of c.args.kept.now (next (length c.args.logs.now) c.args.link)).events (kept_of c.args.kept.now c.args.link).sendings c.with_receipts.result.events =
+    let longest : IsLongestWith (log_of c.args.logs.now (next (length c.args.logs.now) c.args.link))
+    (kept_of c.args.kept.now (next (length c.args.logs.now) c.args.link)).events
+    (kept_of c.args.kept.now c.args.link).sendings c.with_receipts.result.events =
     rw same from_here in
     let few = rw c.from.ensures at c.with_receipts.ensures.few in
     rw to (settled_now logs kept link b c.size.ensures.valid.ring.0 c.requires.kept c.requires.link many is longest few)

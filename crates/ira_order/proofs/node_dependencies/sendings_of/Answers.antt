@@ -7,43 +7,71 @@ use Rattle.ira_order.proofs.Sendings.{sending_more, sending_over, sendings_end}
 use Rattle.ira_order.proofs.node_dependencies.sendings_of.Goals as goal
 
 pub overflow_add-received : goal.overflow_add-received
-overflow_add-received g c = omega (arith, c.loop-event.invariant.received, got_le c.args.log.now.events c.loop-event.number, receipts_le c.args.log.now.events, c.len.ensures.valid.count)
+overflow_add-received g c =
+    omega (
+      arith,
+      c.loop-event.invariant.received,
+      got_le c.args.log.now.events c.loop-event.number,
+      receipts_le c.args.log.now.events,
+      c.len.ensures.valid.count,
+    )
 
 pub loop-event-preserved-in-Got : goal.loop-event-preserved-in-Got
 loop-event-preserved-in-Got g c =
     let front : c.loop-event.event-iterator ≡ Got c.in-Got.field-0 ∷ c.next.new.self = search rules in
-    let at = next_ahead c.args.log.now.events c.loop-event.number (Got c.in-Got.field-0) c.next.new.self (sym front ∙ c.loop-event.invariant.ahead) in
+    let at = next_ahead c.args.log.now.events c.loop-event.number (Got c.in-Got.field-0) c.next.new.self (sym front
+    ∙ c.loop-event.invariant.ahead) in
     record {
       ahead = at.1;
       within = omega (arith, slice_get_within c.args.log.now.events c.loop-event.number (Got c.in-Got.field-0) at.0);
-      received = omega (arith, c.loop-event.invariant.received, got_more c.args.log.now.events c.loop-event.number (Got c.in-Got.field-0) at.0);
-      sendings = sending_over c.args.log.now.events c.loop-event.number (Got c.in-Got.field-0) _ at.0 (λ m q. cc) c.loop-event.invariant.sendings;
+      received = omega (
+        arith,
+        c.loop-event.invariant.received,
+        got_more c.args.log.now.events c.loop-event.number (Got c.in-Got.field-0) at.0,
+      );
+      sendings = sending_over c.args.log.now.events c.loop-event.number (Got c.in-Got.field-0) _ at.0 (λ m q.
+          cc) c.loop-event.invariant.sendings;
     }
 
 pub loop-event-preserved-in-Continue-branch-2 : goal.loop-event-preserved-in-Continue-branch-2
 loop-event-preserved-in-Continue-branch-2 g c =
     let front : c.loop-event.event-iterator ≡ Sent c.in-Sent.field-0 ∷ c.next.new.self = search rules in
-    let at = next_ahead c.args.log.now.events c.loop-event.number (Sent c.in-Sent.field-0) c.next.new.self (sym front ∙ c.loop-event.invariant.ahead) in
+    let at = next_ahead c.args.log.now.events c.loop-event.number (Sent c.in-Sent.field-0) c.next.new.self (sym front
+    ∙ c.loop-event.invariant.ahead) in
     record {
       ahead = at.1;
       within = omega (arith, slice_get_within c.args.log.now.events c.loop-event.number (Sent c.in-Sent.field-0) at.0);
-      received = omega (arith, c.loop-event.invariant.received, got_more c.args.log.now.events c.loop-event.number (Sent c.in-Sent.field-0) at.0);
+      received = omega (
+        arith,
+        c.loop-event.invariant.received,
+        got_more c.args.log.now.events c.loop-event.number (Sent c.in-Sent.field-0) at.0,
+      );
       sendings = rw c.in_ok-push-in-Sent.ensures.items
-          (sending_more c.args.log.now.events c.loop-event.number c.in-Sent.field-0 _ _ at.0 (omega arith) c.loop-event.invariant.received c.loop-event.invariant.sendings);
+          (sending_more c.args.log.now.events c.loop-event.number c.in-Sent.field-0 _ _ at.0 (omega arith)
+          c.loop-event.invariant.received c.loop-event.invariant.sendings);
     }
 
 pub loop-event-preserved : goal.loop-event-preserved
 loop-event-preserved g c =
     let front : c.loop-event.event-iterator ≡ c.in-Some.event ∷ c.next.new.self = search rules in
-    let at = next_ahead c.args.log.now.events c.loop-event.number c.in-Some.event c.next.new.self (sym front ∙ c.loop-event.invariant.ahead) in
+    let at = next_ahead c.args.log.now.events c.loop-event.number c.in-Some.event c.next.new.self (sym front
+    ∙ c.loop-event.invariant.ahead) in
     record {
       ahead = at.1;
       within = omega (arith, slice_get_within c.args.log.now.events c.loop-event.number c.in-Some.event at.0);
-      received = omega (arith, c.loop-event.invariant.received, got_more c.args.log.now.events c.loop-event.number c.in-Some.event at.0, receives_nothing c.in-Some.event (search rules));
-      sendings = sending_over c.args.log.now.events c.loop-event.number c.in-Some.event _ at.0 (search rules) c.loop-event.invariant.sendings;
+      received = omega (
+        arith,
+        c.loop-event.invariant.received,
+        got_more c.args.log.now.events c.loop-event.number c.in-Some.event at.0,
+        receives_nothing c.in-Some.event (search rules),
+      );
+      sendings = sending_over c.args.log.now.events c.loop-event.number c.in-Some.event _ at.0 (search rules)
+          c.loop-event.invariant.sendings;
     }
 
 pub returns : goal.returns
 returns g c =
     let front : c.loop-event.event-iterator ≡ [] = search rules in
-    sendings_end c.args.log.now.events c.loop-event.number _ (none_ahead c.args.log.now.events c.loop-event.number (sym front ∙ c.loop-event.invariant.ahead)) c.loop-event.invariant.sendings
+    sendings_end c.args.log.now.events c.loop-event.number _
+    (none_ahead c.args.log.now.events c.loop-event.number (sym front ∙ c.loop-event.invariant.ahead))
+    c.loop-event.invariant.sendings

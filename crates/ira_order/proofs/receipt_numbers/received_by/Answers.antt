@@ -7,5 +7,6 @@ pub returns : goal.returns
 returns c = λ events are.
     let numbers = c.args.numbers.now in
     let rises = numbers_rise events c.args.b numbers are in
-    let point = IsPartitionPoint-from_clause (λ number. leb number c.args.b) _ _ c.partition_point.ensures.partitioned rises (λ a r q k. search rules) in
+    let point = IsPartitionPoint-from_clause (λ number.
+    leb number c.args.b) _ _ c.partition_point.ensures.partitioned rises (λ a r q k. search rules) in
     numbers_point events c.args.b numbers are c.partition_point.result c.partition_point.ensures.bound point

@@ -8,7 +8,8 @@ use Rattle.ira_order.proofs.search.find_order.Goals as goal
 pub returns-in_err-match_links-clause-matching : goal.returns-in_err-match_links-clause-matching
 returns-in_err-match_links-clause-matching g c =
     let is : c.from_residual.result ≡ Err (Match c.in_err-match_links.field-0.0) = search rules in
-    let fault : IsMatchFault c.args.logs.now c.in_err-match_links.field-0.0 = (c.match_links.ensures.fault c.in_err-match_links.field-0.0).0 c.in_err-match_links.was in
+    let fault : IsMatchFault c.args.logs.now c.in_err-match_links.field-0.0 =
+    (c.match_links.ensures.fault c.in_err-match_links.field-0.0).0 c.in_err-match_links.was in
     match_answer c.args.logs.now c.from_residual.result c.in_err-match_links.field-0.0 is fault
 
 pub returns-in_err-longest-clause-matching : goal.returns-in_err-longest-clause-matching

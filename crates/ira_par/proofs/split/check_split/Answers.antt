@@ -1,59 +1,64 @@
-use Rattle.std.proofs.Common.{◌≡◌, ◌≤◌, ◌∙◌, ◌++◌, ◌∷◌, [], List, Ok, length, refl, ap, subst, arith}
+use Rattle.std.proofs.Common.{◌≡◌, ◌∙◌, ◌++◌, ◌∷◌, [], List, Ok, length, sym, ap, subst}
 use Rattle.ira_event.specs.Log.{Log}
 use Rattle.ira_cert.specs.declared.verdict.Verdict.TheVariants.{Yes, No}
-use Rattle.ira_par.specs.Batch.{Task}
+use Rattle.ira_cert.specs.Fronts.{AreFronts}
+use Rattle.ira_par.specs.Table.{AreTables, AreBelow}
+use Rattle.ira_par.specs.Task.{Task}
 use Rattle.ira_par.proofs.Answered.{answered}
 use Rattle.ira_par.proofs.Found.{only_task, one_yes, one_no}
 use Rattle.ira_par.proofs.split.check_split.Goals as goal
+use Rattle.ira_par.proofs.split.check_split.Goals.{After-judge_batch}
 
 pub returns-then-depth-eq0-clause-yes : goal.returns-then-depth-eq0-clause-yes
 returns-then-depth-eq0-clause-yes g c =
     let fronts = c.in_ok-fronts.ensures in
-    answered c.args.ordered.now.logs c.args.logs.now c.requires.order c.args.case.now fronts.different c.in_ok-fronts.fronts.items c.in_ok-fronts.fronts.items refl fronts.fronts c.args.section.now
+    answered c.args.ordered.now.logs c.args.logs.now c.requires.order c.args.case.now fronts.different (λ logs case. AreFronts logs case c.in_ok-fronts.fronts.items) fronts.fronts c.args.section.now
     (Ok c.check_fronts.result) c.check_fronts.ensures Yes
 
 pub returns-then-depth-eq0-clause-no : goal.returns-then-depth-eq0-clause-no
 returns-then-depth-eq0-clause-no g c = λ f.
     let fronts = c.in_ok-fronts.ensures in
-    answered c.args.ordered.now.logs c.args.logs.now c.requires.order c.args.case.now fronts.different c.in_ok-fronts.fronts.items c.in_ok-fronts.fronts.items refl fronts.fronts c.args.section.now
+    answered c.args.ordered.now.logs c.args.logs.now c.requires.order c.args.case.now fronts.different (λ logs case. AreFronts logs case c.in_ok-fronts.fronts.items) fronts.fronts c.args.section.now
     (Ok c.check_fronts.result) c.check_fronts.ensures (No f)
 
-pub judge-requires-clause-places : goal.judge-requires-clause-places
-judge-requires-clause-places g c κs within = λ k other at.
+pub judge_batch-requires-clause-places : goal.judge_batch-requires-clause-places
+judge_batch-requires-clause-places g c κs within = λ k other at.
     let task : Task = record { tables = c.in_ok-tables.tables.items; section = c.args.section.now } in
-    let pushed : c.push.new.self.tasks ≡ [] ++ task ∷ [] = c.in_ok-push.ensures.tasks ∙ ap (λ (ts : List Task). ts ++ task ∷ []) c.in_ok-batch.ensures.tasks in
-    let one = only_task c.push.new.self.tasks task other k pushed at in
-    subst (λ (t : Task). length t.tables ≤ length c.args.ordered.now.logs) one
-    (omega (arith, c.in_ok-tables.ensures.count, ap (λ (ls : List Log). length ls) c.requires.order))
+    let pushed : c.deref.result.now ≡ [] ++ task ∷ [] = c.deref.ensures.value ∙ c.in_ok-push.ensures.items ∙ ap (λ (ts : List Task). ts ++ task ∷ []) c.new-tasks.ensures.items in
+    let one = only_task c.deref.result.now task other k pushed at in
+    subst (λ (t : Task). AreBelow (length c.args.ordered.now.logs) t.tables) one
+    (subst (λ (ls : List Log). AreBelow (length ls) task.tables) (sym c.requires.order) c.in_ok-tables.ensures.places)
+
+-- what is answered of the only section
+only : (g : _) (c : After-judge_batch g) → c.deref.result.now ≡ [] ++ record { tables = c.in_ok-tables.tables.items; section = c.args.section.now } ∷ []
+only g c =
+    let task : Task = record { tables = c.in_ok-tables.tables.items; section = c.args.section.now } in
+    c.deref.ensures.value ∙ c.in_ok-push.ensures.items ∙ ap (λ (ts : List Task). ts ++ task ∷ []) c.new-tasks.ensures.items
 
 pub returns-in-None-clause-yes : goal.returns-in-None-clause-yes
 returns-in-None-clause-yes g c =
     let tables = c.in_ok-tables.ensures in
     let task : Task = record { tables = c.in_ok-tables.tables.items; section = c.args.section.now } in
-    let pushed : c.push.new.self.tasks ≡ [] ++ task ∷ [] = c.in_ok-push.ensures.tasks ∙ ap (λ (ts : List Task). ts ++ task ∷ []) c.in_ok-batch.ensures.tasks in
-    answered c.args.ordered.now.logs c.args.logs.now c.requires.order c.args.case.now tables.different c.in_ok-tables.tables.items c.in_ok-tables.tables.items refl tables.tables c.args.section.now
-    (Ok Yes) (one_yes c.args.ordered.now.logs c.push.new.self.tasks task pushed c.judge.result c.judge.ensures c.in-None.is) Yes
+    answered c.args.ordered.now.logs c.args.logs.now c.requires.order c.args.case.now tables.different (λ logs case. AreTables logs case c.in_ok-tables.tables.items) tables.tables c.args.section.now
+    (Ok Yes) (one_yes c.args.ordered.now.logs c.deref.result.now task (only g (goal.at.returns-in-None-clause-yes g c).After-judge_batch) c.in_ok-found.found c.in_ok-found.ensures c.in-None.is) Yes
 
 pub returns-in-None-clause-no : goal.returns-in-None-clause-no
 returns-in-None-clause-no g c = λ f.
     let tables = c.in_ok-tables.ensures in
     let task : Task = record { tables = c.in_ok-tables.tables.items; section = c.args.section.now } in
-    let pushed : c.push.new.self.tasks ≡ [] ++ task ∷ [] = c.in_ok-push.ensures.tasks ∙ ap (λ (ts : List Task). ts ++ task ∷ []) c.in_ok-batch.ensures.tasks in
-    answered c.args.ordered.now.logs c.args.logs.now c.requires.order c.args.case.now tables.different c.in_ok-tables.tables.items c.in_ok-tables.tables.items refl tables.tables c.args.section.now
-    (Ok Yes) (one_yes c.args.ordered.now.logs c.push.new.self.tasks task pushed c.judge.result c.judge.ensures c.in-None.is) (No f)
+    answered c.args.ordered.now.logs c.args.logs.now c.requires.order c.args.case.now tables.different (λ logs case. AreTables logs case c.in_ok-tables.tables.items) tables.tables c.args.section.now
+    (Ok Yes) (one_yes c.args.ordered.now.logs c.deref.result.now task (only g (goal.at.returns-in-None-clause-no g c).After-judge_batch) c.in_ok-found.found c.in_ok-found.ensures c.in-None.is) (No f)
 
-pub returns-in-Some-clause-yes : goal.returns-in-Some-clause-yes
-returns-in-Some-clause-yes g c =
+pub returns-clause-yes : goal.returns-clause-yes
+returns-clause-yes g c =
     let tables = c.in_ok-tables.ensures in
     let task : Task = record { tables = c.in_ok-tables.tables.items; section = c.args.section.now } in
-    let pushed : c.push.new.self.tasks ≡ [] ++ task ∷ [] = c.in_ok-push.ensures.tasks ∙ ap (λ (ts : List Task). ts ++ task ∷ []) c.in_ok-batch.ensures.tasks in
-    answered c.args.ordered.now.logs c.args.logs.now c.requires.order c.args.case.now tables.different c.in_ok-tables.tables.items c.in_ok-tables.tables.items refl tables.tables c.args.section.now
-    (Ok (No c.in-Some.found.fault)) (one_no c.args.ordered.now.logs c.push.new.self.tasks task pushed c.judge.result c.judge.ensures c.in-Some.found c.in-Some.is) Yes
+    answered c.args.ordered.now.logs c.args.logs.now c.requires.order c.args.case.now tables.different (λ logs case. AreTables logs case c.in_ok-tables.tables.items) tables.tables c.args.section.now
+    (Ok (No c.in-Some.unsound.fault)) (one_no c.args.ordered.now.logs c.deref.result.now task (only g (goal.at.returns-clause-yes g c).After-judge_batch) c.in_ok-found.found c.in_ok-found.ensures c.in-Some.unsound c.in-Some.is) Yes
 
-pub returns-in-Some-clause-no : goal.returns-in-Some-clause-no
-returns-in-Some-clause-no g c = λ f.
+pub returns-clause-no : goal.returns-clause-no
+returns-clause-no g c = λ f.
     let tables = c.in_ok-tables.ensures in
     let task : Task = record { tables = c.in_ok-tables.tables.items; section = c.args.section.now } in
-    let pushed : c.push.new.self.tasks ≡ [] ++ task ∷ [] = c.in_ok-push.ensures.tasks ∙ ap (λ (ts : List Task). ts ++ task ∷ []) c.in_ok-batch.ensures.tasks in
-    answered c.args.ordered.now.logs c.args.logs.now c.requires.order c.args.case.now tables.different c.in_ok-tables.tables.items c.in_ok-tables.tables.items refl tables.tables c.args.section.now
-    (Ok (No c.in-Some.found.fault)) (one_no c.args.ordered.now.logs c.push.new.self.tasks task pushed c.judge.result c.judge.ensures c.in-Some.found c.in-Some.is) (No f)
+    answered c.args.ordered.now.logs c.args.logs.now c.requires.order c.args.case.now tables.different (λ logs case. AreTables logs case c.in_ok-tables.tables.items) tables.tables c.args.section.now
+    (Ok (No c.in-Some.unsound.fault)) (one_no c.args.ordered.now.logs c.deref.result.now task (only g (goal.at.returns-clause-no g c).After-judge_batch) c.in_ok-found.found c.in_ok-found.ensures c.in-Some.unsound c.in-Some.is) (No f)

@@ -1,39 +1,40 @@
 use Rattle.std.proofs.Common.{◌≡◌, ◌+◌, ◌∷◌, [], ℕ, List, length, refl, sym, ap, ◌∙◌, subst, rules, arith}
 use Rattle.std.proofs.lemmas.List.{length-append}
 use Rattle.std.proofs.lemmas.Option.{slice_get_read}
-use Rattle.ira_par.specs.Batch.{Task, IsTaskOf}
+use Rattle.ira_par.specs.Task.{Task, IsTaskOf}
 use Rattle.ira_par.proofs.Found.{tasks_more}
 use Rattle.ira_par.proofs.split.next_batch.Goals as goal
 
-pub returns-then-is_full-clause-tasks : goal.returns-then-is_full-clause-tasks
-returns-then-is_full-clause-tasks g c =
-    let task : Task = record { tables = c.in_ok-tables.tables.items; section = c.index-sections-section.result } in
-    let is : IsTaskOf c.args.profiles.now c.args.cases.now c.args.sections.now c.loop-section.section task = record {
-      case = c.index-cases-section.result;
-      case_at = slice_get_read c.args.cases.now _ c.loop-section.section c.index-cases-section.result refl (search rules) c.index-cases-section.is;
-      section_at = slice_get_read c.args.sections.now (length c.args.cases.now) c.loop-section.section c.index-sections-section.result (sym c.requires.number) (search rules) c.index-sections-section.is;
+pub returns-then-entries-ge-FULL-clause-tasks : goal.returns-then-entries-ge-FULL-clause-tasks
+returns-then-entries-ge-FULL-clause-tasks g c =
+    let profiles = c.args.profiles.now in let cases = c.args.cases.now in let sections = c.args.sections.now in
+    let task : Task = record { tables = c.in_ok-tables.tables.items; section = c.index-sections-number.result } in
+    let is : IsTaskOf profiles cases sections c.loop-number.number task = record {
+      case = c.index-cases-number.result;
+      case_at = slice_get_read cases _ c.loop-number.number c.index-cases-number.result refl (search rules) c.index-cases-number.is;
+      section_at = slice_get_read sections (length cases) c.loop-number.number c.index-sections-number.result (sym c.requires.number) (search rules) c.index-sections-number.is;
       different = c.in_ok-tables.ensures.different;
-      places = c.in_ok-tables.ensures.count;
-      fronts = c.in_ok-tables.ensures.tables;
+      places = c.in_ok-tables.ensures.places;
+      tables = c.in_ok-tables.ensures.tables;
     } in
-    tasks_more c.args.profiles.now c.args.cases.now c.args.sections.now c.args.first c.loop-section.batch.tasks c.push.new.self.tasks task c.in_ok-push.ensures.tasks c.loop-section.invariant.tasks
-    (subst (λ (n : ℕ). IsTaskOf c.args.profiles.now c.args.cases.now c.args.sections.now n task) (sym c.loop-section.invariant.count) is)
+    tasks_more profiles cases sections c.args.first c.loop-number.batch.items c.push.new.self.items task c.in_ok-push.ensures.items c.loop-number.invariant.tasks
+    (subst (λ (n : ℕ). IsTaskOf profiles cases sections n task) (sym c.loop-number.invariant.count) is)
 
-pub loop-section-preserved : goal.loop-section-preserved
-loop-section-preserved g c =
-    let task : Task = record { tables = c.in_ok-tables.tables.items; section = c.index-sections-section.result } in
-    let is : IsTaskOf c.args.profiles.now c.args.cases.now c.args.sections.now c.loop-section.section task = record {
-      case = c.index-cases-section.result;
-      case_at = slice_get_read c.args.cases.now _ c.loop-section.section c.index-cases-section.result refl (search rules) c.index-cases-section.is;
-      section_at = slice_get_read c.args.sections.now (length c.args.cases.now) c.loop-section.section c.index-sections-section.result (sym c.requires.number) (search rules) c.index-sections-section.is;
+pub loop-number-preserved : goal.loop-number-preserved
+loop-number-preserved g c =
+    let profiles = c.args.profiles.now in let cases = c.args.cases.now in let sections = c.args.sections.now in
+    let task : Task = record { tables = c.in_ok-tables.tables.items; section = c.index-sections-number.result } in
+    let is : IsTaskOf profiles cases sections c.loop-number.number task = record {
+      case = c.index-cases-number.result;
+      case_at = slice_get_read cases _ c.loop-number.number c.index-cases-number.result refl (search rules) c.index-cases-number.is;
+      section_at = slice_get_read sections (length cases) c.loop-number.number c.index-sections-number.result (sym c.requires.number) (search rules) c.index-sections-number.is;
       different = c.in_ok-tables.ensures.different;
-      places = c.in_ok-tables.ensures.count;
-      fronts = c.in_ok-tables.ensures.tables;
+      places = c.in_ok-tables.ensures.places;
+      tables = c.in_ok-tables.ensures.tables;
     } in
-    let more : length c.push.new.self.tasks ≡ length c.loop-section.batch.tasks + 1 = ap (λ (ts : List Task). length ts) c.in_ok-push.ensures.tasks ∙ length-append c.loop-section.batch.tasks (task ∷ []) in
+    let more : length c.push.new.self.items ≡ length c.loop-number.batch.items + 1 = ap (λ (ts : List Task). length ts) c.in_ok-push.ensures.items ∙ length-append c.loop-number.batch.items (task ∷ []) in
     record {
-      blank = c.in_ok-push.ensures.blank;
-      tasks = tasks_more c.args.profiles.now c.args.cases.now c.args.sections.now c.args.first c.loop-section.batch.tasks c.push.new.self.tasks task c.in_ok-push.ensures.tasks c.loop-section.invariant.tasks
-          (subst (λ (n : ℕ). IsTaskOf c.args.profiles.now c.args.cases.now c.args.sections.now n task) (sym c.loop-section.invariant.count) is);
-      count = omega (arith, more, c.loop-section.invariant.count);
+      tasks = tasks_more profiles cases sections c.args.first c.loop-number.batch.items c.push.new.self.items task c.in_ok-push.ensures.items c.loop-number.invariant.tasks
+          (subst (λ (n : ℕ). IsTaskOf profiles cases sections n task) (sym c.loop-number.invariant.count) is);
+      count = omega (arith, more, c.loop-number.invariant.count);
     }

@@ -1,8 +1,11 @@
-use Rattle.std.proofs.Common.{rules, sym}
-use Rattle.ira_cert.proofs.CaseFronts.{fronts_if_found}
+use Rattle.std.proofs.Common.{rules}
+use Rattle.ira_par.proofs.CaseTables.{tables_if_found, below_if_found}
 use Rattle.ira_par.proofs.tables.case_tables.Goals as goal
 
 pub returns-clause-tables : goal.returns-clause-tables
 returns-clause-tables g c =
-    fronts_if_found c.args.logs.now c.args.case.now _ (λ n positions found. search rules) c.find_asked.result (λ all. all.items) c.size.result c.requires.places (sym c.size.ensures.value)
-    c.find_asked.ensures.count c.find_asked.ensures.found
+    tables_if_found c.args.logs.now c.args.case.now _ (λ n table found. search rules) (λ all. all.items) c.find_all.result c.find_all.ensures.count c.find_all.ensures.each
+
+pub returns-clause-places : goal.returns-clause-places
+returns-clause-places g c =
+    below_if_found c.args.logs.now c.args.case.now _ (λ n table found. search rules) (λ all. all.items) c.find_all.result c.requires.places c.find_all.ensures.each

@@ -16,7 +16,8 @@ loop-i-preserved g c =
     let rest = flat_map (cases_of_place n) (numbers_from (i + 1) (n - (i + 1))) in
     let below : i < n = omega (arith, c.loop-i-test.true, c.get-i-end.ensures.value) in
     let next = ap (flat_map (cases_of_place n)) (next-number i n below) in
-    ap (λ x. x ++ rest) c.in_ok-push_pairs.ensures ∙ shifted c.loop-i.cases.items (cases_of_place n i) left rest next ∙ c.loop-i.invariant
+    ap (λ x. x ++ rest) c.in_ok-push_pairs.ensures ∙ shifted c.loop-i.cases.items (cases_of_place n i) left rest next
+    ∙ c.loop-i.invariant
 
 pub of_parts-requires-clause-valid : goal.of_parts-requires-clause-valid
 of_parts-requires-clause-valid g c =
@@ -24,7 +25,8 @@ of_parts-requires-clause-valid g c =
     let n = c.args.nodes in
     let cases = c.loop-i.cases.items in
     let end : n ≤ i = omega (arith, c.loop-i-test.false, c.get-i-end.ensures.value) in
-    let all = sym (append-nil cases) ∙ ap (λ x. cases ++ x) (sym (ap (flat_map (cases_of_place n)) (last-number i n end))) ∙ c.loop-i.invariant in
+    let all = sym (append-nil cases)
+    ∙ ap (λ x. cases ++ x) (sym (ap (flat_map (cases_of_place n)) (last-number i n end))) ∙ c.loop-i.invariant in
     subst (λ x. IsQuestion (record { nodes = n; cases = x })) (sym all) (pairs-are-question n c.get.ensures.valid)
 
 pub of_parts-requires-clause-short : goal.of_parts-requires-clause-short
@@ -33,7 +35,8 @@ of_parts-requires-clause-short g c =
     let n = c.args.nodes in
     let cases = c.loop-i.cases.items in
     let end : n ≤ i = omega (arith, c.loop-i-test.false, c.get-i-end.ensures.value) in
-    let all = sym (append-nil cases) ∙ ap (λ x. cases ++ x) (sym (ap (flat_map (cases_of_place n)) (last-number i n end))) ∙ c.loop-i.invariant in
+    let all = sym (append-nil cases)
+    ∙ ap (λ x. cases ++ x) (sym (ap (flat_map (cases_of_place n)) (last-number i n end))) ∙ c.loop-i.invariant in
     subst (λ x. IsShort (record { nodes = n; cases = x })) (sym all) (pairs-short n c.get.ensures.valid.1)
 
 pub returns-clause-pairs : goal.returns-clause-pairs
@@ -42,6 +45,7 @@ returns-clause-pairs g c =
     let n = c.args.nodes in
     let cases = c.loop-i.cases.items in
     let end : n ≤ i = omega (arith, c.loop-i-test.false, c.get-i-end.ensures.value) in
-    let all = sym (append-nil cases) ∙ ap (λ x. cases ++ x) (sym (ap (flat_map (cases_of_place n)) (last-number i n end))) ∙ c.loop-i.invariant in
+    let all = sym (append-nil cases)
+    ∙ ap (λ x. cases ++ x) (sym (ap (flat_map (cases_of_place n)) (last-number i n end))) ∙ c.loop-i.invariant in
     let is : c.of_parts.result ≡ pairs_asked n = c.of_parts.ensures ∙ ap (λ x. record { nodes = n; cases = x }) all in
     (ap (λ (q : Asked). q.nodes) is, subst (λ (q : Asked). ArePairCases n q.cases) (sym is) (pair_cases n))

@@ -5,4 +5,5 @@ use Rattle.ira_pred.proofs.pairs.pairs_question.Given as goal
 
 abbrev pub invariant-loop-i : goal.invariant-loop-i
 invariant-loop-i g l =
-    l.cases.items ++ flat_map (cases_of_place l.nodes) (numbers_from l.i (l.nodes - l.i)) ≡ flat_map (cases_of_place l.nodes) (numbers_from 0 l.nodes)
+    l.cases.items ++ flat_map (cases_of_place l.nodes) (numbers_from l.i (l.nodes - l.i))
+    ≡ flat_map (cases_of_place l.nodes) (numbers_from 0 l.nodes)

@@ -14,7 +14,8 @@ loop-j-preserved g c =
     let rest = map (pair_case i) (numbers_from (j + 1) (n - (j + 1))) in
     let below : j < n = omega (arith, c.loop-j-test.true, c.get-j-end.ensures.value) in
     let next = ap (map (pair_case i)) (next-number j n below) ∙ ap (λ x. x ∷ rest) (sym c.in_ok-pair_case.ensures) in
-    ap (λ x. x ++ rest) c.in_ok-push.ensures.items ∙ shifted c.loop-j.cases.items (case ∷ []) left rest next ∙ c.loop-j.invariant
+    ap (λ x. x ++ rest) c.in_ok-push.ensures.items ∙ shifted c.loop-j.cases.items (case ∷ []) left rest next
+    ∙ c.loop-j.invariant
 
 pub returns : goal.returns
 returns g c =
@@ -22,4 +23,5 @@ returns g c =
     let n = c.args.nodes in
     let cases = c.loop-j.cases.items in
     let end : n ≤ j = omega (arith, c.loop-j-test.false, c.get-j-end.ensures.value) in
-    sym (append-nil cases) ∙ ap (λ x. cases ++ x) (sym (ap (map (pair_case c.args.i)) (last-number j n end))) ∙ c.loop-j.invariant
+    sym (append-nil cases) ∙ ap (λ x. cases ++ x) (sym (ap (map (pair_case c.args.i)) (last-number j n end)))
+    ∙ c.loop-j.invariant

@@ -13,5 +13,7 @@ returns-then-is_too_deep c =
 
 pub returns : goal.returns
 returns c =
-    let shallow : ¬ (IsTooDeep c.split_at.result.0.now) = λ deep. let no = c.is_too_deep.ensures.1 deep in let is = c.if-is_too_deep.false in cc in
-    line_here _ c.args.text.now c.in-Some.end _ (sym c.line_end.ensures ∙ c.in-Some.is) (λ more. inr (subst (λ w. ¬ (IsTooDeep w)) c.split_at.ensures.front shallow, refl))
+    let shallow : ¬ (IsTooDeep c.split_at.result.0.now) = λ deep. let no = c.is_too_deep.ensures.1 deep in
+    let is = c.if-is_too_deep.false in cc in
+    line_here _ c.args.text.now c.in-Some.end _ (sym c.line_end.ensures ∙ c.in-Some.is) (λ more.
+    inr (subst (λ w. ¬ (IsTooDeep w)) c.split_at.ensures.front shallow, refl))

@@ -18,7 +18,8 @@ write_joined-returns-in_err-write_bytes g t c =
 
 pub write_joined-returns-in_err-write_clause : goal.write_joined-returns-in_err-write_clause
 write_joined-returns-in_err-write_clause g t c =
-    let stop = err_from_is_err_and c.from_residual-in_err-write_clause.result c.from_residual-in_err-write_clause.ensures.1 in
+    let stop = err_from_is_err_and c.from_residual-in_err-write_clause.result
+    c.from_residual-in_err-write_clause.ensures.1 in
     let left = clause_text (formula c.args.left.now) in
     let right = clause_text (formula c.args.right.now) in
     let word = c.args.word.now in
@@ -29,7 +30,8 @@ write_joined-returns-in_err-write_clause g t c =
 
 pub write_joined-returns-in_err-write_bytes-2 : goal.write_joined-returns-in_err-write_bytes-2
 write_joined-returns-in_err-write_bytes-2 g t c =
-    let stop = err_from_is_err_and c.from_residual-in_err-write_bytes-2.result c.from_residual-in_err-write_bytes-2.ensures.1 in
+    let stop = err_from_is_err_and c.from_residual-in_err-write_bytes-2.result
+    c.from_residual-in_err-write_bytes-2.ensures.1 in
     let left = clause_text (formula c.args.left.now) in
     let right = clause_text (formula c.args.right.now) in
     let word = c.args.word.now in
@@ -40,7 +42,8 @@ write_joined-returns-in_err-write_bytes-2 g t c =
 
 pub write_joined-returns-in_err-write_clause-2 : goal.write_joined-returns-in_err-write_clause-2
 write_joined-returns-in_err-write_clause-2 g t c =
-    let stop = err_from_is_err_and c.from_residual-in_err-write_clause-2.result c.from_residual-in_err-write_clause-2.ensures.1 in
+    let stop = err_from_is_err_and c.from_residual-in_err-write_clause-2.result
+    c.from_residual-in_err-write_clause-2.ensures.1 in
     let left = clause_text (formula c.args.left.now) in
     let right = clause_text (formula c.args.right.now) in
     let word = c.args.word.now in
@@ -57,7 +60,8 @@ write_joined-returns g t c =
     let front = Takes-append _ _ _ (codes "(") left c.in_ok-write_bytes.ensures c.in_ok-write_clause.ensures in
     let middle = Takes-append _ _ _ (codes "(" ++ left) word front c.in_ok-write_bytes-2.ensures in
     let back = Takes-append _ _ _ (codes "(" ++ left ++ word) right middle c.in_ok-write_clause-2.ensures in
-    Wrote-then c.write_bytes-3.result _ _ _ (codes "(" ++ left ++ word ++ right) (codes ")") back c.write_bytes-3.ensures
+    Wrote-then c.write_bytes-3.result _ _ _ (codes "(" ++ left ++ word
+    ++ right) (codes ")") back c.write_bytes-3.ensures
 
 pub write_negated-returns-in_err-write_bytes : goal.write_negated-returns-in_err-write_bytes
 write_negated-returns-in_err-write_bytes g t c =
@@ -68,7 +72,8 @@ write_negated-returns-in_err-write_bytes g t c =
 
 pub write_negated-returns-in_err-write_clause : goal.write_negated-returns-in_err-write_clause
 write_negated-returns-in_err-write_clause g t c =
-    let stop = err_from_is_err_and c.from_residual-in_err-write_clause.result c.from_residual-in_err-write_clause.ensures.1 in
+    let stop = err_from_is_err_and c.from_residual-in_err-write_clause.result
+    c.from_residual-in_err-write_clause.ensures.1 in
     let inner = clause_text (formula c.args.clause.now) in
     rw stop.1 (StopsIn-append _ _ (codes "(not " ++ inner) (codes ")")
     (Takes-StopsIn _ _ _ (codes "(not ") inner c.in_ok-write_bytes.ensures c.in_err-write_clause.ensures))

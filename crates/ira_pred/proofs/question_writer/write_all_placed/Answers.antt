@@ -12,8 +12,11 @@ loop-placed-preserved g c =
     let xs = c.args.clauses.now in
     let i = c.loop-placed.placed-index in
     let x = c.placed-item.result in
-    let next = ap (λ ys. flat_map conjunct_text (conjuncts ys)) (sym (drop-at xs i x x (omega arith) c.placed-item.is)) in
-    HasWritten-more (flat_map conjunct_text (conjuncts xs)) (flat_map conjunct_text (conjuncts (drop i xs))) (conjunct_text (conjunct x)) (flat_map conjunct_text (conjuncts (drop (i + 1) xs))) _ _ _ c.loop-placed.invariant next c.in_ok-write_placed.ensures
+    let next = ap (λ ys. flat_map conjunct_text (conjuncts ys)) (sym (drop-at xs i x x (omega arith) c.placed-item.is))
+    in
+    HasWritten-more (flat_map conjunct_text (conjuncts xs)) (flat_map conjunct_text (conjuncts (drop i xs)))
+    (conjunct_text (conjunct x)) (flat_map conjunct_text (conjuncts (drop (i + 1) xs))) _ _ _
+    c.loop-placed.invariant next c.in_ok-write_placed.ensures
 
 pub returns-in_err-write_placed : goal.returns-in_err-write_placed
 returns-in_err-write_placed g c =
@@ -21,5 +24,8 @@ returns-in_err-write_placed g c =
     let xs = c.args.clauses.now in
     let i = c.loop-placed.placed-index in
     let x = c.placed-item.result in
-    let next = ap (λ ys. flat_map conjunct_text (conjuncts ys)) (sym (drop-at xs i x x (omega arith) c.placed-item.is)) in
-    HasWritten-stops _ _ stop.1 (flat_map conjunct_text (conjuncts xs)) (flat_map conjunct_text (conjuncts (drop i xs))) (conjunct_text (conjunct x)) (flat_map conjunct_text (conjuncts (drop (i + 1) xs))) _ _ _ c.loop-placed.invariant next c.in_err-write_placed.ensures
+    let next = ap (λ ys. flat_map conjunct_text (conjuncts ys)) (sym (drop-at xs i x x (omega arith) c.placed-item.is))
+    in
+    HasWritten-stops _ _ stop.1 (flat_map conjunct_text (conjuncts xs)) (flat_map conjunct_text (conjuncts (drop i xs)))
+    (conjunct_text (conjunct x)) (flat_map conjunct_text (conjuncts (drop (i + 1) xs))) _ _ _
+    c.loop-placed.invariant next c.in_err-write_placed.ensures

@@ -7,4 +7,6 @@ use Rattle.ira_pred.proofs.question_writer.write_all_placed.Given as goal
 
 abbrev pub invariant-loop-placed : goal.invariant-loop-placed
 invariant-loop-placed g l =
-    HasWritten (flat_map conjunct_text (conjuncts l.fn.clauses)) (flat_map conjunct_text (conjuncts (drop l.placed-index l.fn.clauses))) (g.W.Sink.state l.fn.sink) (g.W.Sink.state l.sink)
+    HasWritten (flat_map conjunct_text (conjuncts l.fn.clauses))
+    (flat_map conjunct_text (conjuncts (drop l.placed-index l.fn.clauses))) (g.W.Sink.state l.fn.sink)
+    (g.W.Sink.state l.sink)

@@ -12,7 +12,8 @@ returns-in_err-write_bytes g c =
     let stop = err_from_is_err_and c.from_residual.result c.from_residual.ensures.1 in
     let text = case_text c.args.case.now in
     let lines = flat_map conjunct_text c.args.case.now in
-    HasWritten-stops _ _ stop.1 text text (codes "case\n") lines _ _ _ (HasWritten-start text _) refl c.in_err-write_bytes.ensures
+    HasWritten-stops _ _ stop.1 text text (codes "case\n") lines _ _ _ (HasWritten-start text _) refl
+    c.in_err-write_bytes.ensures
 
 pub returns : goal.returns
 returns g c =

@@ -12,7 +12,8 @@ loop-case-preserved g c =
     let i = c.loop-case.case-index in
     let x = c.case-item.result in
     let next = next_text case_text xs i x x (omega arith) c.case-item.is in
-    HasWritten-more (flat_map case_text xs) (flat_map case_text (drop i xs)) (case_text x) (flat_map case_text (drop (i + 1) xs)) _ _ _ c.loop-case.invariant next c.in_ok-write_case.ensures
+    HasWritten-more (flat_map case_text xs) (flat_map case_text (drop i xs)) (case_text x)
+    (flat_map case_text (drop (i + 1) xs)) _ _ _ c.loop-case.invariant next c.in_ok-write_case.ensures
 
 pub returns-in_err-write_case : goal.returns-in_err-write_case
 returns-in_err-write_case g c =
@@ -21,4 +22,5 @@ returns-in_err-write_case g c =
     let i = c.loop-case.case-index in
     let x = c.case-item.result in
     let next = next_text case_text xs i x x (omega arith) c.case-item.is in
-    HasWritten-stops _ _ stop.1 (flat_map case_text xs) (flat_map case_text (drop i xs)) (case_text x) (flat_map case_text (drop (i + 1) xs)) _ _ _ c.loop-case.invariant next c.in_err-write_case.ensures
+    HasWritten-stops _ _ stop.1 (flat_map case_text xs) (flat_map case_text (drop i xs)) (case_text x)
+    (flat_map case_text (drop (i + 1) xs)) _ _ _ c.loop-case.invariant next c.in_err-write_case.ensures

@@ -6,4 +6,5 @@ use Rattle.ira_pred.proofs.question_writer.write_cases.Given as goal
 
 abbrev pub invariant-loop-case : goal.invariant-loop-case
 invariant-loop-case g l =
-    HasWritten (flat_map case_text l.fn.cases) (flat_map case_text (drop l.case-index l.fn.cases)) (g.W.Sink.state l.fn.sink) (g.W.Sink.state l.sink)
+    HasWritten (flat_map case_text l.fn.cases) (flat_map case_text (drop l.case-index l.fn.cases))
+    (g.W.Sink.state l.fn.sink) (g.W.Sink.state l.sink)

@@ -10,7 +10,9 @@ pub returns : goal.returns
 returns g c =
     let clause = clause_text (formula c.args.placed.now.clause) in
     let text = conjunct_text (conjunct c.args.placed.now) in
-    let whole = sym (append_assoc c.place.result clause (codes "\n")) ∙ ap (λ w. w ++ clause ++ codes "\n") c.place.ensures in
+    let whole = sym (append_assoc c.place.result clause (codes "\n"))
+    ∙ ap (λ w. w ++ clause ++ codes "\n") c.place.ensures in
     HasWritten-last _ text (codes "\n") (codes "\n") _ _ _
     (HasWritten-more text (clause ++ codes "\n") clause (codes "\n") _ _ _
-    (HasWritten-more text text c.place.result (clause ++ codes "\n") _ _ _ (HasWritten-start text _) whole c.in_ok-write.ensures) refl c.in_ok-write_clause.ensures) refl c.write_bytes.ensures
+    (HasWritten-more text text c.place.result (clause ++ codes "\n") _ _ _ (HasWritten-start text _) whole
+    c.in_ok-write.ensures) refl c.in_ok-write_clause.ensures) refl c.write_bytes.ensures

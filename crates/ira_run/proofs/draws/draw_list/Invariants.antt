@@ -9,5 +9,6 @@ abbrev pub invariant-loop : goal.invariant-loop
 invariant-loop g l = record {
   room : l.fn.k ≤ vec_capacity l.list;
   number : vec_len l.list ≡ l.counter;
-  draws : l.list.items ++ map (id_of_word l.fn.nodes) (first_words pcg32 (l.fn.k - l.counter) l.words) ≡ draws l.fn.nodes l.fn.seed l.fn.place l.fn.k;
+  draws : l.list.items ++ map (id_of_word l.fn.nodes) (first_words pcg32 (l.fn.k - l.counter) l.words)
+      ≡ draws l.fn.nodes l.fn.seed l.fn.place l.fn.k;
 }

@@ -7,5 +7,6 @@ abbrev pub invariant-loop-place : goal.invariant-loop-place
 invariant-loop-place g l = record {
   room : l.fn.nodes ≤ vec_capacity l.lists;
   number : vec_len l.lists ≡ l.place;
-  lists : (place : ℕ) → IfSome (slice_get l.lists.items place) (λ list. list.items ≡ draws l.fn.nodes l.fn.seed place l.fn.k);
+  lists : (place : ℕ) → IfSome (slice_get l.lists.items place) (λ list. list.items
+      ≡ draws l.fn.nodes l.fn.seed place l.fn.k);
 }

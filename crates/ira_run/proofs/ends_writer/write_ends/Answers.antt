@@ -13,9 +13,12 @@ use Rattle.ira_run.proofs.EndLines.{drop-zip, next-text, HasWritten-whole}
 use Rattle.ira_run.proofs.ends_writer.write_ends.Goals as goal
 
 -- the end that is read
-end-at : (ends read : List NodeEnd) (i at : ℕ) → i < length ends → read ≡ ends → at ≡ i → slice_get ends i ≡ Some (slice_index_or read at Leader)
+end-at : (ends read : List NodeEnd) (i at : ℕ) → i < length ends → read ≡ ends → at ≡ i
+    → slice_get ends i ≡ Some (slice_index_or read at Leader)
 end-at ends read i at within same place =
-    slice_get-get_or ends i Leader within ∙ ap Some (ap (λ k. slice_index_or ends k Leader) (sym place) ∙ ap (λ xs. slice_index_or xs at Leader) (sym same))
+    slice_get-get_or ends i Leader within
+    ∙ ap Some (ap (λ k. slice_index_or ends k Leader) (sym place)
+    ∙ ap (λ xs. slice_index_or xs at Leader) (sym same))
 
 pub returns-in_err-write : goal.returns-in_err-write
 returns-in_err-write g c =
@@ -27,8 +30,13 @@ returns-in_err-write g c =
     let size = ap length c.logs.ensures.value in
     let within : i < length run.ends = omega (arith, c.ends.ensures.valid.ends) in
     let at_end = end-at run.ends c.ends.result.now i c.from.result within c.ends.ensures.value c.from.ensures in
-    let next = next-text end_text c.end_line.result (c.log.result.now, end) (drop i (zip run.logs run.ends)) (drop (i + 1) (zip run.logs run.ends)) c.end_line.ensures (drop-zip run.logs run.ends i c.log.result.now end at_log at_end) in
-    HasWritten-stops _ _ p.1 (ends_text run) (flat_map end_text (drop i (zip run.logs run.ends))) c.end_line.result (flat_map end_text (drop (i + 1) (zip run.logs run.ends))) _ _ _ c.loop-i.invariant next c.in_err-write.ensures
+    let next = next-text end_text c.end_line.result (
+      c.log.result.now,
+      end,
+    ) (drop i (zip run.logs run.ends)) (drop (i + 1) (zip run.logs run.ends)) c.end_line.ensures
+    (drop-zip run.logs run.ends i c.log.result.now end at_log at_end) in
+    HasWritten-stops _ _ p.1 (ends_text run) (flat_map end_text (drop i (zip run.logs run.ends))) c.end_line.result
+    (flat_map end_text (drop (i + 1) (zip run.logs run.ends))) _ _ _ c.loop-i.invariant next c.in_err-write.ensures
 
 pub loop-i-preserved : goal.loop-i-preserved
 loop-i-preserved g c =
@@ -39,8 +47,13 @@ loop-i-preserved g c =
     let size = ap length c.logs.ensures.value in
     let within : i < length run.ends = omega (arith, c.ends.ensures.valid.ends) in
     let at_end = end-at run.ends c.ends.result.now i c.from.result within c.ends.ensures.value c.from.ensures in
-    let next = next-text end_text c.end_line.result (c.log.result.now, end) (drop i (zip run.logs run.ends)) (drop (i + 1) (zip run.logs run.ends)) c.end_line.ensures (drop-zip run.logs run.ends i c.log.result.now end at_log at_end) in
-    HasWritten-more (ends_text run) (flat_map end_text (drop i (zip run.logs run.ends))) c.end_line.result (flat_map end_text (drop (i + 1) (zip run.logs run.ends))) _ _ _ c.loop-i.invariant next c.in_ok-write.ensures
+    let next = next-text end_text c.end_line.result (
+      c.log.result.now,
+      end,
+    ) (drop i (zip run.logs run.ends)) (drop (i + 1) (zip run.logs run.ends)) c.end_line.ensures
+    (drop-zip run.logs run.ends i c.log.result.now end at_log at_end) in
+    HasWritten-more (ends_text run) (flat_map end_text (drop i (zip run.logs run.ends))) c.end_line.result
+    (flat_map end_text (drop (i + 1) (zip run.logs run.ends))) _ _ _ c.loop-i.invariant next c.in_ok-write.ensures
 
 pub returns : goal.returns
 returns g c =
@@ -48,4 +61,5 @@ returns g c =
     let size = ap length c.logs.ensures.value in
     let short : length (zip run.logs run.ends) ≤ c.loop-i.i = rw length-zip (omega arith) in
     let left = flat_map end_text (drop c.loop-i.i (zip run.logs run.ends)) in
-    HasWritten-whole (ends_text run) left _ _ (ap (λ parts. flat_map end_text parts) (drop_all c.loop-i.i (zip run.logs run.ends) short)) c.loop-i.invariant
+    HasWritten-whole (ends_text run) left _ _
+    (ap (λ parts. flat_map end_text parts) (drop_all c.loop-i.i (zip run.logs run.ends) short)) c.loop-i.invariant

@@ -6,4 +6,5 @@ use Rattle.ira_run.proofs.ends_writer.write_ends.Given as goal
 
 abbrev pub invariant-loop-i : goal.invariant-loop-i
 invariant-loop-i g l =
-    HasWritten (ends_text l.fn.run) (flat_map end_text (drop l.i (zip l.fn.run.logs l.fn.run.ends))) (g.W.Sink.state l.fn.sink) (g.W.Sink.state l.sink)
+    HasWritten (ends_text l.fn.run) (flat_map end_text (drop l.i (zip l.fn.run.logs l.fn.run.ends)))
+    (g.W.Sink.state l.fn.sink) (g.W.Sink.state l.sink)

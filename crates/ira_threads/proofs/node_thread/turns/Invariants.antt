@@ -11,7 +11,8 @@ invariant-loop g l = record {
   links : (l.input.link ≡ l.initial.input.link) × (l.output.link ≡ l.initial.output.link);
   node : AreOfOneNode l.node.log l.initial.node.log;
   cap : l.node.cap ≡ l.initial.node.cap;
-  so_far : SoFar l.node.log l.initial.output.frames l.output.frames l.initial.input.frames l.input.frames l.draws l.left;
+  so_far : SoFar l.node.log l.initial.output.frames l.output.frames l.initial.input.frames l.input.frames l.draws
+      l.left;
   yields : YieldsBelow l.terms l.node.log.nodes (first_state l.node.log.initiator) l.node.log.events;
   ids : All (λ d. (1 ≤ d) × (d ≤ l.initial.node.log.nodes)) l.left;
 }

@@ -22,7 +22,10 @@ scoped-requires g c =
       at = λ a. (
         (kept, room.tasks, room.started_nodes.0, room.started_nodes.1, room.finished_nodes.0, room.finished_nodes.1),
         (
-          record { owned = bounds.send-A.owned; leaving = λ k. Quiet-if (k (of_param 2)) unseen unseen (λ x w. tt) (λ x w. tt) },
+          record {
+            owned = bounds.send-A.owned;
+            leaving = λ k. Quiet-if (k (of_param 2)) unseen unseen (λ x w. tt) (λ x w. tt);
+          },
           record { shared = bounds.sync-R.shared },
           record { shared = bounds.sync-G.shared },
           record { shared = bounds.sync-A.shared },
@@ -43,22 +46,34 @@ settle_all-requires-clause-none g c =
 pub settle_all-requires-clause-size : goal.settle_all-requires-clause-size
 settle_all-requires-clause-size g c =
     let kept : KeepsRules c.args.setup.now = c.if-not-keeps_rules.ensures.0 refl in
-    omega (arith, kept.size.0, collected c.args.setup.now.nodes c.in_ok-room.room.collector c.in_ok-room.ensures.collector)
+    omega (
+      arith,
+      kept.size.0,
+      collected c.args.setup.now.nodes c.in_ok-room.room.collector c.in_ok-room.ensures.collector,
+    )
 
 pub settle_all-requires-clause-ring : goal.settle_all-requires-clause-ring
 settle_all-requires-clause-ring g c =
-    let s : Setup = c.args.setup.now in
-    (s, sym (collected s.nodes c.in_ok-room.room.collector c.in_ok-room.ensures.collector), ok_of c.scoped.result c.in_ok-finished_nodes.finished_nodes (λ finished_nodes. AreFinishedOnRing s finished_nodes.items) c.in_ok-finished_nodes.was c.scoped.ensures.1.0)
+    let s : Setup = c.args.setup.now in (
+      s,
+      sym (collected s.nodes c.in_ok-room.room.collector c.in_ok-room.ensures.collector),
+      ok_of c.scoped.result c.in_ok-finished_nodes.finished_nodes (λ finished_nodes.
+          AreFinishedOnRing s finished_nodes.items) c.in_ok-finished_nodes.was c.scoped.ensures.1.0,
+    )
 
 pub returns-clause-kept : goal.returns-clause-kept
-returns-clause-kept g c = on_ok c.settle_all.result IsRun (λ run. KeepsRules c.args.setup.now) (λ run valid. c.if-not-keeps_rules.ensures.0 refl) c.settle_all.ensures.valid
+returns-clause-kept g c =
+    on_ok c.settle_all.result IsRun (λ run. KeepsRules c.args.setup.now) (λ run valid.
+    c.if-not-keeps_rules.ensures.0 refl) c.settle_all.ensures.valid
 
 pub returns-clause-recording : goal.returns-clause-recording
 returns-clause-recording g c =
     let s : Setup = c.args.setup.now in
-    let ring = ok_of c.scoped.result c.in_ok-finished_nodes.finished_nodes (λ finished_nodes. AreFinishedOnRing s finished_nodes.items) c.in_ok-finished_nodes.was c.scoped.ensures.1.0 in
+    let ring = ok_of c.scoped.result c.in_ok-finished_nodes.finished_nodes (λ finished_nodes.
+    AreFinishedOnRing s finished_nodes.items) c.in_ok-finished_nodes.was c.scoped.ensures.1.0 in
     let settled = c.settle_all.ensures in
-    is_recording_if_ok s c.in_ok-finished_nodes.finished_nodes.items c.settle_all.result settled.valid ring settled.passed settled.logs settled.ends
+    is_recording_if_ok s c.in_ok-finished_nodes.finished_nodes.items c.settle_all.result settled.valid ring
+    settled.passed settled.logs settled.ends
 
 pub returns-clause-agrees : goal.returns-clause-agrees
 returns-clause-agrees g c = recording_agrees_if_ok _ _ (returns-clause-recording g c)

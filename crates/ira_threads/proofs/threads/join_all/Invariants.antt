@@ -6,7 +6,8 @@ use Rattle.ira_threads.proofs.threads.join_all.Given as goal
 
 abbrev pub invariant-loop-started_node : goal.invariant-loop-started_node
 invariant-loop-started_node g l = record {
-  finished : l.all ≡ true → (past : List TaskPromise) × (past ++ l.started_nodes.items ≡ l.initial.started_nodes.items) × KeepPromises past l.finished_nodes.items;
+  finished : l.all ≡ true → (past : List TaskPromise) × (past ++ l.started_nodes.items ≡ l.initial.started_nodes.items)
+      × KeepPromises past l.finished_nodes.items;
   count : deque_len l.finished_nodes + deque_len l.started_nodes ≤ deque_len l.initial.started_nodes;
   room : deque_len l.initial.started_nodes ≤ deque_capacity l.finished_nodes;
 }

@@ -10,5 +10,6 @@ returns-clause-ok g c =
     let link = c.requires.tasks.0 in
     let finished_nodes = c.join_all-finished_nodes.result.0.items in
     let P : List TaskPromise → Type 0 = λ promises. KeepPromises promises finished_nodes in
-    let finished = subst P (c.start_all-started_nodes.ensures.promises c.if-not-all_started.false) (c.join_all-finished_nodes.ensures c.if-not-all.false) in
+    let finished = subst P (c.start_all-started_nodes.ensures.promises c.if-not-all_started.false)
+    (c.join_all-finished_nodes.ensures c.if-not-all.false) in
     (link, finished_on_places s s.cap 0 s.nodes link link c.args.tasks.items finished_nodes c.requires.tasks.1 finished)

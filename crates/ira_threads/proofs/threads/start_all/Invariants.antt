@@ -7,8 +7,10 @@ use Rattle.ira_threads.proofs.threads.start_all.Given as goal
 
 abbrev pub invariant-loop-task : goal.invariant-loop-task
 invariant-loop-task g l = record {
-  promises : l.started_nodes.items ++ map (promise_of l.setup) l.tasks.items ≡ map (promise_of l.setup) l.initial.tasks.items;
-  seated : (a : LinkName) × (b : LinkName) × AreTasksOfPlaces l.setup.cap (deque_len l.started_nodes) a l.tasks.items l.setup.nodes b;
+  promises : l.started_nodes.items ++ map (promise_of l.setup) l.tasks.items
+      ≡ map (promise_of l.setup) l.initial.tasks.items;
+  seated : (a : LinkName) × (b : LinkName)
+      × AreTasksOfPlaces l.setup.cap (deque_len l.started_nodes) a l.tasks.items l.setup.nodes b;
   count : deque_len l.started_nodes + deque_len l.tasks ≡ l.setup.nodes;
   room : l.setup.nodes ≤ deque_capacity l.started_nodes;
 }

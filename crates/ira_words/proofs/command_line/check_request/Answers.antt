@@ -18,8 +18,8 @@ pub unwrap-requires-3 : goal.unwrap-requires-3
 unwrap-requires-3 c =
     number_found 8 4 _ _ (found_of c.args.matches.now) (codes "depth") _ refl refl (omega arith) c.requires.taken (c.requires.found.1.1.0 refl) c.get_one.ensures.value
 
-pub returns : goal.returns
-returns c =
+pub returns-clause-asked : goal.returns-clause-asked
+returns-clause-asked c =
     let f = found_of c.args.matches.now in
     let none = rw c.unwrap-3.ensures at c.get_one.ensures.none in
     let value = rw c.unwrap-3.ensures at c.get_one.ensures.value in
@@ -28,5 +28,5 @@ returns c =
       certificate = sym (c.get_str-2.ensures ∙ first_value-rows f (codes "cert")) ∙ ap (option_map (λ s. s.now)) c.unwrap-2.ensures;
       depth = number_read 8 f (codes "depth") _ none value;
       shallow = number_in_range 8 4 _ _ f (codes "depth") _ refl refl c.requires.taken none value;
-      logs = c.requires.logs;
+      logs = c.in_ok-logs.ensures.found;
     }

@@ -9,11 +9,11 @@ pub unwrap-requires : goal.unwrap-requires
 unwrap-requires c =
     text_found _ (found_of c.args.matches.now) (codes "question") _ _ c.requires.taken (c.requires.found.0 refl) c.get_str.ensures
 
-pub returns : goal.returns
-returns c =
+pub returns-clause-asked : goal.returns-clause-asked
+returns-clause-asked c =
     let f = found_of c.args.matches.now in
     record {
       question = sym (c.get_str.ensures ∙ first_value-rows f (codes "question")) ∙ ap (option_map (λ s. s.now)) c.unwrap.ensures;
       certificate = sym (c.get_str-2.ensures ∙ first_value-rows f (codes "out"));
-      logs = c.requires.logs;
+      logs = c.in_ok-logs.ensures.found;
     }

@@ -1,324 +1,215 @@
-use Rattle.std.proofs.Common.{inl, inr, ◌≡◌, ◌∙◌, sym, ap, refl, subst, List, [], ◌∷◌, ◌++◌, ℕ, Option, None, Some, Result, Ok, Err, IfErr, IsErrAnd, codes, rules}
+use Rattle.std.proofs.Common.{inl, inr, ◌≡◌, ◌∙◌, sym, ap, subst, List, [], ◌∷◌, ◌++◌, ℕ, Option, None, Some, Result, Ok, Err, IfErr, IsErrAnd, codes, rules}
 use Rattle.std.specs.Prelude.{All, option_map}
-use Rattle.clap.specs.Simple.{built_leaf}
+use Rattle.clap.specs.Matches.{subcommand_name_of}
+use Rattle.clap.specs.Simple.{App, built, built_leaf, subcommand_rows_of}
 use Rattle.clap.specs.Walk.{Row, rows_after}
-use Rattle.clap.specs.Words.{HasMatchesOf}
-use Rattle.clap.specs.declared.error.kind.ErrorKind.{ErrorKind}
-use Rattle.clap.specs.declared.error.kind.ErrorKind.TheVariants as kind
-use Rattle.ira_words.specs.CommandLine.{ira_app, logs_app}
+use Rattle.clap.specs.declared.parser.matches.ArgMatches.{ArgMatches}
+use Rattle.ira_words.specs.CommandLine.{check_app, decide_app, explain_app, ira_app, logs_app, mend_app, pairs_app, run_app, upgrade_app, version_app}
 use Rattle.ira_words.specs.CheckRequest.{HasFiles}
 use Rattle.ira_words.specs.DecideRequest.{HasFilesToDecide}
-use Rattle.ira_words.specs.LogSource.{HasLogs, IsOfFiles, MayHaveLogs, MayNameLogs, NamesLogs}
-use Rattle.ira_words.specs.Request.{AreMatchesOf, IsFileName, NameLogsOnce}
+use Rattle.ira_words.specs.ExplainedAnswer.{HasAnswer, NamesAnswer}
+use Rattle.ira_words.specs.LogSource.{HasLogs, IsOfFiles, NamesLogs}
+use Rattle.ira_words.specs.Request.{AreMatchesOf, AskFor, Behind, IsFileName, GoTogether}
 use Rattle.ira_words.specs.RewriteRequest.{HasFilesToRewrite}
 use Rattle.ira_words.specs.RunRequest.{HasNumber, HasOptions}
-use Rattle.ira_words.proofs.BehindCommands.{check_found, check_taken, decide_found, decide_taken, explain_taken, logs_taken, mend_found, mend_taken, pairs_found, pairs_taken, run_found, run_taken, upgrade_found, upgrade_taken}
-use Rattle.ira_words.proofs.FirstWord.{IsCommand, command_met, met_by_first, rows_of_check, rows_of_decide, rows_of_explain, rows_of_logs, rows_of_mend, rows_of_pairs, rows_of_run, rows_of_upgrade}
+use Rattle.ira_words.specs.declared.options_fault.OptionsFault.{OptionsFault}
+use Rattle.ira_words.specs.declared.options_fault.OptionsFault.TheVariants as options
+use Rattle.ira_words.proofs.BehindCommands.{IsCommand, asked_for, check_command, decide_command, explain_command, found_behind, logs_command, mend_command, pairs_command, run_command, so_behind, upgrade_command, version_command}
+use Rattle.ira_words.proofs.FirstWord.{NamesOne, command_met}
 use Rattle.ira_words.proofs.GivenNames.{dashes_rows, of_files, words_rows}
 use Rattle.ira_words.proofs.command_line.found_request.Goals.{in_default-via-in-Some+in_default, in_default-via-in_default}
 use Rattle.ira_words.proofs.command_line.found_request.Goals as goal
 
--- a failure that is handed on
-refused_by : {X : Type 0} (r : Result X ErrorKind) (e : ErrorKind) (P : ErrorKind → Type 0) → IsErrAnd r (λ f. f ≡ e) → P e → IfErr r P
-refused_by (Ok x) e P is holds = tt
-refused_by (Err f) e P is holds = subst P (sym is) holds
+-- the name that an arm tests is the one that was met
+met_name : {X : Type 0} (n m : X) (o : Option X) → n ≡ m → Some n ≡ o → Some m ≡ o
+met_name n m o is met = ap (λ x. Some x) (sym is) ∙ met
+
+-- a failure after a command is handed on
+refused_behind : {X : Type 0} (r : Result X OptionsFault) (e : OptionsFault) (app : App) → IsCommand app → (m : ArgMatches) (found : List Row)
+    → Some found ≡ option_map (λ s. s.1) (subcommand_rows_of m) → Some app.top.name ≡ subcommand_name_of m
+    → (IsSo : List Row → Type 0) → ((words : List (List ℕ)) → GoTogether words → Behind app words IsSo)
+    → IsErrAnd r (λ f. f ≡ e) → (IsSo found → e ≡ options.OutOfMemory)
+    → IfErr r (λ why. (words : List (List ℕ)) → AreMatchesOf words m → GoTogether words → why ≡ options.OutOfMemory)
+refused_behind (Ok x) e app is m found read name IsSo once fails memory = tt
+refused_behind (Err f) e app is m found read name IsSo once fails memory =
+    λ words parse named. fails ∙ memory (so_behind app is m words parse found read name IsSo (once words named))
 
 pub log_source-requires : goal.log_source-requires
 log_source-requires c =
-    let parse = c.requires.1 in
     let arm = c.in-Some-logs-default in
-    (_, logs_taken _ _ c.requires.0 _ refl parse.found (λ _. parse.accepted) arm.ensures.rows (ap (λ n. Some n) (sym arm.is-logs) ∙ arm.ensures.name))
+    (_, (found_behind logs_app logs_command _ _ c.requires.1 _ arm.ensures.rows (met_name _ _ _ arm.is-logs arm.ensures.name)).taken)
 
 pub returns-in_err-log_source-in-Some-logs-default-clause-refused : goal.returns-in_err-log_source-in-Some-logs-default-clause-refused
 returns-in_err-log_source-in-Some-logs-default-clause-refused c =
-    refused_by c.from_residual.result c.in_err-log_source-in-Some-logs-default.field-0.0
-    (λ why. (words : List (List ℕ)) → AreMatchesOf words c.args.matches.now → NameLogsOnce words → why ≡ kind.OutOfMemory)
-    c.from_residual.ensures.1 (λ words parse once.
     let arm = c.in-Some-logs-default in
-    let name = ap (λ n. Some n) (sym arm.is-logs) ∙ arm.ensures.name in
-    let first = met_by_first _ _ words (codes "logs") refl parse.found (λ _. parse.accepted) name in
-    let Has : List (List ℕ) → Type 0 = λ ws. HasMatchesOf ira_app ws c.args.matches.now in
-    let rows = rows_of_logs _ _ first.0 _ refl (subst Has first.1 parse.found) arm.ensures.rows in
-    c.in_err-log_source-in-Some-logs-default.ensures.refused (subst NamesLogs (sym rows) (once.logs first.0 first.1)))
-
-pub found_logs-requires : goal.found_logs-requires
-found_logs-requires c =
-    let parse = c.requires.1 in
-    let arm = c.in-Some-explain-default in
-    (_, explain_taken _ _ c.requires.0 _ refl parse.found (λ _. parse.accepted) arm.ensures.rows (ap (λ n. Some n) (sym arm.is-explain) ∙ arm.ensures.name))
-
-pub returns-in_err-found_logs-in-Some-explain-default-clause-refused : goal.returns-in_err-found_logs-in-Some-explain-default-clause-refused
-returns-in_err-found_logs-in-Some-explain-default-clause-refused c =
-    refused_by c.from_residual-in_err-found_logs-in-Some-explain-default.result c.in_err-found_logs-in-Some-explain-default.field-0.0
-    (λ why. (words : List (List ℕ)) → AreMatchesOf words c.args.matches.now → NameLogsOnce words → why ≡ kind.OutOfMemory)
-    c.from_residual-in_err-found_logs-in-Some-explain-default.ensures.1 (λ words parse once.
-    let arm = c.in-Some-explain-default in
-    let name = ap (λ n. Some n) (sym arm.is-explain) ∙ arm.ensures.name in
-    let first = met_by_first _ _ words (codes "explain") refl parse.found (λ _. parse.accepted) name in
-    let Has : List (List ℕ) → Type 0 = λ ws. HasMatchesOf ira_app ws c.args.matches.now in
-    let rows = rows_of_explain _ _ first.0 _ refl (subst Has first.1 parse.found) arm.ensures.rows in
-    c.in_err-found_logs-in-Some-explain-default.ensures.refused (subst MayNameLogs (sym rows) (once.explain first.0 first.1)))
-
-pub log_source-requires-in-Some-check-default : goal.log_source-requires-in-Some-check-default
-log_source-requires-in-Some-check-default c =
-    let parse = c.requires.1 in
-    let arm = c.in-Some-check-default in
-    (_, check_taken _ _ c.requires.0 _ refl parse.found (λ _. parse.accepted) arm.ensures.rows (ap (λ n. Some n) (sym arm.is-check) ∙ arm.ensures.name))
-
-pub returns-in_err-logs-in-Some-check-default-clause-refused : goal.returns-in_err-logs-in-Some-check-default-clause-refused
-returns-in_err-logs-in-Some-check-default-clause-refused c =
-    refused_by c.from_residual-in_err-logs-in-Some-check-default.result c.in_err-logs-in-Some-check-default.field-0.0
-    (λ why. (words : List (List ℕ)) → AreMatchesOf words c.args.matches.now → NameLogsOnce words → why ≡ kind.OutOfMemory)
-    c.from_residual-in_err-logs-in-Some-check-default.ensures.1 (λ words parse once.
-    let arm = c.in-Some-check-default in
-    let name = ap (λ n. Some n) (sym arm.is-check) ∙ arm.ensures.name in
-    let first = met_by_first _ _ words (codes "check") refl parse.found (λ _. parse.accepted) name in
-    let Has : List (List ℕ) → Type 0 = λ ws. HasMatchesOf ira_app ws c.args.matches.now in
-    let rows = rows_of_check _ _ first.0 _ refl (subst Has first.1 parse.found) arm.ensures.rows in
-    c.in_err-logs-in-Some-check-default.ensures.refused (subst NamesLogs (sym rows) (once.check first.0 first.1)))
-
-pub log_source-requires-in-Some-decide-default : goal.log_source-requires-in-Some-decide-default
-log_source-requires-in-Some-decide-default c =
-    let parse = c.requires.1 in
-    let arm = c.in-Some-decide-default in
-    (_, decide_taken _ _ c.requires.0 _ refl parse.found (λ _. parse.accepted) arm.ensures.rows (ap (λ n. Some n) (sym arm.is-decide) ∙ arm.ensures.name))
-
-pub returns-in_err-logs-in-Some-decide-default-clause-refused : goal.returns-in_err-logs-in-Some-decide-default-clause-refused
-returns-in_err-logs-in-Some-decide-default-clause-refused c =
-    refused_by c.from_residual-in_err-logs-in-Some-decide-default.result c.in_err-logs-in-Some-decide-default.field-0.0
-    (λ why. (words : List (List ℕ)) → AreMatchesOf words c.args.matches.now → NameLogsOnce words → why ≡ kind.OutOfMemory)
-    c.from_residual-in_err-logs-in-Some-decide-default.ensures.1 (λ words parse once.
-    let arm = c.in-Some-decide-default in
-    let name = ap (λ n. Some n) (sym arm.is-decide) ∙ arm.ensures.name in
-    let first = met_by_first _ _ words (codes "decide") refl parse.found (λ _. parse.accepted) name in
-    let Has : List (List ℕ) → Type 0 = λ ws. HasMatchesOf ira_app ws c.args.matches.now in
-    let rows = rows_of_decide _ _ first.0 _ refl (subst Has first.1 parse.found) arm.ensures.rows in
-    c.in_err-logs-in-Some-decide-default.ensures.refused (subst NamesLogs (sym rows) (once.decide first.0 first.1)))
-
-pub log_source-requires-in-Some-upgrade-default : goal.log_source-requires-in-Some-upgrade-default
-log_source-requires-in-Some-upgrade-default c =
-    let parse = c.requires.1 in
-    let arm = c.in-Some-upgrade-default in
-    (_, upgrade_taken _ _ c.requires.0 _ refl parse.found (λ _. parse.accepted) arm.ensures.rows (ap (λ n. Some n) (sym arm.is-upgrade) ∙ arm.ensures.name))
-
-pub returns-in_err-logs-in-Some-upgrade-default-clause-refused : goal.returns-in_err-logs-in-Some-upgrade-default-clause-refused
-returns-in_err-logs-in-Some-upgrade-default-clause-refused c =
-    refused_by c.from_residual-in_err-logs-in-Some-upgrade-default.result c.in_err-logs-in-Some-upgrade-default.field-0.0
-    (λ why. (words : List (List ℕ)) → AreMatchesOf words c.args.matches.now → NameLogsOnce words → why ≡ kind.OutOfMemory)
-    c.from_residual-in_err-logs-in-Some-upgrade-default.ensures.1 (λ words parse once.
-    let arm = c.in-Some-upgrade-default in
-    let name = ap (λ n. Some n) (sym arm.is-upgrade) ∙ arm.ensures.name in
-    let first = met_by_first _ _ words (codes "upgrade") refl parse.found (λ _. parse.accepted) name in
-    let Has : List (List ℕ) → Type 0 = λ ws. HasMatchesOf ira_app ws c.args.matches.now in
-    let rows = rows_of_upgrade _ _ first.0 _ refl (subst Has first.1 parse.found) arm.ensures.rows in
-    c.in_err-logs-in-Some-upgrade-default.ensures.refused (subst NamesLogs (sym rows) (once.upgrade first.0 first.1)))
-
-pub log_source-requires-in-Some-mend-default : goal.log_source-requires-in-Some-mend-default
-log_source-requires-in-Some-mend-default c =
-    let parse = c.requires.1 in
-    let arm = c.in-Some-mend-default in
-    (_, mend_taken _ _ c.requires.0 _ refl parse.found (λ _. parse.accepted) arm.ensures.rows (ap (λ n. Some n) (sym arm.is-mend) ∙ arm.ensures.name))
-
-pub returns-in_err-logs-in-Some-mend-default-clause-refused : goal.returns-in_err-logs-in-Some-mend-default-clause-refused
-returns-in_err-logs-in-Some-mend-default-clause-refused c =
-    refused_by c.from_residual-in_err-logs-in-Some-mend-default.result c.in_err-logs-in-Some-mend-default.field-0.0
-    (λ why. (words : List (List ℕ)) → AreMatchesOf words c.args.matches.now → NameLogsOnce words → why ≡ kind.OutOfMemory)
-    c.from_residual-in_err-logs-in-Some-mend-default.ensures.1 (λ words parse once.
-    let arm = c.in-Some-mend-default in
-    let name = ap (λ n. Some n) (sym arm.is-mend) ∙ arm.ensures.name in
-    let first = met_by_first _ _ words (codes "mend") refl parse.found (λ _. parse.accepted) name in
-    let Has : List (List ℕ) → Type 0 = λ ws. HasMatchesOf ira_app ws c.args.matches.now in
-    let rows = rows_of_mend _ _ first.0 _ refl (subst Has first.1 parse.found) arm.ensures.rows in
-    c.in_err-logs-in-Some-mend-default.ensures.refused (subst NamesLogs (sym rows) (once.mend first.0 first.1)))
-
-pub check_request-requires-clause-taken : goal.check_request-requires-clause-taken
-check_request-requires-clause-taken c =
-    let parse = c.requires.1 in
-    let arm = c.in-Some-check-default in
-    check_taken _ _ c.requires.0 _ refl parse.found (λ _. parse.accepted) arm.ensures.rows (ap (λ n. Some n) (sym arm.is-check) ∙ arm.ensures.name)
-
-pub check_request-requires-clause-found : goal.check_request-requires-clause-found
-check_request-requires-clause-found c =
-    let parse = c.requires.1 in
-    let arm = c.in-Some-check-default in
-    check_found _ _ c.requires.0 _ refl parse.found (λ _. parse.accepted) arm.ensures.rows (ap (λ n. Some n) (sym arm.is-check) ∙ arm.ensures.name)
-
-pub decide_request-requires-clause-taken : goal.decide_request-requires-clause-taken
-decide_request-requires-clause-taken c =
-    let parse = c.requires.1 in
-    let arm = c.in-Some-decide-default in
-    decide_taken _ _ c.requires.0 _ refl parse.found (λ _. parse.accepted) arm.ensures.rows (ap (λ n. Some n) (sym arm.is-decide) ∙ arm.ensures.name)
-
-pub decide_request-requires-clause-found : goal.decide_request-requires-clause-found
-decide_request-requires-clause-found c =
-    let parse = c.requires.1 in
-    let arm = c.in-Some-decide-default in
-    decide_found _ _ c.requires.0 _ refl parse.found (λ _. parse.accepted) arm.ensures.rows (ap (λ n. Some n) (sym arm.is-decide) ∙ arm.ensures.name)
-
-pub pairs_nodes-requires-clause-taken : goal.pairs_nodes-requires-clause-taken
-pairs_nodes-requires-clause-taken c =
-    let parse = c.requires.1 in
-    let arm = c.in-Some-pairs-default in
-    pairs_taken _ _ c.requires.0 _ refl parse.found (λ _. parse.accepted) arm.ensures.rows (ap (λ n. Some n) (sym arm.is-pairs) ∙ arm.ensures.name)
-
-pub pairs_nodes-requires-clause-found : goal.pairs_nodes-requires-clause-found
-pairs_nodes-requires-clause-found c =
-    let parse = c.requires.1 in
-    let arm = c.in-Some-pairs-default in
-    pairs_found _ _ c.requires.0 _ refl parse.found (λ _. parse.accepted) arm.ensures.rows (ap (λ n. Some n) (sym arm.is-pairs) ∙ arm.ensures.name)
-
-pub run_request-requires-clause-taken : goal.run_request-requires-clause-taken
-run_request-requires-clause-taken c =
-    let parse = c.requires.1 in
-    let arm = c.in-Some-run-default in
-    run_taken _ _ c.requires.0 _ refl parse.found (λ _. parse.accepted) arm.ensures.rows (ap (λ n. Some n) (sym arm.is-run) ∙ arm.ensures.name)
-
-pub run_request-requires-clause-found : goal.run_request-requires-clause-found
-run_request-requires-clause-found c =
-    let parse = c.requires.1 in
-    let arm = c.in-Some-run-default in
-    run_found _ _ c.requires.0 _ refl parse.found (λ _. parse.accepted) arm.ensures.rows (ap (λ n. Some n) (sym arm.is-run) ∙ arm.ensures.name)
-
-pub rewrite_request-requires-clause-taken : goal.rewrite_request-requires-clause-taken
-rewrite_request-requires-clause-taken c =
-    let parse = c.requires.1 in
-    let arm = c.in-Some-upgrade-default in
-    upgrade_taken _ _ c.requires.0 _ refl parse.found (λ _. parse.accepted) arm.ensures.rows (ap (λ n. Some n) (sym arm.is-upgrade) ∙ arm.ensures.name)
-
-pub rewrite_request-requires-clause-found : goal.rewrite_request-requires-clause-found
-rewrite_request-requires-clause-found c =
-    let parse = c.requires.1 in
-    let arm = c.in-Some-upgrade-default in
-    upgrade_found _ _ c.requires.0 _ refl parse.found (λ _. parse.accepted) arm.ensures.rows (ap (λ n. Some n) (sym arm.is-upgrade) ∙ arm.ensures.name)
-
-pub rewrite_request-requires-in-Some-mend-default-clause-taken : goal.rewrite_request-requires-in-Some-mend-default-clause-taken
-rewrite_request-requires-in-Some-mend-default-clause-taken c =
-    let parse = c.requires.1 in
-    let arm = c.in-Some-mend-default in
-    mend_taken _ _ c.requires.0 _ refl parse.found (λ _. parse.accepted) arm.ensures.rows (ap (λ n. Some n) (sym arm.is-mend) ∙ arm.ensures.name)
-
-pub rewrite_request-requires-in-Some-mend-default-clause-found : goal.rewrite_request-requires-in-Some-mend-default-clause-found
-rewrite_request-requires-in-Some-mend-default-clause-found c =
-    let parse = c.requires.1 in
-    let arm = c.in-Some-mend-default in
-    mend_found _ _ c.requires.0 _ refl parse.found (λ _. parse.accepted) arm.ensures.rows (ap (λ n. Some n) (sym arm.is-mend) ∙ arm.ensures.name)
+    let failed = c.in_err-log_source-in-Some-logs-default in
+    refused_behind c.from_residual.result _ logs_app logs_command _ _ arm.ensures.rows (met_name _ _ _ arm.is-logs arm.ensures.name)
+    NamesLogs (λ words named. named.logs) c.from_residual.ensures.1 failed.ensures.refused
 
 pub returns-in_ok-log_source-in-Some-logs-default-clause-made : goal.returns-in_ok-log_source-in-Some-logs-default-clause-made
 returns-in_ok-log_source-in-Some-logs-default-clause-made c = λ words parse.
     let arm = c.in-Some-logs-default in
-    let name = ap (λ n. Some n) (sym arm.is-logs) ∙ arm.ensures.name in
-    let first = met_by_first _ _ words (codes "logs") refl parse.found (λ _. parse.accepted) name in
-    let Has : List (List ℕ) → Type 0 = λ ws. HasMatchesOf ira_app ws c.args.matches.now in
-    let rows = rows_of_logs _ _ first.0 _ refl (subst Has first.1 parse.found) arm.ensures.rows in
     let source = c.in_ok-log_source-in-Some-logs-default.field-0 in
-    let HasIts : List Row → Type 0 = λ found. HasLogs found source in
-    let given = subst HasIts rows c.in_ok-log_source-in-Some-logs-default.ensures.found in
+    let HasIts : List Row → Type 0 = λ rows. HasLogs rows source in
+    let asked : AskFor logs_app words HasIts =
+    asked_for logs_app logs_command _ words parse _ arm.ensures.rows (met_name _ _ _ arm.is-logs arm.ensures.name)
+    HasIts c.in_ok-log_source-in-Some-logs-default.ensures.found in
     let rules = (built_leaf logs_app.top).rules in
-    let marked : (front back : List (List ℕ)) → All IsFileName front → first.0 ≡ front ++ codes "--" ∷ back → IsOfFiles source (front ++ back) =
-    λ front back are apart. of_files source (front ++ back) (subst HasIts (ap (λ ws. rows_after rules [] ws) apart ∙ dashes_rows front back are) given) in
+    let marked : (front back : List (List ℕ)) → All IsFileName front → asked.others ≡ front ++ codes "--" ∷ back → IsOfFiles source (front ++ back) =
+    λ front back are apart. of_files source (front ++ back) (subst HasIts (ap (λ ws. rows_after rules [] ws) apart ∙ dashes_rows front back are) asked.found) in
     record {
-      accepted = parse.accepted;
-      others = first.0;
-      first = first.1;
-      given = given;
-      plain = λ are. of_files source first.0 (subst HasIts (words_rows first.0 are) given);
+      accepted = asked.accepted;
+      others = asked.others;
+      first = asked.first;
+      given = asked.found;
+      plain = λ are. of_files source asked.others (subst HasIts (words_rows asked.others are) asked.found);
       marked = marked;
     }
 
-pub returns-in_ok-found_logs-in-Some-explain-default-clause-made : goal.returns-in_ok-found_logs-in-Some-explain-default-clause-made
-returns-in_ok-found_logs-in-Some-explain-default-clause-made c = λ words parse.
+pub explained_answer-requires : goal.explained_answer-requires
+explained_answer-requires c =
     let arm = c.in-Some-explain-default in
-    let name = ap (λ n. Some n) (sym arm.is-explain) ∙ arm.ensures.name in
-    let first = met_by_first _ _ words (codes "explain") refl parse.found (λ _. parse.accepted) name in
-    let Has : List (List ℕ) → Type 0 = λ ws. HasMatchesOf ira_app ws c.args.matches.now in
-    let rows = rows_of_explain _ _ first.0 _ refl (subst Has first.1 parse.found) arm.ensures.rows in
-    let logs = c.in_ok-found_logs-in-Some-explain-default in
-    record { accepted = parse.accepted; others = first.0; first = first.1; logs = subst (λ found. MayHaveLogs found logs.field-0) rows logs.ensures.found }
+    found_behind explain_app explain_command _ _ c.requires.1 _ arm.ensures.rows (met_name _ _ _ arm.is-explain arm.ensures.name)
 
-pub returns-in_ok-logs-in-Some-check-default-clause-made : goal.returns-in_ok-logs-in-Some-check-default-clause-made
-returns-in_ok-logs-in-Some-check-default-clause-made c = λ words parse.
+pub returns-in_err-explained_answer-in-Some-explain-default-clause-refused : goal.returns-in_err-explained_answer-in-Some-explain-default-clause-refused
+returns-in_err-explained_answer-in-Some-explain-default-clause-refused c =
+    let arm = c.in-Some-explain-default in
+    let failed = c.in_err-explained_answer-in-Some-explain-default in
+    refused_behind c.from_residual-in_err-explained_answer-in-Some-explain-default.result _ explain_app explain_command _ _ arm.ensures.rows (met_name _ _ _ arm.is-explain arm.ensures.name)
+    NamesAnswer (λ words named. named.explain) c.from_residual-in_err-explained_answer-in-Some-explain-default.ensures.1 failed.ensures.refused
+
+pub returns-in_ok-explained_answer-in-Some-explain-default-clause-made : goal.returns-in_ok-explained_answer-in-Some-explain-default-clause-made
+returns-in_ok-explained_answer-in-Some-explain-default-clause-made c = λ words parse.
+    let arm = c.in-Some-explain-default in
+    asked_for explain_app explain_command _ words parse _ arm.ensures.rows (met_name _ _ _ arm.is-explain arm.ensures.name)
+    (λ rows. HasAnswer rows c.in_ok-explained_answer-in-Some-explain-default.field-0) c.in_ok-explained_answer-in-Some-explain-default.ensures.asked
+
+pub check_request-requires : goal.check_request-requires
+check_request-requires c =
     let arm = c.in-Some-check-default in
-    let name = ap (λ n. Some n) (sym arm.is-check) ∙ arm.ensures.name in
-    let first = met_by_first _ _ words (codes "check") refl parse.found (λ _. parse.accepted) name in
-    let Has : List (List ℕ) → Type 0 = λ ws. HasMatchesOf ira_app ws c.args.matches.now in
-    let rows = rows_of_check _ _ first.0 _ refl (subst Has first.1 parse.found) arm.ensures.rows in
-    record { accepted = parse.accepted; others = first.0; first = first.1; files = subst (λ found. HasFiles found c.check_request.result) rows c.check_request.ensures }
+    found_behind check_app check_command _ _ c.requires.1 _ arm.ensures.rows (met_name _ _ _ arm.is-check arm.ensures.name)
 
-pub returns-in_ok-logs-in-Some-decide-default-clause-made : goal.returns-in_ok-logs-in-Some-decide-default-clause-made
-returns-in_ok-logs-in-Some-decide-default-clause-made c = λ words parse.
+pub returns-in_err-check_request-in-Some-check-default-clause-refused : goal.returns-in_err-check_request-in-Some-check-default-clause-refused
+returns-in_err-check_request-in-Some-check-default-clause-refused c =
+    let arm = c.in-Some-check-default in
+    let failed = c.in_err-check_request-in-Some-check-default in
+    refused_behind c.from_residual-in_err-check_request-in-Some-check-default.result _ check_app check_command _ _ arm.ensures.rows (met_name _ _ _ arm.is-check arm.ensures.name)
+    NamesLogs (λ words named. named.check) c.from_residual-in_err-check_request-in-Some-check-default.ensures.1 failed.ensures.refused
+
+pub returns-in_ok-check_request-in-Some-check-default-clause-made : goal.returns-in_ok-check_request-in-Some-check-default-clause-made
+returns-in_ok-check_request-in-Some-check-default-clause-made c = λ words parse.
+    let arm = c.in-Some-check-default in
+    asked_for check_app check_command _ words parse _ arm.ensures.rows (met_name _ _ _ arm.is-check arm.ensures.name)
+    (λ rows. HasFiles rows c.in_ok-check_request-in-Some-check-default.field-0) c.in_ok-check_request-in-Some-check-default.ensures.asked
+
+pub decide_request-requires : goal.decide_request-requires
+decide_request-requires c =
     let arm = c.in-Some-decide-default in
-    let name = ap (λ n. Some n) (sym arm.is-decide) ∙ arm.ensures.name in
-    let first = met_by_first _ _ words (codes "decide") refl parse.found (λ _. parse.accepted) name in
-    let Has : List (List ℕ) → Type 0 = λ ws. HasMatchesOf ira_app ws c.args.matches.now in
-    let rows = rows_of_decide _ _ first.0 _ refl (subst Has first.1 parse.found) arm.ensures.rows in
-    record { accepted = parse.accepted; others = first.0; first = first.1; files = subst (λ found. HasFilesToDecide found c.decide_request.result) rows c.decide_request.ensures }
+    found_behind decide_app decide_command _ _ c.requires.1 _ arm.ensures.rows (met_name _ _ _ arm.is-decide arm.ensures.name)
+
+pub returns-in_err-decide_request-in-Some-decide-default-clause-refused : goal.returns-in_err-decide_request-in-Some-decide-default-clause-refused
+returns-in_err-decide_request-in-Some-decide-default-clause-refused c =
+    let arm = c.in-Some-decide-default in
+    let failed = c.in_err-decide_request-in-Some-decide-default in
+    refused_behind c.from_residual-in_err-decide_request-in-Some-decide-default.result _ decide_app decide_command _ _ arm.ensures.rows (met_name _ _ _ arm.is-decide arm.ensures.name)
+    NamesLogs (λ words named. named.decide) c.from_residual-in_err-decide_request-in-Some-decide-default.ensures.1 failed.ensures.refused
+
+pub returns-in_ok-decide_request-in-Some-decide-default-clause-made : goal.returns-in_ok-decide_request-in-Some-decide-default-clause-made
+returns-in_ok-decide_request-in-Some-decide-default-clause-made c = λ words parse.
+    let arm = c.in-Some-decide-default in
+    asked_for decide_app decide_command _ words parse _ arm.ensures.rows (met_name _ _ _ arm.is-decide arm.ensures.name)
+    (λ rows. HasFilesToDecide rows c.in_ok-decide_request-in-Some-decide-default.field-0) c.in_ok-decide_request-in-Some-decide-default.ensures.asked
+
+pub pairs_nodes-requires : goal.pairs_nodes-requires
+pairs_nodes-requires c =
+    let arm = c.in-Some-pairs-default in
+    found_behind pairs_app pairs_command _ _ c.requires.1 _ arm.ensures.rows (met_name _ _ _ arm.is-pairs arm.ensures.name)
 
 pub returns-in-Some-pairs-default-clause-made : goal.returns-in-Some-pairs-default-clause-made
 returns-in-Some-pairs-default-clause-made c = λ words parse.
     let arm = c.in-Some-pairs-default in
-    let name = ap (λ n. Some n) (sym arm.is-pairs) ∙ arm.ensures.name in
-    let first = met_by_first _ _ words (codes "pairs") refl parse.found (λ _. parse.accepted) name in
-    let Has : List (List ℕ) → Type 0 = λ ws. HasMatchesOf ira_app ws c.args.matches.now in
-    let rows = rows_of_pairs _ _ first.0 _ refl (subst Has first.1 parse.found) arm.ensures.rows in
-    record { accepted = parse.accepted; others = first.0; first = first.1; number = subst (λ found. HasNumber found (codes "N") c.pairs_nodes.result) rows c.pairs_nodes.ensures }
+    asked_for pairs_app pairs_command _ words parse _ arm.ensures.rows (met_name _ _ _ arm.is-pairs arm.ensures.name)
+    (λ rows. HasNumber rows (codes "N") c.pairs_nodes.result) c.pairs_nodes.ensures
+
+pub run_request-requires : goal.run_request-requires
+run_request-requires c =
+    let arm = c.in-Some-run-default in
+    found_behind run_app run_command _ _ c.requires.1 _ arm.ensures.rows (met_name _ _ _ arm.is-run arm.ensures.name)
 
 pub returns-in-Some-run-default-clause-made : goal.returns-in-Some-run-default-clause-made
 returns-in-Some-run-default-clause-made c = λ words parse.
     let arm = c.in-Some-run-default in
-    let name = ap (λ n. Some n) (sym arm.is-run) ∙ arm.ensures.name in
-    let first = met_by_first _ _ words (codes "run") refl parse.found (λ _. parse.accepted) name in
-    let Has : List (List ℕ) → Type 0 = λ ws. HasMatchesOf ira_app ws c.args.matches.now in
-    let rows = rows_of_run _ _ first.0 _ refl (subst Has first.1 parse.found) arm.ensures.rows in
-    record { accepted = parse.accepted; others = first.0; first = first.1; options = subst (λ found. HasOptions found c.run_request.result) rows c.run_request.ensures }
+    asked_for run_app run_command _ words parse _ arm.ensures.rows (met_name _ _ _ arm.is-run arm.ensures.name)
+    (λ rows. HasOptions rows c.run_request.result) c.run_request.ensures
 
-pub returns-in_ok-logs-in-Some-upgrade-default-clause-made : goal.returns-in_ok-logs-in-Some-upgrade-default-clause-made
-returns-in_ok-logs-in-Some-upgrade-default-clause-made c = λ words parse.
+pub rewrite_request-requires : goal.rewrite_request-requires
+rewrite_request-requires c =
     let arm = c.in-Some-upgrade-default in
-    let name = ap (λ n. Some n) (sym arm.is-upgrade) ∙ arm.ensures.name in
-    let first = met_by_first _ _ words (codes "upgrade") refl parse.found (λ _. parse.accepted) name in
-    let Has : List (List ℕ) → Type 0 = λ ws. HasMatchesOf ira_app ws c.args.matches.now in
-    let rows = rows_of_upgrade _ _ first.0 _ refl (subst Has first.1 parse.found) arm.ensures.rows in
-    record { accepted = parse.accepted; others = first.0; first = first.1; files = subst (λ found. HasFilesToRewrite found c.rewrite_request.result) rows c.rewrite_request.ensures }
+    (_, found_behind upgrade_app upgrade_command _ _ c.requires.1 _ arm.ensures.rows (met_name _ _ _ arm.is-upgrade arm.ensures.name))
 
-pub returns-in_ok-logs-in-Some-mend-default-clause-made : goal.returns-in_ok-logs-in-Some-mend-default-clause-made
-returns-in_ok-logs-in-Some-mend-default-clause-made c = λ words parse.
+pub returns-in_err-rewrite_request-in-Some-upgrade-default-clause-refused : goal.returns-in_err-rewrite_request-in-Some-upgrade-default-clause-refused
+returns-in_err-rewrite_request-in-Some-upgrade-default-clause-refused c =
+    let arm = c.in-Some-upgrade-default in
+    let failed = c.in_err-rewrite_request-in-Some-upgrade-default in
+    refused_behind c.from_residual-in_err-rewrite_request-in-Some-upgrade-default.result _ upgrade_app upgrade_command _ _ arm.ensures.rows (met_name _ _ _ arm.is-upgrade arm.ensures.name)
+    NamesLogs (λ words named. named.upgrade) c.from_residual-in_err-rewrite_request-in-Some-upgrade-default.ensures.1 failed.ensures.refused
+
+pub returns-in_ok-rewrite_request-in-Some-upgrade-default-clause-made : goal.returns-in_ok-rewrite_request-in-Some-upgrade-default-clause-made
+returns-in_ok-rewrite_request-in-Some-upgrade-default-clause-made c = λ words parse.
+    let arm = c.in-Some-upgrade-default in
+    asked_for upgrade_app upgrade_command _ words parse _ arm.ensures.rows (met_name _ _ _ arm.is-upgrade arm.ensures.name)
+    (λ rows. HasFilesToRewrite rows c.in_ok-rewrite_request-in-Some-upgrade-default.field-0) c.in_ok-rewrite_request-in-Some-upgrade-default.ensures.asked
+
+pub rewrite_request-requires-in-Some-mend-default : goal.rewrite_request-requires-in-Some-mend-default
+rewrite_request-requires-in-Some-mend-default c =
     let arm = c.in-Some-mend-default in
-    let name = ap (λ n. Some n) (sym arm.is-mend) ∙ arm.ensures.name in
-    let first = met_by_first _ _ words (codes "mend") refl parse.found (λ _. parse.accepted) name in
-    let Has : List (List ℕ) → Type 0 = λ ws. HasMatchesOf ira_app ws c.args.matches.now in
-    let rows = rows_of_mend _ _ first.0 _ refl (subst Has first.1 parse.found) arm.ensures.rows in
-    record { accepted = parse.accepted; others = first.0; first = first.1; files = subst (λ found. HasFilesToRewrite found c.rewrite_request-in-Some-mend-default.result) rows c.rewrite_request-in-Some-mend-default.ensures }
+    (_, found_behind mend_app mend_command _ _ c.requires.1 _ arm.ensures.rows (met_name _ _ _ arm.is-mend arm.ensures.name))
+
+pub returns-in_err-rewrite_request-in-Some-mend-default-clause-refused : goal.returns-in_err-rewrite_request-in-Some-mend-default-clause-refused
+returns-in_err-rewrite_request-in-Some-mend-default-clause-refused c =
+    let arm = c.in-Some-mend-default in
+    let failed = c.in_err-rewrite_request-in-Some-mend-default in
+    refused_behind c.from_residual-in_err-rewrite_request-in-Some-mend-default.result _ mend_app mend_command _ _ arm.ensures.rows (met_name _ _ _ arm.is-mend arm.ensures.name)
+    NamesLogs (λ words named. named.mend) c.from_residual-in_err-rewrite_request-in-Some-mend-default.ensures.1 failed.ensures.refused
+
+pub returns-in_ok-rewrite_request-in-Some-mend-default-clause-made : goal.returns-in_ok-rewrite_request-in-Some-mend-default-clause-made
+returns-in_ok-rewrite_request-in-Some-mend-default-clause-made c = λ words parse.
+    let arm = c.in-Some-mend-default in
+    asked_for mend_app mend_command _ words parse _ arm.ensures.rows (met_name _ _ _ arm.is-mend arm.ensures.name)
+    (λ rows. HasFilesToRewrite rows c.in_ok-rewrite_request-in-Some-mend-default.field-0) c.in_ok-rewrite_request-in-Some-mend-default.ensures.asked
 
 pub returns-in-Some-version-default-clause-made : goal.returns-in-Some-version-default-clause-made
 returns-in-Some-version-default-clause-made c = λ words parse.
     let arm = c.in-Some-version-default in
-    let name = ap (λ n. Some n) (sym arm.is-version) ∙ arm.ensures.name in
-    let first = met_by_first _ _ words (codes "version") refl parse.found (λ _. parse.accepted) name in
-    record { accepted = parse.accepted; others = first.0; first = first.1 }
-
-not_both : {X : Type 0} (o : Option X) (x : X) → o ≡ None → o ≡ Some x → ⊥
-not_both o x none some = cc
+    asked_for version_app version_command _ words parse _ arm.ensures.rows (met_name _ _ _ arm.is-version arm.ensures.name)
+    (λ rows. Unit {0}) tt
 
 same_text : (n m : List ℕ) → Some n ≡ Some m → n ≡ m
 same_text n m same = cc
 
-no_command : (n m : List ℕ) → Some n ≡ Some m → IsCommand m
+-- a name that is none of the commands' and not `help` isn't met
+no_command : (n m : List ℕ) → Some n ≡ Some m → NamesOne m (built ira_app).subs → (codes "help" ≡ m → ⊥)
     → (n ≡ codes "logs" → ⊥) → (n ≡ codes "explain" → ⊥) → (n ≡ codes "check" → ⊥)
     → (n ≡ codes "decide" → ⊥) → (n ≡ codes "pairs" → ⊥) → (n ≡ codes "run" → ⊥)
     → (n ≡ codes "upgrade" → ⊥) → (n ≡ codes "mend" → ⊥) → (n ≡ codes "version" → ⊥) → ⊥
-no_command n m same (inl is) logs explain check decide pairs run upgrade mend version = logs (same_text n m same ∙ sym is)
-no_command n m same (inr (inl is)) logs explain check decide pairs run upgrade mend version = explain (same_text n m same ∙ sym is)
-no_command n m same (inr (inr (inl is))) logs explain check decide pairs run upgrade mend version = check (same_text n m same ∙ sym is)
-no_command n m same (inr (inr (inr (inl is)))) logs explain check decide pairs run upgrade mend version = decide (same_text n m same ∙ sym is)
-no_command n m same (inr (inr (inr (inr (inl is))))) logs explain check decide pairs run upgrade mend version = pairs (same_text n m same ∙ sym is)
-no_command n m same (inr (inr (inr (inr (inr (inl is)))))) logs explain check decide pairs run upgrade mend version = run (same_text n m same ∙ sym is)
-no_command n m same (inr (inr (inr (inr (inr (inr (inl is))))))) logs explain check decide pairs run upgrade mend version = upgrade (same_text n m same ∙ sym is)
-no_command n m same (inr (inr (inr (inr (inr (inr (inr (inl is)))))))) logs explain check decide pairs run upgrade mend version = mend (same_text n m same ∙ sym is)
-no_command n m same (inr (inr (inr (inr (inr (inr (inr (inr is)))))))) logs explain check decide pairs run upgrade mend version = version (same_text n m same ∙ sym is)
+no_command n m same (inl is) help logs explain check decide pairs run upgrade mend version = logs (same_text n m same ∙ sym is)
+no_command n m same (inr (inl is)) help logs explain check decide pairs run upgrade mend version = explain (same_text n m same ∙ sym is)
+no_command n m same (inr (inr (inl is))) help logs explain check decide pairs run upgrade mend version = check (same_text n m same ∙ sym is)
+no_command n m same (inr (inr (inr (inl is)))) help logs explain check decide pairs run upgrade mend version = decide (same_text n m same ∙ sym is)
+no_command n m same (inr (inr (inr (inr (inl is))))) help logs explain check decide pairs run upgrade mend version = pairs (same_text n m same ∙ sym is)
+no_command n m same (inr (inr (inr (inr (inr (inl is)))))) help logs explain check decide pairs run upgrade mend version = run (same_text n m same ∙ sym is)
+no_command n m same (inr (inr (inr (inr (inr (inr (inl is))))))) help logs explain check decide pairs run upgrade mend version = upgrade (same_text n m same ∙ sym is)
+no_command n m same (inr (inr (inr (inr (inr (inr (inr (inl is)))))))) help logs explain check decide pairs run upgrade mend version = mend (same_text n m same ∙ sym is)
+no_command n m same (inr (inr (inr (inr (inr (inr (inr (inr (inl is))))))))) help logs explain check decide pairs run upgrade mend version = version (same_text n m same ∙ sym is)
+no_command n m same (inr (inr (inr (inr (inr (inr (inr (inr (inr (inl is)))))))))) help logs explain check decide pairs run upgrade mend version = help is
+no_command n m same (inr (inr (inr (inr (inr (inr (inr (inr (inr (inr is)))))))))) help logs explain check decide pairs run upgrade mend version = absurd is
+
+not_both : {X : Type 0} (o : Option X) (x : X) → o ≡ None → o ≡ Some x → ⊥
+not_both o x none some = cc
 
 pub unreachable-requires : goal.unreachable-requires
 unreachable-requires c =
-    let met = command_met _ _ c.requires.0 refl c.requires.1.found c.requires.1.accepted in
+    let met = command_met _ _ c.requires.1 in
     elim c.in_default.branch [
       | in_default-via-in-Some+in_default v ↦
           let n = v.in_default.field-0.0.now in
@@ -332,7 +223,7 @@ unreachable-requires c =
           let other_than_upgrade : n ≡ codes "upgrade" → ⊥ = search rules in
           let other_than_mend : n ≡ codes "mend" → ⊥ = search rules in
           let other_than_version : n ≡ codes "version" → ⊥ = search rules in
-          no_command n met.0 is met.2 other_than_logs other_than_explain other_than_check other_than_decide other_than_pairs other_than_run other_than_upgrade other_than_mend other_than_version
+          no_command n met.0 is met.2 met.3 other_than_logs other_than_explain other_than_check other_than_decide other_than_pairs other_than_run other_than_upgrade other_than_mend other_than_version
       | in_default-via-in_default v ↦
           let none = sym (ap (option_map (λ p. p.0.now)) v.in_default.is) ∙ c.subcommand.ensures.name in
           not_both _ _ (sym none) met.1

@@ -1,9 +1,9 @@
-use Rattle.std.proofs.Common.{◌≡◌, ◌∙◌, sym, subst, Result, Ok, Err, IfErr, IsErrAnd, map}
+use Rattle.std.proofs.Common.{◌≡◌, ◌∙◌, subst, map}
 use Rattle.clap.specs.Words.{HasMatchesOf, kind_of}
-use Rattle.clap.specs.declared.error.Error.{Error}
 use Rattle.clap.specs.declared.error.kind.ErrorKind.TheVariants as kind
-use Rattle.ira_words.specs.Request.{AreAcceptedWords, NameLogsOnce}
+use Rattle.ira_words.specs.Request.{AreAcceptedWords, GoTogether}
 use Rattle.ira_words.proofs.BehindCommands.{out_of_memory, words_accepted}
+use Rattle.ira_words.proofs.Results.{refused_by}
 use Rattle.ira_words.proofs.command_line.request_of_words.Goals as goal
 
 pub found_request-requires : goal.found_request-requires
@@ -18,15 +18,11 @@ returns-in-Ok-clause-made c =
     let parse = c.in_ok-matches.ensures in
     c.in-Ok.ensures.made words (record { accepted = words_accepted _ words c.in_ok-command.ensures parse.kinds; found = subst (λ a. HasMatchesOf a words c.in_ok-matches.matches) c.in_ok-command.ensures parse.matches })
 
-refused_by : {X : Type 0} (r : Result X Error) (e : Error) (P : Error → Type 0) → IsErrAnd r (λ f. f ≡ e) → P e → IfErr r P
-refused_by (Ok x) e P is holds = tt
-refused_by (Err f) e P is holds = subst P (sym is) holds
-
 pub returns-in_err-matches-clause-refused : goal.returns-in_err-matches-clause-refused
 returns-in_err-matches-clause-refused c =
     let words = map (λ w. w.now) c.args.words.now in
     refused_by c.from_residual-in_err-matches.result c.in_err-matches.field-0.0
-    (λ e. AreAcceptedWords words → NameLogsOnce words → kind_of e ≡ kind.OutOfMemory) c.from_residual-in_err-matches.ensures.1
+    (λ e. AreAcceptedWords words → GoTogether words → kind_of e ≡ kind.OutOfMemory) c.from_residual-in_err-matches.ensures.1
     (λ accepted once. out_of_memory _ words c.in_err-matches.field-0.0 c.in_ok-command.ensures c.in_err-matches.ensures.kinds accepted)
 
 pub returns-clause-refused : goal.returns-clause-refused
@@ -34,4 +30,4 @@ returns-clause-refused c = λ accepted once.
     let words = map (λ w. w.now) c.args.words.now in
     let parse = c.in_ok-matches.ensures in
     let found = subst (λ a. HasMatchesOf a words c.in_ok-matches.matches) c.in_ok-command.ensures parse.matches in
-    c.in_ok-error-in-Err.ensures.kind ∙ c.in-Err.ensures.refused words (record { accepted = accepted; found = found }) once
+    c.in_ok-error-in-Err.ensures.kind ∙ c.kind.ensures (c.in-Err.ensures.refused words (record { accepted = accepted; found = found }) once)

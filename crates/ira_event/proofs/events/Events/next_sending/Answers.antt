@@ -15,5 +15,6 @@ loop-first-2-preserved c = record {
   packed = search rules;
   plain = search rules;
   messages = search rules;
-  passed = passes_one sending _ _ _ c.in-Some-split_first.first.now c.loop-first-2.invariant.passed (search rules) (search rules);
+  passed = passes_one sending _ _ _ c.in-Some-split_first.first.now c.loop-first-2.invariant.passed (search rules)
+      (search rules);
 }

@@ -10,9 +10,11 @@ pub unreachable-requires : goal.unreachable-requires
 unreachable-requires g c =
     let s = c.args.state in
     let step : NodeStep c.args.nodes s (Sent c.args.load) (free s.term s.phase) =
-    sends c.args.load (owing_leads_not s.term s.phase s.owed c.args.load c.requires.wanted) (wants_send s.term s.phase s.owed c.args.load c.requires.wanted) refl refl in
+    sends c.args.load (owing_leads_not s.term s.phase s.owed c.args.load c.requires.wanted)
+    (wants_send s.term s.phase s.owed c.args.load c.requires.wanted) refl refl in
     c.in_default.not-Ok (free s.term s.phase) ((c.step.ensures.ok (free s.term s.phase)).1 step)
 
 pub returns : goal.returns
 returns g c = λ most terms room.
-    makes_sending _ most terms _ _ _ _ _ _ _ _ _ c.self.view_is c.requires.state c.requires.wanted room ((c.in-Ok.ensures.ok c.in-Ok.after).0 refl) c.in_ok-push.ensures.items
+    makes_sending _ most terms _ _ _ _ _ _ _ _ _ c.self.view_is c.requires.state c.requires.wanted room
+    ((c.in-Ok.ensures.ok c.in-Ok.after).0 refl) c.in_ok-push.ensures.items

@@ -7,5 +7,7 @@ use Rattle.ira_lone.proofs.lone_ring.LoneRing.ends.Given as goal
 abbrev pub invariant-loop-node : goal.invariant-loop-node
 invariant-loop-node g l = record {
   many : length l.ends.items ≡ l.node-index;
-  each : (j : ℕ) → j < l.node-index → Ends l.self.setup.now.nodes l.self.setup.now.cap l.self.setup.now.terms (node_at l.self.nodes.items j) (get_or l.ends.items j Quiet);
+  each : (j : ℕ) → j < l.node-index
+      → Ends l.self.setup.now.nodes l.self.setup.now.cap l.self.setup.now.terms (node_at l.self.nodes.items j)
+      (get_or l.ends.items j Quiet);
 }

@@ -9,7 +9,8 @@ invariant-loop-least g l = record {
   setup : l.self.setup.now ≡ l.fn.self.setup.now;
   reached : IsReached l.self.setup.now l.self.nodes.items;
   within : l.least ≤ l.self.setup.now.nodes;
-  ended : (j : ℕ) → j < l.least → HasNoNext l.self.setup.now.nodes l.self.setup.now.cap l.self.setup.now.terms (node_at l.self.nodes.items j);
+  ended : (j : ℕ) → j < l.least
+      → HasNoNext l.self.setup.now.nodes l.self.setup.now.cap l.self.setup.now.terms (node_at l.self.nodes.items j);
 }
 
 abbrev pub decreases-loop-least : goal.decreases-loop-least

@@ -2,8 +2,8 @@ use Rattle.std.proofs.Common.{◌≡◌, ℕ, List, [], ◌∷◌, ◌++◌, ari
 use Rattle.std.proofs.lemmas.List.{length-map}
 use Rattle.std.proofs.lemmas.Result.{err_from_is_err_and}
 use Rattle.ira_audit.specs.RingAudit.{HasTaken}
+use Rattle.ira_files.specs.FileName.{file_name}
 use Rattle.ira_main.proofs.FilesRead.{named_at, of_next, taken_next}
-use Rattle.ira_main.specs.FileName.{file_name}
 use Rattle.ira_main.specs.FilesRead.{names_of}
 use Rattle.ira_main.proofs.read_files.Share.read_on.Goals as goal
 

@@ -8,7 +8,8 @@ pub returns-in-Some : goal.returns-in-Some
 returns-in-Some g c = λ texts taken.
     let kept = subst (λ a. HasRecorded a texts) (sym c.self.view_is) taken in
     let number : c.len.result ≡ length c.self.inside.logs.items = search rules in
-    rw number (recorded_fault texts c.self.inside.logs.items c.in-Some.fault (subst (AreRecorded texts c.self.inside.logs.items) c.in-Some.is kept))
+    rw number (recorded_fault texts c.self.inside.logs.items c.in-Some.fault
+    (subst (AreRecorded texts c.self.inside.logs.items) c.in-Some.is kept))
 
 pub returns-in_err-gather-in-None : goal.returns-in_err-gather-in-None
 returns-in_err-gather-in-None g c = λ texts taken.

@@ -7,13 +7,16 @@ use Rattle.ira_mend.proofs.recorded_logs.RecordedLogs.take.Goals as goal
 pub returns-then-is_some-clause-ok : goal.returns-then-is_some-clause-ok
 returns-then-is_some-clause-ok g c = λ texts taken.
     let kept = subst (λ a. HasRecorded a texts) (sym c.self.view_is) taken in
-    rw (← c.self.view_is) (records_first texts (c.args.text.now ∷ []) c.self.inside.logs.items c.self.inside.fault c.if-is_some.ensures kept)
+    rw (← c.self.view_is) (records_first texts (c.args.text.now
+    ∷ []) c.self.inside.logs.items c.self.inside.fault c.if-is_some.ensures kept)
 
 pub returns-in_ok-push-in-Ok-clause-ok : goal.returns-in_ok-push-in-Ok-clause-ok
 returns-in_ok-push-in-Ok-clause-ok g c = λ texts taken.
     let kept = subst (λ a. HasRecorded a texts) (sym c.self.view_is) taken in
     let read = subst (IsRecordedReading c.args.text.now) c.in-Ok.is c.read_recorded.ensures in
-    rw c.in_ok-push-in-Ok.ensures.items (records_log texts c.self.inside.logs.items c.self.inside.fault c.args.text.now c.in-Ok.log c.if-is_some.ensures kept read)
+    rw c.in_ok-push-in-Ok.ensures.items
+    (records_log texts c.self.inside.logs.items c.self.inside.fault c.args.text.now c.in-Ok.log c.if-is_some.ensures
+    kept read)
 
 pub returns-in-Err : goal.returns-in-Err
 returns-in-Err g c =
@@ -25,7 +28,8 @@ returns-in-Err g c =
           let read = subst (IsRecordedReading c.args.text.now) c.in-Err.is c.read_recorded.ensures in
           elim read [
             | inl refused ↦ absurd (other refused)
-            | inr fault ↦ records_fault texts c.self.inside.logs.items c.self.inside.fault c.args.text.now f c.if-is_some.ensures kept fault.0 fault.1
+            | inr fault ↦ records_fault texts c.self.inside.logs.items c.self.inside.fault c.args.text.now f
+                c.if-is_some.ensures kept fault.0 fault.1
           ];
       err = tt;
     }

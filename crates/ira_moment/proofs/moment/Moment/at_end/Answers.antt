@@ -1,5 +1,4 @@
-use Rattle.ira_moment.proofs.OnTheWay.{whole_is_consistent}
 use Rattle.ira_moment.proofs.moment.Moment.at_end.Goals as goal
 
 pub at_cut-requires-clause-cut : goal.at_cut-requires-clause-cut
-at_cut-requires-clause-cut g c = rw (c.deref.ensures.value, c.in_ok-cut.ensures) (whole_is_consistent c.args.logs.now)
+at_cut-requires-clause-cut g c = rw c.deref.ensures.value c.in_ok-cut.ensures.cut

@@ -7,5 +7,8 @@ use Rattle.ira_order.proofs.direct_dependencies.DirectDependencies.new.Goals as 
 pub loop-place-preserved : goal.loop-place-preserved
 loop-place-preserved g c =
     let node = c.in_ok-of_log.field-0 in
-    let events_are : c.log.result.now.events ≡ log_of c.args.logs.now c.loop-place.place = sym (ap events_of c.log.ensures.value) in
-    rw c.in_ok-push.ensures.items (one_node_more c.args.logs.now c.loop-place.place _ node c.loop-place.invariant (subst (λ events. AreDependencies events node) events_are c.in_ok-of_log.ensures))
+    let events_are : c.log.result.now.events ≡ log_of c.args.logs.now c.loop-place.place =
+    sym (ap events_of c.log.ensures.value) in
+    rw c.in_ok-push.ensures.items
+    (one_node_more c.args.logs.now c.loop-place.place _ node c.loop-place.invariant
+    (subst (λ events. AreDependencies events node) events_are c.in_ok-of_log.ensures))

@@ -9,7 +9,8 @@ returns-then-not-is_whole-clause-matching g c =
 
 pub returns-then-not-is_whole-clause-circle : goal.returns-then-not-is_whole-clause-circle
 returns-then-not-is_whole-clause-circle g c =
-    circle_answer c.args.logs.now (Err Circle) refl (has_circle _ _ _ _ _ c.requires.matches c.requires.prefix c.requires.stuck c.if-not-is_whole.ensures)
+    circle_answer c.args.logs.now (Err Circle) refl
+    (has_circle _ _ _ _ _ c.requires.matches c.requires.prefix c.requires.stuck c.if-not-is_whole.ensures)
 
 pub returns-clause-ok : goal.returns-clause-ok
 returns-clause-ok g c = is_ordered _ _ _ _ _ c.requires.matches c.requires.prefix c.if-not-is_whole.ensures

@@ -4,7 +4,8 @@ use Rattle.ira_order.proofs.order_prefix.OrderPrefix.run.Given as goal
 
 abbrev pub invariant-loop-at : goal.invariant-loop-at
 invariant-loop-at g l = record {
-  prefix : IsOrderPrefix l.logs (set l.self.tally.done.items l.i l.at) (set l.self.tally.sent.items l.i l.sent) (set l.self.tally.got.items l.i l.got) (l.self.places.items ++ replicate (l.at - l.before) l.i);
+  prefix : IsOrderPrefix l.logs (set l.self.tally.done.items l.i l.at) (set l.self.tally.sent.items l.i l.sent)
+      (set l.self.tally.got.items l.i l.got) (l.self.places.items ++ replicate (l.at - l.before) l.i);
   on : l.before ≤ l.at;
 }
 

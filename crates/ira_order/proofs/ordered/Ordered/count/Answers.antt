@@ -8,4 +8,5 @@ pub returns-then-i-j-clause-count : goal.returns-then-i-j-clause-count
 returns-then-i-j-clause-count g c =
     let valid : IsOrdered c.args.self.now = subst IsOrdered c.self.view_is c.self.invariant.0 in
     subst (λ i. IsCount c.args.self.now.logs c.args.j c.args.b i c.args.b) (sym c.if-i-j.true)
-    (count_own c.args.self.now.logs c.args.self.now.schedule valid.order c.args.j c.args.b c.requires.places.0 c.requires.position)
+    (count_own c.args.self.now.logs c.args.self.now.schedule valid.order c.args.j c.args.b c.requires.places.0
+    c.requires.position)

@@ -10,20 +10,37 @@ use Rattle.ira_order.proofs.stamps.Stamps.stored.Goals as goal
 use Rattle.ira_order.proofs.stamps.Stamps.stored.Goals.{After-stored-counters}
 
 -- the counters of one node more
-one_more : (g : _) (c : After-stored-counters g) → c.loop-place.counters + c.stored-counters.result ≡ first_receipt c.args.logs.now (c.loop-place.place + 1) * length c.args.logs.now
+one_more : (g : _) (c : After-stored-counters g)
+    → c.loop-place.counters + c.stored-counters.result
+    ≡ first_receipt c.args.logs.now (c.loop-place.place + 1) * length c.args.logs.now
 one_more g c =
     let logs = c.args.logs.now in
-    let here : c.loop-place.place < length logs = omega (arith, c.loop-place-test.true, c.get-place-end.ensures.value, c.size.ensures.value) in
+    let here : c.loop-place.place < length logs =
+    omega (arith, c.loop-place-test.true, c.get-place-end.ensures.value, c.size.ensures.value) in
     let node : c.index.result.now ≡ stamps_at c.args.self.now.nodes.items c.loop-place.place =
-    get_or_read c.args.self.now.nodes.items c.from.result c.index.result.now (omega (arith, c.from.ensures, here, c.requires.table.places)) c.index.ensures (record { numbers = []; counters = [] })
+    get_or_read c.args.self.now.nodes.items c.from.result c.index.result.now
+    (omega (arith, c.from.ensures, here, c.requires.table.places)) c.index.ensures
+    (record { numbers = []; counters = [] })
     ∙ ap (stamps_at c.args.self.now.nodes.items) c.from.ensures in
-    let its : c.stored-counters.result ≡ length (got (log_of logs c.loop-place.place)) * length logs = c.stored-counters.ensures ∙ ap (λ (s : NodeStamps). length s.counters) node ∙ c.requires.whole c.loop-place.place here in
-    omega (arith, its, c.loop-place.invariant, ap (λ (x : ℕ). x * length logs) (first_more logs c.loop-place.place here))
+    let its : c.stored-counters.result ≡ length (got (log_of logs c.loop-place.place)) * length logs =
+    c.stored-counters.ensures ∙ ap (λ (s : NodeStamps). length s.counters) node
+    ∙ c.requires.whole c.loop-place.place here in
+    omega (
+      arith,
+      its,
+      c.loop-place.invariant,
+      ap (λ (x : ℕ). x * length logs) (first_more logs c.loop-place.place here),
+    )
 
 pub overflow_add-counters : goal.overflow_add-counters
 overflow_add-counters g c =
     let logs = c.args.logs.now in
-    omega (arith, one_more g c, mul-le (first_receipt logs (c.loop-place.place + 1)) (length logs) (MAX_NODES * MAX_RECORDS) MAX_NODES (few_first logs (c.loop-place.place + 1) c.size.ensures.valid) c.size.ensures.valid.ring.1)
+    omega (
+      arith,
+      one_more g c,
+      mul-le (first_receipt logs (c.loop-place.place + 1)) (length logs) (MAX_NODES * MAX_RECORDS) MAX_NODES
+          (few_first logs (c.loop-place.place + 1) c.size.ensures.valid) c.size.ensures.valid.ring.1,
+    )
 
 pub loop-place-preserved : goal.loop-place-preserved
 loop-place-preserved g c = one_more g (goal.at.loop-place-preserved g c).After-stored-counters
@@ -31,5 +48,17 @@ loop-place-preserved g c = one_more g (goal.at.loop-place-preserved g c).After-s
 pub returns : goal.returns
 returns g c =
     let logs = c.args.logs.now in
-    let all : c.loop-place.place ≡ length logs = omega (arith, c.loop-place-test.false, c.loop-place.auto.place-end, c.get-place-end.ensures.value, c.size.ensures.value) in
-    omega (arith, c.loop-place.invariant, ap (λ (x : ℕ). first_receipt logs x * length logs) all, ap (λ (x : ℕ). x * length logs) (first_all logs))
+    let all : c.loop-place.place ≡ length logs =
+    omega (
+      arith,
+      c.loop-place-test.false,
+      c.loop-place.auto.place-end,
+      c.get-place-end.ensures.value,
+      c.size.ensures.value,
+    ) in
+    omega (
+      arith,
+      c.loop-place.invariant,
+      ap (λ (x : ℕ). first_receipt logs x * length logs) all,
+      ap (λ (x : ℕ). x * length logs) (first_all logs),
+    )

@@ -1,69 +1,39 @@
-use Rattle.std.proofs.Common.{◌≡◌, ◌≤◌, ◌∙◌, ℕ, List, Option, Some, length, slice_get, refl, sym, ap, subst, rules, arith}
-use Rattle.std.proofs.lemmas.Option.{same_Some, slice_get_read, slice_get_within}
-use Rattle.ira_event.specs.Log.{Log}
-use Rattle.ira_cert_text.specs.Certificate.{Section}
-use Rattle.ira_cert_text.specs.declared.cert_step.CertStep.{CertStep}
-use Rattle.ira_par.specs.Leaf.{Leaf, IsPlaced, IsJudged}
-use Rattle.ira_par.specs.Batch.{Task, IsSameRange, IsJudgedFor}
-use Rattle.ira_par.proofs.Changed.{is_still, next_changed}
+use Rattle.std.proofs.Common.{◌≡◌, ◌+◌, ℕ, Option, None, length, refl, sym, ap, subst, rules, arith}
+use Rattle.std.proofs.lemmas.Option.{slice_get_read}
+use Rattle.ira_cert.specs.declared.section_fault.SectionFault.{SectionFault}
+use Rattle.ira_par.specs.declared.unsound_section.UnsoundSection.{UnsoundSection}
+use Rattle.ira_par.specs.Share.{IsFoundBy}
+use Rattle.ira_par.specs.Task.{IsFoundFor}
+use Rattle.ira_par.proofs.Clear.{clear_more}
 use Rattle.ira_par.proofs.share.Share.judge.Goals as goal
+use Rattle.ira_par.proofs.share.Share.judge.Goals.{in-Some, in_default}
 
--- what is made of the range of section k
-abbrev Judged : List Log → List Task → ℕ → Leaf → Leaf → Type 0
-Judged logs tasks k old new = (task : Task) → slice_get tasks k ≡ Some task → IsSameRange old new × IsJudgedFor logs task new
-
-pub judge-requires-clause-places : goal.judge-requires-clause-places
-judge-requires-clause-places g c =
-    let task : Task = c.index-tasks-k.result in
-    let at = slice_get_read c.args.tasks.now _ c.loop-k.k task refl (search rules) c.index-tasks-k.is in
-    let tables : c.deref.result.now ≡ task.tables = c.deref.ensures.value ∙ ap (λ (t : Task). t.tables) c.task.view_is in
-    subst (λ (ts : List (Option (List ℕ))). length ts ≤ length (g.C.HappenedBefore.logs_of c.args.ordered.now)) (sym tables) (c.requires.places c.loop-k.k task at)
-
-pub judge-requires-clause-range : goal.judge-requires-clause-range
-judge-requires-clause-range g c =
-    let logs = g.C.HappenedBefore.logs_of c.args.ordered.now in
-    let task : Task = c.index-tasks-k.result in
-    let at = slice_get_read c.args.tasks.now _ c.loop-k.k task refl (search rules) c.index-tasks-k.is in
-    let h = c.requires.placed c.loop-k.k task at in
-    let now : c.index_mut.result.now ≡ h.0 = is_still (Judged logs c.args.tasks.now) c.args.self.now c.loop-k.k c.loop-k.self-inside.leaves.items h.0 c.index_mut.result.now c.loop-k.invariant h.1 c.index_mut.ensures.value in
-    let steps : c.deref-in-loop-k.result.now ≡ task.section.steps = c.deref-in-loop-k.ensures.value ∙ ap (λ (s : Section). s.steps) (c.section.view_is ∙ ap (λ (t : Task). t.section) c.task.view_is) in
-    subst (λ (l : Leaf). (l.from ≤ l.to) × (l.to ≤ length c.deref-in-loop-k.result.now)) (sym now)
-    (subst (λ (ss : List CertStep). (h.0.from ≤ h.0.to) × (h.0.to ≤ length ss)) (sym steps) h.2.0)
-
-pub judge-requires-clause-placed : goal.judge-requires-clause-placed
-judge-requires-clause-placed g c =
-    let logs = g.C.HappenedBefore.logs_of c.args.ordered.now in
-    let task : Task = c.index-tasks-k.result in
-    let at = slice_get_read c.args.tasks.now _ c.loop-k.k task refl (search rules) c.index-tasks-k.is in
-    let h = c.requires.placed c.loop-k.k task at in
-    let now : c.index_mut.result.now ≡ h.0 = is_still (Judged logs c.args.tasks.now) c.args.self.now c.loop-k.k c.loop-k.self-inside.leaves.items h.0 c.index_mut.result.now c.loop-k.invariant h.1 c.index_mut.ensures.value in
-    let tables : c.deref.result.now ≡ task.tables = c.deref.ensures.value ∙ ap (λ (t : Task). t.tables) c.task.view_is in
-    let steps : c.deref-in-loop-k.result.now ≡ task.section.steps = c.deref-in-loop-k.ensures.value ∙ ap (λ (s : Section). s.steps) (c.section.view_is ∙ ap (λ (t : Task). t.section) c.task.view_is) in
-    subst (λ (l : Leaf). IsPlaced c.deref-in-loop-k.result.now (length c.deref.result.now) l) (sym now)
-    (subst (λ (ss : List CertStep). IsPlaced ss (length c.deref.result.now) h.0) (sym steps)
-    (subst (λ (ts : List (Option (List ℕ))). IsPlaced task.section.steps (length ts) h.0) (sym tables) h.2.1))
-
-pub loop-k-preserved : goal.loop-k-preserved
-loop-k-preserved g c =
-    let logs = g.C.HappenedBefore.logs_of c.args.ordered.now in
-    let R = Judged logs c.args.tasks.now in let k = c.loop-k.k in let olds = c.args.self.now in let news = c.loop-k.self-inside.leaves.items in
-    let task : Task = c.index-tasks-k.result in
-    let at = slice_get_read c.args.tasks.now _ k task refl (search rules) c.index-tasks-k.is in
-    let h = c.requires.placed k task at in
-    let now : c.index_mut.result.now ≡ h.0 = is_still R olds k news h.0 c.index_mut.result.now c.loop-k.invariant h.1 c.index_mut.ensures.value in
-    let tables : c.deref.result.now ≡ task.tables = c.deref.ensures.value ∙ ap (λ (t : Task). t.tables) c.task.view_is in
-    let steps : c.deref-in-loop-k.result.now ≡ task.section.steps = c.deref-in-loop-k.ensures.value ∙ ap (λ (s : Section). s.steps) (c.section.view_is ∙ ap (λ (t : Task). t.section) c.task.view_is) in
-    let judged : IsJudgedFor logs task c.judge.new.self =
-    subst (λ (ss : List CertStep). IsJudged logs task.tables ss c.judge.new.self) steps
-    (subst (λ (ts : List (Option (List ℕ))). IsJudged logs ts c.deref-in-loop-k.result.now c.judge.new.self) tables c.judge.ensures.judged) in
-    next_changed R olds k news h.0 c.judge.new.self c.loop-k.invariant h.1
-    (λ other other_at. (
-      (c.judge.ensures.range.0 ∙ ap (λ (l : Leaf). l.from) now, c.judge.ensures.range.1 ∙ ap (λ (l : Leaf). l.to) now),
-      subst (λ (t : Task). IsJudgedFor logs t c.judge.new.self) (same_Some task other (sym at ∙ other_at)) judged,
-    ))
+pub loop-section-preserved : goal.loop-section-preserved
+loop-section-preserved g c =
+    let logs = g.C.HappenedBefore.logs_of c.args.ordered.now in let tasks = c.args.tasks.now in let k = c.loop-section.section in
+    let task = c.index-tasks-section.result in
+    let at = slice_get_read tasks _ k task refl (search rules) c.index-tasks-section.is in
+    let none : c.loop-section.self-inside.found ≡ None = search rules in
+    let clear : IsFoundBy logs c.args.ranges c.args.number k tasks None = subst (λ (f : Option UnsoundSection). IsFoundBy logs c.args.ranges c.args.number k tasks f) none c.loop-section.invariant.found in
+    elim c.match-judge.branch [
+      | in-Some w ↦
+          let kept : c.match-judge.self-inside.counts.len ≡ c.loop-section.self-inside.counts.len = ap (λ s. s.counts.len) w.self-inside-is in
+          record {
+            places = omega (arith, c.match-judge.self-inside.counts.ok.0, kept, c.loop-section.self-inside.counts.ok.0, c.loop-section.invariant.places);
+            found = subst (λ s. IsFoundBy logs c.args.ranges c.args.number (k + 1) tasks s.found) (sym w.self-inside-is)
+                (clear, (task, at, subst (λ (f : Option SectionFault). IsFoundFor logs c.args.ranges c.args.number task f) w.in-Some.is c.judge.ensures.found));
+          }
+      | in_default w ↦
+          let kept : c.match-judge.self-inside.counts.len ≡ c.loop-section.self-inside.counts.len = ap (λ s. s.counts.len) w.self-inside-is in
+          record {
+            places = omega (arith, c.match-judge.self-inside.counts.ok.0, kept, c.loop-section.self-inside.counts.ok.0, c.loop-section.invariant.places);
+            found = subst (λ s. IsFoundBy logs c.args.ranges c.args.number (k + 1) tasks s.found) (sym w.self-inside-is)
+                (subst (λ (f : Option UnsoundSection). IsFoundBy logs c.args.ranges c.args.number (k + 1) tasks f) (sym none)
+                (clear_more logs c.args.ranges c.args.number k tasks clear task at (subst (λ (f : Option SectionFault). IsFoundFor logs c.args.ranges c.args.number task f) w.in_default.is c.judge.ensures.found)));
+          }
+    ]
 
 pub returns : goal.returns
-returns g c = λ k task old at old_at.
-    let l = slice_get_within c.args.tasks.now k task at in
-    let d = c.loop-k.invariant.done k old (omega (arith, l, c.loop-k-test.false, c.loop-k.auto.k-end)) old_at in
-    (d.0, d.1, d.2 task at)
+returns g c =
+    let end : c.loop-section.section ≡ length c.args.tasks.now = omega (arith, c.loop-section-test.false, c.loop-section.auto.section-end) in
+    subst (λ (n : ℕ). IsFoundBy (g.C.HappenedBefore.logs_of c.args.ordered.now) c.args.ranges c.args.number n c.args.tasks.now c.loop-section.self-inside.found) end c.loop-section.invariant.found

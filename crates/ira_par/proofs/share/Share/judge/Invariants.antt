@@ -1,9 +1,9 @@
-use Rattle.std.proofs.Common.{◌≡◌, Some, slice_get}
-use Rattle.ira_par.specs.Batch.{Task, IsSameRange, IsJudgedFor}
-use Rattle.ira_par.proofs.Changed.{AreChangedTo}
+use Rattle.std.proofs.Common.{◌≡◌, length}
+use Rattle.ira_par.specs.Share.{IsFoundBy}
 use Rattle.ira_par.proofs.share.Share.judge.Given as goal
 
-abbrev pub invariant-loop-k : goal.invariant-loop-k
-invariant-loop-k g l =
-    AreChangedTo (λ k old new. (task : Task) → slice_get l.tasks k ≡ Some task → IsSameRange old new × IsJudgedFor (g.C.HappenedBefore.logs_of l.ordered) task new)
-    l.fn.self l.k l.self-inside.leaves.items
+abbrev pub invariant-loop-section : goal.invariant-loop-section
+invariant-loop-section g l = record {
+  places : length l.self-inside.counts.items ≡ l.fn.self.places;
+  found : IsFoundBy (g.C.HappenedBefore.logs_of l.ordered) l.ranges l.number l.section l.tasks l.self-inside.found;
+}

@@ -10,4 +10,5 @@ pub returns : goal.returns
 returns c =
     let three = rw (← c.self.view_is) at c.requires in
     let unread = gives_none _ _ _ c.skip_word-2.ensures c.if-is_some.ensures in
-    rw (← c.self.view_is) (fault_first_line c.self.inside.rest.now c.self.inside.number _ three c.in_default.ensures unread c.complete.ensures)
+    rw (← c.self.view_is) (fault_first_line c.self.inside.rest.now c.self.inside.number _ three c.in_default.ensures
+    unread c.complete.ensures)

@@ -8,5 +8,11 @@ invariant_of-result g c =
     let all : c.loop.counter ≡ c.args.nodes = omega arith in
     let logs_room = c.in_ok-with_capacity.ensures.capacity in
     let ends_room = c.in_ok-with_capacity-2.ensures.capacity in
-    let none : c.loop.taken.items ≡ replicate c.args.nodes None = c.loop.invariant.taken ∙ ap (λ n. replicate n None) all in
-    (AreTaken-none c.args.nodes c.loop.taken.items c.get.ensures.valid none, c.in_ok-with_capacity.ensures.items, omega arith, c.in_ok-with_capacity-2.ensures.items, omega arith)
+    let none : c.loop.taken.items ≡ replicate c.args.nodes None =
+    c.loop.invariant.taken ∙ ap (λ n. replicate n None) all in (
+      AreTaken-none c.args.nodes c.loop.taken.items c.get.ensures.valid none,
+      c.in_ok-with_capacity.ensures.items,
+      omega arith,
+      c.in_ok-with_capacity-2.ensures.items,
+      omega arith,
+    )

@@ -16,7 +16,9 @@ invariant_of-work g c =
     let nodes : c.setup.inside.nodes ≡ s.nodes = ap (λ (x : Setup). x.nodes) c.setup.view_is in
     let terms : c.setup.inside.terms ≡ s.terms = ap (λ (x : Setup). x.terms) c.setup.view_is in
     let within : c.self.inside.place < s.nodes = omega (arith, place, c.requires.place) in
-    let read = read_setup (λ v. v.items) c.setup.inside.nodes _ _ _ _ s c.self.inside.place c.index.result.now c.index-2.result.now c.setup.view_is c.requires.rules.lists within (rw c.from.ensures at c.index.ensures) (rw c.from-2.ensures at c.index-2.ensures) in
+    let read = read_setup (λ v. v.items) c.setup.inside.nodes _ _ _ _ s c.self.inside.place c.index.result.now
+    c.index-2.result.now c.setup.view_is c.requires.rules.lists within (rw c.from.ensures at c.index.ensures)
+    (rw c.from-2.ensures at c.index-2.ensures) in
     let ids : c.deref.result.now ≡ node_draws s c.self.inside.place = c.deref.ensures.value ∙ read.1 in
     let P : ℕ × List ℕ → Type 0 = λ z. All (λ d. (1 ≤ d) × (d ≤ z.0)) z.1 in
     record {
@@ -35,9 +37,13 @@ returns g c =
     let nodes : c.setup.inside.nodes ≡ s.nodes = ap (λ (x : Setup). x.nodes) c.setup.view_is in
     let terms : c.setup.inside.terms ≡ s.terms = ap (λ (x : Setup). x.terms) c.setup.view_is in
     let within : c.self.inside.place < s.nodes = omega (arith, place, c.requires.place) in
-    let read = read_setup (λ v. v.items) c.setup.inside.nodes _ _ _ _ s c.self.inside.place c.index.result.now c.index-2.result.now c.setup.view_is c.requires.rules.lists within (rw c.from.ensures at c.index.ensures) (rw c.from-2.ensures at c.index-2.ensures) in
-    let kind : c.index.result.now ≡ is_initiator s c.args.self.place = read.0 ∙ ap (λ (i : ℕ). is_initiator s i) place in
-    let ids : c.deref.result.now ≡ node_draws s c.args.self.place = c.deref.ensures.value ∙ read.1 ∙ ap (λ (i : ℕ). node_draws s i) place in
+    let read = read_setup (λ v. v.items) c.setup.inside.nodes _ _ _ _ s c.self.inside.place c.index.result.now
+    c.index-2.result.now c.setup.view_is c.requires.rules.lists within (rw c.from.ensures at c.index.ensures)
+    (rw c.from-2.ensures at c.index-2.ensures) in
+    let kind : c.index.result.now ≡ is_initiator s c.args.self.place =
+    read.0 ∙ ap (λ (i : ℕ). is_initiator s i) place in
+    let ids : c.deref.result.now ≡ node_draws s c.args.self.place =
+    c.deref.ensures.value ∙ read.1 ∙ ap (λ (i : ℕ). node_draws s i) place in
     let part = c.in_ok-part.part in
     let P : ℕ × ℕ × Bool × List ℕ × ℕ × ℕ → Type 0 = λ z. IsRecorded z.0 z.1 z.2 z.3 z.4 z.5 part.log part.end in
     record {
@@ -55,11 +61,14 @@ returns-in_err-part g c = IfOk-from_err _ _ c.from_residual.ensures.0
 pub index-requires : goal.index-requires
 index-requires g c =
     let place : c.self.inside.place ≡ c.args.self.place = ap (λ (x : NodeTask). x.place) c.self.view_is in
-    let kinds : length c.setup.inside.initiators.items ≡ c.args.setup.now.nodes = ap (λ (x : Setup). length x.initiators) c.setup.view_is ∙ c.requires.rules.lists.0 in
+    let kinds : length c.setup.inside.initiators.items ≡ c.args.setup.now.nodes =
+    ap (λ (x : Setup). length x.initiators) c.setup.view_is ∙ c.requires.rules.lists.0 in
     omega (arith, c.from.ensures, place, kinds, c.setup.inside.initiators.ok.0, c.requires.place)
 
 pub index-requires-2 : goal.index-requires-2
 index-requires-2 g c =
     let place : c.self.inside.place ≡ c.args.self.place = ap (λ (x : NodeTask). x.place) c.self.view_is in
-    let rows : length c.setup.inside.draws.items ≡ c.args.setup.now.nodes = sym (length-map c.setup.inside.draws.items (λ v. v.items)) ∙ ap (λ (x : Setup). length x.draws) c.setup.view_is ∙ c.requires.rules.lists.1 in
+    let rows : length c.setup.inside.draws.items ≡ c.args.setup.now.nodes =
+    sym (length-map c.setup.inside.draws.items (λ v. v.items)) ∙ ap (λ (x : Setup). length x.draws) c.setup.view_is
+    ∙ c.requires.rules.lists.1 in
     omega (arith, c.from-2.ensures, place, rows, c.setup.inside.draws.ok.0, c.requires.place)

@@ -9,7 +9,13 @@ returns g c =
     let nodes : c.from-nodes.result ≡ s.nodes = c.from-nodes.ensures ∙ c.get.ensures.value ∙ size in
     record {
       tasks = c.in_ok-tasks.ensures.tasks;
-      started_nodes = (c.in_ok-started_nodes.ensures.items, omega (arith, nodes, c.in_ok-started_nodes.ensures.capacity));
-      finished_nodes = (c.in_ok-finished_nodes.ensures.items, omega (arith, nodes, c.in_ok-finished_nodes.ensures.capacity));
+      started_nodes = (
+        c.in_ok-started_nodes.ensures.items,
+        omega (arith, nodes, c.in_ok-started_nodes.ensures.capacity),
+      );
+      finished_nodes = (
+        c.in_ok-finished_nodes.ensures.items,
+        omega (arith, nodes, c.in_ok-finished_nodes.ensures.capacity),
+      );
       collector = c.in_ok-collector.ensures ∙ ap (λ (n : ℕ). replicate n None) size;
     }

@@ -1,0 +1,10 @@
+use Rattle.std.proofs.Common.{List, length, take}
+use Rattle.std.specs.List.{AllZip}
+use Rattle.ira_elim.specs.declared.found.Found.{Found}
+use Rattle.ira_elim.specs.Found.{IsFound}
+use Rattle.ira_audit.specs.WrittenFindings.{AreDrafted}
+use Rattle.ira_audit.proofs.good_logs.GoodLogs.draft_cases.Given as goal
+
+abbrev pub invariant-loop-number : goal.invariant-loop-number
+invariant-loop-number g l =
+    (found : List (Found g.row.A.Denot)) × AllZip (IsFound l.self) (take l.number l.cases) found × AreDrafted (length l.self) l.certify found l.draft

@@ -1,0 +1,25 @@
+//! Space-time diagrams of a ring's logs, as SVG.
+#![tactic(auto)]
+
+mod after_words;
+mod arrows;
+mod drawing;
+mod event_words;
+mod frame;
+mod grid;
+mod headline;
+mod highlight;
+mod labels;
+mod lanes;
+mod legend;
+mod marks;
+mod moment_line;
+mod objection;
+mod stroke;
+mod style;
+mod svg;
+mod view;
+
+pub use drawing::draw;
+pub use objection::Objection;
+pub use view::{Asked, View};

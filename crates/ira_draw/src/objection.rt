@@ -1,0 +1,81 @@
+ghost use Rattle.std.specs.Prelude.{IfOk};
+ghost use Rattle.ira_order.specs.Circle.{HasOrder};
+ghost use Rattle.ira_order.specs.Matching.{Matches};
+ghost use Rattle.ira_draw.specs.Objection.{IsObjection};
+
+use ira_event::{Logs, OutOfMemory};
+use ira_evidence::{CircleEvidence, Stop, first_stops};
+use ira_order::{MatchFault, match_links};
+use ira_replay::ReplayFault;
+use std::alloc::Allocator;
+use std::fmt;
+
+/// What stands against the logs of a ring.
+#[derive(Clone, Copy, Debug, PartialEq, Eq)]
+pub enum Objection {
+    /// A link's receipt isn't its sending.
+    Link(MatchFault),
+    /// Events wait for one another.
+    Circle,
+    /// An event of a node has no step.
+    Node(Stop),
+}
+
+/// The first event without a step, of logs that have an order.
+fn first_stop<A: Allocator>(alloc: A, logs: &Logs<A>) -> Result<Option<Objection>, OutOfMemory>
+    requires { HasOrder logs.now }
+    ensures { IfOk result (IsObjection logs.now) }
+{
+    let stops = first_stops(alloc, logs)?;
+    match stops.first() {
+        Some(stop) => Ok(Some(Objection::Node(*stop))),
+        None => Ok(None),
+    }
+}
+
+/// That events wait for one another, or what `first_stop` says, of logs that match.
+fn circle_or_stop<A: Allocator + Clone>(
+    alloc: A,
+    logs: &Logs<A>,
+) -> Result<Option<Objection>, OutOfMemory>
+    requires { Matches logs.now }
+    ensures { IfOk result (IsObjection logs.now) }
+{
+    match CircleEvidence::find(alloc.clone()?, logs)? {
+        Some(_) => Ok(Some(Objection::Circle)),
+        None => first_stop(alloc, logs),
+    }
+}
+
+impl Objection {
+    /// The first that there is; nothing of logs of a run.
+    pub fn find<A: Allocator + Clone>(
+        alloc: A,
+        logs: &Logs<A>,
+    ) -> Result<Option<Objection>, OutOfMemory>
+        ensures { IfOk result (IsObjection logs.now) }
+    {
+        match match_links(logs) {
+            Err(fault) => Ok(Some(Objection::Link(fault))),
+            Ok(()) => circle_or_stop(alloc, logs),
+        }
+    }
+}
+
+/// The answer to the logs.
+impl fmt::Display for Objection {
+    fn fmt<W: fmt::Write>(&self, f: &mut fmt::Formatter<W>) -> fmt::Result {
+        match self {
+            Objection::Link(fault) => write!(f, "no: {fault}"),
+            Objection::Circle => f.write_str("no: circle"),
+            Objection::Node(Stop { at, fault }) => {
+                let (place, position) = (at.place, at.position);
+                let fault = ReplayFault {
+                    position,
+                    fault: *fault,
+                };
+                write!(f, "no: node {place}: {fault}")
+            }
+        }
+    }
+}

@@ -1,0 +1,72 @@
+ghost use Rattle.std.specs.Prelude.{IfOk};
+ghost use Rattle.ira_audit.specs.GoodLogs.{AreGood};
+ghost use Rattle.ira_cert.specs.Asked.{HasPlacesOf};
+ghost use Rattle.ira_elim.specs.Found.{IsFound};
+
+use crate::asked_lines::AskedLines;
+use crate::found_block::{explain_absent, explain_present};
+use ira_cert::{Section, case_fronts};
+use ira_elim::{Decided, Found, decide_fronts};
+use ira_event::OutOfMemory;
+use ira_explain::{Mark, NamedText, Page};
+use ira_order::{DirectDependencies, HappenedBefore};
+use ira_pred::Case;
+use std::alloc::Allocator;
+
+/// A case of a question, its number, and the lines that ask it.
+#[derive(Clone, Copy)]
+pub(crate) struct Told<'a, A: Allocator> {
+    pub(crate) case: &'a Case<A>,
+    pub(crate) number: usize,
+    pub(crate) lines: AskedLines<'a>,
+}
+
+/// What is found for a case, found again.
+pub(crate) fn decide_again<A: Allocator + Copy>(
+    alloc: A,
+    dependencies: &DirectDependencies<'_, A>,
+    case: &Case<A>,
+) -> Result<Found<A>, OutOfMemory>
+    requires { HasPlacesOf dependencies.now case.now }
+    ensures { IfOk result (λ found. IsFound dependencies.now case.now found) }
+{
+    let fronts = case_fronts(alloc, dependencies.logs(), case)?;
+    match decide_fronts(alloc, dependencies, fronts, Vec::new(alloc))? {
+        Decided::Absent { steps, spent } => Ok(Found::Absent(Section { steps, spent })),
+        Decided::Present(cut) => Ok(Found::Present(cut)),
+    }
+}
+
+/// Adds the number of a case and what it asks.
+fn add_case<P: Allocator, A: Allocator>(
+    page: &mut Page<P>,
+    told: Told<'_, A>,
+) -> Result<(), OutOfMemory> {
+    page.blank()?;
+    page.begin(Mark::Plain)?;
+    page.words("case ")?;
+    page.number(told.number as u64)?;
+    page.words(" (")?;
+    told.lines.add_clauses(page, told.case.len())?;
+    page.words(")")?;
+    page.end()
+}
+
+/// Adds what is found for a case.
+pub(crate) fn explain_case<A: Allocator + Copy, P: Allocator>(
+    alloc: A,
+    page: &mut Page<P>,
+    files: &[NamedText<'_>],
+    dependencies: &DirectDependencies<'_, A>,
+    told: Told<'_, A>,
+) -> Result<(), OutOfMemory>
+    requires good { AreGood dependencies.now }
+    requires places { HasPlacesOf dependencies.now told.case.now }
+{
+    add_case(page, told)?;
+    let logs = dependencies.logs();
+    match decide_again(alloc, dependencies, told.case)? {
+        Found::Present(cut) => explain_present(alloc, page, files, logs, told, cut.positions()),
+        Found::Absent(section) => explain_absent(alloc, page, files, logs, told, &section),
+    }
+}

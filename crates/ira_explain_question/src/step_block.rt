@@ -1,0 +1,386 @@
+ghost use Rattle.std.specs.Prelude.{◌<◌, ◌≤◌, length};
+ghost use Rattle.ira_cert.specs.Asked.{HasPlacesOf};
+ghost use Rattle.ira_order.specs.Ring.{log_of};
+
+use crate::asked_lines::clause_at;
+use crate::case_block::{Told, decide_again};
+use crate::good_ring::state_after;
+use crate::section_lines::section_line;
+use ira_cert::{Left, Section, Unsound, case_fronts};
+use ira_elim::Found;
+use ira_event::{Logs, OutOfMemory};
+use ira_evidence::{SectionEvidence, UnsoundStep, Unspent};
+use ira_explain::{Mark, NamedText, NumberOf, Page, StateWords, file_of, line_of};
+use ira_order::{DirectDependencies, HappenedBefore};
+use std::alloc::Allocator;
+
+/// At most so many candidates left are told.
+const MOST_LEFT: usize = 5;
+
+/// A line of a certificate's text, and how many steps its section has.
+#[derive(Clone, Copy)]
+struct LineAt<'a> {
+    name: &'a str,
+    line: usize,
+    steps: usize,
+}
+
+/// Adds why the section of a case isn't sound.
+pub(crate) fn explain_section<A: Allocator + Copy, P: Allocator>(
+    alloc: A,
+    page: &mut Page<P>,
+    files: &[NamedText<'_>],
+    dependencies: &DirectDependencies<'_, A>,
+    told: Told<'_, A>,
+    certificate: &str,
+    sections: &[Section<A>],
+) -> Result<(), OutOfMemory>
+    requires { HasPlacesOf dependencies.now told.case.now }
+{
+    let Some(section) = sections.get(told.number) else {
+        return Ok(());
+    };
+    let at = LineAt {
+        name: certificate,
+        line: section_line(sections, told.number).saturating_add(1),
+        steps: section.steps.len(),
+    };
+    match find_evidence(alloc, dependencies, told, section)? {
+        Some(SectionEvidence::Unsound(unsound)) => {
+            explain_step(alloc, page, dependencies.logs(), told, at, unsound)?;
+            explain_fault(alloc, page, files, dependencies, unsound)?;
+            add_outcome(alloc, page, dependencies, told, false)
+        }
+        Some(SectionEvidence::NotSpent(unspent)) => {
+            explain_unspent(alloc, page, files, dependencies.logs(), told, at, &unspent)?;
+            add_outcome(alloc, page, dependencies, told, true)
+        }
+        None => Ok(()),
+    }
+}
+
+/// What stands against a section.
+fn find_evidence<A: Allocator + Copy>(
+    alloc: A,
+    dependencies: &DirectDependencies<'_, A>,
+    told: Told<'_, A>,
+    section: &Section<A>,
+) -> Result<Option<SectionEvidence<A>>, OutOfMemory>
+    requires { HasPlacesOf dependencies.now told.case.now }
+{
+    let mut fronts = case_fronts(alloc, dependencies.logs(), told.case)?;
+    SectionEvidence::find(alloc, dependencies, &mut fronts, section)
+}
+
+/// Adds whether the case is absent all the same; where it is, perhaps by how many steps.
+fn add_outcome<A: Allocator + Copy, P: Allocator>(
+    alloc: A,
+    page: &mut Page<P>,
+    dependencies: &DirectDependencies<'_, A>,
+    told: Told<'_, A>,
+    with_steps: bool,
+) -> Result<(), OutOfMemory>
+    requires { HasPlacesOf dependencies.now told.case.now }
+{
+    match decide_again(alloc, dependencies, told.case)? {
+        Found::Present(_) => add_met(alloc, page, told.lines.name),
+        Found::Absent(section) if with_steps => {
+            add_absent(alloc, page, section.steps.len(), section.spent)
+        }
+        Found::Absent(_) => {
+            page.paragraph(
+                "The case is absent all the same: `ira decide --out` writes a certificate.",
+            )
+        }
+    }
+}
+
+/// Adds that a case is met.
+fn add_met<A: Allocator + Copy, P: Allocator>(
+    alloc: A,
+    page: &mut Page<P>,
+    question: &str,
+) -> Result<(), OutOfMemory> {
+    page.paragraph(format!(in alloc;
+        "The case is met: no certificate shows it absent. See `ira explain --question {question} LOG..`."
+    )?.as_str())
+}
+
+/// Adds that a case is absent, by a section of so many steps.
+fn add_absent<A: Allocator + Copy, P: Allocator>(
+    alloc: A,
+    page: &mut Page<P>,
+    steps: usize,
+    spent: u8,
+) -> Result<(), OutOfMemory> {
+    let steps = NumberOf(steps, "step");
+    page.paragraph(format!(in alloc;
+        "The case is absent all the same: `ira decide --out` writes a certificate ({steps}, node {spent} spent)."
+    )?.as_str())
+}
+
+/// Begins the line of a certificate that the answer speaks of.
+fn begin_named<P: Allocator>(
+    page: &mut Page<P>,
+    name: &str,
+    line: usize,
+) -> Result<(), OutOfMemory> {
+    page.begin(Mark::Named)?;
+    page.place(name, line)?;
+    page.words(": ")
+}
+
+/// Adds what a case asks of a node, and what the steps before left of its candidates.
+fn add_left<A: Allocator + Copy, P: Allocator>(
+    alloc: A,
+    page: &mut Page<P>,
+    logs: &Logs<A>,
+    told: Told<'_, A>,
+    place: u8,
+    left: Left,
+) -> Result<(), OutOfMemory> {
+    page.begin(Mark::Plain)?;
+    page.words("node ")?;
+    page.number(u64::from(place))?;
+    page.words("  ")?;
+    match clause_at(told.case, place) {
+        Some(n) => {
+            page.place(told.lines.name, told.lines.line(n))?;
+            page.words(": ")?;
+            page.quote(told.lines.clause(n))?;
+            page.words("   ")?;
+        }
+        None => {
+            page.words("case ")?;
+            page.number(told.number as u64)?;
+            page.words(" asks nothing of it")?;
+        }
+    }
+    match left {
+        Left::NotAsked => {}
+        Left::Spent => page.words("no candidate left")?,
+        Left::First(position) => {
+            page.words("first candidate left ")?;
+            page.number(u64::from(position))?;
+            add_state(alloc, page, logs, place, position)?;
+        }
+    }
+    page.end()
+}
+
+/// Adds the state of a node after so many events.
+fn add_state<A: Allocator + Copy, P: Allocator>(
+    alloc: A,
+    page: &mut Page<P>,
+    logs: &Logs<A>,
+    place: u8,
+    events: u32,
+) -> Result<(), OutOfMemory> {
+    if place >= logs.size().get() {
+        return Ok(());
+    }
+    match state_after(logs.log(place), events) {
+        Some(state) => page.words(format!(in alloc; ": {}", StateWords(state))?.as_str()),
+        None => Ok(()),
+    }
+}
+
+/// Adds a step that isn't sound, and what is left of its two nodes.
+fn explain_step<A: Allocator + Copy, P: Allocator>(
+    alloc: A,
+    page: &mut Page<P>,
+    logs: &Logs<A>,
+    told: Told<'_, A>,
+    at: LineAt<'_>,
+    unsound: UnsoundStep,
+) -> Result<(), OutOfMemory> {
+    let step = unsound.step;
+    begin_named(page, at.name, at.line.saturating_add(unsound.number))?;
+    page.words("drop ")?;
+    page.number(u64::from(step.node))?;
+    page.words(" ")?;
+    page.number(u64::from(step.pos))?;
+    page.words(" by ")?;
+    page.number(u64::from(step.other))?;
+    page.words(" ")?;
+    page.number(u64::from(step.other_pos))?;
+    page.end()?;
+    page.blank()?;
+    add_left(alloc, page, logs, told, step.node, unsound.own)?;
+    if step.node != step.other {
+        add_left(alloc, page, logs, told, step.other, unsound.other)?;
+    }
+    page.blank()
+}
+
+/// Adds why a step isn't sound.
+fn explain_fault<A: Allocator + Copy, P: Allocator>(
+    alloc: A,
+    page: &mut Page<P>,
+    files: &[NamedText<'_>],
+    dependencies: &DirectDependencies<'_, A>,
+    unsound: UnsoundStep,
+) -> Result<(), OutOfMemory> {
+    match unsound.why {
+        Unsound::NotAsked => {
+            page.paragraph("A step speaks of two nodes of which the case asks something.")
+        }
+        Unsound::SameNode => {
+            page.paragraph("A step rules a state of one node out by a state of another.")
+        }
+        Unsound::NodeSpent => {
+            page.paragraph(
+                "Behind the steps before this one a node of it has no candidate left: the section is done with it.",
+            )
+        }
+        Unsound::NotFront => explain_front(alloc, page, unsound),
+        Unsound::NotBefore => explain_order(alloc, page, files, dependencies, unsound),
+    }
+}
+
+/// Adds which of the two states of a step isn't its node's first candidate left.
+fn explain_front<A: Allocator + Copy, P: Allocator>(
+    alloc: A,
+    page: &mut Page<P>,
+    unsound: UnsoundStep,
+) -> Result<(), OutOfMemory> {
+    let step = unsound.step;
+    let (pos, node, other_pos, other) = (step.pos, step.node, step.other_pos, step.other);
+    let begin = "A step speaks of the first candidate left of each node;";
+    let words = if unsound.other == Left::First(other_pos) {
+        format!(in alloc; "{begin} {pos} of node {node} is not it.")?
+    } else if unsound.own == Left::First(pos) {
+        format!(in alloc; "{begin} {other_pos} of node {other} is not it.")?
+    } else {
+        format!(in alloc;
+            "{begin} {pos} of node {node} and {other_pos} of node {other} are not it."
+        )?
+    };
+    page.paragraph(words.as_str())
+}
+
+/// Adds why the event that leads on from the state of a step didn't happen before the one that led to the other.
+fn explain_order<A: Allocator + Copy, P: Allocator>(
+    alloc: A,
+    page: &mut Page<P>,
+    files: &[NamedText<'_>],
+    dependencies: &DirectDependencies<'_, A>,
+    unsound: UnsoundStep,
+) -> Result<(), OutOfMemory> {
+    let step = unsound.step;
+    let (pos, node, other_pos, other) = (step.pos, step.node, step.other_pos, step.other);
+    let logs = dependencies.logs();
+    let nodes = logs.size().get();
+    if node >= nodes || other >= nodes || other_pos as usize > logs.log(other).len() {
+        return Ok(());
+    }
+    if pos as usize >= logs.log(node).len() {
+        return page.paragraph(format!(in alloc;
+            "State {pos} of node {node} is its last one: no event leads on from it, so nothing can have happened \
+                 behind it."
+        )?
+        .as_str());
+    }
+    if other_pos == 0 {
+        return page.paragraph(format!(in alloc;
+            "State 0 of node {other} is there before any event, so nothing happened before it."
+        )?.as_str());
+    }
+    let known = NumberOf(dependencies.count(other, other_pos, node) as usize, "event");
+    let event = pos.saturating_add(1);
+    let (file, line) = (file_of(files, node), line_of(event));
+    let (other_file, other_line) = (file_of(files, other), line_of(other_pos));
+    page.paragraph(format!(in alloc;
+        "State {pos} of node {node} is ruled out where event {event} of node {node} ({file}:{line}) happened before \
+             event {other_pos} of node {other} ({other_file}:{other_line}). But of node {node} only {known} happened \
+             before that one."
+    )?
+    .as_str())
+}
+
+/// Adds a node that has candidates left after all steps of a section, or isn't asked.
+fn explain_unspent<A: Allocator + Copy, P: Allocator>(
+    alloc: A,
+    page: &mut Page<P>,
+    files: &[NamedText<'_>],
+    logs: &Logs<A>,
+    told: Told<'_, A>,
+    at: LineAt<'_>,
+    unspent: &Unspent<A>,
+) -> Result<(), OutOfMemory> {
+    let place = unspent.place;
+    begin_named(page, at.name, at.line.saturating_add(at.steps))?;
+    page.words("spent ")?;
+    page.number(u64::from(place))?;
+    page.end()?;
+    page.blank()?;
+    match &unspent.left {
+        Some(left) => {
+            add_candidates(alloc, page, told, place, at.steps, left.len())?;
+            add_states(alloc, page, file_of(files, place), logs, place, left)?;
+        }
+        None => add_not_asked(page, told.number, place)?,
+    }
+    page.blank()
+}
+
+/// Adds that a case asks nothing of a node.
+fn add_not_asked<P: Allocator>(
+    page: &mut Page<P>,
+    case: usize,
+    place: u8,
+) -> Result<(), OutOfMemory> {
+    page.begin(Mark::Plain)?;
+    page.words("Case ")?;
+    page.number(case as u64)?;
+    page.words(" asks nothing of node ")?;
+    page.number(u64::from(place))?;
+    page.words(".")?;
+    page.end()
+}
+
+/// Adds how many candidates a node has left after so many steps.
+fn add_candidates<A: Allocator + Copy, P: Allocator>(
+    alloc: A,
+    page: &mut Page<P>,
+    told: Told<'_, A>,
+    place: u8,
+    steps: usize,
+    left: usize,
+) -> Result<(), OutOfMemory> {
+    let (steps, left) = (NumberOf(steps, "step"), NumberOf(left, "candidate"));
+    page.begin(Mark::Plain)?;
+    page.words(format!(in alloc;
+        "Behind {steps} node {place} has {left} left, where it meets `"
+    )?.as_str())?;
+    let n = clause_at(told.case, place).unwrap_or(0);
+    page.quote(told.lines.clause(n))?;
+    page.words("` (")?;
+    page.place(told.lines.name, told.lines.line(n))?;
+    page.words("):")?;
+    page.end()
+}
+
+/// Adds the first of these states of a node.
+fn add_states<A: Allocator + Copy, P: Allocator>(
+    alloc: A,
+    page: &mut Page<P>,
+    file: &str,
+    logs: &Logs<A>,
+    place: u8,
+    states: &[u32],
+) -> Result<(), OutOfMemory> {
+    for position in states.iter().take(MOST_LEFT) {
+        page.begin(Mark::Plain)?;
+        page.words("  state ")?;
+        page.number(u64::from(*position))?;
+        page.words(", behind ")?;
+        page.place(file, line_of(*position))?;
+        add_state(alloc, page, logs, place, *position)?;
+        page.end()?;
+    }
+    if states.len() > MOST_LEFT {
+        page.line(Mark::Plain, "  ..")?;
+    }
+    Ok(())
+}

@@ -1,0 +1,22 @@
+//! Files by name, and readers: how a text comes from them and goes to them.
+#![tactic(auto)]
+
+mod counted;
+mod file_name;
+mod file_shelf;
+mod read_text;
+mod retrying_reader;
+mod shelf;
+mod shelf_fault;
+mod text_buffer;
+mod text_source;
+
+pub use counted::Counted;
+pub use file_name::FileName;
+pub use file_shelf::FileShelf;
+pub use read_text::read_behind;
+pub use retrying_reader::RetryingReader;
+pub use shelf::Shelf;
+pub use shelf_fault::ShelfFault;
+pub use text_buffer::TextBuffer;
+pub use text_source::TextSource;

@@ -1,0 +1,42 @@
+use Rattle.std.proofs.Common.{◌≡◌, ◌∙◌, ◌∷◌, ◌++◌, ◌<◌, ◌≤◌, [], ap, arith, length}
+use Rattle.std.proofs.lemmas.List.{length-set}
+use Rattle.ira_order.specs.Ring.{events_of, log_of}
+use Rattle.ira_show.proofs.Steps.{last_is_there}
+use Rattle.ira_json.proofs.event_lines.write_events.Goals as goal
+
+pub log-log-requires-in-loop-number : goal.log-log-requires-in-loop-number
+log-log-requires-in-loop-number g c =
+    let given = c.loop-number.invariant.begun in
+    let after = rw c.in-Some.is at (c.in_ok-step.ensures.step given.0 given.1) in
+    let logs : c.next.new.self.logs ≡ c.args.logs.now = c.next.ensures.logs.logs ∙ c.loop-number.invariant.logs in
+    let there = last_is_there c.next.new.self given.0 c.in-Some.step after in
+    rw logs at there.place
+
+pub event-event-requires : goal.event-event-requires
+event-event-requires g c =
+    let given = c.loop-number.invariant.begun in
+    let after = rw c.in-Some.is at (c.in_ok-step.ensures.step given.0 given.1) in
+    let logs : c.next.new.self.logs ≡ c.args.logs.now = c.next.ensures.logs.logs ∙ c.loop-number.invariant.logs in
+    let there = last_is_there c.next.new.self given.0 c.in-Some.step after in
+    let events : log_of c.args.logs.now c.in-Some.step.place ≡ c.log-log-in-loop-number.result.now.events = ap events_of c.log-log-in-loop-number.ensures.value in
+    let within : c.in-Some.step.event ≤ length (log_of c.args.logs.now c.in-Some.step.place) = rw logs at there.within in
+    (there.first, rw events at within)
+
+pub index_mut-state-requires : goal.index_mut-state-requires
+index_mut-state-requires g c =
+    let given = c.loop-number.invariant.begun in
+    let after = rw c.in-Some.is at (c.in_ok-step.ensures.step given.0 given.1) in
+    let logs : c.next.new.self.logs ≡ c.args.logs.now = c.next.ensures.logs.logs ∙ c.loop-number.invariant.logs in
+    let there = last_is_there c.next.new.self given.0 c.in-Some.step after in
+    let place : c.in-Some.step.place < length c.args.logs.now = rw logs at there.place in
+    omega (arith, place, c.from-in-loop-number.ensures, c.loop-number.invariant.states)
+
+pub loop-number-preserved : goal.loop-number-preserved
+loop-number-preserved g c =
+    let given = c.loop-number.invariant.begun in
+    let after = rw c.in-Some.is at (c.in_ok-step.ensures.step given.0 given.1) in
+    record {
+      begun = (given.0 ++ c.in-Some.step ∷ [], after);
+      logs = c.next.ensures.logs.logs ∙ c.loop-number.invariant.logs;
+      states = length-set c.loop-number.states.items c.from-in-loop-number.result c.advance.new.self ∙ c.loop-number.invariant.states;
+    }

@@ -1,0 +1,83 @@
+ghost use Rattle.ira_order.specs.Circle.{HasOrder};
+ghost use Rattle.ira_order.specs.Cut.{IsConsistentCut};
+
+use crate::line::write_line;
+use crate::values::{members_of, put_number, put_state, put_words};
+use ira_event::{Event, Logs, OutOfMemory, Sink};
+use ira_explain::EventWords;
+use ira_node::NodeState;
+use ira_show::ShowFault;
+use ira_trail::{Trail, TrailStep};
+use serde_json::{Value, put};
+use std::alloc::{Allocator, Global};
+
+/// How many lines stand in front of a log's first record.
+const HEAD_LINES: u32 = 4;
+
+/// An event, which is step `number` of a trail, and the state of its node after it.
+fn event_value(
+    alloc: Global,
+    number: usize,
+    step: TrailStep,
+    event: Event,
+    state: NodeState,
+) -> Result<Value, OutOfMemory> {
+    let mut members = members_of(alloc, "event")?;
+    put_number(&mut members, alloc, "step", number as u64)?;
+    put_number(&mut members, alloc, "node", u64::from(step.place))?;
+    put_number(&mut members, alloc, "event", u64::from(step.event))?;
+    put_number(
+        &mut members,
+        alloc,
+        "line",
+        u64::from(step.event) + u64::from(HEAD_LINES),
+    )?;
+    let record = format!(in alloc; "{}", EventWords(event))?;
+    put_words(&mut members, alloc, "record", record.as_str())?;
+    put_number(&mut members, alloc, "column", u64::from(step.column))?;
+    put(&mut members, alloc, "in_cut", Value::from(step.in_cut))?;
+    if let Some(sender) = step.sent_by {
+        put_number(&mut members, alloc, "of_step", u64::from(sender))?;
+    }
+    put_state(&mut members, alloc, state)?;
+    Ok(Value::Object(members))
+}
+
+/// Writes a line for each event, in one order of them all, those of the cut first.
+pub fn write_events<A: Allocator + Clone, W: Sink>(
+    text: Global,
+    alloc: A,
+    logs: &Logs<A>,
+    cut: &[u32],
+    sink: &mut W,
+) -> Result<(), ShowFault>
+    requires order { HasOrder logs.now }
+    requires cut { IsConsistentCut logs.now cut.now }
+{
+    let size = logs.size().get();
+    let mut events = 0usize;
+    let mut states = Vec::with_capacity(alloc.clone()?, usize::from(size))?;
+    for place in 0..size {
+        let log = logs.log(place);
+        events = events.saturating_add(log.len());
+        states.push(NodeState::first(log.initiator()))?;
+    }
+    let mut trail = Trail::new(alloc, logs, cut)?;
+    for number in 0..events {
+        let Some(step) = trail.next()? else {
+            break;
+        };
+        let log = logs.log(step.place);
+        let event = log.event(step.event);
+        let state = &mut states[usize::from(step.place)];
+        match state.advance(log.nodes(), &event) {
+            Ok(()) | Err(_) => {}
+        }
+        write_line(
+            text,
+            &event_value(text, number + 1, step, event, *state)?,
+            sink,
+        )?;
+    }
+    Ok(())
+}

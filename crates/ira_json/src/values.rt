@@ -1,0 +1,96 @@
+use ira_event::{Load, Msg, OutOfMemory};
+use ira_node::{NodeState, Phase};
+use serde_json::{Map, Value, json, put};
+use std::alloc::Global;
+
+/// The members of an object.
+pub(crate) type Members = Map<String, Value>;
+
+/// Adds a number.
+pub(crate) fn put_number(
+    members: &mut Members,
+    alloc: Global,
+    key: &str,
+    number: u64,
+) -> Result<(), OutOfMemory> {
+    put(members, alloc, key, Value::from(number))?;
+    Ok(())
+}
+
+/// Adds words.
+pub(crate) fn put_words(
+    members: &mut Members,
+    alloc: Global,
+    key: &str,
+    words: &str,
+) -> Result<(), OutOfMemory> {
+    put(members, alloc, key, Value::try_from_str(alloc, words)?)?;
+    Ok(())
+}
+
+/// Adds what an object tells of a load: its fields, or the hop of a reset.
+pub(crate) fn put_load(
+    members: &mut Members,
+    alloc: Global,
+    load: Load,
+) -> Result<(), OutOfMemory> {
+    match load {
+        Load::Msg(
+            Msg {
+                round,
+                id,
+                hop,
+                dirty,
+            },
+        ) => {
+            put_number(members, alloc, "round", u64::from(round))?;
+            put_number(members, alloc, "id", u64::from(id))?;
+            put_number(members, alloc, "hop", u64::from(hop))?;
+            put(members, alloc, "dirty", Value::from(dirty))?;
+        }
+        Load::Reset(hop) => put_number(members, alloc, "reset", u64::from(hop))?,
+    }
+    Ok(())
+}
+
+/// Adds a state, as far as it has a round, an ID and a debt; its term where that isn't the first one.
+pub(crate) fn put_state(
+    members: &mut Members,
+    alloc: Global,
+    state: NodeState,
+) -> Result<(), OutOfMemory> {
+    let NodeState { phase, owed, term } = state;
+    let word = match phase {
+        Phase::Choosing { .. } => "choosing",
+        Phase::Active { .. } => "active",
+        Phase::Passive => "passive",
+        Phase::Leader { .. } => "leader",
+        Phase::Yielding => "yielding",
+    };
+    put_words(members, alloc, "phase", word)?;
+    if let Phase::Choosing { round }
+    | Phase::Active { round, .. }
+    | Phase::Leader { round, .. } = phase
+    {
+        put_number(members, alloc, "round", u64::from(round))?;
+    }
+    if let Phase::Active { id, .. } | Phase::Leader { id, .. } = phase {
+        put_number(members, alloc, "id", u64::from(id))?;
+    }
+    if term != 1 {
+        put_number(members, alloc, "term", u64::from(term))?;
+    }
+    if let Some(load) = owed {
+        let mut owes = Map::new(alloc);
+        put_load(&mut owes, alloc, load)?;
+        put(members, alloc, "owes", Value::Object(owes))?;
+    }
+    Ok(())
+}
+
+/// An object with a type.
+pub(crate) fn members_of(alloc: Global, kind: &str) -> Result<Members, OutOfMemory> {
+    let mut members = Map::new(alloc);
+    put_words(&mut members, alloc, "type", kind)?;
+    Ok(members)
+}

@@ -1,5 +1,0 @@
-use Rattle.std.proofs.Common.{◌≡◌, map, take}
-use Rattle.ira_main.proofs.explain_files.named_texts.Given as goal
-
-abbrev pub invariant-loop-file : goal.invariant-loop-file
-invariant-loop-file g l = map (λ text. text.text.now) l.named.items ≡ take l.file-index l.files

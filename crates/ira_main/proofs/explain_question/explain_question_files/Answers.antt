@@ -1,0 +1,63 @@
+use Rattle.std.proofs.Common.{◌≡◌, ◌∙◌, [], ◌∷◌, inl, inr, refl, rules, Err, ap}
+use Rattle.ira_audit.specs.Findings.{AreFindings}
+use Rattle.std.proofs.lemmas.Result.{err_from_is_err_and}
+use Rattle.ira_views.specs.Texts.{texts_of}
+use Rattle.ira_main.proofs.FilesRead.{of_back, of_front}
+use Rattle.ira_main.specs.FilesRead.{names_of}
+use Rattle.ira_main.specs.declared.program_fault.ProgramFault.TheVariants.{OutOfMemory}
+use Rattle.ira_main.proofs.explain_question.explain_question_files.Goals as goal
+
+pub returns : goal.returns
+returns g c =
+    let findings = c.in_ok-view.view.findings in
+    let same : texts_of c.deref-3.result.now ≡ c.in_ok-files.files.items = search rules in
+    let asked : c.named.result.text.now ≡ c.in_ok-question.question = search rules in
+    elim c.print_findings_view.ensures [
+      | inl told ↦
+          inl (
+            _,
+            c.in_ok-names.ensures,
+            inl (record {
+              question = c.in_ok-question.question;
+              texts = c.in_ok-files.files.items;
+              given = (c.in_ok-question.ensures.read, rw c.deref.ensures.value at c.in_ok-files.ensures);
+              findings = findings;
+              found = rw (same, asked) at c.in_ok-view.ensures.found;
+              told = told;
+            }),
+          )
+      | inr full ↦ inl (_, c.in_ok-names.ensures, inr (OutOfMemory, inr refl, full.0, full.1))
+    ]
+
+pub returns-in_err-question : goal.returns-in_err-question
+returns-in_err-question g c =
+    let asked = c.args.asked.question.now in
+    let logs = names_of c.in_ok-names.names.items in
+    inl (_, c.in_ok-names.ensures, inr (_, of_front g.F.TextSource.reads (asked ∷ []) logs _ _ c.in_err-question.ensures.fault, refl, search rules))
+
+pub returns-in_err-files : goal.returns-in_err-files
+returns-in_err-files g c =
+    let asked = c.args.asked.question.now in
+    let logs = names_of c.in_ok-names.names.items in
+    let fault = rw c.deref.ensures.value at c.in_err-files.ensures in
+    inl (_, c.in_ok-names.ensures, inr (_, of_back g.F.TextSource.reads (asked ∷ []) logs _ (_ ∷ []) _ (c.in_ok-question.ensures.read, tt) fault, refl, search rules))
+
+pub returns-in_err-clone : goal.returns-in_err-clone
+returns-in_err-clone g c =
+    let p = err_from_is_err_and c.from_residual-in_err-clone.result c.from_residual-in_err-clone.ensures.1 in
+    inl (_, c.in_ok-names.ensures, inr (OutOfMemory, inr refl, refl, p.1 ∙ ap (λ f. Err f) p.2))
+
+pub returns-in_err-named : goal.returns-in_err-named
+returns-in_err-named g c =
+    let p = err_from_is_err_and c.from_residual-in_err-named.result c.from_residual-in_err-named.ensures.1 in
+    inl (_, c.in_ok-names.ensures, inr (OutOfMemory, inr refl, refl, p.1 ∙ ap (λ f. Err f) p.2))
+
+pub returns-in_err-clone-2 : goal.returns-in_err-clone-2
+returns-in_err-clone-2 g c =
+    let p = err_from_is_err_and c.from_residual-in_err-clone-2.result c.from_residual-in_err-clone-2.ensures.1 in
+    inl (_, c.in_ok-names.ensures, inr (OutOfMemory, inr refl, refl, p.1 ∙ ap (λ f. Err f) p.2))
+
+pub returns-in_err-view : goal.returns-in_err-view
+returns-in_err-view g c =
+    let p = err_from_is_err_and c.from_residual-in_err-view.result c.from_residual-in_err-view.ensures.1 in
+    inl (_, c.in_ok-names.ensures, inr (OutOfMemory, inr refl, refl, p.1 ∙ ap (λ f. Err f) p.2))

@@ -1,0 +1,5 @@
+mod DrawnMarks
+mod EventNumbers
+mod NodeLanes
+mod NodeTraffic
+mod Replays

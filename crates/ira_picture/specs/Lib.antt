@@ -1,0 +1,6 @@
+pub mod Arrow
+pub mod Columns
+pub mod Lane
+pub mod Picture
+pub mod Traffic
+pub mod Window

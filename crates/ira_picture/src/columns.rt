@@ -1,0 +1,320 @@
+ghost use Rattle.std.specs.Prelude.{◌≡◌, ◌<◌, IfOk, length};
+ghost use Rattle.std.specs.Option.{ForSome};
+ghost use Rattle.ira_order.specs.Ring.{prev};
+ghost use Rattle.ira_picture.specs.Columns.{column_at};
+
+use crate::traffic::Traffic;
+use ira_event::{Event, Logs, NodeLog, OutOfMemory};
+use std::alloc::Allocator;
+use std::marker::Model;
+
+/// A column for each event: to the right of the event before it in its log, and for a receipt, of its sending.
+#[derive(Drop)]
+pub(crate) struct Columns<A: Allocator> {
+    /// For each place those of its events.
+    pub(crate) nodes: Vec<Vec<u32, A>, A>,
+    /// The column of the line of the moment, which no event has, where one was given.
+    pub(crate) line: Option<u32>,
+}
+
+impl<A: Allocator> Model for Columns<A> {
+    ghost use Rattle.std.specs.Prelude.{map};
+    ghost use Rattle.ira_picture.specs.Columns.{Columns};
+
+    ghost Value = { Columns };
+
+    ghost view = { λ c. record { nodes = map (λ row. row.items) c.nodes.items; line = c.line } };
+}
+
+/// How far a node has come.
+#[derive(Drop)]
+struct Progress<A: Allocator> {
+    columns: Vec<u32, A>,
+    /// The columns of its sendings so far.
+    sendings: Vec<u32, A>,
+    /// How many receipts it has made.
+    receipts: usize,
+}
+
+impl<A: Allocator> Progress<A> {
+    fn start(alloc: A) -> Result<Progress<A>, OutOfMemory>
+    where
+        A: Clone,
+    {
+        Ok(Progress {
+            columns: Vec::new(alloc.clone()?),
+            sendings: Vec::new(alloc),
+            receipts: 0,
+        })
+    }
+
+    /// The last column so far.
+    fn last(&self) -> u32 {
+        self.columns.last().copied().unwrap_or(0)
+    }
+
+    fn add(&mut self, event: Event, column: u32) -> Result<(), OutOfMemory> {
+        self.columns.push(column)?;
+        match event {
+            Event::Sent(_) => self.sendings.push(column)?,
+            Event::Got(_) => self.receipts = self.receipts.saturating_add(1),
+            Event::Draw(_) | Event::Yield => {}
+        }
+        Ok(())
+    }
+}
+
+/// The column that an event has to be right of since it is a receipt: that of its sending, or 0 where it has none.
+/// Nothing where the sending has no column yet.
+fn column_of_sending(sendings: &[u32], number_of_sendings: usize, receipt: usize) -> Option<u32> {
+    if receipt < number_of_sendings {
+        sendings.get(receipt).copied()
+    } else {
+        Some(0)
+    }
+}
+
+/// The place before.
+pub(crate) fn writer_of(nodes: u8, place: u8) -> u8
+    requires { place < nodes }
+    ensures value { result ≡ prev nodes place }
+    ensures place { result < nodes }
+{
+    if place == 0 { nodes - 1 } else { place - 1 }
+}
+
+/// The event after so many of a log.
+fn event_after<A: Allocator>(log: &NodeLog<A>, done: usize) -> Option<Event> {
+    if done < log.len() {
+        Some(log.event(done as u32 + 1))
+    } else {
+        None
+    }
+}
+
+/// What columns are given to.
+#[derive(Drop)]
+struct Run<'a, L: Allocator, T: Allocator> {
+    logs: &'a Logs<L>,
+    traffic: &'a [Traffic<T>],
+    /// How many events of each node get a column, where not all do.
+    cut: Option<&'a [u32]>,
+    /// The column that all of them stand right of.
+    base: u32,
+    ghost traffic_of_all: { length traffic.now ≡ length logs.now },
+    ghost cut_of_all: { ForSome cut (λ c. length c.now ≡ length logs.now) },
+}
+
+impl<L: Allocator, T: Allocator> Run<'_, L, T> {
+    /// How many events of a node get a column.
+    fn end(&self, place: u8) -> usize
+        requires { place < length self.now.logs.now }
+    {
+        match self.cut {
+            Some(cut) => cut[usize::from(place)] as usize,
+            None => self.logs.log(place).len(),
+        }
+    }
+
+    /// The next event of a node, and its column; nothing where it has to wait.
+    fn next<A: Allocator>(&self, nodes: &[Progress<A>], place: u8) -> Option<(Event, u32)>
+        requires place { place < length self.now.logs.now }
+        requires nodes { length nodes.now ≡ length self.now.logs.now }
+    {
+        let progress = &nodes[usize::from(place)];
+        let event = event_after(self.logs.log(place), progress.columns.len())?;
+        let mut before = progress.last().max(self.base);
+        if let Event::Got(_) = event {
+            let writer = usize::from(writer_of(self.logs.size().get(), place));
+            let traffic = &self.traffic[writer];
+            let sent = column_of_sending(
+                &nodes[writer].sendings,
+                traffic.sendings.len(),
+                progress.receipts,
+            )?;
+            before = before.max(sent);
+        }
+        Some((event, before.saturating_add(1)))
+    }
+
+    /// Gives columns to the events of a node as far as they may come. Says whether there were any.
+    fn run<A: Allocator>(&self, nodes: &mut [Progress<A>], place: u8) -> Result<bool, OutOfMemory>
+        requires place { place < length self.now.logs.now }
+        requires nodes { length nodes.old ≡ length self.now.logs.now }
+        ensures { length nodes.new ≡ length nodes.old }
+    {
+        let mut further = false;
+        for _ in nodes[usize::from(place)].columns.len()..self.end(place) {
+            let Some((event, column)) = self.next(nodes, place) else {
+                break;
+            };
+            nodes[usize::from(place)].add(event, column)?;
+            further = true;
+        }
+        Ok(further)
+    }
+
+    /// The same of each node in turn.
+    fn round<A: Allocator>(&self, nodes: &mut [Progress<A>]) -> Result<bool, OutOfMemory>
+        requires { length nodes.old ≡ length self.now.logs.now }
+        ensures { length nodes.new ≡ length nodes.old }
+    {
+        let mut further = false;
+        for place in 0..self.logs.size().get() {
+            if self.run(nodes, place)? {
+                further = true;
+            }
+        }
+        Ok(further)
+    }
+
+    /// Rounds until no event may come. In each but the last one an event gets its column.
+    fn rounds<A: Allocator>(&self, nodes: &mut [Progress<A>]) -> Result<(), OutOfMemory>
+        requires { length nodes.old ≡ length self.now.logs.now }
+        ensures { length nodes.new ≡ length nodes.old }
+    {
+        for _ in 0..=number_of_events(self.logs) {
+            if !self.round(nodes)? {
+                break;
+            }
+        }
+        Ok(())
+    }
+}
+
+/// How many events logs have.
+fn number_of_events<L: Allocator>(logs: &Logs<L>) -> usize {
+    let mut events = 0usize;
+    for place in 0..logs.size().get() {
+        events = events.saturating_add(logs.log(place).len());
+    }
+    events
+}
+
+/// The last column of all.
+fn last_column<A: Allocator>(nodes: &[Progress<A>]) -> u32 {
+    let mut last = 0;
+    for node in nodes {
+        last = node.last().max(last);
+    }
+    last
+}
+
+/// Events that wait for one another stand right of all others, those of a node after one another.
+fn add_stuck<A: Allocator, L: Allocator>(
+    log: &NodeLog<L>,
+    base: u32,
+    node: &mut Progress<A>,
+) -> Result<(), OutOfMemory> {
+    let mut column = base;
+    for done in node.columns.len()..log.len() {
+        column = column.saturating_add(1);
+        node.add(log.event(done as u32 + 1), column)?;
+    }
+    Ok(())
+}
+
+/// The same of all nodes.
+fn add_all_stuck<A: Allocator, L: Allocator>(
+    logs: &Logs<L>,
+    nodes: &mut [Progress<A>],
+) -> Result<(), OutOfMemory>
+    requires { length nodes.old ≡ length logs.now }
+    ensures { length nodes.new ≡ length nodes.old }
+{
+    let base = last_column(nodes);
+    for place in 0..logs.size().get() {
+        add_stuck(logs.log(place), base, &mut nodes[usize::from(place)])?;
+    }
+    Ok(())
+}
+
+/// No columns yet.
+fn starts<A: Allocator + Clone>(alloc: A, nodes: u8) -> Result<Vec<Progress<A>, A>, OutOfMemory>
+    ensures { IfOk result (λ starts. length starts.items ≡ nodes) }
+{
+    let mut starts = Vec::with_capacity(alloc.clone()?, usize::from(nodes))?;
+    for _ in 0..nodes {
+        starts.push(Progress::start(alloc.clone()?)?)?;
+    }
+    Ok(starts)
+}
+
+/// The columns alone.
+fn columns_of<A: Allocator + Clone>(
+    alloc: A,
+    nodes: Vec<Progress<A>, A>,
+) -> Result<Vec<Vec<u32, A>, A>, OutOfMemory>
+    ensures { IfOk result (λ columns. length columns.items ≡ length nodes.items) }
+{
+    let mut columns = Vec::with_capacity(alloc, nodes.len())?;
+    for node in nodes {
+        columns.push(node.columns)?;
+    }
+    Ok(columns)
+}
+
+impl<A: Allocator + Clone> Columns<A> {
+    /// Of logs of a ring, also of such that have no order; with a consistent cut its events stand left of a line, all
+    /// others right of it.
+    pub(crate) fn of<'x, L: Allocator>(
+        alloc: A,
+        logs: &'x Logs<L>,
+        traffic: &'x [Traffic<A>],
+        cut: Option<&'x [u32]>,
+    ) -> Result<Columns<A>, OutOfMemory>
+        requires traffic { length traffic.now ≡ length logs.now }
+        requires cut { ForSome cut (λ c. length c.now ≡ length logs.now) }
+        ensures { IfOk result (λ columns. length columns.nodes ≡ length logs.now) }
+    {
+        let mut nodes = starts(alloc.clone()?, logs.size().get())?;
+        Run {
+            logs,
+            traffic,
+            cut,
+            base: 0,
+        }
+        .rounds(&mut nodes)?;
+        let mut line = None;
+        if cut.is_some() {
+            let base = last_column(&nodes).saturating_add(1);
+            line = Some(base);
+            Run {
+                logs,
+                traffic,
+                cut: None,
+                base,
+            }
+            .rounds(&mut nodes)?;
+        }
+        add_all_stuck(logs, &mut nodes)?;
+        Ok(Columns {
+            nodes: columns_of(alloc, nodes)?,
+            line,
+        })
+    }
+}
+
+impl<A: Allocator> Columns<A> {
+    /// The column of an event, or 0 where there is no such event.
+    pub(crate) fn column(&self, place: u8, position: u32) -> u32
+        ensures { result ≡ column_at self.now.nodes place position }
+    {
+        match self.nodes.get(usize::from(place)) {
+            Some(columns) => columns
+                .get(position.saturating_sub(1) as usize)
+                .copied()
+                .unwrap_or(0),
+            None => 0,
+        }
+    }
+
+    /// The last column, or 0 where there is none.
+    pub(crate) fn last(&self) -> u32 {
+        let mut last = 0;
+        for columns in &self.nodes {
+            last = columns.last().copied().unwrap_or(0).max(last);
+        }
+        last
+    }
+}

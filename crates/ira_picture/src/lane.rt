@@ -1,0 +1,202 @@
+ghost use Rattle.std.specs.Prelude.{◌≡◌, ◌+◌, ◌<◌, ◌≤◌, ◌^◌, Some, IfOk, OnOk, length, slice_get};
+ghost use Rattle.ira_picture.specs.Lane.{AreMarks, IsKnown, IsReplayed};
+
+use crate::after::After;
+use crate::band::{Band, BandKind, Span};
+use crate::mark::Mark;
+use crate::window::Window;
+use ira_event::{Event, NodeLog, OutOfMemory};
+use ira_node::NodeState;
+use ira_replay::ReplayFault;
+use std::alloc::Allocator;
+
+/// What is drawn of a node.
+#[derive(Drop)]
+pub struct Lane<A: Allocator> {
+    /// What is known of it before the first mark.
+    pub start: After,
+    /// Its events at the columns that are drawn.
+    pub marks: Vec<Mark, A>,
+    /// What it is at these columns.
+    pub bands: Vec<Band, A>,
+    /// When it owes something.
+    pub debts: Vec<Span, A>,
+    /// How many events its log has, drawn or not.
+    pub events: u32,
+    /// Its last state that is known.
+    pub end: NodeState,
+    /// Its first event without a step.
+    pub stop: Option<ReplayFault>,
+}
+
+/// How far a log was replayed.
+#[derive(Clone, Copy)]
+struct Replay {
+    events: u32,
+    /// The last state that is known.
+    end: NodeState,
+    /// The first event without a step.
+    stop: Option<ReplayFault>,
+}
+
+impl Replay {
+    /// Before the first event.
+    fn start<L: Allocator>(log: &NodeLog<L>) -> Replay
+        ensures events { result.events ≡ 0 }
+        ensures replayed { IsReplayed log.now 0 result.end result.stop }
+    {
+        Replay {
+            events: 0,
+            end: NodeState::first(log.initiator()),
+            stop: None,
+        }
+    }
+
+    /// Goes on by an event, and says which, and what is known then.
+    fn advance<L: Allocator>(&mut self, log: &NodeLog<L>) -> (Event, After)
+        requires within { self.old.events < length log.now.events }
+        requires room { self.old.events + 1 < 2 ^ 32 }
+        requires replayed { IsReplayed log.now self.old.events self.old.end self.old.stop }
+        ensures events { self.new.events ≡ self.old.events + 1 }
+        ensures replayed { IsReplayed log.now (self.old.events + 1) self.new.end self.new.stop }
+        ensures event { slice_get log.now.events self.old.events ≡ Some result.0 }
+        ensures known { IsKnown log.now (self.old.events + 1) result.1 }
+    {
+        let position = self.events + 1;
+        let event = log.event(position);
+        self.events = position;
+        if self.stop.is_some() {
+            return (event, After::Unknown);
+        }
+        match self.end.advance(log.nodes(), &event) {
+            Ok(()) => (event, After::State(self.end)),
+            Err(fault) => {
+                self.stop = Some(ReplayFault { position, fault });
+                (event, After::NoStep)
+            }
+        }
+    }
+}
+
+impl<A: Allocator> Lane<A> {
+    /// Whether it has bands of a kind.
+    pub fn has(&self, kind: BandKind) -> bool {
+        self.bands.iter().any(|band| band.kind == kind)
+    }
+
+    /// What is drawn of the node of a log, whose events have these columns.
+    pub(crate) fn of<L: Allocator>(
+        alloc: A,
+        log: &NodeLog<L>,
+        columns: &[u32],
+        window: Window,
+    ) -> Result<Lane<A>, OutOfMemory>
+    where
+        A: Clone,
+        ensures events { IfOk result (λ lane. lane.events ≡ length log.now.events) }
+        ensures marks { IfOk result
+            (λ lane. AreMarks log.now columns.now window (length log.now.events) lane.marks.items) }
+        ensures end { IfOk result (λ lane. IsReplayed log.now (length log.now.events) lane.end lane.stop) }
+    {
+        let mut replay = Replay::start(log);
+        let mut start = After::State(replay.end);
+        let mut marks = Vec::new(alloc.clone()?);
+        for k in 0..log.len() {
+            let column = columns.get(k).copied().unwrap_or(0);
+            let (event, after) = replay.advance(log);
+            if window.contains(column) {
+                marks.push(Mark {
+                    position: replay.events,
+                    column,
+                    event,
+                    after,
+                })?;
+            } else if column < window.first {
+                start = after;
+            }
+        }
+        let bands = bands_of(alloc.clone()?, start, window.first, &marks)?;
+        let debts = debts_of(alloc, start, window.first, &marks)?;
+        Ok(Lane {
+            start,
+            marks,
+            bands,
+            debts,
+            events: replay.events,
+            end: replay.end,
+            stop: replay.stop,
+        })
+    }
+}
+
+/// From where to where what is known after mark `k` holds, where that is anywhere; marks count from 1, and 0 stands for
+/// what is known before the first one.
+fn span_of(first: u32, marks: &[Mark], k: usize) -> Option<Span> {
+    let from = match k.checked_sub(1) {
+        Some(mark) => marks.get(mark)?.column,
+        None => first,
+    };
+    let to = marks.get(k).map(|mark| mark.column);
+    if to == Some(from) {
+        None
+    } else {
+        Some(Span { from, to })
+    }
+}
+
+/// What is known after mark `k`, or before the first one.
+fn after_mark(start: After, marks: &[Mark], k: usize) -> After {
+    match k.checked_sub(1).and_then(|mark| marks.get(mark)) {
+        Some(mark) => mark.after,
+        None => start,
+    }
+}
+
+/// Whether the node owes something then.
+fn owes(after: After) -> bool {
+    matches!(after, After::State(NodeState { owed: Some(_), .. }))
+}
+
+/// When a node owes something.
+fn debts_of<A: Allocator>(
+    alloc: A,
+    start: After,
+    first: u32,
+    marks: &[Mark],
+) -> Result<Vec<Span, A>, OutOfMemory> {
+    let mut debts = Vec::new(alloc);
+    for k in 0..=marks.len() {
+        if owes(after_mark(start, marks, k)) {
+            if let Some(span) = span_of(first, marks, k) {
+                debts.push(span)?;
+            }
+        }
+    }
+    Ok(debts)
+}
+
+/// Adds a band, or makes the last one longer that is of its kind.
+fn add_band<A: Allocator>(bands: &mut Vec<Band, A>, band: Band) -> Result<(), OutOfMemory> {
+    match bands.last_mut() {
+        Some(last) if last.kind == band.kind => last.span.to = band.span.to,
+        _ => bands.push(band)?,
+    }
+    Ok(())
+}
+
+/// What a node is.
+fn bands_of<A: Allocator>(
+    alloc: A,
+    start: After,
+    first: u32,
+    marks: &[Mark],
+) -> Result<Vec<Band, A>, OutOfMemory> {
+    let mut bands = Vec::new(alloc);
+    for k in 0..=marks.len() {
+        let kind = BandKind::of(after_mark(start, marks, k));
+        if let Some(span) = span_of(first, marks, k) {
+            add_band(&mut bands, Band { kind, span })?;
+        }
+    }
+    Ok(bands)
+}

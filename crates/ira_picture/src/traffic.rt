@@ -1,0 +1,118 @@
+ghost use Rattle.std.specs.Prelude.{◌≡◌, ◌+◌, ℕ, List, Some, IfOk, OnOk, IfSome, length, slice_get};
+ghost use Rattle.ira_event.specs.declared.event.Event.{Event};
+ghost use Rattle.ira_picture.specs.Traffic.{IsTraffic};
+
+use ira_event::{Event, NodeLog, OutOfMemory};
+use ira_node::{NodeState, Phase};
+use std::alloc::Allocator;
+use std::marker::Model;
+
+/// What a receipt did to its node.
+#[derive(Clone, Copy, PartialEq, Eq)]
+pub(crate) enum Effect {
+    /// The node went on, or has no state.
+    GoesOn,
+    /// The node is as it was.
+    Nothing,
+    /// The node leads.
+    Leads,
+}
+
+/// A receipt of a node.
+#[derive(Clone, Copy)]
+pub(crate) struct Receipt {
+    /// The event's number in the log, from 1.
+    pub(crate) position: u32,
+    pub(crate) effect: Effect,
+}
+
+/// What a node sends and receives, each in its order.
+#[derive(Drop)]
+pub(crate) struct Traffic<A: Allocator> {
+    /// The numbers of the events that send.
+    pub(crate) sendings: Vec<u32, A>,
+    pub(crate) receipts: Vec<Receipt, A>,
+}
+
+impl<A: Allocator> Model for Traffic<A> {
+    ghost use Rattle.ira_picture.specs.Traffic.{Traffic};
+
+    ghost Value = { Traffic };
+
+    ghost view = { λ t. record { sendings = t.sendings.items; receipts = t.receipts.items } };
+}
+
+/// What an event does that leads from a state to another.
+fn effect_of(before: Option<NodeState>, after: Option<NodeState>) -> Effect {
+    match after {
+        Some(_) if after == before => Effect::Nothing,
+        Some(
+            NodeState {
+                phase: Phase::Leader { .. },
+                ..
+            },
+        ) => Effect::Leads,
+        _ => Effect::GoesOn,
+    }
+}
+
+/// The state after an event, where it has a step.
+fn state_after<L: Allocator>(
+    log: &NodeLog<L>,
+    state: Option<NodeState>,
+    event: &Event,
+) -> Option<NodeState> {
+    state?.step(log.nodes(), event).ok()
+}
+
+impl<A: Allocator> Traffic<A> {
+    fn new(alloc: A) -> Result<Traffic<A>, OutOfMemory>
+    where
+        A: Clone,
+        ensures { IfOk result (λ t. (events : List Event) → IsTraffic events 0 t) }
+    {
+        Ok(Traffic {
+            sendings: Vec::new(alloc.clone()?),
+            receipts: Vec::new(alloc),
+        })
+    }
+
+    /// Adds an event.
+    fn add(&mut self, position: u32, event: Event, effect: Effect) -> Result<(), OutOfMemory>
+        ensures { OnOk result
+            ((events : List Event) (n : ℕ) → slice_get events n ≡ Some event → position ≡ n + 1
+            → IsTraffic events n self.old → IsTraffic events (n + 1) self.new) }
+    {
+        match event {
+            Event::Sent(_) => self.sendings.push(position)?,
+            Event::Got(_) => self.receipts.push(Receipt { position, effect })?,
+            Event::Draw(_) | Event::Yield => {}
+        }
+        Ok(())
+    }
+
+    /// What the node of a log sends and receives.
+    pub(crate) fn of<L: Allocator>(alloc: A, log: &NodeLog<L>) -> Result<Traffic<A>, OutOfMemory>
+    where
+        A: Clone,
+        ensures { IfOk result (IsTraffic log.now.events (length log.now.events)) }
+    {
+        let mut traffic = Traffic::new(alloc)?;
+        let mut state = Some(NodeState::first(log.initiator()));
+        for done in 0..log.len() {
+            let position = done as u32 + 1;
+            let event = log.event(position);
+            let after = state_after(log, state, &event);
+            traffic.add(position, event, effect_of(state, after))?;
+            state = after;
+        }
+        Ok(traffic)
+    }
+
+    /// The number, from 0, of the receipt that is this event, where it is one.
+    pub(crate) fn receipt_at(&self, position: u32) -> Option<usize> {
+        self.receipts
+            .binary_search_by_key(&position, |receipt| receipt.position)
+            .ok()
+    }
+}

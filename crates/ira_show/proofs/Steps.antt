@@ -1,0 +1,35 @@
+-- The event that a step of a trail tells.
+use Rattle.std.proofs.Common.{◌≡◌, ℕ, ◌+◌, ◌<◌, ◌≤◌, ◌∷◌, ◌++◌, [], List, Some, length, refl, arith, get_or}
+use Rattle.std.specs.Prelude.{slice_get}
+use Rattle.std.proofs.lemmas.List.Elements.{All-get_or}
+use Rattle.std.proofs.lemmas.Option.{get_or_from_slice_get, slice_get_within}
+use Rattle.ira_order.specs.Ring.{log_of}
+use Rattle.ira_order.proofs.Ranks.{occurrences_same, occurrences-take-le}
+use Rattle.ira_trail.specs.declared.trail_step.TrailStep.{TrailStep}
+use Rattle.ira_trail.specs.Trail.{HasGiven, Trail, places_of}
+
+-- it is an event of the logs
+pub record IsThere (trail : Trail) (step : TrailStep) : Type 0 where
+  pub place : step.place < length trail.logs
+  pub first : 1 ≤ step.event
+  pub within : step.event ≤ length (log_of trail.logs step.place)
+
+pub step_is_there : (trail : Trail) (steps : List TrailStep) (t : ℕ) (step : TrailStep) → HasGiven trail steps → slice_get steps t ≡ Some step → IsThere trail step
+step_is_there trail steps t step given at =
+    let told = given.are_first.each t step at in
+    let within : t < length (places_of steps) = slice_get_within (places_of steps) t step.place told.event.0 in
+    let is : get_or (places_of steps) t 0 ≡ step.place = get_or_from_slice_get (places_of steps) t step.place 0 told.event.0 in
+    let place : step.place < length trail.logs = rw is at (All-get_or (λ p. p < length trail.logs) (places_of steps) t 0 within given.are_first.schedule.places) in
+    record {
+      place = place;
+      first = omega (arith, told.event.1);
+      within = omega (arith, told.event.1, occurrences_same (places_of steps) t step.place within is, occurrences-take-le (places_of steps) (t + 1) step.place, given.are_first.schedule.within step.place place);
+    }
+
+at_end : (steps : List TrailStep) (step : TrailStep) → slice_get (steps ++ step ∷ []) (length steps) ≡ Some step
+at_end [] step = refl
+at_end (s ∷ steps) step = at_end steps step
+
+-- the step that was just given
+pub last_is_there : (trail : Trail) (steps : List TrailStep) (step : TrailStep) → HasGiven trail (steps ++ step ∷ []) → IsThere trail step
+last_is_there trail steps step given = step_is_there trail (steps ++ step ∷ []) (length steps) step given (at_end steps step)

@@ -1,0 +1,16 @@
+-- What a sink takes of lines that are written block by block.
+use Rattle.std.specs.Prelude.{ℕ, List, Result, Ok, Err}
+use Rattle.ira_event.specs.Sink.{SinkState, StopsIn, Takes}
+use Rattle.ira_explain.specs.Printable.{IsPrintable}
+use Rattle.ira_show.specs.declared.show_fault.ShowFault.{ShowFault}
+use Rattle.ira_show.specs.declared.show_fault.ShowFault.TheVariants.{OutOfMemory, Write}
+
+-- this holds of some printable text
+abbrev pub OfPrintable : (List ℕ → Type 0) → Type 0
+OfPrintable P = (text : List ℕ) × IsPrintable text × P text
+
+-- the sink took a printable text; or, where it failed, a first part of one
+abbrev pub Showed : {T : Type 0} → Result T ShowFault → SinkState → SinkState → Type 0
+Showed (Ok v) old new = OfPrintable (λ text. Takes text old new)
+Showed (Err OutOfMemory) old new = OfPrintable (λ text. Takes text old new)
+Showed (Err Write) old new = OfPrintable (λ text. StopsIn text old new)

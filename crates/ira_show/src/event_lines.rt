@@ -1,0 +1,159 @@
+ghost use Rattle.std.specs.Prelude.{◌≡◌, IfOk, length};
+ghost use Rattle.ira_order.specs.Circle.{HasOrder};
+ghost use Rattle.ira_order.specs.Cut.{IsConsistentCut};
+ghost use Rattle.ira_order.specs.Run.{AreLocalRuns};
+ghost use Rattle.ira_show.specs.Showed.{Showed};
+
+use crate::change_words::ChangeWords;
+use crate::event_columns::EventColumns;
+use crate::heading::Heading;
+use crate::show_fault::ShowFault;
+use crate::summary::show_summary;
+use ira_event::{Event, Logs, NodeLog, OutOfMemory, Sink};
+use ira_explain::{Mark, Page};
+use ira_moment::{Moment, cut_at_end};
+use ira_node::NodeState;
+use ira_trail::Trail;
+use std::alloc::Allocator;
+
+/// When so many bytes of lines are put together they are written.
+const BLOCK: usize = 65_536;
+
+/// The first state of each node.
+fn first_states<A: Allocator>(alloc: A, logs: &Logs<A>) -> Result<Vec<NodeState, A>, OutOfMemory>
+    ensures { IfOk result (λ states. length states.items ≡ length logs.now) }
+{
+    let size = logs.size().get();
+    let mut states = Vec::with_capacity(alloc, usize::from(size))?;
+    for place in 0..size {
+        states.push(NodeState::first(logs.log(place).initiator()))?;
+    }
+    Ok(states)
+}
+
+/// How many events the logs have.
+fn number_of_events<A: Allocator>(logs: &Logs<A>) -> usize {
+    let mut events = 0usize;
+    for place in 0..logs.size().get() {
+        events = events.saturating_add(logs.log(place).len());
+    }
+    events
+}
+
+/// Goes on by an event of a log, and gives what it changed: nothing where it has no step.
+fn go_on<L: Allocator>(log: &NodeLog<L>, state: &mut NodeState, event: &Event) -> ChangeWords {
+    let before = *state;
+    match state.advance(log.nodes(), event) {
+        Ok(()) | Err(_) => ChangeWords {
+            before,
+            after: *state,
+        },
+    }
+}
+
+/// Adds the line that stands where the cut ends.
+fn print_line_of_cut<P: Allocator>(page: &mut Page<P>, cut: &[u32]) -> Result<(), OutOfMemory> {
+    page.begin(Mark::Plain)?;
+    page.words("-- here:")?;
+    for position in cut {
+        page.words(" ")?;
+        page.number(u64::from(*position))?;
+    }
+    page.words(" --")?;
+    page.end()
+}
+
+/// Writes a page where it is a block, and gives one to go on with.
+fn write_block<A: Allocator, W: Sink>(
+    alloc: A,
+    page: Page<A>,
+    sink: &mut W,
+) -> Result<Page<A>, ShowFault>
+    ensures { Showed result (W.state sink.old) (W.state sink.new) }
+{
+    if page.text().len() < BLOCK {
+        return Ok(page);
+    }
+    page.write(sink)?;
+    Ok(Page::new(alloc))
+}
+
+/// Writes what is on a page and then a line for each event, those of the cut first, where it is asked for with a line
+/// after them.
+fn write_lines<A: Allocator + Clone, W: Sink>(
+    alloc: A,
+    logs: &Logs<A>,
+    cut: &[u32],
+    is_asked: bool,
+    heading: Page<A>,
+    sink: &mut W,
+) -> Result<(), ShowFault>
+    requires order { HasOrder logs.now }
+    requires cut { IsConsistentCut logs.now cut.now }
+    ensures { Showed result (W.state sink.old) (W.state sink.new) }
+{
+    let events = number_of_events(logs);
+    let columns = EventColumns::of(logs, events);
+    let mut states = first_states(alloc.clone()?, logs)?;
+    let mut trail = Trail::new(alloc.clone()?, logs, cut)?;
+    let mut page = heading;
+    let mut is_line_due = is_asked;
+    for number in 0..events {
+        let Some(step) = trail.next()? else {
+            break;
+        };
+        if is_line_due && !step.in_cut {
+            print_line_of_cut(&mut page, cut)?;
+            is_line_due = false;
+        }
+        let log = logs.log(step.place);
+        let event = log.event(step.event);
+        let change = go_on(log, &mut states[usize::from(step.place)], &event);
+        columns.print(&alloc, &mut page, number + 1, step, event, change)?;
+        page = write_block(alloc.clone()?, page, sink)?;
+    }
+    if is_line_due {
+        print_line_of_cut(&mut page, cut)?;
+    }
+    page.write(sink)?;
+    Ok(())
+}
+
+/// Writes, as the lines that follow the answer for logs, who leads at their end, and then a line for each event, in
+/// one order of them all: by their columns (Lamport's clock) and then by place. Nothing is cut short; beside the logs
+/// it takes memory for a block of lines, and for what is on its way.
+pub fn show_events<A: Allocator + Clone, W: Sink>(
+    alloc: A,
+    logs: &Logs<A>,
+    sink: &mut W,
+) -> Result<(), ShowFault>
+    requires order { HasOrder logs.now }
+    requires local { AreLocalRuns logs.now }
+    ensures { Showed result (W.state sink.old) (W.state sink.new) }
+{
+    let cut = cut_at_end(alloc.clone()?, logs)?;
+    let mut page = Page::new(alloc.clone()?);
+    page.blank()?;
+    show_summary(&alloc, &mut page, &Moment::at_end(alloc.clone()?, logs)?)?;
+    page.blank()?;
+    write_lines(alloc, logs, &cut, false, page, sink)
+}
+
+/// The same below the heading of a cut, whose events come first, with a line after them.
+pub fn show_events_of_cut<A: Allocator + Clone, Q: Allocator, W: Sink>(
+    alloc: A,
+    logs: &Logs<A>,
+    cut: &[u32],
+    heading: &Heading<'_, Q>,
+    sink: &mut W,
+) -> Result<(), ShowFault>
+    requires order { HasOrder logs.now }
+    requires cut { IsConsistentCut logs.now cut.now }
+    ensures { Showed result (W.state sink.old) (W.state sink.new) }
+{
+    let mut page = Page::new(alloc.clone()?);
+    page.blank()?;
+    heading.print(&alloc, &mut page, cut)?;
+    page.blank()?;
+    write_lines(alloc, logs, cut, true, page, sink)
+}

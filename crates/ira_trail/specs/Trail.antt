@@ -1,0 +1,253 @@
+-- All events in one order through a cut.
+use Rattle.std.specs.Prelude.{◌≡◌, ◌⊎◌, ◌↔◌, ℕ, suc, ◌+◌, ◌<◌, ◌≤◌, Bool, false, true, if◌then◌else◌, List, Option}
+use Rattle.std.specs.Prelude.{Some, IsTrue, MatchOption, length, map, slice_get, slice_index, slice_set, sum, take}
+use Rattle.ira_event.specs.declared.event.Event.{Event}
+use Rattle.ira_event.specs.declared.event.Event.TheVariants.{Got, Sent}
+use Rattle.ira_event.specs.declared.load.Load.{Load}
+use Rattle.ira_event.specs.Log.{Log}
+use Rattle.ira_event.specs.Logs.{AreLogs}
+use Rattle.ira_order.specs.Circle.{HasOrder}
+use Rattle.ira_order.specs.Counts.{IsReady, IsSchedule}
+use Rattle.ira_order.specs.Cut.{IsConsistentCut}
+use Rattle.ira_order.specs.Matching.{got, sent}
+use Rattle.ira_order.specs.Order.{IsOrder, IsPair, StandsAt, occurrences}
+use Rattle.ira_order.specs.Ring.{log_of, next, numbered}
+use Rattle.ira_trail.specs.declared.sending.Sending.{Sending}
+use Rattle.ira_trail.specs.declared.trail_step.TrailStep.{TrailStep}
+use Rattle.ira_trail.specs.Columns.{AreColumns, Follows}
+
+-- the places of these steps
+abbrev pub places_of : List TrailStep → List ℕ
+places_of steps = map (λ step. step.place) steps
+
+-- the order begins with the events of the cut
+abbrev pub BeginsWith : List Log → List ℕ → List ℕ → Type 0
+BeginsWith logs order cut = (i : ℕ) → i < length logs → occurrences (take (sum cut) order) i ≡ slice_index cut i
+
+-- event b of node j is a receipt
+abbrev pub IsReceipt : List Log → ℕ → ℕ → Type 0
+IsReceipt logs j b = (taken : Load) × (numbered (log_of logs j) b ≡ Some (Got taken))
+
+-- step number k, from 1, is the sending of what this one receives
+pub record IsSentBy (logs : List Log) (steps : List TrailStep) (step : TrailStep) (k : ℕ) : Type 0 where
+  pub before : ℕ
+  pub number : suc before ≡ k
+  pub sender : TrailStep
+  pub at : slice_get steps before ≡ Some sender
+  pub link : next (length logs) sender.place ≡ step.place
+  pub pair : IsPair logs sender.place sender.event step.event
+
+-- step t, counted from 0, tells the event that stands there, whether it is one of the cut, and for a receipt the step
+-- that sent what it receives
+pub record TellsEvent (logs : List Log) (cut : List ℕ) (steps : List TrailStep) (t : ℕ) (step : TrailStep)
+    : Type 0 where
+  pub event : StandsAt (places_of steps) t step.place step.event
+  pub in_cut : IsTrue step.in_cut ↔ (step.event ≤ slice_index cut step.place)
+  pub sent_by : MatchOption step.sent_by (¬ (IsReceipt logs step.place step.event)) (IsSentBy logs steps step)
+
+-- the one step comes before the other by its column, or in the same column by its place
+abbrev pub ComesBefore : TrailStep → TrailStep → Type 0
+ComesBefore a b = (a.column < b.column) ⊎ ((a.column ≡ b.column) × (a.place < b.place))
+
+-- the steps are all events of the logs, those of the cut first, each told as it is, by column and then by place
+pub record IsTrail (logs : List Log) (cut : List ℕ) (steps : List TrailStep) : Type 0 where
+  pub order : IsOrder logs (places_of steps)
+  pub cut_first : BeginsWith logs (places_of steps) cut
+  pub each : (t : ℕ) (step : TrailStep) → slice_get steps t ≡ Some step → TellsEvent logs cut steps t step
+  pub sorted : (s t : ℕ) (a b : TrailStep) → s < t → slice_get steps s ≡ Some a → slice_get steps t ≡ Some b
+      → ComesBefore a b
+  pub column : ℕ → ℕ → ℕ
+  pub columns : AreColumns logs cut column
+  pub told : (t : ℕ) (step : TrailStep) → slice_get steps t ≡ Some step → step.column ≡ column step.place step.event
+
+-- ---- Helpers, no definitions: where a trail stands.
+
+pub record Trail : Type 0 where
+  pub logs : List Log
+  pub cut : List ℕ
+  pub done : List ℕ
+  pub links : List (List Sending)
+  pub steps : ℕ
+  pub column : ℕ
+  pub place : ℕ
+  pub has_moved : Bool
+  pub is_past_cut : Bool
+
+-- how many loads node i has sent, and received, by these steps
+abbrev pub sents : List Log → List TrailStep → ℕ → ℕ
+sents logs steps i = length (sent (take (occurrences (places_of steps) i) (log_of logs i)))
+
+abbrev pub gots : List Log → List TrailStep → ℕ → ℕ
+gots logs steps i = length (got (take (occurrences (places_of steps) i) (log_of logs i)))
+
+-- sending k of node i is this one
+pub record IsSending (logs : List Log) (steps : List TrailStep) (i k : ℕ) (sending : Sending) : Type 0 where
+  pub before : ℕ
+  pub number : suc before ≡ sending.step
+  pub step : TrailStep
+  pub at : slice_get steps before ≡ Some step
+  pub place : step.place ≡ i
+  pub column : step.column ≡ sending.column
+  pub message : Load
+  pub sends : numbered (log_of logs i) step.event ≡ Some (Sent message)
+  pub rank : length (sent (take step.event (log_of logs i))) ≡ k
+
+-- these are the sendings of node i that the next node hasn't received
+pub record AreOnTheirWay (logs : List Log) (steps : List TrailStep) (i : ℕ) (sendings : List Sending) : Type 0 where
+  pub number : length sendings + gots logs steps (next (length logs) i) ≡ sents logs steps i
+  pub each : (r : ℕ) (sending : Sending) → slice_get sendings r ≡ Some sending
+      → IsSending logs steps i (gots logs steps (next (length logs) i) + suc r) sending
+
+-- the next event of node i may come, in this column or a later one
+pub record MayCome (logs : List Log) (cut : List ℕ) (is_past_cut : Bool) (steps : List TrailStep) (i : ℕ) : Type 0 where
+  pub ready : IsReady logs (occurrences (places_of steps)) i
+  pub in_turn : is_past_cut ≡ false → occurrences (places_of steps) i < slice_index cut i
+
+-- its column is this one or a later one
+abbrev pub IsDueFrom : List Log → List ℕ → List TrailStep → ℕ → ℕ → Type 0
+IsDueFrom logs cut steps i column =
+    (column ≤ 1)
+    ⊎ ((t : ℕ) × (step : TrailStep) × (slice_get steps t ≡ Some step)
+    × Follows logs cut step.place step.event i (suc (occurrences (places_of steps) i)) × (column ≤ suc step.column))
+
+-- these steps are the first of a trail
+pub record AreFirst (logs : List Log) (cut : List ℕ) (steps : List TrailStep) : Type 0 where
+  pub logs_are : AreLogs logs
+  pub order : HasOrder logs
+  pub consistent : IsConsistentCut logs cut
+  pub schedule : IsSchedule logs (places_of steps)
+  pub each : (t : ℕ) (step : TrailStep) → slice_get steps t ≡ Some step → TellsEvent logs cut steps t step
+  pub sorted : (s t : ℕ) (a b : TrailStep) → s < t → slice_get steps s ≡ Some a → slice_get steps t ≡ Some b
+      → ComesBefore a b
+  pub greater :
+      (s t : ℕ) (a b : TrailStep) → s < t → slice_get steps s ≡ Some a → slice_get steps t ≡ Some b
+      → Follows logs cut a.place a.event b.place b.event → a.column < b.column
+  pub least :
+      (t : ℕ) (b : TrailStep) → slice_get steps t ≡ Some b
+      → (b.column ≡ 1)
+      ⊎ ((s : ℕ) × (a : TrailStep) × (slice_get steps s ≡ Some a) × Follows logs cut a.place a.event b.place b.event
+      × (b.column ≡ suc a.column))
+
+-- these are the steps that the trail has given
+pub record HasGiven (trail : Trail) (steps : List TrailStep) : Type 0 where
+  pub are_first : AreFirst trail.logs trail.cut steps
+  pub nodes : length trail.done ≡ length trail.logs
+  pub links : length trail.links ≡ length trail.logs
+  pub place : trail.place ≤ length trail.logs
+  pub first : 1 ≤ trail.column
+  pub done : (i : ℕ) → i < length trail.logs → slice_index trail.done i ≡ occurrences (places_of steps) i
+  pub total : sum trail.done ≡ length steps
+  pub number : trail.steps ≡ length steps
+  pub on_their_way : (i : ℕ) (sendings : List Sending) → slice_get trail.links i ≡ Some sendings
+      → AreOnTheirWay trail.logs steps i sendings
+  pub now :
+      (t : ℕ) (step : TrailStep) → slice_get steps t ≡ Some step
+      → (step.column < trail.column)
+      ⊎ ((step.column ≡ trail.column) × (step.place < trail.place) × (trail.has_moved ≡ true))
+  pub moved : trail.has_moved ≡ true → (t : ℕ) × (step : TrailStep) × (slice_get steps t ≡ Some step)
+      × (step.column ≡ trail.column)
+  pub waited : trail.has_moved ≡ false → (i : ℕ) → i < trail.place
+      → ¬ (MayCome trail.logs trail.cut trail.is_past_cut steps i)
+  pub filled : (trail.column ≡ 1)
+      ⊎ ((t : ℕ) × (step : TrailStep) × (slice_get steps t ≡ Some step) × (trail.column ≤ suc step.column))
+  pub few : trail.column ≤ suc (length steps)
+  pub few_moved : trail.has_moved ≡ true → trail.column ≤ length steps
+  pub due :
+      (i : ℕ) → trail.place ≤ i → i < length trail.logs → MayCome trail.logs trail.cut trail.is_past_cut steps i
+      → IsDueFrom trail.logs trail.cut steps i trail.column
+  pub due_later : (i : ℕ) → i < trail.place → MayCome trail.logs trail.cut trail.is_past_cut steps i
+      → IsDueFrom trail.logs trail.cut steps i (suc trail.column)
+  pub inside : trail.is_past_cut ≡ false → (i : ℕ) → i < length trail.logs
+      → occurrences (places_of steps) i ≤ slice_index trail.cut i
+  pub outside : trail.is_past_cut ≡ true → (sum trail.cut ≤ length steps)
+      × BeginsWith trail.logs (places_of steps) trail.cut
+  pub over :
+      trail.is_past_cut ≡ true → (t : ℕ) (step : TrailStep) → slice_get steps t ≡ Some step
+      → step.event ≤ slice_index trail.cut step.place → step.column < trail.column
+
+-- the trail is one of logs that have an order, after some steps
+abbrev pub HasBegun : Trail → Type 0
+HasBegun trail = (steps : List TrailStep) × HasGiven trail steps
+
+-- the logs and the cut stay
+pub record HasSameLogs (old new : Trail) : Type 0 where
+  pub logs : new.logs ≡ old.logs
+  pub cut : new.cut ≡ old.cut
+
+-- the next event of the node whose turn it is, which stands in the cut where that isn't over
+pub record IsNextEvent (trail : Trail) (steps : List TrailStep) (event : Event) : Type 0 where
+  pub at : slice_get (log_of trail.logs trail.place) (occurrences (places_of steps) trail.place) ≡ Some event
+  pub in_turn : trail.is_past_cut ≡ false
+      → occurrences (places_of steps) trail.place < slice_index trail.cut trail.place
+
+-- what the link carries first was sent in an earlier column, with this step
+pub record IsSentBefore (trail : Trail) (link step : ℕ) : Type 0 where
+  pub sendings : List Sending
+  pub on_link : slice_get trail.links link ≡ Some sendings
+  pub sending : Sending
+  pub first : slice_get sendings 0 ≡ Some sending
+  pub earlier : sending.column < trail.column
+  pub step_is : sending.step ≡ step
+
+-- it was not, or the link carries nothing
+abbrev pub IsNoneSentBefore : Trail → ℕ → Type 0
+IsNoneSentBefore trail link =
+    (sendings : List Sending) (sending : Sending) → slice_get trail.links link ≡ Some sendings
+    → slice_get sendings 0 ≡ Some sending
+    → trail.column ≤ sending.column
+
+-- the event of the node whose turn it is, as a step
+abbrev pub step_now : Trail → Option ℕ → TrailStep
+step_now trail sent_by = record {
+  place = trail.place;
+  event = slice_index trail.done trail.place + 1;
+  column = trail.column;
+  sent_by = sent_by;
+  in_cut = if trail.is_past_cut then false else true;
+}
+
+-- the trail after it, but for what links carry
+abbrev pub after_step : Trail → Trail
+after_step trail = record {
+  logs = trail.logs;
+  cut = trail.cut;
+  done = slice_set trail.done trail.place (slice_index trail.done trail.place + 1);
+  links = trail.links;
+  steps = trail.steps + 1;
+  column = trail.column;
+  place = trail.place + 1;
+  has_moved = true;
+  is_past_cut = trail.is_past_cut;
+}
+
+-- the trail where links carry this
+abbrev pub with_links : Trail → List (List Sending) → Trail
+with_links trail links = record {
+  logs = trail.logs;
+  cut = trail.cut;
+  done = trail.done;
+  links = links;
+  steps = trail.steps;
+  column = trail.column;
+  place = trail.place;
+  has_moved = trail.has_moved;
+  is_past_cut = trail.is_past_cut;
+}
+
+-- a turn without an event
+abbrev pub passed_over : Trail → Trail
+passed_over trail = record {
+  logs = trail.logs;
+  cut = trail.cut;
+  done = trail.done;
+  links = trail.links;
+  steps = trail.steps;
+  column = trail.column;
+  place = trail.place + 1;
+  has_moved = trail.has_moved;
+  is_past_cut = trail.is_past_cut;
+}
+
+-- how many columns may begin before the next step
+abbrev pub turns_left : Trail → ℕ
+turns_left trail = (if trail.has_moved then 1 else 0) + (if trail.is_past_cut then 0 else 2)

@@ -1,0 +1,40 @@
+ghost use Rattle.std.specs.Prelude.{IfOk};
+ghost use Rattle.ira_audit.specs.Answer.{IsAnswer};
+ghost use Rattle.ira_audit.specs.LogsAnswer.{IsLogsAnswer};
+ghost use Rattle.ira_audit.specs.Report.{IsReportable};
+ghost use Rattle.ira_views.specs.Texts.{texts_of};
+
+use crate::taken::take_texts;
+use crate::view::View;
+use ira_audit::audit_one;
+use ira_event::OutOfMemory;
+use ira_explain::{NamedText, explain_log, explain_logs};
+use std::alloc::Allocator;
+use std::thread::Threads;
+
+/// Judges the texts of a ring's logs together, and says why the answer is as it is.
+pub fn explain_texts<R: Threads, A: Allocator + Clone + Sync>(
+    rt: &R,
+    alloc: A,
+    texts: &[NamedText<'_>],
+) -> Result<View<A>, OutOfMemory>
+    ensures answer { IfOk result (λ view. IsLogsAnswer (texts_of texts.now) view.answer) }
+    ensures reportable { IfOk result (λ view. IsReportable view.answer) }
+{
+    let answer = take_texts(alloc.clone()?, texts)?.finish(rt)?;
+    let page = explain_logs(alloc, texts, &answer)?;
+    Ok(View { answer, page })
+}
+
+/// Judges the text of one log alone, and says why the answer is as it is.
+pub fn explain_text<A: Allocator + Clone>(
+    alloc: A,
+    text: &NamedText<'_>,
+) -> Result<View<A>, OutOfMemory>
+    ensures answer { IfOk result (λ view. IsAnswer text.now.text.now view.answer) }
+    ensures reportable { IfOk result (λ view. IsReportable view.answer) }
+{
+    let answer = audit_one(alloc.clone()?, text.text)?;
+    let page = explain_log(alloc, text, &answer)?;
+    Ok(View { answer, page })
+}

@@ -1,0 +1,22 @@
+use crate::asked_question::AskedQuestion;
+use crate::log_source::LogSource;
+
+/// An answer to explain, as the words name it.
+#[derive(Drop)]
+pub enum ExplainedAnswer<'a> {
+    /// That of one log, on standard input.
+    OneLog,
+    /// That of the logs of a ring together.
+    Logs(LogSource<'a>),
+    /// What is found for a question, or for one case of it.
+    Findings {
+        asked: AskedQuestion<'a>,
+        logs: LogSource<'a>,
+    },
+    /// That of logs together with the question and the certificate of these files.
+    Certificate {
+        question: &'a str,
+        certificate: &'a str,
+        logs: LogSource<'a>,
+    },
+}

@@ -1,0 +1,379 @@
+"""Reads pictures of `ira draw` back with an XML parser: marks, arrows, stubs, bands, debts, the lap, the line of a
+moment and what is ringed are computed from coordinates, and held against the matching and the states of the logs,
+which are computed here anew.
+
+    python3 check_svg.py PROGRAM      PROGRAM draws the examples, and elections that it records
+"""
+import os
+import re
+import subprocess
+import sys
+import tempfile
+import xml.etree.ElementTree as xml
+from collections import namedtuple
+
+S = '{http://www.w3.org/2000/svg}'
+HERE = os.path.dirname(os.path.abspath(__file__))
+CLASS = {'choosing': 'c', 'active': 'a', 'passive': 'p', 'leader': 'w', 'yielding': 'v'}
+State = namedtuple('State', 'phase round id owed term')
+
+
+# ---- logs ---------------------------------------------------------------------------------------
+def read(name):
+    with open(name) as f:
+        lines = f.read().split('\n')
+    return lines[3] == 'start initiator', [tuple(line.split(' ')) for line in lines[4:-2]]
+
+
+def load(event):
+    """What is sent or received: three numbers and a bit, or a reset's hop."""
+    return event[1:]
+
+
+def step(s, event, n):
+    """The state after the event, or None where it has none."""
+    kind, rest = event[0], event[1:]
+    if s.phase == 'leader':
+        return State('yielding', None, None, ('reset', '1'), s.term) if kind == 'yield' else None
+    if s.owed:
+        return s._replace(owed=None) if kind == 'send' and rest == s.owed else None
+    if kind == 'draw':
+        if s.phase != 'choosing' or not 1 <= int(rest[0]) <= n:
+            return None
+        return State('active', s.round, int(rest[0]), (str(s.round), rest[0], '1', 'clean'), s.term)
+    if kind != 'recv' or s.phase == 'choosing':
+        return None
+    if rest[0] == 'reset':
+        hop = int(rest[1])
+        if s.phase == 'passive' and hop < n:
+            return State('choosing', 1, None, ('reset', str(hop + 1)), s.term + 1)
+        return State('choosing', 1, None, None, s.term + 1) if s.phase == 'yielding' and hop == n else None
+    if s.phase == 'yielding':
+        return None
+    pair, hop, dirty = (int(rest[0]), int(rest[1])), int(rest[2]), rest[3] == 'dirty'
+    own = (s.round, s.id) if s.phase == 'active' else (0, 0)
+    if pair > own:
+        return State('passive', None, None, rest[:2] + (str(hop + 1), rest[3]), s.term)
+    if pair < own:
+        return s
+    if hop < n:
+        return s._replace(owed=rest[:2] + (str(hop + 1), 'dirty'))
+    if hop > n:
+        return None
+    return s._replace(phase='choosing', round=s.round + 1, id=None) if dirty else s._replace(phase='leader')
+
+
+class Ring:
+    def __init__(self, names, cut=None):
+        logs = [read(name) for name in names]
+        self.n = n = len(logs)
+        self.events = [events for _, events in logs]
+        self.sent = [[k for k, e in enumerate(es, 1) if e[0] == 'send'] for es in self.events]
+        self.got = [[k for k, e in enumerate(self.events[(i + 1) % n], 1) if e[0] == 'recv'] for i in range(n)]
+        self.states = []
+        for initiator, events in logs:
+            states = [State('choosing' if initiator else 'passive', 1 if initiator else None, None, None, 1)]
+            for event in events:
+                after = step(states[-1], event, n)
+                if after is None:
+                    break
+                states.append(after)
+            self.states.append(states)
+        self.column, self.line, self.stuck = {}, None, [0] * n
+        if cut:
+            self.place(lambda i: cut[i], 0)
+            self.line = self.last() + 1
+        self.place(lambda i: len(self.events[i]), self.line or 0)
+        base = self.last()
+        for i in range(n):
+            for p in range(self.stuck[i] + 1, len(self.events[i]) + 1):
+                self.column[i, p] = base + p - self.stuck[i]
+
+    def last(self):
+        return max(self.column.values(), default=0)
+
+    def sending(self, j, p):
+        """The sending of a receipt, as far as there is one of its number."""
+        i = (j - 1) % self.n
+        k = self.got[i].index(p)
+        return (i, self.sent[i][k]) if k < len(self.sent[i]) else None
+
+    def place(self, end, base):
+        """Columns for events as far as they have what they wait for; stuck says how many of each node have one."""
+        going = True
+        while going:
+            going = False
+            for i in range(self.n):
+                while self.stuck[i] < end(i):
+                    p = self.stuck[i] + 1
+                    before = max(self.column.get((i, p - 1), 0), base)
+                    if self.events[i][p - 1][0] == 'recv':
+                        s = self.sending(i, p)
+                        if s is not None:
+                            if s not in self.column:
+                                break
+                            before = max(before, self.column[s])
+                    self.column[i, p] = before + 1
+                    self.stuck[i], going = p, True
+
+    def mismatch(self):
+        for i in range(self.n):
+            for k, q in enumerate(self.got[i]):
+                if k >= len(self.sent[i]):
+                    return i, k
+                if load(self.events[i][self.sent[i][k] - 1]) != load(self.events[(i + 1) % self.n][q - 1]):
+                    return i, k
+        return None
+
+    def laps(self):
+        """The sendings of the laps by which nodes lead: back from the receipt, once round the ring."""
+        laps = set()
+        for i, states in enumerate(self.states):
+            for p in range(1, len(states)):
+                if states[p].phase == 'leader':
+                    j, q = i, p
+                    for _ in range(self.n):
+                        s = self.sending(j, q) if q and self.events[j][q - 1][0] == 'recv' else None
+                        if s is None:
+                            break
+                        laps.add(s)
+                        j, q = s[0], s[1] - 1
+        return laps
+
+    def past(self, i, p):
+        """How many events of each node happened before event p of node i or are it."""
+        cut, work = [0] * self.n, [(i, p)]
+        while work:
+            j, q = work.pop()
+            for r in range(cut[j] + 1, q + 1):
+                if self.events[j][r - 1][0] == 'recv' and self.sending(j, r):
+                    work.append(self.sending(j, r))
+            cut[j] = max(cut[j], q)
+        return cut
+
+
+# ---- pictures -----------------------------------------------------------------------------------
+class Drawn:
+    """What a picture shows, read from its coordinates alone."""
+
+    def __init__(self, text, n):
+        self.root = root = xml.fromstring(text)
+        assert text.isascii() and all(c == '\n' or c.isprintable() for c in text)
+        names = [t for t in root.iter(S + 'text') if (t.get('class') or '').split()[:1] == ['n']]
+        self.rows = [int(t.get('y')) - 4 for t in names]
+        assert [t.text for t in names] == [f'node {i % n}' for i in range(n + (n > 2))]
+        self.ticks = {int(t.get('x')): int(t.text) for t in root.iter(S + 'text') if t.get('class') == 'q' and ':' not in t.text}
+        self.marks, self.titles = {}, {}
+        for g in self.groups('e'):
+            for p in g:
+                x, y = map(int, re.fullmatch(r'M(\d+) (\d+)h0', p.get('d')).groups())
+                title = p.find(S + 'title').text
+                i, k, record, after = re.fullmatch(r'node (\d+) event (\d+): (.*)\n(.*)', title).groups()
+                assert self.rows.index(y) == int(i)
+                self.marks[int(i), int(k)] = x
+                self.titles[int(i), int(k)] = record, after, p.get('class') == 'd'
+
+    def groups(self, name):
+        return [g for g in self.root.iter(S + 'g') if (g.get('class') or '').split()[:1] == [name]]
+
+    def arrows(self):
+        """The lines between lanes: class, marker and ends."""
+        for name in 'mzb':
+            for g in self.groups(name):
+                marker = (g.get('marker-end') or '')[5:-1]
+                for p in g:
+                    yield g.get('class'), marker, tuple(map(int, re.fullmatch(r'M(\d+) (\d+)L(\d+) (\d+)', p.get('d')).groups()))
+
+    def spans(self, name):
+        """From where to where each lane has a band of a class."""
+        spans = {}
+        for p in self.root.iter(S + 'path'):
+            if p.get('class') == name and not p.get('marker-end'):
+                for a, y, z in re.findall(r'M(\d+) (\d+)H(\d+)', p.get('d')):
+                    if int(y) in self.rows:
+                        spans.setdefault(self.rows.index(int(y)), []).append((int(a), int(z)))
+        return spans
+
+
+def words(state):
+    """A state as the tooltip tells it."""
+    turn = f'round {state.round}' + (f' of term {state.term}' if state.term > 1 else '')
+    told = {'choosing': f'choosing in {turn}', 'active': f'active in {turn} with ID {state.id}',
+            'leader': f'leader in {turn} with ID {state.id}'}.get(
+        state.phase, state.phase + (f' in term {state.term}' if state.term > 1 else ''))
+    return told + (', owes ' + ' '.join(state.owed) if state.owed else '')
+
+
+def check(text, ring, cut=None, first=None, last=None):
+    """Holds a picture against a ring's logs. Gives how many marks it has."""
+    drawn, n = Drawn(text, ring.n), ring.n
+    end = ring.last()
+    a = min(first or 0, end)
+    z = max(min(end if last is None else last, end), a)
+    inside = lambda c: a <= c <= z
+    # Marks are exactly the events of the columns asked for, each where its column is.
+    assert set(drawn.marks) == {e for e, c in ring.column.items() if inside(c)}
+    place = {}
+    for e, x in drawn.marks.items():
+        assert place.setdefault(ring.column[e], x) == x, e
+    xs = [place[c] for c in sorted(place)]
+    assert xs == sorted(set(xs))
+    for x, c in drawn.ticks.items():
+        assert place.get(c, x) == x
+    for (i, p), (record, after, is_square) in drawn.titles.items():
+        states = ring.states[i]
+        assert record == ' '.join(ring.events[i][p - 1]) and is_square == (ring.events[i][p - 1][0] == 'draw')
+        assert after == (words(states[p]) if p < len(states) else 'no step' if p == len(states) else 'no state')
+    # Arrows are exactly the matching, in the lanes of their link; stubs exactly the sendings without a receipt.
+    whole, partial, stubs, strays, laps, bad = {}, 0, set(), set(), ring.laps(), ring.mismatch() is not None
+    for i in range(n):
+        j = (i + 1) % n
+        row = i + 1 if n > 2 else j
+        for k in range(max(len(ring.sent[i]), len(ring.got[i]))):
+            s = ring.sent[i][k] if k < len(ring.sent[i]) else None
+            g = ring.got[i][k] if k < len(ring.got[i]) else None
+            if g is None:
+                if inside(ring.column[i, s]):
+                    stubs.add((drawn.rows[i], drawn.marks[i, s]))
+                continue
+            if s is None:
+                if inside(ring.column[j, g]):
+                    strays.add((drawn.rows[row], drawn.marks[j, g]))
+                continue
+            ca, cz = ring.column[i, s], ring.column[j, g]
+            if not (inside(ca) and inside(cz)):
+                partial += min(ca, cz) <= z and a <= max(ca, cz)
+                continue
+            sent, got = load(ring.events[i][s - 1]), load(ring.events[j][g - 1])
+            states = ring.states[j]
+            dropped = g < len(states) and states[g] == states[g - 1]
+            kind = ('b y', 'B') if sent != got else ('b', 'B') if cz <= ca else ('z', 'Z') if (i, s) in laps else (
+                'm x' if sent[0] == 'reset' else 'm y' if sent[3] == 'dirty' else 'm', 'X' if dropped else 'A')
+            whole[drawn.rows[i], drawn.marks[i, s], drawn.rows[row], drawn.marks[j, g]] = kind
+    seen, others = {}, 0
+    places = {(y, x) for (i, _), x in drawn.marks.items() for y in [drawn.rows[i]]}
+    places |= {(drawn.rows[n], x) for (i, _), x in drawn.marks.items() if i == 0 and n > 2}
+    inner = {tuple(map(int, re.findall(r'\d+', p.get('d')))): (g.get('marker-end') or '')[5:-1] for g in drawn.groups('i') for p in g}
+    for name, marker, (x, y, x2, y2) in drawn.arrows():
+        if name == 'm x':
+            marker = inner.pop((x, y, x2, y2))
+        if marker == 'F':
+            assert (y, x) in stubs
+            stubs.remove((y, x))
+        elif (y, x) in places and (y2, x2) in places and (y, x, y2, x2) in whole:
+            seen[y, x, y2, x2] = name, marker
+        elif (y2, x2) in strays:
+            strays.remove((y2, x2))
+            assert name == 'b y'
+        else:
+            others += 1
+    assert seen == whole, set(seen.items()) ^ set(whole.items())
+    assert not stubs and not strays and not inner and others == partial
+    # Bands are the phases, and debts the debts, from event to event.
+    edge = max([z2 for name in 'acpwvuo' for s in drawn.spans(name).values() for _, z2 in s])
+    left = min([a2 for name in 'acpwvuo' for s in drawn.spans(name).values() for a2, _ in s])
+    bands = {name: drawn.spans(name) for name in 'acpwvuo'}
+    for i in range(n):
+        order = sorted(p for j, p in drawn.marks if j == i)
+        before = order[0] - 1 if order else sum(1 for j, p in ring.column if j == i and ring.column[j, p] < a)
+        bounds = [(left, before)] + [(drawn.marks[i, p], p) for p in order]
+        want, owed = [], []
+        for (x, p), (x2, _) in zip(bounds, bounds[1:] + [(edge, None)]):
+            if x == x2:
+                continue
+            states = ring.states[i]
+            name = CLASS[states[p].phase] if p < len(states) else 'u'
+            if want and want[-1][0] == name:
+                want[-1] = (name, want[-1][1], x2)
+            else:
+                want.append((name, x, x2))
+            if p < len(states) and states[p].owed:
+                owed.append((x, x2))
+        have = sorted(((name, x, x2) for name in 'acpwvu' for x, x2 in bands[name].get(i, [])), key=lambda s: s[1])
+        assert have == want, (i, have, want)
+        assert sorted(bands['o'].get(i, [])) == owed, i
+    # The line of a moment has exactly the events of the cut on its left.
+    lines = [p for p in drawn.root.iter(S + 'path') if p.get('class') == 'h']
+    if cut and inside(ring.line):
+        x = int(re.fullmatch(r'M(\d+) \d+V\d+', lines[0].get('d'))[1])
+        for (i, p), at in drawn.marks.items():
+            assert at != x and (at < x) == (p <= cut[i])
+    else:
+        assert not lines
+    # What is ringed.
+    ringed = {(int(c.get('cy')), int(c.get('cx'))) for c in drawn.root.iter(S + 'circle') if c.get('class') == 'b r'}
+    stops = {i: len(s) for i, s in enumerate(ring.states) if len(s) <= len(ring.events[i])}
+    named = set()
+    if bad:
+        i, k = ring.mismatch()
+        named = {((i + 1) % n, ring.got[i][k])} | ({(i, ring.sent[i][k])} if k < len(ring.sent[i]) else set())
+    elif any(s < len(es) for s, es in zip(ring.stuck, ring.events)):
+        named = {(i, s + 1) for i, s in enumerate(ring.stuck)}
+    elif stops:
+        i = min(stops)
+        past = ring.past(i, stops[i])
+        earlier = {j: p for j, p in stops.items() if j != i and past[j] >= p}
+        least = {j: p for j, p in earlier.items()
+                 if not any(k != j and ring.past(j, p)[k] >= q for k, q in stops.items())}
+        named = {(i, stops[i])} | set(least.items())
+    assert ringed == {(drawn.rows[i], drawn.marks[i, p]) for i, p in named if (i, p) in drawn.marks}
+    # The words for those who don't see it.
+    told = drawn.root.find(S + 'desc').text.split('\n')
+    for i in range(min(n, 64)):
+        number = len(ring.events[i])
+        assert told[i + 1].startswith(f"node {i}: {number} event{'' if number == 1 else 's'}, {words(ring.states[i][-1])}")
+    title = drawn.root.find(S + 'title').text
+    leaders = [f"node {i} {words(s[-1]).replace('leader', 'leads')}" for i, s in enumerate(ring.states) if s[-1].phase == 'leader']
+    assert title.startswith('no: ') if named else title == ('; '.join(leaders) or 'nobody leads yet')
+    return len(drawn.marks)
+
+
+# ---- what is drawn ------------------------------------------------------------------------------
+def logs_in(folder):
+    names = [name for name in os.listdir(folder) if re.fullmatch(r'\d+\.log', name)]
+    return [os.path.join(folder, name) for name in sorted(names, key=lambda name: int(name[:-4]))]
+
+
+def main():
+    program, pictures = sys.argv[1], 0
+    with tempfile.TemporaryDirectory() as temp:
+        out = os.path.join(temp, 'picture.svg')
+
+        def look(names, cut=None, first=None, last=None):
+            options = ['--at', ','.join(map(str, cut))] if cut else []
+            options += ['--from', str(first)] if first is not None else []
+            options += ['--to', str(last)] if last is not None else []
+            subprocess.run([program, 'draw', *options, '--out', out, *names], check=False, stdout=subprocess.DEVNULL)
+            with open(out) as f:
+                text = f.read()
+            os.remove(out)
+            return check(text, Ring(names, cut), cut, first, last)
+
+        folders = [os.path.join(HERE, '..', 'examples', name) for name in (
+            'two_node_election', 'lone_initiator', 'tie_then_win', 'second_term', 'recorded_ring', 'receipts_exchanged',
+            'lost_record', 'circle_of_two')]
+        for nodes, seed, terms in ((2, 17, 2), (3, 7, 1), (4, 5, 2), (8, 2, 1), (16, 9, 1), (64, 5, 1), (255, 3, 1)):
+            folder = os.path.join(temp, f'{nodes}.{seed}')
+            os.mkdir(folder)
+            subprocess.run([program, 'run', '--nodes', str(nodes), '--seed', str(seed), '--terms', str(terms), '--out',
+                            folder], check=True, stdout=subprocess.DEVNULL)
+            folders.append(folder)
+        for folder in folders:
+            names = logs_in(folder)
+            marks, drawn = look(names), 1
+            ring = Ring(names)
+            end = ring.last()
+            look(names, first=end // 3, last=2 * end // 3)
+            good = ring.mismatch() is None and all(len(s) > len(es) for s, es in zip(ring.states, ring.events))
+            if good and all(s == len(es) for s, es in zip(ring.stuck, ring.events)):
+                for i in range(0, ring.n, 1 + ring.n // 5):
+                    for p in range(1, len(ring.events[i]) + 1, 1 + marks // 40):
+                        look(names, cut=ring.past(i, p))
+                        drawn += 1
+            pictures += drawn + 1
+            print(f'{os.path.basename(os.path.normpath(folder))}: {marks} marks, {drawn} moments')
+    print(f'{pictures} pictures show what their logs say')
+
+
+if __name__ == '__main__':
+    main()
