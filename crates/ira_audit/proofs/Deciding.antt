@@ -14,18 +14,23 @@ use Rattle.ira_audit.proofs.OnePosed.{one_reason, posed_or_not}
 
 -- what is found, or why the question isn't posed
 abbrev pub IsDecided : {A : Type 0} → List (List ℕ) → List ℕ → Result (Findings A) Refusal → Type 0
-IsDecided texts question d = MatchRefusal d (λ findings. AreFindings texts question findings × AreReportable findings) (IsFindingsReason texts question)
+IsDecided texts question d =
+    MatchRefusal d (λ findings. AreFindings texts question findings
+    × AreReportable findings) (IsFindingsReason texts question)
 
-reason_same : {A : Type 0} (r s : Reason) → ◌≡◌ {A = Result (Findings A) OutOfMemory} (Ok (Refused r)) (Ok (Refused s)) → r ≡ s
+reason_same : {A : Type 0} (r s : Reason) → ◌≡◌ {A = Result (Findings A) OutOfMemory} (Ok (Refused r)) (Ok (Refused s))
+    → r ≡ s
 reason_same r s e = cc
 
 module _ {A : Type 0} (texts : List (List ℕ)) (question : List ℕ) where
-  pub decided_found : (d : Result (Findings A) Refusal) → IsDecided texts question d → IfOk (decided_findings d) (AreFindings texts question)
+  pub decided_found : (d : Result (Findings A) Refusal) → IsDecided texts question d
+      → IfOk (decided_findings d) (AreFindings texts question)
   decided_found (Ok findings) h = h.0
   decided_found (Err (refusal.No r)) h = h.0
   decided_found (Err refusal.OutOfMemory) h = tt
 
-  pub decided_reportable : (d : Result (Findings A) Refusal) → IsDecided texts question d → IfOk (decided_findings d) AreReportable
+  pub decided_reportable : (d : Result (Findings A) Refusal) → IsDecided texts question d
+      → IfOk (decided_findings d) AreReportable
   decided_reportable (Ok findings) h = h.1
   decided_reportable (Err (refusal.No r)) h = h.1
   decided_reportable (Err refusal.OutOfMemory) h = tt
@@ -40,7 +45,8 @@ module _ {A : Type 0} (texts : List (List ℕ)) (question : List ℕ) where
   refused_exactly (Cases nodes found) h r = (λ e. absurd cc, λ k. absurd (posed_or_not texts question r h.0 h.1 k h.2))
 
   pub decided_refused : (d : Result (Findings A) Refusal) → IsDecided texts question d → (r : Reason)
-      → UnlessErr {T = Findings A} {E = OutOfMemory} (decided_findings d) (record {}) ((decided_findings d ≡ Ok (Refused r)) ↔ WhyNotPosed texts question r)
+      → UnlessErr {T = Findings A} {E = OutOfMemory} (decided_findings d) (record {})
+      ((decided_findings d ≡ Ok (Refused r)) ↔ WhyNotPosed texts question r)
   decided_refused (Ok findings) h r = inr (refused_exactly findings h.0 r)
   decided_refused (Err (refusal.No s)) h r = inr (refused_exactly (Refused s) h.0 r)
   decided_refused (Err refusal.OutOfMemory) h r = inl refl

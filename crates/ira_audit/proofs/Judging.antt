@@ -30,7 +30,8 @@ pub answered_exactly : {T : Type 0} (P : Answer → Type 0) → ((a b : Answer) 
     → (r : Result T Refusal) → Judged r P → (a : Answer)
     → UnlessErr {T = Answer} {E = OutOfMemory} (answered r) (record {}) ((answered r ≡ Ok a) ↔ P a)
 answered_exactly P one (Ok done) h a = inr (λ e. subst P (ok_same Yes a e) h, λ k. ap Ok (one Yes a h k))
-answered_exactly P one (Err (refusal.No s)) h a = inr (λ e. subst P (ok_same (No s) a e) h.0, λ k. ap Ok (one (No s) a h.0 k))
+answered_exactly P one (Err (refusal.No s)) h a =
+    inr (λ e. subst P (ok_same (No s) a e) h.0, λ k. ap Ok (one (No s) a h.0 k))
 answered_exactly P one (Err refusal.OutOfMemory) h a = inl refl
 
 pub answered_holds : {T : Type 0} (P : Answer → Type 0) (r : Result T Refusal) → Judged r P → (a : Answer)
@@ -39,7 +40,8 @@ answered_holds P (Ok done) h a e = subst P (ok_same Yes a e) h
 answered_holds P (Err (refusal.No s)) h a e = subst P (ok_same (No s) a e) h.0
 answered_holds P (Err refusal.OutOfMemory) h a e = absurd cc
 
-pub answered_reportable : {T : Type 0} (P : Answer → Type 0) (r : Result T Refusal) → Judged r P → IfOk (answered r) IsReportable
+pub answered_reportable : {T : Type 0} (P : Answer → Type 0) (r : Result T Refusal) → Judged r P
+    → IfOk (answered r) IsReportable
 answered_reportable P (Ok done) h = tt
 answered_reportable P (Err (refusal.No s)) h = h.1
 answered_reportable P (Err refusal.OutOfMemory) h = tt

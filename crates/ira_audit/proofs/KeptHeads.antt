@@ -1,5 +1,6 @@
 -- Logs of which the heads alone are kept, since there are too many of them for one ring.
-use Rattle.std.proofs.Common.{◌≡◌, ℕ, zero, suc, ◌+◌, ◌<◌, ◌≤◌, inl, inr, List, [], ◌∷◌, ◌++◌, Option, Some, None, length, map, refl, sym, ap, ◌∙◌, subst, arith, length-append}
+use Rattle.std.proofs.Common.{◌≡◌, ℕ, zero, suc, ◌+◌, ◌<◌, ◌≤◌, inl, inr, List, [], ◌∷◌, ◌++◌, Option, Some, None}
+use Rattle.std.proofs.Common.{length, map, refl, sym, ap, ◌∙◌, subst, arith, length-append}
 use Rattle.std.specs.Prelude.{Contains, slice_get}
 use Rattle.std.proofs.lemmas.List.{length-map}
 use Rattle.std.proofs.lemmas.List.Elements.{Contains-append_left, Contains-append_right}
@@ -7,7 +8,8 @@ use Rattle.std.proofs.lemmas.Option.{get_or_from_slice_get, slice_get_read, slic
 use Rattle.ira_event.specs.declared.head_fault.HeadFault.{HeadFault}
 use Rattle.ira_event.specs.declared.log_head.LogHead.{LogHead}
 use Rattle.ira_event.specs.Log.{Log}
-use Rattle.ira_event.specs.Logs.{AreLogs, EachLog, HasNumber, HasVersion, HeadFaultOf, IsFirstOther, wrong_number, wrong_size, wrong_place, wrong_version}
+use Rattle.ira_event.specs.Logs.{AreLogs, EachLog, HasNumber, HasVersion, HeadFaultOf, IsFirstOther, wrong_number}
+use Rattle.ira_event.specs.Logs.{wrong_size, wrong_place, wrong_version}
 use Rattle.ira_event.specs.LogText.{head_of}
 use Rattle.ira_audit.specs.RingAudit.{AreTooMany, StandFor}
 
@@ -21,11 +23,14 @@ pub same_number : (xs ys : List Log) → map head_of xs ≡ map head_of ys → l
 same_number xs ys e = sym (length-map xs head_of) ∙ ap (λ (hs : List LogHead). length hs) e ∙ length-map ys head_of
 
 -- the log of the other list that has the same head
-other_at : (xs ys : List Log) (i : ℕ) (x : Log) → map head_of xs ≡ map head_of ys → slice_get xs i ≡ Some x → (y : Log) × (slice_get ys i ≡ Some y) × (head_of x ≡ head_of y)
+other_at : (xs ys : List Log) (i : ℕ) (x : Log) → map head_of xs ≡ map head_of ys → slice_get xs i ≡ Some x → (y : Log)
+    × (slice_get ys i ≡ Some y) × (head_of x ≡ head_of y)
 other_at [] ys i x e at = absurd cc
 other_at (a ∷ xs) [] i x e at = absurd cc
-other_at (a ∷ xs) (b ∷ ys) zero x e at = (b, refl, (let heads : head_of a ≡ head_of b = cc in let here : a ≡ x = cc in ap head_of (sym here) ∙ heads))
-other_at (a ∷ xs) (b ∷ ys) (suc i) x e at = (let behind : map head_of xs ≡ map head_of ys = cc in other_at xs ys i x behind at)
+other_at (a ∷ xs) (b ∷ ys) zero x e at =
+    (b, refl, (let heads : head_of a ≡ head_of b = cc in let here : a ≡ x = cc in ap head_of (sym here) ∙ heads))
+other_at (a ∷ xs) (b ∷ ys) (suc i) x e at =
+    (let behind : map head_of xs ≡ map head_of ys = cc in other_at xs ys i x behind at)
 
 module _ (xs ys : List Log) (e : map head_of xs ≡ map head_of ys) where
   nodes_of : (x y : Log) → head_of x ≡ head_of y → x.nodes ≡ y.nodes
@@ -34,7 +39,12 @@ module _ (xs ys : List Log) (e : map head_of xs ≡ map head_of ys) where
   number_of : (n : ℕ) → HasNumber ys n → HasNumber xs n
   number_of n h =
       let o = other_at ys xs 0 h.first (sym e) h.is_first in
-      record { first = o.0; is_first = o.1; names = sym (nodes_of h.first o.0 o.2) ∙ h.names; number = same_number xs ys e ∙ h.number }
+      record {
+        first = o.0;
+        is_first = o.1;
+        names = sym (nodes_of h.first o.0 o.2) ∙ h.names;
+        number = same_number xs ys e ∙ h.number;
+      }
 
   version_of : (v : ℕ) → HasVersion ys v → HasVersion xs v
   version_of v h =
@@ -53,7 +63,8 @@ module _ (xs ys : List Log) (e : map head_of xs ≡ map head_of ys) where
           log = o.0;
           at = o.1;
           other = λ p. h.other (by_head i o.0 h.log (sym o.2) p);
-          least = λ j before l at. (let b = other_at xs ys j before e at in by_head j b.0 before (sym b.2) (h.least j b.0 l b.1));
+          least = λ j before l at. (let b = other_at xs ys j before e at in
+              by_head j b.0 before (sym b.2) (h.least j b.0 l b.1));
         }
 
 names_nodes : (n i : ℕ) (a b : Log) → head_of a ≡ head_of b → a.nodes ≡ n → b.nodes ≡ n
@@ -66,10 +77,12 @@ names_version : (v i : ℕ) (a b : Log) → head_of a ≡ head_of b → a.versio
 names_version v i a b e h = sym (ap (λ (x : LogHead). x.version) e) ∙ h
 
 -- a fault of the heads is one of all logs that have them
-pub fault_of_heads : (xs ys : List Log) (f : HeadFault) → map head_of xs ≡ map head_of ys → HeadFaultOf ys f → HeadFaultOf xs f
+pub fault_of_heads : (xs ys : List Log) (f : HeadFault) → map head_of xs ≡ map head_of ys → HeadFaultOf ys f
+    → HeadFaultOf xs f
 fault_of_heads xs ys f e (wrong_number none is) = wrong_number (λ n h. none n (number_of ys xs (sym e) n h)) is
 fault_of_heads xs ys f e (wrong_size n i number other is) =
-    wrong_size n i (number_of xs ys e n number) (first_other_of xs ys e (λ _ log. log.nodes ≡ n) (names_nodes n) i other) is
+    wrong_size n i (number_of xs ys e n number)
+    (first_other_of xs ys e (λ _ log. log.nodes ≡ n) (names_nodes n) i other) is
 fault_of_heads xs ys f e (wrong_place n i number sizes other is) =
     wrong_place n i (number_of xs ys e n number) (each_of xs ys e (λ _ log. log.nodes ≡ n) (names_nodes n) sizes)
     (first_other_of xs ys e (λ j log. log.place ≡ j) names_place i other) is
@@ -105,23 +118,31 @@ ring_stands kept logs (inr heads) ring =
 pub stand_both : (k1 l1 k2 l2 : List Log) → StandFor k1 l1 → StandFor k2 l2 → StandFor (k1 ++ k2) (l1 ++ l2)
 stand_both k1 l1 k2 l2 (inl a) (inl b) = inl (ap (λ (ls : List Log). ls ++ k2) a ∙ ap (λ (ls : List Log). l1 ++ ls) b)
 stand_both k1 l1 k2 l2 (inl a) (inr b) = inr (
-  map_append head_of k1 k2 ∙ ap (λ (ls : List Log). map head_of ls ++ map head_of k2) a ∙ ap (λ (hs : List LogHead). map head_of l1 ++ hs) b.0 ∙ sym (map_append head_of l1 l2),
+  map_append head_of k1 k2 ∙ ap (λ (ls : List Log). map head_of ls ++ map head_of k2) a
+      ∙ ap (λ (hs : List LogHead). map head_of l1 ++ hs) b.0 ∙ sym (map_append head_of l1 l2),
   (b.1.0, Contains-append_right l1 l2 b.1.0 b.1.1, omega (arith, b.1.2, length-append l1 l2)),
 )
 stand_both k1 l1 k2 l2 (inr a) b = inr (
-  map_append head_of k1 k2 ∙ ap (λ (hs : List LogHead). hs ++ map head_of k2) a.0 ∙ ap (λ (hs : List LogHead). map head_of l1 ++ hs) (same_heads k2 l2 b) ∙ sym (map_append head_of l1 l2),
+  map_append head_of k1 k2 ∙ ap (λ (hs : List LogHead). hs ++ map head_of k2) a.0
+      ∙ ap (λ (hs : List LogHead). map head_of l1 ++ hs) (same_heads k2 l2 b) ∙ sym (map_append head_of l1 l2),
   (a.1.0, Contains-append_left l1 l2 a.1.0 a.1.1, omega (arith, a.1.2, length-append l1 l2)),
 )
 
 -- one log more, of which the head is kept where there are as many as the first one names
-pub stand_head : (kept logs : List Log) (head log first : Log) → StandFor kept logs → head_of head ≡ head_of log → slice_get kept 0 ≡ Some first → first.nodes ≤ length kept → StandFor (kept ++ head ∷ []) (logs ++ log ∷ [])
+pub stand_head : (kept logs : List Log) (head log first : Log) → StandFor kept logs → head_of head ≡ head_of log
+    → slice_get kept 0 ≡ Some first → first.nodes ≤ length kept → StandFor (kept ++ head ∷ []) (logs ++ log ∷ [])
 stand_head kept logs head log first stand is at many =
     let heads = same_heads kept logs stand in
     let o = other_at kept logs 0 first heads at in
     let nodes : first.nodes ≡ o.0.nodes = ap (λ (x : LogHead). x.nodes) o.2 in
     inr (
-      map_append head_of kept (head ∷ []) ∙ ap (λ (hs : List LogHead). hs ++ head_of head ∷ []) heads ∙ ap (λ (h : LogHead). map head_of logs ++ h ∷ []) is ∙ sym (map_append head_of logs (log ∷ [])),
-      (o.0, Contains-append_left logs (log ∷ []) o.0 (contained logs 0 o.0 o.1), omega (arith, nodes, many, as_many kept logs stand, length-append logs (log ∷ []))),
+      map_append head_of kept (head ∷ []) ∙ ap (λ (hs : List LogHead). hs ++ head_of head ∷ []) heads
+          ∙ ap (λ (h : LogHead). map head_of logs ++ h ∷ []) is ∙ sym (map_append head_of logs (log ∷ [])),
+      (
+        o.0,
+        Contains-append_left logs (log ∷ []) o.0 (contained logs 0 o.0 o.1),
+        omega (arith, nodes, many, as_many kept logs stand, length-append logs (log ∷ [])),
+      ),
     )
   where
     contained : (xs : List Log) (i : ℕ) (x : Log) → slice_get xs i ≡ Some x → Contains xs x

@@ -1,5 +1,6 @@
 -- Certificates of what was found: there is one where each case is absent, and it is accepted.
-use Rattle.std.proofs.Common.{◌≡◌, ◌↔◌, ℕ, zero, suc, Bool, true, false, List, [], ◌∷◌, ◌++◌, Option, Some, Result, Ok, Err, IfErr, map, length, refl, sym, subst, ap, ◌∙◌}
+use Rattle.std.proofs.Common.{◌≡◌, ◌↔◌, ℕ, zero, suc, Bool, true, false, List, [], ◌∷◌, ◌++◌, Option, Some, Result, Ok}
+use Rattle.std.proofs.Common.{Err, IfErr, map, length, refl, sym, subst, ap, ◌∙◌}
 use Rattle.std.specs.List.{AllZip, list_any}
 use Rattle.std.specs.Prelude.{Contains, IsFalse, not, slice_get}
 use Rattle.std.proofs.lemmas.List.Elements.{Contains-append_right, Contains-append_left, Contains-push}
@@ -21,7 +22,8 @@ use Rattle.ira_audit.specs.AuditAnswer.{AreSound, IsAuditAnswer, yes}
 use Rattle.ira_audit.specs.Findings.{AreFindings, HasPresent, IsCertificateOf, MakeNoCertificate, is_present}
 
 -- what was found of cases that are all absent are sound sections
-all_sound : {A : Type 0} (logs : List Log) (cases : List (List Conjunct)) (found : List (Found A)) (sections : List Section) → found ≡ map Absent sections
+all_sound : {A : Type 0} (logs : List Log) (cases : List (List Conjunct)) (found : List (Found A))
+    (sections : List Section) → found ≡ map Absent sections
     → AllZip (IsFound logs) cases found → AreSound logs cases sections
 all_sound logs [] [] [] is h = tt
 all_sound logs [] [] (s ∷ sections) is h = absurd cc
@@ -36,16 +38,20 @@ all_sound logs (c ∷ cases) (Present cut ∷ found) (s ∷ sections) is h = abs
 
 -- the certificate of findings is accepted where it has a text
 pub accepted : {A : Type 0} (texts : List (List ℕ)) (question text : List ℕ) (findings : Findings A) (c : Certificate)
-    → AreFindings texts question findings → IsCertificateOf findings c → IsCertText text c → IsAuditAnswer texts question text Yes
+    → AreFindings texts question findings → IsCertificateOf findings c → IsCertText text c
+    → IsAuditAnswer texts question text Yes
 accepted texts question text (Refused r) c h of is = absurd of
 accepted texts question text (Cases nodes found) c h of is =
     yes h.0 h.1 c h.2 is (of.0 ∙ h.3) (all_sound h.0 h.1.cases found.items c.sections of.1 h.4) refl
 
 -- where each case is absent, none is present
-absent_or_present : {A : Type 0} (found : List (Found A)) (sections : List Section) (cut : List ℕ) → found ≡ map Absent sections → Contains found (Present cut) → ⊥
-absent_or_present found sections cut is has = none_at found sections has.0 cut is (slice_get_read found (length found) has.0 (Present cut) refl has.1 (sym has.2))
+absent_or_present : {A : Type 0} (found : List (Found A)) (sections : List Section) (cut : List ℕ)
+    → found ≡ map Absent sections → Contains found (Present cut) → ⊥
+absent_or_present found sections cut is has =
+    none_at found sections has.0 cut is (slice_get_read found (length found) has.0 (Present cut) refl has.1 (sym has.2))
   where
-    none_at : {A : Type 0} (found : List (Found A)) (sections : List Section) (i : ℕ) (cut : List ℕ) → found ≡ map Absent sections → slice_get found i ≡ Some (Present cut) → ⊥
+    none_at : {A : Type 0} (found : List (Found A)) (sections : List Section) (i : ℕ) (cut : List ℕ)
+        → found ≡ map Absent sections → slice_get found i ≡ Some (Present cut) → ⊥
     none_at [] sections i cut is at = absurd cc
     none_at (f ∷ found) [] i cut is at = absurd cc
     none_at (f ∷ found) (s ∷ sections) zero cut is at = absurd cc
@@ -62,11 +68,13 @@ one_sections {A} (x ∷ xs) (y ∷ ys) e =
     let rest = one_sections {A = A} xs ys behind in
     cc
 
-some_certificate : (c d : Certificate) → ◌≡◌ {A = Result (Option Certificate) OutOfMemory} (Ok (Some c)) (Ok (Some d)) → c ≡ d
+some_certificate : (c d : Certificate) → ◌≡◌ {A = Result (Option Certificate) OutOfMemory} (Ok (Some c)) (Ok (Some d))
+    → c ≡ d
 some_certificate c d e = cc
 
 -- the certificate is the one of the findings
-pub made_exactly : {A : Type 0} (findings : Findings A) (made : Certificate) → IsCertificateOf findings made → (c : Certificate)
+pub made_exactly : {A : Type 0} (findings : Findings A) (made : Certificate) → IsCertificateOf findings made
+    → (c : Certificate)
     → ◌≡◌ {A = Result (Option Certificate) OutOfMemory} (Ok (Some made)) (Ok (Some c)) ↔ IsCertificateOf findings c
 made_exactly (Refused r) made is c = absurd is
 made_exactly {A} (Cases nodes found) made is c = (
@@ -74,13 +82,16 @@ made_exactly {A} (Cases nodes found) made is c = (
   λ h. (
       let size : made.nodes ≡ c.nodes = is.0 ∙ sym h.0 in
       let sections : made.sections ≡ c.sections = one_sections {A = A} made.sections c.sections (sym is.1 ∙ h.1) in
-      ap {B = Result (Option Certificate) OutOfMemory} (λ n. Ok (Some (record { nodes = n; sections = made.sections }))) size
-      ∙ ap {B = Result (Option Certificate) OutOfMemory} (λ s. Ok (Some (record { nodes = c.nodes; sections = s }))) sections
+      ap {B = Result (Option Certificate) OutOfMemory} (λ n.
+      Ok (Some (record { nodes = n; sections = made.sections }))) size
+      ∙ ap {B = Result (Option Certificate) OutOfMemory} (λ s.
+      Ok (Some (record { nodes = c.nodes; sections = s }))) sections
       ),
 )
 
 -- where there is one, the findings don't make none
-pub made_or_none : {A : Type 0} (findings : Findings A) (made : Certificate) → IsCertificateOf findings made → MakeNoCertificate findings → ⊥
+pub made_or_none : {A : Type 0} (findings : Findings A) (made : Certificate) → IsCertificateOf findings made
+    → MakeNoCertificate findings → ⊥
 made_or_none (Refused r) made is none = is
 made_or_none (Cases nodes found) made is none = absent_or_present found.items made.sections none.0 is.1 none.1
 
@@ -90,18 +101,22 @@ present_among [] e = absurd cc
 present_among (Absent s ∷ found) e =
     let behind = present_among found e in
     (behind.0, Contains-append_right (Absent s ∷ []) found _ behind.1)
-present_among (Present cut ∷ found) e = (cut, Contains-append_left (Present cut ∷ []) found _ (Contains-push [] (Present cut)))
+present_among (Present cut ∷ found) e =
+    (cut, Contains-append_left (Present cut ∷ []) found _ (Contains-push [] (Present cut)))
 
 -- where none is found, none is present
 pub none_among : {A : Type 0} (found : List (Found A)) → list_any is_present found ≡ false → HasPresent found → ⊥
 none_among found e has =
-    let met : list_any is_present found ≡ true = list_any_at is_present found has.1.0 (Present has.0) has.1.1 (ap is_present has.1.2) in
+    let met : list_any is_present found ≡ true =
+    list_any_at is_present found has.1.0 (Present has.0) has.1.1 (ap is_present has.1.2) in
     cc
 
 -- a case that is present at some place is among the findings
-pub present_at : {A : Type 0} (found before behind : List (Found A)) (f : Found A) (cut : List ℕ) → found ≡ before ++ (f ∷ behind) → f ≡ Present cut → HasPresent found
+pub present_at : {A : Type 0} (found before behind : List (Found A)) (f : Found A) (cut : List ℕ)
+    → found ≡ before ++ (f ∷ behind) → f ≡ Present cut → HasPresent found
 present_at found before behind f cut is present =
-    let here : Contains (before ++ (f ∷ behind)) f = Contains-append_right before (f ∷ behind) f (Contains-append_left (f ∷ []) behind f (Contains-push [] f)) in
+    let here : Contains (before ++ (f ∷ behind)) f =
+    Contains-append_right before (f ∷ behind) f (Contains-append_left (f ∷ []) behind f (Contains-push [] f)) in
     (cut, subst (Contains found) present (subst (λ xs. Contains xs f) (sym is) here))
 
 -- what holds anyway holds where it is refused

@@ -24,17 +24,20 @@ use Rattle.ira_safety.proofs.Leaders.{one_leader_at_a_cut}
 use Rattle.ira_audit.specs.declared.answer.Answer.{Answer}
 use Rattle.ira_audit.specs.declared.answer.Answer.TheVariants.{Yes}
 use Rattle.ira_audit.specs.LogTexts.{AreLogTexts}
-use Rattle.ira_audit.specs.AuditAnswer.{AreSound, IsAuditAnswer, not_posed, no_certificate, other_size, other_number, unsound, yes}
+use Rattle.ira_audit.specs.AuditAnswer.{AreSound, IsAuditAnswer, not_posed, no_certificate, other_size, other_number}
+use Rattle.ira_audit.specs.AuditAnswer.{unsound, yes}
 use Rattle.ira_audit.specs.Posed.{Posed}
 use Rattle.ira_audit.specs.GoodLogs.{AreGood, AreGoodLogs}
 use Rattle.ira_audit.specs.LogsAnswer.{IsLogsAnswer, no_log, no_ring, unmatched, circled, stopped, yes as logs_yes}
-use Rattle.ira_audit.specs.Never.{Leads, NeverTwoLeaders, NoCaseIsMet, NoCutMeetsAPair, NoCutMeetsAny, NoMomentMeetsAny, YesMeansNoCaseIsMet, YesWithoutQuestion}
+use Rattle.ira_audit.specs.Never.{Leads, NeverTwoLeaders, NoCaseIsMet, NoCutMeetsAPair, NoCutMeetsAny, NoMomentMeetsAny}
+use Rattle.ira_audit.specs.Never.{YesMeansNoCaseIsMet, YesWithoutQuestion}
 use Rattle.ira_audit.proofs.LogTexts.{one_list}
 use Rattle.ira_audit.proofs.Places.{different_places}
 use Rattle.ira_audit.proofs.Zipped.{zipped_at, partner_at}
 
 -- where each section is sound for its case, no case is met
-no_cut : (texts : List (List ℕ)) (question : List ℕ) (logs : List Log) (asked : Asked) (sections : List Section) → Posed texts question logs asked → AreSound logs asked.cases sections → NoCutMeetsAny logs asked.cases
+no_cut : (texts : List (List ℕ)) (question : List ℕ) (logs : List Log) (asked : Asked) (sections : List Section)
+    → Posed texts question logs asked → AreSound logs asked.cases sections → NoCutMeetsAny logs asked.cases
 no_cut texts question logs asked sections posed sound = λ case cut has consistent.
     let at = slice_get_read asked.cases (length asked.cases) has.0 case refl has.1 (sym has.2) in
     let section = partner_at asked.cases sections has.0 case (IsSoundSection logs) sound at in
@@ -98,7 +101,8 @@ no_moment texts question certificate logs asked yes_is logs_are question_is orde
 -- ---- leaders
 
 -- there is a yes without the question
-yes_good : (texts : List (List ℕ)) (question certificate : List ℕ) (a : Answer) → IsAuditAnswer texts question certificate a → a ≡ Yes → (logs : List Log) × AreGoodLogs texts logs
+yes_good : (texts : List (List ℕ)) (question certificate : List ℕ) (a : Answer)
+    → IsAuditAnswer texts question certificate a → a ≡ Yes → (logs : List Log) × AreGoodLogs texts logs
 yes_good texts question certificate a (not_posed r h e) is = absurd cc
 yes_good texts question certificate a (no_certificate logs asked f p h e) is = absurd cc
 yes_good texts question certificate a (other_size logs asked c p t other e) is = absurd cc
@@ -130,7 +134,8 @@ leads_there logs cut i (log, at, holds) =
       is_in = record {
         log = log;
         at = at;
-        reached = ((states_are_reached log.nodes (first_state log.initiator) log.events holds.states holds.states_are (slice_index cut i) holds.state).0 holds.at).1;
+        reached = ((states_are_reached log.nodes (first_state log.initiator) log.events holds.states holds.states_are
+            (slice_index cut i) holds.state).0 holds.at).1;
       };
       leads = rw phase tt;
     }
@@ -144,5 +149,7 @@ no_two_leaders texts logs yes_is texts_are cut i j consistent other one two =
 pub no_cut_meets_a_pair : NoCutMeetsAPair
 no_cut_meets_a_pair texts logs yes_is texts_are case cut has consistent =
     let none = All-pairs (λ c. ¬ (Meets logs c cut)) (length logs)
-    (λ i j lower below met. no_two_leaders texts logs yes_is texts_are cut i j consistent (omega arith) (met 0 (record { place = i; formula = leader }) (omega arith)) (met 1 (record { place = i; formula = leader }) (omega arith))) in
+    (λ i j lower below met. no_two_leaders texts logs yes_is texts_are cut i j consistent (omega arith)
+    (met 0 (record { place = i; formula = leader }) (omega arith))
+    (met 1 (record { place = i; formula = leader }) (omega arith))) in
     subst (λ c. ¬ (Meets logs c cut)) has.2 (none has.0 case has.1)

@@ -52,11 +52,13 @@ circle_or_order logs c o = c.1 o.1 o.2
 pub stop_or_runs : (logs : List Log) (place : ℕ) (f : ReplayFault) → IsFirstStop logs place f → AreLocalRuns logs → ⊥
 stop_or_runs logs place f s runs = run_or_fault s.log f (runs place s.log s.at) s.fault
 
-no_earlier_stop : (logs : List Log) (i j : ℕ) (f g : ReplayFault) → IsFirstStop logs i f → IsFirstStop logs j g → i < j → ⊥
+no_earlier_stop : (logs : List Log) (i j : ℕ) (f g : ReplayFault) → IsFirstStop logs i f → IsFirstStop logs j g → i < j
+    → ⊥
 no_earlier_stop logs i j f g s t lt = run_or_fault s.log f (t.before i s.log lt s.at) s.fault
 
 -- logs have one first log that is no local run
-one_first_stop : (logs : List Log) (i j : ℕ) (f g : ReplayFault) → IsFirstStop logs i f → IsFirstStop logs j g → (i ≡ j) × (f ≡ g)
+one_first_stop : (logs : List Log) (i j : ℕ) (f g : ReplayFault) → IsFirstStop logs i f → IsFirstStop logs j g → (i ≡ j)
+    × (f ≡ g)
 one_first_stop logs i j f g s t =
     let here : i ≡ j = omega (arith, no_earlier_stop logs i j f g s t, no_earlier_stop logs j i g f t s) in
     let log : s.log ≡ t.log = log_is s.log t.log (sym s.at ∙ ap (slice_get logs) here ∙ t.at) in
@@ -67,7 +69,8 @@ one_first_stop logs i j f g s t =
 
 -- each answer is the only one of its texts
 
-only_no_log : (texts : List (List ℕ)) (n : ℕ) (f : LogFault) → IsFirstTextFault texts n f → (a : Answer) → IsLogsAnswer texts a → a ≡ No (reason.Log n f)
+only_no_log : (texts : List (List ℕ)) (n : ℕ) (f : LogFault) → IsFirstTextFault texts n f → (a : Answer)
+    → IsLogsAnswer texts a → a ≡ No (reason.Log n f)
 only_no_log texts n f h a (no_log m g k e) = (let same = one_first texts n m f g h k in cc)
 only_no_log texts n f h a (no_ring ms g u k e) = absurd (logs_or_fault texts ms n f u h)
 only_no_log texts n f h a (unmatched ms g u ring k e) = absurd (logs_or_fault texts ms n f u h)
@@ -89,13 +92,16 @@ module _ (texts : List (List ℕ)) (logs : List Log) (are : AreLogTexts texts lo
   only_no_ring f h a (yes ms good e) = absurd (no-fault logs f (here AreLogs ms good.texts_are good.are_good.ring) h)
 
   module _ (ring : AreLogs logs) where
-    only_unmatched : (f : MatchFault) → IsMatchFault logs f → (a : Answer) → IsLogsAnswer texts a → a ≡ No (reason.Match f)
+    only_unmatched : (f : MatchFault) → IsMatchFault logs f → (a : Answer) → IsLogsAnswer texts a
+        → a ≡ No (reason.Match f)
     only_unmatched f h a (no_log m g k e) = absurd (logs_or_fault texts logs m g are k)
     only_unmatched f h a (no_ring ms g u k e) = absurd (no-fault logs g ring (here (λ x. HeadFaultOf x g) ms u k))
-    only_unmatched f h a (unmatched ms g u r k e) = (let same = matching.one_fault logs f g h (here (λ x. IsMatchFault x g) ms u k) in cc)
+    only_unmatched f h a (unmatched ms g u r k e) =
+        (let same = matching.one_fault logs f g h (here (λ x. IsMatchFault x g) ms u k) in cc)
     only_unmatched f h a (circled ms u r k e) = absurd (matched_circle logs f h (here HasCircle ms u k))
     only_unmatched f h a (stopped ms p g u r o k e) = absurd (matched_order logs f h (here HasOrder ms u o))
-    only_unmatched f h a (yes ms good e) = absurd (matched_order logs f h (here HasOrder ms good.texts_are good.are_good.order))
+    only_unmatched f h a (yes ms good e) =
+        absurd (matched_order logs f h (here HasOrder ms good.texts_are good.are_good.order))
 
     only_circled : HasCircle logs → (a : Answer) → IsLogsAnswer texts a → a ≡ No reason.Circle
     only_circled h a (no_log m g k e) = absurd (logs_or_fault texts logs m g are k)
@@ -103,16 +109,21 @@ module _ (texts : List (List ℕ)) (logs : List Log) (are : AreLogTexts texts lo
     only_circled h a (unmatched ms g u r k e) = absurd (matched_circle logs g (here (λ x. IsMatchFault x g) ms u k) h)
     only_circled h a (circled ms u r k e) = e
     only_circled h a (stopped ms p g u r o k e) = absurd (circle_or_order logs h (here HasOrder ms u o))
-    only_circled h a (yes ms good e) = absurd (circle_or_order logs h (here HasOrder ms good.texts_are good.are_good.order))
+    only_circled h a (yes ms good e) =
+        absurd (circle_or_order logs h (here HasOrder ms good.texts_are good.are_good.order))
 
     module _ (order : HasOrder logs) where
-      only_stopped : (place : ℕ) (f : ReplayFault) → IsFirstStop logs place f → (a : Answer) → IsLogsAnswer texts a → a ≡ No (reason.Replay place f.position f.fault)
+      only_stopped : (place : ℕ) (f : ReplayFault) → IsFirstStop logs place f → (a : Answer) → IsLogsAnswer texts a
+          → a ≡ No (reason.Replay place f.position f.fault)
       only_stopped place f h a (no_log m g k e) = absurd (logs_or_fault texts logs m g are k)
       only_stopped place f h a (no_ring ms g u k e) = absurd (no-fault logs g ring (here (λ x. HeadFaultOf x g) ms u k))
-      only_stopped place f h a (unmatched ms g u r k e) = absurd (matched_order logs g (here (λ x. IsMatchFault x g) ms u k) order)
+      only_stopped place f h a (unmatched ms g u r k e) =
+          absurd (matched_order logs g (here (λ x. IsMatchFault x g) ms u k) order)
       only_stopped place f h a (circled ms u r k e) = absurd (circle_or_order logs (here HasCircle ms u k) order)
-      only_stopped place f h a (stopped ms p g u r o k e) = (let same = one_first_stop logs place p f g h (here (λ x. IsFirstStop x p g) ms u k) in cc)
-      only_stopped place f h a (yes ms good e) = absurd (stop_or_runs logs place f h (here AreLocalRuns ms good.texts_are good.are_good.runs))
+      only_stopped place f h a (stopped ms p g u r o k e) =
+          (let same = one_first_stop logs place p f g h (here (λ x. IsFirstStop x p g) ms u k) in cc)
+      only_stopped place f h a (yes ms good e) =
+          absurd (stop_or_runs logs place f h (here AreLocalRuns ms good.texts_are good.are_good.runs))
 
       only_yes : AreLocalRuns logs → (a : Answer) → IsLogsAnswer texts a → a ≡ Yes
       only_yes h a (no_log m g k e) = absurd (logs_or_fault texts logs m g are k)
@@ -128,4 +139,5 @@ one_logs_answer texts a b (no_ring ls f t h e) k = e ∙ sym (only_no_ring texts
 one_logs_answer texts a b (unmatched ls f t ring h e) k = e ∙ sym (only_unmatched texts ls t ring f h b k)
 one_logs_answer texts a b (circled ls t ring h e) k = e ∙ sym (only_circled texts ls t ring h b k)
 one_logs_answer texts a b (stopped ls p f t ring o h e) k = e ∙ sym (only_stopped texts ls t ring o p f h b k)
-one_logs_answer texts a b (yes ls good e) k = e ∙ sym (only_yes texts ls good.texts_are good.are_good.ring good.are_good.order good.are_good.runs b k)
+one_logs_answer texts a b (yes ls good e) k =
+    e ∙ sym (only_yes texts ls good.texts_are good.are_good.ring good.are_good.order good.are_good.runs b k)

@@ -36,43 +36,61 @@ abbrev LogsStage : List (List ℕ) → List ℕ → Answer → Type 0
 LogsStage texts question =
     Stage (λ r. IsLogsAnswer texts (No r)) No (AreGoodLogs texts) (QuestionStage question)
 
-refused : (texts : List (List ℕ)) (question : List ℕ) (r : Reason) → WhyNotPosed texts question r → LogsStage texts question (No r)
+refused : (texts : List (List ℕ)) (question : List ℕ) (r : Reason) → WhyNotPosed texts question r
+    → LogsStage texts question (No r)
 refused texts question r (bad_logs h) = inl (r, h, refl)
 refused texts question r (no_question logs f good h e) = inr (logs, good, inl (f, h, ap No e))
-refused texts question r (other_ring logs asked good is other e) = inr (logs, good, inr (asked, is, inl (tt, other, ap No e)))
+refused texts question r (other_ring logs asked good is other e) =
+    inr (logs, good, inr (asked, is, inl (tt, other, ap No e)))
 
-posed : (texts : List (List ℕ)) (question : List ℕ) (logs : List Log) (asked : Asked) → Posed texts question logs asked → LogsStage texts question Yes
+posed : (texts : List (List ℕ)) (question : List ℕ) (logs : List Log) (asked : Asked) → Posed texts question logs asked
+    → LogsStage texts question Yes
 posed texts question logs asked p = inr (logs, p.logs_are, inr (asked, p.question_is, inr (tt, p.ring, refl)))
 
 -- ---- each stage has one answer
 
 one_ring : (logs : List Log) (asked : Asked) (a b : Answer) → RingStage logs asked a → RingStage logs asked b → a ≡ b
-one_ring logs asked = one_of_stage _ _ _ _ (λ x z h k. refl) (λ x y other same. other same) (λ y z h k. refl) (λ y a b h e d. e ∙ sym d)
+one_ring logs asked = one_of_stage _ _ _ _ (λ x z h k. refl) (λ x y other same. other same) (λ y z h k.
+    refl) (λ y a b h e d. e ∙ sym d)
 
-one_asked : (question : List ℕ) (logs : List Log) (a b : Answer) → QuestionStage question logs a → QuestionStage question logs b → a ≡ b
-one_asked question logs = one_of_stage _ _ _ _ (ask.one_fault question) (λ f q h is. ask.question_or_fault question q f is h) (one_question question)
+one_asked : (question : List ℕ) (logs : List Log) (a b : Answer) → QuestionStage question logs a
+    → QuestionStage question logs b → a ≡ b
+one_asked question logs =
+    one_of_stage _ _ _ _ (ask.one_fault question) (λ f q h is.
+    ask.question_or_fault question q f is h) (one_question question)
     (λ q a b is. one_ring logs q a b)
 
-one_reason_of_logs : (texts : List (List ℕ)) (r s : Reason) → IsLogsAnswer texts (No r) → IsLogsAnswer texts (No s) → r ≡ s
+one_reason_of_logs : (texts : List (List ℕ)) (r s : Reason) → IsLogsAnswer texts (No r) → IsLogsAnswer texts (No s)
+    → r ≡ s
 one_reason_of_logs texts r s h k = let same = one_logs_answer texts (No r) (No s) h k in cc
 
-bad_or_good : (texts : List (List ℕ)) (r : Reason) (logs : List Log) → IsLogsAnswer texts (No r) → AreGoodLogs texts logs → ⊥
+bad_or_good : (texts : List (List ℕ)) (r : Reason) (logs : List Log) → IsLogsAnswer texts (No r)
+    → AreGoodLogs texts logs → ⊥
 bad_or_good texts r logs h good = let same = one_logs_answer texts (No r) Yes h (logs_answer.yes logs good refl) in cc
 
-one_staged : (texts : List (List ℕ)) (question : List ℕ) (a b : Answer) → LogsStage texts question a → LogsStage texts question b → a ≡ b
+one_staged : (texts : List (List ℕ)) (question : List ℕ) (a b : Answer) → LogsStage texts question a
+    → LogsStage texts question b → a ≡ b
 one_staged texts question =
-    one_of_stage _ _ _ _ (one_reason_of_logs texts) (bad_or_good texts) (λ logs others g o. one_list texts logs others g.texts_are o.texts_are)
+    one_of_stage _ _ _ _ (one_reason_of_logs texts) (bad_or_good texts) (λ logs others g o.
+    one_list texts logs others g.texts_are o.texts_are)
     (λ logs a b good. one_asked question logs a b)
 
 -- ---- what that says
 
-pub one_reason : (texts : List (List ℕ)) (question : List ℕ) (r s : Reason) → WhyNotPosed texts question r → WhyNotPosed texts question s → r ≡ s
-one_reason texts question r s h k = let same = one_staged texts question (No r) (No s) (refused texts question r h) (refused texts question s k) in cc
+pub one_reason : (texts : List (List ℕ)) (question : List ℕ) (r s : Reason) → WhyNotPosed texts question r
+    → WhyNotPosed texts question s → r ≡ s
+one_reason texts question r s h k = let same =
+    one_staged texts question (No r) (No s) (refused texts question r h) (refused texts question s k) in cc
 
-pub posed_or_not : (texts : List (List ℕ)) (question : List ℕ) (r : Reason) (logs : List Log) (asked : Asked) → WhyNotPosed texts question r → Posed texts question logs asked → ⊥
-posed_or_not texts question r logs asked h p = let same = one_staged texts question (No r) Yes (refused texts question r h) (posed texts question logs asked p) in cc
+pub posed_or_not : (texts : List (List ℕ)) (question : List ℕ) (r : Reason) (logs : List Log) (asked : Asked)
+    → WhyNotPosed texts question r → Posed texts question logs asked → ⊥
+posed_or_not texts question r logs asked h p = let same =
+    one_staged texts question (No r) Yes (refused texts question r h) (posed texts question logs asked p) in cc
 
 -- it is posed of one list of logs, and asks one thing
-pub one_posed : (texts : List (List ℕ)) (question : List ℕ) (logs others : List Log) (asked other : Asked) → Posed texts question logs asked → Posed texts question others other → (logs ≡ others) × (asked ≡ other)
-one_posed texts question logs others asked other p q =
-    (one_list texts logs others p.logs_are.texts_are q.logs_are.texts_are, one_question question asked other p.question_is q.question_is)
+pub one_posed : (texts : List (List ℕ)) (question : List ℕ) (logs others : List Log) (asked other : Asked)
+    → Posed texts question logs asked → Posed texts question others other → (logs ≡ others) × (asked ≡ other)
+one_posed texts question logs others asked other p q = (
+  one_list texts logs others p.logs_are.texts_are q.logs_are.texts_are,
+  one_question question asked other p.question_is q.question_is,
+)

@@ -28,7 +28,9 @@ use Rattle.ira_audit.specs.GoodLogs.{AreGood, AreGoodLogs}
 use Rattle.ira_audit.specs.LogTexts.{AreLogTexts, IsFirstTextFault}
 use Rattle.ira_audit.specs.LogsAnswer.{no_log, no_ring}
 use Rattle.ira_audit.specs.Posed.{Posed, bad_logs, no_question, other_ring}
-use Rattle.ira_audit.specs.Refusal.{Judged, MatchRefusal, RefusesQuestion, RefusesCertificate, IsLogsReason, IsRingReason, IsFindingsReason, IsQuestionRefusal, IsCertificateRefusal, no_certificate, other_size, other_number}
+use Rattle.ira_audit.specs.Refusal.{Judged, MatchRefusal, RefusesQuestion, RefusesCertificate, IsLogsReason}
+use Rattle.ira_audit.specs.Refusal.{IsRingReason, IsFindingsReason, IsQuestionRefusal, IsCertificateRefusal}
+use Rattle.ira_audit.specs.Refusal.{no_certificate, other_size, other_number}
 use Rattle.ira_audit.specs.Report.{IsReportableReason}
 use Rattle.ira_audit.proofs.Replaying.{text_fault_other}
 
@@ -48,32 +50,40 @@ pub ring_reason : (texts : List (List ℕ)) (r : Reason) → IsRingReason texts 
 ring_reason texts r h = (h.0, h.2)
 
 -- a reason against the logs is one against a question about them
-pub logs_reason : (texts : List (List ℕ)) (question : List ℕ) (r : Reason) → IsLogsReason texts r → IsFindingsReason texts question r
+pub logs_reason : (texts : List (List ℕ)) (question : List ℕ) (r : Reason) → IsLogsReason texts r
+    → IsFindingsReason texts question r
 logs_reason texts question r h = (bad_logs h.0, h.1)
 
 -- why a question isn't posed is said of it with a certificate
-pub findings_reason : (texts : List (List ℕ)) (question certificate : List ℕ) (r : Reason) → IsFindingsReason texts question r → IsAuditAnswer texts question certificate (No r) × IsReportableReason r
+pub findings_reason : (texts : List (List ℕ)) (question certificate : List ℕ) (r : Reason)
+    → IsFindingsReason texts question r → IsAuditAnswer texts question certificate (No r) × IsReportableReason r
 findings_reason texts question certificate r h = (not_posed r h.0 refl, h.1)
 
 -- a refusal that is handed on
-pub handed_on : {T U : Type 0} (P : T → Type 0) (Q : Reason → Type 0) (S : Answer → Type 0) (r : Result U Refusal) (s : Refusal) → r ≡ Err s → MatchRefusal {T = T} (Err s) P Q
+pub handed_on : {T U : Type 0} (P : T → Type 0) (Q : Reason → Type 0) (S : Answer
+    → Type 0) (r : Result U Refusal) (s : Refusal) → r ≡ Err s → MatchRefusal {T = T} (Err s) P Q
     → ((x : Reason) → Q x → S (No x) × IsReportableReason x) → Judged r S
 handed_on P Q S r (refusal.No x) is h so = rw is (so x h)
 handed_on P Q S r refusal.OutOfMemory is h so = rw is tt
 
-pub refused_again : {T U : Type 0} (P : T → Type 0) (Q : Reason → Type 0) (S : U → Type 0) (V : Reason → Type 0) (r : Result U Refusal) (s : Refusal) → r ≡ Err s → MatchRefusal {T = T} (Err s) P Q
+pub refused_again : {T U : Type 0} (P : T → Type 0) (Q : Reason → Type 0) (S : U → Type 0) (V : Reason
+    → Type 0) (r : Result U Refusal) (s : Refusal) → r ≡ Err s → MatchRefusal {T = T} (Err s) P Q
     → ((x : Reason) → Q x → V x) → MatchRefusal r S V
 refused_again P Q S V r (refusal.No x) is h so = rw is (so x h)
 refused_again P Q S V r refusal.OutOfMemory is h so = rw is tt
 
 -- a text is no question's
-pub question_refused : {T : Type 0} (P : T → Type 0) (text : List ℕ) (nodes : ℕ) (r : Result T Refusal) (s : Refusal) (f : AskFault) → r ≡ Err s → RefusesQuestion f s → (f ≢ ask.OutOfMemory → QuestionTextFault text f)
+pub question_refused : {T : Type 0} (P : T
+    → Type 0) (text : List ℕ) (nodes : ℕ) (r : Result T Refusal) (s : Refusal) (f : AskFault) → r ≡ Err s
+    → RefusesQuestion f s → (f ≢ ask.OutOfMemory → QuestionTextFault text f)
     → MatchRefusal r P (IsQuestionRefusal text nodes)
 question_refused P text nodes r s f is (inl h) fault = rw (is, h.1) tt
 question_refused P text nodes r s f is (inr h) fault = rw (is, h.1) (inl (f, fault h.0, h.0, refl))
 
 -- a text is no certificate's
-pub certificate_refused : {T : Type 0} (P : T → Type 0) (text : List ℕ) (nodes cases : ℕ) (r : Result T Refusal) (s : Refusal) (f : CertFault) → r ≡ Err s → RefusesCertificate f s → (f ≢ cert.OutOfMemory → CertTextFault text f)
+pub certificate_refused : {T : Type 0} (P : T
+    → Type 0) (text : List ℕ) (nodes cases : ℕ) (r : Result T Refusal) (s : Refusal) (f : CertFault) → r ≡ Err s
+    → RefusesCertificate f s → (f ≢ cert.OutOfMemory → CertTextFault text f)
     → MatchRefusal r P (IsCertificateRefusal text nodes cases)
 certificate_refused P text nodes cases r s f is (inl h) fault = rw (is, h.1) tt
 certificate_refused P text nodes cases r s f is (inr h) fault = rw (is, h.1) (no_certificate f (fault h.0) h.0 refl)
@@ -83,13 +93,16 @@ certificate_refused P text nodes cases r s f is (inr h) fault = rw (is, h.1) (no
 -- sections that were held against their cases
 abbrev pub SectionsJudged : List log.Log → List (List Conjunct) → List CertSection → Result (Unit {0}) Refusal → Type 0
 SectionsJudged logs cases sections r =
-    MatchRefusal r (λ _. AreSound logs cases sections) (λ x. (i : ℕ) × (f : SectionFault) × (x ≡ Section i f) × IsFirstUnsound logs cases sections i f)
+    MatchRefusal r (λ _. AreSound logs cases sections) (λ x. (i : ℕ) × (f : SectionFault) × (x ≡ Section i f)
+    × IsFirstUnsound logs cases sections i f)
 
-pub good_logs : (texts : List (List ℕ)) (logs : List log.Log) → AreLogTexts texts logs → AreGood logs → AreGoodLogs texts logs
+pub good_logs : (texts : List (List ℕ)) (logs : List log.Log) → AreLogTexts texts logs → AreGood logs
+    → AreGoodLogs texts logs
 good_logs texts logs are good = record { texts_are = are; are_good = good }
 
 -- the question is asked of the ring of good logs
-pub is_posed : (texts : List (List ℕ)) (question : List ℕ) (logs : List log.Log) (asked : Asked) → AreLogTexts texts logs
+pub is_posed : (texts : List (List ℕ)) (question : List ℕ) (logs : List log.Log) (asked : Asked)
+    → AreLogTexts texts logs
     → AreGood logs → IsQuestionText question asked → asked.nodes ≡ length logs → Posed texts question logs asked
 is_posed texts question logs asked are good is ring = record {
   logs_are = good_logs texts logs are good;
@@ -97,19 +110,26 @@ is_posed texts question logs asked are good is ring = record {
   ring = ring;
 }
 
-pub question_reason : (texts : List (List ℕ)) (question : List ℕ) (logs : List log.Log) → AreGoodLogs texts logs → (r : Reason) → IsQuestionRefusal question (length logs) r → IsFindingsReason texts question r
+pub question_reason : (texts : List (List ℕ)) (question : List ℕ) (logs : List log.Log) → AreGoodLogs texts logs
+    → (r : Reason) → IsQuestionRefusal question (length logs) r → IsFindingsReason texts question r
 question_reason texts question logs good r (inl h) = rw h.3 (no_question logs h.0 good h.1 refl, h.2)
 question_reason texts question logs good r (inr h) = rw h.3 (other_ring logs h.0 good h.1 h.2 refl, tt)
 
-module _ (texts : List (List ℕ)) (question certificate : List ℕ) (logs : List log.Log) (asked : Asked) (posed : Posed texts question logs asked) where
-  pub certificate_reason : (r : Reason) → IsCertificateRefusal certificate (length logs) (length asked.cases) r → IsAuditAnswer texts question certificate (No r) × IsReportableReason r
-  certificate_reason r (no_certificate f fault other e) = rw e (answer.no_certificate logs asked f posed fault refl, other)
+module _ (texts : List (List ℕ)) (question certificate : List ℕ) (logs : List log.Log) (asked : Asked)
+    (posed : Posed texts question logs asked) where
+  pub certificate_reason : (r : Reason) → IsCertificateRefusal certificate (length logs) (length asked.cases) r
+      → IsAuditAnswer texts question certificate (No r) × IsReportableReason r
+  certificate_reason r (no_certificate f fault other e) =
+      rw e (answer.no_certificate logs asked f posed fault refl, other)
   certificate_reason r (other_size c is other e) = rw e (answer.other_size logs asked c posed is other refl, tt)
-  certificate_reason r (other_number c is size other e) = rw e (answer.other_number logs asked c posed is size other refl, tt)
+  certificate_reason r (other_number c is size other e) =
+      rw e (answer.other_number logs asked c posed is size other refl, tt)
 
   -- the sections are sound, or one of them is the first that isn't
-  pub sections_judged : (c : Certificate) → IsCertText certificate c → c.nodes ≡ length logs → length c.sections ≡ length asked.cases → (r : Result (Unit {0}) Refusal)
+  pub sections_judged : (c : Certificate) → IsCertText certificate c → c.nodes ≡ length logs
+      → length c.sections ≡ length asked.cases → (r : Result (Unit {0}) Refusal)
       → SectionsJudged logs asked.cases c.sections r → Judged r (IsAuditAnswer texts question certificate)
   sections_judged c is size number (Ok done) h = answer.yes logs asked c posed is size h refl
-  sections_judged c is size number (Err (refusal.No x)) h = rw h.2 (answer.unsound logs asked c h.0 h.1 posed is size number h.3 refl, tt)
+  sections_judged c is size number (Err (refusal.No x)) h =
+      rw h.2 (answer.unsound logs asked c h.0 h.1 posed is size number h.3 refl, tt)
   sections_judged c is size number (Err refusal.OutOfMemory) h = tt

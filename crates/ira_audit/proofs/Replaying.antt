@@ -1,5 +1,6 @@
 -- A log that is replayed while it is read.
-use Rattle.std.proofs.Common.{◌≡◌, ◌≢◌, ◌↔◌, ℕ, ◌+◌, List, [], ◌∷◌, ◌++◌, length, Result, Ok, refl, ap, subst, arith, append_assoc, length-append, Option, Some, None, true, false, ◌∙◌, inl, inr}
+use Rattle.std.proofs.Common.{◌≡◌, ◌≢◌, ◌↔◌, ℕ, ◌+◌, List, [], ◌∷◌, ◌++◌, length, Result, Ok, refl, ap, subst, arith}
+use Rattle.std.proofs.Common.{append_assoc, length-append, Option, Some, None, true, false, ◌∙◌, inl, inr}
 use Rattle.std.specs.Option.{is_some}
 use Rattle.ira_event.specs.declared.event.Event.{Event}
 use Rattle.ira_event.specs.Log.{Log}
@@ -33,8 +34,10 @@ module _ (nodes : ℕ) (first : NodeState) (events : List Event) (state after : 
   leads_on (Some f) h none step = absurd cc
 
   -- it is the first without one
-  pub stops_there : (stop : Option ReplayFault) (f : ReplayFault) → LeadsOrStops nodes first events state stop → is_some stop ≡ false
-      → f.position ≡ length events + 1 → NodeStepFault nodes state e f.fault → LeadsOrStops nodes first (events ++ e ∷ []) after (Some f)
+  pub stops_there : (stop : Option ReplayFault) (f : ReplayFault) → LeadsOrStops nodes first events state stop
+      → is_some stop ≡ false
+      → f.position ≡ length events + 1 → NodeStepFault nodes state e f.fault
+      → LeadsOrStops nodes first (events ++ e ∷ []) after (Some f)
   stops_there None f h none at bad = record {
     before = events;
     event = e;
@@ -65,14 +68,17 @@ module _ (nodes : ℕ) (first : NodeState) (events : List Event) (state after : 
 -- ---- events that are kept
 
 -- the events that were read lead from the first state to this one, or stop at this fault
-pub record Keeping (version : ℕ) (text : List ℕ) (nodes : ℕ) (first : NodeState) (left : RecordsLeft) (events : List Event) (state : NodeState) (position : ℕ) (stop : Option ReplayFault) : Type 0 where
+pub record Keeping (version : ℕ) (text : List ℕ) (nodes : ℕ) (first : NodeState) (left : RecordsLeft)
+    (events : List Event) (state : NodeState) (position : ℕ) (stop : Option ReplayFault) : Type 0 where
   pub read : HasRead text events left
   pub same : left.version ≡ version
   pub at : position ≡ length events
   pub replay : LeadsOrStops nodes first events state stop
 
-pub keeping_more : (version : ℕ) (text : List ℕ) (nodes : ℕ) (first : NodeState) (old new : RecordsLeft) (events : List Event) (state after : NodeState) (position : ℕ) (e : Event) (stop next : Option ReplayFault)
-    → ReadsRecord old new e → Keeping version text nodes first old events state position stop → LeadsOrStops nodes first (events ++ e ∷ []) after next
+pub keeping_more : (version : ℕ) (text : List ℕ) (nodes : ℕ) (first : NodeState) (old new : RecordsLeft)
+    (events : List Event) (state after : NodeState) (position : ℕ) (e : Event) (stop next : Option ReplayFault)
+    → ReadsRecord old new e → Keeping version text nodes first old events state position stop
+    → LeadsOrStops nodes first (events ++ e ∷ []) after next
     → Keeping version text nodes first new (events ++ e ∷ []) after (position + 1) next
 keeping_more version text nodes first old new events state after position e stop next r h replay = record {
   read = behind_more text events old new e h.read r;
@@ -92,7 +98,8 @@ pub exactly : (text : List ℕ) (x : Answer) → single.IsAnswer text x → (a :
 exactly text x h a = (λ e. subst (single.IsAnswer text) e h, λ k. one_answer text x a h k)
 
 -- what is exact of an answer is so of the result that has it
-pub ok_exactly : (P : Answer → Type 0) (x a : Answer) → (x ≡ a) ↔ P a → ◌≡◌ {A = Result Answer OutOfMemory} (Ok x) (Ok a) ↔ P a
+pub ok_exactly : (P : Answer → Type 0) (x a : Answer) → (x ≡ a) ↔ P a
+    → ◌≡◌ {A = Result Answer OutOfMemory} (Ok x) (Ok a) ↔ P a
 ok_exactly P x a h = (λ e. h.0 (ok_same x a e), λ k. ap Ok (h.1 k))
 
 -- the answer of the text's log is the text's

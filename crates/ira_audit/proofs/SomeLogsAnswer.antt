@@ -23,13 +23,24 @@ use Rattle.ira_audit.specs.LogsAnswer.{IsFirstStop, IsLogsAnswer, no_log, no_rin
 
 -- ---- texts are those of logs, or one is the first that isn't
 
-logs_or_fault : (texts : List (List ℕ)) → ((logs : List Log) × AreLogTexts texts logs) ⊎ ((i : ℕ) × (f : LogFault) × IsFirstTextFault texts i f)
+logs_or_fault : (texts : List (List ℕ)) → ((logs : List Log) × AreLogTexts texts logs)
+    ⊎ ((i : ℕ) × (f : LogFault) × IsFirstTextFault texts i f)
 logs_or_fault [] = inl ([], tt)
 logs_or_fault (text ∷ texts) = elim (each_answered text) [
   | inr h ↦ inr (0, h.0, record { before = []; before_are = tt; text = text; at = refl; fault = h.1 })
   | inl log ↦ elim (logs_or_fault texts) [
     | inl logs ↦ inl (log.0 ∷ logs.0, (log.1, logs.1))
-    | inr h ↦ inr (suc h.0, h.1, record { before = log.0 ∷ h.2.before; before_are = (log.1, h.2.before_are); text = h.2.text; at = h.2.at; fault = h.2.fault })
+    | inr h ↦ inr (
+      suc h.0,
+      h.1,
+      record {
+        before = log.0 ∷ h.2.before;
+        before_are = (log.1, h.2.before_are);
+        text = h.2.text;
+        at = h.2.at;
+        fault = h.2.fault;
+      },
+    )
   ]
 ]
 
@@ -47,7 +58,11 @@ runs_or_stop logs = elim (each_or_first logs (λ i log. IsLocalRun log) (λ i lo
   | inl runs ↦ inl runs
   | inr o ↦ elim (run_or_stop o.1.log) [
     | inl run ↦ absurd (o.1.other run)
-    | inr stop ↦ inr (o.0, stop.0, record { before = λ i earlier lt at. o.1.least i earlier lt at; log = o.1.log; at = o.1.at; fault = stop.1 })
+    | inr stop ↦ inr (
+      o.0,
+      stop.0,
+      record { before = λ i earlier lt at. o.1.least i earlier lt at; log = o.1.log; at = o.1.at; fault = stop.1 },
+    )
   ]
 ]
 
@@ -58,13 +73,17 @@ pub some_answer : (text : List ℕ) → (a : Answer) × single.IsAnswer text a
 some_answer text = elim (each_answered text) [
   | inr h ↦ (No (reason.Log 0 h.0), single.no_log h.0 h.1 refl)
   | inl log ↦ elim (run_or_stop log.0) [
-    | inr stop ↦ (No (reason.Replay log.0.place stop.0.position stop.0.fault), single.stopped log.0 stop.0 log.1 stop.1 refl)
+    | inr stop ↦ (
+      No (reason.Replay log.0.place stop.0.position stop.0.fault),
+      single.stopped log.0 stop.0 log.1 stop.1 refl,
+    )
     | inl run ↦ (Yes, single.yes log.0 log.1 run refl)
   ]
 ]
 
 -- there is a reason against the texts, or they are those of good logs
-pub bad_or_good : (texts : List (List ℕ)) → ((r : Reason) × IsLogsAnswer texts (No r)) ⊎ ((logs : List Log) × AreGoodLogs texts logs)
+pub bad_or_good : (texts : List (List ℕ)) → ((r : Reason) × IsLogsAnswer texts (No r))
+    ⊎ ((logs : List Log) × AreGoodLogs texts logs)
 bad_or_good texts = elim (logs_or_fault texts) [
   | inr h ↦ inl (reason.Log h.0 h.1, no_log h.0 h.1 h.2 refl)
   | inl logs ↦ elim (ring_or_fault logs.0 (all_valid texts logs.0 logs.1)) [
@@ -75,7 +94,10 @@ bad_or_good texts = elim (logs_or_fault texts) [
         | inr h ↦ inl (reason.Circle, circled logs.0 logs.1 ring h refl)
         | inl order ↦ elim (runs_or_stop logs.0) [
           | inr h ↦ inl (reason.Replay h.0 h.1.position h.1.fault, stopped logs.0 h.0 h.1 logs.1 ring order h.2 refl)
-          | inl runs ↦ inr (logs.0, record { texts_are = logs.1; are_good = record { ring = ring; order = order; runs = runs } })
+          | inl runs ↦ inr (
+            logs.0,
+            record { texts_are = logs.1; are_good = record { ring = ring; order = order; runs = runs } },
+          )
         ]
       ]
     ]

@@ -6,7 +6,8 @@ use Rattle.ira_event.specs.Logs.{EachLog}
 use Rattle.ira_event.specs.LogText.{IsLogText, log_text}
 use Rattle.ira_event.specs.Upgrade.{upgraded}
 use Rattle.ira_event.proofs.LogAnswers.{one_text, one_log, log_or_fault}
-use Rattle.ira_event.proofs.Upgrades.{upgraded_is_log, upgraded_count, upgraded_at, old_at, each_upgraded, are_upgraded_logs, head_fault_upgraded}
+use Rattle.ira_event.proofs.Upgrades.{upgraded_is_log, upgraded_count, upgraded_at, old_at, each_upgraded}
+use Rattle.ira_event.proofs.Upgrades.{are_upgraded_logs, head_fault_upgraded}
 use Rattle.ira_replay.specs.declared.replay_fault.ReplayFault.{ReplayFault}
 use Rattle.ira_replay.specs.LocalRun.{IsLocalRun}
 use Rattle.ira_order.proofs.SameEvents.{HaveSameEvents, turned, match_fault, has_order, has_circle}
@@ -25,7 +26,8 @@ use Rattle.ira_audit.specs.LogsAnswer.{IsLogsAnswer, IsFirstStop}
 use Rattle.ira_audit.specs.LogsAnswer as together
 use Rattle.ira_audit.specs.GoodLogs.{AreGoodLogs}
 use Rattle.ira_audit.specs.Posed.{Posed, WhyNotPosed, bad_logs, no_question, other_ring}
-use Rattle.ira_audit.specs.AuditAnswer.{IsFirstUnsound, IsAuditAnswer, not_posed, no_certificate, other_size, other_number, unsound, yes}
+use Rattle.ira_audit.specs.AuditAnswer.{IsFirstUnsound, IsAuditAnswer, not_posed, no_certificate, other_size}
+use Rattle.ira_audit.specs.AuditAnswer.{other_number, unsound, yes}
 use Rattle.ira_audit.specs.Upgrade.{IsUpgraded, AreUpgraded}
 use Rattle.ira_audit.proofs.LogTexts.{logs_or_fault}
 use Rattle.ira_audit.proofs.OneAnswer.{one_answer, one_logs_answer}
@@ -41,11 +43,13 @@ new_text text new log u is = subst (λ l. IsLogText new (upgraded l)) (one_log t
 
 answer_of_one : (text new : List ℕ) (a : Answer) → IsUpgraded text new → single.IsAnswer text a → single.IsAnswer new a
 answer_of_one text new a u (single.no_log f h e) = absurd (log_or_fault text u.log f u.text_is h)
-answer_of_one text new a u (single.stopped log f is stop e) = single.stopped (upgraded log) f (new_text text new log u is) stop e
+answer_of_one text new a u (single.stopped log f is stop e) =
+    single.stopped (upgraded log) f (new_text text new log u is) stop e
 answer_of_one text new a u (single.yes log is run e) = single.yes (upgraded log) (new_text text new log u is) run e
 
 -- the log upgraded has a text
-pub upgraded_text : (text : List ℕ) (log : Log) → IsLogText text log → log.version ≡ 1 → (new : List ℕ) × IsUpgraded text new
+pub upgraded_text : (text : List ℕ) (log : Log) → IsLogText text log → log.version ≡ 1 → (new : List ℕ)
+    × IsUpgraded text new
 upgraded_text text log is version =
     let new = log_text (upgraded log) in (
       new,
@@ -65,7 +69,8 @@ old_logs [] (n ∷ ns) u = absurd u
 old_logs (t ∷ ts) [] u = absurd u
 old_logs (t ∷ ts) (n ∷ ns) u = (let behind = old_logs ts ns u.1 in (u.0.log ∷ behind.0, (u.0.text_is, behind.1)))
 
-new_texts : (texts news : List (List ℕ)) (logs : List Log) → AreUpgraded texts news → AreLogTexts texts logs → AreLogTexts news (map upgraded logs)
+new_texts : (texts news : List (List ℕ)) (logs : List Log) → AreUpgraded texts news → AreLogTexts texts logs
+    → AreLogTexts news (map upgraded logs)
 new_texts [] [] [] u are = tt
 new_texts [] [] (l ∷ ls) u are = absurd are
 new_texts [] (n ∷ ns) logs u are = absurd u
@@ -73,7 +78,8 @@ new_texts (t ∷ ts) [] logs u are = absurd u
 new_texts (t ∷ ts) (n ∷ ns) [] u are = absurd are
 new_texts (t ∷ ts) (n ∷ ns) (l ∷ ls) u are = (new_text t n l u.0 are.0, new_texts ts ns ls u.1 are.1)
 
-versions : (texts news : List (List ℕ)) (logs : List Log) → AreUpgraded texts news → AreLogTexts texts logs → EachLog logs (λ _ log. log.version ≡ 1)
+versions : (texts news : List (List ℕ)) (logs : List Log) → AreUpgraded texts news → AreLogTexts texts logs
+    → EachLog logs (λ _ log. log.version ≡ 1)
 versions [] [] [] u are i log at = absurd cc
 versions [] [] (l ∷ ls) u are i log at = absurd are
 versions [] (n ∷ ns) logs u are i log at = absurd u
@@ -90,7 +96,8 @@ versions (t ∷ ts) (n ∷ ns) (l ∷ ls) u are (suc i) log at = versions ts ns 
 old_events : (logs : List Log) → HaveSameEvents logs (map upgraded logs)
 old_events logs = turned (map upgraded logs) logs (same_events logs)
 
-first_stop : (logs : List Log) (place : ℕ) (f : ReplayFault) → IsFirstStop logs place f → IsFirstStop (map upgraded logs) place f
+first_stop : (logs : List Log) (place : ℕ) (f : ReplayFault) → IsFirstStop logs place f
+    → IsFirstStop (map upgraded logs) place f
 first_stop logs place f h = record {
   before = λ i earlier lt at.
       let o = old_at logs i earlier at in
@@ -100,9 +107,11 @@ first_stop logs place f h = record {
   fault = h.fault;
 }
 
-first_unsound : (logs : List Log) (cases : List (List Conjunct)) (sections : List Section) (i : ℕ) (f : SectionFault) → IsFirstUnsound logs cases sections i f → IsFirstUnsound (map upgraded logs) cases sections i f
+first_unsound : (logs : List Log) (cases : List (List Conjunct)) (sections : List Section) (i : ℕ) (f : SectionFault)
+    → IsFirstUnsound logs cases sections i f → IsFirstUnsound (map upgraded logs) cases sections i f
 first_unsound logs cases sections i f h = record {
-  before = zipped_into _ _ (λ case section is. sound_section logs case section is) (take i cases) (take i sections) h.before;
+  before = zipped_into _ _ (λ case section is. sound_section logs case section is) (take i cases) (take i sections)
+      h.before;
   case = h.case;
   case_at = h.case_at;
   section = h.section;
@@ -126,19 +135,24 @@ module _ (texts news : List (List ℕ)) (u : AreUpgraded texts news) where
       let old = old_logs texts news u in
       absurd (logs_or_fault texts old.0 number f old.1 h)
   logs_answer a (together.no_ring logs f are h e) =
-      together.no_ring (map upgraded logs) f (new_texts texts news logs u are) (head_fault_upgraded logs 1 f (versions texts news logs u are) h) e
+      together.no_ring (map upgraded logs) f (new_texts texts news logs u are)
+      (head_fault_upgraded logs 1 f (versions texts news logs u are) h) e
   logs_answer a (together.unmatched logs f are ring h e) =
-      together.unmatched (map upgraded logs) f (new_texts texts news logs u are) (are_upgraded_logs logs ring) (match_fault logs (map upgraded logs) (old_events logs) f h) e
+      together.unmatched (map upgraded logs) f (new_texts texts news logs u are) (are_upgraded_logs logs ring)
+      (match_fault logs (map upgraded logs) (old_events logs) f h) e
   logs_answer a (together.circled logs are ring h e) =
-      together.circled (map upgraded logs) (new_texts texts news logs u are) (are_upgraded_logs logs ring) (has_circle logs (map upgraded logs) (old_events logs) h) e
+      together.circled (map upgraded logs) (new_texts texts news logs u are) (are_upgraded_logs logs ring)
+      (has_circle logs (map upgraded logs) (old_events logs) h) e
   logs_answer a (together.stopped logs place f are ring order stop e) =
-      together.stopped (map upgraded logs) place f (new_texts texts news logs u are) (are_upgraded_logs logs ring) (has_order logs (map upgraded logs) (old_events logs) order) (first_stop logs place f stop) e
+      together.stopped (map upgraded logs) place f (new_texts texts news logs u are) (are_upgraded_logs logs ring)
+      (has_order logs (map upgraded logs) (old_events logs) order) (first_stop logs place f stop) e
   logs_answer a (together.yes logs good e) = together.yes (map upgraded logs) (good_logs logs good) e
 
   -- ---- with a question and a certificate
 
   module _ (question : List ℕ) where
-    posed : (logs : List Log) (asked : Asked) → Posed texts question logs asked → Posed news question (map upgraded logs) asked
+    posed : (logs : List Log) (asked : Asked) → Posed texts question logs asked
+        → Posed news question (map upgraded logs) asked
     posed logs asked p = record {
       logs_are = good_logs logs p.logs_are;
       question_is = p.question_is;
@@ -151,21 +165,27 @@ module _ (texts news : List (List ℕ)) (u : AreUpgraded texts news) where
     why_not_posed r (other_ring logs asked good is other e) =
         other_ring (map upgraded logs) asked (good_logs logs good) is (λ n. other (n ∙ upgraded_count logs)) e
 
-    audit_answer : (certificate : List ℕ) (a : Answer) → IsAuditAnswer texts question certificate a → IsAuditAnswer news question certificate a
+    audit_answer : (certificate : List ℕ) (a : Answer) → IsAuditAnswer texts question certificate a
+        → IsAuditAnswer news question certificate a
     audit_answer certificate a (not_posed r h e) = not_posed r (why_not_posed r h) e
-    audit_answer certificate a (no_certificate logs asked f p h e) = no_certificate (map upgraded logs) asked f (posed logs asked p) h e
+    audit_answer certificate a (no_certificate logs asked f p h e) =
+        no_certificate (map upgraded logs) asked f (posed logs asked p) h e
     audit_answer certificate a (other_size logs asked c p is other e) =
         other_size (map upgraded logs) asked c (posed logs asked p) is (λ n. other (n ∙ upgraded_count logs)) e
     audit_answer certificate a (other_number logs asked c p is size other e) =
         other_number (map upgraded logs) asked c (posed logs asked p) is (size ∙ sym (upgraded_count logs)) other e
     audit_answer certificate a (unsound logs asked c i f p is size number h e) =
-        unsound (map upgraded logs) asked c i f (posed logs asked p) is (size ∙ sym (upgraded_count logs)) number (first_unsound logs asked.cases c.sections i f h) e
+        unsound (map upgraded logs) asked c i f (posed logs asked p) is (size
+        ∙ sym (upgraded_count logs)) number (first_unsound logs asked.cases c.sections i f h) e
     audit_answer certificate a (yes logs asked c p is size sound e) =
-        yes (map upgraded logs) asked c (posed logs asked p) is (size ∙ sym (upgraded_count logs)) (zipped_into _ _ (λ case section s. sound_section logs case section s) asked.cases c.sections sound) e
+        yes (map upgraded logs) asked c (posed logs asked p) is (size
+        ∙ sym (upgraded_count logs))
+        (zipped_into _ _ (λ case section s. sound_section logs case section s) asked.cases c.sections sound) e
 
 -- ---- and back: the new texts have one answer, that of the old ones
 
-pub same_answer_of_one : (text new : List ℕ) (a : Answer) → IsUpgraded text new → single.IsAnswer new a ↔ single.IsAnswer text a
+pub same_answer_of_one : (text new : List ℕ) (a : Answer) → IsUpgraded text new
+    → single.IsAnswer new a ↔ single.IsAnswer text a
 same_answer_of_one text new a u = (
   λ h.
       let old = some_answer text in
@@ -173,7 +193,8 @@ same_answer_of_one text new a u = (
   answer_of_one text new a u,
 )
 
-pub same_logs_answer : (texts news : List (List ℕ)) (a : Answer) → AreUpgraded texts news → IsLogsAnswer news a ↔ IsLogsAnswer texts a
+pub same_logs_answer : (texts news : List (List ℕ)) (a : Answer) → AreUpgraded texts news
+    → IsLogsAnswer news a ↔ IsLogsAnswer texts a
 same_logs_answer texts news a u = (
   λ h.
       let old = some_logs_answer texts in
@@ -181,10 +202,13 @@ same_logs_answer texts news a u = (
   logs_answer texts news u a,
 )
 
-pub same_audit_answer : (texts news : List (List ℕ)) (question certificate : List ℕ) (a : Answer) → AreUpgraded texts news → IsAuditAnswer news question certificate a ↔ IsAuditAnswer texts question certificate a
+pub same_audit_answer : (texts news : List (List ℕ)) (question certificate : List ℕ) (a : Answer)
+    → AreUpgraded texts news → IsAuditAnswer news question certificate a ↔ IsAuditAnswer texts question certificate a
 same_audit_answer texts news question certificate a u = (
   λ h.
       let old = some_audit_answer texts question certificate in
-      subst (λ b. IsAuditAnswer texts question certificate b) (one_audit_answer news question certificate old.0 a (audit_answer texts news u question certificate old.0 old.1) h) old.1,
+      subst (λ b. IsAuditAnswer texts question certificate b)
+      (one_audit_answer news question certificate old.0 a
+      (audit_answer texts news u question certificate old.0 old.1) h) old.1,
   audit_answer texts news u question certificate a,
 )

@@ -1,5 +1,6 @@
 -- Findings that are written down case by case.
-use Rattle.std.proofs.Common.{◌≡◌, ◌↔◌, ◌<◌, ℕ, ◌+◌, ◌^◌, Vec, Bool, true, false, List, [], ◌∷◌, ◌++◌, Option, Some, None, MatchOption, length, map, refl, sym, ap, ◌∙◌, subst, inl, inr, arith, append_assoc}
+use Rattle.std.proofs.Common.{◌≡◌, ◌↔◌, ◌<◌, ℕ, ◌+◌, ◌^◌, Vec, Bool, true, false, List, [], ◌∷◌, ◌++◌, Option, Some}
+use Rattle.std.proofs.Common.{None, MatchOption, length, map, refl, sym, ap, ◌∙◌, subst, inl, inr, arith, append_assoc}
 use denote.RawPtr.{null_ptr}
 use Rattle.std.specs.List.{AllZip, enumerate_from, flat_map}
 use Rattle.std.specs.Option.{option_map}
@@ -22,7 +23,8 @@ use Rattle.ira_elim.specs.declared.found.Found.{Found}
 use Rattle.ira_elim.specs.declared.found.Found.TheVariants.{Absent, Present}
 use Rattle.ira_audit.specs.Findings.{HasPresent}
 use Rattle.ira_audit.specs.FindingsText.{absent_words, case_line, found_words}
-use Rattle.ira_audit.specs.WrittenFindings.{AreDrafted, AreOfCases, AreWritten, AreWrittenFindings, IsAdded, IsCertifying, IsCounted, Written}
+use Rattle.ira_audit.specs.WrittenFindings.{AreDrafted, AreOfCases, AreWritten, AreWrittenFindings, IsAdded}
+use Rattle.ira_audit.specs.WrittenFindings.{IsCertifying, IsCounted, Written}
 use Rattle.ira_audit.specs.Posed.{WhyNotPosed}
 use Rattle.ira_audit.specs.declared.reason.Reason.{Reason}
 use Rattle.ira_audit.specs.declared.findings.Findings.{Findings}
@@ -31,49 +33,63 @@ use Rattle.ira_audit.specs.declared.findings_draft.FindingsDraft.{FindingsDraft}
 
 -- ---- what a line says
 
-pub absent_counted : {A : Type 0} (found : Found A) (steps spent : ℕ) → IsCounted found (decided.Absent steps spent) → absent_words steps spent ≡ found_words found
-absent_counted (Absent section) steps spent is = ap (λ (n : ℕ). absent_words n spent) is.0 ∙ ap (λ (n : ℕ). absent_words (length section.steps) n) is.1
+pub absent_counted : {A : Type 0} (found : Found A) (steps spent : ℕ) → IsCounted found (decided.Absent steps spent)
+    → absent_words steps spent ≡ found_words found
+absent_counted (Absent section) steps spent is =
+    ap (λ (n : ℕ). absent_words n spent) is.0 ∙ ap (λ (n : ℕ). absent_words (length section.steps) n) is.1
 absent_counted (Present cut) steps spent is = absurd is
 
-pub present_counted : {A : Type 0} (found : Found A) (cut : List ℕ) → IsCounted found (decided.Present cut) → found_words {A = A} (Present cut) ≡ found_words found
+pub present_counted : {A : Type 0} (found : Found A) (cut : List ℕ) → IsCounted found (decided.Present cut)
+    → found_words {A = A} (Present cut) ≡ found_words found
 present_counted (Absent section) cut is = absurd is
 present_counted {A} (Present cut') cut is = ap (λ (xs : List ℕ). found_words {A = A} (Present xs)) is
 
-line_behind : {A : Type 0} (k : ℕ) (found : List (Found A)) (next : Found A) → flat_map case_line (enumerate_from k (found ++ next ∷ [])) ≡ flat_map case_line (enumerate_from k found) ++ case_line (k + length found, next)
+line_behind : {A : Type 0} (k : ℕ) (found : List (Found A)) (next : Found A)
+    → flat_map case_line (enumerate_from k (found ++ next ∷ [])) ≡ flat_map case_line (enumerate_from k found)
+    ++ case_line (k + length found, next)
 line_behind k [] next = append-nil (case_line (k, next)) ∙ ap (λ (n : ℕ). case_line (n, next)) (omega arith)
 line_behind k (f ∷ found) next =
     let number : k + 1 + length found ≡ k + length (f ∷ found) = omega arith in
-    ap (λ (t : List ℕ). case_line (k, f) ++ t) (line_behind (k + 1) found next ∙ ap (λ (n : ℕ). flat_map case_line (enumerate_from (k + 1) found) ++ case_line (n, next)) number)
-    ∙ sym (append_assoc (case_line (k, f)) (flat_map case_line (enumerate_from (k + 1) found)) (case_line (k + length (f ∷ found), next)))
+    ap (λ (t : List ℕ). case_line (k, f) ++ t) (line_behind (k + 1) found next
+    ∙ ap (λ (n : ℕ). flat_map case_line (enumerate_from (k + 1) found) ++ case_line (n, next)) number)
+    ∙ sym (append_assoc (case_line (k, f)) (flat_map case_line (enumerate_from (k + 1) found))
+    (case_line (k + length (f ∷ found), next)))
 
 -- one line more
-pub lines_more : {A : Type 0} (found : List (Found A)) (next : Found A) (number : ℕ) (old new : List ℕ) → length found ≡ number → old ≡ flat_map case_line (enumerate_from 0 found)
+pub lines_more : {A : Type 0} (found : List (Found A)) (next : Found A) (number : ℕ) (old new : List ℕ)
+    → length found ≡ number → old ≡ flat_map case_line (enumerate_from 0 found)
     → new ≡ old ++ case_line (number, next) → new ≡ flat_map case_line (enumerate_from 0 (found ++ next ∷ []))
 lines_more found next number old new is so_far e =
     let first : number ≡ 0 + length found = omega (arith, is) in
     e ∙ ap (λ (t : List ℕ). t ++ case_line (number, next)) so_far
-    ∙ ap (λ (n : ℕ). flat_map case_line (enumerate_from 0 found) ++ case_line (n, next)) first ∙ sym (line_behind 0 found next)
+    ∙ ap (λ (n : ℕ). flat_map case_line (enumerate_from 0 found) ++ case_line (n, next)) first
+    ∙ sym (line_behind 0 found next)
 
 -- ---- a certificate that is put together
 
-absent_behind : {A : Type 0} (found : List (Found A)) (s : Section) → HasPresent (found ++ Absent s ∷ []) → HasPresent found
+absent_behind : {A : Type 0} (found : List (Found A)) (s : Section) → HasPresent (found ++ Absent s ∷ [])
+    → HasPresent found
 absent_behind found s has = elim (Contains-push_cases found (Absent s) (Present has.0) has.1) [
   | inl there ↦ (has.0, there)
   | inr here ↦ absurd (let never : Absent s ≡ Present has.0 = here in cc)
 ]
 
-map_push : {A : Type 0} (sections : List Section) (s : Section) → ◌≡◌ {A = List (Found A)} (map Absent sections ++ Absent s ∷ []) (map Absent (sections ++ s ∷ []))
+map_push : {A : Type 0} (sections : List Section) (s : Section)
+    → ◌≡◌ {A = List (Found A)} (map Absent sections ++ Absent s ∷ []) (map Absent (sections ++ s ∷ []))
 map_push [] s = refl
 map_push {A} (x ∷ xs) s = ap (λ (fs : List (Found A)). Absent x ∷ fs) (map_push xs s)
 
 module _ {A Z : Type 0} (nodes : ℕ) (certify : Bool) where
-  pub none_yet : (certificate : Option (CertDraft Z)) → (IsTrue certify → (draft : CertDraft Z) × (certificate ≡ Some draft) × IsDraft nodes draft []) → IsCertifying {A = A} nodes certify [] true certificate
+  pub none_yet : (certificate : Option (CertDraft Z))
+      → (IsTrue certify → (draft : CertDraft Z) × (certificate ≡ Some draft) × IsDraft nodes draft [])
+      → IsCertifying {A = A} nodes certify [] true certificate
   none_yet certificate begins = record {
     absent = (λ never. absurd cc, λ has. absurd (let l = has.1.1 in omega (arith, l)));
     sections_are = λ yes all. (let d = begins yes in (d.0, [], d.1, d.2, refl));
   }
 
-  module _ (found : List (Found A)) (are_absent : Bool) (certificate : Option (CertDraft Z)) (so_far : IsCertifying nodes certify found are_absent certificate) where
+  module _ (found : List (Found A)) (are_absent : Bool) (certificate : Option (CertDraft Z))
+      (so_far : IsCertifying nodes certify found are_absent certificate) where
     -- a case that is absent
     pub absent_more : (s : Section) (new : Option (CertDraft Z))
         → ((draft : CertDraft Z) (sections : List Section) → certificate ≡ Some draft → IsDraft nodes draft sections
@@ -81,17 +97,24 @@ module _ {A Z : Type 0} (nodes : ℕ) (certify : Bool) where
         → IsCertifying nodes certify (found ++ Absent s ∷ []) are_absent new
     absent_more s new goes_on = record {
       absent = (
-        λ some. (let has = so_far.absent.0 some in (has.0, Contains-append_left found (Absent s ∷ []) (Present has.0) has.1)),
+        λ some. (let has = so_far.absent.0 some in
+            (has.0, Contains-append_left found (Absent s ∷ []) (Present has.0) has.1)),
         λ has. so_far.absent.1 (absent_behind found s has),
       );
       sections_are = λ yes all.
           let old = so_far.sections_are yes all in
-          let more = goes_on old.0 old.1 old.2 old.3 in
-          (more.0, old.1 ++ s ∷ [], more.1, more.2, ap (λ (fs : List (Found A)). fs ++ Absent s ∷ []) old.4 ∙ map_push old.1 s);
+          let more = goes_on old.0 old.1 old.2 old.3 in (
+            more.0,
+            old.1 ++ s ∷ [],
+            more.1,
+            more.2,
+            ap (λ (fs : List (Found A)). fs ++ Absent s ∷ []) old.4 ∙ map_push old.1 s,
+          );
     }
 
     -- a case that is present
-    pub present_more : (cut : List ℕ) (new : Option (CertDraft Z)) → IsCertifying nodes certify (found ++ Present cut ∷ []) false new
+    pub present_more : (cut : List ℕ) (new : Option (CertDraft Z))
+        → IsCertifying nodes certify (found ++ Present cut ∷ []) false new
     present_more cut new = record {
       absent = (λ _. (cut, Contains-push found (Present cut)), λ _. refl);
       sections_are = λ yes all. absurd (let never : false ≡ true = all in cc);
@@ -99,17 +122,20 @@ module _ {A Z : Type 0} (nodes : ℕ) (certify : Bool) where
 
 -- ---- a case that was decided
 
-module _ {A Z : Type 0} (logs : List Log) (case : List Conjunct) (nodes : ℕ) (certify : Bool) (found : List (Found A)) (are_absent : Bool) (old : Option (CertDraft Z))
+module _ {A Z : Type 0} (logs : List Log) (case : List Conjunct) (nodes : ℕ) (certify : Bool) (found : List (Found A))
+    (are_absent : Bool) (old : Option (CertDraft Z))
     (so_far : IsCertifying nodes certify found are_absent old) where
   -- absent, and there is no certificate
-  pub added_uncertified : (new : Option (CertDraft Z)) (steps spent : ℕ) → old ≡ None → IsDecided {A = A} (λ n taken. n ≡ length taken) logs case (decided.Absent steps spent)
+  pub added_uncertified : (new : Option (CertDraft Z)) (steps spent : ℕ) → old ≡ None
+      → IsDecided {A = A} (λ n taken. n ≡ length taken) logs case (decided.Absent steps spent)
       → IsAdded logs case nodes certify found (decided.Absent steps spent) are_absent new
   added_uncertified new steps spent none is =
       let section : Section = record { steps = is.0; spent = spent } in (
         Absent section,
         is.2,
         (is.1, refl),
-        absent_more nodes certify found are_absent old so_far section new (λ draft sections there drafted. absurd (let never : None ≡ Some draft = sym none ∙ there in cc)),
+        absent_more nodes certify found are_absent old so_far section new (λ draft sections there drafted.
+            absurd (let never : None ≡ Some draft = sym none ∙ there in cc)),
       )
 
   -- absent, and its section goes into the certificate
@@ -126,18 +152,30 @@ module _ {A Z : Type 0} (logs : List Log) (case : List Conjunct) (nodes : ℕ) (
         (draft, now, adds nodes sections (subst (λ (x : CertDraft Z). IsDraft nodes x sections) (sym same) drafted)))),
   )
 
-  pub added_present : (new : Option (CertDraft Z)) (cut : List ℕ) → IsLeastCut logs case cut → IsAdded logs case nodes certify found (decided.Present cut) false new
-  added_present new cut least = (Present cut, least, refl, present_more nodes certify found are_absent old so_far cut new)
+  pub added_present : (new : Option (CertDraft Z)) (cut : List ℕ) → IsLeastCut logs case cut
+      → IsAdded logs case nodes certify found (decided.Present cut) false new
+  added_present new cut least =
+      (Present cut, least, refl, present_more nodes certify found are_absent old so_far cut new)
 
 -- ---- what is written at the end
 
-pub written_of : {A Z : Type 0} (certify : Bool) (nodes : ℕ) (found : List (Found A)) (findings : Findings A) (draft : FindingsDraft Z) (text : Option (List ℕ)) → AreDrafted nodes certify found draft → AreOfCases nodes found findings
-    → ((d : CertDraft Z) (c : Certificate) → draft.certificate ≡ Some d → IsDraft c.nodes d c.sections → MatchOption text (¬ (IsCertText (cert_text c) c)) (λ t. (t ≡ cert_text c) × IsCertText (cert_text c) c))
-    → AreWritten certify findings (record { lines = draft.lines.bytes; are_absent = draft.are_absent; certificate = text })
+pub written_of : {A Z : Type 0} (certify : Bool) (nodes : ℕ) (found : List (Found A)) (findings : Findings A)
+    (draft : FindingsDraft Z) (text : Option (List ℕ)) → AreDrafted nodes certify found draft
+    → AreOfCases nodes found findings
+    → ((d : CertDraft Z) (c : Certificate) → draft.certificate ≡ Some d → IsDraft c.nodes d c.sections
+    → MatchOption text (¬ (IsCertText (cert_text c) c)) (λ t. (t ≡ cert_text c) × IsCertText (cert_text c) c))
+    → AreWritten certify findings (record {
+      lines = draft.lines.bytes;
+      are_absent = draft.are_absent;
+      certificate = text;
+    })
 written_of certify nodes found (Refused r) draft text h of whole = absurd of
 written_of {A} certify nodes found (Cases n list) draft text h of whole = record {
   lines = h.lines_are ∙ ap (λ (fs : List (Found A)). flat_map case_line (enumerate_from 0 fs)) (sym of.1);
-  absent = (λ some. subst HasPresent (sym of.1) (h.certifying.absent.0 some), λ has. h.certifying.absent.1 (subst HasPresent of.1 has));
+  absent = (
+    λ some. subst HasPresent (sym of.1) (h.certifying.absent.0 some),
+    λ has. h.certifying.absent.1 (subst HasPresent of.1 has),
+  );
   certificate = λ yes all.
       let made = h.certifying.sections_are yes all in
       let c : Certificate = record { nodes = nodes; sections = made.1 } in
@@ -146,14 +184,27 @@ written_of {A} certify nodes found (Cases n list) draft text h of whole = record
 
 -- a list of what is found, in memory
 pub list_of : {X Z : Type 0} → Z → (xs : List X) → length xs < 2 ^ 63 → (list : Vec X Z) × (list.items ≡ xs)
-list_of alloc xs few = (record { ptr = null_ptr; len = length xs; cap = length xs; alloc = alloc; items = xs; ok = (refl, omega arith); small = few }, refl)
+list_of alloc xs few = (
+  record {
+    ptr = null_ptr;
+    len = length xs;
+    cap = length xs;
+    alloc = alloc;
+    items = xs;
+    ok = (refl, omega arith);
+    small = few;
+  },
+  refl,
+)
 
-pub match_map : {X Y : Type 0} (f : X → Y) (r : Option X) (P : Type 0) (Q : Y → Type 0) → MatchOption r P (λ x. Q (f x)) → MatchOption (option_map f r) P Q
+pub match_map : {X Y : Type 0} (f : X → Y) (r : Option X) (P : Type 0) (Q : Y → Type 0) → MatchOption r P (λ x. Q (f x))
+    → MatchOption (option_map f r) P Q
 match_map f None P Q h = h
 match_map f (Some x) P Q h = h
 
 -- the line of a reason
-pub refused_written : (A : Type 0) (texts : List (List ℕ)) (question : List ℕ) (certify : Bool) (reason : Reason) (r : Result Written OutOfMemory) → WhyNotPosed texts question reason
+pub refused_written : (A : Type 0) (texts : List (List ℕ)) (question : List ℕ) (certify : Bool) (reason : Reason)
+    (r : Result Written OutOfMemory) → WhyNotPosed texts question reason
     → IfOk r (AreWritten {A = A} certify (Refused reason)) → IfOk r (AreWrittenFindings A texts question certify)
 refused_written A texts question certify reason (Ok w) why h = (Refused reason, why, h)
 refused_written A texts question certify reason (Err e) why h = tt

@@ -5,7 +5,8 @@ use Rattle.std.specs.List.{AllZip}
 use Rattle.std.proofs.lemmas.Option.{same_Some}
 
 -- what ties two lists ties their members
-pub zipped_at : {X Y : Type 0} (R : X → Y → Type 0) (xs : List X) (ys : List Y) (i : ℕ) (x : X) (y : Y) → AllZip R xs ys → slice_get xs i ≡ Some x → slice_get ys i ≡ Some y → R x y
+pub zipped_at : {X Y : Type 0} (R : X → Y → Type 0) (xs : List X) (ys : List Y) (i : ℕ) (x : X) (y : Y) → AllZip R xs ys
+    → slice_get xs i ≡ Some x → slice_get ys i ≡ Some y → R x y
 zipped_at R [] [] i x y h a b = absurd cc
 zipped_at R [] (v ∷ ys) i x y h a b = absurd h
 zipped_at R (u ∷ xs) [] i x y h a b = absurd h
@@ -13,7 +14,8 @@ zipped_at R (u ∷ xs) (v ∷ ys) zero x y h a b = rw (← same_Some u x a, ← 
 zipped_at R (u ∷ xs) (v ∷ ys) (suc i) x y h a b = zipped_at R xs ys i x y h.1 a b
 
 -- a member has one that it is tied to
-pub partner_at : {X Y : Type 0} (xs : List X) (ys : List Y) (i : ℕ) (x : X) (R : X → Y → Type 0) → AllZip R xs ys → slice_get xs i ≡ Some x → (y : Y) × (slice_get ys i ≡ Some y)
+pub partner_at : {X Y : Type 0} (xs : List X) (ys : List Y) (i : ℕ) (x : X) (R : X → Y → Type 0) → AllZip R xs ys
+    → slice_get xs i ≡ Some x → (y : Y) × (slice_get ys i ≡ Some y)
 partner_at [] [] i x R h a = absurd cc
 partner_at [] (v ∷ ys) i x R h a = absurd h
 partner_at (u ∷ xs) [] i x R h a = absurd h
@@ -21,21 +23,24 @@ partner_at (u ∷ xs) (v ∷ ys) zero x R h a = (v, refl)
 partner_at (u ∷ xs) (v ∷ ys) (suc i) x R h a = partner_at xs ys i x R h.1 a
 
 -- one member more of each
-pub zipped_more : {X Y : Type 0} (R : X → Y → Type 0) (xs : List X) (ys : List Y) (x : X) (y : Y) → AllZip R xs ys → R x y → AllZip R (xs ++ x ∷ []) (ys ++ y ∷ [])
+pub zipped_more : {X Y : Type 0} (R : X → Y → Type 0) (xs : List X) (ys : List Y) (x : X) (y : Y) → AllZip R xs ys
+    → R x y → AllZip R (xs ++ x ∷ []) (ys ++ y ∷ [])
 zipped_more R [] [] x y h r = (r, tt)
 zipped_more R [] (v ∷ ys) x y h r = absurd h
 zipped_more R (u ∷ xs) [] x y h r = absurd h
 zipped_more R (u ∷ xs) (v ∷ ys) x y h r = (h.0, zipped_more R xs ys x y h.1 r)
 
 -- there are as many members of each
-pub zipped_length : {X Y : Type 0} (R : X → Y → Type 0) (xs : List X) (ys : List Y) → AllZip R xs ys → length ys ≡ length xs
+pub zipped_length : {X Y : Type 0} (R : X → Y → Type 0) (xs : List X) (ys : List Y) → AllZip R xs ys
+    → length ys ≡ length xs
 zipped_length R [] [] h = refl
 zipped_length R [] (y ∷ ys) h = absurd h
 zipped_length R (x ∷ xs) [] h = absurd h
 zipped_length R (x ∷ xs) (y ∷ ys) h = ap suc (zipped_length R xs ys h.1)
 
 -- what ties two lists ties them in another way, where each tie gives the other
-pub zipped_into : {X Y : Type 0} (R S : X → Y → Type 0) → ((x : X) (y : Y) → R x y → S x y) → (xs : List X) (ys : List Y) → AllZip R xs ys → AllZip S xs ys
+pub zipped_into : {X Y : Type 0} (R S : X → Y → Type 0) → ((x : X) (y : Y) → R x y → S x y)
+    → (xs : List X) (ys : List Y) → AllZip R xs ys → AllZip S xs ys
 zipped_into R S into [] [] h = tt
 zipped_into R S into [] (y ∷ ys) h = absurd h
 zipped_into R S into (x ∷ xs) [] h = absurd h

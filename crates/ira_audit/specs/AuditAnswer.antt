@@ -23,7 +23,8 @@ abbrev pub AreSound : List Log → List (List Conjunct) → List Section → Typ
 AreSound logs cases sections = AllZip (IsSoundSection logs) cases sections
 
 -- section i, counted from 0, is the first that isn't sound for its case, and this is its fault
-pub record IsFirstUnsound (logs : List Log) (cases : List (List Conjunct)) (sections : List Section) (i : ℕ) (f : SectionFault) : Type 0 where
+pub record IsFirstUnsound (logs : List Log) (cases : List (List Conjunct)) (sections : List Section) (i : ℕ)
+    (f : SectionFault) : Type 0 where
   pub before : AreSound logs (take i cases) (take i sections)
   pub case : List Conjunct
   pub case_at : slice_get cases i ≡ Some case
@@ -34,7 +35,8 @@ pub record IsFirstUnsound (logs : List Log) (cases : List (List Conjunct)) (sect
 -- the answer of the texts
 pub data IsAuditAnswer (texts : List (List ℕ)) (question certificate : List ℕ) (answer : Answer) : Type 0 where
   -- the question isn't posed
-  not_posed : (r : Reason) → WhyNotPosed texts question r → answer ≡ No r → IsAuditAnswer texts question certificate answer
+  not_posed : (r : Reason) → WhyNotPosed texts question r → answer ≡ No r
+      → IsAuditAnswer texts question certificate answer
   -- the question is posed, but the certificate's text is none
   no_certificate :
       (logs : List Log) (asked : Asked) (f : CertFault) → Posed texts question logs asked → CertTextFault certificate f
@@ -47,7 +49,8 @@ pub data IsAuditAnswer (texts : List (List ℕ)) (question certificate : List �
   other_number :
       (logs : List Log) (asked : Asked) (c : Certificate) → Posed texts question logs asked → IsCertText certificate c
       → c.nodes ≡ length logs → length c.sections ≢ length asked.cases
-      → answer ≡ No (reason.Sections (length asked.cases) (length c.sections)) → IsAuditAnswer texts question certificate answer
+      → answer ≡ No (reason.Sections (length asked.cases) (length c.sections))
+      → IsAuditAnswer texts question certificate answer
   -- it has as many, and one of them isn't sound
   unsound :
       (logs : List Log) (asked : Asked) (c : Certificate) (i : ℕ) (f : SectionFault) → Posed texts question logs asked

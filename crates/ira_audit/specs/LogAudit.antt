@@ -12,7 +12,14 @@ use Rattle.ira_audit.specs.declared.replay_so_far.ReplaySoFar.{ReplaySoFar}
 
 -- a log with this head and these events
 abbrev pub log_of_records : LogHead → List Event → Log
-log_of_records head events = record { version = head.version; nodes = head.nodes; place = head.place; initiator = head.initiator; events = events }
+log_of_records head events =
+    record {
+      version = head.version;
+      nodes = head.nodes;
+      place = head.place;
+      initiator = head.initiator;
+      events = events;
+    }
 
 -- these events lead to the state that is told, or the first of them without a step is told
 abbrev pub CameTo : ReplaySoFar → List Event → Type 0
@@ -48,4 +55,5 @@ HasTakenBytes audit text = (audit.taken ≡ length text) × AreWholeLines audit.
 -- no more of a log can be taken: this begins with no head, or with no record within the limits
 abbrev pub HasNoMore : Option ReplaySoFar → List ℕ → Type 0
 HasNoMore None rest = BeginsWithNoHead rest
-HasNoMore (Some r) rest = (end : Result ⊤ LogFault) × IsEndOrFault (record { version = r.head.version; rest = rest; count = r.count }) end
+HasNoMore (Some r) rest = (end : Result ⊤ LogFault)
+    × IsEndOrFault (record { version = r.head.version; rest = rest; count = r.count }) end

@@ -22,10 +22,12 @@ use Rattle.ira_audit.specs.LogsAnswer.{IsLogsAnswer}
 
 -- no consistent cut of the logs meets any of the cases
 abbrev pub NoCutMeetsAny : List Log → List (List Conjunct) → Type 0
-NoCutMeetsAny logs cases = (case : List Conjunct) (cut : List ℕ) → Contains cases case → IsConsistentCut logs cut → ¬ (Meets logs case cut)
+NoCutMeetsAny logs cases = (case : List Conjunct) (cut : List ℕ) → Contains cases case → IsConsistentCut logs cut
+    → ¬ (Meets logs case cut)
 
 -- the texts are those of a ring's logs, which have an order, and each order of them is a run of the ring; the question
--- asks some cases of that ring; the certificate is for that ring and has a sound section for each case; and no consistent
+-- asks some cases of that ring; the certificate is for that ring and has a sound section for each case; and no
+-- consistent
 -- cut of the logs meets any of the cases
 pub record NoCaseIsMet (texts : List (List ℕ)) (question certificate : List ℕ) : Type 0 where
   pub logs : List Log

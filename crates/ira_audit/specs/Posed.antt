@@ -28,5 +28,6 @@ pub data WhyNotPosed (texts : List (List ℕ)) (question : List ℕ) (r : Reason
       → r ≡ reason.Question f → WhyNotPosed texts question r
   -- the question is asked of another ring
   other_ring :
-      (logs : List Log) (asked : Asked) → AreGoodLogs texts logs → IsQuestionText question asked → asked.nodes ≢ length logs
+      (logs : List Log) (asked : Asked) → AreGoodLogs texts logs → IsQuestionText question asked
+      → asked.nodes ≢ length logs
       → r ≡ reason.QuestionSize → WhyNotPosed texts question r

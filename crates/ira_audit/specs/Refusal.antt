@@ -14,7 +14,8 @@ use Rattle.ira_cert_text.specs.Certificate as certificate
 use Rattle.ira_cert_text.specs.CertText.{IsCertText}
 use Rattle.ira_cert_text.specs.CertTextFault.{CertTextFault}
 use Rattle.ira_audit.specs.declared.reason.Reason.{Reason}
-use Rattle.ira_audit.specs.declared.reason.Reason.TheVariants.{Log, Heads, Match, Circle, Question, QuestionSize, Certificate, CertificateSize, Sections}
+use Rattle.ira_audit.specs.declared.reason.Reason.TheVariants.{Log, Heads, Match, Circle, Question, QuestionSize}
+use Rattle.ira_audit.specs.declared.reason.Reason.TheVariants.{Certificate, CertificateSize, Sections}
 use Rattle.ira_audit.specs.declared.refusal.Refusal.{Refusal}
 use Rattle.ira_audit.specs.declared.refusal.Refusal.TheVariants.{No, OutOfMemory}
 use Rattle.ira_audit.specs.declared.answer.Answer.{Answer}
@@ -37,7 +38,8 @@ RefusesQuestion f r = ((f ≡ ask.OutOfMemory) × (r ≡ OutOfMemory)) ⊎ ((f �
 
 -- the refusal of a text that is no certificate's
 abbrev pub RefusesCertificate : CertFault → Refusal → Type 0
-RefusesCertificate f r = ((f ≡ cert.OutOfMemory) × (r ≡ OutOfMemory)) ⊎ ((f ≢ cert.OutOfMemory) × (r ≡ No (Certificate f)))
+RefusesCertificate f r = ((f ≡ cert.OutOfMemory) × (r ≡ OutOfMemory))
+    ⊎ ((f ≢ cert.OutOfMemory) × (r ≡ No (Certificate f)))
 
 -- the answer of texts that were judged
 abbrev pub answered : {T : Type 0} → Result T Refusal → Result Answer memory.OutOfMemory
@@ -91,8 +93,10 @@ IsQuestionRefusal text nodes r =
 
 -- why the text isn't that of a certificate for a ring of so many nodes and so many cases
 pub data IsCertificateRefusal (text : List ℕ) (nodes cases : ℕ) (r : Reason) : Type 0 where
-  no_certificate : (f : CertFault) → CertTextFault text f → f ≢ cert.OutOfMemory → r ≡ Certificate f → IsCertificateRefusal text nodes cases r
-  other_size : (c : certificate.Certificate) → IsCertText text c → c.nodes ≢ nodes → r ≡ CertificateSize → IsCertificateRefusal text nodes cases r
+  no_certificate : (f : CertFault) → CertTextFault text f → f ≢ cert.OutOfMemory → r ≡ Certificate f
+      → IsCertificateRefusal text nodes cases r
+  other_size : (c : certificate.Certificate) → IsCertText text c → c.nodes ≢ nodes → r ≡ CertificateSize
+      → IsCertificateRefusal text nodes cases r
   other_number :
       (c : certificate.Certificate) → IsCertText text c → c.nodes ≡ nodes → length c.sections ≢ cases
       → r ≡ Sections cases (length c.sections) → IsCertificateRefusal text nodes cases r

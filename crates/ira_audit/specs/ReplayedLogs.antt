@@ -14,12 +14,14 @@ use Rattle.ira_audit.specs.LogsAnswer.{IsFirstStop}
 
 -- the log is a local run, or this is the reason of its first event without a step
 abbrev pub IsReplayed : Log → Result (Unit {0}) Reason → Type 0
-IsReplayed log steps = MatchResult steps (λ _. IsLocalRun log) (λ r. (f : ReplayFault) × (r ≡ Replay log.place f.position f.fault) × IsFirstFault log f)
+IsReplayed log steps = MatchResult steps (λ _. IsLocalRun log) (λ r. (f : ReplayFault)
+    × (r ≡ Replay log.place f.position f.fault) × IsFirstFault log f)
 
 -- the logs are local runs, or this is the reason of the first that is none
 abbrev pub AreReplayed : List Log → Result (Unit {0}) Reason → Type 0
 AreReplayed logs steps =
-    MatchResult steps (λ _. AreLocalRuns logs) (λ r. (place : ℕ) × (f : ReplayFault) × (stop : IsFirstStop logs place f) × (r ≡ Replay stop.log.place f.position f.fault))
+    MatchResult steps (λ _. AreLocalRuns logs) (λ r. (place : ℕ) × (f : ReplayFault) × (stop : IsFirstStop logs place f)
+    × (r ≡ Replay stop.log.place f.position f.fault))
 
 -- why the logs have no order; that memory ran out says nothing of them
 abbrev pub WhyNoOrder : List Log → OrderFault → Type 0

@@ -1,9 +1,12 @@
 -- The line that is written of an answer.
 use Rattle.std.specs.Prelude.{◌≢◌, ℕ, List, [], ◌++◌, codes, decimal, ⊤}
 use Rattle.ira_event.specs.declared.log_fault.LogFault.{LogFault}
-use Rattle.ira_event.specs.declared.log_fault.LogFault.TheVariants.{TooLong, Head, Line, Range, TooMany, Cut, Count, Trailing, OutOfMemory}
+use Rattle.ira_event.specs.declared.log_fault.LogFault.TheVariants.{TooLong, Head, Line, Range, TooMany, Cut, Count}
+use Rattle.ira_event.specs.declared.log_fault.LogFault.TheVariants.{Trailing, OutOfMemory}
 use Rattle.ira_node.specs.declared.step_fault.StepFault.{StepFault}
-use Rattle.ira_node.specs.declared.step_fault.StepFault.TheVariants.{Owes, NotOwed, NotChoosing, DrawRange, MustDraw, Ended, HopPast, RoundLimit, HopLimit, NotLeader, WrongReset, NotReset, TermLimit}
+use Rattle.ira_node.specs.declared.step_fault.StepFault.TheVariants.{Owes, NotOwed, NotChoosing, DrawRange, MustDraw}
+use Rattle.ira_node.specs.declared.step_fault.StepFault.TheVariants.{Ended, HopPast, RoundLimit, HopLimit, NotLeader}
+use Rattle.ira_node.specs.declared.step_fault.StepFault.TheVariants.{WrongReset, NotReset, TermLimit}
 use Rattle.ira_event.specs.declared.head_fault.HeadFault.{HeadFault}
 use Rattle.ira_event.specs.declared.head_fault.HeadFault.TheVariants.{Number, Size, Place, Version}
 use Rattle.ira_order.specs.declared.match_fault.MatchFault.{MatchFault}
@@ -17,7 +20,9 @@ use Rattle.ira_cert.specs.declared.section_fault.SectionFault.TheVariants.{Step,
 use Rattle.ira_cert.specs.declared.unsound.Unsound.{Unsound}
 use Rattle.ira_cert.specs.declared.unsound.Unsound.TheVariants.{NotAsked, SameNode, NodeSpent, NotFront, NotBefore}
 use Rattle.ira_audit.specs.declared.reason.Reason.{Reason}
-use Rattle.ira_audit.specs.declared.reason.Reason.TheVariants.{Log, Heads, Match, Circle, Replay, Question, QuestionSize, Certificate, CertificateSize, Sections, Section}
+use Rattle.ira_audit.specs.declared.reason.Reason.TheVariants.{Log, Heads, Match, Circle, Replay, Question}
+use Rattle.ira_audit.specs.declared.reason.Reason.TheVariants.{QuestionSize, Certificate, CertificateSize, Sections}
+use Rattle.ira_audit.specs.declared.reason.Reason.TheVariants.{Section}
 use Rattle.ira_audit.specs.declared.answer.Answer.{Answer}
 use Rattle.ira_audit.specs.declared.answer.Answer.TheVariants.{Yes, No}
 

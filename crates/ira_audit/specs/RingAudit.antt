@@ -1,5 +1,6 @@
 -- Helpers, no definitions: what is kept of the texts of a ring's logs while they are taken one by one.
-use Rattle.std.specs.Prelude.{◌≡◌, ◌<◌, ◌⊎◌, ℕ, List, Contains, Option, Some, None, Result, Ok, Err, length, map, slice_get, take}
+use Rattle.std.specs.Prelude.{◌≡◌, ◌<◌, ◌⊎◌, ℕ, List, Contains, Option, Some, None, Result, Ok, Err, length, map}
+use Rattle.std.specs.Prelude.{slice_get, take}
 use Rattle.ira_event.specs.declared.log_fault.LogFault.{LogFault}
 use Rattle.ira_event.specs.declared.log_fault.LogFault.TheVariants.{OutOfMemory}
 use Rattle.ira_event.specs.Log.{Log}
@@ -22,7 +23,8 @@ pub record RingAudit : Type 0 where
 abbrev pub AreKept : List (List ℕ) → List Log → Option LogFault → Type 0
 AreKept texts logs None = AreLogTexts texts logs
 AreKept texts logs (Some f) =
-    AreLogTexts (take (length logs) texts) logs × ((text : List ℕ) × (slice_get texts (length logs) ≡ Some text) × LogTextFault text f)
+    AreLogTexts (take (length logs) texts) logs
+    × ((text : List ℕ) × (slice_get texts (length logs) ≡ Some text) × LogTextFault text f)
 
 -- one of the logs names fewer nodes than there are logs, so they aren't those of one ring
 abbrev pub AreTooMany : List Log → Type 0

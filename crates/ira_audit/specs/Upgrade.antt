@@ -22,16 +22,19 @@ AreUpgraded texts new = AllZip IsUpgraded texts new
 
 -- each text of a log of version 1 has such a new text
 abbrev pub TextsAreUpgraded : Type 0
-TextsAreUpgraded = (text : List ℕ) (log : Log) → IsLogText text log → log.version ≡ 1 → (new : List ℕ) × IsUpgraded text new
+TextsAreUpgraded = (text : List ℕ) (log : Log) → IsLogText text log → log.version ≡ 1 → (new : List ℕ)
+    × IsUpgraded text new
 
 -- the text of one log has the same answer when it is upgraded
 abbrev pub UpgradesKeepAnswer : Type 0
-UpgradesKeepAnswer = (text new : List ℕ) (answer : Answer) → IsUpgraded text new → IsAnswer new answer ↔ IsAnswer text answer
+UpgradesKeepAnswer = (text new : List ℕ) (answer : Answer) → IsUpgraded text new
+    → IsAnswer new answer ↔ IsAnswer text answer
 
 -- the texts of several logs have the same answer when they are upgraded
 abbrev pub UpgradesKeepLogsAnswer : Type 0
 UpgradesKeepLogsAnswer =
-    (texts new : List (List ℕ)) (answer : Answer) → AreUpgraded texts new → IsLogsAnswer new answer ↔ IsLogsAnswer texts answer
+    (texts new : List (List ℕ)) (answer : Answer) → AreUpgraded texts new
+    → IsLogsAnswer new answer ↔ IsLogsAnswer texts answer
 
 -- and with the same question and certificate
 abbrev pub UpgradesKeepAuditAnswer : Type 0

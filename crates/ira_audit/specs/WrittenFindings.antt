@@ -1,5 +1,6 @@
 -- Findings that are written down case by case, so that no section is kept.
-use Rattle.std.specs.Prelude.{◌≡◌, ◌↔◌, ◌++◌, ◌∷◌, [], ℕ, Bool, List, Option, Some, IsFalse, IsTrue, MatchOption, length, map}
+use Rattle.std.specs.Prelude.{◌≡◌, ◌↔◌, ◌++◌, ◌∷◌, [], ℕ, Bool, List, Option, Some, IsFalse, IsTrue, MatchOption}
+use Rattle.std.specs.Prelude.{length, map}
 use Rattle.std.specs.List.{enumerate_from, flat_map}
 use Rattle.ira_event.specs.Log.{Log}
 use Rattle.ira_pred.specs.Case.{Conjunct}
@@ -24,7 +25,8 @@ pub record Written : Type 0 where
   pub are_absent : Bool
   pub certificate : Option (List ℕ)
 
--- this is written of the findings: their lines, whether they make a certificate, and, where it is asked for, the text of
+-- this is written of the findings: their lines, whether they make a certificate, and, where it is asked for, the text
+-- of
 -- that which they make, unless it is past the limits
 pub record AreWritten {A : Type 0} (certify : Bool) (findings : Findings A) (w : Written) : Type 0 where
   pub lines : w.lines ≡ findings_text findings
@@ -32,7 +34,8 @@ pub record AreWritten {A : Type 0} (certify : Bool) (findings : Findings A) (w :
   pub certificate :
       IsTrue certify → IsTrue w.are_absent
       → (c : Certificate) × IsCertificateOf findings c
-      × MatchOption w.certificate (¬ (IsCertText (cert_text c) c)) (λ text. (text ≡ cert_text c) × IsCertText (cert_text c) c)
+      × MatchOption w.certificate (¬ (IsCertText (cert_text c) c)) (λ text. (text ≡ cert_text c)
+      × IsCertText (cert_text c) c)
 
 -- this is written of the findings of these texts
 abbrev pub AreWrittenFindings : (A : Type 0) → List (List ℕ) → List ℕ → Bool → Written → Type 0
@@ -67,6 +70,7 @@ IsAdded {A} logs case nodes certify found counted are_absent certificate =
     × IsCertifying nodes certify (found ++ next ∷ []) are_absent certificate
 
 -- what is kept while the cases are decided: besides that the lines of those that were
-pub record AreDrafted {A Z : Type 0} (nodes : ℕ) (certify : Bool) (found : List (Found A)) (draft : FindingsDraft Z) : Type 0 where
+pub record AreDrafted {A Z : Type 0} (nodes : ℕ) (certify : Bool) (found : List (Found A)) (draft : FindingsDraft Z)
+    : Type 0 where
   pub lines_are : draft.lines.bytes ≡ flat_map case_line (enumerate_from 0 found)
   pub certifying : IsCertifying nodes certify found draft.are_absent draft.certificate

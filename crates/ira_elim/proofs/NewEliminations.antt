@@ -1,6 +1,7 @@
 -- After an elimination, whatever is eliminated anew is so by the node that moved: each other elimination is of
 -- two nodes that had one before.
-use Rattle.std.proofs.Common.{◌≡◌, ◌≢◌, ℕ, ◌+◌, ◌<◌, ◌≤◌, inl, inr, List, Option, Some, None, slice_get, slice_index, slice_index_or, drop, refl, sym, ◌∙◌, ap, subst, arith}
+use Rattle.std.proofs.Common.{◌≡◌, ◌≢◌, ℕ, ◌+◌, ◌<◌, ◌≤◌, inl, inr, List, Option, Some, None, slice_get, slice_index}
+use Rattle.std.proofs.Common.{slice_index_or, drop, refl, sym, ◌∙◌, ap, subst, arith}
 use Rattle.std.specs.Option.{option_map}
 use Rattle.std.proofs.lemmas.Bool.{cases_eq}
 use Rattle.std.proofs.lemmas.List.{drop-drop}
@@ -26,21 +27,28 @@ use Rattle.ira_elim.proofs.Present.{before_counts}
 before_earlier : (logs : List Log) (i a b j c : ℕ) → 1 ≤ a → a ≤ b → Before logs i b j c → Before logs i a j c
 before_earlier logs i a b j c first le before = elim (cases_eq a b) [
   | inl same ↦ subst (λ (k : ℕ). Before logs i k j c) (sym same) before
-  | inr other ↦ onward (own refl (before_places logs i b j c before).0 first (omega (arith, le, other)) (before_within logs i b j c before).1) before
+  | inr other ↦ onward (own refl (before_places logs i b j c before).0 first (omega (arith, le, other))
+      (before_within logs i b j c before).1) before
 ]
 
 -- an event of a node that is eliminated is counted where it happened before
-pub is_counted : (logs : List Log) (fronts : List (Option (List ℕ))) (i p j q : ℕ) (counts : List ℕ) → AreCountsOfOthers logs j q counts → AreWithin logs fronts → IsFirstLeft fronts i p → IsFirstLeft fronts j q → (s : CertStep) → s.node ≡ i → s.other ≡ j → IsElimination logs fronts s → p < slice_index counts i
+pub is_counted : (logs : List Log) (fronts : List (Option (List ℕ))) (i p j q : ℕ) (counts : List ℕ)
+    → AreCountsOfOthers logs j q counts → AreWithin logs fronts → IsFirstLeft fronts i p → IsFirstLeft fronts j q
+    → (s : CertStep) → s.node ≡ i → s.other ≡ j → IsElimination logs fronts s → p < slice_index counts i
 is_counted logs fronts i p j q counts are inside first other_first s at by is =
     let at_p : s.pos ≡ p = one_first fronts s.node i s.pos p at is.front first in
     let at_q : s.other_pos ≡ q = one_first fronts s.other j s.other_pos q by is.other_front other_first in
     let happened : Before logs i (p + 1) j q = rw (at, by, at_p, at_q) at is.happened_before in
-    before_counts logs j q i (slice_index counts i) p (are.others i (inside i p first).0 (λ e. is.differ (at ∙ e ∙ sym by))) happened
+    before_counts logs j q i (slice_index counts i) p
+    (are.others i (inside i p first).0 (λ e. is.differ (at ∙ e ∙ sym by))) happened
 
-module _ (logs : List Log) (case : List Conjunct) (before : List CertStep) (fronts left : List (Option (List ℕ))) (behind : AreFrontsBehind logs case before fronts) (s : CertStep) (is : IsElimination logs fronts s) (moved : left ≡ one_fewer fronts s.node) where
+module _ (logs : List Log) (case : List Conjunct) (before : List CertStep) (fronts left : List (Option (List ℕ)))
+    (behind : AreFrontsBehind logs case before fronts) (s : CertStep) (is : IsElimination logs fronts s) (moved : left
+    ≡ one_fewer fronts s.node) where
   -- the list of another node stays
   other_list : (i : ℕ) → i ≢ s.node → slice_get left i ≡ slice_get fronts i
-  other_list i other = ap (λ (fs : List (Option (List ℕ))). slice_get fs i) moved ∙ slice_get-set_other fronts s.node i _ (λ e. other (sym e))
+  other_list i other = ap (λ (fs : List (Option (List ℕ))). slice_get fs i) moved
+      ∙ slice_get-set_other fronts s.node i _ (λ e. other (sym e))
 
   pub other_first : (i p : ℕ) → i ≢ s.node → IsFirstLeft left i p → IsFirstLeft fronts i p
   other_first i p other first = (first.0, sym (other_list i other) ∙ first.1, first.2)
@@ -48,8 +56,10 @@ module _ (logs : List Log) (case : List Conjunct) (before : List CertStep) (fron
   pub own_list : slice_get left s.node ≡ Some (Some (drop 1 is.front.0))
   own_list =
       ap (λ (fs : List (Option (List ℕ))). slice_get fs s.node) moved
-      ∙ slice_get-set_same fronts s.node (option_map (λ xs. drop 1 xs) (slice_index_or fronts s.node None)) (slice_get_within fronts s.node (Some is.front.0) is.front.1)
-      ∙ ap (λ (o : Option (List ℕ)). Some (option_map (λ xs. drop 1 xs) o)) (get_or_from_slice_get fronts s.node (Some is.front.0) None is.front.1)
+      ∙ slice_get-set_same fronts s.node (option_map (λ xs. drop 1 xs) (slice_index_or fronts s.node None))
+      (slice_get_within fronts s.node (Some is.front.0) is.front.1)
+      ∙ ap (λ (o : Option (List ℕ)). Some (option_map (λ xs. drop 1 xs) o))
+      (get_or_from_slice_get fronts s.node (Some is.front.0) None is.front.1)
 
   -- the node's first candidate left is now a later one
   pub own_first : (p : ℕ) → IsFirstLeft left s.node p → s.pos ≤ p
@@ -57,19 +67,24 @@ module _ (logs : List Log) (case : List Conjunct) (before : List CertStep) (fron
       let h = behind.lists s.node is.front.0 is.front.1 in
       let m : ℕ = made before s.node in
       let same : first.0 ≡ drop 1 is.front.0 = same_Some _ _ (same_Some _ _ (sym first.1 ∙ own_list)) in
-      let old : slice_get h.0 m ≡ Some s.pos = sym (slice_get-drop m h.0) ∙ ap (λ (xs : List ℕ). slice_get xs 0) (sym h.3) ∙ is.front.2 in
+      let old : slice_get h.0 m ≡ Some s.pos =
+      sym (slice_get-drop m h.0) ∙ ap (λ (xs : List ℕ). slice_get xs 0) (sym h.3) ∙ is.front.2 in
       let rest : first.0 ≡ drop (m + 1) h.0 = same ∙ ap (λ (xs : List ℕ). drop 1 xs) h.3 ∙ drop-drop 1 m h.0 in
-      let new : slice_get h.0 (m + 1) ≡ Some p = sym (slice_get-drop (m + 1) h.0) ∙ ap (λ (xs : List ℕ). slice_get xs 0) (sym rest) ∙ first.2 in
+      let new : slice_get h.0 (m + 1) ≡ Some p =
+      sym (slice_get-drop (m + 1) h.0) ∙ ap (λ (xs : List ℕ). slice_get xs 0) (sym rest) ∙ first.2 in
       rising_le h.0 m (m + 1) s.pos p h.1.candidates_are.rising old new (omega arith)
 
   -- an elimination by another node is of two nodes that had one before
-  was_before : (t : CertStep) → t.other ≢ s.node → IsElimination logs left t → (u : CertStep) × (u.node ≡ t.node) × (u.other ≡ t.other) × IsElimination logs fronts u
+  was_before : (t : CertStep) → t.other ≢ s.node → IsElimination logs left t → (u : CertStep) × (u.node ≡ t.node)
+      × (u.other ≡ t.other) × IsElimination logs fronts u
   was_before t other eliminates =
       let by : IsFirstLeft fronts t.other t.other_pos = other_first t.other t.other_pos other eliminates.other_front in
       elim (cases_eq t.node s.node) [
         | inl same ↦
-            let first : IsFirstLeft left s.node t.pos = subst (λ (i : ℕ). IsFirstLeft left i t.pos) same eliminates.front in
-            let happened : Before logs s.node (t.pos + 1) t.other t.other_pos = subst (λ (i : ℕ). Before logs i (t.pos + 1) t.other t.other_pos) same eliminates.happened_before in (
+            let first : IsFirstLeft left s.node t.pos =
+            subst (λ (i : ℕ). IsFirstLeft left i t.pos) same eliminates.front in
+            let happened : Before logs s.node (t.pos + 1) t.other t.other_pos =
+            subst (λ (i : ℕ). Before logs i (t.pos + 1) t.other t.other_pos) same eliminates.happened_before in (
               record { node = s.node; pos = s.pos; other = t.other; other_pos = t.other_pos },
               sym same,
               refl,
@@ -77,7 +92,8 @@ module _ (logs : List Log) (case : List Conjunct) (before : List CertStep) (fron
                 differ = λ e. other (sym e);
                 front = is.front;
                 other_front = by;
-                happened_before = before_earlier logs s.node (s.pos + 1) (t.pos + 1) t.other t.other_pos (omega arith) (omega (arith, own_first t.pos first)) happened;
+                happened_before = before_earlier logs s.node (s.pos + 1) (t.pos + 1) t.other t.other_pos (omega arith)
+                    (omega (arith, own_first t.pos first)) happened;
               },
             )
         | inr apart ↦ (
@@ -94,17 +110,21 @@ module _ (logs : List Log) (case : List Conjunct) (before : List CertStep) (fron
       ]
 
   -- so pairs that had all eliminations have them again with those by the node that moved
-  pub all_again : (old new : List ℕ) → HasEliminations logs fronts old → ((a b : ℕ) → Has old a b → Has new a b) → ((t : CertStep) → t.other ≡ s.node → IsElimination logs left t → Has new t.node t.other) → HasEliminations logs left new
+  pub all_again : (old new : List ℕ) → HasEliminations logs fronts old → ((a b : ℕ) → Has old a b → Has new a b)
+      → ((t : CertStep) → t.other ≡ s.node → IsElimination logs left t → Has new t.node t.other)
+      → HasEliminations logs left new
   all_again old new all kept added t eliminates = elim (cases_eq t.other s.node) [
     | inl same ↦ added t same eliminates
     | inr other ↦
         let u = was_before t other eliminates in
-        let has : Has old t.node t.other = subst (λ (j : ℕ). Has old t.node j) u.2 (subst (λ (i : ℕ). Has old i u.0.other) u.1 (all u.0 u.3)) in
+        let has : Has old t.node t.other =
+        subst (λ (j : ℕ). Has old t.node j) u.2 (subst (λ (i : ℕ). Has old i u.0.other) u.1 (all u.0 u.3)) in
         kept t.node t.other has
   ]
 
   -- where each node had a first candidate left, and the one that moved has one, each has one
-  pub still_left : ((i : ℕ) → HasList fronts i → (p : ℕ) × IsFirstLeft fronts i p) → (p : ℕ) → IsFirstLeft left s.node p → (i : ℕ) → HasList left i → (q : ℕ) × IsFirstLeft left i q
+  pub still_left : ((i : ℕ) → HasList fronts i → (p : ℕ) × IsFirstLeft fronts i p) → (p : ℕ) → IsFirstLeft left s.node p
+      → (i : ℕ) → HasList left i → (q : ℕ) × IsFirstLeft left i q
   still_left each p own_has i has = elim (cases_eq i s.node) [
     | inl same ↦ (p, subst (λ (j : ℕ). IsFirstLeft left j p) (sym same) own_has)
     | inr other ↦

@@ -1,5 +1,7 @@
 -- What holds of each place in the list of the asked ones holds of each node that has a list.
-use Rattle.std.proofs.Common.{◌≡◌, ℕ, zero, suc, ◌+◌, ◌<◌, inl, inr, Bool, true, false, not, List, [], ◌∷◌, ◌++◌, Option, Some, None, is_some, MatchOption, Contains, below_more, get_or, length, slice_get, refl, sym, ◌∙◌, ap, subst, arith}
+use Rattle.std.proofs.Common.{◌≡◌, ℕ, zero, suc, ◌+◌, ◌<◌, inl, inr, Bool, true, false, not, List, [], ◌∷◌, ◌++◌}
+use Rattle.std.proofs.Common.{Option, Some, None, is_some, MatchOption, Contains, below_more, get_or, length, slice_get}
+use Rattle.std.proofs.Common.{refl, sym, ◌∙◌, ap, subst, arith}
 use Rattle.std.proofs.lemmas.List.{get_or_default}
 use Rattle.std.proofs.lemmas.List.Elements.{Contains-append_left, Contains-append_right, Contains-append_cases}
 use Rattle.std.proofs.lemmas.Option.{same_Some}
@@ -9,7 +11,8 @@ use Rattle.ira_elim.specs.Elimination.{ArePlaces, IsFirstLeft}
 pub at_place : (places : List ℕ) (k : ℕ) → k < length places → Contains places (get_or places k 0)
 at_place places k l = (k, l, get_or_default places k (get_or places k 0) 0 l)
 
-pub each_place : (fronts : List (Option (List ℕ))) (places : List ℕ) (Q : ℕ → Type 0) → ArePlaces fronts places → ((k : ℕ) → k < length places → Q (get_or places k 0)) → (i : ℕ) → HasList fronts i → Q i
+pub each_place : (fronts : List (Option (List ℕ))) (places : List ℕ) (Q : ℕ → Type 0) → ArePlaces fronts places
+    → ((k : ℕ) → k < length places → Q (get_or places k 0)) → (i : ℕ) → HasList fronts i → Q i
 each_place fronts places Q are all i has =
     let c = (are i).1 has in
     let e : get_or places c.0 0 ≡ i = get_or_default places c.0 0 i c.1 ∙ c.2 in
@@ -24,21 +27,27 @@ empty_list [] none = refl
 empty_list (x ∷ xs) none = absurd (none x refl)
 
 -- a node with a list and without a first candidate left has an empty one
-pub none_left : (fronts : List (Option (List ℕ))) (i : ℕ) → ((p : ℕ) → IsFirstLeft fronts i p → ⊥) → HasList fronts i → slice_get fronts i ≡ Some (Some [])
-none_left fronts i none has = has.1 ∙ ap (λ (xs : List ℕ). Some (Some xs)) (empty_list has.0 (λ p at. none p (has.0, has.1, at)))
+pub none_left : (fronts : List (Option (List ℕ))) (i : ℕ) → ((p : ℕ) → IsFirstLeft fronts i p → ⊥) → HasList fronts i
+    → slice_get fronts i ≡ Some (Some [])
+none_left fronts i none has =
+    has.1 ∙ ap (λ (xs : List ℕ). Some (Some xs)) (empty_list has.0 (λ p at. none p (has.0, has.1, at)))
 
-pub no_front : (fronts : List (Option (List ℕ))) (i : ℕ) (front : Option ℕ) (none : Bool) → IsFront fronts i front → is_some front ≡ not none → none ≡ true → HasList fronts i → slice_get fronts i ≡ Some (Some [])
+pub no_front : (fronts : List (Option (List ℕ))) (i : ℕ) (front : Option ℕ) (none : Bool) → IsFront fronts i front
+    → is_some front ≡ not none → none ≡ true → HasList fronts i → slice_get fronts i ≡ Some (Some [])
 no_front fronts i None none is tells e has = none_left fronts i is has
 no_front fronts i (Some p) none is tells e has = absurd (let no : not none ≡ false = ap not e in cc)
 
-pub some_front : (fronts : List (Option (List ℕ))) (i : ℕ) (front : Option ℕ) (none : Bool) → IsFront fronts i front → is_some front ≡ not none → none ≡ false → (p : ℕ) × IsFirstLeft fronts i p
+pub some_front : (fronts : List (Option (List ℕ))) (i : ℕ) (front : Option ℕ) (none : Bool) → IsFront fronts i front
+    → is_some front ≡ not none → none ≡ false → (p : ℕ) × IsFirstLeft fronts i p
 some_front fronts i None none is tells e = absurd (let yes : not none ≡ true = ap not e in cc)
 some_front fronts i (Some p) none is tells e = (p, is)
 
 -- a node has one first candidate left
-pub one_first : (fronts : List (Option (List ℕ))) (i j p q : ℕ) → i ≡ j → IsFirstLeft fronts i p → IsFirstLeft fronts j q → p ≡ q
+pub one_first : (fronts : List (Option (List ℕ))) (i j p q : ℕ) → i ≡ j → IsFirstLeft fronts i p
+    → IsFirstLeft fronts j q → p ≡ q
 one_first fronts i j p q same a b =
-    let lists : a.0 ≡ b.0 = same_Some a.0 b.0 (same_Some _ _ (sym a.1 ∙ ap (λ (k : ℕ). slice_get fronts k) same ∙ b.1)) in
+    let lists : a.0 ≡ b.0 = same_Some a.0 b.0 (same_Some _ _ (sym a.1 ∙ ap (λ (k : ℕ). slice_get fronts k) same ∙ b.1))
+    in
     same_Some p q (sym a.2 ∙ ap (λ (xs : List ℕ). slice_get xs 0) lists ∙ b.2)
 
 only_member : (x i : ℕ) → Contains (x ∷ []) i → i ≡ x
@@ -54,7 +63,8 @@ module _ (fronts : List (Option (List ℕ))) where
   abbrev pub AreAllBelow : ℕ → List ℕ → Type 0
   AreAllBelow n places = (i : ℕ) → i < n → HasList fronts i → Contains places i
 
-  pub one_more : (places more : List ℕ) (n : ℕ) → HasList fronts n → more ≡ places ++ n ∷ [] → AreListed places → AreAllBelow n places → AreListed more × AreAllBelow (n + 1) more
+  pub one_more : (places more : List ℕ) (n : ℕ) → HasList fronts n → more ≡ places ++ n ∷ [] → AreListed places
+      → AreAllBelow n places → AreListed more × AreAllBelow (n + 1) more
   one_more places more n has e listed all =
       let first : List ℕ = n ∷ [] in (
         λ i member. elim (Contains-append_cases places first i (subst (λ (xs : List ℕ). Contains xs i) e member)) [
@@ -63,13 +73,16 @@ module _ (fronts : List (Option (List ℕ))) where
         ],
         λ i l has_i. subst (λ (xs : List ℕ). Contains xs i) (sym e)
             (below_more (λ (i : ℕ). HasList fronts i → Contains (places ++ first) i) n
-            (λ j below has_j. Contains-append_left places first j (all j below has_j)) (λ _. Contains-append_right places first n (0, omega arith, refl)) i l has_i),
+            (λ j below has_j. Contains-append_left places first j (all j below has_j)) (λ _.
+            Contains-append_right places first n (0, omega arith, refl)) i l has_i),
       )
 
-  pub none_more : (places more : List ℕ) (n : ℕ) → ¬ (HasList fronts n) → more ≡ places → AreListed places → AreAllBelow n places → AreListed more × AreAllBelow (n + 1) more
+  pub none_more : (places more : List ℕ) (n : ℕ) → ¬ (HasList fronts n) → more ≡ places → AreListed places
+      → AreAllBelow n places → AreListed more × AreAllBelow (n + 1) more
   none_more places more n none e listed all = (
     subst AreListed (sym e) listed,
-    subst (AreAllBelow (n + 1)) (sym e) (below_more (λ (i : ℕ). HasList fronts i → Contains places i) n all (λ has. absurd (none has))),
+    subst (AreAllBelow (n + 1)) (sym e) (below_more (λ (i : ℕ). HasList fronts i
+        → Contains places i) n all (λ has. absurd (none has))),
   )
 
   module _ {X : Type 0} (view : X → List ℕ) (n : ℕ) where
@@ -77,10 +90,12 @@ module _ (fronts : List (Option (List ℕ))) where
     abbrev IsFound : Option X → Type 0
     IsFound found = MatchOption found (HasList fronts n → ⊥) (λ x. slice_get fronts n ≡ Some (Some (view x)))
 
-    pub found_some : (found : Option X) (some : Bool) → IsFound found → some ≡ is_some found → some ≡ true → HasList fronts n
+    pub found_some : (found : Option X) (some : Bool) → IsFound found → some ≡ is_some found → some ≡ true
+        → HasList fronts n
     found_some None some is tells e = absurd (let no : true ≡ false = sym e ∙ tells in cc)
     found_some (Some x) some is tells e = (view x, is)
 
-    pub found_none : (found : Option X) (some : Bool) → IsFound found → some ≡ is_some found → some ≡ false → ¬ (HasList fronts n)
+    pub found_none : (found : Option X) (some : Bool) → IsFound found → some ≡ is_some found → some ≡ false
+        → ¬ (HasList fronts n)
     found_none None some is tells e = is
     found_none (Some x) some is tells e = absurd (let no : false ≡ true = sym e ∙ tells in cc)

@@ -1,6 +1,7 @@
 -- Where no elimination is left, the greatest counts at the first candidates left are the least cut that meets
 -- the case.
-use Rattle.std.proofs.Common.{◌≡◌, ◌≢◌, ℕ, ◌+◌, ◌<◌, ◌≤◌, inl, inr, List, Option, Some, Contains, length, slice_get, slice_index, take, refl, sym, subst, arith}
+use Rattle.std.proofs.Common.{◌≡◌, ◌≢◌, ℕ, ◌+◌, ◌<◌, ◌≤◌, inl, inr, List, Option, Some, Contains, length, slice_get}
+use Rattle.std.proofs.Common.{slice_index, take, refl, sym, subst, arith}
 use Rattle.std.proofs.lemmas.Bool.{cases_eq, cases_order}
 use Rattle.std.proofs.lemmas.List.{take_all}
 use Rattle.std.proofs.lemmas.List.Elements.{All-weaker, All-contains_itself}
@@ -35,9 +36,11 @@ counts_before logs j q i n p other count l = elim ((count.events (p + 1) (omega 
 ]
 
 pub before_counts : (logs : List Log) (j q i n p : ℕ) → IsCount logs j q i n → Before logs i (p + 1) j q → p < n
-before_counts logs j q i n p count before = let l : p + 1 ≤ n = (count.events (p + 1) (omega arith)).1 (inr before) in omega arith
+before_counts logs j q i n p count before = let l : p + 1 ≤ n = (count.events (p + 1) (omega arith)).1 (inr before) in
+    omega arith
 
-module _ (logs : List Log) (fronts : List (Option (List ℕ))) (cut : List ℕ) (greatest : AreGreatestCounts logs fronts cut) where
+module _ (logs : List Log) (fronts : List (Option (List ℕ))) (cut : List ℕ)
+    (greatest : AreGreatestCounts logs fronts cut) where
   -- what happened before an event that the cut holds is counted
   holds_before : HoldsAllBefore logs (slice_index cut)
   holds_before i a j b before l =
@@ -47,7 +50,8 @@ module _ (logs : List Log) (fronts : List (Option (List ℕ))) (cut : List ℕ) 
         | inl zero ↦ absurd (omega (arith, zero, l, w.2))
         | inr h ↦
             let onto : Before logs i a h.0 h.1 = elim ((h.3.events b w.2).0 l) [
-              | inl same ↦ subst (λ (k : ℕ). Before logs i a k h.1) same.0 (subst (λ (q : ℕ). Before logs i a j q) same.1 before)
+              | inl same ↦ subst (λ (k : ℕ). Before logs i a k h.1) same.0
+                  (subst (λ (q : ℕ). Before logs i a j q) same.1 before)
               | inr later ↦ onward before later
             ] in
             let up = (greatest.counts i at.0).upper h.0 h.1 h.2 in
@@ -61,19 +65,23 @@ module _ (logs : List Log) (fronts : List (Option (List ℕ))) (cut : List ℕ) 
   pub consistent : IsConsistentCut logs cut
   consistent = (record { places = greatest.places; within = within_logs }, holds_before)
 
-module _ (logs : List Log) (case : List Conjunct) (steps : List CertStep) (fronts : List (Option (List ℕ))) (differ : HasDifferentPlaces case) (made_all : AreMade logs case steps fronts) where
+module _ (logs : List Log) (case : List Conjunct) (steps : List CertStep) (fronts : List (Option (List ℕ)))
+    (differ : HasDifferentPlaces case) (made_all : AreMade logs case steps fronts) where
   -- a consistent cut that meets the case is at or above each first candidate left
-  passes : (other : List ℕ) → IsConsistentCut logs other → Meets logs case other → (j q : ℕ) → IsFirstLeft fronts j q → q ≤ slice_index other j
+  passes : (other : List ℕ) → IsConsistentCut logs other → Meets logs case other → (j q : ℕ) → IsFirstLeft fronts j q
+      → q ≤ slice_index other j
   passes other consistent_other meets j q first =
       let m = first_at logs case steps fronts made_all.behind j q first in
       let n = candidate_at logs case other j m.0 meets m.1 in
-      let kept = kept_all logs case other differ consistent_other meets steps made_all.sound (length steps) (omega arith) j m.0 n.0 m.1 n.1 in
+      let kept = kept_all logs case other differ consistent_other meets steps made_all.sound (length steps)
+      (omega arith) j m.0 n.0 m.1 n.1 in
       let whole : take (length steps) steps ≡ steps = take_all (length steps) steps (omega arith) in
       let no_sooner : made steps j ≤ n.0 = subst (λ (ss : List CertStep). made ss j ≤ n.0) whole kept in
       rising_le m.0 (made steps j) n.0 q (slice_index other j) m.1.candidates_are.rising m.2 n.1 no_sooner
 
   module _ (cut : List ℕ) (greatest : AreGreatestCounts logs fronts cut) where
-    at_or_below : (other : List ℕ) → IsConsistentCut logs other → Meets logs case other → (i : ℕ) → i < length logs → slice_index cut i ≤ slice_index other i
+    at_or_below : (other : List ℕ) → IsConsistentCut logs other → Meets logs case other → (i : ℕ) → i < length logs
+        → slice_index cut i ≤ slice_index other i
     at_or_below other consistent_other meets i l = elim (greatest.counts i l).reached [
       | inl zero ↦ omega (arith, zero)
       | inr h ↦
@@ -96,7 +104,8 @@ module _ (logs : List Log) (case : List Conjunct) (steps : List CertStep) (front
           let up = g.upper i p first in
           let least : p ≤ slice_index cut i = elim (cases_eq p 0) [
             | inl zero ↦ omega (arith, zero)
-            | inr some ↦ (let counted : p ≤ up.0 = (up.1.events p (omega arith)).1 (inl (refl, refl)) in omega (arith, counted, up.2))
+            | inr some ↦ (let counted : p ≤ up.0 = (up.1.events p (omega arith)).1 (inl (refl, refl)) in
+                omega (arith, counted, up.2))
           ] in
           let most : slice_index cut i ≤ p = elim g.reached [
             | inl zero ↦ omega (arith, zero)
@@ -119,18 +128,26 @@ module _ (logs : List Log) (case : List Conjunct) (steps : List CertStep) (front
           omega (arith, least, most)
 
       module _ (left : (i : ℕ) → HasList fronts i → (p : ℕ) × IsFirstLeft fronts i p) where
-        met : (c : Conjunct) → Contains case c → (log : Log) × (slice_get logs c.place ≡ Some log) × HoldsAt log c.formula (slice_index cut c.place)
+        met : (c : Conjunct) → Contains case c → (log : Log) × (slice_get logs c.place ≡ Some log)
+            × HoldsAt log c.formula (slice_index cut c.place)
         met c asked =
             let first = left c.place (made_all.behind.asked c.place (c.formula, asked)) in
             let m = first_at logs case steps fronts made_all.behind c.place first.0 first.1 in
             let of = m.1 in
-            let formula : of.formula ≡ c.formula = one_formula case c.place of.formula c.formula differ of.asked asked in
-            let holds : HoldsAt of.log of.formula first.0 = (of.candidates_are.members first.0).0 (is_member m.0 (made steps c.place) first.0 m.2) in
-            (of.log, of.log_is, subst (λ (f : Formula). HoldsAt of.log f (slice_index cut c.place)) formula (subst (λ (p : ℕ). HoldsAt of.log of.formula p) (sym (first_is c.place first.0 first.1)) holds))
+            let formula : of.formula ≡ c.formula =
+            one_formula case c.place of.formula c.formula differ of.asked asked in
+            let holds : HoldsAt of.log of.formula first.0 =
+            (of.candidates_are.members first.0).0 (is_member m.0 (made steps c.place) first.0 m.2) in (
+              of.log,
+              of.log_is,
+              subst (λ (f : Formula). HoldsAt of.log f (slice_index cut c.place)) formula
+                  (subst (λ (p : ℕ). HoldsAt of.log of.formula p) (sym (first_is c.place first.0 first.1)) holds),
+            )
 
         pub present : IsLeastCut logs case cut
         present = record {
           consistent = consistent logs fronts cut greatest;
-          meets = All-weaker (Contains case) (λ (c : Conjunct). (log : Log) × (slice_get logs c.place ≡ Some log) × HoldsAt log c.formula (slice_index cut c.place)) met case (All-contains_itself case);
+          meets = All-weaker (Contains case) (λ (c : Conjunct). (log : Log) × (slice_get logs c.place ≡ Some log)
+              × HoldsAt log c.formula (slice_index cut c.place)) met case (All-contains_itself case);
           least = at_or_below;
         }

@@ -1,5 +1,6 @@
 -- A case that asks nodes of the logs alone has its candidates, place by place.
-use Rattle.std.proofs.Common.{◌≡◌, ◌≢◌, ℕ, zero, suc, ◌<◌, ◌⊎◌, inl, inr, List, [], ◌∷◌, ◌++◌, Option, Some, None, length, slice_index_or, refl, sym, ap, arith}
+use Rattle.std.proofs.Common.{◌≡◌, ◌≢◌, ℕ, zero, suc, ◌<◌, ◌⊎◌, inl, inr, List, [], ◌∷◌, ◌++◌, Option, Some, None}
+use Rattle.std.proofs.Common.{length, slice_index_or, refl, sym, ap, arith}
 use Rattle.std.proofs.lemmas.List.{length_push}
 use Rattle.ira_event.specs.Log.{Log}
 use Rattle.ira_pred.specs.Case.{Conjunct}
@@ -13,7 +14,9 @@ use Rattle.ira_cert.proofs.SomeVerdict.{candidates_at}
 asked_behind : (c : Conjunct) (case : List Conjunct) (i : ℕ) → c.place ≢ i → IsAsked (c ∷ case) i → IsAsked case i
 asked_behind c case i other asked = by_index asked.1.0 asked.1.1 asked.1.2
   where
-    by_index : (k : ℕ) → k < suc (length case) → slice_index_or (c ∷ case) k (record { place = i; formula = asked.0 }) ≡ record { place = i; formula = asked.0 } → IsAsked case i
+    by_index : (k : ℕ) → k < suc (length case)
+        → slice_index_or (c ∷ case) k (record { place = i; formula = asked.0 })
+        ≡ record { place = i; formula = asked.0 } → IsAsked case i
     by_index zero l e = absurd (other (ap (λ (d : Conjunct). d.place) e))
     by_index (suc k) l e = (asked.0, (k, omega arith, e))
 
@@ -29,16 +32,26 @@ asked_or_not (c ∷ case) i = elim (cases_eq c.place i) [
 ]
 
 -- what is found at the first n places
-fronts_below : (logs : List Log) (case : List Conjunct) (places : HasPlacesOf logs case) (n : ℕ) → (fronts : List (Option (List ℕ))) × (length fronts ≡ n) × AllFound (IsFound logs case) fronts
+fronts_below : (logs : List Log) (case : List Conjunct) (places : HasPlacesOf logs case) (n : ℕ)
+    → (fronts : List (Option (List ℕ))) × (length fronts ≡ n) × AllFound (IsFound logs case) fronts
 fronts_below logs case places zero = ([], refl, λ i found at. cc)
 fronts_below logs case places (suc n) =
     let below = fronts_below logs case places n in
     elim (asked_or_not case n) [
       | inl asked ↦
-          let c = candidates_at logs case places n asked in
-          (below.0 ++ Some c.0 ∷ [], omega (arith, length_push below.0 (Some c.0), below.1), found_more (IsFound logs case) below.0 n (Some c.0) (sym below.1) below.2 c.1)
-      | inr none ↦ (below.0 ++ None ∷ [], omega (arith, length_push below.0 None, below.1), found_more (IsFound logs case) below.0 n None (sym below.1) below.2 none)
+          let c = candidates_at logs case places n asked in (
+            below.0 ++ Some c.0 ∷ [],
+            omega (arith, length_push below.0 (Some c.0), below.1),
+            found_more (IsFound logs case) below.0 n (Some c.0) (sym below.1) below.2 c.1,
+          )
+      | inr none ↦ (
+        below.0 ++ None ∷ [],
+        omega (arith, length_push below.0 None, below.1),
+        found_more (IsFound logs case) below.0 n None (sym below.1) below.2 none,
+      )
     ]
 
-pub some_fronts : (logs : List Log) (case : List Conjunct) → HasPlacesOf logs case → (fronts : List (Option (List ℕ))) × AreFronts logs case fronts
-some_fronts logs case places = let found = fronts_below logs case places (length logs) in (found.0, found_all logs case found.0 places found.1 found.2)
+pub some_fronts : (logs : List Log) (case : List Conjunct) → HasPlacesOf logs case → (fronts : List (Option (List ℕ)))
+    × AreFronts logs case fronts
+some_fronts logs case places = let found = fronts_below logs case places (length logs) in
+    (found.0, found_all logs case found.0 places found.1 found.2)

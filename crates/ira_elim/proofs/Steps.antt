@@ -1,5 +1,6 @@
 -- Eliminations are sound steps, and each takes one candidate away.
-use Rattle.std.proofs.Common.{◌≡◌, ℕ, ◌+◌, List, [], ◌∷◌, ◌++◌, Option, Some, None, length, sum_by, slice_get, slice_index_or, drop, take, refl, sym, ◌∙◌, ap, subst, arith, length-append, length-set}
+use Rattle.std.proofs.Common.{◌≡◌, ℕ, ◌+◌, List, [], ◌∷◌, ◌++◌, Option, Some, None, length, sum_by, slice_get}
+use Rattle.std.proofs.Common.{slice_index_or, drop, take, refl, sym, ◌∙◌, ap, subst, arith, length-append, length-set}
 use Rattle.std.proofs.Math.Seq.{take-append_seam}
 use Rattle.std.proofs.lemmas.List.{take_all}
 use Rattle.std.specs.Option.{option_map}
@@ -17,11 +18,14 @@ use Rattle.ira_cert.proofs.Prefixes.{sound_more}
 use Rattle.ira_elim.specs.Elimination.{IsFirstLeft, IsElimination}
 use Rattle.ira_elim.specs.Found.{candidate_count, IsAbsence}
 
-pub is_sound : (logs : List Log) (case : List Conjunct) (before : List CertStep) (fronts : List (Option (List ℕ))) (s : CertStep) → AreFrontsBehind logs case before fronts → IsElimination logs fronts s → IsSoundStep logs case before s
+pub is_sound : (logs : List Log) (case : List Conjunct) (before : List CertStep) (fronts : List (Option (List ℕ)))
+    (s : CertStep) → AreFrontsBehind logs case before fronts → IsElimination logs fronts s
+    → IsSoundStep logs case before s
 is_sound logs case before fronts s behind is = record {
   differ = is.differ;
   front = front_at logs case before fronts behind s.node s.pos is.front.0 is.front.1 is.front.2;
-  other_front = front_at logs case before fronts behind s.other s.other_pos is.other_front.0 is.other_front.1 is.other_front.2;
+  other_front = front_at logs case before fronts behind s.other s.other_pos is.other_front.0 is.other_front.1
+      is.other_front.2;
   happened_before = is.happened_before;
 }
 
@@ -30,25 +34,35 @@ last_at [] x = refl
 last_at (y ∷ xs) x = last_at xs x
 
 -- the steps made are sound, and the lists are those left after them
-pub record AreMade (logs : List Log) (case : List Conjunct) (steps : List CertStep) (fronts : List (Option (List ℕ))) : Type 0 where
+pub record AreMade (logs : List Log) (case : List Conjunct) (steps : List CertStep) (fronts : List (Option (List ℕ)))
+    : Type 0 where
   pub sound : AreSoundSteps logs case steps
   pub behind : AreFrontsBehind logs case steps fronts
 
-pub none_made : (logs : List Log) (case : List Conjunct) (steps : List CertStep) (fronts : List (Option (List ℕ))) → AreFronts logs case fronts → steps ≡ [] → AreMade logs case steps fronts
+pub none_made : (logs : List Log) (case : List Conjunct) (steps : List CertStep) (fronts : List (Option (List ℕ)))
+    → AreFronts logs case fronts → steps ≡ [] → AreMade logs case steps fronts
 none_made logs case steps fronts fronts_are e =
-    subst (λ (ss : List CertStep). AreMade logs case ss fronts) (sym e) (record { sound = λ k s at. cc; behind = all_left logs case fronts fronts_are })
+    subst (λ (ss : List CertStep). AreMade logs case ss fronts) (sym e)
+    (record { sound = λ k s at. cc; behind = all_left logs case fronts fronts_are })
 
 -- one step more
-pub made_more : (logs : List Log) (case : List Conjunct) (steps more : List CertStep) (fronts left : List (Option (List ℕ))) (s : CertStep) → HasDifferentPlaces case → AreMade logs case steps fronts → IsElimination logs fronts s → more ≡ steps ++ s ∷ [] → left ≡ one_fewer fronts s.node → AreMade logs case more left
+pub made_more : (logs : List Log) (case : List Conjunct) (steps more : List CertStep)
+    (fronts left : List (Option (List ℕ))) (s : CertStep) → HasDifferentPlaces case → AreMade logs case steps fronts
+    → IsElimination logs fronts s → more ≡ steps ++ s ∷ [] → left ≡ one_fewer fronts s.node
+    → AreMade logs case more left
 made_more logs case steps more fronts left s differ made is pushed e =
     let k : ℕ = length steps in
     let xs : List CertStep = steps ++ s ∷ [] in
     let at : slice_get xs k ≡ Some s = last_at steps s in
     let begin : take k xs ≡ steps = take-append_seam steps (s ∷ []) in
     let whole : take (k + 1) xs ≡ xs = take_all (k + 1) xs (omega (arith, length-append steps (s ∷ []))) in
-    let sound : IsSoundStep logs case (take k xs) s = subst (λ (before : List CertStep). IsSoundStep logs case before s) (sym begin) (is_sound logs case steps fronts s made.behind is) in
-    let before : AreSoundSteps logs case (take k xs) = subst (λ (ys : List CertStep). AreSoundSteps logs case ys) (sym begin) made.sound in
-    let behind : AreFrontsBehind logs case (take k xs) fronts = subst (λ (ys : List CertStep). AreFrontsBehind logs case ys fronts) (sym begin) made.behind in
+    let sound : IsSoundStep logs case (take k xs) s =
+    subst (λ (before : List CertStep). IsSoundStep logs case before s) (sym begin)
+    (is_sound logs case steps fronts s made.behind is) in
+    let before : AreSoundSteps logs case (take k xs) =
+    subst (λ (ys : List CertStep). AreSoundSteps logs case ys) (sym begin) made.sound in
+    let behind : AreFrontsBehind logs case (take k xs) fronts =
+    subst (λ (ys : List CertStep). AreFrontsBehind logs case ys fronts) (sym begin) made.behind in
     subst (λ (ys : List CertStep). AreMade logs case ys left) (whole ∙ sym pushed) (record {
       sound = sound_more logs case xs k s at before sound;
       behind = left_on logs case differ xs k s at sound fronts behind left e;
@@ -62,20 +76,24 @@ fewer : (left : List ℕ) (p : ℕ) → slice_get left 0 ≡ Some p → length l
 fewer [] p at = cc
 fewer (x ∷ xs) p at = omega arith
 
-pub total_less : (fronts : List (Option (List ℕ))) (i p : ℕ) → IsFirstLeft fronts i p → total fronts ≡ total (one_fewer fronts i) + 1
+pub total_less : (fronts : List (Option (List ℕ))) (i p : ℕ) → IsFirstLeft fronts i p
+    → total fronts ≡ total (one_fewer fronts i) + 1
 total_less fronts i p first =
     let at : slice_index_or fronts i None ≡ Some first.0 = get_or_from_slice_get fronts i (Some first.0) None first.1 in
     let next : Option (List ℕ) = option_map (λ xs. drop 1 xs) (slice_index_or fronts i None) in
     let changed = sum_by-set candidate_count fronts i next None (slice_get_within fronts i (Some first.0) first.1) in
     let old : candidate_count (slice_index_or fronts i None) ≡ length first.0 = ap candidate_count at in
-    let new : candidate_count next ≡ length (drop 1 first.0) = ap (λ (o : Option (List ℕ)). candidate_count (option_map (λ xs. drop 1 xs) o)) at in
+    let new : candidate_count next ≡ length (drop 1 first.0) =
+    ap (λ (o : Option (List ℕ)). candidate_count (option_map (λ xs. drop 1 xs) o)) at in
     omega (arith, changed, old, new, fewer first.0 p first.2)
 
 pub one_fewer-length : (fronts : List (Option (List ℕ))) (i : ℕ) → length (one_fewer fronts i) ≡ length fronts
 one_fewer-length fronts i = length-set fronts i (option_map (λ xs. drop 1 xs) (slice_index_or fronts i None))
 
 -- after the steps made a node without a candidate left is spent
-pub absent : (logs : List Log) (case : List Conjunct) (first fronts : List (Option (List ℕ))) (steps : List CertStep) (spent : ℕ) → AreFronts logs case first → AreMade logs case steps fronts → length steps + total fronts ≡ total first → slice_get fronts spent ≡ Some (Some []) → IsAbsence logs case (record { steps = steps; spent = spent })
+pub absent : (logs : List Log) (case : List Conjunct) (first fronts : List (Option (List ℕ))) (steps : List CertStep)
+    (spent : ℕ) → AreFronts logs case first → AreMade logs case steps fronts → length steps + total fronts ≡ total first
+    → slice_get fronts spent ≡ Some (Some []) → IsAbsence logs case (record { steps = steps; spent = spent })
 absent logs case first fronts steps spent fronts_are made count empty = record {
   sound = record { steps = made.sound; spent = spent_at logs case steps fronts made.behind spent [] empty refl };
   fronts = first;

@@ -17,15 +17,18 @@ use Rattle.ira_cert.proofs.Behind.{slice_get-drop}
 use Rattle.ira_elim.specs.Elimination.{ArePlaces, IsFirstLeft, AreWithin}
 
 holds_within : (log : Log) (f : Formula) (p : ℕ) → HoldsAt log f p → p ≤ length log.events
-holds_within log f p h = ((states_are_reached log.nodes (first_state log.initiator) log.events h.states h.states_are p h.state).0 h.at).0
+holds_within log f p h = ((states_are_reached log.nodes (first_state log.initiator) log.events h.states h.states_are p
+    h.state).0 h.at).0
 
 -- a candidate by its number is one
 pub is_member : (xs : List ℕ) (k p : ℕ) → slice_get xs k ≡ Some p → Contains xs p
 is_member xs k p at = (k, slice_get_within xs k p at, get_or_from_slice_get xs k p p at)
 
-module _ (logs : List Log) (case : List Conjunct) (before : List CertStep) (fronts : List (Option (List ℕ))) (behind : AreFrontsBehind logs case before fronts) where
+module _ (logs : List Log) (case : List Conjunct) (before : List CertStep) (fronts : List (Option (List ℕ)))
+    (behind : AreFrontsBehind logs case before fronts) where
   -- the first candidate left, as one of the whole list
-  pub first_at : (i p : ℕ) → IsFirstLeft fronts i p → (positions : List ℕ) × CandidatesOf logs case i positions × (slice_get positions (made before i) ≡ Some p)
+  pub first_at : (i p : ℕ) → IsFirstLeft fronts i p → (positions : List ℕ) × CandidatesOf logs case i positions
+      × (slice_get positions (made before i) ≡ Some p)
   first_at i p first =
       let h = behind.lists i first.0 first.1 in
       (h.0, h.1, sym (slice_get-drop (made before i) h.0) ∙ ap (λ (ys : List ℕ). slice_get ys 0) (sym h.3) ∙ first.2)
@@ -39,12 +42,18 @@ module _ (logs : List Log) (case : List Conjunct) (before : List CertStep) (fron
       (slice_get_within logs i of.log of.log_is, omega (arith, events, holds_within of.log of.formula p holds))
 
   -- each node that had a list still has one, and no other has
-  same_places : (first : List (Option (List ℕ))) → AreFronts logs case first → (i : ℕ) → HasList fronts i → HasList first i
+  same_places : (first : List (Option (List ℕ))) → AreFronts logs case first → (i : ℕ) → HasList fronts i
+      → HasList first i
   same_places first fronts_are i has = let h = behind.lists i has.0 has.1 in fronts_are.asked i (h.1.formula, h.1.asked)
 
-  kept_places : (first : List (Option (List ℕ))) → AreFronts logs case first → (i : ℕ) → HasList first i → HasList fronts i
+  kept_places : (first : List (Option (List ℕ))) → AreFronts logs case first → (i : ℕ) → HasList first i
+      → HasList fronts i
   kept_places first fronts_are i has = let h = fronts_are.lists i has.0 has.1 in behind.asked i (h.formula, h.asked)
 
   -- so the list of places stays the one of the places that have a list
-  pub places_stay : (first : List (Option (List ℕ))) (places : List ℕ) → AreFronts logs case first → ArePlaces first places → ArePlaces fronts places
-  places_stay first places fronts_are are i = (λ member. kept_places first fronts_are i ((are i).0 member), λ has. (are i).1 (same_places first fronts_are i has))
+  pub places_stay : (first : List (Option (List ℕ))) (places : List ℕ) → AreFronts logs case first
+      → ArePlaces first places → ArePlaces fronts places
+  places_stay first places fronts_are are i = (
+    λ member. kept_places first fronts_are i ((are i).0 member),
+    λ has. (are i).1 (same_places first fronts_are i has),
+  )

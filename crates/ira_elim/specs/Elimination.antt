@@ -1,6 +1,7 @@
 -- Helpers, no definitions: eliminations told by the candidates left of each node. That they are the sound
 -- steps of a section is proved.
-use Rattle.std.specs.Prelude.{◌≡◌, ◌≢◌, ℕ, ◌+◌, ◌<◌, ◌≤◌, ◌⊎◌, ◌↔◌, List, Option, Some, Contains, length, slice_get, slice_index}
+use Rattle.std.specs.Prelude.{◌≡◌, ◌≢◌, ℕ, ◌+◌, ◌<◌, ◌≤◌, ◌⊎◌, ◌↔◌, List, Option, Some, Contains, length, slice_get}
+use Rattle.std.specs.Prelude.{slice_index}
 use Rattle.ira_event.specs.Log.{Log}
 use Rattle.ira_pred.specs.Case.{Conjunct}
 use Rattle.ira_order.specs.Ring.{log_of}
@@ -34,7 +35,8 @@ AreWithin logs fronts = (i p : ℕ) → IsFirstLeft fronts i p → (i < length l
 
 -- each node that has a first candidate left stands there
 abbrev pub AreStands : List Log → List (Option (List ℕ)) → List Stand → Type 0
-AreStands logs fronts stands = (j q : ℕ) → IsFirstLeft fronts j q → (s : Stand) × (slice_get stands j ≡ Some s) × IsStand logs j q s
+AreStands logs fronts stands = (j q : ℕ) → IsFirstLeft fronts j q → (s : Stand) × (slice_get stands j ≡ Some s)
+    × IsStand logs j q s
 
 -- the step names the first candidates left of two different nodes, and the event that leads on from the one
 -- state happened before the event that led to the other

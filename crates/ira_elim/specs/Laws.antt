@@ -25,4 +25,5 @@ CasesAreAbsentOrPresent =
 
 -- no case has two least cuts
 abbrev pub NoCaseHasTwoLeastCuts : Type 0
-NoCaseHasTwoLeastCuts = (logs : List Log) (case : List Conjunct) (a b : List ℕ) → IsLeastCut logs case a → IsLeastCut logs case b → a ≡ b
+NoCaseHasTwoLeastCuts = (logs : List Log) (case : List Conjunct) (a b : List ℕ) → IsLeastCut logs case a
+    → IsLeastCut logs case b → a ≡ b

@@ -1,5 +1,6 @@
 -- Helpers, no definitions: where the nodes stand while states are eliminated, and what they know there.
-use Rattle.std.specs.Prelude.{◌≡◌, ◌≢◌, ℕ, ◌<◌, ◌≤◌, List, Option, Some, Contains, length, slice_get, slice_index, slice_set}
+use Rattle.std.specs.Prelude.{◌≡◌, ◌≢◌, ℕ, ◌<◌, ◌≤◌, List, Option, Some, Contains, length, slice_get, slice_index}
+use Rattle.std.specs.Prelude.{slice_set}
 use Rattle.ira_event.specs.declared.event.Event.TheVariants.{Got}
 use Rattle.ira_event.specs.declared.load.Load.{Load}
 use Rattle.ira_event.specs.Log.{Log}
@@ -32,7 +33,8 @@ AreNoReceipts log from to = (k : ℕ) (m : Load) → from ≤ k → k < to → s
 -- node j counts more events of node i than lie before i's position
 abbrev pub KnowsNext : List Stand → ℕ → ℕ → Type 0
 KnowsNext stands j i =
-    (s : Stand) × (t : Stand) × (slice_get stands i ≡ Some s) × (slice_get stands j ≡ Some t) × (s.position < slice_index t.counts i)
+    (s : Stand) × (t : Stand) × (slice_get stands i ≡ Some s) × (slice_get stands j ≡ Some t)
+    × (s.position < slice_index t.counts i)
 
 -- at each of these places a node stands, with a number for each node
 abbrev pub AreStanding : List Stand → List ℕ → Type 0

@@ -1,5 +1,6 @@
 -- Where to begin, of events without a step: there is such an event, and all that happened before it has steps.
-use Rattle.std.proofs.Common.{◌≡◌, ℕ, zero, suc, ◌+◌, ◌<◌, ◌≤◌, ◌⊎◌, inl, inr, false, get_or, List, [], ◌∷◌, ◌++◌, Some, drop, length, refl, sym, ◌∙◌, ap, subst, arith, take, length-append}
+use Rattle.std.proofs.Common.{◌≡◌, ℕ, zero, suc, ◌+◌, ◌<◌, ◌≤◌, ◌⊎◌, inl, inr, false, get_or, List, [], ◌∷◌, ◌++◌, Some}
+use Rattle.std.proofs.Common.{drop, length, refl, sym, ◌∙◌, ap, subst, arith, take, length-append}
 use Rattle.std.specs.Prelude.{slice_get}
 use Rattle.std.proofs.lemmas.Bool.{cases_eq, cases_lt}
 use Rattle.std.proofs.lemmas.List.{take-append-drop, take-append-le}
@@ -27,17 +28,21 @@ use Rattle.ira_evidence.specs.Stop.{IsFirstStop}
 abbrev pub stop_of : ℕ → ReplayFault → Stop
 stop_of i f = record { at = record { place = i; position = f.position }; fault = f.fault }
 
-pub is_stop : (logs : List Log) (i : ℕ) (log : Log) (f : ReplayFault) → slice_get logs i ≡ Some log → IsFirstFault log f → IsFirstStop logs (stop_of i f)
+pub is_stop : (logs : List Log) (i : ℕ) (log : Log) (f : ReplayFault) → slice_get logs i ≡ Some log → IsFirstFault log f
+    → IsFirstStop logs (stop_of i f)
 is_stop logs i log f at fault = record { log = log; log_is = at; fault = fault }
 
 -- a node has one
-pub same_stop : (logs : List Log) (i : ℕ) (log : Log) (f : ReplayFault) (s : Stop) → slice_get logs i ≡ Some log → IsFirstFault log f → IsFirstStop logs s → s.at.place ≡ i → stop_of i f ≡ s
+pub same_stop : (logs : List Log) (i : ℕ) (log : Log) (f : ReplayFault) (s : Stop) → slice_get logs i ≡ Some log
+    → IsFirstFault log f → IsFirstStop logs s → s.at.place ≡ i → stop_of i f ≡ s
 same_stop logs i log f s at fault is here =
     let there : slice_get logs i ≡ Some is.log = subst (λ k. slice_get logs k ≡ Some is.log) here is.log_is in
     let same : is.log ≡ log = cc in
-    let its : IsFirstFault log (record { position = s.at.position; fault = s.fault }) = subst (λ l. IsFirstFault l (record { position = s.at.position; fault = s.fault })) same is.fault in
+    let its : IsFirstFault log (record { position = s.at.position; fault = s.fault }) =
+    subst (λ l. IsFirstFault l (record { position = s.at.position; fault = s.fault })) same is.fault in
     let one : f ≡ record { position = s.at.position; fault = s.fault } = one_stop log f _ fault its in
-    ap (stop_of i) one ∙ ap (λ k. record { at = record { place = k; position = s.at.position }; fault = s.fault }) (sym here)
+    ap (stop_of i) one ∙ ap (λ k. record { at = record { place = k; position = s.at.position }; fault = s.fault })
+    (sym here)
 
 -- a stop is an event
 pub stop_event : (logs : List Log) (s : Stop) → IsFirstStop logs s → IsEventAt logs s.at
@@ -47,7 +52,13 @@ stop_event logs s is =
     record {
       place = slice_get_within logs s.at.place is.log is.log_is;
       first = omega (arith, is.fault.position);
-      last = omega (arith, is.fault.position, ap length events, parts, length-append is.fault.before (is.fault.event ∷ is.fault.after));
+      last = omega (
+        arith,
+        is.fault.position,
+        ap length events,
+        parts,
+        length-append is.fault.before (is.fault.event ∷ is.fault.after),
+      );
     }
 
 no_log : Log
@@ -68,7 +79,8 @@ module _ (logs : List Log) (order : List ℕ) (o : IsOrder logs order) (matches 
           | inl run ↦ inr (λ other is below. elim (cases_eq other.at.place n) [
             | inr ne ↦ before other is (omega (arith, below, ne))
             | inl here ↦
-                let there : slice_get logs n ≡ Some is.log = subst (λ k. slice_get logs k ≡ Some is.log) here is.log_is in
+                let there : slice_get logs n ≡ Some is.log =
+                subst (λ k. slice_get logs k ≡ Some is.log) here is.log_is in
                 let same : is.log ≡ get_or logs n no_log = cc in
                 absurd (run_or_fault is.log _ (subst IsLocalRun (sym same) run) is.fault)
           ])
@@ -77,41 +89,49 @@ module _ (logs : List Log) (order : List ℕ) (o : IsOrder logs order) (matches 
             | inr never ↦ inr (λ other is below. elim (cases_eq other.at.place n) [
               | inr ne ↦ before other is (omega (arith, below, ne))
               | inl here ↦ λ happened.
-                  let same : stop_of n stops.0 ≡ other = same_stop logs n (get_or logs n no_log) stops.0 other at stops.1 is here in
+                  let same : stop_of n stops.0 ≡ other =
+                  same_stop logs n (get_or logs n no_log) stops.0 other at stops.1 is here in
                   never (subst (λ (x : Stop). HappenedBefore logs x.at s.at) (sym same) happened)
             ])
           ]
         ]
   ]
 
-  go_back : (room : ℕ) (s : Stop) (t : ℕ) → t < room → StandsAt order t s.at.place s.at.position → IsFirstStop logs s → IsBeginning logs s ⊎ ((b : Stop) × IsBeginning logs b × HappenedBefore logs b.at s.at)
+  go_back : (room : ℕ) (s : Stop) (t : ℕ) → t < room → StandsAt order t s.at.place s.at.position → IsFirstStop logs s
+      → IsBeginning logs s ⊎ ((b : Stop) × IsBeginning logs b × HappenedBefore logs b.at s.at)
   go_back zero s t l stands is = absurd (omega (arith, l))
   go_back (suc room) s t l stands is = elim (earlier s (length logs) (omega arith)) [
     | inr none ↦ inl (record { stop = is; least = λ other first. none other first (stop_event logs other first).place })
     | inl found ↦
         let event = stop_event logs found.0 found.1 in
         let there = place_of logs order o found.0.at.place found.0.at.position event.place event.first event.last in
-        let lower : there.0 < t = before_stands logs order o found.0.at.place found.0.at.position s.at.place s.at.position found.2 there.0 t there.1 stands in
+        let lower : there.0 < t =
+        before_stands logs order o found.0.at.place found.0.at.position s.at.place s.at.position found.2 there.0 t
+        there.1 stands in
         elim (go_back room found.0 there.0 (omega (arith, l, lower)) there.1 found.1) [
           | inl here ↦ inr (found.0, here, found.2)
           | inr further ↦ inr (further.0, further.1, onward further.2 found.2)
         ]
   ]
 
-pub some_beginning : (logs : List Log) (named : Stop) → HasOrder logs → IsFirstStop logs named → IsBeginning logs named ⊎ ((s : Stop) × IsBeginning logs s × HappenedBefore logs s.at named.at)
+pub some_beginning : (logs : List Log) (named : Stop) → HasOrder logs → IsFirstStop logs named → IsBeginning logs named
+    ⊎ ((s : Stop) × IsBeginning logs s × HappenedBefore logs s.at named.at)
 some_beginning logs named has is =
     let event = stop_event logs named is in
     let here = place_of logs has.1 has.2 named.at.place named.at.position event.place event.first event.last in
     go_back logs has.1 has.2 has.0 (here.0 + 1) named here.0 (omega arith) here.1 is
 
 -- the beginning of what leads on leads on
-leads_begun : (n : ℕ) (s : NodeState) (es : List Event) (t : NodeState) (b : ℕ) → LeadsTo n s es t → (u : NodeState) × LeadsTo n s (take b es) u
+leads_begun : (n : ℕ) (s : NodeState) (es : List Event) (t : NodeState) (b : ℕ) → LeadsTo n s es t → (u : NodeState)
+    × LeadsTo n s (take b es) u
 leads_begun n s es t b leads =
-    let parts : LeadsTo n s (take b es ++ drop b es) t = subst (λ xs. LeadsTo n s xs t) (sym (take-append-drop b es)) leads in
+    let parts : LeadsTo n s (take b es ++ drop b es) t =
+    subst (λ xs. LeadsTo n s xs t) (sym (take-append-drop b es)) leads in
     let split = leads_split n s (take b es) (drop b es) t parts in
     (split.0, split.1)
 
-pub steps_before : (logs : List Log) (s : Stop) (j b : ℕ) (log : Log) → IsBeginning logs s → Before logs j b s.at.place s.at.position → slice_get logs j ≡ Some log
+pub steps_before : (logs : List Log) (s : Stop) (j b : ℕ) (log : Log) → IsBeginning logs s
+    → Before logs j b s.at.place s.at.position → slice_get logs j ≡ Some log
     → (t : NodeState) × LeadsTo log.nodes (first_state log.initiator) (take b log.events) t
 steps_before logs s j b log is before at = elim (run_or_stop log) [
   | inl run ↦ leads_begun log.nodes (first_state log.initiator) log.events run.0 b run.1
@@ -119,7 +139,8 @@ steps_before logs s j b log is before at = elim (run_or_stop log) [
     | inl low ↦
         let f = stops.1 in
         let short : b ≤ length stops.1.before = omega (arith, low, stops.1.position) in
-        let front : take b log.events ≡ take b stops.1.before = ap (take b) stops.1.parts ∙ take-append-le b stops.1.before (stops.1.event ∷ stops.1.after) short in
+        let front : take b log.events ≡ take b stops.1.before =
+        ap (take b) stops.1.parts ∙ take-append-le b stops.1.before (stops.1.event ∷ stops.1.after) short in
         let begun = leads_begun log.nodes (first_state log.initiator) stops.1.before stops.1.state b stops.1.leads in
         (begun.0, subst (λ xs. LeadsTo log.nodes (first_state log.initiator) xs begun.0) (sym front) begun.1)
     | inr high ↦
@@ -129,7 +150,8 @@ steps_before logs s j b log is before at = elim (run_or_stop log) [
           | inl same ↦ absurd (is.least (stop_of j stops.0) stop (rw same before))
           | inr other ↦
               let event = stop_event logs (stop_of j stops.0) stop in
-              absurd (is.least (stop_of j stops.0) stop (onward (own refl event.place event.first (omega (arith, high, other)) w.1) before))
+              absurd (is.least (stop_of j stops.0) stop
+              (onward (own refl event.place event.first (omega (arith, high, other)) w.1) before))
         ]
   ]
 ]

@@ -1,5 +1,6 @@
 -- The stops to begin with, as they are listed.
-use Rattle.std.proofs.Common.{◌≡◌, ◌↔◌, ℕ, ◌+◌, ◌<◌, ◌≤◌, inl, inr, IsTrue, List, [], ◌∷◌, ◌++◌, Some, length, sym, ◌∙◌, ap, subst, arith, get_or}
+use Rattle.std.proofs.Common.{◌≡◌, ◌↔◌, ℕ, ◌+◌, ◌<◌, ◌≤◌, inl, inr, IsTrue, List, [], ◌∷◌, ◌++◌, Some, length, sym, ◌∙◌}
+use Rattle.std.proofs.Common.{ap, subst, arith, get_or}
 use Rattle.std.specs.Prelude.{slice_get}
 use Rattle.std.proofs.lemmas.Bool.{cases_eq}
 use Rattle.std.proofs.lemmas.Option.{slice_get-get_or, slice_get_within}
@@ -28,7 +29,9 @@ module _ (logs : List Log) (stops : List Stop) (are : AreFirstStops logs stops) 
   event_listed = stop_event logs (stop_at stops k) stop_listed
 
 -- what holds of the first stops, and of the next one, holds of one more
-pub stops_below : (stops : List Stop) (P : Stop → Type 0) (h : ℕ) → h < length stops → ((k : ℕ) (s : Stop) → k < h → slice_get stops k ≡ Some s → P s) → P (stop_at stops h) → (k : ℕ) (s : Stop) → k < h + 1 → slice_get stops k ≡ Some s → P s
+pub stops_below : (stops : List Stop) (P : Stop → Type 0) (h : ℕ) → h < length stops
+    → ((k : ℕ) (s : Stop) → k < h → slice_get stops k ≡ Some s → P s) → P (stop_at stops h) → (k : ℕ) (s : Stop)
+    → k < h + 1 → slice_get stops k ≡ Some s → P s
 stops_below stops P h l before here k s below at = elim (cases_eq k h) [
   | inr ne ↦ before k s (omega (arith, below, ne)) at
   | inl same ↦
@@ -39,11 +42,16 @@ stops_below stops P h l before here k s below at = elim (cases_eq k h) [
 ]
 
 -- those among the first h stops
-pub record BeginningsSoFar (logs : List Log) (named : EventAt) (stops : List Stop) (h : ℕ) (bs : List Beginning) : Type 0 where
-  pub each : (k : ℕ) (b : Beginning) → slice_get bs k ≡ Some b → IsBeginning logs b.stop × (IsTrue b.happened_before ↔ HappenedBefore logs b.stop.at named)
-  pub listed_in : (k : ℕ) (b : Beginning) → slice_get bs k ≡ Some b → (i : ℕ) × (i < h) × (slice_get stops i ≡ Some b.stop)
-  pub all : (i : ℕ) (s : Stop) → i < h → slice_get stops i ≡ Some s → IsBeginning logs s → (k : ℕ) × (b : Beginning) × (slice_get bs k ≡ Some b) × (b.stop ≡ s)
-  pub rise : (k j : ℕ) (a b : Beginning) → k < j → slice_get bs k ≡ Some a → slice_get bs j ≡ Some b → a.stop.at.place < b.stop.at.place
+pub record BeginningsSoFar (logs : List Log) (named : EventAt) (stops : List Stop) (h : ℕ) (bs : List Beginning)
+    : Type 0 where
+  pub each : (k : ℕ) (b : Beginning) → slice_get bs k ≡ Some b → IsBeginning logs b.stop
+      × (IsTrue b.happened_before ↔ HappenedBefore logs b.stop.at named)
+  pub listed_in : (k : ℕ) (b : Beginning) → slice_get bs k ≡ Some b → (i : ℕ) × (i < h)
+      × (slice_get stops i ≡ Some b.stop)
+  pub all : (i : ℕ) (s : Stop) → i < h → slice_get stops i ≡ Some s → IsBeginning logs s → (k : ℕ) × (b : Beginning)
+      × (slice_get bs k ≡ Some b) × (b.stop ≡ s)
+  pub rise : (k j : ℕ) (a b : Beginning) → k < j → slice_get bs k ≡ Some a → slice_get bs j ≡ Some b
+      → a.stop.at.place < b.stop.at.place
 
 pub no_beginnings : (logs : List Log) (named : EventAt) (stops : List Stop) → BeginningsSoFar logs named stops 0 []
 no_beginnings logs named stops = record {
@@ -53,19 +61,24 @@ no_beginnings logs named stops = record {
   rise = λ k j a b less at there. absurd cc;
 }
 
-module _ (logs : List Log) (named : EventAt) (stops : List Stop) (h : ℕ) (bs : List Beginning) (are : AreFirstStops logs stops) (l : h < length stops) (so_far : BeginningsSoFar logs named stops h bs) where
+module _ (logs : List Log) (named : EventAt) (stops : List Stop) (h : ℕ) (bs : List Beginning)
+    (are : AreFirstStops logs stops) (l : h < length stops) (so_far : BeginningsSoFar logs named stops h bs) where
   -- a stop more that is none to begin with
-  pub beginnings_over : (other : Stop) → IsFirstStop logs other → HappenedBefore logs other.at (stop_at stops h).at → BeginningsSoFar logs named stops (h + 1) bs
+  pub beginnings_over : (other : Stop) → IsFirstStop logs other → HappenedBefore logs other.at (stop_at stops h).at
+      → BeginningsSoFar logs named stops (h + 1) bs
   beginnings_over other first happened = record {
     each = so_far.each;
     listed_in = λ k b at. (let found = so_far.listed_in k b at in (found.0, omega (arith, found.1), found.2));
-    all = stops_below stops (λ s. IsBeginning logs s → (k : ℕ) × (b : Beginning) × (slice_get bs k ≡ Some b) × (b.stop ≡ s)) h l so_far.all (λ is. absurd (is.least other first happened));
+    all = stops_below stops (λ s. IsBeginning logs s → (k : ℕ) × (b : Beginning) × (slice_get bs k ≡ Some b)
+        × (b.stop ≡ s)) h l so_far.all (λ is. absurd (is.least other first happened));
     rise = so_far.rise;
   }
 
   -- and one that is
-  pub beginnings_more : (b : Beginning) → b.stop ≡ stop_at stops h → ((other : Stop) → IsFirstStop logs other → HappenedBefore logs other.at (stop_at stops h).at → ⊥)
-      → (IsTrue b.happened_before ↔ HappenedBefore logs (stop_at stops h).at named) → BeginningsSoFar logs named stops (h + 1) (bs ++ b ∷ [])
+  pub beginnings_more : (b : Beginning) → b.stop ≡ stop_at stops h
+      → ((other : Stop) → IsFirstStop logs other → HappenedBefore logs other.at (stop_at stops h).at → ⊥)
+      → (IsTrue b.happened_before ↔ HappenedBefore logs (stop_at stops h).at named)
+      → BeginningsSoFar logs named stops (h + 1) (bs ++ b ∷ [])
   beginnings_more b same least before =
       let is : IsBeginning logs b.stop = rw same (record { stop = stop_listed logs stops are h l; least = least }) in
       let before' : IsTrue b.happened_before ↔ HappenedBefore logs b.stop.at named = rw same before in
@@ -73,14 +86,21 @@ module _ (logs : List Log) (named : EventAt) (stops : List Stop) (h : ℕ) (bs :
       record {
         each = λ k c at. elim (pushed_cases bs b c k at) [
           | inl old ↦ so_far.each k c old
-          | inr new ↦ subst (λ (x : Beginning). IsBeginning logs x.stop × (IsTrue x.happened_before ↔ HappenedBefore logs x.stop.at named)) new.1 (is, before')
+          | inr new ↦ subst (λ (x : Beginning). IsBeginning logs x.stop
+              × (IsTrue x.happened_before ↔ HappenedBefore logs x.stop.at named)) new.1 (is, before')
         ];
         listed_in = λ k c at. elim (pushed_cases bs b c k at) [
           | inl old ↦ (let found = so_far.listed_in k c old in (found.0, omega (arith, found.1), found.2))
-          | inr new ↦ subst (λ (x : Beginning). (i : ℕ) × (i < h + 1) × (slice_get stops i ≡ Some x.stop)) new.1 (h, omega arith, here)
+          | inr new ↦ subst (λ (x : Beginning). (i : ℕ) × (i < h + 1) × (slice_get stops i ≡ Some x.stop)) new.1 (
+            h,
+            omega arith,
+            here,
+          )
         ];
-        all = stops_below stops (λ s. IsBeginning logs s → (k : ℕ) × (c : Beginning) × (slice_get (bs ++ b ∷ []) k ≡ Some c) × (c.stop ≡ s)) h l
-            (λ i s below at begins. (let found = so_far.all i s below at begins in (found.0, found.1, pushed_old bs b found.1 found.0 found.2, found.3)))
+        all = stops_below stops (λ s. IsBeginning logs s → (k : ℕ) × (c : Beginning)
+            × (slice_get (bs ++ b ∷ []) k ≡ Some c) × (c.stop ≡ s)) h l
+            (λ i s below at begins. (let found = so_far.all i s below at begins in
+            (found.0, found.1, pushed_old bs b found.1 found.0 found.2, found.3)))
             (λ begins. (length bs, b, pushed_last bs b, same));
         rise = λ k j a c less at there. elim (pushed_cases bs b c j there) [
           | inl old ↦ elim (pushed_cases bs b a k at) [
@@ -97,9 +117,11 @@ module _ (logs : List Log) (named : EventAt) (stops : List Stop) (h : ℕ) (bs :
         ];
       }
 
-pub beginnings_all : (logs : List Log) (named : EventAt) (stops : List Stop) (h : ℕ) (bs : List Beginning) → AreFirstStops logs stops → length stops ≤ h → BeginningsSoFar logs named stops h bs → AreBeginnings logs named bs
+pub beginnings_all : (logs : List Log) (named : EventAt) (stops : List Stop) (h : ℕ) (bs : List Beginning)
+    → AreFirstStops logs stops → length stops ≤ h → BeginningsSoFar logs named stops h bs → AreBeginnings logs named bs
 beginnings_all logs named stops h bs are whole so_far = record {
   each = so_far.each;
-  all = λ s is. (let found = are.all s is.stop in so_far.all found.0 s (omega (arith, whole, slice_get_within stops found.0 s found.1)) found.1 is);
+  all = λ s is. (let found = are.all s is.stop in
+      so_far.all found.0 s (omega (arith, whole, slice_get_within stops found.0 s found.1)) found.1 is);
   rise = so_far.rise;
 }

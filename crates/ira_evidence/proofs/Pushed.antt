@@ -1,14 +1,20 @@
 -- Members of a list with one more at its end.
-use Rattle.std.proofs.Common.{◌≡◌, ℕ, zero, suc, ◌⊎◌, inl, inr, List, [], ◌∷◌, ◌++◌, Some, length, refl, ap, arith, subst}
+use Rattle.std.proofs.Common.{◌≡◌, ℕ, zero, suc, ◌⊎◌, inl, inr, List, [], ◌∷◌, ◌++◌, Some, length, refl, ap, arith}
+use Rattle.std.proofs.Common.{subst}
 use Rattle.std.specs.Prelude.{slice_get}
 
-pub pushed_cases : {X : Type 0} → (xs : List X) (x y : X) (j : ℕ) → slice_get (xs ++ x ∷ []) j ≡ Some y → (slice_get xs j ≡ Some y) ⊎ ((j ≡ length xs) × (x ≡ y))
+pub pushed_cases : {X : Type 0} → (xs : List X) (x y : X) (j : ℕ) → slice_get (xs ++ x ∷ []) j ≡ Some y
+    → (slice_get xs j ≡ Some y) ⊎ ((j ≡ length xs) × (x ≡ y))
 pushed_cases [] x y zero h = inr (refl, cc)
 pushed_cases [] x y (suc j) h = absurd cc
 pushed_cases (z ∷ zs) x y zero h = inl h
-pushed_cases (z ∷ zs) x y (suc j) h = elim (pushed_cases zs x y j h) [ inl old ↦ inl old | inr new ↦ inr (ap suc new.0, new.1) ]
+pushed_cases (z ∷ zs) x y (suc j) h = elim (pushed_cases zs x y j h) [
+  | inl old ↦ inl old
+  | inr new ↦ inr (ap suc new.0, new.1)
+]
 
-pub pushed_old : {X : Type 0} → (xs : List X) (x y : X) (j : ℕ) → slice_get xs j ≡ Some y → slice_get (xs ++ x ∷ []) j ≡ Some y
+pub pushed_old : {X : Type 0} → (xs : List X) (x y : X) (j : ℕ) → slice_get xs j ≡ Some y
+    → slice_get (xs ++ x ∷ []) j ≡ Some y
 pushed_old [] x y j h = absurd cc
 pushed_old (z ∷ zs) x y zero h = h
 pushed_old (z ∷ zs) x y (suc j) h = pushed_old zs x y j h
@@ -18,7 +24,9 @@ pushed_last [] x = refl
 pushed_last (z ∷ zs) x = pushed_last zs x
 
 -- what holds of each, and of the new one, holds of each
-pub each_pushed : {X : Type 0} → (P : ℕ → X → Type 0) (xs : List X) (n : ℕ) (x : X) → length xs ≡ n → ((j : ℕ) (y : X) → slice_get xs j ≡ Some y → P j y) → P n x → (j : ℕ) (y : X) → slice_get (xs ++ x ∷ []) j ≡ Some y → P j y
+pub each_pushed : {X : Type 0} → (P : ℕ → X → Type 0) (xs : List X) (n : ℕ) (x : X) → length xs ≡ n
+    → ((j : ℕ) (y : X) → slice_get xs j ≡ Some y → P j y) → P n x → (j : ℕ) (y : X)
+    → slice_get (xs ++ x ∷ []) j ≡ Some y → P j y
 each_pushed P xs n x many before here j y h = elim (pushed_cases xs x y j h) [
   | inl old ↦ before j y old
   | inr new ↦

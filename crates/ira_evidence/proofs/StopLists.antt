@@ -15,7 +15,8 @@ use Rattle.ira_evidence.proofs.Pushed.{pushed_cases, pushed_last, pushed_old}
 pub record StopsSoFar (logs : List Log) (stops : List Stop) (n : ℕ) : Type 0 where
   pub each : (k : ℕ) (s : Stop) → slice_get stops k ≡ Some s → IsFirstStop logs s × (s.at.place < n)
   pub all : (s : Stop) → IsFirstStop logs s → s.at.place < n → (k : ℕ) × (slice_get stops k ≡ Some s)
-  pub rise : (k h : ℕ) (s t : Stop) → k < h → slice_get stops k ≡ Some s → slice_get stops h ≡ Some t → s.at.place < t.at.place
+  pub rise : (k h : ℕ) (s t : Stop) → k < h → slice_get stops k ≡ Some s → slice_get stops h ≡ Some t
+      → s.at.place < t.at.place
 
 pub no_stops : (logs : List Log) → StopsSoFar logs [] 0
 no_stops logs = record {
@@ -25,7 +26,8 @@ no_stops logs = record {
 }
 
 -- a node more, without a stop
-pub stops_over : (logs : List Log) (stops : List Stop) (n : ℕ) (log : Log) → slice_get logs n ≡ Some log → ((f : ReplayFault) → IsFirstFault log f → ⊥) → StopsSoFar logs stops n → StopsSoFar logs stops (n + 1)
+pub stops_over : (logs : List Log) (stops : List Stop) (n : ℕ) (log : Log) → slice_get logs n ≡ Some log
+    → ((f : ReplayFault) → IsFirstFault log f → ⊥) → StopsSoFar logs stops n → StopsSoFar logs stops (n + 1)
 stops_over logs stops n log at none so_far = record {
   each = λ k s there. ((so_far.each k s there).0, omega (arith, (so_far.each k s there).1));
   all = λ s is below. elim (cases_eq s.at.place n) [
@@ -33,25 +35,34 @@ stops_over logs stops n log at none so_far = record {
     | inl here ↦
         let there : slice_get logs n ≡ Some is.log = subst (λ k. slice_get logs k ≡ Some is.log) here is.log_is in
         let same : is.log ≡ log = cc in
-        absurd (none _ (subst (λ l. IsFirstFault l (record { position = s.at.position; fault = s.fault })) same is.fault))
+        absurd (none _ (subst (λ l. IsFirstFault l (record { position = s.at.position; fault = s.fault })) same
+        is.fault))
   ];
   rise = so_far.rise;
 }
 
 -- a node more, with one
-pub stops_more : (logs : List Log) (stops : List Stop) (n : ℕ) (log : Log) (f : ReplayFault) → slice_get logs n ≡ Some log → IsFirstFault log f → StopsSoFar logs stops n → StopsSoFar logs (stops ++ stop_of n f ∷ []) (n + 1)
+pub stops_more : (logs : List Log) (stops : List Stop) (n : ℕ) (log : Log) (f : ReplayFault)
+    → slice_get logs n ≡ Some log → IsFirstFault log f → StopsSoFar logs stops n
+    → StopsSoFar logs (stops ++ stop_of n f ∷ []) (n + 1)
 stops_more logs stops n log f at fault so_far = record {
   each = λ k s there. elim (pushed_cases stops (stop_of n f) s k there) [
     | inl old ↦ ((so_far.each k s old).0, omega (arith, (so_far.each k s old).1))
-    | inr new ↦ subst (λ (x : Stop). IsFirstStop logs x × (x.at.place < n + 1)) new.1 (is_stop logs n log f at fault, omega arith)
+    | inr new ↦ subst (λ (x : Stop). IsFirstStop logs x × (x.at.place < n + 1)) new.1 (
+      is_stop logs n log f at fault,
+      omega arith,
+    )
   ];
   all = λ s is below. elim (cases_eq s.at.place n) [
     | inr ne ↦
         let found = so_far.all s is (omega (arith, below, ne)) in
         (found.0, pushed_old stops (stop_of n f) s found.0 found.1)
     | inl here ↦
-        let same : stop_of n f ≡ s = same_stop logs n log f s at fault is here in
-        (length stops, subst (λ (x : Stop). slice_get (stops ++ stop_of n f ∷ []) (length stops) ≡ Some x) same (pushed_last stops (stop_of n f)))
+        let same : stop_of n f ≡ s = same_stop logs n log f s at fault is here in (
+          length stops,
+          subst (λ (x : Stop). slice_get (stops ++ stop_of n f ∷ []) (length stops)
+              ≡ Some x) same (pushed_last stops (stop_of n f)),
+        )
   ];
   rise = λ k h s t less there further. elim (pushed_cases stops (stop_of n f) t h further) [
     | inl old ↦ elim (pushed_cases stops (stop_of n f) s k there) [
@@ -65,7 +76,8 @@ stops_more logs stops n log f at fault so_far = record {
   ];
 }
 
-pub stops_all : (logs : List Log) (stops : List Stop) (n : ℕ) → length logs ≤ n → StopsSoFar logs stops n → AreFirstStops logs stops
+pub stops_all : (logs : List Log) (stops : List Stop) (n : ℕ) → length logs ≤ n → StopsSoFar logs stops n
+    → AreFirstStops logs stops
 stops_all logs stops n whole so_far = record {
   each = λ k s at. (so_far.each k s at).0;
   all = λ s is. so_far.all s is (omega (arith, whole, (stop_event logs s is).place));

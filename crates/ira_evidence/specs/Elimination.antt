@@ -17,9 +17,11 @@ IsEliminated all i p =
     (h : ℕ) × (e : Elimination) × (slice_get all h ≡ Some e) × (e.node ≡ i) × (e.first ≤ p) × (p ≤ e.last)
 
 -- after those before it: the event after its last state happened before the one that led to the other node's state, and
--- so did the event after each of its states that the case asks for; and the other node's earlier states that the case asks
+-- so did the event after each of its states that the case asks for; and the other node's earlier states that the case
+-- asks
 -- for are eliminated
-pub record IsElimination (logs : List Log) (case : List Conjunct) (before : List Elimination) (e : Elimination) : Type 0 where
+pub record IsElimination (logs : List Log) (case : List Conjunct) (before : List Elimination) (e : Elimination)
+    : Type 0 where
   pub differ : e.node ≢ e.other
   pub over : Before logs e.node (e.last + 1) e.other e.other_pos
   pub each :

@@ -16,7 +16,8 @@ use Rattle.ira_evidence.specs.declared.section_evidence.SectionEvidence.{Section
 use Rattle.ira_evidence.specs.declared.section_evidence.SectionEvidence.TheVariants.{Unsound, NotSpent}
 
 -- the first step that isn't sound, why, and what the steps before it left of the candidates of its two nodes
-pub record IsUnsoundStep (logs : List Log) (case : List Conjunct) (steps : List CertStep) (u : UnsoundStep) : Type 0 where
+pub record IsUnsoundStep (logs : List Log) (case : List Conjunct) (steps : List CertStep) (u : UnsoundStep)
+    : Type 0 where
   pub before : AreSoundSteps logs case (take u.number steps)
   pub at : slice_get steps u.number ≡ Some u.step
   pub reason : WhyUnsound logs case (take u.number steps) u.step u.why
@@ -27,10 +28,12 @@ pub record IsUnsoundStep (logs : List Log) (case : List Conjunct) (steps : List 
 abbrev pub AreLeftOf : {A : Type 0} → List Log → List Conjunct → List CertStep → ℕ → Option (Vec ℕ A) → Type 0
 AreLeftOf logs case steps i None = ¬ (IsAsked case i)
 AreLeftOf logs case steps i (Some left) =
-    (positions : List ℕ) × CandidatesOf logs case i positions × (left.items ≡ drop (made steps i) positions) × (left.items ≢ [])
+    (positions : List ℕ) × CandidatesOf logs case i positions × (left.items ≡ drop (made steps i) positions)
+    × (left.items ≢ [])
 
 -- all steps are sound, and the node that the section calls spent isn't asked or has these candidates left
-pub record IsUnspent {A : Type 0} (logs : List Log) (case : List Conjunct) (section : Section) (u : Unspent A) : Type 0 where
+pub record IsUnspent {A : Type 0} (logs : List Log) (case : List Conjunct) (section : Section) (u : Unspent A)
+    : Type 0 where
   pub sound : AreSoundSteps logs case section.steps
   pub place : u.place ≡ section.spent
   pub left : AreLeftOf logs case section.steps section.spent u.left

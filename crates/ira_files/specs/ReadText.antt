@@ -11,7 +11,8 @@ pub record IsReadOnce (old new : Reads) (bytes : List ℕ) : Type 0 where
   pub end : new.is_over ≡ true → (bytes ≡ []) × IsAtEnd new.left
   pub fine : new.has_failed ≡ false
 
--- the text is what the reader had left, to its end or to the limit, whichever came first; that it goes to the end is said
+-- the text is what the reader had left, to its end or to the limit, whichever came first; that it goes to the end is
+-- said
 -- of a reader that wasn't over. No read failed, if none had failed before
 pub record IsReadTo (limit : ℕ) (old new : Reads) (text : List ℕ) : Type 0 where
   pub bytes : Consumes old.left new.left text

@@ -1,5 +1,7 @@
 -- The first file of a name, and what is read of it.
-use Rattle.std.proofs.Common.{◌≡◌, ◌≢◌, ℕ, ◌+◌, ◌<◌, ◌≤◌, inl, inr, false, List, [], ◌∷◌, ◌++◌, length, refl, sym, ◌∙◌, ap, arith, subst, drop, get_or, take, map, filter_map, Option, Some, None, Result, Ok, Err, All, IfOk, MatchResult, append-nil, append_assoc}
+use Rattle.std.proofs.Common.{◌≡◌, ◌≢◌, ℕ, ◌+◌, ◌<◌, ◌≤◌, inl, inr, false, List, [], ◌∷◌, ◌++◌, length, refl, sym, ◌∙◌}
+use Rattle.std.proofs.Common.{ap, arith, subst, drop, get_or, take, map, filter_map, Option, Some, None, Result, Ok}
+use Rattle.std.proofs.Common.{Err, All, IfOk, MatchResult, append-nil, append_assoc}
 use Rattle.std.specs.List.{cons_option}
 use Rattle.std.specs.Prelude.{⊤}
 use Rattle.std.proofs.lemmas.List.{drop_more, get_or-map, length-map, take-append-drop, take_all, take_at, take_more}
@@ -14,7 +16,8 @@ use Rattle.ira_files.specs.declared.shelf_fault.ShelfFault.{ShelfFault}
 use Rattle.ira_main_tests.specs.MemoryFiles.{HasFirst}
 
 -- what stands before, at and after a place
-parts_at : {X : Type 0} (xs : List X) (i : ℕ) (d : X) → i < length xs → xs ≡ take i xs ++ get_or xs i d ∷ drop (i + 1) xs
+parts_at : {X : Type 0} (xs : List X) (i : ℕ) (d : X) → i < length xs
+    → xs ≡ take i xs ++ get_or xs i d ∷ drop (i + 1) xs
 parts_at {X} xs i d l = sym (take-append-drop i xs) ∙ ap (λ (r : List X). take i xs ++ r) (drop_more xs i d l)
 
 module _ {X : Type 0} (h : X → File) (xs : List X) (i : ℕ) (d : X) (name : List ℕ) (l : i < length xs)
@@ -25,11 +28,13 @@ module _ {X : Type 0} (h : X → File) (xs : List X) (i : ℕ) (d : X) (name : L
   within : i < length (map h xs)
   within = omega (arith, l, length-map xs h)
 
-  pub first_of_all : (bytes : List ℕ) → h (get_or xs i d) ≡ record { name = name; bytes = bytes } → HasFirst (map h xs) name bytes
+  pub first_of_all : (bytes : List ℕ) → h (get_or xs i d) ≡ record { name = name; bytes = bytes }
+      → HasFirst (map h xs) name bytes
   first_of_all bytes is = record {
     before = take i (map h xs);
     after = drop (i + 1) (map h xs);
-    parts = parts_at (map h xs) i (h d) within ∙ ap (λ (file : File). take i (map h xs) ++ file ∷ drop (i + 1) (map h xs)) (at_i ∙ is);
+    parts = parts_at (map h xs) i (h d) within
+        ∙ ap (λ (file : File). take i (map h xs) ++ file ∷ drop (i + 1) (map h xs)) (at_i ∙ is);
     others = none;
   }
 
@@ -50,15 +55,18 @@ module _ {X : Type 0} (h : X → Option File) (xs : List X) (i : ℕ) (d : X) (n
     others = none;
   }
 
-  one : (o : Option File) → ((file : File) → o ≡ Some file → file.name ≢ name) → All (λ file. file.name ≢ name) (cons_option o [])
+  one : (o : Option File) → ((file : File) → o ≡ Some file → file.name ≢ name)
+      → All (λ file. file.name ≢ name) (cons_option o [])
   one None other = All-nil (λ file. file.name ≢ name)
-  one (Some file) other = All-cons (λ file. file.name ≢ name) file [] (other file refl) (All-nil (λ file. file.name ≢ name))
+  one (Some file) other = All-cons (λ file. file.name ≢ name) file [] (other file refl)
+      (All-nil (λ file. file.name ≢ name))
 
   pub none_of_some_more : ((file : File) → h (get_or xs i d) ≡ Some file → file.name ≢ name)
       → All (λ file. file.name ≢ name) (filter_map h (take (i + 1) xs))
   none_of_some_more other =
       rw (take_more xs i d l, filter_map-append h (take i xs) (get_or xs i d ∷ []))
-      (All-append (λ file. file.name ≢ name) (filter_map h (take i xs)) (cons_option (h (get_or xs i d)) []) none (one (h (get_or xs i d)) other))
+      (All-append (λ file. file.name ≢ name) (filter_map h (take i xs)) (cons_option (h (get_or xs i d)) []) none
+      (one (h (get_or xs i d)) other))
 
 -- the first of a list is the first after files of other names
 pub first_behind : (a b : List File) (name bytes : List ℕ) → All (λ file. file.name ≢ name) a → HasFirst b name bytes

@@ -1,5 +1,6 @@
 -- A moment is the configuration of the ring after each beginning of an order that is its cut.
-use Rattle.std.proofs.Common.{◌≡◌, ◌≢◌, ℕ, zero, suc, ◌<◌, ◌≤◌, inl, inr, Option, None, List, [], ◌∷◌, ◌++◌, length, take, drop, refl, sym, ◌∙◌, ap, subst, arith, append-nil, append_assoc}
+use Rattle.std.proofs.Common.{◌≡◌, ◌≢◌, ℕ, zero, suc, ◌<◌, ◌≤◌, inl, inr, Option, None, List, [], ◌∷◌, ◌++◌, length}
+use Rattle.std.proofs.Common.{take, drop, refl, sym, ◌∙◌, ap, subst, arith, append-nil, append_assoc}
 use Rattle.std.specs.Prelude.{slice_get, slice_index}
 use Rattle.std.specs.List.{filter_map, cons_option}
 use Rattle.std.proofs.lemmas.Bool.{cases_eq}
@@ -51,23 +52,29 @@ counted (x ∷ run) i = elim (cases_eq x.0 i) [
 ]
 
 -- those of the first t entries are the first of its log
-own_begun : (run : List (ℕ × Event)) (t i : ℕ) → own i (take t run) ≡ take (occurrences (take t (places_of run)) i) (own i run)
+own_begun : (run : List (ℕ × Event)) (t i : ℕ)
+    → own i (take t run) ≡ take (occurrences (take t (places_of run)) i) (own i run)
 own_begun run t i =
     let number : length (own i (take t run)) ≡ occurrences (take t (places_of run)) i =
-    sym (counted (take t run) i) ∙ ap (λ (x : List ℕ). occurrences x i) (sym (take-map (λ (x : ℕ × Event). x.0) t run)) in
-    let whole : own i run ≡ own i (take t run) ++ own i (drop t run) = ap (own i) (sym (take-append-drop t run)) ∙ filter_map-append (event_of i) (take t run) (drop t run) in
-    sym (ap (take (occurrences (take t (places_of run)) i)) whole ∙ take_at (own i (take t run)) (own i (drop t run)) (occurrences (take t (places_of run)) i) number)
+    sym (counted (take t run) i)
+    ∙ ap (λ (x : List ℕ). occurrences x i) (sym (take-map (λ (x : ℕ × Event). x.0) t run)) in
+    let whole : own i run ≡ own i (take t run) ++ own i (drop t run) =
+    ap (own i) (sym (take-append-drop t run)) ∙ filter_map-append (event_of i) (take t run) (drop t run) in
+    sym (ap (take (occurrences (take t (places_of run)) i)) whole
+    ∙ take_at (own i (take t run)) (own i (drop t run)) (occurrences (take t (places_of run)) i) number)
 
 -- ---- where a chain of steps leads
 
-leads : (n : ℕ) (c : Configuration) (run : List (ℕ × Event)) (t : ℕ) → Chains n c run → (d : Configuration) × Reaches n c (take t run) d
+leads : (n : ℕ) (c : Configuration) (run : List (ℕ × Event)) (t : ℕ) → Chains n c run → (d : Configuration)
+    × Reaches n c (take t run) d
 leads n c run zero chain = (c, refl)
 leads n c [] (suc t) chain = (c, refl)
 leads n c (x ∷ run) (suc t) chain =
     let r = leads n chain.0 run t chain.2 in
     (r.0, (chain.0, chain.1, r.1))
 
-node_leads : (n : ℕ) (c d : Configuration) (run : List (ℕ × Event)) (i : ℕ) → i < n → Reaches n c run d → LeadsTo n (c.state i) (own i run) (d.state i)
+node_leads : (n : ℕ) (c d : Configuration) (run : List (ℕ × Event)) (i : ℕ) → i < n → Reaches n c run d
+    → LeadsTo n (c.state i) (own i run) (d.state i)
 node_leads n c d [] i l h = ap (λ (x : Configuration). x.state i) h
 node_leads n c d (x ∷ run) i l h =
     let rest = node_leads n h.0 d run i l h.2 in
@@ -84,7 +91,8 @@ node_leads n c d (x ∷ run) i l h =
     ]
 
 -- one step: what a link held and is sent on it is received and held
-link_one : (n i k : ℕ) (e : Event) (old new : ℕ → List Load) → 2 ≤ n → i < n → k < n → LinkStep n i e old new → old k ++ sent (own k ((i, e) ∷ [])) ≡ got (own (next n k) ((i, e) ∷ [])) ++ new k
+link_one : (n i k : ℕ) (e : Event) (old new : ℕ → List Load) → 2 ≤ n → i < n → k < n → LinkStep n i e old new
+    → old k ++ sent (own k ((i, e) ∷ [])) ≡ got (own (next n k) ((i, e) ∷ [])) ++ new k
 link_one n i k e old new two li lk step = by_kind e step
   where
     sent_of : (e : Event) → sending e ≡ None → sent (own k ((i, e) ∷ [])) ≡ []
@@ -99,14 +107,18 @@ link_one n i k e old new two li lk step = by_kind e step
       | inr ne ↦ ap got (other_one (i, e) (next n k) ne)
     ]
 
-    still : (e : Event) → sent (own k ((i, e) ∷ [])) ≡ [] → got (own (next n k) ((i, e) ∷ [])) ≡ [] → new k ≡ old k → old k ++ sent (own k ((i, e) ∷ [])) ≡ got (own (next n k) ((i, e) ∷ [])) ++ new k
-    still e s g same = ap (λ (x : List Load). old k ++ x) s ∙ append-nil (old k) ∙ sym same ∙ sym (ap (λ (x : List Load). x ++ new k) g)
+    still : (e : Event) → sent (own k ((i, e) ∷ [])) ≡ [] → got (own (next n k) ((i, e) ∷ [])) ≡ [] → new k ≡ old k
+        → old k ++ sent (own k ((i, e) ∷ [])) ≡ got (own (next n k) ((i, e) ∷ [])) ++ new k
+    still e s g same = ap (λ (x : List Load). old k ++ x) s ∙ append-nil (old k) ∙ sym same
+        ∙ sym (ap (λ (x : List Load). x ++ new k) g)
 
-    by_kind : (e : Event) → LinkStep n i e old new → old k ++ sent (own k ((i, e) ∷ [])) ≡ got (own (next n k) ((i, e) ∷ [])) ++ new k
+    by_kind : (e : Event) → LinkStep n i e old new
+        → old k ++ sent (own k ((i, e) ∷ [])) ≡ got (own (next n k) ((i, e) ∷ [])) ++ new k
     by_kind (Draw id) step = still (Draw id) (sent_of (Draw id) refl) (got_of (Draw id) refl) (step k lk)
     by_kind Yield step = still Yield (sent_of Yield refl) (got_of Yield refl) (step k lk)
     by_kind (Sent m) step = elim (cases_eq k i) [
-      | inr ne ↦ still (Sent m) (ap sent (other_one (i, Sent m) k (λ q. ne (sym q)))) (got_of (Sent m) refl) (step.1 k lk ne)
+      | inr ne ↦ still (Sent m) (ap sent (other_one (i, Sent m) k (λ q. ne (sym q)))) (got_of (Sent m) refl)
+          (step.1 k lk ne)
       | inl here ↦
           let put : new k ≡ old k ++ m ∷ [] = rw here (step.0) in
           ap (λ (x : List Load). old k ++ x) (ap sent (own_one (i, Sent m) k (sym here)))
@@ -126,15 +138,19 @@ link_one n i k e old new two li lk step = by_kind e step
           ∙ sym (ap (λ (x : List Load). x ++ new k) (ap got (own_one (i, Got m) (next n k) here)))
     ]
 
-link_leads : (n : ℕ) (c d : Configuration) (run : List (ℕ × Event)) (k : ℕ) → 2 ≤ n → k < n → Reaches n c run d → c.link k ++ sent (own k run) ≡ got (own (next n k) run) ++ d.link k
+link_leads : (n : ℕ) (c d : Configuration) (run : List (ℕ × Event)) (k : ℕ) → 2 ≤ n → k < n → Reaches n c run d
+    → c.link k ++ sent (own k run) ≡ got (own (next n k) run) ++ d.link k
 link_leads n c d [] k two l h = append-nil (c.link k) ∙ sym (ap (λ (x : Configuration). x.link k) h)
 link_leads n c d (x ∷ run) k two l h =
-    let one : c.link k ++ sent (own k (x ∷ [])) ≡ got (own (next n k) (x ∷ [])) ++ h.0.link k = link_one n x.0 k x.1 c.link h.0.link two h.1.place l h.1.links in
-    let rest : h.0.link k ++ sent (own k run) ≡ got (own (next n k) run) ++ d.link k = link_leads n h.0 d run k two l h.2 in
+    let one : c.link k ++ sent (own k (x ∷ [])) ≡ got (own (next n k) (x ∷ [])) ++ h.0.link k =
+    link_one n x.0 k x.1 c.link h.0.link two h.1.place l h.1.links in
+    let rest : h.0.link k ++ sent (own k run) ≡ got (own (next n k) run) ++ d.link k =
+    link_leads n h.0 d run k two l h.2 in
     let sents : sent (own k (x ∷ run)) ≡ sent (own k (x ∷ [])) ++ sent (own k run) =
     ap sent (filter_map-append (event_of k) (x ∷ []) run) ∙ filter_map-append sending (own k (x ∷ [])) (own k run) in
     let gots : got (own (next n k) (x ∷ run)) ≡ got (own (next n k) (x ∷ [])) ++ got (own (next n k) run) =
-    ap got (filter_map-append (event_of (next n k)) (x ∷ []) run) ∙ filter_map-append receipt (own (next n k) (x ∷ [])) (own (next n k) run) in
+    ap got (filter_map-append (event_of (next n k)) (x ∷ []) run)
+    ∙ filter_map-append receipt (own (next n k) (x ∷ [])) (own (next n k) run) in
     ap (λ (y : List Load). c.link k ++ y) sents
     ∙ sym (append_assoc (c.link k) (sent (own k (x ∷ []))) (sent (own k run)))
     ∙ ap (λ (y : List Load). y ++ sent (own k run)) one
@@ -160,25 +176,33 @@ moments_are_configurations logs cut order t run m are matches local is_order mea
       record {
         states = λ i p at.
             let l : i < length logs = omega (arith, slice_get_within m.nodes i p at, is.places) in
-            let led : LeadsTo (length logs) (first_state (is_initiator (slice_get logs i))) (own i (take t run)) (r.0.state i) = node_leads (length logs) (opening logs) r.0 (take t run) i l r.1 in
+            let led : LeadsTo (length logs) (first_state (is_initiator (slice_get logs i))) (own i (take t run))
+            (r.0.state i) = node_leads (length logs) (opening logs) r.0 (take t run) i l r.1 in
             elim (slice_get_cases logs i).1 [
               | inr past ↦ absurd (omega (arith, past.0))
               | inl h ↦
                   let log : Log = h.0 in
                   let progress = is.nodes i h.0 p h.2 at in
-                  let P : List Event → Type 0 = λ es. LeadsTo (length logs) (first_state (is_initiator (slice_get logs i))) es (r.0.state i) in
-                  let Q : Option Log → Type 0 = λ o. LeadsTo (length logs) (first_state (is_initiator o)) (take (slice_index cut i) (events_of o)) (r.0.state i) in
-                  let R : ℕ → Type 0 = λ n. LeadsTo n (first_state h.0.initiator) (take (slice_index cut i) h.0.events) (r.0.state i) in
+                  let P : List Event → Type 0 =
+                  λ es. LeadsTo (length logs) (first_state (is_initiator (slice_get logs i))) es (r.0.state i) in
+                  let Q : Option Log → Type 0 =
+                  λ o. LeadsTo (length logs) (first_state (is_initiator o)) (take (slice_index cut i) (events_of o))
+                  (r.0.state i) in
+                  let R : ℕ → Type 0 = λ n.
+                  LeadsTo n (first_state h.0.initiator) (take (slice_index cut i) h.0.events) (r.0.state i) in
                   let there = subst R (sym (are.sizes i h.0 h.2)) (subst Q h.2 (subst P (begun i l) led)) in
-                  one_state h.0.nodes (first_state h.0.initiator) (take (slice_index cut i) h.0.events) p.state (r.0.state i) progress.state there
+                  one_state h.0.nodes (first_state h.0.initiator) (take (slice_index cut i) h.0.events) p.state
+                  (r.0.state i) progress.state there
             ];
         links = λ i loads at.
             let l : i < length logs = omega (arith, slice_get_within m.links i loads at, is.links) in
             let held = link_leads (length logs) (opening logs) r.0 (take t run) i are.ring.0 l r.1 in
-            append_cancel_left (got (take (slice_index cut (next (length logs) i)) (log_of logs (next (length logs) i)))) loads (r.0.link i)
+            append_cancel_left (got (take (slice_index cut (next (length logs) i))
+            (log_of logs (next (length logs) i)))) loads (r.0.link i)
             (sym (is.on_their_way i loads at)
             ∙ sym (ap sent (begun i l))
             ∙ held
-            ∙ ap (λ (es : List Event). got es ++ r.0.link i) (begun (next (length logs) i) (next_below (length logs) i l)));
+            ∙ ap (λ (es : List Event). got es ++ r.0.link i)
+            (begun (next (length logs) i) (next_below (length logs) i l)));
       },
     )

@@ -1,5 +1,6 @@
 -- Receipts that a cut holds without their sendings.
-use Rattle.std.proofs.Common.{◌≡◌, ℕ, zero, suc, ◌+◌, ◌<◌, ◌≤◌, inl, inr, ◌↔◌, Some, None, Err, Result, IsOk, List, [], length, refl, sym, ◌∙◌, arith, take, add-one, get_or, ap}
+use Rattle.std.proofs.Common.{◌≡◌, ℕ, zero, suc, ◌+◌, ◌<◌, ◌≤◌, inl, inr, ◌↔◌, Some, None, Err, Result, IsOk, List, []}
+use Rattle.std.proofs.Common.{length, refl, sym, ◌∙◌, arith, take, add-one, get_or, ap}
 use Rattle.std.specs.Prelude.{slice_get, slice_index}
 use Rattle.std.specs.List.{cons_option}
 use Rattle.std.proofs.lemmas.Bool.{cases_eq, cases_lt}
@@ -37,7 +38,8 @@ receipt_of es (suc b) m h =
     record {
       place = b;
       number = refl;
-      rank = rw (← add-one b) (rank_more receipt es b (Draw 0) l ∙ ap (λ (x : Event). length (got (take b es)) + length (cons_option (receipt x) [])) e);
+      rank = rw (← add-one b) (rank_more receipt es b (Draw 0) l
+          ∙ ap (λ (x : Event). length (got (take b es)) + length (cons_option (receipt x) [])) e);
     }
 
 module _ (logs : List Log) (cut : List ℕ) (i : ℕ) where
@@ -52,11 +54,22 @@ module _ (logs : List Log) (cut : List ℕ) (i : ℕ) where
   more_sent : (a b : ℕ) → IsLacking logs cut i a b → held_sendings < length (got (take b reader))
   more_sent a b h =
       let s : SendingOf (log_of logs i) a = sending_of (log_of logs i) a h.pair.message h.pair.sends in
-      omega (arith, s.rank, s.number, h.pair.rank, rank_mono sending (log_of logs i) (slice_index cut i) s.place (omega (arith, s.number, h.not_held)))
+      omega (
+        arith,
+        s.rank,
+        s.number,
+        h.pair.rank,
+        rank_mono sending (log_of logs i) (slice_index cut i) s.place (omega (arith, s.number, h.not_held)),
+      )
 
   pub nothing_lacks : HoldsSendings logs cut i → (a b : ℕ) → IsLacking logs cut i a b → ⊥
   nothing_lacks holds a b h =
-      absurd (omega (arith, holds, more_sent a b h, rank_mono receipt reader b (slice_index cut (next (length logs) i)) h.held))
+      absurd (omega (
+        arith,
+        holds,
+        more_sent a b h,
+        rank_mono receipt reader b (slice_index cut (next (length logs) i)) h.held,
+      ))
 
   pub none_left : (k : ℕ) → k ≡ held_sendings + 1 → numbered (got reader) k ≡ None → HoldsSendings logs cut i
   none_left k is none = elim (cases_lt held_sendings (length (got reader))) [
@@ -68,12 +81,22 @@ module _ (logs : List Log) (cut : List ℕ) (i : ℕ) where
         cc
   ]
 
-  pub none_before : (k b : ℕ) (load : Load) → k ≡ held_sendings + 1 → IsNthGot reader k b load → slice_index cut (next (length logs) i) < b → HoldsSendings logs cut i
+  pub none_before : (k b : ℕ) (load : Load) → k ≡ held_sendings + 1 → IsNthGot reader k b load
+      → slice_index cut (next (length logs) i) < b → HoldsSendings logs cut i
   none_before k b load is at late =
       let r : ReceiptOf reader b = receipt_of reader b load at.event in
-      omega (arith, is, at.rank, r.rank, r.number, rank_mono receipt reader (slice_index cut (next (length logs) i)) r.place (omega (arith, r.number, late)))
+      omega (
+        arith,
+        is,
+        at.rank,
+        r.rank,
+        r.number,
+        rank_mono receipt reader (slice_index cut (next (length logs) i)) r.place (omega (arith, r.number, late)),
+      )
 
-  pub first_lacking : (k a b : ℕ) (put taken : Load) → i < length logs → k ≡ held_sendings + 1 → IsNthSent (log_of logs i) k a put → IsNthGot reader k b taken → b ≤ slice_index cut (next (length logs) i) → IsLacking logs cut i a b
+  pub first_lacking : (k a b : ℕ) (put taken : Load) → i < length logs → k ≡ held_sendings + 1
+      → IsNthSent (log_of logs i) k a put → IsNthGot reader k b taken → b ≤ slice_index cut (next (length logs) i)
+      → IsLacking logs cut i a b
   first_lacking k a b put taken l is sends gets held = record {
     pair = record {
       message = put;
@@ -90,24 +113,37 @@ module _ (logs : List Log) (cut : List ℕ) (i : ℕ) where
     ];
   }
 
-  pub no_earlier : (k b : ℕ) (taken : Load) → k ≡ held_sendings + 1 → IsNthGot reader k b taken → (c d : ℕ) → IsLacking logs cut i c d → b ≤ d
+  pub no_earlier : (k b : ℕ) (taken : Load) → k ≡ held_sendings + 1 → IsNthGot reader k b taken → (c d : ℕ)
+      → IsLacking logs cut i c d → b ≤ d
   no_earlier k b taken is gets c d h = elim (cases_lt d b) [
     | inr fine ↦ fine
     | inl early ↦
         let r : ReceiptOf reader b = receipt_of reader b taken gets.event in
-        absurd (omega (arith, is, gets.rank, r.rank, r.number, more_sent c d h, rank_mono receipt reader d r.place (omega (arith, r.number, early))))
+        absurd (omega (
+          arith,
+          is,
+          gets.rank,
+          r.rank,
+          r.number,
+          more_sent c d h,
+          rank_mono receipt reader d r.place (omega (arith, r.number, early)),
+        ))
   ]
 
 -- a lacking sending is of a cut that isn't consistent
-pub lacking_inconsistent : (logs : List Log) (cut : List ℕ) (i a b : ℕ) → IsLacking logs cut i a b → IsConsistentCut logs cut → ⊥
-lacking_inconsistent logs cut i a b h c = absurd (omega (arith, h.not_held, c.1 i a (next (length logs) i) b (message refl h.pair) h.held))
+pub lacking_inconsistent : (logs : List Log) (cut : List ℕ) (i a b : ℕ) → IsLacking logs cut i a b
+    → IsConsistentCut logs cut → ⊥
+lacking_inconsistent logs cut i a b h c =
+    absurd (omega (arith, h.not_held, c.1 i a (next (length logs) i) b (message refl h.pair) h.held))
 
 -- where the receipts of each node have their sendings the cut is consistent
-pub all_held : (logs : List Log) (cut : List ℕ) → IsCut logs cut → ((j : ℕ) → j < length logs → HoldsSendings logs cut (prev (length logs) j)) → IsConsistentCut logs cut
+pub all_held : (logs : List Log) (cut : List ℕ) → IsCut logs cut
+    → ((j : ℕ) → j < length logs → HoldsSendings logs cut (prev (length logs) j)) → IsConsistentCut logs cut
 all_held logs cut is holds = (
   is,
   covers_consistent logs (slice_index cut) (λ i l.
-      let back : i ≡ prev (length logs) (next (length logs) i) = prev_next (length logs) (next (length logs) i) i (next_below (length logs) i l) l refl in
+      let back : i ≡ prev (length logs) (next (length logs) i) =
+      prev_next (length logs) (next (length logs) i) i (next_below (length logs) i l) l refl in
       rw back (holds (next (length logs) i) (next_below (length logs) i l))),
 )
 
@@ -118,7 +154,9 @@ pub record LinkTo (logs : List Log) (cut : List ℕ) (reader writer sendings : �
   pub link : next (length logs) writer ≡ reader
   pub held : sendings ≡ held_sendings logs cut writer
 
-pub link_to : (logs : List Log) (cut : List ℕ) (n reader writer at sendings : ℕ) (log : Log) → n ≡ length logs → reader < length logs → writer ≡ prev n reader → at ≡ writer → slice_get logs writer ≡ Some log → sendings ≡ length (sent (take (slice_index cut at) log.events)) → LinkTo logs cut reader writer sendings
+pub link_to : (logs : List Log) (cut : List ℕ) (n reader writer at sendings : ℕ) (log : Log) → n ≡ length logs
+    → reader < length logs → writer ≡ prev n reader → at ≡ writer → slice_get logs writer ≡ Some log
+    → sendings ≡ length (sent (take (slice_index cut at) log.events)) → LinkTo logs cut reader writer sendings
 link_to logs cut n reader writer at sendings log all l is same found number =
     let here : writer ≡ prev (length logs) reader = is ∙ ap (λ (x : ℕ). prev x reader) all in
     let events : log_of logs writer ≡ log.events = ap events_of found in
@@ -126,11 +164,13 @@ link_to logs cut n reader writer at sendings log all l is same found number =
       below = rw here (prev_below (length logs) reader l);
       is = here;
       link = ap (next (length logs)) here ∙ next_prev (length logs) reader l;
-      held = number ∙ ap (λ (x : ℕ). length (sent (take (slice_index cut x) log.events))) same ∙ ap (λ (es : List Event). length (sent (take (slice_index cut writer) es))) (sym events);
+      held = number ∙ ap (λ (x : ℕ). length (sent (take (slice_index cut x) log.events))) same
+          ∙ ap (λ (es : List Event). length (sent (take (slice_index cut writer) es))) (sym events);
     }
 
 -- a node's fault is the first, where those of the places before it lack nothing
-pub first_of_all : (logs : List Log) (cut : List ℕ) (j : ℕ) (f : CutFault) → IsCut logs cut → ((k : ℕ) → k < j → HoldsSendings logs cut (prev (length logs) k)) → IsLackOf logs cut j f → IsCutFault logs cut f
+pub first_of_all : (logs : List Log) (cut : List ℕ) (j : ℕ) (f : CutFault) → IsCut logs cut
+    → ((k : ℕ) → k < j → HoldsSendings logs cut (prev (length logs) k)) → IsLackOf logs cut j f → IsCutFault logs cut f
 first_of_all logs cut j NoCut is holds lack = absurd lack
 first_of_all logs cut j (LacksSending receipt sending) is holds lack = (
   is,
@@ -139,14 +179,17 @@ first_of_all logs cut j (LacksSending receipt sending) is holds lack = (
     reader = lack.reader;
     first = λ i a b h. elim (cases_lt (next (length logs) i) j) [
       | inl before ↦
-          let back : i ≡ prev (length logs) (next (length logs) i) = prev_next (length logs) (next (length logs) i) i (next_below (length logs) i h.pair.link) h.pair.link refl in
+          let back : i ≡ prev (length logs) (next (length logs) i) =
+          prev_next (length logs) (next (length logs) i) i (next_below (length logs) i h.pair.link) h.pair.link refl
+          in
           let hold : HoldsSendings logs cut i = rw back (holds (next (length logs) i) before) in
           absurd (nothing_lacks logs cut i hold a b h)
       | inr later ↦ elim (cases_eq receipt.place (next (length logs) i)) [
         | inl same ↦
             let one : i ≡ sending.place =
             prev_next (length logs) (next (length logs) i) i (next_below (length logs) i h.pair.link) h.pair.link refl
-            ∙ sym (prev_next (length logs) (next (length logs) i) sending.place (next_below (length logs) i h.pair.link) lack.lacking.pair.link (sym lack.reader ∙ same)) in
+            ∙ sym (prev_next (length logs) (next (length logs) i) sending.place (next_below (length logs) i h.pair.link)
+            lack.lacking.pair.link (sym lack.reader ∙ same)) in
             inr (same, lack.first a b (rw one at h))
         | inr other ↦ inl (omega (arith, lack.node, later, other))
       ]
@@ -154,9 +197,13 @@ first_of_all logs cut j (LacksSending receipt sending) is holds lack = (
   },
 )
 
-faulty_inconsistent : (logs : List Log) (cut : List ℕ) (f : CutFault) → IsCutFault logs cut f → IsConsistentCut logs cut → ⊥
+faulty_inconsistent : (logs : List Log) (cut : List ℕ) (f : CutFault) → IsCutFault logs cut f → IsConsistentCut logs cut
+    → ⊥
 faulty_inconsistent logs cut NoCut h c = h c.0
-faulty_inconsistent logs cut (LacksSending receipt sending) h c = lacking_inconsistent logs cut sending.place sending.position receipt.position h.1.lacking c
+faulty_inconsistent logs cut (LacksSending receipt sending) h c =
+    lacking_inconsistent logs cut sending.place sending.position receipt.position h.1.lacking c
 
-pub faulty : {T : Type 0} (logs : List Log) (cut : List ℕ) (r : Result T CutFault) (f : CutFault) → r ≡ Err f → IsCutFault logs cut f → IsOk r ↔ IsConsistentCut logs cut
-faulty {T} logs cut r f is h = (λ ok. (let no : IsOk {T = T} (Err f) = rw is at ok in cc), λ c. absurd (faulty_inconsistent logs cut f h c))
+pub faulty : {T : Type 0} (logs : List Log) (cut : List ℕ) (r : Result T CutFault) (f : CutFault) → r ≡ Err f
+    → IsCutFault logs cut f → IsOk r ↔ IsConsistentCut logs cut
+faulty {T} logs cut r f is h =
+    (λ ok. (let no : IsOk {T = T} (Err f) = rw is at ok in cc), λ c. absurd (faulty_inconsistent logs cut f h c))

@@ -18,11 +18,14 @@ module _ (count n : ℕ) (some : 0 < n) where
 
   pub begin_within : (r : ℕ) → r ≤ n → begin_of count n r ≤ count
   begin_within r l =
-      let most : begin_of count n r ≤ begin_of count n n = le-div (begin_of count n r) (count * n) n some (omega (arith, div-mul-le_self (count * r) n, mul-le-mul_left count l)) in
+      let most : begin_of count n r ≤ begin_of count n n =
+      le-div (begin_of count n r) (count * n) n some
+      (omega (arith, div-mul-le_self (count * r) n, mul-le-mul_left count l)) in
       omega (arith, most, begin_last)
 
   -- as it is computed
   pub begin_is : (r : ℕ) → count / n * r + count % n * r / n ≡ begin_of count n r
   begin_is r =
-      let whole : n * (count / n * r) + count % n * r ≡ count * r = omega (arith, ap (λ (c : ℕ). c * r) (div-add-mod count n)) in
+      let whole : n * (count / n * r) + count % n * r ≡ count * r =
+      omega (arith, ap (λ (c : ℕ). c * r) (div-add-mod count n)) in
       sym (mul-add-div some (count / n * r) (count % n * r)) ∙ ap (λ (c : ℕ). c / n) whole

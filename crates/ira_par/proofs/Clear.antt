@@ -7,7 +7,8 @@ use Rattle.ira_par.specs.Share.{AreClear}
 use Rattle.ira_par.specs.Task.{Task, IsFoundFor}
 
 -- one section more
-pub clear_more : (logs : List Log) (n r k : ℕ) (tasks : List Task) → AreClear logs n r k tasks → (task : Task) → slice_get tasks k ≡ Some task → IsFoundFor logs n r task None → AreClear logs n r (k + 1) tasks
+pub clear_more : (logs : List Log) (n r k : ℕ) (tasks : List Task) → AreClear logs n r k tasks → (task : Task)
+    → slice_get tasks k ≡ Some task → IsFoundFor logs n r task None → AreClear logs n r (k + 1) tasks
 clear_more logs n r k tasks clear task at none = λ j other l other_at. elim (cases_lt j k) [
   | inl below ↦ clear j other below other_at
   | inr top ↦

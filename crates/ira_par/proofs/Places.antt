@@ -12,7 +12,8 @@ use Rattle.ira_cert.specs.SoundSection.{AreSoundSteps}
 use Rattle.ira_cert.proofs.OneList.{one_list}
 use Rattle.ira_cert.proofs.SomeVerdict.{enough}
 
-module _ (logs : List Log) (case : List Conjunct) (differ : HasDifferentPlaces case) (tables : List Table) (are : AreTables logs case tables) where
+module _ (logs : List Log) (case : List Conjunct) (differ : HasDifferentPlaces case) (tables : List Table)
+    (are : AreTables logs case tables) where
   -- a node without a table isn't asked
   pub none_asked : (i : ℕ) → ((xs : List ℕ) → ¬ (IsListAt tables i xs)) → ¬ (IsAsked case i)
   none_asked i none asked = let h = are.asked i asked in none h.0 h.1
@@ -21,11 +22,16 @@ module _ (logs : List Log) (case : List Conjunct) (differ : HasDifferentPlaces c
   candidates_at i asked = let h = are.asked i asked in (h.0, are.lists i h.0 h.1)
 
   -- sound steps eliminate no more than the table has
-  no_more : (before : List CertStep) (i : ℕ) (xs : List ℕ) → AreSoundSteps logs case before → IsListAt tables i xs → made before i ≤ length xs
+  no_more : (before : List CertStep) (i : ℕ) (xs : List ℕ) → AreSoundSteps logs case before → IsListAt tables i xs
+      → made before i ≤ length xs
   no_more before i xs sound at =
       let of = are.lists i xs at in
       let whole : take (length before) before ≡ before = take_all (length before) before (omega arith) in
-      let h = enough logs case candidates_at before (length before) (omega arith) (subst (λ (steps : List CertStep). AreSoundSteps logs case steps) (sym whole) sound) i (of.formula, of.asked) in
+      let h = enough logs case candidates_at before (length before) (omega arith)
+      (subst (λ (steps : List CertStep). AreSoundSteps logs case steps) (sym whole) sound) i (
+        of.formula,
+        of.asked,
+      ) in
       let few : made before i ≤ length h.0 = subst (λ (steps : List CertStep). made steps i ≤ length h.0) whole h.2 in
       let same : h.0 ≡ xs = one_list logs case i h.0 xs differ h.1 of in
       subst (λ (ys : List ℕ). made before i ≤ length ys) same few

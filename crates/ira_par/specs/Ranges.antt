@@ -21,6 +21,8 @@ AreMade steps counts = (i : ℕ) → i < length counts → slice_index counts i 
 -- what is answered of the steps from..to. Nothing: where those before them are sound, these are, too. Step k: it is one
 -- of them, and where those before them are sound, it is the first of all that isn't
 abbrev pub IsRangeFault : List Log → List Conjunct → List CertStep → ℕ → ℕ → Option SectionFault → Type 0
-IsRangeFault logs case steps from to None = AreSoundSteps logs case (take from steps) → AreSoundSteps logs case (take to steps)
+IsRangeFault logs case steps from to None = AreSoundSteps logs case (take from steps)
+    → AreSoundSteps logs case (take to steps)
 IsRangeFault logs case steps from to (Some fault) =
-    (k : ℕ) × (why : Unsound) × (fault ≡ Step k why) × (AreSoundSteps logs case (take from steps) → IsFirstUnsoundStep logs case steps k why)
+    (k : ℕ) × (why : Unsound) × (fault ≡ Step k why)
+    × (AreSoundSteps logs case (take from steps) → IsFirstUnsoundStep logs case steps k why)

@@ -12,7 +12,8 @@ pub record Table : Type 0 where
 -- they are a conjunct's of the case, the one of this number
 abbrev pub IsTableFor : List Log → List Conjunct → ℕ → Table → Type 0
 IsTableFor logs case n table =
-    (c : Conjunct) × (slice_get case n ≡ Some c) × (table.place ≡ c.place) × CandidatesOf logs case c.place table.positions
+    (c : Conjunct) × (slice_get case n ≡ Some c) × (table.place ≡ c.place)
+    × CandidatesOf logs case c.place table.positions
 
 -- there is such a list for place i
 abbrev pub IsListAt : List Table → ℕ → List ℕ → Type 0

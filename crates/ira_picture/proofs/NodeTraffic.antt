@@ -1,5 +1,6 @@
 -- What a node sends and receives, counted along its log.
-use Rattle.std.proofs.Common.{◌≡◌, ℕ, ◌+◌, List, [], ◌∷◌, ◌++◌, Option, Some, None, length, refl, sym, ◌∙◌, ap, subst, arith}
+use Rattle.std.proofs.Common.{◌≡◌, ℕ, ◌+◌, List, [], ◌∷◌, ◌++◌, Option, Some, None, length, refl, sym, ◌∙◌, ap, subst}
+use Rattle.std.proofs.Common.{arith}
 use Rattle.std.specs.Prelude.{slice_get}
 use Rattle.std.specs.List.{cons_option}
 use Rattle.std.proofs.lemmas.List.{length_push}
@@ -14,35 +15,56 @@ use Rattle.ira_picture.specs.declared.traffic.Receipt.{Receipt}
 use Rattle.ira_picture.specs.Traffic.{IsTraffic, Traffic}
 
 pub no_traffic : (events : List Event) → IsTraffic events 0 (record { sendings = []; receipts = [] })
-no_traffic events = record { sent_count = refl; sent_each = λ k p at. absurd cc; got_count = refl; got_each = λ k r at. absurd cc }
+no_traffic events = record {
+  sent_count = refl;
+  sent_each = λ k p at. absurd cc;
+  got_count = refl;
+  got_each = λ k r at. absurd cc;
+}
 
 module _ (events : List Event) (n : ℕ) (t : Traffic) (is : IsTraffic events n t) where
-  pub sent_more : (p : ℕ) (x : Load) → slice_get events n ≡ Some (Sent x) → p ≡ n + 1 → IsTraffic events (n + 1) (record { sendings = t.sendings ++ p ∷ []; receipts = t.receipts })
+  pub sent_more : (p : ℕ) (x : Load) → slice_get events n ≡ Some (Sent x) → p ≡ n + 1
+      → IsTraffic events (n + 1) (record { sendings = t.sendings ++ p ∷ []; receipts = t.receipts })
   sent_more p x at here =
-      let nth : IsNthSent events (length t.sendings + 1) (n + 1) x = nth_sent events n (length t.sendings + 1) x at (omega (arith, is.sent_count)) in
-      let last : (y : Load) × IsNthSent events (length t.sendings + 1) p y = (x, subst (λ q. IsNthSent events (length t.sendings + 1) q x) (sym here) nth) in
+      let nth : IsNthSent events (length t.sendings + 1) (n + 1) x =
+      nth_sent events n (length t.sendings + 1) x at (omega (arith, is.sent_count)) in
+      let last : (y : Load) × IsNthSent events (length t.sendings + 1) p y =
+      (x, subst (λ q. IsNthSent events (length t.sendings + 1) q x) (sym here) nth) in
       record {
         sent_count = omega (arith, is.sent_count, length_push t.sendings p, counted_more sending events n (Sent x) at);
-        sent_each = each_pushed (λ k q. (y : Load) × IsNthSent events (k + 1) q y) t.sendings (length t.sendings) p refl is.sent_each last;
+        sent_each = each_pushed (λ k q. (y : Load)
+            × IsNthSent events (k + 1) q y) t.sendings (length t.sendings) p refl is.sent_each last;
         got_count = omega (arith, is.got_count, counted_more receipt events n (Sent x) at);
         got_each = is.got_each;
       }
 
-  pub got_more : (r : Receipt) (x : Load) → slice_get events n ≡ Some (Got x) → r.position ≡ n + 1 → IsTraffic events (n + 1) (record { sendings = t.sendings; receipts = t.receipts ++ r ∷ [] })
+  pub got_more : (r : Receipt) (x : Load) → slice_get events n ≡ Some (Got x) → r.position ≡ n + 1
+      → IsTraffic events (n + 1) (record { sendings = t.sendings; receipts = t.receipts ++ r ∷ [] })
   got_more r x at here =
-      let nth : IsNthGot events (length t.receipts + 1) (n + 1) x = nth_got events n (length t.receipts + 1) x at (omega (arith, is.got_count)) in
-      let last : (y : Load) × IsNthGot events (length t.receipts + 1) r.position y = (x, subst (λ q. IsNthGot events (length t.receipts + 1) q x) (sym here) nth) in
+      let nth : IsNthGot events (length t.receipts + 1) (n + 1) x =
+      nth_got events n (length t.receipts + 1) x at (omega (arith, is.got_count)) in
+      let last : (y : Load) × IsNthGot events (length t.receipts + 1) r.position y =
+      (x, subst (λ q. IsNthGot events (length t.receipts + 1) q x) (sym here) nth) in
       record {
         sent_count = omega (arith, is.sent_count, counted_more sending events n (Got x) at);
         sent_each = is.sent_each;
         got_count = omega (arith, is.got_count, length_push t.receipts r, counted_more receipt events n (Got x) at);
-        got_each = each_pushed (λ k q. (y : Load) × IsNthGot events (k + 1) q.position y) t.receipts (length t.receipts) r refl is.got_each last;
+        got_each = each_pushed (λ k q. (y : Load)
+            × IsNthGot events (k + 1) q.position y) t.receipts (length t.receipts) r refl is.got_each last;
       }
 
-  pub neither_more : (e : Event) → slice_get events n ≡ Some e → sending e ≡ None → receipt e ≡ None → IsTraffic events (n + 1) t
+  pub neither_more : (e : Event) → slice_get events n ≡ Some e → sending e ≡ None → receipt e ≡ None
+      → IsTraffic events (n + 1) t
   neither_more e at no_sending no_receipt =
       let s = counted_more sending events n e at in
       let r = counted_more receipt events n e at in
-      let no_s : length (cons_option (sending e) []) ≡ 0 = ap (λ (o : Option Load). length (cons_option o [])) no_sending in
-      let no_r : length (cons_option (receipt e) []) ≡ 0 = ap (λ (o : Option Load). length (cons_option o [])) no_receipt in
-      record { sent_count = omega (arith, is.sent_count, s, no_s); sent_each = is.sent_each; got_count = omega (arith, is.got_count, r, no_r); got_each = is.got_each }
+      let no_s : length (cons_option (sending e) []) ≡ 0 =
+      ap (λ (o : Option Load). length (cons_option o [])) no_sending in
+      let no_r : length (cons_option (receipt e) []) ≡ 0 =
+      ap (λ (o : Option Load). length (cons_option o [])) no_receipt in
+      record {
+        sent_count = omega (arith, is.sent_count, s, no_s);
+        sent_each = is.sent_each;
+        got_count = omega (arith, is.got_count, r, no_r);
+        got_each = is.got_each;
+      }

@@ -1,5 +1,6 @@
 -- A log replayed event by event.
-use Rattle.std.proofs.Common.{◌≡◌, ℕ, zero, suc, ◌+◌, ◌<◌, ◌≤◌, Option, None, true, false, List, [], ◌∷◌, ◌++◌, Some, length, refl, sym, ◌∙◌, ap, subst, arith, take, drop, add-one}
+use Rattle.std.proofs.Common.{◌≡◌, ℕ, zero, suc, ◌+◌, ◌<◌, ◌≤◌, Option, None, true, false, List, [], ◌∷◌, ◌++◌, Some}
+use Rattle.std.proofs.Common.{length, refl, sym, ◌∙◌, ap, subst, arith, take, drop, add-one}
 use Rattle.std.specs.Prelude.{is_some, slice_get}
 use Rattle.std.proofs.lemmas.List.{length-take-le}
 use Rattle.std.proofs.lemmas.Option.{slice_get_within}
@@ -30,13 +31,15 @@ around [] n e at = absurd cc
 around (x ∷ es) zero e at = (let same : x ≡ e = cc in ap (λ y. y ∷ es) same)
 around (x ∷ es) (suc n) e at = ap (λ ys. x ∷ ys) (around es n e at)
 
-module _ (log : Log) (n : ℕ) (s : NodeState) (e : Event) (reached : Reaches log n s) (at : slice_get log.events n ≡ Some e) where
+module _ (log : Log) (n : ℕ) (s : NodeState) (e : Event) (reached : Reaches log n s) (at : slice_get log.events n
+    ≡ Some e) where
   pub reaches_more : (t : NodeState) → NodeStep log.nodes s e t → Reaches log (n + 1) t
   reaches_more t step =
       subst (λ es. LeadsTo log.nodes (first_state log.initiator) es t) (sym (take_more log.events n e at))
       (leads_further log.nodes (first_state log.initiator) (take n log.events) s e t reached step)
 
-  pub stops_here : (f : StepFault) → NodeStepFault log.nodes s e f → IsFirstFault log (record { position = n + 1; fault = f })
+  pub stops_here : (f : StepFault) → NodeStepFault log.nodes s e f
+      → IsFirstFault log (record { position = n + 1; fault = f })
   stops_here f fault =
       let few : n < length log.events = slice_get_within log.events n e at in
       record {
@@ -51,10 +54,12 @@ module _ (log : Log) (n : ℕ) (s : NodeState) (e : Event) (reached : Reaches lo
       }
 
 -- without a stop the events lead to the last state
-pub still_going : (log : Log) (n : ℕ) (end : NodeState) (stop : Option ReplayFault) → false ≡ is_some stop → IsReplayed log n end stop → Reaches log n end
+pub still_going : (log : Log) (n : ℕ) (end : NodeState) (stop : Option ReplayFault) → false ≡ is_some stop
+    → IsReplayed log n end stop → Reaches log n end
 still_going log n end None none is = is
 still_going log n end (Some f) none is = (let no : ⊥ = cc in absurd no)
 
-pub goes_on : (log : Log) (n : ℕ) (end : NodeState) (stop : Option ReplayFault) → false ≡ is_some stop → Reaches log n end → IsReplayed log n end stop
+pub goes_on : (log : Log) (n : ℕ) (end : NodeState) (stop : Option ReplayFault) → false ≡ is_some stop
+    → Reaches log n end → IsReplayed log n end stop
 goes_on log n end None none reached = reached
 goes_on log n end (Some f) none reached = (let no : ⊥ = cc in absurd no)

@@ -7,7 +7,8 @@ use Rattle.ira_picture.specs.declared.mark.Mark.{Mark}
 use Rattle.ira_picture.specs.declared.window.Window.{Window}
 use Rattle.ira_picture.specs.Lane.{AreMarks, IsReplayed}
 
--- of a node: how many events it has, those that are drawn, its last state that is known, and its first event without a step
+-- of a node: how many events it has, those that are drawn, its last state that is known, and its first event without a
+-- step
 pub record Drawn : Type 0 where
   pub events : ℕ
   pub marks : List Mark

@@ -18,7 +18,8 @@ pub record IsTraffic (events : List Event) (n : ℕ) (t : Traffic) : Type 0 wher
   pub sent_count : length t.sendings ≡ length (sent (take n events))
   pub sent_each : (k p : ℕ) → slice_get t.sendings k ≡ Some p → (x : Load) × IsNthSent events (k + 1) p x
   pub got_count : length t.receipts ≡ length (got (take n events))
-  pub got_each : (k : ℕ) (r : Receipt) → slice_get t.receipts k ≡ Some r → (x : Load) × IsNthGot events (k + 1) r.position x
+  pub got_each : (k : ℕ) (r : Receipt) → slice_get t.receipts k ≡ Some r → (x : Load)
+      × IsNthGot events (k + 1) r.position x
 
 -- that of each node of a ring
 pub record AreTraffic (logs : List Log) (ts : List Traffic) : Type 0 where

@@ -14,16 +14,26 @@ pub record IsThere (trail : Trail) (step : TrailStep) : Type 0 where
   pub first : 1 ≤ step.event
   pub within : step.event ≤ length (log_of trail.logs step.place)
 
-pub step_is_there : (trail : Trail) (steps : List TrailStep) (t : ℕ) (step : TrailStep) → HasGiven trail steps → slice_get steps t ≡ Some step → IsThere trail step
+pub step_is_there : (trail : Trail) (steps : List TrailStep) (t : ℕ) (step : TrailStep) → HasGiven trail steps
+    → slice_get steps t ≡ Some step → IsThere trail step
 step_is_there trail steps t step given at =
     let told = given.are_first.each t step at in
     let within : t < length (places_of steps) = slice_get_within (places_of steps) t step.place told.event.0 in
-    let is : get_or (places_of steps) t 0 ≡ step.place = get_or_from_slice_get (places_of steps) t step.place 0 told.event.0 in
-    let place : step.place < length trail.logs = rw is at (All-get_or (λ p. p < length trail.logs) (places_of steps) t 0 within given.are_first.schedule.places) in
+    let is : get_or (places_of steps) t 0 ≡ step.place =
+    get_or_from_slice_get (places_of steps) t step.place 0 told.event.0 in
+    let place : step.place < length trail.logs =
+    rw is at (All-get_or (λ p. p < length trail.logs) (places_of steps) t 0 within given.are_first.schedule.places)
+    in
     record {
       place = place;
       first = omega (arith, told.event.1);
-      within = omega (arith, told.event.1, occurrences_same (places_of steps) t step.place within is, occurrences-take-le (places_of steps) (t + 1) step.place, given.are_first.schedule.within step.place place);
+      within = omega (
+        arith,
+        told.event.1,
+        occurrences_same (places_of steps) t step.place within is,
+        occurrences-take-le (places_of steps) (t + 1) step.place,
+        given.are_first.schedule.within step.place place,
+      );
     }
 
 at_end : (steps : List TrailStep) (step : TrailStep) → slice_get (steps ++ step ∷ []) (length steps) ≡ Some step
@@ -31,5 +41,7 @@ at_end [] step = refl
 at_end (s ∷ steps) step = at_end steps step
 
 -- the step that was just given
-pub last_is_there : (trail : Trail) (steps : List TrailStep) (step : TrailStep) → HasGiven trail (steps ++ step ∷ []) → IsThere trail step
-last_is_there trail steps step given = step_is_there trail (steps ++ step ∷ []) (length steps) step given (at_end steps step)
+pub last_is_there : (trail : Trail) (steps : List TrailStep) (step : TrailStep) → HasGiven trail (steps ++ step ∷ [])
+    → IsThere trail step
+last_is_there trail steps step given =
+    step_is_there trail (steps ++ step ∷ []) (length steps) step given (at_end steps step)

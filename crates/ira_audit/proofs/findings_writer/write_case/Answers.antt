@@ -10,14 +10,17 @@ returns-in_err-write_numbered g c =
     let head = numbered (codes "case ") c.args.case in
     let words = found_words c.args.found.now in
     let stop = err_from_is_err_and c.from_residual.result c.from_residual.ensures.1 in
-    rw stop.1 (StopsIn-append _ _ (head ++ words) (codes "\n") (StopsIn-append _ _ head words c.in_err-write_numbered.ensures))
+    rw stop.1 (StopsIn-append _ _ (head ++ words) (codes "\n")
+    (StopsIn-append _ _ head words c.in_err-write_numbered.ensures))
 
 pub returns-in_err-write_found : goal.returns-in_err-write_found
 returns-in_err-write_found g c =
     let head = numbered (codes "case ") c.args.case in
     let words = found_words c.args.found.now in
-    let stop = err_from_is_err_and c.from_residual-in_err-write_found.result c.from_residual-in_err-write_found.ensures.1 in
-    rw stop.1 (StopsIn-append _ _ (head ++ words) (codes "\n") (Takes-StopsIn _ _ _ head words c.in_ok-write_numbered.ensures c.in_err-write_found.ensures))
+    let stop = err_from_is_err_and c.from_residual-in_err-write_found.result
+    c.from_residual-in_err-write_found.ensures.1 in
+    rw stop.1 (StopsIn-append _ _ (head ++ words) (codes "\n")
+    (Takes-StopsIn _ _ _ head words c.in_ok-write_numbered.ensures c.in_err-write_found.ensures))
 
 pub returns : goal.returns
 returns g c =

@@ -11,8 +11,11 @@ loop-case-preserved g c =
     let xs = c.args.found.now in
     let i = c.loop-case.case in
     let x = c.index-found-case.result in
-    let next = ap (λ ys. flat_map case_line (enumerate_from i ys)) (sym (drop-at xs i x x c.loop-case-test.true c.index-found-case.is)) in
-    HasWritten-more (flat_map case_line (enumerate_from 0 xs)) (flat_map case_line (enumerate_from i (drop i xs))) (case_line (i, x)) (flat_map case_line (enumerate_from (i + 1) (drop (i + 1) xs))) _ _ _ c.loop-case.invariant next c.in_ok-write_case.ensures
+    let next = ap (λ ys. flat_map case_line (enumerate_from i ys))
+    (sym (drop-at xs i x x c.loop-case-test.true c.index-found-case.is)) in
+    HasWritten-more (flat_map case_line (enumerate_from 0 xs)) (flat_map case_line (enumerate_from i (drop i xs)))
+    (case_line (i, x)) (flat_map case_line (enumerate_from (i + 1) (drop (i + 1) xs))) _ _ _ c.loop-case.invariant
+    next c.in_ok-write_case.ensures
 
 pub returns-in_err-write_case : goal.returns-in_err-write_case
 returns-in_err-write_case g c =
@@ -20,5 +23,9 @@ returns-in_err-write_case g c =
     let xs = c.args.found.now in
     let i = c.loop-case.case in
     let x = c.index-found-case.result in
-    let next = ap (λ ys. flat_map case_line (enumerate_from i ys)) (sym (drop-at xs i x x c.loop-case-test.true c.index-found-case.is)) in
-    HasWritten-stops _ _ stop.1 (flat_map case_line (enumerate_from 0 xs)) (flat_map case_line (enumerate_from i (drop i xs))) (case_line (i, x)) (flat_map case_line (enumerate_from (i + 1) (drop (i + 1) xs))) _ _ _ c.loop-case.invariant next c.in_err-write_case.ensures
+    let next = ap (λ ys. flat_map case_line (enumerate_from i ys))
+    (sym (drop-at xs i x x c.loop-case-test.true c.index-found-case.is)) in
+    HasWritten-stops _ _ stop.1 (flat_map case_line (enumerate_from 0 xs))
+    (flat_map case_line (enumerate_from i (drop i xs))) (case_line (i, x))
+    (flat_map case_line (enumerate_from (i + 1) (drop (i + 1) xs))) _ _ _ c.loop-case.invariant next
+    c.in_err-write_case.ensures

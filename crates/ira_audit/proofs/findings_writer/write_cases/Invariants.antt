@@ -6,4 +6,6 @@ use Rattle.ira_audit.proofs.findings_writer.write_cases.Given as goal
 
 abbrev pub invariant-loop-case : goal.invariant-loop-case
 invariant-loop-case g l =
-    HasWritten (flat_map case_line (enumerate_from 0 l.fn.found)) (flat_map case_line (enumerate_from l.case (drop l.case l.fn.found))) (g.W.Sink.state l.fn.sink) (g.W.Sink.state l.sink)
+    HasWritten (flat_map case_line (enumerate_from 0 l.fn.found))
+    (flat_map case_line (enumerate_from l.case (drop l.case l.fn.found))) (g.W.Sink.state l.fn.sink)
+    (g.W.Sink.state l.sink)

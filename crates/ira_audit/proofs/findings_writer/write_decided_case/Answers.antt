@@ -10,14 +10,17 @@ returns-in_err-write_numbered g c = λ found is.
     let head = numbered (codes "case ") c.args.case in
     let words = found_words found in
     let stop = err_from_is_err_and c.from_residual.result c.from_residual.ensures.1 in
-    rw stop.1 (StopsIn-append _ _ (head ++ words) (codes "\n") (StopsIn-append _ _ head words c.in_err-write_numbered.ensures))
+    rw stop.1 (StopsIn-append _ _ (head ++ words) (codes "\n")
+    (StopsIn-append _ _ head words c.in_err-write_numbered.ensures))
 
 pub returns-in_err-write_decided : goal.returns-in_err-write_decided
 returns-in_err-write_decided g c = λ found is.
     let head = numbered (codes "case ") c.args.case in
     let words = found_words found in
-    let stop = err_from_is_err_and c.from_residual-in_err-write_decided.result c.from_residual-in_err-write_decided.ensures.1 in
-    rw stop.1 (StopsIn-append _ _ (head ++ words) (codes "\n") (Takes-StopsIn _ _ _ head words c.in_ok-write_numbered.ensures (c.in_err-write_decided.ensures found is)))
+    let stop = err_from_is_err_and c.from_residual-in_err-write_decided.result
+    c.from_residual-in_err-write_decided.ensures.1 in
+    rw stop.1 (StopsIn-append _ _ (head ++ words) (codes "\n")
+    (Takes-StopsIn _ _ _ head words c.in_ok-write_numbered.ensures (c.in_err-write_decided.ensures found is)))
 
 pub returns : goal.returns
 returns g c = λ found is.

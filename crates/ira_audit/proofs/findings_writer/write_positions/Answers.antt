@@ -12,7 +12,9 @@ loop-position-preserved g c =
     let f = numbered (codes " ") in
     let xs = c.args.positions.now in
     let i = c.loop-position.position-index in
-    HasWritten-more (flat_map f xs) (flat_map f (drop i xs)) (f c.from.result) (flat_map f (drop (i + 1) xs)) _ _ _ c.loop-position.invariant (next_text f xs i c.from.result 0 (omega arith) (search rules)) c.in_ok-write_numbered.ensures
+    HasWritten-more (flat_map f xs) (flat_map f (drop i xs)) (f c.from.result) (flat_map f (drop (i + 1) xs)) _ _ _
+    c.loop-position.invariant (next_text f xs i c.from.result 0 (omega arith) (search rules))
+    c.in_ok-write_numbered.ensures
 
 pub returns-in_err-write_numbered : goal.returns-in_err-write_numbered
 returns-in_err-write_numbered g c =
@@ -20,4 +22,6 @@ returns-in_err-write_numbered g c =
     let stop = err_from_is_err_and c.from_residual.result c.from_residual.ensures.1 in
     let xs = c.args.positions.now in
     let i = c.loop-position.position-index in
-    HasWritten-stops _ _ stop.1 (flat_map f xs) (flat_map f (drop i xs)) (f c.from.result) (flat_map f (drop (i + 1) xs)) _ _ _ c.loop-position.invariant (next_text f xs i c.from.result 0 (omega arith) (search rules)) c.in_err-write_numbered.ensures
+    HasWritten-stops _ _ stop.1 (flat_map f xs) (flat_map f (drop i xs)) (f c.from.result)
+    (flat_map f (drop (i + 1) xs)) _ _ _ c.loop-position.invariant
+    (next_text f xs i c.from.result 0 (omega arith) (search rules)) c.in_err-write_numbered.ensures

@@ -7,4 +7,6 @@ use Rattle.ira_audit.proofs.findings_writer.write_positions.Given as goal
 
 abbrev pub invariant-loop-position : goal.invariant-loop-position
 invariant-loop-position g l =
-    HasWritten (flat_map (numbered (codes " ")) l.fn.positions) (flat_map (numbered (codes " ")) (drop l.position-index l.fn.positions)) (g.W.Sink.state l.fn.sink) (g.W.Sink.state l.sink)
+    HasWritten (flat_map (numbered (codes " ")) l.fn.positions)
+    (flat_map (numbered (codes " ")) (drop l.position-index l.fn.positions)) (g.W.Sink.state l.fn.sink)
+    (g.W.Sink.state l.sink)

@@ -8,8 +8,11 @@ use Rattle.ira_audit.proofs.findings_writer.write_present.Goals as goal
 pub returns-in_err-write_bytes : goal.returns-in_err-write_bytes
 returns-in_err-write_bytes g c =
     let stop = err_from_is_err_and c.from_residual.result c.from_residual.ensures.1 in
-    rw stop.1 (StopsIn-append _ _ (codes ": present at") (flat_map (numbered (codes " ")) c.args.cut.now) c.in_err-write_bytes.ensures)
+    rw stop.1 (StopsIn-append _ _ (codes ": present at") (flat_map (numbered (codes " ")) c.args.cut.now)
+    c.in_err-write_bytes.ensures)
 
 pub returns : goal.returns
 returns g c =
-    rw (← c.positions.ensures) (Wrote-then c.write_positions.result _ _ _ (codes ": present at") (flat_map (numbered (codes " ")) c.positions.result.now) c.in_ok-write_bytes.ensures c.write_positions.ensures)
+    rw (← c.positions.ensures)
+    (Wrote-then c.write_positions.result _ _ _ (codes ": present at")
+    (flat_map (numbered (codes " ")) c.positions.result.now) c.in_ok-write_bytes.ensures c.write_positions.ensures)

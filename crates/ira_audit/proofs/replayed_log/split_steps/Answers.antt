@@ -15,8 +15,11 @@ loop-read-preserved-then-is_ok g c =
       may_go_on = tt;
       ends = tt;
       left = omega (arith, ap length rest, steps.1);
-      parts = rw c.in_ok-push.ensures.items (append_assoc logs (log ∷ []) left ∙ ap (λ x. logs ++ x) (ap (λ y. y ∷ left) c.read.view_is ∙ sym rest) ∙ c.loop-read.invariant.parts);
-      steps = rw c.in_ok-push.ensures.items (more_runs logs log c.loop-read.steps c.read.inside.steps c.if-is_ok.ensures.value c.loop-read.invariant.steps c.read.invariant);
+      parts = rw c.in_ok-push.ensures.items (append_assoc logs (log ∷ []) left
+          ∙ ap (λ x. logs ++ x) (ap (λ y. y ∷ left) c.read.view_is ∙ sym rest) ∙ c.loop-read.invariant.parts);
+      steps = rw c.in_ok-push.ensures.items
+          (more_runs logs log c.loop-read.steps c.read.inside.steps c.if-is_ok.ensures.value c.loop-read.invariant.steps
+          c.read.invariant);
     }
 
 pub loop-read-preserved : goal.loop-read-preserved
@@ -30,8 +33,10 @@ loop-read-preserved g c =
       may_go_on = tt;
       ends = tt;
       left = omega (arith, ap length rest, steps.1);
-      parts = rw c.in_ok-push.ensures.items (append_assoc logs (log ∷ []) left ∙ ap (λ x. logs ++ x) (ap (λ y. y ∷ left) c.read.view_is ∙ sym rest) ∙ c.loop-read.invariant.parts);
-      steps = rw c.in_ok-push.ensures.items (more_stopped logs log c.loop-read.steps c.if-is_ok.ensures.value c.loop-read.invariant.steps);
+      parts = rw c.in_ok-push.ensures.items (append_assoc logs (log ∷ []) left
+          ∙ ap (λ x. logs ++ x) (ap (λ y. y ∷ left) c.read.view_is ∙ sym rest) ∙ c.loop-read.invariant.parts);
+      steps = rw c.in_ok-push.ensures.items
+          (more_stopped logs log c.loop-read.steps c.if-is_ok.ensures.value c.loop-read.invariant.steps);
     }
 
 pub returns : goal.returns

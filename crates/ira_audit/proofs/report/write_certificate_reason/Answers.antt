@@ -7,8 +7,10 @@ use Rattle.ira_audit.proofs.report.write_certificate_reason.Goals as goal
 pub returns-in_err-write_bytes : goal.returns-in_err-write_bytes
 returns-in_err-write_bytes g c =
     let stop = err_from_is_err_and c.from_residual.result c.from_residual.ensures.1 in
-    rw stop.1 (StopsIn-append _ _ (codes "no: certificate: ") (cert_fault_words c.args.fault) c.in_err-write_bytes.ensures)
+    rw stop.1 (StopsIn-append _ _ (codes "no: certificate: ") (cert_fault_words c.args.fault)
+    c.in_err-write_bytes.ensures)
 
 pub returns : goal.returns
 returns g c =
-    Wrote-then c.write_cert_fault.result _ _ _ (codes "no: certificate: ") (cert_fault_words c.args.fault) c.in_ok-write_bytes.ensures c.write_cert_fault.ensures
+    Wrote-then c.write_cert_fault.result _ _ _ (codes "no: certificate: ") (cert_fault_words c.args.fault)
+    c.in_ok-write_bytes.ensures c.write_cert_fault.ensures

@@ -11,4 +11,5 @@ returns-in_err-write_bytes g c =
 
 pub returns : goal.returns
 returns g c =
-    Wrote-then c.write_head_fault.result _ _ _ (codes "no: heads: ") (head_fault_words c.args.fault) c.in_ok-write_bytes.ensures c.write_head_fault.ensures
+    Wrote-then c.write_head_fault.result _ _ _ (codes "no: heads: ") (head_fault_words c.args.fault)
+    c.in_ok-write_bytes.ensures c.write_head_fault.ensures

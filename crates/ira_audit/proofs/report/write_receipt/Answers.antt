@@ -14,11 +14,15 @@ returns-in_err-write_numbered g c =
 pub returns-in_err-write_numbered-2 : goal.returns-in_err-write_numbered-2
 returns-in_err-write_numbered-2 g c =
     let link = numbered (codes "no: link ") c.args.link in
-    let stop = err_from_is_err_and c.from_residual-in_err-write_numbered-2.result c.from_residual-in_err-write_numbered-2.ensures.1 in
+    let stop = err_from_is_err_and c.from_residual-in_err-write_numbered-2.result
+    c.from_residual-in_err-write_numbered-2.ensures.1 in
     rw stop.1 (StopsIn-append _ _ (receipt_words c.args.link c.args.k) c.args.words.now
-    (Takes-StopsIn _ _ _ link (numbered (codes ": receipt ") c.args.k) c.in_ok-write_numbered.ensures c.in_err-write_numbered-2.ensures))
+    (Takes-StopsIn _ _ _ link (numbered (codes ": receipt ") c.args.k) c.in_ok-write_numbered.ensures
+    c.in_err-write_numbered-2.ensures))
 
 pub returns : goal.returns
 returns g c =
-    let front = Takes-append _ _ _ (numbered (codes "no: link ") c.args.link) (numbered (codes ": receipt ") c.args.k) c.in_ok-write_numbered.ensures c.in_ok-write_numbered-2.ensures in
-    Wrote-then c.write_bytes.result _ _ _ (receipt_words c.args.link c.args.k) c.args.words.now front c.write_bytes.ensures
+    let front = Takes-append _ _ _ (numbered (codes "no: link ") c.args.link) (numbered (codes ": receipt ") c.args.k)
+    c.in_ok-write_numbered.ensures c.in_ok-write_numbered-2.ensures in
+    Wrote-then c.write_bytes.result _ _ _ (receipt_words c.args.link c.args.k) c.args.words.now front
+    c.write_bytes.ensures

@@ -17,7 +17,8 @@ pub returns-in_err-write_numbered-2 : goal.returns-in_err-write_numbered-2
 returns-in_err-write_numbered-2 g c =
     let place = numbered (codes "no: node ") c.args.place in
     let event = numbered (codes ": event ") c.args.position in
-    let stop = err_from_is_err_and c.from_residual-in_err-write_numbered-2.result c.from_residual-in_err-write_numbered-2.ensures.1 in
+    let stop = err_from_is_err_and c.from_residual-in_err-write_numbered-2.result
+    c.from_residual-in_err-write_numbered-2.ensures.1 in
     rw stop.1 (StopsIn-append _ _ (place ++ event ++ codes ": ") (step_fault_words c.args.fault)
     (StopsIn-append _ _ (place ++ event) (codes ": ")
     (Takes-StopsIn _ _ _ place event c.in_ok-write_numbered.ensures c.in_err-write_numbered-2.ensures)))
@@ -26,7 +27,8 @@ pub returns-in_err-write_bytes : goal.returns-in_err-write_bytes
 returns-in_err-write_bytes g c =
     let place = numbered (codes "no: node ") c.args.place in
     let event = numbered (codes ": event ") c.args.position in
-    let stop = err_from_is_err_and c.from_residual-in_err-write_bytes.result c.from_residual-in_err-write_bytes.ensures.1 in
+    let stop = err_from_is_err_and c.from_residual-in_err-write_bytes.result
+    c.from_residual-in_err-write_bytes.ensures.1 in
     let front = Takes-append _ _ _ place event c.in_ok-write_numbered.ensures c.in_ok-write_numbered-2.ensures in
     rw stop.1 (StopsIn-append _ _ (place ++ event ++ codes ": ") (step_fault_words c.args.fault)
     (Takes-StopsIn _ _ _ (place ++ event) (codes ": ") front c.in_err-write_bytes.ensures))

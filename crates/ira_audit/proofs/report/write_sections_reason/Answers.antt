@@ -14,12 +14,16 @@ returns-in_err-write_numbered g c =
 pub returns-in_err-write_numbered-2 : goal.returns-in_err-write_numbered-2
 returns-in_err-write_numbered-2 g c =
     let first = numbered (codes "no: sections: ") c.args.wanted in
-    let stop = err_from_is_err_and c.from_residual-in_err-write_numbered-2.result c.from_residual-in_err-write_numbered-2.ensures.1 in
+    let stop = err_from_is_err_and c.from_residual-in_err-write_numbered-2.result
+    c.from_residual-in_err-write_numbered-2.ensures.1 in
     rw stop.1 (StopsIn-append _ _ (first ++ numbered (codes " wanted, ") c.args.found) (codes " found")
-    (Takes-StopsIn _ _ _ first (numbered (codes " wanted, ") c.args.found) c.in_ok-write_numbered.ensures c.in_err-write_numbered-2.ensures))
+    (Takes-StopsIn _ _ _ first (numbered (codes " wanted, ") c.args.found) c.in_ok-write_numbered.ensures
+    c.in_err-write_numbered-2.ensures))
 
 pub returns : goal.returns
 returns g c =
     let first = numbered (codes "no: sections: ") c.args.wanted in
-    let front = Takes-append _ _ _ first (numbered (codes " wanted, ") c.args.found) c.in_ok-write_numbered.ensures c.in_ok-write_numbered-2.ensures in
-    Wrote-then c.write_bytes.result _ _ _ (first ++ numbered (codes " wanted, ") c.args.found) (codes " found") front c.write_bytes.ensures
+    let front = Takes-append _ _ _ first (numbered (codes " wanted, ") c.args.found) c.in_ok-write_numbered.ensures
+    c.in_ok-write_numbered-2.ensures in
+    Wrote-then c.write_bytes.result _ _ _ (first ++ numbered (codes " wanted, ") c.args.found) (codes " found") front
+    c.write_bytes.ensures

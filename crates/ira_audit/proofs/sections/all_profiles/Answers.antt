@@ -12,4 +12,5 @@ loop-place-preserved g c =
     ∙ ap (λ (l : Log). take c.loop-place.place c.args.logs.now ++ l ∷ []) c.in_ok-new.ensures ∙ more
 
 pub returns : goal.returns
-returns g c = c.loop-place.invariant ∙ take_all c.loop-place.place c.args.logs.now (omega (arith, c.get-nodes.ensures.value, c.size.ensures.value))
+returns g c = c.loop-place.invariant
+    ∙ take_all c.loop-place.place c.args.logs.now (omega (arith, c.get-nodes.ensures.value, c.size.ensures.value))

@@ -10,5 +10,8 @@ returns g c =
     let few : length c.in_ok-stops.stops.items ≤ 0 = elim (slice_get_cases c.in_ok-stops.stops.items 0).1 [
       | inl some ↦ (let there : slice_get c.in_ok-stops.stops.items 0 ≡ Some some.0 = some.2 in absurd cc)
       | inr far ↦ far.0
-    ] in
-    (c.requires, λ s stop. (let found = c.in_ok-stops.ensures.all s stop in absurd (omega (arith, few, slice_get_within c.in_ok-stops.stops.items found.0 s found.1))))
+    ] in (
+      c.requires,
+      λ s stop. (let found = c.in_ok-stops.ensures.all s stop in
+          absurd (omega (arith, few, slice_get_within c.in_ok-stops.stops.items found.0 s found.1))),
+    )

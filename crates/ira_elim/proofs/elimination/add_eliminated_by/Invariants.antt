@@ -6,5 +6,6 @@ use Rattle.ira_elim.proofs.elimination.add_eliminated_by.Given as goal
 abbrev pub invariant-loop-node : goal.invariant-loop-node
 invariant-loop-node g l = record {
   kept : (a b : ℕ) → Has l.fn.pairs a b → Has l.pairs a b;
-  added : (k : ℕ) → k < l.node-index → KnowsNext l.stands l.other (get_or l.asked k 0) → Has l.pairs (get_or l.asked k 0) l.other;
+  added : (k : ℕ) → k < l.node-index → KnowsNext l.stands l.other (get_or l.asked k 0)
+      → Has l.pairs (get_or l.asked k 0) l.other;
 }

@@ -6,18 +6,27 @@ use Rattle.ira_elim.proofs.elimination.asked_places.Goals.{then-is_some+in_ok-pu
 
 pub loop-place-preserved : goal.loop-place-preserved
 loop-place-preserved g c =
-    let fronts = c.args.fronts.now in let asked = c.loop-place.asked.items in let place = c.loop-place.place in let so_far = c.loop-place.invariant in
+    let fronts = c.args.fronts.now in let asked = c.loop-place.asked.items in let place = c.loop-place.place in
+    let so_far = c.loop-place.invariant in
     elim c.if-is_some.branch [
       | then-is_some+in_ok-push w ↦
-          let has = found_some fronts (λ left. left.now) place c.candidates_left.result c.is_some.result c.candidates_left.ensures c.is_some.ensures w.if-is_some.true in
-          let more = one_more fronts asked c.if-is_some.asked.items place has (ap (λ (v : Vec ℕ g.row.A.Denot). v.items) w.asked-is ∙ w.in_ok-push.ensures.items) so_far.listed so_far.all in
+          let has = found_some fronts (λ left. left.now) place c.candidates_left.result c.is_some.result
+          c.candidates_left.ensures c.is_some.ensures w.if-is_some.true in
+          let more = one_more fronts asked c.if-is_some.asked.items place has
+          (ap (λ (v : Vec ℕ g.row.A.Denot). v.items) w.asked-is
+          ∙ w.in_ok-push.ensures.items) so_far.listed so_far.all in
           record { listed = more.0; all = more.1 }
       | else-is_some w ↦
-          let none = found_none fronts (λ left. left.now) place c.candidates_left.result c.is_some.result c.candidates_left.ensures c.is_some.ensures w.if-is_some.false in
-          let same = none_more fronts asked c.if-is_some.asked.items place none (ap (λ (v : Vec ℕ g.row.A.Denot). v.items) w.asked-is) so_far.listed so_far.all in
+          let none = found_none fronts (λ left. left.now) place c.candidates_left.result c.is_some.result
+          c.candidates_left.ensures c.is_some.ensures w.if-is_some.false in
+          let same = none_more fronts asked c.if-is_some.asked.items place none
+          (ap (λ (v : Vec ℕ g.row.A.Denot). v.items) w.asked-is) so_far.listed so_far.all in
           record { listed = same.0; all = same.1 }
     ]
 
 pub returns : goal.returns
-returns g c = λ i.
-    (c.loop-place.invariant.listed i, λ has. c.loop-place.invariant.all i (let l = slice_get_within c.args.fronts.now i (Some has.0) has.1 in omega arith) has)
+returns g c = λ i. (
+  c.loop-place.invariant.listed i,
+  λ has. c.loop-place.invariant.all i (let l = slice_get_within c.args.fronts.now i (Some has.0) has.1 in
+      omega arith) has,
+)

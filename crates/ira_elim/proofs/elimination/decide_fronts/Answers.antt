@@ -1,4 +1,5 @@
-use Rattle.std.proofs.Common.{◌≡◌, ℕ, List, [], ◌∷◌, ◌++◌, Option, Some, Contains, length, slice_get, drop, refl, sym, ◌∙◌, ap, subst, arith, length-append, length-set}
+use Rattle.std.proofs.Common.{◌≡◌, ℕ, List, [], ◌∷◌, ◌++◌, Option, Some, Contains, length, slice_get, drop, refl, sym}
+use Rattle.std.proofs.Common.{◌∙◌, ap, subst, arith, length-append, length-set}
 use Rattle.std.proofs.lemmas.List.{take_at}
 use Rattle.std.proofs.lemmas.Option.{slice_get_within}
 use Rattle.ira_event.specs.Log.{Log}
@@ -18,44 +19,63 @@ use Rattle.ira_elim.proofs.elimination.decide_fronts.Goals as goal
 
 pub first_spent-requires : goal.first_spent-requires
 first_spent-requires g c =
-    let listed = subst (λ (fs : List (Option (List ℕ))). ArePlaces fs c.in_ok-asked.asked.items) c.deref.ensures.value c.in_ok-asked.ensures in
-    subst (λ (fs : List (Option (List ℕ))). ArePlaces fs c.deref-3.result.now) (sym c.deref-2.ensures.value) (subst (ArePlaces c.args.fronts.items) (sym c.deref-3.ensures.value) listed)
+    let listed = subst (λ (fs : List (Option (List ℕ))). ArePlaces fs c.in_ok-asked.asked.items) c.deref.ensures.value
+    c.in_ok-asked.ensures in
+    subst (λ (fs : List (Option (List ℕ))). ArePlaces fs c.deref-3.result.now) (sym c.deref-2.ensures.value)
+    (subst (ArePlaces c.args.fronts.items) (sym c.deref-3.ensures.value) listed)
 
 pub returns-in-Some : goal.returns-in-Some
 returns-in-Some g c = λ case differ fronts_are.
     let logs = (g.C.HappenedBefore.logs_of c.args.ordered.now) in let fronts = c.args.fronts.items in
-    let empty = subst (λ (fs : List (Option (List ℕ))). slice_get fs c.in-Some.spent ≡ Some (Some [])) c.deref-2.ensures.value c.in-Some.ensures in
-    ([], c.requires.none, absent logs case fronts fronts [] c.in-Some.spent fronts_are (none_made logs case [] fronts fronts_are refl) (omega arith) empty)
+    let empty = subst (λ (fs : List (Option (List ℕ))). slice_get fs c.in-Some.spent
+    ≡ Some (Some [])) c.deref-2.ensures.value c.in-Some.ensures in (
+      [],
+      c.requires.none,
+      absent logs case fronts fronts [] c.in-Some.spent fronts_are
+          (none_made logs case [] fronts fronts_are refl) (omega arith) empty,
+    )
 
 pub stands-requires-clause-within : goal.stands-requires-clause-within
 stands-requires-clause-within g c =
     let logs = (g.C.HappenedBefore.logs_of c.args.ordered.now) in
     let some = c.requires.fronts in
-    subst (AreWithin logs) (sym c.deref-4.ensures.value) (within logs some.0 [] c.args.fronts.items (all_left logs some.0 c.args.fronts.items some.2))
+    subst (AreWithin logs) (sym c.deref-4.ensures.value)
+    (within logs some.0 [] c.args.fronts.items (all_left logs some.0 c.args.fronts.items some.2))
 
 pub eliminating_pairs-requires : goal.eliminating_pairs-requires
 eliminating_pairs-requires g c =
     let logs = (g.C.HappenedBefore.logs_of c.args.ordered.now) in
     let some = c.requires.fronts in
-    let listed = subst (λ (fs : List (Option (List ℕ))). ArePlaces fs c.in_ok-asked.asked.items) c.deref.ensures.value c.in_ok-asked.ensures in
+    let listed = subst (λ (fs : List (Option (List ℕ))). ArePlaces fs c.in_ok-asked.asked.items) c.deref.ensures.value
+    c.in_ok-asked.ensures in
     let fronts = c.args.fronts.items in let stands = c.in_ok-stands.stands.items in
     let inside = within logs some.0 [] fronts (all_left logs some.0 fronts some.2) in
-    let left = subst (λ (fs : List (Option (List ℕ))). (i : ℕ) → HasList fs i → (p : ℕ) × IsFirstLeft fs i p) c.deref-2.ensures.value c.in_default.ensures in
-    let are = subst (λ (fs : List (Option (List ℕ))). AreStands logs fs stands) c.deref-4.ensures.value c.in_ok-stands.ensures.stands in
-    let nodes : length stands ≡ length logs = c.in_ok-stands.ensures.count ∙ (c.get-nodes.ensures.value ∙ c.size.ensures.value ∙ ap (λ (ls : List Log). length ls) c.logs.ensures) in
-    subst (λ (ss : List Stand). AreStanding ss c.deref-6.result.now) (sym c.deref-5.ensures.value) (subst (AreStanding stands) (sym c.deref-6.ensures.value)
+    let left = subst (λ (fs : List (Option (List ℕ))). (i : ℕ) → HasList fs i → (p : ℕ)
+    × IsFirstLeft fs i p) c.deref-2.ensures.value c.in_default.ensures in
+    let are = subst (λ (fs : List (Option (List ℕ))). AreStands logs fs stands) c.deref-4.ensures.value
+    c.in_ok-stands.ensures.stands in
+    let nodes : length stands ≡ length logs =
+    c.in_ok-stands.ensures.count
+    ∙ (c.get-nodes.ensures.value ∙ c.size.ensures.value ∙ ap (λ (ls : List Log). length ls) c.logs.ensures) in
+    subst (λ (ss : List Stand). AreStanding ss c.deref-6.result.now) (sym c.deref-5.ensures.value)
+    (subst (AreStanding stands) (sym c.deref-6.ensures.value)
     (standing logs fronts stands inside are c.in_ok-asked.asked.items listed left nodes))
 
 pub steps-init : goal.steps-init
 steps-init g c =
     let logs = (g.C.HappenedBefore.logs_of c.args.ordered.now) in
     let some = c.requires.fronts in
-    let listed = subst (λ (fs : List (Option (List ℕ))). ArePlaces fs c.in_ok-asked.asked.items) c.deref.ensures.value c.in_ok-asked.ensures in
+    let listed = subst (λ (fs : List (Option (List ℕ))). ArePlaces fs c.in_ok-asked.asked.items) c.deref.ensures.value
+    c.in_ok-asked.ensures in
     let fronts = c.args.fronts.items in let stands = c.in_ok-stands.stands.items in
     let inside = within logs some.0 [] fronts (all_left logs some.0 fronts some.2) in
-    let left = subst (λ (fs : List (Option (List ℕ))). (i : ℕ) → HasList fs i → (p : ℕ) × IsFirstLeft fs i p) c.deref-2.ensures.value c.in_default.ensures in
-    let are = subst (λ (fs : List (Option (List ℕ))). AreStands logs fs stands) c.deref-4.ensures.value c.in_ok-stands.ensures.stands in
-    let nodes : length stands ≡ length logs = c.in_ok-stands.ensures.count ∙ (c.get-nodes.ensures.value ∙ c.size.ensures.value ∙ ap (λ (ls : List Log). length ls) c.logs.ensures) in
+    let left = subst (λ (fs : List (Option (List ℕ))). (i : ℕ) → HasList fs i → (p : ℕ)
+    × IsFirstLeft fs i p) c.deref-2.ensures.value c.in_default.ensures in
+    let are = subst (λ (fs : List (Option (List ℕ))). AreStands logs fs stands) c.deref-4.ensures.value
+    c.in_ok-stands.ensures.stands in
+    let nodes : length stands ≡ length logs =
+    c.in_ok-stands.ensures.count
+    ∙ (c.get-nodes.ensures.value ∙ c.size.ensures.value ∙ ap (λ (ls : List Log). length ls) c.logs.ensures) in
     let asked = c.deref-6.ensures.value in
     let known = rw (c.deref-5.ensures.value, asked) at c.in_ok-pairs.ensures in (
       [],
@@ -78,8 +98,12 @@ eliminate-requires g c =
     let fronts = c.steps.fronts.items in let s = c.in-Some-next_step.step in let so_far = c.steps.invariant.1 in
     let made = so_far.made some.0 some.1 some.2 in
     let inside = within logs some.0 c.steps.invariant.0 fronts made.behind in
-    let is : IsElimination logs fronts s = viewed logs fronts c.deref-in-steps-2.result.now c.steps.stands.items c.deref-in-steps.result.now c.steps.pairs (λ (fs : List (Option (List ℕ))). IsElimination logs fs s) c.deref-in-steps-2.ensures.value c.deref-in-steps.ensures.value (c.in-Some-next_step.ensures.step logs) inside so_far.stands so_far.pairs in
-    let at : slice_get c.deref_mut.result.now s.node ≡ Some (Some is.front.0) = ap (λ (fs : List (Option (List ℕ))). slice_get fs s.node) c.deref_mut.ensures.value ∙ is.front.1 in
+    let is : IsElimination logs fronts s =
+    viewed logs fronts c.deref-in-steps-2.result.now c.steps.stands.items c.deref-in-steps.result.now c.steps.pairs
+    (λ (fs : List (Option (List ℕ))). IsElimination logs fs s) c.deref-in-steps-2.ensures.value
+    c.deref-in-steps.ensures.value (c.in-Some-next_step.ensures.step logs) inside so_far.stands so_far.pairs in
+    let at : slice_get c.deref_mut.result.now s.node ≡ Some (Some is.front.0) =
+    ap (λ (fs : List (Option (List ℕ))). slice_get fs s.node) c.deref_mut.ensures.value ∙ is.front.1 in
     slice_get_within c.deref_mut.result.now s.node (Some is.front.0) at
 
 pub returns-in_default-front : goal.returns-in_default-front
@@ -89,17 +113,30 @@ returns-in_default-front g c = λ case differ fronts_are.
     let fronts = c.steps.fronts.items in let s = c.in-Some-next_step.step in let so_far = c.steps.invariant.1 in
     let made = so_far.made some.0 some.1 some.2 in
     let inside = within logs some.0 c.steps.invariant.0 fronts made.behind in
-    let is : IsElimination logs fronts s = viewed logs fronts c.deref-in-steps-2.result.now c.steps.stands.items c.deref-in-steps.result.now c.steps.pairs (λ (fs : List (Option (List ℕ))). IsElimination logs fs s) c.deref-in-steps-2.ensures.value c.deref-in-steps.ensures.value (c.in-Some-next_step.ensures.step logs) inside so_far.stands so_far.pairs in
-    let left = take_at c.eliminate.new.fronts (drop (length c.eliminate.new.fronts) fronts) c.steps.fronts.len (c.eliminate.auto.fronts ∙ c.deref_mut.ensures.len) ∙ c.eliminate.ensures ∙ ap (λ (fs : List (Option (List ℕ))). one_fewer fs s.node) c.deref_mut.ensures.value in
+    let is : IsElimination logs fronts s =
+    viewed logs fronts c.deref-in-steps-2.result.now c.steps.stands.items c.deref-in-steps.result.now c.steps.pairs
+    (λ (fs : List (Option (List ℕ))). IsElimination logs fs s) c.deref-in-steps-2.ensures.value
+    c.deref-in-steps.ensures.value (c.in-Some-next_step.ensures.step logs) inside so_far.stands so_far.pairs in
+    let left = take_at c.eliminate.new.fronts (drop (length c.eliminate.new.fronts) fronts) c.steps.fronts.len
+    (c.eliminate.auto.fronts ∙ c.deref_mut.ensures.len) ∙ c.eliminate.ensures
+    ∙ ap (λ (fs : List (Option (List ℕ))). one_fewer fs s.node) c.deref_mut.ensures.value in
     let pushed : c.steps.invariant.0 ++ s ∷ [] ≡ c.steps.invariant.0 ++ s ∷ [] = refl in
     let viewed_left = c.deref-in-Some-next_step.ensures.value in
     let own = own_list logs some.0 c.steps.invariant.0 fronts _ made.behind s is left in
-    let none = subst (λ (fs : List (Option (List ℕ))). (p : ℕ) → IsFirstLeft fs s.node p → ⊥) viewed_left c.in_default-front.ensures in (
+    let none = subst (λ (fs : List (Option (List ℕ))). (p : ℕ) → IsFirstLeft fs s.node p
+    → ⊥) viewed_left c.in_default-front.ensures in (
       c.steps.invariant.0 ++ s ∷ [],
       c.in_ok-take.ensures c.steps.invariant.0 so_far.has,
       absent logs case c.args.fronts.items _ (c.steps.invariant.0 ++ s ∷ []) s.node fronts_are
-          (made_more logs case c.steps.invariant.0 (c.steps.invariant.0 ++ s ∷ []) fronts _ s differ (so_far.made case differ fronts_are) is pushed left)
-          (omega (arith, total_less fronts s.node s.pos is.front, ap total left, length-append c.steps.invariant.0 (s ∷ []), so_far.count))
+          (made_more logs case c.steps.invariant.0 (c.steps.invariant.0 ++ s
+          ∷ []) fronts _ s differ (so_far.made case differ fronts_are) is pushed left)
+          (omega (
+            arith,
+            total_less fronts s.node s.pos is.front,
+            ap total left,
+            length-append c.steps.invariant.0 (s ∷ []),
+            so_far.count,
+          ))
           (none_left _ s.node none (drop 1 is.front.0, own)),
     )
 
@@ -110,11 +147,17 @@ advance-requires-clause-asked g c =
     let fronts = c.steps.fronts.items in let s = c.in-Some-next_step.step in let so_far = c.steps.invariant.1 in
     let made = so_far.made some.0 some.1 some.2 in
     let inside = within logs some.0 c.steps.invariant.0 fronts made.behind in
-    let is : IsElimination logs fronts s = viewed logs fronts c.deref-in-steps-2.result.now c.steps.stands.items c.deref-in-steps.result.now c.steps.pairs (λ (fs : List (Option (List ℕ))). IsElimination logs fs s) c.deref-in-steps-2.ensures.value c.deref-in-steps.ensures.value (c.in-Some-next_step.ensures.step logs) inside so_far.stands so_far.pairs in
-    let listed = subst (λ (fs : List (Option (List ℕ))). ArePlaces fs c.in_ok-asked.asked.items) c.deref.ensures.value c.in_ok-asked.ensures in
-    let places = places_stay logs some.0 c.steps.invariant.0 fronts made.behind c.args.fronts.items c.in_ok-asked.asked.items some.2 listed in
+    let is : IsElimination logs fronts s =
+    viewed logs fronts c.deref-in-steps-2.result.now c.steps.stands.items c.deref-in-steps.result.now c.steps.pairs
+    (λ (fs : List (Option (List ℕ))). IsElimination logs fs s) c.deref-in-steps-2.ensures.value
+    c.deref-in-steps.ensures.value (c.in-Some-next_step.ensures.step logs) inside so_far.stands so_far.pairs in
+    let listed = subst (λ (fs : List (Option (List ℕ))). ArePlaces fs c.in_ok-asked.asked.items) c.deref.ensures.value
+    c.in_ok-asked.ensures in
+    let places = places_stay logs some.0 c.steps.invariant.0 fronts made.behind c.args.fronts.items
+    c.in_ok-asked.asked.items some.2 listed in
     subst (AreStanding c.steps.stands.items) (sym c.deref-in-Some-next_step-2.ensures.value)
-    (standing logs fronts c.steps.stands.items inside so_far.stands c.in_ok-asked.asked.items places so_far.left so_far.nodes)
+    (standing logs fronts c.steps.stands.items inside so_far.stands c.in_ok-asked.asked.items places so_far.left
+    so_far.nodes)
 
 pub advance-requires-clause-node : goal.advance-requires-clause-node
 advance-requires-clause-node g c =
@@ -123,10 +166,16 @@ advance-requires-clause-node g c =
     let fronts = c.steps.fronts.items in let s = c.in-Some-next_step.step in let so_far = c.steps.invariant.1 in
     let made = so_far.made some.0 some.1 some.2 in
     let inside = within logs some.0 c.steps.invariant.0 fronts made.behind in
-    let is : IsElimination logs fronts s = viewed logs fronts c.deref-in-steps-2.result.now c.steps.stands.items c.deref-in-steps.result.now c.steps.pairs (λ (fs : List (Option (List ℕ))). IsElimination logs fs s) c.deref-in-steps-2.ensures.value c.deref-in-steps.ensures.value (c.in-Some-next_step.ensures.step logs) inside so_far.stands so_far.pairs in
-    let listed = subst (λ (fs : List (Option (List ℕ))). ArePlaces fs c.in_ok-asked.asked.items) c.deref.ensures.value c.in_ok-asked.ensures in
-    let places = places_stay logs some.0 c.steps.invariant.0 fronts made.behind c.args.fronts.items c.in_ok-asked.asked.items some.2 listed in
-    subst (λ (xs : List ℕ). Contains xs s.node) (sym c.deref-in-Some-next_step-2.ensures.value) ((places s.node).1 (is.front.0, is.front.1))
+    let is : IsElimination logs fronts s =
+    viewed logs fronts c.deref-in-steps-2.result.now c.steps.stands.items c.deref-in-steps.result.now c.steps.pairs
+    (λ (fs : List (Option (List ℕ))). IsElimination logs fs s) c.deref-in-steps-2.ensures.value
+    c.deref-in-steps.ensures.value (c.in-Some-next_step.ensures.step logs) inside so_far.stands so_far.pairs in
+    let listed = subst (λ (fs : List (Option (List ℕ))). ArePlaces fs c.in_ok-asked.asked.items) c.deref.ensures.value
+    c.in_ok-asked.ensures in
+    let places = places_stay logs some.0 c.steps.invariant.0 fronts made.behind c.args.fronts.items
+    c.in_ok-asked.asked.items some.2 listed in
+    subst (λ (xs : List ℕ). Contains xs s.node) (sym c.deref-in-Some-next_step-2.ensures.value)
+    ((places s.node).1 (is.front.0, is.front.1))
 
 pub advance-requires-clause-place : goal.advance-requires-clause-place
 advance-requires-clause-place g c =
@@ -135,7 +184,10 @@ advance-requires-clause-place g c =
     let fronts = c.steps.fronts.items in let s = c.in-Some-next_step.step in let so_far = c.steps.invariant.1 in
     let made = so_far.made some.0 some.1 some.2 in
     let inside = within logs some.0 c.steps.invariant.0 fronts made.behind in
-    let is : IsElimination logs fronts s = viewed logs fronts c.deref-in-steps-2.result.now c.steps.stands.items c.deref-in-steps.result.now c.steps.pairs (λ (fs : List (Option (List ℕ))). IsElimination logs fs s) c.deref-in-steps-2.ensures.value c.deref-in-steps.ensures.value (c.in-Some-next_step.ensures.step logs) inside so_far.stands so_far.pairs in
+    let is : IsElimination logs fronts s =
+    viewed logs fronts c.deref-in-steps-2.result.now c.steps.stands.items c.deref-in-steps.result.now c.steps.pairs
+    (λ (fs : List (Option (List ℕ))). IsElimination logs fs s) c.deref-in-steps-2.ensures.value
+    c.deref-in-steps.ensures.value (c.in-Some-next_step.ensures.step logs) inside so_far.stands so_far.pairs in
     (inside s.node s.pos is.front).0
 
 pub advance-requires-clause-position : goal.advance-requires-clause-position
@@ -145,11 +197,18 @@ advance-requires-clause-position g c =
     let fronts = c.steps.fronts.items in let s = c.in-Some-next_step.step in let so_far = c.steps.invariant.1 in
     let made = so_far.made some.0 some.1 some.2 in
     let inside = within logs some.0 c.steps.invariant.0 fronts made.behind in
-    let is : IsElimination logs fronts s = viewed logs fronts c.deref-in-steps-2.result.now c.steps.stands.items c.deref-in-steps.result.now c.steps.pairs (λ (fs : List (Option (List ℕ))). IsElimination logs fs s) c.deref-in-steps-2.ensures.value c.deref-in-steps.ensures.value (c.in-Some-next_step.ensures.step logs) inside so_far.stands so_far.pairs in
-    let left = take_at c.eliminate.new.fronts (drop (length c.eliminate.new.fronts) fronts) c.steps.fronts.len (c.eliminate.auto.fronts ∙ c.deref_mut.ensures.len) ∙ c.eliminate.ensures ∙ ap (λ (fs : List (Option (List ℕ))). one_fewer fs s.node) c.deref_mut.ensures.value in
+    let is : IsElimination logs fronts s =
+    viewed logs fronts c.deref-in-steps-2.result.now c.steps.stands.items c.deref-in-steps.result.now c.steps.pairs
+    (λ (fs : List (Option (List ℕ))). IsElimination logs fs s) c.deref-in-steps-2.ensures.value
+    c.deref-in-steps.ensures.value (c.in-Some-next_step.ensures.step logs) inside so_far.stands so_far.pairs in
+    let left = take_at c.eliminate.new.fronts (drop (length c.eliminate.new.fronts) fronts) c.steps.fronts.len
+    (c.eliminate.auto.fronts ∙ c.deref_mut.ensures.len) ∙ c.eliminate.ensures
+    ∙ ap (λ (fs : List (Option (List ℕ))). one_fewer fs s.node) c.deref_mut.ensures.value in
     let pushed : c.steps.invariant.0 ++ s ∷ [] ≡ c.steps.invariant.0 ++ s ∷ [] = refl in
-    let next = made_more logs some.0 c.steps.invariant.0 (c.steps.invariant.0 ++ s ∷ []) fronts _ s some.1 made is pushed left in
-    let first = subst (λ (fs : List (Option (List ℕ))). IsFirstLeft fs s.node c.in-Some-front.position) c.deref-in-Some-next_step.ensures.value c.in-Some-front.ensures in
+    let next = made_more logs some.0 c.steps.invariant.0 (c.steps.invariant.0 ++ s
+    ∷ []) fronts _ s some.1 made is pushed left in
+    let first = subst (λ (fs : List (Option (List ℕ))). IsFirstLeft fs s.node c.in-Some-front.position)
+    c.deref-in-Some-next_step.ensures.value c.in-Some-front.ensures in
     (within logs some.0 (c.steps.invariant.0 ++ s ∷ []) _ next.behind s.node c.in-Some-front.position first).1
 
 pub advance-requires-clause-stand : goal.advance-requires-clause-stand
@@ -159,12 +218,19 @@ advance-requires-clause-stand g c = λ t at.
     let fronts = c.steps.fronts.items in let s = c.in-Some-next_step.step in let so_far = c.steps.invariant.1 in
     let made = so_far.made some.0 some.1 some.2 in
     let inside = within logs some.0 c.steps.invariant.0 fronts made.behind in
-    let is : IsElimination logs fronts s = viewed logs fronts c.deref-in-steps-2.result.now c.steps.stands.items c.deref-in-steps.result.now c.steps.pairs (λ (fs : List (Option (List ℕ))). IsElimination logs fs s) c.deref-in-steps-2.ensures.value c.deref-in-steps.ensures.value (c.in-Some-next_step.ensures.step logs) inside so_far.stands so_far.pairs in
-    let left = take_at c.eliminate.new.fronts (drop (length c.eliminate.new.fronts) fronts) c.steps.fronts.len (c.eliminate.auto.fronts ∙ c.deref_mut.ensures.len) ∙ c.eliminate.ensures ∙ ap (λ (fs : List (Option (List ℕ))). one_fewer fs s.node) c.deref_mut.ensures.value in
+    let is : IsElimination logs fronts s =
+    viewed logs fronts c.deref-in-steps-2.result.now c.steps.stands.items c.deref-in-steps.result.now c.steps.pairs
+    (λ (fs : List (Option (List ℕ))). IsElimination logs fs s) c.deref-in-steps-2.ensures.value
+    c.deref-in-steps.ensures.value (c.in-Some-next_step.ensures.step logs) inside so_far.stands so_far.pairs in
+    let left = take_at c.eliminate.new.fronts (drop (length c.eliminate.new.fronts) fronts) c.steps.fronts.len
+    (c.eliminate.auto.fronts ∙ c.deref_mut.ensures.len) ∙ c.eliminate.ensures
+    ∙ ap (λ (fs : List (Option (List ℕ))). one_fewer fs s.node) c.deref_mut.ensures.value in
     let pushed : c.steps.invariant.0 ++ s ∷ [] ≡ c.steps.invariant.0 ++ s ∷ [] = refl in
-    let first = subst (λ (fs : List (Option (List ℕ))). IsFirstLeft fs s.node c.in-Some-front.position) c.deref-in-Some-next_step.ensures.value c.in-Some-front.ensures in
+    let first = subst (λ (fs : List (Option (List ℕ))). IsFirstLeft fs s.node c.in-Some-front.position)
+    c.deref-in-Some-next_step.ensures.value c.in-Some-front.ensures in
     let stand = stand_is logs fronts c.steps.stands.items inside so_far.stands s.node s.pos t is.front at in
-    let onward = own_first logs some.0 c.steps.invariant.0 fronts _ made.behind s is left c.in-Some-front.position first in
+    let onward = own_first logs some.0 c.steps.invariant.0 fronts _ made.behind s is left c.in-Some-front.position first
+    in
     (omega (arith, stand.position, onward), subst (λ (n : ℕ). IsStand logs s.node n t) (sym stand.position) stand)
 
 pub steps-smaller : goal.steps-smaller
@@ -174,8 +240,13 @@ steps-smaller g c =
     let fronts = c.steps.fronts.items in let s = c.in-Some-next_step.step in let so_far = c.steps.invariant.1 in
     let made = so_far.made some.0 some.1 some.2 in
     let inside = within logs some.0 c.steps.invariant.0 fronts made.behind in
-    let is : IsElimination logs fronts s = viewed logs fronts c.deref-in-steps-2.result.now c.steps.stands.items c.deref-in-steps.result.now c.steps.pairs (λ (fs : List (Option (List ℕ))). IsElimination logs fs s) c.deref-in-steps-2.ensures.value c.deref-in-steps.ensures.value (c.in-Some-next_step.ensures.step logs) inside so_far.stands so_far.pairs in
-    let left = take_at c.eliminate.new.fronts (drop (length c.eliminate.new.fronts) fronts) c.steps.fronts.len (c.eliminate.auto.fronts ∙ c.deref_mut.ensures.len) ∙ c.eliminate.ensures ∙ ap (λ (fs : List (Option (List ℕ))). one_fewer fs s.node) c.deref_mut.ensures.value in
+    let is : IsElimination logs fronts s =
+    viewed logs fronts c.deref-in-steps-2.result.now c.steps.stands.items c.deref-in-steps.result.now c.steps.pairs
+    (λ (fs : List (Option (List ℕ))). IsElimination logs fs s) c.deref-in-steps-2.ensures.value
+    c.deref-in-steps.ensures.value (c.in-Some-next_step.ensures.step logs) inside so_far.stands so_far.pairs in
+    let left = take_at c.eliminate.new.fronts (drop (length c.eliminate.new.fronts) fronts) c.steps.fronts.len
+    (c.eliminate.auto.fronts ∙ c.deref_mut.ensures.len) ∙ c.eliminate.ensures
+    ∙ ap (λ (fs : List (Option (List ℕ))). one_fewer fs s.node) c.deref_mut.ensures.value in
     let pushed : c.steps.invariant.0 ++ s ∷ [] ≡ c.steps.invariant.0 ++ s ∷ [] = refl in
     omega (arith, total_less fronts s.node s.pos is.front, ap total left)
 
@@ -186,60 +257,103 @@ steps-preserved g c =
     let fronts = c.steps.fronts.items in let s = c.in-Some-next_step.step in let so_far = c.steps.invariant.1 in
     let made = so_far.made some.0 some.1 some.2 in
     let inside = within logs some.0 c.steps.invariant.0 fronts made.behind in
-    let is : IsElimination logs fronts s = viewed logs fronts c.deref-in-steps-2.result.now c.steps.stands.items c.deref-in-steps.result.now c.steps.pairs (λ (fs : List (Option (List ℕ))). IsElimination logs fs s) c.deref-in-steps-2.ensures.value c.deref-in-steps.ensures.value (c.in-Some-next_step.ensures.step logs) inside so_far.stands so_far.pairs in
-    let left = take_at c.eliminate.new.fronts (drop (length c.eliminate.new.fronts) fronts) c.steps.fronts.len (c.eliminate.auto.fronts ∙ c.deref_mut.ensures.len) ∙ c.eliminate.ensures ∙ ap (λ (fs : List (Option (List ℕ))). one_fewer fs s.node) c.deref_mut.ensures.value in
+    let is : IsElimination logs fronts s =
+    viewed logs fronts c.deref-in-steps-2.result.now c.steps.stands.items c.deref-in-steps.result.now c.steps.pairs
+    (λ (fs : List (Option (List ℕ))). IsElimination logs fs s) c.deref-in-steps-2.ensures.value
+    c.deref-in-steps.ensures.value (c.in-Some-next_step.ensures.step logs) inside so_far.stands so_far.pairs in
+    let left = take_at c.eliminate.new.fronts (drop (length c.eliminate.new.fronts) fronts) c.steps.fronts.len
+    (c.eliminate.auto.fronts ∙ c.deref_mut.ensures.len) ∙ c.eliminate.ensures
+    ∙ ap (λ (fs : List (Option (List ℕ))). one_fewer fs s.node) c.deref_mut.ensures.value in
     let pushed : c.steps.invariant.0 ++ s ∷ [] ≡ c.steps.invariant.0 ++ s ∷ [] = refl in
-    let next = made_more logs some.0 c.steps.invariant.0 (c.steps.invariant.0 ++ s ∷ []) fronts _ s some.1 made is pushed left in
-    let first = subst (λ (fs : List (Option (List ℕ))). IsFirstLeft fs s.node c.in-Some-front.position) c.deref-in-Some-next_step.ensures.value c.in-Some-front.ensures in
-    let listed = subst (λ (fs : List (Option (List ℕ))). ArePlaces fs c.in_ok-asked.asked.items) c.deref.ensures.value c.in_ok-asked.ensures in
+    let next = made_more logs some.0 c.steps.invariant.0 (c.steps.invariant.0 ++ s
+    ∷ []) fronts _ s some.1 made is pushed left in
+    let first = subst (λ (fs : List (Option (List ℕ))). IsFirstLeft fs s.node c.in-Some-front.position)
+    c.deref-in-Some-next_step.ensures.value c.in-Some-front.ensures in
+    let listed = subst (λ (fs : List (Option (List ℕ))). ArePlaces fs c.in_ok-asked.asked.items) c.deref.ensures.value
+    c.in_ok-asked.ensures in
     let stands = c.steps.stands.items in let moved = c.advance.ensures.moved in
     let set = moved.1 in
     let inside_left = within logs some.0 (c.steps.invariant.0 ++ s ∷ []) _ next.behind in
-    let again = stands_again logs fronts stands inside so_far.stands some.0 c.steps.invariant.0 made.behind s is _ left _ moved.0 set c.in-Some-front.position first moved.2 in
-    let old = viewed logs fronts c.deref-in-steps-2.result.now stands c.deref-in-steps.result.now c.steps.pairs (λ (fs : List (Option (List ℕ))). HasEliminations logs fs c.next_step.new.pairs) c.deref-in-steps-2.ensures.value c.deref-in-steps.ensures.value (c.in-Some-next_step.ensures.pairs logs) inside so_far.stands so_far.pairs in
-    let places = places_stay logs some.0 (c.steps.invariant.0 ++ s ∷ []) _ next.behind c.args.fronts.items c.in_ok-asked.asked.items some.2 listed in
+    let again = stands_again logs fronts stands inside so_far.stands some.0 c.steps.invariant.0 made.behind s is _ left
+    _ moved.0 set c.in-Some-front.position first moved.2 in
+    let old = viewed logs fronts c.deref-in-steps-2.result.now stands c.deref-in-steps.result.now c.steps.pairs
+    (λ (fs : List (Option (List ℕ))). HasEliminations logs fs c.next_step.new.pairs)
+    c.deref-in-steps-2.ensures.value c.deref-in-steps.ensures.value (c.in-Some-next_step.ensures.pairs logs) inside
+    so_far.stands so_far.pairs in
+    let places = places_stay logs some.0 (c.steps.invariant.0 ++ s
+    ∷ []) _ next.behind c.args.fronts.items c.in_ok-asked.asked.items some.2 listed in
     let asked = c.deref-in-Some-next_step-2.ensures.value in
     let added = rw asked at c.advance.ensures.added in (
       c.steps.invariant.0 ++ s ∷ [],
       record {
         has = c.in_ok-take.ensures c.steps.invariant.0 so_far.has;
-        made = λ case differ fronts_are. made_more logs case c.steps.invariant.0 (c.steps.invariant.0 ++ s ∷ []) fronts _ s differ (so_far.made case differ fronts_are) is pushed left;
-        count = omega (arith, total_less fronts s.node s.pos is.front, ap total left, length-append c.steps.invariant.0 (s ∷ []), so_far.count);
-        places = omega (arith, ap (λ (fs : List (Option (List ℕ))). length fs) left, one_fewer-length fronts s.node, so_far.places);
-        left = still_left logs some.0 c.steps.invariant.0 fronts _ made.behind s is left so_far.left c.in-Some-front.position first;
+        made = λ case differ fronts_are.
+            made_more logs case c.steps.invariant.0 (c.steps.invariant.0 ++ s
+            ∷ []) fronts _ s differ (so_far.made case differ fronts_are) is pushed left;
+        count = omega (
+          arith,
+          total_less fronts s.node s.pos is.front,
+          ap total left,
+          length-append c.steps.invariant.0 (s ∷ []),
+          so_far.count,
+        );
+        places = omega (
+          arith,
+          ap (λ (fs : List (Option (List ℕ))). length fs) left,
+          one_fewer-length fronts s.node,
+          so_far.places,
+        );
+        left = still_left logs some.0 c.steps.invariant.0 fronts _ made.behind s is left so_far.left
+            c.in-Some-front.position first;
         nodes = ap (λ (ss : List Stand). length ss) set ∙ length-set stands s.node moved.0 ∙ so_far.nodes;
         stands = again;
         pairs =
-            all_again logs some.0 c.steps.invariant.0 fronts _ made.behind s is left c.next_step.new.pairs c.advance.new.pairs old c.advance.ensures.kept
-            (adds logs some.0 c.steps.invariant.0 fronts _ made.behind s is left stands _ inside so_far.stands inside_left again c.in_ok-asked.asked.items c.next_step.new.pairs c.advance.new.pairs places old c.advance.ensures.kept added);
+            all_again logs some.0 c.steps.invariant.0 fronts _ made.behind s is left c.next_step.new.pairs
+            c.advance.new.pairs old c.advance.ensures.kept
+            (adds logs some.0 c.steps.invariant.0 fronts _ made.behind s is left stands _ inside so_far.stands
+            inside_left again c.in_ok-asked.asked.items c.next_step.new.pairs c.advance.new.pairs places old
+            c.advance.ensures.kept added);
       },
     )
 
 pub least_cut-requires-clause-nodes : goal.least_cut-requires-clause-nodes
 least_cut-requires-clause-nodes g c =
-    c.get-nodes.ensures.value ∙ c.size.ensures.value ∙ ap (λ (ls : List Log). length ls) c.logs.ensures ∙ sym (ap (λ (ss : List Stand). length ss) c.deref-7.ensures.value ∙ c.steps.invariant.1.nodes)
+    c.get-nodes.ensures.value ∙ c.size.ensures.value ∙ ap (λ (ls : List Log). length ls) c.logs.ensures
+    ∙ sym (ap (λ (ss : List Stand). length ss) c.deref-7.ensures.value ∙ c.steps.invariant.1.nodes)
 
 pub least_cut-requires-clause-standing : goal.least_cut-requires-clause-standing
 least_cut-requires-clause-standing g c =
     let logs = (g.C.HappenedBefore.logs_of c.args.ordered.now) in
-    let listed = subst (λ (fs : List (Option (List ℕ))). ArePlaces fs c.in_ok-asked.asked.items) c.deref.ensures.value c.in_ok-asked.ensures in
+    let listed = subst (λ (fs : List (Option (List ℕ))). ArePlaces fs c.in_ok-asked.asked.items) c.deref.ensures.value
+    c.in_ok-asked.ensures in
     let some = c.requires.fronts in let so_far = c.steps.invariant.1 in let fronts = c.steps.fronts.items in
     let made = so_far.made some.0 some.1 some.2 in
     let inside = within logs some.0 c.steps.invariant.0 fronts made.behind in
-    let places = places_stay logs some.0 c.steps.invariant.0 fronts made.behind c.args.fronts.items c.in_ok-asked.asked.items some.2 listed in
-    subst (λ (ss : List Stand). AreStanding ss c.deref-8.result.now) (sym c.deref-7.ensures.value) (subst (AreStanding c.steps.stands.items) (sym c.deref-8.ensures.value)
-    (standing logs fronts c.steps.stands.items inside so_far.stands c.in_ok-asked.asked.items places so_far.left so_far.nodes))
+    let places = places_stay logs some.0 c.steps.invariant.0 fronts made.behind c.args.fronts.items
+    c.in_ok-asked.asked.items some.2 listed in
+    subst (λ (ss : List Stand). AreStanding ss c.deref-8.result.now) (sym c.deref-7.ensures.value)
+    (subst (AreStanding c.steps.stands.items) (sym c.deref-8.ensures.value)
+    (standing logs fronts c.steps.stands.items inside so_far.stands c.in_ok-asked.asked.items places so_far.left
+    so_far.nodes))
 
 pub returns : goal.returns
 returns g c = λ case differ fronts_are.
-    let logs = (g.C.HappenedBefore.logs_of c.args.ordered.now) in let fronts = c.steps.fronts.items in let so_far = c.steps.invariant.1 in
+    let logs = (g.C.HappenedBefore.logs_of c.args.ordered.now) in let fronts = c.steps.fronts.items in
+    let so_far = c.steps.invariant.1 in
     let made = so_far.made case differ fronts_are in
     let inside = within logs case c.steps.invariant.0 fronts made.behind in
-    let listed = subst (λ (fs : List (Option (List ℕ))). ArePlaces fs c.in_ok-asked.asked.items) c.deref.ensures.value c.in_ok-asked.ensures in
-    let places = places_stay logs case c.steps.invariant.0 fronts made.behind c.args.fronts.items c.in_ok-asked.asked.items fronts_are listed in
+    let listed = subst (λ (fs : List (Option (List ℕ))). ArePlaces fs c.in_ok-asked.asked.items) c.deref.ensures.value
+    c.in_ok-asked.ensures in
+    let places = places_stay logs case c.steps.invariant.0 fronts made.behind c.args.fronts.items
+    c.in_ok-asked.asked.items fronts_are listed in
     let greatest =
-    c.in_ok-cut.ensures logs fronts (c.get-nodes.ensures.value ∙ c.size.ensures.value ∙ ap (λ (ls : List Log). length ls) c.logs.ensures)
-    (subst (ArePlaces fronts) (sym c.deref-8.ensures.value) places) so_far.left inside (subst (AreStands logs fronts) (sym c.deref-7.ensures.value) so_far.stands) in
-    let none = viewed logs fronts c.deref-in-steps-2.result.now c.steps.stands.items c.deref-in-steps.result.now c.steps.pairs (λ (fs : List (Option (List ℕ))). (s : CertStep) → IsElimination logs fs s → ⊥) c.deref-in-steps-2.ensures.value c.deref-in-steps.ensures.value (c.in_default-next_step.ensures.step logs) inside so_far.stands so_far.pairs in
+    c.in_ok-cut.ensures logs fronts (c.get-nodes.ensures.value ∙ c.size.ensures.value
+    ∙ ap (λ (ls : List Log). length ls) c.logs.ensures)
+    (subst (ArePlaces fronts) (sym c.deref-8.ensures.value) places) so_far.left inside
+    (subst (AreStands logs fronts) (sym c.deref-7.ensures.value) so_far.stands) in
+    let none = viewed logs fronts c.deref-in-steps-2.result.now c.steps.stands.items c.deref-in-steps.result.now
+    c.steps.pairs (λ (fs : List (Option (List ℕ))). (s : CertStep) → IsElimination logs fs s
+    → ⊥) c.deref-in-steps-2.ensures.value c.deref-in-steps.ensures.value (c.in_default-next_step.ensures.step logs)
+    inside so_far.stands so_far.pairs in
     subst (IsLeastCut logs case) (sym c.of_positions.ensures)
     (present logs case c.steps.invariant.0 fronts differ made c.in_ok-cut.cut.items greatest none so_far.left)

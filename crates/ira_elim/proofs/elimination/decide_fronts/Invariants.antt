@@ -10,7 +10,9 @@ use Rattle.ira_elim.proofs.elimination.decide_fronts.Given as goal
 abbrev pub invariant-steps : goal.invariant-steps
 invariant-steps g l = (taken : List CertStep) × record {
   has : g.S.StepSink.has_taken l.steps taken;
-  made : (case : List Conjunct) → HasDifferentPlaces case → AreFronts (g.C.HappenedBefore.logs_of l.ordered) case l.fn.fronts.items → AreMade (g.C.HappenedBefore.logs_of l.ordered) case taken l.fronts.items;
+  made : (case : List Conjunct) → HasDifferentPlaces case
+      → AreFronts (g.C.HappenedBefore.logs_of l.ordered) case l.fn.fronts.items
+      → AreMade (g.C.HappenedBefore.logs_of l.ordered) case taken l.fronts.items;
   count : length taken + total l.fronts.items ≡ total l.fn.fronts.items;
   places : length l.fronts.items ≤ length (g.C.HappenedBefore.logs_of l.ordered);
   left : (i : ℕ) → HasList l.fronts.items i → (p : ℕ) × IsFirstLeft l.fronts.items i p;

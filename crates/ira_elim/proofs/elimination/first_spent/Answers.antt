@@ -12,8 +12,11 @@ returns-then-is_none g c =
 pub loop-place-preserved : goal.loop-place-preserved
 loop-place-preserved g c =
     let i = get_or c.args.asked.now c.loop-place.place-index 0 in
-    below_more _ _ c.loop-place.invariant (some_front c.args.fronts.now i c.front.result c.is_none.result c.front.ensures c.is_none.ensures c.if-is_none.false)
+    below_more _ _ c.loop-place.invariant
+    (some_front c.args.fronts.now i c.front.result c.is_none.result c.front.ensures c.is_none.ensures
+    c.if-is_none.false)
 
 pub returns : goal.returns
 returns g c =
-    each_place c.args.fronts.now c.args.asked.now (λ i. (p : ℕ) × IsFirstLeft c.args.fronts.now i p) c.requires (λ k l. c.loop-place.invariant k (omega arith))
+    each_place c.args.fronts.now c.args.asked.now (λ i. (p : ℕ)
+    × IsFirstLeft c.args.fronts.now i p) c.requires (λ k l. c.loop-place.invariant k (omega arith))

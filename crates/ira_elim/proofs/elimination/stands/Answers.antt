@@ -10,15 +10,26 @@ at-requires-clause-position g c = (c.requires.within _ _ c.in-Some.ensures).1
 
 pub loop-place-preserved : goal.loop-place-preserved
 loop-place-preserved g c =
-    let logs = (g.C.HappenedBefore.logs_of c.args.ordered.now) in let fronts = c.args.fronts.now in let so_far = c.loop-place.invariant in
-    let more = one_stand_more logs fronts c.loop-place.stands.items c.push.new.self.items c.match-front.stand c.loop-place.place c.in_ok-push.ensures.items so_far.count so_far.stands
+    let logs = (g.C.HappenedBefore.logs_of c.args.ordered.now) in let fronts = c.args.fronts.now in
+    let so_far = c.loop-place.invariant in
+    let more = one_stand_more logs fronts c.loop-place.stands.items c.push.new.self.items c.match-front.stand
+    c.loop-place.place c.in_ok-push.ensures.items so_far.count so_far.stands
     (elim c.match-front.branch [
       | in-Some+in_ok-stand-in-Some w ↦ λ q first.
-          let same : w.in-Some.position ≡ q = one_first fronts c.loop-place.place c.loop-place.place w.in-Some.position q refl w.in-Some.ensures first in
-          rw w.stand-is (subst (λ (n : ℕ). IsStand logs c.loop-place.place n w.in_ok-stand-in-Some.stand) same w.in_ok-stand-in-Some.ensures)
+          let same : w.in-Some.position ≡ q =
+          one_first fronts c.loop-place.place c.loop-place.place w.in-Some.position q refl w.in-Some.ensures first
+          in
+          rw w.stand-is (subst (λ (n : ℕ). IsStand logs c.loop-place.place n w.in_ok-stand-in-Some.stand) same
+          w.in_ok-stand-in-Some.ensures)
       | in-None w ↦ λ q first. absurd (w.in-None.ensures q first)
     ]) in
     record { count = more.0; stands = more.1 }
 
 pub returns-clause-stands : goal.returns-clause-stands
-returns-clause-stands g c = λ j q first. c.loop-place.invariant.stands j (omega (arith, (c.requires.within j q first).0, c.requires.nodes, c.loop-place-test.false)) q first
+returns-clause-stands g c =
+    λ j q first. c.loop-place.invariant.stands j (omega (
+      arith,
+      (c.requires.within j q first).0,
+      c.requires.nodes,
+      c.loop-place-test.false,
+    )) q first

@@ -6,5 +6,6 @@ use Rattle.ira_elim.proofs.elimination.stands.Given as goal
 abbrev pub invariant-loop-place : goal.invariant-loop-place
 invariant-loop-place g l = record {
   count : length l.stands.items ≡ l.place;
-  stands : (j : ℕ) → j < l.place → (q : ℕ) → IsFirstLeft l.fronts j q → (s : Stand) × (slice_get l.stands.items j ≡ Some s) × IsStand (g.C.HappenedBefore.logs_of l.ordered) j q s;
+  stands : (j : ℕ) → j < l.place → (q : ℕ) → IsFirstLeft l.fronts j q → (s : Stand)
+      × (slice_get l.stands.items j ≡ Some s) × IsStand (g.C.HappenedBefore.logs_of l.ordered) j q s;
 }

@@ -6,4 +6,5 @@ use Rattle.ira_evidence.proofs.beginning.is_least.Given as goal
 
 abbrev pub invariant-loop-stop : goal.invariant-loop-stop
 invariant-loop-stop g l =
-    (k : ℕ) (s : Stop) → k < l.stop-index → slice_get l.stops k ≡ Some s → HappenedBefore (g.H.HappenedBefore.logs_of l.ordered) s.at l.at → ⊥
+    (k : ℕ) (s : Stop) → k < l.stop-index → slice_get l.stops k ≡ Some s
+    → HappenedBefore (g.H.HappenedBefore.logs_of l.ordered) s.at l.at → ⊥

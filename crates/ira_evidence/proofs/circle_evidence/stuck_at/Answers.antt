@@ -11,32 +11,60 @@ use Rattle.ira_evidence.proofs.circle_evidence.stuck_at.Goals as goal
 
 pub overflow_add-position : goal.overflow_add-position
 overflow_add-position g c =
-    let events : log_of c.args.logs.now c.args.place ≡ c.log-log.result.now.events = ap events_of c.log-log.ensures.value in
-    omega (arith, c.requires.reach.within, ap length events, (c.log-log.ensures.valid.valid c.args.place c.log-log.result.now c.log-log.ensures.value).count)
+    let events : log_of c.args.logs.now c.args.place ≡ c.log-log.result.now.events =
+    ap events_of c.log-log.ensures.value in
+    omega (
+      arith,
+      c.requires.reach.within,
+      ap length events,
+      (c.log-log.ensures.valid.valid c.args.place c.log-log.result.now c.log-log.ensures.value).count,
+    )
 
 pub event-requires : goal.event-requires
 event-requires g c =
-    let events : log_of c.args.logs.now c.args.place ≡ c.log-log.result.now.events = ap events_of c.log-log.ensures.value in
-    omega (arith, ap length events, slice_get_within (log_of c.args.logs.now c.args.place) c.args.reach.events _ c.requires.waiting.receives)
+    let events : log_of c.args.logs.now c.args.place ≡ c.log-log.result.now.events =
+    ap events_of c.log-log.ensures.value in
+    omega (
+      arith,
+      ap length events,
+      slice_get_within (log_of c.args.logs.now c.args.place) c.args.reach.events _ c.requires.waiting.receives,
+    )
 
 pub overflow_add-reach : goal.overflow_add-reach
 overflow_add-reach g c =
-    let events : log_of c.args.logs.now c.args.place ≡ c.log-log.result.now.events = ap events_of c.log-log.ensures.value in
-    omega (arith, c.requires.reach.within, c.requires.reach.receipts, rank_le receipt (log_of c.args.logs.now c.args.place) c.args.reach.events, ap length events, (c.log-log.ensures.valid.valid c.args.place c.log-log.result.now c.log-log.ensures.value).count)
+    let events : log_of c.args.logs.now c.args.place ≡ c.log-log.result.now.events =
+    ap events_of c.log-log.ensures.value in
+    omega (
+      arith,
+      c.requires.reach.within,
+      c.requires.reach.receipts,
+      rank_le receipt (log_of c.args.logs.now c.args.place) c.args.reach.events,
+      ap length events,
+      (c.log-log.ensures.valid.valid c.args.place c.log-log.result.now c.log-log.ensures.value).count,
+    )
 
 pub unreachable-requires-in_default-nth_sending : goal.unreachable-requires-in_default-nth_sending
 unreachable-requires-in_default-nth_sending g c =
-    let writer : c.writer_of-writer.result ≡ prev (length c.args.logs.now) c.args.place = c.writer_of-writer.ensures ∙ ap (λ n. prev n c.args.place) (c.get.ensures.value ∙ c.size.ensures.value) in
-    let some = has_sending c.args.logs.now c.args.place c.args.reach c.requires.place c.requires.reach c.requires.waiting in
-    let there : numbered (sent (log_of c.args.logs.now (prev (length c.args.logs.now) c.args.place))) (c.args.reach.receipts + 1) ≡ Some some.0 = some.1 in
-    let none : numbered (sent (log_of c.args.logs.now (prev (length c.args.logs.now) c.args.place))) (c.args.reach.receipts + 1) ≡ None = rw writer at c.in_default-nth_sending.ensures in
+    let writer : c.writer_of-writer.result ≡ prev (length c.args.logs.now) c.args.place =
+    c.writer_of-writer.ensures ∙ ap (λ n. prev n c.args.place) (c.get.ensures.value ∙ c.size.ensures.value) in
+    let some = has_sending c.args.logs.now c.args.place c.args.reach c.requires.place c.requires.reach
+    c.requires.waiting in
+    let there : numbered (sent (log_of c.args.logs.now (prev (length c.args.logs.now) c.args.place)))
+    (c.args.reach.receipts + 1) ≡ Some some.0 = some.1 in
+    let none : numbered (sent (log_of c.args.logs.now (prev (length c.args.logs.now) c.args.place)))
+    (c.args.reach.receipts + 1) ≡ None = rw writer at c.in_default-nth_sending.ensures in
     cc
 
 pub returns : goal.returns
 returns g c =
-    let writer : c.writer_of-writer.result ≡ prev (length c.args.logs.now) c.args.place = c.writer_of-writer.ensures ∙ ap (λ n. prev n c.args.place) (c.get.ensures.value ∙ c.size.ensures.value) in
-    let sends : IsNthSending c.args.logs.now (prev (length c.args.logs.now) c.args.place) (c.args.reach.receipts + 1) c.in-Some.sending = rw writer at c.in-Some.ensures in
+    let writer : c.writer_of-writer.result ≡ prev (length c.args.logs.now) c.args.place =
+    c.writer_of-writer.ensures ∙ ap (λ n. prev n c.args.place) (c.get.ensures.value ∙ c.size.ensures.value) in
+    let sends : IsNthSending c.args.logs.now (prev (length c.args.logs.now) c.args.place) (c.args.reach.receipts + 1)
+    c.in-Some.sending = rw writer at c.in-Some.ensures in
     let back : c.args.reach.events + 1 - 1 ≡ c.args.reach.events = omega arith in
-    let events : log_of c.args.logs.now c.args.place ≡ c.log-log.result.now.events = ap events_of c.log-log.ensures.value in
-    let at : slice_get c.log-log.result.now.events c.args.reach.events ≡ Some (Got c.in-Got.load) = subst (λ n. slice_get c.log-log.result.now.events n ≡ Some (Got c.in-Got.load)) back c.in-Got.ensures in
-    stuck_here c.args.logs.now c.args.place c.args.reach c.requires.place c.requires.reach c.requires.waiting c.in-Some.sending c.in-Got.load sends (rw events at)
+    let events : log_of c.args.logs.now c.args.place ≡ c.log-log.result.now.events =
+    ap events_of c.log-log.ensures.value in
+    let at : slice_get c.log-log.result.now.events c.args.reach.events ≡ Some (Got c.in-Got.load) =
+    subst (λ n. slice_get c.log-log.result.now.events n ≡ Some (Got c.in-Got.load)) back c.in-Got.ensures in
+    stuck_here c.args.logs.now c.args.place c.args.reach c.requires.place c.requires.reach c.requires.waiting
+    c.in-Some.sending c.in-Got.load sends (rw events at)

@@ -11,5 +11,6 @@ invariant-loop-place g l = record {
   places : length l.stuck.items ≡ l.place;
   total : l.ordered ≡ total_reached (take l.place l.reaches);
   few : l.ordered ≤ l.place * MAX_RECORDS;
-  each : (j : ℕ) (s : StuckAt) → slice_get l.stuck.items j ≡ Some s → IsStuckAt l.logs j (reach_of l.reaches j).events s;
+  each : (j : ℕ) (s : StuckAt) → slice_get l.stuck.items j ≡ Some s
+      → IsStuckAt l.logs j (reach_of l.reaches j).events s;
 }

@@ -13,7 +13,8 @@ none : CertStep
 none = record { node = 0; pos = 0; other = 0; other_pos = 0 }
 
 pub loop-number-init : goal.loop-number-init
-loop-number-init g c = λ case differ fronts. (λ k s at. cc, all_left (g.C.HappenedBefore.logs_of c.args.ordered.now) case c.args.fronts.now fronts)
+loop-number-init g c = λ case differ fronts.
+    (λ k s at. cc, all_left (g.C.HappenedBefore.logs_of c.args.ordered.now) case c.args.fronts.now fronts)
 
 pub returns-in-Err : goal.returns-in-Err
 unfolding none
@@ -21,7 +22,8 @@ returns-in-Err g c = λ case differ fronts.
     let steps = c.args.steps.now in let k = c.loop-number.number in
     let so_far = c.loop-number.invariant case differ fronts in
     let own = c.left_at-own.ensures.left (g.C.HappenedBefore.logs_of c.args.ordered.now) case (take k steps) so_far.1 in
-    let other = c.left_at-other.ensures.left (g.C.HappenedBefore.logs_of c.args.ordered.now) case (take k steps) so_far.1 in
+    let other = c.left_at-other.ensures.left (g.C.HappenedBefore.logs_of c.args.ordered.now) case (take k steps)
+    so_far.1 in
     record {
       before = so_far.0;
       at = slice_get-get_or steps k none c.loop-number-test.true;
@@ -33,18 +35,21 @@ returns-in-Err g c = λ case differ fronts.
 pub loop-number-preserved : goal.loop-number-preserved
 unfolding none
 loop-number-preserved g c = λ case differ fronts.
-    let logs = (g.C.HappenedBefore.logs_of c.args.ordered.now) in let steps = c.args.steps.now in let k = c.loop-number.number in
+    let logs = (g.C.HappenedBefore.logs_of c.args.ordered.now) in let steps = c.args.steps.now in
+    let k = c.loop-number.number in
     let so_far = c.loop-number.invariant case differ fronts in
     let at = slice_get-get_or steps k none c.loop-number-test.true in
     let own = c.left_at-own.ensures.left logs case (take k steps) so_far.1 in
     let other = c.left_at-other.ensures.left logs case (take k steps) so_far.1 in
     let sound = c.in_default.ensures.verdict case (take k steps) differ own other in (
       sound_more logs case steps k (get_or steps k none) at so_far.0 sound,
-      left_on logs case differ steps k (get_or steps k none) at sound c.loop-number.fronts so_far.1 c.eliminate.new.fronts c.eliminate.ensures,
+      left_on logs case differ steps k (get_or steps k none) at sound c.loop-number.fronts so_far.1
+          c.eliminate.new.fronts c.eliminate.ensures,
     )
 
 pub returns : goal.returns
 returns g c = λ case differ fronts.
     let logs = (g.C.HappenedBefore.logs_of c.args.ordered.now) in let steps = c.args.steps.now in
     let whole : take c.loop-number.number steps ≡ steps = take_all c.loop-number.number steps (omega arith) in
-    subst (λ (xs : List CertStep). AreSoundSteps logs case xs × AreFrontsBehind logs case xs c.loop-number.fronts) whole (c.loop-number.invariant case differ fronts)
+    subst (λ (xs : List CertStep). AreSoundSteps logs case xs
+    × AreFrontsBehind logs case xs c.loop-number.fronts) whole (c.loop-number.invariant case differ fronts)

@@ -10,11 +10,16 @@ pub loop-place-preserved : goal.loop-place-preserved
 loop-place-preserved g c =
     elim c.match-replay.branch [
       | in-Err+in_ok-push w ↦
-          rw (w.stops-is, w.in_ok-push.ensures.items) (stops_more c.args.logs.now c.loop-place.stops.items c.loop-place.place c.log.result.now w.in-Err.fault c.log.ensures.value ((w.in-Err.ensures.err w.in-Err.fault).0 refl) c.loop-place.invariant)
+          rw (w.stops-is, w.in_ok-push.ensures.items)
+          (stops_more c.args.logs.now c.loop-place.stops.items c.loop-place.place c.log.result.now w.in-Err.fault
+          c.log.ensures.value ((w.in-Err.ensures.err w.in-Err.fault).0 refl) c.loop-place.invariant)
       | in_default w ↦
-          rw w.stops-is (stops_over c.args.logs.now c.loop-place.stops.items c.loop-place.place c.log.result.now c.log.ensures.value (λ f is. w.in_default.not-Err f ((c.replay.ensures.err f).1 is)) c.loop-place.invariant)
+          rw w.stops-is (stops_over c.args.logs.now c.loop-place.stops.items c.loop-place.place c.log.result.now
+          c.log.ensures.value (λ f is. w.in_default.not-Err f ((c.replay.ensures.err f).1 is))
+          c.loop-place.invariant)
     ]
 
 pub returns : goal.returns
 returns g c =
-    stops_all c.args.logs.now c.loop-place.stops.items c.loop-place.place (omega (arith, c.loop-place-test.false, c.get-nodes.ensures.value, c.size.ensures.value)) c.loop-place.invariant
+    stops_all c.args.logs.now c.loop-place.stops.items c.loop-place.place
+    (omega (arith, c.loop-place-test.false, c.get-nodes.ensures.value, c.size.ensures.value)) c.loop-place.invariant

@@ -16,7 +16,8 @@ loop-input-preserved g c =
     let before_read = rw unread at before.reads in
     let short : f ≤ 67108864 = c.if-filled-le-MAX_TEXT.true in
     let some : c.read_more.new.input.is_over ≡ false → 0 < n = λ e. subst (λ k. 0 < k) given (once.going e) in
-    let after = reads_left c.read_more.new.input.is_over c.loop-input.input.reads c.read_more.new.input.reads n read.count some in
+    let after = reads_left c.read_more.new.input.is_over c.loop-input.input.reads c.read_more.new.input.reads n
+    read.count some in
     record {
       filled = bound;
       size = omega (arith, read.size, before.size);

@@ -18,8 +18,10 @@ event-event-requires g c =
     let after = rw c.in-Some.is at (c.in_ok-step.ensures.step given.0 given.1) in
     let logs : c.next.new.self.logs ≡ c.args.logs.now = c.next.ensures.logs.logs ∙ c.loop-number.invariant.logs in
     let there = last_is_there c.next.new.self given.0 c.in-Some.step after in
-    let events : log_of c.args.logs.now c.in-Some.step.place ≡ c.log-log-in-loop-number.result.now.events = ap events_of c.log-log-in-loop-number.ensures.value in
-    let within : c.in-Some.step.event ≤ length (log_of c.args.logs.now c.in-Some.step.place) = rw logs at there.within in
+    let events : log_of c.args.logs.now c.in-Some.step.place ≡ c.log-log-in-loop-number.result.now.events =
+    ap events_of c.log-log-in-loop-number.ensures.value in
+    let within : c.in-Some.step.event ≤ length (log_of c.args.logs.now c.in-Some.step.place) =
+    rw logs at there.within in
     (there.first, rw events at within)
 
 pub index_mut-state-requires : goal.index_mut-state-requires
@@ -38,5 +40,6 @@ loop-number-preserved g c =
     record {
       begun = (given.0 ++ c.in-Some.step ∷ [], after);
       logs = c.next.ensures.logs.logs ∙ c.loop-number.invariant.logs;
-      states = length-set c.loop-number.states.items c.from-in-loop-number.result c.advance.new.self ∙ c.loop-number.invariant.states;
+      states = length-set c.loop-number.states.items c.from-in-loop-number.result c.advance.new.self
+          ∙ c.loop-number.invariant.states;
     }

@@ -13,7 +13,9 @@ loop-place-preserved g c =
 
 pub returns-clause-cut : goal.returns-clause-cut
 returns-clause-cut g c =
-    let past : length c.args.logs.now ≤ c.loop-place.place = omega (arith, c.loop-place-test.false, c.get-size.ensures.value, c.size.ensures.value) in
-    let whole : take c.loop-place.place c.args.logs.now ≡ c.args.logs.now = take_all c.loop-place.place c.args.logs.now past in
+    let past : length c.args.logs.now ≤ c.loop-place.place =
+    omega (arith, c.loop-place-test.false, c.get-size.ensures.value, c.size.ensures.value) in
+    let whole : take c.loop-place.place c.args.logs.now ≡ c.args.logs.now =
+    take_all c.loop-place.place c.args.logs.now past in
     let is : c.loop-place.cut.items ≡ whole_cut c.args.logs.now = rw whole at c.loop-place.invariant in
     rw is (whole_is_consistent c.args.logs.now)

@@ -17,20 +17,41 @@ loop-link-preserved g c =
     let new = c.in_ok-sendings_after.field-0 in
     let n : c.get-size.result ≡ length c.args.logs.now = c.get-size.ensures.value ∙ c.size.ensures.value in
     let below : c.loop-link.link < length c.args.logs.now = omega (arith, c.loop-link-test.true, n) in
-    let to : c.reader_of.result ≡ next (length c.args.logs.now) c.loop-link.link = c.reader_of.ensures ∙ ap (λ k. next k c.loop-link.link) n in
-    let received = received_is logs cut c.args.nodes.now (next (length c.args.logs.now) c.loop-link.link) c.received_by-received.result c.requires.each c.requires.number (next_below (length c.args.logs.now) link below) (rw to at c.received_by-received.ensures) in
+    let to : c.reader_of.result ≡ next (length c.args.logs.now) c.loop-link.link =
+    c.reader_of.ensures ∙ ap (λ k. next k c.loop-link.link) n in
+    let received = received_is logs cut c.args.nodes.now (next (length c.args.logs.now) c.loop-link.link)
+    c.received_by-received.result c.requires.each c.requires.number (next_below (length c.args.logs.now) link below)
+    (rw to at c.received_by-received.ensures) in
     let events : log_of c.args.logs.now c.loop-link.link ≡ c.log.result.now.events = ap events_of c.log.ensures.value in
-    let held : c.in_ok-sendings_after.field-0.items ≡ drop c.received_by-received.result (sent (take (slice_index c.args.cut.now c.from-in-loop-link.result) c.log.result.now.events)) = c.in_ok-sendings_after.ensures in
-    let here : c.in_ok-sendings_after.field-0.items ≡ drop c.received_by-received.result (sent (take (slice_index c.args.cut.now c.loop-link.link) (log_of c.args.logs.now c.loop-link.link))) =
+    let held : c.in_ok-sendings_after.field-0.items
+    ≡ drop c.received_by-received.result
+    (sent (take (slice_index c.args.cut.now c.from-in-loop-link.result) c.log.result.now.events)) =
+    c.in_ok-sendings_after.ensures in
+    let here : c.in_ok-sendings_after.field-0.items
+    ≡ drop c.received_by-received.result
+    (sent (take (slice_index c.args.cut.now c.loop-link.link) (log_of c.args.logs.now c.loop-link.link))) =
     rw events (rw c.from-in-loop-link.ensures at held) in
     let is : AreOnTheirWay c.args.logs.now c.args.cut.now c.loop-link.link c.in_ok-sendings_after.field-0.items =
-    subst (AreOnTheirWay c.args.logs.now c.args.cut.now c.loop-link.link) (sym here) (on_their_way logs cut link c.received_by-received.result c.requires.matches c.requires.cut below received) in
-    let items : c.push.new.self.items ≡ c.loop-link.links.items ++ c.in_ok-sendings_after.field-0 ∷ [] = c.in_ok-push.ensures.items in
-    let mapped : map (λ (x : Vec Load g.row.A.Denot). x.items) c.push.new.self.items ≡ map (λ (x : Vec Load g.row.A.Denot). x.items) c.loop-link.links.items ++ c.in_ok-sendings_after.field-0.items ∷ [] =
-    ap (map (λ (x : Vec Load g.row.A.Denot). x.items)) items ∙ map-append (λ (x : Vec Load g.row.A.Denot). x.items) c.loop-link.links.items (c.in_ok-sendings_after.field-0 ∷ []) in
-    let many : length (map (λ (x : Vec Load g.row.A.Denot). x.items) c.loop-link.links.items) ≡ c.loop-link.link = length-map c.loop-link.links.items (λ (x : Vec Load g.row.A.Denot). x.items) ∙ c.loop-link.invariant.number in
+    subst (AreOnTheirWay c.args.logs.now c.args.cut.now c.loop-link.link) (sym here)
+    (on_their_way logs cut link c.received_by-received.result c.requires.matches c.requires.cut below received) in
+    let items : c.push.new.self.items ≡ c.loop-link.links.items ++ c.in_ok-sendings_after.field-0 ∷ [] =
+    c.in_ok-push.ensures.items in
+    let mapped : map (λ (x : Vec Load g.row.A.Denot). x.items) c.push.new.self.items
+    ≡ map (λ (x : Vec Load g.row.A.Denot). x.items) c.loop-link.links.items ++ c.in_ok-sendings_after.field-0.items
+    ∷ [] =
+    ap (map (λ (x : Vec Load g.row.A.Denot). x.items)) items
+    ∙ map-append (λ (x : Vec Load g.row.A.Denot). x.items) c.loop-link.links.items (c.in_ok-sendings_after.field-0
+    ∷ []) in
+    let many : length (map (λ (x : Vec Load g.row.A.Denot). x.items) c.loop-link.links.items) ≡ c.loop-link.link =
+    length-map c.loop-link.links.items (λ (x : Vec Load g.row.A.Denot). x.items) ∙ c.loop-link.invariant.number in
     record {
-      number = omega (arith, ap length items, length_push c.loop-link.links.items c.in_ok-sendings_after.field-0, c.loop-link.invariant.number);
+      number = omega (
+        arith,
+        ap length items,
+        length_push c.loop-link.links.items c.in_ok-sendings_after.field-0,
+        c.loop-link.invariant.number,
+      );
       each = λ i loads at.
-          link_more logs cut (map (λ (x : Vec Load g.row.A.Denot). x.items) c.loop-link.links.items) link c.in_ok-sendings_after.field-0.items many c.loop-link.invariant.each is i loads (rw mapped at at);
+          link_more logs cut (map (λ (x : Vec Load g.row.A.Denot). x.items) c.loop-link.links.items) link
+          c.in_ok-sendings_after.field-0.items many c.loop-link.invariant.each is i loads (rw mapped at at);
     }

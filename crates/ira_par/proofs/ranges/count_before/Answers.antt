@@ -14,7 +14,13 @@ none = record { node = 0; pos = 0; other = 0; other_pos = 0 }
 pub overflow_add-counts : goal.overflow_add-counts
 overflow_add-counts c =
     let so_far = c.loop-k.invariant.counts c.from-place.result (search rules) in
-    omega (arith, so_far, made_le c.args.steps.now c.loop-k.k c.from-place.result, c.loop-k-test.true, c.ranges.end.fits)
+    omega (
+      arith,
+      so_far,
+      made_le c.args.steps.now c.loop-k.k c.from-place.result,
+      c.loop-k-test.true,
+      c.ranges.end.fits,
+    )
 
 pub loop-k-preserved : goal.loop-k-preserved
 unfolding none
@@ -26,14 +32,24 @@ loop-k-preserved c =
     elim c.if-place-counts.branch [
       | then-place-counts w ↦
           record {
-            places = first_of (search rules, omega (arith, c.loop-k.invariant.places, length-set counts c.from-place.result (slice_index counts c.from-place.result + 1)));
+            places = first_of (
+              search rules,
+              omega (
+                arith,
+                c.loop-k.invariant.places,
+                length-set counts c.from-place.result (slice_index counts c.from-place.result + 1),
+              ),
+            );
             counts = subst (AreMade (take (k + 1) steps)) (sym w.counts-is)
                 (subst (λ j. AreMade (take (k + 1) steps) (slice_set counts j (slice_index counts j + 1))) place
-                (one_counted steps k s at counts (slice_index counts s.node + 1) (omega (arith, place, w.if-place-counts.true)) refl c.loop-k.invariant.counts));
+                (one_counted steps k s at counts (slice_index counts s.node + 1)
+                (omega (arith, place, w.if-place-counts.true)) refl c.loop-k.invariant.counts));
           }
       | else-place-counts w ↦
           record {
             places = search rules;
-            counts = subst (AreMade (take (k + 1) steps)) (sym w.counts-is) (none_counted steps k s at counts (omega (arith, place, w.if-place-counts.false)) c.loop-k.invariant.counts);
+            counts = subst (AreMade (take (k + 1) steps)) (sym w.counts-is)
+                (none_counted steps k s at counts (omega (arith, place, w.if-place-counts.false))
+                c.loop-k.invariant.counts);
           }
     ]

@@ -1,4 +1,5 @@
-use Rattle.std.proofs.Common.{rules, ◌≡◌, ◌∙◌, ◌+◌, ◌<◌, get_or, length, slice_index, slice_set, take, refl, subst, arith}
+use Rattle.std.proofs.Common.{rules, ◌≡◌, ◌∙◌, ◌+◌, ◌<◌, get_or, length, slice_index, slice_set, take, refl, subst}
+use Rattle.std.proofs.Common.{arith}
 use Rattle.std.proofs.lemmas.List.{length-set}
 use Rattle.std.proofs.lemmas.Option.{slice_get-get_or}
 use Rattle.ira_cert_text.specs.declared.cert_step.CertStep.{CertStep}
@@ -34,7 +35,8 @@ returns-in-Err-clause-fault g c = λ case differ are.
 pub loop-k-preserved : goal.loop-k-preserved
 unfolding none
 loop-k-preserved g c =
-    let logs = (g.C.HappenedBefore.logs_of c.args.ordered.now) in let steps = c.args.steps.now in let k = c.loop-k.k in let counts = c.loop-k.counts in
+    let logs = (g.C.HappenedBefore.logs_of c.args.ordered.now) in let steps = c.args.steps.now in let k = c.loop-k.k in
+    let counts = c.loop-k.counts in
     let s : CertStep = get_or steps k none in
     let at = slice_get-get_or steps k none (omega (arith, c.loop-k-test.true, c.requires.range)) in
     let within : s.node < length counts = c.left_at-own.ensures.place c.in_default.ensures.asked in
@@ -54,7 +56,8 @@ loop-k-preserved g c =
 pub returns-clause-fault : goal.returns-clause-fault
 returns-clause-fault g c = λ case differ are before.
     let end : c.loop-k.k ≡ c.args.to = omega (arith, c.loop-k-test.false, c.loop-k.auto.k-end, c.requires.range) in
-    subst (λ k. AreSoundSteps (g.C.HappenedBefore.logs_of c.args.ordered.now) case (take k c.args.steps.now)) end (c.loop-k.invariant.sound case differ are before)
+    subst (λ k. AreSoundSteps (g.C.HappenedBefore.logs_of c.args.ordered.now) case (take k c.args.steps.now)) end
+    (c.loop-k.invariant.sound case differ are before)
 
 pub returns-clause-counts : goal.returns-clause-counts
 returns-clause-counts g c = λ _.

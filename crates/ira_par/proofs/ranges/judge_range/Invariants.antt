@@ -10,5 +10,8 @@ abbrev pub invariant-loop-k : goal.invariant-loop-k
 invariant-loop-k g l = record {
   places : length l.counts ≡ length l.fn.counts;
   counts : AreMade (take l.k l.steps) l.counts;
-  sound : (case : List Conjunct) → HasDifferentPlaces case → AreTables (g.C.HappenedBefore.logs_of l.ordered) case l.tables → AreSoundSteps (g.C.HappenedBefore.logs_of l.ordered) case (take l.from l.steps) → AreSoundSteps (g.C.HappenedBefore.logs_of l.ordered) case (take l.k l.steps);
+  sound : (case : List Conjunct) → HasDifferentPlaces case
+      → AreTables (g.C.HappenedBefore.logs_of l.ordered) case l.tables
+      → AreSoundSteps (g.C.HappenedBefore.logs_of l.ordered) case (take l.from l.steps)
+      → AreSoundSteps (g.C.HappenedBefore.logs_of l.ordered) case (take l.k l.steps);
 }

@@ -10,6 +10,11 @@ returns g c =
     let olds = c.args.shares.now in let news = c.for_each_mut.new.s in
     first_is_found logs (length olds) tasks c.requires.some news c.for_each_mut.auto.s
     (λ i share at.
-    let changed = (c.for_each_mut.ensures i share (omega (arith, slice_get_within news i share at, c.for_each_mut.auto.s))).1 in
-    subst (λ (s : Share). IsFoundBy logs (length olds) i (length tasks) tasks s.found) (changed.left ∙ get_or_from_slice_get news i share share at) changed.call)
+    let changed = (c.for_each_mut.ensures i share (omega (
+      arith,
+      slice_get_within news i share at,
+      c.for_each_mut.auto.s,
+    ))).1 in
+    subst (λ (s : Share). IsFoundBy logs (length olds) i (length tasks) tasks s.found) (changed.left
+    ∙ get_or_from_slice_get news i share share at) changed.call)
     c.first_found.result c.first_found.ensures

@@ -15,14 +15,23 @@ loop-section-preserved g c =
     let logs = g.C.HappenedBefore.logs_of c.args.ordered.now in
     let case = c.index-cases-section.result in
     let section = c.index-sections-section.result in
-    let case_at = slice_get_read c.args.cases.now _ c.loop-section.section case refl (search rules) c.index-cases-section.is in
-    let section_at = slice_get_read c.args.sections.now (length c.args.cases.now) c.loop-section.section section (sym c.requires.number) (search rules) c.index-sections-section.is in
-    let fronts : AreFronts logs case c.in_ok-fronts.fronts.items = subst (λ (ls : List Log). AreFronts ls case c.in_ok-fronts.fronts.items) (sym c.requires.order) c.in_ok-fronts.ensures.fronts in
-    let verdict : IsVerdict logs case section Yes = subst (λ (v : Verdict). IsVerdict logs case section v) c.in_default.is (c.check_fronts.ensures case c.in_ok-fronts.ensures.different fronts) in
-    sound_more c.args.profiles.now c.args.cases.now c.args.sections.now c.loop-section.section case section case_at section_at c.loop-section.invariant
+    let case_at = slice_get_read c.args.cases.now _ c.loop-section.section case refl (search rules)
+    c.index-cases-section.is in
+    let section_at = slice_get_read c.args.sections.now (length c.args.cases.now) c.loop-section.section section
+    (sym c.requires.number) (search rules) c.index-sections-section.is in
+    let fronts : AreFronts logs case c.in_ok-fronts.fronts.items =
+    subst (λ (ls : List Log). AreFronts ls case c.in_ok-fronts.fronts.items) (sym c.requires.order)
+    c.in_ok-fronts.ensures.fronts in
+    let verdict : IsVerdict logs case section Yes =
+    subst (λ (v : Verdict). IsVerdict logs case section v) c.in_default.is
+    (c.check_fronts.ensures case c.in_ok-fronts.ensures.different fronts) in
+    sound_more c.args.profiles.now c.args.cases.now c.args.sections.now c.loop-section.section case section case_at
+    section_at c.loop-section.invariant
     (subst (λ (ls : List Log). IsSoundSection ls case section) c.requires.order verdict)
 
 pub returns : goal.returns
 returns g c =
-    let end : c.loop-section.section ≡ length c.args.sections.now = omega (arith, c.loop-section-test.false, c.loop-section.auto.section-end, c.requires.number) in
-    subst (λ (n : ℕ). AreSoundBefore n c.args.profiles.now c.args.cases.now c.args.sections.now) end c.loop-section.invariant
+    let end : c.loop-section.section ≡ length c.args.sections.now =
+    omega (arith, c.loop-section-test.false, c.loop-section.auto.section-end, c.requires.number) in
+    subst (λ (n : ℕ). AreSoundBefore n c.args.profiles.now c.args.cases.now c.args.sections.now) end
+    c.loop-section.invariant

@@ -4,8 +4,10 @@ use Rattle.ira_par.proofs.tables.case_tables.Goals as goal
 
 pub returns-clause-tables : goal.returns-clause-tables
 returns-clause-tables g c =
-    tables_if_found c.args.logs.now c.args.case.now _ (λ n table found. search rules) (λ all. all.items) c.find_all.result c.find_all.ensures.count c.find_all.ensures.each
+    tables_if_found c.args.logs.now c.args.case.now _ (λ n table found. search rules) (λ all.
+    all.items) c.find_all.result c.find_all.ensures.count c.find_all.ensures.each
 
 pub returns-clause-places : goal.returns-clause-places
 returns-clause-places g c =
-    below_if_found c.args.logs.now c.args.case.now _ (λ n table found. search rules) (λ all. all.items) c.find_all.result c.requires.places c.find_all.ensures.each
+    below_if_found c.args.logs.now c.args.case.now _ (λ n table found. search rules) (λ all.
+    all.items) c.find_all.result c.requires.places c.find_all.ensures.each

@@ -18,6 +18,7 @@ loop-n-preserved g c =
         | inl there ↦ c.loop-n.invariant.each k other there
         | inr last ↦
             subst (λ t. goal.F-post g c.args.find k (Ok t)) last.1
-            (subst (λ (j : ℕ). goal.F-post g c.args.find j (Ok table)) (sym c.loop-n.invariant.count ∙ last.0) c.in_ok-find.ensures)
+            (subst (λ (j : ℕ). goal.F-post g c.args.find j (Ok table)) (sym c.loop-n.invariant.count
+            ∙ last.0) c.in_ok-find.ensures)
       ];
     }

@@ -19,11 +19,14 @@ loop-n-preserved g c = λ k other l other_at. elim (cases_lt k c.loop-n.n) [
       let table = c.index-tables-n.result in
       let at = slice_get_read c.args.tables.now _ c.loop-n.n table refl (search rules) c.index-tables-n.is in
       let same : c.loop-n.n ≡ k = omega (arith, top, l) in
-      let is : table ≡ other = same_Some table other (sym at ∙ ap (λ (j : ℕ). slice_get c.args.tables.now j) same ∙ other_at) in
+      let is : table ≡ other = same_Some table other (sym at ∙ ap (λ (j : ℕ). slice_get c.args.tables.now j) same
+      ∙ other_at) in
       c.if-place.false (c.place.ensures ∙ ap (λ (t : Table). t.place) is ∙ here)
 ]
 
 pub returns : goal.returns
 returns g c = λ positions there.
-    let l = slice_get_within c.args.tables.now there.0 (record { place = c.args.place; positions = positions }) there.1 in
-    c.loop-n.invariant there.0 (record { place = c.args.place; positions = positions }) (omega (arith, l, c.loop-n-test.false, c.loop-n.auto.n-end)) there.1 refl
+    let l = slice_get_within c.args.tables.now there.0 (record { place = c.args.place; positions = positions }) there.1
+    in
+    c.loop-n.invariant there.0 (record { place = c.args.place; positions = positions })
+    (omega (arith, l, c.loop-n-test.false, c.loop-n.auto.n-end)) there.1 refl

@@ -1,4 +1,5 @@
-use Rattle.std.proofs.Common.{◌≡◌, ◌<◌, ◌∙◌, ℕ, List, get_or, refl, Some, Vec, ◌∷◌, ◌++◌, [], sym, ap, arith, length, map, rules}
+use Rattle.std.proofs.Common.{◌≡◌, ◌<◌, ◌∙◌, ℕ, List, get_or, refl, Some, Vec, ◌∷◌, ◌++◌, [], sym, ap, arith, length}
+use Rattle.std.proofs.Common.{map, rules}
 use Rattle.std.specs.Prelude.{slice_get, slice_index_or}
 use Rattle.std.specs.Option.{option_map}
 use Rattle.std.proofs.lemmas.Option.{get_or_from_slice_get, slice_get-map, slice_get_read}
@@ -10,7 +11,8 @@ use Rattle.ira_picture.proofs.picture.lanes_of_ring.Goals as goal
 
 pub returns : goal.returns
 returns g c =
-    let shown : Lane g.row.A.Denot → Drawn = λ lane. record { events = lane.events; marks = lane.marks.items; end = lane.end; stop = lane.stop } in
+    let shown : Lane g.row.A.Denot → Drawn =
+    λ lane. record { events = lane.events; marks = lane.marks.items; end = lane.end; stop = lane.stop } in
     record {
       places = length-map c.loop-place.lanes.items shown ∙ search rules;
       each = λ i log d at_log at_d. c.loop-place.invariant.each i d at_d log at_log;
@@ -18,26 +20,49 @@ returns g c =
 
 pub loop-place-preserved : goal.loop-place-preserved
 loop-place-preserved g c =
-    let shown : Lane g.row.A.Denot → Drawn = λ lane. record { events = lane.events; marks = lane.marks.items; end = lane.end; stop = lane.stop } in
-    let items : c.push.new.self.items ≡ c.loop-place.lanes.items ++ c.in_ok-lane.lane ∷ [] = c.in_ok-push.ensures.items in
+    let shown : Lane g.row.A.Denot → Drawn =
+    λ lane. record { events = lane.events; marks = lane.marks.items; end = lane.end; stop = lane.stop } in
+    let items : c.push.new.self.items ≡ c.loop-place.lanes.items ++ c.in_ok-lane.lane ∷ [] =
+    c.in_ok-push.ensures.items in
     let mapped : map shown c.push.new.self.items ≡ map shown c.loop-place.lanes.items ++ shown c.in_ok-lane.lane ∷ [] =
     ap (map shown) items ∙ map-append shown c.loop-place.lanes.items (c.in_ok-lane.lane ∷ []) in
-    let many : length (map shown c.loop-place.lanes.items) ≡ c.loop-place.place = length-map c.loop-place.lanes.items shown ∙ c.loop-place.invariant.number in
+    let many : length (map shown c.loop-place.lanes.items) ≡ c.loop-place.place =
+    length-map c.loop-place.lanes.items shown ∙ c.loop-place.invariant.number in
     let items_of : Vec ℕ g.row.A.Denot → List ℕ = λ row. row.items in
     let rows : c.args.columns.now.nodes ≡ map items_of c.columns.inside.nodes.items = search rules in
-    let size : length c.columns.inside.nodes.items ≡ length c.args.logs.now = sym (length-map c.columns.inside.nodes.items items_of) ∙ sym (ap length rows) ∙ c.requires in
-    let below : c.loop-place.place < length c.columns.inside.nodes.items = omega (arith, size, c.loop-place-test.true, c.get-size.ensures.value, c.size.ensures.value) in
-    let read : c.index.result.now ≡ get_or c.columns.inside.nodes.items c.loop-place.place c.index.result.now = rw c.from-in-loop-place.ensures at c.index.ensures in
+    let size : length c.columns.inside.nodes.items ≡ length c.args.logs.now =
+    sym (length-map c.columns.inside.nodes.items items_of) ∙ sym (ap length rows) ∙ c.requires in
+    let below : c.loop-place.place < length c.columns.inside.nodes.items =
+    omega (arith, size, c.loop-place-test.true, c.get-size.ensures.value, c.size.ensures.value) in
+    let read : c.index.result.now ≡ get_or c.columns.inside.nodes.items c.loop-place.place c.index.result.now =
+    rw c.from-in-loop-place.ensures at c.index.ensures in
     let found : slice_get c.columns.inside.nodes.items c.loop-place.place ≡ Some c.index.result.now =
-    slice_get_read c.columns.inside.nodes.items (length c.columns.inside.nodes.items) c.loop-place.place c.index.result.now refl below read in
-    let there : slice_get (map items_of c.columns.inside.nodes.items) c.loop-place.place ≡ Some c.index.result.now.items = slice_get-map items_of c.columns.inside.nodes.items c.loop-place.place ∙ ap (option_map items_of) found in
+    slice_get_read c.columns.inside.nodes.items (length c.columns.inside.nodes.items) c.loop-place.place
+    c.index.result.now refl below read in
+    let there : slice_get (map items_of c.columns.inside.nodes.items) c.loop-place.place
+    ≡ Some c.index.result.now.items = slice_get-map items_of c.columns.inside.nodes.items c.loop-place.place
+    ∙ ap (option_map items_of) found in
     let row : c.deref.result.now ≡ slice_index_or c.args.columns.now.nodes c.loop-place.place [] =
-    rw rows (c.deref.ensures.value ∙ sym (get_or_from_slice_get (map items_of c.columns.inside.nodes.items) c.loop-place.place c.index.result.now.items [] there)) in
-    let is : IsDrawnOf c.log-log.result.now (slice_index_or c.args.columns.now.nodes c.loop-place.place []) c.args.window (shown c.in_ok-lane.lane) =
-    record { events = c.in_ok-lane.ensures.events; marks = rw row at c.in_ok-lane.ensures.marks; replayed = c.in_ok-lane.ensures.end } in
+    rw rows (c.deref.ensures.value
+    ∙ sym (get_or_from_slice_get (map items_of c.columns.inside.nodes.items) c.loop-place.place
+    c.index.result.now.items [] there)) in
+    let is : IsDrawnOf c.log-log.result.now (slice_index_or c.args.columns.now.nodes c.loop-place.place [])
+    c.args.window (shown c.in_ok-lane.lane) =
     record {
-      number = omega (arith, ap length items, length_push c.loop-place.lanes.items c.in_ok-lane.lane, c.loop-place.invariant.number);
+      events = c.in_ok-lane.ensures.events;
+      marks = rw row at c.in_ok-lane.ensures.marks;
+      replayed = c.in_ok-lane.ensures.end;
+    } in
+    record {
+      number = omega (
+        arith,
+        ap length items,
+        length_push c.loop-place.lanes.items c.in_ok-lane.lane,
+        c.loop-place.invariant.number,
+      );
       each = λ i d at.
-          drawn_more c.args.logs.now c.args.columns.now.nodes c.args.window (map shown c.loop-place.lanes.items) c.loop-place.place (shown c.in_ok-lane.lane) c.log-log.result.now many c.loop-place.invariant.each c.log-log.ensures.value is
+          drawn_more c.args.logs.now c.args.columns.now.nodes c.args.window (map shown c.loop-place.lanes.items)
+          c.loop-place.place (shown c.in_ok-lane.lane) c.log-log.result.now many c.loop-place.invariant.each
+          c.log-log.ensures.value is
           i d (rw mapped at at);
     }

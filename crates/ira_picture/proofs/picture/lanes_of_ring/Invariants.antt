@@ -5,5 +5,7 @@ use Rattle.ira_picture.proofs.picture.lanes_of_ring.Given as goal
 abbrev pub invariant-loop-place : goal.invariant-loop-place
 invariant-loop-place g l = record {
   number : length l.lanes.items ≡ l.place;
-  each : EachDrawn l.logs l.columns.nodes l.window (map (λ lane. record { events = lane.events; marks = lane.marks.items; end = lane.end; stop = lane.stop }) l.lanes.items);
+  each : EachDrawn l.logs l.columns.nodes l.window
+      (map (λ lane. record { events = lane.events; marks = lane.marks.items; end = lane.end; stop = lane.stop })
+      l.lanes.items);
 }

@@ -20,8 +20,10 @@ event-event-requires g c =
     let after = rw c.in-Some.is at (c.in_ok-step.ensures.step given.0 given.1) in
     let logs : c.next.new.self.logs ≡ c.args.logs.now = c.next.ensures.logs.logs ∙ c.loop-number.invariant.logs in
     let there = last_is_there c.next.new.self given.0 c.in-Some.step after in
-    let events : log_of c.args.logs.now c.in-Some.step.place ≡ c.log-log.result.now.events = ap events_of c.log-log.ensures.value in
-    let within : c.in-Some.step.event ≤ length (log_of c.args.logs.now c.in-Some.step.place) = rw logs at there.within in
+    let events : log_of c.args.logs.now c.in-Some.step.place ≡ c.log-log.result.now.events =
+    ap events_of c.log-log.ensures.value in
+    let within : c.in-Some.step.event ≤ length (log_of c.args.logs.now c.in-Some.step.place) =
+    rw logs at there.within in
     (there.first, rw events at within)
 
 pub index_mut-requires : goal.index_mut-requires
@@ -36,7 +38,9 @@ index_mut-requires g c =
 pub returns-in_err-page : goal.returns-in_err-page
 returns-in_err-page g c =
     let is : c.from_residual-in_err-page.result ≡ Err c.in_err-page.field-0.0 = search rules in
-    failed_then c.from_residual-in_err-page.result c.in_err-page.field-0.0 (g.W.Sink.state c.args.sink.now) (g.W.Sink.state c.loop-number.sink) (g.W.Sink.state c.write_block.new.sink) is c.loop-number.invariant.took c.in_err-page.ensures
+    failed_then c.from_residual-in_err-page.result c.in_err-page.field-0.0 (g.W.Sink.state c.args.sink.now)
+    (g.W.Sink.state c.loop-number.sink) (g.W.Sink.state c.write_block.new.sink) is c.loop-number.invariant.took
+    c.in_err-page.ensures
 
 pub loop-number-preserved : goal.loop-number-preserved
 loop-number-preserved g c =
@@ -45,18 +49,22 @@ loop-number-preserved g c =
     record {
       begun = (given.0 ++ c.in-Some.step ∷ [], after);
       logs = c.next.ensures.logs.logs ∙ c.loop-number.invariant.logs;
-      states = length-set c.loop-number.states.items c.from.result c.go_on-change.new.state ∙ c.loop-number.invariant.states;
+      states = length-set c.loop-number.states.items c.from.result c.go_on-change.new.state
+          ∙ c.loop-number.invariant.states;
       took =
           let more = c.in_ok-page.ensures in
-          more_taken (g.W.Sink.state c.args.sink.now) (g.W.Sink.state c.loop-number.sink) (g.W.Sink.state c.write_block.new.sink) more.0 c.loop-number.invariant.took more.1 more.2;
+          more_taken (g.W.Sink.state c.args.sink.now) (g.W.Sink.state c.loop-number.sink)
+          (g.W.Sink.state c.write_block.new.sink) more.0 c.loop-number.invariant.took more.1 more.2;
     }
 
 pub returns-in_err-write : goal.returns-in_err-write
 returns-in_err-write g c =
     let is : c.from_residual-in_err-write.result ≡ Err Write = search rules in
     rw is
-    (part_taken (g.W.Sink.state c.args.sink.now) (g.W.Sink.state c.loop-number.sink) (g.W.Sink.state c.write.new.sink) _ c.loop-number.invariant.took c.in_err-write.ensures.printable c.in_err-write.ensures.text)
+    (part_taken (g.W.Sink.state c.args.sink.now) (g.W.Sink.state c.loop-number.sink) (g.W.Sink.state c.write.new.sink) _
+    c.loop-number.invariant.took c.in_err-write.ensures.printable c.in_err-write.ensures.text)
 
 pub returns : goal.returns
 returns g c =
-    more_taken (g.W.Sink.state c.args.sink.now) (g.W.Sink.state c.loop-number.sink) (g.W.Sink.state c.write.new.sink) _ c.loop-number.invariant.took c.in_ok-write.ensures.printable c.in_ok-write.ensures.text
+    more_taken (g.W.Sink.state c.args.sink.now) (g.W.Sink.state c.loop-number.sink) (g.W.Sink.state c.write.new.sink) _
+    c.loop-number.invariant.took c.in_ok-write.ensures.printable c.in_ok-write.ensures.text

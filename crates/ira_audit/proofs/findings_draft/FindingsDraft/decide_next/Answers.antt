@@ -11,7 +11,8 @@ returns g c = λ nodes certify found number drafted.
       added.0,
       added.1,
       record {
-        lines_are = lines_more found added.0 c.args.number c.decide.new.self.lines.bytes c.write_decided_case.new.sink.bytes number
+        lines_are = lines_more found added.0 c.args.number c.decide.new.self.lines.bytes
+            c.write_decided_case.new.sink.bytes number
             (ap (λ (m : Memory). m.bytes) same ∙ drafted.lines_are) wrote.took;
         certifying = added.3;
       },

@@ -3,7 +3,8 @@ use Rattle.std.specs.Prelude.{slice_get}
 use Rattle.ira_cert.specs.Asked.{HasPlacesOf}
 use Rattle.ira_audit.specs.Refusal.{IsCertificateRefusal}
 use Rattle.ira_audit.proofs.Places.{places_of_logs}
-use Rattle.ira_audit.proofs.RefusedTexts.{SectionsJudged, certificate_reason, findings_reason, good_logs, handed_on, is_posed, question_reason, sections_judged}
+use Rattle.ira_audit.proofs.RefusedTexts.{SectionsJudged, certificate_reason, findings_reason, good_logs, handed_on}
+use Rattle.ira_audit.proofs.RefusedTexts.{is_posed, question_reason, sections_judged}
 use Rattle.ira_audit.proofs.good_logs.GoodLogs.check.Goals as goal
 
 pub returns-in_err-question : goal.returns-in_err-question

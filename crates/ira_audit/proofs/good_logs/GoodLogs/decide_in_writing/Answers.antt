@@ -43,7 +43,8 @@ returns g c = λ texts are.
     let drafted = c.in_ok-draft.ensures in
     let found = drafted.0 in
     let are_found = subst (λ cases. AllZip (IsFound logs) cases found) c.cases.ensures.value drafted.1 in
-    let few : length found < 2 ^ 63 = omega (arith, as_many (IsFound logs) asked.cases found are_found, is.posed.0.valid.count) in
+    let few : length found < 2 ^ 63 =
+    omega (arith, as_many (IsFound logs) asked.cases found are_found, is.posed.0.valid.count) in
     let list = list_of c.in_ok-alloc.alloc found few in
     let findings = Cases (length logs) list.0 in (
       findings,

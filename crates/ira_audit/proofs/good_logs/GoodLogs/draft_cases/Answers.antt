@@ -26,11 +26,13 @@ loop-number-preserved g c =
     let within = c.loop-number-test.true in
     let at = slice_get_read cases (length cases) i case refl within c.index-cases-number.is in
     let same : c.deref.result.now ≡ logs = c.deref.ensures.value ∙ (c.in_ok-profiles.ensures ∙ c.self.view_is) in
-    let counted : length so_far.0 ≡ i = as_many (IsFound logs) (take i cases) so_far.0 so_far.1 ∙ length-take-le i cases (omega (arith, within)) in
+    let counted : length so_far.0 ≡ i =
+    as_many (IsFound logs) (take i cases) so_far.0 so_far.1 ∙ length-take-le i cases (omega (arith, within)) in
     let next = c.in_ok-decide_next.ensures (length logs) c.args.certify so_far.0 counted so_far.2 in
     let is = subst (λ (ls : List Log). IsFound ls case next.0) same next.1 in (
       so_far.0 ++ next.0 ∷ [],
-      subst (λ (cs : List (List Conjunct)). AllZip (IsFound logs) cs (so_far.0 ++ next.0 ∷ [])) (next_taken cases i case at)
+      subst (λ (cs : List (List Conjunct)). AllZip (IsFound logs) cs (so_far.0 ++ next.0 ∷ []))
+          (next_taken cases i case at)
           (zipped_more (IsFound logs) (take i cases) so_far.0 case next.0 so_far.1 is),
       next.2,
     )
@@ -39,5 +41,9 @@ pub returns : goal.returns
 returns g c =
     let so_far = c.loop-number.invariant in
     let cases = c.args.cases.now in
-    let all : take c.loop-number.number cases ≡ cases = take_all c.loop-number.number cases (omega (arith, c.loop-number-test.false)) in
-    (so_far.0, subst (λ (cs : List (List Conjunct)). AllZip (IsFound c.args.self.now) cs so_far.0) all so_far.1, so_far.2)
+    let all : take c.loop-number.number cases ≡ cases =
+    take_all c.loop-number.number cases (omega (arith, c.loop-number-test.false)) in (
+      so_far.0,
+      subst (λ (cs : List (List Conjunct)). AllZip (IsFound c.args.self.now) cs so_far.0) all so_far.1,
+      so_far.2,
+    )

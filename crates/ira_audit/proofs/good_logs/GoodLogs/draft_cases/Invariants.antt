@@ -7,4 +7,5 @@ use Rattle.ira_audit.proofs.good_logs.GoodLogs.draft_cases.Given as goal
 
 abbrev pub invariant-loop-number : goal.invariant-loop-number
 invariant-loop-number g l =
-    (found : List (Found g.row.A.Denot)) × AllZip (IsFound l.self) (take l.number l.cases) found × AreDrafted (length l.self) l.certify found l.draft
+    (found : List (Found g.row.A.Denot)) × AllZip (IsFound l.self) (take l.number l.cases) found
+    × AreDrafted (length l.self) l.certify found l.draft

@@ -11,7 +11,8 @@ returns-in_err-end c = λ text h.
     let same : p.0 ≡ c.in_err-end.field-0.0 = p.2 in
     let begun = c.read_on-replay.ensures.begun (text ++ c.args.rest.now) (c.in_ok-replay.ensures.begun text h) in
     let end = subst (IsEndOrFault c.read_on-replay.result.1) c.in_err-end.was c.read_on-replay.ensures.end in
-    let short : length (text ++ c.args.rest.now) ≤ MAX_TEXT = omega (arith, length-append text c.args.rest.now, h.0, c.in_ok-replay.ensures.short) in
+    let short : length (text ++ c.args.rest.now) ≤ MAX_TEXT =
+    omega (arith, length-append text c.args.rest.now, h.0, c.in_ok-replay.ensures.short) in
     rw (p.1, same) (begun_refused _ _ _ _ short begun end)
 
 pub returns : goal.returns

@@ -6,7 +6,8 @@ use Rattle.ira_audit.proofs.log_audit.LogAudit.open.Goals as goal
 
 pub returns-clause-begun : goal.returns-clause-begun
 returns-clause-begun c = λ text h.
-    let lines = lines_begun c.args.self.now.replay c.in-Some.replay text (sym (ap (λ a. a.replay) c.self.view_is) ∙ c.in-Some.is) h.1 in
+    let lines = lines_begun c.args.self.now.replay c.in-Some.replay text (sym (ap (λ a. a.replay) c.self.view_is)
+    ∙ c.in-Some.is) h.1 in
     rw (c.with.ensures.same, c.with.ensures.records) (begun_longer text c.args.rest.now c.in-Some.replay _ _ lines)
 
 pub returns-in_err-head-clause-begun : goal.returns-in_err-head-clause-begun

@@ -22,13 +22,26 @@ returns-clause-taken c = λ text h.
     let many : n ≡ length piece - length left.rest = ap (λ k. length piece - k) c.unread.ensures in
     let within : n ≤ length piece = omega arith in
     let begun = c.read_on-replay.ensures.begun (text ++ piece) (c.in-Ok.ensures.begun text h) in (
-      omega (arith, ap (λ a. a.taken) c.self.view_is, h.0, length-append text (take n piece), length-take-le n piece within),
-      rw (c.read_on-replay.ensures.version, c.read_on-replay.ensures.count) at (taken_lines text piece c.read_on-replay.result.0 left n many suffix begun),
+      omega (
+        arith,
+        ap (λ a. a.taken) c.self.view_is,
+        h.0,
+        length-append text (take n piece),
+        length-take-le n piece within,
+      ),
+      rw (
+        c.read_on-replay.ensures.version,
+        c.read_on-replay.ensures.count,
+      ) at
+          (taken_lines text piece c.read_on-replay.result.0 left n many suffix begun),
     )
 
 pub returns-clause-all : goal.returns-clause-all
 returns-clause-all c = λ short.
     let left = c.read_on-replay.result.1 in
     let suffix = suffix_trans _ _ _ c.read_on-replay.ensures.suffix c.in-Ok.ensures.suffix in
-    let rest : drop (length c.args.piece.now - c.unread.result) c.args.piece.now ≡ left.rest = rw c.unread.ensures (left_behind c.args.piece.now left.rest suffix) in
-    (c.read_on-replay.result.2, rw (rest, ← c.read_on-replay.ensures.version, ← c.read_on-replay.ensures.count) c.read_on-replay.ensures.end)
+    let rest : drop (length c.args.piece.now - c.unread.result) c.args.piece.now ≡ left.rest =
+    rw c.unread.ensures (left_behind c.args.piece.now left.rest suffix) in (
+      c.read_on-replay.result.2,
+      rw (rest, ← c.read_on-replay.ensures.version, ← c.read_on-replay.ensures.count) c.read_on-replay.ensures.end,
+    )

@@ -10,4 +10,5 @@ of_reason-requires g c =
 pub returns-in-Err-No : goal.returns-in-Err-No
 returns-in-Err-No g c = λ texts taken.
     let why = rw c.in-Err-No.field-0-is at (c.in-Err-No.ensures texts taken) in
-    refused_written _ texts c.args.question.now c.args.certify c.in-Err-No.reason c.of_reason.result why.0 (c.of_reason.ensures c.args.certify)
+    refused_written _ texts c.args.question.now c.args.certify c.in-Err-No.reason c.of_reason.result why.0
+    (c.of_reason.ensures c.args.certify)

@@ -11,7 +11,8 @@ returns-in_err-logs g c = λ texts taken.
 pub new-requires-clause-order : goal.new-requires-clause-order
 new-requires-clause-order g c =
     let found = c.find_order_on_threads-order.ensures in
-    searched c.in_ok-logs.logs (λ places. places.items) c.find_order_on_threads-order.result found.ok found.matching found.circle
+    searched c.in_ok-logs.logs (λ places. places.items) c.find_order_on_threads-order.result found.ok found.matching
+    found.circle
 
 pub returns : goal.returns
 returns g c = λ texts taken. c.new.ensures texts (c.in_ok-logs.ensures.texts texts taken)

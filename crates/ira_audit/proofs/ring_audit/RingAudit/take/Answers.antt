@@ -1,4 +1,5 @@
-use Rattle.std.proofs.Common.{◌≡◌, ◌≢◌, ◌≤◌, List, ◌∷◌, ◌++◌, [], Some, ap, inl, inr, length, rules, slice_get, subst, sym, ◌∙◌}
+use Rattle.std.proofs.Common.{◌≡◌, ◌≢◌, ◌≤◌, List, ◌∷◌, ◌++◌, [], Some, ap, inl, inr, length, rules, slice_get, subst}
+use Rattle.std.proofs.Common.{sym, ◌∙◌}
 use Rattle.ira_event.specs.Log.{Log}
 use Rattle.ira_event.specs.LogText.{head_of}
 use Rattle.ira_audit.specs.RingAudit.{HasTaken, IsReading, RingAudit, StandFor}
@@ -11,7 +12,11 @@ use Rattle.ira_audit.proofs.ring_audit.RingAudit.take.Goals.{then-are_all_there+
 pub returns-then-is_some-clause-ok : goal.returns-then-is_some-clause-ok
 returns-then-is_some-clause-ok g c = λ texts taken.
     let kept = subst (λ a. HasTaken a texts) (sym c.self.view_is) taken in
-    rw (← c.self.view_is) (kept.0, keeps_first texts (c.args.text.now ∷ []) kept.0 c.self.inside.fault c.if-is_some.ensures kept.1, kept.2)
+    rw (← c.self.view_is) (
+      kept.0,
+      keeps_first texts (c.args.text.now ∷ []) kept.0 c.self.inside.fault c.if-is_some.ensures kept.1,
+      kept.2,
+    )
 
 pub returns-in_ok-push-in-Ok-clause-ok : goal.returns-in_ok-push-in-Ok-clause-ok
 returns-in_ok-push-in-Ok-clause-ok g c = λ texts taken.
@@ -22,10 +27,13 @@ returns-in_ok-push-in-Ok-clause-ok g c = λ texts taken.
     let all = keeps_log texts kept.0 c.self.inside.fault c.args.text.now log c.if-is_some.ensures kept.1 read in
     let stands : StandFor (logs ++ c.if-are_all_there.kept ∷ []) (kept.0 ++ log ∷ []) = elim c.if-are_all_there.branch [
       | then-are_all_there+in_ok-clone-in-Ok w ↦
-          let there = subst (λ (a : RingAudit). (first : Log) × (slice_get a.logs 0 ≡ Some first) × (first.nodes ≤ length a.logs)) (sym c.self.view_is)
+          let there = subst (λ (a : RingAudit). (first : Log) × (slice_get a.logs 0 ≡ Some first)
+          × (first.nodes ≤ length a.logs)) (sym c.self.view_is)
           (c.are_all_there.ensures w.if-are_all_there.true) in
-          stand_head logs kept.0 c.if-are_all_there.kept log there.0 kept.2 (ap head_of w.kept-is ∙ w.without_events-kept.ensures) there.1 there.2
-      | else-are_all_there w ↦ stand_both logs kept.0 (c.if-are_all_there.kept ∷ []) (log ∷ []) kept.2 (inl (ap (λ (l : Log). l ∷ []) w.kept-is))
+          stand_head logs kept.0 c.if-are_all_there.kept log there.0 kept.2 (ap head_of w.kept-is
+          ∙ w.without_events-kept.ensures) there.1 there.2
+      | else-are_all_there w ↦ stand_both logs kept.0 (c.if-are_all_there.kept ∷ []) (log
+          ∷ []) kept.2 (inl (ap (λ (l : Log). l ∷ []) w.kept-is))
     ] in
     rw c.in_ok-push-in-Ok.ensures.items (kept.0 ++ log ∷ [], all, stands)
 
@@ -39,7 +47,12 @@ returns-in-Err g c =
           let read = subst (IsReading c.args.text.now) c.in-Err.is c.read.ensures in
           elim read [
             | inl refused ↦ absurd (other refused)
-            | inr fault ↦ (kept.0, keeps_fault texts kept.0 c.self.inside.fault c.args.text.now f c.if-is_some.ensures kept.1 fault, kept.2)
+            | inr fault ↦ (
+              kept.0,
+              keeps_fault texts kept.0 c.self.inside.fault c.args.text.now f c.if-is_some.ensures
+                  kept.1 fault,
+              kept.2,
+            )
           ];
       err = tt;
     }

@@ -14,8 +14,10 @@ overflow_cast-result-then-filled-ne0 g c =
     let fits : f < 2 ^ 64 = search rules in
     let low = bit_at-trailing_zeros w64 f some fits in
     let within : w < length words = omega (arith, low.0, c.loop-i-test.true, c.self.invariant.places) in
-    let there : c.index.result.now ≡ get_or words w 0 = c.index.ensures ∙ get_or_default words w c.index.result.now 0 within in
-    let found = least words c.self.inside.filled c.self.invariant i f w c.index.result.now c.loop-i-test.true refl refl there some fits (search rules) in
+    let there : c.index.result.now ≡ get_or words w 0 =
+    c.index.ensures ∙ get_or_default words w c.index.result.now 0 within in
+    let found = least words c.self.inside.filled c.self.invariant i f w c.index.result.now c.loop-i-test.true refl refl
+    there some fits (search rules) in
     omega (arith, found.1)
 
 pub returns-then-filled-ne0 : goal.returns-then-filled-ne0
@@ -27,5 +29,7 @@ returns-then-filled-ne0 g c =
     let fits : f < 2 ^ 64 = search rules in
     let low = bit_at-trailing_zeros w64 f some fits in
     let within : w < length words = omega (arith, low.0, c.loop-i-test.true, c.self.invariant.places) in
-    let there : c.index.result.now ≡ get_or words w 0 = c.index.ensures ∙ get_or_default words w c.index.result.now 0 within in
-    rw (← c.self.view_is) (least words c.self.inside.filled c.self.invariant i f w c.index.result.now c.loop-i-test.true refl refl there some fits (search rules))
+    let there : c.index.result.now ≡ get_or words w 0 =
+    c.index.ensures ∙ get_or_default words w c.index.result.now 0 within in
+    rw (← c.self.view_is) (least words c.self.inside.filled c.self.invariant i f w c.index.result.now c.loop-i-test.true
+    refl refl there some fits (search rules))

@@ -10,13 +10,16 @@ returns-then-not-receives-clause-new g c =
     let viewed = sym c.self.view_is in
     let old = subst (λ (s : Stand). IsStand logs c.args.place s.position s) viewed c.requires.old in
     let onward = subst (λ (s : Stand). s.position ≤ c.args.position) viewed c.requires.onward in
-    let log : slice_get logs c.args.place ≡ Some c.log-log.result.now = subst (λ (ls : List Log). slice_get ls c.args.place ≡ Some c.log-log.result.now) c.logs.ensures c.log-log.ensures.value in
+    let log : slice_get logs c.args.place ≡ Some c.log-log.result.now =
+    subst (λ (ls : List Log). slice_get ls c.args.place
+    ≡ Some c.log-log.result.now) c.logs.ensures c.log-log.ensures.value in
     let quiet : AreNoReceipts c.log-log.result.now c.self.inside.position c.args.position = elim c.receives.ensures [
       | inl does ↦ absurd (let none : true ≡ false = sym does ∙ c.if-not-receives.true in cc)
       | inr quiet ↦ quiet
     ] in
     record {
       position = refl;
-      counts = still_counts logs old.order.1 old.order.2 c.args.place c.self.inside.position c.self.inside.counts.items c.requires.place old.counts c.log-log.result.now c.args.position log onward c.requires.position quiet;
+      counts = still_counts logs old.order.1 old.order.2 c.args.place c.self.inside.position c.self.inside.counts.items
+          c.requires.place old.counts c.log-log.result.now c.args.position log onward c.requires.position quiet;
       order = old.order;
     }

@@ -15,7 +15,10 @@ returns-then-place-own g c = λ logs q lo lp l is.
 pub returns : goal.returns
 returns g c = λ logs q lo lp l is.
     let kept : c.self.inside.counts.items ≡ c.args.self.now.counts = ap (λ (s : Stand). s.counts) c.self.view_is in
-    let within : c.from.result < length c.self.inside.counts.items = omega (arith, c.from.ensures, c.requires, ap (λ (xs : List ℕ). length xs) kept) in
+    let within : c.from.result < length c.self.inside.counts.items =
+    omega (arith, c.from.ensures, c.requires, ap (λ (xs : List ℕ). length xs) kept) in
     let read : c.index.result.now ≡ slice_index c.args.self.now.counts c.args.place =
-    get_or_read c.self.inside.counts.items c.from.result c.index.result.now within c.index.ensures 0 ∙ ap (slice_index c.self.inside.counts.items) c.from.ensures ∙ ap (λ (xs : List ℕ). slice_index xs c.args.place) kept in
+    get_or_read c.self.inside.counts.items c.from.result c.index.result.now within c.index.ensures 0
+    ∙ ap (slice_index c.self.inside.counts.items) c.from.ensures
+    ∙ ap (λ (xs : List ℕ). slice_index xs c.args.place) kept in
     rw read (is.counts.others c.args.place lp c.if-place-own.false)

@@ -6,4 +6,5 @@ use Rattle.ira_evidence.proofs.node_evidence.NodeEvidence.find.Given as goal
 
 abbrev pub invariant-loop-position : goal.invariant-loop-position
 invariant-loop-position g l =
-    l.states.items ++ kept l.first l.position-iterator ≡ kept l.first (states_left l.log.nodes (Some (0, first_state l.log.initiator)) l.log.events)
+    l.states.items ++ kept l.first l.position-iterator
+    ≡ kept l.first (states_left l.log.nodes (Some (0, first_state l.log.initiator)) l.log.events)

@@ -8,7 +8,13 @@ use Rattle.ira_evidence.proofs.reach.Reach.next.Goals as goal
 
 pub overflow_add-next-in-Sent : goal.overflow_add-next-in-Sent
 overflow_add-next-in-Sent g c =
-    omega (arith, c.requires.sendings, rank_le sending c.args.log.now.events c.args.self.events, c.requires.within, c.len.ensures.valid.count)
+    omega (
+      arith,
+      c.requires.sendings,
+      rank_le sending c.args.log.now.events c.args.self.events,
+      c.requires.within,
+      c.len.ensures.valid.count,
+    )
 
 pub returns-in-Got-2 : goal.returns-in-Got-2
 returns-in-Got-2 g c =
@@ -16,7 +22,8 @@ returns-in-Got-2 g c =
     let at = subst (λ n. slice_get c.args.log.now.events n ≡ Some (Got c.in-Got-2.field-0)) back c.in-Got-2.ensures in
     record {
       more = refl;
-      is = next_reach c.args.log.now.events c.args.self _ (Got c.in-Got-2.field-0) c.requires at refl (omega arith) refl;
+      is = next_reach c.args.log.now.events c.args.self _ (Got c.in-Got-2.field-0) c.requires at refl (omega arith)
+          refl;
       covered = inr (omega (arith, c.if-self-sendings.false));
     }
 
@@ -26,7 +33,8 @@ returns-in-Sent g c =
     let at = subst (λ n. slice_get c.args.log.now.events n ≡ Some (Sent c.in-Sent.field-0)) back c.in-Sent.ensures in
     record {
       more = refl;
-      is = next_reach c.args.log.now.events c.args.self _ (Sent c.in-Sent.field-0) c.requires at refl refl (omega arith);
+      is = next_reach c.args.log.now.events c.args.self _ (Sent c.in-Sent.field-0) c.requires at refl refl
+          (omega arith);
       covered = inl refl;
     }
 
@@ -37,8 +45,10 @@ returns-in-Draw g c =
     record {
       more = refl;
       is = elim c.in-Draw.is [
-        | inl draw ↦ next_reach c.args.log.now.events c.args.self _ (Draw draw.0) c.requires (at ∙ ap Some draw.1) refl (omega arith) (omega arith)
-        | inr yield ↦ next_reach c.args.log.now.events c.args.self _ Yield c.requires (at ∙ ap Some yield) refl (omega arith) (omega arith)
+        | inl draw ↦ next_reach c.args.log.now.events c.args.self _ (Draw draw.0) c.requires (at
+            ∙ ap Some draw.1) refl (omega arith) (omega arith)
+        | inr yield ↦ next_reach c.args.log.now.events c.args.self _ Yield c.requires (at
+            ∙ ap Some yield) refl (omega arith) (omega arith)
       ];
       covered = inl refl;
     }

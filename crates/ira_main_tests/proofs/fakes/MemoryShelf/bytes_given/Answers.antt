@@ -32,7 +32,8 @@ pub returns-in-Text : goal.returns-in-Text
 unfolding blank
 returns-in-Text c =
     let same : (slice_index_or c.self.inside.files.now c.loop-i.i blank).0.now ≡ c.args.name.now =
-    (bytes_decides (slice_index_or c.self.inside.files.now c.loop-i.i blank).0.now c.args.name.now).0 (sym c.eq.ensures ∙ c.if-eq.true) in
+    (bytes_decides (slice_index_or c.self.inside.files.now c.loop-i.i blank).0.now c.args.name.now).0 (sym c.eq.ensures
+    ∙ c.if-eq.true) in
     rw (← c.self.view_is) (first_of_some _ c.self.inside.files.now c.loop-i.i blank c.args.name.now c.loop-i-test.true
     c.loop-i.invariant c.as_bytes.result.now (rw (c.in-Text.is, c.as_bytes.ensures.value, same) refl))
 

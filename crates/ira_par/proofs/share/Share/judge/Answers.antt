@@ -10,30 +10,59 @@ use Rattle.ira_par.proofs.share.Share.judge.Goals.{in-Some, in_default}
 
 pub loop-section-preserved : goal.loop-section-preserved
 loop-section-preserved g c =
-    let logs = g.C.HappenedBefore.logs_of c.args.ordered.now in let tasks = c.args.tasks.now in let k = c.loop-section.section in
+    let logs = g.C.HappenedBefore.logs_of c.args.ordered.now in let tasks = c.args.tasks.now in
+    let k = c.loop-section.section in
     let task = c.index-tasks-section.result in
     let at = slice_get_read tasks _ k task refl (search rules) c.index-tasks-section.is in
     let none : c.loop-section.self-inside.found ≡ None = search rules in
-    let clear : IsFoundBy logs c.args.ranges c.args.number k tasks None = subst (λ (f : Option UnsoundSection). IsFoundBy logs c.args.ranges c.args.number k tasks f) none c.loop-section.invariant.found in
+    let clear : IsFoundBy logs c.args.ranges c.args.number k tasks None =
+    subst (λ (f : Option UnsoundSection). IsFoundBy logs c.args.ranges c.args.number k tasks f) none
+    c.loop-section.invariant.found in
     elim c.match-judge.branch [
       | in-Some w ↦
-          let kept : c.match-judge.self-inside.counts.len ≡ c.loop-section.self-inside.counts.len = ap (λ s. s.counts.len) w.self-inside-is in
+          let kept : c.match-judge.self-inside.counts.len ≡ c.loop-section.self-inside.counts.len =
+          ap (λ s. s.counts.len) w.self-inside-is in
           record {
-            places = omega (arith, c.match-judge.self-inside.counts.ok.0, kept, c.loop-section.self-inside.counts.ok.0, c.loop-section.invariant.places);
-            found = subst (λ s. IsFoundBy logs c.args.ranges c.args.number (k + 1) tasks s.found) (sym w.self-inside-is)
-                (clear, (task, at, subst (λ (f : Option SectionFault). IsFoundFor logs c.args.ranges c.args.number task f) w.in-Some.is c.judge.ensures.found));
+            places = omega (
+              arith,
+              c.match-judge.self-inside.counts.ok.0,
+              kept,
+              c.loop-section.self-inside.counts.ok.0,
+              c.loop-section.invariant.places,
+            );
+            found = subst (λ s. IsFoundBy logs c.args.ranges c.args.number (k + 1) tasks s.found) (sym w.self-inside-is) (
+              clear,
+              (
+                task,
+                at,
+                subst (λ (f : Option SectionFault). IsFoundFor logs c.args.ranges c.args.number task
+                    f) w.in-Some.is c.judge.ensures.found,
+              ),
+            );
           }
       | in_default w ↦
-          let kept : c.match-judge.self-inside.counts.len ≡ c.loop-section.self-inside.counts.len = ap (λ s. s.counts.len) w.self-inside-is in
+          let kept : c.match-judge.self-inside.counts.len ≡ c.loop-section.self-inside.counts.len =
+          ap (λ s. s.counts.len) w.self-inside-is in
           record {
-            places = omega (arith, c.match-judge.self-inside.counts.ok.0, kept, c.loop-section.self-inside.counts.ok.0, c.loop-section.invariant.places);
+            places = omega (
+              arith,
+              c.match-judge.self-inside.counts.ok.0,
+              kept,
+              c.loop-section.self-inside.counts.ok.0,
+              c.loop-section.invariant.places,
+            );
             found = subst (λ s. IsFoundBy logs c.args.ranges c.args.number (k + 1) tasks s.found) (sym w.self-inside-is)
-                (subst (λ (f : Option UnsoundSection). IsFoundBy logs c.args.ranges c.args.number (k + 1) tasks f) (sym none)
-                (clear_more logs c.args.ranges c.args.number k tasks clear task at (subst (λ (f : Option SectionFault). IsFoundFor logs c.args.ranges c.args.number task f) w.in_default.is c.judge.ensures.found)));
+                (subst (λ (f : Option UnsoundSection). IsFoundBy logs c.args.ranges c.args.number (k + 1) tasks f)
+                (sym none)
+                (clear_more logs c.args.ranges c.args.number k tasks clear task at
+                (subst (λ (f : Option SectionFault). IsFoundFor logs c.args.ranges c.args.number task f)
+                w.in_default.is c.judge.ensures.found)));
           }
     ]
 
 pub returns : goal.returns
 returns g c =
-    let end : c.loop-section.section ≡ length c.args.tasks.now = omega (arith, c.loop-section-test.false, c.loop-section.auto.section-end) in
-    subst (λ (n : ℕ). IsFoundBy (g.C.HappenedBefore.logs_of c.args.ordered.now) c.args.ranges c.args.number n c.args.tasks.now c.loop-section.self-inside.found) end c.loop-section.invariant.found
+    let end : c.loop-section.section ≡ length c.args.tasks.now =
+    omega (arith, c.loop-section-test.false, c.loop-section.auto.section-end) in
+    subst (λ (n : ℕ). IsFoundBy (g.C.HappenedBefore.logs_of c.args.ordered.now) c.args.ranges c.args.number n
+    c.args.tasks.now c.loop-section.self-inside.found) end c.loop-section.invariant.found

@@ -1,4 +1,5 @@
-use Rattle.std.proofs.Common.{◌≡◌, ◌≢◌, ◌∙◌, ◌+◌, ◌<◌, ℕ, List, Option, Some, None, length, take, sym, ap, subst, rules, arith}
+use Rattle.std.proofs.Common.{◌≡◌, ◌≢◌, ◌∙◌, ◌+◌, ◌<◌, ℕ, List, Option, Some, None, length, take, sym, ap, subst, rules}
+use Rattle.std.proofs.Common.{arith}
 use Rattle.ira_pred.specs.Case.{Conjunct}
 use Rattle.ira_cert_text.specs.Certificate.{Section}
 use Rattle.ira_cert_text.specs.declared.cert_step.CertStep.{CertStep}
@@ -18,55 +19,87 @@ use Rattle.ira_par.proofs.task.Task.judge.Goals.{After-judge_range, After-left_a
 
 pub count_before-requires : goal.count_before-requires
 count_before-requires g c =
-    omega (arith, c.begin_of-from.ensures, begin_within (length c.as_slice-steps.result.now) c.args.ranges (omega (arith, c.requires.number)) c.args.number (omega (arith, c.requires.number)))
+    omega (
+      arith,
+      c.begin_of-from.ensures,
+      begin_within (length c.as_slice-steps.result.now) c.args.ranges (omega (arith, c.requires.number)) c.args.number
+          (omega (arith, c.requires.number)),
+    )
 
 pub judge_range-requires-clause-range : goal.judge_range-requires-clause-range
 judge_range-requires-clause-range g c =
     let some : 0 < c.args.ranges = omega (arith, c.requires.number) in
     let steps = length c.as_slice-steps.result.now in (
       omega (arith, c.begin_of-from.ensures, c.begin_of-to.ensures, begins_rise steps c.args.ranges some c.args.number),
-      omega (arith, c.begin_of-to.ensures, begin_within steps c.args.ranges some (c.args.number + 1) (omega (arith, c.requires.number))),
+      omega (
+        arith,
+        c.begin_of-to.ensures,
+        begin_within steps c.args.ranges some (c.args.number + 1) (omega (arith, c.requires.number)),
+      ),
     )
 
 -- the steps are the section's
 steps_are : (g : _) (c : After-judge_range g) → c.as_slice-steps.result.now ≡ c.args.self.now.section.steps
-steps_are g c = c.as_slice-steps.ensures.value ∙ ap (λ (s : Section). s.steps) (c.section.view_is ∙ ap (λ (t : Task). t.section) c.self.view_is)
+steps_are g c = c.as_slice-steps.ensures.value
+    ∙ ap (λ (s : Section). s.steps) (c.section.view_is ∙ ap (λ (t : Task). t.section) c.self.view_is)
 
 -- and so is what is found in the range
-range_is : (g : _) (c : After-judge_range g) (found : Option SectionFault) → c.judge_range.result ≡ found → (case : List Conjunct) → HasDifferentPlaces case → AreTables (g.C.HappenedBefore.logs_of c.args.ordered.now) case c.args.self.now.tables
-    → let steps = c.args.self.now.section.steps in IsRangeFault (g.C.HappenedBefore.logs_of c.args.ordered.now) case steps (begin_of (length steps) c.args.ranges c.args.number) (begin_of (length steps) c.args.ranges (c.args.number + 1)) found
+range_is : (g : _) (c : After-judge_range g) (found : Option SectionFault) → c.judge_range.result ≡ found
+    → (case : List Conjunct) → HasDifferentPlaces case
+    → AreTables (g.C.HappenedBefore.logs_of c.args.ordered.now) case c.args.self.now.tables
+    → let steps = c.args.self.now.section.steps in
+    IsRangeFault (g.C.HappenedBefore.logs_of c.args.ordered.now) case steps
+    (begin_of (length steps) c.args.ranges c.args.number)
+    (begin_of (length steps) c.args.ranges (c.args.number + 1)) found
 range_is g c found is case differ are =
     let logs = g.C.HappenedBefore.logs_of c.args.ordered.now in
-    let tables : c.as_slice-tables.result.now ≡ c.args.self.now.tables = c.as_slice-tables.ensures.value ∙ ap (λ (t : Task). t.tables) c.self.view_is in
+    let tables : c.as_slice-tables.result.now ≡ c.args.self.now.tables =
+    c.as_slice-tables.ensures.value ∙ ap (λ (t : Task). t.tables) c.self.view_is in
     let given = subst (λ (ts : List Table). AreTables logs case ts) (sym tables) are in
-    range_of logs case c.as_slice-steps.result.now c.args.self.now.section.steps c.args.ranges c.args.number c.begin_of-from.result c.begin_of-to.result (steps_are g c) c.begin_of-from.ensures c.begin_of-to.ensures found
-    (subst (λ (f : Option SectionFault). IsRangeFault logs case c.as_slice-steps.result.now c.begin_of-from.result c.begin_of-to.result f) is (c.judge_range.ensures.fault case differ given))
+    range_of logs case c.as_slice-steps.result.now c.args.self.now.section.steps c.args.ranges c.args.number
+    c.begin_of-from.result c.begin_of-to.result (steps_are g c) c.begin_of-from.ensures c.begin_of-to.ensures found
+    (subst (λ (f : Option SectionFault). IsRangeFault logs case c.as_slice-steps.result.now c.begin_of-from.result
+    c.begin_of-to.result f) is (c.judge_range.ensures.fault case differ given))
 
 pub returns-in-Some-clause-found : goal.returns-in-Some-clause-found
 returns-in-Some-clause-found g c = λ case differ are.
-    step_found (g.C.HappenedBefore.logs_of c.args.ordered.now) case c.args.self.now.section c.args.ranges c.args.number c.in-Some.fault
-    (range_is g (goal.at.returns-in-Some-clause-found g c).After-judge_range (Some c.in-Some.fault) c.in-Some.is case differ are)
+    step_found (g.C.HappenedBefore.logs_of c.args.ordered.now) case c.args.self.now.section c.args.ranges c.args.number
+    c.in-Some.fault
+    (range_is g (goal.at.returns-in-Some-clause-found g c).After-judge_range (Some c.in-Some.fault) c.in-Some.is case
+    differ are)
 
 pub returns-then-number-ranges-clause-found : goal.returns-then-number-ranges-clause-found
 returns-then-number-ranges-clause-found g c = λ case differ are.
     none_found (g.C.HappenedBefore.logs_of c.args.ordered.now) case c.args.self.now.section c.args.ranges c.args.number
-    (range_is g (goal.at.returns-then-number-ranges-clause-found g c).After-judge_range None c.in_default.is case differ are) c.if-number-ranges.true
+    (range_is g (goal.at.returns-then-number-ranges-clause-found g c).After-judge_range None c.in_default.is case differ
+    are) c.if-number-ranges.true
 
 -- it is known what the steps up to the end of the range leave of the node
-left : (g : _) (c : After-left_at g) (case : List Conjunct) → HasDifferentPlaces case → AreTables (g.C.HappenedBefore.logs_of c.args.ordered.now) case c.args.self.now.tables
-    → AreSoundSteps (g.C.HappenedBefore.logs_of c.args.ordered.now) case (before_range c.args.self.now.section c.args.ranges (c.args.number + 1))
-    → IsLeft (g.C.HappenedBefore.logs_of c.args.ordered.now) case (before_range c.args.self.now.section c.args.ranges (c.args.number + 1)) c.args.self.now.section.spent c.left_at.result
+left : (g : _) (c : After-left_at g) (case : List Conjunct) → HasDifferentPlaces case
+    → AreTables (g.C.HappenedBefore.logs_of c.args.ordered.now) case c.args.self.now.tables
+    → AreSoundSteps (g.C.HappenedBefore.logs_of c.args.ordered.now) case
+    (before_range c.args.self.now.section c.args.ranges (c.args.number + 1))
+    → IsLeft (g.C.HappenedBefore.logs_of c.args.ordered.now) case
+    (before_range c.args.self.now.section c.args.ranges (c.args.number + 1)) c.args.self.now.section.spent
+    c.left_at.result
 left g c case differ are sound =
     let logs = g.C.HappenedBefore.logs_of c.args.ordered.now in
     let steps = c.as_slice-steps.result.now in
-    let same = c.as_slice-steps.ensures.value ∙ ap (λ (s : Section). s.steps) (c.section.view_is ∙ ap (λ (t : Task). t.section) c.self.view_is) in
-    let tables : c.as_slice-tables.result.now ≡ c.args.self.now.tables = c.as_slice-tables.ensures.value ∙ ap (λ (t : Task). t.tables) c.self.view_is in
-    let spent : c.section.inside.spent ≡ c.args.self.now.section.spent = ap (λ (s : Section). s.spent) (c.section.view_is ∙ ap (λ (t : Task). t.section) c.self.view_is) in
-    let before : take c.begin_of-to.result steps ≡ before_range c.args.self.now.section c.args.ranges (c.args.number + 1) =
-    ap (λ (k : ℕ). take k steps) c.begin_of-to.ensures ∙ ap (λ (ss : List CertStep). take (begin_of (length ss) c.args.ranges (c.args.number + 1)) ss) same in
+    let same = c.as_slice-steps.ensures.value
+    ∙ ap (λ (s : Section). s.steps) (c.section.view_is ∙ ap (λ (t : Task). t.section) c.self.view_is) in
+    let tables : c.as_slice-tables.result.now ≡ c.args.self.now.tables =
+    c.as_slice-tables.ensures.value ∙ ap (λ (t : Task). t.tables) c.self.view_is in
+    let spent : c.section.inside.spent ≡ c.args.self.now.section.spent =
+    ap (λ (s : Section). s.spent) (c.section.view_is ∙ ap (λ (t : Task). t.section) c.self.view_is) in
+    let before : take c.begin_of-to.result steps
+    ≡ before_range c.args.self.now.section c.args.ranges (c.args.number + 1) =
+    ap (λ (k : ℕ). take k steps) c.begin_of-to.ensures
+    ∙ ap (λ (ss : List CertStep). take (begin_of (length ss) c.args.ranges (c.args.number + 1)) ss) same in
     subst (λ (ss : List CertStep). IsLeft logs case ss c.args.self.now.section.spent c.left_at.result) before
     (subst (λ (p : ℕ). IsLeft logs case (take c.begin_of-to.result steps) p c.left_at.result) spent
-    (c.left_at.ensures.left logs case (take c.begin_of-to.result steps) differ (subst (λ (ts : List Table). AreTables logs case ts) (sym tables) are) (c.judge_range.ensures.counts c.in_default.is)
+    (c.left_at.ensures.left logs case (take c.begin_of-to.result steps) differ
+    (subst (λ (ts : List Table). AreTables logs case ts) (sym tables) are)
+    (c.judge_range.ensures.counts c.in_default.is)
     (subst (λ (ss : List CertStep). AreSoundSteps logs case ss) (sym before) sound)))
 
 pub returns-in_default-left_at-clause-found : goal.returns-in_default-left_at-clause-found
@@ -74,12 +107,16 @@ returns-in_default-left_at-clause-found g c = λ case differ are.
     let at = (goal.at.returns-in_default-left_at-clause-found g c).After-left_at in
     let judged = (goal.at.returns-in_default-left_at-clause-found g c).After-judge_range in
     let section = c.args.self.now.section in
-    let spent : c.section.inside.spent ≡ section.spent = ap (λ (s : Section). s.spent) (c.section.view_is ∙ ap (λ (t : Task). t.section) c.self.view_is) in
+    let spent : c.section.inside.spent ≡ section.spent =
+    ap (λ (s : Section). s.spent) (c.section.view_is ∙ ap (λ (t : Task). t.section) c.self.view_is) in
     let some : 0 < c.args.ranges = omega (arith, c.requires.number) in
     let last : c.args.number + 1 ≡ c.args.ranges = omega (arith, c.requires.number, c.if-number-ranges.false) in
     let other : c.left_at.result ≢ Spent = search rules in
-    subst (λ (p : ℕ). IsFoundInRange (g.C.HappenedBefore.logs_of c.args.ordered.now) case section c.args.ranges c.args.number (Some (NotSpent p))) (sym spent)
-    (unspent_found (g.C.HappenedBefore.logs_of c.args.ordered.now) case section c.args.ranges c.args.number (range_is g judged None c.in_default.is case differ are) some last c.left_at.result (left g at case differ are) differ other)
+    subst (λ (p : ℕ). IsFoundInRange (g.C.HappenedBefore.logs_of c.args.ordered.now) case section c.args.ranges
+    c.args.number (Some (NotSpent p))) (sym spent)
+    (unspent_found (g.C.HappenedBefore.logs_of c.args.ordered.now) case section c.args.ranges c.args.number
+    (range_is g judged None c.in_default.is case differ are) some last c.left_at.result (left g at case differ are)
+    differ other)
 
 pub returns-clause-found : goal.returns-clause-found
 returns-clause-found g c = λ case differ are.
@@ -87,4 +124,6 @@ returns-clause-found g c = λ case differ are.
     let judged = (goal.at.returns-clause-found g c).After-judge_range in
     let some : 0 < c.args.ranges = omega (arith, c.requires.number) in
     let last : c.args.number + 1 ≡ c.args.ranges = omega (arith, c.requires.number, c.if-number-ranges.false) in
-    spent_found (g.C.HappenedBefore.logs_of c.args.ordered.now) case c.args.self.now.section c.args.ranges c.args.number (range_is g judged None c.in_default.is case differ are) some last c.left_at.result (left g at case differ are) c.in-Spent.is
+    spent_found (g.C.HappenedBefore.logs_of c.args.ordered.now) case c.args.self.now.section c.args.ranges c.args.number
+    (range_is g judged None c.in_default.is case differ are) some last c.left_at.result (left g at case differ are)
+    c.in-Spent.is

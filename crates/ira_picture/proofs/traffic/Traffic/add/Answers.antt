@@ -7,14 +7,21 @@ use Rattle.ira_picture.proofs.traffic.Traffic.add.Goals as goal
 pub returns-in_ok-push-in-Sent : goal.returns-in_ok-push-in-Sent
 returns-in_ok-push-in-Sent g c = λ events n at here is.
     let old : Traffic = record { sendings = c.self.inside.sendings.items; receipts = c.self.inside.receipts.items } in
-    let same : c.args.self.now ≡ record { sendings = c.self.inside.sendings.items; receipts = c.self.inside.receipts.items } = search rules in
+    let same : c.args.self.now ≡ record {
+      sendings = c.self.inside.sendings.items;
+      receipts = c.self.inside.receipts.items;
+    } = search rules in
     let was : IsTraffic events n old = subst (IsTraffic events n) same is in
-    rw c.in_ok-push-in-Sent.ensures.items (sent_more events n old was c.args.position c.in-Sent.field-0 (at ∙ ap Some c.in-Sent.is) here)
+    rw c.in_ok-push-in-Sent.ensures.items
+    (sent_more events n old was c.args.position c.in-Sent.field-0 (at ∙ ap Some c.in-Sent.is) here)
 
 pub returns-in_ok-push-in-Got : goal.returns-in_ok-push-in-Got
 returns-in_ok-push-in-Got g c = λ events n at here is.
     let old : Traffic = record { sendings = c.self.inside.sendings.items; receipts = c.self.inside.receipts.items } in
-    let same : c.args.self.now ≡ record { sendings = c.self.inside.sendings.items; receipts = c.self.inside.receipts.items } = search rules in
+    let same : c.args.self.now ≡ record {
+      sendings = c.self.inside.sendings.items;
+      receipts = c.self.inside.receipts.items;
+    } = search rules in
     let was : IsTraffic events n old = subst (IsTraffic events n) same is in
     rw c.in_ok-push-in-Got.ensures.items (got_more events n old was _ c.in-Got.field-0 (at ∙ ap Some c.in-Got.is) here)
 
