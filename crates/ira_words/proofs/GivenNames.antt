@@ -1,6 +1,7 @@
 -- The files that words after `logs` name: those up to `--`, where none of them begins with a dash, and
 -- each after it.
-use Rattle.std.proofs.Common.{◌≡◌, ◌≢◌, ℕ, Bool, true, false, List, [], ◌∷◌, ◌++◌, None, Some, All, refl, sym, ap, subst, ◌∙◌, codes, append_assoc, arith, suc}
+use Rattle.std.proofs.Common.{◌≡◌, ◌≢◌, ℕ, Bool, true, false, List, [], ◌∷◌, ◌++◌, None, Some, All, refl, sym, ap}
+use Rattle.std.proofs.Common.{subst, ◌∙◌, codes, append_assoc, arith, suc}
 use Rattle.std.specs.Prelude.{fold, ◌==◌, if◌then◌else◌, map}
 use Rattle.std.proofs.lemmas.Bool.Decides.{Decides-eqb}
 use Rattle.std.proofs.lemmas.List.{append-nil}
@@ -19,7 +20,13 @@ rules = (built_leaf logs_app.top).rules
 
 -- the walk after some file names
 abbrev named : List Text → Walk
-named ws = record { held = record { rows = []; pending = Some (codes "LOG", ws); skip = 0 }; waiting = positional; position = 1; is_trailing = false; stopped = None }
+named ws = record {
+  held = record { rows = []; pending = Some (codes "LOG", ws); skip = 0 };
+  waiting = positional;
+  position = 1;
+  is_trailing = false;
+  stopped = None;
+}
 
 plain_byte : (b : ℕ) → b ≢ 45 → (b == 45) ≡ false
 plain_byte b other = go (b == 45) refl
@@ -44,15 +51,19 @@ next_name ws (b ∷ bs) is = rw (no_dash b bs is, plain_byte b is) refl
 next_names : (ws rest : List Text) → All IsFileName rest → fold (walked rules []) (named ws) rest ≡ named (ws ++ rest)
 next_names ws [] are = ap named (sym (append-nil ws))
 next_names ws (w ∷ rest) are =
-    ap (λ x. fold (walked rules []) x rest) (next_name ws w (are 0 w (omega arith))) ∙ next_names (ws ++ w ∷ []) rest (λ k d lt. are (suc k) d (omega (arith, lt))) ∙ ap named (append_assoc ws (w ∷ []) rest)
+    ap (λ x. fold (walked rules []) x rest) (next_name ws w (are 0 w (omega arith)))
+    ∙ next_names (ws ++ w ∷ []) rest (λ k d lt. are (suc k) d (omega (arith, lt)))
+    ∙ ap named (append_assoc ws (w ∷ []) rest)
 
-all_names : (w : Text) (rest : List Text) → All IsFileName (w ∷ rest) → fold (walked rules []) (walk_from nothing_held) (w ∷ rest) ≡ named (w ∷ rest)
+all_names : (w : Text) (rest : List Text) → All IsFileName (w ∷ rest)
+    → fold (walked rules []) (walk_from nothing_held) (w ∷ rest) ≡ named (w ∷ rest)
 all_names w rest are =
-    ap (λ x. fold (walked rules []) x rest) (first_name w (are 0 w (omega arith))) ∙ next_names (w ∷ []) rest (λ k d lt. are (suc k) d (omega (arith, lt)))
+    ap (λ x. fold (walked rules []) x rest) (first_name w (are 0 w (omega arith)))
+    ∙ next_names (w ∷ []) rest (λ k d lt. are (suc k) d (omega (arith, lt)))
 
 -- what is found where these names are read
 abbrev pub rows_named : List Text → List Row
-rows_named [] = []
+rows_named [] = finished rules nothing_held
 rows_named (w ∷ ws) = finished rules (named (w ∷ ws)).held
 
 pub words_rows : (words : List Text) → All IsFileName words → rows_after rules [] words ≡ rows_named words
@@ -70,9 +81,11 @@ next_marked ws w = refl
 all_marked : (ws rest : List Text) → fold (walked rules []) (marked ws) rest ≡ marked (ws ++ rest)
 all_marked ws [] = ap marked (sym (append-nil ws))
 all_marked ws (w ∷ rest) =
-    ap (λ x. fold (walked rules []) x rest) (next_marked ws w) ∙ all_marked (ws ++ w ∷ []) rest ∙ ap marked (append_assoc ws (w ∷ []) rest)
+    ap (λ x. fold (walked rules []) x rest) (next_marked ws w) ∙ all_marked (ws ++ w ∷ []) rest
+    ∙ ap marked (append_assoc ws (w ∷ []) rest)
 
-walk_on : (x : Walk) (ws rest : List Text) → fold (walked rules []) x (ws ++ rest) ≡ fold (walked rules []) (fold (walked rules []) x ws) rest
+walk_on : (x : Walk) (ws rest : List Text)
+    → fold (walked rules []) x (ws ++ rest) ≡ fold (walked rules []) (fold (walked rules []) x ws) rest
 walk_on x [] rest = refl
 walk_on x (w ∷ ws) rest = walk_on (walked rules [] x w) ws rest
 
@@ -84,16 +97,19 @@ dashes_next : (ws : List Text) → walked rules [] (named ws) (codes "--") ≡ m
 unfolding walked
 dashes_next ws = refl
 
-dashes_alone : rows_after rules [] (codes "--" ∷ []) ≡ []
+dashes_alone : rows_after rules [] (codes "--" ∷ []) ≡ rows_named []
 unfolding walked
 dashes_alone = refl
 
-pub dashes_rows : (front back : List Text) → All IsFileName front → rows_after rules [] (front ++ codes "--" ∷ back) ≡ rows_named (front ++ back)
+pub dashes_rows : (front back : List Text) → All IsFileName front
+    → rows_after rules [] (front ++ codes "--" ∷ back) ≡ rows_named (front ++ back)
 dashes_rows [] [] are = dashes_alone
 dashes_rows [] (w ∷ back) are =
-    ap (λ x. finished rules x.held) (ap (λ x. fold (walked rules []) x back) (dashes_first w) ∙ all_marked (w ∷ []) back)
+    ap (λ x. finished rules x.held) (ap (λ x. fold (walked rules []) x back) (dashes_first w)
+    ∙ all_marked (w ∷ []) back)
 dashes_rows (w ∷ front) back are =
-    ap (λ x. finished rules x.held) (walk_on (walk_from nothing_held) (w ∷ front) (codes "--" ∷ back) ∙ ap (λ x. fold (walked rules []) x (codes "--" ∷ back)) (all_names w front are)
+    ap (λ x. finished rules x.held) (walk_on (walk_from nothing_held) (w ∷ front) (codes "--" ∷ back)
+    ∙ ap (λ x. fold (walked rules []) x (codes "--" ∷ back)) (all_names w front are)
     ∙ ap (λ x. fold (walked rules []) x back) (dashes_next (w ∷ front)) ∙ all_marked (w ∷ front) back)
 
 -- they are names of files

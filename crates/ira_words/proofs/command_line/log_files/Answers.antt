@@ -13,5 +13,10 @@ the_value (Some v) x is = ap (λ w. Some w) is
 pub returns-clause-rule : goal.returns-clause-rule
 returns-clause-rule c =
     let range : ValueRange = record { start_inclusive = 1; end_inclusive = usize_max } in
-    let with_range = c.num_args.ensures.0 ∙ ap (λ o. record c.action.result { num_vals = o }) (the_value _ range c.num_args.ensures.1) in
-    rw (with_range, c.action.ensures, c.help.ensures) (ap (λ (r : Rule). record r { action = Some Append; range = Some range }) c.new.ensures.rule)
+    let with_range = c.num_args.ensures.0
+    ∙ ap (λ o. record c.action.result { num_vals = o }) (the_value _ range c.num_args.ensures.1) in
+    rw (
+      with_range,
+      c.action.ensures,
+      c.help.ensures,
+    ) (ap (λ (r : Rule). record r { action = Some Append; range = Some range }) c.new.ensures.rule)

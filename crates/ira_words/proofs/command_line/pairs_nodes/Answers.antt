@@ -6,7 +6,8 @@ use Rattle.ira_words.proofs.command_line.pairs_nodes.Goals as goal
 
 pub unwrap-requires : goal.unwrap-requires
 unwrap-requires c =
-    number_found 64 18446744073709551615 _ _ (found_of c.args.matches.now) (codes "N") _ refl refl (omega arith) c.requires.taken (c.requires.found.0 refl) c.get_one.ensures.value
+    number_found 64 18446744073709551615 _ _ (found_of c.args.matches.now) (codes "N") _ refl refl (omega arith)
+    c.requires.taken (c.requires.found.0 refl) c.get_one.ensures.value
 
 pub returns : goal.returns
 returns c =

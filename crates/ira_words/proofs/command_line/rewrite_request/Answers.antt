@@ -7,12 +7,14 @@ use Rattle.ira_words.proofs.command_line.rewrite_request.Goals as goal
 
 pub unwrap-requires : goal.unwrap-requires
 unwrap-requires c =
-    text_found _ (found_of c.args.matches.now) (codes "out") _ _ c.requires.1.taken (c.requires.1.found.0 refl) c.get_str.ensures
+    text_found _ (found_of c.args.matches.now) (codes "out") _ _ c.requires.1.taken (c.requires.1.found.0 refl)
+    c.get_str.ensures
 
 pub returns-clause-asked : goal.returns-clause-asked
 returns-clause-asked c =
     let f = found_of c.args.matches.now in
     record {
-      folder = sym (c.get_str.ensures ∙ first_value-rows f (codes "out")) ∙ ap (option_map (λ s. s.now)) c.unwrap.ensures;
+      folder = sym (c.get_str.ensures ∙ first_value-rows f (codes "out"))
+          ∙ ap (option_map (λ s. s.now)) c.unwrap.ensures;
       logs = c.in_ok-logs.ensures.found;
     }
