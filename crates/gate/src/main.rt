@@ -3,7 +3,7 @@
 #![tactic(auto)]
 
 use ira_event::{MemorySink, ToWriter};
-use ira_files::{Counted, FileShelf, ShelfFault, TextBuffer, TextSource};
+use ira_files::{CountingReader, FileShelf, ShelfFault, TextBuffer, TextSource};
 use ira_main::{serve, start};
 use std::alloc::AllocError;
 use std::io;
@@ -28,7 +28,7 @@ where
         rt,
         rt.alloc(),
         &words,
-        &mut Counted::new(input),
+        &mut CountingReader::new(input),
         &mut FileShelf::new(rt, rt.alloc()),
         &mut ToWriter::new(out),
         &mut err,

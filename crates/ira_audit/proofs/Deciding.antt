@@ -8,7 +8,7 @@ use Rattle.ira_audit.specs.declared.refusal.Refusal.TheVariants as refusal
 use Rattle.ira_audit.specs.declared.findings.Findings.{Findings}
 use Rattle.ira_audit.specs.declared.findings.Findings.TheVariants.{Refused, Cases}
 use Rattle.ira_audit.specs.Findings.{AreFindings, AreReportable}
-use Rattle.ira_audit.specs.Posed.{WhyNotPosed}
+use Rattle.ira_audit.specs.QuestionFitsLogs.{WhyNoQuestion}
 use Rattle.ira_audit.specs.Refusal.{MatchRefusal, IsFindingsReason, decided_findings}
 use Rattle.ira_audit.proofs.OnePosed.{one_reason, posed_or_not}
 
@@ -37,16 +37,16 @@ module _ {A : Type 0} (texts : List (List ℕ)) (question : List ℕ) where
 
   -- findings are a refusal by exactly the reason that there is
   refused_exactly : (findings : Findings A) → AreFindings texts question findings → (r : Reason)
-      → ◌≡◌ {A = Result (Findings A) OutOfMemory} (Ok findings) (Ok (Refused r)) ↔ WhyNotPosed texts question r
+      → ◌≡◌ {A = Result (Findings A) OutOfMemory} (Ok findings) (Ok (Refused r)) ↔ WhyNoQuestion texts question r
   refused_exactly (Refused s) h r = (
-    λ e. subst (WhyNotPosed texts question) (reason_same {A = A} s r e) h,
+    λ e. subst (WhyNoQuestion texts question) (reason_same {A = A} s r e) h,
     λ k. ap {B = Result (Findings A) OutOfMemory} (λ x. Ok (Refused x)) (one_reason texts question s r h k),
   )
   refused_exactly (Cases nodes found) h r = (λ e. absurd cc, λ k. absurd (posed_or_not texts question r h.0 h.1 k h.2))
 
   pub decided_refused : (d : Result (Findings A) Refusal) → IsDecided texts question d → (r : Reason)
       → UnlessErr {T = Findings A} {E = OutOfMemory} (decided_findings d) (record {})
-      ((decided_findings d ≡ Ok (Refused r)) ↔ WhyNotPosed texts question r)
+      ((decided_findings d ≡ Ok (Refused r)) ↔ WhyNoQuestion texts question r)
   decided_refused (Ok findings) h r = inr (refused_exactly findings h.0 r)
   decided_refused (Err (refusal.No s)) h r = inr (refused_exactly (Refused s) h.0 r)
   decided_refused (Err refusal.OutOfMemory) h r = inl refl

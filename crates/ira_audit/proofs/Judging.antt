@@ -22,7 +22,7 @@ use Rattle.ira_order.specs.MatchFault.{IsMatchFault}
 use Rattle.ira_order.specs.Ordered.{IsOrdered}
 use Rattle.ira_audit.specs.GoodLogs.{AreGoodLogs}
 use Rattle.ira_audit.specs.LogTexts.{AreLogTexts}
-use Rattle.ira_audit.specs.LogsAnswer.{IsLogsAnswer, IsFirstStop, unmatched, circled, stopped, yes}
+use Rattle.ira_audit.specs.RingAnswer.{IsRingAnswer, IsFirstStop, unmatched, circled, stopped, yes}
 use Rattle.ira_event.proofs.Unless.{ok_same}
 
 -- an answer that is right is the only one
@@ -79,7 +79,7 @@ module _ (texts : List (List ℕ)) where
   abbrev pub AreFoundGood : Result (List Log) Refusal → Type 0
   AreFoundGood found = MatchRefusal found (AreGoodLogs texts) (IsLogsReason texts)
 
-  pub judged_logs : (found : Result (List Log) Refusal) → AreFoundGood found → Judged found (IsLogsAnswer texts)
+  pub judged_logs : (found : Result (List Log) Refusal) → AreFoundGood found → Judged found (IsRingAnswer texts)
   judged_logs (Ok logs) h = yes logs h refl
   judged_logs (Err (refusal.No r)) h = h
   judged_logs (Err refusal.OutOfMemory) h = tt

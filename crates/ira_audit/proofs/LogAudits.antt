@@ -13,17 +13,17 @@ use Rattle.ira_event.specs.LogTextFault.{LogTextFault, behind_head, BeginsWithHe
 use Rattle.ira_event.specs.Records.{RecordsLeft, ReadsOn, ReadsRecord, IsAtEnd, IsEndOrFault}
 use Rattle.ira_event.proofs.LogReading.{behind_more, behind_all, behind_fault}
 use Rattle.ira_event.proofs.LogAnswers.{log_read}
-use Rattle.ira_audit.specs.LogAudit.{IsBegun, IsSuffix, CameTo, log_of_records, AreWholeLines}
+use Rattle.ira_audit.specs.LogAudit.{IsBegun, IsSuffix, ReplaysTo, log_of_records, AreWholeLines}
 use Rattle.ira_audit.specs.Replaying.{IsLogAnswer}
 use Rattle.ira_audit.specs.declared.answer.Answer.{Answer}
-use Rattle.ira_audit.specs.declared.replay_so_far.ReplaySoFar.{ReplaySoFar}
+use Rattle.ira_audit.specs.declared.partial_replay.PartialReplay.{PartialReplay}
 
 -- ---- while records are read
 
 -- one more record was read
-pub begun_more : (text : List ℕ) (r next : ReplaySoFar) (old new : RecordsLeft) (e : Event) → next.head ≡ r.head
+pub begun_more : (text : List ℕ) (r next : PartialReplay) (old new : RecordsLeft) (e : Event) → next.head ≡ r.head
     → ReadsRecord old new e
-    → ((events : List Event) → length events ≡ old.count → CameTo r events → CameTo next (events ++ e ∷ []))
+    → ((events : List Event) → length events ≡ old.count → ReplaysTo r events → ReplaysTo next (events ++ e ∷ []))
     → IsBegun text r old → IsBegun text next new
 begun_more text r next old new e same read on b = record {
   rest = b.rest;
@@ -59,19 +59,19 @@ suffix_trans a b c s t = (t.0 ++ s.0, t.1 ∙ ap (λ w. t.0 ++ w) s.1 ∙ sym (a
 
 -- ---- a text that goes on
 
-pub lines_begun : (replay : Option ReplaySoFar) (r : ReplaySoFar) (text : List ℕ) → replay ≡ Some r
+pub lines_begun : (replay : Option PartialReplay) (r : PartialReplay) (text : List ℕ) → replay ≡ Some r
     → AreWholeLines replay text → IsBegun text r (record { version = r.head.version; rest = []; count = r.count })
 lines_begun (Some x) r text is h = let same : x ≡ r = cc in
-    let P : ReplaySoFar → Type 0 =
+    let P : PartialReplay → Type 0 =
     λ y. IsBegun text y (record { version = y.head.version; rest = []; count = y.count }) in subst P same h
 lines_begun None r text is h = absurd cc
 
-pub none_taken : (replay : Option ReplaySoFar) (text : List ℕ) → replay ≡ None → AreWholeLines replay text → text ≡ []
+pub none_taken : (replay : Option PartialReplay) (text : List ℕ) → replay ≡ None → AreWholeLines replay text → text ≡ []
 none_taken None text is h = h
 none_taken (Some r) text is h = absurd cc
 
 -- more stands after what is left
-pub begun_longer : (text more : List ℕ) (r : ReplaySoFar) (v n : ℕ)
+pub begun_longer : (text more : List ℕ) (r : PartialReplay) (v n : ℕ)
     → IsBegun text r (record { version = v; rest = []; count = n })
     → IsBegun (text ++ more) r (record { version = v; rest = more; count = n })
 begun_longer text more r v n b = record {
@@ -102,7 +102,7 @@ begun_longer text more r v n b = record {
 }
 
 -- what is left is cut off
-begun_cut : (text front : List ℕ) (whole : List ℕ) (r : ReplaySoFar) (left : RecordsLeft)
+begun_cut : (text front : List ℕ) (whole : List ℕ) (r : PartialReplay) (left : RecordsLeft)
     → whole ≡ (text ++ front) ++ left.rest → IsBegun whole r left
     → IsBegun (text ++ front) r (record { version = left.version; rest = []; count = left.count })
 begun_cut text front whole r left parts b =
@@ -148,7 +148,7 @@ left_behind piece left s =
     let many : length s.0 ≡ length piece - length left = omega (arith, ap length s.1, length-append s.0 left) in
     ap (λ w. drop (length piece - length left) w) s.1 ∙ drop_at s.0 left (length piece - length left) many
 
-pub taken_lines : (text piece : List ℕ) (r : ReplaySoFar) (left : RecordsLeft) (n : ℕ)
+pub taken_lines : (text piece : List ℕ) (r : PartialReplay) (left : RecordsLeft) (n : ℕ)
     → n ≡ length piece - length left.rest → IsSuffix left.rest piece → IsBegun (text ++ piece) r left
     → IsBegun (text ++ take n piece) r (record { version = left.version; rest = []; count = left.count })
 taken_lines text piece r left n many s b =
@@ -160,8 +160,8 @@ taken_lines text piece r left n many s b =
 
 -- ---- the answer
 
-pub begun_judged : (text : List ℕ) (r : ReplaySoFar) (left : RecordsLeft) (a : Answer)
-    → ((events : List Event) → CameTo r events → IsLogAnswer (log_of_records r.head events) a) → IsBegun text r left
+pub begun_judged : (text : List ℕ) (r : PartialReplay) (left : RecordsLeft) (a : Answer)
+    → ((events : List Event) → ReplaysTo r events → IsLogAnswer (log_of_records r.head events) a) → IsBegun text r left
     → IsAtEnd left
     → (log : Log) × IsLogText text log × IsLogAnswer log a
 begun_judged text r left a answers b end = (
@@ -171,7 +171,7 @@ begun_judged text r left a answers b end = (
   answers b.events b.came,
 )
 
-pub begun_refused : (text : List ℕ) (r : ReplaySoFar) (left : RecordsLeft) (f : LogFault) → length text ≤ MAX_TEXT
+pub begun_refused : (text : List ℕ) (r : PartialReplay) (left : RecordsLeft) (f : LogFault) → length text ≤ MAX_TEXT
     → IsBegun text r left → IsEndOrFault left (Err f) → LogTextFault text f
 begun_refused text r left f short b end =
     inr (

@@ -18,7 +18,7 @@ use Rattle.ira_elim.specs.Found.{IsFound}
 use Rattle.ira_audit.specs.declared.answer.Answer.TheVariants.{Yes}
 use Rattle.ira_audit.specs.declared.findings.Findings.{Findings}
 use Rattle.ira_audit.specs.declared.findings.Findings.TheVariants.{Refused, Cases}
-use Rattle.ira_audit.specs.AuditAnswer.{AreSound, IsAuditAnswer, yes}
+use Rattle.ira_audit.specs.CheckAnswer.{AreSound, IsCheckAnswer, yes}
 use Rattle.ira_audit.specs.Findings.{AreFindings, HasPresent, IsCertificateOf, MakeNoCertificate, is_present}
 
 -- what was found of cases that are all absent are sound sections
@@ -39,7 +39,7 @@ all_sound logs (c ∷ cases) (Present cut ∷ found) (s ∷ sections) is h = abs
 -- the certificate of findings is accepted where it has a text
 pub accepted : {A : Type 0} (texts : List (List ℕ)) (question text : List ℕ) (findings : Findings A) (c : Certificate)
     → AreFindings texts question findings → IsCertificateOf findings c → IsCertText text c
-    → IsAuditAnswer texts question text Yes
+    → IsCheckAnswer texts question text Yes
 accepted texts question text (Refused r) c h of is = absurd of
 accepted texts question text (Cases nodes found) c h of is =
     yes h.0 h.1 c h.2 is (of.0 ∙ h.3) (all_sound h.0 h.1.cases found.items c.sections of.1 h.4) refl

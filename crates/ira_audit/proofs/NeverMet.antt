@@ -5,7 +5,7 @@ use Rattle.std.proofs.lemmas.Option.{slice_get_read}
 use Rattle.ira_event.specs.Log.{Log}
 use Rattle.ira_event.specs.Logs.{AreLogs}
 use Rattle.ira_pred.specs.Formula.{leader}
-use Rattle.ira_pred.specs.Question.{Asked}
+use Rattle.ira_pred.specs.Question.{QuestionCases}
 use Rattle.ira_pred.specs.QuestionText.{IsQuestionText}
 use Rattle.ira_pred.proofs.PairCases.{All-pairs}
 use Rattle.ira_pred.proofs.QuestionTexts.{one_question}
@@ -24,11 +24,11 @@ use Rattle.ira_safety.proofs.Leaders.{one_leader_at_a_cut}
 use Rattle.ira_audit.specs.declared.answer.Answer.{Answer}
 use Rattle.ira_audit.specs.declared.answer.Answer.TheVariants.{Yes}
 use Rattle.ira_audit.specs.LogTexts.{AreLogTexts}
-use Rattle.ira_audit.specs.AuditAnswer.{AreSound, IsAuditAnswer, not_posed, no_certificate, other_size, other_number}
-use Rattle.ira_audit.specs.AuditAnswer.{unsound, yes}
-use Rattle.ira_audit.specs.Posed.{Posed}
+use Rattle.ira_audit.specs.CheckAnswer.{AreSound, IsCheckAnswer, not_posed, no_certificate, other_size, other_number}
+use Rattle.ira_audit.specs.CheckAnswer.{unsound, yes}
+use Rattle.ira_audit.specs.QuestionFitsLogs.{QuestionFitsLogs}
 use Rattle.ira_audit.specs.GoodLogs.{AreGood, AreGoodLogs}
-use Rattle.ira_audit.specs.LogsAnswer.{IsLogsAnswer, no_log, no_ring, unmatched, circled, stopped, yes as logs_yes}
+use Rattle.ira_audit.specs.RingAnswer.{IsRingAnswer, no_log, no_ring, unmatched, circled, stopped, yes as logs_yes}
 use Rattle.ira_audit.specs.Never.{Leads, NeverTwoLeaders, NoCaseIsMet, NoCutMeetsAPair, NoCutMeetsAny, NoMomentMeetsAny}
 use Rattle.ira_audit.specs.Never.{YesMeansNoCaseIsMet, YesWithoutQuestion}
 use Rattle.ira_audit.proofs.LogTexts.{one_list}
@@ -36,8 +36,8 @@ use Rattle.ira_audit.proofs.Places.{different_places}
 use Rattle.ira_audit.proofs.Zipped.{zipped_at, partner_at}
 
 -- where each section is sound for its case, no case is met
-no_cut : (texts : List (List ℕ)) (question : List ℕ) (logs : List Log) (asked : Asked) (sections : List Section)
-    → Posed texts question logs asked → AreSound logs asked.cases sections → NoCutMeetsAny logs asked.cases
+no_cut : (texts : List (List ℕ)) (question : List ℕ) (logs : List Log) (asked : QuestionCases) (sections : List Section)
+    → QuestionFitsLogs texts question logs asked → AreSound logs asked.cases sections → NoCutMeetsAny logs asked.cases
 no_cut texts question logs asked sections posed sound = λ case cut has consistent.
     let at = slice_get_read asked.cases (length asked.cases) has.0 case refl has.1 (sym has.2) in
     let section = partner_at asked.cases sections has.0 case (IsSoundSection logs) sound at in
@@ -46,7 +46,7 @@ no_cut texts question logs asked sections posed sound = λ case cut has consiste
 
 -- the texts are answered yes
 pub yes_never : (texts : List (List ℕ)) (question certificate : List ℕ) (a : Answer)
-    → IsAuditAnswer texts question certificate a → a ≡ Yes → NoCaseIsMet texts question certificate
+    → IsCheckAnswer texts question certificate a → a ≡ Yes → NoCaseIsMet texts question certificate
 yes_never texts question certificate a (not_posed r h e) is = absurd cc
 yes_never texts question certificate a (no_certificate logs asked f p h e) is = absurd cc
 yes_never texts question certificate a (other_size logs asked c p t other e) is = absurd cc
@@ -75,7 +75,7 @@ no_case texts question certificate h = yes_never texts question certificate Yes 
 
 -- ---- moments
 
-module _ (texts : List (List ℕ)) (question certificate : List ℕ) (logs : List Log) (asked : Asked)
+module _ (texts : List (List ℕ)) (question certificate : List ℕ) (logs : List Log) (asked : QuestionCases)
     (never : NoCaseIsMet texts question certificate) (logs_are : AreLogTexts texts logs)
     (question_is : IsQuestionText question asked) where
   same_logs : never.logs ≡ logs
@@ -86,7 +86,7 @@ module _ (texts : List (List ℕ)) (question certificate : List ℕ) (logs : Lis
 
   no_cut_meets : NoCutMeetsAny logs asked.cases
   no_cut_meets =
-      subst (λ (q : Asked). NoCutMeetsAny logs q.cases) same_question
+      subst (λ (q : QuestionCases). NoCutMeetsAny logs q.cases) same_question
       (subst (λ ls. NoCutMeetsAny ls never.asked.cases) same_logs never.never)
 
 pub no_moment : NoMomentMeetsAny
@@ -102,7 +102,7 @@ no_moment texts question certificate logs asked yes_is logs_are question_is orde
 
 -- there is a yes without the question
 yes_good : (texts : List (List ℕ)) (question certificate : List ℕ) (a : Answer)
-    → IsAuditAnswer texts question certificate a → a ≡ Yes → (logs : List Log) × AreGoodLogs texts logs
+    → IsCheckAnswer texts question certificate a → a ≡ Yes → (logs : List Log) × AreGoodLogs texts logs
 yes_good texts question certificate a (not_posed r h e) is = absurd cc
 yes_good texts question certificate a (no_certificate logs asked f p h e) is = absurd cc
 yes_good texts question certificate a (other_size logs asked c p t other e) is = absurd cc
@@ -116,7 +116,7 @@ yes_without_question texts question certificate yes_is =
     logs_yes good.0 good.1 refl
 
 -- the logs of a yes
-good_logs : (texts : List (List ℕ)) (logs : List Log) (a : Answer) → IsLogsAnswer texts a → a ≡ Yes
+good_logs : (texts : List (List ℕ)) (logs : List Log) (a : Answer) → IsRingAnswer texts a → a ≡ Yes
     → AreLogTexts texts logs → AreGood logs
 good_logs texts logs a (no_log number f h e) is texts_are = absurd cc
 good_logs texts logs a (no_ring ls f t h e) is texts_are = absurd cc

@@ -18,13 +18,13 @@ use Rattle.ira_order.proofs.Faults as matching
 use Rattle.ira_audit.specs.declared.reason.Reason.TheVariants as reason
 use Rattle.ira_audit.specs.declared.answer.Answer.{Answer}
 use Rattle.ira_audit.specs.declared.answer.Answer.TheVariants.{Yes, No}
-use Rattle.ira_audit.specs.Answer as single
+use Rattle.ira_audit.specs.LogTextAnswer as single
 use Rattle.ira_audit.specs.LogTexts.{AreLogTexts, IsFirstTextFault}
-use Rattle.ira_audit.specs.LogsAnswer.{IsLogsAnswer, IsFirstStop, no_log, no_ring, unmatched, circled, stopped, yes}
+use Rattle.ira_audit.specs.RingAnswer.{IsRingAnswer, IsFirstStop, no_log, no_ring, unmatched, circled, stopped, yes}
 use Rattle.ira_audit.proofs.LogTexts.{one_list, logs_or_fault, one_first}
 
 -- a text has one answer
-pub one_answer : (text : List ℕ) (a b : Answer) → single.IsAnswer text a → single.IsAnswer text b → a ≡ b
+pub one_answer : (text : List ℕ) (a b : Answer) → single.IsLogTextAnswer text a → single.IsLogTextAnswer text b → a ≡ b
 one_answer text a b (single.no_log f h p) (single.no_log g k q) = (let same = one_fault text f g h k in cc)
 one_answer text a b (single.no_log f h p) (single.stopped m g k t q) = absurd (log_or_fault text m f k h)
 one_answer text a b (single.no_log f h p) (single.yes m k t q) = absurd (log_or_fault text m f k h)
@@ -70,7 +70,7 @@ one_first_stop logs i j f g s t =
 -- each answer is the only one of its texts
 
 only_no_log : (texts : List (List ℕ)) (n : ℕ) (f : LogFault) → IsFirstTextFault texts n f → (a : Answer)
-    → IsLogsAnswer texts a → a ≡ No (reason.Log n f)
+    → IsRingAnswer texts a → a ≡ No (reason.Log n f)
 only_no_log texts n f h a (no_log m g k e) = (let same = one_first texts n m f g h k in cc)
 only_no_log texts n f h a (no_ring ms g u k e) = absurd (logs_or_fault texts ms n f u h)
 only_no_log texts n f h a (unmatched ms g u ring k e) = absurd (logs_or_fault texts ms n f u h)
@@ -83,7 +83,7 @@ module _ (texts : List (List ℕ)) (logs : List Log) (are : AreLogTexts texts lo
   here : (P : List Log → Type 0) (others : List Log) → AreLogTexts texts others → P others → P logs
   here P others u p = subst P (one_list texts others logs u are) p
 
-  only_no_ring : (f : HeadFault) → HeadFaultOf logs f → (a : Answer) → IsLogsAnswer texts a → a ≡ No (reason.Heads f)
+  only_no_ring : (f : HeadFault) → HeadFaultOf logs f → (a : Answer) → IsRingAnswer texts a → a ≡ No (reason.Heads f)
   only_no_ring f h a (no_log m g k e) = absurd (logs_or_fault texts logs m g are k)
   only_no_ring f h a (no_ring ms g u k e) = (let same = one-fault logs f g h (here (λ x. HeadFaultOf x g) ms u k) in cc)
   only_no_ring f h a (unmatched ms g u ring k e) = absurd (no-fault logs f (here AreLogs ms u ring) h)
@@ -92,7 +92,7 @@ module _ (texts : List (List ℕ)) (logs : List Log) (are : AreLogTexts texts lo
   only_no_ring f h a (yes ms good e) = absurd (no-fault logs f (here AreLogs ms good.texts_are good.are_good.ring) h)
 
   module _ (ring : AreLogs logs) where
-    only_unmatched : (f : MatchFault) → IsMatchFault logs f → (a : Answer) → IsLogsAnswer texts a
+    only_unmatched : (f : MatchFault) → IsMatchFault logs f → (a : Answer) → IsRingAnswer texts a
         → a ≡ No (reason.Match f)
     only_unmatched f h a (no_log m g k e) = absurd (logs_or_fault texts logs m g are k)
     only_unmatched f h a (no_ring ms g u k e) = absurd (no-fault logs g ring (here (λ x. HeadFaultOf x g) ms u k))
@@ -103,7 +103,7 @@ module _ (texts : List (List ℕ)) (logs : List Log) (are : AreLogTexts texts lo
     only_unmatched f h a (yes ms good e) =
         absurd (matched_order logs f h (here HasOrder ms good.texts_are good.are_good.order))
 
-    only_circled : HasCircle logs → (a : Answer) → IsLogsAnswer texts a → a ≡ No reason.Circle
+    only_circled : HasCircle logs → (a : Answer) → IsRingAnswer texts a → a ≡ No reason.Circle
     only_circled h a (no_log m g k e) = absurd (logs_or_fault texts logs m g are k)
     only_circled h a (no_ring ms g u k e) = absurd (no-fault logs g ring (here (λ x. HeadFaultOf x g) ms u k))
     only_circled h a (unmatched ms g u r k e) = absurd (matched_circle logs g (here (λ x. IsMatchFault x g) ms u k) h)
@@ -113,7 +113,7 @@ module _ (texts : List (List ℕ)) (logs : List Log) (are : AreLogTexts texts lo
         absurd (circle_or_order logs h (here HasOrder ms good.texts_are good.are_good.order))
 
     module _ (order : HasOrder logs) where
-      only_stopped : (place : ℕ) (f : ReplayFault) → IsFirstStop logs place f → (a : Answer) → IsLogsAnswer texts a
+      only_stopped : (place : ℕ) (f : ReplayFault) → IsFirstStop logs place f → (a : Answer) → IsRingAnswer texts a
           → a ≡ No (reason.Replay place f.position f.fault)
       only_stopped place f h a (no_log m g k e) = absurd (logs_or_fault texts logs m g are k)
       only_stopped place f h a (no_ring ms g u k e) = absurd (no-fault logs g ring (here (λ x. HeadFaultOf x g) ms u k))
@@ -125,7 +125,7 @@ module _ (texts : List (List ℕ)) (logs : List Log) (are : AreLogTexts texts lo
       only_stopped place f h a (yes ms good e) =
           absurd (stop_or_runs logs place f h (here AreLocalRuns ms good.texts_are good.are_good.runs))
 
-      only_yes : AreLocalRuns logs → (a : Answer) → IsLogsAnswer texts a → a ≡ Yes
+      only_yes : AreLocalRuns logs → (a : Answer) → IsRingAnswer texts a → a ≡ Yes
       only_yes h a (no_log m g k e) = absurd (logs_or_fault texts logs m g are k)
       only_yes h a (no_ring ms g u k e) = absurd (no-fault logs g ring (here (λ x. HeadFaultOf x g) ms u k))
       only_yes h a (unmatched ms g u r k e) = absurd (matched_order logs g (here (λ x. IsMatchFault x g) ms u k) order)
@@ -133,7 +133,7 @@ module _ (texts : List (List ℕ)) (logs : List Log) (are : AreLogTexts texts lo
       only_yes h a (stopped ms p g u r o k e) = absurd (stop_or_runs logs p g (here (λ x. IsFirstStop x p g) ms u k) h)
       only_yes h a (yes ms good e) = e
 
-pub one_logs_answer : (texts : List (List ℕ)) (a b : Answer) → IsLogsAnswer texts a → IsLogsAnswer texts b → a ≡ b
+pub one_logs_answer : (texts : List (List ℕ)) (a b : Answer) → IsRingAnswer texts a → IsRingAnswer texts b → a ≡ b
 one_logs_answer texts a b (no_log n f h e) k = e ∙ sym (only_no_log texts n f h b k)
 one_logs_answer texts a b (no_ring ls f t h e) k = e ∙ sym (only_no_ring texts ls t f h b k)
 one_logs_answer texts a b (unmatched ls f t ring h e) k = e ∙ sym (only_unmatched texts ls t ring f h b k)

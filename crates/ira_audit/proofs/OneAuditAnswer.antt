@@ -3,19 +3,19 @@ use Rattle.std.proofs.Common.{◌≡◌, ◌≢◌, ℕ, List, Some, length, ref
 use Rattle.std.specs.Prelude.{slice_get}
 use Rattle.ira_event.specs.Log.{Log}
 use Rattle.ira_pred.specs.Case.{Conjunct}
-use Rattle.ira_pred.specs.Question.{Asked}
+use Rattle.ira_pred.specs.Question.{QuestionCases}
 use Rattle.ira_cert_text.specs.Certificate.{Section, Certificate}
 use Rattle.ira_cert_text.specs.CertText.{IsCertText}
 use Rattle.ira_cert_text.specs.CertTextFault.{CertTextFault}
 use Rattle.ira_cert_text.proofs.CertAnswers as cert
 use Rattle.ira_cert.specs.declared.section_fault.SectionFault.{SectionFault}
-use Rattle.ira_cert.specs.Asked.{HasDifferentPlaces}
+use Rattle.ira_cert.specs.Conjuncts.{HasDifferentPlaces}
 use Rattle.ira_audit.specs.declared.reason.Reason.TheVariants as reason
 use Rattle.ira_audit.specs.declared.answer.Answer.{Answer}
 use Rattle.ira_audit.specs.declared.answer.Answer.TheVariants.{Yes, No}
-use Rattle.ira_audit.specs.AuditAnswer.{AreSound, IsFirstUnsound, IsAuditAnswer, not_posed, no_certificate, other_size}
-use Rattle.ira_audit.specs.AuditAnswer.{other_number, unsound, yes}
-use Rattle.ira_audit.specs.Posed.{Posed, WhyNotPosed}
+use Rattle.ira_audit.specs.CheckAnswer.{AreSound, IsFirstUnsound, IsCheckAnswer, not_posed, no_certificate, other_size}
+use Rattle.ira_audit.specs.CheckAnswer.{other_number, unsound, yes}
+use Rattle.ira_audit.specs.QuestionFitsLogs.{QuestionFitsLogs, WhyNoQuestion}
 use Rattle.ira_audit.proofs.OnePosed.{one_reason, posed_or_not, one_posed}
 use Rattle.ira_audit.proofs.Places.{different_places}
 use Rattle.ira_audit.proofs.SoundSections.{one_first_unsound, sound_or_first_unsound}
@@ -51,12 +51,12 @@ CertificateStage certificate logs cases =
 -- whether the question is posed
 abbrev PosedStage : List (List ℕ) → List ℕ → List ℕ → Answer → Type 0
 PosedStage texts question certificate =
-    Stage (WhyNotPosed texts question) No (λ (y : List Log × Asked). Posed texts question y.0 y.1) (λ y.
+    Stage (WhyNoQuestion texts question) No (λ (y : List Log × QuestionCases). QuestionFitsLogs texts question y.0 y.1) (λ y.
     CertificateStage certificate y.0 y.1.cases)
 
 -- an answer is one of the stages
 staged : (texts : List (List ℕ)) (question certificate : List ℕ) (a : Answer)
-    → IsAuditAnswer texts question certificate a → PosedStage texts question certificate a
+    → IsCheckAnswer texts question certificate a → PosedStage texts question certificate a
 staged texts question certificate a (not_posed r h e) = inl (r, h, e)
 staged texts question certificate a (no_certificate logs asked f p h e) = inr ((logs, asked), p, inl (f, h, e))
 staged texts question certificate a (other_size logs asked c p is other e) =
@@ -101,7 +101,7 @@ module _ (logs : List Log) (cases : List (List Conjunct)) (differ : (i : ℕ) (c
       cert.certificate_or_fault certificate c f is h) (cert.one_certificate certificate) (λ c a b h. one_size c a b)
 
 pub one_audit_answer : (texts : List (List ℕ)) (question certificate : List ℕ) (a b : Answer)
-    → IsAuditAnswer texts question certificate a → IsAuditAnswer texts question certificate b → a ≡ b
+    → IsCheckAnswer texts question certificate a → IsCheckAnswer texts question certificate b → a ≡ b
 one_audit_answer texts question certificate a b h k =
     one_of_stage _ _ _ _ (one_reason texts question) (λ r y bad p. posed_or_not texts question r y.0 y.1 bad p)
     (λ y z p q. let same = one_posed texts question y.0 z.0 y.1 z.1 p q in

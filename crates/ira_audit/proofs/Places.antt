@@ -4,14 +4,14 @@ use Rattle.std.specs.Prelude.{slice_get, slice_index_or, All}
 use Rattle.std.proofs.lemmas.Option.{slice_get_within, get_or_from_slice_get}
 use Rattle.ira_event.specs.Log.{Log}
 use Rattle.ira_pred.specs.Case.{Conjunct, IsCase}
-use Rattle.ira_pred.specs.Question.{Asked, IsQuestion}
-use Rattle.ira_cert.specs.Asked.{HasDifferentPlaces, HasPlacesOf}
+use Rattle.ira_pred.specs.Question.{QuestionCases, IsQuestion}
+use Rattle.ira_cert.specs.Conjuncts.{HasDifferentPlaces, HasPlacesOf}
 
 -- what holds of all members holds of the one there
 pub all_at : {X : Type 0} (P : X → Type 0) (xs : List X) (i : ℕ) (x : X) → All P xs → slice_get xs i ≡ Some x → P x
 all_at P xs i x all at = subst P (get_or_from_slice_get xs i x x at) (all i x (slice_get_within xs i x at))
 
-case_at : (asked : Asked) (i : ℕ) (case : List Conjunct) → IsQuestion asked → slice_get asked.cases i ≡ Some case
+case_at : (asked : QuestionCases) (i : ℕ) (case : List Conjunct) → IsQuestion asked → slice_get asked.cases i ≡ Some case
     → IsCase asked.nodes case
 case_at asked i case is at = all_at (IsCase asked.nodes) asked.cases i case is.cases_are at
 
@@ -20,12 +20,12 @@ pub different : (nodes : ℕ) (case : List Conjunct) → IsCase nodes case → H
 different nodes case is = λ i j d lt within e. let rises = is.conjuncts_are.rising i j d lt within in
     omega (arith, rises, e)
 
-pub different_places : (asked : Asked) → IsQuestion asked → (i : ℕ) (case : List Conjunct)
+pub different_places : (asked : QuestionCases) → IsQuestion asked → (i : ℕ) (case : List Conjunct)
     → slice_get asked.cases i ≡ Some case → HasDifferentPlaces case
 different_places asked is i case at = different asked.nodes case (case_at asked i case is at)
 
 -- the places are those of the logs
-pub places_of_logs : (asked : Asked) (logs : List Log) → IsQuestion asked → asked.nodes ≡ length logs
+pub places_of_logs : (asked : QuestionCases) (logs : List Log) → IsQuestion asked → asked.nodes ≡ length logs
     → (i : ℕ) (case : List Conjunct) → slice_get asked.cases i ≡ Some case → HasPlacesOf logs case
 places_of_logs asked logs is ring i case at = λ k d within.
     let inside = ((case_at asked i case is at).conjuncts_are.each k d within).in_ring in

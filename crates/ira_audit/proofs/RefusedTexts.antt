@@ -7,7 +7,7 @@ use Rattle.ira_event.specs.Logs.{HeadFaultOf}
 use Rattle.ira_pred.specs.declared.ask_fault.AskFault.{AskFault}
 use Rattle.ira_pred.specs.declared.ask_fault.AskFault.TheVariants as ask
 use Rattle.ira_pred.specs.Case.{Conjunct}
-use Rattle.ira_pred.specs.Question.{Asked}
+use Rattle.ira_pred.specs.Question.{QuestionCases}
 use Rattle.ira_pred.specs.QuestionText.{IsQuestionText}
 use Rattle.ira_pred.specs.QuestionTextFault.{QuestionTextFault}
 use Rattle.ira_cert_text.specs.declared.cert_fault.CertFault.{CertFault}
@@ -22,12 +22,12 @@ use Rattle.ira_audit.specs.declared.refusal.Refusal.{Refusal}
 use Rattle.ira_audit.specs.declared.refusal.Refusal.TheVariants as refusal
 use Rattle.ira_audit.specs.declared.answer.Answer.{Answer}
 use Rattle.ira_audit.specs.declared.answer.Answer.TheVariants.{No}
-use Rattle.ira_audit.specs.AuditAnswer.{AreSound, IsFirstUnsound, IsAuditAnswer, not_posed}
-use Rattle.ira_audit.specs.AuditAnswer as answer
+use Rattle.ira_audit.specs.CheckAnswer.{AreSound, IsFirstUnsound, IsCheckAnswer, not_posed}
+use Rattle.ira_audit.specs.CheckAnswer as answer
 use Rattle.ira_audit.specs.GoodLogs.{AreGood, AreGoodLogs}
 use Rattle.ira_audit.specs.LogTexts.{AreLogTexts, IsFirstTextFault}
-use Rattle.ira_audit.specs.LogsAnswer.{no_log, no_ring}
-use Rattle.ira_audit.specs.Posed.{Posed, bad_logs, no_question, other_ring}
+use Rattle.ira_audit.specs.RingAnswer.{no_log, no_ring}
+use Rattle.ira_audit.specs.QuestionFitsLogs.{QuestionFitsLogs, bad_logs, no_question, other_ring}
 use Rattle.ira_audit.specs.Refusal.{Judged, MatchRefusal, RefusesQuestion, RefusesCertificate, IsLogsReason}
 use Rattle.ira_audit.specs.Refusal.{IsRingReason, IsFindingsReason, IsQuestionRefusal, IsCertificateRefusal}
 use Rattle.ira_audit.specs.Refusal.{no_certificate, other_size, other_number}
@@ -56,7 +56,7 @@ logs_reason texts question r h = (bad_logs h.0, h.1)
 
 -- why a question isn't posed is said of it with a certificate
 pub findings_reason : (texts : List (List ℕ)) (question certificate : List ℕ) (r : Reason)
-    → IsFindingsReason texts question r → IsAuditAnswer texts question certificate (No r) × IsReportableReason r
+    → IsFindingsReason texts question r → IsCheckAnswer texts question certificate (No r) × IsReportableReason r
 findings_reason texts question certificate r h = (not_posed r h.0 refl, h.1)
 
 -- a refusal that is handed on
@@ -101,9 +101,9 @@ pub good_logs : (texts : List (List ℕ)) (logs : List log.Log) → AreLogTexts 
 good_logs texts logs are good = record { texts_are = are; are_good = good }
 
 -- the question is asked of the ring of good logs
-pub is_posed : (texts : List (List ℕ)) (question : List ℕ) (logs : List log.Log) (asked : Asked)
+pub is_posed : (texts : List (List ℕ)) (question : List ℕ) (logs : List log.Log) (asked : QuestionCases)
     → AreLogTexts texts logs
-    → AreGood logs → IsQuestionText question asked → asked.nodes ≡ length logs → Posed texts question logs asked
+    → AreGood logs → IsQuestionText question asked → asked.nodes ≡ length logs → QuestionFitsLogs texts question logs asked
 is_posed texts question logs asked are good is ring = record {
   logs_are = good_logs texts logs are good;
   question_is = is;
@@ -115,10 +115,10 @@ pub question_reason : (texts : List (List ℕ)) (question : List ℕ) (logs : Li
 question_reason texts question logs good r (inl h) = rw h.3 (no_question logs h.0 good h.1 refl, h.2)
 question_reason texts question logs good r (inr h) = rw h.3 (other_ring logs h.0 good h.1 h.2 refl, tt)
 
-module _ (texts : List (List ℕ)) (question certificate : List ℕ) (logs : List log.Log) (asked : Asked)
-    (posed : Posed texts question logs asked) where
+module _ (texts : List (List ℕ)) (question certificate : List ℕ) (logs : List log.Log) (asked : QuestionCases)
+    (posed : QuestionFitsLogs texts question logs asked) where
   pub certificate_reason : (r : Reason) → IsCertificateRefusal certificate (length logs) (length asked.cases) r
-      → IsAuditAnswer texts question certificate (No r) × IsReportableReason r
+      → IsCheckAnswer texts question certificate (No r) × IsReportableReason r
   certificate_reason r (no_certificate f fault other e) =
       rw e (answer.no_certificate logs asked f posed fault refl, other)
   certificate_reason r (other_size c is other e) = rw e (answer.other_size logs asked c posed is other refl, tt)
@@ -128,7 +128,7 @@ module _ (texts : List (List ℕ)) (question certificate : List ℕ) (logs : Lis
   -- the sections are sound, or one of them is the first that isn't
   pub sections_judged : (c : Certificate) → IsCertText certificate c → c.nodes ≡ length logs
       → length c.sections ≡ length asked.cases → (r : Result (Unit {0}) Refusal)
-      → SectionsJudged logs asked.cases c.sections r → Judged r (IsAuditAnswer texts question certificate)
+      → SectionsJudged logs asked.cases c.sections r → Judged r (IsCheckAnswer texts question certificate)
   sections_judged c is size number (Ok done) h = answer.yes logs asked c posed is size h refl
   sections_judged c is size number (Err (refusal.No x)) h =
       rw h.2 (answer.unsound logs asked c h.0 h.1 posed is size number h.3 refl, tt)

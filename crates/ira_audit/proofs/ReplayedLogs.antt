@@ -10,7 +10,7 @@ use Rattle.ira_replay.specs.LocalRun.{IsLocalRun}
 use Rattle.ira_order.specs.Run.{AreLocalRuns}
 use Rattle.ira_audit.specs.declared.reason.Reason.{Reason}
 use Rattle.ira_audit.specs.declared.reason.Reason.TheVariants.{Replay}
-use Rattle.ira_audit.specs.LogsAnswer.{IsFirstStop}
+use Rattle.ira_audit.specs.RingAnswer.{IsFirstStop}
 use Rattle.ira_audit.specs.ReplayedLogs.{IsReplayed, AreReplayed}
 
 -- a member before the last one

@@ -5,14 +5,14 @@ use Rattle.ira_event.specs.Log.{Log}
 use Rattle.ira_order.specs.Circle.{HasOrder}
 use Rattle.std.proofs.lemmas.Bool.{cases_eq}
 use Rattle.ira_pred.specs.Case.{Conjunct}
-use Rattle.ira_pred.specs.Question.{Asked}
+use Rattle.ira_pred.specs.Question.{QuestionCases}
 use Rattle.ira_pred.proofs.EachText.{each_text}
 use Rattle.ira_cert_text.specs.Certificate.{Section}
 use Rattle.ira_cert_text.proofs.TextsAnswered.{each_answered}
 use Rattle.ira_cert.specs.declared.section_fault.SectionFault.{SectionFault}
 use Rattle.ira_cert.specs.declared.verdict.Verdict.{Verdict}
 use Rattle.ira_cert.specs.declared.verdict.Verdict.TheVariants as verdict
-use Rattle.ira_cert.specs.Asked.{HasDifferentPlaces, HasPlacesOf}
+use Rattle.ira_cert.specs.Conjuncts.{HasDifferentPlaces, HasPlacesOf}
 use Rattle.ira_cert.specs.SectionFault.{IsSectionFault}
 use Rattle.ira_cert.specs.SoundSection.{IsSoundSection}
 use Rattle.ira_cert.specs.Verdict.{IsVerdict}
@@ -21,9 +21,9 @@ use Rattle.ira_audit.specs.declared.reason.Reason.TheVariants as reason
 use Rattle.ira_audit.specs.declared.answer.Answer.{Answer}
 use Rattle.ira_audit.specs.declared.answer.Answer.TheVariants.{Yes, No}
 use Rattle.ira_audit.specs.GoodLogs.{AreGoodLogs}
-use Rattle.ira_audit.specs.Posed.{Posed, bad_logs, no_question, other_ring}
-use Rattle.ira_audit.specs.AuditAnswer.{AreSound, IsFirstUnsound, IsAuditAnswer, not_posed, no_certificate, other_size}
-use Rattle.ira_audit.specs.AuditAnswer.{other_number, unsound, yes}
+use Rattle.ira_audit.specs.QuestionFitsLogs.{QuestionFitsLogs, bad_logs, no_question, other_ring}
+use Rattle.ira_audit.specs.CheckAnswer.{AreSound, IsFirstUnsound, IsCheckAnswer, not_posed, no_certificate, other_size}
+use Rattle.ira_audit.specs.CheckAnswer.{other_number, unsound, yes}
 use Rattle.ira_audit.proofs.Places.{different_places, places_of_logs}
 use Rattle.ira_audit.proofs.SomeLogsAnswer.{bad_or_good}
 
@@ -83,9 +83,9 @@ sound_or_first logs (c ∷ cases) (s ∷ sections) order differ places many =
 
 module _ (texts : List (List ℕ)) (question certificate : List ℕ) where
   HasAnswer : Type 0
-  HasAnswer = (a : Answer) × IsAuditAnswer texts question certificate a
+  HasAnswer = (a : Answer) × IsCheckAnswer texts question certificate a
 
-  of_certificate : (logs : List Log) (asked : Asked) → Posed texts question logs asked → HasAnswer
+  of_certificate : (logs : List Log) (asked : QuestionCases) → QuestionFitsLogs texts question logs asked → HasAnswer
   unfolding HasAnswer
   of_certificate logs asked posed = elim (each_answered certificate) [
     | inr h ↦ (No (reason.Certificate h.0), no_certificate logs asked h.0 posed h.1 refl)
@@ -119,7 +119,7 @@ module _ (texts : List (List ℕ)) (question certificate : List ℕ) where
     ]
   ]
 
-  pub some_audit_answer : (a : Answer) × IsAuditAnswer texts question certificate a
+  pub some_audit_answer : (a : Answer) × IsCheckAnswer texts question certificate a
   unfolding HasAnswer
   some_audit_answer = elim (bad_or_good texts) [
     | inl bad ↦ (No bad.0, not_posed bad.0 (bad_logs bad.1) refl)

@@ -16,10 +16,10 @@ use Rattle.ira_audit.specs.declared.reason.Reason.{Reason}
 use Rattle.ira_audit.specs.declared.reason.Reason.TheVariants as reason
 use Rattle.ira_audit.specs.declared.answer.Answer.{Answer}
 use Rattle.ira_audit.specs.declared.answer.Answer.TheVariants.{Yes, No}
-use Rattle.ira_audit.specs.Answer as single
+use Rattle.ira_audit.specs.LogTextAnswer as single
 use Rattle.ira_audit.specs.GoodLogs.{AreGoodLogs}
 use Rattle.ira_audit.specs.LogTexts.{AreLogTexts, IsFirstTextFault}
-use Rattle.ira_audit.specs.LogsAnswer.{IsFirstStop, IsLogsAnswer, no_log, no_ring, unmatched, circled, stopped, yes}
+use Rattle.ira_audit.specs.RingAnswer.{IsFirstStop, IsRingAnswer, no_log, no_ring, unmatched, circled, stopped, yes}
 
 -- ---- texts are those of logs, or one is the first that isn't
 
@@ -69,7 +69,7 @@ runs_or_stop logs = elim (each_or_first logs (λ i log. IsLocalRun log) (λ i lo
 -- ---- the answer
 
 -- of one text
-pub some_answer : (text : List ℕ) → (a : Answer) × single.IsAnswer text a
+pub some_answer : (text : List ℕ) → (a : Answer) × single.IsLogTextAnswer text a
 some_answer text = elim (each_answered text) [
   | inr h ↦ (No (reason.Log 0 h.0), single.no_log h.0 h.1 refl)
   | inl log ↦ elim (run_or_stop log.0) [
@@ -82,7 +82,7 @@ some_answer text = elim (each_answered text) [
 ]
 
 -- there is a reason against the texts, or they are those of good logs
-pub bad_or_good : (texts : List (List ℕ)) → ((r : Reason) × IsLogsAnswer texts (No r))
+pub bad_or_good : (texts : List (List ℕ)) → ((r : Reason) × IsRingAnswer texts (No r))
     ⊎ ((logs : List Log) × AreGoodLogs texts logs)
 bad_or_good texts = elim (logs_or_fault texts) [
   | inr h ↦ inl (reason.Log h.0 h.1, no_log h.0 h.1 h.2 refl)
@@ -104,7 +104,7 @@ bad_or_good texts = elim (logs_or_fault texts) [
   ]
 ]
 
-pub some_logs_answer : (texts : List (List ℕ)) → (a : Answer) × IsLogsAnswer texts a
+pub some_logs_answer : (texts : List (List ℕ)) → (a : Answer) × IsRingAnswer texts a
 some_logs_answer texts = elim (bad_or_good texts) [
   | inl bad ↦ (No bad.0, bad.1)
   | inr good ↦ (Yes, yes good.0 good.1 refl)

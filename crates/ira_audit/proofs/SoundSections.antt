@@ -7,11 +7,11 @@ use Rattle.ira_pred.specs.Case.{Conjunct}
 use Rattle.ira_cert_text.specs.Certificate.{Section}
 use Rattle.ira_cert.specs.declared.section_fault.SectionFault.{SectionFault}
 use Rattle.ira_cert.specs.declared.verdict.Verdict.TheVariants as verdict
-use Rattle.ira_cert.specs.Asked.{HasDifferentPlaces}
+use Rattle.ira_cert.specs.Conjuncts.{HasDifferentPlaces}
 use Rattle.ira_cert.specs.SoundSection.{IsSoundSection}
 use Rattle.ira_cert.specs.SectionFault.{IsSectionFault}
 use Rattle.ira_cert.proofs.OneVerdict.{one_verdict}
-use Rattle.ira_audit.specs.AuditAnswer.{AreSound, IsFirstUnsound}
+use Rattle.ira_audit.specs.CheckAnswer.{AreSound, IsFirstUnsound}
 use Rattle.ira_audit.proofs.LogTexts.{taken, next_taken}
 use Rattle.ira_audit.proofs.Zipped.{zipped_at, zipped_more}
 

@@ -7,7 +7,7 @@ use Rattle.ira_audit.specs.declared.reason.Reason.TheVariants.{Log, Heads}
 use Rattle.ira_audit.specs.declared.answer.Answer.{Answer}
 use Rattle.ira_audit.specs.declared.answer.Answer.TheVariants.{Yes, No}
 use Rattle.ira_audit.specs.GoodLogs.{AreGoodLogs}
-use Rattle.ira_audit.specs.LogsAnswer.{IsLogsAnswer, no_log, no_ring, unmatched, circled, stopped, yes}
+use Rattle.ira_audit.specs.RingAnswer.{IsRingAnswer, no_log, no_ring, unmatched, circled, stopped, yes}
 use Rattle.ira_audit.specs.TextRuns.{AreTextsOfRuns, AreTextsWithoutRun, IsOfRing, NoMeansNoRun, YesMeansRuns}
 
 -- texts of good logs
@@ -21,7 +21,7 @@ good_runs texts logs good = record {
 }
 
 -- texts that are answered yes
-pub yes_runs : (texts : List (List ℕ)) (a : Answer) → IsLogsAnswer texts a → a ≡ Yes → AreTextsOfRuns texts
+pub yes_runs : (texts : List (List ℕ)) (a : Answer) → IsRingAnswer texts a → a ≡ Yes → AreTextsOfRuns texts
 yes_runs texts a (no_log n f h e) is = absurd cc
 yes_runs texts a (no_ring logs f t h e) is = absurd cc
 yes_runs texts a (unmatched logs f t ring h e) is = absurd cc
@@ -33,7 +33,7 @@ pub yes_means_runs : YesMeansRuns
 yes_means_runs texts h = yes_runs texts Yes h refl
 
 -- texts of a ring's logs that are answered no
-no_without_run : (texts : List (List ℕ)) (a : Answer) (r : Reason) → IsLogsAnswer texts a → a ≡ No r → IsOfRing r
+no_without_run : (texts : List (List ℕ)) (a : Answer) (r : Reason) → IsRingAnswer texts a → a ≡ No r → IsOfRing r
     → AreTextsWithoutRun texts
 no_without_run texts a r (no_log n f h e) is of = let same : r ≡ Log n f = cc in absurd (subst IsOfRing same of)
 no_without_run texts a r (no_ring logs f t h e) is of = let same : r ≡ Heads f = cc in absurd (subst IsOfRing same of)

@@ -13,21 +13,21 @@ use Rattle.ira_replay.specs.LocalRun.{IsLocalRun}
 use Rattle.ira_order.proofs.SameEvents.{HaveSameEvents, turned, match_fault, has_order, has_circle}
 use Rattle.ira_order.proofs.Upgraded.{same_events}
 use Rattle.ira_pred.specs.Case.{Conjunct}
-use Rattle.ira_pred.specs.Question.{Asked}
+use Rattle.ira_pred.specs.Question.{QuestionCases}
 use Rattle.ira_cert_text.specs.Certificate.{Section}
 use Rattle.ira_cert.specs.declared.section_fault.SectionFault.{SectionFault}
 use Rattle.ira_cert.proofs.Upgraded.{sound_section, section_fault}
 use Rattle.ira_audit.specs.declared.answer.Answer.{Answer}
 use Rattle.ira_audit.specs.declared.answer.Answer.TheVariants.{No}
 use Rattle.ira_audit.specs.declared.reason.Reason.{Reason}
-use Rattle.ira_audit.specs.Answer as single
+use Rattle.ira_audit.specs.LogTextAnswer as single
 use Rattle.ira_audit.specs.LogTexts.{AreLogTexts}
-use Rattle.ira_audit.specs.LogsAnswer.{IsLogsAnswer, IsFirstStop}
-use Rattle.ira_audit.specs.LogsAnswer as together
+use Rattle.ira_audit.specs.RingAnswer.{IsRingAnswer, IsFirstStop}
+use Rattle.ira_audit.specs.RingAnswer as together
 use Rattle.ira_audit.specs.GoodLogs.{AreGoodLogs}
-use Rattle.ira_audit.specs.Posed.{Posed, WhyNotPosed, bad_logs, no_question, other_ring}
-use Rattle.ira_audit.specs.AuditAnswer.{IsFirstUnsound, IsAuditAnswer, not_posed, no_certificate, other_size}
-use Rattle.ira_audit.specs.AuditAnswer.{other_number, unsound, yes}
+use Rattle.ira_audit.specs.QuestionFitsLogs.{QuestionFitsLogs, WhyNoQuestion, bad_logs, no_question, other_ring}
+use Rattle.ira_audit.specs.CheckAnswer.{IsFirstUnsound, IsCheckAnswer, not_posed, no_certificate, other_size}
+use Rattle.ira_audit.specs.CheckAnswer.{other_number, unsound, yes}
 use Rattle.ira_audit.specs.Upgrade.{IsUpgraded, AreUpgraded}
 use Rattle.ira_audit.proofs.LogTexts.{logs_or_fault}
 use Rattle.ira_audit.proofs.OneAnswer.{one_answer, one_logs_answer}
@@ -41,7 +41,7 @@ use Rattle.ira_audit.proofs.Zipped.{zipped_into}
 new_text : (text new : List ℕ) (log : Log) → IsUpgraded text new → IsLogText text log → IsLogText new (upgraded log)
 new_text text new log u is = subst (λ l. IsLogText new (upgraded l)) (one_log text u.log log u.text_is is) u.new_is
 
-answer_of_one : (text new : List ℕ) (a : Answer) → IsUpgraded text new → single.IsAnswer text a → single.IsAnswer new a
+answer_of_one : (text new : List ℕ) (a : Answer) → IsUpgraded text new → single.IsLogTextAnswer text a → single.IsLogTextAnswer new a
 answer_of_one text new a u (single.no_log f h e) = absurd (log_or_fault text u.log f u.text_is h)
 answer_of_one text new a u (single.stopped log f is stop e) =
     single.stopped (upgraded log) f (new_text text new log u is) stop e
@@ -130,7 +130,7 @@ module _ (texts news : List (List ℕ)) (u : AreUpgraded texts news) where
     };
   }
 
-  logs_answer : (a : Answer) → IsLogsAnswer texts a → IsLogsAnswer news a
+  logs_answer : (a : Answer) → IsRingAnswer texts a → IsRingAnswer news a
   logs_answer a (together.no_log number f h e) =
       let old = old_logs texts news u in
       absurd (logs_or_fault texts old.0 number f old.1 h)
@@ -151,22 +151,22 @@ module _ (texts news : List (List ℕ)) (u : AreUpgraded texts news) where
   -- ---- with a question and a certificate
 
   module _ (question : List ℕ) where
-    posed : (logs : List Log) (asked : Asked) → Posed texts question logs asked
-        → Posed news question (map upgraded logs) asked
+    posed : (logs : List Log) (asked : QuestionCases) → QuestionFitsLogs texts question logs asked
+        → QuestionFitsLogs news question (map upgraded logs) asked
     posed logs asked p = record {
       logs_are = good_logs logs p.logs_are;
       question_is = p.question_is;
       ring = p.ring ∙ sym (upgraded_count logs);
     }
 
-    why_not_posed : (r : Reason) → WhyNotPosed texts question r → WhyNotPosed news question r
+    why_not_posed : (r : Reason) → WhyNoQuestion texts question r → WhyNoQuestion news question r
     why_not_posed r (bad_logs h) = bad_logs (logs_answer (No r) h)
     why_not_posed r (no_question logs f good h e) = no_question (map upgraded logs) f (good_logs logs good) h e
     why_not_posed r (other_ring logs asked good is other e) =
         other_ring (map upgraded logs) asked (good_logs logs good) is (λ n. other (n ∙ upgraded_count logs)) e
 
-    audit_answer : (certificate : List ℕ) (a : Answer) → IsAuditAnswer texts question certificate a
-        → IsAuditAnswer news question certificate a
+    audit_answer : (certificate : List ℕ) (a : Answer) → IsCheckAnswer texts question certificate a
+        → IsCheckAnswer news question certificate a
     audit_answer certificate a (not_posed r h e) = not_posed r (why_not_posed r h) e
     audit_answer certificate a (no_certificate logs asked f p h e) =
         no_certificate (map upgraded logs) asked f (posed logs asked p) h e
@@ -185,29 +185,29 @@ module _ (texts news : List (List ℕ)) (u : AreUpgraded texts news) where
 -- ---- and back: the new texts have one answer, that of the old ones
 
 pub same_answer_of_one : (text new : List ℕ) (a : Answer) → IsUpgraded text new
-    → single.IsAnswer new a ↔ single.IsAnswer text a
+    → single.IsLogTextAnswer new a ↔ single.IsLogTextAnswer text a
 same_answer_of_one text new a u = (
   λ h.
       let old = some_answer text in
-      subst (λ b. single.IsAnswer text b) (one_answer new old.0 a (answer_of_one text new old.0 u old.1) h) old.1,
+      subst (λ b. single.IsLogTextAnswer text b) (one_answer new old.0 a (answer_of_one text new old.0 u old.1) h) old.1,
   answer_of_one text new a u,
 )
 
 pub same_logs_answer : (texts news : List (List ℕ)) (a : Answer) → AreUpgraded texts news
-    → IsLogsAnswer news a ↔ IsLogsAnswer texts a
+    → IsRingAnswer news a ↔ IsRingAnswer texts a
 same_logs_answer texts news a u = (
   λ h.
       let old = some_logs_answer texts in
-      subst (λ b. IsLogsAnswer texts b) (one_logs_answer news old.0 a (logs_answer texts news u old.0 old.1) h) old.1,
+      subst (λ b. IsRingAnswer texts b) (one_logs_answer news old.0 a (logs_answer texts news u old.0 old.1) h) old.1,
   logs_answer texts news u a,
 )
 
 pub same_audit_answer : (texts news : List (List ℕ)) (question certificate : List ℕ) (a : Answer)
-    → AreUpgraded texts news → IsAuditAnswer news question certificate a ↔ IsAuditAnswer texts question certificate a
+    → AreUpgraded texts news → IsCheckAnswer news question certificate a ↔ IsCheckAnswer texts question certificate a
 same_audit_answer texts news question certificate a u = (
   λ h.
       let old = some_audit_answer texts question certificate in
-      subst (λ b. IsAuditAnswer texts question certificate b)
+      subst (λ b. IsCheckAnswer texts question certificate b)
       (one_audit_answer news question certificate old.0 a
       (audit_answer texts news u question certificate old.0 old.1) h) old.1,
   audit_answer texts news u question certificate a,

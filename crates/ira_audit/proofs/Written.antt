@@ -25,7 +25,7 @@ use Rattle.ira_audit.specs.Findings.{HasPresent}
 use Rattle.ira_audit.specs.FindingsText.{absent_words, case_line, found_words}
 use Rattle.ira_audit.specs.WrittenFindings.{AreDrafted, AreOfCases, AreWritten, AreWrittenFindings, IsAdded}
 use Rattle.ira_audit.specs.WrittenFindings.{IsCertifying, IsCounted, Written}
-use Rattle.ira_audit.specs.Posed.{WhyNotPosed}
+use Rattle.ira_audit.specs.QuestionFitsLogs.{WhyNoQuestion}
 use Rattle.ira_audit.specs.declared.reason.Reason.{Reason}
 use Rattle.ira_audit.specs.declared.findings.Findings.{Findings}
 use Rattle.ira_audit.specs.declared.findings.Findings.TheVariants.{Refused, Cases}
@@ -204,7 +204,7 @@ match_map f (Some x) P Q h = h
 
 -- the line of a reason
 pub refused_written : (A : Type 0) (texts : List (List ℕ)) (question : List ℕ) (certify : Bool) (reason : Reason)
-    (r : Result Written OutOfMemory) → WhyNotPosed texts question reason
+    (r : Result Written OutOfMemory) → WhyNoQuestion texts question reason
     → IfOk r (AreWritten {A = A} certify (Refused reason)) → IfOk r (AreWrittenFindings A texts question certify)
 refused_written A texts question certify reason (Ok w) why h = (Refused reason, why, h)
 refused_written A texts question certify reason (Err e) why h = tt

@@ -3,22 +3,22 @@
 use Rattle.std.specs.Prelude.{◌≡◌, ℕ, Bool, true, false, List, Contains, length, map, ⊤}
 use Rattle.std.specs.List.{AllZip}
 use Rattle.ira_event.specs.Log.{Log}
-use Rattle.ira_pred.specs.Question.{Asked}
+use Rattle.ira_pred.specs.Question.{QuestionCases}
 use Rattle.ira_cert_text.specs.Certificate.{Certificate}
 use Rattle.ira_elim.specs.declared.found.Found.{Found}
 use Rattle.ira_elim.specs.declared.found.Found.TheVariants.{Absent, Present}
 use Rattle.ira_elim.specs.Found.{IsFound}
 use Rattle.ira_audit.specs.declared.findings.Findings.{Findings}
 use Rattle.ira_audit.specs.declared.findings.Findings.TheVariants.{Refused, Cases}
-use Rattle.ira_audit.specs.Posed.{Posed, WhyNotPosed}
+use Rattle.ira_audit.specs.QuestionFitsLogs.{QuestionFitsLogs, WhyNoQuestion}
 use Rattle.ira_audit.specs.Report.{IsReportableReason}
 
 -- the findings of the texts: why the question isn't posed, or the ring's size and what is found for each
 -- case, in order
 abbrev pub AreFindings : {A : Type 0} → List (List ℕ) → List ℕ → Findings A → Type 0
-AreFindings texts question (Refused r) = WhyNotPosed texts question r
+AreFindings texts question (Refused r) = WhyNoQuestion texts question r
 AreFindings texts question (Cases nodes found) =
-    (logs : List Log) × (asked : Asked) × Posed texts question logs asked × (nodes ≡ length logs)
+    (logs : List Log) × (asked : QuestionCases) × QuestionFitsLogs texts question logs asked × (nodes ≡ length logs)
     × AllZip (IsFound logs) asked.cases found.items
 
 -- their certificate: each case is absent, and these are the sections that were found, in order

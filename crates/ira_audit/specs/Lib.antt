@@ -1,13 +1,13 @@
-pub mod Answer
-pub mod AuditAnswer
+pub mod LogTextAnswer
+pub mod CheckAnswer
 pub mod Findings
 pub mod FindingsText
 pub mod GoodLogs
 pub mod LogAudit
 pub mod LogTexts
-pub mod LogsAnswer
+pub mod RingAnswer
 pub mod Never
-pub mod Posed
+pub mod QuestionFitsLogs
 pub mod Refusal
 pub mod ReplayedLogs
 pub mod Replaying

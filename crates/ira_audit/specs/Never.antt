@@ -4,7 +4,7 @@ use Rattle.ira_event.specs.Log.{Log}
 use Rattle.ira_event.specs.Logs.{AreLogs}
 use Rattle.ira_pred.specs.Formula.{leader}
 use Rattle.ira_pred.specs.Case.{Conjunct}
-use Rattle.ira_pred.specs.Question.{Asked}
+use Rattle.ira_pred.specs.Question.{QuestionCases}
 use Rattle.ira_pred.specs.QuestionText.{IsQuestionText}
 use Rattle.ira_pred.specs.Pairs.{pairs_asked}
 use Rattle.ira_order.specs.Circle.{HasOrder}
@@ -17,8 +17,8 @@ use Rattle.ira_cert_text.specs.Certificate.{Certificate}
 use Rattle.ira_cert_text.specs.CertText.{IsCertText}
 use Rattle.ira_audit.specs.declared.answer.Answer.TheVariants.{Yes}
 use Rattle.ira_audit.specs.LogTexts.{AreLogTexts}
-use Rattle.ira_audit.specs.AuditAnswer.{AreSound, IsAuditAnswer}
-use Rattle.ira_audit.specs.LogsAnswer.{IsLogsAnswer}
+use Rattle.ira_audit.specs.CheckAnswer.{AreSound, IsCheckAnswer}
+use Rattle.ira_audit.specs.RingAnswer.{IsRingAnswer}
 
 -- no consistent cut of the logs meets any of the cases
 abbrev pub NoCutMeetsAny : List Log → List (List Conjunct) → Type 0
@@ -35,7 +35,7 @@ pub record NoCaseIsMet (texts : List (List ℕ)) (question certificate : List �
   pub ring : AreLogs logs
   pub order : HasOrder logs
   pub runs : EveryOrderIsRun logs
-  pub asked : Asked
+  pub asked : QuestionCases
   pub question_is : IsQuestionText question asked
   pub asked_of_ring : asked.nodes ≡ length logs
   pub certified : Certificate
@@ -47,7 +47,7 @@ pub record NoCaseIsMet (texts : List (List ℕ)) (question certificate : List �
 -- after a yes with a question and a certificate this holds
 abbrev pub YesMeansNoCaseIsMet : Type 0
 YesMeansNoCaseIsMet =
-    (texts : List (List ℕ)) (question certificate : List ℕ) → IsAuditAnswer texts question certificate Yes
+    (texts : List (List ℕ)) (question certificate : List ℕ) → IsCheckAnswer texts question certificate Yes
     → NoCaseIsMet texts question certificate
 
 -- the cut says how many events each node has made after t places of the order
@@ -59,8 +59,8 @@ pub record IsMoment (logs : List Log) (order : List ℕ) (t : ℕ) (cut : List �
 -- after a yes no order of the logs meets an asked case at any of its moments
 abbrev pub NoMomentMeetsAny : Type 0
 NoMomentMeetsAny =
-    (texts : List (List ℕ)) (question certificate : List ℕ) (logs : List Log) (asked : Asked)
-    → IsAuditAnswer texts question certificate Yes → AreLogTexts texts logs → IsQuestionText question asked
+    (texts : List (List ℕ)) (question certificate : List ℕ) (logs : List Log) (asked : QuestionCases)
+    → IsCheckAnswer texts question certificate Yes → AreLogTexts texts logs → IsQuestionText question asked
     → (order cut : List ℕ) (t : ℕ) (case : List Conjunct) → IsOrder logs order → IsMoment logs order t cut
     → Contains asked.cases case → ¬ (Meets logs case cut)
 
@@ -71,17 +71,17 @@ Leads logs cut i = (log : Log) × (slice_get logs i ≡ Some log) × HoldsAt log
 -- after a yes no consistent cut has two nodes that lead
 abbrev pub NeverTwoLeaders : Type 0
 NeverTwoLeaders =
-    (texts : List (List ℕ)) (logs : List Log) → IsLogsAnswer texts Yes → AreLogTexts texts logs
+    (texts : List (List ℕ)) (logs : List Log) → IsRingAnswer texts Yes → AreLogTexts texts logs
     → (cut : List ℕ) (i j : ℕ) → IsConsistentCut logs cut → i ≢ j → Leads logs cut i → ¬ (Leads logs cut j)
 
 -- so none meets a case of the question of all pairs
 abbrev pub NoCutMeetsAPair : Type 0
 NoCutMeetsAPair =
-    (texts : List (List ℕ)) (logs : List Log) → IsLogsAnswer texts Yes → AreLogTexts texts logs
+    (texts : List (List ℕ)) (logs : List Log) → IsRingAnswer texts Yes → AreLogTexts texts logs
     → NoCutMeetsAny logs (pairs_asked (length logs)).cases
 
 -- where there is a yes with a question and a certificate, there is one without
 abbrev pub YesWithoutQuestion : Type 0
 YesWithoutQuestion =
-    (texts : List (List ℕ)) (question certificate : List ℕ) → IsAuditAnswer texts question certificate Yes
-    → IsLogsAnswer texts Yes
+    (texts : List (List ℕ)) (question certificate : List ℕ) → IsCheckAnswer texts question certificate Yes
+    → IsRingAnswer texts Yes

@@ -5,7 +5,7 @@ use Rattle.ira_order.specs.declared.order_fault.OrderFault.{OrderFault}
 use Rattle.ira_order.specs.declared.order_fault.OrderFault.TheVariants as order
 use Rattle.ira_pred.specs.declared.ask_fault.AskFault.{AskFault}
 use Rattle.ira_pred.specs.declared.ask_fault.AskFault.TheVariants as ask
-use Rattle.ira_pred.specs.Question.{Asked}
+use Rattle.ira_pred.specs.Question.{QuestionCases}
 use Rattle.ira_pred.specs.QuestionText.{IsQuestionText}
 use Rattle.ira_pred.specs.QuestionTextFault.{QuestionTextFault}
 use Rattle.ira_cert_text.specs.declared.cert_fault.CertFault.{CertFault}
@@ -22,8 +22,8 @@ use Rattle.ira_audit.specs.declared.answer.Answer.{Answer}
 use Rattle.ira_audit.specs.declared.answer.Answer.TheVariants as answer
 use Rattle.ira_audit.specs.declared.findings.Findings.{Findings}
 use Rattle.ira_audit.specs.declared.findings.Findings.TheVariants.{Refused}
-use Rattle.ira_audit.specs.LogsAnswer.{IsLogsAnswer}
-use Rattle.ira_audit.specs.Posed.{WhyNotPosed}
+use Rattle.ira_audit.specs.RingAnswer.{IsRingAnswer}
+use Rattle.ira_audit.specs.QuestionFitsLogs.{WhyNoQuestion}
 use Rattle.ira_audit.specs.Report.{IsReportableReason}
 
 -- the refusal where no order was given
@@ -69,7 +69,7 @@ MatchRefusal (Err OutOfMemory) P Q = ⊤
 
 -- the reason is the answer of the texts of logs, and doesn't say that memory ran out
 abbrev pub IsLogsReason : List (List ℕ) → Reason → Type 0
-IsLogsReason texts r = IsLogsAnswer texts (answer.No r) × IsReportableReason r
+IsLogsReason texts r = IsRingAnswer texts (answer.No r) × IsReportableReason r
 
 -- the reason is one of a text or of heads, which are looked for before any event is
 abbrev pub IsTextOrHeadsReason : Reason → Type 0
@@ -79,17 +79,17 @@ IsTextOrHeadsReason _ = ⊥
 
 -- the reason is the answer of texts that aren't those of the logs of one ring, and doesn't say that memory ran out
 abbrev pub IsRingReason : List (List ℕ) → Reason → Type 0
-IsRingReason texts r = IsLogsAnswer texts (answer.No r) × IsTextOrHeadsReason r × IsReportableReason r
+IsRingReason texts r = IsRingAnswer texts (answer.No r) × IsTextOrHeadsReason r × IsReportableReason r
 
 -- the reason is why the question isn't posed, and doesn't say that memory ran out
 abbrev pub IsFindingsReason : List (List ℕ) → List ℕ → Reason → Type 0
-IsFindingsReason texts question r = WhyNotPosed texts question r × IsReportableReason r
+IsFindingsReason texts question r = WhyNoQuestion texts question r × IsReportableReason r
 
 -- why the text isn't that of a question asked of a ring of so many nodes
 abbrev pub IsQuestionRefusal : List ℕ → ℕ → Reason → Type 0
 IsQuestionRefusal text nodes r =
     ((f : AskFault) × QuestionTextFault text f × (f ≢ ask.OutOfMemory) × (r ≡ Question f))
-    ⊎ ((asked : Asked) × IsQuestionText text asked × (asked.nodes ≢ nodes) × (r ≡ QuestionSize))
+    ⊎ ((asked : QuestionCases) × IsQuestionText text asked × (asked.nodes ≢ nodes) × (r ≡ QuestionSize))
 
 -- why the text isn't that of a certificate for a ring of so many nodes and so many cases
 pub data IsCertificateRefusal (text : List ℕ) (nodes cases : ℕ) (r : Reason) : Type 0 where

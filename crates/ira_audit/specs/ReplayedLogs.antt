@@ -10,7 +10,7 @@ use Rattle.ira_order.specs.MatchFault.{IsMatchFault}
 use Rattle.ira_order.specs.Run.{AreLocalRuns}
 use Rattle.ira_audit.specs.declared.reason.Reason.{Reason}
 use Rattle.ira_audit.specs.declared.reason.Reason.TheVariants.{Replay}
-use Rattle.ira_audit.specs.LogsAnswer.{IsFirstStop}
+use Rattle.ira_audit.specs.RingAnswer.{IsFirstStop}
 
 -- the log is a local run, or this is the reason of its first event without a step
 abbrev pub IsReplayed : Log → Result (Unit {0}) Reason → Type 0

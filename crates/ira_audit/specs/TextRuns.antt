@@ -8,7 +8,7 @@ use Rattle.ira_audit.specs.declared.reason.Reason.{Reason}
 use Rattle.ira_audit.specs.declared.reason.Reason.TheVariants.{Match, Circle, Replay}
 use Rattle.ira_audit.specs.declared.answer.Answer.TheVariants.{Yes, No}
 use Rattle.ira_audit.specs.LogTexts.{AreLogTexts}
-use Rattle.ira_audit.specs.LogsAnswer.{IsLogsAnswer}
+use Rattle.ira_audit.specs.RingAnswer.{IsRingAnswer}
 
 -- they are texts of a ring's logs, which have an order, and each order of them is a run of the ring
 pub record AreTextsOfRuns (texts : List (List ℕ)) : Type 0 where
@@ -34,8 +34,8 @@ IsOfRing _ = ⊥
 
 -- after a yes the texts are those of runs
 abbrev pub YesMeansRuns : Type 0
-YesMeansRuns = (texts : List (List ℕ)) → IsLogsAnswer texts Yes → AreTextsOfRuns texts
+YesMeansRuns = (texts : List (List ℕ)) → IsRingAnswer texts Yes → AreTextsOfRuns texts
 
 -- after such a reason they are those of no run
 abbrev pub NoMeansNoRun : Type 0
-NoMeansNoRun = (texts : List (List ℕ)) (r : Reason) → IsLogsAnswer texts (No r) → IsOfRing r → AreTextsWithoutRun texts
+NoMeansNoRun = (texts : List (List ℕ)) (r : Reason) → IsRingAnswer texts (No r) → IsOfRing r → AreTextsWithoutRun texts

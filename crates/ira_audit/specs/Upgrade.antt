@@ -5,9 +5,9 @@ use Rattle.ira_event.specs.Log.{Log}
 use Rattle.ira_event.specs.LogText.{IsLogText}
 use Rattle.ira_event.specs.Upgrade.{upgraded}
 use Rattle.ira_audit.specs.declared.answer.Answer.{Answer}
-use Rattle.ira_audit.specs.Answer.{IsAnswer}
-use Rattle.ira_audit.specs.LogsAnswer.{IsLogsAnswer}
-use Rattle.ira_audit.specs.AuditAnswer.{IsAuditAnswer}
+use Rattle.ira_audit.specs.LogTextAnswer.{IsLogTextAnswer}
+use Rattle.ira_audit.specs.RingAnswer.{IsRingAnswer}
+use Rattle.ira_audit.specs.CheckAnswer.{IsCheckAnswer}
 
 -- the one text is that of a log of version 1, and the other that of the log upgraded
 pub record IsUpgraded (text new : List ℕ) : Type 0 where
@@ -28,16 +28,16 @@ TextsAreUpgraded = (text : List ℕ) (log : Log) → IsLogText text log → log.
 -- the text of one log has the same answer when it is upgraded
 abbrev pub UpgradesKeepAnswer : Type 0
 UpgradesKeepAnswer = (text new : List ℕ) (answer : Answer) → IsUpgraded text new
-    → IsAnswer new answer ↔ IsAnswer text answer
+    → IsLogTextAnswer new answer ↔ IsLogTextAnswer text answer
 
 -- the texts of several logs have the same answer when they are upgraded
 abbrev pub UpgradesKeepLogsAnswer : Type 0
 UpgradesKeepLogsAnswer =
     (texts new : List (List ℕ)) (answer : Answer) → AreUpgraded texts new
-    → IsLogsAnswer new answer ↔ IsLogsAnswer texts answer
+    → IsRingAnswer new answer ↔ IsRingAnswer texts answer
 
 -- and with the same question and certificate
 abbrev pub UpgradesKeepAuditAnswer : Type 0
 UpgradesKeepAuditAnswer =
     (texts new : List (List ℕ)) (question certificate : List ℕ) (answer : Answer) → AreUpgraded texts new
-    → IsAuditAnswer new question certificate answer ↔ IsAuditAnswer texts question certificate answer
+    → IsCheckAnswer new question certificate answer ↔ IsCheckAnswer texts question certificate answer

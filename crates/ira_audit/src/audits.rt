@@ -1,11 +1,11 @@
 ghost use Rattle.std.specs.Prelude.{◌≡◌, ◌↔◌, ◌≤◌, ℕ, List, Ok, IfOk, IsOk, map};
 ghost use Rattle.ira_event.specs.Result.{UnlessErr};
-ghost use Rattle.ira_audit.specs.Answer.{IsAnswer};
-ghost use Rattle.ira_audit.specs.AuditAnswer.{IsAuditAnswer};
+ghost use Rattle.ira_audit.specs.LogTextAnswer.{IsLogTextAnswer};
+ghost use Rattle.ira_audit.specs.CheckAnswer.{IsCheckAnswer};
 ghost use Rattle.ira_audit.specs.Findings.{AreFindings, AreReportable};
-ghost use Rattle.ira_audit.specs.LogsAnswer.{IsLogsAnswer};
+ghost use Rattle.ira_audit.specs.RingAnswer.{IsRingAnswer};
 ghost use Rattle.ira_audit.specs.Never.{NoCaseIsMet};
-ghost use Rattle.ira_audit.specs.Posed.{WhyNotPosed};
+ghost use Rattle.ira_audit.specs.QuestionFitsLogs.{WhyNoQuestion};
 ghost use Rattle.ira_audit.specs.Report.{IsReportable};
 ghost use Rattle.ira_audit.specs.TextRuns.{AreTextsOfRuns, AreTextsWithoutRun, IsOfRing};
 ghost use Rattle.ira_audit.specs.declared.answer.Answer.{Answer};
@@ -26,7 +26,7 @@ use std::time::Clock;
 /// Judges the text of one log alone: whether it is a log's, and then whether each event has a step.
 /// It takes no memory, since each event has its step as it is read, and so it always answers.
 pub fn audit_one<A: Allocator>(_alloc: A, text: &[u8]) -> Result<Answer, OutOfMemory>
-    ensures answer { (a : Answer) → (result ≡ Ok a) ↔ IsAnswer text.now a }
+    ensures answer { (a : Answer) → (result ≡ Ok a) ↔ IsLogTextAnswer text.now a }
     ensures answered { IsOk result }
     ensures reportable { IfOk result IsReportable }
 {
@@ -44,7 +44,7 @@ pub fn audit_one<A: Allocator>(_alloc: A, text: &[u8]) -> Result<Answer, OutOfMe
 /// Beside the logs themselves it takes memory for one order of their events.
 pub fn audit_logs<A: Allocator + Clone>(alloc: A, texts: &[&[u8]]) -> Result<Answer, OutOfMemory>
     ensures answer { (a : Answer)
-        → UnlessErr result (record {}) ((result ≡ Ok a) ↔ IsLogsAnswer (map (λ text. text.now) texts.now) a) }
+        → UnlessErr result (record {}) ((result ≡ Ok a) ↔ IsRingAnswer (map (λ text. text.now) texts.now) a) }
     ensures reportable { IfOk result IsReportable }
     ensures runs { result ≡ Ok Answer.Yes → AreTextsOfRuns (map (λ text. text.now) texts.now) }
     ensures no_run { (r : Reason) → IsOfRing r → result ≡ Ok (Answer.No r)
@@ -85,13 +85,13 @@ where
     requires { depth ≤ 4 }
     ensures answer { (a : Answer)
         → UnlessErr result (record {})
-        ((result ≡ Ok a) ↔ IsAuditAnswer (map (λ text. text.now) texts.now) question.now certificate.now a) }
+        ((result ≡ Ok a) ↔ IsCheckAnswer (map (λ text. text.now) texts.now) question.now certificate.now a) }
     ensures reportable { IfOk result IsReportable }
     // the headline
     ensures yes { result ≡ Ok Answer.Yes
         → NoCaseIsMet (map (λ text. text.now) texts.now) question.now certificate.now }
 {
-    RingAudit::of_texts(alloc, texts)?.finish_with(rt, question, certificate, depth, gate)
+    RingAudit::of_texts(alloc, texts)?.finish_check(rt, question, certificate, depth, gate)
 }
 
 /// Finds, for each case of a question about the logs of a ring, whether a consistent cut of them meets it: a
@@ -108,7 +108,7 @@ pub fn decide_all<A: Allocator + Clone>(
 ) -> Result<Findings<A>, OutOfMemory>
     ensures refused { (r : Reason)
         → UnlessErr result (record {})
-        ((result ≡ Ok (Findings.Refused r)) ↔ WhyNotPosed (map (λ text. text.now) texts.now) question.now r) }
+        ((result ≡ Ok (Findings.Refused r)) ↔ WhyNoQuestion (map (λ text. text.now) texts.now) question.now r) }
     ensures found { IfOk result (AreFindings (map (λ text. text.now) texts.now) question.now) }
     ensures reportable { IfOk result AreReportable }
 {

@@ -4,7 +4,7 @@ ghost use Rattle.ira_event.specs.Result.{UnlessErr};
 ghost use Rattle.ira_cert_text.specs.Certificate as certificate;
 ghost use Rattle.ira_cert_text.specs.CertText.{IsCertText};
 ghost use Rattle.ira_elim.specs.declared.found.Found.TheVariants.{Absent};
-ghost use Rattle.ira_audit.specs.AuditAnswer.{IsAuditAnswer};
+ghost use Rattle.ira_audit.specs.CheckAnswer.{IsCheckAnswer};
 ghost use Rattle.ira_audit.specs.Findings.{AreFindings, HasPresent, IsCertificateOf, MakeNoCertificate, is_present};
 ghost use Rattle.ira_audit.specs.declared.answer.Answer.{Answer};
 
@@ -46,7 +46,7 @@ impl<A: Allocator + Clone> Findings<A> {
         ensures none { (result ≡ Ok None) ↔ MakeNoCertificate self }
         ensures accepted { (texts : List (List ℕ)) (question text : List ℕ) (c : certificate.Certificate)
             → AreFindings texts question self → result ≡ Ok (Some c) → IsCertText text c
-            → IsAuditAnswer texts question text Answer.Yes }
+            → IsCheckAnswer texts question text Answer.Yes }
     {
         match self {
             Findings::Refused(_) => Ok(None),

@@ -1,5 +1,5 @@
 ghost use Rattle.std.specs.Prelude.{◌≡◌, ◌++◌, ◌∷◌, [], ℕ, Bool, List, Option, Some, None, IfOk, length};
-ghost use Rattle.ira_cert.specs.Asked.{HasPlacesOf};
+ghost use Rattle.ira_cert.specs.Conjuncts.{HasPlacesOf};
 ghost use Rattle.ira_cert_text.specs.declared.cert_draft.CertDraft.{CertDraft};
 ghost use Rattle.ira_elim.specs.Found.{IsFound};
 ghost use Rattle.ira_elim.specs.declared.found.Found.{Found};

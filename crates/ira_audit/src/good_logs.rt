@@ -4,10 +4,10 @@ ghost use Rattle.ira_event.specs.Logs.{AreLogs};
 ghost use Rattle.ira_pred.specs.Case.{Conjunct};
 ghost use Rattle.ira_pred.specs.QuestionText.{IsQuestionText};
 ghost use Rattle.ira_cert_text.specs.CertText.{IsCertText};
-ghost use Rattle.ira_cert.specs.Asked.{HasPlacesOf};
+ghost use Rattle.ira_cert.specs.Conjuncts.{HasPlacesOf};
 ghost use Rattle.ira_elim.specs.Found.{IsFound};
 ghost use Rattle.ira_elim.specs.declared.found.Found.{Found};
-ghost use Rattle.ira_audit.specs.AuditAnswer.{IsAuditAnswer};
+ghost use Rattle.ira_audit.specs.CheckAnswer.{IsCheckAnswer};
 ghost use Rattle.ira_audit.specs.Findings.{AreFindings, AreReportable};
 ghost use Rattle.ira_audit.specs.GoodLogs.{AreGood, AreGoodLogs};
 ghost use Rattle.ira_audit.specs.LogTexts.{AreLogTexts};
@@ -96,7 +96,7 @@ impl<A: Allocator + Clone> GoodLogs<A> {
         A: Send + Sync,
         requires { depth ≤ 4 }
         ensures { (texts : List (List ℕ)) → AreLogTexts texts self.now
-            → Judged result (IsAuditAnswer texts question.now certificate.now) }
+            → Judged result (IsCheckAnswer texts question.now certificate.now) }
     {
         let question = self.read_posed(question)?;
         let cases = question.cases();

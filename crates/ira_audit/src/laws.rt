@@ -1,6 +1,6 @@
-ghost use Rattle.ira_audit.specs.Answer.{EachTextHasAnAnswer, NoTextHasTwoAnswers};
-ghost use Rattle.ira_audit.specs.AuditAnswer.{AnyTextsHaveAnAuditAnswer, NoTextsHaveTwoAuditAnswers};
-ghost use Rattle.ira_audit.specs.LogsAnswer.{AnyTextsHaveAnAnswer, NoTextsHaveTwoAnswers};
+ghost use Rattle.ira_audit.specs.LogTextAnswer.{EachTextHasAnAnswer, NoTextHasTwoAnswers};
+ghost use Rattle.ira_audit.specs.CheckAnswer.{AnyTextsHaveAnAuditAnswer, NoTextsHaveTwoAuditAnswers};
+ghost use Rattle.ira_audit.specs.RingAnswer.{AnyTextsHaveAnAnswer, NoTextsHaveTwoAnswers};
 ghost use Rattle.ira_audit.specs.Never.{NoMomentMeetsAny, NeverTwoLeaders, NoCutMeetsAPair, YesMeansNoCaseIsMet, YesWithoutQuestion};
 ghost use Rattle.ira_audit.specs.TextRuns.{YesMeansRuns, NoMeansNoRun};
 ghost use Rattle.ira_audit.specs.Upgrade.{TextsAreUpgraded, UpgradesKeepAnswer, UpgradesKeepLogsAnswer, UpgradesKeepAuditAnswer};

@@ -2,15 +2,15 @@ ghost use Rattle.std.specs.Prelude.{◌≡◌, ◌↔◌, ◌++◌, ◌+◌, ◌
 ghost use Rattle.ira_event.specs.Log.{Log};
 ghost use Rattle.ira_event.specs.LogText.{IsLogText};
 ghost use Rattle.ira_event.specs.LogTextFault.{LogTextFault};
-ghost use Rattle.ira_audit.specs.Answer.{IsAnswer};
+ghost use Rattle.ira_audit.specs.LogTextAnswer.{IsLogTextAnswer};
 ghost use Rattle.ira_audit.specs.LogAudit.{HasTakenBytes, HasNoMore, IsBegun, IsSuffix};
 ghost use Rattle.ira_audit.specs.Replaying.{IsLogAnswer};
 ghost use Rattle.ira_audit.specs.Report.{IsReportable};
 ghost use Rattle.ira_audit.specs.declared.answer.Answer.{Answer};
 
 use crate::answer::Answer;
+use crate::partial_replay::PartialReplay;
 use crate::reason::Reason;
-use crate::replay_so_far::ReplaySoFar;
 use ira_event::{LogFault, MAX_TEXT, Records, open_log};
 use std::marker::Model;
 
@@ -21,7 +21,7 @@ pub struct LogAudit {
     /// How many bytes were taken.
     taken: usize,
     /// What they came to; none are taken before the whole head.
-    replay: Option<ReplaySoFar>,
+    replay: Option<PartialReplay>,
 }
 
 impl Model for LogAudit {
@@ -81,7 +81,7 @@ impl LogAudit {
     /// The answer of the text, which goes on like this to its end after what was taken.
     pub fn finish(self, rest: &[u8]) -> Answer
         ensures answer { (text : List ℕ) (a : Answer) → HasTakenBytes self text
-            → (result ≡ a) ↔ IsAnswer (text ++ rest.now) a }
+            → (result ≡ a) ↔ IsLogTextAnswer (text ++ rest.now) a }
         ensures reportable { (text : List ℕ) → HasTakenBytes self text → IsReportable result }
     {
         match self.judge(rest) {
@@ -104,7 +104,7 @@ impl LogAudit {
 
     /// What the bytes that were taken came to, and the records that the text goes on with; or the text's fault, where it is
     /// too long or has no head.
-    fn open<'a>(&self, rest: &'a [u8]) -> Result<(ReplaySoFar, Records<'a>), LogFault>
+    fn open<'a>(&self, rest: &'a [u8]) -> Result<(PartialReplay, Records<'a>), LogFault>
         ensures count { IfOk result (λ p. p.1.count ≡ p.0.count) }
         ensures version { IfOk result (λ p. p.1.version ≡ p.0.head.version) }
         ensures short { IfOk result (λ _. self.now.taken + length rest.now ≤ MAX_TEXT) }
@@ -119,7 +119,7 @@ impl LogAudit {
         }
         let Some(replay) = self.replay else {
             let (head, records) = open_log(rest)?;
-            return Ok((ReplaySoFar::first(head), records));
+            return Ok((PartialReplay::first(head), records));
         };
         Ok(replay.with(rest))
     }

@@ -2,13 +2,13 @@ ghost use Rattle.std.specs.Prelude.{◌≡◌, ◌↔◌, ◌++◌, ◌∷◌, �
 ghost use Rattle.ira_event.specs.Log.{Log};
 ghost use Rattle.ira_event.specs.Logs.{AreLogs};
 ghost use Rattle.ira_event.specs.Result.{UnlessErr};
-ghost use Rattle.ira_audit.specs.AuditAnswer.{IsAuditAnswer};
+ghost use Rattle.ira_audit.specs.CheckAnswer.{IsCheckAnswer};
 ghost use Rattle.ira_audit.specs.Findings.{AreFindings, AreReportable};
 ghost use Rattle.ira_audit.specs.GoodLogs.{AreGoodLogs};
-ghost use Rattle.ira_audit.specs.LogsAnswer.{IsLogsAnswer};
+ghost use Rattle.ira_audit.specs.RingAnswer.{IsRingAnswer};
 ghost use Rattle.ira_audit.specs.Never.{NoCaseIsMet};
 ghost use Rattle.ira_audit.specs.LogTexts.{AreLogTexts};
-ghost use Rattle.ira_audit.specs.Posed.{WhyNotPosed};
+ghost use Rattle.ira_audit.specs.QuestionFitsLogs.{WhyNoQuestion};
 ghost use Rattle.ira_audit.specs.Refusal.{Judged, MatchRefusal, IsFindingsReason, IsLogsReason, IsRingReason};
 ghost use Rattle.ira_audit.specs.ReplayedLogs.{AreReplayed};
 ghost use Rattle.ira_audit.specs.Report.{IsReportable};
@@ -133,7 +133,7 @@ impl<A: Allocator + Clone> RingAudit<A> {
         R: Threads,
         A: Sync,
         ensures answer { (texts : List (List ℕ)) (a : Answer) → HasTaken self texts
-            → UnlessErr result (record {}) ((result ≡ Ok a) ↔ IsLogsAnswer texts a) }
+            → UnlessErr result (record {}) ((result ≡ Ok a) ↔ IsRingAnswer texts a) }
         ensures reportable { (texts : List (List ℕ)) → HasTaken self texts → IfOk result IsReportable }
         ensures runs { (texts : List (List ℕ)) → HasTaken self texts → result ≡ Ok Answer.Yes
             → AreTextsOfRuns texts }
@@ -145,7 +145,7 @@ impl<A: Allocator + Clone> RingAudit<A> {
 
     /// The answer of the texts that were taken, of a question and of a certificate: the first reason
     /// against them, or yes. It says of them what `audit` says.
-    pub fn finish_with<R, G>(
+    pub fn finish_check<R, G>(
         self,
         rt: &R,
         question: &[u8],
@@ -160,7 +160,7 @@ impl<A: Allocator + Clone> RingAudit<A> {
         requires { depth ≤ 4 }
         ensures answer { (texts : List (List ℕ)) (a : Answer) → HasTaken self texts
             → UnlessErr result (record {})
-            ((result ≡ Ok a) ↔ IsAuditAnswer texts question.now certificate.now a) }
+            ((result ≡ Ok a) ↔ IsCheckAnswer texts question.now certificate.now a) }
         ensures reportable { (texts : List (List ℕ)) → HasTaken self texts → IfOk result IsReportable }
         ensures yes { (texts : List (List ℕ)) → HasTaken self texts → result ≡ Ok Answer.Yes
             → NoCaseIsMet texts question.now certificate.now }
@@ -173,7 +173,7 @@ impl<A: Allocator + Clone> RingAudit<A> {
     pub fn decide(self, question: &[u8]) -> Result<Findings<A>, OutOfMemory>
         ensures refused { (texts : List (List ℕ)) (r : Reason) → HasTaken self texts
             → UnlessErr result (record {})
-            ((result ≡ Ok (Findings.Refused r)) ↔ WhyNotPosed texts question.now r) }
+            ((result ≡ Ok (Findings.Refused r)) ↔ WhyNoQuestion texts question.now r) }
         ensures found { (texts : List (List ℕ)) → HasTaken self texts
             → IfOk result (AreFindings texts question.now) }
         ensures reportable { (texts : List (List ℕ)) → HasTaken self texts → IfOk result AreReportable }
@@ -225,7 +225,7 @@ impl<A: Allocator + Clone> RingAudit<A> {
         A: Send + Sync,
         requires { depth ≤ 4 }
         ensures { (texts : List (List ℕ)) → HasTaken self texts
-            → Judged result (IsAuditAnswer texts question.now certificate.now) }
+            → Judged result (IsCheckAnswer texts question.now certificate.now) }
     {
         let logs = self.good_logs_on_threads(rt)?;
         logs.check(rt, question, certificate, depth, gate)

@@ -1,8 +1,8 @@
 ghost use Rattle.std.specs.Prelude.{◌≡◌, ◌≤◌, ℕ, List, IfOk, Some, length, slice_get};
 ghost use Rattle.ira_cert.specs.declared.section_fault.SectionFault.{SectionFault};
-ghost use Rattle.ira_cert.specs.Asked.{HasPlacesOf};
+ghost use Rattle.ira_cert.specs.Conjuncts.{HasPlacesOf};
 ghost use Rattle.ira_pred.specs.Case.{Conjunct};
-ghost use Rattle.ira_audit.specs.AuditAnswer.{AreSound, IsFirstUnsound};
+ghost use Rattle.ira_audit.specs.CheckAnswer.{AreSound, IsFirstUnsound};
 ghost use Rattle.ira_audit.specs.Refusal.{MatchRefusal};
 
 use crate::reason::Reason;

@@ -8,7 +8,7 @@ use Rattle.std.proofs.lemmas.Option.{same_Some, slice_get-get_or, slice_get_case
 use Rattle.ira_event.specs.Log.{Log}
 use Rattle.ira_pred.specs.Case.{Conjunct}
 use Rattle.ira_pred.specs.Formula.{Formula}
-use Rattle.ira_cert.specs.Asked.{IsAsked, CandidatesOf, HasPlacesOf}
+use Rattle.ira_cert.specs.Conjuncts.{IsAsked, CandidatesOf, HasPlacesOf}
 use Rattle.ira_cert.specs.Fronts.{AreFronts, IsFoundFor, AreFoundFor, AreCandidatesFor}
 
 -- a conjunct of the case, told by its parts

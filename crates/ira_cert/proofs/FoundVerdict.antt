@@ -17,7 +17,7 @@ use Rattle.ira_cert.specs.declared.unsound.Unsound.TheVariants.{NotAsked, SameNo
 use Rattle.ira_cert.specs.declared.section_fault.SectionFault.TheVariants.{Step, NotSpent}
 use Rattle.ira_cert.specs.declared.verdict.Verdict.{Verdict}
 use Rattle.ira_cert.specs.declared.verdict.Verdict.TheVariants.{Yes, No}
-use Rattle.ira_cert.specs.Asked.{IsAsked, HasDifferentPlaces, HasPlacesOf}
+use Rattle.ira_cert.specs.Conjuncts.{IsAsked, HasDifferentPlaces, HasPlacesOf}
 use Rattle.ira_cert.specs.Front.{made, IsFront, IsSpent}
 use Rattle.ira_cert.specs.SoundSection.{IsSoundStep, AreSoundSteps}
 use Rattle.ira_cert.specs.SectionFault.{WhyUnsound, not_asked, same_node, node_spent, not_front, not_before}

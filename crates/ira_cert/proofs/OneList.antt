@@ -8,7 +8,7 @@ use Rattle.ira_pred.specs.Case.{Conjunct}
 use Rattle.ira_pred.specs.Formula.{Formula}
 use Rattle.ira_cand.specs.Candidates.{AreCandidates}
 use Rattle.ira_cand.proofs.Passing.{one_list_of_candidates}
-use Rattle.ira_cert.specs.Asked.{CandidatesOf, HasDifferentPlaces}
+use Rattle.ira_cert.specs.Conjuncts.{CandidatesOf, HasDifferentPlaces}
 
 -- conjuncts at two indices of the case are at two places
 apart : (case : List Conjunct) (i j : ℕ) (c d : Conjunct) → HasDifferentPlaces case → i < j → j < length case

@@ -14,7 +14,7 @@ use Rattle.ira_cert.specs.declared.section_fault.SectionFault.{SectionFault}
 use Rattle.ira_cert.specs.declared.section_fault.SectionFault.TheVariants.{Step}
 use Rattle.ira_cert.specs.declared.verdict.Verdict.{Verdict}
 use Rattle.ira_cert.specs.declared.verdict.Verdict.TheVariants.{Yes, No}
-use Rattle.ira_cert.specs.Asked.{IsAsked, HasDifferentPlaces}
+use Rattle.ira_cert.specs.Conjuncts.{IsAsked, HasDifferentPlaces}
 use Rattle.ira_cert.specs.Front.{made, IsFront, IsSpent}
 use Rattle.ira_cert.specs.SoundSection.{IsSoundStep, AreSoundSteps, IsSoundSection}
 use Rattle.ira_cert.specs.SectionFault.{HasFront, WhyUnsound, not_asked, same_node, node_spent, not_front, not_before}

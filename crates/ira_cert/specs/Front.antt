@@ -3,7 +3,7 @@ use Rattle.std.specs.Prelude.{◌≡◌, ℕ, ◌==◌, List, Some, count_by, le
 use Rattle.ira_event.specs.Log.{Log}
 use Rattle.ira_pred.specs.Case.{Conjunct}
 use Rattle.ira_cert_text.specs.declared.cert_step.CertStep.{CertStep}
-use Rattle.ira_cert.specs.Asked.{CandidatesOf}
+use Rattle.ira_cert.specs.Conjuncts.{CandidatesOf}
 
 -- how many of the steps eliminate a state of node i
 abbrev pub made : List CertStep → ℕ → ℕ

@@ -2,7 +2,7 @@
 use Rattle.std.specs.Prelude.{◌≡◌, ℕ, List, Option, Some, MatchOption, slice_get}
 use Rattle.ira_event.specs.Log.{Log}
 use Rattle.ira_pred.specs.Case.{Conjunct}
-use Rattle.ira_cert.specs.Asked.{IsAsked, CandidatesOf}
+use Rattle.ira_cert.specs.Conjuncts.{IsAsked, CandidatesOf}
 
 -- there is a list at place i
 abbrev pub HasList : List (Option (List ℕ)) → ℕ → Type 0

@@ -3,7 +3,7 @@ use Rattle.std.specs.Prelude.{◌≡◌, ℕ, ◌≤◌, List, Option, Some, len
 use Rattle.ira_event.specs.Log.{Log}
 use Rattle.ira_pred.specs.Case.{Conjunct}
 use Rattle.ira_cert_text.specs.declared.cert_step.CertStep.{CertStep}
-use Rattle.ira_cert.specs.Asked.{IsAsked, CandidatesOf}
+use Rattle.ira_cert.specs.Conjuncts.{IsAsked, CandidatesOf}
 use Rattle.ira_cert.specs.Front.{made}
 use Rattle.ira_cert.specs.Fronts.{HasList}
 

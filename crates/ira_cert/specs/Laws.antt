@@ -7,7 +7,7 @@ use Rattle.ira_order.specs.Cut.{IsConsistentCut}
 use Rattle.ira_cand.specs.Meets.{Meets}
 use Rattle.ira_cert_text.specs.Certificate.{Section}
 use Rattle.ira_cert.specs.declared.verdict.Verdict.{Verdict}
-use Rattle.ira_cert.specs.Asked.{HasDifferentPlaces, HasPlacesOf}
+use Rattle.ira_cert.specs.Conjuncts.{HasDifferentPlaces, HasPlacesOf}
 use Rattle.ira_cert.specs.SoundSection.{IsSoundSection}
 use Rattle.ira_cert.specs.Verdict.{IsVerdict}
 

@@ -1,9 +1,9 @@
-pub mod Asked
+pub mod Conjuncts
 pub mod Front
 pub mod Fronts
 pub mod FrontsBehind
 pub mod Laws
-pub mod Left
+pub mod QueueHead
 pub mod SectionFault
 pub mod SoundSection
 pub mod Verdict

@@ -9,7 +9,7 @@ use Rattle.ira_cert.specs.declared.unsound.Unsound.{Unsound}
 use Rattle.ira_cert.specs.declared.unsound.Unsound.TheVariants.{NotAsked, SameNode, NodeSpent, NotFront, NotBefore}
 use Rattle.ira_cert.specs.declared.section_fault.SectionFault.{SectionFault}
 use Rattle.ira_cert.specs.declared.section_fault.SectionFault.TheVariants.{Step, NotSpent}
-use Rattle.ira_cert.specs.Asked.{IsAsked}
+use Rattle.ira_cert.specs.Conjuncts.{IsAsked}
 use Rattle.ira_cert.specs.Front.{IsFront, IsSpent}
 use Rattle.ira_cert.specs.SoundSection.{AreSoundSteps}
 

@@ -3,17 +3,17 @@ ghost use Rattle.std.specs.Option.{option_map};
 ghost use Rattle.ira_event.specs.Log.{Log};
 ghost use Rattle.ira_pred.specs.Case.{Conjunct};
 ghost use Rattle.ira_cert_text.specs.declared.cert_step.CertStep.{CertStep};
-ghost use Rattle.ira_cert.specs.declared.left.Left.{Left};
+ghost use Rattle.ira_cert.specs.declared.queue_head.QueueHead.{QueueHead};
 ghost use Rattle.ira_cert.specs.declared.unsound.Unsound.{Unsound};
-ghost use Rattle.ira_cert.specs.Asked.{HasDifferentPlaces};
+ghost use Rattle.ira_cert.specs.Conjuncts.{HasDifferentPlaces};
 ghost use Rattle.ira_cert.specs.Fronts.{AreFronts, HasList};
 ghost use Rattle.ira_cert.specs.FrontsBehind.{AreFrontsBehind};
-ghost use Rattle.ira_cert.specs.Left.{IsLeft};
+ghost use Rattle.ira_cert.specs.QueueHead.{IsQueueHead};
 ghost use Rattle.ira_cert.specs.SoundSection.{IsSoundStep, AreSoundSteps};
 ghost use Rattle.ira_cert.specs.SectionFault.{WhyUnsound, IsFirstUnsoundStep};
 ghost use Rattle.ira_cert.specs.Verdict.{IsVerdict};
 
-use crate::left::Left;
+use crate::queue_head::QueueHead;
 use crate::section_fault::SectionFault;
 use crate::soundness::judge_step;
 use crate::unsound::Unsound;
@@ -95,17 +95,17 @@ fn check_step<C: HappenedBefore, I: Iterator<Item = u32> + Listed>(
 }
 
 /// What is left of the node's candidates.
-fn left_at<I: Iterator<Item = u32> + Listed>(fronts: &[Option<Ahead<I>>], place: u8) -> Left
-    ensures place { result ≢ Left.NotAsked → place < length fronts.now }
+fn left_at<I: Iterator<Item = u32> + Listed>(fronts: &[Option<Ahead<I>>], place: u8) -> QueueHead
+    ensures place { result ≢ QueueHead.NotAsked → place < length fronts.now }
     ensures left { (logs : List Log) (case : List Conjunct) (before : List CertStep)
-        → AreFrontsBehind logs case before fronts.now → IsLeft logs case before place result }
+        → AreFrontsBehind logs case before fronts.now → IsQueueHead logs case before place result }
 {
     let Some(left) = candidates_left(fronts, place) else {
-        return Left::NotAsked;
+        return QueueHead::NotAsked;
     };
     match left.front() {
-        Some(position) => Left::First(position),
-        None => Left::Spent,
+        Some(position) => QueueHead::First(position),
+        None => QueueHead::Spent,
     }
 }
 

@@ -2,28 +2,28 @@
 //! law that makes this matter.
 #![tactic(auto)]
 
-mod asked;
+mod conjuncts;
 mod fronts;
-mod kept;
 mod laws;
-mod left;
+mod owned_candidates;
 mod plain;
 mod profiled;
+mod queue_head;
 mod section_fault;
 mod soundness;
 mod unsound;
 mod verdict;
 
-pub use asked::find_asked;
+pub use conjuncts::map_conjuncts;
 pub use fronts::{candidates_left, check_fronts, eliminate};
 pub use ira_cert_text::{
     CertFault, CertStep, Certificate, MAX_SECTIONS, MAX_STEPS, Section, read_cert, write_cert,
 };
-pub use kept::Kept;
 pub use laws::{a_section_has_one_verdict, sound_sections_leave_no_cut};
-pub use left::Left;
+pub use owned_candidates::OwnedCandidates;
 pub use plain::{Candidates, case_fronts, check_plain};
 pub use profiled::profiled_fronts;
+pub use queue_head::QueueHead;
 pub use section_fault::SectionFault;
 pub use soundness::judge_step;
 pub use unsound::Unsound;

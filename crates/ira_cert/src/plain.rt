@@ -1,12 +1,12 @@
 ghost use Rattle.std.specs.Prelude.{◌≡◌, ◌↔◌, ◌<◌, Ok, IfOk, OnOk, length};
 ghost use Rattle.ira_event.specs.Result.{UnlessErr};
 ghost use Rattle.ira_cert.specs.declared.section_fault.SectionFault.{SectionFault};
-ghost use Rattle.ira_cert.specs.Asked.{HasDifferentPlaces, HasPlacesOf};
+ghost use Rattle.ira_cert.specs.Conjuncts.{HasDifferentPlaces, HasPlacesOf};
 ghost use Rattle.ira_cert.specs.Fronts.{AreFronts, AreCandidatesFor};
 ghost use Rattle.ira_cert.specs.SoundSection.{IsSoundSection};
 ghost use Rattle.ira_cert.specs.SectionFault.{IsSectionFault};
 
-use crate::asked::find_asked;
+use crate::conjuncts::map_conjuncts;
 use crate::fronts::check_fronts;
 use crate::verdict::Verdict;
 use ira_cand::{Ahead, Holding, candidates};
@@ -58,7 +58,7 @@ pub fn case_fronts<'a, 'b, A: Allocator>(
     ensures count { IfOk result (λ fronts. length fronts.items ≡ length logs.now) }
     ensures fronts { IfOk result (λ fronts. AreFronts logs.now case.now fronts.items) }
 {
-    find_asked(
+    map_conjuncts(
         alloc,
         logs.size(),
         case,

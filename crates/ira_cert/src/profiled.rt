@@ -1,9 +1,9 @@
 ghost use Rattle.std.specs.Prelude.{◌≡◌, ◌<◌, IfOk, OnOk, length};
-ghost use Rattle.ira_cert.specs.Asked.{HasDifferentPlaces, HasPlacesOf};
+ghost use Rattle.ira_cert.specs.Conjuncts.{HasDifferentPlaces, HasPlacesOf};
 ghost use Rattle.ira_cert.specs.Fronts.{AreFronts, AreCandidatesFor};
 
-use crate::asked::find_asked;
-use crate::kept::Kept;
+use crate::conjuncts::map_conjuncts;
+use crate::owned_candidates::OwnedCandidates;
 use ira_cand::{Ahead, Profile};
 use ira_event::{OutOfMemory, RingSize};
 use ira_pred::Case;
@@ -16,14 +16,14 @@ pub fn profiled_fronts<A: Allocator + Clone>(
     nodes: RingSize,
     profiles: &[Profile<'_, A>],
     case: &Case<A>,
-) -> Result<Vec<Option<Ahead<Kept<A>>>, A>, OutOfMemory>
+) -> Result<Vec<Option<Ahead<OwnedCandidates<A>>>, A>, OutOfMemory>
     requires nodes { length profiles.now ≡ nodes }
     requires places { HasPlacesOf profiles.now case.now }
     ensures different { OnOk result (HasDifferentPlaces case.now) }
     ensures count { IfOk result (λ fronts. length fronts.items ≡ length profiles.now) }
     ensures fronts { IfOk result (λ fronts. AreFronts profiles.now case.now fronts.items) }
 {
-    find_asked(
+    map_conjuncts(
         alloc.clone()?,
         nodes,
         case,
@@ -33,7 +33,7 @@ pub fn profiled_fronts<A: Allocator + Clone>(
                 (λ positions. AreCandidatesFor profiles.entry.now case.entry.now n positions) }
         {
             let profile = &profiles[usize::from(case.place(n))];
-            Ok(Ahead::new(Kept::new(profile.table(alloc.clone()?, case.clause(n))?)))
+            Ok(Ahead::new(OwnedCandidates::new(profile.table(alloc.clone()?, case.clause(n))?)))
         },
     )
 }

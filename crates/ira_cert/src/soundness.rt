@@ -2,14 +2,14 @@ ghost use Rattle.std.specs.Prelude.{◌≢◌, ◌↔◌, ◌+◌, ◌<◌, List
 ghost use Rattle.ira_pred.specs.Case.{Conjunct};
 ghost use Rattle.ira_order.specs.Before.{Before};
 ghost use Rattle.ira_cert_text.specs.declared.cert_step.CertStep.{CertStep};
-ghost use Rattle.ira_cert.specs.Asked.{HasDifferentPlaces};
-ghost use Rattle.ira_cert.specs.Left.{IsLeft};
+ghost use Rattle.ira_cert.specs.Conjuncts.{HasDifferentPlaces};
+ghost use Rattle.ira_cert.specs.QueueHead.{IsQueueHead};
 ghost use Rattle.ira_cert.specs.SoundSection.{IsSoundStep};
 ghost use Rattle.ira_cert.specs.SectionFault.{WhyUnsound};
-ghost use Rattle.ira_cert.specs.declared.left.Left.{Left};
+ghost use Rattle.ira_cert.specs.declared.queue_head.QueueHead.{QueueHead};
 ghost use Rattle.ira_cert.specs.declared.unsound.Unsound.{Unsound};
 
-use crate::left::Left;
+use crate::queue_head::QueueHead;
 use crate::unsound::Unsound;
 use ira_cert_text::CertStep;
 use ira_order::HappenedBefore;
@@ -19,28 +19,28 @@ use ira_order::HappenedBefore;
 pub fn judge_step<C: HappenedBefore>(
     ordered: &C,
     step: &CertStep,
-    own: Left,
-    other: Left,
+    own: QueueHead,
+    other: QueueHead,
 ) -> Result<(), Unsound>
-    requires own { own ≢ Left.NotAsked → step.now.node < length (C.logs_of ordered.now) }
-    requires other { other ≢ Left.NotAsked → step.now.other < length (C.logs_of ordered.now) }
-    ensures asked { OnOk result (own ≢ Left.NotAsked) }
+    requires own { own ≢ QueueHead.NotAsked → step.now.node < length (C.logs_of ordered.now) }
+    requires other { other ≢ QueueHead.NotAsked → step.now.other < length (C.logs_of ordered.now) }
+    ensures asked { OnOk result (own ≢ QueueHead.NotAsked) }
     ensures verdict { (case : List Conjunct) (before : List CertStep) → HasDifferentPlaces case
-        → IsLeft (C.logs_of ordered.now) case before step.now.node own
-        → IsLeft (C.logs_of ordered.now) case before step.now.other other
+        → IsQueueHead (C.logs_of ordered.now) case before step.now.node own
+        → IsQueueHead (C.logs_of ordered.now) case before step.now.other other
         → MatchResult result (λ _. IsSoundStep (C.logs_of ordered.now) case before step.now)
         (λ why. WhyUnsound (C.logs_of ordered.now) case before step.now why) }
 {
-    if own == Left::NotAsked || other == Left::NotAsked {
+    if own == QueueHead::NotAsked || other == QueueHead::NotAsked {
         return Err(Unsound::NotAsked);
     }
     if step.node == step.other {
         return Err(Unsound::SameNode);
     }
-    let Left::First(front) = own else {
+    let QueueHead::First(front) = own else {
         return Err(Unsound::NodeSpent);
     };
-    let Left::First(other_front) = other else {
+    let QueueHead::First(other_front) = other else {
         return Err(Unsound::NodeSpent);
     };
     if step.pos != front || step.other_pos != other_front {

@@ -137,19 +137,19 @@ const fn holding(clause: &'static str, positions: &'static [u32]) -> Sample {
 
 /// A node of a case, and the positions that are left of it.
 #[derive(Clone, Copy)]
-struct Asked {
+struct AskedNode {
     place: u8,
     left: &'static [u32],
 }
 
 /// The least node of which no position is left.
-fn least_spent(asked: &[Asked]) -> Option<u8> {
+fn least_spent(asked: &[AskedNode]) -> Option<u8> {
     let spent = asked.iter().find(|node| node.left.is_empty())?;
     Some(spent.place)
 }
 
 /// The elimination of the least pair that allows one: the node's next event happened before the other one's.
-fn least_elimination(known: &[&[Receipt]], asked: &[Asked]) -> Option<CertStep> {
+fn least_elimination(known: &[&[Receipt]], asked: &[AskedNode]) -> Option<CertStep> {
     for node in asked {
         for other in asked {
             let pos = *node.left.first()?;
@@ -167,7 +167,7 @@ fn least_elimination(known: &[&[Receipt]], asked: &[Asked]) -> Option<CertStep> 
 fn eliminations(
     alloc: Global,
     known: &[&[Receipt]],
-    asked: &mut [Asked],
+    asked: &mut [AskedNode],
 ) -> Result<Vec<CertStep>, AllocError> {
     let mut steps = Vec::new(alloc);
     for _ in 0..100 {
@@ -193,7 +193,7 @@ fn eliminations(
 fn least_cut(
     alloc: Global,
     known: &[&[Receipt]],
-    asked: &[Asked],
+    asked: &[AskedNode],
     nodes: u8,
 ) -> Result<Vec<u32>, AllocError> {
     let mut cut = Vec::new(alloc);
@@ -214,14 +214,18 @@ fn least_cut(
 }
 
 /// The text of the question whether these nodes ever meet these clauses at once, and the nodes that it asks.
-fn posed(alloc: Global, nodes: u8, samples: &[Sample]) -> Result<(String, Vec<Asked>), AllocError> {
+fn posed(
+    alloc: Global,
+    nodes: u8,
+    samples: &[Sample],
+) -> Result<(String, Vec<AskedNode>), AllocError> {
     let mut text = format!(in alloc; "irask 1\nnodes {nodes}\ncase\n")?;
     let mut asked = Vec::new(alloc);
     for (place, sample) in (0..nodes).zip(samples) {
         if !sample.clause.is_empty() {
             let line = format!(in alloc; "{place}: {}\n", sample.clause)?;
             text.push_str(&line)?;
-            asked.push(Asked {
+            asked.push(AskedNode {
                 place,
                 left: sample.positions,
             })?;

@@ -8,7 +8,7 @@ use Rattle.ira_order.specs.Order.{IsOrder}
 use Rattle.ira_order.specs.Ring.{log_of, events_of}
 use Rattle.ira_order.specs.VectorClock.{AreCountsOfOthers}
 use Rattle.ira_order.proofs.Counting.{count_stays}
-use Rattle.ira_elim.specs.Stand.{AreNoReceipts}
+use Rattle.ira_elim.specs.CandidateClock.{AreNoReceipts}
 
 module _ (logs : List Log) (order : List ℕ) (o : IsOrder logs order) (j b : ℕ) (counts : List ℕ) (lj : j
     < length logs) (are : AreCountsOfOthers logs j b counts) where

@@ -17,7 +17,7 @@ use Rattle.ira_order.proofs.Bridge.{before_places}
 use Rattle.ira_cand.specs.HoldsAt.{HoldsAt}
 use Rattle.ira_cand.specs.Meets.{Meets}
 use Rattle.ira_cert_text.specs.declared.cert_step.CertStep.{CertStep}
-use Rattle.ira_cert.specs.Asked.{HasDifferentPlaces}
+use Rattle.ira_cert.specs.Conjuncts.{HasDifferentPlaces}
 use Rattle.ira_cert.specs.Front.{made}
 use Rattle.ira_cert.proofs.NoCut.{candidate_at, kept_all, rising_le}
 use Rattle.ira_cert.proofs.OneList.{one_formula}

@@ -18,7 +18,7 @@ use Rattle.ira_order.specs.VectorClock.{IsCount}
 use Rattle.std.proofs.lemmas.Bool.{cases_eq}
 use Rattle.ira_order.proofs.HasCounts.{list_of, count_of, before_decided}
 use Rattle.ira_cert_text.specs.declared.cert_step.CertStep.{CertStep}
-use Rattle.ira_cert.specs.Asked.{HasDifferentPlaces, HasPlacesOf}
+use Rattle.ira_cert.specs.Conjuncts.{HasDifferentPlaces, HasPlacesOf}
 use Rattle.ira_cert.specs.Fronts.{AreFronts, HasList}
 use Rattle.ira_cert.proofs.Behind.{one_fewer}
 use Rattle.ira_elim.specs.Elimination.{IsFirstLeft, IsElimination, IsGreatestCount, AreGreatestCounts}

@@ -5,7 +5,7 @@ use Rattle.std.proofs.lemmas.List.{length_push}
 use Rattle.ira_event.specs.Log.{Log}
 use Rattle.ira_pred.specs.Case.{Conjunct}
 use Rattle.std.proofs.lemmas.Bool.{cases_eq}
-use Rattle.ira_cert.specs.Asked.{IsAsked, HasPlacesOf}
+use Rattle.ira_cert.specs.Conjuncts.{IsAsked, HasPlacesOf}
 use Rattle.ira_cert.specs.Fronts.{AreFronts}
 use Rattle.ira_cert.proofs.CaseFronts.{AllFound, IsFound, found_more, found_all}
 use Rattle.ira_cert.proofs.SomeVerdict.{candidates_at}

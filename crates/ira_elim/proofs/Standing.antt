@@ -13,34 +13,34 @@ use Rattle.ira_cert.proofs.Behind.{one_fewer, slice_get-set_same, slice_get-set_
 use Rattle.ira_cert.specs.Fronts.{HasList}
 use Rattle.ira_elim.specs.Elimination.{ArePlaces, AreStands, AreWithin, HasEliminations, IsElimination, IsFirstLeft}
 use Rattle.ira_elim.specs.PairSet.{Has}
-use Rattle.ira_elim.specs.Stand.{Stand, AreStanding, HasSameCounts, IsStand, KnowsNext}
+use Rattle.ira_elim.specs.CandidateClock.{CandidateClock, AreStanding, HasSameCounts, IsCandidateClock, KnowsNext}
 use Rattle.ira_elim.proofs.NewEliminations.{other_first}
 use Rattle.ira_elim.proofs.Places.{one_first}
 use Rattle.ira_elim.proofs.Present.{before_counts, counts_before}
 use Rattle.ira_elim.proofs.Steps.{last_at}
 
-pub found_at : (xs : List Stand) (k i : ℕ) (s : Stand) → k ≡ i → k < length xs → s ≡ slice_index_or xs k s
+pub found_at : (xs : List CandidateClock) (k i : ℕ) (s : CandidateClock) → k ≡ i → k < length xs → s ≡ slice_index_or xs k s
     → slice_get xs i ≡ Some s
 found_at xs k i s e l is =
-    subst (λ (j : ℕ). slice_get xs j ≡ Some s) e (slice_get-get_or xs k s l ∙ ap (λ (x : Stand). Some x) (sym is))
+    subst (λ (j : ℕ). slice_get xs j ≡ Some s) e (slice_get-get_or xs k s l ∙ ap (λ (x : CandidateClock). Some x) (sym is))
 
-module _ (logs : List Log) (fronts : List (Option (List ℕ))) (stands : List Stand) (inside : AreWithin logs fronts)
+module _ (logs : List Log) (fronts : List (Option (List ℕ))) (stands : List CandidateClock) (inside : AreWithin logs fronts)
     (are : AreStands logs fronts stands) where
   -- the stand of a node that has a first candidate left
-  pub stand_is : (j q : ℕ) (t : Stand) → IsFirstLeft fronts j q → slice_get stands j ≡ Some t → IsStand logs j q t
+  pub stand_is : (j q : ℕ) (t : CandidateClock) → IsFirstLeft fronts j q → slice_get stands j ≡ Some t → IsCandidateClock logs j q t
   stand_is j q t first at =
       let st = are j q first in
-      subst (IsStand logs j q) (same_Some st.0 t (sym st.1 ∙ at)) st.2
+      subst (IsCandidateClock logs j q) (same_Some st.0 t (sym st.1 ∙ at)) st.2
 
   -- the other node counts the event that leads on from the eliminated state
-  pub counted : (s : CertStep) (t : Stand) → IsElimination logs fronts s → slice_get stands s.other ≡ Some t
+  pub counted : (s : CertStep) (t : CandidateClock) → IsElimination logs fronts s → slice_get stands s.other ≡ Some t
       → s.pos < slice_index t.counts s.node
   counted s t is at =
       let st = stand_is s.other s.other_pos t is.other_front at in
       before_counts logs s.other s.other_pos s.node (slice_index t.counts s.node) s.pos
       (st.counts.others s.node (inside s.node s.pos is.front).0 is.differ) is.happened_before
 
-  pub eliminates : (i p j q : ℕ) (t : Stand) → IsFirstLeft fronts i p → IsFirstLeft fronts j q → i ≢ j
+  pub eliminates : (i p j q : ℕ) (t : CandidateClock) → IsFirstLeft fronts i p → IsFirstLeft fronts j q → i ≢ j
       → slice_get stands j ≡ Some t → p < slice_index t.counts i
       → IsElimination logs fronts (record { node = i; pos = p; other = j; other_pos = q })
   eliminates i p j q t first other_first differ at l =
@@ -77,23 +77,23 @@ module _ (logs : List Log) (fronts : List (Option (List ℕ))) (stands : List St
   -- after a step, where its node stands at its next candidate
   module _ (case : List Conjunct) (before : List CertStep) (behind : AreFrontsBehind logs case before fronts)
       (s : CertStep) (is : IsElimination logs fronts s) (left : List (Option (List ℕ))) (moved : left
-      ≡ one_fewer fronts s.node) (new : List Stand) (t : Stand) (set : new ≡ slice_set stands s.node t) where
-    pub stands_again : (p : ℕ) → IsFirstLeft left s.node p → IsStand logs s.node p t → AreStands logs left new
+      ≡ one_fewer fronts s.node) (new : List CandidateClock) (t : CandidateClock) (set : new ≡ slice_set stands s.node t) where
+    pub stands_again : (p : ℕ) → IsFirstLeft left s.node p → IsCandidateClock logs s.node p t → AreStands logs left new
     stands_again p own_first stand j q first = elim (cases_eq j s.node) [
       | inl same ↦
           let e : p ≡ q = one_first left s.node j p q (sym same) own_first first in
           let within : s.node < length stands =
           slice_get_within stands s.node (are s.node s.pos is.front).0 (are s.node s.pos is.front).1 in
           let at : slice_get new s.node ≡ Some t =
-          ap (λ (xs : List Stand). slice_get xs s.node) set ∙ slice_get-set_same stands s.node t within in (
+          ap (λ (xs : List CandidateClock). slice_get xs s.node) set ∙ slice_get-set_same stands s.node t within in (
             t,
             subst (λ (i : ℕ). slice_get new i ≡ Some t) (sym same) at,
-            subst (λ (i : ℕ). IsStand logs i q t) (sym same) (subst (λ (n : ℕ). IsStand logs s.node n t) e stand),
+            subst (λ (i : ℕ). IsCandidateClock logs i q t) (sym same) (subst (λ (n : ℕ). IsCandidateClock logs s.node n t) e stand),
           )
       | inr other ↦
           let st = are j q (other_first logs case before fronts left behind s is moved j q other first) in (
             st.0,
-            ap (λ (xs : List Stand). slice_get xs j) set
+            ap (λ (xs : List CandidateClock). slice_get xs j) set
                 ∙ slice_get-set_other stands s.node j t (λ e. other (sym e)) ∙ st.1,
             st.2,
           )
@@ -105,64 +105,64 @@ pub each_asked : (asked : List ℕ) (Q : ℕ → Type 0) → ((k : ℕ) → k < 
 each_asked asked Q all i member =
     subst Q (get_or_default asked member.0 0 i member.1 ∙ member.2) (all member.0 member.1)
 
-module _ (stands : List Stand) (asked : List ℕ) (i : ℕ) (are : AreStanding stands asked)
+module _ (stands : List CandidateClock) (asked : List ℕ) (i : ℕ) (are : AreStanding stands asked)
     (member : Contains asked i) where
   pub is_within : i < length stands
   is_within = let st = are i member in slice_get_within stands i st.0 st.1
 
-pub long_counts : (stands : List Stand) (asked : List ℕ) (i : ℕ) (t : Stand) → AreStanding stands asked
+pub long_counts : (stands : List CandidateClock) (asked : List ℕ) (i : ℕ) (t : CandidateClock) → AreStanding stands asked
     → Contains asked i → slice_get stands i ≡ Some t → length t.counts ≡ length stands
 long_counts stands asked i t are member at =
     let st = are i member in
-    subst (λ (s : Stand). length s.counts ≡ length stands) (same_Some st.0 t (sym st.1 ∙ at)) st.2
+    subst (λ (s : CandidateClock). length s.counts ≡ length stands) (same_Some st.0 t (sym st.1 ∙ at)) st.2
 
-pub one_stand_more : (logs : List Log) (fronts : List (Option (List ℕ))) (stands more : List Stand) (t : Stand) (n : ℕ)
+pub one_stand_more : (logs : List Log) (fronts : List (Option (List ℕ))) (stands more : List CandidateClock) (t : CandidateClock) (n : ℕ)
     → more ≡ stands ++ t ∷ [] → length stands ≡ n
-    → ((j : ℕ) → j < n → (q : ℕ) → IsFirstLeft fronts j q → (s : Stand) × (slice_get stands j ≡ Some s)
-    × IsStand logs j q s) → ((q : ℕ) → IsFirstLeft fronts n q → IsStand logs n q t) → (length more ≡ n + 1)
-    × ((j : ℕ) → j < n + 1 → (q : ℕ) → IsFirstLeft fronts j q → (s : Stand) × (slice_get more j ≡ Some s)
-    × IsStand logs j q s)
+    → ((j : ℕ) → j < n → (q : ℕ) → IsFirstLeft fronts j q → (s : CandidateClock) × (slice_get stands j ≡ Some s)
+    × IsCandidateClock logs j q s) → ((q : ℕ) → IsFirstLeft fronts n q → IsCandidateClock logs n q t) → (length more ≡ n + 1)
+    × ((j : ℕ) → j < n + 1 → (q : ℕ) → IsFirstLeft fronts j q → (s : CandidateClock) × (slice_get more j ≡ Some s)
+    × IsCandidateClock logs j q s)
 one_stand_more logs fronts stands more t n pushed count are here =
-    let Q : ℕ → Type 0 = λ j. (q : ℕ) → IsFirstLeft fronts j q → (s : Stand) × (slice_get more j ≡ Some s)
-    × IsStand logs j q s in
+    let Q : ℕ → Type 0 = λ j. (q : ℕ) → IsFirstLeft fronts j q → (s : CandidateClock) × (slice_get more j ≡ Some s)
+    × IsCandidateClock logs j q s in
     let last : slice_get more n ≡ Some t =
-    ap (λ (xs : List Stand). slice_get xs n) pushed
+    ap (λ (xs : List CandidateClock). slice_get xs n) pushed
     ∙ subst (λ (k : ℕ). slice_get (stands ++ t ∷ []) k ≡ Some t) count (last_at stands t) in
     let below : (j : ℕ) → j < n → Q j = λ j l q first.
     let st = are j l q first in
-    (st.0, ap (λ (xs : List Stand). slice_get xs j) pushed ∙ kept_at stands t j st.0 st.1, st.2)
+    (st.0, ap (λ (xs : List CandidateClock). slice_get xs j) pushed ∙ kept_at stands t j st.0 st.1, st.2)
     in (
-      ap (λ (xs : List Stand). length xs) pushed ∙ length_push stands t ∙ ap (λ (k : ℕ). k + 1) count,
+      ap (λ (xs : List CandidateClock). length xs) pushed ∙ length_push stands t ∙ ap (λ (k : ℕ). k + 1) count,
       below_more Q n below (λ q first. (t, last, here q first)),
     )
   where
-    kept_at : (xs : List Stand) (x : Stand) (j : ℕ) (s : Stand) → slice_get xs j ≡ Some s
+    kept_at : (xs : List CandidateClock) (x : CandidateClock) (j : ℕ) (s : CandidateClock) → slice_get xs j ≡ Some s
         → slice_get (xs ++ x ∷ []) j ≡ Some s
     kept_at [] x j s at = cc
     kept_at (y ∷ ys) x zero s at = at
     kept_at (y ∷ ys) x (suc j) s at = kept_at ys x j s at
 
 -- where a node stands elsewhere, the others stand where they stood
-pub set_standing : (stands new : List Stand) (asked : List ℕ) (j : ℕ) (t : Stand) → AreStanding stands asked
+pub set_standing : (stands new : List CandidateClock) (asked : List ℕ) (j : ℕ) (t : CandidateClock) → AreStanding stands asked
     → j < length stands → length t.counts ≡ length stands → new ≡ slice_set stands j t → AreStanding new asked
 set_standing stands new asked j t are within long set i member =
-    let size : length new ≡ length stands = ap (λ (xs : List Stand). length xs) set ∙ length-set stands j t in
+    let size : length new ≡ length stands = ap (λ (xs : List CandidateClock). length xs) set ∙ length-set stands j t in
     elim (cases_eq i j) [
       | inl same ↦
           let at : slice_get new j ≡ Some t =
-          ap (λ (xs : List Stand). slice_get xs j) set ∙ slice_get-set_same stands j t within in
+          ap (λ (xs : List CandidateClock). slice_get xs j) set ∙ slice_get-set_same stands j t within in
           (t, subst (λ (k : ℕ). slice_get new k ≡ Some t) (sym same) at, long ∙ sym size)
       | inr other ↦
           let st = are i member in (
             st.0,
-            ap (λ (xs : List Stand). slice_get xs i) set ∙ slice_get-set_other stands j i t (λ e. other (sym e))
+            ap (λ (xs : List CandidateClock). slice_get xs i) set ∙ slice_get-set_other stands j i t (λ e. other (sym e))
                 ∙ st.1,
             st.2 ∙ sym size,
           )
     ]
 
 -- what is said of lists that are viewed holds of the lists
-pub viewed : (logs : List Log) (fronts seen : List (Option (List ℕ))) (stands stood : List Stand) (pairs : List ℕ)
+pub viewed : (logs : List Log) (fronts seen : List (Option (List ℕ))) (stands stood : List CandidateClock) (pairs : List ℕ)
     (Q : List (Option (List ℕ)) → Type 0) → seen ≡ fronts → stood ≡ stands
     → (AreWithin logs seen → AreStands logs seen stood → HasEliminations logs seen pairs → Q seen)
     → AreWithin logs fronts → AreStands logs fronts stands → HasEliminations logs fronts pairs → Q fronts
@@ -174,7 +174,7 @@ viewed logs fronts seen stands stood pairs Q e f said inside are all =
 
 module _ (logs : List Log) (case : List Conjunct) (before : List CertStep) (fronts left : List (Option (List ℕ)))
     (behind : AreFrontsBehind logs case before fronts) (s : CertStep) (is : IsElimination logs fronts s) (moved : left
-    ≡ one_fewer fronts s.node) (stands new : List Stand) (inside : AreWithin logs fronts)
+    ≡ one_fewer fronts s.node) (stands new : List CandidateClock) (inside : AreWithin logs fronts)
     (are : AreStands logs fronts stands) (inside_left : AreWithin logs left) (again : AreStands logs left new) where
   -- where the node that moved knows no more, it eliminates nothing anew
   pub adds : (asked old pairs : List ℕ) → ArePlaces left asked → HasEliminations logs fronts old

@@ -9,7 +9,7 @@ use Rattle.ira_replay.proofs.Reached.{states_are_reached}
 use Rattle.ira_order.specs.Ring.{log_of, events_of}
 use Rattle.ira_cand.specs.HoldsAt.{HoldsAt}
 use Rattle.ira_cert_text.specs.declared.cert_step.CertStep.{CertStep}
-use Rattle.ira_cert.specs.Asked.{CandidatesOf}
+use Rattle.ira_cert.specs.Conjuncts.{CandidatesOf}
 use Rattle.ira_cert.specs.Front.{made}
 use Rattle.ira_cert.specs.Fronts.{AreFronts, HasList}
 use Rattle.ira_cert.specs.FrontsBehind.{AreFrontsBehind}

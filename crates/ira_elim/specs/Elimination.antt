@@ -8,10 +8,10 @@ use Rattle.ira_order.specs.Ring.{log_of}
 use Rattle.ira_order.specs.Before.{Before}
 use Rattle.ira_order.specs.VectorClock.{IsCount}
 use Rattle.ira_cert_text.specs.declared.cert_step.CertStep.{CertStep}
-use Rattle.ira_cert.specs.Asked.{HasDifferentPlaces}
+use Rattle.ira_cert.specs.Conjuncts.{HasDifferentPlaces}
 use Rattle.ira_cert.specs.Fronts.{AreFronts, HasList}
 use Rattle.ira_elim.specs.PairSet.{Has}
-use Rattle.ira_elim.specs.Stand.{Stand, IsStand}
+use Rattle.ira_elim.specs.CandidateClock.{CandidateClock, IsCandidateClock}
 
 -- they are the candidates of some case that asks each node for one thing at most
 abbrev pub AreFrontsOfSomeCase : List Log → List (Option (List ℕ)) → Type 0
@@ -34,9 +34,9 @@ abbrev pub AreWithin : List Log → List (Option (List ℕ)) → Type 0
 AreWithin logs fronts = (i p : ℕ) → IsFirstLeft fronts i p → (i < length logs) × (p ≤ length (log_of logs i))
 
 -- each node that has a first candidate left stands there
-abbrev pub AreStands : List Log → List (Option (List ℕ)) → List Stand → Type 0
-AreStands logs fronts stands = (j q : ℕ) → IsFirstLeft fronts j q → (s : Stand) × (slice_get stands j ≡ Some s)
-    × IsStand logs j q s
+abbrev pub AreStands : List Log → List (Option (List ℕ)) → List CandidateClock → Type 0
+AreStands logs fronts stands = (j q : ℕ) → IsFirstLeft fronts j q → (s : CandidateClock) × (slice_get stands j ≡ Some s)
+    × IsCandidateClock logs j q s
 
 -- the step names the first candidates left of two different nodes, and the event that leads on from the one
 -- state happened before the event that led to the other

@@ -4,7 +4,7 @@ use Rattle.ira_event.specs.Log.{Log}
 use Rattle.ira_pred.specs.Case.{Conjunct}
 use Rattle.ira_order.specs.Circle.{HasOrder}
 use Rattle.ira_cert_text.specs.Certificate.{Section}
-use Rattle.ira_cert.specs.Asked.{HasDifferentPlaces, HasPlacesOf}
+use Rattle.ira_cert.specs.Conjuncts.{HasDifferentPlaces, HasPlacesOf}
 use Rattle.ira_elim.specs.Found.{IsAbsence}
 use Rattle.ira_elim.specs.LeastCut.{IsLeastCut}
 

@@ -4,4 +4,4 @@ pub mod Found
 pub mod Laws
 pub mod LeastCut
 pub mod PairSet
-pub mod Stand
+pub mod CandidateClock

@@ -3,17 +3,17 @@ ghost use Rattle.ira_event.specs.Log.{Log};
 ghost use Rattle.ira_pred.specs.Case.{Conjunct};
 ghost use Rattle.ira_order.specs.Ring.{log_of};
 ghost use Rattle.ira_cert_text.specs.declared.cert_step.CertStep.{CertStep};
-ghost use Rattle.ira_cert.specs.Asked.{HasDifferentPlaces};
+ghost use Rattle.ira_cert.specs.Conjuncts.{HasDifferentPlaces};
 ghost use Rattle.ira_cert.specs.Fronts.{AreFronts};
 ghost use Rattle.ira_elim.specs.Decided.{IsDecided};
 ghost use Rattle.ira_elim.specs.Elimination.{AreFrontsOfSomeCase, AreGreatestCounts, ArePlaces, AreStands, AreWithin, HasEliminations, HasFirstLefts, IsElimination, IsFirstLeft, IsGreatestCount};
 ghost use Rattle.ira_elim.specs.PairSet.{Has};
-ghost use Rattle.ira_elim.specs.Stand.{AreStanding, HasMovedOn, HasSameCounts, KnowsNext, StandsUpTo};
+ghost use Rattle.ira_elim.specs.CandidateClock.{AreStanding, HasMovedOn, HasSameCounts, KnowsNext, StandsUpTo};
 
+use crate::candidate_clock::CandidateClock;
 use crate::cut::Cut;
 use crate::decided::Decided;
 use crate::pair_set::PairSet;
-use crate::stand::Stand;
 use crate::step_sink::StepSink;
 use ira_cand::Ahead;
 use ira_cert::{CertStep, candidates_left, eliminate};
@@ -117,7 +117,7 @@ fn stands<C, A, I>(
     ordered: &C,
     nodes: u8,
     fronts: &[Option<Ahead<I>>],
-) -> Result<Vec<Stand<A>, A>, OutOfMemory>
+) -> Result<Vec<CandidateClock<A>, A>, OutOfMemory>
 where
     C: HappenedBefore,
     A: Allocator + Clone,
@@ -131,8 +131,8 @@ where
     for place in 0..nodes {
         let alloc = alloc.clone()?;
         let stand = match front(fronts, place) {
-            Some(position) => Stand::at(alloc, ordered, place, position)?,
-            None => Stand::nowhere(alloc),
+            Some(position) => CandidateClock::at(alloc, ordered, place, position)?,
+            None => CandidateClock::nowhere(alloc),
         };
         stands.push(stand)?;
     }
@@ -142,7 +142,7 @@ where
 /// The pairs of nodes of which the second one's first candidate left eliminates the first one's.
 fn eliminating_pairs<A: Allocator>(
     alloc: A,
-    stands: &[Stand<A>],
+    stands: &[CandidateClock<A>],
     asked: &[u8],
 ) -> Result<PairSet<A>, OutOfMemory>
     requires { AreStanding stands.now asked.now }
@@ -159,7 +159,7 @@ fn eliminating_pairs<A: Allocator>(
 /// Adds the pairs of the nodes whose first candidates left are eliminated by that of the other.
 fn add_eliminated_by<A: Allocator>(
     pairs: &mut PairSet<A>,
-    stands: &[Stand<A>],
+    stands: &[CandidateClock<A>],
     asked: &[u8],
     other: u8,
 )
@@ -181,7 +181,7 @@ fn add_eliminated_by<A: Allocator>(
 /// are removed.
 fn next_step<A: Allocator, I: Iterator<Item = u32> + Listed>(
     pairs: &mut PairSet<A>,
-    stands: &[Stand<A>],
+    stands: &[CandidateClock<A>],
     fronts: &[Option<Ahead<I>>],
 ) -> Option<CertStep>
     ensures pairs { (logs : List Log) → AreWithin logs fronts.now → AreStands logs fronts.now stands.now
@@ -202,7 +202,7 @@ fn next_step<A: Allocator, I: Iterator<Item = u32> + Listed>(
 
 /// The elimination of the node's first candidate left by that of the other.
 fn step_by<A: Allocator, I: Iterator<Item = u32> + Listed>(
-    stands: &[Stand<A>],
+    stands: &[CandidateClock<A>],
     fronts: &[Option<Ahead<I>>],
     node: u8,
     other: u8,
@@ -231,7 +231,7 @@ fn step_by<A: Allocator, I: Iterator<Item = u32> + Listed>(
 
 /// Moves the node on to a position, and adds the pairs of the nodes that it eliminates there anew.
 fn advance<C: HappenedBefore, A: Allocator>(
-    stands: &mut Vec<Stand<A>, A>,
+    stands: &mut Vec<CandidateClock<A>, A>,
     pairs: &mut PairSet<A>,
     ordered: &C,
     asked: &[u8],
@@ -257,7 +257,7 @@ fn advance<C: HappenedBefore, A: Allocator>(
 fn least_cut<A: Allocator>(
     alloc: A,
     nodes: u8,
-    stands: &[Stand<A>],
+    stands: &[CandidateClock<A>],
     asked: &[u8],
 ) -> Result<Vec<u32, A>, OutOfMemory>
     requires nodes { nodes ≡ length stands.now }
@@ -274,7 +274,7 @@ fn least_cut<A: Allocator>(
 }
 
 /// The greatest of the counts of the node at the events that led to the first candidates left.
-fn greatest_count<A: Allocator>(stands: &[Stand<A>], asked: &[u8], place: u8) -> u32
+fn greatest_count<A: Allocator>(stands: &[CandidateClock<A>], asked: &[u8], place: u8) -> u32
     requires place { place < length stands.now }
     requires standing { AreStanding stands.now asked.now }
     ensures { (logs : List Log) (fronts : List (Option (List ℕ))) → place < length logs

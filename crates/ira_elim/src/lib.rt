@@ -2,6 +2,7 @@
 //! cut that does.
 #![tactic(auto)]
 
+mod candidate_clock;
 mod cut;
 mod decided;
 mod elimination;
@@ -9,7 +10,6 @@ mod found;
 mod laws;
 mod maker;
 mod pair_set;
-mod stand;
 mod step_sink;
 
 pub use cut::Cut;

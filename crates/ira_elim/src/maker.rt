@@ -1,5 +1,5 @@
 ghost use Rattle.std.specs.Prelude.{◌≡◌, [], IfOk};
-ghost use Rattle.ira_cert.specs.Asked.{HasPlacesOf};
+ghost use Rattle.ira_cert.specs.Conjuncts.{HasPlacesOf};
 ghost use Rattle.ira_elim.specs.Decided.{IsDecided};
 ghost use Rattle.ira_elim.specs.Found.{IsFound};
 

@@ -12,7 +12,7 @@ use Rattle.ira_order.proofs.Acyclic.{before_within}
 use Rattle.ira_order.proofs.Bridge.{before_places}
 use Rattle.ira_cert_text.specs.declared.cert_step.CertStep.{CertStep}
 use Rattle.ira_cert_text.specs.Certificate.{Section}
-use Rattle.ira_cert.specs.Asked.{CandidatesOf, HasDifferentPlaces}
+use Rattle.ira_cert.specs.Conjuncts.{CandidatesOf, HasDifferentPlaces}
 use Rattle.ira_cert.specs.Front.{made}
 use Rattle.ira_cert.specs.SoundSection.{AreSoundSteps, IsSoundSection, IsSoundStep}
 use Rattle.ira_cert.proofs.Made.{made_own, made_other}

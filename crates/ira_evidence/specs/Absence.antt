@@ -2,7 +2,7 @@
 use Rattle.std.specs.Prelude.{ℕ, List}
 use Rattle.ira_event.specs.Log.{Log}
 use Rattle.ira_pred.specs.Case.{Conjunct}
-use Rattle.ira_cert.specs.Asked.{IsAsked}
+use Rattle.ira_cert.specs.Conjuncts.{IsAsked}
 use Rattle.ira_evidence.specs.declared.elimination.Elimination.{Elimination}
 use Rattle.ira_evidence.specs.Elimination.{AreEliminations, IsCandidate, IsEliminated}
 

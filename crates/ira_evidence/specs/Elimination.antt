@@ -4,7 +4,7 @@ use Rattle.ira_event.specs.Log.{Log}
 use Rattle.ira_pred.specs.Case.{Conjunct}
 use Rattle.ira_order.specs.Before.{Before}
 use Rattle.ira_cert_text.specs.declared.cert_step.CertStep.{CertStep}
-use Rattle.ira_cert.specs.Asked.{CandidatesOf}
+use Rattle.ira_cert.specs.Conjuncts.{CandidatesOf}
 use Rattle.ira_evidence.specs.declared.elimination.Elimination.{Elimination}
 
 -- state p of node i is one that the case asks for

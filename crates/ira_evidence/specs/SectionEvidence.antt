@@ -4,10 +4,10 @@ use Rattle.ira_event.specs.Log.{Log}
 use Rattle.ira_pred.specs.Case.{Conjunct}
 use Rattle.ira_cert_text.specs.declared.cert_step.CertStep.{CertStep}
 use Rattle.ira_cert_text.specs.Certificate.{Section}
-use Rattle.ira_cert.specs.Asked.{CandidatesOf, IsAsked}
+use Rattle.ira_cert.specs.Conjuncts.{CandidatesOf, IsAsked}
 use Rattle.ira_cert.specs.Front.{made}
 use Rattle.ira_cert.specs.Fronts.{HasList}
-use Rattle.ira_cert.specs.Left.{IsLeft}
+use Rattle.ira_cert.specs.QueueHead.{IsQueueHead}
 use Rattle.ira_cert.specs.SectionFault.{WhyUnsound}
 use Rattle.ira_cert.specs.SoundSection.{AreSoundSteps}
 use Rattle.ira_evidence.specs.declared.section_evidence.UnsoundStep.{UnsoundStep}
@@ -21,8 +21,8 @@ pub record IsUnsoundStep (logs : List Log) (case : List Conjunct) (steps : List 
   pub before : AreSoundSteps logs case (take u.number steps)
   pub at : slice_get steps u.number ≡ Some u.step
   pub reason : WhyUnsound logs case (take u.number steps) u.step u.why
-  pub own : IsLeft logs case (take u.number steps) u.step.node u.own
-  pub other : IsLeft logs case (take u.number steps) u.step.other u.other
+  pub own : IsQueueHead logs case (take u.number steps) u.step.node u.own
+  pub other : IsQueueHead logs case (take u.number steps) u.step.other u.other
 
 -- these are left of the candidates of node i; nothing is told where the case doesn't ask it
 abbrev pub AreLeftOf : {A : Type 0} → List Log → List Conjunct → List CertStep → ℕ → Option (Vec ℕ A) → Type 0

@@ -1,7 +1,7 @@
 ghost use Rattle.std.specs.Prelude.{List, IfOk, OnOk};
 ghost use Rattle.ira_event.specs.Log.{Log};
 ghost use Rattle.ira_pred.specs.Case.{Conjunct};
-ghost use Rattle.ira_cert.specs.Asked.{HasDifferentPlaces};
+ghost use Rattle.ira_cert.specs.Conjuncts.{HasDifferentPlaces};
 ghost use Rattle.ira_cert.specs.SoundSection.{IsSoundSection};
 ghost use Rattle.ira_evidence.specs.Absence.{ShowsAbsence};
 ghost use Rattle.ira_evidence.specs.Elimination.{IsAdded};

@@ -2,16 +2,16 @@ ghost use Rattle.std.specs.Prelude.{◌≢◌, ◌≤◌, ◌<◌, ◌↔◌, Li
 ghost use Rattle.ira_event.specs.Log.{Log};
 ghost use Rattle.ira_pred.specs.Case.{Conjunct};
 ghost use Rattle.ira_cert_text.specs.declared.cert_step.CertStep.{CertStep};
-ghost use Rattle.ira_cert.specs.Asked.{HasDifferentPlaces};
+ghost use Rattle.ira_cert.specs.Conjuncts.{HasDifferentPlaces};
 ghost use Rattle.ira_cert.specs.Fronts.{AreFronts};
 ghost use Rattle.ira_cert.specs.FrontsBehind.{AreFrontsBehind};
-ghost use Rattle.ira_cert.specs.Left.{IsLeft};
+ghost use Rattle.ira_cert.specs.QueueHead.{IsQueueHead};
 ghost use Rattle.ira_cert.specs.SoundSection.{AreSoundSteps, IsSoundSection};
-ghost use Rattle.ira_cert.specs.declared.left.Left.{Left};
+ghost use Rattle.ira_cert.specs.declared.queue_head.QueueHead.{QueueHead};
 ghost use Rattle.ira_evidence.specs.SectionEvidence.{IsListAt, IsNoneLeft, IsSectionEvidence, IsUnsoundStep};
 
 use ira_cand::Ahead;
-use ira_cert::{CertStep, Left, Section, Unsound, candidates_left, eliminate, judge_step};
+use ira_cert::{CertStep, QueueHead, Section, Unsound, candidates_left, eliminate, judge_step};
 use ira_event::{Listed, OutOfMemory};
 use ira_order::HappenedBefore;
 use std::alloc::Allocator;
@@ -30,8 +30,8 @@ pub struct UnsoundStep {
     pub number: usize,
     pub step: CertStep,
     pub why: Unsound,
-    pub own: Left,
-    pub other: Left,
+    pub own: QueueHead,
+    pub other: QueueHead,
 }
 
 /// A node that a section calls spent, and the candidates that its steps left of it; nothing where the case asks nothing
@@ -43,17 +43,20 @@ pub struct Unspent<A: Allocator> {
 }
 
 /// What is left of the node's candidates.
-fn left_at<I: Iterator<Item = u32> + Listed>(fronts: &[Option<Ahead<I>>], place: u8) -> Left
-    ensures place { result ≢ Left.NotAsked → place < length fronts.now }
+fn queue_head_at<I: Iterator<Item = u32> + Listed>(
+    fronts: &[Option<Ahead<I>>],
+    place: u8,
+) -> QueueHead
+    ensures place { result ≢ QueueHead.NotAsked → place < length fronts.now }
     ensures left { (logs : List Log) (case : List Conjunct) (before : List CertStep)
-        → AreFrontsBehind logs case before fronts.now → IsLeft logs case before place result }
+        → AreFrontsBehind logs case before fronts.now → IsQueueHead logs case before place result }
 {
     let Some(left) = candidates_left(fronts, place) else {
-        return Left::NotAsked;
+        return QueueHead::NotAsked;
     };
     match left.front() {
-        Some(position) => Left::First(position),
-        None => Left::Spent,
+        Some(position) => QueueHead::First(position),
+        None => QueueHead::Spent,
     }
 }
 
@@ -71,8 +74,8 @@ fn first_unsound<C: HappenedBefore, I: Iterator<Item = u32> + Listed>(
         (IsUnsoundStep (C.logs_of ordered.now) case steps.now) }
 {
     for (number, step) in steps.iter().enumerate() {
-        let own = left_at(fronts, step.node);
-        let other = left_at(fronts, step.other);
+        let own = queue_head_at(fronts, step.node);
+        let other = queue_head_at(fronts, step.other);
         if let Err(why) = judge_step(ordered, step, own, other) {
             return Some(UnsoundStep {
                 number,

@@ -1,6 +1,6 @@
 ghost use Rattle.std.specs.Prelude.{map};
-ghost use Rattle.ira_audit.specs.Answer.{IsAnswer};
-ghost use Rattle.ira_audit.specs.LogsAnswer.{IsLogsAnswer};
+ghost use Rattle.ira_audit.specs.LogTextAnswer.{IsLogTextAnswer};
+ghost use Rattle.ira_audit.specs.RingAnswer.{IsRingAnswer};
 ghost use Rattle.ira_audit.specs.Report.{IsReportable};
 
 use crate::heads_block::explain_heads;
@@ -19,7 +19,7 @@ pub fn explain_logs<A: Allocator + Clone>(
     files: &[NamedText<'_>],
     answer: &Answer,
 ) -> Result<Page<A>, OutOfMemory>
-    requires answered { IsLogsAnswer (map (λ file. file.text.now) files.now) answer.now }
+    requires answered { IsRingAnswer (map (λ file. file.text.now) files.now) answer.now }
     requires reportable { IsReportable answer.now }
 {
     let mut page = Page::new(alloc.clone()?);
@@ -40,7 +40,7 @@ pub fn explain_log<A: Allocator + Clone>(
     file: &NamedText<'_>,
     answer: &Answer,
 ) -> Result<Page<A>, OutOfMemory>
-    requires answered { IsAnswer file.now.text.now answer.now }
+    requires answered { IsLogTextAnswer file.now.text.now answer.now }
     requires reportable { IsReportable answer.now }
 {
     let mut page = Page::new(alloc.clone()?);

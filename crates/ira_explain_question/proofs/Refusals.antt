@@ -8,17 +8,17 @@ use Rattle.ira_audit.specs.declared.answer.Answer.TheVariants.{Yes, No}
 use Rattle.ira_audit.specs.declared.findings.Findings.{Findings}
 use Rattle.ira_audit.specs.declared.reason.Reason.{Reason}
 use Rattle.ira_audit.specs.declared.reason.Reason.TheVariants as reason
-use Rattle.ira_audit.specs.AuditAnswer.{IsAuditAnswer, not_posed, no_certificate, other_size, other_number, unsound}
-use Rattle.ira_audit.specs.AuditAnswer.{yes}
+use Rattle.ira_audit.specs.CheckAnswer.{IsCheckAnswer, not_posed, no_certificate, other_size, other_number, unsound}
+use Rattle.ira_audit.specs.CheckAnswer.{yes}
 use Rattle.ira_audit.specs.Findings.{AreFindings}
-use Rattle.ira_audit.specs.LogsAnswer as logs_answer
-use Rattle.ira_audit.specs.LogsAnswer.{IsLogsAnswer}
-use Rattle.ira_audit.specs.Posed.{WhyNotPosed, bad_logs, no_question, other_ring}
+use Rattle.ira_audit.specs.RingAnswer as logs_answer
+use Rattle.ira_audit.specs.RingAnswer.{IsRingAnswer}
+use Rattle.ira_audit.specs.QuestionFitsLogs.{WhyNoQuestion, bad_logs, no_question, other_ring}
 
 -- a reason that isn't one against the question is one against the logs
 pub against_logs : (texts : List (List ℕ)) (question : List ℕ) (r : Reason)
-    → ((f : AskFault) → ¬ (r ≡ reason.Question f)) → ¬ (r ≡ reason.QuestionSize) → WhyNotPosed texts question r
-    → IsLogsAnswer texts (No r)
+    → ((f : AskFault) → ¬ (r ≡ reason.Question f)) → ¬ (r ≡ reason.QuestionSize) → WhyNoQuestion texts question r
+    → IsRingAnswer texts (No r)
 against_logs texts question r no_fault no_size (bad_logs h) = h
 against_logs texts question r no_fault no_size (no_question logs f good fault e) = absurd (no_fault f e)
 against_logs texts question r no_fault no_size (other_ring logs asked good is other e) = absurd (no_size e)
@@ -27,10 +27,10 @@ against_logs texts question r no_fault no_size (other_ring logs asked good is ot
 pub against_question : (texts : List (List ℕ)) (question certificate : List ℕ) (r : Reason)
     → ((f : CertFault) → ¬ (r ≡ reason.Certificate f)) → ¬ (r ≡ reason.CertificateSize)
     → ((wanted found : ℕ) → ¬ (r ≡ reason.Sections wanted found))
-    → ((case : ℕ) (f : SectionFault) → ¬ (r ≡ reason.Section case f)) → IsAuditAnswer texts question certificate (No r)
-    → WhyNotPosed texts question r
+    → ((case : ℕ) (f : SectionFault) → ¬ (r ≡ reason.Section case f)) → IsCheckAnswer texts question certificate (No r)
+    → WhyNoQuestion texts question r
 against_question texts question certificate r no_fault no_size no_number no_section (not_posed why h e) =
-    (let same : why ≡ r = cc in subst (λ (x : Reason). WhyNotPosed texts question x) same h)
+    (let same : why ≡ r = cc in subst (λ (x : Reason). WhyNoQuestion texts question x) same h)
 against_question texts question certificate r no_fault no_size no_number no_section
     (no_certificate logs asked f posed fault e) = (let same : r ≡ reason.Certificate f = cc in absurd (no_fault f same))
 against_question texts question certificate r no_fault no_size no_number no_section
@@ -46,8 +46,8 @@ against_question texts question certificate r no_fault no_size no_number no_sect
     (yes logs asked c posed is size sound e) = absurd cc
 
 -- after a yes nothing stands against the logs
-pub yes_of_logs : (texts : List (List ℕ)) (question certificate : List ℕ) → IsAuditAnswer texts question certificate Yes
-    → IsLogsAnswer texts Yes
+pub yes_of_logs : (texts : List (List ℕ)) (question certificate : List ℕ) → IsCheckAnswer texts question certificate Yes
+    → IsRingAnswer texts Yes
 yes_of_logs texts question certificate (not_posed why h e) = absurd cc
 yes_of_logs texts question certificate (no_certificate logs asked f posed fault e) = absurd cc
 yes_of_logs texts question certificate (other_size logs asked c posed is other e) = absurd cc
@@ -58,9 +58,9 @@ yes_of_logs texts question certificate (yes logs asked c posed is size sound e) 
 
 -- the same of an answer, and of findings, that are told by their variant
 pub answer_is : (texts : List (List ℕ)) (question certificate : List ℕ) (a b : Answer) → a ≡ b
-    → IsAuditAnswer texts question certificate a → IsAuditAnswer texts question certificate b
+    → IsCheckAnswer texts question certificate a → IsCheckAnswer texts question certificate b
 answer_is texts question certificate a b e h =
-    subst (λ (x : Answer). IsAuditAnswer texts question certificate x) e h
+    subst (λ (x : Answer). IsCheckAnswer texts question certificate x) e h
 
 pub findings_are : {A : Type 0} → (texts : List (List ℕ)) (question : List ℕ) (f g : Findings A) → f ≡ g
     → AreFindings texts question f → AreFindings texts question g

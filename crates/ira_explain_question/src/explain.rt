@@ -1,7 +1,7 @@
 ghost use Rattle.std.specs.Prelude.{map};
-ghost use Rattle.ira_audit.specs.AuditAnswer.{IsAuditAnswer};
+ghost use Rattle.ira_audit.specs.CheckAnswer.{IsCheckAnswer};
 ghost use Rattle.ira_audit.specs.Findings.{AreFindings, AreReportable};
-ghost use Rattle.ira_audit.specs.Posed.{WhyNotPosed};
+ghost use Rattle.ira_audit.specs.QuestionFitsLogs.{WhyNoQuestion};
 ghost use Rattle.ira_audit.specs.Report.{IsReportable, IsReportableReason};
 ghost use Rattle.ira_audit.specs.declared.answer.Answer.TheVariants as answer;
 
@@ -53,7 +53,7 @@ fn explain_refused<A: Allocator + Clone>(
     question: &NamedText<'_>,
     reason: Reason,
 ) -> Result<Page<A>, OutOfMemory>
-    requires refused { WhyNotPosed (map (λ log. log.text.now) logs.now) question.now.text.now reason }
+    requires refused { WhyNoQuestion (map (λ log. log.text.now) logs.now) question.now.text.now reason }
     requires reportable { IsReportableReason reason }
 {
     match reason {
@@ -80,7 +80,7 @@ pub fn explain_check_answer<A: Allocator + Clone>(
     certificate: &NamedText<'_>,
     answer: &Answer,
 ) -> Result<Page<A>, OutOfMemory>
-    requires answered { IsAuditAnswer (map (λ log. log.text.now) logs.now) question.now.text.now
+    requires answered { IsCheckAnswer (map (λ log. log.text.now) logs.now) question.now.text.now
         certificate.now.text.now answer.now }
     requires reportable { IsReportable answer.now }
 {
@@ -98,7 +98,7 @@ fn explain_no<A: Allocator + Clone>(
     certificate: &NamedText<'_>,
     reason: Reason,
 ) -> Result<Page<A>, OutOfMemory>
-    requires answered { IsAuditAnswer (map (λ log. log.text.now) logs.now) question.now.text.now
+    requires answered { IsCheckAnswer (map (λ log. log.text.now) logs.now) question.now.text.now
         certificate.now.text.now (answer.No reason) }
     requires reportable { IsReportableReason reason }
 {

@@ -1,6 +1,6 @@
 ghost use Rattle.std.specs.Prelude.{◌≡◌, ℕ, List, Some, slice_get};
 ghost use Rattle.ira_audit.specs.GoodLogs.{AreGood};
-ghost use Rattle.ira_cert.specs.Asked.{HasPlacesOf};
+ghost use Rattle.ira_cert.specs.Conjuncts.{HasPlacesOf};
 ghost use Rattle.ira_pred.specs.Case.{Conjunct};
 
 use crate::asked_lines::AskedLines;

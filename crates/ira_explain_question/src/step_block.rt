@@ -1,12 +1,12 @@
 ghost use Rattle.std.specs.Prelude.{◌<◌, ◌≤◌, length};
-ghost use Rattle.ira_cert.specs.Asked.{HasPlacesOf};
+ghost use Rattle.ira_cert.specs.Conjuncts.{HasPlacesOf};
 ghost use Rattle.ira_order.specs.Ring.{log_of};
 
 use crate::asked_lines::clause_at;
 use crate::case_block::{Told, decide_again};
 use crate::good_ring::state_after;
 use crate::section_lines::section_line;
-use ira_cert::{Left, Section, Unsound, case_fronts};
+use ira_cert::{QueueHead, Section, Unsound, case_fronts};
 use ira_elim::Found;
 use ira_event::{Logs, OutOfMemory};
 use ira_evidence::{SectionEvidence, UnsoundStep, Unspent};
@@ -137,7 +137,7 @@ fn add_left<A: Allocator + Copy, P: Allocator>(
     logs: &Logs<A>,
     told: Told<'_, A>,
     place: u8,
-    left: Left,
+    left: QueueHead,
 ) -> Result<(), OutOfMemory> {
     page.begin(Mark::Plain)?;
     page.words("node ")?;
@@ -157,9 +157,9 @@ fn add_left<A: Allocator + Copy, P: Allocator>(
         }
     }
     match left {
-        Left::NotAsked => {}
-        Left::Spent => page.words("no candidate left")?,
-        Left::First(position) => {
+        QueueHead::NotAsked => {}
+        QueueHead::Spent => page.words("no candidate left")?,
+        QueueHead::First(position) => {
             page.words("first candidate left ")?;
             page.number(u64::from(position))?;
             add_state(alloc, page, logs, place, position)?;
@@ -247,9 +247,9 @@ fn explain_front<A: Allocator + Copy, P: Allocator>(
     let step = unsound.step;
     let (pos, node, other_pos, other) = (step.pos, step.node, step.other_pos, step.other);
     let begin = "A step speaks of the first candidate left of each node;";
-    let words = if unsound.other == Left::First(other_pos) {
+    let words = if unsound.other == QueueHead::First(other_pos) {
         format!(in alloc; "{begin} {pos} of node {node} is not it.")?
-    } else if unsound.own == Left::First(pos) {
+    } else if unsound.own == QueueHead::First(pos) {
         format!(in alloc; "{begin} {other_pos} of node {other} is not it.")?
     } else {
         format!(in alloc;

@@ -1,5 +1,5 @@
 ghost use Rattle.std.specs.Prelude.{map};
-ghost use Rattle.ira_audit.specs.AuditAnswer.{IsAuditAnswer};
+ghost use Rattle.ira_audit.specs.CheckAnswer.{IsCheckAnswer};
 ghost use Rattle.ira_audit.specs.declared.answer.Answer.TheVariants as answer;
 
 use crate::good_ring::read_certificate;
@@ -16,7 +16,7 @@ pub(crate) fn explain_yes<A: Allocator + Clone>(
     question: &NamedText<'_>,
     certificate: &NamedText<'_>,
 ) -> Result<Page<A>, OutOfMemory>
-    requires { IsAuditAnswer (map (λ log. log.text.now) logs.now) question.now.text.now certificate.now.text.now
+    requires { IsCheckAnswer (map (λ log. log.text.now) logs.now) question.now.text.now certificate.now.text.now
         answer.Yes }
 {
     let mut page = explain_logs(alloc.clone()?, logs, &Answer::Yes)?;

@@ -1,4 +1,4 @@
-pub mod Counted
+pub mod CountingReader
 pub mod FileName
 pub mod ReadText
 pub mod Shelf

@@ -1,7 +1,7 @@
 -- The text that a reader gives, read by read.
 use Rattle.std.specs.Prelude.{◌≡◌, ℕ, ◌<◌, ◌≤◌, true, false, List, [], length}
 use Rattle.std.specs.Io.KnownBytes.{Consumes, IsAtEnd}
-use Rattle.ira_files.specs.Counted.{Reads, one_more}
+use Rattle.ira_files.specs.CountingReader.{Reads, one_more}
 
 -- one read gave these bytes, or none at the end, and didn't fail
 pub record IsReadOnce (old new : Reads) (bytes : List ℕ) : Type 0 where

@@ -1,6 +1,6 @@
 ghost use Rattle.std.specs.Prelude.{◌≡◌};
 
-use crate::counted::Counted;
+use crate::counting_reader::CountingReader;
 use crate::retrying_reader::RetryingReader;
 use crate::shelf::Shelf;
 use crate::shelf_fault::ShelfFault;
@@ -37,7 +37,7 @@ impl<R: Files, A: Allocator> TextSource for FileShelf<'_, R, A> {
 
     fn read<B: Allocator>(&self, name: &str, text: &mut TextBuffer<B>) -> Result<(), ShelfFault> {
         let file = fs::open(self.rt, name)?;
-        text.fill(&mut Counted::new(RetryingReader::new(file)))
+        text.fill(&mut CountingReader::new(RetryingReader::new(file)))
     }
 }
 

@@ -1,7 +1,7 @@
 //! Files by name, and readers: how a text comes from them and goes to them.
 #![tactic(auto)]
 
-mod counted;
+mod counting_reader;
 mod file_name;
 mod file_shelf;
 mod read_text;
@@ -11,7 +11,7 @@ mod shelf_fault;
 mod text_buffer;
 mod text_source;
 
-pub use counted::Counted;
+pub use counting_reader::CountingReader;
 pub use file_name::FileName;
 pub use file_shelf::FileShelf;
 pub use read_text::read_behind;

@@ -1,9 +1,9 @@
 ghost use Rattle.std.specs.Prelude.{◌≡◌, ◌+◌, ◌≤◌, ◌<◌, true, false, take, drop, length, IfOk, is_err, max};
 ghost use Rattle.std.specs.Io.KnownBytes.{ReadConsumes};
-ghost use Rattle.ira_files.specs.Counted.{one_more, gives_none};
+ghost use Rattle.ira_files.specs.CountingReader.{one_more, gives_none};
 ghost use Rattle.ira_files.specs.ReadText.{IsReadTo, IsReadOnce};
 
-use crate::counted::Counted;
+use crate::counting_reader::CountingReader;
 use crate::shelf_fault::ShelfFault;
 use ira_event::MAX_TEXT;
 use std::alloc::Allocator;
@@ -18,7 +18,7 @@ const MORE_ROOM: usize = 65_536;
 const FIRST_ROOM: usize = 4_194_304;
 
 // One read into the room from a place on.
-fn read_at<I: Read>(input: &mut Counted<I>, room: &mut [u8], at: usize) -> io::Result<usize>
+fn read_at<I: Read>(input: &mut CountingReader<I>, room: &mut [u8], at: usize) -> io::Result<usize>
     requires within { at < length room.old }
     requires open { input.old.is_over ≡ false }
     ensures front { take at room.new ≡ take at room.old }
@@ -33,7 +33,7 @@ fn read_at<I: Read>(input: &mut Counted<I>, room: &mut [u8], at: usize) -> io::R
 
 /// Reads once, after the part of the room that is filled.
 pub fn read_behind<A: Allocator, I: Read>(
-    input: &mut Counted<I>,
+    input: &mut CountingReader<I>,
     room: &mut Vec<u8, A>,
     filled: usize,
 ) -> Result<usize, ShelfFault>
@@ -55,7 +55,7 @@ pub fn read_behind<A: Allocator, I: Read>(
 
 // Reads after the part of the room that is filled; a full room is made longer first.
 fn read_more<A: Allocator, I: Read>(
-    input: &mut Counted<I>,
+    input: &mut CountingReader<I>,
     room: &mut Vec<u8, A>,
     filled: usize,
 ) -> Result<usize, ShelfFault>
@@ -82,7 +82,7 @@ fn read_more<A: Allocator, I: Read>(
 /// Reads the bytes that the input has left, to its end or to one more than `MAX_TEXT`, whichever comes first, into
 /// the front of the room, which grows as they come. It gives their number.
 pub(crate) fn read_text<A: Allocator, I: Read>(
-    input: &mut Counted<I>,
+    input: &mut CountingReader<I>,
     room: &mut Vec<u8, A>,
 ) -> Result<usize, ShelfFault>
     requires { length room.old.items ≤ MAX_TEXT + 1 }

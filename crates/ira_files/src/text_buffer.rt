@@ -1,7 +1,7 @@
 ghost use Rattle.std.specs.Prelude.{◌≡◌, ◌≤◌, ◌+◌, true, [], Err, IfOk, OnErr};
 ghost use Rattle.ira_files.specs.ReadText.{IsReadTo};
 
-use crate::counted::Counted;
+use crate::counting_reader::CountingReader;
 use crate::read_text::read_text;
 use crate::shelf_fault::ShelfFault;
 use ira_event::MAX_TEXT;
@@ -49,7 +49,7 @@ impl<A: Allocator> TextBuffer<A> {
 
     /// Reads what the input has left, to its end or to one more than `MAX_TEXT`, whichever comes first. That is
     /// the text then; where a read fails, or memory runs out, the text has no bytes.
-    pub fn fill<I: Read>(&mut self, input: &mut Counted<I>) -> Result<(), ShelfFault>
+    pub fn fill<I: Read>(&mut self, input: &mut CountingReader<I>) -> Result<(), ShelfFault>
         ensures text { IfOk result (λ _. IsReadTo (MAX_TEXT + 1) input.old input.new self.new) }
         ensures err { OnErr result (self.new ≡ []) }
         ensures reads { input.new.reads ≤ input.old.reads + (MAX_TEXT + 1) }

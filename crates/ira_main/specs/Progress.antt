@@ -4,7 +4,7 @@ use Rattle.ira_event.specs.Sink.{SinkState}
 use Rattle.ira_words.specs.Request.{AskForCheck, AskForEvidence, AskForRun}
 use Rattle.ira_words.specs.declared.explain_request.ExplainRequest.{ExplainRequest}
 use Rattle.ira_words.specs.declared.explained_answer.ExplainedAnswer.TheVariants.{Certificate}
-use Rattle.ira_files.specs.Counted.{Reads}
+use Rattle.ira_files.specs.CountingReader.{Reads}
 use Rattle.ira_files.specs.Shelf.{Reading, Writing}
 use Rattle.ira_main.specs.Serve.{Serves}
 use Rattle.ira_main.specs.declared.progress.Progress.{Progress}

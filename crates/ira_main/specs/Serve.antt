@@ -4,11 +4,11 @@ use Rattle.ira_event.specs.Limits.{MAX_TEXT}
 use Rattle.ira_event.specs.RingSize.{IsRingSize}
 use Rattle.ira_event.specs.Sink.{SinkState, Takes, StopsIn}
 use Rattle.ira_pred.specs.Pairs.{ArePairCases}
-use Rattle.ira_pred.specs.Question.{Asked}
+use Rattle.ira_pred.specs.Question.{QuestionCases}
 use Rattle.ira_pred.specs.QuestionText.{question_text}
-use Rattle.ira_audit.specs.Answer.{IsAnswer}
-use Rattle.ira_audit.specs.AuditAnswer.{IsAuditAnswer}
-use Rattle.ira_audit.specs.LogsAnswer.{IsLogsAnswer}
+use Rattle.ira_audit.specs.LogTextAnswer.{IsLogTextAnswer}
+use Rattle.ira_audit.specs.CheckAnswer.{IsCheckAnswer}
+use Rattle.ira_audit.specs.RingAnswer.{IsRingAnswer}
 use Rattle.ira_audit.specs.Never.{NoCaseIsMet}
 use Rattle.ira_audit.specs.TextRuns.{AreTextsOfRuns}
 use Rattle.ira_audit.specs.declared.answer.Answer.{Answer}
@@ -27,7 +27,7 @@ use Rattle.ira_words.specs.declared.log_source.LogSource.{LogSource}
 use Rattle.ira_words.specs.declared.rewrite_request.RewriteRequest.{RewriteRequest}
 use Rattle.ira_words.specs.declared.run_request.RunRequest.{RunRequest}
 use Rattle.ira_words.specs.declared.words_fault.WordsFault.{WordsFault}
-use Rattle.ira_files.specs.Counted.{Reads}
+use Rattle.ira_files.specs.CountingReader.{Reads}
 use Rattle.ira_files.specs.FileName.{file_name}
 use Rattle.ira_files.specs.ReadText.{IsReadTo}
 use Rattle.ira_files.specs.Shelf.{Reading, Writing}
@@ -50,21 +50,21 @@ use Rattle.ira_main.specs.declared.status.Status.TheVariants.{Yes}
 
 -- the text that the input had left was judged, and its answer told; or a read failed, or there was no memory, and nothing
 -- was written
-pub data Judges (Tells : Telling) (old new : Reads) (out out' : SinkState) (outcome : Outcome) : Type 0 where
-  judged : (text : List ℕ) (answer : Answer) → IsReadTo (MAX_TEXT + 1) old new text → IsAnswer text answer
-      → Tells answer out out' outcome → Judges Tells old new out out' outcome
+pub data OneLogOutcome (Tells : Telling) (old new : Reads) (out out' : SinkState) (outcome : Outcome) : Type 0 where
+  judged : (text : List ℕ) (answer : Answer) → IsReadTo (MAX_TEXT + 1) old new text → IsLogTextAnswer text answer
+      → Tells answer out out' outcome → OneLogOutcome Tells old new out out' outcome
   unread : (name : FileName) → file_name name ≡ codes "-" → new.has_failed ≡ true → new.is_over ≡ true
-      → out' ≡ out → outcome ≡ Err (CannotRead name) → Judges Tells old new out out' outcome
-  no_memory : out' ≡ out → outcome ≡ Err OutOfMemory → Judges Tells old new out out' outcome
+      → out' ≡ out → outcome ≡ Err (CannotRead name) → OneLogOutcome Tells old new out out' outcome
+  no_memory : out' ≡ out → outcome ≡ Err OutOfMemory → OneLogOutcome Tells old new out out' outcome
 
 -- the files of these names were read, their texts were judged together, and their answer told; after a yes they are the
 -- texts of runs
-pub record JudgesTogether (Tells : Telling) {S : Type 0} (reads : Reading S) (names : List (List ℕ)) (shelf : S)
+pub record LogsOutcome (Tells : Telling) {S : Type 0} (reads : Reading S) (names : List (List ℕ)) (shelf : S)
     (out out' : SinkState) (outcome : Outcome) : Type 0 where
   pub texts : List (List ℕ)
   pub given : ReadsFiles reads names shelf texts
   pub answer : Answer
-  pub judged : IsLogsAnswer texts answer
+  pub judged : IsRingAnswer texts answer
   pub runs : answer ≡ audit.Yes → AreTextsOfRuns texts
   pub told : Tells answer out out' outcome
 
@@ -72,7 +72,7 @@ pub record JudgesTogether (Tells : Telling) {S : Type 0} (reads : Reading S) (na
 abbrev pub JudgesLogs : Telling → {S : Type 0} → Reading S → LogSource → S → SinkState → SinkState → Outcome → Type 0
 JudgesLogs Tells reads source shelf out out' outcome =
     OfSource reads source shelf shelf out out' outcome (λ names.
-    JudgesTogether Tells reads (names_of names) shelf out out' outcome
+    LogsOutcome Tells reads (names_of names) shelf out out' outcome
     ⊎ GivesNoAnswer (IsFilesFault reads (names_of names) shelf) out out' outcome)
 
 -- the names of the files to check: the question's, the certificate's and the logs'
@@ -81,14 +81,14 @@ check_names asked certified names = asked ∷ certified ∷ names_of names
 
 -- the files of a question, a certificate and logs were read, the texts of the logs were judged together with the text of
 -- the question and the text of the certificate, and their answer told; after a yes no case of the question is met
-pub record JudgesCertified (Tells : Telling) {S : Type 0} (reads : Reading S) (asked certified : List ℕ)
+pub record CheckOutcome (Tells : Telling) {S : Type 0} (reads : Reading S) (asked certified : List ℕ)
     (names : List FileName) (shelf : S) (out out' : SinkState) (outcome : Outcome) : Type 0 where
   pub question : List ℕ
   pub certificate : List ℕ
   pub texts : List (List ℕ)
   pub given : ReadsFiles reads (check_names asked certified names) shelf (question ∷ certificate ∷ texts)
   pub answer : Answer
-  pub judged : IsAuditAnswer texts question certificate answer
+  pub judged : IsCheckAnswer texts question certificate answer
   pub never : answer ≡ audit.Yes → NoCaseIsMet texts question certificate
   pub told : Tells answer out out' outcome
 
@@ -97,7 +97,7 @@ abbrev pub JudgesCheck : Telling → {S : Type 0} → Reading S → List ℕ →
     → Outcome → Type 0
 JudgesCheck Tells reads asked certified source shelf out out' outcome =
     OfSource reads source shelf shelf out out' outcome (λ names.
-    JudgesCertified Tells reads asked certified names shelf out out' outcome
+    CheckOutcome Tells reads asked certified names shelf out out' outcome
     ⊎ GivesNoAnswer (IsFilesFault reads (check_names asked certified names) shelf) out out' outcome)
 
 -- the question is decided of the logs of the source that is named; or no answer is given, and the shelf is as it was
@@ -128,7 +128,7 @@ ExplainsAnswer A reads (Certificate question certificate source) shelf out out' 
 -- the question whether two nodes of a ring of so many ever lead at once was printed
 pub record AsksPairs (nodes : ℕ) (out out' : SinkState) (outcome : Outcome) : Type 0 where
   pub size : IsRingSize nodes
-  pub question : Asked
+  pub question : QuestionCases
   pub nodes_are : question.nodes ≡ nodes
   pub cases_are : ArePairCases nodes question.cases
   pub printed : Prints (question_text question) Yes out out' outcome
@@ -152,15 +152,15 @@ IsRunFault request f =
 
 -- a run that the request asks for was made: each log was written to its file, and then its ends were reported; or a
 -- log wasn't written, and nothing was printed. Or no run was made, and the shelf is as it was
-pub data Records {S : Type 0} (writes : Writing S) (request : RunRequest) (shelf shelf' : S)
+pub data RunOutcome {S : Type 0} (writes : Writing S) (request : RunRequest) (shelf shelf' : S)
     (out out' : SinkState) (outcome : Outcome) : Type 0 where
   recorded : (run : Run) → IsAskedRun request run → WritesLogs writes request.folder.now run.logs shelf shelf'
-      → ReportsEnds run out out' outcome → Records writes request shelf shelf' out out' outcome
+      → ReportsEnds run out out' outcome → RunOutcome writes request shelf shelf' out out' outcome
   unwritten : (run : Run) → IsAskedRun request run
       → GivesNoAnswer (StopsInLogs writes request.folder run.logs shelf shelf') out out' outcome
-      → Records writes request shelf shelf' out out' outcome
+      → RunOutcome writes request shelf shelf' out out' outcome
   not_run : shelf' ≡ shelf → GivesNoAnswer (IsRunFault request) out out' outcome
-      → Records writes request shelf shelf' out out' outcome
+      → RunOutcome writes request shelf shelf' out out' outcome
 
 -- what is done for words: they are refused; or they ask for logs, or for the evidence of an answer, and their texts are
 -- judged together; or to check logs, and their texts are judged with those of a question and of a certificate; or to
@@ -168,50 +168,50 @@ pub data Records {S : Type 0} (writes : Writing S) (request : RunRequest) (shelf
 -- for a ring, and it is run; or to upgrade logs, or to mend them, and it is done; or for the version, and it is printed.
 -- Or no answer is given, for a fault that the command can have. The shelf is as it was but for the files of a run and of upgraded or
 -- mended logs, and a certificate's
-pub data Done (A : Type 0) {S : Type 0} (reads : Reading S) (writes : Writing S)
+pub data CommandOutcome (A : Type 0) {S : Type 0} (reads : Reading S) (writes : Writing S)
     (words : List (List ℕ)) (shelf shelf' : S) (out out' : SinkState)
     (outcome : Outcome) : Type 0 where
   refused : (fault : WordsFault) → MayBeRefused words fault → shelf' ≡ shelf → out' ≡ out
       → outcome ≡ Err (words_fault fault)
-      → Done A reads writes words shelf shelf' out out' outcome
+      → CommandOutcome A reads writes words shelf shelf' out out' outcome
   judged : (source : LogSource) → AskForLogs words source → shelf' ≡ shelf
       → JudgesLogs Reports reads source shelf out out' outcome
-      → Done A reads writes words shelf shelf' out out' outcome
+      → CommandOutcome A reads writes words shelf shelf' out out' outcome
   explained : (explain : ExplainRequest) → AskForEvidence words explain → shelf' ≡ shelf
       → ExplainsAnswer A reads explain.answer shelf out out' outcome
-      → Done A reads writes words shelf shelf' out out' outcome
+      → CommandOutcome A reads writes words shelf shelf' out out' outcome
   certified : (check : CheckRequest) → AskForCheck words check → shelf' ≡ shelf
       → JudgesCheck Reports reads check.question.now check.certificate.now check.logs shelf out out' outcome
-      → Done A reads writes words shelf shelf' out out' outcome
+      → CommandOutcome A reads writes words shelf shelf' out out' outcome
   decided : (decide : DecideRequest) → AskForDecide words decide
       → DecidesLogs A reads writes decide shelf shelf' out out' outcome
-      → Done A reads writes words shelf shelf' out out' outcome
+      → CommandOutcome A reads writes words shelf shelf' out out' outcome
   pairs : (nodes : ℕ) → AskForPairs words nodes → shelf' ≡ shelf
       → AsksPairs nodes out out' outcome ⊎ GivesNoAnswer (IsPairsFault nodes) out out' outcome
-      → Done A reads writes words shelf shelf' out out' outcome
+      → CommandOutcome A reads writes words shelf shelf' out out' outcome
   recorded : (request : RunRequest) → AskForRun words request
-      → Records writes request shelf shelf' out out' outcome
-      → Done A reads writes words shelf shelf' out out' outcome
+      → RunOutcome writes request shelf shelf' out out' outcome
+      → CommandOutcome A reads writes words shelf shelf' out out' outcome
   upgraded : (upgrade : RewriteRequest) → AskForUpgrade words upgrade
       → OfSource reads upgrade.logs shelf shelf' out out' outcome
       (λ names. Upgrades reads writes upgrade (names_of names) shelf shelf' out out' outcome)
-      → Done A reads writes words shelf shelf' out out' outcome
+      → CommandOutcome A reads writes words shelf shelf' out out' outcome
   mended : (mend : RewriteRequest) → AskForMend words mend
       → OfSource reads mend.logs shelf shelf' out out' outcome
       (λ names. Mends reads writes mend names shelf shelf' out out' outcome)
-      → Done A reads writes words shelf shelf' out out' outcome
+      → CommandOutcome A reads writes words shelf shelf' out out' outcome
   versioned : AskForVersion words → shelf' ≡ shelf → Prints version_line Yes out out' outcome
-      → Done A reads writes words shelf shelf' out out' outcome
+      → CommandOutcome A reads writes words shelf shelf' out out' outcome
 
 -- without words the input is judged, and the shelf is as it was, and so it is where they ask for the evidence of one
 -- log; with other words the input isn't read, and what they ask for is done
 pub data Serves (A : Type 0) {S : Type 0} (reads : Reading S) (writes : Writing S)
     (words : List (List ℕ)) (input input' : Reads) (shelf shelf' : S)
     (out out' : SinkState) (outcome : Outcome) : Type 0 where
-  without_words : words ≡ [] → shelf' ≡ shelf → Judges Reports input input' out out' outcome
+  without_words : words ≡ [] → shelf' ≡ shelf → OneLogOutcome Reports input input' out out' outcome
       → Serves A reads writes words input input' shelf shelf' out out' outcome
   explained : (explain : ExplainRequest) → AskForEvidence words explain → explain.answer ≡ OneLog → shelf' ≡ shelf
-      → Judges Explains input input' out out' outcome
+      → OneLogOutcome Explains input input' out out' outcome
       → Serves A reads writes words input input' shelf shelf' out out' outcome
-  with_words : words ≢ [] → input' ≡ input → Done A reads writes words shelf shelf' out out' outcome
+  with_words : words ≢ [] → input' ≡ input → CommandOutcome A reads writes words shelf shelf' out out' outcome
       → Serves A reads writes words input input' shelf shelf' out out' outcome

@@ -6,7 +6,7 @@ use Rattle.ira_event.specs.Logs.{AreLogs}
 use Rattle.ira_event.specs.Sink.{SinkState}
 use Rattle.ira_event.specs.Upgrade.{upgraded}
 use Rattle.ira_audit.specs.LogTexts.{AreLogTexts}
-use Rattle.ira_audit.specs.LogsAnswer.{IsLogsAnswer}
+use Rattle.ira_audit.specs.RingAnswer.{IsRingAnswer}
 use Rattle.ira_audit.specs.Refusal.{IsTextOrHeadsReason}
 use Rattle.ira_audit.specs.declared.answer.Answer.TheVariants.{No}
 use Rattle.ira_audit.specs.declared.reason.Reason.{Reason}
@@ -43,7 +43,7 @@ pub data Upgrades {S : Type 0} (reads : Reading S) (writes : Writing S) (upgrade
       → AreLogTexts texts logs → AreLogs logs → KeepsUpgrades writes upgrade.folder logs shelf shelf' out out' outcome
       → Upgrades reads writes upgrade names shelf shelf' out out' outcome
   no_ring : (texts : List (List ℕ)) (r : Reason) → ReadsFiles reads names shelf texts
-      → IsLogsAnswer texts (No r) → IsTextOrHeadsReason r → shelf' ≡ shelf → Reports (No r) out out' outcome
+      → IsRingAnswer texts (No r) → IsTextOrHeadsReason r → shelf' ≡ shelf → Reports (No r) out out' outcome
       → Upgrades reads writes upgrade names shelf shelf' out out' outcome
   unread : shelf' ≡ shelf → GivesNoAnswer (IsFilesFault reads names shelf) out out' outcome
       → Upgrades reads writes upgrade names shelf shelf' out out' outcome

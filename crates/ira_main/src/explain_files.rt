@@ -1,6 +1,6 @@
 ghost use Rattle.std.specs.Prelude.{◌≤◌, ◌+◌};
 ghost use Rattle.ira_main.specs.Outcome.{Explains};
-ghost use Rattle.ira_main.specs.Serve.{Judges, JudgesLogs};
+ghost use Rattle.ira_main.specs.Serve.{OneLogOutcome, JudgesLogs};
 
 use crate::named_file::{named_texts, read_named};
 use crate::program_fault::ProgramFault;
@@ -9,7 +9,7 @@ use crate::status::Status;
 use crate::view_printer::print_view;
 use ira_event::{MAX_TEXT, Sink};
 use ira_explain::NamedText;
-use ira_files::{Counted, FileName, TextBuffer, TextSource};
+use ira_files::{CountingReader, FileName, TextBuffer, TextSource};
 use ira_views::{explain_text, explain_texts};
 use ira_words::LogSource;
 use std::alloc::Allocator;
@@ -42,10 +42,10 @@ where
 /// Judges the log on the input, and says why the answer is as it is.
 pub(crate) fn explain_input<'a, A: Allocator + Clone, I: Read, W: Sink>(
     alloc: A,
-    input: &mut Counted<I>,
+    input: &mut CountingReader<I>,
     out: &mut W,
 ) -> Result<Status, ProgramFault<'a>>
-    ensures judged { Judges Explains input.old input.new (W.state out.old) (W.state out.new) result }
+    ensures judged { OneLogOutcome Explains input.old input.new (W.state out.old) (W.state out.new) result }
     ensures reads { input.new.reads ≤ input.old.reads + (MAX_TEXT + 1) }
 {
     let mut text = TextBuffer::new(alloc.clone()?);

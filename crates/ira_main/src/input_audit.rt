@@ -1,11 +1,11 @@
 ghost use Rattle.std.specs.Prelude.{◌≡◌, ◌+◌, ◌≤◌, ◌<◌, ◌++◌, true, false, [], List, ℕ, IfOk, IfErr, OnOk, length};
-ghost use Rattle.ira_audit.specs.Answer.{IsAnswer};
+ghost use Rattle.ira_audit.specs.LogTextAnswer.{IsLogTextAnswer};
 ghost use Rattle.ira_audit.specs.Report.{IsReportable};
 ghost use Rattle.ira_files.specs.ReadText.{IsReadOnce, IsReadTo};
 
 use ira_audit::{Answer, LogAudit};
 use ira_event::MAX_TEXT;
-use ira_files::{Counted, ShelfFault, read_behind};
+use ira_files::{CountingReader, ShelfFault, read_behind};
 use std::alloc::Allocator;
 use std::io::Read;
 use std::marker::Model;
@@ -91,7 +91,7 @@ impl<A: Allocator> InputAudit<A> {
     }
 
     /// Reads once, where there is room.
-    fn read<I: Read>(&mut self, input: &mut Counted<I>) -> Result<(), ShelfFault>
+    fn read<I: Read>(&mut self, input: &mut CountingReader<I>) -> Result<(), ShelfFault>
         requires room { length self.old.bytes < self.old.room }
         requires open { input.old.is_over ≡ false }
         ensures once { OnOk result ((bytes : List ℕ) × IsReadOnce input.old input.new bytes
@@ -108,7 +108,7 @@ impl<A: Allocator> InputAudit<A> {
 
     /// The answer of the text, of which all was read.
     fn finish(self) -> Answer
-        ensures answer { (text : List ℕ) → HasReadText self text → IsAnswer text result }
+        ensures answer { (text : List ℕ) → HasReadText self text → IsLogTextAnswer text result }
         ensures reportable { (text : List ℕ) → HasReadText self text → IsReportable result }
     {
         self.audit.finish(&self.room[..self.filled])
@@ -119,10 +119,10 @@ impl<A: Allocator> InputAudit<A> {
 /// first.
 pub(crate) fn audit_input<A: Allocator, I: Read>(
     alloc: A,
-    input: &mut Counted<I>,
+    input: &mut CountingReader<I>,
 ) -> Result<Answer, ShelfFault>
     ensures answer { IfOk result (λ answer. (text : List ℕ)
-        × IsReadTo (MAX_TEXT + 1) input.old input.new text × IsAnswer text answer) }
+        × IsReadTo (MAX_TEXT + 1) input.old input.new text × IsLogTextAnswer text answer) }
     ensures reportable { IfOk result IsReportable }
     ensures reads { input.new.reads ≤ input.old.reads + (MAX_TEXT + 1) }
     ensures device { result ≡ Err ShelfFault.Device

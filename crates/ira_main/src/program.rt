@@ -2,7 +2,7 @@ ghost use Rattle.std.specs.Prelude.{◌≡◌, ◌≤◌, ◌+◌, map};
 ghost use Rattle.ira_files.specs.Shelf.{WritesFile};
 ghost use Rattle.ira_main.specs.Outcome.{Outcome, Reports, ReportsOutcome, outcome_number};
 ghost use Rattle.ira_main.specs.Progress.{ServesOrLeaves};
-ghost use Rattle.ira_main.specs.Serve.{Judges, JudgesCheck, JudgesLogs, Serves};
+ghost use Rattle.ira_main.specs.Serve.{OneLogOutcome, JudgesCheck, JudgesLogs, Serves};
 
 use crate::decide_files::decide_files;
 use crate::explain_files::{explain_files, explain_input};
@@ -20,7 +20,7 @@ use crate::status::Status;
 use crate::upgrade_files::upgrade_files;
 use crate::version::print_version;
 use ira_event::{MAX_TEXT, Sink};
-use ira_files::{Counted, FileName, Shelf};
+use ira_files::{CountingReader, FileName, Shelf};
 use ira_links::OpenGate;
 use ira_words::{CheckRequest, ExplainRequest, ExplainedAnswer, LogSource, Request, read_words};
 use std::alloc::Allocator;
@@ -32,10 +32,10 @@ use std::time::Clock;
 // Judges the log on the input.
 fn judge_input<'a, A: Allocator, I: Read, W: Sink>(
     alloc: A,
-    input: &mut Counted<I>,
+    input: &mut CountingReader<I>,
     out: &mut W,
 ) -> Result<Status, ProgramFault<'a>>
-    ensures judged { Judges Reports input.old input.new (W.state out.old) (W.state out.new) result }
+    ensures judged { OneLogOutcome Reports input.old input.new (W.state out.old) (W.state out.new) result }
     ensures reads { input.new.reads ≤ input.old.reads + (MAX_TEXT + 1) }
 {
     match audit_input(alloc, input) {
@@ -88,7 +88,7 @@ where
     let certificate = read_file(&alloc, FileName::Given(check.certificate), shelf)?;
     let audit = read_logs(rt, alloc, &names, shelf)?;
     let (question, certificate) = (question.bytes(), certificate.bytes());
-    let answer = audit.finish_with(rt, question, certificate, check.depth, &OpenGate)?;
+    let answer = audit.finish_check(rt, question, certificate, check.depth, &OpenGate)?;
     report(&answer, out)
 }
 
@@ -99,7 +99,7 @@ pub fn serve_without_wait<'a, R, A, I, F, W>(
     rt: &R,
     alloc: A,
     words: &'a [&'a str],
-    input: &mut Counted<I>,
+    input: &mut CountingReader<I>,
     shelf: &mut F,
     out: &mut W,
 ) -> Progress<'a>
@@ -162,7 +162,7 @@ fn execute<'a, R, A, I, F, W>(
     rt: &R,
     alloc: A,
     words: &'a [&'a str],
-    input: &mut Counted<I>,
+    input: &mut CountingReader<I>,
     shelf: &mut F,
     out: &mut W,
 ) -> Result<Status, ProgramFault<'a>>
@@ -205,7 +205,7 @@ pub fn serve<R, A, I, F, W, V>(
     rt: &R,
     alloc: A,
     words: &[&str],
-    input: &mut Counted<I>,
+    input: &mut CountingReader<I>,
     shelf: &mut F,
     out: &mut W,
     err: &mut V,

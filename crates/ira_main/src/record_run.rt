@@ -1,7 +1,7 @@
 ghost use Rattle.std.specs.Prelude.{◌≡◌, false, true};
 ghost use Rattle.ira_files.specs.Shelf.{WritesFile};
 ghost use Rattle.ira_main.specs.AskedRun.{IsAskedRun};
-ghost use Rattle.ira_main.specs.Serve.{Records};
+ghost use Rattle.ira_main.specs.Serve.{RunOutcome};
 
 use crate::asked_run::{run_alone, run_on_threads};
 use crate::log_files::write_files;
@@ -29,7 +29,7 @@ where
     F: Shelf,
     W: Sink,
     requires { request.now.is_alone ≡ true }
-    ensures { Records (WritesFile F.creates F.closes F.Out.state) request.now shelf.old shelf.new
+    ensures { RunOutcome (WritesFile F.creates F.closes F.Out.state) request.now shelf.old shelf.new
         (W.state out.old) (W.state out.new) result }
 {
     let Some(nodes) = ring_size(request.nodes) else {
@@ -53,7 +53,7 @@ where
     F: Shelf,
     W: Sink,
     requires { request.now.is_alone ≡ false }
-    ensures { Records (WritesFile F.creates F.closes F.Out.state) request.now shelf.old shelf.new
+    ensures { RunOutcome (WritesFile F.creates F.closes F.Out.state) request.now shelf.old shelf.new
         (W.state out.old) (W.state out.new) result }
 {
     let Some(nodes) = ring_size(request.nodes) else {
@@ -77,7 +77,7 @@ where
     F: Shelf,
     W: Sink,
     requires { IsAskedRun request.now run.now }
-    ensures { Records (WritesFile F.creates F.closes F.Out.state) request.now shelf.old shelf.new
+    ensures { RunOutcome (WritesFile F.creates F.closes F.Out.state) request.now shelf.old shelf.new
         (W.state out.old) (W.state out.new) result }
 {
     let mut text = MemorySink::new(alloc.clone()?);

@@ -4,7 +4,7 @@ ghost use Rattle.std.specs.Process.{exit_status};
 use crate::program::serve;
 use crate::program_fault::{ProgramFault, report_outcome};
 use ira_event::{Sink, ToWriter};
-use ira_files::{Counted, FileShelf};
+use ira_files::{CountingReader, FileShelf};
 use std::alloc::{AllocError, Global};
 use std::io::{ErrorKind, Read, Write};
 use std::process::ExitCode;
@@ -48,7 +48,7 @@ where
         rt,
         alloc,
         &words,
-        &mut Counted::new(input),
+        &mut CountingReader::new(input),
         &mut FileShelf::new(rt, alloc),
         &mut ToWriter::new(out),
         err,

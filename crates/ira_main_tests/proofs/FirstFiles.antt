@@ -9,7 +9,7 @@ use Rattle.std.proofs.lemmas.List.Elements.{All-append, All-cons, All-more, All-
 use Rattle.std.specs.Io.KnownBytes.{Consumes, IsAtEnd}
 use Rattle.std.proofs.lemmas.Bool.{cases_lt}
 use Rattle.ira_event.specs.Limits.{MAX_TEXT}
-use Rattle.ira_files.specs.Counted.{Reads}
+use Rattle.ira_files.specs.CountingReader.{Reads}
 use Rattle.ira_files.specs.ReadText.{IsReadTo}
 use Rattle.ira_files.specs.Shelf.{File}
 use Rattle.ira_files.specs.declared.shelf_fault.ShelfFault.{ShelfFault}

@@ -6,7 +6,7 @@ use crate::samples::{
     PAIRS_OF_THREE, TIED_0, TIED_1, TWO_STEPS,
 };
 use crate::words::{TRY_HELP, assert_refused};
-use ira_files::Counted;
+use ira_files::CountingReader;
 use std::process::Abort;
 use std::sync::Wait;
 use std::thread::Threads;
@@ -34,7 +34,7 @@ fn assert_checked<'a>(
         ("1.log", File::Text(ELECTED_1)),
     ];
     let words = ["check", "--question=q", "--cert=c", "0.log", "1.log"];
-    let mut input = Counted::new(Input::empty());
+    let mut input = CountingReader::new(Input::empty());
     assert_served(rt, &words, &files, &mut input, status, out, err);
     assert_eq!(rt; input.reads(), 0);
 }
@@ -137,7 +137,7 @@ fn pairs_of_three(rt: HostRuntime) {
             "1",
             "2",
         ];
-        let mut input = Counted::new(Input::empty());
+        let mut input = CountingReader::new(Input::empty());
         assert_served(&rt, &words, &files, &mut input, 0, "yes\n", "");
     }
 }
@@ -179,7 +179,7 @@ fn eight_step_section(rt: HostRuntime) {
             ("--cert=unsound", 1, "no: case 0: step 1: not front\n"),
         ] {
             let words = ["check", "--question=q", certificate, depth, "0", "1"];
-            let mut input = Counted::new(Input::empty());
+            let mut input = CountingReader::new(Input::empty());
             assert_served(&rt, &words, &files, &mut input, status, line, "");
         }
     }

@@ -7,7 +7,7 @@ use crate::samples::{
     PAIRS_OF_THREE, TWO_CASES, TWO_STEPS,
 };
 use crate::words::{TRY_HELP, assert_refused};
-use ira_files::Counted;
+use ira_files::CountingReader;
 use std::process::Abort;
 use std::sync::Wait;
 use std::thread::Threads;
@@ -33,7 +33,7 @@ fn assert_decided(
         ("c", certificate),
     ];
     let mut shelf = MemoryShelf::new(rt.alloc(), &files);
-    let mut input = Counted::new(Input::empty());
+    let mut input = CountingReader::new(Input::empty());
     assert_served_on(rt, words, &mut shelf, &mut input, status, out, err);
     assert_eq!(rt; input.reads(), 0);
     shelf.assert_written(rt, written);
@@ -105,7 +105,7 @@ fn certificates_over_an_input(rt: HostRuntime) {
 #[test]
 fn pairs_of_three(rt: HostRuntime) {
     assert_eq!(rt; PAIRS_OF_THREE.len(), 95);
-    let mut input = Counted::new(Input::empty());
+    let mut input = CountingReader::new(Input::empty());
     let words = ["pairs", "3"];
     assert_served(&rt, &words, &[], &mut input, 0, PAIRS_OF_THREE, "");
     let files = [
@@ -127,7 +127,7 @@ fn pairs_of_three(rt: HostRuntime) {
 #[test]
 fn pairs_of_no_ring(rt: HostRuntime) {
     for number in ["0", "1", "256", "258", "18446744073709551615"] {
-        let mut input = Counted::new(Input::empty());
+        let mut input = CountingReader::new(Input::empty());
         let words = ["pairs", number];
         assert_served(&rt, &words, &[], &mut input, 2, "", "ira: ring size\n");
     }
@@ -160,6 +160,12 @@ fn answers_on_a_full_device(rt: HostRuntime) {
         ["decide", "--question=q", "--out=c", "0", "1"].as_slice(),
         ["pairs", "2"].as_slice(),
     ] {
-        assert_unanswered(&rt, words, &files, &mut Counted::new(Input::empty()), &[]);
+        assert_unanswered(
+            &rt,
+            words,
+            &files,
+            &mut CountingReader::new(Input::empty()),
+            &[],
+        );
     }
 }

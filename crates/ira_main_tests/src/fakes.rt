@@ -3,7 +3,7 @@ ghost use Rattle.std.specs.Prelude.{◌≢◌, ◌++◌, All, IfSome, MatchOptio
 ghost use Rattle.ira_main_tests.specs.MemoryFiles.{HasFirst};
 
 use ira_event::{Sink, SinkFault};
-use ira_files::{Counted, Shelf, ShelfFault, TextBuffer, TextSource};
+use ira_files::{CountingReader, Shelf, ShelfFault, TextBuffer, TextSource};
 use ira_main::serve;
 use ira_refusing::{FailingSink, Refusing};
 use std::alloc::{Allocator, Global};
@@ -168,7 +168,7 @@ impl TextSource for MemoryShelf<'_> {
 
     fn read<A: Allocator>(&self, name: &str, text: &mut TextBuffer<A>) -> Result<(), ShelfFault> {
         match self.bytes_of(name) {
-            Some(bytes) => text.fill(&mut Counted::new(bytes)),
+            Some(bytes) => text.fill(&mut CountingReader::new(bytes)),
             None => Err(ShelfFault::Device),
         }
     }
@@ -281,7 +281,7 @@ pub(crate) fn served<R>(
     alloc: Memory,
     words: &[&str],
     shelf: &mut MemoryShelf<'_>,
-    input: &mut Counted<Input<'_>>,
+    input: &mut CountingReader<Input<'_>>,
     [out_fails, err_fails]: [usize; 2],
 ) -> Output
 where
@@ -298,7 +298,7 @@ pub(crate) fn served_amply<R>(
     rt: &R,
     words: &[&str],
     shelf: &mut MemoryShelf<'_>,
-    input: &mut Counted<Input<'_>>,
+    input: &mut CountingReader<Input<'_>>,
     fails: [usize; 2],
 ) -> Output
 where
@@ -314,7 +314,7 @@ pub(crate) fn assert_served_on(
     rt: &(impl Abort + AllocGlobal + Threads + Wait + Clock + Sync),
     words: &[&str],
     shelf: &mut MemoryShelf<'_>,
-    input: &mut Counted<Input<'_>>,
+    input: &mut CountingReader<Input<'_>>,
     status: u8,
     out: &str,
     err: &str,
@@ -330,7 +330,7 @@ pub(crate) fn assert_served(
     rt: &(impl Abort + AllocGlobal + Threads + Wait + Clock + Sync),
     words: &[&str],
     files: &[(&str, File<'_>)],
-    input: &mut Counted<Input<'_>>,
+    input: &mut CountingReader<Input<'_>>,
     status: u8,
     out: &str,
     err: &str,
@@ -350,7 +350,7 @@ pub(crate) fn assert_written(
     err: &str,
     written: &[(&str, &str)],
 ) {
-    let mut input = Counted::new(Input::empty());
+    let mut input = CountingReader::new(Input::empty());
     let mut shelf = MemoryShelf::new(rt.alloc(), files);
     assert_served_on(rt, words, &mut shelf, &mut input, status, out, err);
     assert!(rt; input.reads() == 0 && shelf.has_written(written));

@@ -5,7 +5,7 @@ use crate::samples::{
     ELECTED_0, ELECTED_1, EXPLAINED, LEADER_AND_ACTIVE, TWO_STEPS, UPGRADED_0, UPGRADED_1,
 };
 use crate::words::{TRY_HELP, USAGE, assert_refused};
-use ira_files::Counted;
+use ira_files::CountingReader;
 use std::process::Abort;
 use std::sync::Wait;
 use std::thread::Threads;
@@ -23,7 +23,7 @@ const FILES: &[(&str, File<'static>)] = &[
 #[test]
 fn ring_of_twelve(rt: HostRuntime) {
     let mut shelf = MemoryShelf::new(rt.alloc(), &[]);
-    let mut input = Counted::new(Input::empty());
+    let mut input = CountingReader::new(Input::empty());
     let run = [
         "run",
         "--nodes=12",

@@ -1,7 +1,7 @@
 //! The program where its output is on a full device.
 
 use crate::fakes::{File, Input, MemoryShelf, NEVER, served_amply};
-use ira_files::Counted;
+use ira_files::CountingReader;
 use std::process::Abort;
 use std::sync::Wait;
 use std::thread::Threads;
@@ -13,7 +13,7 @@ pub(crate) fn assert_unanswered(
     rt: &(impl Abort + AllocGlobal + Threads + Wait + Clock + Sync),
     words: &[&str],
     files: &[(&str, File<'_>)],
-    input: &mut Counted<Input<'_>>,
+    input: &mut CountingReader<Input<'_>>,
     written: &[(&str, &str)],
 ) {
     let mut shelf = MemoryShelf::new(rt.alloc(), files);

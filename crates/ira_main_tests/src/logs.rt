@@ -3,7 +3,7 @@
 use crate::fakes::{File, Input, assert_served};
 use crate::full_device::assert_unanswered;
 use crate::samples::{ELECTED_0, ELECTED_1, LONE_0, LONE_1, LONE_2, SECOND_TERM_0, SECOND_TERM_1};
-use ira_files::Counted;
+use ira_files::CountingReader;
 use std::process::Abort;
 use std::sync::Wait;
 use std::thread::Threads;
@@ -21,7 +21,7 @@ fn assert_logs(
 ) {
     let files = [("ring/0.log", first), ("ring/1.log", second)];
     let words = ["logs", "ring/0.log", "ring/1.log"];
-    let mut input = Counted::new(Input::empty());
+    let mut input = CountingReader::new(Input::empty());
     assert_served(rt, &words, &files, &mut input, status, out, err);
     assert_eq!(rt; input.reads(), 0);
 }
@@ -110,7 +110,7 @@ fn heads_out_of_place(rt: HostRuntime) {
     let of_three = "irlog 1\nnodes 3\nplace 1\nstart passive\nrecv 1 1 1 clean\nsend 1 1 2 clean\n\
                     end 2\n";
     let alone = [("0.log", File::Text(ELECTED_0))];
-    let mut input = Counted::new(Input::empty());
+    let mut input = CountingReader::new(Input::empty());
     let line = "no: heads: number\n";
     assert_served(&rt, &["logs", "0.log"], &alone, &mut input, 1, line, "");
     assert_no(&rt, [ELECTED_1, ELECTED_0], "no: heads: place 0\n");
@@ -139,7 +139,7 @@ fn names_behind_dashes(rt: HostRuntime) {
         ("--", File::Text(ELECTED_1)),
     ];
     let words = ["logs", "--", "-0.log", "--"];
-    let mut input = Counted::new(Input::empty());
+    let mut input = CountingReader::new(Input::empty());
     assert_served(&rt, &words, &files, &mut input, 0, "yes\n", "");
 }
 
@@ -159,7 +159,7 @@ fn logs_of_three_nodes(rt: HostRuntime) {
             "no: heads: place 1\n",
         ),
     ] {
-        let mut input = Counted::new(Input::empty());
+        let mut input = CountingReader::new(Input::empty());
         assert_served(&rt, words, &files, &mut input, status, line, "");
     }
 }
@@ -171,5 +171,11 @@ fn answer_on_a_full_device(rt: HostRuntime) {
         ("1.log", File::Text(ELECTED_1)),
     ];
     let words = ["logs", "0.log", "1.log"];
-    assert_unanswered(&rt, &words, &files, &mut Counted::new(Input::empty()), &[]);
+    assert_unanswered(
+        &rt,
+        &words,
+        &files,
+        &mut CountingReader::new(Input::empty()),
+        &[],
+    );
 }

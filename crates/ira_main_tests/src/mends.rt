@@ -3,7 +3,7 @@
 use crate::fakes::{File, Input, assert_written};
 use crate::full_device::assert_unanswered;
 use crate::samples::{ELECTED_0, ELECTED_1, SECOND_TERM_0, SECOND_TERM_1};
-use ira_files::Counted;
+use ira_files::CountingReader;
 use std::process::Abort;
 use std::sync::Wait;
 use std::thread::Threads;
@@ -182,6 +182,6 @@ fn files_that_cannot_be_written(rt: HostRuntime) {
 fn lines_on_a_full_device(rt: HostRuntime) {
     let words = ["mend", "--out=d", "0.log", "1.log"];
     let written = [("d/0.log", BEGUN_0), ("d/1.log", BEGUN_1)];
-    let mut input = Counted::new(Input::empty());
+    let mut input = CountingReader::new(Input::empty());
     assert_unanswered(&rt, &words, &TEXTS, &mut input, &written);
 }

@@ -3,7 +3,7 @@
 use crate::fakes::{Input, assert_served};
 use crate::full_device::assert_unanswered;
 use crate::samples::SECOND_TERM_0;
-use ira_files::Counted;
+use ira_files::CountingReader;
 use std::alloc::Global;
 use std::process::Abort;
 use std::sync::Wait;
@@ -24,7 +24,7 @@ fn assert_read(
     reads: u64,
 ) {
     let status = if line == "yes\n" { 0 } else { 1 };
-    let mut input = Counted::new(Input::new(text));
+    let mut input = CountingReader::new(Input::new(text));
     assert_served(rt, &[], &[], &mut input, status, line, "");
     assert!(rt; input.reads() == reads && !input.has_failed());
 }
@@ -89,14 +89,14 @@ fn second_term(rt: HostRuntime) {
 
 #[test]
 fn no_bytes(rt: HostRuntime) {
-    let mut input = Counted::new(Input::empty());
+    let mut input = CountingReader::new(Input::empty());
     assert_served(&rt, &[], &[], &mut input, 1, "no: log 0: head\n", "");
     assert_eq!(rt; input.reads(), 1);
 }
 
 #[test]
 fn reader_fails_in_mid_text(rt: HostRuntime) {
-    let mut input = Counted::new(Input::failing(EMPTY_HEAD.as_bytes()));
+    let mut input = CountingReader::new(Input::failing(EMPTY_HEAD.as_bytes()));
     assert_served(&rt, &[], &[], &mut input, 2, "", "ira: cannot read -\n");
     assert_eq!(rt; input.reads(), 21);
     assert!(rt; input.has_failed());
@@ -132,5 +132,11 @@ fn input_of_several_reads(rt: HostRuntime) -> Result<(), Fail> {
 #[test]
 fn answer_on_a_full_device(rt: HostRuntime) {
     let text = "irlog 1\nnodes 2\nplace 0\nstart initiator\nend 0\n".as_bytes();
-    assert_unanswered(&rt, &[], &[], &mut Counted::new(Input::new(text)), &[]);
+    assert_unanswered(
+        &rt,
+        &[],
+        &[],
+        &mut CountingReader::new(Input::new(text)),
+        &[],
+    );
 }

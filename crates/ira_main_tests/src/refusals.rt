@@ -7,7 +7,7 @@ use crate::samples::{
     ELECTED_0, ELECTED_1, EXPLAINED, LEADER_AND_ACTIVE, PAIRS_OF_THREE, TWO_CASES, TWO_STEPS,
     UPGRADED_0, UPGRADED_1,
 };
-use ira_files::Counted;
+use ira_files::CountingReader;
 use ira_refusing::each_growth_refused;
 use std::process::Abort;
 use std::sync::Wait;
@@ -217,7 +217,7 @@ where
     R: AllocGlobal + Threads + Wait + Clock + Sync,
 {
     let mut shelf = MemoryShelf::new(rt.alloc(), FILES);
-    let mut input = Counted::new(Input::new(ELECTED_0.as_bytes()));
+    let mut input = CountingReader::new(Input::new(ELECTED_0.as_bytes()));
     let found = served(
         rt,
         alloc,
@@ -258,7 +258,7 @@ fn is_cut_behind(
     taken: &[u8],
 ) -> bool {
     let mut shelf = MemoryShelf::new(rt.alloc(), FILES);
-    let mut input = Counted::new(Input::new(ELECTED_0.as_bytes()));
+    let mut input = CountingReader::new(Input::new(ELECTED_0.as_bytes()));
     let found = served_amply(rt, case.words, &mut shelf, &mut input, [taken.len(), NEVER]);
     let told = b"ira: cannot write the answer\n".as_slice();
     let is_kept = if case.is_of("decide") {

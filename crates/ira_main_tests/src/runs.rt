@@ -3,7 +3,7 @@
 use crate::fakes::{File, Input, MemoryShelf, NEVER, Output, assert_served_on, served_amply};
 use crate::full_device::assert_unanswered;
 use crate::samples::{ELECTED_0, ELECTED_1, LONE_0, LONE_1, LONE_2, SECOND_TERM_0, SECOND_TERM_1};
-use ira_files::Counted;
+use ira_files::CountingReader;
 use std::alloc::{AllocError, Global};
 use std::process::Abort;
 use std::sync::Wait;
@@ -21,7 +21,7 @@ fn assert_run(
     err: &str,
     written: &[(&str, &str)],
 ) {
-    let mut input = Counted::new(Input::empty());
+    let mut input = CountingReader::new(Input::empty());
     let mut shelf = MemoryShelf::new(rt.alloc(), broken);
     assert_served_on(rt, words, &mut shelf, &mut input, status, out, err);
     assert!(rt; input.reads() == 0 && shelf.has_written(written));
@@ -254,7 +254,7 @@ fn ends_on_a_full_device(rt: HostRuntime) {
         "run", "--nodes", "2", "--seed", "7", "--out", "d", "--alone",
     ];
     let written = [("d/0.log", ELECTED_0), ("d/1.log", ELECTED_1)];
-    let mut input = Counted::new(Input::empty());
+    let mut input = CountingReader::new(Input::empty());
     assert_unanswered(&rt, &words, &[], &mut input, &written);
 }
 
@@ -264,7 +264,7 @@ fn done(
     words: &[&str],
     shelf: &mut MemoryShelf<'_>,
 ) -> Output {
-    let mut input = Counted::new(Input::empty());
+    let mut input = CountingReader::new(Input::empty());
     let found = served_amply(rt, words, shelf, &mut input, [NEVER, NEVER]);
     assert!(rt; found.status == 0 && found.err.bytes().is_empty());
     found

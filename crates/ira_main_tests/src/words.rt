@@ -1,7 +1,7 @@
 //! Words that are refused, and what is said of them.
 
 use crate::fakes::{Input, MemoryShelf, NEVER, assert_served, served_amply};
-use ira_files::Counted;
+use ira_files::CountingReader;
 use std::process::Abort;
 use std::sync::Wait;
 use std::thread::Threads;
@@ -30,7 +30,7 @@ pub(crate) fn assert_refused(
     rest: &str,
 ) {
     let text = format!(in rt.alloc(); "{first}{rest}").expect(rt, "memory");
-    let mut input = Counted::new(Input::empty());
+    let mut input = CountingReader::new(Input::empty());
     assert_served(rt, words, &[], &mut input, 2, "", text.as_str());
     assert_eq!(rt; input.reads(), 0);
 }
@@ -52,7 +52,7 @@ fn words_that_are_no_command(rt: HostRuntime) {
 
 #[test]
 fn help_is_a_refused_word(rt: HostRuntime) {
-    let help = "Judges and makes logs of Itai-Rodeh elections on anonymous rings.\n\n\
+    let help = "OneLogOutcome and makes logs of Itai-Rodeh elections on anonymous rings.\n\n\
                 Usage: ira < LOG\n       ira logs <LOGS>\n       ira explain [<LOGS>]\n       \
                 ira explain --question <Q> [--case <K> | --cert <C>] <LOGS>\n       \
                 ira check --question <Q> --cert <C> [--depth <D>] <LOGS>\n       \
@@ -63,9 +63,9 @@ fn help_is_a_refused_word(rt: HostRuntime) {
                 ira mend --out <DIR> <LOGS>\n       \
                 ira version\n\nLOGS is either <LOG>... or --dir <DIR>\n\n\
                 Commands:\n\
-                \x20 logs     Judges the logs of all nodes of a ring together\n\
-                \x20 explain  Judges logs, or one log on standard input, and says why the answer is so\n\
-                \x20 check    Judges logs together with a certificate that no moment met a case of a question\n\
+                \x20 logs     OneLogOutcome the logs of all nodes of a ring together\n\
+                \x20 explain  OneLogOutcome logs, or one log on standard input, and says why the answer is so\n\
+                \x20 check    OneLogOutcome logs together with a certificate that no moment met a case of a question\n\
                 \x20 decide   Decides for each case of a question whether some moment of the logged run met it\n\
                 \x20 pairs    Prints the question whether two nodes of a ring ever lead at once\n\
                 \x20 run      Runs an election, and writes the log of each node to a file\n\
@@ -90,7 +90,7 @@ fn help_is_a_refused_word(rt: HostRuntime) {
 #[test]
 fn refusal_on_a_full_device(rt: HostRuntime) {
     let mut shelf = MemoryShelf::new(rt.alloc(), &[]);
-    let mut input = Counted::new(Input::empty());
+    let mut input = CountingReader::new(Input::empty());
     let found = served_amply(&rt, &["audit"], &mut shelf, &mut input, [NEVER, 0]);
     assert!(rt; found.status == 2 && found.out.bytes().is_empty());
 }

@@ -10,7 +10,7 @@ use Rattle.ira_order.specs.Ring.{log_of}
 use Rattle.ira_order.specs.Run.{AreLocalRuns}
 use Rattle.ira_order.specs.VectorClock.{AtOrBefore}
 use Rattle.ira_audit.specs.declared.answer.Answer.TheVariants.{Yes}
-use Rattle.ira_audit.specs.LogsAnswer.{IsLogsAnswer}
+use Rattle.ira_audit.specs.RingAnswer.{IsRingAnswer}
 use Rattle.ira_audit.specs.LogTexts.{AreLogTexts}
 use Rattle.ira_mend.specs.Beginning.{AreBegun, IsConsistentBeginning, IsGreatestBeginning}
 use Rattle.ira_mend.specs.Mended.{HasDifference, IsGreatestOf}
@@ -66,4 +66,4 @@ abbrev pub MendedRunsGetYes : Type 0
 MendedRunsGetYes =
     (whole left mended : List Log) (cut : List ℕ) (texts : List (List ℕ)) → AreLogs whole → HasOrder whole
     → AreLocalRuns whole → AreBegun whole cut left → IsGreatestOf left mended → AreLogTexts texts mended
-    → IsLogsAnswer texts Yes
+    → IsRingAnswer texts Yes

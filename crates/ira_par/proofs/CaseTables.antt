@@ -6,19 +6,19 @@ use Rattle.std.proofs.lemmas.Option.{same_Some, slice_get_cases, slice_get-get_o
 use Rattle.std.proofs.lemmas.Option.{get_or_from_slice_get}
 use Rattle.ira_event.specs.Log.{Log}
 use Rattle.ira_pred.specs.Case.{Conjunct}
-use Rattle.ira_cert.specs.Asked.{IsAsked, CandidatesOf, HasPlacesOf}
-use Rattle.ira_par.specs.Table.{Table, IsTableFor, IsListAt, AreTables, AreBelow}
+use Rattle.ira_cert.specs.Conjuncts.{IsAsked, CandidatesOf, HasPlacesOf}
+use Rattle.ira_par.specs.CandidateTable.{CandidateTable, IsTableFor, IsListAt, AreTables, AreBelow}
 
 -- what holds of all members holds of the one there
 all_at : {X : Type 0} (P : X → Type 0) (xs : List X) (i : ℕ) (x : X) → All P xs → slice_get xs i ≡ Some x → P x
 all_at P xs i x all at = subst P (get_or_from_slice_get xs i x x at) (all i x (slice_get_within xs i x at))
 
-pub below_at : (places : ℕ) (tables : List Table) (i : ℕ) (xs : List ℕ) → AreBelow places tables → IsListAt tables i xs
+pub below_at : (places : ℕ) (tables : List CandidateTable) (i : ℕ) (xs : List ℕ) → AreBelow places tables → IsListAt tables i xs
     → i < places
 below_at places tables i xs below at =
-    all_at (λ (t : Table). t.place < places) tables at.0 (record { place = i; positions = xs }) below at.1
+    all_at (λ (t : CandidateTable). t.place < places) tables at.0 (record { place = i; positions = xs }) below at.1
 
-module _ (logs : List Log) (case : List Conjunct) (tables : List Table) (each : (n : ℕ) (table : Table)
+module _ (logs : List Log) (case : List Conjunct) (tables : List CandidateTable) (each : (n : ℕ) (table : CandidateTable)
     → slice_get tables n ≡ Some table → IsTableFor logs case n table) where
   at_asked : length tables ≡ length case → (i : ℕ) → IsAsked case i → (positions : List ℕ) × IsListAt tables i positions
   at_asked long i asked =
@@ -56,18 +56,18 @@ module _ (logs : List Log) (case : List Conjunct) (tables : List Table) (each : 
       omega (arith, within, is.2)
 
 -- where a table is found for each conjunct
-module _ (logs : List Log) (case : List Conjunct) (P : ℕ → Table → Type 0) (tables : (n : ℕ) (table : Table) → P n table
+module _ (logs : List Log) (case : List Conjunct) (P : ℕ → CandidateTable → Type 0) (tables : (n : ℕ) (table : CandidateTable) → P n table
     → IsTableFor logs case n table) where
-  module _ {V E : Type 0} (items : V → List Table) where
+  module _ {V E : Type 0} (items : V → List CandidateTable) where
     pub tables_if_found : (result : Result V E) → IfOk result (λ v. length (items v) ≡ length case)
-        → IfOk result (λ v. (n : ℕ) (table : Table) → slice_get (items v) n ≡ Some table → P n table)
+        → IfOk result (λ v. (n : ℕ) (table : CandidateTable) → slice_get (items v) n ≡ Some table → P n table)
         → IfOk result (λ v. AreTables logs case (items v))
     tables_if_found (Ok v) long each =
         are_tables logs case (items v) (λ n table at. tables n table (each n table at)) long
     tables_if_found (Err e) long each = tt
 
     pub below_if_found : (result : Result V E) → HasPlacesOf logs case
-        → IfOk result (λ v. (n : ℕ) (table : Table) → slice_get (items v) n ≡ Some table → P n table)
+        → IfOk result (λ v. (n : ℕ) (table : CandidateTable) → slice_get (items v) n ≡ Some table → P n table)
         → IfOk result (λ v. AreBelow (length logs) (items v))
     below_if_found (Ok v) places each =
         are_below logs case (items v) (λ n table at. tables n table (each n table at)) places

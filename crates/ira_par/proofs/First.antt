@@ -8,13 +8,13 @@ use Rattle.ira_pred.specs.Case.{Conjunct}
 use Rattle.ira_cert_text.specs.declared.cert_step.CertStep.{CertStep}
 use Rattle.ira_cert_text.specs.Certificate.{Section}
 use Rattle.ira_cert.specs.declared.section_fault.SectionFault.{SectionFault}
-use Rattle.ira_cert.specs.Asked.{HasDifferentPlaces}
+use Rattle.ira_cert.specs.Conjuncts.{HasDifferentPlaces}
 use Rattle.ira_cert.specs.SectionFault.{IsSectionFault}
 use Rattle.ira_cert.specs.SoundSection.{AreSoundSteps, IsSoundSection}
 use Rattle.ira_par.specs.declared.unsound_section.UnsoundSection.{UnsoundSection}
 use Rattle.ira_par.specs.Ranges.{begin_of}
 use Rattle.ira_par.specs.Share.{Share, IsFoundBy, IsEarlier, IsFirstFound}
-use Rattle.ira_par.specs.Table.{AreTables}
+use Rattle.ira_par.specs.CandidateTable.{AreTables}
 use Rattle.ira_par.specs.Task.{Task, IsSoundUpTo, IsFoundFor, IsFoundIn}
 use Rattle.ira_par.proofs.Begins.{begin_first, begin_last}
 

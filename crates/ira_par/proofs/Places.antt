@@ -5,14 +5,14 @@ use Rattle.std.proofs.lemmas.Option.{slice_get_cases}
 use Rattle.ira_event.specs.Log.{Log}
 use Rattle.ira_pred.specs.Case.{Conjunct}
 use Rattle.ira_cert_text.specs.declared.cert_step.CertStep.{CertStep}
-use Rattle.ira_cert.specs.Asked.{IsAsked, CandidatesOf, HasDifferentPlaces}
+use Rattle.ira_cert.specs.Conjuncts.{IsAsked, CandidatesOf, HasDifferentPlaces}
 use Rattle.ira_cert.specs.Front.{made, IsFront, IsSpent}
-use Rattle.ira_par.specs.Table.{Table, IsListAt, AreTables}
+use Rattle.ira_par.specs.CandidateTable.{CandidateTable, IsListAt, AreTables}
 use Rattle.ira_cert.specs.SoundSection.{AreSoundSteps}
 use Rattle.ira_cert.proofs.OneList.{one_list}
 use Rattle.ira_cert.proofs.SomeVerdict.{enough}
 
-module _ (logs : List Log) (case : List Conjunct) (differ : HasDifferentPlaces case) (tables : List Table)
+module _ (logs : List Log) (case : List Conjunct) (differ : HasDifferentPlaces case) (tables : List CandidateTable)
     (are : AreTables logs case tables) where
   -- a node without a table isn't asked
   pub none_asked : (i : ℕ) → ((xs : List ℕ) → ¬ (IsListAt tables i xs)) → ¬ (IsAsked case i)

@@ -6,13 +6,13 @@ use Rattle.ira_event.specs.Log.{Log}
 use Rattle.ira_pred.specs.Case.{Conjunct}
 use Rattle.ira_cert_text.specs.declared.cert_step.CertStep.{CertStep}
 use Rattle.ira_cert_text.specs.Certificate.{Section}
-use Rattle.ira_cert.specs.declared.left.Left.{Left}
-use Rattle.ira_cert.specs.declared.left.Left.TheVariants.{NotAsked, Spent, First}
+use Rattle.ira_cert.specs.declared.queue_head.QueueHead.{QueueHead}
+use Rattle.ira_cert.specs.declared.queue_head.QueueHead.TheVariants.{NotAsked, Spent, First}
 use Rattle.ira_cert.specs.declared.section_fault.SectionFault.{SectionFault}
 use Rattle.ira_cert.specs.declared.section_fault.SectionFault.TheVariants.{NotSpent}
-use Rattle.ira_cert.specs.Asked.{HasDifferentPlaces}
+use Rattle.ira_cert.specs.Conjuncts.{HasDifferentPlaces}
 use Rattle.ira_cert.specs.Front.{IsSpent}
-use Rattle.ira_cert.specs.Left.{IsLeft}
+use Rattle.ira_cert.specs.QueueHead.{IsQueueHead}
 use Rattle.ira_cert.specs.SoundSection.{AreSoundSteps}
 use Rattle.ira_cert.specs.SectionFault.{unsound, not_spent}
 use Rattle.ira_cert.proofs.OneVerdict.{front_unspent}
@@ -49,9 +49,9 @@ module _ (logs : List Log) (case : List Conjunct) (section : Section) (n r : ℕ
     pub none_found : r + 1 < n → IsFoundInRange logs case section n r None
     none_found more before = (clear before.0, λ last. absurd (omega (arith, more, last)))
 
-    module _ (some : 0 < n) (last : r + 1 ≡ n) (left : Left)
+    module _ (some : 0 < n) (last : r + 1 ≡ n) (left : QueueHead)
         (is_left : AreSoundSteps logs case (before_range section n (r + 1))
-        → IsLeft logs case (before_range section n (r + 1)) section.spent left) where
+        → IsQueueHead logs case (before_range section n (r + 1)) section.spent left) where
       all : before_range section n (r + 1) ≡ section.steps
       all = let end = begin_last (length section.steps) n some in
           take_all (begin_of (length section.steps) n (r + 1)) section.steps
@@ -63,12 +63,12 @@ module _ (logs : List Log) (case : List Conjunct) (section : Section) (n r : ℕ
           let sound = clear before.0 in (
             sound,
             λ _. subst (λ (steps : List CertStep). IsSpent logs case steps section.spent) all
-                (subst (λ (l : Left). IsLeft logs case (before_range section n (r + 1)) section.spent l) is
+                (subst (λ (l : QueueHead). IsQueueHead logs case (before_range section n (r + 1)) section.spent l) is
                 (is_left sound)),
           )
 
-      unspent : HasDifferentPlaces case → (other : Left) → other ≢ Spent
-          → IsLeft logs case (before_range section n (r + 1)) section.spent other
+      unspent : HasDifferentPlaces case → (other : QueueHead) → other ≢ Spent
+          → IsQueueHead logs case (before_range section n (r + 1)) section.spent other
           → ¬ (IsSpent logs case (before_range section n (r + 1)) section.spent)
       unspent differ NotAsked not none = λ spent. none (spent.1.formula, spent.1.asked)
       unspent differ Spent not spent = absurd (not refl)

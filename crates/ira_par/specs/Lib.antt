@@ -1,5 +1,5 @@
 pub mod Ranges
 pub mod Sections
 pub mod Share
-pub mod Table
+pub mod CandidateTable
 pub mod Task

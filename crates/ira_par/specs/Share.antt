@@ -3,7 +3,7 @@ use Rattle.std.specs.Prelude.{◌≡◌, ℕ, ◌<◌, ◌≤◌, ◌⊎◌, Lis
 use Rattle.ira_event.specs.Log.{Log}
 use Rattle.ira_cert.specs.declared.section_fault.SectionFault.{SectionFault}
 use Rattle.ira_par.specs.declared.unsound_section.UnsoundSection.{UnsoundSection}
-use Rattle.ira_par.specs.Table.{AreBelow}
+use Rattle.ira_par.specs.CandidateTable.{AreBelow}
 use Rattle.ira_par.specs.Task.{Task, IsFoundFor}
 
 -- for how many places there are counters, and the first section in whose range a fault was found

@@ -6,18 +6,18 @@ use Rattle.ira_cert_text.specs.Certificate.{Section}
 use Rattle.ira_cert.specs.declared.section_fault.SectionFault.{SectionFault}
 use Rattle.ira_cert.specs.declared.verdict.Verdict.{Verdict}
 use Rattle.ira_cert.specs.declared.verdict.Verdict.TheVariants.{Yes, No}
-use Rattle.ira_cert.specs.Asked.{HasDifferentPlaces}
+use Rattle.ira_cert.specs.Conjuncts.{HasDifferentPlaces}
 use Rattle.ira_cert.specs.Front.{IsSpent}
 use Rattle.ira_cert.specs.SectionFault.{IsSectionFault}
 use Rattle.ira_cert.specs.SoundSection.{AreSoundSteps}
 use Rattle.ira_cert.specs.Verdict.{IsVerdict}
 use Rattle.ira_par.specs.declared.unsound_section.UnsoundSection.{UnsoundSection}
 use Rattle.ira_par.specs.Ranges.{begin_of}
-use Rattle.ira_par.specs.Table.{Table, AreTables, AreBelow}
+use Rattle.ira_par.specs.CandidateTable.{CandidateTable, AreTables, AreBelow}
 
 -- a section, and the candidates of each node that its case asks
 pub record Task : Type 0 where
-  pub tables : List Table
+  pub tables : List CandidateTable
   pub section : Section
 
 -- the section is sound as far as range r of n begins: the steps before it are, and at the end the node is spent

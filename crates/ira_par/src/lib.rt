@@ -1,11 +1,11 @@
 //! The checker of certificates on several threads: the steps of sections are judged range by range.
 #![tactic(auto)]
 
+mod candidate_table;
 mod ranges;
 mod share;
 mod shares;
 mod split;
-mod table;
 mod tables;
 mod task;
 mod unsound_section;

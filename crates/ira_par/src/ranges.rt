@@ -3,16 +3,16 @@ ghost use Rattle.std.specs.Prelude.{◌≡◌, ◌≢◌, ◌<◌, ◌≤◌, Li
 ghost use Rattle.ira_event.specs.Log.{Log};
 ghost use Rattle.ira_pred.specs.Case.{Conjunct};
 ghost use Rattle.ira_cert_text.specs.declared.cert_step.CertStep.{CertStep};
-ghost use Rattle.ira_cert.specs.declared.left.Left.{Left};
-ghost use Rattle.ira_cert.specs.Asked.{HasDifferentPlaces};
-ghost use Rattle.ira_cert.specs.Left.{IsLeft};
+ghost use Rattle.ira_cert.specs.declared.queue_head.QueueHead.{QueueHead};
+ghost use Rattle.ira_cert.specs.Conjuncts.{HasDifferentPlaces};
+ghost use Rattle.ira_cert.specs.QueueHead.{IsQueueHead};
 ghost use Rattle.ira_cert.specs.SoundSection.{AreSoundSteps};
-ghost use Rattle.ira_par.specs.Table.{AreTables, AreBelow};
+ghost use Rattle.ira_par.specs.CandidateTable.{AreTables, AreBelow};
 ghost use Rattle.ira_par.specs.Ranges.{AreMade, IsRangeFault, begin_of as begin_of_range};
 
-use crate::table::Table;
+use crate::candidate_table::CandidateTable;
 use crate::tables::table_at;
-use ira_cert::{CertStep, Left, SectionFault, judge_step};
+use ira_cert::{CertStep, QueueHead, SectionFault, judge_step};
 use ira_order::HappenedBefore;
 use std::alloc::Allocator;
 
@@ -46,7 +46,7 @@ pub(crate) fn count_before(steps: &[CertStep], end: usize, counts: &mut [usize])
 /// the steps before; each step that is found sound is counted, too.
 pub(crate) fn judge_range<C: HappenedBefore, A: Allocator>(
     ordered: &C,
-    tables: &[Table<A>],
+    tables: &[CandidateTable<A>],
     steps: &[CertStep],
     from: usize,
     to: usize,
@@ -63,8 +63,8 @@ pub(crate) fn judge_range<C: HappenedBefore, A: Allocator>(
 {
     for k in from..to {
         let step = &steps[k];
-        let own = left_at(tables, counts, step.node);
-        let other = left_at(tables, counts, step.other);
+        let own = queue_head_at(tables, counts, step.node);
+        let other = queue_head_at(tables, counts, step.other);
         if let Err(why) = judge_step(ordered, step, own, other) {
             return Some(SectionFault::Step(k, why));
         }
@@ -74,18 +74,22 @@ pub(crate) fn judge_range<C: HappenedBefore, A: Allocator>(
 }
 
 /// What is left of the node's candidates after steps of which there are so many for each place.
-pub(crate) fn left_at<A: Allocator>(tables: &[Table<A>], counts: &[usize], place: u8) -> Left
+pub(crate) fn queue_head_at<A: Allocator>(
+    tables: &[CandidateTable<A>],
+    counts: &[usize],
+    place: u8,
+) -> QueueHead
     requires { AreBelow (length counts.now) tables.now }
-    ensures place { result ≢ Left.NotAsked → place < length counts.now }
+    ensures place { result ≢ QueueHead.NotAsked → place < length counts.now }
     ensures left { (logs : List Log) (case : List Conjunct) (before : List CertStep) → HasDifferentPlaces case
         → AreTables logs case tables.now → AreMade before counts.now → AreSoundSteps logs case before
-        → IsLeft logs case before place result }
+        → IsQueueHead logs case before place result }
 {
     let Some(table) = table_at(tables, place) else {
-        return Left::NotAsked;
+        return QueueHead::NotAsked;
     };
     match table.get(counts[usize::from(place)]) {
-        Some(position) => Left::First(position),
-        None => Left::Spent,
+        Some(position) => QueueHead::First(position),
+        None => QueueHead::Spent,
     }
 }

@@ -2,14 +2,14 @@ ghost use Rattle.std.specs.Prelude.{◌≡◌, ◌↔◌, ◌+◌, ◌<◌, ◌�
 ghost use Rattle.ira_event.specs.Result.{UnlessErr};
 ghost use Rattle.ira_pred.specs.Case.{Conjunct};
 ghost use Rattle.ira_cert.specs.declared.section_fault.SectionFault.{SectionFault};
-ghost use Rattle.ira_cert.specs.Asked.{HasPlacesOf};
+ghost use Rattle.ira_cert.specs.Conjuncts.{HasPlacesOf};
 ghost use Rattle.ira_cert.specs.SoundSection.{IsSoundSection};
 ghost use Rattle.ira_cert.specs.SectionFault.{IsSectionFault};
 ghost use Rattle.ira_par.specs.Task.{AreTasksOf};
 ghost use Rattle.ira_par.specs.Sections.{IsFound};
 
+use crate::candidate_table::CandidateTable;
 use crate::shares::judge_batch;
-use crate::table::Table;
 use crate::tables::{case_tables, profiled_tables};
 use crate::task::Task;
 use crate::unsound_section::UnsoundSection;
@@ -187,7 +187,7 @@ fn next_batch<'a, A: Allocator + Clone>(
 }
 
 /// How many tables there are, and candidates in them.
-fn entries_of<A: Allocator>(tables: &[Table<A>]) -> usize {
+fn entries_of<A: Allocator>(tables: &[CandidateTable<A>]) -> usize {
     let mut count = tables.len();
     for table in tables {
         count = count.saturating_add(table.len());

@@ -1,9 +1,9 @@
 // The candidates of a case as lists, one for each node that it asks.
 ghost use Rattle.std.specs.Prelude.{◌≡◌, ◌<◌, ℕ, List, Ok, Some, IfOk, OnOk, MatchOption, length, slice_get};
-ghost use Rattle.ira_cert.specs.Asked.{HasDifferentPlaces, HasPlacesOf};
-ghost use Rattle.ira_par.specs.Table.{IsTableFor, IsListAt, AreTables, AreBelow};
+ghost use Rattle.ira_cert.specs.Conjuncts.{HasDifferentPlaces, HasPlacesOf};
+ghost use Rattle.ira_par.specs.CandidateTable.{IsTableFor, IsListAt, AreTables, AreBelow};
 
-use crate::table::Table;
+use crate::candidate_table::CandidateTable;
 use ira_cand::{Profile, table};
 use ira_event::{Logs, OutOfMemory};
 use ira_pred::Case;
@@ -14,7 +14,7 @@ pub(crate) fn case_tables<A: Allocator + Clone>(
     alloc: A,
     logs: &Logs<A>,
     case: &Case<A>,
-) -> Result<Vec<Table<A>, A>, OutOfMemory>
+) -> Result<Vec<CandidateTable<A>, A>, OutOfMemory>
     requires places { HasPlacesOf logs.now case.now }
     ensures different { OnOk result (HasDifferentPlaces case.now) }
     ensures places { IfOk result (λ tables. AreBelow (length logs.now) tables.items) }
@@ -29,7 +29,7 @@ pub(crate) fn case_tables<A: Allocator + Clone>(
         {
             let place = case.place(n);
             let positions = table(alloc.clone()?, logs.log(place), case.clause(n))?;
-            Ok(Table::new(place, positions))
+            Ok(CandidateTable::new(place, positions))
         },
     )
 }
@@ -39,7 +39,7 @@ pub(crate) fn profiled_tables<A: Allocator + Clone>(
     alloc: A,
     profiles: &[Profile<'_, A>],
     case: &Case<A>,
-) -> Result<Vec<Table<A>, A>, OutOfMemory>
+) -> Result<Vec<CandidateTable<A>, A>, OutOfMemory>
     requires places { HasPlacesOf profiles.now case.now }
     ensures different { OnOk result (HasDifferentPlaces case.now) }
     ensures places { IfOk result (λ tables. AreBelow (length profiles.now) tables.items) }
@@ -54,7 +54,7 @@ pub(crate) fn profiled_tables<A: Allocator + Clone>(
         {
             let place = case.place(n);
             let positions = profiles[usize::from(place)].table(alloc.clone()?, case.clause(n))?;
-            Ok(Table::new(place, positions))
+            Ok(CandidateTable::new(place, positions))
         },
     )
 }
@@ -81,7 +81,10 @@ where
 }
 
 /// The table of the place, if there is one.
-pub(crate) fn table_at<A: Allocator>(tables: &[Table<A>], place: u8) -> Option<&Table<A>>
+pub(crate) fn table_at<A: Allocator>(
+    tables: &[CandidateTable<A>],
+    place: u8,
+) -> Option<&CandidateTable<A>>
     ensures { MatchOption result ((positions : List ℕ) → ¬ (IsListAt tables.now place positions))
         (λ table. IsListAt tables.now place table.now.positions) }
 {

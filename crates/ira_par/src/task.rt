@@ -1,10 +1,10 @@
 ghost use Rattle.std.specs.Prelude.{◌≡◌, ◌<◌, ◌≤◌, length};
-ghost use Rattle.ira_par.specs.Table.{AreBelow};
+ghost use Rattle.ira_par.specs.CandidateTable.{AreBelow};
 ghost use Rattle.ira_par.specs.Task.{IsFoundFor};
 
-use crate::ranges::{begin_of, count_before, judge_range, left_at};
-use crate::table::Table;
-use ira_cert::{Left, Section, SectionFault};
+use crate::candidate_table::CandidateTable;
+use crate::ranges::{begin_of, count_before, judge_range, queue_head_at};
+use ira_cert::{QueueHead, Section, SectionFault};
 use ira_order::HappenedBefore;
 use std::alloc::Allocator;
 use std::marker::Model;
@@ -12,7 +12,7 @@ use std::marker::Model;
 /// A section that is to be judged, and the candidates of its case.
 #[derive(Drop)]
 pub(crate) struct Task<'a, A: Allocator> {
-    pub(crate) tables: Vec<Table<A>, A>,
+    pub(crate) tables: Vec<CandidateTable<A>, A>,
     pub(crate) section: &'a Section<A>,
 }
 
@@ -54,7 +54,7 @@ impl<'a, A: Allocator> Task<'a, A> {
         if number + 1 < ranges {
             return None;
         }
-        let Left::Spent = left_at(tables, counts, section.spent) else {
+        let QueueHead::Spent = queue_head_at(tables, counts, section.spent) else {
             return Some(SectionFault::NotSpent(section.spent));
         };
         None

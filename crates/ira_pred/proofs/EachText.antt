@@ -14,7 +14,7 @@ use Rattle.ira_pred.specs.Case.{Conjunct}
 use Rattle.ira_pred.specs.ClauseScan.{clause_at}
 use Rattle.ira_pred.specs.Formula.{Formula, depth}
 use Rattle.ira_pred.specs.Limits.{MAX_CASES}
-use Rattle.ira_pred.specs.Question.{Asked}
+use Rattle.ira_pred.specs.Question.{QuestionCases}
 use Rattle.ira_pred.specs.QuestionLines.{LinesLeft, ReadsLine, ClauseFault, AreAllCases}
 use Rattle.ira_pred.specs.QuestionScan.{head_at, place_at}
 use Rattle.ira_pred.specs.QuestionText.{IsClauseText, IsQuestionText}
@@ -208,7 +208,7 @@ cases_answer nodes text small =
 -- ---- the whole text
 
 abbrev TextAnswer : List ℕ → Type 0
-TextAnswer text = ((q : Asked) × IsQuestionText text q) ⊎ ((f : AskFault) × QuestionTextFault text f)
+TextAnswer text = ((q : QuestionCases) × IsQuestionText text q) ⊎ ((f : AskFault) × QuestionTextFault text f)
 
 module _ (text : List ℕ) (short : length text ≤ 67108864) where
   headless : ((nodes : ℕ) (rest : List ℕ) → ¬ (BeginsWithQuestionHead text nodes rest)) → TextAnswer text

@@ -13,7 +13,7 @@ use Rattle.ira_pred.specs.declared.ask_fault.AskFault.{AskFault}
 use Rattle.ira_pred.specs.declared.ask_fault.AskFault.TheVariants.{Line, Place, Depth, Empty, Cases, Cut, Trailing}
 use Rattle.ira_pred.specs.Case.{Conjunct, IsCase}
 use Rattle.ira_pred.specs.Limits.{MAX_CASES}
-use Rattle.ira_pred.specs.Question.{Asked}
+use Rattle.ira_pred.specs.Question.{QuestionCases}
 use Rattle.ira_pred.specs.QuestionText.{IsPlaced, AreConjunctLines, AreCaseTexts, IsQuestionText}
 use Rattle.ira_pred.specs.QuestionTextFault.{IsTooDeep, Spot, MayFollow, FirstLineFault, no_case, other_line}
 use Rattle.ira_pred.specs.QuestionTextFault.{CaseLineFault, empty, too_many, no_place, wrong_place, too_deep, no_clause}
@@ -286,7 +286,7 @@ heads_same text n m x y h k =
     (Lacks-numeral 10 k.head_is.0 m (omega arith) k.head_is.2) stripped in
     (numeral_same k.head_is.0 n m (subst (λ t. IsNumeral t n) s.0 h.head_is.2) k.head_is.2, s.1)
 
-head_of : (text : List ℕ) (q : Asked) (h : IsQuestionText text q)
+head_of : (text : List ℕ) (q : QuestionCases) (h : IsQuestionText text q)
     → BeginsWithQuestionHead text q.nodes (h.cases ++ codes "end\n")
 head_of text q h = record {
   head = h.head;
@@ -295,14 +295,14 @@ head_of text q h = record {
   parts = h.parts ∙ append_assoc h.head h.cases (codes "end\n");
 }
 
-no_lines_fault : (text : List ℕ) (q : Asked) (f : AskFault) → IsQuestionText text q → QuestionLinesFault text f → ⊥
+no_lines_fault : (text : List ℕ) (q : QuestionCases) (f : AskFault) → IsQuestionText text q → QuestionLinesFault text f → ⊥
 no_lines_fault text q f h (no_head none is) = none q.nodes (h.cases ++ codes "end\n") (head_of text q h)
 no_lines_fault text q f h (behind_head nodes rest b cf) =
     let s = heads_same text nodes q.nodes rest (h.cases ++ codes "end\n") b (head_of text q h) in
     let moved = subst (λ w. CasesFault q.nodes w f) s.1 (subst (λ n. CasesFault n rest f) s.0 cf) in
     no_cases_fault q.nodes h.cases q.cases f h.valid.some h.valid.count h.valid.cases_are h.cases_are moved
 
-pub question_or_fault : (text : List ℕ) (q : Asked) (f : AskFault) → IsQuestionText text q → QuestionTextFault text f
+pub question_or_fault : (text : List ℕ) (q : QuestionCases) (f : AskFault) → IsQuestionText text q → QuestionTextFault text f
     → ⊥
 question_or_fault text q f h (inl long) = omega (arith, h.short, long.0)
 question_or_fault text q f h (inr lines) = no_lines_fault text q f h lines.1

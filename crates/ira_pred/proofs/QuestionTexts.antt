@@ -18,7 +18,7 @@ use Rattle.ira_pred.specs.declared.rel.Rel.TheVariants.{Less, Equal, Greater}
 use Rattle.ira_pred.specs.Formula.{Formula, always, leader, active, passive, choosing, yielding, owes, round, id, term}
 use Rattle.ira_pred.specs.Formula.{both, either, negated}
 use Rattle.ira_pred.specs.Case.{Conjunct, IsConjunct, IsCase}
-use Rattle.ira_pred.specs.Question.{Asked, IsQuestion}
+use Rattle.ira_pred.specs.Question.{QuestionCases, IsQuestion}
 use Rattle.ira_pred.specs.QuestionText.{rel_sign, IsClauseText, IsPlaced, IsConjunctLine, AreConjunctLines}
 use Rattle.ira_pred.specs.QuestionText.{AreCaseTexts, IsQuestionText, conjunct_text, case_text, question_text, IsShort}
 use Rattle.ira_pred.specs.QuestionText.{clause_text}
@@ -81,7 +81,7 @@ cases_are nodes (c ∷ cs) most good = (
   cases_are nodes cs most (All-tail (IsCase nodes) c cs good),
 )
 
-question_spelled : (text : List ℕ) (q : Asked) → IsQuestionText text q → text ≡ question_text q
+question_spelled : (text : List ℕ) (q : QuestionCases) → IsQuestionText text q → text ≡ question_text q
 question_spelled text q h =
     let number = numeral_is_decimal h.head_is.0 q.nodes h.head_is.2 (omega (arith, h.valid.size.1)) in
     let head = h.head_is.1 ∙ ap (λ w. codes "irask 1\n" ++ codes "nodes " ++ w ++ codes "\n") number in
@@ -89,7 +89,7 @@ question_spelled text q h =
     h.parts ∙ ap (λ w. w ++ h.cases ++ codes "end\n") head
     ∙ ap (λ w. (codes "irask 1\n" ++ codes "nodes " ++ decimal q.nodes ++ codes "\n") ++ w ++ codes "end\n") cases
 
-question_is : (q : Asked) → IsQuestion q → IsShort q → IsQuestionText (question_text q) q
+question_is : (q : QuestionCases) → IsQuestion q → IsShort q → IsQuestionText (question_text q) q
 question_is q good short = record {
   head = codes "irask 1\n" ++ codes "nodes " ++ decimal q.nodes ++ codes "\n";
   cases = flat_map case_text q.cases;
@@ -100,7 +100,7 @@ question_is q good short = record {
   valid = good;
 }
 
-pub one_text : (text : List ℕ) (q : Asked)
+pub one_text : (text : List ℕ) (q : QuestionCases)
     → IsQuestionText text q ↔ (IsQuestion q × IsShort q × (text ≡ question_text q))
 one_text text q = (
   λ h. let is = question_spelled text q h in (h.valid, subst (λ x. length x ≤ 67108864) is h.short, is),
@@ -263,11 +263,11 @@ head_front : (text head cases number : List ℕ) → text ≡ head ++ cases ++ c
     → text ≡ codes "irask 1\nnodes " ++ (number ++ codes "\n" ++ (cases ++ codes "end\n"))
 head_front text head cases number p q = p ∙ ap (λ w. w ++ cases ++ codes "end\n") q ∙ simp append_assoc
 
-asked_made : (a b : Asked) → a.nodes ≡ b.nodes → a.cases ≡ b.cases → a ≡ b
+asked_made : (a b : QuestionCases) → a.nodes ≡ b.nodes → a.cases ≡ b.cases → a ≡ b
 asked_made a b n c = ap (λ m. record { nodes = m; cases = a.cases }) n
     ∙ ap (λ x. record { nodes = b.nodes; cases = x }) c
 
-pub one_question : (text : List ℕ) (a b : Asked) → IsQuestionText text a → IsQuestionText text b → a ≡ b
+pub one_question : (text : List ℕ) (a b : QuestionCases) → IsQuestionText text a → IsQuestionText text b → a ≡ b
 one_question text a b h k =
     let stripped = append_cancel_left (codes "irask 1\nnodes ") _ _
     (sym (head_front text h.head h.cases h.head_is.0 h.parts h.head_is.1)

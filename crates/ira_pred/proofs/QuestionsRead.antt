@@ -5,7 +5,7 @@ use Rattle.std.specs.Prelude.{All, codes}
 use Rattle.ira_pred.specs.declared.ask_fault.AskFault.{AskFault}
 use Rattle.ira_pred.specs.declared.ask_fault.AskFault.TheVariants.{OutOfMemory, Head}
 use Rattle.ira_pred.specs.Case.{Conjunct, IsCase}
-use Rattle.ira_pred.specs.Question.{Asked}
+use Rattle.ira_pred.specs.Question.{QuestionCases}
 use Rattle.ira_pred.specs.QuestionAnswer.{AnswersQuestions, AnswersFaults}
 use Rattle.ira_pred.specs.QuestionLines.{LinesLeft, AreAllCases}
 use Rattle.ira_pred.specs.QuestionText.{IsQuestionText}
@@ -14,29 +14,29 @@ use Rattle.ira_pred.specs.QuestionTextFault.{QuestionTextFault}
 use Rattle.ira_pred.proofs.QuestionAnswers.{question_or_fault, one_fault}
 use Rattle.ira_pred.proofs.QuestionTexts.{one_question}
 
-abbrev pub QuestionRead : Result Asked AskFault → List ℕ → Type 0
+abbrev pub QuestionRead : Result QuestionCases AskFault → List ℕ → Type 0
 QuestionRead (Ok q) text = IsQuestionText text q
 QuestionRead (Err f) text = (f ≡ OutOfMemory) ⊎ QuestionTextFault text f
 
-ok_is : (a b : Asked) → ◌≡◌ {A = Result Asked AskFault} (Ok a) (Ok b) → a ≡ b
+ok_is : (a b : QuestionCases) → ◌≡◌ {A = Result QuestionCases AskFault} (Ok a) (Ok b) → a ≡ b
 ok_is a b e = cc
 
-err_is : (f g : AskFault) → ◌≡◌ {A = Result Asked AskFault} (Err f) (Err g) → f ≡ g
+err_is : (f g : AskFault) → ◌≡◌ {A = Result QuestionCases AskFault} (Err f) (Err g) → f ≡ g
 err_is f g e = cc
 
-pub exactly_ok : (r : Result Asked AskFault) (text : List ℕ) → QuestionRead r text → AnswersQuestions r text
+pub exactly_ok : (r : Result QuestionCases AskFault) (text : List ℕ) → QuestionRead r text → AnswersQuestions r text
 exactly_ok (Ok x) text h q =
     inr (λ e. subst (IsQuestionText text) (ok_is x q e) h, λ k. ap Ok (one_question text x q h k))
 exactly_ok (Err f) text (inl e) q = inl (ap Err e)
 exactly_ok (Err f) text (inr h) q = inr (λ e. absurd cc, λ k. absurd (question_or_fault text q f k h))
 
-pub exactly_err : (r : Result Asked AskFault) (text : List ℕ) → QuestionRead r text → AnswersFaults r text
+pub exactly_err : (r : Result QuestionCases AskFault) (text : List ℕ) → QuestionRead r text → AnswersFaults r text
 exactly_err (Ok x) text h f = inr (λ e. absurd cc, λ k. absurd (question_or_fault text x f h k))
 exactly_err (Err g) text (inl e) f = inl (ap Err e)
 exactly_err (Err g) text (inr h) f =
     inr (λ e. subst (QuestionTextFault text) (err_is g f e) h, λ k. ap Err (one_fault text g f h k))
 
-abbrev pub asked_of : ℕ → List (List Conjunct) → Asked
+abbrev pub asked_of : ℕ → List (List Conjunct) → QuestionCases
 asked_of nodes cases = record { nodes = nodes; cases = cases }
 
 pub question_read : (text : List ℕ) (nodes n : ℕ) (rest : List ℕ) (left : LinesLeft) (cases : List (List Conjunct))

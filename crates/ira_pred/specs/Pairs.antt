@@ -3,7 +3,7 @@ use Rattle.std.specs.Prelude.{◌≡◌, ℕ, zero, suc, ◌+◌, ◌-◌, ◌<�
 use Rattle.std.specs.List.{flat_map}
 use Rattle.ira_pred.specs.Formula.{leader}
 use Rattle.ira_pred.specs.Case.{Conjunct}
-use Rattle.ira_pred.specs.Question.{Asked}
+use Rattle.ira_pred.specs.Question.{QuestionCases}
 
 -- the nodes at both places lead
 abbrev pub pair_case : ℕ → ℕ → List Conjunct
@@ -33,5 +33,5 @@ abbrev pub cases_of_place : ℕ → ℕ → List (List Conjunct)
 cases_of_place n i = map (pair_case i) (numbers_from (i + 1) (n - (i + 1)))
 
 -- the question of all these pairs
-abbrev pub pairs_asked : ℕ → Asked
+abbrev pub pairs_asked : ℕ → QuestionCases
 pairs_asked n = record { nodes = n; cases = flat_map (cases_of_place n) (numbers_from 0 n) }

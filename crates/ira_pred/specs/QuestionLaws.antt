@@ -4,18 +4,18 @@ use Rattle.ira_pred.specs.Limits.{MAX_DEPTH}
 use Rattle.ira_pred.specs.declared.ask_fault.AskFault.{AskFault}
 use Rattle.ira_pred.specs.declared.ask_fault.AskFault.TheVariants.{OutOfMemory}
 use Rattle.ira_pred.specs.Formula.{Formula, depth}
-use Rattle.ira_pred.specs.Question.{Asked, IsQuestion}
+use Rattle.ira_pred.specs.Question.{QuestionCases, IsQuestion}
 use Rattle.ira_pred.specs.QuestionText.{IsClauseText, IsQuestionText, question_text, IsShort}
 use Rattle.ira_pred.specs.QuestionTextFault.{IsTooDeep, QuestionTextFault}
 
 -- each question whose text isn't too long has one text, the one written out
 abbrev pub EachQuestionHasOneText : Type 0
-EachQuestionHasOneText = (text : List ℕ) (q : Asked)
+EachQuestionHasOneText = (text : List ℕ) (q : QuestionCases)
     → IsQuestionText text q ↔ (IsQuestion q × IsShort q × (text ≡ question_text q))
 
 -- no text belongs to two questions
 abbrev pub NoTextIsTwoQuestions : Type 0
-NoTextIsTwoQuestions = (text : List ℕ) (a b : Asked) → IsQuestionText text a → IsQuestionText text b → a ≡ b
+NoTextIsTwoQuestions = (text : List ℕ) (a b : QuestionCases) → IsQuestionText text a → IsQuestionText text b → a ≡ b
 
 -- the text of a clause goes too deep exactly where the clause does
 abbrev pub TextsAreAsDeepAsClauses : Type 0
@@ -23,7 +23,7 @@ TextsAreAsDeepAsClauses = (text : List ℕ) (f : Formula) → IsClauseText text 
 
 -- the text of a question has no fault
 abbrev pub NoQuestionTextHasFaults : Type 0
-NoQuestionTextHasFaults = (text : List ℕ) (q : Asked) (f : AskFault) → IsQuestionText text q
+NoQuestionTextHasFaults = (text : List ℕ) (q : QuestionCases) (f : AskFault) → IsQuestionText text q
     → ¬ (QuestionTextFault text f)
 
 -- no text has two faults
@@ -32,7 +32,7 @@ NoTextHasTwoFaults = (text : List ℕ) (f g : AskFault) → QuestionTextFault te
 
 -- each text is a question's, or has a fault
 abbrev pub EachTextHasAnAnswer : Type 0
-EachTextHasAnAnswer = (text : List ℕ) → ((q : Asked) × IsQuestionText text q)
+EachTextHasAnAnswer = (text : List ℕ) → ((q : QuestionCases) × IsQuestionText text q)
     ⊎ ((f : AskFault) × QuestionTextFault text f)
 
 -- to be out of memory is no fault of a text

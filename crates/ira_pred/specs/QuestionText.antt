@@ -8,7 +8,7 @@ use Rattle.ira_pred.specs.declared.rel.Rel.TheVariants.{Less, Equal, Greater}
 use Rattle.ira_pred.specs.Formula.{Formula, always, leader, active, passive, choosing, yielding, owes, round, id, term}
 use Rattle.ira_pred.specs.Formula.{both, either, negated}
 use Rattle.ira_pred.specs.Case.{Conjunct}
-use Rattle.ira_pred.specs.Question.{Asked, IsQuestion}
+use Rattle.ira_pred.specs.Question.{QuestionCases, IsQuestion}
 
 -- the sign of a comparison
 abbrev pub rel_sign : Rel → List ℕ
@@ -72,7 +72,7 @@ IsQuestionHead text nodes =
     (number : List ℕ) × (text ≡ codes "irask 1\n" ++ codes "nodes " ++ number ++ codes "\n") × IsNumeral number nodes
 
 -- the text of a question: its head, its cases and the end line, all within the limits
-pub record IsQuestionText (text : List ℕ) (q : Asked) : Type 0 where
+pub record IsQuestionText (text : List ℕ) (q : QuestionCases) : Type 0 where
   pub head : List ℕ
   pub cases : List ℕ
   pub head_is : IsQuestionHead head q.nodes
@@ -108,10 +108,10 @@ abbrev pub case_text : List Conjunct → List ℕ
 case_text conjuncts = codes "case\n" ++ flat_map conjunct_text conjuncts
 
 -- a question
-abbrev pub question_text : Asked → List ℕ
+abbrev pub question_text : QuestionCases → List ℕ
 question_text q =
     codes "irask 1\n" ++ codes "nodes " ++ decimal q.nodes ++ codes "\n" ++ flat_map case_text q.cases ++ codes "end\n"
 
 -- the question's text isn't too long
-abbrev pub IsShort : Asked → Type 0
+abbrev pub IsShort : QuestionCases → Type 0
 IsShort q = length (question_text q) ≤ MAX_TEXT

@@ -18,10 +18,10 @@ pub struct Question<A: Allocator> {
 impl<A: Allocator> Model for Question<A> {
     ghost use Rattle.std.specs.Coded.{codes};
     ghost use Rattle.ira_pred.specs.FormulaCode.{formula_code};
-    ghost use Rattle.ira_pred.specs.Question.{Asked, IsQuestion};
+    ghost use Rattle.ira_pred.specs.Question.{QuestionCases, IsQuestion};
     ghost use Rattle.ira_pred.specs.QuestionText.{IsShort};
 
-    ghost Value = { Asked };
+    ghost Value = { QuestionCases };
 
     ghost coded = { Prim.hlevel (codes, formula_code) };
 

@@ -1,6 +1,6 @@
 ghost use Rattle.std.specs.Prelude.{IfOk};
-ghost use Rattle.ira_audit.specs.Answer.{IsAnswer};
-ghost use Rattle.ira_audit.specs.LogsAnswer.{IsLogsAnswer};
+ghost use Rattle.ira_audit.specs.LogTextAnswer.{IsLogTextAnswer};
+ghost use Rattle.ira_audit.specs.RingAnswer.{IsRingAnswer};
 ghost use Rattle.ira_audit.specs.Report.{IsReportable};
 ghost use Rattle.ira_views.specs.Texts.{texts_of};
 
@@ -18,7 +18,7 @@ pub fn explain_texts<R: Threads, A: Allocator + Clone + Sync>(
     alloc: A,
     texts: &[NamedText<'_>],
 ) -> Result<View<A>, OutOfMemory>
-    ensures answer { IfOk result (λ view. IsLogsAnswer (texts_of texts.now) view.answer) }
+    ensures answer { IfOk result (λ view. IsRingAnswer (texts_of texts.now) view.answer) }
     ensures reportable { IfOk result (λ view. IsReportable view.answer) }
 {
     let answer = take_texts(alloc.clone()?, texts)?.finish(rt)?;
@@ -31,7 +31,7 @@ pub fn explain_text<A: Allocator + Clone>(
     alloc: A,
     text: &NamedText<'_>,
 ) -> Result<View<A>, OutOfMemory>
-    ensures answer { IfOk result (λ view. IsAnswer text.now.text.now view.answer) }
+    ensures answer { IfOk result (λ view. IsLogTextAnswer text.now.text.now view.answer) }
     ensures reportable { IfOk result (λ view. IsReportable view.answer) }
 {
     let answer = audit_one(alloc.clone()?, text.text)?;

@@ -1,5 +1,5 @@
 ghost use Rattle.std.specs.Prelude.{◌≡◌, IfOk};
-ghost use Rattle.ira_audit.specs.AuditAnswer.{IsAuditAnswer};
+ghost use Rattle.ira_audit.specs.CheckAnswer.{IsCheckAnswer};
 ghost use Rattle.ira_audit.specs.Findings.{AreFindings, AreReportable};
 ghost use Rattle.ira_audit.specs.Never.{NoCaseIsMet};
 ghost use Rattle.ira_audit.specs.Report.{IsReportable};
@@ -50,13 +50,13 @@ where
     R: Threads + Wait + Clock + Sync,
     A: Allocator + Clone + Send + Sync,
     ensures answer { IfOk result (λ view.
-        IsAuditAnswer (texts_of texts.now) question.now.text.now certificate.now.text.now view.answer) }
+        IsCheckAnswer (texts_of texts.now) question.now.text.now certificate.now.text.now view.answer) }
     ensures reportable { IfOk result (λ view. IsReportable view.answer) }
     ensures never { IfOk result (λ view. view.answer ≡ Yes
         → NoCaseIsMet (texts_of texts.now) question.now.text.now certificate.now.text.now) }
 {
     let audit = take_texts(alloc.clone()?, texts)?;
-    let answer = audit.finish_with(rt, question.text, certificate.text, DEPTH, &OpenGate)?;
+    let answer = audit.finish_check(rt, question.text, certificate.text, DEPTH, &OpenGate)?;
     let page = explain_check_answer(alloc, texts, question, certificate, &answer)?;
     Ok(View { answer, page })
 }

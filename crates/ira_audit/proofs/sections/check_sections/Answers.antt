@@ -5,11 +5,11 @@ use Rattle.std.proofs.lemmas.List.{take_all}
 use Rattle.ira_event.specs.Log.{Log}
 use Rattle.ira_pred.specs.Case.{Conjunct}
 use Rattle.ira_cert_text.specs.Certificate.{Section}
-use Rattle.ira_cert.specs.Asked.{HasPlacesOf}
+use Rattle.ira_cert.specs.Conjuncts.{HasPlacesOf}
 use Rattle.ira_cert.specs.SoundSection.{IsSoundSection}
 use Rattle.ira_par.specs.declared.unsound_section.UnsoundSection.{UnsoundSection}
 use Rattle.ira_par.specs.Sections.{AreSoundBefore, IsFirstUnsoundSection, IsFound}
-use Rattle.ira_audit.specs.AuditAnswer.{AreSound}
+use Rattle.ira_audit.specs.CheckAnswer.{AreSound}
 use Rattle.ira_audit.proofs.sections.check_sections.Goals as goal
 
 -- what ties the first n members of two lists, by their numbers

@@ -1,6 +1,6 @@
 use Rattle.std.proofs.Common.{List, take}
 use Rattle.ira_pred.specs.Case.{Conjunct}
-use Rattle.ira_cert.specs.Asked.{HasDifferentPlaces}
+use Rattle.ira_cert.specs.Conjuncts.{HasDifferentPlaces}
 use Rattle.ira_cert.specs.Fronts.{AreFronts}
 use Rattle.ira_cert.specs.FrontsBehind.{AreFrontsBehind}
 use Rattle.ira_cert.specs.SoundSection.{AreSoundSteps}

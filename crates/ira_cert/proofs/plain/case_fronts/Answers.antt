@@ -4,6 +4,6 @@ use Rattle.ira_cert.proofs.plain.case_fronts.Goals as goal
 
 pub returns-clause-fronts : goal.returns-clause-fronts
 returns-clause-fronts g c =
-    fronts_if_found c.args.logs.now c.args.case.now _ (λ n positions found. search rules) c.find_asked.result (λ all.
+    fronts_if_found c.args.logs.now c.args.case.now _ (λ n positions found. search rules) c.map_conjuncts.result (λ all.
     all.items) c.size.result c.requires (sym c.size.ensures.value)
-    c.find_asked.ensures.count c.find_asked.ensures.found
+    c.map_conjuncts.ensures.count c.map_conjuncts.ensures.found

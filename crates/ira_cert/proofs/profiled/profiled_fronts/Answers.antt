@@ -5,5 +5,5 @@ use Rattle.ira_cert.proofs.profiled.profiled_fronts.Goals as goal
 pub returns-clause-fronts : goal.returns-clause-fronts
 returns-clause-fronts g c =
     fronts_if_found c.args.profiles.now c.args.case.now _ (λ n positions found.
-    search rules) c.find_asked.result (λ all. all.items) c.args.nodes c.requires.places c.requires.nodes
-    c.find_asked.ensures.count c.find_asked.ensures.found
+    search rules) c.map_conjuncts.result (λ all. all.items) c.args.nodes c.requires.places c.requires.nodes
+    c.map_conjuncts.ensures.count c.map_conjuncts.ensures.found

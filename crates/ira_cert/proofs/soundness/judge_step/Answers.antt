@@ -1,6 +1,6 @@
 use Rattle.std.proofs.Common.{inl, inr, refl, sym, subst}
-use Rattle.ira_cert.specs.declared.left.Left.{Left}
-use Rattle.ira_cert.specs.Left.{IsLeft}
+use Rattle.ira_cert.specs.declared.queue_head.QueueHead.{QueueHead}
+use Rattle.ira_cert.specs.QueueHead.{IsQueueHead}
 use Rattle.ira_cert.specs.Front.{IsFront}
 use Rattle.ira_cert.specs.SectionFault.{not_front, not_before}
 use Rattle.ira_cert.proofs.Behind.{one_front}
@@ -12,9 +12,9 @@ pub returns-then-step-front-clause-verdict : goal.returns-then-step-front-clause
 returns-then-step-front-clause-verdict g c = λ case before differ own other.
     let logs = (g.C.HappenedBefore.logs_of c.args.ordered.now) in let s = c.args.step.now in
     let front : IsFront logs case before s.node c.in-First.front =
-    subst (λ (l : Left). IsLeft logs case before s.node l) c.in-First.is own in
+    subst (λ (l : QueueHead). IsQueueHead logs case before s.node l) c.in-First.is own in
     let other_front : IsFront logs case before s.other c.in-First-other.other_front =
-    subst (λ (l : Left). IsLeft logs case before s.other l) c.in-First-other.is other in
+    subst (λ (l : QueueHead). IsQueueHead logs case before s.other l) c.in-First-other.is other in
     not_front c.if-step.false (c.in-First.front, front) (c.in-First-other.other_front, other_front)
     (elim c.then-step-front.branch [
       | then-step-front-via-then-step-front w ↦
@@ -29,9 +29,9 @@ pub returns-then-not-rules_out-clause-verdict : goal.returns-then-not-rules_out-
 returns-then-not-rules_out-clause-verdict g c = λ case before differ own other.
     let logs = (g.C.HappenedBefore.logs_of c.args.ordered.now) in let s = c.args.step.now in
     let front : IsFront logs case before s.node c.in-First.front =
-    subst (λ (l : Left). IsLeft logs case before s.node l) c.in-First.is own in
+    subst (λ (l : QueueHead). IsQueueHead logs case before s.node l) c.in-First.is own in
     let other_front : IsFront logs case before s.other c.in-First-other.other_front =
-    subst (λ (l : Left). IsLeft logs case before s.other l) c.in-First-other.is other in
+    subst (λ (l : QueueHead). IsQueueHead logs case before s.other l) c.in-First-other.is other in
     not_before c.if-step.false
     (subst (IsFront logs case before s.node) (sym c.if-step-front.false) front)
     (subst (IsFront logs case before s.other) (sym c.if-step-other_front.false) other_front)

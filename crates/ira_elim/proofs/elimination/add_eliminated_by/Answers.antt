@@ -2,7 +2,7 @@ use Rattle.std.proofs.Common.{◌≡◌, ◌<◌, ℕ, Some, slice_get, inl, inr
 use Rattle.std.proofs.Common.{arith}
 use Rattle.std.proofs.lemmas.Option.{same_Some}
 use Rattle.ira_elim.specs.PairSet.{Has}
-use Rattle.ira_elim.specs.Stand.{KnowsNext}
+use Rattle.ira_elim.specs.CandidateClock.{KnowsNext}
 use Rattle.ira_elim.proofs.Places.{at_place}
 use Rattle.ira_elim.proofs.Standing.{each_asked, found_at, is_within, long_counts}
 use Rattle.ira_elim.proofs.elimination.add_eliminated_by.Goals as goal

@@ -2,7 +2,7 @@ use Rattle.std.proofs.Common.{◌≡◌, ◌≤◌, ◌<◌, ℕ, Some, true, fa
 use Rattle.std.proofs.Common.{sym, ◌∙◌, subst, arith}
 use Rattle.std.proofs.lemmas.Option.{same_Some}
 use Rattle.ira_cert.proofs.Behind.{slice_get-set_same}
-use Rattle.ira_elim.specs.Stand.{Stand, IsStand}
+use Rattle.ira_elim.specs.CandidateClock.{CandidateClock, IsCandidateClock}
 use Rattle.ira_elim.proofs.Standing.{found_at, is_within, long_counts, set_standing}
 use Rattle.ira_elim.proofs.elimination.advance.Goals as goal
 
@@ -67,5 +67,5 @@ returns-else-advance-clause-added g c =
     let is : t ≡ c.advance.new.self = same_Some _ _ (sym new_at ∙ new) in
     elim c.advance.ensures.same [
       | inl moved ↦ absurd (let none : true ≡ false = sym moved ∙ c.if-advance.false in cc)
-      | inr same ↦ ap (λ (u : Stand). u.counts) is ∙ same ∙ ap (λ (u : Stand). u.counts) (sym was)
+      | inr same ↦ ap (λ (u : CandidateClock). u.counts) is ∙ same ∙ ap (λ (u : CandidateClock). u.counts) (sym was)
     ]))

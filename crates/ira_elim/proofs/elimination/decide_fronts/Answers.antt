@@ -8,7 +8,7 @@ use Rattle.ira_cert.proofs.Behind.{all_left, one_fewer}
 use Rattle.ira_cert.specs.Fronts.{HasList}
 use Rattle.ira_elim.specs.Elimination.{ArePlaces, AreStands, AreWithin, HasEliminations, IsElimination, IsFirstLeft}
 use Rattle.ira_elim.specs.LeastCut.{IsLeastCut}
-use Rattle.ira_elim.specs.Stand.{Stand, AreStanding, IsStand}
+use Rattle.ira_elim.specs.CandidateClock.{CandidateClock, AreStanding, IsCandidateClock}
 use Rattle.ira_elim.proofs.NewEliminations.{all_again, own_first, own_list, still_left}
 use Rattle.ira_elim.proofs.Places.{none_left}
 use Rattle.ira_elim.proofs.Present.{present}
@@ -57,7 +57,7 @@ eliminating_pairs-requires g c =
     let nodes : length stands ≡ length logs =
     c.in_ok-stands.ensures.count
     ∙ (c.get-nodes.ensures.value ∙ c.size.ensures.value ∙ ap (λ (ls : List Log). length ls) c.logs.ensures) in
-    subst (λ (ss : List Stand). AreStanding ss c.deref-6.result.now) (sym c.deref-5.ensures.value)
+    subst (λ (ss : List CandidateClock). AreStanding ss c.deref-6.result.now) (sym c.deref-5.ensures.value)
     (subst (AreStanding stands) (sym c.deref-6.ensures.value)
     (standing logs fronts stands inside are c.in_ok-asked.asked.items listed left nodes))
 
@@ -231,7 +231,7 @@ advance-requires-clause-stand g c = λ t at.
     let stand = stand_is logs fronts c.steps.stands.items inside so_far.stands s.node s.pos t is.front at in
     let onward = own_first logs some.0 c.steps.invariant.0 fronts _ made.behind s is left c.in-Some-front.position first
     in
-    (omega (arith, stand.position, onward), subst (λ (n : ℕ). IsStand logs s.node n t) (sym stand.position) stand)
+    (omega (arith, stand.position, onward), subst (λ (n : ℕ). IsCandidateClock logs s.node n t) (sym stand.position) stand)
 
 pub steps-smaller : goal.steps-smaller
 steps-smaller g c =
@@ -305,7 +305,7 @@ steps-preserved g c =
         );
         left = still_left logs some.0 c.steps.invariant.0 fronts _ made.behind s is left so_far.left
             c.in-Some-front.position first;
-        nodes = ap (λ (ss : List Stand). length ss) set ∙ length-set stands s.node moved.0 ∙ so_far.nodes;
+        nodes = ap (λ (ss : List CandidateClock). length ss) set ∙ length-set stands s.node moved.0 ∙ so_far.nodes;
         stands = again;
         pairs =
             all_again logs some.0 c.steps.invariant.0 fronts _ made.behind s is left c.next_step.new.pairs
@@ -319,7 +319,7 @@ steps-preserved g c =
 pub least_cut-requires-clause-nodes : goal.least_cut-requires-clause-nodes
 least_cut-requires-clause-nodes g c =
     c.get-nodes.ensures.value ∙ c.size.ensures.value ∙ ap (λ (ls : List Log). length ls) c.logs.ensures
-    ∙ sym (ap (λ (ss : List Stand). length ss) c.deref-7.ensures.value ∙ c.steps.invariant.1.nodes)
+    ∙ sym (ap (λ (ss : List CandidateClock). length ss) c.deref-7.ensures.value ∙ c.steps.invariant.1.nodes)
 
 pub least_cut-requires-clause-standing : goal.least_cut-requires-clause-standing
 least_cut-requires-clause-standing g c =
@@ -331,7 +331,7 @@ least_cut-requires-clause-standing g c =
     let inside = within logs some.0 c.steps.invariant.0 fronts made.behind in
     let places = places_stay logs some.0 c.steps.invariant.0 fronts made.behind c.args.fronts.items
     c.in_ok-asked.asked.items some.2 listed in
-    subst (λ (ss : List Stand). AreStanding ss c.deref-8.result.now) (sym c.deref-7.ensures.value)
+    subst (λ (ss : List CandidateClock). AreStanding ss c.deref-8.result.now) (sym c.deref-7.ensures.value)
     (subst (AreStanding c.steps.stands.items) (sym c.deref-8.ensures.value)
     (standing logs fronts c.steps.stands.items inside so_far.stands c.in_ok-asked.asked.items places so_far.left
     so_far.nodes))

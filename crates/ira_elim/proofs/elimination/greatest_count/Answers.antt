@@ -2,7 +2,7 @@ use Rattle.std.proofs.Common.{ℕ, ◌≤◌, inl, get_or, refl, sym, ◌∙◌,
 use Rattle.std.proofs.lemmas.Option.{same_Some}
 use Rattle.ira_order.specs.VectorClock.{IsCount}
 use Rattle.ira_elim.specs.Elimination.{IsFirstLeft}
-use Rattle.ira_elim.specs.Stand.{IsStand}
+use Rattle.ira_elim.specs.CandidateClock.{IsCandidateClock}
 use Rattle.ira_elim.proofs.Greatest.{greatest_more}
 use Rattle.ira_elim.proofs.Places.{at_place, each_place}
 use Rattle.ira_elim.proofs.Standing.{found_at, is_within, long_counts}
@@ -56,8 +56,8 @@ loop-other-preserved g c = λ logs fronts lp places left inside are.
     (omega (arith, c.from.ensures, within)) c.index-stands-from.is in
     let first = left other ((places other).0 member) in
     let stand = are other first.0 first.1 in
-    let is : IsStand logs other first.0 c.index-stands-from.result =
-    subst (IsStand logs other first.0) (same_Some _ _ (sym stand.1 ∙ at)) stand.2 in
+    let is : IsCandidateClock logs other first.0 c.index-stands-from.result =
+    subst (IsCandidateClock logs other first.0) (same_Some _ _ (sym stand.1 ∙ at)) stand.2 in
     let here = inside other first.0 first.1 in
     let count : IsCount logs other first.0 c.args.place c.count.result =
     c.count.ensures logs first.0 here.0 lp here.1 is in

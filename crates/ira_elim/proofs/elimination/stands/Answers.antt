@@ -1,5 +1,5 @@
 use Rattle.std.proofs.Common.{◌≡◌, ℕ, refl, subst, arith}
-use Rattle.ira_elim.specs.Stand.{IsStand}
+use Rattle.ira_elim.specs.CandidateClock.{IsCandidateClock}
 use Rattle.ira_elim.proofs.Places.{one_first}
 use Rattle.ira_elim.proofs.Standing.{one_stand_more}
 use Rattle.ira_elim.proofs.elimination.stands.Goals as goal
@@ -19,7 +19,7 @@ loop-place-preserved g c =
           let same : w.in-Some.position ≡ q =
           one_first fronts c.loop-place.place c.loop-place.place w.in-Some.position q refl w.in-Some.ensures first
           in
-          rw w.stand-is (subst (λ (n : ℕ). IsStand logs c.loop-place.place n w.in_ok-stand-in-Some.stand) same
+          rw w.stand-is (subst (λ (n : ℕ). IsCandidateClock logs c.loop-place.place n w.in_ok-stand-in-Some.stand) same
           w.in_ok-stand-in-Some.ensures)
       | in-None w ↦ λ q first. absurd (w.in-None.ensures q first)
     ]) in

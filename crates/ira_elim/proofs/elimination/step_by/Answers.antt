@@ -4,7 +4,7 @@ use Rattle.std.proofs.lemmas.List.{get_or_default}
 use Rattle.std.proofs.lemmas.Option.{slice_get_within}
 use Rattle.ira_cert_text.specs.declared.cert_step.CertStep.{CertStep}
 use Rattle.ira_elim.specs.Elimination.{IsFirstLeft}
-use Rattle.ira_elim.specs.Stand.{Stand}
+use Rattle.ira_elim.specs.CandidateClock.{CandidateClock}
 use Rattle.ira_elim.proofs.Places.{one_first}
 use Rattle.ira_elim.proofs.Standing.{counted, eliminates, found_at, stand_is}
 use Rattle.ira_elim.proofs.elimination.step_by.Goals as goal

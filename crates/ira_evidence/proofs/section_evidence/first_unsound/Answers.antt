@@ -21,8 +21,8 @@ unfolding none
 returns-in-Err g c = λ case differ fronts.
     let steps = c.args.steps.now in let k = c.loop-number.number in
     let so_far = c.loop-number.invariant case differ fronts in
-    let own = c.left_at-own.ensures.left (g.C.HappenedBefore.logs_of c.args.ordered.now) case (take k steps) so_far.1 in
-    let other = c.left_at-other.ensures.left (g.C.HappenedBefore.logs_of c.args.ordered.now) case (take k steps)
+    let own = c.queue_head_at-own.ensures.left (g.C.HappenedBefore.logs_of c.args.ordered.now) case (take k steps) so_far.1 in
+    let other = c.queue_head_at-other.ensures.left (g.C.HappenedBefore.logs_of c.args.ordered.now) case (take k steps)
     so_far.1 in
     record {
       before = so_far.0;
@@ -39,8 +39,8 @@ loop-number-preserved g c = λ case differ fronts.
     let k = c.loop-number.number in
     let so_far = c.loop-number.invariant case differ fronts in
     let at = slice_get-get_or steps k none c.loop-number-test.true in
-    let own = c.left_at-own.ensures.left logs case (take k steps) so_far.1 in
-    let other = c.left_at-other.ensures.left logs case (take k steps) so_far.1 in
+    let own = c.queue_head_at-own.ensures.left logs case (take k steps) so_far.1 in
+    let other = c.queue_head_at-other.ensures.left logs case (take k steps) so_far.1 in
     let sound = c.in_default.ensures.verdict case (take k steps) differ own other in (
       sound_more logs case steps k (get_or steps k none) at so_far.0 sound,
       left_on logs case differ steps k (get_or steps k none) at sound c.loop-number.fronts so_far.1

@@ -1,7 +1,7 @@
 use Rattle.std.proofs.Common.{Some, ◌∙◌, sym}
 use Rattle.std.proofs.lemmas.Option.{slice_get_within}
 use Rattle.ira_cert.proofs.Behind.{front_at, spent_at}
-use Rattle.ira_evidence.proofs.section_evidence.left_at.Goals as goal
+use Rattle.ira_evidence.proofs.section_evidence.queue_head_at.Goals as goal
 
 pub returns-in-Some-front-clause-left : goal.returns-in-Some-front-clause-left
 returns-in-Some-front-clause-left g c = λ logs case before behind.

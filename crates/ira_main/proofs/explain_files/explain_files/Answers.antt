@@ -1,6 +1,6 @@
 use Rattle.std.proofs.Common.{◌≡◌, ◌∙◌, inl, inr, refl, rules, subst}
 use Rattle.ira_audit.proofs.TextRuns.{yes_runs}
-use Rattle.ira_audit.specs.LogsAnswer.{IsLogsAnswer}
+use Rattle.ira_audit.specs.RingAnswer.{IsRingAnswer}
 use Rattle.ira_views.specs.Texts.{texts_of}
 use Rattle.ira_main.proofs.explain_files.explain_files.Goals as goal
 
@@ -15,8 +15,8 @@ returns g c =
         texts = c.in_ok-files.files.items;
         given = rw c.deref.ensures.value at c.in_ok-files.ensures;
         answer = view.answer;
-        judged = subst (λ texts. IsLogsAnswer texts view.answer) same c.in_ok-view.ensures.answer;
-        runs = λ e. yes_runs _ view.answer (subst (λ texts. IsLogsAnswer texts view.answer) same c.in_ok-view.ensures.answer) e;
+        judged = subst (λ texts. IsRingAnswer texts view.answer) same c.in_ok-view.ensures.answer;
+        runs = λ e. yes_runs _ view.answer (subst (λ texts. IsRingAnswer texts view.answer) same c.in_ok-view.ensures.answer) e;
         told = c.print_view.ensures;
       }),
     )

@@ -2,12 +2,12 @@ use Rattle.std.proofs.Common.{◌≡◌, Err, List, [], ◌∷◌, ℕ, ap, refl
 use Rattle.std.proofs.lemmas.Result.{err_from_is_err_and}
 use Rattle.ira_event.specs.Sink.{SinkState}
 use Rattle.ira_words.specs.declared.words_fault.WordsFault.TheVariants as fault
-use Rattle.ira_files.specs.Counted.{Reads}
+use Rattle.ira_files.specs.CountingReader.{Reads}
 use Rattle.ira_files.specs.Shelf.{Reading, Writing}
 use Rattle.ira_main.specs.Outcome.{Outcome}
 use Rattle.ira_main.specs.Serve.{Serves}
-use Rattle.ira_main.specs.Serve.Done.{certified, explained, recorded, refused}
-use Rattle.ira_main.specs.Serve.Judges.{no_memory}
+use Rattle.ira_main.specs.Serve.CommandOutcome.{certified, explained, recorded, refused}
+use Rattle.ira_main.specs.Serve.OneLogOutcome.{no_memory}
 use Rattle.ira_main.specs.Serve.Serves.{with_words, without_words}
 use Rattle.ira_main.specs.declared.program_fault.ProgramFault.TheVariants.{OutOfMemory}
 use Rattle.ira_main.proofs.program.execute.Goals as goal

@@ -1,5 +1,5 @@
 use Rattle.std.proofs.Common.{Err, ap, refl}
-use Rattle.ira_main.specs.Serve.Judges.{judged}
+use Rattle.ira_main.specs.Serve.OneLogOutcome.{judged}
 use Rattle.ira_main.proofs.Unjudged.{unjudged}
 use Rattle.ira_main.proofs.program.judge_input.Goals as goal
 

@@ -1,6 +1,6 @@
 use Rattle.std.proofs.Common.{◌≡◌, ◌∙◌, Err, List, [], ◌∷◌, Ok, Result, ℕ, ap, map, refl, subst, sym}
 use Rattle.ira_words.specs.Request.{IsMadeOf}
-use Rattle.ira_main.specs.Serve.Done.{decided, judged, mended, pairs, recorded, refused, upgraded, explained as explained_of_logs}
+use Rattle.ira_main.specs.Serve.CommandOutcome.{decided, judged, mended, pairs, recorded, refused, upgraded, explained as explained_of_logs}
 use Rattle.ira_main.specs.Serve.Serves.{explained, with_words, without_words}
 use Rattle.ira_main.proofs.program.serve_without_wait.Goals as goal
 

@@ -1,5 +1,5 @@
 use Rattle.std.proofs.Common.{refl}
-use Rattle.ira_audit.specs.LogsAnswer.{yes}
+use Rattle.ira_audit.specs.RingAnswer.{yes}
 use Rattle.ira_mend.proofs.MendedRuns.{runs_mended}
 use Rattle.ira_mend.proofs.laws.mended_runs_are_runs.Goals as goal
 

@@ -27,8 +27,8 @@ returns-in-Err-clause-fault g c = λ case differ are.
             step = get_or steps k none;
             at = slice_get-get_or steps k none (omega (arith, c.loop-k-test.true, c.requires.range));
             reason = c.in-Err.ensures.verdict case (take k steps) differ
-                (c.left_at-own.ensures.left logs case (take k steps) differ are c.loop-k.invariant.counts sound)
-                (c.left_at-other.ensures.left logs case (take k steps) differ are c.loop-k.invariant.counts sound);
+                (c.queue_head_at-own.ensures.left logs case (take k steps) differ are c.loop-k.invariant.counts sound)
+                (c.queue_head_at-other.ensures.left logs case (take k steps) differ are c.loop-k.invariant.counts sound);
           },
     )
 
@@ -39,7 +39,7 @@ loop-k-preserved g c =
     let counts = c.loop-k.counts in
     let s : CertStep = get_or steps k none in
     let at = slice_get-get_or steps k none (omega (arith, c.loop-k-test.true, c.requires.range)) in
-    let within : s.node < length counts = c.left_at-own.ensures.place c.in_default.ensures.asked in
+    let within : s.node < length counts = c.queue_head_at-own.ensures.place c.in_default.ensures.asked in
     let place : s.node ≡ c.from.result = search rules in
     record {
       places = length-set counts c.from.result _ ∙ c.loop-k.invariant.places;
@@ -49,8 +49,8 @@ loop-k-preserved g c =
           let sound = c.loop-k.invariant.sound case differ are before in
           sound_more logs case steps k s at sound
           (c.in_default.ensures.verdict case (take k steps) differ
-          (c.left_at-own.ensures.left logs case (take k steps) differ are c.loop-k.invariant.counts sound)
-          (c.left_at-other.ensures.left logs case (take k steps) differ are c.loop-k.invariant.counts sound));
+          (c.queue_head_at-own.ensures.left logs case (take k steps) differ are c.loop-k.invariant.counts sound)
+          (c.queue_head_at-other.ensures.left logs case (take k steps) differ are c.loop-k.invariant.counts sound));
     }
 
 pub returns-clause-fault : goal.returns-clause-fault

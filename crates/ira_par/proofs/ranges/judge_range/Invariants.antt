@@ -1,7 +1,7 @@
 use Rattle.std.proofs.Common.{◌≡◌, List, length, take}
 use Rattle.ira_pred.specs.Case.{Conjunct}
-use Rattle.ira_cert.specs.Asked.{HasDifferentPlaces}
-use Rattle.ira_par.specs.Table.{AreTables}
+use Rattle.ira_cert.specs.Conjuncts.{HasDifferentPlaces}
+use Rattle.ira_par.specs.CandidateTable.{AreTables}
 use Rattle.ira_cert.specs.SoundSection.{AreSoundSteps}
 use Rattle.ira_par.specs.Ranges.{AreMade}
 use Rattle.ira_par.proofs.ranges.judge_range.Given as goal

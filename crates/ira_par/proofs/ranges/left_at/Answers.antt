@@ -3,8 +3,8 @@ use Rattle.ira_cert.specs.Front.{made}
 use Rattle.ira_par.specs.Ranges.{AreMade}
 use Rattle.ira_par.proofs.Places.{none_asked, first_at, spent_at}
 use Rattle.ira_par.proofs.CaseTables.{below_at}
-use Rattle.ira_par.proofs.ranges.left_at.Goals as goal
-use Rattle.ira_par.proofs.ranges.left_at.Goals.{After-get}
+use Rattle.ira_par.proofs.ranges.queue_head_at.Goals as goal
+use Rattle.ira_par.proofs.ranges.queue_head_at.Goals.{After-get}
 
 -- the place has a count
 within : (g : _) (c : After-get g) → c.args.place < length c.args.counts.now

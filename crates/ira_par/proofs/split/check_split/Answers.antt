@@ -2,7 +2,7 @@ use Rattle.std.proofs.Common.{◌≡◌, ◌∙◌, ◌++◌, ◌∷◌, [], Lis
 use Rattle.ira_event.specs.Log.{Log}
 use Rattle.ira_cert.specs.declared.verdict.Verdict.TheVariants.{Yes, No}
 use Rattle.ira_cert.specs.Fronts.{AreFronts}
-use Rattle.ira_par.specs.Table.{AreTables, AreBelow}
+use Rattle.ira_par.specs.CandidateTable.{AreTables, AreBelow}
 use Rattle.ira_par.specs.Task.{Task}
 use Rattle.ira_par.proofs.Answered.{answered}
 use Rattle.ira_par.proofs.Found.{only_task, one_yes, one_no}

@@ -3,7 +3,7 @@ use Rattle.std.proofs.lemmas.Option.{slice_get_within}
 use Rattle.ira_event.specs.Log.{Log}
 use Rattle.ira_par.specs.declared.unsound_section.UnsoundSection.{UnsoundSection}
 use Rattle.ira_par.specs.Share.{HavePlaces}
-use Rattle.ira_par.specs.Table.{AreBelow}
+use Rattle.ira_par.specs.CandidateTable.{AreBelow}
 use Rattle.ira_par.specs.Task.{Task, IsFoundIn}
 use Rattle.ira_par.specs.Sections.{AreSoundBefore}
 use Rattle.ira_par.proofs.Found.{batch_sound, first_of_all}

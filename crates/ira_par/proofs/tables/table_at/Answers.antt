@@ -2,7 +2,7 @@ use Rattle.std.proofs.Common.{◌≡◌, ◌∙◌, ℕ, inl, inr, Some, refl, s
 use Rattle.std.specs.Prelude.{slice_get}
 use Rattle.std.proofs.lemmas.Bool.{cases_lt}
 use Rattle.std.proofs.lemmas.Option.{same_Some, slice_get_read, slice_get_within}
-use Rattle.ira_par.specs.Table.{Table}
+use Rattle.ira_par.specs.CandidateTable.{CandidateTable}
 use Rattle.ira_par.proofs.tables.table_at.Goals as goal
 
 pub returns-then-place : goal.returns-then-place
@@ -21,7 +21,7 @@ loop-n-preserved g c = λ k other l other_at. elim (cases_lt k c.loop-n.n) [
       let same : c.loop-n.n ≡ k = omega (arith, top, l) in
       let is : table ≡ other = same_Some table other (sym at ∙ ap (λ (j : ℕ). slice_get c.args.tables.now j) same
       ∙ other_at) in
-      c.if-place.false (c.place.ensures ∙ ap (λ (t : Table). t.place) is ∙ here)
+      c.if-place.false (c.place.ensures ∙ ap (λ (t : CandidateTable). t.place) is ∙ here)
 ]
 
 pub returns : goal.returns

@@ -1,7 +1,7 @@
 use Rattle.std.proofs.Common.{◌≡◌, ◌++◌, ◌+◌, ◌-◌, ◌<◌, ◌≤◌, sym, ap, subst, ◌∙◌, arith}
 use Rattle.std.specs.List.{flat_map}
 use Rattle.std.proofs.lemmas.List.{append-nil}
-use Rattle.ira_pred.specs.Question.{Asked, IsQuestion}
+use Rattle.ira_pred.specs.Question.{QuestionCases, IsQuestion}
 use Rattle.ira_pred.specs.QuestionText.{IsShort}
 use Rattle.ira_pred.specs.Pairs.{ArePairCases, numbers_from, cases_of_place, pairs_asked}
 use Rattle.ira_pred.proofs.PairCases.{next-number, last-number, shifted, pairs-are-question, pairs-short}
@@ -48,4 +48,4 @@ returns-clause-pairs g c =
     let all = sym (append-nil cases)
     ∙ ap (λ x. cases ++ x) (sym (ap (flat_map (cases_of_place n)) (last-number i n end))) ∙ c.loop-i.invariant in
     let is : c.of_parts.result ≡ pairs_asked n = c.of_parts.ensures ∙ ap (λ x. record { nodes = n; cases = x }) all in
-    (ap (λ (q : Asked). q.nodes) is, subst (λ (q : Asked). ArePairCases n q.cases) (sym is) (pair_cases n))
+    (ap (λ (q : QuestionCases). q.nodes) is, subst (λ (q : QuestionCases). ArePairCases n q.cases) (sym is) (pair_cases n))

@@ -3,7 +3,7 @@ use Rattle.std.specs.List.{flat_map}
 use Rattle.std.specs.Prelude.{codes, decimal}
 use Rattle.std.proofs.lemmas.Result.{err_from_is_err_and}
 use Rattle.ira_event.proofs.Writing.{HasWritten-start, HasWritten-more, HasWritten-stops, HasWritten-last}
-use Rattle.ira_pred.specs.Question.{Asked}
+use Rattle.ira_pred.specs.Question.{QuestionCases}
 use Rattle.ira_pred.specs.QuestionText.{case_text, question_text}
 use Rattle.ira_pred.proofs.question_writer.write_question.Goals as goal
 
@@ -11,10 +11,10 @@ abbrev head_text : ℕ → List ℕ
 head_text n = codes "irask 1\n" ++ codes "nodes " ++ decimal n ++ codes "\n"
 
 -- what follows the head of a question's text
-abbrev body_text : Asked → List ℕ
+abbrev body_text : QuestionCases → List ℕ
 body_text q = flat_map case_text q.cases ++ codes "end\n"
 
-head-then-body : (q : Asked) (line : List ℕ) (nodes : ℕ) → line ≡ head_text nodes → nodes ≡ q.nodes
+head-then-body : (q : QuestionCases) (line : List ℕ) (nodes : ℕ) → line ≡ head_text nodes → nodes ≡ q.nodes
     → line ++ body_text q ≡ question_text q
 head-then-body q line nodes is same =
     sym (append_assoc line (flat_map case_text q.cases) (codes "end\n"))

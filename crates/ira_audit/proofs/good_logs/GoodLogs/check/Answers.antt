@@ -1,6 +1,6 @@
 use Rattle.std.proofs.Common.{◌≡◌, Err, Some, ap, length, subst, sym, ◌∙◌, rules}
 use Rattle.std.specs.Prelude.{slice_get}
-use Rattle.ira_cert.specs.Asked.{HasPlacesOf}
+use Rattle.ira_cert.specs.Conjuncts.{HasPlacesOf}
 use Rattle.ira_audit.specs.Refusal.{IsCertificateRefusal}
 use Rattle.ira_audit.proofs.Places.{places_of_logs}
 use Rattle.ira_audit.proofs.RefusedTexts.{SectionsJudged, certificate_reason, findings_reason, good_logs, handed_on}

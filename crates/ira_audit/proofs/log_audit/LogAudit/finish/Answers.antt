@@ -1,5 +1,5 @@
 use Rattle.std.proofs.Common.{◌++◌, refl}
-use Rattle.ira_audit.specs.Answer.{no_log}
+use Rattle.ira_audit.specs.LogTextAnswer.{no_log}
 use Rattle.ira_audit.proofs.Replaying.{exactly, log_reportable, of_log, text_fault_other}
 use Rattle.ira_audit.proofs.log_audit.LogAudit.finish.Goals as goal
 

@@ -3,19 +3,19 @@ use Rattle.std.proofs.Common.{arith}
 use Rattle.ira_pred.specs.Case.{Conjunct}
 use Rattle.ira_cert_text.specs.Certificate.{Section}
 use Rattle.ira_cert_text.specs.declared.cert_step.CertStep.{CertStep}
-use Rattle.ira_cert.specs.declared.left.Left.TheVariants.{Spent}
+use Rattle.ira_cert.specs.declared.queue_head.QueueHead.TheVariants.{Spent}
 use Rattle.ira_cert.specs.declared.section_fault.SectionFault.{SectionFault}
 use Rattle.ira_cert.specs.declared.section_fault.SectionFault.TheVariants.{NotSpent}
-use Rattle.ira_cert.specs.Asked.{HasDifferentPlaces}
-use Rattle.ira_cert.specs.Left.{IsLeft}
+use Rattle.ira_cert.specs.Conjuncts.{HasDifferentPlaces}
+use Rattle.ira_cert.specs.QueueHead.{IsQueueHead}
 use Rattle.ira_cert.specs.SoundSection.{AreSoundSteps}
 use Rattle.ira_par.specs.Ranges.{begin_of, IsRangeFault}
-use Rattle.ira_par.specs.Table.{Table, AreTables}
+use Rattle.ira_par.specs.CandidateTable.{CandidateTable, AreTables}
 use Rattle.ira_par.specs.Task.{Task, IsFoundInRange}
 use Rattle.ira_par.proofs.Begins.{begin_within, begins_rise}
 use Rattle.ira_par.proofs.Verdicts.{before_range, range_of, step_found, none_found, spent_found, unspent_found}
 use Rattle.ira_par.proofs.task.Task.judge.Goals as goal
-use Rattle.ira_par.proofs.task.Task.judge.Goals.{After-judge_range, After-left_at}
+use Rattle.ira_par.proofs.task.Task.judge.Goals.{After-judge_range, After-queue_head_at}
 
 pub count_before-requires : goal.count_before-requires
 count_before-requires g c =
@@ -55,7 +55,7 @@ range_is g c found is case differ are =
     let logs = g.C.HappenedBefore.logs_of c.args.ordered.now in
     let tables : c.as_slice-tables.result.now ≡ c.args.self.now.tables =
     c.as_slice-tables.ensures.value ∙ ap (λ (t : Task). t.tables) c.self.view_is in
-    let given = subst (λ (ts : List Table). AreTables logs case ts) (sym tables) are in
+    let given = subst (λ (ts : List CandidateTable). AreTables logs case ts) (sym tables) are in
     range_of logs case c.as_slice-steps.result.now c.args.self.now.section.steps c.args.ranges c.args.number
     c.begin_of-from.result c.begin_of-to.result (steps_are g c) c.begin_of-from.ensures c.begin_of-to.ensures found
     (subst (λ (f : Option SectionFault). IsRangeFault logs case c.as_slice-steps.result.now c.begin_of-from.result
@@ -75,13 +75,13 @@ returns-then-number-ranges-clause-found g c = λ case differ are.
     are) c.if-number-ranges.true
 
 -- it is known what the steps up to the end of the range leave of the node
-left : (g : _) (c : After-left_at g) (case : List Conjunct) → HasDifferentPlaces case
+left : (g : _) (c : After-queue_head_at g) (case : List Conjunct) → HasDifferentPlaces case
     → AreTables (g.C.HappenedBefore.logs_of c.args.ordered.now) case c.args.self.now.tables
     → AreSoundSteps (g.C.HappenedBefore.logs_of c.args.ordered.now) case
     (before_range c.args.self.now.section c.args.ranges (c.args.number + 1))
-    → IsLeft (g.C.HappenedBefore.logs_of c.args.ordered.now) case
+    → IsQueueHead (g.C.HappenedBefore.logs_of c.args.ordered.now) case
     (before_range c.args.self.now.section c.args.ranges (c.args.number + 1)) c.args.self.now.section.spent
-    c.left_at.result
+    c.queue_head_at.result
 left g c case differ are sound =
     let logs = g.C.HappenedBefore.logs_of c.args.ordered.now in
     let steps = c.as_slice-steps.result.now in
@@ -95,35 +95,35 @@ left g c case differ are sound =
     ≡ before_range c.args.self.now.section c.args.ranges (c.args.number + 1) =
     ap (λ (k : ℕ). take k steps) c.begin_of-to.ensures
     ∙ ap (λ (ss : List CertStep). take (begin_of (length ss) c.args.ranges (c.args.number + 1)) ss) same in
-    subst (λ (ss : List CertStep). IsLeft logs case ss c.args.self.now.section.spent c.left_at.result) before
-    (subst (λ (p : ℕ). IsLeft logs case (take c.begin_of-to.result steps) p c.left_at.result) spent
-    (c.left_at.ensures.left logs case (take c.begin_of-to.result steps) differ
-    (subst (λ (ts : List Table). AreTables logs case ts) (sym tables) are)
+    subst (λ (ss : List CertStep). IsQueueHead logs case ss c.args.self.now.section.spent c.queue_head_at.result) before
+    (subst (λ (p : ℕ). IsQueueHead logs case (take c.begin_of-to.result steps) p c.queue_head_at.result) spent
+    (c.queue_head_at.ensures.left logs case (take c.begin_of-to.result steps) differ
+    (subst (λ (ts : List CandidateTable). AreTables logs case ts) (sym tables) are)
     (c.judge_range.ensures.counts c.in_default.is)
     (subst (λ (ss : List CertStep). AreSoundSteps logs case ss) (sym before) sound)))
 
-pub returns-in_default-left_at-clause-found : goal.returns-in_default-left_at-clause-found
-returns-in_default-left_at-clause-found g c = λ case differ are.
-    let at = (goal.at.returns-in_default-left_at-clause-found g c).After-left_at in
-    let judged = (goal.at.returns-in_default-left_at-clause-found g c).After-judge_range in
+pub returns-in_default-queue_head_at-clause-found : goal.returns-in_default-queue_head_at-clause-found
+returns-in_default-queue_head_at-clause-found g c = λ case differ are.
+    let at = (goal.at.returns-in_default-queue_head_at-clause-found g c).After-queue_head_at in
+    let judged = (goal.at.returns-in_default-queue_head_at-clause-found g c).After-judge_range in
     let section = c.args.self.now.section in
     let spent : c.section.inside.spent ≡ section.spent =
     ap (λ (s : Section). s.spent) (c.section.view_is ∙ ap (λ (t : Task). t.section) c.self.view_is) in
     let some : 0 < c.args.ranges = omega (arith, c.requires.number) in
     let last : c.args.number + 1 ≡ c.args.ranges = omega (arith, c.requires.number, c.if-number-ranges.false) in
-    let other : c.left_at.result ≢ Spent = search rules in
+    let other : c.queue_head_at.result ≢ Spent = search rules in
     subst (λ (p : ℕ). IsFoundInRange (g.C.HappenedBefore.logs_of c.args.ordered.now) case section c.args.ranges
     c.args.number (Some (NotSpent p))) (sym spent)
     (unspent_found (g.C.HappenedBefore.logs_of c.args.ordered.now) case section c.args.ranges c.args.number
-    (range_is g judged None c.in_default.is case differ are) some last c.left_at.result (left g at case differ are)
+    (range_is g judged None c.in_default.is case differ are) some last c.queue_head_at.result (left g at case differ are)
     differ other)
 
 pub returns-clause-found : goal.returns-clause-found
 returns-clause-found g c = λ case differ are.
-    let at = (goal.at.returns-clause-found g c).After-left_at in
+    let at = (goal.at.returns-clause-found g c).After-queue_head_at in
     let judged = (goal.at.returns-clause-found g c).After-judge_range in
     let some : 0 < c.args.ranges = omega (arith, c.requires.number) in
     let last : c.args.number + 1 ≡ c.args.ranges = omega (arith, c.requires.number, c.if-number-ranges.false) in
     spent_found (g.C.HappenedBefore.logs_of c.args.ordered.now) case c.args.self.now.section c.args.ranges c.args.number
-    (range_is g judged None c.in_default.is case differ are) some last c.left_at.result (left g at case differ are)
+    (range_is g judged None c.in_default.is case differ are) some last c.queue_head_at.result (left g at case differ are)
     c.in-Spent.is

@@ -1,5 +1,0 @@
-use Rattle.ira_elim.specs.Stand.{AreNoReceipts}
-use Rattle.ira_elim.proofs.stand.receives.Given as goal
-
-abbrev pub invariant-loop-number : goal.invariant-loop-number
-invariant-loop-number g l = AreNoReceipts l.log l.from l.number
