@@ -1,7 +1,7 @@
 -- What the program does without waiting.
 use Rattle.std.specs.Prelude.{◌≡◌, ℕ, false, List}
 use Rattle.ira_event.specs.Sink.{SinkState}
-use Rattle.ira_words.specs.Request.{AskForCheck, AskForEvidence, AskForRun}
+use Rattle.ira_words.specs.Request.{IsCheckLine, IsExplainLine, IsRunLine}
 use Rattle.ira_words.specs.declared.explain_request.ExplainRequest.{ExplainRequest}
 use Rattle.ira_words.specs.declared.explained_answer.ExplainedAnswer.TheVariants.{Certificate}
 use Rattle.ira_files.specs.CountingReader.{Reads}
@@ -22,9 +22,9 @@ abbrev pub ServesOrLeaves : Type 0 → {S : Type 0} → Reading S → Writing S 
 ServesOrLeaves A reads writes words input input' shelf shelf' out out' (Ended outcome) =
     Serves A reads writes words input input' shelf shelf' out out' outcome
 ServesOrLeaves A reads writes words input input' shelf shelf' out out' (Check check) =
-    AskForCheck words check × IsUntouched input input' shelf shelf' out out'
+    IsCheckLine words check × IsUntouched input input' shelf shelf' out out'
 ServesOrLeaves A reads writes words input input' shelf shelf' out out' (ExplainCheck question certificate logs) =
-    (explain : ExplainRequest) × AskForEvidence words explain × (explain.answer ≡ Certificate question certificate logs)
+    (explain : ExplainRequest) × IsExplainLine words explain × (explain.answer ≡ Certificate question certificate logs)
     × IsUntouched input input' shelf shelf' out out'
 ServesOrLeaves A reads writes words input input' shelf shelf' out out' (Run ring) =
-    AskForRun words ring × (ring.is_alone ≡ false) × IsUntouched input input' shelf shelf' out out'
+    IsRunLine words ring × (ring.is_alone ≡ false) × IsUntouched input input' shelf shelf' out out'

@@ -16,8 +16,8 @@ use Rattle.ira_audit.specs.declared.answer.Answer.TheVariants as audit
 use Rattle.ira_ring.specs.EndsWriter.{ends_text}
 use Rattle.ira_ring.specs.Run.{Run}
 use Rattle.ira_run.specs.declared.run_fault.RunFault.{RunFault}
-use Rattle.ira_words.specs.Request.{AskForCheck, AskForDecide, AskForEvidence, AskForLogs, AskForMend, AskForPairs}
-use Rattle.ira_words.specs.Request.{AskForRun, AskForUpgrade, AskForVersion, MayBeRefused}
+use Rattle.ira_words.specs.Request.{IsCheckLine, IsDecideLine, IsExplainLine, IsLogsLine, IsMendLine, IsPairsLine}
+use Rattle.ira_words.specs.Request.{IsRunLine, IsUpgradeLine, IsVersionLine, MayBeRefused}
 use Rattle.ira_words.specs.declared.check_request.CheckRequest.{CheckRequest}
 use Rattle.ira_words.specs.declared.decide_request.DecideRequest.{DecideRequest}
 use Rattle.ira_words.specs.declared.explain_request.ExplainRequest.{ExplainRequest}
@@ -174,33 +174,33 @@ pub data CommandOutcome (A : Type 0) {S : Type 0} (reads : Reading S) (writes : 
   refused : (fault : WordsFault) → MayBeRefused words fault → shelf' ≡ shelf → out' ≡ out
       → outcome ≡ Err (words_fault fault)
       → CommandOutcome A reads writes words shelf shelf' out out' outcome
-  judged : (source : LogSource) → AskForLogs words source → shelf' ≡ shelf
+  judged : (source : LogSource) → IsLogsLine words source → shelf' ≡ shelf
       → JudgesLogs Reports reads source shelf out out' outcome
       → CommandOutcome A reads writes words shelf shelf' out out' outcome
-  explained : (explain : ExplainRequest) → AskForEvidence words explain → shelf' ≡ shelf
+  explained : (explain : ExplainRequest) → IsExplainLine words explain → shelf' ≡ shelf
       → ExplainsAnswer A reads explain.answer shelf out out' outcome
       → CommandOutcome A reads writes words shelf shelf' out out' outcome
-  certified : (check : CheckRequest) → AskForCheck words check → shelf' ≡ shelf
+  certified : (check : CheckRequest) → IsCheckLine words check → shelf' ≡ shelf
       → JudgesCheck Reports reads check.question.now check.certificate.now check.logs shelf out out' outcome
       → CommandOutcome A reads writes words shelf shelf' out out' outcome
-  decided : (decide : DecideRequest) → AskForDecide words decide
+  decided : (decide : DecideRequest) → IsDecideLine words decide
       → DecidesLogs A reads writes decide shelf shelf' out out' outcome
       → CommandOutcome A reads writes words shelf shelf' out out' outcome
-  pairs : (nodes : ℕ) → AskForPairs words nodes → shelf' ≡ shelf
+  pairs : (nodes : ℕ) → IsPairsLine words nodes → shelf' ≡ shelf
       → AsksPairs nodes out out' outcome ⊎ GivesNoAnswer (IsPairsFault nodes) out out' outcome
       → CommandOutcome A reads writes words shelf shelf' out out' outcome
-  recorded : (request : RunRequest) → AskForRun words request
+  recorded : (request : RunRequest) → IsRunLine words request
       → RunOutcome writes request shelf shelf' out out' outcome
       → CommandOutcome A reads writes words shelf shelf' out out' outcome
-  upgraded : (upgrade : RewriteRequest) → AskForUpgrade words upgrade
+  upgraded : (upgrade : RewriteRequest) → IsUpgradeLine words upgrade
       → OfSource reads upgrade.logs shelf shelf' out out' outcome
       (λ names. Upgrades reads writes upgrade (names_of names) shelf shelf' out out' outcome)
       → CommandOutcome A reads writes words shelf shelf' out out' outcome
-  mended : (mend : RewriteRequest) → AskForMend words mend
+  mended : (mend : RewriteRequest) → IsMendLine words mend
       → OfSource reads mend.logs shelf shelf' out out' outcome
       (λ names. Mends reads writes mend names shelf shelf' out out' outcome)
       → CommandOutcome A reads writes words shelf shelf' out out' outcome
-  versioned : AskForVersion words → shelf' ≡ shelf → Prints version_line Yes out out' outcome
+  versioned : IsVersionLine words → shelf' ≡ shelf → Prints version_line Yes out out' outcome
       → CommandOutcome A reads writes words shelf shelf' out out' outcome
 
 -- without words the input is judged, and the shelf is as it was, and so it is where they ask for the evidence of one
@@ -210,7 +210,7 @@ pub data Serves (A : Type 0) {S : Type 0} (reads : Reading S) (writes : Writing 
     (out out' : SinkState) (outcome : Outcome) : Type 0 where
   without_words : words ≡ [] → shelf' ≡ shelf → OneLogOutcome Reports input input' out out' outcome
       → Serves A reads writes words input input' shelf shelf' out out' outcome
-  explained : (explain : ExplainRequest) → AskForEvidence words explain → explain.answer ≡ OneLog → shelf' ≡ shelf
+  explained : (explain : ExplainRequest) → IsExplainLine words explain → explain.answer ≡ OneLog → shelf' ≡ shelf
       → OneLogOutcome Explains input input' out out' outcome
       → Serves A reads writes words input input' shelf shelf' out out' outcome
   with_words : words ≢ [] → input' ≡ input → CommandOutcome A reads writes words shelf shelf' out out' outcome

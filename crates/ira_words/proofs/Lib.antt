@@ -1,4 +1,4 @@
-pub mod BehindCommands
+pub mod AfterCommands
 pub mod FirstWord
 pub mod FoundValues
 pub mod GivenNames

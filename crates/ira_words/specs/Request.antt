@@ -36,21 +36,21 @@ abbrev pub AreAcceptedWords : List (List ℕ) → Type 0
 AreAcceptedWords words = fault_of ira_app words ≡ []
 
 -- what is found of the words after a command, where the first word names it, is so
-abbrev pub Behind : App → List (List ℕ) → (List Row → Type 0) → Type 0
-Behind app words IsSo =
+abbrev pub After : App → List (List ℕ) → (List Row → Type 0) → Type 0
+After app words IsSo =
     (others : List (List ℕ)) → words ≡ app.top.name ∷ others → IsSo (rows_after (built_leaf app.top).rules [] others)
 
 -- the options and names after a command go together: logs are named in one way, by names or by a folder, where the
 -- command takes logs; after `explain` there may be none, where no question is named
 pub record GoTogether (words : List (List ℕ)) : Type 0 where
-  pub logs : Behind logs_app words NamesLogs
-  pub explain : Behind explain_app words NamesAnswer
-  pub show : Behind show_app words NamesLogsToShow
-  pub draw : Behind draw_app words NamesLogsToDraw
-  pub check : Behind check_app words NamesLogs
-  pub decide : Behind decide_app words NamesLogs
-  pub upgrade : Behind upgrade_app words NamesLogs
-  pub mend : Behind mend_app words NamesLogs
+  pub logs : After logs_app words NamesLogs
+  pub explain : After explain_app words NamesAnswer
+  pub show : After show_app words NamesLogsToShow
+  pub draw : After draw_app words NamesLogsToDraw
+  pub check : After check_app words NamesLogs
+  pub decide : After decide_app words NamesLogs
+  pub upgrade : After upgrade_app words NamesLogs
+  pub mend : After mend_app words NamesLogs
 
 -- a word that may name a file as it stands: it doesn't begin with a dash
 abbrev pub IsFileName : List ℕ → Type 0
@@ -60,7 +60,7 @@ IsFileName (b ∷ bs) = b ≢ 45
 -- the command line accepts the words: `logs` and others, which name the source of logs, and `--json` perhaps. Where
 -- none of the others begins with a dash, these are names of files; where one is the first that does, and is `--`, the
 -- words after it are names too
-pub record AskForLogs (words : List (List ℕ)) (request : LogsRequest) : Type 0 where
+pub record IsLogsLine (words : List (List ℕ)) (request : LogsRequest) : Type 0 where
   pub accepted : AreAcceptedWords words
   pub others : List (List ℕ)
   pub first : words ≡ codes "logs" ∷ others
@@ -70,66 +70,66 @@ pub record AskForLogs (words : List (List ℕ)) (request : LogsRequest) : Type 0
       → IsOfFiles request.logs (front ++ back)
 
 -- the command line accepts the words: the name of this command and others, and what is found of these is so
-pub record AskFor (app : App) (words : List (List ℕ)) (IsSo : List Row → Type 0) : Type 0 where
+pub record IsCommandLine (app : App) (words : List (List ℕ)) (IsSo : List Row → Type 0) : Type 0 where
   pub accepted : AreAcceptedWords words
   pub others : List (List ℕ)
   pub first : words ≡ app.top.name ∷ others
   pub found : IsSo (rows_after (built_leaf app.top).rules [] others)
 
 -- `explain`, options and logs, or `explain` alone, which ask for this answer
-abbrev pub AskForEvidence : List (List ℕ) → ExplainRequest → Type 0
-AskForEvidence words explain = AskFor explain_app words (λ rows. HasAnswerToExplain rows explain)
+abbrev pub IsExplainLine : List (List ℕ) → ExplainRequest → Type 0
+IsExplainLine words explain = IsCommandLine explain_app words (λ rows. HasAnswerToExplain rows explain)
 
 -- `show`, options and logs, which ask for these to be shown
-abbrev pub AskForShow : List (List ℕ) → ShowRequest → Type 0
-AskForShow words show = AskFor show_app words (λ rows. HasLogsToShow rows show)
+abbrev pub IsShowLine : List (List ℕ) → ShowRequest → Type 0
+IsShowLine words show = IsCommandLine show_app words (λ rows. HasLogsToShow rows show)
 
 -- `draw`, options and logs, which ask for these to be drawn
-abbrev pub AskForDraw : List (List ℕ) → DrawRequest → Type 0
-AskForDraw words draw = AskFor draw_app words (λ rows. HasLogsToDraw rows draw)
+abbrev pub IsDrawLine : List (List ℕ) → DrawRequest → Type 0
+IsDrawLine words draw = IsCommandLine draw_app words (λ rows. HasLogsToDraw rows draw)
 
 -- `check`, options and logs, which ask for these files
-abbrev pub AskForCheck : List (List ℕ) → CheckRequest → Type 0
-AskForCheck words check = AskFor check_app words (λ rows. HasFiles rows check)
+abbrev pub IsCheckLine : List (List ℕ) → CheckRequest → Type 0
+IsCheckLine words check = IsCommandLine check_app words (λ rows. HasFiles rows check)
 
 -- `decide`, options and logs, which ask for these files
-abbrev pub AskForDecide : List (List ℕ) → DecideRequest → Type 0
-AskForDecide words decide = AskFor decide_app words (λ rows. HasFilesToDecide rows decide)
+abbrev pub IsDecideLine : List (List ℕ) → DecideRequest → Type 0
+IsDecideLine words decide = IsCommandLine decide_app words (λ rows. HasFilesToDecide rows decide)
 
 -- `pairs` and a number of nodes
-abbrev pub AskForPairs : List (List ℕ) → ℕ → Type 0
-AskForPairs words nodes = AskFor pairs_app words (λ rows. HasNumber rows (codes "N") nodes)
+abbrev pub IsPairsLine : List (List ℕ) → ℕ → Type 0
+IsPairsLine words nodes = IsCommandLine pairs_app words (λ rows. HasNumber rows (codes "N") nodes)
 
 -- `run` and options, which ask for this ring
-abbrev pub AskForRun : List (List ℕ) → RunRequest → Type 0
-AskForRun words ring = AskFor run_app words (λ rows. HasOptions rows ring)
+abbrev pub IsRunLine : List (List ℕ) → RunRequest → Type 0
+IsRunLine words ring = IsCommandLine run_app words (λ rows. HasOptions rows ring)
 
 -- `upgrade`, an option and logs, which ask for these files
-abbrev pub AskForUpgrade : List (List ℕ) → RewriteRequest → Type 0
-AskForUpgrade words upgrade = AskFor upgrade_app words (λ rows. HasFilesToRewrite rows upgrade)
+abbrev pub IsUpgradeLine : List (List ℕ) → RewriteRequest → Type 0
+IsUpgradeLine words upgrade = IsCommandLine upgrade_app words (λ rows. HasFilesToRewrite rows upgrade)
 
 -- `mend`, an option and logs, which ask for these files
-abbrev pub AskForMend : List (List ℕ) → RewriteRequest → Type 0
-AskForMend words mend = AskFor mend_app words (λ rows. HasFilesToRewrite rows mend)
+abbrev pub IsMendLine : List (List ℕ) → RewriteRequest → Type 0
+IsMendLine words mend = IsCommandLine mend_app words (λ rows. HasFilesToRewrite rows mend)
 
 -- `version`
-abbrev pub AskForVersion : List (List ℕ) → Type 0
-AskForVersion words = AskFor version_app words (λ rows. Unit {0})
+abbrev pub IsVersionLine : List (List ℕ) → Type 0
+IsVersionLine words = IsCommandLine version_app words (λ rows. Unit {0})
 
 -- these words make the request
 abbrev pub IsMadeOf : List (List ℕ) → Request → Type 0
 IsMadeOf words OneLog = words ≡ []
-IsMadeOf words (Logs request) = AskForLogs words request
-IsMadeOf words (Explain explain) = AskForEvidence words explain
-IsMadeOf words (Show show) = AskForShow words show
-IsMadeOf words (Draw draw) = AskForDraw words draw
-IsMadeOf words (Check check) = AskForCheck words check
-IsMadeOf words (Decide decide) = AskForDecide words decide
-IsMadeOf words (Pairs nodes) = AskForPairs words nodes
-IsMadeOf words (Run ring) = AskForRun words ring
-IsMadeOf words (Upgrade upgrade) = AskForUpgrade words upgrade
-IsMadeOf words (Mend mend) = AskForMend words mend
-IsMadeOf words Version = AskForVersion words
+IsMadeOf words (Logs request) = IsLogsLine words request
+IsMadeOf words (Explain explain) = IsExplainLine words explain
+IsMadeOf words (Show show) = IsShowLine words show
+IsMadeOf words (Draw draw) = IsDrawLine words draw
+IsMadeOf words (Check check) = IsCheckLine words check
+IsMadeOf words (Decide decide) = IsDecideLine words decide
+IsMadeOf words (Pairs nodes) = IsPairsLine words nodes
+IsMadeOf words (Run ring) = IsRunLine words ring
+IsMadeOf words (Upgrade upgrade) = IsUpgradeLine words upgrade
+IsMadeOf words (Mend mend) = IsMendLine words mend
+IsMadeOf words Version = IsVersionLine words
 
 -- such words may be refused so: for want of memory any, and else only those that the command line doesn't accept, or
 -- whose options and names don't go together

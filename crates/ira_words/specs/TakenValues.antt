@@ -38,6 +38,6 @@ pub record HasCaseTaken (rows : List Row) : Type 0 where
   pub taken : AreTaken rules rows
 
 -- what the arguments of this command have taken
-pub record AreFoundBehind (app : App) (rows : List Row) : Type 0 where
+pub record AreFoundAfter (app : App) (rows : List Row) : Type 0 where
   pub taken : AreTaken (built_leaf app.top).rules rows
   pub found : AreFound (built_leaf app.top).rules rows

@@ -15,7 +15,7 @@ ghost use Rattle.ira_words.specs.Request.{AreMatchesOf, AreAcceptedWords, IsMade
 ghost use Rattle.ira_words.specs.RewriteRequest.{HasFilesToRewrite};
 ghost use Rattle.ira_words.specs.RunRequest.{HasOptions};
 ghost use Rattle.ira_words.specs.ShowRequest.{HasLogsToShow, NamesLogsToShow};
-ghost use Rattle.ira_words.specs.TakenValues.{AreFoundBehind, AreTaken, HasCaseTaken};
+ghost use Rattle.ira_words.specs.TakenValues.{AreFoundAfter, AreTaken, HasCaseTaken};
 ghost use Rattle.ira_words.specs.declared.options_fault.OptionsFault.TheVariants as options;
 ghost use Rattle.ira_words.specs.declared.request.Request.TheVariants as request;
 ghost use Rattle.ira_words.specs.declared.words_fault.WordsFault.TheVariants as fault;
@@ -186,7 +186,7 @@ fn logs_request<'a>(
     alloc: Global,
     matches: &ArgMatches<'a>,
 ) -> Result<LogsRequest<'a>, OptionsFault>
-    requires { AreFoundBehind logs_app (rows_of (found_of matches.now)) }
+    requires { AreFoundAfter logs_app (rows_of (found_of matches.now)) }
     ensures asked { IfOk result (HasLogsToJudge (rows_of (found_of matches.now))) }
     ensures refused { IfErr result
         (λ why. NamesLogs (rows_of (found_of matches.now)) → why ≡ options.OutOfMemory) }
@@ -219,7 +219,7 @@ fn explained_answer<'a>(
     alloc: Global,
     matches: &ArgMatches<'a>,
 ) -> Result<ExplainedAnswer<'a>, OptionsFault>
-    requires { AreFoundBehind explain_app (rows_of (found_of matches.now)) }
+    requires { AreFoundAfter explain_app (rows_of (found_of matches.now)) }
     ensures asked { IfOk result (HasAnswer (rows_of (found_of matches.now))) }
     ensures refused { IfErr result
         (λ why. NamesAnswer (rows_of (found_of matches.now)) → why ≡ options.OutOfMemory) }
@@ -252,7 +252,7 @@ fn explain_request<'a>(
     alloc: Global,
     matches: &ArgMatches<'a>,
 ) -> Result<ExplainRequest<'a>, OptionsFault>
-    requires { AreFoundBehind explain_app (rows_of (found_of matches.now)) }
+    requires { AreFoundAfter explain_app (rows_of (found_of matches.now)) }
     ensures asked { IfOk result (HasAnswerToExplain (rows_of (found_of matches.now))) }
     ensures refused { IfErr result
         (λ why. NamesAnswer (rows_of (found_of matches.now)) → why ≡ options.OutOfMemory) }
@@ -357,7 +357,7 @@ fn show_request<'a>(
     alloc: Global,
     matches: &ArgMatches<'a>,
 ) -> Result<ShowRequest<'a>, OptionsFault>
-    requires { AreFoundBehind show_app (rows_of (found_of matches.now)) }
+    requires { AreFoundAfter show_app (rows_of (found_of matches.now)) }
     ensures asked { IfOk result (HasLogsToShow (rows_of (found_of matches.now))) }
     ensures refused { IfErr result
         (λ why. NamesLogsToShow (rows_of (found_of matches.now)) → why ≡ options.OutOfMemory) }
@@ -394,7 +394,7 @@ fn draw_request<'a>(
     alloc: Global,
     matches: &ArgMatches<'a>,
 ) -> Result<DrawRequest<'a>, OptionsFault>
-    requires { AreFoundBehind draw_app (rows_of (found_of matches.now)) }
+    requires { AreFoundAfter draw_app (rows_of (found_of matches.now)) }
     ensures asked { IfOk result (HasLogsToDraw (rows_of (found_of matches.now))) }
     ensures refused { IfErr result
         (λ why. NamesLogsToDraw (rows_of (found_of matches.now)) → why ≡ options.OutOfMemory) }
@@ -442,7 +442,7 @@ fn check_request<'a>(
     alloc: Global,
     matches: &ArgMatches<'a>,
 ) -> Result<CheckRequest<'a>, OptionsFault>
-    requires { AreFoundBehind check_app (rows_of (found_of matches.now)) }
+    requires { AreFoundAfter check_app (rows_of (found_of matches.now)) }
     ensures asked { IfOk result (HasFiles (rows_of (found_of matches.now))) }
     ensures refused { IfErr result
         (λ why. NamesLogs (rows_of (found_of matches.now)) → why ≡ options.OutOfMemory) }
@@ -475,7 +475,7 @@ fn decide_request<'a>(
     alloc: Global,
     matches: &ArgMatches<'a>,
 ) -> Result<DecideRequest<'a>, OptionsFault>
-    requires { AreFoundBehind decide_app (rows_of (found_of matches.now)) }
+    requires { AreFoundAfter decide_app (rows_of (found_of matches.now)) }
     ensures asked { IfOk result (HasFilesToDecide (rows_of (found_of matches.now))) }
     ensures refused { IfErr result
         (λ why. NamesLogs (rows_of (found_of matches.now)) → why ≡ options.OutOfMemory) }
@@ -503,7 +503,7 @@ fn pairs_command<'a>(alloc: Global) -> Result<Command<'a>, AllocError>
 
 /// The number of nodes.
 fn pairs_nodes<'a>(matches: &ArgMatches<'a>) -> u64
-    requires { AreFoundBehind pairs_app (rows_of (found_of matches.now)) }
+    requires { AreFoundAfter pairs_app (rows_of (found_of matches.now)) }
     ensures { HasNumber (rows_of (found_of matches.now)) (codes "N") result }
 {
     matches.get_one("N").unwrap()
@@ -596,7 +596,7 @@ fn draws<'a>(alloc: Global) -> Arg<'a>
 
 /// The ring to run.
 fn run_request<'a>(matches: &ArgMatches<'a>) -> RunRequest<'a>
-    requires { AreFoundBehind run_app (rows_of (found_of matches.now)) }
+    requires { AreFoundAfter run_app (rows_of (found_of matches.now)) }
     ensures { HasOptions (rows_of (found_of matches.now)) result }
 {
     RunRequest {
@@ -637,7 +637,7 @@ fn rewrite_request<'a>(
     alloc: Global,
     matches: &ArgMatches<'a>,
 ) -> Result<RewriteRequest<'a>, OptionsFault>
-    requires { (name : List ℕ) × AreFoundBehind (rewrite_app name) (rows_of (found_of matches.now)) }
+    requires { (name : List ℕ) × AreFoundAfter (rewrite_app name) (rows_of (found_of matches.now)) }
     ensures asked { IfOk result (HasFilesToRewrite (rows_of (found_of matches.now))) }
     ensures refused { IfErr result
         (λ why. NamesLogs (rows_of (found_of matches.now)) → why ≡ options.OutOfMemory) }

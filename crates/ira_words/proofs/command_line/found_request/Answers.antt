@@ -15,15 +15,15 @@ use Rattle.ira_words.specs.ExplainedAnswer.{NamesAnswer}
 use Rattle.ira_words.specs.LogSource.{IsOfFiles, NamesLogs}
 use Rattle.ira_words.specs.LogsRequest.{HasLogsToJudge}
 use Rattle.ira_words.specs.Options.{HasNumber}
-use Rattle.ira_words.specs.Request.{AreMatchesOf, AskFor, Behind, IsFileName, GoTogether}
+use Rattle.ira_words.specs.Request.{AreMatchesOf, IsCommandLine, After, IsFileName, GoTogether}
 use Rattle.ira_words.specs.RewriteRequest.{HasFilesToRewrite}
 use Rattle.ira_words.specs.RunRequest.{HasOptions}
 use Rattle.ira_words.specs.ShowRequest.{HasLogsToShow, NamesLogsToShow}
 use Rattle.ira_words.specs.declared.options_fault.OptionsFault.{OptionsFault}
 use Rattle.ira_words.specs.declared.options_fault.OptionsFault.TheVariants as options
-use Rattle.ira_words.proofs.BehindCommands.{IsCommand, asked_for, check_command, decide_command, draw_command}
-use Rattle.ira_words.proofs.BehindCommands.{explain_command, found_behind, logs_command, mend_command, pairs_command}
-use Rattle.ira_words.proofs.BehindCommands.{run_command, show_command, so_behind, upgrade_command, version_command}
+use Rattle.ira_words.proofs.AfterCommands.{IsCommand, asked_for, check_command, decide_command, draw_command}
+use Rattle.ira_words.proofs.AfterCommands.{explain_command, found_behind, logs_command, mend_command, pairs_command}
+use Rattle.ira_words.proofs.AfterCommands.{run_command, show_command, so_behind, upgrade_command, version_command}
 use Rattle.ira_words.proofs.FirstWord.{NamesOne, command_met}
 use Rattle.ira_words.proofs.GivenNames.{dashes_rows, of_files, words_rows}
 use Rattle.ira_words.proofs.command_line.found_request.Goals.{in_default-via-in-Some+in_default}
@@ -38,7 +38,7 @@ met_name n m o is met = ap (λ x. Some x) (sym is) ∙ met
 refused_behind : {X : Type 0} (r : Result X OptionsFault) (e : OptionsFault) (app : App) → IsCommand app
     → (m : ArgMatches) (found : List Row)
     → Some found ≡ option_map (λ s. s.1) (subcommand_rows_of m) → Some app.top.name ≡ subcommand_name_of m
-    → (IsSo : List Row → Type 0) → ((words : List (List ℕ)) → GoTogether words → Behind app words IsSo)
+    → (IsSo : List Row → Type 0) → ((words : List (List ℕ)) → GoTogether words → After app words IsSo)
     → IsErrAnd r (λ f. f ≡ e) → (IsSo found → e ≡ options.OutOfMemory)
     → IfErr r (λ why. (words : List (List ℕ)) → AreMatchesOf words m → GoTogether words → why ≡ options.OutOfMemory)
 refused_behind (Ok x) e app is m found read name IsSo once fails memory = tt
@@ -65,7 +65,7 @@ returns-in_ok-logs_request-in-Some-logs-default-clause-made c = λ words parse.
     let arm = c.in-Some-logs-default in
     let request = c.in_ok-logs_request-in-Some-logs-default.field-0 in
     let HasIts : List Row → Type 0 = λ rows. HasLogsToJudge rows request in
-    let asked : AskFor logs_app words HasIts =
+    let asked : IsCommandLine logs_app words HasIts =
     asked_for logs_app logs_command _ words parse _ arm.ensures.rows (met_name _ _ _ arm.is-logs arm.ensures.name)
     HasIts c.in_ok-logs_request-in-Some-logs-default.ensures.asked in
     let rules = (built_leaf logs_app.top).rules in

@@ -2,7 +2,7 @@ use Rattle.std.proofs.Common.{◌≡◌, ◌∙◌, subst, map}
 use Rattle.clap.specs.Words.{HasMatchesOf, kind_of}
 use Rattle.clap.specs.declared.error.kind.ErrorKind.TheVariants as kind
 use Rattle.ira_words.specs.Request.{AreAcceptedWords, GoTogether}
-use Rattle.ira_words.proofs.BehindCommands.{out_of_memory, words_accepted}
+use Rattle.ira_words.proofs.AfterCommands.{out_of_memory, words_accepted}
 use Rattle.ira_words.proofs.Results.{refused_by}
 use Rattle.ira_words.proofs.command_line.request_of_words.Goals as goal
 

@@ -13,8 +13,8 @@ use Rattle.clap.specs.declared.error.kind.ErrorKind.TheVariants as kind
 use Rattle.clap.specs.declared.parser.matches.ArgMatches.{ArgMatches}
 use Rattle.ira_words.specs.CommandLine.{check_app, decide_app, draw_app, explain_app, ira_app, logs_app, mend_app}
 use Rattle.ira_words.specs.CommandLine.{pairs_app, run_app, show_app, upgrade_app, version_app}
-use Rattle.ira_words.specs.Request.{AreMatchesOf, AskFor, Behind}
-use Rattle.ira_words.specs.TakenValues.{AreFound, AreFoundBehind, AreTaken}
+use Rattle.ira_words.specs.Request.{AreMatchesOf, IsCommandLine, After}
+use Rattle.ira_words.specs.TakenValues.{AreFound, AreFoundAfter, AreTaken}
 use Rattle.ira_words.proofs.FirstWord.{BeginsWithWord, Enters, command_rows, first_none, met_by_first, names}
 use Rattle.ira_words.proofs.FirstWord.{second_none, stopped_at, top}
 use Rattle.ira_words.proofs.FoundValues.{rows_found}
@@ -209,11 +209,11 @@ module _ (app : App) (is : IsCommand app) (m : ArgMatches) (words : List Text) (
       same ∙ ap (λ (rs : List Rule). rows_after rs [] first.0) is.rules
 
   -- values of its arguments
-  pub found_behind : AreFoundBehind app found
+  pub found_behind : AreFoundAfter app found
   found_behind =
       let none = fine app.top.name is.shape is.enters first.0 (subst (λ ws. fault_of ira_app ws ≡ []) first.1
       parse.accepted) in
-      subst (AreFoundBehind app) (sym rows_are) (record {
+      subst (AreFoundAfter app) (sym rows_are) (record {
         taken = subst (λ rs. AreTaken rs (rows_after rs [] first.0)) is.rules
             (rows_taken is.shape is.once is.fits first.0 none);
         found = subst (λ rs. AreFound rs (rows_after rs [] first.0)) is.rules
@@ -221,11 +221,11 @@ module _ (app : App) (is : IsCommand app) (m : ArgMatches) (words : List Text) (
       })
 
   -- what is so of all that is found after it is so of this
-  pub so_behind : (IsSo : List Row → Type 0) → Behind app words IsSo → IsSo found
+  pub so_behind : (IsSo : List Row → Type 0) → After app words IsSo → IsSo found
   so_behind IsSo behind = subst IsSo (sym rows_are) (behind first.0 first.1)
 
   -- and the words ask for what is so of it
-  pub asked_for : (IsSo : List Row → Type 0) → IsSo found → AskFor app words IsSo
+  pub asked_for : (IsSo : List Row → Type 0) → IsSo found → IsCommandLine app words IsSo
   asked_for IsSo so = record {
     accepted = parse.accepted;
     others = first.0;
