@@ -1,0 +1,15 @@
+use Rattle.std.proofs.Common.{codes, ap, Some}
+use Rattle.clap.specs.Words.{Rule}
+use Rattle.clap.specs.declared.builder.action.ArgAction.TheVariants.{SetTrue}
+use Rattle.ira_words.proofs.command_line.alone.Goals as goal
+
+pub returns : goal.returns
+returns c = record {
+  rule = rw (
+    c.help.ensures,
+    c.action.ensures,
+    c.long.ensures,
+  ) (ap (λ (r : Rule). record r { long = Some (codes "alone"); action = Some SetTrue })
+      c.new.ensures.rule);
+  local = rw (c.help.ensures, c.action.ensures, c.long.ensures) c.new.ensures.optional.1;
+}
