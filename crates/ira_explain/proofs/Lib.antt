@@ -1,1 +1,2 @@
+pub mod EventLines
 pub mod FirstLines

@@ -280,6 +280,20 @@ fn cause_words<A: Allocator>(
                  {link} is not recorded."
             )
         }
+        LinkCause::Skipped => {
+            let next = k.saturating_add(1);
+            format!(in alloc;
+                "receipt {k} is sending {next}: sending {k} was lost, or its receipt is not recorded; and further on it may be \
+                 so again."
+            )
+        }
+        LinkCause::Repeated => {
+            let before = k.saturating_sub(1);
+            format!(in alloc;
+                "receipt {k} is sending {before} again: message {before} came twice, or a sending of node {link} is not \
+                 recorded; and further on it may be so again."
+            )
+        }
         LinkCause::Bit => format!(in alloc;
             "only the bit differs: the link changed it, or one side records it after a change."
         ),
@@ -305,7 +319,7 @@ fn explain_differs<A: Allocator + Copy, P: Allocator>(
     let Some(cause) = sides.cause(files.k) else {
         return Ok(());
     };
-    if let (LinkCause::Lost, Some(sending)) = (cause, evidence.sending) {
+    if let (LinkCause::Lost | LinkCause::Skipped, Some(sending)) = (cause, evidence.sending) {
         let reader = logs.log(files.reader);
         explain_drop(
             alloc,

@@ -9,6 +9,10 @@ pub(crate) enum LinkCause {
     Lost,
     /// Each receipt is the sending before its own.
     CameTwice,
+    /// This receipt is the sending after its own, and not each further one is.
+    Skipped,
+    /// This receipt is the sending before its own, and not each further one is.
+    Repeated,
     /// Only the bit differs.
     Bit,
     /// What was received was never sent.

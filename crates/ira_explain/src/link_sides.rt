@@ -93,6 +93,10 @@ impl<A: Allocator> LinkSides<A> {
             Some(LinkCause::Lost)
         } else if k > 1 && self.go_on_alike(passed, k - 2) {
             Some(LinkCause::CameTwice)
+        } else if self.sent.get(k) == Some(&receipt) {
+            Some(LinkCause::Skipped)
+        } else if k > 1 && self.sent.get(k - 2) == Some(&receipt) {
+            Some(LinkCause::Repeated)
         } else if differ_by_bit(receipt, sending) {
             Some(LinkCause::Bit)
         } else if !self.sent.contains(&receipt) {

@@ -1,4 +1,4 @@
-ghost use Rattle.std.specs.Prelude.{◌≡◌, ◌++◌, [], ◌<◌, ◌≤◌, OnOk, codes, decimal, length};
+ghost use Rattle.std.specs.Prelude.{◌≡◌, ◌++◌, [], ◌<◌, ◌≤◌, OnOk, codes, decimal, length, min};
 ghost use Rattle.ira_event.specs.Sink.{Wrote};
 ghost use Rattle.ira_explain.specs.Printable.{IsPrintable, hex_digit_of, shown, shown_byte};
 ghost use Rattle.ira_explain.specs.Page.{mark_text};
@@ -266,7 +266,9 @@ impl<A: Allocator> Page<A> {
 }
 
 /// How many characters show these bytes; `usize::MAX` stands for itself and everything above.
-pub fn shown_width(bytes: &[u8]) -> usize {
+pub fn shown_width(bytes: &[u8]) -> usize
+    ensures { result ≡ min (length (shown bytes.now)) usize.MAX }
+{
     let mut width = 0usize;
     for byte in bytes {
         width = width.saturating_add(byte_width(*byte));

@@ -1,3 +1,5 @@
+ghost use Rattle.ira_explain.specs.Slip.{IsFormatSlip};
+
 use crate::field::Field;
 use crate::line_form::LineForm;
 use crate::line_stop::{Due, LineStop};
@@ -20,7 +22,9 @@ pub enum Slip {
 
 impl Slip {
     /// What the file's format does to a line.
-    pub fn of_format(line: &[u8]) -> Option<Slip> {
+    pub fn of_format(line: &[u8]) -> Option<Slip>
+        ensures { IsFormatSlip line.now result }
+    {
         if line.ends_with(b"\r") {
             return Some(Slip::CarriageReturn);
         }
