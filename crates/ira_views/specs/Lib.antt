@@ -1,1 +1,5 @@
+pub mod Draw
+pub mod FoundMoment
+pub mod Show
+pub mod ShownRing
 pub mod Texts
