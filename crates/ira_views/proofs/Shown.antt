@@ -39,7 +39,7 @@ pub found_consistent : {A : Type 0} (texts : List (List ℕ)) (logs : List Log) 
     (cases : List (Found A))
     (i : ℕ) (cut : List ℕ) → AreLogTexts texts logs
     → (others : List Log) × (asked : QuestionCases) × QuestionFitsLogs texts question others asked
-        × (nodes ≡ length others)
+    × (nodes ≡ length others)
     × AllZip (IsFound others) asked.cases cases
     → slice_get cases i ≡ Some (Present cut) → IsConsistentCut logs cut
 found_consistent texts logs question nodes cases i cut are found at =
@@ -51,7 +51,7 @@ pub moment_refused_for : {T : Type 0} (P : List (List ℕ) → T
     → Type 0) (logs : List Log) (question : Bor (List ℕ)) (case : Option ℕ)
     (r : Refusal)
     → ((texts : List (List ℕ)) → AreLogTexts texts logs
-        → MatchRefusal {T = T} (Err r) (P texts) (IsFindingsReason texts question.now))
+    → MatchRefusal {T = T} (Err r) (P texts) (IsFindingsReason texts question.now))
     → IsMomentFault logs (Of question case) (refusal_fault r)
 moment_refused_for P logs question case (refusal.No reason) h = λ texts good. h texts good.texts_are
 moment_refused_for P logs question case refusal.OutOfMemory h = tt

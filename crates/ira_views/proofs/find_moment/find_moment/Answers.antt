@@ -22,5 +22,5 @@ returns-in_ok-first_met-in-Cases-clause-found g c =
     let logs = c.args.logs.now in
     let all = rw c.in-Cases.is at (c.in_ok-reason-in-Of.ensures texts c.requires.1).0 in
     c.in_ok-first_met-in-Cases.ensures logs (λ i cut at.
-      found_consistent texts logs c.in-Of.question.now c.in-Cases.nodes c.in-Cases.found.items i cut c.requires.1 all
-      (rw c.deref.ensures.value at at))
+    found_consistent texts logs c.in-Of.question.now c.in-Cases.nodes c.in-Cases.found.items i cut c.requires.1 all
+    (rw c.deref.ensures.value at at))

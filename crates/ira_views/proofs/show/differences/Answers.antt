@@ -9,8 +9,14 @@ returns-in_default-2-clause-fault g c =
       refl,
       c.in-Some.asked.now,
       ap (option_map (λ named. named.now)) c.in-Some.is,
-      λ are. omega (arith, are found.0 found.1, found.2, c.get.ensures.value, c.size.ensures.value,
-          ap length c.logs-logs.ensures.value),
+      λ are. omega (
+        arith,
+        are found.0 found.1,
+        found.2,
+        c.get.ensures.value,
+        c.size.ensures.value,
+        ap length c.logs-logs.ensures.value,
+      ),
     )
 
 pub returns-clause-same : goal.returns-clause-same

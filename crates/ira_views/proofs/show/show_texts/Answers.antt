@@ -8,14 +8,14 @@ returns-in_err-logs g c =
     let texts = texts_of c.args.texts.now in
     let p = err_from_is_err_and c.from_residual-in_err-logs.result c.from_residual-in_err-logs.ensures.1 in
     rw (p.1, p.2) (logs_refused _ texts c.args.moment _ c.in_err-logs.field-0.0
-        (c.in_err-logs.ensures texts c.in_ok-take_texts.ensures))
+    (c.in_err-logs.ensures texts c.in_ok-take_texts.ensures))
 
 pub returns-in_err-differences : goal.returns-in_err-differences
 returns-in_err-differences g c =
     let texts = texts_of c.args.texts.now in
     let good = c.in_ok-logs.ensures texts c.in_ok-take_texts.ensures in
     let p = err_from_is_err_and c.from_residual-in_err-differences.result c.from_residual-in_err-differences.ensures.1
-        in
+    in
     rw (p.1, p.2) (place_refused texts c.in_ok-logs.logs c.args.moment _ _ good c.in_err-differences.ensures.fault)
 
 pub find_moment-requires : goal.find_moment-requires
