@@ -52,7 +52,7 @@ fn words_that_are_no_command(rt: HostRuntime) {
 
 #[test]
 fn help_is_a_refused_word(rt: HostRuntime) {
-    let help = "OneLogOutcome and makes logs of Itai-Rodeh elections on anonymous rings.\n\n\
+    let help = "Judges and makes logs of Itai-Rodeh elections on anonymous rings.\n\n\
                 Usage: ira < LOG\n       ira logs <LOGS>\n       ira explain [<LOGS>]\n       \
                 ira explain --question <Q> [--case <K> | --cert <C>] <LOGS>\n       \
                 ira check --question <Q> --cert <C> [--depth <D>] <LOGS>\n       \
