@@ -63,9 +63,9 @@ fn help_is_a_refused_word(rt: HostRuntime) {
                 ira mend --out <DIR> <LOGS>\n       \
                 ira version\n\nLOGS is either <LOG>... or --dir <DIR>\n\n\
                 Commands:\n\
-                \x20 logs     OneLogOutcome the logs of all nodes of a ring together\n\
-                \x20 explain  OneLogOutcome logs, or one log on standard input, and says why the answer is so\n\
-                \x20 check    OneLogOutcome logs together with a certificate that no moment met a case of a question\n\
+                \x20 logs     Judges the logs of all nodes of a ring together\n\
+                \x20 explain  Judges logs, or one log on standard input, and says why the answer is so\n\
+                \x20 check    Judges logs together with a certificate that no moment met a case of a question\n\
                 \x20 decide   Decides for each case of a question whether some moment of the logged run met it\n\
                 \x20 pairs    Prints the question whether two nodes of a ring ever lead at once\n\
                 \x20 run      Runs an election, and writes the log of each node to a file\n\
