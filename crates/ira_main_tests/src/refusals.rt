@@ -263,15 +263,13 @@ where
         [NEVER, NEVER],
     );
     let out = found.out.bytes();
-    let is_whole = out == case.out.as_bytes();
-    let is_told = is_whole && found.err.bytes() == case.err.as_bytes();
+    let is_told = out == case.out.as_bytes() && found.err.bytes() == case.err.as_bytes();
     if is_told && found.status == case.status && shelf.has_written(case.written) {
         return Some(true);
     }
-    // after its findings it may give up while it makes the certificate of them, and an order of events is printed in parts
+    // an order of events is printed in parts
     let is_part = case.words.contains(&"--events") && case.out.as_bytes().starts_with(out);
-    let is_cut = out.is_empty() || is_part || is_whole && case.is_of("decide");
-    (case.gives_up(&found) && is_cut).then_some(false)
+    (case.gives_up(&found) && (out.is_empty() || is_part)).then_some(false)
 }
 
 fn answers<R>(rt: &R, case: &Case, alloc: Memory) -> bool
