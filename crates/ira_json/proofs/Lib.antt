@@ -1,0 +1,2 @@
+pub mod AnswerWords
+pub mod LineTexts

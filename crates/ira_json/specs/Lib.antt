@@ -1,1 +1,3 @@
+pub mod AnswerValue
+pub mod ExplainedValue
 pub mod Line

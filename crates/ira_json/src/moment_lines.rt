@@ -5,7 +5,9 @@ ghost use Rattle.ira_order.specs.Run.{AreLocalRuns};
 
 use crate::asked::Asked;
 use crate::line::write_line;
-use crate::values::{Members, members_of, put_load, put_number, put_state, put_words};
+use crate::values::{
+    Members, members_of, numbers_value, put_load, put_number, put_state, put_words,
+};
 use ira_event::{Event, Logs, NodeLog, OutOfMemory, Sink};
 use ira_moment::{Moment, NodeProgress};
 use ira_show::{Round, Rounds, ShowFault};
@@ -46,15 +48,6 @@ fn answer<A: Allocator>(alloc: Global, end: &Moment<A>) -> Result<Members, OutOf
     put_number(&mut answer, alloc, "received", received)?;
     put(&mut answer, alloc, "leaders", places(alloc, &leaders)?)?;
     Ok(answer)
-}
-
-/// A cut.
-fn cut_value(alloc: Global, cut: &[u32]) -> Result<Value, OutOfMemory> {
-    let mut list = Vec::with_capacity(alloc, cut.len())?;
-    for position in cut {
-        list.push(Value::from(*position))?;
-    }
-    Ok(Value::Array(list))
 }
 
 /// What was drawn in a round.
@@ -152,7 +145,7 @@ pub fn write_moment<A: Allocator + Clone, W: Sink>(
     let end = Moment::at_end(alloc.clone()?, logs)?;
     let mut first = answer(text, &end)?;
     if asked != Asked::End {
-        put(&mut first, text, "cut", cut_value(text, cut)?)?;
+        put(&mut first, text, "cut", numbers_value(text, cut)?)?;
     }
     if let Asked::Case(number) = asked {
         put_number(&mut first, text, "case", number as u64)?;

@@ -1,6 +1,12 @@
+ghost use Rattle.std.specs.Prelude.{◌≡◌, IfOk, OnOk, codes};
+ghost use Rattle.serde_json.specs.Data.{member, no_members, string};
+ghost use Rattle.serde_json.specs.View.{members_view, view};
+ghost use Rattle.ira_json.specs.AnswerValue.{naturals};
+ghost use Rattle.ira_json.specs.ExplainedValue.{with_number, with_words};
+
 use ira_event::{Load, Msg, OutOfMemory};
 use ira_node::{NodeState, Phase};
-use serde_json::{Map, Value, json, put};
+use serde_json::{Map, Value, put};
 use std::alloc::Global;
 
 /// The members of an object.
@@ -12,7 +18,10 @@ pub(crate) fn put_number(
     alloc: Global,
     key: &str,
     number: u64,
-) -> Result<(), OutOfMemory> {
+) -> Result<(), OutOfMemory>
+    ensures { OnOk result (members_view members.new.entries
+        ≡ with_number key.now number (members_view members.old.entries)) }
+{
     put(members, alloc, key, Value::from(number))?;
     Ok(())
 }
@@ -23,7 +32,10 @@ pub(crate) fn put_words(
     alloc: Global,
     key: &str,
     words: &str,
-) -> Result<(), OutOfMemory> {
+) -> Result<(), OutOfMemory>
+    ensures { OnOk result (members_view members.new.entries
+        ≡ with_words key.now words.now (members_view members.old.entries)) }
+{
     put(members, alloc, key, Value::try_from_str(alloc, words)?)?;
     Ok(())
 }
@@ -89,8 +101,22 @@ pub(crate) fn put_state(
 }
 
 /// An object with a type.
-pub(crate) fn members_of(alloc: Global, kind: &str) -> Result<Members, OutOfMemory> {
+pub(crate) fn members_of(alloc: Global, kind: &str) -> Result<Members, OutOfMemory>
+    ensures { IfOk result (λ members.
+        members_view members.entries ≡ member (codes "type") (string kind.now) no_members) }
+{
     let mut members = Map::new(alloc);
     put_words(&mut members, alloc, "type", kind)?;
     Ok(members)
+}
+
+/// A list of numbers.
+pub(crate) fn numbers_value(alloc: Global, numbers: &[u32]) -> Result<Value, OutOfMemory>
+    ensures { IfOk result (λ value. view value ≡ naturals numbers.now) }
+{
+    let mut list = Vec::with_capacity(alloc, numbers.len())?;
+    for number in numbers {
+        list.push(Value::from(*number))?;
+    }
+    Ok(Value::Array(list))
 }
