@@ -1,12 +1,12 @@
 -- What is printed of a ring.
-use Rattle.std.proofs.Common.{◌≡◌, ◌∙◌, ℕ, Bool, true, List, [], ◌++◌, Err, Ok, append_assoc, refl, subst}
-use Rattle.std.proofs.lemmas.List.{append-nil}
+use Rattle.std.proofs.Common.{◌≡◌, ◌∙◌, ℕ, Bool, true, false, List, [], ◌++◌, Result, Err, Ok, append_assoc, refl, subst}
 use Rattle.std.proofs.lemmas.List.Folds.{list_all-append}
 use Rattle.std.specs.Prelude.{nat_eq, ◌||◌}
+use Rattle.std.specs.Result.{is_err}
 use Rattle.ira_audit.specs.Report.{report_line}
 use Rattle.ira_audit.specs.declared.answer.Answer.TheVariants as audit
 use Rattle.ira_event.proofs.Writing.{StopsIn-append, Takes-StopsIn, Takes-append}
-use Rattle.ira_event.specs.Sink.{SinkState, StopsIn, Takes}
+use Rattle.ira_event.specs.Sink.{SinkState, StopsIn, Takes, Wrote}
 use Rattle.ira_explain.specs.Printable.{IsPrintable, is_graphic}
 use Rattle.ira_show.specs.Showed.{OfPrintable}
 use Rattle.ira_main.specs.Show.{PrintsRing, ring_text}
@@ -14,6 +14,17 @@ use Rattle.ira_main.specs.Show.PrintsRing.{no_memory, printed, stopped}
 use Rattle.ira_main.specs.Status.{IsLeadsStatus}
 use Rattle.ira_main.specs.declared.program_fault.ProgramFault.TheVariants.{CannotWriteAnswer, OutOfMemory}
 use Rattle.ira_main.specs.declared.status.Status.{Status}
+
+-- a text was taken where its writer didn't fail, and a first part of it where it did
+pub taken_of : {T E : Type 0} (r : Result T E) (text : List ℕ) (s t : SinkState) → is_err r ≡ false → Wrote r text s t
+    → Takes text s t
+taken_of (Ok _) text s t e wrote = wrote
+taken_of (Err _) text s t e wrote = absurd cc
+
+pub stopped_of : {T E : Type 0} (r : Result T E) (text : List ℕ) (s t : SinkState) → is_err r ≡ true → Wrote r text s t
+    → StopsIn text s t
+stopped_of (Ok _) text s t e wrote = absurd cc
+stopped_of (Err _) text s t e wrote = wrote
 
 pub printable_both : (a b : List ℕ) → IsPrintable a → IsPrintable b → IsPrintable (a ++ b)
 printable_both a b p q = list_all-append (λ c. is_graphic c || nat_eq c 10) a b ∙ rw p q
@@ -28,14 +39,14 @@ pub stopped_before : (d : List ℕ) (has_events : Bool) (s t : SinkState) → Is
 stopped_before d has_events s t p stop =
     let text : ring_front d ++ [] ≡ ring_text d [] = append_assoc (report_line audit.Yes) d [] in
     stopped [] (printable_both d [] p refl)
-        (subst (λ w. StopsIn w s t) text (StopsIn-append s t (ring_front d) [] stop)) refl
+    (subst (λ w. StopsIn w s t) text (StopsIn-append s t (ring_front d) [] stop)) refl
 
 -- a text was taken after them
 taken_after : (d text : List ℕ) (s t u : SinkState) → Takes (ring_front d) s t → Takes text t u
     → Takes (ring_text d text) s u
 taken_after d text s t u front more =
     subst (λ w. Takes w s u) (append_assoc (report_line audit.Yes) d text)
-        (Takes-append s t u (ring_front d) text front more)
+    (Takes-append s t u (ring_front d) text front more)
 
 -- all events were printed
 pub printed_after : (d : List ℕ) (has_events : Bool) (s t u : SinkState) (status : Status) → IsPrintable d

@@ -12,7 +12,7 @@ use Rattle.ira_moment.specs.declared.cut_fault.CutFault.{CutFault}
 use Rattle.ira_views.specs.Show.{ArePlaces, IsCutFaultOf, IsReasonAgainst, IsShown}
 use Rattle.ira_views.specs.ShownRing.{ShownRing}
 use Rattle.ira_views.specs.declared.shown_moment.ShownMoment.{ShownMoment}
-use Rattle.ira_views.specs.declared.shown_moment.ShownMoment.TheVariants as shown
+use Rattle.ira_views.specs.declared.shown_moment.ShownMoment.TheVariants as moments
 use Rattle.ira_words.specs.declared.asked_moment.AskedMoment.{AskedMoment}
 use Rattle.ira_words.specs.declared.asked_moment.AskedMoment.TheVariants.{AtEnd, AtCut, OfQuestion}
 use Rattle.ira_words.specs.declared.show_request.ShowRequest.{ShowRequest}
@@ -38,11 +38,11 @@ moment_texts _ question = []
 
 -- the moment that the words name, by its numbers, or by a question of this text
 abbrev pub IsAskedMoment : AskedMoment → List ℕ → ShownMoment → Type 0
-IsAskedMoment AtEnd question moment = moment ≡ shown.AtEnd
+IsAskedMoment AtEnd question moment = moment ≡ moments.AtEnd
 IsAskedMoment (AtCut events) question moment =
-    (numbers : Bor (List ℕ)) × (numbers.now ≡ events.items) × (moment ≡ shown.AtCut numbers)
+    (numbers : Bor (List ℕ)) × (numbers.now ≡ events.items) × (moment ≡ moments.AtCut numbers)
 IsAskedMoment (OfQuestion asked) question moment =
-    (text : Bor (List ℕ)) × (text.now ≡ question) × (moment ≡ shown.Of text asked.case)
+    (text : Bor (List ℕ)) × (text.now ≡ question) × (moment ≡ moments.Of text asked.case)
 
 -- what is printed of a ring: the line of a yes, the differences, and a text after them
 abbrev pub ring_text : List ℕ → List ℕ → List ℕ

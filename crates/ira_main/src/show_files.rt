@@ -6,7 +6,7 @@ use crate::named_file::{named_texts, read_named};
 use crate::program_fault::ProgramFault;
 use crate::read_files::read_file;
 use crate::report::report;
-use crate::ring_printer::{print_events, print_tables};
+use crate::ring_printer::print_ring;
 use crate::source_names::source_names;
 use crate::status::Status;
 use ira_audit::Answer;
@@ -75,8 +75,7 @@ where
     let moment = shown_moment(&show.moment, &question);
     let leads = show.leads.as_ref().map(|places| places.as_slice());
     match show_texts(rt, alloc.clone()?, &named, moment, leads) {
-        Ok(ring) if show.has_events => print_events(alloc, &ring, out),
-        Ok(ring) => print_tables(alloc, &ring, out),
+        Ok(ring) => print_ring(alloc, &ring, show.has_events, out),
         Err(RingFault::No(reason)) => report(&Answer::No(reason), out),
         Err(RingFault::Cut(fault)) => Err(ProgramFault::NoMoment(fault)),
         Err(RingFault::Place) => Err(ProgramFault::NoPlace),
