@@ -54,7 +54,7 @@ fn write_new<A: Allocator, F: Shelf>(
 }
 
 /// What comes of keeping the certificate in a new file of this name.
-fn keep<'a, A: Allocator, F: Shelf>(
+pub(crate) fn keep<'a, A: Allocator, F: Shelf>(
     certificate: &Certificate<A>,
     name: &'a str,
     shelf: &mut F,
