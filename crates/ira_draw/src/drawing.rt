@@ -1,5 +1,7 @@
-ghost use Rattle.std.specs.Prelude.{◌≡◌, length};
+ghost use Rattle.std.specs.Prelude.{◌≡◌, IfErr, IfOk, length};
 ghost use Rattle.std.specs.Option.{ForSome};
+ghost use Rattle.ira_explain.specs.Printable.{IsPrintable};
+ghost use Rattle.ira_picture.specs.DrawFault.{IsDrawFault};
 
 use crate::arrows::write_arrows;
 use crate::frame::{write_columns, write_head};
@@ -111,6 +113,8 @@ pub fn draw<A: Allocator + Clone>(
     view: &View<'_>,
 ) -> Result<Page<A>, DrawFault>
     requires { ForSome view.now.moment (λ m. length m.cut.now ≡ length logs.now) }
+    ensures printable { IfOk result IsPrintable }
+    ensures fault { IfErr result IsDrawFault }
 {
     let objection = Objection::find(alloc.clone()?, logs)?;
     let events = highlights(alloc.clone()?, &alloc, logs, objection)?;

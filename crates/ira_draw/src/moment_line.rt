@@ -4,17 +4,15 @@ use crate::view::Asked;
 use std::alloc::Allocator;
 use std::fmt::{self, Write};
 
-/// The most characters of what is said of a moment.
+/// The most bytes of what is said of a moment.
 const MOST: usize = 100;
 
 /// The words of a moment, of which no more stand than there is room for.
-fn shortened(words: &str) -> (&str, &str) {
+fn shortened(words: &[u8]) -> (&[u8], &str) {
     if words.len() <= MOST {
-        return (words, "");
-    }
-    match words.get(..MOST - 2) {
-        Some(front) => (front, ".."),
-        None => (words, ""),
+        (words, "")
+    } else {
+        (&words[..MOST - 2], "..")
     }
 }
 

@@ -37,11 +37,10 @@ impl<A: Allocator> Svg<A> {
     }
 
     /// Adds words as XML spells them between tags and in attributes.
-    pub(crate) fn text(&mut self, words: &str) -> Result<(), OutOfMemory>
+    pub(crate) fn text(&mut self, words: &[u8]) -> Result<(), OutOfMemory>
         ensures { OnOk result (self.new ≡ self.old ++ escaped words.now) }
     {
-        let bytes = words.as_bytes();
-        for byte in bytes {
+        for byte in words {
             self.text_byte(*byte)?;
         }
         Ok(())

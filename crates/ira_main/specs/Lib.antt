@@ -2,6 +2,7 @@ pub mod AskedRun
 pub mod CertFile
 pub mod ProgramFault
 pub mod Decide
+pub mod Draw
 pub mod FilesRead
 pub mod InputAudit
 pub mod LogFiles

@@ -18,7 +18,7 @@ use Rattle.ira_main.specs.declared.program_fault.ProgramFault.{ProgramFault}
 use Rattle.ira_main.specs.declared.program_fault.ProgramFault.TheVariants.{CannotRead, CannotWrite, CannotWriteAnswer}
 use Rattle.ira_main.specs.declared.program_fault.ProgramFault.TheVariants.{CannotWriteLog, CertificatePastLimits}
 use Rattle.ira_main.specs.declared.program_fault.ProgramFault.TheVariants.{NoJson, NoMoment, NoPlace, OutOfMemory, RingSize}
-use Rattle.ira_main.specs.declared.program_fault.ProgramFault.TheVariants.{RunRefused, WordIsNoText, Words}
+use Rattle.ira_main.specs.declared.program_fault.ProgramFault.TheVariants.{RunRefused, TooManyEvents, WordIsNoText, Words}
 use Rattle.ira_main.specs.declared.program_fault.ProgramFault.TheVariants.{WouldOverwrite}
 
 -- the fault where the file of this name wasn't read
@@ -41,7 +41,7 @@ abbrev pub words_fault : WordsFault → ProgramFault
 words_fault (words.Refused text) = Words text
 words_fault words.OutOfMemory = OutOfMemory
 
--- the fault where a certificate wasn't written to the file of this name
+-- the fault where a certificate or a picture wasn't written to the file of this name
 abbrev pub write_fault : Bor (List ℕ) → ShelfFault → ProgramFault
 write_fault name shelf.Device = CannotWrite name
 write_fault name shelf.OutOfMemory = OutOfMemory
@@ -71,6 +71,9 @@ program_fault_text RingSize = codes "ira: ring size\n"
 program_fault_text (NoMoment fault) = cut_fault_text fault
 program_fault_text NoPlace = codes "ira: --leads names a node that the ring has not\n"
 program_fault_text NoJson = codes "ira: --json is for logs, check and decide\n"
+program_fault_text (TooManyEvents events) =
+    codes "ira: " ++ decimal events
+    ++ codes " events are too many for one picture, which holds 20000: give --from and --to\n"
 program_fault_text (RunRefused fault) = codes "ira: run refused " ++ decimal (run_fault_number fault) ++ codes "\n"
 program_fault_text (CannotWriteLog folder place) =
     codes "ira: cannot write " ++ folder.now ++ (codes "/" ++ decimal place ++ codes ".log\n")

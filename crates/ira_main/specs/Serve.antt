@@ -16,10 +16,11 @@ use Rattle.ira_audit.specs.declared.answer.Answer.TheVariants as audit
 use Rattle.ira_ring.specs.EndsWriter.{ends_text}
 use Rattle.ira_ring.specs.Run.{Run}
 use Rattle.ira_run.specs.declared.run_fault.RunFault.{RunFault}
-use Rattle.ira_words.specs.Request.{IsCheckLine, IsDecideLine, IsExplainLine, IsLogsLine, IsMendLine, IsPairsLine}
-use Rattle.ira_words.specs.Request.{IsRunLine, IsShowLine, IsUpgradeLine, IsVersionLine, MayBeRefused}
+use Rattle.ira_words.specs.Request.{IsCheckLine, IsDecideLine, IsDrawLine, IsExplainLine, IsLogsLine, IsMendLine}
+use Rattle.ira_words.specs.Request.{IsPairsLine, IsRunLine, IsShowLine, IsUpgradeLine, IsVersionLine, MayBeRefused}
 use Rattle.ira_words.specs.declared.check_request.CheckRequest.{CheckRequest}
 use Rattle.ira_words.specs.declared.decide_request.DecideRequest.{DecideRequest}
+use Rattle.ira_words.specs.declared.draw_request.DrawRequest.{DrawRequest}
 use Rattle.ira_words.specs.declared.explain_request.ExplainRequest.{ExplainRequest}
 use Rattle.ira_words.specs.declared.explained_answer.ExplainedAnswer.{ExplainedAnswer}
 use Rattle.ira_words.specs.declared.explained_answer.ExplainedAnswer.TheVariants.{OneLog, Logs, Findings, Certificate}
@@ -36,6 +37,7 @@ use Rattle.ira_files.specs.Shelf.{Reading, Writing}
 use Rattle.ira_files.specs.declared.file_name.FileName.{FileName}
 use Rattle.ira_main.specs.AskedRun.{IsAskedRun, IsAskedRunFault}
 use Rattle.ira_main.specs.Decide.{Decides, DecidesTogether, ExplainsFindings, IsUndecided}
+use Rattle.ira_main.specs.Draw.{DrawsLogs}
 use Rattle.ira_main.specs.FilesRead.{IsFilesFault, ReadsFiles, names_of}
 use Rattle.ira_main.specs.LogFiles.{StopsInLogs, WritesLogs}
 use Rattle.ira_main.specs.Mend.{Mends}
@@ -173,11 +175,12 @@ WantsViewAsJson words =
     ⊎ ((show : ShowRequest) × IsShowLine words show × (show.is_json ≡ true))
 
 -- what is done for words: they are refused; or they ask for logs, or for the evidence of an answer, and their texts are
--- judged together; or to show logs, and what happened by them is printed; or to check logs, and their texts are judged
--- with those of a question and of a certificate; or to decide a question of them, and it is decided of their texts; or
--- for the question of all pairs, and it is printed; or for a ring, and it is run; or to upgrade logs, or to mend them,
--- and it is done; or for the version, and it is printed. Or no answer is given, for a fault that the command can have.
--- The shelf is as it was but for the files of a run and of upgraded or mended logs, and a certificate's
+-- judged together; or to show logs, and what happened by them is printed; or to draw them, and a picture is kept; or to
+-- check logs, and their texts are judged with those of a question and of a certificate; or to decide a question of them,
+-- and it is decided of their texts; or for the question of all pairs, and it is printed; or for a ring, and it is run; or
+-- to upgrade logs, or to mend them, and it is done; or for the version, and it is printed. Or no answer is given, for a
+-- fault that the command can have. The shelf is as it was but for the files of a run, of upgraded or mended logs, of a
+-- certificate and of a picture
 pub data CommandOutcome (A : Type 0) {S : Type 0} (reads : Reading S) (writes : Writing S)
     (words : List (List ℕ)) (shelf shelf' : S) (out out' : SinkState)
     (outcome : Outcome) : Type 0 where
@@ -194,6 +197,8 @@ pub data CommandOutcome (A : Type 0) {S : Type 0} (reads : Reading S) (writes : 
       → ShowsLogs reads show shelf out out' outcome
       → CommandOutcome A reads writes words shelf shelf' out out' outcome
   unseen : WantsViewAsJson words → shelf' ≡ shelf → out' ≡ out → outcome ≡ Err NoJson
+      → CommandOutcome A reads writes words shelf shelf' out out' outcome
+  drawn : (draw : DrawRequest) → IsDrawLine words draw → DrawsLogs reads writes draw shelf shelf' out out' outcome
       → CommandOutcome A reads writes words shelf shelf' out out' outcome
   certified : (check : CheckRequest) → IsCheckLine words check → shelf' ≡ shelf
       → JudgesCheck (ReportsAs check.is_json) reads check.question.now check.certificate.now check.logs shelf

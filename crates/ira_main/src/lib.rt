@@ -5,6 +5,7 @@ mod asked_run;
 mod cert_file;
 mod cut_fault_line;
 mod decide_files;
+mod draw_files;
 mod explain_files;
 mod explain_question;
 mod input_audit;

@@ -5,6 +5,7 @@ ghost use Rattle.ira_main.specs.Progress.{ServesOrLeaves};
 ghost use Rattle.ira_main.specs.Serve.{OneLogOutcome, JudgesCheck, JudgesLogs, Serves};
 
 use crate::decide_files::decide_files;
+use crate::draw_files::draw_files;
 use crate::explain_files::{explain_files, explain_input};
 use crate::explain_question::{explain_check_files, explain_question_files};
 use crate::input_audit::audit_input;
@@ -151,7 +152,7 @@ where
         },
         Request::Show(show) if show.is_json => Progress::Ended(Err(ProgramFault::NoJson)),
         Request::Show(show) => Progress::Ended(show_files(rt, alloc, &show, shelf, out)),
-        Request::Draw(_draw) => Progress::Ended(Err(ProgramFault::OutOfMemory)),
+        Request::Draw(draw) => Progress::Ended(draw_files(rt, alloc, &draw, shelf, out)),
         Request::Check(check) => Progress::Check(check),
         Request::Decide(decide) => Progress::Ended(decide_files(rt, alloc, &decide, shelf, out)),
         Request::Pairs(nodes) => Progress::Ended(print_pairs(alloc, nodes, out)),

@@ -32,13 +32,15 @@ pub enum ProgramFault<'a> {
     NoPlace,
     /// A view is wanted as JSON, which has none.
     NoJson,
+    /// So many events have the columns that are asked for, and these are too many for one picture.
+    TooManyEvents(u32),
     /// The run was refused, or came to nothing.
     RunRefused(RunFault),
     /// The log of the node at this place can't be written to its file in this folder.
     CannotWriteLog(&'a str, u8),
-    /// A log would be written over the file of this name, which is one of the input.
+    /// A new file would be written over the one of this name, which is one of the input.
     WouldOverwrite(FileName<'a>),
-    /// The certificate can't be written to the file of this name.
+    /// A certificate or a picture can't be written to the file of this name.
     CannotWrite(&'a str),
     /// The text of the certificate couldn't be read back.
     CertificatePastLimits,
@@ -71,7 +73,7 @@ impl<'a> ProgramFault<'a> {
         }
     }
 
-    /// The certificate wasn't written to the file of this name.
+    /// A certificate or a picture wasn't written to the file of this name.
     pub(crate) fn cannot_write(name: &'a str, fault: ShelfFault) -> ProgramFault<'a>
         ensures { result ≡ write_fault name.entry fault }
     {
@@ -108,6 +110,7 @@ impl<'a> ProgramFault<'a> {
             ProgramFault::NoPlace => {
                 write_bytes(b"ira: --leads names a node that the ring has not\n", err)
             }
+            ProgramFault::TooManyEvents(events) => too_many_events(*events).write(err),
             ProgramFault::RunRefused(fault) => refused_run(*fault).write(err),
             ProgramFault::CannotWriteLog(folder, place) => write_named(
                 b"ira: cannot write ",
@@ -147,6 +150,16 @@ fn log_in_folder(place: u8) -> Line
     line.add(b"/");
     line.add_number(u32::from(place));
     line.add(b".log\n");
+    line
+}
+
+fn too_many_events(events: u32) -> Line
+    ensures { result ≡ codes "ira: " ++ decimal events ++ codes " events are too many for one picture, which holds 20000: give --from and --to\n" }
+{
+    let mut line = Line::new();
+    line.add(b"ira: ");
+    line.add_number(events);
+    line.add(b" events are too many for one picture, which holds 20000: give --from and --to\n");
     line
 }
 

@@ -17,8 +17,8 @@ use ira_words::{AskedMoment, ShowRequest};
 use std::alloc::Allocator;
 use std::thread::Threads;
 
-// The text of the question whose first moment is asked for; no bytes where none is.
-fn read_asked<'a, A: Allocator + Clone, F: TextSource>(
+/// The text of the question whose first moment is asked for; no bytes where none is.
+pub(crate) fn read_asked<'a, A: Allocator + Clone, F: TextSource>(
     alloc: &A,
     moment: &AskedMoment<'a>,
     shelf: &F,
@@ -35,8 +35,8 @@ fn read_asked<'a, A: Allocator + Clone, F: TextSource>(
     }
 }
 
-// The moment that is asked for, with the text of its question.
-fn shown_moment<'t, A: Allocator>(
+/// The moment that is asked for, with the text of its question.
+pub(crate) fn shown_moment<'t, A: Allocator>(
     moment: &'t AskedMoment<'_>,
     question: &'t TextBuffer<A>,
 ) -> ShownMoment<'t>

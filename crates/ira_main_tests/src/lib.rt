@@ -6,6 +6,8 @@ mod checks;
 #[cfg(test)]
 mod decides;
 #[cfg(test)]
+mod draws;
+#[cfg(test)]
 mod fakes;
 #[cfg(test)]
 mod files;

@@ -1,5 +1,6 @@
 pub mod Arrow
 pub mod Columns
+pub mod DrawFault
 pub mod Lane
 pub mod Picture
 pub mod Traffic

@@ -6,18 +6,28 @@ use thiserror::Error;
 #[derive(Clone, Copy, Debug, PartialEq, Eq, Error)]
 pub enum DrawFault {
     #[error("{events} events are too many for one picture, which holds 20000: give --from and --to")]
-    TooManyEvents { events: u64 },
+    TooManyEvents { events: u32 },
     #[error("out of memory")]
     OutOfMemory,
 }
 
 impl From<OutOfMemory> for DrawFault {
+    ghost use Rattle.std.specs.Prelude.{◌≡◌};
+    ghost use Rattle.ira_picture.specs.declared.draw_fault.DrawFault.TheVariants as fault;
+
+    ghost from_gives = { λ _ f. f ≡ fault.OutOfMemory };
+
     fn from(_refused: OutOfMemory) -> DrawFault {
         DrawFault::OutOfMemory
     }
 }
 
 impl From<AllocError> for DrawFault {
+    ghost use Rattle.std.specs.Prelude.{◌≡◌};
+    ghost use Rattle.ira_picture.specs.declared.draw_fault.DrawFault.TheVariants as fault;
+
+    ghost from_gives = { λ _ f. f ≡ fault.OutOfMemory };
+
     fn from(_refused: AllocError) -> DrawFault {
         DrawFault::OutOfMemory
     }

@@ -1,12 +1,14 @@
-ghost use Rattle.std.specs.Prelude.{◌≡◌, ◌+◌, ◌<◌, ◌≤◌, ℕ, List, Some, Contains, IfOk, IfSome, IsSome, OnOk, length, map};
+ghost use Rattle.std.specs.Prelude.{◌≡◌, ◌+◌, ◌<◌, ◌≤◌, ℕ, List, Some, Contains, IfErr, IfOk, IfSome, IsSome, OnOk, length, map};
 ghost use Rattle.std.specs.Option.{ForSome, option_and_then, option_map};
 ghost use Rattle.ira_event.specs.declared.load.Load.{Load};
 ghost use Rattle.ira_order.specs.Matching.{got, sent};
 ghost use Rattle.ira_order.specs.Ring.{log_of, next, numbered};
 ghost use Rattle.ira_picture.specs.Arrow.{load_in};
+ghost use Rattle.ira_picture.specs.DrawFault.{IsDrawFault};
 ghost use Rattle.ira_picture.specs.Lane.{AreMarks, IsReplayed};
 ghost use Rattle.ira_picture.specs.Picture.{AreLanes};
 ghost use Rattle.ira_picture.specs.Traffic.{AreTraffic};
+ghost use Rattle.ira_picture.specs.Window.{asked_window};
 ghost use Rattle.ira_picture.specs.declared.arrow.Arrow.{Arrow};
 
 use crate::arrow::{Arrow, Passage};
@@ -21,7 +23,7 @@ use ira_event::{Event, Load, Logs, OutOfMemory};
 use std::alloc::Allocator;
 
 /// The most events of a picture.
-pub const MAX_MARKS: u64 = 20_000;
+pub const MAX_MARKS: u32 = 20_000;
 
 /// What is drawn of logs: for each node its events at some columns with what is known after each, and the messages
 /// and resets between them.
@@ -56,8 +58,8 @@ fn load_of(event: Event) -> Option<Load>
 }
 
 /// How many of the columns are drawn.
-fn count_drawn(columns: &[u32], window: Window) -> u64 {
-    let mut events = 0u64;
+fn count_drawn(columns: &[u32], window: Window) -> u32 {
+    let mut events = 0u32;
     for column in columns {
         if window.contains(*column) {
             events = events.saturating_add(1);
@@ -67,8 +69,8 @@ fn count_drawn(columns: &[u32], window: Window) -> u64 {
 }
 
 /// How many events have columns that are drawn.
-fn number_of_marks<A: Allocator>(columns: &Columns<A>, window: Window) -> u64 {
-    let mut events = 0u64;
+fn number_of_marks<A: Allocator>(columns: &Columns<A>, window: Window) -> u32 {
+    let mut events = 0u32;
     for node in &columns.nodes {
         events = events.saturating_add(count_drawn(node, window));
     }
@@ -298,11 +300,13 @@ impl<A: Allocator + Clone> Picture<A> {
         alloc: A,
         logs: &Logs<L>,
         cut: Option<&[u32]>,
-        from: Option<u32>,
-        to: Option<u32>,
+        from: Option<u64>,
+        to: Option<u64>,
     ) -> Result<Picture<A>, DrawFault>
         requires { ForSome cut (λ c. length c.now ≡ length logs.now) }
-        ensures { IfOk result (λ picture. (table : List (List ℕ))
+        ensures window { IfOk result (λ picture. picture.window ≡ asked_window from to picture.last) }
+        ensures fault { IfErr result IsDrawFault }
+        ensures lanes { IfOk result (λ picture. (table : List (List ℕ))
             × AreLanes logs.now table picture.window
             (map (λ lane. record {
               events = lane.events;

@@ -1,5 +1,5 @@
-ghost use Rattle.std.specs.Prelude.{◌↔◌, IsTrue};
-ghost use Rattle.ira_picture.specs.Window.{IsIn};
+ghost use Rattle.std.specs.Prelude.{◌≡◌, ◌↔◌, IsTrue, min};
+ghost use Rattle.ira_picture.specs.Window.{IsIn, asked_window};
 
 /// Which columns are drawn.
 #[derive(Clone, Copy, Debug, PartialEq, Eq)]
@@ -8,13 +8,27 @@ pub struct Window {
     pub last: u32,
 }
 
+/// The column of this number, or the last one where there are fewer.
+fn at_most(column: u64, last: u32) -> u32
+    ensures { result ≡ min column last }
+{
+    if column < u64::from(last) {
+        column as u32
+    } else {
+        last
+    }
+}
+
 impl Window {
     /// The columns `from` to `to` where these are given and there are so many, else up to the first and the last one.
-    pub(crate) fn clamped(from: Option<u32>, to: Option<u32>, last: u32) -> Window {
-        let first = from.unwrap_or(0).min(last);
+    pub(crate) fn clamped(from: Option<u64>, to: Option<u64>, last: u32) -> Window
+        ensures { result ≡ asked_window from to last }
+    {
+        let first = at_most(from.unwrap_or(0), last);
+        let to = at_most(to.unwrap_or(u64::from(last)), last);
         Window {
             first,
-            last: to.unwrap_or(last).min(last).max(first),
+            last: first.max(to),
         }
     }
 

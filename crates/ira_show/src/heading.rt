@@ -60,7 +60,7 @@ fn print_case<A: Allocator, P: Allocator>(
 }
 
 /// Adds a clause as questions spell it.
-fn print_clause<A: Allocator, P: Allocator>(
+pub fn print_clause<A: Allocator, P: Allocator>(
     page: &mut Page<P>,
     clause: &Clause<A>,
 ) -> Result<(), OutOfMemory> {

@@ -16,7 +16,7 @@ mod summary;
 mod way;
 
 pub use event_lines::{show_events, show_events_of_cut};
-pub use heading::Heading;
+pub use heading::{Heading, print_clause};
 pub use leaders::leads_differ;
 pub use moment_page::{show_cut, show_end, show_no_moment};
 pub use rounds::{Round, Rounds};

@@ -1,3 +1,4 @@
+pub mod Draw
 pub mod FoundMoment
 pub mod Show
 pub mod ShownRing

@@ -1,11 +1,15 @@
 //! From the texts of logs to what a person is told of them: their answer, and a page after its line.
 #![tactic(auto)]
 
+mod draw;
+mod drawn_columns;
+mod drawn_ring;
 mod explain;
 mod find_moment;
 mod findings_view;
 mod found_moment;
 mod met_case;
+mod picture_fault;
 mod question;
 mod ring_fault;
 mod show;
@@ -14,8 +18,12 @@ mod shown_ring;
 mod taken;
 mod view;
 
+pub use draw::draw_texts;
+pub use drawn_columns::DrawnColumns;
+pub use drawn_ring::DrawnRing;
 pub use explain::{explain_text, explain_texts};
 pub use findings_view::FindingsView;
+pub use picture_fault::PictureFault;
 pub use question::{explain_certified, explain_findings};
 pub use ring_fault::RingFault;
 pub use show::show_texts;

@@ -1,7 +1,9 @@
 ghost use Rattle.std.specs.Prelude.{◌≡◌, ◌<◌, length};
 
+use ira_event::OutOfMemory;
+use ira_explain::Page;
 use ira_pred::Question;
-use ira_show::Heading;
+use ira_show::{Heading, print_clause};
 use std::alloc::Allocator;
 use std::marker::Model;
 
@@ -42,6 +44,32 @@ impl<A: Allocator> MetCase<A> {
         ensures { result.now ≡ self.now }
     {
         &self.cut
+    }
+
+    /// What is said of the moment in a picture: the case's number, and what it asks of each node.
+    pub(crate) fn words(&self, alloc: A) -> Result<Page<A>, OutOfMemory> {
+        let mut words = Page::new(alloc);
+        words.words("case ")?;
+        words.number(self.number as u64)?;
+        words.words(" is met here: ")?;
+        let case = &self.question.cases()[self.number];
+        for n in 0..case.len() {
+            words.words(if n > 0 { ", node " } else { "node " })?;
+            words.number(u64::from(case.place(n)))?;
+            words.words(" ")?;
+            print_clause(&mut words, case.clause(n))?;
+        }
+        Ok(words)
+    }
+
+    /// The places of the nodes that the case asks.
+    pub(crate) fn places(&self, alloc: A) -> Result<Vec<u8, A>, OutOfMemory> {
+        let case = &self.question.cases()[self.number];
+        let mut places = Vec::with_capacity(alloc, case.len())?;
+        for n in 0..case.len() {
+            places.push(case.place(n))?;
+        }
+        Ok(places)
     }
 
     /// What stands above what is shown of the moment.
