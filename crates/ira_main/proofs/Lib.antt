@@ -6,4 +6,5 @@ pub mod PartsAt
 pub mod Reporting
 pub mod RingPrinting
 pub mod Shares
+pub mod Showing
 pub mod Unjudged
