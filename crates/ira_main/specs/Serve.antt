@@ -1,5 +1,5 @@
 -- What the program does.
-use Rattle.std.specs.Prelude.{◌≡◌, ◌≢◌, ◌⊎◌, ℕ, ◌+◌, true, List, [], ◌∷◌, Some, None, Ok, Err, codes}
+use Rattle.std.specs.Prelude.{◌≡◌, ◌≢◌, ◌⊎◌, ℕ, ◌+◌, true, false, List, [], ◌∷◌, Some, None, Ok, Err, codes}
 use Rattle.ira_event.specs.Limits.{MAX_TEXT}
 use Rattle.ira_event.specs.RingSize.{IsRingSize}
 use Rattle.ira_event.specs.Sink.{SinkState, Takes, StopsIn}
@@ -39,7 +39,7 @@ use Rattle.ira_main.specs.Decide.{Decides, DecidesTogether, ExplainsFindings, Is
 use Rattle.ira_main.specs.FilesRead.{IsFilesFault, ReadsFiles, names_of}
 use Rattle.ira_main.specs.LogFiles.{StopsInLogs, WritesLogs}
 use Rattle.ira_main.specs.Mend.{Mends}
-use Rattle.ira_main.specs.Outcome.{Explains, GivesNoAnswer, Outcome, Prints, Reports, Telling}
+use Rattle.ira_main.specs.Outcome.{Explains, GivesNoAnswer, Outcome, Prints, Reports, ReportsAs, Telling}
 use Rattle.ira_main.specs.ProgramFault.{run_fault, words_fault}
 use Rattle.ira_main.specs.Show.{ShowsLogs}
 use Rattle.ira_main.specs.SourceNames.{OfSource}
@@ -47,7 +47,8 @@ use Rattle.ira_main.specs.Status.{IsElectionStatus}
 use Rattle.ira_main.specs.Upgrade.{Upgrades}
 use Rattle.ira_main.specs.Version.{version_line}
 use Rattle.ira_main.specs.declared.program_fault.ProgramFault.{ProgramFault}
-use Rattle.ira_main.specs.declared.program_fault.ProgramFault.TheVariants.{CannotRead, CannotWriteAnswer, OutOfMemory, RingSize}
+use Rattle.ira_main.specs.declared.program_fault.ProgramFault.TheVariants.{CannotRead, CannotWriteAnswer, NoJson, OutOfMemory}
+use Rattle.ira_main.specs.declared.program_fault.ProgramFault.TheVariants.{RingSize}
 use Rattle.ira_main.specs.declared.status.Status.{Status}
 use Rattle.ira_main.specs.declared.status.Status.TheVariants.{Yes}
 
@@ -165,6 +166,12 @@ pub data RunOutcome {S : Type 0} (writes : Writing S) (request : RunRequest) (sh
   not_run : shelf' ≡ shelf → GivesNoAnswer (IsRunFault request) out out' outcome
       → RunOutcome writes request shelf shelf' out out' outcome
 
+-- the words ask for a view as JSON: for the evidence of an answer, or to show logs
+abbrev pub WantsViewAsJson : List (List ℕ) → Type 0
+WantsViewAsJson words =
+    ((explain : ExplainRequest) × IsExplainLine words explain × (explain.is_json ≡ true))
+    ⊎ ((show : ShowRequest) × IsShowLine words show × (show.is_json ≡ true))
+
 -- what is done for words: they are refused; or they ask for logs, or for the evidence of an answer, and their texts are
 -- judged together; or to show logs, and what happened by them is printed; or to check logs, and their texts are judged
 -- with those of a question and of a certificate; or to decide a question of them, and it is decided of their texts; or
@@ -178,15 +185,19 @@ pub data CommandOutcome (A : Type 0) {S : Type 0} (reads : Reading S) (writes : 
       → outcome ≡ Err (words_fault fault)
       → CommandOutcome A reads writes words shelf shelf' out out' outcome
   judged : (logs : LogsRequest) → IsLogsLine words logs → shelf' ≡ shelf
-      → JudgesLogs Reports reads logs.logs shelf out out' outcome
+      → JudgesLogs (ReportsAs logs.is_json) reads logs.logs shelf out out' outcome
       → CommandOutcome A reads writes words shelf shelf' out out' outcome
-  explained : (explain : ExplainRequest) → IsExplainLine words explain → shelf' ≡ shelf
+  explained : (explain : ExplainRequest) → IsExplainLine words explain → explain.is_json ≡ false → shelf' ≡ shelf
       → ExplainsAnswer A reads explain.answer shelf out out' outcome
       → CommandOutcome A reads writes words shelf shelf' out out' outcome
-  shown : (show : ShowRequest) → IsShowLine words show → shelf' ≡ shelf → ShowsLogs reads show shelf out out' outcome
+  shown : (show : ShowRequest) → IsShowLine words show → show.is_json ≡ false → shelf' ≡ shelf
+      → ShowsLogs reads show shelf out out' outcome
+      → CommandOutcome A reads writes words shelf shelf' out out' outcome
+  unseen : WantsViewAsJson words → shelf' ≡ shelf → out' ≡ out → outcome ≡ Err NoJson
       → CommandOutcome A reads writes words shelf shelf' out out' outcome
   certified : (check : CheckRequest) → IsCheckLine words check → shelf' ≡ shelf
-      → JudgesCheck Reports reads check.question.now check.certificate.now check.logs shelf out out' outcome
+      → JudgesCheck (ReportsAs check.is_json) reads check.question.now check.certificate.now check.logs shelf
+      out out' outcome
       → CommandOutcome A reads writes words shelf shelf' out out' outcome
   decided : (decide : DecideRequest) → IsDecideLine words decide
       → DecidesLogs A reads writes decide shelf shelf' out out' outcome
@@ -215,7 +226,8 @@ pub data Serves (A : Type 0) {S : Type 0} (reads : Reading S) (writes : Writing 
     (out out' : SinkState) (outcome : Outcome) : Type 0 where
   without_words : words ≡ [] → shelf' ≡ shelf → OneLogOutcome Reports input input' out out' outcome
       → Serves A reads writes words input input' shelf shelf' out out' outcome
-  explained : (explain : ExplainRequest) → IsExplainLine words explain → explain.answer ≡ OneLog → shelf' ≡ shelf
+  explained : (explain : ExplainRequest) → IsExplainLine words explain → explain.is_json ≡ false
+      → explain.answer ≡ OneLog → shelf' ≡ shelf
       → OneLogOutcome Explains input input' out out' outcome
       → Serves A reads writes words input input' shelf shelf' out out' outcome
   with_words : words ≢ [] → input' ≡ input → CommandOutcome A reads writes words shelf shelf' out out' outcome

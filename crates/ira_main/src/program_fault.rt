@@ -30,6 +30,8 @@ pub enum ProgramFault<'a> {
     NoMoment(CutFault),
     /// A node that is to lead is none of the ring.
     NoPlace,
+    /// A view is wanted as JSON, which has none.
+    NoJson,
     /// The run was refused, or came to nothing.
     RunRefused(RunFault),
     /// The log of the node at this place can't be written to its file in this folder.
@@ -99,6 +101,10 @@ impl<'a> ProgramFault<'a> {
             ProgramFault::CannotRead(name) => write_file_named(b"ira: cannot read ", *name, err),
             ProgramFault::RingSize => write_bytes(b"ira: ring size\n", err),
             ProgramFault::NoMoment(fault) => write_cut_fault(*fault, err),
+            ProgramFault::NoJson => write_bytes(
+                b"ira: --json is for logs, check and decide\n",
+                err,
+            ),
             ProgramFault::NoPlace => {
                 write_bytes(b"ira: --leads names a node that the ring has not\n", err)
             }

@@ -9,54 +9,63 @@ use Rattle.ira_main.specs.Overwriting.{KeepsFiles}
 use Rattle.ira_main.specs.declared.program_fault.ProgramFault.TheVariants.{OutOfMemory}
 use Rattle.ira_main.proofs.decide_files.decide_files.Goals as goal
 
-pub write_findings-requires : goal.write_findings-requires
-write_findings-requires g c =
+pub print_json-requires : goal.print_json-requires
+print_json-requires g c =
     let taken = c.in_ok-audit.ensures in
     c.in_ok-findings.ensures.reportable taken.0 taken.1
 
-pub returns-in-Ok-write_bytes : goal.returns-in-Ok-write_bytes
-returns-in-Ok-write_bytes g c =
+pub print_lines-requires : goal.print_lines-requires
+print_lines-requires g c =
     let taken = c.in_ok-audit.ensures in
-    let findings = c.in_ok-findings.findings in
+    c.in_ok-findings.ensures.reportable taken.0 taken.1
+
+pub returns-then-decide : goal.returns-then-decide
+returns-then-decide g c =
+    let taken = c.in_ok-audit.ensures in
     let found = c.in_ok-findings.ensures.found taken.0 taken.1 in
-    let text_is : c.bytes-2.result.now ≡ findings_text findings = c.bytes-2.ensures ∙ c.in-Ok.ensures.took ∙ ap (λ (m : Memory). m.bytes ++ findings_text findings) c.new-text.ensures in
-    inl (
-      _,
-      c.in_ok-names.ensures,
-      inl (record {
-        kept = subst (λ (logs : List FileName). KeepsFiles c.args.decide.now.certificate (decide_names c.args.decide.now logs)) c.deref.ensures.value c.in_ok-keep_inputs.ensures;
-        decided = record {
-          question = c.in_ok-question.question;
-          texts = taken.0;
-          given = (c.in_ok-question.ensures.read, rw c.deref-2.ensures.value at taken.2);
-          findings = findings;
-          found = rw c.bytes.ensures at found;
-          told = inl (subst (λ t. Takes t (g.W.Sink.state c.args.out.now) (g.W.Sink.state c.write_bytes.new.sink)) text_is c.in-Ok-write_bytes.ensures, c.keep_findings.ensures);
-        };
-      }),
-    )
+    elim c.print_json.ensures [
+      | inl told ↦
+          inl (
+            _,
+            c.in_ok-names.ensures,
+            inl (record {
+              kept = subst (λ (logs : List FileName). KeepsFiles c.args.decide.now.certificate (decide_names c.args.decide.now logs)) c.deref.ensures.value c.in_ok-keep_inputs.ensures;
+              decided = record {
+                question = c.in_ok-question.question;
+                texts = taken.0;
+                given = (c.in_ok-question.ensures.read, rw c.deref-2.ensures.value at taken.2);
+                findings = c.in_ok-findings.findings;
+                found = rw c.bytes.ensures at found;
+                told = rw c.if-decide.true told;
+              };
+            }),
+          )
+      | inr full ↦ inl (_, c.in_ok-names.ensures, inr (full.0, (OutOfMemory, inr (inr refl), full.1, full.2)))
+    ]
 
 pub returns : goal.returns
 returns g c =
     let taken = c.in_ok-audit.ensures in
-    let findings = c.in_ok-findings.findings in
     let found = c.in_ok-findings.ensures.found taken.0 taken.1 in
-    let text_is : c.bytes-2.result.now ≡ findings_text findings = c.bytes-2.ensures ∙ c.in-Ok.ensures.took ∙ ap (λ (m : Memory). m.bytes ++ findings_text findings) c.new-text.ensures in
-    inl (
-      _,
-      c.in_ok-names.ensures,
-      inl (record {
-        kept = subst (λ (logs : List FileName). KeepsFiles c.args.decide.now.certificate (decide_names c.args.decide.now logs)) c.deref.ensures.value c.in_ok-keep_inputs.ensures;
-        decided = record {
-          question = c.in_ok-question.question;
-          texts = taken.0;
-          given = (c.in_ok-question.ensures.read, rw c.deref-2.ensures.value at taken.2);
-          findings = findings;
-          found = rw c.bytes.ensures at found;
-          told = inr (subst (λ t. StopsIn t (g.W.Sink.state c.args.out.now) (g.W.Sink.state c.write_bytes.new.sink)) text_is c.in-Err.ensures, refl, refl);
-        };
-      }),
-    )
+    elim c.print_lines.ensures [
+      | inl told ↦
+          inl (
+            _,
+            c.in_ok-names.ensures,
+            inl (record {
+              kept = subst (λ (logs : List FileName). KeepsFiles c.args.decide.now.certificate (decide_names c.args.decide.now logs)) c.deref.ensures.value c.in_ok-keep_inputs.ensures;
+              decided = record {
+                question = c.in_ok-question.question;
+                texts = taken.0;
+                given = (c.in_ok-question.ensures.read, rw c.deref-2.ensures.value at taken.2);
+                findings = c.in_ok-findings.findings;
+                found = rw c.bytes.ensures at found;
+                told = rw c.if-decide.false told;
+              };
+            }),
+          )
+      | inr full ↦ inl (_, c.in_ok-names.ensures, inr (full.0, (OutOfMemory, inr (inr refl), full.1, full.2)))
+    ]
 
 pub returns-in_err-names : goal.returns-in_err-names
 returns-in_err-names g c = inr (refl, (_, c.in_err-names.ensures, refl, search rules))
@@ -87,6 +96,3 @@ returns-in_err-audit g c =
 
 pub returns-in_err-findings : goal.returns-in_err-findings
 returns-in_err-findings g c = inl (_, c.in_ok-names.ensures, inr (refl, (OutOfMemory, inr (inr refl), refl, search rules)))
-
-pub returns-in_default : goal.returns-in_default
-returns-in_default g c = inl (_, c.in_ok-names.ensures, inr (refl, (OutOfMemory, inr (inr refl), refl, refl)))
