@@ -22,15 +22,19 @@ pub shows : {S : Type 0} (reads : Reading S) (show : ShowRequest) (shelf : S) (o
     → TellsRing texts moment (option_map (λ places. places.items) show.leads) show.has_events out out' outcome
     → ShowsLogs reads show shelf out out' outcome
 shows reads show shelf out out' outcome names question texts moment named first rest asked told =
-    inl (names, named, inl (record {
-      question = question;
-      texts = texts;
-      given = reads_both reads (moment_names show.moment) (names_of names) shelf (moment_texts show.moment question) texts
-          first rest;
-      moment = moment;
-      asked = asked;
-      told = told;
-    }))
+    inl (
+      names,
+      named,
+      inl (record {
+        question = question;
+        texts = texts;
+        given = reads_both reads (moment_names show.moment) (names_of names) shelf (moment_texts show.moment question) texts
+            first rest;
+        moment = moment;
+        asked = asked;
+        told = told;
+      }),
+    )
 
 -- nothing was printed, for a fault that files or memory gave
 pub shows_none : {S : Type 0} (reads : Reading S) (show : ShowRequest) (shelf : S) (out out' : SinkState)

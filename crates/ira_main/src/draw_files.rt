@@ -98,12 +98,7 @@ where
         (W.state out.old) (W.state out.new) result }
 {
     let names = source_names(&alloc, &draw.logs, shelf)?;
-    keep_inputs(
-        &alloc,
-        Some(draw.picture),
-        asked_name(&draw.moment),
-        &names,
-    )?;
+    keep_inputs(&alloc, Some(draw.picture), asked_name(&draw.moment), &names)?;
     let question = read_asked(&alloc, &draw.moment, shelf)?;
     let files = read_named(&alloc, &names, shelf)?;
     let named = named_texts(alloc.clone()?, &files)?;

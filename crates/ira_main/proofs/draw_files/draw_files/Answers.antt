@@ -15,8 +15,10 @@ returns-in_err-names g c = inr (refl, (_, c.in_err-names.ensures, refl, search r
 
 pub returns-in_err-keep_inputs : goal.returns-in_err-keep_inputs
 returns-in_err-keep_inputs g c =
-    let why = rw (c.deref.ensures.value,
-        c.asked_name.ensures c.in_ok-names.names.items) at c.in_err-keep_inputs.ensures in
+    let why = rw (
+      c.deref.ensures.value,
+      c.asked_name.ensures c.in_ok-names.names.items,
+    ) at c.in_err-keep_inputs.ensures in
     elim why [
       | inl replacing ↦ inl (_, c.in_ok-names.ensures, inr (refl, (_, inl replacing, refl, search rules)))
       | inr memory ↦ inl (_, c.in_ok-names.ensures, inr (refl, (_, inr (inr memory), refl, search rules)))
@@ -26,18 +28,38 @@ pub returns-in_err-question : goal.returns-in_err-question
 returns-in_err-question g c =
     let logs = names_of c.in_ok-names.names.items in
     let asked = moment_names c.args.draw.now.moment in
-    inl (_, c.in_ok-names.ensures,
-        inr (refl, (_, inr (of_front g.F.TextSource.reads asked logs _ _ c.in_err-question.ensures), refl,
-        search rules)))
+    inl (
+      _,
+      c.in_ok-names.ensures,
+      inr (
+        refl,
+        (
+          _,
+          inr (of_front g.F.TextSource.reads asked logs _ _ c.in_err-question.ensures),
+          refl,
+          search rules,
+        ),
+      ),
+    )
 
 pub returns-in_err-files : goal.returns-in_err-files
 returns-in_err-files g c =
     let logs = names_of c.in_ok-names.names.items in
     let asked = moment_names c.args.draw.now.moment in
     let fault = rw c.deref-2.ensures.value at c.in_err-files.ensures in
-    inl (_, c.in_ok-names.ensures,
-        inr (refl, (_, inr (of_back g.F.TextSource.reads asked logs _ _ _ c.in_ok-question.ensures fault), refl,
-        search rules)))
+    inl (
+      _,
+      c.in_ok-names.ensures,
+      inr (
+        refl,
+        (
+          _,
+          inr (of_back g.F.TextSource.reads asked logs _ _ _ c.in_ok-question.ensures fault),
+          refl,
+          search rules,
+        ),
+      ),
+    )
 
 pub returns-in_err-clone : goal.returns-in_err-clone
 returns-in_err-clone g c = inl (_, c.in_ok-names.ensures, inr (refl, (OutOfMemory, inr (inr refl), refl, search rules)))
@@ -51,8 +73,10 @@ returns-in-Ok g c =
     let ring = c.in-Ok.ring in
     let same : texts_of c.deref-4.result.now ≡ c.in_ok-files.files.items = search rules in
     let logs = names_of c.in_ok-names.names.items in
-    let kept = rw (c.deref.ensures.value,
-        c.asked_name.ensures c.in_ok-names.names.items) at c.in_ok-keep_inputs.ensures in
+    let kept = rw (
+      c.deref.ensures.value,
+      c.asked_name.ensures c.in_ok-names.names.items,
+    ) at c.in_ok-keep_inputs.ensures in
     let read = rw c.deref-2.ensures.value at c.in_ok-files.ensures in
     inl (
       _,
