@@ -41,7 +41,7 @@ returns-in-Err-Write g c =
     c.write_view.ensures in
     let u = g.W.Sink.state c.write_events.new.sink in
     subst (λ w. PrintsRing w true s u (Err CannotWriteAnswer)) same
-    (stopped_after d true s t u printable front (rw c.in-Err-Write.is at c.write_events.ensures))
+    (stopped_after d true s t u printable front (rw (c.in-Err-Write.is, c.in-Err-Write.field-0-is) at c.write_events.ensures))
 
 pub returns-in-Err-OutOfMemory : goal.returns-in-Err-OutOfMemory
 returns-in-Err-OutOfMemory g c =
@@ -54,4 +54,4 @@ returns-in-Err-OutOfMemory g c =
     c.write_view.ensures in
     let u = g.W.Sink.state c.write_events.new.sink in
     subst (λ w. PrintsRing w true s u (Err OutOfMemory)) same
-    (no_memory_after d s t u printable front (rw c.in-Err-OutOfMemory.is at c.write_events.ensures))
+    (no_memory_after d s t u printable front (rw (c.in-Err-OutOfMemory.is, c.in-Err-OutOfMemory.field-0-is) at c.write_events.ensures))

@@ -1,8 +1,10 @@
 use Rattle.std.proofs.Common.{◌≡◌, ◌∙◌, Err, Ok, false, inl, subst, sym}
+use Rattle.ira_event.specs.Sink.{StopsIn, Takes}
 use Rattle.ira_explain.specs.Printable.{IsPrintable}
 use Rattle.ira_main.proofs.RingPrinting.{printed_after, ring_front, stopped_after, stopped_before, stopped_of, taken_of}
 use Rattle.ira_main.specs.Show.{PrintsRing}
 use Rattle.ira_main.specs.declared.program_fault.ProgramFault.TheVariants.{CannotWriteAnswer}
+use Rattle.ira_show.specs.Showed.{OfPrintable}
 use Rattle.ira_main.proofs.ring_printer.print_tables.Goals as goal
 
 pub returns-then-is_err : goal.returns-then-is_err
@@ -27,7 +29,7 @@ returns-in-Ok g c =
     c.write_view.ensures in
     let u = g.W.Sink.state c.write.new.sink in
     let status = c.of_differences.result in
-    let text = (_, c.in-Ok.ensures.printable, c.in-Ok.ensures.text) in
+    let text : OfPrintable (λ text. Takes text t u) = (_, c.in-Ok.ensures.printable, c.in-Ok.ensures.text) in
     inl (subst (λ w. PrintsRing w false s u (Ok status)) same
     (printed_after d false s t u status printable c.of_differences.ensures front text))
 
@@ -41,6 +43,6 @@ returns g c =
     let front = taken_of c.write_view.result (ring_front d) s t (sym c.is_err.ensures.value ∙ c.if-is_err.false)
     c.write_view.ensures in
     let u = g.W.Sink.state c.write.new.sink in
-    let text = (_, c.in-Err.ensures.printable, c.in-Err.ensures.text) in
+    let text : OfPrintable (λ text. StopsIn text t u) = (_, c.in-Err.ensures.printable, c.in-Err.ensures.text) in
     inl (subst (λ w. PrintsRing w false s u (Err CannotWriteAnswer)) same
     (stopped_after d false s t u printable front text))
