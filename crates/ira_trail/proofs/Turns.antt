@@ -312,7 +312,8 @@ module _ (trail : Trail) (steps : List TrailStep) (given : HasGiven trail steps)
         (earlier None (λ u a at_a link pair. absurd (no_pair None no_receipt (pair.taken, rw link at pair.receives))))
         refl (ap (λ (ls : List (List Sending)). length ls) links_are ∙ length-set trail.links trail.place (q ++ x ∷ [])
         ∙ given.links)
-        (λ i sendings at_i. elim (found_in_set trail.links trail.place (q ++ x ∷ []) i sendings (rw links_are at at_i)) [
+        (λ i sendings at_i.
+        elim (found_in_set trail.links trail.place (q ++ x ∷ []) i sendings (rw links_are at at_i)) [
           | inl old ↦ way_same trail.logs trail.cut steps (step_now trail None) i sendings
               (gots_same None (next (length trail.logs) i) (λ z. no_receipt)) (sents_elsewhere None i old.0)
               (given.on_their_way i sendings old.1)
