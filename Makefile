@@ -27,7 +27,7 @@ help:
 	@echo '                $(PREFIX) if not given'
 	@echo 'make dist       makes ira, and packs it with its manual, completions, examples and pages, for machines without the kit'
 	@echo 'make test       the gate: all proofs from nothing, the edits that must be refused, all tests and'
-	@echo '                programs: `N passed, 0 failed`; and all examples. See docs/ARCHITECTURE.md for its time'
+	@echo '                programs: `N passed, 0 failed`; and all examples. CONTRIBUTING.md says what it costs'
 	@echo 'make sweep      makes ira, refuses each growth of its memory and each start of a thread in turn, interrupts each'
 	@echo '                read and write of a file, lets it open but one file at a time, and looks at what it answers then'
 	@echo 'make recorders  makes ira, records elections with each recorder of examples/recorders, and judges their logs'
