@@ -12,7 +12,7 @@ use std::marker::Model;
 /// A section that is to be judged, and the candidates of its case.
 #[derive(Drop)]
 pub(crate) struct Task<'a, A: Allocator> {
-    pub(crate) tables: Vec<CandidateTable<A>, A>,
+    pub(crate) tables: Vec<CandidateTable<'a, A>, A>,
     pub(crate) section: &'a Section<A>,
 }
 
