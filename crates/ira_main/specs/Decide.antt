@@ -16,7 +16,7 @@ use Rattle.ira_main.specs.Outcome.{Outcome, Prints}
 use Rattle.ira_main.specs.Overwriting.{IsReplacing, KeepsFiles}
 use Rattle.ira_main.specs.Status.{IsFindingsStatus}
 use Rattle.ira_main.specs.declared.program_fault.ProgramFault.{ProgramFault}
-use Rattle.ira_main.specs.declared.program_fault.ProgramFault.TheVariants.{CannotWriteAnswer, OutOfMemory}
+use Rattle.ira_main.specs.declared.program_fault.ProgramFault.TheVariants.{CannotWriteAnswer}
 use Rattle.ira_main.specs.declared.status.Status.{Status}
 use Rattle.ira_main.specs.declared.status.Status.TheVariants.{Yes, No}
 
@@ -30,8 +30,7 @@ IsUndecided reads decide names shelf f =
     IsReplacing decide.certificate (decide_names decide names) f ⊎ IsFilesFault reads (decide_names decide names) shelf f
 
 -- what comes of findings that were printed: no, where a case is present or they are a refusal; else, without a file's
--- name, yes, and with one what comes of keeping the certificate there, or there was no memory for it. The shelf is as
--- it was but where it is kept
+-- name, yes, and with one what comes of keeping the certificate there. The shelf is as it was but where it is kept
 pub data KeepsFindings {A S : Type 0} (writes : Writing S) (findings : Findings A) (name : Option (Bor (List ℕ)))
     (old new : S) (outcome : Outcome) : Type 0 where
   refuted : MakeNoCertificate findings → new ≡ old → outcome ≡ Ok No
@@ -40,8 +39,6 @@ pub data KeepsFindings {A S : Type 0} (writes : Writing S) (findings : Findings 
       → KeepsFindings writes findings name old new outcome
   certified : (c : Certificate) (file : Bor (List ℕ)) → IsCertificateOf findings c → name ≡ Some file
       → KeepsCertificate writes c file old new outcome → KeepsFindings writes findings name old new outcome
-  no_memory : (file : Bor (List ℕ)) → ¬ (MakeNoCertificate findings) → name ≡ Some file → new ≡ old
-      → outcome ≡ Err OutOfMemory → KeepsFindings writes findings name old new outcome
 
 -- the files of a question and of logs were read, and what is found for their texts is told
 pub record DecidesTogether {A S : Type 0} (Tells : Findings A → Type 0) (reads : Reading S) (asked : List ℕ)

@@ -11,6 +11,7 @@ pub mod Outcome
 pub mod Overwriting
 pub mod Progress
 pub mod Serve
+pub mod Show
 pub mod SourceNames
 pub mod Status
 pub mod Upgrade

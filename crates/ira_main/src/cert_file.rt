@@ -1,15 +1,43 @@
 ghost use Rattle.std.specs.Prelude.{◌≡◌};
+ghost use Rattle.ira_cert_text.specs.Certificate as certificate;
 ghost use Rattle.ira_cert_text.specs.CertText.{cert_text};
 ghost use Rattle.ira_files.specs.Shelf.{WritesFile};
-ghost use Rattle.ira_main.specs.CertFile.{KeepsCertificate};
+ghost use Rattle.ira_main.specs.CertFile.{IsTextToKeep, KeepsCertificate};
 ghost use Rattle.ira_main.specs.Outcome.{Outcome, ReportsOutcome, outcome_number};
 
 use crate::program_fault::{ProgramFault, report_outcome};
 use crate::status::Status;
 use ira_cert_text::{Certificate, write_cert};
-use ira_event::Sink;
+use ira_event::{Sink, write_bytes};
 use ira_files::{Shelf, ShelfFault};
 use std::alloc::Allocator;
+
+// Writes the text to a new file of this name.
+fn write_text<F: Shelf>(text: &[u8], name: &str, shelf: &mut F) -> Result<(), ShelfFault>
+    ensures { WritesFile F.creates F.closes F.Out.state name.now text.now shelf.old shelf.new result }
+{
+    let mut file = shelf.create(name)?;
+    write_bytes(text, &mut file)?;
+    shelf.close(file)
+}
+
+/// What comes of keeping the text of a certificate in a new file of this name. There is none where it is past the limits.
+pub(crate) fn keep_written<'a, F: Shelf>(
+    text: Option<&[u8]>,
+    name: &'a str,
+    shelf: &mut F,
+) -> Result<Status, ProgramFault<'a>>
+    ensures { (c : certificate.Certificate) → IsTextToKeep text.entry c
+        → KeepsCertificate (WritesFile F.creates F.closes F.Out.state) c name.entry shelf.old shelf.new result }
+{
+    let Some(text) = text else {
+        return Err(ProgramFault::CertificatePastLimits);
+    };
+    match write_text(text, name, shelf) {
+        Ok(()) => Ok(Status::Yes),
+        Err(fault) => Err(ProgramFault::cannot_write(name, fault)),
+    }
+}
 
 // Writes the text of the certificate to a new file of this name.
 fn write_new<A: Allocator, F: Shelf>(
@@ -26,7 +54,7 @@ fn write_new<A: Allocator, F: Shelf>(
 }
 
 /// What comes of keeping the certificate in a new file of this name.
-pub(crate) fn keep<'a, A: Allocator, F: Shelf>(
+fn keep<'a, A: Allocator, F: Shelf>(
     certificate: &Certificate<A>,
     name: &'a str,
     shelf: &mut F,

@@ -1,42 +1,46 @@
 ghost use Rattle.std.specs.Prelude.{◌≡◌};
+ghost use Rattle.std.specs.Option.{is_some};
+ghost use Rattle.ira_audit.specs.WrittenFindings.{AreWritten};
+ghost use Rattle.ira_audit.specs.declared.findings.Findings.{Findings};
 ghost use Rattle.ira_files.specs.Shelf.{WritesFile};
 ghost use Rattle.ira_main.specs.Decide.{KeepsFindings};
 ghost use Rattle.ira_main.specs.Serve.{DecidesLogs};
 
-use crate::cert_file::keep;
+use crate::cert_file::keep_written;
 use crate::overwriting::keep_inputs;
 use crate::program_fault::ProgramFault;
 use crate::read_files::{read_file, read_logs};
 use crate::source_names::source_names;
 use crate::status::Status;
-use ira_audit::{Findings, write_findings};
-use ira_event::{MemorySink, Sink, WriteFault, write_bytes};
+use ira_audit::WrittenFindings;
+use ira_event::{Sink, WriteFault, write_bytes};
 use ira_files::{FileName, Shelf};
 use ira_words::DecideRequest;
 use std::alloc::Allocator;
 use std::thread::Threads;
 
 // Keeps the certificate of these findings, if there is one, in a new file of this name, if there is one.
-fn keep_findings<'a, A: Allocator + Clone, F: Shelf>(
-    findings: Findings<A>,
+fn keep_findings<'a, A: Allocator, F: Shelf>(
+    written: &WrittenFindings<A>,
     name: Option<&'a str>,
     shelf: &mut F,
 ) -> Result<Status, ProgramFault<'a>>
-    ensures { KeepsFindings (WritesFile F.creates F.closes F.Out.state) findings name.entry
-        shelf.old shelf.new result }
+    ensures { (findings : Findings A) → AreWritten (is_some name.entry) findings written.now
+        → KeepsFindings (WritesFile F.creates F.closes F.Out.state) findings name.entry shelf.old shelf.new result }
 {
-    let Some(name) = name else {
-        return Ok(Status::of_findings(&findings));
-    };
-    match findings.into_certificate()? {
-        Some(certificate) => keep(&certificate, name, shelf),
-        None => Ok(Status::No),
+    if !written.are_absent() {
+        return Ok(Status::No);
+    }
+    match name {
+        Some(name) => keep_written(written.certificate(), name, shelf),
+        None => Ok(Status::Yes),
     }
 }
 
 /// Reads the question and then the logs, all before one is judged, decides the question, and prints what is found. A
 /// certificate is kept only once that is printed, and never over one of these files. The lines are put together first,
-/// since the output isn't buffered.
+/// since the output isn't buffered; with them the text of the certificate, where one is asked for, so that the steps of no
+/// case need be kept.
 pub(crate) fn decide_files<'a, R, A, F, W>(
     rt: &R,
     alloc: A,
@@ -56,13 +60,9 @@ where
     keep_inputs(&alloc, decide.certificate, Some(decide.question), &names)?;
     let question = read_file(&alloc, FileName::Given(decide.question), shelf)?;
     let audit = read_logs(rt, alloc.clone()?, &names, shelf)?;
-    let findings = audit.decide(question.bytes())?;
-    let mut text = MemorySink::new(alloc);
-    let Ok(()) = write_findings(&findings, &mut text) else {
-        return Err(ProgramFault::OutOfMemory);
-    };
-    match write_bytes(text.bytes(), out) {
-        Ok(()) => keep_findings(findings, decide.certificate, shelf),
+    let written = audit.decide_in_writing(question.bytes(), decide.certificate.is_some())?;
+    match write_bytes(written.lines(), out) {
+        Ok(()) => keep_findings(&written, decide.certificate, shelf),
         Err(WriteFault) => Err(ProgramFault::CannotWriteAnswer),
     }
 }

@@ -15,6 +15,7 @@ use crate::progress::Progress;
 use crate::read_files::{read_file, read_logs};
 use crate::record_run::{record_run_alone, record_run_on_threads};
 use crate::report::report;
+use crate::show_files::show_files;
 use crate::source_names::source_names;
 use crate::status::Status;
 use crate::upgrade_files::upgrade_files;
@@ -120,8 +121,8 @@ where
     };
     match request {
         Request::OneLog => Progress::Ended(judge_input(alloc, input, out)),
-        Request::Logs(source) => Progress::Ended(judge_files(rt, alloc, &source, shelf, out)),
-        Request::Explain(ExplainRequest { answer }) => match answer {
+        Request::Logs(logs) => Progress::Ended(judge_files(rt, alloc, &logs.logs, shelf, out)),
+        Request::Explain(ExplainRequest { answer, .. }) => match answer {
             ExplainedAnswer::OneLog => Progress::Ended(explain_input(alloc, input, out)),
             ExplainedAnswer::Logs(logs) => {
                 Progress::Ended(explain_files(rt, alloc, &logs, shelf, out))
@@ -139,6 +140,8 @@ where
                 logs,
             },
         },
+        Request::Show(show) => Progress::Ended(show_files(rt, alloc, &show, shelf, out)),
+        Request::Draw(_draw) => Progress::Ended(Err(ProgramFault::OutOfMemory)),
         Request::Check(check) => Progress::Check(check),
         Request::Decide(decide) => Progress::Ended(decide_files(rt, alloc, &decide, shelf, out)),
         Request::Pairs(nodes) => Progress::Ended(print_pairs(alloc, nodes, out)),

@@ -6,9 +6,11 @@ ghost use Rattle.ira_main.specs.ProgramFault.{program_fault_text, read_fault, wr
 ghost use Rattle.ira_main.specs.Outcome.{ReportsOutcome, outcome_number};
 ghost use Rattle.ira_main.specs.Status.{program_fault_status};
 
+use crate::cut_fault_line::write_cut_fault;
 use crate::status::Status;
 use ira_event::{Line, OutOfMemory, Sink, WriteFault, write_bytes};
 use ira_files::{FileName, ShelfFault};
+use ira_moment::CutFault;
 use ira_ring::RunFault;
 use ira_words::WordsFault;
 use std::alloc::{AllocError, AllocFailed};
@@ -24,6 +26,10 @@ pub enum ProgramFault<'a> {
     CannotRead(FileName<'a>),
     /// A ring of so many nodes is none.
     RingSize,
+    /// The numbers of events that are asked for are no consistent cut of the logs.
+    NoMoment(CutFault),
+    /// A node that is to lead is none of the ring.
+    NoPlace,
     /// The run was refused, or came to nothing.
     RunRefused(RunFault),
     /// The log of the node at this place can't be written to its file in this folder.
@@ -92,6 +98,10 @@ impl<'a> ProgramFault<'a> {
             ProgramFault::WordIsNoText => write_bytes(b"ira: a word is not UTF-8\n", err),
             ProgramFault::CannotRead(name) => write_file_named(b"ira: cannot read ", *name, err),
             ProgramFault::RingSize => write_bytes(b"ira: ring size\n", err),
+            ProgramFault::NoMoment(fault) => write_cut_fault(*fault, err),
+            ProgramFault::NoPlace => {
+                write_bytes(b"ira: --leads names a node that the ring has not\n", err)
+            }
             ProgramFault::RunRefused(fault) => refused_run(*fault).write(err),
             ProgramFault::CannotWriteLog(folder, place) => write_named(
                 b"ira: cannot write ",

@@ -4,7 +4,7 @@ ghost use Rattle.ira_main.specs.FilesRead.{HasRead, HasTakenFiles, IsFilesAudit,
 
 use crate::program_fault::ProgramFault;
 use ira_audit::RingAudit;
-use ira_event::OutOfMemory;
+use ira_event::{MAX_NODES, OutOfMemory};
 use ira_files::{FileName, TextBuffer, TextSource};
 use std::alloc::Allocator;
 use std::num::NonZeroUsize;
@@ -126,6 +126,17 @@ fn thread_count(rt: &impl Threads) -> usize
     thread::available_parallelism(rt).map_or(1, NonZeroUsize::get)
 }
 
+/// How many files a thread reads. Where there are more than a ring has nodes, all are one share: an audit keeps no log past
+/// the ring's size, which each of several would count for itself.
+fn share_size(rt: &impl Threads, files: usize) -> usize
+    ensures { 0 < result }
+{
+    if files > MAX_NODES {
+        return files;
+    }
+    files.div_ceil(thread_count(rt)).max(1)
+}
+
 /// The logs in the files of these names. Threads that run at a time have a share of the names each. Where one of them
 /// stops, it is gone on when all have ended: then no other file is open, so the answer can't depend on how many were.
 pub(crate) fn read_logs<'a, R, A, F>(
@@ -140,7 +151,7 @@ where
     F: TextSource + Sync,
     ensures { IsFilesAudit F.reads (names_of names.now) shelf.now result }
 {
-    let size = names.len().div_ceil(thread_count(rt)).max(1);
+    let size = share_size(rt, names.len());
     let shares = thread::map_chunks(
         rt,
         alloc.clone()?,

@@ -32,6 +32,8 @@ mod runs;
 #[cfg(test)]
 mod samples;
 #[cfg(test)]
+mod shows;
+#[cfg(test)]
 mod upgrades;
 #[cfg(test)]
 mod words;

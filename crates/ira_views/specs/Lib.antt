@@ -1,1 +1,4 @@
+pub mod FoundMoment
+pub mod Show
+pub mod ShownRing
 pub mod Texts

@@ -1,6 +1,8 @@
-use Rattle.std.proofs.Common.{◌≡◌, ◌∙◌, ◌++◌, List, [], ◌∷◌, ap, inl, inr, rules, refl, subst}
+use Rattle.std.proofs.Common.{◌≡◌, ◌∙◌, List, [], ◌∷◌, inl, inr, rules, refl, subst}
+use Rattle.std.specs.Option.{is_some}
 use Rattle.ira_audit.specs.FindingsText.{findings_text}
-use Rattle.ira_event.specs.Sink.{Memory, StopsIn, Takes}
+use Rattle.ira_audit.specs.WrittenFindings.{AreWritten}
+use Rattle.ira_event.specs.Sink.{StopsIn, Takes}
 use Rattle.ira_files.specs.declared.file_name.FileName.{FileName}
 use Rattle.ira_main.proofs.FilesRead.{of_back, of_front}
 use Rattle.ira_main.specs.Decide.{decide_names}
@@ -9,29 +11,31 @@ use Rattle.ira_main.specs.Overwriting.{KeepsFiles}
 use Rattle.ira_main.specs.declared.program_fault.ProgramFault.TheVariants.{OutOfMemory}
 use Rattle.ira_main.proofs.decide_files.decide_files.Goals as goal
 
-pub write_findings-requires : goal.write_findings-requires
-write_findings-requires g c =
+pub decide_in_writing-requires : goal.decide_in_writing-requires
+decide_in_writing-requires g c =
     let taken = c.in_ok-audit.ensures in
-    c.in_ok-findings.ensures.reportable taken.0 taken.1
+    (taken.0, taken.1)
 
-pub returns-in-Ok-write_bytes : goal.returns-in-Ok-write_bytes
-returns-in-Ok-write_bytes g c =
+pub returns-in-Ok : goal.returns-in-Ok
+returns-in-Ok g c =
     let taken = c.in_ok-audit.ensures in
-    let findings = c.in_ok-findings.findings in
-    let found = c.in_ok-findings.ensures.found taken.0 taken.1 in
-    let text_is : c.bytes-2.result.now ≡ findings_text findings = c.bytes-2.ensures ∙ c.in-Ok.ensures.took ∙ ap (λ (m : Memory). m.bytes ++ findings_text findings) c.new-text.ensures in
+    let certificate = c.args.decide.now.certificate in
+    let written = c.in_ok-written.ensures taken.0 taken.1 in
+    let findings = written.0 in
+    let is : AreWritten (is_some certificate) findings c.in_ok-written.written = rw c.is_some.ensures at written.2 in
+    let text_is : c.lines.result.now ≡ findings_text findings = c.lines.ensures ∙ is.lines in
     inl (
       _,
       c.in_ok-names.ensures,
       inl (record {
-        kept = subst (λ (logs : List FileName). KeepsFiles c.args.decide.now.certificate (decide_names c.args.decide.now logs)) c.deref.ensures.value c.in_ok-keep_inputs.ensures;
+        kept = subst (λ (logs : List FileName). KeepsFiles certificate (decide_names c.args.decide.now logs)) c.deref.ensures.value c.in_ok-keep_inputs.ensures;
         decided = record {
           question = c.in_ok-question.question;
           texts = taken.0;
           given = (c.in_ok-question.ensures.read, rw c.deref-2.ensures.value at taken.2);
           findings = findings;
-          found = rw c.bytes.ensures at found;
-          told = inl (subst (λ t. Takes t (g.W.Sink.state c.args.out.now) (g.W.Sink.state c.write_bytes.new.sink)) text_is c.in-Ok-write_bytes.ensures, c.keep_findings.ensures);
+          found = rw c.bytes.ensures at written.1;
+          told = inl (subst (λ t. Takes t (g.W.Sink.state c.args.out.now) (g.W.Sink.state c.write_bytes.new.sink)) text_is c.in-Ok.ensures, c.keep_findings.ensures findings is);
         };
       }),
     )
@@ -39,9 +43,9 @@ returns-in-Ok-write_bytes g c =
 pub returns : goal.returns
 returns g c =
     let taken = c.in_ok-audit.ensures in
-    let findings = c.in_ok-findings.findings in
-    let found = c.in_ok-findings.ensures.found taken.0 taken.1 in
-    let text_is : c.bytes-2.result.now ≡ findings_text findings = c.bytes-2.ensures ∙ c.in-Ok.ensures.took ∙ ap (λ (m : Memory). m.bytes ++ findings_text findings) c.new-text.ensures in
+    let written = c.in_ok-written.ensures taken.0 taken.1 in
+    let findings = written.0 in
+    let text_is : c.lines.result.now ≡ findings_text findings = c.lines.ensures ∙ written.2.lines in
     inl (
       _,
       c.in_ok-names.ensures,
@@ -52,7 +56,7 @@ returns g c =
           texts = taken.0;
           given = (c.in_ok-question.ensures.read, rw c.deref-2.ensures.value at taken.2);
           findings = findings;
-          found = rw c.bytes.ensures at found;
+          found = rw c.bytes.ensures at written.1;
           told = inr (subst (λ t. StopsIn t (g.W.Sink.state c.args.out.now) (g.W.Sink.state c.write_bytes.new.sink)) text_is c.in-Err.ensures, refl, refl);
         };
       }),
@@ -85,8 +89,5 @@ returns-in_err-audit g c =
     let fault = rw c.deref-2.ensures.value at c.in_err-audit.ensures in
     inl (_, c.in_ok-names.ensures, inr (refl, (_, inr (of_back g.F.TextSource.reads (decide.question.now ∷ []) logs _ (_ ∷ []) _ (c.in_ok-question.ensures.read, tt) fault), refl, search rules)))
 
-pub returns-in_err-findings : goal.returns-in_err-findings
-returns-in_err-findings g c = inl (_, c.in_ok-names.ensures, inr (refl, (OutOfMemory, inr (inr refl), refl, search rules)))
-
-pub returns-in_default : goal.returns-in_default
-returns-in_default g c = inl (_, c.in_ok-names.ensures, inr (refl, (OutOfMemory, inr (inr refl), refl, refl)))
+pub returns-in_err-written : goal.returns-in_err-written
+returns-in_err-written g c = inl (_, c.in_ok-names.ensures, inr (refl, (OutOfMemory, inr (inr refl), refl, search rules)))

@@ -1,23 +1,25 @@
-use Rattle.std.proofs.Common.{Ok, ap, inl, inr, refl, rules}
-use Rattle.ira_event.proofs.Unless.{unless_ok}
-use Rattle.ira_main.specs.Decide.KeepsFindings.{absent, certified, no_memory, refuted}
+use Rattle.std.proofs.Common.{◌≡◌, List, MatchOption, None, Option, Some, ℕ, refl, rules}
+use Rattle.std.specs.Borrow.{Bor}
+use Rattle.std.specs.Option.{option_map}
+use Rattle.ira_cert_text.specs.Certificate.{Certificate}
+use Rattle.ira_cert_text.specs.CertText.{IsCertText, cert_text}
+use Rattle.ira_main.specs.CertFile.{IsTextToKeep}
+use Rattle.ira_main.specs.Decide.KeepsFindings.{absent, certified}
 use Rattle.ira_main.proofs.decide_files.keep_findings.Goals as goal
 
-pub returns-in_default : goal.returns-in_default
-returns-in_default g c =
-    elim c.of_findings.ensures [
-      | inl h ↦ refuted h.0 refl (ap (λ s. Ok s) h.1)
-      | inr h ↦ absent h.0 c.in_default.is refl (ap (λ s. Ok s) h.1)
-    ]
+-- a text that is lent is the one that it is
+to_keep : (text : Option (Bor (List ℕ))) (c : Certificate)
+    → MatchOption (option_map (λ t. t.now) text) (¬ (IsCertText (cert_text c) c)) (λ t. (t ≡ cert_text c)
+    × IsCertText (cert_text c) c) → IsTextToKeep text c
+to_keep None c h = h
+to_keep (Some t) c h = h
 
-pub returns-in_err-certificate : goal.returns-in_err-certificate
-returns-in_err-certificate g c =
-    no_memory c.in-Some.name (λ none. let never = c.in_err-certificate.ensures.none.1 none in cc) c.in-Some.is refl (search rules)
+pub returns-in-Some : goal.returns-in-Some
+returns-in-Some g c = λ findings is.
+    let made = is.certificate (rw c.in-Some.is refl) (search rules) in
+    certified made.0 c.in-Some.name made.1 c.in-Some.is
+    (c.keep_written.ensures made.0 (to_keep c.certificate.result made.0 (rw c.certificate.ensures made.2)))
 
 pub returns-in-None : goal.returns-in-None
-returns-in-None g c = refuted (c.in_ok-certificate.ensures.none.0 (ap (λ o. Ok o) c.in-None.is)) refl refl
-
-pub returns-in-Some-2 : goal.returns-in-Some-2
-returns-in-Some-2 g c =
-    let exact = unless_ok _ _ _ (c.in_ok-certificate.ensures.some c.in-Some-2.certificate) in
-    certified _ _ (exact.0 (ap (λ o. Ok o) c.in-Some-2.is)) c.in-Some.is c.keep.ensures
+returns-in-None g c = λ findings is.
+    absent (λ none. let no = is.absent.1 none in cc) c.in-None.is refl refl

@@ -1,6 +1,7 @@
 use Rattle.std.proofs.Common.{◌≡◌, ◌∙◌, Err, List, [], ◌∷◌, Ok, Result, ℕ, ap, map, refl, subst, sym}
 use Rattle.ira_words.specs.Request.{IsMadeOf}
-use Rattle.ira_main.specs.Serve.CommandOutcome.{decided, judged, mended, pairs, recorded, refused, upgraded, explained as explained_of_logs}
+use Rattle.ira_main.specs.Serve.CommandOutcome.{decided, judged, mended, pairs, recorded, refused, shown, upgraded}
+use Rattle.ira_main.specs.Serve.CommandOutcome.{explained as explained_of_logs}
 use Rattle.ira_main.specs.Serve.Serves.{explained, with_words, without_words}
 use Rattle.ira_main.proofs.program.serve_without_wait.Goals as goal
 
@@ -48,6 +49,11 @@ pub returns-in-Certificate-clause-served : goal.returns-in-Certificate-clause-se
 returns-in-Certificate-clause-served g c =
     let made = subst (IsMadeOf (map (λ w. w.now) c.args.words.now)) c.in-Explain.is c.in-Ok.ensures.made in
     (_, made, c.in-Certificate.is, record { input_is = refl; shelf_is = refl; out_is = refl })
+
+pub returns-in-Show-clause-served : goal.returns-in-Show-clause-served
+returns-in-Show-clause-served g c =
+    let made = subst (IsMadeOf (map (λ w. w.now) c.args.words.now)) c.in-Show.is c.in-Ok.ensures.made in
+    with_words (some_words _ _ _ made.first) refl (shown _ made refl c.show_files.ensures)
 
 pub returns-in-Check-clause-served : goal.returns-in-Check-clause-served
 returns-in-Check-clause-served g c =

@@ -11,7 +11,7 @@ loop-share-init g c =
     let reads = g.F.TextSource.reads in
     let names = c.args.names.now in
     let shelf = c.args.shelf.now in
-    let size = c.max-size.result in
+    let size = c.share_size-size.result in
     let shares = c.in_ok-shares.shares.items in
     let rest : into_iter_items c.into_iter-share-iterator.result ≡ shares = c.into_iter-share-iterator.ensures.into_iter_gives.0 in
     let some : 0 < size = omega arith in
@@ -36,14 +36,14 @@ returns-in_err-finish_share g c =
     let shelf = c.args.shelf.now in
     let rest : into_iter_items c.loop-share.share-iterator ≡ c.in-Some.share ∷ into_iter_items c.next.new.self = c.in-Some.ensures.steps.0 in
     let fault = subst (λ some. IsFilesFault reads (names_of some) shelf c.in_err-finish_share.field-0.0) c.chunk_from-some.ensures c.in_err-finish_share.ensures in
-    rw (p.1, p.2) (gathering_fault reads (IsShare reads shelf) c.max-size.result names shelf (drop c.loop-share.done names) c.loop-share.audit _ _ _ c.loop-share.invariant.gathering rest _ fault)
+    rw (p.1, p.2) (gathering_fault reads (IsShare reads shelf) c.share_size-size.result names shelf (drop c.loop-share.done names) c.loop-share.audit _ _ _ c.loop-share.invariant.gathering rest _ fault)
 
 pub loop-share-preserved : goal.loop-share-preserved
 loop-share-preserved g c =
     let reads = g.F.TextSource.reads in
     let names = c.args.names.now in
     let shelf = c.args.shelf.now in
-    let size = c.max-size.result in
+    let size = c.share_size-size.result in
     let done = c.loop-share.done in
     let steps = c.in-Some.ensures.steps in
     let rest : into_iter_items c.loop-share.share-iterator ≡ c.in-Some.share ∷ into_iter_items c.next.new.self = steps.0 in
@@ -62,4 +62,4 @@ pub returns : goal.returns
 returns g c =
     let reads = g.F.TextSource.reads in
     let ended = c.in-None.ensures.steps.0 in
-    gathered reads (IsShare reads c.args.shelf.now) c.max-size.result c.args.names.now c.args.shelf.now _ _ _ c.loop-share.invariant.gathering (omega arith)
+    gathered reads (IsShare reads c.args.shelf.now) c.share_size-size.result c.args.names.now c.args.shelf.now _ _ _ c.loop-share.invariant.gathering (omega arith)
