@@ -1,4 +1,4 @@
-use Rattle.std.proofs.Common.{◌≡◌, ap, subst, sym}
+use Rattle.std.proofs.Common.{◌≡◌, subst, sym}
 use Rattle.std.proofs.lemmas.List.Elements.{All-get_or}
 use Rattle.ira_pred.specs.Clause.{formula}
 use Rattle.ira_cert.specs.SharedTable.{IsTableOf}
