@@ -51,7 +51,8 @@ CertificateStage certificate logs cases =
 -- whether the question is posed
 abbrev PosedStage : List (List ℕ) → List ℕ → List ℕ → Answer → Type 0
 PosedStage texts question certificate =
-    Stage (WhyNoQuestion texts question) No (λ (y : List Log × QuestionCases). QuestionFitsLogs texts question y.0 y.1) (λ y.
+    Stage (WhyNoQuestion texts question) No (λ (y : List Log × QuestionCases). QuestionFitsLogs texts question y.0 y.1)
+    (λ y.
     CertificateStage certificate y.0 y.1.cases)
 
 -- an answer is one of the stages

@@ -43,13 +43,15 @@ refused texts question r (no_question logs f good h e) = inr (logs, good, inl (f
 refused texts question r (other_ring logs asked good is other e) =
     inr (logs, good, inr (asked, is, inl (tt, other, ap No e)))
 
-posed : (texts : List (List ℕ)) (question : List ℕ) (logs : List Log) (asked : QuestionCases) → QuestionFitsLogs texts question logs asked
+posed : (texts : List (List ℕ)) (question : List ℕ) (logs : List Log) (asked : QuestionCases)
+    → QuestionFitsLogs texts question logs asked
     → LogsStage texts question Yes
 posed texts question logs asked p = inr (logs, p.logs_are, inr (asked, p.question_is, inr (tt, p.ring, refl)))
 
 -- ---- each stage has one answer
 
-one_ring : (logs : List Log) (asked : QuestionCases) (a b : Answer) → RingStage logs asked a → RingStage logs asked b → a ≡ b
+one_ring : (logs : List Log) (asked : QuestionCases) (a b : Answer) → RingStage logs asked a → RingStage logs asked b
+    → a ≡ b
 one_ring logs asked = one_of_stage _ _ _ _ (λ x z h k. refl) (λ x y other same. other same) (λ y z h k.
     refl) (λ y a b h e d. e ∙ sym d)
 
@@ -89,7 +91,8 @@ posed_or_not texts question r logs asked h p = let same =
 
 -- it is posed of one list of logs, and asks one thing
 pub one_posed : (texts : List (List ℕ)) (question : List ℕ) (logs others : List Log) (asked other : QuestionCases)
-    → QuestionFitsLogs texts question logs asked → QuestionFitsLogs texts question others other → (logs ≡ others) × (asked ≡ other)
+    → QuestionFitsLogs texts question logs asked → QuestionFitsLogs texts question others other → (logs ≡ others)
+    × (asked ≡ other)
 one_posed texts question logs others asked other p q = (
   one_list texts logs others p.logs_are.texts_are q.logs_are.texts_are,
   one_question question asked other p.question_is q.question_is,

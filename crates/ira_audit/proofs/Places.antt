@@ -11,7 +11,8 @@ use Rattle.ira_cert.specs.Conjuncts.{HasDifferentPlaces, HasPlacesOf}
 pub all_at : {X : Type 0} (P : X → Type 0) (xs : List X) (i : ℕ) (x : X) → All P xs → slice_get xs i ≡ Some x → P x
 all_at P xs i x all at = subst P (get_or_from_slice_get xs i x x at) (all i x (slice_get_within xs i x at))
 
-case_at : (asked : QuestionCases) (i : ℕ) (case : List Conjunct) → IsQuestion asked → slice_get asked.cases i ≡ Some case
+case_at : (asked : QuestionCases) (i : ℕ) (case : List Conjunct) → IsQuestion asked
+    → slice_get asked.cases i ≡ Some case
     → IsCase asked.nodes case
 case_at asked i case is at = all_at (IsCase asked.nodes) asked.cases i case is.cases_are at
 

@@ -103,7 +103,8 @@ good_logs texts logs are good = record { texts_are = are; are_good = good }
 -- the question is asked of the ring of good logs
 pub is_posed : (texts : List (List ℕ)) (question : List ℕ) (logs : List log.Log) (asked : QuestionCases)
     → AreLogTexts texts logs
-    → AreGood logs → IsQuestionText question asked → asked.nodes ≡ length logs → QuestionFitsLogs texts question logs asked
+    → AreGood logs → IsQuestionText question asked → asked.nodes ≡ length logs
+    → QuestionFitsLogs texts question logs asked
 is_posed texts question logs asked are good is ring = record {
   logs_are = good_logs texts logs are good;
   question_is = is;

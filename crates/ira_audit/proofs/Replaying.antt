@@ -94,7 +94,8 @@ pub text_fault_other : (text : List ℕ) (f : LogFault) → LogTextFault text f 
 text_fault_other text f h e = not_out_of_memory text (subst (LogTextFault text) e h)
 
 -- an answer that is right is the only one
-pub exactly : (text : List ℕ) (x : Answer) → single.IsLogTextAnswer text x → (a : Answer) → (x ≡ a) ↔ single.IsLogTextAnswer text a
+pub exactly : (text : List ℕ) (x : Answer) → single.IsLogTextAnswer text x → (a : Answer)
+    → (x ≡ a) ↔ single.IsLogTextAnswer text a
 exactly text x h a = (λ e. subst (single.IsLogTextAnswer text) e h, λ k. one_answer text x a h k)
 
 -- what is exact of an answer is so of the result that has it
@@ -103,7 +104,8 @@ pub ok_exactly : (P : Answer → Type 0) (x a : Answer) → (x ≡ a) ↔ P a
 ok_exactly P x a h = (λ e. h.0 (ok_same x a e), λ k. ap Ok (h.1 k))
 
 -- the answer of the text's log is the text's
-pub of_log : (text : List ℕ) (log : Log) (a : Answer) → IsLogText text log → IsLogAnswer log a → single.IsLogTextAnswer text a
+pub of_log : (text : List ℕ) (log : Log) (a : Answer) → IsLogText text log → IsLogAnswer log a
+    → single.IsLogTextAnswer text a
 of_log text log a is (inl h) = single.yes log is h.1 h.0
 of_log text log a is (inr h) = single.stopped log h.0 is h.2 h.1
 

@@ -41,7 +41,8 @@ use Rattle.ira_audit.proofs.Zipped.{zipped_into}
 new_text : (text new : List ℕ) (log : Log) → IsUpgraded text new → IsLogText text log → IsLogText new (upgraded log)
 new_text text new log u is = subst (λ l. IsLogText new (upgraded l)) (one_log text u.log log u.text_is is) u.new_is
 
-answer_of_one : (text new : List ℕ) (a : Answer) → IsUpgraded text new → single.IsLogTextAnswer text a → single.IsLogTextAnswer new a
+answer_of_one : (text new : List ℕ) (a : Answer) → IsUpgraded text new → single.IsLogTextAnswer text a
+    → single.IsLogTextAnswer new a
 answer_of_one text new a u (single.no_log f h e) = absurd (log_or_fault text u.log f u.text_is h)
 answer_of_one text new a u (single.stopped log f is stop e) =
     single.stopped (upgraded log) f (new_text text new log u is) stop e
@@ -189,7 +190,8 @@ pub same_answer_of_one : (text new : List ℕ) (a : Answer) → IsUpgraded text 
 same_answer_of_one text new a u = (
   λ h.
       let old = some_answer text in
-      subst (λ b. single.IsLogTextAnswer text b) (one_answer new old.0 a (answer_of_one text new old.0 u old.1) h) old.1,
+      subst (λ b. single.IsLogTextAnswer text b) (one_answer new old.0 a (answer_of_one text new old.0 u old.1) h)
+      old.1,
   answer_of_one text new a u,
 )
 

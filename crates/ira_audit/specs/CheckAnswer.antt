@@ -39,27 +39,32 @@ pub data IsCheckAnswer (texts : List (List ℕ)) (question certificate : List �
       → IsCheckAnswer texts question certificate answer
   -- the question is posed, but the certificate's text is none
   no_certificate :
-      (logs : List Log) (asked : QuestionCases) (f : CertFault) → QuestionFitsLogs texts question logs asked → CertTextFault certificate f
+      (logs : List Log) (asked : QuestionCases) (f : CertFault) → QuestionFitsLogs texts question logs asked
+      → CertTextFault certificate f
       → answer ≡ No (reason.Certificate f) → IsCheckAnswer texts question certificate answer
   -- the certificate is for another ring
   other_size :
-      (logs : List Log) (asked : QuestionCases) (c : Certificate) → QuestionFitsLogs texts question logs asked → IsCertText certificate c
+      (logs : List Log) (asked : QuestionCases) (c : Certificate) → QuestionFitsLogs texts question logs asked
+      → IsCertText certificate c
       → c.nodes ≢ length logs → answer ≡ No reason.CertificateSize → IsCheckAnswer texts question certificate answer
   -- it has another number of sections than the question has cases
   other_number :
-      (logs : List Log) (asked : QuestionCases) (c : Certificate) → QuestionFitsLogs texts question logs asked → IsCertText certificate c
+      (logs : List Log) (asked : QuestionCases) (c : Certificate) → QuestionFitsLogs texts question logs asked
+      → IsCertText certificate c
       → c.nodes ≡ length logs → length c.sections ≢ length asked.cases
       → answer ≡ No (reason.Sections (length asked.cases) (length c.sections))
       → IsCheckAnswer texts question certificate answer
   -- it has as many, and one of them isn't sound
   unsound :
-      (logs : List Log) (asked : QuestionCases) (c : Certificate) (i : ℕ) (f : SectionFault) → QuestionFitsLogs texts question logs asked
+      (logs : List Log) (asked : QuestionCases) (c : Certificate) (i : ℕ) (f : SectionFault)
+      → QuestionFitsLogs texts question logs asked
       → IsCertText certificate c → c.nodes ≡ length logs → length c.sections ≡ length asked.cases
       → IsFirstUnsound logs asked.cases c.sections i f
       → answer ≡ No (reason.Section i f) → IsCheckAnswer texts question certificate answer
   -- each section is sound for its case
   yes :
-      (logs : List Log) (asked : QuestionCases) (c : Certificate) → QuestionFitsLogs texts question logs asked → IsCertText certificate c
+      (logs : List Log) (asked : QuestionCases) (c : Certificate) → QuestionFitsLogs texts question logs asked
+      → IsCertText certificate c
       → c.nodes ≡ length logs → AreSound logs asked.cases c.sections
       → answer ≡ Yes → IsCheckAnswer texts question certificate answer
 

@@ -13,7 +13,8 @@ use Rattle.ira_audit.specs.GoodLogs.{AreGoodLogs}
 use Rattle.ira_audit.specs.RingAnswer.{IsRingAnswer}
 
 -- the texts are those of good logs, and the question is asked of their ring
-pub record QuestionFitsLogs (texts : List (List ℕ)) (question : List ℕ) (logs : List Log) (asked : QuestionCases) : Type 0 where
+pub record QuestionFitsLogs (texts : List (List ℕ)) (question : List ℕ) (logs : List Log) (asked : QuestionCases)
+    : Type 0 where
   pub logs_are : AreGoodLogs texts logs
   pub question_is : IsQuestionText question asked
   pub ring : asked.nodes ≡ length logs

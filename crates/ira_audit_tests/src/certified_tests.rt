@@ -2,13 +2,12 @@ ghost use Rattle.std.specs.Prelude.{◌≤◌};
 
 use crate::lines::has_line;
 use crate::pairs::pairs_text;
-use crate::samples::{
-    BOTH_LEAD, ELECTION, ELECTION_0, LEADER_AND_ACTIVE, LONE_0, LONE_1, LONE_2, NODE_1_SPENT,
-    SECOND_TERM, TIE_0, TIE_1, TWO_STEPS,
-};
 use ira_audit::audit;
 use ira_event::OutOfMemory;
-use ira_fixtures::{bytes_of, lone_initiator_texts};
+use ira_fixtures::{
+    BOTH_LEAD, ELECTION, ELECTION_0, LEADER_AND_ACTIVE, LONE_INITIATOR, NODE_1_SPENT, SECOND_TERM,
+    bytes_of, lone_initiator_texts,
+};
 use ira_links::OpenGate;
 use std::process::Abort;
 use std::sync::Wait;
@@ -48,14 +47,6 @@ where
 }
 
 #[test]
-fn section_without_steps(rt: HostRuntime) {
-    assert_answered(&rt, ELECTION, BOTH_LEAD, NODE_1_SPENT, "yes\n");
-    let certificate = b"ircert 1\nnodes 2\nsection\nspent 0\nend\n";
-    let line = "no: case 0: node 0 not spent\n";
-    assert_answered(&rt, ELECTION, BOTH_LEAD, certificate, line);
-}
-
-#[test]
 fn sections_with_and_without_steps(rt: HostRuntime) {
     let question =
         b"irask 1\nnodes 2\ncase\n0: leader\n1: leader\ncase\n0: leader\n1: active\nend\n";
@@ -69,82 +60,24 @@ fn sections_with_and_without_steps(rt: HostRuntime) {
             "no: case 0: node 0 not spent\n",
         ),
     ] {
-        assert_answered(&rt, ELECTION, question, certificate, line);
+        assert_answered(&rt, &ELECTION, question, certificate, line);
     }
 }
 
 #[test]
-fn two_step_section(rt: HostRuntime) {
-    assert_answered(&rt, ELECTION, LEADER_AND_ACTIVE, TWO_STEPS, "yes\n");
-}
-
-#[test]
-fn section_cut_and_swapped(rt: HostRuntime) {
-    let cut = b"ircert 1\nnodes 2\nsection\ndrop 1 1 by 0 4\nspent 1\nend\n";
-    let line = "no: case 0: node 1 not spent\n";
-    assert_answered(&rt, ELECTION, LEADER_AND_ACTIVE, cut, line);
-    let swapped = b"ircert 1\nnodes 2\nsection\ndrop 1 2 by 0 4\ndrop 1 1 by 0 4\nspent 1\nend\n";
-    let line = "no: case 0: step 0: not front\n";
-    assert_answered(&rt, ELECTION, LEADER_AND_ACTIVE, swapped, line);
-}
-
-#[test]
-fn least_cut_after_one_step(rt: HostRuntime) {
-    let question = b"irask 1\nnodes 2\ncase\n0: active\n1: passive\nend\n";
-    let certificate =
-        b"ircert 1\nnodes 2\nsection\ndrop 0 1 by 1 3\ndrop 0 2 by 1 3\nspent 0\nend\n";
-    let line = "no: case 0: step 1: not before\n";
-    assert_answered(&rt, ELECTION, question, certificate, line);
-}
-
-#[test]
-fn eight_step_section(rt: HostRuntime) {
-    let question = b"irask 1\nnodes 2\ncase\n0: leader\n1: (not passive)\nend\n";
-    let certificate = b"ircert 1\nnodes 2\nsection\n\
-        drop 1 0 by 0 9\n\
-        drop 1 1 by 0 9\n\
-        drop 1 2 by 0 9\n\
-        drop 1 3 by 0 9\n\
-        drop 1 4 by 0 9\n\
-        drop 1 5 by 0 9\n\
-        drop 1 6 by 0 9\n\
-        drop 1 7 by 0 9\n\
-        spent 1\n\
-        end\n";
-    assert_answered(&rt, &[TIE_0, TIE_1], question, certificate, "yes\n");
-    let certificate = b"ircert 1\nnodes 2\nsection\n\
-        drop 1 0 by 0 9\n\
-        drop 1 3 by 0 9\n\
-        drop 1 2 by 0 9\n\
-        drop 1 3 by 0 9\n\
-        drop 1 4 by 0 9\n\
-        drop 1 5 by 0 9\n\
-        drop 1 6 by 0 9\n\
-        drop 1 0 by 0 9\n\
-        spent 1\n\
-        end\n";
-    let line = "no: case 0: step 1: not front\n";
-    assert_answered(&rt, &[TIE_0, TIE_1], question, certificate, line);
-}
-
-#[test]
 fn pairs_of_three(rt: HostRuntime) {
-    let texts: &[&[u8]] = &[LONE_0, LONE_1, LONE_2];
-    let question = b"irask 1\nnodes 3\n\
-        case\n0: leader\n1: leader\n\
-        case\n0: leader\n2: leader\n\
-        case\n1: leader\n2: leader\n\
-        end\n";
+    let question = pairs_text(&rt, 3);
+    let question = question.bytes();
     let certificate =
         b"ircert 1\nnodes 3\nsection\nspent 1\nsection\nspent 2\nsection\nspent 1\nend\n";
-    assert_answered(&rt, texts, question, certificate, "yes\n");
+    assert_answered(&rt, &LONE_INITIATOR, question, certificate, "yes\n");
     let certificate = b"ircert 1\nnodes 3\nsection\nspent 1\nsection\nspent 2\nend\n";
     let line = "no: sections: 3 wanted, 2 found\n";
-    assert_answered(&rt, texts, question, certificate, line);
+    assert_answered(&rt, &LONE_INITIATOR, question, certificate, line);
     let certificate =
         b"ircert 1\nnodes 3\nsection\nspent 1\nsection\nspent 1\nsection\nspent 1\nend\n";
     let line = "no: case 1: node 1 not spent\n";
-    assert_answered(&rt, texts, question, certificate, line);
+    assert_answered(&rt, &LONE_INITIATOR, question, certificate, line);
 }
 
 /// The lone initiator is spent in no case of it: each other node is passive from the start.
@@ -177,16 +110,6 @@ fn pairs_of_the_largest_ring(rt: HostRuntime) {
 }
 
 #[test]
-fn two_cases(rt: HostRuntime) {
-    let question = b"irask 1\nnodes 2\n\
-        case\n0: leader\n1: active\n\
-        case\n0: active\n1: passive\n\
-        end\n";
-    let line = "no: sections: 2 wanted, 1 found\n";
-    assert_answered(&rt, ELECTION, question, TWO_STEPS, line);
-}
-
-#[test]
 fn other_ring_sizes_and_asked_nodes(rt: HostRuntime) {
     let rows: [(&[u8], &[u8], &str); 5] = [
         (
@@ -216,7 +139,7 @@ fn other_ring_sizes_and_asked_nodes(rt: HostRuntime) {
         ),
     ];
     for (question, certificate, line) in rows {
-        assert_answered(&rt, ELECTION, question, certificate, line);
+        assert_answered(&rt, &ELECTION, question, certificate, line);
     }
 }
 
@@ -262,7 +185,7 @@ fn certificate_faults(rt: HostRuntime) {
         (b"ircert 2\nnodes 2\nend\n", "no: certificate: head\n"),
     ];
     for (certificate, line) in rows {
-        assert_answered(&rt, ELECTION, BOTH_LEAD, certificate, line);
+        assert_answered(&rt, &ELECTION, BOTH_LEAD, certificate, line);
     }
 }
 
@@ -276,7 +199,7 @@ fn more_sections_than_a_certificate_may_have(rt: HostRuntime) {
         .expect(&rt, "memory");
     text.extend_from_slice(&sections).expect(&rt, "memory");
     let line = b"no: certificate: too many\n";
-    assert!(rt; is_answered(&rt, ELECTION, BOTH_LEAD, &text, 2, line));
+    assert!(rt; is_answered(&rt, &ELECTION, BOTH_LEAD, &text, 2, line));
 }
 
 #[test]
@@ -294,7 +217,7 @@ fn texts_too_long(rt: HostRuntime) {
         ),
         is_answered(
             &rt,
-            ELECTION,
+            &ELECTION,
             &long,
             NODE_1_SPENT,
             2,
@@ -302,7 +225,7 @@ fn texts_too_long(rt: HostRuntime) {
         ),
         is_answered(
             &rt,
-            ELECTION,
+            &ELECTION,
             BOTH_LEAD,
             &long,
             2,
@@ -341,7 +264,7 @@ fn question_faults(rt: HostRuntime) {
         (b"irask 2\nnodes 2\nend\n", "no: question: head\n"),
     ];
     for (question, line) in rows {
-        assert_answered(&rt, ELECTION, question, NODE_1_SPENT, line);
+        assert_answered(&rt, &ELECTION, question, NODE_1_SPENT, line);
     }
 }
 
@@ -351,14 +274,14 @@ fn logs_are_judged_first(rt: HostRuntime) {
     assert_answered(&rt, &[ELECTION_0], b"", b"", line);
     let cut = b"irlog 1\nnodes 2\nplace 1\nstart passive\n";
     assert_answered(&rt, &[ELECTION_0, cut], b"", b"", "no: log 1: cut\n");
-    assert_answered(&rt, ELECTION, b"", b"", "no: question: head\n");
+    assert_answered(&rt, &ELECTION, b"", b"", "no: question: head\n");
 }
 
 #[test]
 fn second_term(rt: HostRuntime) {
     let certificate = b"ircert 1\nnodes 2\nsection\ndrop 0 4 by 1 10\nspent 0\nend\n";
-    assert_answered(&rt, SECOND_TERM, BOTH_LEAD, certificate, "yes\n");
+    assert_answered(&rt, &SECOND_TERM, BOTH_LEAD, certificate, "yes\n");
     let certificate = b"ircert 1\nnodes 2\nsection\nspent 0\nend\n";
     let line = "no: case 0: node 0 not spent\n";
-    assert_answered(&rt, SECOND_TERM, BOTH_LEAD, certificate, line);
+    assert_answered(&rt, &SECOND_TERM, BOTH_LEAD, certificate, line);
 }

@@ -1,13 +1,11 @@
 use crate::lines::has_lines;
 use crate::pairs::pairs_text;
-use crate::samples::{
-    ELECTION, ELECTION_0, LEADER_AND_ACTIVE, LONE_0, LONE_1, LONE_2, SECOND_TERM, TWO_STEPS,
-};
-use ira_audit::{Answer, Findings, audit, decide_all};
+use ira_audit::{Findings, decide_all};
 use ira_cert_text::{Certificate, write_cert};
 use ira_event::MemorySink;
-use ira_fixtures::{bytes_of, lone_initiator_texts};
-use ira_links::OpenGate;
+use ira_fixtures::{
+    ELECTION, ELECTION_0, LEADER_AND_ACTIVE, SECOND_TERM, bytes_of, lone_initiator_texts,
+};
 use std::alloc::Global;
 use std::process::Abort;
 
@@ -63,29 +61,6 @@ fn certificate_text(
 }
 
 #[test]
-fn made_certificate(rt: HostRuntime) {
-    let line = "case 0: absent, 2 steps, node 1 spent\n";
-    let findings = found(&rt, ELECTION, LEADER_AND_ACTIVE, line);
-    assert!(rt; certificate_text(&rt, findings).bytes() == TWO_STEPS);
-}
-
-#[test]
-fn least_cut_after_one_step(rt: HostRuntime) {
-    let question = b"irask 1\nnodes 2\ncase\n0: active\n1: passive\nend\n";
-    assert_uncertified(&rt, ELECTION, question, "case 0: present at 2 3\n");
-}
-
-#[test]
-fn two_cases(rt: HostRuntime) {
-    let question = b"irask 1\nnodes 2\n\
-        case\n0: leader\n1: active\n\
-        case\n0: active\n1: passive\n\
-        end\n";
-    let lines = "case 0: absent, 2 steps, node 1 spent\ncase 1: present at 2 3\n";
-    assert_uncertified(&rt, ELECTION, question, lines);
-}
-
-#[test]
 fn absences_with_and_without_steps(rt: HostRuntime) {
     let question = b"irask 1\nnodes 2\n\
         case\n0: leader\n1: leader\n\
@@ -95,28 +70,7 @@ fn absences_with_and_without_steps(rt: HostRuntime) {
     let lines = "case 0: absent, 0 steps, node 1 spent\n\
         case 1: absent, 2 steps, node 1 spent\n\
         case 2: present at 2 3\n";
-    assert_uncertified(&rt, ELECTION, question, lines);
-}
-
-#[test]
-fn pairs_of_three(rt: HostRuntime) {
-    let texts: &[&[u8]] = &[LONE_0, LONE_1, LONE_2];
-    let question = pairs_text(&rt, 3);
-    let lines = "case 0: absent, 0 steps, node 1 spent\n\
-        case 1: absent, 0 steps, node 2 spent\n\
-        case 2: absent, 0 steps, node 1 spent\n";
-    let findings = found(&rt, texts, question.bytes(), lines);
-    let text = certificate_text(&rt, findings);
-    let answer = audit(
-        &rt,
-        rt.alloc(),
-        texts,
-        question.bytes(),
-        text.bytes(),
-        2,
-        &OpenGate,
-    );
-    assert!(rt; answer == Ok(Answer::Yes));
+    assert_uncertified(&rt, &ELECTION, question, lines);
 }
 
 #[test]
@@ -143,7 +97,7 @@ fn second_term(rt: HostRuntime) {
         section\ndrop 0 4 by 1 10\nspent 0\n\
         section\nspent 0\n\
         end\n";
-    let findings = found(&rt, SECOND_TERM, question, lines);
+    let findings = found(&rt, &SECOND_TERM, question, lines);
     assert!(rt; certificate_text(&rt, findings).bytes() == made);
 }
 
@@ -156,7 +110,7 @@ fn refusals(rt: HostRuntime) {
         LEADER_AND_ACTIVE,
         "no: log 1: cut\n",
     );
-    assert_uncertified(&rt, ELECTION, b"irask 2\n", "no: question: head\n");
+    assert_uncertified(&rt, &ELECTION, b"irask 2\n", "no: question: head\n");
     let other = b"irask 1\nnodes 3\ncase\n0: leader\n1: leader\nend\n";
-    assert_uncertified(&rt, ELECTION, other, "no: question: other ring size\n");
+    assert_uncertified(&rt, &ELECTION, other, "no: question: other ring size\n");
 }

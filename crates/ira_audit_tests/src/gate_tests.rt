@@ -1,9 +1,8 @@
 // What the gate of an audit sees: that two ranges of a section are judged at once, and that each passes it once.
 ghost use Rattle.std.specs.Prelude.{◌≤◌};
 
-use crate::samples::{ELECTION, LEADER_AND_ACTIVE, TWO_STEPS};
 use ira_audit::{Answer, audit};
-use ira_fixtures::{Meeting, Passes};
+use ira_fixtures::{ELECTION, LEADER_AND_ACTIVE, Meeting, Passes, TWO_STEPS};
 use std::process::Abort;
 use std::sync::Wait;
 use std::thread::Threads;
@@ -15,7 +14,7 @@ fn two_ranges_are_judged_at_once(rt: HostRuntime) {
     let answer = audit(
         &rt,
         rt.alloc(),
-        ELECTION,
+        &ELECTION,
         LEADER_AND_ACTIVE,
         TWO_STEPS,
         1,
@@ -39,7 +38,7 @@ fn assert_passed<R: Abort + AllocGlobal + Threads + Wait + Clock + Sync>(
     let answer = audit(
         rt,
         rt.alloc(),
-        ELECTION,
+        &ELECTION,
         question,
         certificate,
         depth,

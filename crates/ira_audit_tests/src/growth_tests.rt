@@ -2,9 +2,6 @@
 //! own answer all the same.
 
 use crate::lines::has_lines;
-use crate::samples::{
-    BOTH_LEAD, ELECTION, ELECTION_0, ELECTION_1, LEADER_AND_ACTIVE, NODE_1_SPENT, TWO_STEPS,
-};
 use ira_audit::{
     Answer, Findings, Reason, RingAudit, audit, audit_logs, audit_one, decide_all, write_findings,
     write_report,
@@ -12,6 +9,10 @@ use ira_audit::{
 use ira_cert::{SectionFault, Unsound};
 use ira_cert_text::{CertFault, Certificate, write_cert};
 use ira_event::{HeadFault, MemorySink, OutOfMemory};
+use ira_fixtures::{
+    BOTH_LEAD, CIRCLE, ELECTION, ELECTION_0, ELECTION_1, EMPTY_1, LEADER_AND_ACTIVE, NODE_1_SPENT,
+    ONE_STEP, RECEIPTS_EXCHANGED, STEPS_SWAPPED, TWO_CASES, TWO_STEPS,
+};
 use ira_links::OpenGate;
 use ira_order::MatchFault;
 use ira_pred::AskFault;
@@ -27,15 +28,6 @@ use std::time::Clock;
 
 type Memory = Refusing<Global>;
 
-const EXCHANGED_0: &[u8] = b"irlog 1\nnodes 2\nplace 0\nstart initiator\n\
-    draw 2\n\
-    send 1 2 1 clean\n\
-    recv 1 2 2 clean\n\
-    recv 1 1 1 clean\n\
-    end 4\n";
-
-const EXCHANGED: &[&[u8]] = &[EXCHANGED_0, ELECTION_1];
-
 /// The logs of the election in another order.
 const TURNED: &[&[u8]] = &[ELECTION_1, ELECTION_0];
 
@@ -47,29 +39,8 @@ const NOT_OWED_0: &[u8] = b"irlog 1\nnodes 2\nplace 0\nstart initiator\n\
     send 1 1 1 clean\n\
     end 2\n";
 
-const EMPTY_1: &[u8] = b"irlog 1\nnodes 2\nplace 1\nstart initiator\nend 0\n";
-
-const CIRCLE: &[&[u8]] = &[CIRCLE_0, CIRCLE_1];
-
-const CIRCLE_0: &[u8] = b"irlog 1\nnodes 2\nplace 0\nstart passive\n\
-    recv 1 1 1 clean\n\
-    send 1 1 2 clean\n\
-    end 2\n";
-
-const CIRCLE_1: &[u8] = b"irlog 1\nnodes 2\nplace 1\nstart passive\n\
-    recv 1 1 2 clean\n\
-    send 1 1 1 clean\n\
-    end 2\n";
-
 /// A certificate without its last line.
 const CUT: &[u8] = b"ircert 1\nnodes 2\nsection\ndrop 1 1 by 0 4\nspent 1\n";
-
-/// The certificate of two steps without the second.
-const ONE_STEP: &[u8] = b"ircert 1\nnodes 2\nsection\ndrop 1 1 by 0 4\nspent 1\nend\n";
-
-/// Its steps exchanged.
-const SWAPPED: &[u8] =
-    b"ircert 1\nnodes 2\nsection\ndrop 1 2 by 0 4\ndrop 1 1 by 0 4\nspent 1\nend\n";
 
 /// Certificates and questions of a ring of three.
 const OF_THREE: &[u8] = b"ircert 1\nnodes 3\nsection\nspent 1\nend\n";
@@ -79,13 +50,7 @@ const ASKED_OF_THREE: &[u8] = b"irask 1\nnodes 3\ncase\n0: leader\n1: leader\nen
 /// A question that asks a place which the ring hasn't.
 const PLACE_2: &[u8] = b"irask 1\nnodes 2\ncase\n0: (leader and owes)\n2: true\nend\n";
 
-/// Whether node 0 of the election leads while node 1 is active, and whether it is active while node 1 is passive.
-const TWO_CASES: &[u8] = b"irask 1\nnodes 2\n\
-    case\n0: leader\n1: active\n\
-    case\n0: active\n1: passive\n\
-    end\n";
-
-/// What is found for these.
+/// What is found for two cases.
 const TWO_CASES_FOUND: &[u8] = b"case 0: absent, 2 steps, node 1 spent\ncase 1: present at 2 3\n";
 
 /// The calls whose growths are refused, with their answers.
@@ -102,11 +67,11 @@ enum Call {
 }
 
 const CALLS: &[Call] = &[
-    Call::Judge(ELECTION, Answer::Yes),
+    Call::Judge(&ELECTION, Answer::Yes),
     Call::Judge(TURNED, Answer::No(Reason::Heads(HeadFault::Place(0)))),
-    Call::Judge(CIRCLE, Answer::No(Reason::Circle)),
+    Call::Judge(&CIRCLE, Answer::No(Reason::Circle)),
     Call::Judge(
-        EXCHANGED,
+        &RECEIPTS_EXCHANGED,
         Answer::No(Reason::Match(MatchFault::Differs { link: 1, k: 1 })),
     ),
     Call::TakeAgain,
@@ -122,7 +87,7 @@ const CALLS: &[Call] = &[
     ),
     Call::Check(
         LEADER_AND_ACTIVE,
-        SWAPPED,
+        STEPS_SWAPPED,
         Answer::No(Reason::Section {
             case: 0,
             fault: SectionFault::Step(0, Unsound::NotFront),
@@ -146,8 +111,12 @@ const CALLS: &[Call] = &[
         TWO_STEPS,
         Answer::No(Reason::Question(AskFault::Place(5))),
     ),
-    Call::Decide(ELECTION, TWO_CASES, TWO_CASES_FOUND),
-    Call::Decide(EXCHANGED, TWO_CASES, b"no: link 1: receipt 1 differs\n"),
+    Call::Decide(&ELECTION, TWO_CASES, TWO_CASES_FOUND),
+    Call::Decide(
+        &RECEIPTS_EXCHANGED,
+        TWO_CASES,
+        b"no: link 1: receipt 1 differs\n",
+    ),
     Call::MakeCertificate,
 ];
 
@@ -163,7 +132,7 @@ where
             checks(rt, &alloc, *question, *certificate, *answer)
         }
         Call::Decide(logs, question, lines) => decides(rt, alloc, *logs, *question, *lines),
-        Call::MakeCertificate => match decide_all(alloc, ELECTION, LEADER_AND_ACTIVE) {
+        Call::MakeCertificate => match decide_all(alloc, &ELECTION, LEADER_AND_ACTIVE) {
             Ok(findings) => is_made(rt, findings),
             Err(_) => false,
         },
@@ -211,7 +180,7 @@ fn has_two_steps(alloc: Global, certificate: &Certificate<Memory>) -> bool {
 fn takes_again(rt: &(impl Abort + Threads), alloc: Memory) -> bool {
     let mut audit = RingAudit::new(alloc);
     let mut are_taken = true;
-    for text in [ELECTION_0, ELECTION_1] {
+    for text in ELECTION {
         are_taken &= audit.take(text).is_ok() || audit.take(text).is_ok();
     }
     let found = audit.finish(rt);
@@ -230,7 +199,15 @@ fn checks<R: Abort + Threads + Wait + Clock + Sync>(
         let Ok(alloc) = alloc.clone() else {
             return false;
         };
-        let found = audit(rt, alloc, ELECTION, question, certificate, depth, &OpenGate);
+        let found = audit(
+            rt,
+            alloc,
+            &ELECTION,
+            question,
+            certificate,
+            depth,
+            &OpenGate,
+        );
         if !is_answer(rt, found, answer) {
             return false;
         }
@@ -274,7 +251,7 @@ const fn judged(logs: &'static [&'static [u8]], line: &'static [u8]) -> Row {
 /// A question and a certificate that are judged with the logs of the election.
 const fn checked(question: &'static [u8], certificate: &'static [u8], line: &'static [u8]) -> Row {
     Row {
-        logs: ELECTION,
+        logs: &ELECTION,
         question,
         certificate,
         line,
@@ -287,12 +264,12 @@ fn rows() -> [Row; 15] {
         judged(&[ELECTION_0, CUT], b"no: log 1: head\n"),
         judged(TURNED, b"no: heads: place 0\n"),
         judged(&[ELECTION_0], b"no: heads: number\n"),
-        judged(EXCHANGED, b"no: link 1: receipt 1 differs\n"),
+        judged(&RECEIPTS_EXCHANGED, b"no: link 1: receipt 1 differs\n"),
         judged(
             &[ELECTION_0, EMPTY_1],
             b"no: link 1: receipt 1 has no sending\n",
         ),
-        judged(CIRCLE, b"no: circle\n"),
+        judged(&CIRCLE, b"no: circle\n"),
         judged(NOT_OWED, b"no: node 0: event 2: not owed\n"),
         checked(PLACE_2, TWO_STEPS, b"no: question: place 5\n"),
         checked(
@@ -305,7 +282,7 @@ fn rows() -> [Row; 15] {
         checked(TWO_CASES, TWO_STEPS, b"no: sections: 2 wanted, 1 found\n"),
         checked(
             LEADER_AND_ACTIVE,
-            SWAPPED,
+            STEPS_SWAPPED,
             b"no: case 0: step 0: not front\n",
         ),
         checked(
@@ -373,7 +350,7 @@ struct TwoCasesFound(Global);
 
 impl Writer for TwoCasesFound {
     fn is_refused(&self, sink: &mut FailingSink) -> bool {
-        match decide_all(self.0, ELECTION, TWO_CASES) {
+        match decide_all(self.0, &ELECTION, TWO_CASES) {
             Ok(findings) => write_findings(&findings, sink).is_err(),
             Err(_) => false,
         }

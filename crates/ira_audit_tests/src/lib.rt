@@ -16,6 +16,4 @@ mod logs_tests;
 #[cfg(test)]
 mod pairs;
 #[cfg(test)]
-mod samples;
-#[cfg(test)]
 mod substituted_tests;

@@ -1,9 +1,8 @@
+//! Answers about logs that the tests of the program don't have.
+
 use crate::lines::has_line;
-use crate::samples::{
-    ELECTION_0, ELECTION_1, LONE_0, LONE_1, LONE_2, SECOND_TERM, SECOND_TERM_1, TIE_0, TIE_1,
-};
 use ira_audit::{Answer, Reason, audit_logs, audit_one};
-use ira_fixtures::{bytes_of, lone_initiator_texts};
+use ira_fixtures::{ELECTION_0, EMPTY_0, bytes_of, lone_initiator_texts};
 use ira_node::StepFault;
 use std::process::Abort;
 
@@ -17,26 +16,6 @@ fn assert_reported(rt: &(impl Abort + AllocGlobal), texts: &[&[u8]], line: &str)
 }
 
 #[test]
-fn two_node_election(rt: HostRuntime) {
-    assert_reported(&rt, &[ELECTION_0, ELECTION_1], "yes\n");
-    let answers = [
-        audit_one(rt.alloc(), ELECTION_0),
-        audit_one(rt.alloc(), ELECTION_1),
-    ];
-    assert!(rt; answers == [Ok(Answer::Yes), Ok(Answer::Yes)]);
-}
-
-#[test]
-fn tie_then_win(rt: HostRuntime) {
-    assert_reported(&rt, &[TIE_0, TIE_1], "yes\n");
-}
-
-#[test]
-fn lone_initiator(rt: HostRuntime) {
-    assert_reported(&rt, &[LONE_0, LONE_1, LONE_2], "yes\n");
-}
-
-#[test]
 fn largest_ring(rt: HostRuntime) {
     let texts = lone_initiator_texts(rt.alloc(), 255).expect(&rt, "memory");
     let texts = bytes_of(rt.alloc(), &texts).expect(&rt, "memory");
@@ -44,12 +23,8 @@ fn largest_ring(rt: HostRuntime) {
 }
 
 #[test]
-fn heads_out_of_place(rt: HostRuntime) {
+fn no_logs(rt: HostRuntime) {
     assert_reported(&rt, &[], "no: heads: number\n");
-    assert_reported(&rt, &[ELECTION_0], "no: heads: number\n");
-    assert_reported(&rt, &[ELECTION_1, ELECTION_0], "no: heads: place 0\n");
-    assert_reported(&rt, &[ELECTION_0, LONE_1], "no: heads: size 1\n");
-    assert_reported(&rt, &[ELECTION_0, SECOND_TERM_1], "no: heads: version 1\n");
 }
 
 #[test]
@@ -60,89 +35,9 @@ fn text_without_end(rt: HostRuntime) {
 }
 
 #[test]
-fn circle_of_two(rt: HostRuntime) {
-    let first = b"irlog 1\nnodes 2\nplace 0\nstart passive\n\
-        recv 1 1 1 clean\n\
-        send 1 1 2 clean\n\
-        end 2\n";
-    let second = b"irlog 1\nnodes 2\nplace 1\nstart passive\n\
-        recv 1 1 2 clean\n\
-        send 1 1 1 clean\n\
-        end 2\n";
-    assert_reported(&rt, &[first, second], "no: circle\n");
-}
-
-#[test]
-fn receipts_exchanged(rt: HostRuntime) {
-    let first = b"irlog 1\nnodes 2\nplace 0\nstart initiator\n\
-        draw 2\n\
-        send 1 2 1 clean\n\
-        recv 1 2 2 clean\n\
-        recv 1 1 1 clean\n\
-        end 4\n";
-    assert_reported(&rt, &[first, ELECTION_1], "no: link 1: receipt 1 differs\n");
-}
-
-#[test]
-fn receipt_without_sending(rt: HostRuntime) {
-    let second = b"irlog 1\nnodes 2\nplace 1\nstart initiator\n\
-        draw 1\n\
-        send 1 1 1 clean\n\
-        recv 1 2 1 clean\n\
-        end 3\n";
-    assert_reported(
-        &rt,
-        &[ELECTION_0, second],
-        "no: link 1: receipt 2 has no sending\n",
-    );
-}
-
-#[test]
-fn equal_pair_passed_on_clean(rt: HostRuntime) {
-    let first = b"irlog 1\nnodes 2\nplace 0\nstart initiator\n\
-        draw 1\n\
-        send 1 1 1 clean\n\
-        recv 1 1 1 clean\n\
-        send 1 1 2 clean\n\
-        recv 1 1 2 dirty\n\
-        draw 2\n\
-        send 2 2 1 clean\n\
-        recv 2 1 1 clean\n\
-        recv 2 2 2 clean\n\
-        end 9\n";
-    let second = b"irlog 1\nnodes 2\nplace 1\nstart initiator\n\
-        draw 1\n\
-        send 1 1 1 clean\n\
-        recv 1 1 1 clean\n\
-        send 1 1 2 dirty\n\
-        recv 1 1 2 clean\n\
-        draw 1\n\
-        send 2 1 1 clean\n\
-        recv 2 2 1 clean\n\
-        send 2 2 2 clean\n\
-        end 9\n";
-    assert_reported(&rt, &[first, second], "no: node 0: event 4: not owed\n");
-}
-
-#[test]
-fn draw_out_of_range(rt: HostRuntime) {
-    let empty = b"irlog 1\nnodes 2\nplace 1\nstart initiator\nend 0\n";
-    let drawn = b"irlog 1\nnodes 2\nplace 0\nstart initiator\ndraw 3\nend 1\n";
-    assert_reported(&rt, &[drawn, empty], "no: node 0: event 1: draw range\n");
-    let drawn = b"irlog 1\nnodes 2\nplace 0\nstart initiator\ndraw 2\nend 1\n";
-    assert_reported(&rt, &[drawn, empty], "yes\n");
-}
-
-#[test]
 fn second_log_stops(rt: HostRuntime) {
-    let empty = b"irlog 1\nnodes 2\nplace 0\nstart initiator\nend 0\n";
     let drawn = b"irlog 1\nnodes 2\nplace 1\nstart initiator\ndraw 1\ndraw 2\nend 2\n";
-    assert_reported(&rt, &[empty, drawn], "no: node 1: event 2: owes\n");
-}
-
-#[test]
-fn second_term(rt: HostRuntime) {
-    assert_reported(&rt, SECOND_TERM, "yes\n");
+    assert_reported(&rt, &[EMPTY_0, drawn], "no: node 1: event 2: owes\n");
 }
 
 /// Judges the text of one log alone, and compares the answer's line.

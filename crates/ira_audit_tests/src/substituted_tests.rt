@@ -1,11 +1,11 @@
 //! Each number from 0 to 5 in place of each number of the two steps of a sound certificate: the answer is that of a plain
 //! computation, and no consistent cut meets the case where it is yes.
 
-use crate::samples::{ELECTION, LEADER_AND_ACTIVE};
 use ira_audit::{Answer, Reason, audit};
 use ira_cert::{SectionFault, Unsound};
 use ira_cert_text::CertFault;
 use ira_event::OutOfMemory;
+use ira_fixtures::{ELECTION, LEADER_AND_ACTIVE};
 use ira_links::OpenGate;
 use std::alloc::{AllocError, Global};
 use std::process::Abort;
@@ -122,7 +122,7 @@ where
         let found: Result<Answer, OutOfMemory> = audit(
             rt,
             rt.alloc(),
-            ELECTION,
+            &ELECTION,
             LEADER_AND_ACTIVE,
             text.as_bytes(),
             depth,

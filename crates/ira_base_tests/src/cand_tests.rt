@@ -2,10 +2,10 @@
 ghost use Rattle.std.specs.Prelude.{is_none};
 ghost use Rattle.std.specs.Iterator.{YieldsFirst, item_count};
 
-use crate::samples::{ELECTION_0, ELECTION_1, clean, free, log_of, loser, owing};
+use crate::samples::{free, log_of, owing};
 use ira_cand::{Ahead, Holding, LocalTest, Profile, candidates, table};
 use ira_event::{Event, Listed, NodeLog, OutOfMemory, read_log};
-use ira_fixtures::SECOND_TERM;
+use ira_fixtures::{ELECTION_0, ELECTION_1, SECOND_TERM, clean, loser};
 use ira_node::{NodeState, Phase};
 use ira_pred::{Clause, Rel};
 use std::alloc::Global;

@@ -1,21 +1,9 @@
 use crate::samples::text_of;
 use ira_cert_text::{CertFault, CertStep, Certificate, Section, read_cert, write_cert};
 use ira_event::{MemorySink, RingSize};
+use ira_fixtures::{TWO_STEPS, step};
 use std::alloc::Global;
 use std::process::Abort;
-
-/// The certificate of two steps, 69 bytes.
-const TWO_STEP_SECTION: &[u8] =
-    b"ircert 1\nnodes 2\nsection\ndrop 1 1 by 0 4\ndrop 1 2 by 0 4\nspent 1\nend\n";
-
-const fn step(node: u8, pos: u32, other: u8, other_pos: u32) -> CertStep {
-    CertStep {
-        node,
-        pos,
-        other,
-        other_pos,
-    }
-}
 
 /// A certificate of a ring of two with a section of these steps, which spends node 1.
 fn one_section(rt: &(impl Abort + AllocGlobal), steps: &[CertStep]) -> Certificate<Global> {
@@ -48,11 +36,11 @@ fn is_one_section(certificate: &Certificate<Global>, steps: &[CertStep]) -> bool
 
 #[test]
 fn two_step_section(rt: HostRuntime) {
-    assert_eq!(rt; TWO_STEP_SECTION.len(), 69);
+    assert_eq!(rt; TWO_STEPS.len(), 69);
     let steps = [step(1, 1, 0, 4), step(1, 2, 0, 4)];
     let certificate = one_section(&rt, &steps);
-    let is_written = is_written_as(rt.alloc(), &certificate, TWO_STEP_SECTION);
-    let read = read_cert(rt.alloc(), TWO_STEP_SECTION).expect(&rt, "a certificate");
+    let is_written = is_written_as(rt.alloc(), &certificate, TWO_STEPS);
+    let read = read_cert(rt.alloc(), TWO_STEPS).expect(&rt, "a certificate");
     assert!(rt; is_written && is_one_section(&read, &steps));
 }
 
@@ -118,14 +106,14 @@ fn certificate_table(rt: HostRuntime) {
 
 #[test]
 fn prefixes_of_two_step_section(rt: HostRuntime) {
-    for n in 0..TWO_STEP_SECTION.len() {
+    for n in 0..TWO_STEPS.len() {
         let wanted = if n <= 16 {
             CertFault::Head
         } else {
             CertFault::Cut
         };
-        assert_answer(&rt, &TWO_STEP_SECTION[..n], Err(wanted));
+        assert_answer(&rt, &TWO_STEPS[..n], Err(wanted));
     }
-    let twice = text_of(&rt, b"", TWO_STEP_SECTION, 2, b"");
+    let twice = text_of(&rt, b"", TWO_STEPS, 2, b"");
     assert_answer(&rt, &twice, Err(CertFault::Trailing));
 }

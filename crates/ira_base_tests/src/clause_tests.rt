@@ -1,8 +1,9 @@
 //! What clauses say of states.
 
 use crate::question_samples::{ACTIVE, CHOOSING, LEADER};
-use crate::samples::{clean, free, in_term, owing};
+use crate::samples::{free, in_term, owing};
 use ira_event::Load;
+use ira_fixtures::clean;
 use ira_node::{NodeState, Phase};
 use ira_pred::{Clause, Rel};
 use std::alloc::Global;

@@ -1,12 +1,12 @@
 //! Each growth of a call is refused in turn. The call gives up then for want of memory, or gives its own answer all the
 //! same, and it gives its answer when it is made once more with ample memory.
 
-use crate::samples::{ELECTION_0, ELECTION_1};
+use crate::question_samples::PAIRS_OF_THREE;
 use ira_cand::table;
 use ira_event::{
     LogFault, Logs, MemorySink, RingSize, Sink, SinkFault, read_log, upgrade, write_log,
 };
-use ira_fixtures::logs_of;
+use ira_fixtures::{CIRCLE, ELECTION, ELECTION_0, RECEIPTS_EXCHANGED, logs_of};
 use ira_links::link;
 use ira_order::{MatchFault, OrderFault, find_order, order};
 use ira_pred::{AskFault, Clause, pairs_question, read_question};
@@ -33,13 +33,6 @@ const MANY_YIELDS: &[u8] = b"irlog 2\nnodes 2\nplace 0\nstart initiator\n\
     yield\nsend reset 1\nrecv reset 2\nyield\nyield\nyield\nyield\nyield\nyield\nyield\n\
     yield\nyield\nyield\nyield\nyield\nyield\nyield\nyield\nyield\n\
     end 19\n";
-
-/// Whether ever two nodes of a ring of three lead at once.
-const PAIRS_OF_THREE: &[u8] = b"irask 1\nnodes 3\n\
-    case\n0: leader\n1: leader\n\
-    case\n0: leader\n2: leader\n\
-    case\n1: leader\n2: leader\n\
-    end\n";
 
 /// A question whose clause nests.
 const NESTED: &[u8] =
@@ -98,19 +91,6 @@ const ASK_FAULTS: [(&[u8], AskFault); 6] = [
     ),
 ];
 
-/// Logs of two nodes each of which waits for the other.
-const CIRCLE: [&[u8]; 2] = [
-    b"irlog 1\nnodes 2\nplace 0\nstart passive\nrecv 1 1 1 clean\nsend 1 1 2 clean\nend 2\n",
-    b"irlog 1\nnodes 2\nplace 1\nstart passive\nrecv 1 1 2 clean\nsend 1 1 1 clean\nend 2\n",
-];
-
-/// The election's logs with node 0's receipts exchanged.
-const EXCHANGED: [&[u8]; 2] = [
-    b"irlog 1\nnodes 2\nplace 0\nstart initiator\n\
-    draw 2\nsend 1 2 1 clean\nrecv 1 2 2 clean\nrecv 1 1 1 clean\nend 4\n",
-    ELECTION_1,
-];
-
 /// A line nested too deep, whose first clause asks for memory.
 const TOO_DEEP: &[u8] = b"irask 1\nnodes 2\ncase\n\
     0: ((not true) and (((((((((((((((((((((((((((((((((\n";
@@ -157,7 +137,7 @@ fn answers(call: &Call, alloc: Memory, logs: &Logs<Memory>) -> bool {
 #[test]
 fn each_growth_is_refused(rt: HostRuntime) {
     let memory = Refusing::new(rt.alloc()).expect(&rt, "memory");
-    let logs = logs_of(memory, &[ELECTION_0, ELECTION_1]).expect(&rt, "two logs");
+    let logs = logs_of(memory, &ELECTION).expect(&rt, "two logs");
     let refused = each_growth_refused(rt.alloc(), CALLS, |call, alloc| answers(call, alloc, &logs));
     assert!(rt; refused.is_ok(), "{refused:?}");
 }
@@ -236,7 +216,7 @@ fn circle_of_two(rt: HostRuntime) {
 fn receipts_exchanged(rt: HostRuntime) {
     let memory = Refusing::new(rt.alloc()).expect(&rt, "memory");
     let handle = memory.clone().expect(&rt, "memory");
-    let logs = logs_of(handle, &EXCHANGED).expect(&rt, "two logs");
+    let logs = logs_of(handle, &RECEIPTS_EXCHANGED).expect(&rt, "two logs");
     memory.refuse(1);
     let differs = MatchFault::Differs { link: 1, k: 1 };
     let found = order(memory, &logs).err();

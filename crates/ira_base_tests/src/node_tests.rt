@@ -1,7 +1,8 @@
 //! The node's automaton.
 
-use crate::samples::{assert_shown, clean, dirty, free, in_term, owing};
+use crate::samples::{assert_shown, free, in_term, owing};
 use ira_event::{Event, Load, RingSize};
+use ira_fixtures::{clean, dirty};
 use ira_node::{NodeState, Phase, StepFault, Wanted};
 use std::process::Abort;
 

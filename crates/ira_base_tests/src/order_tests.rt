@@ -1,11 +1,12 @@
 //! Whether logs match, and their orders.
 ghost use Rattle.std.specs.Prelude.{◌<◌, length};
 
-use crate::samples::{
-    assert_shown, clean, dirty, log_of, logs_of, loser, tie_loser, tie_winner, winner,
-};
+use crate::samples::{assert_shown, log_of};
 use ira_event::{Event, Logs, NodeLog};
-use ira_fixtures::{bytes_of, lone_initiator_texts};
+use ira_fixtures::{
+    CIRCLE, ELECTION, ELECTION_0, EMPTY, EMPTY_1, EQUAL_PAIR_PASSED_ON_CLEAN, LONE_INITIATOR,
+    RECEIPT_WITHOUT_SENDING, RECEIPTS_EXCHANGED, TIE, bytes_of, clean, lone_initiator_texts,
+};
 use ira_order::{
     MatchFault, OrderFault, Ordered, find_order, find_order_on_threads, match_links, order,
 };
@@ -13,18 +14,9 @@ use std::alloc::Global;
 use std::process::Abort;
 use std::thread::Threads;
 
-/// The events of the node that begins alone in a ring of three.
-fn lone_initiator_events() -> [Event; 3] {
-    [
-        Event::Draw(1),
-        Event::Sent(clean(1, 1, 1)),
-        Event::Got(clean(1, 1, 3)),
-    ]
-}
-
-/// The events of another node of that ring, which passes the message on.
-fn passing(hop: u32, next: u32) -> [Event; 2] {
-    [Event::Got(clean(1, 1, hop)), Event::Sent(clean(1, 1, next))]
+/// The logs of these texts.
+fn logs_of(rt: &(impl Abort + AllocGlobal), texts: &[&[u8]]) -> Logs<Global> {
+    ira_fixtures::logs_of(rt.alloc(), texts).expect(rt, "the logs of one ring")
 }
 
 /// Whether the places have each event of the reader once, and each receipt after its sending.
@@ -80,9 +72,9 @@ fn are_ordered(alloc: Global, logs: &Logs<Global>) -> bool {
     }
 }
 
-/// Compares that the logs match and have an order, for a ring of which the first so many nodes are initiators.
-fn assert_ordered(rt: &(impl Abort + AllocGlobal), initiators: u8, events: &[&[Event]]) {
-    let logs = logs_of(rt, initiators, events);
+/// Compares that the logs match and have an order.
+fn assert_ordered(rt: &(impl Abort + AllocGlobal), texts: &[&[u8]]) {
+    let logs = logs_of(rt, texts);
     let answers = (
         match_links(&logs),
         are_listed(rt.alloc(), &logs),
@@ -91,13 +83,8 @@ fn assert_ordered(rt: &(impl Abort + AllocGlobal), initiators: u8, events: &[&[E
     assert!(rt; answers == (Ok(()), true, true));
 }
 
-fn assert_refused(
-    rt: &(impl Abort + AllocGlobal),
-    initiators: u8,
-    events: &[&[Event]],
-    fault: OrderFault,
-) {
-    let logs = logs_of(rt, initiators, events);
+fn assert_refused(rt: &(impl Abort + AllocGlobal), texts: &[&[u8]], fault: OrderFault) {
+    let logs = logs_of(rt, texts);
     let refused = order(rt.alloc(), &logs).err();
     assert_eq!(rt; refused, Some(fault));
 }
@@ -105,112 +92,60 @@ fn assert_refused(
 // Two nodes that both begin; the greater draw wins.
 #[test]
 fn two_node_election(rt: HostRuntime) {
-    assert_ordered(&rt, 2, &[&winner(), &loser()]);
+    assert_ordered(&rt, &ELECTION);
 }
 
 // Two nodes that draw the same first, and then not.
 #[test]
 fn tie_then_win(rt: HostRuntime) {
-    assert_ordered(&rt, 2, &[&tie_winner(), &tie_loser()]);
+    assert_ordered(&rt, &TIE);
 }
 
 /// What the first node passes on clean the second one receives so, and neither had to be.
 #[test]
 fn equal_pair_passed_on_clean(rt: HostRuntime) {
-    let mut first = tie_winner();
-    first[3] = Event::Sent(clean(1, 1, 2));
-    let mut second = tie_loser();
-    second[4] = Event::Got(clean(1, 1, 2));
-    assert_ordered(&rt, 2, &[&first, &second]);
+    assert_ordered(&rt, &EQUAL_PAIR_PASSED_ON_CLEAN);
 }
 
 #[test]
 fn lone_initiator(rt: HostRuntime) {
-    let events = lone_initiator_events();
-    assert_ordered(&rt, 1, &[&events, &passing(1, 2), &passing(2, 3)]);
+    assert_ordered(&rt, &LONE_INITIATOR);
 }
 
 #[test]
 fn empty_logs_meet_at_start(rt: HostRuntime) {
-    assert_ordered(&rt, 2, &[&[], &[]]);
-}
-
-/// The events of two nodes each of which waits for the other.
-fn circle_events() -> [[Event; 2]; 2] {
-    [
-        [Event::Got(clean(1, 1, 1)), Event::Sent(clean(1, 1, 2))],
-        [Event::Got(clean(1, 1, 2)), Event::Sent(clean(1, 1, 1))],
-    ]
+    assert_ordered(&rt, &EMPTY);
 }
 
 #[test]
 fn circle_of_two(rt: HostRuntime) {
-    let [first, second] = circle_events();
-    assert_refused(&rt, 0, &[&first, &second], OrderFault::Circle);
+    assert_refused(&rt, &CIRCLE, OrderFault::Circle);
 }
 
 #[test]
 fn receipts_exchanged(rt: HostRuntime) {
-    assert_refused(
-        &rt,
-        2,
-        &[
-            &[
-                Event::Draw(2),
-                Event::Sent(clean(1, 2, 1)),
-                Event::Got(clean(1, 2, 2)),
-                Event::Got(clean(1, 1, 1)),
-            ],
-            &[
-                Event::Draw(1),
-                Event::Sent(clean(1, 1, 1)),
-                Event::Got(clean(1, 2, 1)),
-                Event::Sent(clean(1, 2, 2)),
-            ],
-        ],
-        OrderFault::Match(MatchFault::Differs { link: 1, k: 1 }),
-    );
+    let fault = OrderFault::Match(MatchFault::Differs { link: 1, k: 1 });
+    assert_refused(&rt, &RECEIPTS_EXCHANGED, fault);
 }
 
 #[test]
 fn receipt_without_sending(rt: HostRuntime) {
-    assert_refused(
-        &rt,
-        2,
-        &[
-            &[
-                Event::Draw(2),
-                Event::Sent(clean(1, 2, 1)),
-                Event::Got(clean(1, 1, 1)),
-                Event::Got(clean(1, 2, 2)),
-            ],
-            &[
-                Event::Draw(1),
-                Event::Sent(clean(1, 1, 1)),
-                Event::Got(clean(1, 2, 1)),
-            ],
-        ],
-        OrderFault::Match(MatchFault::NoSending { link: 1, k: 2 }),
-    );
+    let fault = OrderFault::Match(MatchFault::NoSending { link: 1, k: 2 });
+    assert_refused(&rt, &RECEIPT_WITHOUT_SENDING, fault);
 }
 
 /// Compares what both calls find for these logs.
-fn assert_same_on_threads(
-    rt: &(impl Abort + AllocGlobal + Threads),
-    initiators: u8,
-    events: &[&[Event]],
-) {
-    let logs = logs_of(rt, initiators, events);
+fn assert_same_on_threads(rt: &(impl Abort + AllocGlobal + Threads), texts: &[&[u8]]) {
+    let logs = logs_of(rt, texts);
     let found = find_order_on_threads(rt, rt.alloc(), &logs);
     assert!(rt; found == find_order(rt.alloc(), &logs));
 }
 
 #[test]
 fn same_on_threads(rt: HostRuntime) {
-    let [first, second] = circle_events();
-    assert_same_on_threads(&rt, 2, &[&winner(), &loser()]);
-    assert_same_on_threads(&rt, 2, &[&winner(), &[]]);
-    assert_same_on_threads(&rt, 0, &[&first, &second]);
+    assert_same_on_threads(&rt, &ELECTION);
+    assert_same_on_threads(&rt, &[ELECTION_0, EMPTY_1]);
+    assert_same_on_threads(&rt, &CIRCLE);
 }
 
 /// Of two logs of four events each: some counts, and which of some events happened before which.
@@ -232,7 +167,7 @@ fn asked(ordered: &Ordered<'_, Global>) -> Option<([u32; 5], [bool; 2])> {
 
 #[test]
 fn counts_of_two_node_election(rt: HostRuntime) {
-    let logs = logs_of(&rt, 2, &[&winner(), &loser()]);
+    let logs = logs_of(&rt, &ELECTION);
     let ordered = order(rt.alloc(), &logs).expect(&rt, "an order");
     assert!(rt; asked(&ordered) == Some(([2, 4, 2, 0, 2], [true, false])));
 }
@@ -248,18 +183,14 @@ fn asked_of_three(ordered: &Ordered<'_, Global>) -> Option<[u32; 2]> {
 
 #[test]
 fn counts_of_the_lone_initiator(rt: HostRuntime) {
-    let logs = logs_of(
-        &rt,
-        1,
-        &[&lone_initiator_events(), &passing(1, 2), &passing(2, 3)],
-    );
+    let logs = logs_of(&rt, &LONE_INITIATOR);
     let ordered = order(rt.alloc(), &logs).expect(&rt, "an order");
     assert!(rt; asked_of_three(&ordered) == Some([2, 2]));
 }
 
 /// How many counters the order of these logs keeps.
-fn stored(rt: &(impl Abort + AllocGlobal), initiators: u8, events: &[&[Event]]) -> usize {
-    let logs = logs_of(rt, initiators, events);
+fn stored(rt: &(impl Abort + AllocGlobal), texts: &[&[u8]]) -> usize {
+    let logs = logs_of(rt, texts);
     let ordered = order(rt.alloc(), &logs).expect(rt, "an order");
     ordered.stored()
 }
@@ -267,14 +198,10 @@ fn stored(rt: &(impl Abort + AllocGlobal), initiators: u8, events: &[&[Event]]) 
 #[test]
 fn stored_counters(rt: HostRuntime) {
     let counters = [
-        stored(&rt, 2, &[&winner(), &loser()]),
-        stored(&rt, 2, &[&tie_winner(), &tie_loser()]),
-        stored(
-            &rt,
-            1,
-            &[&lone_initiator_events(), &passing(1, 2), &passing(2, 3)],
-        ),
-        stored(&rt, 2, &[&[], &[]]),
+        stored(&rt, &ELECTION),
+        stored(&rt, &TIE),
+        stored(&rt, &LONE_INITIATOR),
+        stored(&rt, &EMPTY),
     ];
     assert_eq!(rt; counters, [6, 14, 9, 0]);
 }
@@ -293,7 +220,7 @@ fn asked_of_255(ordered: &Ordered<'_, Global>) -> Option<(u32, usize)> {
 fn counts_of_the_largest_ring(rt: HostRuntime) {
     let texts = lone_initiator_texts(rt.alloc(), 255).expect(&rt, "memory");
     let texts = bytes_of(rt.alloc(), &texts).expect(&rt, "memory");
-    let logs = ira_fixtures::logs_of(rt.alloc(), &texts).expect(&rt, "the logs of one ring");
+    let logs = logs_of(&rt, &texts);
     let ordered = order(rt.alloc(), &logs).expect(&rt, "an order");
     assert!(rt; asked_of_255(&ordered) == Some((2, 65_025)));
 }

@@ -1,7 +1,8 @@
 //! Texts of questions that are read, and the faults of others.
 
 use crate::question_samples::{HEAD, PHASES, assert_answer, is_read};
-use crate::samples::{clean, free, owing, text_of};
+use crate::samples::{free, owing, text_of};
+use ira_fixtures::clean;
 use ira_pred::{AskFault, read_question};
 use std::alloc::Global;
 use std::process::Abort;

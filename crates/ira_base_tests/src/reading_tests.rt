@@ -1,8 +1,8 @@
 //! Texts of logs that are read.
 
-use crate::samples::{ELECTION_0, clean, next_leader, text_of, winner, yielder};
+use crate::samples::text_of;
 use ira_event::{Event, Load, LogFault, NodeLog, RingSize, read_log};
-use ira_fixtures::SECOND_TERM;
+use ira_fixtures::{ELECTION_0, SECOND_TERM, clean, next_leader, winner, yielder};
 use std::alloc::Global;
 use std::process::Abort;
 

@@ -1,25 +1,23 @@
 //! The states along a log.
 ghost use Rattle.std.specs.Iterator.{YieldsFirst, item_count};
 
-use crate::samples::{
-    assert_shown, clean, dirty, free, log_of, loser, owing, tie_loser, tie_winner, winner,
+use crate::samples::{assert_shown, free, owing};
+use ira_event::{Event, Listed, NodeLog, RingSize, read_log};
+use ira_fixtures::{
+    ELECTION_0, ELECTION_1, EQUAL_PAIR_PASSED_ON_CLEAN, LONE_INITIATOR, TIE, clean,
 };
-use ira_event::{Event, Listed, NodeLog, RingSize};
 use ira_node::{NodeState, Phase, StepFault};
 use ira_replay::{ReplayFault, States, replay};
 use std::alloc::Global;
 use std::process::Abort;
 
-/// Replays the log of these events, and compares its last state or its fault.
+/// Replays the log of this text, and compares its last state or its fault.
 fn assert_replayed(
     rt: &(impl Abort + AllocGlobal),
-    nodes: u8,
-    place: u8,
-    initiator: bool,
-    events: &[Event],
+    text: &[u8],
     want: Result<NodeState, ReplayFault>,
 ) {
-    let log = log_of(rt, nodes, place, initiator, events);
+    let log = read_log(rt.alloc(), text).expect(rt, "a log");
     let replayed = replay(&log);
     assert_eq!(rt; replayed, want);
 }
@@ -40,7 +38,7 @@ fn first_states(log: &NodeLog<Global>) -> [Option<(u32, NodeState)>; 7] {
 
 #[test]
 fn two_node_election(rt: HostRuntime) {
-    let log = log_of(&rt, 2, 0, true, &winner());
+    let log = read_log(rt.alloc(), ELECTION_0).expect(&rt, "a log");
     let active = Phase::Active { round: 1, id: 2 };
     let leader = free(Phase::Leader { round: 1, id: 2 });
     let wanted = [
@@ -53,31 +51,24 @@ fn two_node_election(rt: HostRuntime) {
         None,
     ];
     assert!(rt; first_states(&log) == wanted);
-    assert_replayed(&rt, 2, 0, true, &winner(), Ok(leader));
-    assert_replayed(&rt, 2, 1, true, &loser(), Ok(free(Phase::Passive)));
+    assert_replayed(&rt, ELECTION_0, Ok(leader));
+    assert_replayed(&rt, ELECTION_1, Ok(free(Phase::Passive)));
 }
 
 #[test]
 fn tie_then_win(rt: HostRuntime) {
     let leader = free(Phase::Leader { round: 2, id: 2 });
-    assert_replayed(&rt, 2, 0, true, &tie_winner(), Ok(leader));
-    assert_replayed(&rt, 2, 1, true, &tie_loser(), Ok(free(Phase::Passive)));
+    assert_replayed(&rt, TIE[0], Ok(leader));
+    assert_replayed(&rt, TIE[1], Ok(free(Phase::Passive)));
 }
 
 #[test]
 fn lone_initiator(rt: HostRuntime) {
-    let events = [
-        Event::Draw(1),
-        Event::Sent(clean(1, 1, 1)),
-        Event::Got(clean(1, 1, 3)),
-    ];
     let leader = free(Phase::Leader { round: 1, id: 1 });
-    assert_replayed(&rt, 3, 0, true, &events, Ok(leader));
-    let passive = free(Phase::Passive);
-    let events = [Event::Got(clean(1, 1, 1)), Event::Sent(clean(1, 1, 2))];
-    assert_replayed(&rt, 3, 1, false, &events, Ok(passive));
-    let events = [Event::Got(clean(1, 1, 2)), Event::Sent(clean(1, 1, 3))];
-    assert_replayed(&rt, 3, 2, false, &events, Ok(passive));
+    assert_replayed(&rt, LONE_INITIATOR[0], Ok(leader));
+    for text in [LONE_INITIATOR[1], LONE_INITIATOR[2]] {
+        assert_replayed(&rt, text, Ok(free(Phase::Passive)));
+    }
 }
 
 #[test]
@@ -86,30 +77,21 @@ fn draw_out_of_range(rt: HostRuntime) {
         position: 1,
         fault: StepFault::DrawRange,
     };
-    assert_replayed(&rt, 2, 0, true, &[Event::Draw(3)], Err(fault));
+    let drew_three = b"irlog 1\nnodes 2\nplace 0\nstart initiator\ndraw 3\nend 1\n";
+    assert_replayed(&rt, drew_three, Err(fault));
     assert_shown(&rt, &fault, "event 1: draw range");
+    let drew_two = b"irlog 1\nnodes 2\nplace 0\nstart initiator\ndraw 2\nend 1\n";
     let state = owing(Phase::Active { round: 1, id: 2 }, clean(1, 2, 1));
-    assert_replayed(&rt, 2, 0, true, &[Event::Draw(2)], Ok(state));
+    assert_replayed(&rt, drew_two, Ok(state));
 }
 
 #[test]
 fn equal_pair_passed_on_clean(rt: HostRuntime) {
-    let events = [
-        Event::Draw(1),
-        Event::Sent(clean(1, 1, 1)),
-        Event::Got(clean(1, 1, 1)),
-        Event::Sent(clean(1, 1, 2)),
-        Event::Got(dirty(1, 1, 2)),
-        Event::Draw(2),
-        Event::Sent(clean(2, 2, 1)),
-        Event::Got(clean(2, 1, 1)),
-        Event::Got(clean(2, 2, 2)),
-    ];
     let fault = ReplayFault {
         position: 4,
         fault: StepFault::NotOwed,
     };
-    assert_replayed(&rt, 2, 0, true, &events, Err(fault));
+    assert_replayed(&rt, EQUAL_PAIR_PASSED_ON_CLEAN[0], Err(fault));
 }
 
 /// A source that is no log's.

@@ -1,12 +1,12 @@
 //! Texts of logs written to sinks, and logs gathered.
 
-use crate::samples::{
-    ELECTION_0, ELECTION_1, dirty, log_in, log_of, loser, next_leader, winner, yielder,
-};
+use crate::samples::{log_in, log_of};
 use ira_event::{
     Event, HeadFault, Logs, MemorySink, NodeLog, ToWriter, WriteFault, upgrade, write_log,
 };
-use ira_fixtures::SECOND_TERM;
+use ira_fixtures::{
+    ELECTION_0, ELECTION_1, SECOND_TERM, dirty, loser, next_leader, winner, yielder,
+};
 use ira_pred::{Question, read_question, write_question};
 use ira_refusing::{FailingSink, Writer, each_byte_refused};
 use std::alloc::Global;

@@ -1,8 +1,8 @@
 use ira_cert::CertStep;
 use ira_elim::{Found, decide};
 use ira_fixtures::{
-    BOTH_LEAD, ELECTION, LONE_INITIATOR, SECOND_TERM, bytes_of, first_case, logs_of,
-    lone_initiator_texts, step,
+    ACTIVE_AND_PASSIVE, BOTH_LEAD, ELECTION, EMPTY, LEADER_AND_ACTIVE, LONE_INITIATOR, SECOND_TERM,
+    bytes_of, first_case, logs_of, lone_initiator_texts, step,
 };
 use ira_order::order;
 use ira_pred::read_question;
@@ -37,27 +37,21 @@ pub(crate) fn is_present_at<A: Allocator>(found: &Found<A>, positions: &[u32]) -
 
 #[test]
 fn least_cut_after_one_step(rt: HostRuntime) {
-    let question = b"irask 1\nnodes 2\ncase\n0: active\n1: passive\nend\n";
-    assert!(rt; is_present_at(&found(&rt, &ELECTION, question), &[2, 3]));
+    assert!(rt; is_present_at(&found(&rt, &ELECTION, ACTIVE_AND_PASSIVE), &[2, 3]));
     let question = b"irask 1\nnodes 2\ncase\n1: passive\nend\n";
     assert!(rt; is_present_at(&found(&rt, &ELECTION, question), &[2, 3]));
 }
 
 #[test]
 fn empty_logs_meet_at_start(rt: HostRuntime) {
-    let logs: [&[u8]; 2] = [
-        b"irlog 1\nnodes 2\nplace 0\nstart initiator\nend 0\n",
-        b"irlog 1\nnodes 2\nplace 1\nstart initiator\nend 0\n",
-    ];
     let question = b"irask 1\nnodes 2\ncase\n0: choosing\n1: choosing\nend\n";
-    assert!(rt; is_present_at(&found(&rt, &logs, question), &[0, 0]));
+    assert!(rt; is_present_at(&found(&rt, &EMPTY, question), &[0, 0]));
 }
 
 #[test]
 fn made_certificate(rt: HostRuntime) {
-    let question = b"irask 1\nnodes 2\ncase\n0: leader\n1: active\nend\n";
     let steps = [step(1, 1, 0, 4), step(1, 2, 0, 4)];
-    assert!(rt; is_absent_by(&found(&rt, &ELECTION, question), &steps, 1));
+    assert!(rt; is_absent_by(&found(&rt, &ELECTION, LEADER_AND_ACTIVE), &steps, 1));
 }
 
 #[test]

@@ -8,7 +8,8 @@ use ira_cert::{
 use ira_elim::{Found, decide};
 use ira_event::{Logs, OutOfMemory};
 use ira_fixtures::{
-    ACTIVE_AND_PASSIVE, ELECTION, LEADER_AND_ACTIVE, LEADER_AND_UNBEATEN, TIE, first_case, logs_of,
+    ACTIVE_AND_PASSIVE, ELECTION, LEADER_AND_ACTIVE, LEADER_AND_UNBEATEN, ONE_STEP, STEPS_SWAPPED,
+    TIE, TWO_STEPS, first_case, logs_of,
 };
 use ira_links::OpenGate;
 use ira_order::{Ordered, order};
@@ -25,18 +26,8 @@ use std::time::Clock;
 
 type Memory = Refusing<Global>;
 
-/// That node 0 of the election never leads while node 1 is active.
-const TWO_STEPS: &[u8] =
-    b"ircert 1\nnodes 2\nsection\ndrop 1 1 by 0 4\ndrop 1 2 by 0 4\nspent 1\nend\n";
-
-/// The same without its last line.
+/// `TWO_STEPS` without its last line.
 const CUT: &[u8] = b"ircert 1\nnodes 2\nsection\ndrop 1 1 by 0 4\ndrop 1 2 by 0 4\nspent 1\n";
-
-/// The certificate of two steps without the second, and with both exchanged.
-const ONE_STEP: &[u8] = b"ircert 1\nnodes 2\nsection\ndrop 1 1 by 0 4\nspent 1\nend\n";
-
-const SWAPPED: &[u8] =
-    b"ircert 1\nnodes 2\nsection\ndrop 1 2 by 0 4\ndrop 1 1 by 0 4\nspent 1\nend\n";
 
 /// A certificate of the election whose second step is unsound: node 0 is active at the cut (2, 3), where node 1 is passive.
 const NOT_BEFORE: &[u8] =
@@ -103,7 +94,7 @@ const ROWS: &[Row] = &[
     Row {
         logs: ELECTION,
         question: LEADER_AND_ACTIVE,
-        certificate: SWAPPED,
+        certificate: STEPS_SWAPPED,
         verdict: Verdict::No(SectionFault::Step(0, Unsound::NotFront)),
         found: Wanted::Absent(TWO_STEPS),
     },

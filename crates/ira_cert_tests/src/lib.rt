@@ -21,6 +21,4 @@ mod random_section_tests;
 #[cfg(test)]
 mod section_tests;
 #[cfg(test)]
-mod split_section_tests;
-#[cfg(test)]
 mod verdicts;

@@ -1,4 +1,6 @@
-use crate::verdicts::judge;
+//! The worked sections.
+
+use crate::verdicts::{judge, judge_split};
 use ira_cert::{
     CertStep, Section, SectionFault, Unsound, Verdict, candidates_left, case_fronts, check_fronts,
     eliminate,
@@ -7,23 +9,43 @@ use ira_fixtures::{
     ACTIVE_AND_PASSIVE, BOTH_LEAD, ELECTION, LEADER_AND_ACTIVE, LEADER_AND_UNBEATEN, SECOND_TERM,
     TIE, first_case, logs_of, step,
 };
+use ira_links::OpenGate;
 use ira_order::order;
 use ira_pred::read_question;
 use std::process::Abort;
+use std::sync::Wait;
+use std::thread::Threads;
+use std::time::Clock;
 
 const fn no(step: usize, why: Unsound) -> Verdict {
     Verdict::No(SectionFault::Step(step, why))
 }
 
-/// Compares the plain checker's verdict on a section for the two-node election.
-fn assert_verdict(
-    rt: &(impl Abort + AllocGlobal),
+/// Compares the verdict on a section, of the plain checker and at each depth.
+fn assert_verdict_of<R: Abort + AllocGlobal + Threads + Wait + Clock + Sync>(
+    rt: &R,
+    texts: &[&[u8]],
     question: &[u8],
     steps: &[CertStep],
     spent: u8,
     verdict: Verdict,
 ) {
-    assert_eq!(rt; judge(rt, &ELECTION, question, steps, spent), verdict);
+    assert_eq!(rt; judge(rt, texts, question, steps, spent), verdict);
+    for depth in 0..5 {
+        let found = judge_split(rt, texts, question, steps, spent, depth, &OpenGate);
+        assert!(rt; found == verdict, "depth {depth}");
+    }
+}
+
+/// The same of a section for the two-node election.
+fn assert_verdict<R: Abort + AllocGlobal + Threads + Wait + Clock + Sync>(
+    rt: &R,
+    question: &[u8],
+    steps: &[CertStep],
+    spent: u8,
+    verdict: Verdict,
+) {
+    assert_verdict_of(rt, &ELECTION, question, steps, spent, verdict);
 }
 
 #[test]
@@ -67,12 +89,9 @@ fn candidates_behind_an_elimination(rt: HostRuntime) {
 #[test]
 fn second_term(rt: HostRuntime) {
     let steps = [step(0, 4, 1, 10)];
-    let verdicts = (
-        judge(&rt, &SECOND_TERM, BOTH_LEAD, &steps, 0),
-        judge(&rt, &SECOND_TERM, BOTH_LEAD, &[], 0),
-    );
+    assert_verdict_of(&rt, &SECOND_TERM, BOTH_LEAD, &steps, 0, Verdict::Yes);
     let not_spent = Verdict::No(SectionFault::NotSpent(0));
-    assert!(rt; verdicts == (Verdict::Yes, not_spent));
+    assert_verdict_of(&rt, &SECOND_TERM, BOTH_LEAD, &[], 0, not_spent);
 }
 
 #[test]
@@ -104,11 +123,11 @@ fn eight_step_section(rt: HostRuntime) {
         step(1, 6, 0, 9),
         step(1, 7, 0, 9),
     ];
-    let sound = judge(&rt, &TIE, LEADER_AND_UNBEATEN, &steps, 1);
+    assert_verdict_of(&rt, &TIE, LEADER_AND_UNBEATEN, &steps, 1, Verdict::Yes);
     steps[1] = step(1, 3, 0, 9);
     steps[7] = step(1, 0, 0, 9);
-    let broken = judge(&rt, &TIE, LEADER_AND_UNBEATEN, &steps, 1);
-    assert_eq!(rt; [sound, broken], [Verdict::Yes, no(1, Unsound::NotFront)]);
+    let not_front = no(1, Unsound::NotFront);
+    assert_verdict_of(&rt, &TIE, LEADER_AND_UNBEATEN, &steps, 1, not_front);
 }
 
 #[test]

@@ -19,15 +19,19 @@ use Rattle.ira_elim.proofs.Places.{one_first}
 use Rattle.ira_elim.proofs.Present.{before_counts, counts_before}
 use Rattle.ira_elim.proofs.Steps.{last_at}
 
-pub found_at : (xs : List CandidateClock) (k i : ℕ) (s : CandidateClock) → k ≡ i → k < length xs → s ≡ slice_index_or xs k s
+pub found_at : (xs : List CandidateClock) (k i : ℕ) (s : CandidateClock) → k ≡ i → k < length xs
+    → s ≡ slice_index_or xs k s
     → slice_get xs i ≡ Some s
 found_at xs k i s e l is =
-    subst (λ (j : ℕ). slice_get xs j ≡ Some s) e (slice_get-get_or xs k s l ∙ ap (λ (x : CandidateClock). Some x) (sym is))
+    subst (λ (j : ℕ). slice_get xs j ≡ Some s) e (slice_get-get_or xs k s l
+    ∙ ap (λ (x : CandidateClock). Some x) (sym is))
 
-module _ (logs : List Log) (fronts : List (Option (List ℕ))) (stands : List CandidateClock) (inside : AreWithin logs fronts)
+module _ (logs : List Log) (fronts : List (Option (List ℕ))) (stands : List CandidateClock)
+    (inside : AreWithin logs fronts)
     (are : AreStands logs fronts stands) where
   -- the stand of a node that has a first candidate left
-  pub stand_is : (j q : ℕ) (t : CandidateClock) → IsFirstLeft fronts j q → slice_get stands j ≡ Some t → IsCandidateClock logs j q t
+  pub stand_is : (j q : ℕ) (t : CandidateClock) → IsFirstLeft fronts j q → slice_get stands j ≡ Some t
+      → IsCandidateClock logs j q t
   stand_is j q t first at =
       let st = are j q first in
       subst (IsCandidateClock logs j q) (same_Some st.0 t (sym st.1 ∙ at)) st.2
@@ -77,7 +81,8 @@ module _ (logs : List Log) (fronts : List (Option (List ℕ))) (stands : List Ca
   -- after a step, where its node stands at its next candidate
   module _ (case : List Conjunct) (before : List CertStep) (behind : AreFrontsBehind logs case before fronts)
       (s : CertStep) (is : IsElimination logs fronts s) (left : List (Option (List ℕ))) (moved : left
-      ≡ one_fewer fronts s.node) (new : List CandidateClock) (t : CandidateClock) (set : new ≡ slice_set stands s.node t) where
+      ≡ one_fewer fronts s.node) (new : List CandidateClock) (t : CandidateClock) (set : new
+      ≡ slice_set stands s.node t) where
     pub stands_again : (p : ℕ) → IsFirstLeft left s.node p → IsCandidateClock logs s.node p t → AreStands logs left new
     stands_again p own_first stand j q first = elim (cases_eq j s.node) [
       | inl same ↦
@@ -88,7 +93,8 @@ module _ (logs : List Log) (fronts : List (Option (List ℕ))) (stands : List Ca
           ap (λ (xs : List CandidateClock). slice_get xs s.node) set ∙ slice_get-set_same stands s.node t within in (
             t,
             subst (λ (i : ℕ). slice_get new i ≡ Some t) (sym same) at,
-            subst (λ (i : ℕ). IsCandidateClock logs i q t) (sym same) (subst (λ (n : ℕ). IsCandidateClock logs s.node n t) e stand),
+            subst (λ (i : ℕ). IsCandidateClock logs i q t) (sym same)
+                (subst (λ (n : ℕ). IsCandidateClock logs s.node n t) e stand),
           )
       | inr other ↦
           let st = are j q (other_first logs case before fronts left behind s is moved j q other first) in (
@@ -110,16 +116,19 @@ module _ (stands : List CandidateClock) (asked : List ℕ) (i : ℕ) (are : AreS
   pub is_within : i < length stands
   is_within = let st = are i member in slice_get_within stands i st.0 st.1
 
-pub long_counts : (stands : List CandidateClock) (asked : List ℕ) (i : ℕ) (t : CandidateClock) → AreStanding stands asked
+pub long_counts : (stands : List CandidateClock) (asked : List ℕ) (i : ℕ) (t : CandidateClock)
+    → AreStanding stands asked
     → Contains asked i → slice_get stands i ≡ Some t → length t.counts ≡ length stands
 long_counts stands asked i t are member at =
     let st = are i member in
     subst (λ (s : CandidateClock). length s.counts ≡ length stands) (same_Some st.0 t (sym st.1 ∙ at)) st.2
 
-pub one_stand_more : (logs : List Log) (fronts : List (Option (List ℕ))) (stands more : List CandidateClock) (t : CandidateClock) (n : ℕ)
+pub one_stand_more : (logs : List Log) (fronts : List (Option (List ℕ))) (stands more : List CandidateClock)
+    (t : CandidateClock) (n : ℕ)
     → more ≡ stands ++ t ∷ [] → length stands ≡ n
     → ((j : ℕ) → j < n → (q : ℕ) → IsFirstLeft fronts j q → (s : CandidateClock) × (slice_get stands j ≡ Some s)
-    × IsCandidateClock logs j q s) → ((q : ℕ) → IsFirstLeft fronts n q → IsCandidateClock logs n q t) → (length more ≡ n + 1)
+    × IsCandidateClock logs j q s) → ((q : ℕ) → IsFirstLeft fronts n q → IsCandidateClock logs n q t)
+    → (length more ≡ n + 1)
     × ((j : ℕ) → j < n + 1 → (q : ℕ) → IsFirstLeft fronts j q → (s : CandidateClock) × (slice_get more j ≡ Some s)
     × IsCandidateClock logs j q s)
 one_stand_more logs fronts stands more t n pushed count are here =
@@ -143,7 +152,8 @@ one_stand_more logs fronts stands more t n pushed count are here =
     kept_at (y ∷ ys) x (suc j) s at = kept_at ys x j s at
 
 -- where a node stands elsewhere, the others stand where they stood
-pub set_standing : (stands new : List CandidateClock) (asked : List ℕ) (j : ℕ) (t : CandidateClock) → AreStanding stands asked
+pub set_standing : (stands new : List CandidateClock) (asked : List ℕ) (j : ℕ) (t : CandidateClock)
+    → AreStanding stands asked
     → j < length stands → length t.counts ≡ length stands → new ≡ slice_set stands j t → AreStanding new asked
 set_standing stands new asked j t are within long set i member =
     let size : length new ≡ length stands = ap (λ (xs : List CandidateClock). length xs) set ∙ length-set stands j t in
@@ -155,14 +165,16 @@ set_standing stands new asked j t are within long set i member =
       | inr other ↦
           let st = are i member in (
             st.0,
-            ap (λ (xs : List CandidateClock). slice_get xs i) set ∙ slice_get-set_other stands j i t (λ e. other (sym e))
+            ap (λ (xs : List CandidateClock). slice_get xs i) set
+                ∙ slice_get-set_other stands j i t (λ e. other (sym e))
                 ∙ st.1,
             st.2 ∙ sym size,
           )
     ]
 
 -- what is said of lists that are viewed holds of the lists
-pub viewed : (logs : List Log) (fronts seen : List (Option (List ℕ))) (stands stood : List CandidateClock) (pairs : List ℕ)
+pub viewed : (logs : List Log) (fronts seen : List (Option (List ℕ))) (stands stood : List CandidateClock)
+    (pairs : List ℕ)
     (Q : List (Option (List ℕ)) → Type 0) → seen ≡ fronts → stood ≡ stands
     → (AreWithin logs seen → AreStands logs seen stood → HasEliminations logs seen pairs → Q seen)
     → AreWithin logs fronts → AreStands logs fronts stands → HasEliminations logs fronts pairs → Q fronts

@@ -20,7 +20,8 @@ pub record IsCandidateClock (logs : List Log) (j q : ℕ) (s : CandidateClock) :
 
 -- node i stands at the most at position p, if it stands
 abbrev pub StandsUpTo : List Log → List CandidateClock → ℕ → ℕ → Type 0
-StandsUpTo logs stands i p = (s : CandidateClock) → slice_get stands i ≡ Some s → (s.position ≤ p) × IsCandidateClock logs i s.position s
+StandsUpTo logs stands i p = (s : CandidateClock) → slice_get stands i ≡ Some s → (s.position ≤ p)
+    × IsCandidateClock logs i s.position s
 
 -- node i has moved on to position p, and no other has moved
 abbrev pub HasMovedOn : List Log → List CandidateClock → List CandidateClock → ℕ → ℕ → Type 0
@@ -39,8 +40,10 @@ KnowsNext stands j i =
 -- at each of these places a node stands, with a number for each node
 abbrev pub AreStanding : List CandidateClock → List ℕ → Type 0
 AreStanding stands places =
-    (i : ℕ) → Contains places i → (s : CandidateClock) × (slice_get stands i ≡ Some s) × (length s.counts ≡ length stands)
+    (i : ℕ) → Contains places i → (s : CandidateClock) × (slice_get stands i ≡ Some s)
+    × (length s.counts ≡ length stands)
 
 -- node j has the same numbers in both
 abbrev pub HasSameCounts : List CandidateClock → List CandidateClock → ℕ → Type 0
-HasSameCounts old new j = (s t : CandidateClock) → slice_get old j ≡ Some s → slice_get new j ≡ Some t → t.counts ≡ s.counts
+HasSameCounts old new j = (s t : CandidateClock) → slice_get old j ≡ Some s → slice_get new j ≡ Some t
+    → t.counts ≡ s.counts

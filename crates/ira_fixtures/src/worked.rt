@@ -6,20 +6,21 @@ use ira_pred::{Case, Question};
 use std::alloc::Allocator;
 
 /// An election of two nodes that both initiate.
-pub const ELECTION: [&[u8]; 2] = [
-    b"irlog 1\nnodes 2\nplace 0\nstart initiator\n\
+pub const ELECTION: [&[u8]; 2] = [ELECTION_0, ELECTION_1];
+
+pub const ELECTION_0: &[u8] = b"irlog 1\nnodes 2\nplace 0\nstart initiator\n\
     draw 2\n\
     send 1 2 1 clean\n\
     recv 1 1 1 clean\n\
     recv 1 2 2 clean\n\
-    end 4\n",
-    b"irlog 1\nnodes 2\nplace 1\nstart initiator\n\
+    end 4\n";
+
+pub const ELECTION_1: &[u8] = b"irlog 1\nnodes 2\nplace 1\nstart initiator\n\
     draw 1\n\
     send 1 1 1 clean\n\
     recv 1 2 1 clean\n\
     send 1 2 2 clean\n\
-    end 4\n",
-];
+    end 4\n";
 
 /// An election of two nodes that draw the same ID first.
 pub const TIE: [&[u8]; 2] = [
@@ -93,6 +94,72 @@ pub const SECOND_TERM: [&[u8]; 2] = [
     end 10\n",
 ];
 
+/// Logs of two initiators that did nothing yet.
+pub const EMPTY: [&[u8]; 2] = [EMPTY_0, EMPTY_1];
+
+pub const EMPTY_0: &[u8] = b"irlog 1\nnodes 2\nplace 0\nstart initiator\nend 0\n";
+
+pub const EMPTY_1: &[u8] = b"irlog 1\nnodes 2\nplace 1\nstart initiator\nend 0\n";
+
+/// Logs of two nodes each of which waits for the other.
+pub const CIRCLE: [&[u8]; 2] = [
+    b"irlog 1\nnodes 2\nplace 0\nstart passive\n\
+    recv 1 1 1 clean\n\
+    send 1 1 2 clean\n\
+    end 2\n",
+    b"irlog 1\nnodes 2\nplace 1\nstart passive\n\
+    recv 1 1 2 clean\n\
+    send 1 1 1 clean\n\
+    end 2\n",
+];
+
+/// `ELECTION` with node 0's receipts exchanged.
+pub const RECEIPTS_EXCHANGED: [&[u8]; 2] = [
+    b"irlog 1\nnodes 2\nplace 0\nstart initiator\n\
+    draw 2\n\
+    send 1 2 1 clean\n\
+    recv 1 2 2 clean\n\
+    recv 1 1 1 clean\n\
+    end 4\n",
+    ELECTION_1,
+];
+
+/// `ELECTION` without node 1's last sending.
+pub const RECEIPT_WITHOUT_SENDING: [&[u8]; 2] = [
+    ELECTION_0,
+    b"irlog 1\nnodes 2\nplace 1\nstart initiator\n\
+    draw 1\n\
+    send 1 1 1 clean\n\
+    recv 1 2 1 clean\n\
+    end 3\n",
+];
+
+/// `TIE` where node 0 passes the equal pair on clean, and node 1 receives it so.
+pub const EQUAL_PAIR_PASSED_ON_CLEAN: [&[u8]; 2] = [
+    b"irlog 1\nnodes 2\nplace 0\nstart initiator\n\
+    draw 1\n\
+    send 1 1 1 clean\n\
+    recv 1 1 1 clean\n\
+    send 1 1 2 clean\n\
+    recv 1 1 2 dirty\n\
+    draw 2\n\
+    send 2 2 1 clean\n\
+    recv 2 1 1 clean\n\
+    recv 2 2 2 clean\n\
+    end 9\n",
+    b"irlog 1\nnodes 2\nplace 1\nstart initiator\n\
+    draw 1\n\
+    send 1 1 1 clean\n\
+    recv 1 1 1 clean\n\
+    send 1 1 2 dirty\n\
+    recv 1 1 2 clean\n\
+    draw 1\n\
+    send 2 1 1 clean\n\
+    recv 2 2 1 clean\n\
+    send 2 2 2 clean\n\
+    end 9\n",
+];
+
 pub const BOTH_LEAD: &[u8] = b"irask 1\nnodes 2\ncase\n0: leader\n1: leader\nend\n";
 
 pub const LEADER_AND_ACTIVE: &[u8] = b"irask 1\nnodes 2\ncase\n0: leader\n1: active\nend\n";
@@ -103,6 +170,26 @@ pub const CHOOSING_AND_PASSIVE: &[u8] = b"irask 1\nnodes 2\ncase\n0: choosing\n1
 
 pub const LEADER_AND_UNBEATEN: &[u8] =
     b"irask 1\nnodes 2\ncase\n0: leader\n1: (not passive)\nend\n";
+
+/// The case of `LEADER_AND_ACTIVE`, and then that of `ACTIVE_AND_PASSIVE`.
+pub const TWO_CASES: &[u8] = b"irask 1\nnodes 2\n\
+    case\n0: leader\n1: active\n\
+    case\n0: active\n1: passive\n\
+    end\n";
+
+/// That the leader of `ELECTION` never leads while the other node is active.
+pub const TWO_STEPS: &[u8] =
+    b"ircert 1\nnodes 2\nsection\ndrop 1 1 by 0 4\ndrop 1 2 by 0 4\nspent 1\nend\n";
+
+/// The same without its second step.
+pub const ONE_STEP: &[u8] = b"ircert 1\nnodes 2\nsection\ndrop 1 1 by 0 4\nspent 1\nend\n";
+
+/// Its steps exchanged.
+pub const STEPS_SWAPPED: &[u8] =
+    b"ircert 1\nnodes 2\nsection\ndrop 1 2 by 0 4\ndrop 1 1 by 0 4\nspent 1\nend\n";
+
+/// One section without steps.
+pub const NODE_1_SPENT: &[u8] = b"ircert 1\nnodes 2\nsection\nspent 1\nend\n";
 
 /// State `pos` of `node` is ruled out by state `other_pos` of `other`.
 pub const fn step(node: u8, pos: u32, other: u8, other_pos: u32) -> CertStep {

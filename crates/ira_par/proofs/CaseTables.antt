@@ -13,12 +13,14 @@ use Rattle.ira_par.specs.CandidateTable.{CandidateTable, IsTableFor, IsListAt, A
 all_at : {X : Type 0} (P : X → Type 0) (xs : List X) (i : ℕ) (x : X) → All P xs → slice_get xs i ≡ Some x → P x
 all_at P xs i x all at = subst P (get_or_from_slice_get xs i x x at) (all i x (slice_get_within xs i x at))
 
-pub below_at : (places : ℕ) (tables : List CandidateTable) (i : ℕ) (xs : List ℕ) → AreBelow places tables → IsListAt tables i xs
+pub below_at : (places : ℕ) (tables : List CandidateTable) (i : ℕ) (xs : List ℕ) → AreBelow places tables
+    → IsListAt tables i xs
     → i < places
 below_at places tables i xs below at =
     all_at (λ (t : CandidateTable). t.place < places) tables at.0 (record { place = i; positions = xs }) below at.1
 
-module _ (logs : List Log) (case : List Conjunct) (tables : List CandidateTable) (each : (n : ℕ) (table : CandidateTable)
+module _ (logs : List Log) (case : List Conjunct) (tables : List CandidateTable)
+    (each : (n : ℕ) (table : CandidateTable)
     → slice_get tables n ≡ Some table → IsTableFor logs case n table) where
   at_asked : length tables ≡ length case → (i : ℕ) → IsAsked case i → (positions : List ℕ) × IsListAt tables i positions
   at_asked long i asked =
@@ -56,7 +58,8 @@ module _ (logs : List Log) (case : List Conjunct) (tables : List CandidateTable)
       omega (arith, within, is.2)
 
 -- where a table is found for each conjunct
-module _ (logs : List Log) (case : List Conjunct) (P : ℕ → CandidateTable → Type 0) (tables : (n : ℕ) (table : CandidateTable) → P n table
+module _ (logs : List Log) (case : List Conjunct) (P : ℕ → CandidateTable
+    → Type 0) (tables : (n : ℕ) (table : CandidateTable) → P n table
     → IsTableFor logs case n table) where
   module _ {V E : Type 0} (items : V → List CandidateTable) where
     pub tables_if_found : (result : Result V E) → IfOk result (λ v. length (items v) ≡ length case)

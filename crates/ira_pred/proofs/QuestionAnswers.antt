@@ -295,14 +295,16 @@ head_of text q h = record {
   parts = h.parts ∙ append_assoc h.head h.cases (codes "end\n");
 }
 
-no_lines_fault : (text : List ℕ) (q : QuestionCases) (f : AskFault) → IsQuestionText text q → QuestionLinesFault text f → ⊥
+no_lines_fault : (text : List ℕ) (q : QuestionCases) (f : AskFault) → IsQuestionText text q → QuestionLinesFault text f
+    → ⊥
 no_lines_fault text q f h (no_head none is) = none q.nodes (h.cases ++ codes "end\n") (head_of text q h)
 no_lines_fault text q f h (behind_head nodes rest b cf) =
     let s = heads_same text nodes q.nodes rest (h.cases ++ codes "end\n") b (head_of text q h) in
     let moved = subst (λ w. CasesFault q.nodes w f) s.1 (subst (λ n. CasesFault n rest f) s.0 cf) in
     no_cases_fault q.nodes h.cases q.cases f h.valid.some h.valid.count h.valid.cases_are h.cases_are moved
 
-pub question_or_fault : (text : List ℕ) (q : QuestionCases) (f : AskFault) → IsQuestionText text q → QuestionTextFault text f
+pub question_or_fault : (text : List ℕ) (q : QuestionCases) (f : AskFault) → IsQuestionText text q
+    → QuestionTextFault text f
     → ⊥
 question_or_fault text q f h (inl long) = omega (arith, h.short, long.0)
 question_or_fault text q f h (inr lines) = no_lines_fault text q f h lines.1

@@ -10,7 +10,8 @@ use Rattle.ira_pred.specs.QuestionTextFault.{BeginsWithQuestionHead, QuestionTex
 
 -- unless out of memory, a question is answered exactly where the text is its text
 abbrev pub AnswersQuestions : Result QuestionCases AskFault → List ℕ → Type 0
-AnswersQuestions result text = (q : QuestionCases) → UnlessErr result OutOfMemory ((result ≡ Ok q) ↔ IsQuestionText text q)
+AnswersQuestions result text = (q : QuestionCases)
+    → UnlessErr result OutOfMemory ((result ≡ Ok q) ↔ IsQuestionText text q)
 
 -- unless out of memory, a fault is answered exactly where it is the text's
 abbrev pub AnswersFaults : Result QuestionCases AskFault → List ℕ → Type 0

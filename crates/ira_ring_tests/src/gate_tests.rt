@@ -1,8 +1,8 @@
 // What the gate of a ring's threads sees: that the nodes run at once, that a message comes after its sending, when nodes
 // pass, and that each started thread has ended.
-use crate::samples::{assert_run, clean, has_events, loser, setup_of, winner};
+use crate::samples::{assert_run, clean, has_events, setup_of};
 use ira_event::{Event, NodeLog, RingSize};
-use ira_fixtures::{Meeting, Passes, TURN, comes_to};
+use ira_fixtures::{Meeting, Passes, TURN, comes_to, loser, winner};
 use ira_links::{Gate, OpenGate};
 use ira_ring::{NodeEnd, Run, RunFault, Setup, run_ring};
 use std::alloc::Global;

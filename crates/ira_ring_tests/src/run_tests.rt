@@ -1,6 +1,7 @@
 // What both runners give of the same setup: the same logs, and each its own ends.
-use crate::samples::{assert_run, clean, dirty, loser, setup_of, winner};
+use crate::samples::{assert_run, clean, setup_of};
 use ira_event::{Event, Load, RingSize};
+use ira_fixtures::{dirty, loser, winner};
 use ira_links::OpenGate;
 use ira_ring::{NodeEnd, RunFault, Setup, draw_lists, run_alone, run_ring};
 use std::alloc::Global;

@@ -19,35 +19,6 @@ pub fn clean(round: u32, id: u32, hop: u32) -> Load
     })
 }
 
-pub fn dirty(round: u32, id: u32, hop: u32) -> Load {
-    Load::Msg(Msg {
-        round,
-        id,
-        hop,
-        dirty: true,
-    })
-}
-
-/// The events of node 0 of a ring of two, where it draws 2 and node 1 draws 1.
-pub fn winner() -> [Event; 4] {
-    [
-        Event::Draw(2),
-        Event::Sent(clean(1, 2, 1)),
-        Event::Got(clean(1, 1, 1)),
-        Event::Got(clean(1, 2, 2)),
-    ]
-}
-
-/// The events of node 1 of that ring.
-pub fn loser() -> [Event; 4] {
-    [
-        Event::Draw(1),
-        Event::Sent(clean(1, 1, 1)),
-        Event::Got(clean(1, 2, 1)),
-        Event::Sent(clean(1, 2, 2)),
-    ]
-}
-
 /// A setup of a ring of so many nodes, of one term.
 pub fn setup_of(
     rt: &(impl Abort + AllocGlobal),

@@ -1,5 +1,6 @@
-use crate::samples::{clean, loser, winner};
+use crate::samples::clean;
 use ira_event::{Event, MemorySink, NodeLog, RingSize};
+use ira_fixtures::{loser, winner};
 use ira_ring::{Collector, NodeEnd, NodePart, RunFault, draw_lists, write_ends};
 use std::alloc::Global;
 use std::process::Abort;

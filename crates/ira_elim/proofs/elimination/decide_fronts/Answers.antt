@@ -230,8 +230,10 @@ advance-requires-clause-stand g c = λ t at.
     c.deref-in-Some-next_step.ensures.value c.in-Some-front.ensures in
     let stand = stand_is logs fronts c.steps.stands.items inside so_far.stands s.node s.pos t is.front at in
     let onward = own_first logs some.0 c.steps.invariant.0 fronts _ made.behind s is left c.in-Some-front.position first
-    in
-    (omega (arith, stand.position, onward), subst (λ (n : ℕ). IsCandidateClock logs s.node n t) (sym stand.position) stand)
+    in (
+      omega (arith, stand.position, onward),
+      subst (λ (n : ℕ). IsCandidateClock logs s.node n t) (sym stand.position) stand,
+    )
 
 pub steps-smaller : goal.steps-smaller
 steps-smaller g c =

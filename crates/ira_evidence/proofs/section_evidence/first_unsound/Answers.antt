@@ -21,7 +21,8 @@ unfolding none
 returns-in-Err g c = λ case differ fronts.
     let steps = c.args.steps.now in let k = c.loop-number.number in
     let so_far = c.loop-number.invariant case differ fronts in
-    let own = c.queue_head_at-own.ensures.left (g.C.HappenedBefore.logs_of c.args.ordered.now) case (take k steps) so_far.1 in
+    let own = c.queue_head_at-own.ensures.left (g.C.HappenedBefore.logs_of c.args.ordered.now) case (take k steps)
+    so_far.1 in
     let other = c.queue_head_at-other.ensures.left (g.C.HappenedBefore.logs_of c.args.ordered.now) case (take k steps)
     so_far.1 in
     record {

@@ -16,7 +16,8 @@ none = record { node = 0; pos = 0; other = 0; other_pos = 0 }
 pub returns-in-Err-clause-fault : goal.returns-in-Err-clause-fault
 unfolding none
 returns-in-Err-clause-fault g c = λ case differ are.
-    let logs = (g.C.HappenedBefore.logs_of c.args.ordered.now) in let steps = c.args.steps.now in let k = c.loop-k.k in (
+    let logs = (g.C.HappenedBefore.logs_of c.args.ordered.now) in let steps = c.args.steps.now in
+    let k = c.loop-k.k in (
       k,
       c.in-Err.why,
       refl,
@@ -28,7 +29,8 @@ returns-in-Err-clause-fault g c = λ case differ are.
             at = slice_get-get_or steps k none (omega (arith, c.loop-k-test.true, c.requires.range));
             reason = c.in-Err.ensures.verdict case (take k steps) differ
                 (c.queue_head_at-own.ensures.left logs case (take k steps) differ are c.loop-k.invariant.counts sound)
-                (c.queue_head_at-other.ensures.left logs case (take k steps) differ are c.loop-k.invariant.counts sound);
+                (c.queue_head_at-other.ensures.left logs case (take k steps) differ are c.loop-k.invariant.counts
+                sound);
           },
     )
 

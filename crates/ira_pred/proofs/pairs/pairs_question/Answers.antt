@@ -47,5 +47,7 @@ returns-clause-pairs g c =
     let end : n ≤ i = omega (arith, c.loop-i-test.false, c.get-i-end.ensures.value) in
     let all = sym (append-nil cases)
     ∙ ap (λ x. cases ++ x) (sym (ap (flat_map (cases_of_place n)) (last-number i n end))) ∙ c.loop-i.invariant in
-    let is : c.of_parts.result ≡ pairs_asked n = c.of_parts.ensures ∙ ap (λ x. record { nodes = n; cases = x }) all in
-    (ap (λ (q : QuestionCases). q.nodes) is, subst (λ (q : QuestionCases). ArePairCases n q.cases) (sym is) (pair_cases n))
+    let is : c.of_parts.result ≡ pairs_asked n = c.of_parts.ensures ∙ ap (λ x. record { nodes = n; cases = x }) all in (
+      ap (λ (q : QuestionCases). q.nodes) is,
+      subst (λ (q : QuestionCases). ArePairCases n q.cases) (sym is) (pair_cases n),
+    )

@@ -8,13 +8,15 @@ use Rattle.ira_elim.proofs.candidate_clock.CandidateClock.count.Goals as goal
 
 pub returns-then-place-own : goal.returns-then-place-own
 returns-then-place-own g c = λ logs q lo lp l is.
-    let here : q ≡ c.self.inside.position = sym is.position ∙ sym (ap (λ (s : CandidateClock). s.position) c.self.view_is) in
+    let here : q ≡ c.self.inside.position =
+    sym is.position ∙ sym (ap (λ (s : CandidateClock). s.position) c.self.view_is) in
     subst (λ (i : ℕ). IsCount logs c.args.own q i c.self.inside.position) (sym c.if-place-own.true)
     (subst (IsCount logs c.args.own q c.args.own) here (count_own logs is.order.1 is.order.2 c.args.own q lo l))
 
 pub returns : goal.returns
 returns g c = λ logs q lo lp l is.
-    let kept : c.self.inside.counts.items ≡ c.args.self.now.counts = ap (λ (s : CandidateClock). s.counts) c.self.view_is in
+    let kept : c.self.inside.counts.items ≡ c.args.self.now.counts =
+    ap (λ (s : CandidateClock). s.counts) c.self.view_is in
     let within : c.from.result < length c.self.inside.counts.items =
     omega (arith, c.from.ensures, c.requires, ap (λ (xs : List ℕ). length xs) kept) in
     let read : c.index.result.now ≡ slice_index c.args.self.now.counts c.args.place =

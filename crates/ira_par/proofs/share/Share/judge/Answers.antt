@@ -30,15 +30,16 @@ loop-section-preserved g c =
               c.loop-section.self-inside.counts.ok.0,
               c.loop-section.invariant.places,
             );
-            found = subst (λ s. IsFoundBy logs c.args.ranges c.args.number (k + 1) tasks s.found) (sym w.self-inside-is) (
-              clear,
-              (
-                task,
-                at,
-                subst (λ (f : Option SectionFault). IsFoundFor logs c.args.ranges c.args.number task
-                    f) w.in-Some.is c.judge.ensures.found,
-              ),
-            );
+            found = subst (λ s. IsFoundBy logs c.args.ranges c.args.number (k + 1) tasks s.found)
+                (sym w.self-inside-is) (
+                  clear,
+                  (
+                    task,
+                    at,
+                    subst (λ (f : Option SectionFault). IsFoundFor logs c.args.ranges c.args.number task
+                        f) w.in-Some.is c.judge.ensures.found,
+                  ),
+                );
           }
       | in_default w ↦
           let kept : c.match-judge.self-inside.counts.len ≡ c.loop-section.self-inside.counts.len =

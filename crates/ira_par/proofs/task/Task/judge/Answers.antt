@@ -115,7 +115,8 @@ returns-in_default-queue_head_at-clause-found g c = λ case differ are.
     subst (λ (p : ℕ). IsFoundInRange (g.C.HappenedBefore.logs_of c.args.ordered.now) case section c.args.ranges
     c.args.number (Some (NotSpent p))) (sym spent)
     (unspent_found (g.C.HappenedBefore.logs_of c.args.ordered.now) case section c.args.ranges c.args.number
-    (range_is g judged None c.in_default.is case differ are) some last c.queue_head_at.result (left g at case differ are)
+    (range_is g judged None c.in_default.is case differ are) some last c.queue_head_at.result
+    (left g at case differ are)
     differ other)
 
 pub returns-clause-found : goal.returns-clause-found
@@ -125,5 +126,6 @@ returns-clause-found g c = λ case differ are.
     let some : 0 < c.args.ranges = omega (arith, c.requires.number) in
     let last : c.args.number + 1 ≡ c.args.ranges = omega (arith, c.requires.number, c.if-number-ranges.false) in
     spent_found (g.C.HappenedBefore.logs_of c.args.ordered.now) case c.args.self.now.section c.args.ranges c.args.number
-    (range_is g judged None c.in_default.is case differ are) some last c.queue_head_at.result (left g at case differ are)
+    (range_is g judged None c.in_default.is case differ are) some last c.queue_head_at.result
+    (left g at case differ are)
     c.in-Spent.is
