@@ -16,7 +16,7 @@ say = printf '%4d s  %s\n' $$(($$(date +%s) - $(START)))
 needs_kit = command -v rt > /dev/null && command -v rattle > /dev/null || \
 	{ echo 'The Rattle kit is missing, no rt and rattle on the PATH: README.md, "Build and test", says what is needed.'; exit 1; }
 
-.PHONY: help ira run install dist test sweep recorders clean
+.PHONY: help ira run install dist test views-test sweep recorders clean
 
 help:
 	@echo 'make ira        proves the program and the libraries that it stands on, and leaves it at bin/ira:'
@@ -30,6 +30,7 @@ help:
 	@echo '                programs: `N passed, 0 failed`; and all examples. CONTRIBUTING.md says what it costs'
 	@echo 'make sweep      makes ira, refuses each growth of its memory and each start of a thread in turn, interrupts each'
 	@echo '                read and write of a file, lets it open but one file at a time, and looks at what it answers then'
+	@echo 'make views-test makes ira, draws the examples and recorded rings, and holds the pictures against the logs'
 	@echo 'make recorders  makes ira, records elections with each recorder of examples/recorders, and judges their logs'
 	@echo 'make clean      removes what was built and proved'
 
@@ -66,6 +67,9 @@ judges = echo '$$ bin/ira $(1)'; \
 	said=$$(bin/ira $(1)); status=$$?; echo "$$said"; \
 	test "$$status: $$said" = '$(2): $(3)' || { echo 'expected: $(3), and the status $(2)'; exit 1; }
 
+# Draws the examples and recorded rings, and reads the pictures, where there is a Python to do so.
+draws = if command -v python3 > /dev/null; then python3 -B views/check_svg.py $(1); fi
+
 # A good and a bad election, a bad log alone, and then all examples.
 run: ira
 	@$(call judges,logs examples/two_node_election/0.log examples/two_node_election/1.log,0,yes)
@@ -87,12 +91,17 @@ dist: ira
 	@sh build/dist.sh
 
 # The merge gate: every proof from nothing, the edits that the prover must refuse, all tests, the programs as
-# two compilers build them, and the answers to all examples.
+# two compilers build them, the answers to all examples, and their pictures where there is a Python.
 test:
 	@$(needs_kit)
 	rt ci
 	@sh completions/check.sh crates/ira/out/ira
 	@sh examples/check.sh crates/ira/out/ira
+	@$(call draws,crates/ira/out/ira)
+
+# Pictures of the examples and of recorded rings, read back and held against the logs.
+views-test: ira
+	@$(call draws,bin/ira)
 
 # Each growth of the program is refused in turn, those of the command line's library and of the threads too, and each
 # start of a thread; each read and write of a file is interrupted. It needs glibc and Python.

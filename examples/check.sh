@@ -6,7 +6,7 @@
 # A row that names a folder is judged by `ira logs` on its logs, one that names a file by `ira` alone, one that names
 # a question and its certificate by `ira check` on these and the logs of their folder, and one that names a question alone
 # by `ira decide` on it and these logs. The commands of from_run_to_check.txt, explain.txt,
-# explain_ring.txt and explain_question.txt run in a folder of their own.
+# explain_ring.txt, explain_question.txt and show.txt run in a folder of their own.
 
 ira=$(realpath "$1") || exit 2
 [ -x "$ira" ] || { echo "examples: no program at $1"; exit 2; }
@@ -125,7 +125,7 @@ replay() {
 }
 
 examples=$PWD
-for talk in from_run_to_check.txt explain.txt explain_ring.txt explain_question.txt; do
+for talk in from_run_to_check.txt explain.txt explain_ring.txt explain_question.txt show.txt; do
     folder=$(mktemp -d)
     if (cd "$folder" && replay < "$examples/$talk") | diff "$examples/$talk" -; then
         passed=$((passed + 1))
@@ -134,6 +134,27 @@ for talk in from_run_to_check.txt explain.txt explain_ring.txt explain_question.
     fi
     rm -r "$folder"
 done
+
+# The logs of each folder are drawn with the same line and status, where they are those of one ring.
+folder=$(mktemp -d)
+while IFS=$tab read -r name line status; do
+    [ -d "$name" ] || continue
+    found=$("$ira" draw --out "$folder/drawn.svg" $(logs_of "$name") < /dev/null)
+    found_status=$?
+    case $line in
+    'no: log '* | 'no: heads: '*) [ ! -e "$folder/drawn.svg" ] || found="a picture" ;;
+    *) [ "$(head -c 5 "$folder/drawn.svg")" = "<svg " ] || found="no picture" ;;
+    esac
+    rm -f "$folder/drawn.svg"
+    if [ "$found" = "$line" ] && [ "$found_status" = "$status" ]; then
+        passed=$((passed + 1))
+    else
+        fail "draw of $name: wanted $line ($status), found $found ($found_status)"
+    fi
+done <<END
+$rows
+END
+rm -r "$folder"
 
 # Logs in version 2 are those of version 1 but for their first line.
 folder=$(mktemp -d)
@@ -226,6 +247,11 @@ tie_log 1 19999 > "$folder/1.log"
 judged $? "0: yes: " "a long log alone"
 "$ira" logs "$folder/0.log" "$folder/1.log" < /dev/null > "$folder/out" 2> "$folder/err"
 judged $? "0: yes: " "long logs"
+refuses "ira: 199998 events are too many for one picture, which holds 20000: give --from and --to" \
+    draw --out "$folder/drawn.svg" "$folder/0.log" "$folder/1.log"
+[ ! -e "$folder/drawn.svg" ] || fail "draw of long logs: a picture"
+"$ira" draw --out "$folder/drawn.svg" --from 900 --to 960 "$folder/0.log" "$folder/1.log" < /dev/null > "$folder/out" 2> "$folder/err"
+judged $? "0: yes: " "draw of a part of long logs"
 mkdir "$folder/new"
 "$ira" upgrade --out "$folder/new" "$folder/0.log" "$folder/1.log" < /dev/null > "$folder/out" 2> "$folder/err"
 judged $? "0: upgraded 2 logs: " "upgrade of long logs"

@@ -1,6 +1,6 @@
 -- Files that are read, and why the texts of some names' files aren't judged.
 use Rattle.std.proofs.Common.{◌≡◌, ◌∙◌, ℕ, zero, suc, ◌+◌, ◌<◌, List, [], ◌∷◌, ◌++◌, Err, Ok, Some, ap, append_assoc, arith, drop, inl, inr, length, refl, slice_get, subst, sym, take}
-use Rattle.std.specs.Prelude.{slice_index_or}
+use Rattle.std.specs.Prelude.{IfErr, IfOk, MatchResult, Result, slice_index_or}
 use Rattle.ira_audit.specs.RingAudit.{HasTaken, RingAudit}
 use Rattle.ira_files.specs.FileName.{file_name}
 use Rattle.ira_files.specs.Shelf.{Reading}
@@ -92,3 +92,10 @@ pub of_one : {S : Type 0} (reads : Reading S) (name : FileName) (why : ShelfFaul
     → reads shelf (file_name name) (Err why) → f ≡ read_fault name why → IsFilesFault reads (file_name name ∷ []) shelf f
 of_one reads name why shelf f failed is =
     inl (record { front = []; name = name; back = []; parts = refl; texts = []; given = tt; why = why; unread = failed; told = is })
+
+-- a file of a question, if one is named
+pub reads_one : {S : Type 0} (reads : Reading S) (name : List ℕ) (shelf : S) (r : Result (List ℕ) ProgramFault)
+    → IfOk r (λ text. reads shelf name (Ok text)) → IfErr r (IsFilesFault reads (name ∷ []) shelf)
+    → MatchResult r (λ text. ReadsFiles reads (name ∷ []) shelf (text ∷ [])) (IsFilesFault reads (name ∷ []) shelf)
+reads_one reads name shelf (Ok text) read fault = (read, tt)
+reads_one reads name shelf (Err f) read fault = fault

@@ -4,5 +4,7 @@ pub mod InputAudits
 pub mod LogFiles
 pub mod PartsAt
 pub mod Reporting
+pub mod RingPrinting
 pub mod Shares
+pub mod Showing
 pub mod Unjudged

@@ -1,5 +1,5 @@
 -- What the program does that is asked to decide a question.
-use Rattle.std.specs.Prelude.{◌≡◌, ◌⊎◌, ℕ, List, ◌∷◌, ◌++◌, Option, Some, None, Ok, Err}
+use Rattle.std.specs.Prelude.{◌≡◌, ◌⊎◌, ℕ, Bool, true, false, List, ◌∷◌, ◌++◌, Option, Some, None, Ok, Err}
 use Rattle.std.specs.Borrow.{Bor}
 use Rattle.ira_event.specs.Sink.{SinkState, Takes, StopsIn}
 use Rattle.ira_cert_text.specs.Certificate.{Certificate}
@@ -7,6 +7,8 @@ use Rattle.ira_audit.specs.Findings.{AreFindings, IsCertificateOf, MakeNoCertifi
 use Rattle.ira_audit.specs.FindingsText.{findings_text}
 use Rattle.ira_audit.specs.declared.findings.Findings.{Findings}
 use Rattle.ira_explain.specs.Printable.{IsPrintable}
+use Rattle.ira_json.specs.AnswerValue.{findings_values}
+use Rattle.ira_json.specs.Line.{AreLinesOf}
 use Rattle.ira_words.specs.declared.decide_request.DecideRequest.{DecideRequest}
 use Rattle.ira_files.specs.Shelf.{Reading, Writing}
 use Rattle.ira_files.specs.declared.file_name.FileName.{FileName}
@@ -14,7 +16,7 @@ use Rattle.ira_main.specs.CertFile.{KeepsCertificate}
 use Rattle.ira_main.specs.FilesRead.{IsFilesFault, ReadsFiles, names_of}
 use Rattle.ira_main.specs.Outcome.{Outcome, Prints}
 use Rattle.ira_main.specs.Overwriting.{IsReplacing, KeepsFiles}
-use Rattle.ira_main.specs.Status.{IsFindingsStatus}
+use Rattle.ira_main.specs.Status.{IsFindingsStatus, status_number}
 use Rattle.ira_main.specs.declared.program_fault.ProgramFault.{ProgramFault}
 use Rattle.ira_main.specs.declared.program_fault.ProgramFault.TheVariants.{CannotWriteAnswer}
 use Rattle.ira_main.specs.declared.status.Status.{Status}
@@ -50,12 +52,25 @@ pub record DecidesTogether {A S : Type 0} (Tells : Findings A → Type 0) (reads
   pub found : AreFindings texts question findings
   pub told : Tells findings
 
--- the findings were printed whole, and what comes of them on the shelf is the outcome; or the output stopped within them
-abbrev pub PrintsFindings : {A S : Type 0} → Writing S → Option (Bor (List ℕ)) → S → S → SinkState → SinkState → Outcome
+-- the text that is printed of findings: as JSON, where that is wanted, which tells their status too; or else their lines
+abbrev pub IsFindingsText : {A : Type 0} → Bool → Findings A → List ℕ → Type 0
+IsFindingsText true findings text =
+    (status : Status) × IsFindingsStatus findings status × AreLinesOf (findings_values (status_number status) findings) text
+IsFindingsText false findings text = text ≡ findings_text findings
+
+-- the text was printed whole, and what comes of the findings on the shelf is the outcome; or the output stopped within it
+abbrev pub PrintsFindingsText : {A S : Type 0} → Writing S → Option (Bor (List ℕ)) → S → S → SinkState → SinkState → Outcome
+    → List ℕ → Findings A → Type 0
+PrintsFindingsText writes name shelf shelf' out out' outcome text findings =
+    (Takes text out out' × KeepsFindings writes findings name shelf shelf' outcome)
+    ⊎ (StopsIn text out out' × (shelf' ≡ shelf) × (outcome ≡ Err CannotWriteAnswer))
+
+-- the same, of a text that is printed of them
+abbrev pub PrintsFindings : {A S : Type 0} → Writing S → Bool → Option (Bor (List ℕ)) → S → S → SinkState → SinkState → Outcome
     → Findings A → Type 0
-PrintsFindings writes name shelf shelf' out out' outcome findings =
-    (Takes (findings_text findings) out out' × KeepsFindings writes findings name shelf shelf' outcome)
-    ⊎ (StopsIn (findings_text findings) out out' × (shelf' ≡ shelf) × (outcome ≡ Err CannotWriteAnswer))
+PrintsFindings writes is_json name shelf shelf' out out' outcome findings =
+    (text : List ℕ) × IsFindingsText is_json findings text
+    × PrintsFindingsText writes name shelf shelf' out out' outcome text findings
 
 -- the findings were printed, and a page of printable text after them, with their status
 abbrev pub ExplainsFindings : {A : Type 0} → SinkState → SinkState → Outcome → Findings A → Type 0
@@ -69,5 +84,5 @@ pub record Decides (A : Type 0) {S : Type 0} (reads : Reading S) (writes : Writi
     (decide : DecideRequest) (names : List FileName) (shelf shelf' : S) (out out' : SinkState)
     (outcome : Outcome) : Type 0 where
   pub kept : KeepsFiles decide.certificate (decide_names decide names)
-  pub decided : DecidesTogether {A = A} (PrintsFindings writes decide.certificate shelf shelf' out out' outcome) reads
+  pub decided : DecidesTogether {A = A} (PrintsFindings writes decide.is_json decide.certificate shelf shelf' out out' outcome) reads
       decide.question.now names shelf

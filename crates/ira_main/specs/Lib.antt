@@ -2,6 +2,7 @@ pub mod AskedRun
 pub mod CertFile
 pub mod ProgramFault
 pub mod Decide
+pub mod Draw
 pub mod FilesRead
 pub mod InputAudit
 pub mod LogFiles
@@ -11,6 +12,7 @@ pub mod Outcome
 pub mod Overwriting
 pub mod Progress
 pub mod Serve
+pub mod Show
 pub mod SourceNames
 pub mod Status
 pub mod Upgrade

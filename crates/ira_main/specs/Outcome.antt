@@ -1,9 +1,11 @@
 -- What the program ends with: a status, or a fault, which is written to standard error.
-use Rattle.std.specs.Prelude.{◌≡◌, ◌⊎◌, ℕ, List, ◌++◌, Result, Ok, Err}
+use Rattle.std.specs.Prelude.{◌≡◌, ◌⊎◌, ℕ, Bool, true, false, List, ◌++◌, Result, Ok, Err}
 use Rattle.ira_event.specs.Sink.{SinkState, Takes, StopsIn}
 use Rattle.ira_audit.specs.Report.{report_line}
 use Rattle.ira_audit.specs.declared.answer.Answer.{Answer}
 use Rattle.ira_explain.specs.Printable.{IsPrintable}
+use Rattle.ira_json.specs.AnswerValue.{answer_value}
+use Rattle.ira_json.specs.Line.{IsLineOf}
 use Rattle.ira_main.specs.ProgramFault.{program_fault_text}
 use Rattle.ira_main.specs.Status.{answer_status, program_fault_status, status_number}
 use Rattle.ira_main.specs.declared.program_fault.ProgramFault.{ProgramFault}
@@ -34,7 +36,13 @@ Prints text status out out' outcome =
 abbrev pub Reports : Answer → SinkState → SinkState → Outcome → Type 0
 Reports answer = Prints (report_line answer) (answer_status answer)
 
--- the same, and a page of printable text after the line
+-- the answer was printed as a line of JSON, which tells the answer's status too, and the outcome is this status
+abbrev pub ReportsJson : Answer → SinkState → SinkState → Outcome → Type 0
+ReportsJson answer out out' outcome =
+    (text : List ℕ) × IsLineOf (answer_value (status_number (answer_status answer)) answer) text
+    × Prints text (answer_status answer) out out' outcome
+
+-- the line of the answer was printed, and a page of printable text after it
 abbrev pub Explains : Answer → SinkState → SinkState → Outcome → Type 0
 Explains answer out out' outcome =
     (page : List ℕ) × IsPrintable page × Prints (report_line answer ++ page) (answer_status answer) out out' outcome
@@ -42,6 +50,11 @@ Explains answer out out' outcome =
 -- what is printed of an answer, and what comes of it
 abbrev pub Telling : Type 1
 Telling = Answer → SinkState → SinkState → Outcome → Type 0
+
+-- an answer is printed as JSON, where that is wanted, or else as its line
+abbrev pub ReportsAs : Bool → Telling
+ReportsAs true = ReportsJson
+ReportsAs false = Reports
 
 -- nothing was printed, and the outcome is a fault of this kind
 abbrev pub GivesNoAnswer : (ProgramFault → Type 0) → SinkState → SinkState → Outcome → Type 0

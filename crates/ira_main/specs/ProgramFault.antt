@@ -2,6 +2,9 @@
 use Rattle.std.specs.Prelude.{ℕ, List, ◌++◌, codes, decimal}
 use Rattle.std.specs.Borrow.{Bor}
 use Rattle.std.specs.String.{string_bytes}
+use Rattle.ira_evidence.specs.declared.event_at.EventAt.{EventAt}
+use Rattle.ira_moment.specs.declared.cut_fault.CutFault.{CutFault}
+use Rattle.ira_moment.specs.declared.cut_fault.CutFault.TheVariants as cut
 use Rattle.ira_run.specs.RunFault.{run_fault_number}
 use Rattle.ira_run.specs.declared.run_fault.RunFault.{RunFault}
 use Rattle.ira_run.specs.declared.run_fault.RunFault.TheVariants as run
@@ -12,7 +15,11 @@ use Rattle.ira_files.specs.declared.file_name.FileName.{FileName}
 use Rattle.ira_files.specs.declared.shelf_fault.ShelfFault.{ShelfFault}
 use Rattle.ira_files.specs.declared.shelf_fault.ShelfFault.TheVariants as shelf
 use Rattle.ira_main.specs.declared.program_fault.ProgramFault.{ProgramFault}
-use Rattle.ira_main.specs.declared.program_fault.ProgramFault.TheVariants.{CannotRead, CannotWrite, CannotWriteAnswer, CannotWriteLog, CertificatePastLimits, OutOfMemory, RingSize, RunRefused, WordIsNoText, Words, WouldOverwrite}
+use Rattle.ira_main.specs.declared.program_fault.ProgramFault.TheVariants.{CannotRead, CannotWrite, CannotWriteAnswer}
+use Rattle.ira_main.specs.declared.program_fault.ProgramFault.TheVariants.{CannotWriteLog, CertificatePastLimits}
+use Rattle.ira_main.specs.declared.program_fault.ProgramFault.TheVariants.{NoJson, NoMoment, NoPlace, OutOfMemory, RingSize}
+use Rattle.ira_main.specs.declared.program_fault.ProgramFault.TheVariants.{RunRefused, TooManyEvents, WordIsNoText, Words}
+use Rattle.ira_main.specs.declared.program_fault.ProgramFault.TheVariants.{WouldOverwrite}
 
 -- the fault where the file of this name wasn't read
 abbrev pub read_fault : FileName → ShelfFault → ProgramFault
@@ -34,10 +41,26 @@ abbrev pub words_fault : WordsFault → ProgramFault
 words_fault (words.Refused text) = Words text
 words_fault words.OutOfMemory = OutOfMemory
 
--- the fault where a certificate wasn't written to the file of this name
+-- the fault where a certificate or a picture wasn't written to the file of this name
 abbrev pub write_fault : Bor (List ℕ) → ShelfFault → ProgramFault
 write_fault name shelf.Device = CannotWrite name
 write_fault name shelf.OutOfMemory = OutOfMemory
+
+-- the line of a receipt that is in the numbers of a moment, and whose sending isn't: of the one, and of the other
+abbrev pub held_text : EventAt → List ℕ
+held_text receipt =
+    codes "ira: --at is not consistent: event " ++ decimal receipt.position
+    ++ (codes " of node " ++ (decimal receipt.place ++ codes " is in it, and "))
+
+abbrev pub lacking_text : EventAt → List ℕ
+lacking_text sending =
+    codes "event " ++ decimal sending.position
+    ++ (codes " of node " ++ (decimal sending.place ++ codes ", the sending that it receives, is not\n"))
+
+-- the line of numbers that are no moment
+abbrev pub cut_fault_text : CutFault → List ℕ
+cut_fault_text cut.NoCut = codes "ira: --at is no cut: one number for each node, at most as many as its events\n"
+cut_fault_text (cut.LacksSending receipt sending) = held_text receipt ++ lacking_text sending
 
 -- what is written to standard error
 abbrev pub program_fault_text : ProgramFault → List ℕ
@@ -45,8 +68,15 @@ program_fault_text (Words text) = string_bytes text
 program_fault_text WordIsNoText = codes "ira: a word is not UTF-8\n"
 program_fault_text (CannotRead name) = codes "ira: cannot read " ++ file_name name ++ codes "\n"
 program_fault_text RingSize = codes "ira: ring size\n"
+program_fault_text (NoMoment fault) = cut_fault_text fault
+program_fault_text NoPlace = codes "ira: --leads names a node that the ring has not\n"
+program_fault_text NoJson = codes "ira: --json is for logs, check and decide\n"
+program_fault_text (TooManyEvents events) =
+    codes "ira: " ++ decimal events
+    ++ codes " events are too many for one picture, which holds 20000: give --from and --to\n"
 program_fault_text (RunRefused fault) = codes "ira: run refused " ++ decimal (run_fault_number fault) ++ codes "\n"
-program_fault_text (CannotWriteLog folder place) = codes "ira: cannot write " ++ folder.now ++ (codes "/" ++ decimal place ++ codes ".log\n")
+program_fault_text (CannotWriteLog folder place) =
+    codes "ira: cannot write " ++ folder.now ++ (codes "/" ++ decimal place ++ codes ".log\n")
 program_fault_text (WouldOverwrite name) = codes "ira: would overwrite " ++ file_name name ++ codes "\n"
 program_fault_text (CannotWrite name) = codes "ira: cannot write " ++ name.now ++ codes "\n"
 program_fault_text CertificatePastLimits = codes "ira: certificate past the limits\n"

@@ -24,7 +24,8 @@ ServesOrLeaves A reads writes words input input' shelf shelf' out out' (Ended ou
 ServesOrLeaves A reads writes words input input' shelf shelf' out out' (Check check) =
     IsCheckLine words check × IsUntouched input input' shelf shelf' out out'
 ServesOrLeaves A reads writes words input input' shelf shelf' out out' (ExplainCheck question certificate logs) =
-    (explain : ExplainRequest) × IsExplainLine words explain × (explain.answer ≡ Certificate question certificate logs)
+    (explain : ExplainRequest) × IsExplainLine words explain × (explain.is_json ≡ false)
+    × (explain.answer ≡ Certificate question certificate logs)
     × IsUntouched input input' shelf shelf' out out'
 ServesOrLeaves A reads writes words input input' shelf shelf' out out' (Run ring) =
     IsRunLine words ring × (ring.is_alone ≡ false) × IsUntouched input input' shelf shelf' out out'

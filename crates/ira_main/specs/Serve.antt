@@ -1,5 +1,5 @@
 -- What the program does.
-use Rattle.std.specs.Prelude.{◌≡◌, ◌≢◌, ◌⊎◌, ℕ, ◌+◌, true, List, [], ◌∷◌, Some, None, Ok, Err, codes}
+use Rattle.std.specs.Prelude.{◌≡◌, ◌≢◌, ◌⊎◌, ℕ, ◌+◌, true, false, List, [], ◌∷◌, Some, None, Ok, Err, codes}
 use Rattle.ira_event.specs.Limits.{MAX_TEXT}
 use Rattle.ira_event.specs.RingSize.{IsRingSize}
 use Rattle.ira_event.specs.Sink.{SinkState, Takes, StopsIn}
@@ -16,16 +16,19 @@ use Rattle.ira_audit.specs.declared.answer.Answer.TheVariants as audit
 use Rattle.ira_ring.specs.EndsWriter.{ends_text}
 use Rattle.ira_ring.specs.Run.{Run}
 use Rattle.ira_run.specs.declared.run_fault.RunFault.{RunFault}
-use Rattle.ira_words.specs.Request.{IsCheckLine, IsDecideLine, IsExplainLine, IsLogsLine, IsMendLine, IsPairsLine}
-use Rattle.ira_words.specs.Request.{IsRunLine, IsUpgradeLine, IsVersionLine, MayBeRefused}
+use Rattle.ira_words.specs.Request.{IsCheckLine, IsDecideLine, IsDrawLine, IsExplainLine, IsLogsLine, IsMendLine}
+use Rattle.ira_words.specs.Request.{IsPairsLine, IsRunLine, IsShowLine, IsUpgradeLine, IsVersionLine, MayBeRefused}
 use Rattle.ira_words.specs.declared.check_request.CheckRequest.{CheckRequest}
 use Rattle.ira_words.specs.declared.decide_request.DecideRequest.{DecideRequest}
+use Rattle.ira_words.specs.declared.draw_request.DrawRequest.{DrawRequest}
 use Rattle.ira_words.specs.declared.explain_request.ExplainRequest.{ExplainRequest}
 use Rattle.ira_words.specs.declared.explained_answer.ExplainedAnswer.{ExplainedAnswer}
 use Rattle.ira_words.specs.declared.explained_answer.ExplainedAnswer.TheVariants.{OneLog, Logs, Findings, Certificate}
 use Rattle.ira_words.specs.declared.log_source.LogSource.{LogSource}
+use Rattle.ira_words.specs.declared.logs_request.LogsRequest.{LogsRequest}
 use Rattle.ira_words.specs.declared.rewrite_request.RewriteRequest.{RewriteRequest}
 use Rattle.ira_words.specs.declared.run_request.RunRequest.{RunRequest}
+use Rattle.ira_words.specs.declared.show_request.ShowRequest.{ShowRequest}
 use Rattle.ira_words.specs.declared.words_fault.WordsFault.{WordsFault}
 use Rattle.ira_files.specs.CountingReader.{Reads}
 use Rattle.ira_files.specs.FileName.{file_name}
@@ -34,17 +37,20 @@ use Rattle.ira_files.specs.Shelf.{Reading, Writing}
 use Rattle.ira_files.specs.declared.file_name.FileName.{FileName}
 use Rattle.ira_main.specs.AskedRun.{IsAskedRun, IsAskedRunFault}
 use Rattle.ira_main.specs.Decide.{Decides, DecidesTogether, ExplainsFindings, IsUndecided}
+use Rattle.ira_main.specs.Draw.{DrawsLogs}
 use Rattle.ira_main.specs.FilesRead.{IsFilesFault, ReadsFiles, names_of}
 use Rattle.ira_main.specs.LogFiles.{StopsInLogs, WritesLogs}
 use Rattle.ira_main.specs.Mend.{Mends}
-use Rattle.ira_main.specs.Outcome.{Explains, GivesNoAnswer, Outcome, Prints, Reports, Telling}
+use Rattle.ira_main.specs.Outcome.{Explains, GivesNoAnswer, Outcome, Prints, Reports, ReportsAs, Telling}
 use Rattle.ira_main.specs.ProgramFault.{run_fault, words_fault}
+use Rattle.ira_main.specs.Show.{ShowsLogs}
 use Rattle.ira_main.specs.SourceNames.{OfSource}
 use Rattle.ira_main.specs.Status.{IsElectionStatus}
 use Rattle.ira_main.specs.Upgrade.{Upgrades}
 use Rattle.ira_main.specs.Version.{version_line}
 use Rattle.ira_main.specs.declared.program_fault.ProgramFault.{ProgramFault}
-use Rattle.ira_main.specs.declared.program_fault.ProgramFault.TheVariants.{CannotRead, CannotWriteAnswer, OutOfMemory, RingSize}
+use Rattle.ira_main.specs.declared.program_fault.ProgramFault.TheVariants.{CannotRead, CannotWriteAnswer, NoJson, OutOfMemory}
+use Rattle.ira_main.specs.declared.program_fault.ProgramFault.TheVariants.{RingSize}
 use Rattle.ira_main.specs.declared.status.Status.{Status}
 use Rattle.ira_main.specs.declared.status.Status.TheVariants.{Yes}
 
@@ -162,26 +168,41 @@ pub data RunOutcome {S : Type 0} (writes : Writing S) (request : RunRequest) (sh
   not_run : shelf' ≡ shelf → GivesNoAnswer (IsRunFault request) out out' outcome
       → RunOutcome writes request shelf shelf' out out' outcome
 
+-- the words ask for a view as JSON: for the evidence of an answer, or to show logs
+abbrev pub WantsViewAsJson : List (List ℕ) → Type 0
+WantsViewAsJson words =
+    ((explain : ExplainRequest) × IsExplainLine words explain × (explain.is_json ≡ true))
+    ⊎ ((show : ShowRequest) × IsShowLine words show × (show.is_json ≡ true))
+
 -- what is done for words: they are refused; or they ask for logs, or for the evidence of an answer, and their texts are
--- judged together; or to check logs, and their texts are judged with those of a question and of a certificate; or to
--- decide a question of them, and it is decided of their texts; or for the question of all pairs, and it is printed; or
--- for a ring, and it is run; or to upgrade logs, or to mend them, and it is done; or for the version, and it is printed.
--- Or no answer is given, for a fault that the command can have. The shelf is as it was but for the files of a run and of upgraded or
--- mended logs, and a certificate's
+-- judged together; or to show logs, and what happened by them is printed; or to draw them, and a picture is kept; or to
+-- check logs, and their texts are judged with those of a question and of a certificate; or to decide a question of them,
+-- and it is decided of their texts; or for the question of all pairs, and it is printed; or for a ring, and it is run; or
+-- to upgrade logs, or to mend them, and it is done; or for the version, and it is printed. Or no answer is given, for a
+-- fault that the command can have. The shelf is as it was but for the files of a run, of upgraded or mended logs, of a
+-- certificate and of a picture
 pub data CommandOutcome (A : Type 0) {S : Type 0} (reads : Reading S) (writes : Writing S)
     (words : List (List ℕ)) (shelf shelf' : S) (out out' : SinkState)
     (outcome : Outcome) : Type 0 where
   refused : (fault : WordsFault) → MayBeRefused words fault → shelf' ≡ shelf → out' ≡ out
       → outcome ≡ Err (words_fault fault)
       → CommandOutcome A reads writes words shelf shelf' out out' outcome
-  judged : (source : LogSource) → IsLogsLine words source → shelf' ≡ shelf
-      → JudgesLogs Reports reads source shelf out out' outcome
+  judged : (logs : LogsRequest) → IsLogsLine words logs → shelf' ≡ shelf
+      → JudgesLogs (ReportsAs logs.is_json) reads logs.logs shelf out out' outcome
       → CommandOutcome A reads writes words shelf shelf' out out' outcome
-  explained : (explain : ExplainRequest) → IsExplainLine words explain → shelf' ≡ shelf
+  explained : (explain : ExplainRequest) → IsExplainLine words explain → explain.is_json ≡ false → shelf' ≡ shelf
       → ExplainsAnswer A reads explain.answer shelf out out' outcome
       → CommandOutcome A reads writes words shelf shelf' out out' outcome
+  shown : (show : ShowRequest) → IsShowLine words show → show.is_json ≡ false → shelf' ≡ shelf
+      → ShowsLogs reads show shelf out out' outcome
+      → CommandOutcome A reads writes words shelf shelf' out out' outcome
+  unseen : WantsViewAsJson words → shelf' ≡ shelf → out' ≡ out → outcome ≡ Err NoJson
+      → CommandOutcome A reads writes words shelf shelf' out out' outcome
+  drawn : (draw : DrawRequest) → IsDrawLine words draw → DrawsLogs reads writes draw shelf shelf' out out' outcome
+      → CommandOutcome A reads writes words shelf shelf' out out' outcome
   certified : (check : CheckRequest) → IsCheckLine words check → shelf' ≡ shelf
-      → JudgesCheck Reports reads check.question.now check.certificate.now check.logs shelf out out' outcome
+      → JudgesCheck (ReportsAs check.is_json) reads check.question.now check.certificate.now check.logs shelf
+      out out' outcome
       → CommandOutcome A reads writes words shelf shelf' out out' outcome
   decided : (decide : DecideRequest) → IsDecideLine words decide
       → DecidesLogs A reads writes decide shelf shelf' out out' outcome
@@ -210,7 +231,8 @@ pub data Serves (A : Type 0) {S : Type 0} (reads : Reading S) (writes : Writing 
     (out out' : SinkState) (outcome : Outcome) : Type 0 where
   without_words : words ≡ [] → shelf' ≡ shelf → OneLogOutcome Reports input input' out out' outcome
       → Serves A reads writes words input input' shelf shelf' out out' outcome
-  explained : (explain : ExplainRequest) → IsExplainLine words explain → explain.answer ≡ OneLog → shelf' ≡ shelf
+  explained : (explain : ExplainRequest) → IsExplainLine words explain → explain.is_json ≡ false
+      → explain.answer ≡ OneLog → shelf' ≡ shelf
       → OneLogOutcome Explains input input' out out' outcome
       → Serves A reads writes words input input' shelf shelf' out out' outcome
   with_words : words ≢ [] → input' ≡ input → CommandOutcome A reads writes words shelf shelf' out out' outcome

@@ -1,5 +1,5 @@
 -- The statuses that the program ends with, and their numbers.
-use Rattle.std.specs.Prelude.{◌≡◌, ◌⊎◌, ℕ, List, Some, slice_get}
+use Rattle.std.specs.Prelude.{◌≡◌, ◌≢◌, ◌⊎◌, ℕ, List, [], Some, slice_get}
 use Rattle.ira_audit.specs.Findings.{MakeNoCertificate}
 use Rattle.ira_audit.specs.declared.answer.Answer.{Answer}
 use Rattle.ira_audit.specs.declared.answer.Answer.TheVariants as answer
@@ -35,6 +35,10 @@ HasLeader ends = (i : ℕ) × (slice_get ends i ≡ Some Leader)
 -- the status of a run: yes where a node leads, else no
 abbrev pub IsElectionStatus : List NodeEnd → Status → Type 0
 IsElectionStatus ends status = (HasLeader ends × (status ≡ Yes)) ⊎ (¬ (HasLeader ends) × (status ≡ No))
+
+-- the status of a ring where some nodes are to lead: yes where nothing differs, else no
+abbrev pub IsLeadsStatus : List ℕ → Status → Type 0
+IsLeadsStatus differences status = ((differences ≡ []) × (status ≡ Yes)) ⊎ ((differences ≢ []) × (status ≡ No))
 
 -- the status of a fault of the program
 abbrev pub program_fault_status : ProgramFault → Status

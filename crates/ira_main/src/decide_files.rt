@@ -1,26 +1,29 @@
-ghost use Rattle.std.specs.Prelude.{◌≡◌};
+ghost use Rattle.std.specs.Prelude.{◌≡◌, ◌⊎◌, true, Err};
 ghost use Rattle.std.specs.Option.{is_some};
+ghost use Rattle.ira_audit.specs.Findings.{AreReportable};
 ghost use Rattle.ira_audit.specs.WrittenFindings.{AreWritten};
 ghost use Rattle.ira_audit.specs.declared.findings.Findings.{Findings};
 ghost use Rattle.ira_files.specs.Shelf.{WritesFile};
-ghost use Rattle.ira_main.specs.Decide.{KeepsFindings};
+ghost use Rattle.ira_main.specs.Decide.{KeepsFindings, PrintsFindings, PrintsFindingsText};
 ghost use Rattle.ira_main.specs.Serve.{DecidesLogs};
+ghost use Rattle.ira_main.specs.declared.program_fault.ProgramFault.TheVariants.{OutOfMemory};
 
-use crate::cert_file::keep_written;
+use crate::cert_file::{keep, keep_written};
 use crate::overwriting::keep_inputs;
 use crate::program_fault::ProgramFault;
 use crate::read_files::{read_file, read_logs};
 use crate::source_names::source_names;
 use crate::status::Status;
-use ira_audit::WrittenFindings;
+use ira_audit::{Findings, WrittenFindings};
 use ira_event::{Sink, WriteFault, write_bytes};
 use ira_files::{FileName, Shelf};
+use ira_json::findings_lines;
 use ira_words::DecideRequest;
-use std::alloc::Allocator;
+use std::alloc::{Allocator, Global};
 use std::thread::Threads;
 
 // Keeps the certificate of these findings, if there is one, in a new file of this name, if there is one.
-fn keep_findings<'a, A: Allocator, F: Shelf>(
+fn keep_written_findings<'a, A: Allocator, F: Shelf>(
     written: &WrittenFindings<A>,
     name: Option<&'a str>,
     shelf: &mut F,
@@ -37,10 +40,63 @@ fn keep_findings<'a, A: Allocator, F: Shelf>(
     }
 }
 
+// Keeps the certificate of these findings, if there is one, in a new file of this name, if there is one.
+fn keep_findings<'a, A: Allocator + Clone, F: Shelf>(
+    findings: Findings<A>,
+    name: Option<&'a str>,
+    shelf: &mut F,
+) -> Result<Status, ProgramFault<'a>>
+    ensures { KeepsFindings (WritesFile F.creates F.closes F.Out.state) findings name.entry
+        shelf.old shelf.new result }
+{
+    let Some(name) = name else {
+        return Ok(Status::of_findings(&findings));
+    };
+    match findings.into_certificate()? {
+        Some(certificate) => keep(&certificate, name, shelf),
+        None => Ok(Status::No),
+    }
+}
+
+// Prints this text of the findings, and then keeps their certificate.
+fn print_text<'a, A: Allocator + Clone, F: Shelf, W: Sink>(
+    text: &[u8],
+    findings: Findings<A>,
+    name: Option<&'a str>,
+    shelf: &mut F,
+    out: &mut W,
+) -> Result<Status, ProgramFault<'a>>
+    ensures { PrintsFindingsText (WritesFile F.creates F.closes F.Out.state) name.entry shelf.old shelf.new
+        (W.state out.old) (W.state out.new) result text.now findings }
+{
+    match write_bytes(text, out) {
+        Ok(()) => keep_findings(findings, name, shelf),
+        Err(WriteFault) => Err(ProgramFault::CannotWriteAnswer),
+    }
+}
+
+// Prints the findings as JSON, and then keeps their certificate.
+fn print_json<'a, A: Allocator + Clone, F: Shelf, W: Sink>(
+    alloc: Global,
+    findings: Findings<A>,
+    name: Option<&'a str>,
+    shelf: &mut F,
+    out: &mut W,
+) -> Result<Status, ProgramFault<'a>>
+    requires { AreReportable findings }
+    ensures { PrintsFindings (WritesFile F.creates F.closes F.Out.state) true name.entry shelf.old shelf.new
+        (W.state out.old) (W.state out.new) result findings
+        ⊎ ((shelf.new ≡ shelf.old) × (W.state out.new ≡ W.state out.old) × (result ≡ Err OutOfMemory)) }
+{
+    let status = Status::of_findings(&findings);
+    let text = findings_lines(alloc, &findings, status.number())?;
+    print_text(text.as_bytes(), findings, name, shelf, out)
+}
+
 /// Reads the question and then the logs, all before one is judged, decides the question, and prints what is found. A
 /// certificate is kept only once that is printed, and never over one of these files. The lines are put together first,
 /// since the output isn't buffered; with them the text of the certificate, where one is asked for, so that the steps of no
-/// case need be kept.
+/// case need be kept. For JSON they are kept, and the certificate is made of them.
 pub(crate) fn decide_files<'a, R, A, F, W>(
     rt: &R,
     alloc: A,
@@ -49,7 +105,7 @@ pub(crate) fn decide_files<'a, R, A, F, W>(
     out: &mut W,
 ) -> Result<Status, ProgramFault<'a>>
 where
-    R: Threads + Sync,
+    R: AllocGlobal + Threads + Sync,
     A: Allocator + Clone + Send + Sync,
     F: Shelf + Sync,
     W: Sink,
@@ -60,9 +116,13 @@ where
     keep_inputs(&alloc, decide.certificate, Some(decide.question), &names)?;
     let question = read_file(&alloc, FileName::Given(decide.question), shelf)?;
     let audit = read_logs(rt, alloc.clone()?, &names, shelf)?;
+    if decide.is_json {
+        let findings = audit.decide(question.bytes())?;
+        return print_json(rt.alloc(), findings, decide.certificate, shelf, out);
+    }
     let written = audit.decide_in_writing(question.bytes(), decide.certificate.is_some())?;
     match write_bytes(written.lines(), out) {
-        Ok(()) => keep_findings(&written, decide.certificate, shelf),
+        Ok(()) => keep_written_findings(&written, decide.certificate, shelf),
         Err(WriteFault) => Err(ProgramFault::CannotWriteAnswer),
     }
 }

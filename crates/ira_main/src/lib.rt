@@ -3,7 +3,9 @@
 
 mod asked_run;
 mod cert_file;
+mod cut_fault_line;
 mod decide_files;
+mod draw_files;
 mod explain_files;
 mod explain_question;
 mod input_audit;
@@ -19,7 +21,9 @@ mod progress;
 mod read_files;
 mod record_run;
 mod report;
+mod ring_printer;
 mod ring_size;
+mod show_files;
 mod source_names;
 mod status;
 mod system;

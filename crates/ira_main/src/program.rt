@@ -1,10 +1,11 @@
 ghost use Rattle.std.specs.Prelude.{◌≡◌, ◌≤◌, ◌+◌, map};
 ghost use Rattle.ira_files.specs.Shelf.{WritesFile};
-ghost use Rattle.ira_main.specs.Outcome.{Outcome, Reports, ReportsOutcome, outcome_number};
+ghost use Rattle.ira_main.specs.Outcome.{Outcome, Reports, ReportsAs, ReportsOutcome, outcome_number};
 ghost use Rattle.ira_main.specs.Progress.{ServesOrLeaves};
 ghost use Rattle.ira_main.specs.Serve.{OneLogOutcome, JudgesCheck, JudgesLogs, Serves};
 
 use crate::decide_files::decide_files;
+use crate::draw_files::draw_files;
 use crate::explain_files::{explain_files, explain_input};
 use crate::explain_question::{explain_check_files, explain_question_files};
 use crate::input_audit::audit_input;
@@ -14,7 +15,8 @@ use crate::program_fault::{ProgramFault, report_outcome};
 use crate::progress::Progress;
 use crate::read_files::{read_file, read_logs};
 use crate::record_run::{record_run_alone, record_run_on_threads};
-use crate::report::report;
+use crate::report::{report, report_as};
+use crate::show_files::show_files;
 use crate::source_names::source_names;
 use crate::status::Status;
 use crate::upgrade_files::upgrade_files;
@@ -22,7 +24,7 @@ use crate::version::print_version;
 use ira_event::{MAX_TEXT, Sink};
 use ira_files::{CountingReader, FileName, Shelf};
 use ira_links::OpenGate;
-use ira_words::{CheckRequest, ExplainRequest, ExplainedAnswer, LogSource, Request, read_words};
+use ira_words::{CheckRequest, ExplainRequest, ExplainedAnswer, LogsRequest, Request, read_words};
 use std::alloc::Allocator;
 use std::io::Read;
 use std::sync::Wait;
@@ -48,21 +50,22 @@ fn judge_input<'a, A: Allocator, I: Read, W: Sink>(
 fn judge_files<'a, R, A, F, W>(
     rt: &R,
     alloc: A,
-    source: &LogSource<'a>,
+    asked: &LogsRequest<'a>,
     shelf: &F,
     out: &mut W,
 ) -> Result<Status, ProgramFault<'a>>
 where
-    R: Threads + Sync,
+    R: AllocGlobal + Threads + Sync,
     A: Allocator + Clone + Send + Sync,
     F: Shelf + Sync,
     W: Sink,
-    ensures { JudgesLogs Reports F.reads source.now shelf.now (W.state out.old) (W.state out.new) result }
+    ensures { JudgesLogs (ReportsAs asked.now.is_json) F.reads asked.now.logs shelf.now
+        (W.state out.old) (W.state out.new) result }
 {
-    let names = source_names(&alloc, source, shelf)?;
+    let names = source_names(&alloc, &asked.logs, shelf)?;
     let audit = read_logs(rt, alloc, &names, shelf)?;
     let answer = audit.finish(rt)?;
-    report(&answer, out)
+    report_as(rt.alloc(), asked.is_json, &answer, out)
 }
 
 // Judges the logs with the question and the certificate in the files that are named. The files are read in this order, all
@@ -75,13 +78,13 @@ fn check_files<'a, R, A, F, W>(
     out: &mut W,
 ) -> Result<Status, ProgramFault<'a>>
 where
-    R: Threads + Wait + Clock + Sync,
+    R: AllocGlobal + Threads + Wait + Clock + Sync,
     A: Allocator + Clone + Send + Sync,
     F: Shelf + Sync,
     W: Sink,
     requires depth { check.now.depth ≤ 4 }
-    ensures { JudgesCheck Reports F.reads check.now.question.now check.now.certificate.now check.now.logs shelf.now
-        (W.state out.old) (W.state out.new) result }
+    ensures { JudgesCheck (ReportsAs check.now.is_json) F.reads check.now.question.now check.now.certificate.now
+        check.now.logs shelf.now (W.state out.old) (W.state out.new) result }
 {
     let names = source_names(&alloc, &check.logs, shelf)?;
     let question = read_file(&alloc, FileName::Given(check.question), shelf)?;
@@ -89,7 +92,7 @@ where
     let audit = read_logs(rt, alloc, &names, shelf)?;
     let (question, certificate) = (question.bytes(), certificate.bytes());
     let answer = audit.finish_check(rt, question, certificate, check.depth, &OpenGate)?;
-    report(&answer, out)
+    report_as(rt.alloc(), check.is_json, &answer, out)
 }
 
 /// Does what the words ask for, unless that waits: it leaves a check, the evidence of one, and a run with a thread for each
@@ -120,8 +123,16 @@ where
     };
     match request {
         Request::OneLog => Progress::Ended(judge_input(alloc, input, out)),
-        Request::Logs(source) => Progress::Ended(judge_files(rt, alloc, &source, shelf, out)),
-        Request::Explain(ExplainRequest { answer }) => match answer {
+        Request::Logs(logs) => Progress::Ended(judge_files(rt, alloc, &logs, shelf, out)),
+        Request::Explain(ExplainRequest { is_json: true, .. }) => {
+            Progress::Ended(Err(ProgramFault::NoJson))
+        }
+        Request::Explain(
+            ExplainRequest {
+                answer,
+                is_json: false,
+            },
+        ) => match answer {
             ExplainedAnswer::OneLog => Progress::Ended(explain_input(alloc, input, out)),
             ExplainedAnswer::Logs(logs) => {
                 Progress::Ended(explain_files(rt, alloc, &logs, shelf, out))
@@ -139,6 +150,9 @@ where
                 logs,
             },
         },
+        Request::Show(show) if show.is_json => Progress::Ended(Err(ProgramFault::NoJson)),
+        Request::Show(show) => Progress::Ended(show_files(rt, alloc, &show, shelf, out)),
+        Request::Draw(draw) => Progress::Ended(draw_files(rt, alloc, &draw, shelf, out)),
         Request::Check(check) => Progress::Check(check),
         Request::Decide(decide) => Progress::Ended(decide_files(rt, alloc, &decide, shelf, out)),
         Request::Pairs(nodes) => Progress::Ended(print_pairs(alloc, nodes, out)),

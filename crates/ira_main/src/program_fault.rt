@@ -6,9 +6,11 @@ ghost use Rattle.ira_main.specs.ProgramFault.{program_fault_text, read_fault, wr
 ghost use Rattle.ira_main.specs.Outcome.{ReportsOutcome, outcome_number};
 ghost use Rattle.ira_main.specs.Status.{program_fault_status};
 
+use crate::cut_fault_line::write_cut_fault;
 use crate::status::Status;
 use ira_event::{Line, OutOfMemory, Sink, WriteFault, write_bytes};
 use ira_files::{FileName, ShelfFault};
+use ira_moment::CutFault;
 use ira_ring::RunFault;
 use ira_words::WordsFault;
 use std::alloc::{AllocError, AllocFailed};
@@ -24,13 +26,21 @@ pub enum ProgramFault<'a> {
     CannotRead(FileName<'a>),
     /// A ring of so many nodes is none.
     RingSize,
+    /// The numbers of events that are asked for are no consistent cut of the logs.
+    NoMoment(CutFault),
+    /// A node that is to lead is none of the ring.
+    NoPlace,
+    /// A view is wanted as JSON, which has none.
+    NoJson,
+    /// So many events have the columns that are asked for, and these are too many for one picture.
+    TooManyEvents(u32),
     /// The run was refused, or came to nothing.
     RunRefused(RunFault),
     /// The log of the node at this place can't be written to its file in this folder.
     CannotWriteLog(&'a str, u8),
-    /// A log would be written over the file of this name, which is one of the input.
+    /// A new file would be written over the one of this name, which is one of the input.
     WouldOverwrite(FileName<'a>),
-    /// The certificate can't be written to the file of this name.
+    /// A certificate or a picture can't be written to the file of this name.
     CannotWrite(&'a str),
     /// The text of the certificate couldn't be read back.
     CertificatePastLimits,
@@ -63,7 +73,7 @@ impl<'a> ProgramFault<'a> {
         }
     }
 
-    /// The certificate wasn't written to the file of this name.
+    /// A certificate or a picture wasn't written to the file of this name.
     pub(crate) fn cannot_write(name: &'a str, fault: ShelfFault) -> ProgramFault<'a>
         ensures { result ≡ write_fault name.entry fault }
     {
@@ -92,6 +102,15 @@ impl<'a> ProgramFault<'a> {
             ProgramFault::WordIsNoText => write_bytes(b"ira: a word is not UTF-8\n", err),
             ProgramFault::CannotRead(name) => write_file_named(b"ira: cannot read ", *name, err),
             ProgramFault::RingSize => write_bytes(b"ira: ring size\n", err),
+            ProgramFault::NoMoment(fault) => write_cut_fault(*fault, err),
+            ProgramFault::NoJson => write_bytes(
+                b"ira: --json is for logs, check and decide\n",
+                err,
+            ),
+            ProgramFault::NoPlace => {
+                write_bytes(b"ira: --leads names a node that the ring has not\n", err)
+            }
+            ProgramFault::TooManyEvents(events) => too_many_events(*events).write(err),
             ProgramFault::RunRefused(fault) => refused_run(*fault).write(err),
             ProgramFault::CannotWriteLog(folder, place) => write_named(
                 b"ira: cannot write ",
@@ -131,6 +150,16 @@ fn log_in_folder(place: u8) -> Line
     line.add(b"/");
     line.add_number(u32::from(place));
     line.add(b".log\n");
+    line
+}
+
+fn too_many_events(events: u32) -> Line
+    ensures { result ≡ codes "ira: " ++ decimal events ++ codes " events are too many for one picture, which holds 20000: give --from and --to\n" }
+{
+    let mut line = Line::new();
+    line.add(b"ira: ");
+    line.add_number(events);
+    line.add(b" events are too many for one picture, which holds 20000: give --from and --to\n");
     line
 }
 

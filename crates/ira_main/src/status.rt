@@ -1,5 +1,5 @@
 ghost use Rattle.std.specs.Prelude.{◌≡◌};
-ghost use Rattle.ira_main.specs.Status.{IsElectionStatus, IsFindingsStatus, answer_status, status_number};
+ghost use Rattle.ira_main.specs.Status.{IsElectionStatus, IsFindingsStatus, IsLeadsStatus, answer_status, status_number};
 
 use ira_audit::{Answer, Findings};
 use ira_ring::NodeEnd;
@@ -8,9 +8,9 @@ use std::alloc::Allocator;
 /// What the program ends with.
 #[derive(Clone, Copy)]
 pub enum Status {
-    /// The answer was yes, or a node was elected.
+    /// The answer was yes, a node was elected, or those lead that are to.
     Yes,
-    /// The answer was no, or no node was elected.
+    /// The answer was no, no node was elected, or others lead than are to.
     No,
     /// A word, a ring or a file was refused, or a read or a write failed.
     Refused,
@@ -43,6 +43,17 @@ impl Status {
         ensures { IsElectionStatus ends.now result }
     {
         if ends.contains(&NodeEnd::Leader) {
+            Status::Yes
+        } else {
+            Status::No
+        }
+    }
+
+    /// Whether those lead that are to, by the lines that say where they differ.
+    pub(crate) fn of_differences(differences: &[u8]) -> Status
+        ensures { IsLeadsStatus differences.now result }
+    {
+        if differences.is_empty() {
             Status::Yes
         } else {
             Status::No

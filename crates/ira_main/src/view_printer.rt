@@ -13,9 +13,13 @@ use ira_event::{MemorySink, Sink, WriteFault, write_bytes};
 use ira_views::{FindingsView, View};
 use std::alloc::Allocator;
 
-// Writes the line of an answer, and the page after it.
+/// Writes the line of an answer, and the page after it.
 #[tactic(auto, using(ira_event::proofs::Writing::writes))]
-fn write_view<W: Sink>(answer: &Answer, page: &[u8], sink: &mut W) -> Result<(), WriteFault>
+pub(crate) fn write_view<W: Sink>(
+    answer: &Answer,
+    page: &[u8],
+    sink: &mut W,
+) -> Result<(), WriteFault>
     requires { IsReportable answer.now }
     ensures { Wrote result (report_line answer.now ++ page.now) (W.state sink.old) (W.state sink.new) }
 {

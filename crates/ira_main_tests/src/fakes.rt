@@ -150,6 +150,17 @@ impl<'a> MemoryShelf<'a> {
             .all(|file| file.bytes.starts_with(first))
     }
 
+    /// Whether one file was written, a picture of this name that has these words.
+    pub(crate) fn has_drawn(&self, name: &str, words: &[&str]) -> bool {
+        let Some(Ok(picture)) = self.bytes_written(name).map(str::from_utf8) else {
+            return false;
+        };
+        self.written.len() == 1
+            && picture.starts_with("<svg ")
+            && picture.ends_with("</svg>\n")
+            && words.iter().all(|held| picture.contains(*held))
+    }
+
     /// Compares the files that were written, in their order.
     pub(crate) fn assert_written(&self, rt: &impl Abort, files: &[(&str, &str)]) {
         assert!(rt; self.has_written(files));

@@ -106,6 +106,7 @@ fn logs_that_are_named_twice_or_not_at_all(rt: HostRuntime) {
         &["upgrade", "--out=d"].as_slice(),
         &["mend", "--out=d"].as_slice(),
         &["explain", "--dir=d", "0.log"].as_slice(),
+        &["show", "--at=4,4"].as_slice(),
     ] {
         assert_refused(&rt, words, text, USAGE);
     }
@@ -115,12 +116,22 @@ fn logs_that_are_named_twice_or_not_at_all(rt: HostRuntime) {
 
 #[test]
 fn options_that_do_not_go_together(rt: HostRuntime) {
-    let alone = "error: --case <K> and --cert <C> need --question <Q>";
+    let case = "error: --case <K> needs --question <Q>";
+    let certificate = "error: --cert <C> needs --question <Q>";
     let both = "error: --case <K> and --cert <C> exclude one another";
+    let moments = "error: --at <N0,N1,..> and --question <Q> exclude one another";
+    let numbers =
+        "error: --leads <P,..> and --at <N0,N1,..> are numbers with commas between them, as 2,3";
     let logs = "error: the logs are named either by <LOG>... or by --dir <DIR>";
     for (words, text) in [
-        (&["explain", "--case=0", "0.log"].as_slice(), alone),
-        (&["explain", "--cert=c", "0.log"].as_slice(), alone),
+        (&["explain", "--case=0", "0.log"].as_slice(), case),
+        (&["explain", "--cert=c", "0.log"].as_slice(), certificate),
+        (&["show", "--case=0", "0.log"].as_slice(), case),
+        (
+            &["show", "--at=1", "--question=q", "0.log"].as_slice(),
+            moments,
+        ),
+        (&["show", "--leads=0,", "0.log"].as_slice(), numbers),
         (
             &["explain", "--question=q", "--case=0", "--cert=c", "0.log"].as_slice(),
             both,

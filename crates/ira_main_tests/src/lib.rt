@@ -6,6 +6,8 @@ mod checks;
 #[cfg(test)]
 mod decides;
 #[cfg(test)]
+mod draws;
+#[cfg(test)]
 mod fakes;
 #[cfg(test)]
 mod files;
@@ -31,6 +33,8 @@ mod requests;
 mod runs;
 #[cfg(test)]
 mod samples;
+#[cfg(test)]
+mod shows;
 #[cfg(test)]
 mod upgrades;
 #[cfg(test)]

@@ -104,6 +104,42 @@ const CASES: &[Case] = &[
         written: &[],
     },
     Case {
+        words: &["show", "--leads=1", "--at=1,0", "0.log", "1.log"],
+        status: 1,
+        out: "yes\nnode 0 leads, and isn't named\nnode 1 doesn't lead: passive\n\nAt the cut 1 0:\n\n  \
+              round  drew  greatest ID  of node\n      1     1            2  0\n\n  \
+              node  start      events     of  draws  sent  received  dropped  state\n     \
+              0  initiator       1      4      1     0         0        0  \
+              active in round 1 with ID 2, owes 1 2 1 clean\n     \
+              1  initiator       0      4      0     0         0        0  choosing in round 1\n\n  \
+              No message is on its way.\n",
+        err: "",
+        written: &[],
+    },
+    Case {
+        words: &["show", "--events", "--question=two", "0.log", "1.log"],
+        status: 0,
+        out: "yes\n\nThe first moment of case 1 (0: active, 1: passive):\n\n  \
+              1  node 0  event 1  draw 2                       active in round 1 with ID 2, owes 1 2 1 clean\n  \
+              2  node 1  event 1  draw 1                       active in round 1 with ID 1, owes 1 1 1 clean\n  \
+              3  node 0  event 2  send 1 2 1 clean\n  \
+              4  node 1  event 2  send 1 1 1 clean\n  \
+              5  node 1  event 3  recv 1 2 1 clean  of step 3  passive, owes 1 2 2 clean\n  \
+              -- here: 2 3 --\n  \
+              6  node 0  event 3  recv 1 1 1 clean  of step 4  dropped\n  \
+              7  node 1  event 4  send 1 2 2 clean\n  \
+              8  node 0  event 4  recv 1 2 2 clean  of step 7  leader in round 1 with ID 2\n",
+        err: "",
+        written: &[],
+    },
+    Case {
+        words: &["show", "--question=two", "--case=0", "0.log", "1.log"],
+        status: 0,
+        out: "yes\n\nNo moment meets case 0.\n",
+        err: "",
+        written: &[],
+    },
+    Case {
         words: &["check", "--question=one", "--cert=c", "0.log", "1.log"],
         status: 0,
         out: "yes\n",
@@ -231,7 +267,9 @@ where
     if is_told && found.status == case.status && shelf.has_written(case.written) {
         return Some(true);
     }
-    (case.gives_up(&found) && out.is_empty()).then_some(false)
+    // an order of events is printed in parts
+    let is_part = case.words.contains(&"--events") && case.out.as_bytes().starts_with(out);
+    (case.gives_up(&found) && (out.is_empty() || is_part)).then_some(false)
 }
 
 fn answers<R>(rt: &R, case: &Case, alloc: Memory) -> bool

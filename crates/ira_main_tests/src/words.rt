@@ -8,10 +8,12 @@ use std::thread::Threads;
 use std::time::Clock;
 
 pub(crate) const USAGE: &str =
-    "\n\nUsage: ira < LOG\n       ira logs <LOGS>\n       ira explain [<LOGS>]\n       \
-                     ira explain --question <Q> [--case <K> | --cert <C>] <LOGS>\n       \
-                     ira check --question <Q> --cert <C> [--depth <D>] <LOGS>\n       \
-                     ira decide --question <Q> [--out <C>] <LOGS>\n       \
+    "\n\nUsage: ira < LOG\n       ira logs [--json] <LOGS>\n       ira explain [--json] [<LOGS>]\n       \
+                     ira explain --question <Q> [--case <K> | --cert <C>] [--json] <LOGS>\n       \
+                     ira show [OPTIONS] <LOGS>\n       \
+                     ira draw --out <FILE> [OPTIONS] <LOGS>\n       \
+                     ira check --question <Q> --cert <C> [--depth <D>] [--json] <LOGS>\n       \
+                     ira decide --question <Q> [--out <C>] [--json] <LOGS>\n       \
                      ira pairs <N>\n       \
                      ira run --nodes <N> --seed <S> --out <DIR> [OPTIONS]\n       \
                      ira upgrade --out <DIR> <LOGS>\n       \
@@ -43,7 +45,7 @@ fn words_that_are_no_command(rt: HostRuntime) {
         (
             "--",
             "error: 'ira' requires a subcommand but one was not provided\n  \
-             [subcommands: logs, explain, check, decide, pairs, run, upgrade, mend, version, help]",
+             [subcommands: logs, explain, show, draw, check, decide, pairs, run, upgrade, mend, version, help]",
         ),
     ] {
         assert_refused(&rt, &[word], first_line, USAGE);
@@ -53,10 +55,12 @@ fn words_that_are_no_command(rt: HostRuntime) {
 #[test]
 fn help_is_a_refused_word(rt: HostRuntime) {
     let help = "Judges and makes logs of Itai-Rodeh elections on anonymous rings.\n\n\
-                Usage: ira < LOG\n       ira logs <LOGS>\n       ira explain [<LOGS>]\n       \
-                ira explain --question <Q> [--case <K> | --cert <C>] <LOGS>\n       \
-                ira check --question <Q> --cert <C> [--depth <D>] <LOGS>\n       \
-                ira decide --question <Q> [--out <C>] <LOGS>\n       \
+                Usage: ira < LOG\n       ira logs [--json] <LOGS>\n       ira explain [--json] [<LOGS>]\n       \
+                ira explain --question <Q> [--case <K> | --cert <C>] [--json] <LOGS>\n       \
+                ira show [OPTIONS] <LOGS>\n       \
+                ira draw --out <FILE> [OPTIONS] <LOGS>\n       \
+                ira check --question <Q> --cert <C> [--depth <D>] [--json] <LOGS>\n       \
+                ira decide --question <Q> [--out <C>] [--json] <LOGS>\n       \
                 ira pairs <N>\n       \
                 ira run --nodes <N> --seed <S> --out <DIR> [OPTIONS]\n       \
                 ira upgrade --out <DIR> <LOGS>\n       \
@@ -65,6 +69,8 @@ fn help_is_a_refused_word(rt: HostRuntime) {
                 Commands:\n\
                 \x20 logs     Judges the logs of all nodes of a ring together\n\
                 \x20 explain  Judges logs, or one log on standard input, and says why the answer is so\n\
+                \x20 show     Shows what happened, at the end of the logs or at another moment\n\
+                \x20 draw     Draws what happened, as a space-time diagram in one SVG file\n\
                 \x20 check    Judges logs together with a certificate that no moment met a case of a question\n\
                 \x20 decide   Decides for each case of a question whether some moment of the logged run met it\n\
                 \x20 pairs    Prints the question whether two nodes of a ring ever lead at once\n\
@@ -76,8 +82,9 @@ fn help_is_a_refused_word(rt: HostRuntime) {
                 Options:\n  -h, --help  Print help\n\n\
                 Without words ira judges the log of one node, on standard input. It prints \
                 `yes`, or `no` and\nthe first reason. The status is 0 for yes, absent cases, an \
-                elected leader, upgraded or mended\nlogs, 1 for no, a case that is present or no leader, 2 for \
-                refused words, a refused ring, a\nfailed read or a failed write, 3 out of memory.\n";
+                elected leader, upgraded or mended\nlogs, 1 for no, a case that is present, no leader or \
+                other leaders than --leads names, 2 for\nrefused words, a refused ring, a failed read or a \
+                failed write, 3 out of memory.\n";
     for words in [
         &["--help"].as_slice(),
         &["-h"].as_slice(),

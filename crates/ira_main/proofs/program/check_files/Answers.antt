@@ -5,8 +5,8 @@ use Rattle.ira_main.specs.FilesRead.{names_of}
 use Rattle.ira_main.specs.declared.program_fault.ProgramFault.TheVariants.{OutOfMemory}
 use Rattle.ira_main.proofs.program.check_files.Goals as goal
 
-pub report-requires : goal.report-requires
-report-requires g c =
+pub report_as-requires : goal.report_as-requires
+report_as-requires g c =
     let taken = c.in_ok-audit.ensures in
     c.in_ok-answer.ensures.reportable taken.0 taken.1
 
@@ -16,22 +16,26 @@ returns g c =
     let answer = c.in_ok-answer.answer in
     let exact = unless_ok answer _ _ (c.in_ok-answer.ensures.answer taken.0 answer taken.1) in
     let is = exact.0 refl in
-    inl (
-      _,
-      c.in_ok-names.ensures,
-      inl (record {
-        question = c.in_ok-question.question;
-        certificate = c.in_ok-certificate.certificate;
-        texts = taken.0;
-        given = (c.in_ok-question.ensures.read, (c.in_ok-certificate.ensures.read, rw c.deref.ensures.value at taken.2));
-        answer = answer;
-        judged = rw (c.bytes-question.ensures, c.bytes-certificate.ensures) at is;
-        never = λ e.
-            let never = c.in_ok-answer.ensures.yes taken.0 taken.1 (ap Ok e) in
-            rw (c.bytes-question.ensures, c.bytes-certificate.ensures) at never;
-        told = c.report.ensures;
-      }),
-    )
+    elim c.report_as.ensures [
+      | inl told ↦
+          inl (
+            _,
+            c.in_ok-names.ensures,
+            inl (record {
+              question = c.in_ok-question.question;
+              certificate = c.in_ok-certificate.certificate;
+              texts = taken.0;
+              given = (c.in_ok-question.ensures.read, (c.in_ok-certificate.ensures.read, rw c.deref.ensures.value at taken.2));
+              answer = answer;
+              judged = rw (c.bytes-question.ensures, c.bytes-certificate.ensures) at is;
+              never = λ e.
+                  let never = c.in_ok-answer.ensures.yes taken.0 taken.1 (ap Ok e) in
+                  rw (c.bytes-question.ensures, c.bytes-certificate.ensures) at never;
+              told = told;
+            }),
+          )
+      | inr full ↦ inl (_, c.in_ok-names.ensures, inr (OutOfMemory, inr refl, full.0, full.1))
+    ]
 
 pub returns-in_err-names : goal.returns-in_err-names
 returns-in_err-names g c = inr (refl, (_, c.in_err-names.ensures, refl, search rules))

@@ -36,9 +36,9 @@ returns-in-ExplainCheck-clause-executed g c =
     let left = c.in-ExplainCheck.ensures.served in
     let made = left.1 in
     let first = made.first in
-    let same = left.3 in
+    let same = left.4 in
     with_words (λ none. cc) same.input_is
-    (explained _ made same.shelf_is (rw left.2 (rw (same.shelf_is, same.out_is) at c.explain_check_files.ensures)))
+    (explained _ made left.2 same.shelf_is (rw left.3 (rw (same.shelf_is, same.out_is) at c.explain_check_files.ensures)))
 
 pub returns-clause-executed : goal.returns-clause-executed
 returns-clause-executed g c =

@@ -1,6 +1,7 @@
 use Rattle.std.proofs.Common.{◌≡◌, ◌∙◌, Err, List, [], ◌∷◌, Ok, Result, ℕ, ap, map, refl, subst, sym}
 use Rattle.ira_words.specs.Request.{IsMadeOf}
-use Rattle.ira_main.specs.Serve.CommandOutcome.{decided, judged, mended, pairs, recorded, refused, upgraded, explained as explained_of_logs}
+use Rattle.ira_main.specs.Serve.CommandOutcome.{decided, drawn, judged, mended, pairs, recorded, refused, shown, upgraded}
+use Rattle.ira_main.specs.Serve.CommandOutcome.{explained as explained_of_logs}
 use Rattle.ira_main.specs.Serve.Serves.{explained, with_words, without_words}
 use Rattle.ira_main.proofs.program.serve_without_wait.Goals as goal
 
@@ -32,22 +33,32 @@ returns-in-Logs-clause-served g c =
 pub returns-in-OneLog-answer-clause-served : goal.returns-in-OneLog-answer-clause-served
 returns-in-OneLog-answer-clause-served g c =
     let made = subst (IsMadeOf (map (λ w. w.now) c.args.words.now)) c.in-Explain.is c.in-Ok.ensures.made in
-    explained _ made c.in-OneLog-answer.is refl c.explain_input.ensures.judged
+    explained _ made refl c.in-OneLog-answer.is refl c.explain_input.ensures.judged
 
 pub returns-in-Logs-answer-clause-served : goal.returns-in-Logs-answer-clause-served
 returns-in-Logs-answer-clause-served g c =
     let made = subst (IsMadeOf (map (λ w. w.now) c.args.words.now)) c.in-Explain.is c.in-Ok.ensures.made in
-    with_words (some_words _ _ _ made.first) refl (explained_of_logs _ made refl (rw c.in-Logs-answer.is c.explain_files.ensures))
+    with_words (some_words _ _ _ made.first) refl (explained_of_logs _ made refl refl (rw c.in-Logs-answer.is c.explain_files.ensures))
 
 pub returns-in-Findings-clause-served : goal.returns-in-Findings-clause-served
 returns-in-Findings-clause-served g c =
     let made = subst (IsMadeOf (map (λ w. w.now) c.args.words.now)) c.in-Explain.is c.in-Ok.ensures.made in
-    with_words (some_words _ _ _ made.first) refl (explained_of_logs _ made refl (rw c.in-Findings.is c.explain_question_files.ensures))
+    with_words (some_words _ _ _ made.first) refl (explained_of_logs _ made refl refl (rw c.in-Findings.is c.explain_question_files.ensures))
 
 pub returns-in-Certificate-clause-served : goal.returns-in-Certificate-clause-served
 returns-in-Certificate-clause-served g c =
     let made = subst (IsMadeOf (map (λ w. w.now) c.args.words.now)) c.in-Explain.is c.in-Ok.ensures.made in
-    (_, made, c.in-Certificate.is, record { input_is = refl; shelf_is = refl; out_is = refl })
+    (_, made, refl, c.in-Certificate.is, record { input_is = refl; shelf_is = refl; out_is = refl })
+
+pub returns-in-Show-clause-served : goal.returns-in-Show-clause-served
+returns-in-Show-clause-served g c =
+    let made = subst (IsMadeOf (map (λ w. w.now) c.args.words.now)) c.in-Show.is c.in-Ok.ensures.made in
+    with_words (some_words _ _ _ made.first) refl (shown _ made c.if-show.false refl c.show_files.ensures)
+
+pub returns-in-Draw-clause-served : goal.returns-in-Draw-clause-served
+returns-in-Draw-clause-served g c =
+    let made = subst (IsMadeOf (map (λ w. w.now) c.args.words.now)) c.in-Draw.is c.in-Ok.ensures.made in
+    with_words (some_words _ _ _ made.first) refl (drawn _ made c.draw_files.ensures)
 
 pub returns-in-Check-clause-served : goal.returns-in-Check-clause-served
 returns-in-Check-clause-served g c =

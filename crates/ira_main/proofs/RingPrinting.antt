@@ -1,0 +1,70 @@
+-- What is printed of a ring.
+use Rattle.std.proofs.Common.{◌≡◌, ◌∙◌, ℕ, Bool, true, false, List, [], ◌++◌, Result, Err, Ok, append_assoc, refl, subst}
+use Rattle.std.proofs.lemmas.List.Folds.{list_all-append}
+use Rattle.std.specs.Prelude.{nat_eq, ◌||◌}
+use Rattle.std.specs.Result.{is_err}
+use Rattle.ira_audit.specs.Report.{report_line}
+use Rattle.ira_audit.specs.declared.answer.Answer.TheVariants as audit
+use Rattle.ira_event.proofs.Writing.{StopsIn-append, Takes-StopsIn, Takes-append}
+use Rattle.ira_event.specs.Sink.{SinkState, StopsIn, Takes, Wrote}
+use Rattle.ira_explain.specs.Printable.{IsPrintable, is_graphic}
+use Rattle.ira_show.specs.Showed.{OfPrintable}
+use Rattle.ira_main.specs.Show.{PrintsRing, ring_text}
+use Rattle.ira_main.specs.Show.PrintsRing.{no_memory, printed, stopped}
+use Rattle.ira_main.specs.Status.{IsLeadsStatus}
+use Rattle.ira_main.specs.declared.program_fault.ProgramFault.TheVariants.{CannotWriteAnswer, OutOfMemory}
+use Rattle.ira_main.specs.declared.status.Status.{Status}
+
+-- a text was taken where its writer didn't fail, and a first part of it where it did
+pub taken_of : {T E : Type 0} (r : Result T E) (text : List ℕ) (s t : SinkState) → is_err r ≡ false → Wrote r text s t
+    → Takes text s t
+taken_of (Ok _) text s t e wrote = wrote
+taken_of (Err _) text s t e wrote = absurd cc
+
+pub stopped_of : {T E : Type 0} (r : Result T E) (text : List ℕ) (s t : SinkState) → is_err r ≡ true → Wrote r text s t
+    → StopsIn text s t
+stopped_of (Ok _) text s t e wrote = absurd cc
+stopped_of (Err _) text s t e wrote = wrote
+
+pub printable_both : (a b : List ℕ) → IsPrintable a → IsPrintable b → IsPrintable (a ++ b)
+printable_both a b p q = list_all-append (λ c. is_graphic c || nat_eq c 10) a b ∙ rw p q
+
+-- the line of a yes and the differences, which are printed before the events
+abbrev pub ring_front : List ℕ → List ℕ
+ring_front differences = report_line audit.Yes ++ differences
+
+-- the sink failed before the events
+pub stopped_before : (d : List ℕ) (has_events : Bool) (s t : SinkState) → IsPrintable d → StopsIn (ring_front d) s t
+    → PrintsRing d has_events s t (Err CannotWriteAnswer)
+stopped_before d has_events s t p stop =
+    let text : ring_front d ++ [] ≡ ring_text d [] = append_assoc (report_line audit.Yes) d [] in
+    stopped [] (printable_both d [] p refl)
+    (subst (λ w. StopsIn w s t) text (StopsIn-append s t (ring_front d) [] stop)) refl
+
+-- a text was taken after them
+taken_after : (d text : List ℕ) (s t u : SinkState) → Takes (ring_front d) s t → Takes text t u
+    → Takes (ring_text d text) s u
+taken_after d text s t u front more =
+    subst (λ w. Takes w s u) (append_assoc (report_line audit.Yes) d text)
+    (Takes-append s t u (ring_front d) text front more)
+
+-- all events were printed
+pub printed_after : (d : List ℕ) (has_events : Bool) (s t u : SinkState) (status : Status) → IsPrintable d
+    → IsLeadsStatus d status → Takes (ring_front d) s t → OfPrintable (λ text. Takes text t u)
+    → PrintsRing d has_events s u (Ok status)
+printed_after d has_events s t u status p is front more =
+    printed more.0 status (printable_both d more.0 p more.1) (taken_after d more.0 s t u front more.2) is refl
+
+-- memory ran out among them
+pub no_memory_after : (d : List ℕ) (s t u : SinkState) → IsPrintable d → Takes (ring_front d) s t
+    → OfPrintable (λ text. Takes text t u) → PrintsRing d true s u (Err OutOfMemory)
+no_memory_after d s t u p front more =
+    no_memory more.0 refl (printable_both d more.0 p more.1) (taken_after d more.0 s t u front more.2) refl
+
+-- the sink failed among them
+pub stopped_after : (d : List ℕ) (has_events : Bool) (s t u : SinkState) → IsPrintable d → Takes (ring_front d) s t
+    → OfPrintable (λ text. StopsIn text t u) → PrintsRing d has_events s u (Err CannotWriteAnswer)
+stopped_after d has_events s t u p front more =
+    let text = append_assoc (report_line audit.Yes) d more.0 in
+    stopped more.0 (printable_both d more.0 p more.1)
+    (subst (λ w. StopsIn w s u) text (Takes-StopsIn s t u (ring_front d) more.0 front more.2)) refl

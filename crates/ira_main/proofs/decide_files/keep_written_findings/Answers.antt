@@ -1,0 +1,25 @@
+use Rattle.std.proofs.Common.{◌≡◌, List, MatchOption, None, Option, Some, ℕ, refl, rules}
+use Rattle.std.specs.Borrow.{Bor}
+use Rattle.std.specs.Option.{option_map}
+use Rattle.ira_cert_text.specs.Certificate.{Certificate}
+use Rattle.ira_cert_text.specs.CertText.{IsCertText, cert_text}
+use Rattle.ira_main.specs.CertFile.{IsTextToKeep}
+use Rattle.ira_main.specs.Decide.KeepsFindings.{absent, certified}
+use Rattle.ira_main.proofs.decide_files.keep_written_findings.Goals as goal
+
+-- a text that is lent is the one that it is
+to_keep : (text : Option (Bor (List ℕ))) (c : Certificate)
+    → MatchOption (option_map (λ t. t.now) text) (¬ (IsCertText (cert_text c) c)) (λ t. (t ≡ cert_text c)
+    × IsCertText (cert_text c) c) → IsTextToKeep text c
+to_keep None c h = h
+to_keep (Some t) c h = h
+
+pub returns-in-Some : goal.returns-in-Some
+returns-in-Some g c = λ findings is.
+    let made = is.certificate (rw c.in-Some.is refl) (search rules) in
+    certified made.0 c.in-Some.name made.1 c.in-Some.is
+    (c.keep_written.ensures made.0 (to_keep c.certificate.result made.0 (rw c.certificate.ensures made.2)))
+
+pub returns-in-None : goal.returns-in-None
+returns-in-None g c = λ findings is.
+    absent (λ none. let no = is.absent.1 none in cc) c.in-None.is refl refl

@@ -1,0 +1,12 @@
+use Rattle.std.proofs.Common.{rules}
+use Rattle.ira_files.specs.Shelf.WritesFile.{unmade, stopped, closed}
+use Rattle.ira_main.proofs.draw_files.write_new.Goals as goal
+
+pub returns-in_err-file : goal.returns-in_err-file
+returns-in_err-file g c = unmade _ c.in_err-file.ensures.made (search rules)
+
+pub returns-in_err-write : goal.returns-in_err-write
+returns-in_err-write g c = stopped _ _ c.in_ok-file.ensures.made c.in_err-write.ensures.text (search rules)
+
+pub returns : goal.returns
+returns g c = closed _ _ _ c.in_ok-file.ensures.made c.in_ok-write.ensures.text c.close.ensures

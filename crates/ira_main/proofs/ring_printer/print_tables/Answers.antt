@@ -1,0 +1,48 @@
+use Rattle.std.proofs.Common.{◌≡◌, ◌∙◌, Err, Ok, false, inl, subst, sym}
+use Rattle.ira_event.specs.Sink.{StopsIn, Takes}
+use Rattle.ira_explain.specs.Printable.{IsPrintable}
+use Rattle.ira_main.proofs.RingPrinting.{printed_after, ring_front, stopped_after, stopped_before, stopped_of, taken_of}
+use Rattle.ira_main.specs.Show.{PrintsRing}
+use Rattle.ira_main.specs.declared.program_fault.ProgramFault.TheVariants.{CannotWriteAnswer}
+use Rattle.ira_show.specs.Showed.{OfPrintable}
+use Rattle.ira_main.proofs.ring_printer.print_tables.Goals as goal
+
+pub returns-then-is_err : goal.returns-then-is_err
+returns-then-is_err g c =
+    let d = c.text-differences.result.now in
+    let s = g.W.Sink.state c.args.out.now in
+    let t = g.W.Sink.state c.write_view.new.sink in
+    let same : d ≡ c.args.ring.now.differences = c.text-differences.ensures.text ∙ c.differences.ensures in
+    let printable = subst IsPrintable (sym c.text-differences.ensures.text) c.text-differences.ensures.printable in
+    let stop = stopped_of c.write_view.result (ring_front d) s t (sym c.is_err.ensures.value ∙ c.if-is_err.true)
+    c.write_view.ensures in
+    inl (subst (λ w. PrintsRing w false s t (Err CannotWriteAnswer)) same (stopped_before d false s t printable stop))
+
+pub returns-in-Ok : goal.returns-in-Ok
+returns-in-Ok g c =
+    let d = c.text-differences.result.now in
+    let s = g.W.Sink.state c.args.out.now in
+    let t = g.W.Sink.state c.write_view.new.sink in
+    let same : d ≡ c.args.ring.now.differences = c.text-differences.ensures.text ∙ c.differences.ensures in
+    let printable = subst IsPrintable (sym c.text-differences.ensures.text) c.text-differences.ensures.printable in
+    let front = taken_of c.write_view.result (ring_front d) s t (sym c.is_err.ensures.value ∙ c.if-is_err.false)
+    c.write_view.ensures in
+    let u = g.W.Sink.state c.write.new.sink in
+    let status = c.of_differences.result in
+    let text : OfPrintable (λ text. Takes text t u) = (_, c.in-Ok.ensures.printable, c.in-Ok.ensures.text) in
+    inl (subst (λ w. PrintsRing w false s u (Ok status)) same
+    (printed_after d false s t u status printable c.of_differences.ensures front text))
+
+pub returns : goal.returns
+returns g c =
+    let d = c.text-differences.result.now in
+    let s = g.W.Sink.state c.args.out.now in
+    let t = g.W.Sink.state c.write_view.new.sink in
+    let same : d ≡ c.args.ring.now.differences = c.text-differences.ensures.text ∙ c.differences.ensures in
+    let printable = subst IsPrintable (sym c.text-differences.ensures.text) c.text-differences.ensures.printable in
+    let front = taken_of c.write_view.result (ring_front d) s t (sym c.is_err.ensures.value ∙ c.if-is_err.false)
+    c.write_view.ensures in
+    let u = g.W.Sink.state c.write.new.sink in
+    let text : OfPrintable (λ text. StopsIn text t u) = (_, c.in-Err.ensures.printable, c.in-Err.ensures.text) in
+    inl (subst (λ w. PrintsRing w false s u (Err CannotWriteAnswer)) same
+    (stopped_after d false s t u printable front text))

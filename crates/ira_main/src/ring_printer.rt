@@ -1,0 +1,68 @@
+ghost use Rattle.std.specs.Prelude.{◌≡◌, ◌⊎◌, Err, false, true};
+ghost use Rattle.ira_main.specs.Show.{PrintsRing};
+ghost use Rattle.ira_main.specs.declared.program_fault.ProgramFault.TheVariants.{OutOfMemory};
+
+use crate::program_fault::ProgramFault;
+use crate::status::Status;
+use crate::view_printer::write_view;
+use ira_audit::Answer;
+use ira_event::{Sink, WriteFault};
+use ira_show::ShowFault;
+use ira_views::ShownRing;
+use std::alloc::Allocator;
+
+// The status of a ring of which the tables were printed. They are put together before anything is printed.
+fn print_tables<'a, A: Allocator + Clone, W: Sink>(
+    alloc: A,
+    ring: &ShownRing<A>,
+    out: &mut W,
+) -> Result<Status, ProgramFault<'a>>
+    ensures { PrintsRing ring.now.differences false (W.state out.old) (W.state out.new) result
+        ⊎ ((W.state out.new ≡ W.state out.old) × (result ≡ Err OutOfMemory)) }
+{
+    let page = ring.page(alloc)?;
+    let differences = ring.differences().text();
+    if write_view(&Answer::Yes, differences, out).is_err() {
+        return Err(ProgramFault::CannotWriteAnswer);
+    }
+    match page.write(out) {
+        Ok(()) => Ok(Status::of_differences(differences)),
+        Err(WriteFault) => Err(ProgramFault::CannotWriteAnswer),
+    }
+}
+
+// The status of a ring of which an order of all events was printed, block by block.
+fn print_events<'a, A: Allocator + Clone, W: Sink>(
+    alloc: A,
+    ring: &ShownRing<A>,
+    out: &mut W,
+) -> Result<Status, ProgramFault<'a>>
+    ensures { PrintsRing ring.now.differences true (W.state out.old) (W.state out.new) result }
+{
+    let differences = ring.differences().text();
+    if write_view(&Answer::Yes, differences, out).is_err() {
+        return Err(ProgramFault::CannotWriteAnswer);
+    }
+    match ring.write_events(alloc, out) {
+        Ok(()) => Ok(Status::of_differences(differences)),
+        Err(ShowFault::Write) => Err(ProgramFault::CannotWriteAnswer),
+        Err(ShowFault::OutOfMemory) => Err(ProgramFault::OutOfMemory),
+    }
+}
+
+/// The status of a ring that was printed: of which an order of all events was, or else the tables.
+pub(crate) fn print_ring<'a, A: Allocator + Clone, W: Sink>(
+    alloc: A,
+    ring: &ShownRing<A>,
+    has_events: bool,
+    out: &mut W,
+) -> Result<Status, ProgramFault<'a>>
+    ensures { PrintsRing ring.now.differences has_events (W.state out.old) (W.state out.new) result
+        ⊎ ((W.state out.new ≡ W.state out.old) × (result ≡ Err OutOfMemory)) }
+{
+    if has_events {
+        print_events(alloc, ring, out)
+    } else {
+        print_tables(alloc, ring, out)
+    }
+}
