@@ -1,16 +1,18 @@
 # Completion of `ira` for bash. `make install` puts it where bash-completion looks; else: source completions/ira.bash
 
-_ira_commands='logs explain check decide pairs run upgrade mend version help'
+_ira_commands='logs explain show draw check decide pairs run upgrade mend version help'
 
 # The options of a command.
 _ira_options() {
     case $1 in
-        explain) echo --question --case --cert --dir --help ;;
-        check) echo --question --cert --depth --dir --help ;;
-        decide) echo --question --out --dir --help ;;
+        explain) echo --question --case --cert --json --dir --help ;;
+        show) echo --leads --at --question --case --events --json --dir --help ;;
+        draw) echo --out --at --question --case --from --to --dir --help ;;
+        check) echo --question --cert --depth --json --dir --help ;;
+        decide) echo --question --out --json --dir --help ;;
         run) echo --nodes --seed --out --initiators --draws --cap --terms --alone --help ;;
         upgrade | mend) echo --out --dir --help ;;
-        logs) echo --dir --help ;;
+        logs) echo --json --dir --help ;;
         pairs | version) echo --help ;;
     esac
 }
@@ -28,7 +30,7 @@ _ira() {
     compopt -o filenames 2> /dev/null
     case $command:$before in
         help:*) mapfile -t COMPREPLY < <(compgen -W "${_ira_commands% help}" -- "$word") ;;
-        explain:--case) COMPREPLY=() ;;
+        *:--case | *:--at | show:--leads | draw:--from | draw:--to) COMPREPLY=() ;;
         check:--depth) mapfile -t COMPREPLY < <(compgen -W '0 1 2 3 4' -- "$word") ;;
         *:--dir | run:--out | upgrade:--out | mend:--out) mapfile -t COMPREPLY < <(compgen -d -- "$word") ;;
         pairs:* | run:* | version:*) COMPREPLY=() ;;

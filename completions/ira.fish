@@ -2,6 +2,8 @@
 
 complete -c ira -f -n __fish_use_subcommand -a logs -d 'Judge the logs of all nodes of a ring together'
 complete -c ira -f -n __fish_use_subcommand -a explain -d 'Judge logs, and say why the answer is so'
+complete -c ira -f -n __fish_use_subcommand -a show -d 'Show what happened'
+complete -c ira -f -n __fish_use_subcommand -a draw -d 'Draw what happened, as an SVG file'
 complete -c ira -f -n __fish_use_subcommand -a check -d 'Judge logs together with a certificate'
 complete -c ira -f -n __fish_use_subcommand -a decide -d 'Decide whether some moment met a case of a question'
 complete -c ira -f -n __fish_use_subcommand -a pairs -d 'Print the question whether two nodes ever lead at once'
@@ -14,6 +16,19 @@ complete -c ira -f -n __fish_use_subcommand -a help -d 'Print the help of a comm
 complete -c ira -n '__fish_seen_subcommand_from explain' -l question -r -F -d 'The question'
 complete -c ira -n '__fish_seen_subcommand_from explain' -l case -x -d 'The case to explain, from 0'
 complete -c ira -n '__fish_seen_subcommand_from explain' -l cert -r -F -d 'The certificate'
+
+complete -c ira -n '__fish_seen_subcommand_from show' -l leads -x -d 'Places of the nodes that are to lead'
+complete -c ira -n '__fish_seen_subcommand_from show' -l at -x -d 'The moment when each node has made so many events'
+complete -c ira -n '__fish_seen_subcommand_from show' -l question -r -F -d 'The question'
+complete -c ira -n '__fish_seen_subcommand_from show' -l case -x -d 'The case of the question, from 0'
+complete -c ira -n '__fish_seen_subcommand_from show' -l events -d 'Print an order of all events'
+
+complete -c ira -n '__fish_seen_subcommand_from draw' -l out -r -F -d 'Where the picture goes'
+complete -c ira -n '__fish_seen_subcommand_from draw' -l at -x -d 'The moment when each node has made so many events'
+complete -c ira -n '__fish_seen_subcommand_from draw' -l question -r -F -d 'The question'
+complete -c ira -n '__fish_seen_subcommand_from draw' -l case -x -d 'The case of the question, from 0'
+complete -c ira -n '__fish_seen_subcommand_from draw' -l from -x -d 'The first column'
+complete -c ira -n '__fish_seen_subcommand_from draw' -l to -x -d 'The last column'
 
 complete -c ira -n '__fish_seen_subcommand_from check' -l question -r -F -d 'The question'
 complete -c ira -n '__fish_seen_subcommand_from check' -l cert -r -F -d 'The certificate'
@@ -37,9 +52,11 @@ complete -c ira -n '__fish_seen_subcommand_from upgrade' -l out -x -a '(__fish_c
 
 complete -c ira -n '__fish_seen_subcommand_from mend' -l out -x -a '(__fish_complete_directories)' -d 'The folder for the logs'
 
-complete -c ira -n '__fish_seen_subcommand_from logs explain check decide upgrade mend' -l dir -x -a '(__fish_complete_directories)' -d 'The folder with the logs'
+complete -c ira -n '__fish_seen_subcommand_from logs explain show draw check decide upgrade mend' -l dir -x -a '(__fish_complete_directories)' -d 'The folder with the logs'
+
+complete -c ira -n '__fish_seen_subcommand_from logs explain show check decide' -l json -d 'Print the answer as JSON'
 
 complete -c ira -f -n '__fish_seen_subcommand_from version'
 
-complete -c ira -n '__fish_seen_subcommand_from logs explain check decide pairs run upgrade mend version' -l help -d 'Print help'
-complete -c ira -f -n '__fish_seen_subcommand_from help' -a 'logs explain check decide pairs run upgrade mend version'
+complete -c ira -n '__fish_seen_subcommand_from logs explain show draw check decide pairs run upgrade mend version' -l help -d 'Print help'
+complete -c ira -f -n '__fish_seen_subcommand_from help' -a 'logs explain show draw check decide pairs run upgrade mend version'

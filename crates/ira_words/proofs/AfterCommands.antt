@@ -11,8 +11,8 @@ use Rattle.clap.specs.Values.{kind_of}
 use Rattle.clap.specs.declared.error.Error.{Error}
 use Rattle.clap.specs.declared.error.kind.ErrorKind.TheVariants as kind
 use Rattle.clap.specs.declared.parser.matches.ArgMatches.{ArgMatches}
-use Rattle.ira_words.specs.CommandLine.{check_app, decide_app, explain_app, ira_app, logs_app, mend_app, pairs_app}
-use Rattle.ira_words.specs.CommandLine.{run_app, upgrade_app, version_app}
+use Rattle.ira_words.specs.CommandLine.{check_app, decide_app, draw_app, explain_app, ira_app, logs_app, mend_app}
+use Rattle.ira_words.specs.CommandLine.{pairs_app, run_app, show_app, upgrade_app, version_app}
 use Rattle.ira_words.specs.Request.{AreMatchesOf, IsCommandLine, After}
 use Rattle.ira_words.specs.TakenValues.{AreFound, AreFoundAfter, AreTaken}
 use Rattle.ira_words.proofs.FirstWord.{BeginsWithWord, Enters, command_rows, first_none, met_by_first, names}
@@ -21,8 +21,8 @@ use Rattle.ira_words.proofs.FoundValues.{rows_found}
 use Rattle.ira_words.proofs.TakenValues.{AllFit, rows_taken}
 
 -- words that are read without a fault have none
-pub words_accepted : (a : App) (words : List Text) → a ≡ ira_app → (is_simple_and_free a ≡ true → fault_of a words ≡ [])
-    → fault_of ira_app words ≡ []
+pub words_accepted : (a : App) (words : List Text) → a ≡ ira_app → (is_simple_and_free a ≡ true
+    → fault_of a words ≡ []) → fault_of ira_app words ≡ []
 words_accepted a words is none =
     let Fine : App → Type 0 = λ x. fault_of x words ≡ [] in
     subst Fine is (none (ap is_simple_and_free is))
@@ -67,44 +67,82 @@ command app enters rules fits once alone helpless strict =
       fits = fits;
       once = once;
       alone = alone;
-      helpless = helpless;
+      helpless =
+          helpless;
       strict = strict;
     }
 
 pub logs_command : IsCommand logs_app
 unfolding walked
 logs_command =
-    command logs_app (record { stops = refl; enters = refl; named = refl }) refl (
-      (refl, refl),
-      ((refl, refl), ((refl, refl), tt)),
-    ) refl refl refl refl
+    command logs_app (record { stops = refl; enters = refl; named = refl }) refl
+    ((refl, refl), ((refl, refl), ((refl, refl), ((refl, refl), tt)))) refl refl refl refl
 
 pub explain_command : IsCommand explain_app
 unfolding walked
 explain_command =
     command explain_app (record { stops = refl; enters = refl; named = refl }) refl
-    ((refl, refl), ((refl, refl), ((refl, refl), ((refl, refl), ((refl, refl), ((refl, refl), tt)))))) refl refl refl
-    refl
+    ((refl, refl), ((refl, refl), ((refl, refl), ((refl, refl), ((refl, refl), ((refl, refl), ((refl, refl), tt)))))))
+    refl refl refl refl
+
+pub show_command : IsCommand show_app
+unfolding walked
+show_command =
+    command show_app (record { stops = refl; enters = refl; named = refl }) refl (
+      (refl, refl),
+      (
+        (refl, refl),
+        (
+          (refl, refl),
+          (
+            (refl, refl),
+            (
+              (refl, refl),
+              ((refl, refl), ((refl, refl), ((refl, refl), ((refl, refl), tt)))),
+            ),
+          ),
+        ),
+      ),
+    ) refl refl refl refl
+
+pub draw_command : IsCommand draw_app
+unfolding walked
+draw_command =
+    command draw_app (record { stops = refl; enters = refl; named = refl }) refl (
+      (refl, refl),
+      (
+        (refl, refl),
+        (
+          (refl, refl),
+          (
+            (refl, refl),
+            (
+              (refl, refl),
+              ((refl, refl), ((refl, refl), ((refl, refl), ((refl, refl), tt)))),
+            ),
+          ),
+        ),
+      ),
+    ) refl refl refl refl
 
 pub check_command : IsCommand check_app
 unfolding walked
 check_command =
     command check_app (record { stops = refl; enters = refl; named = refl }) refl
-    ((refl, refl), ((refl, refl), ((refl, refl), ((refl, refl), ((refl, refl), ((refl, refl), tt)))))) refl refl refl
-    refl
+    ((refl, refl), ((refl, refl), ((refl, refl), ((refl, refl), ((refl, refl), ((refl, refl), ((refl, refl), tt)))))))
+    refl refl refl refl
 
 pub decide_command : IsCommand decide_app
 unfolding walked
 decide_command =
     command decide_app (record { stops = refl; enters = refl; named = refl }) refl
-    ((refl, refl), ((refl, refl), ((refl, refl), ((refl, refl), ((refl, refl), tt))))) refl refl refl refl
+    ((refl, refl), ((refl, refl), ((refl, refl), ((refl, refl), ((refl, refl), ((refl, refl), tt)))))) refl refl refl
+    refl
 
 pub pairs_command : IsCommand pairs_app
 unfolding walked
-pairs_command = command pairs_app (record { stops = refl; enters = refl; named = refl }) refl (
-  (refl, refl),
-  ((refl, refl), tt),
-) refl refl refl refl
+pairs_command = command pairs_app (record { stops = refl; enters = refl; named = refl }) refl
+    ((refl, refl), ((refl, refl), tt)) refl refl refl refl
 
 pub run_command : IsCommand run_app
 unfolding walked
@@ -117,7 +155,10 @@ run_command =
           (refl, refl),
           (
             (refl, refl),
-            ((refl, refl), ((refl, refl), ((refl, refl), ((refl, refl), ((refl, refl), tt))))),
+            (
+              (refl, refl),
+              ((refl, refl), ((refl, refl), ((refl, refl), ((refl, refl), tt)))),
+            ),
           ),
         ),
       ),
@@ -126,25 +167,19 @@ run_command =
 pub upgrade_command : IsCommand upgrade_app
 unfolding walked
 upgrade_command =
-    command upgrade_app (record { stops = refl; enters = refl; named = refl }) refl (
-      (refl, refl),
-      ((refl, refl), ((refl, refl), ((refl, refl), tt))),
-    ) refl refl refl refl
+    command upgrade_app (record { stops = refl; enters = refl; named = refl }) refl
+    ((refl, refl), ((refl, refl), ((refl, refl), ((refl, refl), tt)))) refl refl refl refl
 
 pub mend_command : IsCommand mend_app
 unfolding walked
 mend_command =
-    command mend_app (record { stops = refl; enters = refl; named = refl }) refl (
-      (refl, refl),
-      ((refl, refl), ((refl, refl), ((refl, refl), tt))),
-    ) refl refl refl refl
+    command mend_app (record { stops = refl; enters = refl; named = refl }) refl
+    ((refl, refl), ((refl, refl), ((refl, refl), ((refl, refl), tt)))) refl refl refl refl
 
 pub version_command : IsCommand version_app
 unfolding walked
-version_command = command version_app (record { stops = refl; enters = refl; named = refl }) refl (
-  (refl, refl),
-  tt,
-) refl refl refl refl
+version_command = command version_app (record { stops = refl; enters = refl; named = refl }) refl ((refl, refl), tt)
+    refl refl refl refl
 
 -- ---- what is found after them
 
@@ -155,13 +190,13 @@ fine name s is others none =
     let behind = second_none (walk_fault top names (walk_from nothing_held) (name ∷ others)) _ none in
     let below : entered_fault (built ira_app) (Some (name, others)) ≡ [] =
     subst (λ o. entered_fault (built ira_app) o ≡ []) (stopped_at name s is others) (first_none _ _ behind) in
-    subst (λ (o : Option Shape). option_map_or (λ x. level_fault x [] nothing_held others false []) o []
-    ≡ []) is.enters below
+    subst (λ (o : Option Shape). option_map_or (λ x. level_fault x [] nothing_held others false []) o [] ≡ [])
+    is.enters below
 
 module _ (app : App) (is : IsCommand app) (m : ArgMatches) (words : List Text) (parse : AreMatchesOf words m)
     (found : List Row)
-    (read : Some found ≡ option_map (λ s. s.1) (subcommand_rows_of m)) (name : Some app.top.name
-    ≡ subcommand_name_of m) where
+    (read : Some found ≡ option_map (λ s. s.1) (subcommand_rows_of m))
+    (name : Some app.top.name ≡ subcommand_name_of m) where
   first : BeginsWithWord app.top.name words
   first = met_by_first m words app.top.name parse name
 
@@ -176,8 +211,8 @@ module _ (app : App) (is : IsCommand app) (m : ArgMatches) (words : List Text) (
   -- values of its arguments
   pub found_behind : AreFoundAfter app found
   found_behind =
-      let none = fine app.top.name is.shape is.enters first.0
-      (subst (λ ws. fault_of ira_app ws ≡ []) first.1 parse.accepted) in
+      let none = fine app.top.name is.shape is.enters first.0 (subst (λ ws. fault_of ira_app ws ≡ []) first.1
+      parse.accepted) in
       subst (AreFoundAfter app) (sym rows_are) (record {
         taken = subst (λ rs. AreTaken rs (rows_after rs [] first.0)) is.rules
             (rows_taken is.shape is.once is.fits first.0 none);
@@ -195,5 +230,6 @@ module _ (app : App) (is : IsCommand app) (m : ArgMatches) (words : List Text) (
     accepted = parse.accepted;
     others = first.0;
     first = first.1;
-    found = subst IsSo rows_are so;
+    found =
+        subst IsSo rows_are so;
   }

@@ -65,8 +65,8 @@ plain_local true false true rest e = cc
 plain_local true true local rest e = cc
 plain_local false external local rest e = cc
 
-fused : {X Y Z : Type 0} (f : X → Y) (g : Y → Z) (o : Option X)
-    → option_map g (option_map f o) ≡ option_map (λ x. g (f x)) o
+fused : {X Y Z : Type 0} (f : X → Y) (g : Y → Z) (o : Option X) → option_map g (option_map f o) ≡ option_map
+    (λ x. g (f x)) o
 fused f g None = refl
 fused f g (Some x) = refl
 
@@ -81,8 +81,8 @@ name_met = option_map (λ s. s.0)
 
 -- the walk over the words stops at this one, and a command of this shape is entered there
 pub record Enters (name : Text) (s : Shape) : Type 0 where
-  pub stops : walked top.rules names (walk_from nothing_held) name
-      ≡ record (walk_from nothing_held) { stopped = Some (name, []) }
+  pub stops : walked top.rules names (walk_from nothing_held) name ≡ record (walk_from nothing_held)
+      { stopped = Some (name, []) }
   pub enters : find (λ x. answers_to name (label_of x)) (built ira_app).subs ≡ Some s
   pub named : s.name ≡ name
 
@@ -107,14 +107,14 @@ help_is_fault rest = tt
 abbrev help : Rule
 help = with_index 1 (filled help_rule)
 
-long_is_fault : (b : Bool) (v : Option Text)
-    → IsFault (long_fault top.rules top.args_override_self (if b then Some help else None) v nothing_held)
+long_is_fault : (b : Bool) (v : Option Text) → IsFault (long_fault top.rules top.args_override_self
+    (if b then Some help else None) v nothing_held)
 long_is_fault true None = tt
 long_is_fault true (Some v) = tt
 long_is_fault false v = tt
 
-short_is_fault : (b : Bool) (rest : Text) (next : Held → Kinds)
-    → IsFault (short_fault top.rules top.args_override_self (if b then Some help else None) rest nothing_held next)
+short_is_fault : (b : Bool) (rest : Text) (next : Held → Kinds) → IsFault
+    (short_fault top.rules top.args_override_self (if b then Some help else None) rest nothing_held next)
 short_is_fault true rest next = tt
 short_is_fault false rest next = tt
 
@@ -158,10 +158,8 @@ option_is_fault (Some l) flags w = first_is_fault _ _ (long_is_fault (has_long h
 
 -- a word that names no command, which is `--` or not
 abbrev word_met_by : Bool → Text → Held × Step
-word_met_by dashes w = if dashes then (
-  nothing_held,
-  trailing 1,
-) else long_or_other top.rules idle w (long_of w) nothing_held
+word_met_by dashes w = if dashes then (nothing_held, trailing 1) else long_or_other top.rules idle w (long_of w)
+    nothing_held
 
 abbrev word_fault_by : Bool → Text → Kinds
 word_fault_by dashes w =
@@ -181,8 +179,8 @@ word_is_fault (Some l) w = option_is_fault (Some l) None w
 after_dashes : (w : Text) (rest : List Text) → w ≡ 45 ∷ 45 ∷ [] → walk_fault top names (walk_by true w) rest ≡ []
     → fault_of ira_app (w ∷ rest) ≡ [] → ⊥
 unfolding defaults_fault walk_fault walked
-after_dashes w [] is walks none =
-    no_fault (fault_of ira_app ((45 ∷ 45 ∷ []) ∷ [])) tt (subst (λ x. fault_of ira_app (x ∷ []) ≡ []) is none)
+after_dashes w [] is walks none = no_fault (fault_of ira_app ((45 ∷ 45 ∷ []) ∷ [])) tt
+    (subst (λ x. fault_of ira_app (x ∷ []) ≡ []) is none)
 after_dashes w (x ∷ rest) is walks none = no_fault _ tt walks
 
 -- what a first word is, by the command that it names
@@ -197,8 +195,8 @@ start_by o w =
     after_step top.rules w (walk_from nothing_held) met.0 met.1
 
 first_turn : (w : Text) (rest : List Text) → fault_of ira_app (w ∷ rest) ≡ []
-    → (turn_by (find (answers_to w) names) w ≡ [])
-    × (walk_fault top names (start_by (find (answers_to w) names) w) rest ≡ [])
+    → (turn_by (find (answers_to w) names) w ≡ []) × (walk_fault top names (start_by (find (answers_to w) names) w)
+    rest ≡ [])
 unfolding walk_fault walked
 first_turn w rest none =
     let walk_none = first_none _ _ none in
@@ -235,15 +233,14 @@ name_of_one w [] l bare met = cc
 name_of_one w (s ∷ ss) l bare met = go (answers_to w (label_of s)) (λ later. name_of_one w ss l bare.1 later) refl met
   where
     own_name : (others : List Text) → others ≡ [] → answers_to w (s.name, others) ≡ true → s.name ≡ w
-    own_name others none is =
-        (bytes_eq-Decides s.name w).0 (sym (or_false (bytes_eq s.name w))
+    own_name others none is = (bytes_eq-Decides s.name w).0 (sym (or_false (bytes_eq s.name w))
         ∙ subst (λ xs. answers_to w (s.name, xs) ≡ true) none is)
 
     go : (b : Bool)
         → (find (answers_to w) (map label_of ss) ≡ Some l
         → (t : Shape) × (find (λ x. answers_to w (label_of x)) ss ≡ Some t) × (l.0 ≡ w) × (t.name ≡ w) × NamesOne w ss)
-        → answers_to w (label_of s) ≡ b → (if b then Some (label_of s) else find (answers_to w) (map label_of ss))
-        ≡ Some l
+        → answers_to w (label_of s) ≡ b → (if b then Some (label_of s) else find (answers_to w) (map label_of ss)) ≡
+        Some l
         → (t : Shape) × ((if b then Some s else find (λ x. answers_to w (label_of x)) ss) ≡ Some t) × (l.0 ≡ w)
         × (t.name ≡ w) × NamesOne w (s ∷ ss)
     go true rest is first =
@@ -265,13 +262,13 @@ begun w rest none = go (find (answers_to w) names) refl
     go None other = absurd (unnamed w rest other none)
     go (Some l) met =
         let one = name_of_one w (built ira_app).subs l bare met in
-        let stops : start_by (find (answers_to w) names) w
-        ≡ record (walk_from nothing_held) { stopped = Some (w, []) } =
+        let stops : start_by (find (answers_to w) names) w ≡ record (walk_from nothing_held)
+        { stopped = Some (w, []) } =
         ap (λ o. start_by o w) met ∙ ap (λ n. record (walk_from nothing_held) { stopped = Some (n, []) }) one.2 in
         (one.0, record { stops = stops; enters = one.1; named = one.3 }, one.4)
       where
         bare : HaveNoAliases (built ira_app).subs
-        bare = (refl, (refl, (refl, (refl, (refl, (refl, (refl, (refl, (refl, (refl, tt))))))))))
+        bare = (refl, (refl, (refl, (refl, (refl, (refl, (refl, (refl, (refl, (refl, (refl, (refl, tt))))))))))))
 
 -- the command that they meet is named by the first of them
 pub named : (words : List Text) (n : Text) → fault_of ira_app words ≡ []
@@ -291,8 +288,7 @@ command_met m [] parse = absurd (no_fault (fault_of ira_app []) tt parse.accepte
 command_met m (w ∷ rest) parse =
     let it = begun w rest parse.accepted in
     let met = ap name_met (command_rows w it.0 it.1 rest) in
-    let other : codes "help" ≡ w → ⊥ =
-    λ same. no_fault _ (help_is_fault rest)
+    let other : codes "help" ≡ w → ⊥ = λ same. no_fault _ (help_is_fault rest)
     (subst (λ x. fault_of ira_app (x ∷ rest) ≡ []) (sym same) parse.accepted) in
     (w, sym (sym (ap (option_map (λ s. s.0)) (parse.found refl).1) ∙ fused _ _ _) ∙ met, it.2, other)
 

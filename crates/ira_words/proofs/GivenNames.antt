@@ -63,7 +63,7 @@ all_names w rest are =
 
 -- what is found where these names are read
 abbrev pub rows_named : List Text → List Row
-rows_named [] = []
+rows_named [] = finished rules nothing_held
 rows_named (w ∷ ws) = finished rules (named (w ∷ ws)).held
 
 pub words_rows : (words : List Text) → All IsFileName words → rows_after rules [] words ≡ rows_named words
@@ -97,7 +97,7 @@ dashes_next : (ws : List Text) → walked rules [] (named ws) (codes "--") ≡ m
 unfolding walked
 dashes_next ws = refl
 
-dashes_alone : rows_after rules [] (codes "--" ∷ []) ≡ []
+dashes_alone : rows_after rules [] (codes "--" ∷ []) ≡ rows_named []
 unfolding walked
 dashes_alone = refl
 

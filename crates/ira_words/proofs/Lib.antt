@@ -2,6 +2,7 @@ pub mod AfterCommands
 pub mod FirstWord
 pub mod FoundValues
 pub mod GivenNames
+pub mod Numbers
 pub mod Options
 pub mod Ranges
 pub mod Results

@@ -14,6 +14,14 @@ option_rule name = record (new_rule name) { long = Some name; value_names = 1 }
 abbrev pub number_rule : Text → Rule
 number_rule name = record (option_rule name) { parser = Some (Unsigned 0 18446744073709551615) }
 
+-- options that are given or not
+abbrev pub flag_rule : Text → Rule
+flag_rule name = record (new_rule name) { long = Some name; action = Some SetTrue }
+
+-- whether the answer is wanted as JSON
+abbrev pub json_rule : Rule
+json_rule = flag_rule (codes "json")
+
 -- files with the logs of a ring
 abbrev pub logs_rule : Rule
 logs_rule = record (new_rule (codes "LOG")) {
@@ -27,7 +35,7 @@ dir_rule = record (option_rule (codes "dir")) { parser = Some NonEmptyString }
 
 -- the command `logs`
 abbrev pub logs_app : App
-logs_app = with_rule (with_rule (new_app (codes "logs")) dir_rule) logs_rule
+logs_app = with_rule (with_rule (with_rule (new_app (codes "logs")) json_rule) dir_rule) logs_rule
 
 -- the options and logs of `explain`
 abbrev pub explain_rules : List Rule
@@ -35,6 +43,7 @@ explain_rules =
     option_rule (codes "question")
     ∷ number_rule (codes "case")
     ∷ option_rule (codes "cert")
+    ∷ json_rule
     ∷ dir_rule
     ∷ logs_rule
     ∷ []
@@ -42,6 +51,46 @@ explain_rules =
 -- the command `explain`
 abbrev pub explain_app : App
 explain_app = on_top (λ s. record s { rules = explain_rules }) (new_app (codes "explain"))
+
+-- a command with the options that name a moment
+abbrev pub with_moment_rules : App → App
+with_moment_rules app =
+    with_rule (with_rule (with_rule app (option_rule (codes "at"))) (option_rule (codes "question")))
+    (number_rule (codes "case"))
+
+-- the options and logs of `show`
+abbrev pub show_rules : List Rule
+show_rules =
+    option_rule (codes "leads")
+    ∷ option_rule (codes "at")
+    ∷ option_rule (codes "question")
+    ∷ number_rule (codes "case")
+    ∷ flag_rule (codes "events")
+    ∷ json_rule
+    ∷ dir_rule
+    ∷ logs_rule
+    ∷ []
+
+-- the command `show`
+abbrev pub show_app : App
+show_app = on_top (λ s. record s { rules = show_rules }) (new_app (codes "show"))
+
+-- the options and logs of `draw`
+abbrev pub draw_rules : List Rule
+draw_rules =
+    record (option_rule (codes "out")) { required = true }
+    ∷ option_rule (codes "at")
+    ∷ option_rule (codes "question")
+    ∷ number_rule (codes "case")
+    ∷ number_rule (codes "from")
+    ∷ number_rule (codes "to")
+    ∷ dir_rule
+    ∷ logs_rule
+    ∷ []
+
+-- the command `draw`
+abbrev pub draw_app : App
+draw_app = on_top (λ s. record s { rules = draw_rules }) (new_app (codes "draw"))
 
 -- the option `--depth` of `check`
 abbrev pub depth_rule : Rule
@@ -53,6 +102,7 @@ check_rules =
     record (option_rule (codes "question")) { required = true }
     ∷ record (option_rule (codes "cert")) { required = true }
     ∷ depth_rule
+    ∷ json_rule
     ∷ dir_rule
     ∷ logs_rule
     ∷ []
@@ -61,11 +111,19 @@ check_rules =
 abbrev pub check_app : App
 check_app = on_top (λ s. record s { rules = check_rules }) (new_app (codes "check"))
 
--- the command `decide`, with its options and logs
+-- the options and logs of `decide`
+abbrev pub decide_rules : List Rule
+decide_rules =
+    record (option_rule (codes "question")) { required = true }
+    ∷ option_rule (codes "out")
+    ∷ json_rule
+    ∷ dir_rule
+    ∷ logs_rule
+    ∷ []
+
+-- the command `decide`
 abbrev pub decide_app : App
-decide_app =
-    with_rule (with_rule (with_rule (with_rule (new_app (codes "decide"))
-    (record (option_rule (codes "question")) { required = true })) (option_rule (codes "out"))) dir_rule) logs_rule
+decide_app = on_top (λ s. record s { rules = decide_rules }) (new_app (codes "decide"))
 
 -- the size of a ring
 abbrev pub pairs_rule : Rule
@@ -81,9 +139,6 @@ folder_rule = record (option_rule (codes "out")) { parser = Some NonEmptyString;
 
 abbrev pub draws_rule : Rule
 draws_rule = record (option_rule (codes "draws")) { parser = Some (Unsigned 0 100000); defaults = codes "64" ∷ [] }
-
-abbrev pub alone_rule : Rule
-alone_rule = record (new_rule (codes "alone")) { long = Some (codes "alone"); action = Some SetTrue }
 
 -- the command `run` with the options that it must have
 abbrev pub run_required_app : App
@@ -101,7 +156,7 @@ run_rules =
     ∷ draws_rule
     ∷ record (number_rule (codes "cap")) { defaults = codes "10000" ∷ [] }
     ∷ record (number_rule (codes "terms")) { defaults = codes "1" ∷ [] }
-    ∷ alone_rule
+    ∷ flag_rule (codes "alone")
     ∷ []
 
 -- the command `run`
@@ -132,5 +187,6 @@ ira_top = on_top (λ s. record s { no_binary_name = true; subcommand_required = 
 abbrev pub ira_app : App
 ira_app =
     with_subcommand (with_subcommand (with_subcommand (with_subcommand (with_subcommand (with_subcommand
-    (with_subcommand (with_subcommand (with_subcommand ira_top logs_app.top) explain_app.top) check_app.top)
-    decide_app.top) pairs_app.top) run_app.top) upgrade_app.top) mend_app.top) version_app.top
+    (with_subcommand (with_subcommand (with_subcommand (with_subcommand (with_subcommand ira_top logs_app.top)
+    explain_app.top) show_app.top) draw_app.top) check_app.top) decide_app.top) pairs_app.top) run_app.top)
+    upgrade_app.top) mend_app.top) version_app.top

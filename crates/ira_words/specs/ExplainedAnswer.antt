@@ -1,8 +1,9 @@
 -- An answer to explain, by the options and names that are given.
 use Rattle.std.specs.Prelude.{◌≡◌, ◌⊎◌, ℕ, List, None, Some, codes}
 use Rattle.clap.specs.Walk.{Row, all_of, first_of}
-use Rattle.ira_words.specs.AskedQuestion.{HasQuestion, IsLeftOut}
+use Rattle.ira_words.specs.AskedQuestion.{HasQuestion}
 use Rattle.ira_words.specs.LogSource.{HasLogs, MayNameLogs, NamesLogs}
+use Rattle.ira_words.specs.Options.{IsLeftOut}
 use Rattle.ira_words.specs.declared.asked_question.AskedQuestion.{AskedQuestion}
 use Rattle.ira_words.specs.declared.explained_answer.ExplainedAnswer.{ExplainedAnswer}
 use Rattle.ira_words.specs.declared.explained_answer.ExplainedAnswer.TheVariants.{OneLog, Logs, Findings, Certificate}

@@ -1,10 +1,16 @@
+pub mod AskedMoment
 pub mod AskedQuestion
 pub mod CheckRequest
 pub mod CommandLine
 pub mod DecideRequest
+pub mod DrawRequest
+pub mod ExplainRequest
 pub mod ExplainedAnswer
 pub mod LogSource
+pub mod LogsRequest
+pub mod Options
 pub mod Request
 pub mod RewriteRequest
 pub mod RunRequest
+pub mod ShowRequest
 pub mod TakenValues

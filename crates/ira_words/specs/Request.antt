@@ -5,22 +5,29 @@ use Rattle.clap.specs.Simple.{App, HasMatchesOf, built_leaf}
 use Rattle.clap.specs.Walk.{Row, rows_after}
 use Rattle.clap.specs.declared.parser.matches.ArgMatches.{ArgMatches}
 use Rattle.ira_words.specs.CheckRequest.{HasFiles}
-use Rattle.ira_words.specs.CommandLine.{check_app, decide_app, explain_app, ira_app, logs_app, mend_app, pairs_app}
-use Rattle.ira_words.specs.CommandLine.{run_app, upgrade_app, version_app}
+use Rattle.ira_words.specs.CommandLine.{check_app, decide_app, draw_app, explain_app, ira_app, logs_app, mend_app}
+use Rattle.ira_words.specs.CommandLine.{pairs_app, run_app, show_app, upgrade_app, version_app}
 use Rattle.ira_words.specs.DecideRequest.{HasFilesToDecide}
-use Rattle.ira_words.specs.ExplainedAnswer.{HasAnswer, NamesAnswer}
-use Rattle.ira_words.specs.LogSource.{HasLogs, IsOfFiles, NamesLogs}
+use Rattle.ira_words.specs.DrawRequest.{HasLogsToDraw, NamesLogsToDraw}
+use Rattle.ira_words.specs.ExplainRequest.{HasAnswerToExplain}
+use Rattle.ira_words.specs.ExplainedAnswer.{NamesAnswer}
+use Rattle.ira_words.specs.LogSource.{IsOfFiles, NamesLogs}
+use Rattle.ira_words.specs.LogsRequest.{HasLogsToJudge}
+use Rattle.ira_words.specs.Options.{HasNumber}
 use Rattle.ira_words.specs.RewriteRequest.{HasFilesToRewrite}
-use Rattle.ira_words.specs.RunRequest.{HasNumber, HasOptions}
+use Rattle.ira_words.specs.RunRequest.{HasOptions}
+use Rattle.ira_words.specs.ShowRequest.{HasLogsToShow, NamesLogsToShow}
 use Rattle.ira_words.specs.declared.check_request.CheckRequest.{CheckRequest}
 use Rattle.ira_words.specs.declared.decide_request.DecideRequest.{DecideRequest}
+use Rattle.ira_words.specs.declared.draw_request.DrawRequest.{DrawRequest}
 use Rattle.ira_words.specs.declared.explain_request.ExplainRequest.{ExplainRequest}
-use Rattle.ira_words.specs.declared.log_source.LogSource.{LogSource}
+use Rattle.ira_words.specs.declared.logs_request.LogsRequest.{LogsRequest}
 use Rattle.ira_words.specs.declared.rewrite_request.RewriteRequest.{RewriteRequest}
 use Rattle.ira_words.specs.declared.run_request.RunRequest.{RunRequest}
+use Rattle.ira_words.specs.declared.show_request.ShowRequest.{ShowRequest}
 use Rattle.ira_words.specs.declared.request.Request.{Request}
-use Rattle.ira_words.specs.declared.request.Request.TheVariants.{OneLog, Logs, Explain, Check, Decide, Pairs, Run}
-use Rattle.ira_words.specs.declared.request.Request.TheVariants.{Upgrade, Mend, Version}
+use Rattle.ira_words.specs.declared.request.Request.TheVariants.{OneLog, Logs, Explain, Show, Draw, Check, Decide}
+use Rattle.ira_words.specs.declared.request.Request.TheVariants.{Pairs, Run, Upgrade, Mend, Version}
 use Rattle.ira_words.specs.declared.words_fault.WordsFault.{WordsFault}
 use Rattle.ira_words.specs.declared.words_fault.WordsFault.TheVariants.{OutOfMemory, Refused}
 
@@ -34,11 +41,12 @@ After app words IsSo =
     (others : List (List ℕ)) → words ≡ app.top.name ∷ others → IsSo (rows_after (built_leaf app.top).rules [] others)
 
 -- the options and names after a command go together: logs are named in one way, by names or by a folder, where the
--- command
--- takes logs; after `explain` there may be none, where no question is named
+-- command takes logs; after `explain` there may be none, where no question is named
 pub record GoTogether (words : List (List ℕ)) : Type 0 where
   pub logs : After logs_app words NamesLogs
   pub explain : After explain_app words NamesAnswer
+  pub show : After show_app words NamesLogsToShow
+  pub draw : After draw_app words NamesLogsToDraw
   pub check : After check_app words NamesLogs
   pub decide : After decide_app words NamesLogs
   pub upgrade : After upgrade_app words NamesLogs
@@ -49,17 +57,17 @@ abbrev pub IsFileName : List ℕ → Type 0
 IsFileName [] = Unit {0}
 IsFileName (b ∷ bs) = b ≢ 45
 
--- the command line accepts the words: `logs` and others, which name the source of logs. Where none of the others begins
--- with a dash, these are names of files; where one is the first that does, and is `--`, the words after it are names
--- too
-pub record IsLogsLine (words : List (List ℕ)) (source : LogSource) : Type 0 where
+-- the command line accepts the words: `logs` and others, which name the source of logs, and `--json` perhaps. Where
+-- none of the others begins with a dash, these are names of files; where one is the first that does, and is `--`, the
+-- words after it are names too
+pub record IsLogsLine (words : List (List ℕ)) (request : LogsRequest) : Type 0 where
   pub accepted : AreAcceptedWords words
   pub others : List (List ℕ)
   pub first : words ≡ codes "logs" ∷ others
-  pub given : HasLogs (rows_after (built_leaf logs_app.top).rules [] others) source
-  pub plain : All IsFileName others → IsOfFiles source others
+  pub given : HasLogsToJudge (rows_after (built_leaf logs_app.top).rules [] others) request
+  pub plain : All IsFileName others → IsOfFiles request.logs others
   pub marked : (front back : List (List ℕ)) → All IsFileName front → others ≡ front ++ codes "--" ∷ back
-      → IsOfFiles source (front ++ back)
+      → IsOfFiles request.logs (front ++ back)
 
 -- the command line accepts the words: the name of this command and others, and what is found of these is so
 pub record IsCommandLine (app : App) (words : List (List ℕ)) (IsSo : List Row → Type 0) : Type 0 where
@@ -70,7 +78,15 @@ pub record IsCommandLine (app : App) (words : List (List ℕ)) (IsSo : List Row 
 
 -- `explain`, options and logs, or `explain` alone, which ask for this answer
 abbrev pub IsExplainLine : List (List ℕ) → ExplainRequest → Type 0
-IsExplainLine words explain = IsCommandLine explain_app words (λ rows. HasAnswer rows explain.answer)
+IsExplainLine words explain = IsCommandLine explain_app words (λ rows. HasAnswerToExplain rows explain)
+
+-- `show`, options and logs, which ask for these to be shown
+abbrev pub IsShowLine : List (List ℕ) → ShowRequest → Type 0
+IsShowLine words show = IsCommandLine show_app words (λ rows. HasLogsToShow rows show)
+
+-- `draw`, options and logs, which ask for these to be drawn
+abbrev pub IsDrawLine : List (List ℕ) → DrawRequest → Type 0
+IsDrawLine words draw = IsCommandLine draw_app words (λ rows. HasLogsToDraw rows draw)
 
 -- `check`, options and logs, which ask for these files
 abbrev pub IsCheckLine : List (List ℕ) → CheckRequest → Type 0
@@ -103,8 +119,10 @@ IsVersionLine words = IsCommandLine version_app words (λ rows. Unit {0})
 -- these words make the request
 abbrev pub IsMadeOf : List (List ℕ) → Request → Type 0
 IsMadeOf words OneLog = words ≡ []
-IsMadeOf words (Logs source) = IsLogsLine words source
+IsMadeOf words (Logs request) = IsLogsLine words request
 IsMadeOf words (Explain explain) = IsExplainLine words explain
+IsMadeOf words (Show show) = IsShowLine words show
+IsMadeOf words (Draw draw) = IsDrawLine words draw
 IsMadeOf words (Check check) = IsCheckLine words check
 IsMadeOf words (Decide decide) = IsDecideLine words decide
 IsMadeOf words (Pairs nodes) = IsPairsLine words nodes

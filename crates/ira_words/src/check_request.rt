@@ -9,5 +9,7 @@ pub struct CheckRequest<'a> {
     pub certificate: &'a str,
     /// How often the steps of a section are to be halved among threads, 0 to 4.
     pub depth: u8,
+    /// Whether the answer is wanted as JSON.
+    pub is_json: bool,
     pub logs: LogSource<'a>,
 }

@@ -1,40 +1,52 @@
-ghost use Rattle.std.specs.Prelude.{◌≡◌, ℕ, List, [], Ok, IfErr, IfOk, IsOkAnd, codes, false, map};
+ghost use Rattle.std.specs.Prelude.{◌≡◌, ℕ, List, [], Ok, IfErr, IfOk, IsOkAnd, codes, false, map, option_map};
 ghost use Rattle.clap.specs.Words.{AddsSubcommand, Rule, app_of, found_of, kind_of, rows_of, rule_of};
 ghost use Rattle.clap.specs.declared.error.kind.ErrorKind.TheVariants as kind;
-ghost use Rattle.ira_words.specs.CommandLine.{alone_rule, check_app, decide_app, depth_rule, dir_rule, draws_rule, explain_app, folder_rule, ira_app, ira_top, logs_app, logs_rule, number_rule, option_rule, pairs_app, rewrite_app, run_app, run_required_app, version_app};
+ghost use Rattle.ira_words.specs.CommandLine.{check_app, decide_app, depth_rule, dir_rule, draw_app, draws_rule, explain_app, flag_rule, folder_rule, ira_app, ira_top, json_rule, logs_app, logs_rule, number_rule, option_rule, pairs_app, rewrite_app, run_app, run_required_app, show_app, version_app, with_moment_rules};
 ghost use Rattle.ira_words.specs.CheckRequest.{HasFiles};
 ghost use Rattle.ira_words.specs.DecideRequest.{HasFilesToDecide};
+ghost use Rattle.ira_words.specs.DrawRequest.{HasLogsToDraw, NamesLogsToDraw};
+ghost use Rattle.ira_words.specs.ExplainRequest.{HasAnswerToExplain};
 ghost use Rattle.ira_words.specs.ExplainedAnswer.{HasAnswer, NamesAnswer};
 ghost use Rattle.ira_words.specs.LogSource.{HasLogs, MayHaveLogs, MayNameLogs, NamesLogs};
+ghost use Rattle.ira_words.specs.LogsRequest.{HasLogsToJudge};
+ghost use Rattle.ira_words.specs.AskedMoment.{HasMoment, NamesMoment};
+ghost use Rattle.ira_words.specs.Options.{AreNumbers, HasNumber, ListsNumbers, MayHaveNumbers, WritesNumbers, parts_of};
 ghost use Rattle.ira_words.specs.Request.{AreMatchesOf, AreAcceptedWords, IsMadeOf, MayBeRefused, GoTogether};
 ghost use Rattle.ira_words.specs.RewriteRequest.{HasFilesToRewrite};
-ghost use Rattle.ira_words.specs.RunRequest.{HasNumber, HasOptions};
-ghost use Rattle.ira_words.specs.TakenValues.{AreFoundAfter, AreTaken};
+ghost use Rattle.ira_words.specs.RunRequest.{HasOptions};
+ghost use Rattle.ira_words.specs.ShowRequest.{HasLogsToShow, NamesLogsToShow};
+ghost use Rattle.ira_words.specs.TakenValues.{AreFoundAfter, AreTaken, HasCaseTaken};
 ghost use Rattle.ira_words.specs.declared.options_fault.OptionsFault.TheVariants as options;
 ghost use Rattle.ira_words.specs.declared.request.Request.TheVariants as request;
 ghost use Rattle.ira_words.specs.declared.words_fault.WordsFault.TheVariants as fault;
 
+use crate::asked_moment::AskedMoment;
 use crate::asked_question::AskedQuestion;
 use crate::check_request::CheckRequest;
 use crate::decide_request::DecideRequest;
+use crate::draw_request::DrawRequest;
 use crate::explain_request::ExplainRequest;
 use crate::explained_answer::ExplainedAnswer;
 use crate::log_source::LogSource;
+use crate::logs_request::LogsRequest;
 use crate::options_fault::OptionsFault;
 use crate::request::Request;
 use crate::rewrite_request::RewriteRequest;
 use crate::run_request::RunRequest;
+use crate::show_request::ShowRequest;
 use crate::words_fault::WordsFault;
 use clap::builder::ValueParser;
 use clap::error::ErrorKind;
 use clap::{Arg, ArgAction, ArgMatches, Command, Error, value_parser};
 use std::alloc::{AllocError, Global};
 
-const USAGE: &str = "ira < LOG\n       ira logs <LOGS>\n       \
-    ira explain [<LOGS>]\n       \
-    ira explain --question <Q> [--case <K> | --cert <C>] <LOGS>\n       \
-    ira check --question <Q> --cert <C> [--depth <D>] <LOGS>\n       \
-    ira decide --question <Q> [--out <C>] <LOGS>\n       \
+const USAGE: &str = "ira < LOG\n       ira logs [--json] <LOGS>\n       \
+    ira explain [--json] [<LOGS>]\n       \
+    ira explain --question <Q> [--case <K> | --cert <C>] [--json] <LOGS>\n       \
+    ira show [OPTIONS] <LOGS>\n       \
+    ira draw --out <FILE> [OPTIONS] <LOGS>\n       \
+    ira check --question <Q> --cert <C> [--depth <D>] [--json] <LOGS>\n       \
+    ira decide --question <Q> [--out <C>] [--json] <LOGS>\n       \
     ira pairs <N>\n       \
     ira run --nodes <N> --seed <S> --out <DIR> [OPTIONS]\n       \
     ira upgrade --out <DIR> <LOGS>\n       \
@@ -45,8 +57,8 @@ const USAGE: &str = "ira < LOG\n       ira logs <LOGS>\n       \
 const NOTE: &str =
     "Without words ira judges the log of one node, on standard input. It prints `yes`, or \
     `no` and\nthe first reason. The status is 0 for yes, absent cases, an elected leader, upgraded \
-    or mended\nlogs, 1 for no, a case that is present or no leader, 2 for refused words, a refused \
-    ring, a\nfailed read or a failed write, 3 out of memory.";
+    or mended\nlogs, 1 for no, a case that is present, no leader or other leaders than --leads names, \
+    2 for\nrefused words, a refused ring, a failed read or a failed write, 3 out of memory.";
 
 const UPGRADE: &str = "Writes the logs of all nodes of a ring in version 2, each to a file";
 
@@ -60,6 +72,8 @@ fn command<'a>(alloc: Global) -> Result<Command<'a>, AllocError>
     let command = top_command(alloc)?;
     let command = add_command(command, logs_command(alloc))?;
     let command = add_command(command, explain_command(alloc))?;
+    let command = add_command(command, show_command(alloc))?;
+    let command = add_command(command, draw_command(alloc))?;
     let command = add_command(command, check_command(alloc))?;
     let command = add_command(command, decide_command(alloc))?;
     let command = add_command(command, pairs_command(alloc))?;
@@ -115,6 +129,14 @@ fn log_folder<'a>(alloc: Global) -> Arg<'a>
     option(alloc, "dir", "DIR", help).value_parser(ValueParser::NonEmptyString)
 }
 
+/// Whether the answer is wanted as JSON.
+fn json<'a>(alloc: Global) -> Arg<'a>
+    ensures rule { rule_of result ≡ json_rule }
+    ensures local { result.global ≡ false }
+{
+    flag(alloc, "json", "Print the answer as JSON, an object a line")
+}
+
 /// Where logs come from, if any are named. They aren't named twice.
 fn found_logs<'a>(
     alloc: Global,
@@ -154,8 +176,26 @@ fn logs_command<'a>(alloc: Global) -> Result<Command<'a>, AllocError>
 {
     Command::new(alloc, "logs")
         .about("Judges the logs of all nodes of a ring together")
+        .arg(json(alloc))?
         .arg(log_folder(alloc))?
         .arg(log_files(alloc))
+}
+
+/// The logs to judge together.
+fn logs_request<'a>(
+    alloc: Global,
+    matches: &ArgMatches<'a>,
+) -> Result<LogsRequest<'a>, OptionsFault>
+    requires { AreFoundAfter logs_app (rows_of (found_of matches.now)) }
+    ensures asked { IfOk result (HasLogsToJudge (rows_of (found_of matches.now))) }
+    ensures refused { IfErr result
+        (λ why. NamesLogs (rows_of (found_of matches.now)) → why ≡ options.OutOfMemory) }
+{
+    let logs = log_source(alloc, matches)?;
+    Ok(LogsRequest {
+        is_json: matches.get_flag("json"),
+        logs,
+    })
 }
 
 fn explain_command<'a>(alloc: Global) -> Result<Command<'a>, AllocError>
@@ -169,6 +209,7 @@ fn explain_command<'a>(alloc: Global) -> Result<Command<'a>, AllocError>
         .arg(option(alloc, "question", "Q", question))?
         .arg(number(alloc, "case", "K", case))?
         .arg(option(alloc, "cert", "C", certificate))?
+        .arg(json(alloc))?
         .arg(log_folder(alloc))?
         .arg(log_files(alloc))
 }
@@ -191,8 +232,8 @@ fn explained_answer<'a>(
             None => Ok(ExplainedAnswer::OneLog),
             Some(logs) => Ok(ExplainedAnswer::Logs(logs)),
         },
-        (None, Some(_), _) => Err(OptionsFault::NoQuestion),
-        (None, None, Some(_)) => Err(OptionsFault::NoQuestion),
+        (None, Some(_), _) => Err(OptionsFault::CaseWithoutQuestion),
+        (None, None, Some(_)) => Err(OptionsFault::CertificateWithoutQuestion),
         (Some(question), case, None) => Ok(ExplainedAnswer::Findings {
             asked: AskedQuestion { question, case },
             logs: log_source(alloc, matches)?,
@@ -206,6 +247,169 @@ fn explained_answer<'a>(
     }
 }
 
+/// The answer to explain, and how.
+fn explain_request<'a>(
+    alloc: Global,
+    matches: &ArgMatches<'a>,
+) -> Result<ExplainRequest<'a>, OptionsFault>
+    requires { AreFoundAfter explain_app (rows_of (found_of matches.now)) }
+    ensures asked { IfOk result (HasAnswerToExplain (rows_of (found_of matches.now))) }
+    ensures refused { IfErr result
+        (λ why. NamesAnswer (rows_of (found_of matches.now)) → why ≡ options.OutOfMemory) }
+{
+    let answer = explained_answer(alloc, matches)?;
+    Ok(ExplainRequest {
+        answer,
+        is_json: matches.get_flag("json"),
+    })
+}
+
+/// The command with the options that name a moment.
+fn with_moment<'a>(alloc: Global, command: Command<'a>) -> Result<Command<'a>, AllocError>
+    ensures { IfOk result (λ c. app_of c ≡ with_moment_rules (app_of command.entry)) }
+{
+    let cut = "The moment when each node has made so many events, by place, as 2,3";
+    let question = "The file with a question: the first moment that meets a case of it";
+    let case = "The case of the question, from 0; the first that is present if not given";
+    command
+        .arg(option(alloc, "at", "N0,N1,..", cut))?
+        .arg(option(alloc, "question", "Q", question))?
+        .arg(number(alloc, "case", "K", case))
+}
+
+fn show_command<'a>(alloc: Global) -> Result<Command<'a>, AllocError>
+    ensures { IfOk result (λ c. app_of c ≡ show_app) }
+{
+    let leads = "The places of the nodes that are to lead at the end, and no other, as 1,2";
+    let events = "Print an order of all events in place of the tables";
+    let command = Command::new(alloc, "show")
+        .about("Shows what happened, at the end of the logs or at another moment")
+        .arg(option(alloc, "leads", "P,..", leads))?;
+    with_moment(alloc, command)?
+        .arg(flag(alloc, "events", events))?
+        .arg(json(alloc))?
+        .arg(log_folder(alloc))?
+        .arg(log_files(alloc))
+}
+
+/// Numbers with commas between them.
+fn numbers(alloc: Global, text: &str) -> Result<Vec<u64>, OptionsFault>
+    ensures read { IfOk result (λ ns. AreNumbers ns.items (parts_of text.now)) }
+    ensures refused { IfErr result (λ why. WritesNumbers text.now → why ≡ options.OutOfMemory) }
+{
+    let mut numbers = Vec::new(alloc);
+    for part in text.split(',') {
+        match part.parse() {
+            Ok(number) => {
+                if numbers.push(number).is_err() {
+                    return Err(OptionsFault::OutOfMemory);
+                }
+            }
+            Err(_) => return Err(OptionsFault::NoNumbers),
+        }
+    }
+    Ok(numbers)
+}
+
+/// The nodes that are to lead, if any are named.
+fn asked_leaders<'a>(
+    alloc: Global,
+    matches: &ArgMatches<'a>,
+) -> Result<Option<Vec<u64>>, OptionsFault>
+    ensures found { IfOk result (λ leads. MayHaveNumbers (rows_of (found_of matches.now)) (codes "leads")
+        (option_map (λ places. places.items) leads)) }
+    ensures refused { IfErr result
+        (λ why. ListsNumbers (codes "leads") (rows_of (found_of matches.now)) → why ≡ options.OutOfMemory) }
+{
+    match matches.get_str("leads") {
+        None => Ok(None),
+        Some(text) => Ok(Some(numbers(alloc, text)?)),
+    }
+}
+
+/// The moment that is named, the end if none is.
+fn asked_moment<'a>(
+    alloc: Global,
+    matches: &ArgMatches<'a>,
+) -> Result<AskedMoment<'a>, OptionsFault>
+    requires { HasCaseTaken (rows_of (found_of matches.now)) }
+    ensures asked { IfOk result (HasMoment (rows_of (found_of matches.now))) }
+    ensures refused { IfErr result
+        (λ why. NamesMoment (rows_of (found_of matches.now)) → why ≡ options.OutOfMemory) }
+{
+    let cut = matches.get_str("at");
+    let question = matches.get_str("question");
+    let case = matches.get_one("case");
+    match (cut, question, case) {
+        (None, None, None) => Ok(AskedMoment::AtEnd),
+        (Some(cut), None, None) => Ok(AskedMoment::AtCut(numbers(alloc, cut)?)),
+        (None, Some(question), case) => {
+            Ok(AskedMoment::OfQuestion(AskedQuestion { question, case }))
+        }
+        (None, None, Some(_)) => Err(OptionsFault::CaseWithoutQuestion),
+        (Some(_), None, Some(_)) => Err(OptionsFault::CaseWithoutQuestion),
+        (Some(_), Some(_), _) => Err(OptionsFault::CutAndQuestion),
+    }
+}
+
+/// The logs to show, and how.
+fn show_request<'a>(
+    alloc: Global,
+    matches: &ArgMatches<'a>,
+) -> Result<ShowRequest<'a>, OptionsFault>
+    requires { AreFoundAfter show_app (rows_of (found_of matches.now)) }
+    ensures asked { IfOk result (HasLogsToShow (rows_of (found_of matches.now))) }
+    ensures refused { IfErr result
+        (λ why. NamesLogsToShow (rows_of (found_of matches.now)) → why ≡ options.OutOfMemory) }
+{
+    let leads = asked_leaders(alloc, matches)?;
+    let moment = asked_moment(alloc, matches)?;
+    let logs = log_source(alloc, matches)?;
+    Ok(ShowRequest {
+        leads,
+        moment,
+        has_events: matches.get_flag("events"),
+        is_json: matches.get_flag("json"),
+        logs,
+    })
+}
+
+fn draw_command<'a>(alloc: Global) -> Result<Command<'a>, AllocError>
+    ensures { IfOk result (λ c. app_of c ≡ draw_app) }
+{
+    let from = "The column that the picture begins with; the first if not given";
+    let to = "The column that the picture ends with; the last if not given";
+    let command = Command::new(alloc, "draw")
+        .about("Draws what happened, as a space-time diagram in one SVG file")
+        .arg(option(alloc, "out", "FILE", "The file for the picture").required(true))?;
+    with_moment(alloc, command)?
+        .arg(number(alloc, "from", "A", from))?
+        .arg(number(alloc, "to", "B", to))?
+        .arg(log_folder(alloc))?
+        .arg(log_files(alloc))
+}
+
+/// The logs to draw, and how.
+fn draw_request<'a>(
+    alloc: Global,
+    matches: &ArgMatches<'a>,
+) -> Result<DrawRequest<'a>, OptionsFault>
+    requires { AreFoundAfter draw_app (rows_of (found_of matches.now)) }
+    ensures asked { IfOk result (HasLogsToDraw (rows_of (found_of matches.now))) }
+    ensures refused { IfErr result
+        (λ why. NamesLogsToDraw (rows_of (found_of matches.now)) → why ≡ options.OutOfMemory) }
+{
+    let moment = asked_moment(alloc, matches)?;
+    let logs = log_source(alloc, matches)?;
+    Ok(DrawRequest {
+        picture: matches.get_str("out").unwrap(),
+        moment,
+        from: matches.get_one("from"),
+        to: matches.get_one("to"),
+        logs,
+    })
+}
+
 fn check_command<'a>(alloc: Global) -> Result<Command<'a>, AllocError>
     ensures { IfOk result (λ c. app_of c ≡ check_app) }
 {
@@ -214,6 +418,7 @@ fn check_command<'a>(alloc: Global) -> Result<Command<'a>, AllocError>
         .arg(option(alloc, "question", "Q", "The file with the question").required(true))?
         .arg(option(alloc, "cert", "C", "The file with the certificate").required(true))?
         .arg(depth(alloc))?
+        .arg(json(alloc))?
         .arg(log_folder(alloc))?
         .arg(log_files(alloc))
 }
@@ -247,6 +452,7 @@ fn check_request<'a>(
         question: matches.get_str("question").unwrap(),
         certificate: matches.get_str("cert").unwrap(),
         depth: matches.get_one("depth").unwrap(),
+        is_json: matches.get_flag("json"),
         logs,
     })
 }
@@ -259,6 +465,7 @@ fn decide_command<'a>(alloc: Global) -> Result<Command<'a>, AllocError>
         .about("Decides for each case of a question whether some moment of the logged run met it")
         .arg(option(alloc, "question", "Q", "The file with the question").required(true))?
         .arg(option(alloc, "out", "C", certificate))?
+        .arg(json(alloc))?
         .arg(log_folder(alloc))?
         .arg(log_files(alloc))
 }
@@ -277,6 +484,7 @@ fn decide_request<'a>(
     Ok(DecideRequest {
         question: matches.get_str("question").unwrap(),
         certificate: matches.get_str("out"),
+        is_json: matches.get_flag("json"),
         logs,
     })
 }
@@ -320,6 +528,17 @@ fn number<'a>(alloc: Global, name: &'a str, value: &'a str, help: &'a str) -> Ar
     option(alloc, name, value, help).value_parser(value_parser!(u64))
 }
 
+/// An option that is given or not.
+fn flag<'a>(alloc: Global, name: &'a str, help: &'a str) -> Arg<'a>
+    ensures rule { rule_of result ≡ flag_rule name.entry.now }
+    ensures local { result.global ≡ false }
+{
+    Arg::new(alloc, name)
+        .long(name)
+        .action(ArgAction::SetTrue)
+        .help(help)
+}
+
 fn run_command<'a>(alloc: Global) -> Result<Command<'a>, AllocError>
     ensures { IfOk result (λ c. app_of c ≡ run_app) }
 {
@@ -331,7 +550,7 @@ fn run_command<'a>(alloc: Global) -> Result<Command<'a>, AllocError>
         .arg(draws(alloc))?
         .arg(number(alloc, "cap", "C", cap).default_value("10000"))?
         .arg(number(alloc, "terms", "T", terms).default_value("1"))?
-        .arg(alone(alloc))
+        .arg(flag(alloc, "alone", "Run all nodes on one thread"))
 }
 
 /// The command `run` with the options that it must have.
@@ -373,16 +592,6 @@ fn draws<'a>(alloc: Global) -> Arg<'a>
     )
     .value_parser(value_parser!(u64).range(0..=100_000))
     .default_value("64")
-}
-
-fn alone<'a>(alloc: Global) -> Arg<'a>
-    ensures rule { rule_of result ≡ alone_rule }
-    ensures local { result.global ≡ false }
-{
-    Arg::new(alloc, "alone")
-        .long("alone")
-        .action(ArgAction::SetTrue)
-        .help("Run all nodes on one thread")
 }
 
 /// The ring to run.
@@ -448,10 +657,10 @@ fn found_request<'a>(alloc: Global, matches: &ArgMatches<'a>) -> Result<Request<
         → GoTogether words → why ≡ options.OutOfMemory) }
 {
     match matches.subcommand() {
-        Some(("logs", found)) => Ok(Request::Logs(log_source(alloc, found)?)),
-        Some(("explain", found)) => Ok(Request::Explain(ExplainRequest {
-            answer: explained_answer(alloc, found)?,
-        })),
+        Some(("logs", found)) => Ok(Request::Logs(logs_request(alloc, found)?)),
+        Some(("explain", found)) => Ok(Request::Explain(explain_request(alloc, found)?)),
+        Some(("show", found)) => Ok(Request::Show(show_request(alloc, found)?)),
+        Some(("draw", found)) => Ok(Request::Draw(draw_request(alloc, found)?)),
         Some(("check", found)) => Ok(Request::Check(check_request(alloc, found)?)),
         Some(("decide", found)) => Ok(Request::Decide(decide_request(alloc, found)?)),
         Some(("pairs", found)) => Ok(Request::Pairs(pairs_nodes(found))),

@@ -7,5 +7,7 @@ pub struct DecideRequest<'a> {
     pub question: &'a str,
     /// The file that the certificate is written to, where one is wanted.
     pub certificate: Option<&'a str>,
+    /// Whether the answer is wanted as JSON.
+    pub is_json: bool,
     pub logs: LogSource<'a>,
 }

@@ -4,4 +4,6 @@ use crate::explained_answer::ExplainedAnswer;
 #[derive(Drop)]
 pub struct ExplainRequest<'a> {
     pub answer: ExplainedAnswer<'a>,
+    /// Whether it is wanted as JSON.
+    pub is_json: bool,
 }

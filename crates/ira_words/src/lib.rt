@@ -1,27 +1,35 @@
 //! What the words after the name of the program `ira` ask for.
 #![tactic(auto)]
 
+mod asked_moment;
 mod asked_question;
 mod check_request;
 mod command_line;
 mod decide_request;
+mod draw_request;
 mod explain_request;
 mod explained_answer;
 mod log_source;
+mod logs_request;
 mod options_fault;
 mod request;
 mod rewrite_request;
 mod run_request;
+mod show_request;
 mod words_fault;
 
+pub use asked_moment::AskedMoment;
 pub use asked_question::AskedQuestion;
 pub use check_request::CheckRequest;
 pub use command_line::read_words;
 pub use decide_request::DecideRequest;
+pub use draw_request::DrawRequest;
 pub use explain_request::ExplainRequest;
 pub use explained_answer::ExplainedAnswer;
 pub use log_source::LogSource;
+pub use logs_request::LogsRequest;
 pub use request::Request;
 pub use rewrite_request::RewriteRequest;
 pub use run_request::RunRequest;
+pub use show_request::ShowRequest;
 pub use words_fault::WordsFault;

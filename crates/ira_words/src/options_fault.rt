@@ -8,10 +8,16 @@ use clap::error::ErrorKind;
 pub enum OptionsFault {
     /// The logs are named both by files and by a folder, or by neither.
     Sources,
-    /// A case or a certificate is named, and no question.
-    NoQuestion,
+    /// A case is named, and no question.
+    CaseWithoutQuestion,
+    /// A certificate is named, and no question.
+    CertificateWithoutQuestion,
     /// A case and a certificate are named.
     CaseAndCertificate,
+    /// A moment is named both by a cut and by a question.
+    CutAndQuestion,
+    /// A value isn't a list of numbers with commas between them, each below 2^64.
+    NoNumbers,
     /// A growth was refused.
     OutOfMemory,
 }
@@ -23,8 +29,13 @@ impl OptionsFault {
         ensures { self ≡ options.OutOfMemory → result ≡ kind.OutOfMemory }
     {
         match self {
-            OptionsFault::Sources | OptionsFault::CaseAndCertificate => ErrorKind::ArgumentConflict,
-            OptionsFault::NoQuestion => ErrorKind::MissingRequiredArgument,
+            OptionsFault::Sources
+            | OptionsFault::CaseAndCertificate
+            | OptionsFault::CutAndQuestion => ErrorKind::ArgumentConflict,
+            OptionsFault::CaseWithoutQuestion | OptionsFault::CertificateWithoutQuestion => {
+                ErrorKind::MissingRequiredArgument
+            }
+            OptionsFault::NoNumbers => ErrorKind::ValueValidation,
             OptionsFault::OutOfMemory => ErrorKind::OutOfMemory,
         }
     }
@@ -32,8 +43,14 @@ impl OptionsFault {
     pub fn text(self) -> &'static str {
         match self {
             OptionsFault::Sources => "the logs are named either by <LOG>... or by --dir <DIR>",
-            OptionsFault::NoQuestion => "--case <K> and --cert <C> need --question <Q>",
+            OptionsFault::CaseWithoutQuestion => "--case <K> needs --question <Q>",
+            OptionsFault::CertificateWithoutQuestion => "--cert <C> needs --question <Q>",
             OptionsFault::CaseAndCertificate => "--case <K> and --cert <C> exclude one another",
+            OptionsFault::CutAndQuestion =>
+                "--at <N0,N1,..> and --question <Q> exclude one another",
+            OptionsFault::NoNumbers => {
+                "--leads <P,..> and --at <N0,N1,..> are numbers with commas between them, as 2,3"
+            }
             OptionsFault::OutOfMemory => "out of memory",
         }
     }

@@ -1,9 +1,11 @@
 use crate::check_request::CheckRequest;
 use crate::decide_request::DecideRequest;
+use crate::draw_request::DrawRequest;
 use crate::explain_request::ExplainRequest;
-use crate::log_source::LogSource;
+use crate::logs_request::LogsRequest;
 use crate::rewrite_request::RewriteRequest;
 use crate::run_request::RunRequest;
+use crate::show_request::ShowRequest;
 
 /// What the words after the program's name ask for.
 #[derive(Drop)]
@@ -11,9 +13,13 @@ pub enum Request<'a> {
     /// To judge the log on standard input.
     OneLog,
     /// To judge the logs of a ring together.
-    Logs(LogSource<'a>),
+    Logs(LogsRequest<'a>),
     /// To judge logs as `OneLog` and `Logs` do, and to say why the answer is what it is.
     Explain(ExplainRequest<'a>),
+    /// To show what happened by the logs of a ring, at their end or at another moment.
+    Show(ShowRequest<'a>),
+    /// To draw what happened by the logs of a ring.
+    Draw(DrawRequest<'a>),
     /// To judge logs together with a question and a certificate that no moment met a case of it.
     Check(CheckRequest<'a>),
     /// To decide a question of logs: whether some moment met a case of it.

@@ -7,8 +7,8 @@ use Rattle.ira_words.proofs.command_line.check_command.Goals as goal
 
 pub returns : goal.returns
 returns c =
-    let named : app_of c.about.result ≡ new_app (codes "check") =
-    ap app_of_fields c.about.ensures ∙ c.new.ensures.app in
+    let named : app_of c.about.result ≡ new_app (codes "check") = ap app_of_fields c.about.ensures
+    ∙ c.new.ensures.app in
     let question : rule_of c.required.result ≡ record (option_rule (codes "question")) { required = true } =
     rw c.required.ensures (ap (λ (r : Rule). record r { required = true }) c.option.ensures.rule) in
     let certificate : rule_of c.required-2.result ≡ record (option_rule (codes "cert")) { required = true } =
@@ -19,7 +19,8 @@ returns c =
     ∙ ap₂ with_rule with_question certificate in
     let with_depth = c.in_ok-arg-3.ensures.shape c.depth.ensures.local
     ∙ ap₂ with_rule with_certificate c.depth.ensures.rule in
-    let with_folder = c.in_ok-arg-4.ensures.shape c.log_folder.ensures.local
-    ∙ ap₂ with_rule with_depth c.log_folder.ensures.rule in
-    IfOk-weaker c.arg-5.result _ _ (λ r h. h.shape c.log_files.ensures.local
-    ∙ ap₂ with_rule with_folder c.log_files.ensures.rule) c.arg-5.ensures
+    let with_json = c.in_ok-arg-4.ensures.shape c.json.ensures.local ∙ ap₂ with_rule with_depth c.json.ensures.rule in
+    let with_folder = c.in_ok-arg-5.ensures.shape c.log_folder.ensures.local
+    ∙ ap₂ with_rule with_json c.log_folder.ensures.rule in
+    IfOk-weaker c.arg-6.result _ _ (λ r h. h.shape c.log_files.ensures.local
+    ∙ ap₂ with_rule with_folder c.log_files.ensures.rule) c.arg-6.ensures

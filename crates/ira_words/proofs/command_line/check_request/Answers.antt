@@ -3,7 +3,7 @@ use Rattle.std.specs.Prelude.{option_map}
 use Rattle.clap.proofs.WalkLemmas.{first_value-rows}
 use Rattle.clap.specs.Words.{found_of}
 use Rattle.ira_words.proofs.FoundValues.{number_found, text_found}
-use Rattle.ira_words.proofs.Options.{number_in_range, number_read}
+use Rattle.ira_words.proofs.Options.{flag_read, number_in_range, number_read}
 use Rattle.ira_words.proofs.command_line.check_request.Goals as goal
 
 pub unwrap-requires : goal.unwrap-requires
@@ -33,5 +33,7 @@ returns-clause-asked c =
           ∙ ap (option_map (λ s. s.now)) c.unwrap-2.ensures;
       depth = number_read 8 f (codes "depth") _ none value;
       shallow = number_in_range 8 4 _ _ f (codes "depth") _ refl refl c.requires.taken none value;
+      json = flag_read _ _ f (codes "json") _ refl refl refl refl refl c.requires.taken c.get_flag.ensures.none
+          c.get_flag.ensures.value c.get_flag.ensures.other;
       logs = c.in_ok-logs.ensures.found;
     }

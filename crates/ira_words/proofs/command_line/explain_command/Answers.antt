@@ -11,7 +11,9 @@ returns c =
     ∙ ap₂ with_rule with_question c.number.ensures.rule in
     let with_certificate = c.in_ok-arg-3.ensures.shape c.option-2.ensures.local
     ∙ ap₂ with_rule with_case c.option-2.ensures.rule in
-    let with_folder = c.in_ok-arg-4.ensures.shape c.log_folder.ensures.local
-    ∙ ap₂ with_rule with_certificate c.log_folder.ensures.rule in
-    IfOk-weaker c.arg-5.result _ _ (λ r h. h.shape c.log_files.ensures.local
-    ∙ ap₂ with_rule with_folder c.log_files.ensures.rule) c.arg-5.ensures
+    let with_json = c.in_ok-arg-4.ensures.shape c.json.ensures.local ∙ ap₂ with_rule with_certificate
+    c.json.ensures.rule in
+    let with_folder = c.in_ok-arg-5.ensures.shape c.log_folder.ensures.local
+    ∙ ap₂ with_rule with_json c.log_folder.ensures.rule in
+    IfOk-weaker c.arg-6.result _ _ (λ r h. h.shape c.log_files.ensures.local
+    ∙ ap₂ with_rule with_folder c.log_files.ensures.rule) c.arg-6.ensures

@@ -6,7 +6,8 @@ use Rattle.ira_words.proofs.command_line.logs_command.Goals as goal
 pub returns : goal.returns
 returns c =
     let named : app_of c.about.result ≡ new_app (codes "logs") = search rules in
-    let with_folder = c.in_ok-arg.ensures.shape c.log_folder.ensures.local
-    ∙ ap₂ with_rule named c.log_folder.ensures.rule in
-    IfOk-weaker c.arg-2.result _ _ (λ r h. h.shape c.log_files.ensures.local
-    ∙ ap₂ with_rule with_folder c.log_files.ensures.rule) c.arg-2.ensures
+    let with_json = c.in_ok-arg.ensures.shape c.json.ensures.local ∙ ap₂ with_rule named c.json.ensures.rule in
+    let with_folder = c.in_ok-arg-2.ensures.shape c.log_folder.ensures.local
+    ∙ ap₂ with_rule with_json c.log_folder.ensures.rule in
+    IfOk-weaker c.arg-3.result _ _ (λ r h. h.shape c.log_files.ensures.local
+    ∙ ap₂ with_rule with_folder c.log_files.ensures.rule) c.arg-3.ensures

@@ -13,7 +13,8 @@ found_request-requires c =
       words,
       record {
         accepted = words_accepted _ words c.in_ok-command.ensures parse.kinds;
-        found = subst (λ a. HasMatchesOf a words c.in_ok-matches.matches) c.in_ok-command.ensures parse.matches;
+        found =
+            subst (λ a. HasMatchesOf a words c.in_ok-matches.matches) c.in_ok-command.ensures parse.matches;
       },
     )
 
@@ -30,8 +31,8 @@ pub returns-in_err-matches-clause-refused : goal.returns-in_err-matches-clause-r
 returns-in_err-matches-clause-refused c =
     let words = map (λ w. w.now) c.args.words.now in
     refused_by c.from_residual-in_err-matches.result c.in_err-matches.field-0.0
-    (λ e. AreAcceptedWords words → GoTogether words
-    → kind_of e ≡ kind.OutOfMemory) c.from_residual-in_err-matches.ensures.1
+    (λ e. AreAcceptedWords words → GoTogether words → kind_of e ≡ kind.OutOfMemory)
+    c.from_residual-in_err-matches.ensures.1
     (λ accepted once. out_of_memory _ words c.in_err-matches.field-0.0 c.in_ok-command.ensures
     c.in_err-matches.ensures.kinds accepted)
 
@@ -40,5 +41,5 @@ returns-clause-refused c = λ accepted once.
     let words = map (λ w. w.now) c.args.words.now in
     let parse = c.in_ok-matches.ensures in
     let found = subst (λ a. HasMatchesOf a words c.in_ok-matches.matches) c.in_ok-command.ensures parse.matches in
-    c.in_ok-error-in-Err.ensures.kind
-    ∙ c.kind.ensures (c.in-Err.ensures.refused words (record { accepted = accepted; found = found }) once)
+    c.in_ok-error-in-Err.ensures.kind ∙ c.kind.ensures (c.in-Err.ensures.refused words
+    (record { accepted = accepted; found = found }) once)

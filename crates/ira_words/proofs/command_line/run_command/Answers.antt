@@ -19,5 +19,5 @@ returns c =
     ∙ ap₂ with_rule with_draws cap in
     let with_terms = c.in_ok-arg-4.ensures.shape (rw c.default_value-2.ensures c.number-3.ensures.local)
     ∙ ap₂ with_rule with_cap terms in
-    IfOk-weaker c.arg-5.result _ _ (λ r h. h.shape c.alone.ensures.local
-    ∙ ap₂ with_rule with_terms c.alone.ensures.rule) c.arg-5.ensures
+    IfOk-weaker c.arg-5.result _ _ (λ r h. h.shape c.flag.ensures.local
+    ∙ ap₂ with_rule with_terms c.flag.ensures.rule) c.arg-5.ensures

@@ -3,7 +3,7 @@ use Rattle.std.specs.Prelude.{option_map}
 use Rattle.clap.proofs.WalkLemmas.{first_value-rows}
 use Rattle.clap.specs.Words.{found_of}
 use Rattle.ira_words.proofs.FoundValues.{number_found, text_found}
-use Rattle.ira_words.proofs.Options.{flag_read, number_in_range, number_missed, number_read}
+use Rattle.ira_words.proofs.Options.{flag_read, number_in_range, number_or_none, number_read}
 use Rattle.ira_words.proofs.command_line.run_request.Goals as goal
 
 pub unwrap-requires : goal.unwrap-requires
@@ -48,7 +48,7 @@ returns c =
           (rw c.unwrap-2.ensures at c.get_one-2.ensures.value);
       folder = sym (c.get_str.ensures ∙ first_value-rows f (codes "out"))
           ∙ ap (option_map (λ s. s.now)) c.unwrap-3.ensures;
-      initiators = number_missed _ _ f (codes "initiators") _ refl refl c.requires.taken c.get_one-3.ensures.none
+      initiators = number_or_none _ _ f (codes "initiators") _ refl refl c.requires.taken c.get_one-3.ensures.none
           c.get_one-3.ensures.value;
       draws = number_read 32 f (codes "draws") _ no_draws draws;
       few = number_in_range 32 100000 _ _ f (codes "draws") _ refl refl c.requires.taken no_draws draws;
