@@ -58,25 +58,25 @@ IsFindingsText true findings text =
     (status : Status) × IsFindingsStatus findings status × AreLinesOf (findings_values (status_number status) findings) text
 IsFindingsText false findings text = text ≡ findings_text findings
 
--- the text was printed whole, and what comes of the findings on the shelf is the outcome; or the output stopped within it
-abbrev pub PrintsFindingsText : {A S : Type 0} → Writing S → Option (Bor (List ℕ)) → S → S → SinkState → SinkState → Outcome
-    → List ℕ → Findings A → Type 0
-PrintsFindingsText writes name shelf shelf' out out' outcome text findings =
-    (Takes text out out' × KeepsFindings writes findings name shelf shelf' outcome)
-    ⊎ (StopsIn text out out' × (shelf' ≡ shelf) × (outcome ≡ Err CannotWriteAnswer))
-
--- the same, of a text that is printed of them
+-- that text was printed whole, and what comes of the findings on the shelf is the outcome; or the output stopped within it
 abbrev pub PrintsFindings : {A S : Type 0} → Writing S → Bool → Option (Bor (List ℕ)) → S → S → SinkState → SinkState → Outcome
     → Findings A → Type 0
 PrintsFindings writes is_json name shelf shelf' out out' outcome findings =
     (text : List ℕ) × IsFindingsText is_json findings text
-    × PrintsFindingsText writes name shelf shelf' out out' outcome text findings
+    × ((Takes text out out' × KeepsFindings writes findings name shelf shelf' outcome)
+    ⊎ (StopsIn text out out' × (shelf' ≡ shelf) × (outcome ≡ Err CannotWriteAnswer)))
 
--- the findings were printed, and a page of printable text after them, with their status
-abbrev pub ExplainsFindings : {A : Type 0} → SinkState → SinkState → Outcome → Findings A → Type 0
-ExplainsFindings out out' outcome findings =
-    (page : List ℕ) × IsPrintable page × (status : Status) × IsFindingsStatus findings status
-    × Prints (findings_text findings ++ page) status out out' outcome
+-- the text that is printed of findings that are explained: as JSON, where that is wanted; or else their lines, and a page
+-- of printable text after them
+abbrev pub IsExplainedText : {A : Type 0} → Bool → Findings A → List ℕ → Type 0
+IsExplainedText true findings text = IsFindingsText true findings text
+IsExplainedText false findings text = (page : List ℕ) × IsPrintable page × (text ≡ findings_text findings ++ page)
+
+-- that text was printed, with the status of the findings
+abbrev pub ExplainsFindings : {A : Type 0} → Bool → SinkState → SinkState → Outcome → Findings A → Type 0
+ExplainsFindings is_json out out' outcome findings =
+    (text : List ℕ) × IsExplainedText is_json findings text
+    × (status : Status) × IsFindingsStatus findings status × Prints text status out out' outcome
 
 -- the certificate would be written over none of the files that are named, and these were read; what is found was printed,
 -- and perhaps kept

@@ -124,33 +124,33 @@ where
     match request {
         Request::OneLog => Progress::Ended(judge_input(alloc, input, out)),
         Request::Logs(logs) => Progress::Ended(judge_files(rt, alloc, &logs, shelf, out)),
-        Request::Explain(ExplainRequest { is_json: true, .. }) => {
-            Progress::Ended(Err(ProgramFault::NoJson))
-        }
-        Request::Explain(
-            ExplainRequest {
-                answer,
-                is_json: false,
-            },
-        ) => match answer {
-            ExplainedAnswer::OneLog => Progress::Ended(explain_input(alloc, input, out)),
+        Request::Explain(ExplainRequest { answer, is_json }) => match answer {
+            ExplainedAnswer::OneLog => {
+                Progress::Ended(explain_input(rt.alloc(), alloc, is_json, input, out))
+            }
             ExplainedAnswer::Logs(logs) => {
-                Progress::Ended(explain_files(rt, alloc, &logs, shelf, out))
+                Progress::Ended(explain_files(rt, alloc, is_json, &logs, shelf, out))
             }
-            ExplainedAnswer::Findings { asked, logs } => {
-                Progress::Ended(explain_question_files(alloc, asked, &logs, shelf, out))
-            }
+            ExplainedAnswer::Findings { asked, logs } => Progress::Ended(explain_question_files(
+                rt.alloc(),
+                alloc,
+                is_json,
+                asked,
+                &logs,
+                shelf,
+                out,
+            )),
             ExplainedAnswer::Certificate {
                 question,
                 certificate,
                 logs,
             } => Progress::ExplainCheck {
+                is_json,
                 question,
                 certificate,
                 logs,
             },
         },
-        Request::Show(show) if show.is_json => Progress::Ended(Err(ProgramFault::NoJson)),
         Request::Show(show) => Progress::Ended(show_files(rt, alloc, &show, shelf, out)),
         Request::Draw(draw) => Progress::Ended(draw_files(rt, alloc, &draw, shelf, out)),
         Request::Check(check) => Progress::Check(check),
@@ -195,10 +195,13 @@ where
         Progress::Ended(outcome) => outcome,
         Progress::Check(check) => check_files(rt, alloc, &check, shelf, out),
         Progress::ExplainCheck {
+            is_json,
             question,
             certificate,
             logs,
-        } => explain_check_files(rt, alloc, question, certificate, &logs, shelf, out),
+        } => explain_check_files(
+            rt, alloc, is_json, question, certificate, &logs, shelf, out,
+        ),
         Progress::Run(ring) => record_run_on_threads(rt, alloc, &ring, shelf, out),
     }
 }

@@ -65,7 +65,7 @@ returns-in-Ok g c =
           given = (c.in_ok-question.ensures.read, rw c.deref-2.ensures.value at taken.2);
           findings = findings;
           found = rw c.bytes-2.ensures at written.1;
-          told = rw c.if-decide.false (findings_text findings, refl, inl (subst (λ t. Takes t (g.W.Sink.state c.args.out.now) (g.W.Sink.state c.write_bytes.new.sink)) text_is c.in-Ok.ensures, c.keep_written_findings.ensures findings is));
+          told = rw c.if-decide.false (findings_text findings, refl, inl (subst (λ t. Takes t (g.W.Sink.state c.args.out.now) (g.W.Sink.state c.write_bytes.new.sink)) text_is c.in-Ok.ensures, c.keep_findings.ensures findings is));
         };
       }),
     )
