@@ -28,7 +28,8 @@ shows reads show shelf out out' outcome names question texts moment named first 
       inl (record {
         question = question;
         texts = texts;
-        given = reads_both reads (moment_names show.moment) (names_of names) shelf (moment_texts show.moment question) texts
+        given = reads_both reads (moment_names show.moment) (names_of names) shelf (moment_texts show.moment question)
+            texts
             first rest;
         moment = moment;
         asked = asked;

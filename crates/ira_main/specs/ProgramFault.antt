@@ -18,7 +18,8 @@ use Rattle.ira_main.specs.declared.program_fault.ProgramFault.{ProgramFault}
 use Rattle.ira_main.specs.declared.program_fault.ProgramFault.TheVariants.{CannotRead, CannotWrite, CannotWriteAnswer}
 use Rattle.ira_main.specs.declared.program_fault.ProgramFault.TheVariants.{CannotWriteLog, CertificatePastLimits}
 use Rattle.ira_main.specs.declared.program_fault.ProgramFault.TheVariants.{NoMoment, NoPlace, OutOfMemory, RingSize}
-use Rattle.ira_main.specs.declared.program_fault.ProgramFault.TheVariants.{RunRefused, TooManyEvents, WordIsNoText, Words}
+use Rattle.ira_main.specs.declared.program_fault.ProgramFault.TheVariants.{RunRefused, TooManyEvents, WordIsNoText}
+use Rattle.ira_main.specs.declared.program_fault.ProgramFault.TheVariants.{Words}
 use Rattle.ira_main.specs.declared.program_fault.ProgramFault.TheVariants.{WouldOverwrite}
 
 -- the fault where the file of this name wasn't read

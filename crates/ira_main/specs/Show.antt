@@ -101,7 +101,8 @@ pub record ShowsTogether {S : Type 0} (reads : Reading S) (show : ShowRequest) (
       (moment_texts show.moment question ++ texts)
   pub moment : ShownMoment
   pub asked : IsAskedMoment show.moment question moment
-  pub told : TellsRing texts moment (option_map (λ places. places.items) show.leads) show.is_json show.has_events out out' outcome
+  pub told : TellsRing texts moment (option_map (λ places. places.items) show.leads) show.is_json show.has_events out
+      out' outcome
 
 -- the logs of a source were shown; or no answer is given
 abbrev pub ShowsLogs : {S : Type 0} → Reading S → ShowRequest → S → SinkState → SinkState → Outcome → Type 0

@@ -199,9 +199,7 @@ where
             question,
             certificate,
             logs,
-        } => explain_check_files(
-            rt, alloc, is_json, question, certificate, &logs, shelf, out,
-        ),
+        } => explain_check_files(rt, alloc, is_json, question, certificate, &logs, shelf, out),
         Progress::Run(ring) => record_run_on_threads(rt, alloc, &ring, shelf, out),
     }
 }

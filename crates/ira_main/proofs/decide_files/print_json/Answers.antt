@@ -11,5 +11,6 @@ returns g c =
     let text = string_bytes c.in_ok-text.text in
     let numbered : AreLinesOf (findings_values (status_number status) findings) text =
     subst (λ n. AreLinesOf (findings_values n findings) text) c.number.ensures c.in_ok-text.ensures in
-    let told = subst (AreLinesOf (findings_values (status_number status) findings)) (sym c.as_bytes.ensures.value) numbered in
+    let told = subst (AreLinesOf (findings_values (status_number status) findings)) (sym c.as_bytes.ensures.value)
+    numbered in
     inl (c.as_bytes.result.now, (status, c.of_findings-status.ensures, told), c.print_text.ensures)

@@ -16,7 +16,8 @@ returns g c =
         given = rw c.deref.ensures.value at c.in_ok-files.ensures;
         answer = view.answer;
         judged = subst (λ texts. IsRingAnswer texts view.answer) same c.in_ok-view.ensures.answer;
-        runs = λ e. yes_runs _ view.answer (subst (λ texts. IsRingAnswer texts view.answer) same c.in_ok-view.ensures.answer) e;
+        runs = λ e. yes_runs _ view.answer (subst (λ texts. IsRingAnswer texts view.answer) same
+            c.in_ok-view.ensures.answer) e;
         told = c.print_view.ensures;
       }),
     )

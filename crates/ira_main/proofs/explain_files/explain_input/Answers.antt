@@ -11,4 +11,5 @@ returns-in-Err-clause-judged g c =
 pub returns-clause-judged : goal.returns-clause-judged
 returns-clause-judged g c =
     let view = c.in_ok-view.view in
-    judged _ view.answer c.in_default.ensures.text (subst (λ text. IsLogTextAnswer text view.answer) c.bytes.ensures c.in_ok-view.ensures.answer) c.print_view.ensures
+    judged _ view.answer c.in_default.ensures.text
+    (subst (λ text. IsLogTextAnswer text view.answer) c.bytes.ensures c.in_ok-view.ensures.answer) c.print_view.ensures
