@@ -7,9 +7,8 @@ use Rattle.ira_audit.specs.GoodLogs.{AreGoodLogs}
 use Rattle.ira_audit.specs.Report.{report_line}
 use Rattle.ira_audit.specs.declared.answer.Answer.TheVariants as audit
 use Rattle.ira_audit.specs.declared.reason.Reason.{Reason}
-use Rattle.serde_json.specs.Data.{Data}
 use Rattle.ira_explain.specs.Printable.{IsPrintable}
-use Rattle.ira_json.specs.Line.{AreLinesOf}
+use Rattle.ira_json.specs.ShownAnswer.{IsRingText}
 use Rattle.ira_moment.specs.declared.cut_fault.CutFault.{CutFault}
 use Rattle.ira_views.specs.Show.{ArePlaces, IsCutFaultOf, IsReasonAgainst, IsShown}
 use Rattle.ira_views.specs.ShownRing.{ShownRing}
@@ -23,7 +22,7 @@ use Rattle.ira_files.specs.declared.file_name.FileName.{FileName}
 use Rattle.ira_main.specs.FilesRead.{IsFilesFault, ReadsFiles, names_of}
 use Rattle.ira_main.specs.Outcome.{GivesNoAnswer, Outcome, ReportsAs}
 use Rattle.ira_main.specs.SourceNames.{OfSource}
-use Rattle.ira_main.specs.Status.{IsLeadsStatus}
+use Rattle.ira_main.specs.Status.{IsLeadsStatus, status_number}
 use Rattle.ira_main.specs.declared.program_fault.ProgramFault.TheVariants.{CannotWriteAnswer, NoMoment, NoPlace}
 use Rattle.ira_main.specs.declared.program_fault.ProgramFault.TheVariants.{OutOfMemory}
 use Rattle.ira_main.specs.declared.status.Status.{Status}
@@ -62,15 +61,15 @@ pub data PrintsRing (differences : List ℕ) (has_events : Bool) (out out' : Sin
       → Takes (ring_text differences text) out out' → outcome ≡ Err OutOfMemory
       → PrintsRing differences has_events out out' outcome
 
--- lines of JSON were printed, and the status says whether there are differences; or the output stopped within them; or
--- memory ran out after a first part of them
+-- the line of a yes with a status, and more lines of JSON were printed, and the status says whether there are differences;
+-- or the output stopped within them; or memory ran out after a first part of them
 pub data PrintsRingLines (differences : List ℕ) (out out' : SinkState) (outcome : Outcome) : Type 0 where
-  printed : (values : List Data) (text : List ℕ) (status : Status) → AreLinesOf values text → Takes text out out'
-      → IsLeadsStatus differences status → outcome ≡ Ok status → PrintsRingLines differences out out' outcome
-  stopped : (values : List Data) (text : List ℕ) → AreLinesOf values text → StopsIn text out out'
-      → outcome ≡ Err CannotWriteAnswer → PrintsRingLines differences out out' outcome
-  no_memory : (values : List Data) (text : List ℕ) → AreLinesOf values text → Takes text out out'
-      → outcome ≡ Err OutOfMemory → PrintsRingLines differences out out' outcome
+  printed : (text : List ℕ) (status : Status) → IsLeadsStatus differences status → IsRingText (status_number status) text
+      → Takes text out out' → outcome ≡ Ok status → PrintsRingLines differences out out' outcome
+  stopped : (text : List ℕ) (status : Status) → IsLeadsStatus differences status → IsRingText (status_number status) text
+      → StopsIn text out out' → outcome ≡ Err CannotWriteAnswer → PrintsRingLines differences out out' outcome
+  no_memory : (text : List ℕ) (status : Status) → IsLeadsStatus differences status → IsRingText (status_number status) text
+      → Takes text out out' → outcome ≡ Err OutOfMemory → PrintsRingLines differences out out' outcome
 
 -- a ring is printed as JSON, where that is wanted, or else for a person
 abbrev pub PrintsRingAs : Bool → List ℕ → Bool → SinkState → SinkState → Outcome → Type 0

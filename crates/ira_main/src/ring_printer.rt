@@ -63,7 +63,8 @@ fn print_json<'a, A: Allocator + Clone, W: Sink>(
     out: &mut W,
 ) -> Result<Status, ProgramFault<'a>>
     requires { length files.now ≡ length ring.now.logs }
-    ensures { PrintsRingLines ring.now.differences (W.state out.old) (W.state out.new) result }
+    ensures { PrintsRingLines ring.now.differences (W.state out.old) (W.state out.new) result
+        ⊎ ((W.state out.new ≡ W.state out.old) × (result ≡ Err OutOfMemory)) }
 {
     let status = Status::of_differences(ring.differences().text());
     let answer = ShownAnswer {
