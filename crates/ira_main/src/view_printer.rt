@@ -3,6 +3,7 @@ ghost use Rattle.ira_event.specs.Sink.{Wrote};
 ghost use Rattle.ira_audit.specs.Findings.{AreReportable};
 ghost use Rattle.ira_audit.specs.FindingsText.{findings_text};
 ghost use Rattle.ira_audit.specs.Report.{IsReportable, report_line};
+ghost use Rattle.ira_explain.specs.Printable.{IsPrintable};
 ghost use Rattle.ira_main.specs.Decide.{ExplainsFindings};
 ghost use Rattle.ira_main.specs.Outcome.{Explains, ExplainsAs};
 ghost use Rattle.ira_main.specs.declared.program_fault.ProgramFault.TheVariants.{OutOfMemory};
@@ -71,7 +72,8 @@ fn write_findings_view<A: Allocator, W: Sink>(
     sink: &mut W,
 ) -> Result<(), WriteFault>
     requires { AreReportable view.now.findings }
-    ensures { Wrote result (findings_text view.now.findings ++ view.now.page) (W.state sink.old) (W.state sink.new) }
+    ensures wrote { Wrote result (findings_text view.now.findings ++ view.now.page) (W.state sink.old) (W.state sink.new) }
+    ensures printable { IsPrintable view.now.page }
 {
     write_findings(&view.findings, sink)?;
     write_bytes(view.page.text(), sink)

@@ -41,7 +41,7 @@ returns-in-ExplainCheck-clause-executed g c =
     let first = made.first in
     let same = left.4 in
     with_words (λ none. cc) same.input_is
-    (explained _ made left.2 same.shelf_is (rw left.3
+    (explained _ made same.shelf_is (rw (left.2, left.3)
     (rw (same.shelf_is, same.out_is) at c.explain_check_files.ensures)))
 
 pub returns-clause-executed : goal.returns-clause-executed

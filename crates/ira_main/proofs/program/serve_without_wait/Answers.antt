@@ -35,18 +35,18 @@ returns-in-Logs-clause-served g c =
 pub returns-in-OneLog-answer-clause-served : goal.returns-in-OneLog-answer-clause-served
 returns-in-OneLog-answer-clause-served g c =
     let made = subst (IsMadeOf (map (λ w. w.now) c.args.words.now)) c.in-Explain.is c.in-Ok.ensures.made in
-    explained _ made refl c.in-OneLog-answer.is refl c.explain_input.ensures.judged
+    explained _ made c.in-OneLog-answer.is refl c.explain_input.ensures.judged
 
 pub returns-in-Logs-answer-clause-served : goal.returns-in-Logs-answer-clause-served
 returns-in-Logs-answer-clause-served g c =
     let made = subst (IsMadeOf (map (λ w. w.now) c.args.words.now)) c.in-Explain.is c.in-Ok.ensures.made in
-    with_words (some_words _ _ _ made.first) refl (explained_of_logs _ made refl refl
+    with_words (some_words _ _ _ made.first) refl (explained_of_logs _ made refl
     (rw c.in-Logs-answer.is c.explain_files.ensures))
 
 pub returns-in-Findings-clause-served : goal.returns-in-Findings-clause-served
 returns-in-Findings-clause-served g c =
     let made = subst (IsMadeOf (map (λ w. w.now) c.args.words.now)) c.in-Explain.is c.in-Ok.ensures.made in
-    with_words (some_words _ _ _ made.first) refl (explained_of_logs _ made refl refl
+    with_words (some_words _ _ _ made.first) refl (explained_of_logs _ made refl
     (rw c.in-Findings.is c.explain_question_files.ensures))
 
 pub returns-in-Certificate-clause-served : goal.returns-in-Certificate-clause-served
@@ -57,7 +57,7 @@ returns-in-Certificate-clause-served g c =
 pub returns-in-Show-clause-served : goal.returns-in-Show-clause-served
 returns-in-Show-clause-served g c =
     let made = subst (IsMadeOf (map (λ w. w.now) c.args.words.now)) c.in-Show.is c.in-Ok.ensures.made in
-    with_words (some_words _ _ _ made.first) refl (shown _ made c.if-show.false refl c.show_files.ensures)
+    with_words (some_words _ _ _ made.first) refl (shown _ made refl c.show_files.ensures)
 
 pub returns-in-Draw-clause-served : goal.returns-in-Draw-clause-served
 returns-in-Draw-clause-served g c =
