@@ -1,7 +1,8 @@
 ghost use Rattle.ira_order.specs.Circle.{HasOrder};
 ghost use Rattle.ira_order.specs.Cut.{IsConsistentCut};
+ghost use Rattle.ira_json.specs.Line.{WroteLines};
 
-use crate::line::write_line;
+use crate::line_block::LineBlock;
 use crate::values::{members_of, put_number, put_state, put_words};
 use ira_event::{Event, Logs, OutOfMemory, Sink};
 use ira_explain::EventWords;
@@ -44,7 +45,7 @@ fn event_value(
 }
 
 /// Writes a line for each event, in one order of them all, those of the cut first.
-pub fn write_events<A: Allocator + Clone, W: Sink>(
+pub(crate) fn write_events<A: Allocator + Clone, W: Sink>(
     text: Global,
     alloc: A,
     logs: &Logs<A>,
@@ -53,6 +54,7 @@ pub fn write_events<A: Allocator + Clone, W: Sink>(
 ) -> Result<(), ShowFault>
     requires order { HasOrder logs.now }
     requires cut { IsConsistentCut logs.now cut.now }
+    ensures { WroteLines result (W.state sink.old) (W.state sink.new) }
 {
     let size = logs.size().get();
     let mut events = 0usize;
@@ -63,6 +65,7 @@ pub fn write_events<A: Allocator + Clone, W: Sink>(
         states.push(NodeState::first(log.initiator()))?;
     }
     let mut trail = Trail::new(alloc, logs, cut)?;
+    let mut lines = LineBlock::new(text);
     for number in 0..events {
         let Some(step) = trail.next()? else {
             break;
@@ -73,11 +76,7 @@ pub fn write_events<A: Allocator + Clone, W: Sink>(
         match state.advance(log.nodes(), &event) {
             Ok(()) | Err(_) => {}
         }
-        write_line(
-            text,
-            &event_value(text, number + 1, step, event, *state)?,
-            sink,
-        )?;
+        lines.add(&event_value(text, number + 1, step, event, *state)?, sink)?;
     }
-    Ok(())
+    lines.flush(sink)
 }

@@ -1,7 +1,8 @@
-use Rattle.std.proofs.Common.{◌≡◌, ◌∙◌, ◌∷◌, ◌++◌, ◌<◌, ◌≤◌, [], ap, arith, length}
+use Rattle.std.proofs.Common.{◌≡◌, ◌∙◌, ◌∷◌, ◌++◌, ◌<◌, ◌≤◌, [], Err, ap, arith, length, rules}
 use Rattle.std.proofs.lemmas.List.{length-set}
 use Rattle.ira_order.specs.Ring.{events_of, log_of}
 use Rattle.ira_show.proofs.Steps.{last_is_there}
+use Rattle.ira_json.proofs.LinesWritten.{failed_then, more_taken, wrote_then}
 use Rattle.ira_json.proofs.event_lines.write_events.Goals as goal
 
 pub log-log-requires-in-loop-number : goal.log-log-requires-in-loop-number
@@ -42,4 +43,18 @@ loop-number-preserved g c =
       logs = c.next.ensures.logs.logs ∙ c.loop-number.invariant.logs;
       states = length-set c.loop-number.states.items c.from-in-loop-number.result c.advance.new.self
           ∙ c.loop-number.invariant.states;
+      took = more_taken (g.W.Sink.state c.args.sink.now) (g.W.Sink.state c.loop-number.sink)
+          (g.W.Sink.state c.add.new.sink) c.loop-number.invariant.took c.in_ok-add.ensures;
     }
+
+pub returns-in_err-add : goal.returns-in_err-add
+returns-in_err-add g c =
+    let is : c.from_residual-in_err-add.result ≡ Err c.in_err-add.field-0.0 = search rules in
+    failed_then c.from_residual-in_err-add.result c.in_err-add.field-0.0 (g.W.Sink.state c.args.sink.now)
+    (g.W.Sink.state c.loop-number.sink) (g.W.Sink.state c.add.new.sink) is c.loop-number.invariant.took
+    c.in_err-add.ensures
+
+pub returns : goal.returns
+returns g c =
+    wrote_then c.flush.result (g.W.Sink.state c.args.sink.now) (g.W.Sink.state c.loop-number.sink)
+    (g.W.Sink.state c.flush.new.sink) c.loop-number.invariant.took c.flush.ensures
