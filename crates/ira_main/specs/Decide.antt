@@ -72,8 +72,7 @@ PrintsFindings writes is_json name shelf shelf' out out' outcome findings =
     ⊎ (StopsIn text out out' × (shelf' ≡ shelf) × (outcome ≡ Err CannotWriteAnswer)))
 
 -- the text that is printed of findings that are explained: as JSON, where that is wanted; or else their lines, and a
--- page
--- of printable text after them
+-- page of printable text after them
 abbrev pub IsExplainedText : {A : Type 0} → Bool → Findings A → List ℕ → Type 0
 IsExplainedText true findings text = IsFindingsText true findings text
 IsExplainedText false findings text = (page : List ℕ) × IsPrintable page × (text ≡ findings_text findings ++ page)
@@ -85,8 +84,7 @@ ExplainsFindings is_json out out' outcome findings =
     × (status : Status) × IsFindingsStatus findings status × Prints text status out out' outcome
 
 -- the certificate would be written over none of the files that are named, and these were read; what is found was
--- printed,
--- and perhaps kept
+-- printed, and perhaps kept
 pub record Decides (A : Type 0) {S : Type 0} (reads : Reading S) (writes : Writing S)
     (decide : DecideRequest) (names : List FileName) (shelf shelf' : S) (out out' : SinkState)
     (outcome : Outcome) : Type 0 where

@@ -29,8 +29,7 @@ HasRecordedFiles reads names shelf recorded = (texts : List (List ℕ)) × HasRe
     × ReadsFiles reads names shelf texts
 
 -- each mended log was written to the file of its place in this folder, and then how many events are kept of each; or
--- a log
--- wasn't written, and nothing was printed; or memory ran out, and the shelf is as it was
+-- a log wasn't written, and nothing was printed; or memory ran out, and the shelf is as it was
 pub data KeepsMended {S : Type 0} (writes : Writing S) (folder : Bor (List ℕ)) (logs mended : List Log)
     (shelf shelf' : S)
     (out out' : SinkState) (outcome : Outcome) : Type 0 where
@@ -47,11 +46,9 @@ IsOverwriting mend names f =
     (name : FileName) × Overwrites mend.folder.now (names_of names) (file_name name) × (f ≡ WouldOverwrite name)
 
 -- no log would be written over a file of the input; the files that are named were read, and their texts, cut or not,
--- are
--- those of the logs of one ring, which were mended, and what comes of the mended ones is the outcome; or they have a
--- difference, or aren't those of one ring, and it was reported; or a log would be written over a file of the input;
--- or no
--- texts were had. Where none was written the shelf is as it was
+-- are those of the logs of one ring, which were mended, and what comes of the mended ones is the outcome; or they
+-- have a difference, or aren't those of one ring, and it was reported; or a log would be written over a file of the
+-- input; or no texts were had. Where none was written the shelf is as it was
 pub data Mends {S : Type 0} (reads : Reading S) (writes : Writing S) (mend : RewriteRequest) (names : List FileName)
     (shelf shelf' : S) (out out' : SinkState) (outcome : Outcome) : Type 0 where
   mended : (texts : List (List ℕ)) (logs mended : List Log) → KeepsInput mend.folder.now (names_of names)

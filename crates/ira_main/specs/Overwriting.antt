@@ -15,8 +15,7 @@ abbrev pub IsPathOf : List ℕ → List ℕ → Type 0
 IsPathOf name path = (IsAbsolute name × (path ≡ name)) ⊎ (¬ (IsAbsolute name) × (path ≡ codes "./" ++ name))
 
 -- two names are the same path. Links between files and `..` are not followed, and an absolute name is never the same
--- path as a
--- relative one
+-- path as a relative one
 pub record IsSamePath (name other : List ℕ) : Type 0 where
   pub path : List ℕ
   pub is_path : IsPathOf name path

@@ -17,8 +17,7 @@ pub record IsUntouched {S : Type 0} (input input' : Reads) (shelf shelf' : S) (o
   pub out_is : out' ≡ out
 
 -- what the words ask for was done; or they ask for a check, for the evidence of one, or for a run with a thread for
--- each
--- node, and nothing was
+-- each node, and nothing was
 abbrev pub ServesOrLeaves : Type 0 → {S : Type 0} → Reading S → Writing S → List (List ℕ) → Reads → Reads → S → S
     → SinkState → SinkState → Progress → Type 0
 ServesOrLeaves A reads writes words input input' shelf shelf' out out' (Ended outcome) =

@@ -55,8 +55,7 @@ use Rattle.ira_main.specs.declared.status.Status.{Status}
 use Rattle.ira_main.specs.declared.status.Status.TheVariants.{Yes}
 
 -- the text that the input had left was judged, and its answer told; or a read failed, or there was no memory, and
--- nothing
--- was written
+-- nothing was written
 pub data OneLogOutcome (Tells : Telling) (old new : Reads) (out out' : SinkState) (outcome : Outcome) : Type 0 where
   judged : (text : List ℕ) (answer : Answer) → IsReadTo (MAX_TEXT + 1) old new text → IsLogTextAnswer text answer
       → Tells answer out out' outcome → OneLogOutcome Tells old new out out' outcome
@@ -87,8 +86,7 @@ abbrev pub check_names : List ℕ → List ℕ → List FileName → List (List 
 check_names asked certified names = asked ∷ certified ∷ names_of names
 
 -- the files of a question, a certificate and logs were read, the texts of the logs were judged together with the text
--- of
--- the question and the text of the certificate, and their answer told; after a yes no case of the question is met
+-- of the question and the text of the certificate, and their answer told; after a yes no case of the question is met
 pub record CheckOutcome (Tells : Telling) {S : Type 0} (reads : Reading S) (asked certified : List ℕ)
     (names : List FileName) (shelf : S) (out out' : SinkState) (outcome : Outcome) : Type 0 where
   pub question : List ℕ
@@ -172,15 +170,13 @@ pub data RunOutcome {S : Type 0} (writes : Writing S) (request : RunRequest) (sh
   not_run : shelf' ≡ shelf → GivesNoAnswer (IsRunFault request) out out' outcome
       → RunOutcome writes request shelf shelf' out out' outcome
 
--- what is done for words: they are refused; or they ask for logs, or for the evidence of an answer, and their texts are
--- judged together; or to show logs, and what happened by them is printed; or to draw them, and a picture is kept; or to
--- check logs, and their texts are judged with those of a question and of a certificate; or to decide a question of
--- them,
--- and it is decided of their texts; or for the question of all pairs, and it is printed; or for a ring, and it is
--- run; or
--- to upgrade logs, or to mend them, and it is done; or for the version, and it is printed. Or no answer is given, for a
--- fault that the command can have. The shelf is as it was but for the files of a run, of upgraded or mended logs, of a
--- certificate and of a picture
+-- what is done for words: they are refused; or they ask for logs, or for the evidence of an answer, and their texts
+-- are judged together; or to show logs, and what happened by them is printed; or to draw them, and a picture is kept;
+-- or to check logs, and their texts are judged with those of a question and of a certificate; or to decide a question
+-- of them, and it is decided of their texts; or for the question of all pairs, and it is printed; or for a ring, and
+-- it is run; or to upgrade logs, or to mend them, and it is done; or for the version, and it is printed. Or no answer
+-- is given, for a fault that the command can have. The shelf is as it was but for the files of a run, of upgraded or
+-- mended logs, of a certificate and of a picture
 pub data CommandOutcome (A : Type 0) {S : Type 0} (reads : Reading S) (writes : Writing S)
     (words : List (List ℕ)) (shelf shelf' : S) (out out' : SinkState)
     (outcome : Outcome) : Type 0 where
