@@ -112,11 +112,16 @@ def check_question(reader, question, certificate, names):
     assert status == plain_status
     if not cases:
         assert plain == answer['answer'] + '\n'
-    for k, (value, line) in enumerate(zip(cases, plain.split('\n'))):
-        found = ['absent', str(value['steps']), str(value['spent'])] if value['found'] == 'absent' else [
-            'present', *map(str, value['cut'])]
-        assert value['case'] == k, value
-        assert [word.strip(':,') for word in line.split() if word.strip(':,') in found] == found, (value, line)
+    else:
+        assert answer['answer'] == ('present' if status else 'absent') and answer['nodes'] == len(names)
+        lines = []
+        for k, value in enumerate(cases):
+            assert value['type'] == 'case' and value['case'] == k, value
+            if value['found'] == 'absent':
+                lines.append(f"case {k}: absent, {value['steps']} steps, node {value['spent']} spent\n")
+            else:
+                lines.append(f"case {k}: present at {' '.join(map(str, value['cut']))}\n")
+        assert plain == ''.join(lines), plain
     assert reader.json('explain', '--json', *options) == (status, [answer, *cases])
     if certificate:
         plain_status, plain = reader.run('check', '--cert', certificate, *options)
