@@ -53,11 +53,6 @@ pub failed_then : {T : Type 0} (r : Result T ShowFault) (f : ShowFault) (s t u :
     → OfLines (λ text. Takes text s t) → WroteLines {T = T} (Err f) t u → WroteLines r s u
 failed_then {T} r f s t u is so_far more = rw is (wrote_then {T = T} (Err f) s t u so_far more)
 
--- memory ran out after lines
-pub stopped_then : {T : Type 0} (r : Result T ShowFault) (s t : SinkState) → r ≡ Err OutOfMemory
-    → OfLines (λ text. Takes text s t) → WroteLines r s t
-stopped_then r s t is so_far = rw is so_far
-
 -- the answer alone
 answer_text : (status : ℕ) (value : Data) (line : List ℕ) → IsYes status value → IsLineOf value line
     → IsRingText status line
