@@ -41,12 +41,14 @@ fn keep_picture<'a, A: Allocator, F: Shelf>(
     ensures { KeepsPicture (WritesFile F.creates F.closes F.Out.state) ring.now.answer ring.now.picture name.entry
         shelf.old shelf.new result }
 {
-    if let Some(picture) = &ring.picture {
-        if let Err(fault) = write_text(picture.text(), name, shelf) {
-            return Err(ProgramFault::cannot_write(name, fault));
-        }
+    let status = Status::of_answer(&ring.answer);
+    let Some(picture) = &ring.picture else {
+        return Ok(status);
+    };
+    match write_text(picture.text(), name, shelf) {
+        Ok(()) => Ok(status),
+        Err(fault) => Err(ProgramFault::cannot_write(name, fault)),
     }
-    Ok(Status::of_answer(&ring.answer))
 }
 
 // Prints the line of the answer, and then keeps the picture.
