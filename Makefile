@@ -30,7 +30,7 @@ help:
 	@echo '                programs: `N passed, 0 failed`; and all examples. CONTRIBUTING.md says what it costs'
 	@echo 'make sweep      makes ira, refuses each growth of its memory and each start of a thread in turn, interrupts each'
 	@echo '                read and write of a file, lets it open but one file at a time, and looks at what it answers then'
-	@echo 'make views-test makes ira, draws the examples and recorded rings, and holds the pictures against the logs'
+	@echo 'make views-test makes ira, draws and shows the examples and recorded rings, and holds pictures and JSON against the logs'
 	@echo 'make recorders  makes ira, records elections with each recorder of examples/recorders, and judges their logs'
 	@echo 'make clean      removes what was built and proved'
 
@@ -67,8 +67,9 @@ judges = echo '$$ bin/ira $(1)'; \
 	said=$$(bin/ira $(1)); status=$$?; echo "$$said"; \
 	test "$$status: $$said" = '$(2): $(3)' || { echo 'expected: $(3), and the status $(2)'; exit 1; }
 
-# Draws the examples and recorded rings, and reads the pictures, where there is a Python to do so.
-draws = if command -v python3 > /dev/null; then python3 -B views/check_svg.py $(1); fi
+# Draws and shows the examples and recorded rings, and reads the pictures and the lines of JSON, where there is a Python to
+# do so.
+reads_views = if command -v python3 > /dev/null; then python3 -B views/check_svg.py $(1) && python3 -B views/check_json.py $(1); fi
 
 # A good and a bad election, a bad log alone, and then all examples.
 run: ira
@@ -91,17 +92,17 @@ dist: ira
 	@sh build/dist.sh
 
 # The merge gate: every proof from nothing, the edits that the prover must refuse, all tests, the programs as
-# two compilers build them, the answers to all examples, and their pictures where there is a Python.
+# two compilers build them, the answers to all examples, and their pictures and lines of JSON where there is a Python.
 test:
 	@$(needs_kit)
 	rt ci
 	@sh completions/check.sh crates/ira/out/ira
 	@sh examples/check.sh crates/ira/out/ira
-	@$(call draws,crates/ira/out/ira)
+	@$(call reads_views,crates/ira/out/ira)
 
-# Pictures of the examples and of recorded rings, read back and held against the logs.
+# Pictures and lines of JSON of the examples and of recorded rings, read back and held against the logs.
 views-test: ira
-	@$(call draws,bin/ira)
+	@$(call reads_views,bin/ira)
 
 # Each growth of the program is refused in turn, those of the command line's library and of the threads too, and each
 # start of a thread; each read and write of a file is interrupted. It needs glibc and Python.

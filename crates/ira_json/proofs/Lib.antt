@@ -1,2 +1,3 @@
 pub mod AnswerWords
 pub mod LineTexts
+pub mod LinesWritten

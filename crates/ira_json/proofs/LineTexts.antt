@@ -1,6 +1,7 @@
 -- Lines that are put together one after another.
 use Rattle.std.proofs.Common.{◌≡◌, ◌++◌, ℕ, List, [], ◌∷◌, Err, IfOk, Ok, Result, ap, append-nil, append_assoc, refl}
 use Rattle.std.proofs.Common.{subst, sym}
+use Rattle.std.specs.List.{AllZip, concat}
 use Rattle.serde_json.specs.Data.{Data}
 use Rattle.ira_json.specs.Line.{AreLinesOf, IsLineOf}
 
@@ -8,7 +9,7 @@ use Rattle.ira_json.specs.Line.{AreLinesOf, IsLineOf}
 abbrev pub Begins : List Data → List Data → List ℕ → Type 0
 Begins all left text = (rest : List ℕ) → AreLinesOf left rest → AreLinesOf all (text ++ rest)
 
-no_lines : AreLinesOf [] []
+pub no_lines : AreLinesOf [] []
 no_lines = record { lines = []; each = tt; whole = refl }
 
 -- a line in front
@@ -20,8 +21,25 @@ line_before value values line rest is more = record {
   whole = ap (λ t. line ++ t) more.whole;
 }
 
+-- the lines of some values, and then those of others
+append_lines : (values more : List Data) (lines : List (List ℕ)) (rest : List ℕ) → AllZip IsLineOf values lines
+    → AreLinesOf more rest → AreLinesOf (values ++ more) (concat lines ++ rest)
+append_lines [] more [] rest each is = is
+append_lines [] more (line ∷ lines) rest each is = absurd each
+append_lines (value ∷ values) more [] rest each is = absurd each
+append_lines (value ∷ values) more (line ∷ lines) rest each is =
+    let added = append_lines values more lines rest each.1 is in
+    subst (AreLinesOf (value ∷ (values ++ more))) (sym (append_assoc line (concat lines) rest))
+    (line_before value (values ++ more) line (concat lines ++ rest) each.0 added)
+
+pub lines_append : (values more : List Data) (text rest : List ℕ) → AreLinesOf values text → AreLinesOf more rest
+    → AreLinesOf (values ++ more) (text ++ rest)
+lines_append values more text rest are is =
+    subst (λ t. AreLinesOf (values ++ more) (t ++ rest)) (sym are.whole)
+    (append_lines values more are.lines rest are.each is)
+
 -- one line is the lines of one value
-one_line : (value : Data) (line : List ℕ) → IsLineOf value line → AreLinesOf (value ∷ []) line
+pub one_line : (value : Data) (line : List ℕ) → IsLineOf value line → AreLinesOf (value ∷ []) line
 one_line value line is = subst (AreLinesOf (value ∷ [])) (append-nil line) (line_before value [] line [] is no_lines)
 
 -- what gives the line of a value gives the lines of it alone

@@ -1,3 +1,5 @@
 pub mod AnswerValue
+pub mod Asked
 pub mod ExplainedValue
 pub mod Line
+pub mod ShownAnswer

@@ -27,3 +27,17 @@ abbrev pub WroteLine : {T : Type 0} → Result T ShowFault → Data → SinkStat
 WroteLine (Ok v) value old new = (text : List ℕ) × IsLineOf value text × Takes text old new
 WroteLine (Err Write) value old new = (text : List ℕ) × IsLineOf value text × StopsIn text old new
 WroteLine (Err OutOfMemory) value old new = new ≡ old
+
+-- the text is the lines of some values
+abbrev pub AreLines : List ℕ → Type 0
+AreLines text = (values : List Data) × AreLinesOf values text
+
+-- this holds of some lines
+abbrev pub OfLines : (List ℕ → Type 0) → Type 0
+OfLines P = (text : List ℕ) × AreLines text × P text
+
+-- the sink took lines, also where memory ran out; or, where it failed, a first part of some
+abbrev pub WroteLines : {T : Type 0} → Result T ShowFault → SinkState → SinkState → Type 0
+WroteLines (Ok v) old new = OfLines (λ text. Takes text old new)
+WroteLines (Err OutOfMemory) old new = OfLines (λ text. Takes text old new)
+WroteLines (Err Write) old new = OfLines (λ text. StopsIn text old new)

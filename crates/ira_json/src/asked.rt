@@ -1,10 +1,12 @@
-/// Which moment is told.
-#[derive(Clone, Copy, Debug, PartialEq, Eq)]
-pub enum Asked {
+/// Which moment of a ring is told.
+#[derive(Clone, Copy, Debug)]
+pub enum Asked<'a> {
     /// The end of the logs.
     End,
-    /// That of a cut which was asked for.
-    Cut,
-    /// The first one at which the case with this number is met, from 0.
-    Case(usize),
+    /// The one when each node has made so many of its events.
+    Cut(&'a [u32]),
+    /// The first that meets the case of this number, counted from 0: when each node has made so many of its events.
+    Case { number: usize, cut: &'a [u32] },
+    /// None: no moment meets a case that is asked for.
+    NoMoment,
 }

@@ -1,9 +1,11 @@
+ghost use Rattle.std.specs.Prelude.{◌≡◌, ◌≤◌, IfOk, length};
 ghost use Rattle.ira_order.specs.Circle.{HasOrder};
 ghost use Rattle.ira_order.specs.Cut.{IsConsistentCut};
+ghost use Rattle.ira_json.specs.Line.{WroteLines};
 
-use crate::line::write_line;
+use crate::line_block::LineBlock;
 use crate::values::{members_of, put_number, put_state, put_words};
-use ira_event::{Event, Logs, OutOfMemory, Sink};
+use ira_event::{Event, Logs, NodeLog, OutOfMemory, Sink};
 use ira_explain::EventWords;
 use ira_node::NodeState;
 use ira_show::ShowFault;
@@ -43,8 +45,46 @@ fn event_value(
     Ok(Value::Object(members))
 }
 
+/// What is told of step `number` of a trail, before which its node, whose log this is, is in this state.
+fn step_value<A: Allocator>(
+    alloc: Global,
+    log: &NodeLog<A>,
+    number: usize,
+    step: TrailStep,
+    state: &mut NodeState,
+) -> Result<Value, OutOfMemory>
+    requires { (1 ≤ step.event) × (step.event ≤ length log.now.events) }
+{
+    let event = log.event(step.event);
+    match state.advance(log.nodes(), &event) {
+        Ok(()) | Err(_) => {}
+    }
+    event_value(alloc, number, step, event, *state)
+}
+
+/// The first state of each node.
+fn first_states<A: Allocator>(alloc: A, logs: &Logs<A>) -> Result<Vec<NodeState, A>, OutOfMemory>
+    ensures { IfOk result (λ states. length states.items ≡ length logs.now) }
+{
+    let size = logs.size().get();
+    let mut states = Vec::with_capacity(alloc, usize::from(size))?;
+    for place in 0..size {
+        states.push(NodeState::first(logs.log(place).initiator()))?;
+    }
+    Ok(states)
+}
+
+/// How many events the logs have.
+fn number_of_events<A: Allocator>(logs: &Logs<A>) -> usize {
+    let mut events = 0usize;
+    for place in 0..logs.size().get() {
+        events = events.saturating_add(logs.log(place).len());
+    }
+    events
+}
+
 /// Writes a line for each event, in one order of them all, those of the cut first.
-pub fn write_events<A: Allocator + Clone, W: Sink>(
+pub(crate) fn write_events<A: Allocator + Clone, W: Sink>(
     text: Global,
     alloc: A,
     logs: &Logs<A>,
@@ -53,31 +93,19 @@ pub fn write_events<A: Allocator + Clone, W: Sink>(
 ) -> Result<(), ShowFault>
     requires order { HasOrder logs.now }
     requires cut { IsConsistentCut logs.now cut.now }
+    ensures { WroteLines result (W.state sink.old) (W.state sink.new) }
 {
-    let size = logs.size().get();
-    let mut events = 0usize;
-    let mut states = Vec::with_capacity(alloc.clone()?, usize::from(size))?;
-    for place in 0..size {
-        let log = logs.log(place);
-        events = events.saturating_add(log.len());
-        states.push(NodeState::first(log.initiator()))?;
-    }
+    let mut states = first_states(alloc.clone()?, logs)?;
     let mut trail = Trail::new(alloc, logs, cut)?;
-    for number in 0..events {
+    let mut lines = LineBlock::new(text);
+    for number in 0..number_of_events(logs) {
         let Some(step) = trail.next()? else {
             break;
         };
         let log = logs.log(step.place);
-        let event = log.event(step.event);
         let state = &mut states[usize::from(step.place)];
-        match state.advance(log.nodes(), &event) {
-            Ok(()) | Err(_) => {}
-        }
-        write_line(
-            text,
-            &event_value(text, number + 1, step, event, *state)?,
-            sink,
-        )?;
+        let value = step_value(text, log, number + 1, step, state)?;
+        lines.add(&value, sink)?;
     }
-    Ok(())
+    lines.flush(sink)
 }

@@ -7,11 +7,15 @@ mod asked;
 mod event_lines;
 mod explained;
 mod line;
+mod line_block;
+mod moment_answer;
 mod moment_lines;
+mod ring_lines;
+mod shown_answer;
 mod values;
 
 pub use answer_lines::{answer_line, explained_line, findings_lines};
 pub use asked::Asked;
-pub use event_lines::write_events;
 pub use line::write_line;
-pub use moment_lines::{write_moment, write_no_moment};
+pub use ring_lines::write_ring;
+pub use shown_answer::ShownAnswer;

@@ -1,54 +1,17 @@
-ghost use Rattle.std.specs.Prelude.{◌≡◌, ◌≤◌, length};
+ghost use Rattle.std.specs.Prelude.{◌≡◌, ◌<◌, length};
 ghost use Rattle.ira_order.specs.Cut.{IsConsistentCut};
 ghost use Rattle.ira_order.specs.Matching.{Matches};
 ghost use Rattle.ira_order.specs.Run.{AreLocalRuns};
+ghost use Rattle.ira_json.specs.Line.{WroteLines};
 
-use crate::asked::Asked;
-use crate::line::write_line;
-use crate::values::{
-    Members, members_of, numbers_value, put_load, put_number, put_state, put_words,
-};
+use crate::line_block::LineBlock;
+use crate::values::{members_of, places_value, put_load, put_number, put_state, put_words};
 use ira_event::{Event, Logs, NodeLog, OutOfMemory, Sink};
+use ira_explain::NamedText;
 use ira_moment::{Moment, NodeProgress};
 use ira_show::{Round, Rounds, ShowFault};
 use serde_json::{Map, Value, put};
 use std::alloc::{Allocator, Global};
-
-/// A list of places.
-fn places(alloc: Global, places: &[u8]) -> Result<Value, OutOfMemory> {
-    let mut list = Vec::with_capacity(alloc, places.len())?;
-    for place in places {
-        list.push(Value::from(*place))?;
-    }
-    Ok(Value::Array(list))
-}
-
-/// The answer for good logs, with what all their events come to.
-fn answer<A: Allocator>(alloc: Global, end: &Moment<A>) -> Result<Members, OutOfMemory> {
-    let mut events = 0u64;
-    let mut sent = 0u64;
-    let mut received = 0u64;
-    let mut leaders = Vec::new(alloc);
-    for place in 0..end.size() {
-        let node = end.node(place);
-        events = events.saturating_add(u64::from(node.events));
-        sent = sent.saturating_add(u64::from(node.sent));
-        received = received.saturating_add(u64::from(node.received));
-        if end.leads(place) {
-            leaders.push(place)?;
-        }
-    }
-    let mut answer = members_of(alloc, "answer")?;
-    put_words(&mut answer, alloc, "answer", "yes")?;
-    put_number(&mut answer, alloc, "status", 0)?;
-    put_number(&mut answer, alloc, "version", 1)?;
-    put_number(&mut answer, alloc, "nodes", u64::from(end.size()))?;
-    put_number(&mut answer, alloc, "events", events)?;
-    put_number(&mut answer, alloc, "sent", sent)?;
-    put_number(&mut answer, alloc, "received", received)?;
-    put(&mut answer, alloc, "leaders", places(alloc, &leaders)?)?;
-    Ok(answer)
-}
 
 /// What was drawn in a round.
 fn round_value(alloc: Global, round: &Round<Global>) -> Result<Value, OutOfMemory> {
@@ -63,7 +26,7 @@ fn round_value(alloc: Global, round: &Round<Global>) -> Result<Value, OutOfMemor
         &mut members,
         alloc,
         "drawn_by",
-        places(alloc, &round.greatest_of)?,
+        places_value(alloc, &round.greatest_of)?,
     )?;
     Ok(Value::Object(members))
 }
@@ -126,64 +89,101 @@ fn link_value(alloc: Global, link: u8, way: Value) -> Result<Value, OutOfMemory>
     Ok(Value::Object(members))
 }
 
-/// Writes the answer for good logs, and of a moment a line for each round, each node, and each link that holds something.
-/// The files are those of the logs, in their order.
-pub fn write_moment<A: Allocator + Clone, W: Sink>(
+/// Writes a line for each round.
+fn write_rounds<W: Sink>(
+    text: Global,
+    rounds: &[Round<Global>],
+    lines: &mut LineBlock,
+    sink: &mut W,
+) -> Result<(), ShowFault>
+    ensures { WroteLines result (W.state sink.old) (W.state sink.new) }
+{
+    for round in rounds {
+        lines.add(&round_value(text, round)?, sink)?;
+    }
+    Ok(())
+}
+
+/// Writes a line for each node, whose log stands in the file of its place.
+fn write_nodes<A: Allocator, W: Sink>(
+    text: Global,
+    logs: &Logs<A>,
+    files: &[NamedText<'_>],
+    moment: &Moment<A>,
+    lines: &mut LineBlock,
+    sink: &mut W,
+) -> Result<(), ShowFault>
+    requires nodes { length moment.now.nodes ≡ length logs.now }
+    requires files { length files.now ≡ length logs.now }
+    ensures { WroteLines result (W.state sink.old) (W.state sink.new) }
+{
+    for place in 0..moment.size() {
+        let file = files[usize::from(place)].name;
+        let node = node_value(text, logs.log(place), file, moment.node(place))?;
+        lines.add(&node, sink)?;
+    }
+    Ok(())
+}
+
+/// Writes a line for a link, where it holds something.
+fn write_link<A: Allocator, W: Sink>(
+    text: Global,
+    log: &NodeLog<A>,
+    moment: &Moment<A>,
+    link: u8,
+    lines: &mut LineBlock,
+    sink: &mut W,
+) -> Result<(), ShowFault>
+    requires nodes { link < length moment.now.nodes }
+    requires links { link < length moment.now.links }
+    ensures { WroteLines result (W.state sink.old) (W.state sink.new) }
+{
+    let number = moment.on_link(link).len();
+    if number == 0 {
+        return Ok(());
+    }
+    let way = last_sendings(text, log, moment.node(link), number)?;
+    lines.add(&link_value(text, link, way)?, sink)
+}
+
+/// Writes a line for each link that holds something.
+fn write_links<A: Allocator, W: Sink>(
+    text: Global,
+    logs: &Logs<A>,
+    moment: &Moment<A>,
+    lines: &mut LineBlock,
+    sink: &mut W,
+) -> Result<(), ShowFault>
+    requires { length moment.now.nodes ≡ length logs.now }
+    ensures { WroteLines result (W.state sink.old) (W.state sink.new) }
+{
+    for link in 0..moment.size() {
+        write_link(text, logs.log(link), moment, link, lines, sink)?;
+    }
+    Ok(())
+}
+
+/// Writes, of the moment of a cut, a line for each round, each node, and each link that holds something. The files are those of
+/// the logs, in their order.
+pub(crate) fn write_moment<A: Allocator + Clone, W: Sink>(
     text: Global,
     alloc: A,
     logs: &Logs<A>,
-    files: &[&str],
+    files: &[NamedText<'_>],
     cut: &[u32],
-    asked: Asked,
     sink: &mut W,
 ) -> Result<(), ShowFault>
     requires matches { Matches logs.now }
     requires local { AreLocalRuns logs.now }
     requires cut { IsConsistentCut logs.now cut.now }
     requires files { length files.now ≡ length logs.now }
+    ensures { WroteLines result (W.state sink.old) (W.state sink.new) }
 {
-    let end = Moment::at_end(alloc.clone()?, logs)?;
-    let mut first = answer(text, &end)?;
-    if asked != Asked::End {
-        put(&mut first, text, "cut", numbers_value(text, cut)?)?;
-    }
-    if let Asked::Case(number) = asked {
-        put_number(&mut first, text, "case", number as u64)?;
-    }
-    write_line(text, &Value::Object(first), sink)?;
     let moment = Moment::at_cut(alloc, logs, cut)?;
     let rounds = Rounds::of(text, logs, &moment)?;
-    for round in rounds.as_slice() {
-        write_line(text, &round_value(text, round)?, sink)?;
-    }
-    let size = moment.size();
-    for place in 0..size {
-        let file = files[usize::from(place)];
-        let node = node_value(text, logs.log(place), file, moment.node(place))?;
-        write_line(text, &node, sink)?;
-    }
-    for link in 0..size {
-        let number = moment.on_link(link).len();
-        if number > 0 {
-            let way = last_sendings(text, logs.log(link), moment.node(link), number)?;
-            write_line(text, &link_value(text, link, way)?, sink)?;
-        }
-    }
-    Ok(())
-}
-
-/// Writes the answer for good logs, where no moment of them meets the cases that were asked for.
-pub fn write_no_moment<A: Allocator + Clone, W: Sink>(
-    text: Global,
-    alloc: A,
-    logs: &Logs<A>,
-    sink: &mut W,
-) -> Result<(), ShowFault>
-    requires matches { Matches logs.now }
-    requires local { AreLocalRuns logs.now }
-{
-    let end = Moment::at_end(alloc, logs)?;
-    let mut first = answer(text, &end)?;
-    put(&mut first, text, "cut", Value::Null)?;
-    write_line(text, &Value::Object(first), sink)
+    let mut lines = LineBlock::new(text);
+    write_rounds(text, rounds.as_slice(), &mut lines, sink)?;
+    write_nodes(text, logs, files, &moment, &mut lines, sink)?;
+    write_links(text, logs, &moment, &mut lines, sink)?;
+    lines.flush(sink)
 }

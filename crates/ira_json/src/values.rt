@@ -120,3 +120,16 @@ pub(crate) fn numbers_value(alloc: Global, numbers: &[u32]) -> Result<Value, Out
     }
     Ok(Value::Array(list))
 }
+
+/// A list of places.
+pub(crate) fn places_value<T: Copy + Into<u64>>(
+    alloc: Global,
+    places: &[T],
+) -> Result<Value, OutOfMemory> {
+    let mut list = Vec::with_capacity(alloc, places.len())?;
+    for place in places {
+        let place: u64 = (*place).into();
+        list.push(Value::from(place))?;
+    }
+    Ok(Value::Array(list))
+}

@@ -1,5 +1,6 @@
 -- Files that are read, and why the texts of some names' files aren't judged.
-use Rattle.std.proofs.Common.{◌≡◌, ◌∙◌, ℕ, zero, suc, ◌+◌, ◌<◌, List, [], ◌∷◌, ◌++◌, Err, Ok, Some, ap, append_assoc, arith, drop, inl, inr, length, refl, slice_get, subst, sym, take}
+use Rattle.std.proofs.Common.{◌≡◌, ◌∙◌, ℕ, zero, suc, ◌+◌, ◌<◌, List, [], ◌∷◌, ◌++◌, Err, Ok, Some, ap, append_assoc}
+use Rattle.std.proofs.Common.{arith, drop, inl, inr, length, refl, slice_get, subst, sym, take}
 use Rattle.std.specs.Prelude.{IfErr, IfOk, MatchResult, Result, slice_index_or}
 use Rattle.ira_audit.specs.RingAudit.{HasTaken, RingAudit}
 use Rattle.ira_files.specs.FileName.{file_name}
@@ -12,13 +13,15 @@ use Rattle.ira_main.specs.ProgramFault.{read_fault}
 use Rattle.ira_main.specs.declared.program_fault.ProgramFault.{ProgramFault}
 
 -- the name at an index
-pub named_at : (names : List FileName) (i : ℕ) (d : FileName) → i < length names → slice_get (names_of names) i ≡ Some (file_name (slice_index_or names i d))
+pub named_at : (names : List FileName) (i : ℕ) (d : FileName) → i < length names
+    → slice_get (names_of names) i ≡ Some (file_name (slice_index_or names i d))
 named_at [] i d lt = absurd (omega (arith, lt))
 named_at (n ∷ ns) zero d lt = refl
 named_at (n ∷ ns) (suc i) d lt = named_at ns i d (omega (arith, lt))
 
 -- the files of some names were read, and those of others
-pub reads_both : {S : Type 0} (reads : Reading S) (names more : List (List ℕ)) (shelf : S) (texts others : List (List ℕ))
+pub reads_both : {S : Type 0} (reads : Reading S) (names more : List (List ℕ)) (shelf : S)
+    (texts others : List (List ℕ))
     → ReadsFiles reads names shelf texts → ReadsFiles reads more shelf others
     → ReadsFiles reads (names ++ more) shelf (texts ++ others)
 reads_both reads [] more shelf [] others none behind = behind
@@ -36,7 +39,8 @@ of_front reads names behind shelf f (inl stop) =
       front = stop.front;
       name = stop.name;
       back = stop.back ++ behind;
-      parts = sym (append_assoc stop.front (file_name stop.name ∷ stop.back) behind) ∙ ap (λ ns. ns ++ behind) stop.parts;
+      parts = sym (append_assoc stop.front (file_name stop.name ∷ stop.back) behind)
+          ∙ ap (λ ns. ns ++ behind) stop.parts;
       texts = stop.texts;
       given = stop.given;
       why = stop.why;
@@ -45,8 +49,10 @@ of_front reads names behind shelf f (inl stop) =
     })
 
 -- the fault of some files after others that were read is one of all of them
-pub of_back : {S : Type 0} (reads : Reading S) (before names : List (List ℕ)) (shelf : S) (texts : List (List ℕ)) (f : ProgramFault)
-    → ReadsFiles reads before shelf texts → IsFilesFault reads names shelf f → IsFilesFault reads (before ++ names) shelf f
+pub of_back : {S : Type 0} (reads : Reading S) (before names : List (List ℕ)) (shelf : S) (texts : List (List ℕ))
+    (f : ProgramFault)
+    → ReadsFiles reads before shelf texts → IsFilesFault reads names shelf f
+    → IsFilesFault reads (before ++ names) shelf f
 of_back reads before names shelf texts f read (inr full) = inr full
 of_back reads before names shelf texts f read (inl stop) =
     inl (record {
@@ -63,7 +69,8 @@ of_back reads before names shelf texts f read (inl stop) =
 
 -- the files of the names up to an index were read, and then the one there
 pub reads_next : {S : Type 0} (reads : Reading S) (names : List (List ℕ)) (i : ℕ) (name : List ℕ) (shelf : S)
-    (texts : List (List ℕ)) (text : List ℕ) → slice_get names i ≡ Some name → ReadsFiles reads (take i names) shelf texts
+    (texts : List (List ℕ)) (text : List ℕ) → slice_get names i ≡ Some name
+    → ReadsFiles reads (take i names) shelf texts
     → reads shelf name (Ok text) → ReadsFiles reads (take (i + 1) names) shelf (texts ++ text ∷ [])
 reads_next reads names i name shelf texts text at before read =
     let both = reads_both reads (take i names) (name ∷ []) shelf texts (text ∷ []) before (read, tt) in
@@ -80,7 +87,8 @@ taken_next reads names i name shelf old new text at before read takes =
 
 -- the files of the names up to an index were read, and the one there is at fault
 pub of_next : {S : Type 0} (reads : Reading S) (names : List (List ℕ)) (i : ℕ) (name : List ℕ) (shelf : S)
-    (texts : List (List ℕ)) (f : ProgramFault) → slice_get names i ≡ Some name → ReadsFiles reads (take i names) shelf texts
+    (texts : List (List ℕ)) (f : ProgramFault) → slice_get names i ≡ Some name
+    → ReadsFiles reads (take i names) shelf texts
     → IsFilesFault reads (name ∷ []) shelf f → IsFilesFault reads names shelf f
 of_next reads names i name shelf texts f at before fault =
     subst (λ ns. IsFilesFault reads ns shelf f) (parts_at names i name at)
@@ -89,9 +97,21 @@ of_next reads names i name shelf texts f at before fault =
 
 -- the fault of one file
 pub of_one : {S : Type 0} (reads : Reading S) (name : FileName) (why : ShelfFault) (shelf : S) (f : ProgramFault)
-    → reads shelf (file_name name) (Err why) → f ≡ read_fault name why → IsFilesFault reads (file_name name ∷ []) shelf f
+    → reads shelf (file_name name) (Err why) → f ≡ read_fault name why
+    → IsFilesFault reads (file_name name ∷ []) shelf f
 of_one reads name why shelf f failed is =
-    inl (record { front = []; name = name; back = []; parts = refl; texts = []; given = tt; why = why; unread = failed; told = is })
+    inl (record {
+      front = [];
+      name = name;
+      back = [];
+      parts = refl;
+      texts = [];
+      given = tt;
+      why = why;
+      unread =
+          failed;
+      told = is;
+    })
 
 -- a file of a question, if one is named
 pub reads_one : {S : Type 0} (reads : Reading S) (name : List ℕ) (shelf : S) (r : Result (List ℕ) ProgramFault)

@@ -22,4 +22,5 @@ pub written_next : {S : Type 0} (writes : Writing S) (folder : List ℕ) (logs :
     → slice_get logs i ≡ Some log → WritesLogs writes folder (take i logs) a b
     → writes (log_name folder log.place) (log_text log) b c (Ok tt) → WritesLogs writes folder (take (i + 1) logs) a c
 written_next writes folder logs i log a b c at before wrote =
-    subst (λ xs. WritesLogs writes folder xs a c) (sym (take_next logs i log at)) (written_more writes folder (take i logs) log a b c before wrote)
+    subst (λ xs. WritesLogs writes folder xs a c) (sym (take_next logs i log at))
+    (written_more writes folder (take i logs) log a b c before wrote)

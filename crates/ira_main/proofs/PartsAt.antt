@@ -6,12 +6,14 @@ use Rattle.std.proofs.lemmas.Option.{get_or_from_slice_get, slice_get_within}
 use Rattle.ira_event.proofs.Rest.{drop-at}
 
 -- the list is those before an index, the one there, and those after it
-pub parts_at : {X : Type 0} (xs : List X) (i : ℕ) (x : X) → slice_get xs i ≡ Some x → take i xs ++ x ∷ drop (i + 1) xs ≡ xs
+pub parts_at : {X : Type 0} (xs : List X) (i : ℕ) (x : X) → slice_get xs i ≡ Some x → take i xs ++ x
+    ∷ drop (i + 1) xs ≡ xs
 parts_at xs i x at =
     let left = drop-at xs i x x (slice_get_within xs i x at) (sym (get_or_from_slice_get xs i x x at)) in
     ap (λ ys. take i xs ++ ys) (sym left) ∙ take-append-drop i xs
 
 -- one more of the list is those before an index and the one there
-pub take_next : {X : Type 0} (xs : List X) (i : ℕ) (x : X) → slice_get xs i ≡ Some x → take (i + 1) xs ≡ take i xs ++ x ∷ []
+pub take_next : {X : Type 0} (xs : List X) (i : ℕ) (x : X) → slice_get xs i ≡ Some x → take (i + 1) xs ≡ take i xs
+    ++ x ∷ []
 take_next xs i x at =
     take_more xs i x (slice_get_within xs i x at) ∙ ap (λ y. take i xs ++ y ∷ []) (get_or_from_slice_get xs i x x at)

@@ -1,7 +1,38 @@
--- A text that was written reached the sink whole, or the write of it failed.
-use Rattle.std.proofs.Common.{◌⊎◌, ℕ, List, Result, Ok, Err, inl, inr}
+-- What is printed of answers.
+use Rattle.std.proofs.Common.{◌≡◌, ◌∙◌, ◌⊎◌, ℕ, true, List, Result, Ok, Err, ap, inl, inr, subst, sym}
+use Rattle.serde_json.specs.Data.{Data}
+use Rattle.ira_audit.specs.declared.answer.Answer.{Answer}
+use Rattle.ira_audit.specs.declared.findings.Findings.{Findings}
 use Rattle.ira_event.specs.Sink.{SinkState, Wrote, Takes, StopsIn}
+use Rattle.ira_json.specs.AnswerValue.{findings_values}
+use Rattle.ira_json.specs.Line.{AreLinesOf, IsLineOf}
+use Rattle.ira_main.specs.Decide.{IsFindingsText}
+use Rattle.ira_main.specs.Outcome.{Outcome, Prints, ReportsJson}
+use Rattle.ira_main.specs.Status.{IsFindingsStatus, answer_status, status_number}
+use Rattle.ira_main.specs.declared.status.Status.{Status}
 
-pub reported : {T E : Type 0} (r : Result T E) (text : List ℕ) (s t : SinkState) → Wrote r text s t → Takes text s t ⊎ StopsIn text s t
+-- a text that was written reached the sink whole, or the write of it failed
+pub reported : {T E : Type 0} (r : Result T E) (text : List ℕ) (s t : SinkState) → Wrote r text s t
+    → Takes text s t ⊎ StopsIn text s t
 reported (Ok x) text s t wrote = inl wrote
 reported (Err e) text s t wrote = inr wrote
+
+-- the line of a value of an answer was printed, which has the number of the answer's status
+pub json_reported : (value_of : ℕ → Answer → Data) (answer : Answer) (status : Status) (n : ℕ) (text lent : List ℕ)
+    (s t : SinkState) (outcome : Outcome) → status ≡ answer_status answer → n ≡ status_number status
+    → IsLineOf (value_of n answer) text → lent ≡ text → Prints lent status s t outcome
+    → ReportsJson value_of answer s t outcome
+json_reported value_of answer status n text lent s t outcome is number line same printed =
+    let told = subst (λ k. IsLineOf (value_of k answer) text) (number ∙ ap status_number is) line in (
+      lent,
+      subst (IsLineOf (value_of (status_number (answer_status answer)) answer)) (sym same) told,
+      subst (λ w. Prints lent w s t outcome) is printed,
+    )
+
+-- lines of the values of findings, the first of which has the number of their status
+pub findings_json : {A : Type 0} (findings : Findings A) (status : Status) (n : ℕ) (text lent : List ℕ)
+    → n ≡ status_number status → IsFindingsStatus findings status → AreLinesOf (findings_values n findings) text
+    → lent ≡ text → IsFindingsText true findings lent
+findings_json findings status n text lent number is lines same =
+    let told = subst (λ k. AreLinesOf (findings_values k findings) text) number lines in
+    (status, is, subst (AreLinesOf (findings_values (status_number status) findings)) (sym same) told)

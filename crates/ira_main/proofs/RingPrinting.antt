@@ -1,17 +1,21 @@
 -- What is printed of a ring.
-use Rattle.std.proofs.Common.{◌≡◌, ◌∙◌, ℕ, Bool, true, false, List, [], ◌++◌, Result, Err, Ok, append_assoc, refl, subst}
+use Rattle.std.proofs.Common.{◌≡◌, ◌∙◌, ℕ, Bool, true, false, List, [], ◌++◌, Result, Err, Ok, append_assoc, refl}
+use Rattle.std.proofs.Common.{inl, inr, subst}
 use Rattle.std.proofs.lemmas.List.Folds.{list_all-append}
-use Rattle.std.specs.Prelude.{nat_eq, ◌||◌}
+use Rattle.std.specs.Prelude.{nat_eq, ◌⊎◌, ◌||◌}
 use Rattle.std.specs.Result.{is_err}
 use Rattle.ira_audit.specs.Report.{report_line}
 use Rattle.ira_audit.specs.declared.answer.Answer.TheVariants as audit
 use Rattle.ira_event.proofs.Writing.{StopsIn-append, Takes-StopsIn, Takes-append}
 use Rattle.ira_event.specs.Sink.{SinkState, StopsIn, Takes, Wrote}
 use Rattle.ira_explain.specs.Printable.{IsPrintable, is_graphic}
+use Rattle.ira_json.specs.ShownAnswer.{IsRingText, OfRingText}
 use Rattle.ira_show.specs.Showed.{OfPrintable}
-use Rattle.ira_main.specs.Show.{PrintsRing, ring_text}
+use Rattle.ira_main.specs.Outcome.{Outcome}
+use Rattle.ira_main.specs.Show.{PrintsRing, PrintsRingLines, ring_text}
 use Rattle.ira_main.specs.Show.PrintsRing.{no_memory, printed, stopped}
-use Rattle.ira_main.specs.Status.{IsLeadsStatus}
+use Rattle.ira_main.specs.Show.PrintsRingLines as lines
+use Rattle.ira_main.specs.Status.{IsLeadsStatus, status_number}
 use Rattle.ira_main.specs.declared.program_fault.ProgramFault.TheVariants.{CannotWriteAnswer, OutOfMemory}
 use Rattle.ira_main.specs.declared.status.Status.{Status}
 
@@ -68,3 +72,23 @@ stopped_after d has_events s t u p front more =
     let text = append_assoc (report_line audit.Yes) d more.0 in
     stopped more.0 (printable_both d more.0 p more.1)
     (subst (λ w. StopsIn w s u) text (Takes-StopsIn s t u (ring_front d) more.0 front more.2)) refl
+
+-- lines of JSON, of which the first has the number of the status: all were printed
+pub lines_printed : (d : List ℕ) (status : Status) (n : ℕ) (s t : SinkState) → n ≡ status_number status
+    → IsLeadsStatus d status → OfRingText n (λ text. Takes text s t) → PrintsRingLines d s t (Ok status)
+lines_printed d status n s t number is took =
+    lines.printed took.0 status is (subst (λ k. IsRingText k took.0) number took.1) took.2 refl
+
+-- the sink failed among them
+pub lines_stopped : (d : List ℕ) (status : Status) (n : ℕ) (s t : SinkState) → n ≡ status_number status
+    → IsLeadsStatus d status → OfRingText n (λ text. StopsIn text s t) → PrintsRingLines d s t (Err CannotWriteAnswer)
+lines_stopped d status n s t number is stop =
+    lines.stopped stop.0 status is (subst (λ k. IsRingText k stop.0) number stop.1) stop.2 refl
+
+-- memory ran out before them, or among them
+pub lines_no_memory : (d : List ℕ) (status : Status) (n : ℕ) (s t : SinkState) → n ≡ status_number status
+    → IsLeadsStatus d status → (t ≡ s) ⊎ OfRingText n (λ text. Takes text s t)
+    → PrintsRingLines d s t (Err OutOfMemory) ⊎ ((t ≡ s) × (◌≡◌ {A = Outcome} (Err OutOfMemory) (Err OutOfMemory)))
+lines_no_memory d status n s t number is (inl none) = inr (none, refl)
+lines_no_memory d status n s t number is (inr took) =
+    inl (lines.no_memory took.0 status is (subst (λ k. IsRingText k took.0) number took.1) took.2 refl)

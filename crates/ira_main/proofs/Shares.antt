@@ -1,6 +1,7 @@
 -- Files that are read in shares: of each share some were read, and the audits are put together in their order, once the
 -- others of the share were read too.
-use Rattle.std.proofs.Common.{◌≡◌, ◌∙◌, ℕ, zero, suc, ◌+◌, ◌*◌, ◌<◌, ◌≤◌, List, [], ◌∷◌, ◌++◌, IfOk, Result, ap, append-nil, append_assoc, arith, drop, get_or, length, refl, subst, sym, take}
+use Rattle.std.proofs.Common.{◌≡◌, ◌∙◌, ℕ, zero, suc, ◌+◌, ◌*◌, ◌<◌, ◌≤◌, List, [], ◌∷◌, ◌++◌, IfOk, Result, ap}
+use Rattle.std.proofs.Common.{append-nil, append_assoc, arith, drop, get_or, length, refl, subst, sym, take}
 use Rattle.std.proofs.Math.Nat.{suc-mul}
 use Rattle.std.proofs.lemmas.List.{drop-drop, length-drop, map-append, take-append-drop}
 use Rattle.ira_audit.specs.RingAudit.{HasTaken, RingAudit}
@@ -22,7 +23,8 @@ behind zero names = refl
 behind (suc size) [] = refl
 behind (suc size) (n ∷ ns) = behind size ns
 
-pub behind_chunk : (size k : ℕ) (names : List FileName) → drop (k + length (take size (drop k names))) names ≡ drop size (drop k names)
+pub behind_chunk : (size k : ℕ) (names : List FileName)
+    → drop (k + length (take size (drop k names))) names ≡ drop size (drop k names)
 behind_chunk size k names = sym (drop-drop (length (take size (drop k names))) k names) ∙ behind size (drop k names)
 
 taken_within : (size : ℕ) (names : List FileName) → length (take size names) ≤ length names
@@ -30,7 +32,8 @@ taken_within zero names = omega arith
 taken_within (suc size) [] = omega arith
 taken_within (suc size) (n ∷ ns) = let on = taken_within size ns in omega (arith, on)
 
-pub chunk_within : (size k : ℕ) (names : List FileName) → k ≤ length names → k + length (take size (drop k names)) ≤ length names
+pub chunk_within : (size k : ℕ) (names : List FileName) → k ≤ length names
+    → k + length (take size (drop k names)) ≤ length names
 chunk_within size k names within =
     let few = taken_within size (drop k names) in
     let left = length-drop k names in
@@ -39,9 +42,11 @@ chunk_within size k names within =
 -- these came of chunks of the names, in their order
 abbrev pub AreShares : {R : Type 0} → (List (List ℕ) → R → Type 0) → ℕ → List FileName → List R → Type 0
 AreShares Came size names [] = names ≡ []
-AreShares Came size names (share ∷ shares) = Came (names_of (take size names)) share × AreShares Came size (drop size names) shares
+AreShares Came size names (share ∷ shares) = Came (names_of (take size names)) share
+    × AreShares Came size (drop size names) shares
 
-pub chunk_shares : {R : Type 0} (Came : List (List ℕ) → R → Type 0) (size : ℕ) (names : List FileName) (shares : List R) → length names ≤ length shares * size
+pub chunk_shares : {R : Type 0} (Came : List (List ℕ) → R → Type 0) (size : ℕ) (names : List FileName)
+    (shares : List R) → length names ≤ length shares * size
     → ((n : ℕ) (d : R) → n < length shares → Came (names_of (take size (drop (n * size) names))) (get_or shares n d))
     → AreShares Came size names shares
 chunk_shares Came size [] [] few each = refl
@@ -49,7 +54,8 @@ chunk_shares Came size (n ∷ ns) [] few each = absurd (omega (arith, few))
 chunk_shares Came size names (share ∷ shares) few each =
     let none : 0 * size ≡ 0 = omega arith in
     let first = subst (λ k. Came (names_of (take size (drop k names))) share) none (each 0 share (omega arith)) in
-    let fewer : length (drop size names) ≤ length shares * size = omega (arith, few, suc-mul (length shares) size, length-drop size names) in (
+    let fewer : length (drop size names) ≤ length shares * size =
+    omega (arith, few, suc-mul (length shares) size, length-drop size names) in (
       first,
       chunk_shares Came size (drop size names) shares fewer (λ n d lt.
           let at : suc n * size ≡ size + n * size = omega (arith, suc-mul n size) in
@@ -58,14 +64,16 @@ chunk_shares Came size names (share ∷ shares) few each =
     )
 
 -- the files of all names but those left were read and their texts taken; the others' shares are left
-pub record IsGathering {S R : Type 0} (reads : Reading S) (Came : List (List ℕ) → R → Type 0) (size : ℕ) (names left : List FileName)
+pub record IsGathering {S R : Type 0} (reads : Reading S) (Came : List (List ℕ) → R → Type 0) (size : ℕ)
+    (names left : List FileName)
     (shelf : S) (audit : RingAudit) (shares : List R) : Type 0 where
   pub done : List (List ℕ)
   pub parts : done ++ names_of left ≡ names_of names
   pub taken : HasTakenFiles reads done shelf audit
   pub others : AreShares Came size left shares
 
-module _ {S R : Type 0} (reads : Reading S) (Came : List (List ℕ) → R → Type 0) (size : ℕ) (names : List FileName) (shelf : S) where
+module _ {S R : Type 0} (reads : Reading S) (Came : List (List ℕ) → R → Type 0) (size : ℕ) (names : List FileName)
+    (shelf : S) where
   pub gathering_none : (audit : RingAudit) (shares : List R) → HasTaken audit [] → AreShares Came size names shares
       → IsGathering reads Came size names names shelf audit shares
   gathering_none audit shares none are = record { done = []; parts = refl; taken = ([], none, tt); others = are }
@@ -85,7 +93,8 @@ module _ {S R : Type 0} (reads : Reading S) (Came : List (List ℕ) → R → Ty
         → IsGathering reads Came size names (drop size left) shelf new others
     gathering_next next new taken appends = record {
       done = h.done ++ names_of (take size left);
-      parts = append_assoc h.done (names_of (take size left)) (names_of (drop size left)) ∙ ap (λ ns. h.done ++ ns) both ∙ h.parts;
+      parts = append_assoc h.done (names_of (take size left)) (names_of (drop size left))
+          ∙ ap (λ ns. h.done ++ ns) both ∙ h.parts;
       taken = (
         h.taken.0 ++ taken.0,
         appends h.taken.0 taken.0 h.taken.1 taken.1,
@@ -95,15 +104,19 @@ module _ {S R : Type 0} (reads : Reading S) (Came : List (List ℕ) → R → Ty
     }
 
     -- a share that is at fault
-    pub gathering_fault : (f : ProgramFault) → IsFilesFault reads (names_of (take size left)) shelf f → IsFilesFault reads (names_of names) shelf f
+    pub gathering_fault : (f : ProgramFault) → IsFilesFault reads (names_of (take size left)) shelf f
+        → IsFilesFault reads (names_of names) shelf f
     gathering_fault f fault =
         let all = of_front reads (names_of (take size left)) (names_of (drop size left)) shelf f fault in
-        let behind = of_back reads h.done (names_of (take size left) ++ names_of (drop size left)) shelf h.taken.0 f h.taken.2 all in
+        let behind = of_back reads h.done (names_of (take size left) ++ names_of (drop size left)) shelf h.taken.0 f
+        h.taken.2 all in
         subst (λ ns. IsFilesFault reads ns shelf f) (ap (λ ns. h.done ++ ns) both ∙ h.parts) behind
 
   -- all shares
-  pub gathered : (left : List FileName) (audit : RingAudit) (shares : List R) → IsGathering reads Came size names left shelf audit shares → length shares ≡ 0
+  pub gathered : (left : List FileName) (audit : RingAudit) (shares : List R)
+      → IsGathering reads Came size names left shelf audit shares → length shares ≡ 0
       → HasTakenFiles reads (names_of names) shelf audit
   gathered left audit [] h none =
-      subst (λ ns. HasTakenFiles reads ns shelf audit) (sym (append-nil h.done) ∙ ap (λ ns. h.done ++ names_of ns) (sym h.others) ∙ h.parts) h.taken
+      subst (λ ns. HasTakenFiles reads ns shelf audit) (sym (append-nil h.done)
+      ∙ ap (λ ns. h.done ++ names_of ns) (sym h.others) ∙ h.parts) h.taken
   gathered left audit (share ∷ shares) h none = absurd (omega (arith, none))

@@ -19,7 +19,8 @@ pub shows : {S : Type 0} (reads : Reading S) (show : ShowRequest) (shelf : S) (o
     → HasNames reads shelf show.logs names
     → ReadsFiles reads (moment_names show.moment) shelf (moment_texts show.moment question)
     → ReadsFiles reads (names_of names) shelf texts → IsAskedMoment show.moment question moment
-    → TellsRing texts moment (option_map (λ places. places.items) show.leads) show.has_events out out' outcome
+    → TellsRing texts moment (option_map (λ places. places.items) show.leads) show.is_json show.has_events out out'
+    outcome
     → ShowsLogs reads show shelf out out' outcome
 shows reads show shelf out out' outcome names question texts moment named first rest asked told =
     inl (
@@ -28,7 +29,8 @@ shows reads show shelf out out' outcome names question texts moment named first 
       inl (record {
         question = question;
         texts = texts;
-        given = reads_both reads (moment_names show.moment) (names_of names) shelf (moment_texts show.moment question) texts
+        given = reads_both reads (moment_names show.moment) (names_of names) shelf (moment_texts show.moment question)
+            texts
             first rest;
         moment = moment;
         asked = asked;

@@ -14,7 +14,8 @@ use Rattle.ira_main.specs.Serve.OneLogOutcome.{no_memory, unread}
 use Rattle.ira_main.specs.declared.program_fault.ProgramFault.{ProgramFault}
 
 -- it wasn't read, whatever would have been told of its answer
-pub unjudged : (Tells : Telling) (name : FileName) (why : ShelfFault) (f : ProgramFault) (old new : Reads) (out : SinkState)
+pub unjudged : (Tells : Telling) (name : FileName) (why : ShelfFault) (f : ProgramFault) (old new : Reads)
+    (out : SinkState)
     → file_name name ≡ codes "-" → f ≡ read_fault name why
     → (why ≡ Device → (new.has_failed ≡ true) × (new.is_over ≡ true)) → OneLogOutcome Tells old new out out (Err f)
 unjudged Tells name Device f old new out dash is failed =

@@ -29,7 +29,8 @@ decide_names decide names = decide.question.now ∷ names_of names
 -- why nothing is decided: the certificate would be written over a file that is read, or the texts weren't had
 abbrev pub IsUndecided : {S : Type 0} → Reading S → DecideRequest → List FileName → S → ProgramFault → Type 0
 IsUndecided reads decide names shelf f =
-    IsReplacing decide.certificate (decide_names decide names) f ⊎ IsFilesFault reads (decide_names decide names) shelf f
+    IsReplacing decide.certificate (decide_names decide names) f
+    ⊎ IsFilesFault reads (decide_names decide names) shelf f
 
 -- what comes of findings that were printed: no, where a case is present or they are a refusal; else, without a file's
 -- name, yes, and with one what comes of keeping the certificate there. The shelf is as it was but where it is kept
@@ -52,37 +53,42 @@ pub record DecidesTogether {A S : Type 0} (Tells : Findings A → Type 0) (reads
   pub found : AreFindings texts question findings
   pub told : Tells findings
 
--- the text that is printed of findings: as JSON, where that is wanted, which tells their status too; or else their lines
+-- the text that is printed of findings: as JSON, where that is wanted, which tells their status too; or else their
+-- lines
 abbrev pub IsFindingsText : {A : Type 0} → Bool → Findings A → List ℕ → Type 0
 IsFindingsText true findings text =
-    (status : Status) × IsFindingsStatus findings status × AreLinesOf (findings_values (status_number status) findings) text
+    (status : Status) × IsFindingsStatus findings status
+    × AreLinesOf (findings_values (status_number status) findings) text
 IsFindingsText false findings text = text ≡ findings_text findings
 
--- the text was printed whole, and what comes of the findings on the shelf is the outcome; or the output stopped within it
-abbrev pub PrintsFindingsText : {A S : Type 0} → Writing S → Option (Bor (List ℕ)) → S → S → SinkState → SinkState → Outcome
-    → List ℕ → Findings A → Type 0
-PrintsFindingsText writes name shelf shelf' out out' outcome text findings =
-    (Takes text out out' × KeepsFindings writes findings name shelf shelf' outcome)
-    ⊎ (StopsIn text out out' × (shelf' ≡ shelf) × (outcome ≡ Err CannotWriteAnswer))
-
--- the same, of a text that is printed of them
-abbrev pub PrintsFindings : {A S : Type 0} → Writing S → Bool → Option (Bor (List ℕ)) → S → S → SinkState → SinkState → Outcome
+-- that text was printed whole, and what comes of the findings on the shelf is the outcome; or the output stopped
+-- within it
+abbrev pub PrintsFindings : {A S : Type 0} → Writing S → Bool → Option (Bor (List ℕ)) → S → S → SinkState → SinkState
+    → Outcome
     → Findings A → Type 0
 PrintsFindings writes is_json name shelf shelf' out out' outcome findings =
     (text : List ℕ) × IsFindingsText is_json findings text
-    × PrintsFindingsText writes name shelf shelf' out out' outcome text findings
+    × ((Takes text out out' × KeepsFindings writes findings name shelf shelf' outcome)
+    ⊎ (StopsIn text out out' × (shelf' ≡ shelf) × (outcome ≡ Err CannotWriteAnswer)))
 
--- the findings were printed, and a page of printable text after them, with their status
-abbrev pub ExplainsFindings : {A : Type 0} → SinkState → SinkState → Outcome → Findings A → Type 0
-ExplainsFindings out out' outcome findings =
-    (page : List ℕ) × IsPrintable page × (status : Status) × IsFindingsStatus findings status
-    × Prints (findings_text findings ++ page) status out out' outcome
+-- the text that is printed of findings that are explained: as JSON, where that is wanted; or else their lines, and a
+-- page of printable text after them
+abbrev pub IsExplainedText : {A : Type 0} → Bool → Findings A → List ℕ → Type 0
+IsExplainedText true findings text = IsFindingsText true findings text
+IsExplainedText false findings text = (page : List ℕ) × IsPrintable page × (text ≡ findings_text findings ++ page)
 
--- the certificate would be written over none of the files that are named, and these were read; what is found was printed,
--- and perhaps kept
+-- that text was printed, with the status of the findings
+abbrev pub ExplainsFindings : {A : Type 0} → Bool → SinkState → SinkState → Outcome → Findings A → Type 0
+ExplainsFindings is_json out out' outcome findings =
+    (text : List ℕ) × IsExplainedText is_json findings text
+    × (status : Status) × IsFindingsStatus findings status × Prints text status out out' outcome
+
+-- the certificate would be written over none of the files that are named, and these were read; what is found was
+-- printed, and perhaps kept
 pub record Decides (A : Type 0) {S : Type 0} (reads : Reading S) (writes : Writing S)
     (decide : DecideRequest) (names : List FileName) (shelf shelf' : S) (out out' : SinkState)
     (outcome : Outcome) : Type 0 where
   pub kept : KeepsFiles decide.certificate (decide_names decide names)
-  pub decided : DecidesTogether {A = A} (PrintsFindings writes decide.is_json decide.certificate shelf shelf' out out' outcome) reads
+  pub decided : DecidesTogether {A = A} (PrintsFindings writes decide.is_json decide.certificate shelf shelf' out out'
+      outcome) reads
       decide.question.now names shelf

@@ -26,8 +26,7 @@ use Rattle.ira_main.specs.declared.program_fault.ProgramFault.{ProgramFault}
 use Rattle.ira_main.specs.declared.program_fault.ProgramFault.TheVariants.{CannotWriteAnswer, NoMoment, TooManyEvents}
 
 -- what comes of a picture on a shelf: the status of the answer, where there is none, and the shelf is as it was; else
--- the
--- picture, a printable text, is written to a new file of this name, and a fault of that is the outcome
+-- the picture, a printable text, is written to a new file of this name, and a fault of that is the outcome
 pub data KeepsPicture {S : Type 0} (writes : Writing S) (answer : Answer) (picture : Option (List ℕ))
     (name : Bor (List ℕ))
     (old new : S) (outcome : Outcome) : Type 0 where
@@ -39,9 +38,8 @@ pub data KeepsPicture {S : Type 0} (writes : Writing S) (answer : Answer) (pictu
       → writes name.now page old new (Err fault) → outcome ≡ Err (write_fault name fault)
       → KeepsPicture writes answer picture name old new outcome
 
--- the line of the answer was printed whole, and what comes of the picture is the outcome; or the output stopped within
--- it,
--- and the shelf is as it was
+-- the line of the answer was printed whole, and what comes of the picture is the outcome; or the output stopped
+-- within it, and the shelf is as it was
 abbrev pub PrintsDrawn : {S : Type 0} → Writing S → Answer → Option (List ℕ) → Bor (List ℕ) → S → S → SinkState
     → SinkState → Outcome → Type 0
 PrintsDrawn writes answer picture name shelf shelf' out out' outcome =
@@ -49,8 +47,8 @@ PrintsDrawn writes answer picture name shelf shelf' out out' outcome =
     ⊎ (StopsIn (report_line answer) out out' × (shelf' ≡ shelf) × (outcome ≡ Err CannotWriteAnswer))
 
 -- what comes of texts: the line of what is drawn of them is printed, and the picture is kept, if there is one; or the
--- moment
--- that is asked for is none of theirs, or they have too many events for a picture, and nothing is printed or kept
+-- moment that is asked for is none of theirs, or they have too many events for a picture, and nothing is printed or
+-- kept
 pub data TellsDrawn {S : Type 0} (writes : Writing S) (texts : List (List ℕ)) (moment : ShownMoment)
     (name : Bor (List ℕ)) (shelf shelf' : S) (out out' : SinkState) (outcome : Outcome) : Type 0 where
   drawn : (answer : Answer) (picture : Option (List ℕ)) → IsDrawn texts moment answer picture
@@ -72,9 +70,8 @@ abbrev pub IsUndrawn : {S : Type 0} → Reading S → DrawRequest → List FileN
 IsUndrawn reads draw names shelf f =
     IsReplacing (Some draw.picture) (draw_names draw names) f ⊎ IsFilesFault reads (draw_names draw names) shelf f
 
--- the picture would be written over none of the files that are named, and these were read; what is drawn of their texts
--- was
--- told
+-- the picture would be written over none of the files that are named, and these were read; what is drawn of their
+-- texts was told
 pub record DrawsTogether {S : Type 0} (reads : Reading S) (writes : Writing S) (draw : DrawRequest)
     (names : List FileName)
     (shelf shelf' : S) (out out' : SinkState) (outcome : Outcome) : Type 0 where

@@ -18,9 +18,10 @@ names_of names = map file_name names
 abbrev pub ReadsFiles : {S : Type 0} → Reading S → List (List ℕ) → S → List (List ℕ) → Type 0
 ReadsFiles reads names shelf texts = AllZip (λ name text. reads shelf name (Ok text)) names texts
 
--- the files before one were read, and that one gave a fault, of which the program's fault tells. Files after it may have
--- been read too, which changes nothing
-pub record StopsReading {S : Type 0} (reads : Reading S) (names : List (List ℕ)) (shelf : S) (f : ProgramFault) : Type 0 where
+-- the files before one were read, and that one gave a fault, of which the program's fault tells. Files after it may
+-- have been read too, which changes nothing
+pub record StopsReading {S : Type 0} (reads : Reading S) (names : List (List ℕ)) (shelf : S) (f : ProgramFault) : Type
+    0 where
   pub front : List (List ℕ)
   pub name : FileName
   pub back : List (List ℕ)
@@ -37,11 +38,13 @@ IsFilesFault reads names shelf f = StopsReading reads names shelf f ⊎ (f ≡ O
 
 -- the files of these names were read, and their texts were taken
 abbrev pub HasTakenFiles : {S : Type 0} → Reading S → List (List ℕ) → S → RingAudit → Type 0
-HasTakenFiles reads names shelf audit = (texts : List (List ℕ)) × HasTaken audit texts × ReadsFiles reads names shelf texts
+HasTakenFiles reads names shelf audit = (texts : List (List ℕ)) × HasTaken audit texts
+    × ReadsFiles reads names shelf texts
 
 -- what comes of taking the texts of the files of these names: an audit that has, or why it hasn't
 abbrev pub IsFilesAudit : {S : Type 0} → Reading S → List (List ℕ) → S → Result RingAudit ProgramFault → Type 0
-IsFilesAudit reads names shelf result = MatchResult result (HasTakenFiles reads names shelf) (IsFilesFault reads names shelf)
+IsFilesAudit reads names shelf result = MatchResult result (HasTakenFiles reads names shelf)
+    (IsFilesFault reads names shelf)
 
 -- so many of the files of these names were read, the first ones, and their texts were taken
 abbrev pub HasRead : {S : Type 0} → Reading S → List (List ℕ) → S → ℕ → RingAudit → Type 0

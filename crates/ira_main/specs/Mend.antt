@@ -25,11 +25,13 @@ use Rattle.ira_main.specs.declared.status.Status.TheVariants.{Yes}
 
 -- the files of these names were read, and their texts were taken, cut or not
 abbrev pub HasRecordedFiles : {S : Type 0} → Reading S → List (List ℕ) → S → RecordedLogs → Type 0
-HasRecordedFiles reads names shelf recorded = (texts : List (List ℕ)) × HasRecorded recorded texts × ReadsFiles reads names shelf texts
+HasRecordedFiles reads names shelf recorded = (texts : List (List ℕ)) × HasRecorded recorded texts
+    × ReadsFiles reads names shelf texts
 
--- each mended log was written to the file of its place in this folder, and then how many events are kept of each; or a log
--- wasn't written, and nothing was printed; or memory ran out, and the shelf is as it was
-pub data KeepsMended {S : Type 0} (writes : Writing S) (folder : Bor (List ℕ)) (logs mended : List Log) (shelf shelf' : S)
+-- each mended log was written to the file of its place in this folder, and then how many events are kept of each; or
+-- a log wasn't written, and nothing was printed; or memory ran out, and the shelf is as it was
+pub data KeepsMended {S : Type 0} (writes : Writing S) (folder : Bor (List ℕ)) (logs mended : List Log)
+    (shelf shelf' : S)
     (out out' : SinkState) (outcome : Outcome) : Type 0 where
   written : WritesLogs writes folder.now mended shelf shelf' → Prints (mended_lines logs mended) Yes out out' outcome
       → KeepsMended writes folder logs mended shelf shelf' out out' outcome
@@ -43,10 +45,10 @@ abbrev pub IsOverwriting : RewriteRequest → List FileName → ProgramFault →
 IsOverwriting mend names f =
     (name : FileName) × Overwrites mend.folder.now (names_of names) (file_name name) × (f ≡ WouldOverwrite name)
 
--- no log would be written over a file of the input; the files that are named were read, and their texts, cut or not, are
--- those of the logs of one ring, which were mended, and what comes of the mended ones is the outcome; or they have a
--- difference, or aren't those of one ring, and it was reported; or a log would be written over a file of the input; or no
--- texts were had. Where none was written the shelf is as it was
+-- no log would be written over a file of the input; the files that are named were read, and their texts, cut or not,
+-- are those of the logs of one ring, which were mended, and what comes of the mended ones is the outcome; or they
+-- have a difference, or aren't those of one ring, and it was reported; or a log would be written over a file of the
+-- input; or no texts were had. Where none was written the shelf is as it was
 pub data Mends {S : Type 0} (reads : Reading S) (writes : Writing S) (mend : RewriteRequest) (names : List FileName)
     (shelf shelf' : S) (out out' : SinkState) (outcome : Outcome) : Type 0 where
   mended : (texts : List (List ℕ)) (logs mended : List Log) → KeepsInput mend.folder.now (names_of names)

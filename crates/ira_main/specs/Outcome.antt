@@ -4,7 +4,9 @@ use Rattle.ira_event.specs.Sink.{SinkState, Takes, StopsIn}
 use Rattle.ira_audit.specs.Report.{report_line}
 use Rattle.ira_audit.specs.declared.answer.Answer.{Answer}
 use Rattle.ira_explain.specs.Printable.{IsPrintable}
+use Rattle.serde_json.specs.Data.{Data}
 use Rattle.ira_json.specs.AnswerValue.{answer_value}
+use Rattle.ira_json.specs.ExplainedValue.{explained_value}
 use Rattle.ira_json.specs.Line.{IsLineOf}
 use Rattle.ira_main.specs.ProgramFault.{program_fault_text}
 use Rattle.ira_main.specs.Status.{answer_status, program_fault_status, status_number}
@@ -36,10 +38,10 @@ Prints text status out out' outcome =
 abbrev pub Reports : Answer → SinkState → SinkState → Outcome → Type 0
 Reports answer = Prints (report_line answer) (answer_status answer)
 
--- the answer was printed as a line of JSON, which tells the answer's status too, and the outcome is this status
-abbrev pub ReportsJson : Answer → SinkState → SinkState → Outcome → Type 0
-ReportsJson answer out out' outcome =
-    (text : List ℕ) × IsLineOf (answer_value (status_number (answer_status answer)) answer) text
+-- the answer was printed as the line of this value of it, which has the number of its status too
+abbrev pub ReportsJson : (ℕ → Answer → Data) → Answer → SinkState → SinkState → Outcome → Type 0
+ReportsJson value_of answer out out' outcome =
+    (text : List ℕ) × IsLineOf (value_of (status_number (answer_status answer)) answer) text
     × Prints text (answer_status answer) out out' outcome
 
 -- the line of the answer was printed, and a page of printable text after it
@@ -53,8 +55,13 @@ Telling = Answer → SinkState → SinkState → Outcome → Type 0
 
 -- an answer is printed as JSON, where that is wanted, or else as its line
 abbrev pub ReportsAs : Bool → Telling
-ReportsAs true = ReportsJson
+ReportsAs true = ReportsJson answer_value
 ReportsAs false = Reports
+
+-- an answer is printed with its reason, as JSON, where that is wanted, or else as its line and a page
+abbrev pub ExplainsAs : Bool → Telling
+ExplainsAs true = ReportsJson explained_value
+ExplainsAs false = Explains
 
 -- nothing was printed, and the outcome is a fault of this kind
 abbrev pub GivesNoAnswer : (ProgramFault → Type 0) → SinkState → SinkState → Outcome → Type 0

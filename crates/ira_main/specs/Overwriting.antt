@@ -14,8 +14,8 @@ use Rattle.ira_main.specs.declared.program_fault.ProgramFault.TheVariants.{Would
 abbrev pub IsPathOf : List ℕ → List ℕ → Type 0
 IsPathOf name path = (IsAbsolute name × (path ≡ name)) ⊎ (¬ (IsAbsolute name) × (path ≡ codes "./" ++ name))
 
--- two names are the same path. Links between files and `..` are not followed, and an absolute name is never the same path as a
--- relative one
+-- two names are the same path. Links between files and `..` are not followed, and an absolute name is never the same
+-- path as a relative one
 pub record IsSamePath (name other : List ℕ) : Type 0 where
   pub path : List ℕ
   pub is_path : IsPathOf name path
@@ -38,7 +38,8 @@ pub record Overwrites (folder : List ℕ) (names : List (List ℕ)) (name : List
 
 -- none is written to a file of these names
 abbrev pub KeepsInput : List ℕ → List (List ℕ) → Type 0
-KeepsInput folder names = (i : ℕ) (name : List ℕ) → slice_get names i ≡ Some name → ¬ (IsOverwritten folder (length names) name)
+KeepsInput folder names = (i : ℕ) (name : List ℕ) → slice_get names i ≡ Some name
+    → ¬ (IsOverwritten folder (length names) name)
 
 -- a new file would be written over the one of this name, which is one of these
 pub record Replaces (written : List ℕ) (names : List (List ℕ)) (name : List ℕ) : Type 0 where

@@ -17,8 +17,9 @@ use Rattle.ira_files.specs.declared.shelf_fault.ShelfFault.TheVariants as shelf
 use Rattle.ira_main.specs.declared.program_fault.ProgramFault.{ProgramFault}
 use Rattle.ira_main.specs.declared.program_fault.ProgramFault.TheVariants.{CannotRead, CannotWrite, CannotWriteAnswer}
 use Rattle.ira_main.specs.declared.program_fault.ProgramFault.TheVariants.{CannotWriteLog, CertificatePastLimits}
-use Rattle.ira_main.specs.declared.program_fault.ProgramFault.TheVariants.{NoJson, NoMoment, NoPlace, OutOfMemory, RingSize}
-use Rattle.ira_main.specs.declared.program_fault.ProgramFault.TheVariants.{RunRefused, TooManyEvents, WordIsNoText, Words}
+use Rattle.ira_main.specs.declared.program_fault.ProgramFault.TheVariants.{NoMoment, NoPlace, OutOfMemory, RingSize}
+use Rattle.ira_main.specs.declared.program_fault.ProgramFault.TheVariants.{RunRefused, TooManyEvents, WordIsNoText}
+use Rattle.ira_main.specs.declared.program_fault.ProgramFault.TheVariants.{Words}
 use Rattle.ira_main.specs.declared.program_fault.ProgramFault.TheVariants.{WouldOverwrite}
 
 -- the fault where the file of this name wasn't read
@@ -70,7 +71,6 @@ program_fault_text (CannotRead name) = codes "ira: cannot read " ++ file_name na
 program_fault_text RingSize = codes "ira: ring size\n"
 program_fault_text (NoMoment fault) = cut_fault_text fault
 program_fault_text NoPlace = codes "ira: --leads names a node that the ring has not\n"
-program_fault_text NoJson = codes "ira: --json is for logs, check and decide\n"
 program_fault_text (TooManyEvents events) =
     codes "ira: " ++ decimal events
     ++ codes " events are too many for one picture, which holds 20000: give --from and --to\n"

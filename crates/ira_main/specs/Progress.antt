@@ -16,15 +16,17 @@ pub record IsUntouched {S : Type 0} (input input' : Reads) (shelf shelf' : S) (o
   pub shelf_is : shelf' ≡ shelf
   pub out_is : out' ≡ out
 
--- what the words ask for was done; or they ask for a check, for the evidence of one, or for a run with a thread for each
--- node, and nothing was
-abbrev pub ServesOrLeaves : Type 0 → {S : Type 0} → Reading S → Writing S → List (List ℕ) → Reads → Reads → S → S → SinkState → SinkState → Progress → Type 0
+-- what the words ask for was done; or they ask for a check, for the evidence of one, or for a run with a thread for
+-- each node, and nothing was
+abbrev pub ServesOrLeaves : Type 0 → {S : Type 0} → Reading S → Writing S → List (List ℕ) → Reads → Reads → S → S
+    → SinkState → SinkState → Progress → Type 0
 ServesOrLeaves A reads writes words input input' shelf shelf' out out' (Ended outcome) =
     Serves A reads writes words input input' shelf shelf' out out' outcome
 ServesOrLeaves A reads writes words input input' shelf shelf' out out' (Check check) =
     IsCheckLine words check × IsUntouched input input' shelf shelf' out out'
-ServesOrLeaves A reads writes words input input' shelf shelf' out out' (ExplainCheck question certificate logs) =
-    (explain : ExplainRequest) × IsExplainLine words explain × (explain.is_json ≡ false)
+ServesOrLeaves A reads writes words input input' shelf shelf' out out'
+    (ExplainCheck is_json question certificate logs) =
+    (explain : ExplainRequest) × IsExplainLine words explain × (explain.is_json ≡ is_json)
     × (explain.answer ≡ Certificate question certificate logs)
     × IsUntouched input input' shelf shelf' out out'
 ServesOrLeaves A reads writes words input input' shelf shelf' out out' (Run ring) =

@@ -1,5 +1,5 @@
 -- What the program does.
-use Rattle.std.specs.Prelude.{◌≡◌, ◌≢◌, ◌⊎◌, ℕ, ◌+◌, true, false, List, [], ◌∷◌, Some, None, Ok, Err, codes}
+use Rattle.std.specs.Prelude.{◌≡◌, ◌≢◌, ◌⊎◌, ℕ, ◌+◌, Bool, true, false, List, [], ◌∷◌, Some, None, Ok, Err, codes}
 use Rattle.ira_event.specs.Limits.{MAX_TEXT}
 use Rattle.ira_event.specs.RingSize.{IsRingSize}
 use Rattle.ira_event.specs.Sink.{SinkState, Takes, StopsIn}
@@ -41,7 +41,7 @@ use Rattle.ira_main.specs.Draw.{DrawsLogs}
 use Rattle.ira_main.specs.FilesRead.{IsFilesFault, ReadsFiles, names_of}
 use Rattle.ira_main.specs.LogFiles.{StopsInLogs, WritesLogs}
 use Rattle.ira_main.specs.Mend.{Mends}
-use Rattle.ira_main.specs.Outcome.{Explains, GivesNoAnswer, Outcome, Prints, Reports, ReportsAs, Telling}
+use Rattle.ira_main.specs.Outcome.{ExplainsAs, GivesNoAnswer, Outcome, Prints, Reports, ReportsAs, Telling}
 use Rattle.ira_main.specs.ProgramFault.{run_fault, words_fault}
 use Rattle.ira_main.specs.Show.{ShowsLogs}
 use Rattle.ira_main.specs.SourceNames.{OfSource}
@@ -49,13 +49,13 @@ use Rattle.ira_main.specs.Status.{IsElectionStatus}
 use Rattle.ira_main.specs.Upgrade.{Upgrades}
 use Rattle.ira_main.specs.Version.{version_line}
 use Rattle.ira_main.specs.declared.program_fault.ProgramFault.{ProgramFault}
-use Rattle.ira_main.specs.declared.program_fault.ProgramFault.TheVariants.{CannotRead, CannotWriteAnswer, NoJson, OutOfMemory}
+use Rattle.ira_main.specs.declared.program_fault.ProgramFault.TheVariants.{CannotRead, CannotWriteAnswer, OutOfMemory}
 use Rattle.ira_main.specs.declared.program_fault.ProgramFault.TheVariants.{RingSize}
 use Rattle.ira_main.specs.declared.status.Status.{Status}
 use Rattle.ira_main.specs.declared.status.Status.TheVariants.{Yes}
 
--- the text that the input had left was judged, and its answer told; or a read failed, or there was no memory, and nothing
--- was written
+-- the text that the input had left was judged, and its answer told; or a read failed, or there was no memory, and
+-- nothing was written
 pub data OneLogOutcome (Tells : Telling) (old new : Reads) (out out' : SinkState) (outcome : Outcome) : Type 0 where
   judged : (text : List ℕ) (answer : Answer) → IsReadTo (MAX_TEXT + 1) old new text → IsLogTextAnswer text answer
       → Tells answer out out' outcome → OneLogOutcome Tells old new out out' outcome
@@ -85,8 +85,8 @@ JudgesLogs Tells reads source shelf out out' outcome =
 abbrev pub check_names : List ℕ → List ℕ → List FileName → List (List ℕ)
 check_names asked certified names = asked ∷ certified ∷ names_of names
 
--- the files of a question, a certificate and logs were read, the texts of the logs were judged together with the text of
--- the question and the text of the certificate, and their answer told; after a yes no case of the question is met
+-- the files of a question, a certificate and logs were read, the texts of the logs were judged together with the text
+-- of the question and the text of the certificate, and their answer told; after a yes no case of the question is met
 pub record CheckOutcome (Tells : Telling) {S : Type 0} (reads : Reading S) (asked certified : List ℕ)
     (names : List FileName) (shelf : S) (out out' : SinkState) (outcome : Outcome) : Type 0 where
   pub question : List ℕ
@@ -115,21 +115,23 @@ DecidesLogs A reads writes decide shelf shelf' out out' outcome =
     ⊎ ((shelf' ≡ shelf) × GivesNoAnswer (IsUndecided reads decide names shelf) out out' outcome))
 
 -- a question is decided of the logs of a source, and why what is found is so is told; or no answer is given
-abbrev pub ExplainsQuestion : Type 0 → {S : Type 0} → Reading S → List ℕ → LogSource → S → SinkState → SinkState → Outcome
-    → Type 0
-ExplainsQuestion A reads asked source shelf out out' outcome =
+abbrev pub ExplainsQuestion : Type 0 → Bool → {S : Type 0} → Reading S → List ℕ → LogSource → S → SinkState → SinkState
+    → Outcome → Type 0
+ExplainsQuestion A is_json reads asked source shelf out out' outcome =
     OfSource reads source shelf shelf out out' outcome (λ names.
-    DecidesTogether {A = A} (ExplainsFindings out out' outcome) reads asked names shelf
+    DecidesTogether {A = A} (ExplainsFindings is_json out out' outcome) reads asked names shelf
     ⊎ GivesNoAnswer (IsFilesFault reads (asked ∷ names_of names) shelf) out out' outcome)
 
--- the answer that is asked for was told with a page; that of one log is none of these, since it comes of the input
-abbrev pub ExplainsAnswer : Type 0 → {S : Type 0} → Reading S → ExplainedAnswer → S → SinkState → SinkState → Outcome → Type 0
-ExplainsAnswer A reads OneLog shelf out out' outcome = ⊥
-ExplainsAnswer A reads (Logs source) shelf out out' outcome = JudgesLogs Explains reads source shelf out out' outcome
-ExplainsAnswer A reads (Findings asked source) shelf out out' outcome =
-    ExplainsQuestion A reads asked.question.now source shelf out out' outcome
-ExplainsAnswer A reads (Certificate question certificate source) shelf out out' outcome =
-    JudgesCheck Explains reads question.now certificate.now source shelf out out' outcome
+-- the answer that is asked for was explained; that of one log is none of these, since it comes of the input
+abbrev pub ExplainsAnswer : Type 0 → Bool → {S : Type 0} → Reading S → ExplainedAnswer → S → SinkState → SinkState
+    → Outcome → Type 0
+ExplainsAnswer A is_json reads OneLog shelf out out' outcome = ⊥
+ExplainsAnswer A is_json reads (Logs source) shelf out out' outcome =
+    JudgesLogs (ExplainsAs is_json) reads source shelf out out' outcome
+ExplainsAnswer A is_json reads (Findings asked source) shelf out out' outcome =
+    ExplainsQuestion A is_json reads asked.question.now source shelf out out' outcome
+ExplainsAnswer A is_json reads (Certificate question certificate source) shelf out out' outcome =
+    JudgesCheck (ExplainsAs is_json) reads question.now certificate.now source shelf out out' outcome
 
 -- the question whether two nodes of a ring of so many ever lead at once was printed
 pub record AsksPairs (nodes : ℕ) (out out' : SinkState) (outcome : Outcome) : Type 0 where
@@ -168,19 +170,13 @@ pub data RunOutcome {S : Type 0} (writes : Writing S) (request : RunRequest) (sh
   not_run : shelf' ≡ shelf → GivesNoAnswer (IsRunFault request) out out' outcome
       → RunOutcome writes request shelf shelf' out out' outcome
 
--- the words ask for a view as JSON: for the evidence of an answer, or to show logs
-abbrev pub WantsViewAsJson : List (List ℕ) → Type 0
-WantsViewAsJson words =
-    ((explain : ExplainRequest) × IsExplainLine words explain × (explain.is_json ≡ true))
-    ⊎ ((show : ShowRequest) × IsShowLine words show × (show.is_json ≡ true))
-
--- what is done for words: they are refused; or they ask for logs, or for the evidence of an answer, and their texts are
--- judged together; or to show logs, and what happened by them is printed; or to draw them, and a picture is kept; or to
--- check logs, and their texts are judged with those of a question and of a certificate; or to decide a question of them,
--- and it is decided of their texts; or for the question of all pairs, and it is printed; or for a ring, and it is run; or
--- to upgrade logs, or to mend them, and it is done; or for the version, and it is printed. Or no answer is given, for a
--- fault that the command can have. The shelf is as it was but for the files of a run, of upgraded or mended logs, of a
--- certificate and of a picture
+-- what is done for words: they are refused; or they ask for logs, or for the evidence of an answer, and their texts
+-- are judged together; or to show logs, and what happened by them is printed; or to draw them, and a picture is kept;
+-- or to check logs, and their texts are judged with those of a question and of a certificate; or to decide a question
+-- of them, and it is decided of their texts; or for the question of all pairs, and it is printed; or for a ring, and
+-- it is run; or to upgrade logs, or to mend them, and it is done; or for the version, and it is printed. Or no answer
+-- is given, for a fault that the command can have. The shelf is as it was but for the files of a run, of upgraded or
+-- mended logs, of a certificate and of a picture
 pub data CommandOutcome (A : Type 0) {S : Type 0} (reads : Reading S) (writes : Writing S)
     (words : List (List ℕ)) (shelf shelf' : S) (out out' : SinkState)
     (outcome : Outcome) : Type 0 where
@@ -190,13 +186,10 @@ pub data CommandOutcome (A : Type 0) {S : Type 0} (reads : Reading S) (writes : 
   judged : (logs : LogsRequest) → IsLogsLine words logs → shelf' ≡ shelf
       → JudgesLogs (ReportsAs logs.is_json) reads logs.logs shelf out out' outcome
       → CommandOutcome A reads writes words shelf shelf' out out' outcome
-  explained : (explain : ExplainRequest) → IsExplainLine words explain → explain.is_json ≡ false → shelf' ≡ shelf
-      → ExplainsAnswer A reads explain.answer shelf out out' outcome
+  explained : (explain : ExplainRequest) → IsExplainLine words explain → shelf' ≡ shelf
+      → ExplainsAnswer A explain.is_json reads explain.answer shelf out out' outcome
       → CommandOutcome A reads writes words shelf shelf' out out' outcome
-  shown : (show : ShowRequest) → IsShowLine words show → show.is_json ≡ false → shelf' ≡ shelf
-      → ShowsLogs reads show shelf out out' outcome
-      → CommandOutcome A reads writes words shelf shelf' out out' outcome
-  unseen : WantsViewAsJson words → shelf' ≡ shelf → out' ≡ out → outcome ≡ Err NoJson
+  shown : (show : ShowRequest) → IsShowLine words show → shelf' ≡ shelf → ShowsLogs reads show shelf out out' outcome
       → CommandOutcome A reads writes words shelf shelf' out out' outcome
   drawn : (draw : DrawRequest) → IsDrawLine words draw → DrawsLogs reads writes draw shelf shelf' out out' outcome
       → CommandOutcome A reads writes words shelf shelf' out out' outcome
@@ -231,9 +224,8 @@ pub data Serves (A : Type 0) {S : Type 0} (reads : Reading S) (writes : Writing 
     (out out' : SinkState) (outcome : Outcome) : Type 0 where
   without_words : words ≡ [] → shelf' ≡ shelf → OneLogOutcome Reports input input' out out' outcome
       → Serves A reads writes words input input' shelf shelf' out out' outcome
-  explained : (explain : ExplainRequest) → IsExplainLine words explain → explain.is_json ≡ false
-      → explain.answer ≡ OneLog → shelf' ≡ shelf
-      → OneLogOutcome Explains input input' out out' outcome
+  explained : (explain : ExplainRequest) → IsExplainLine words explain → explain.answer ≡ OneLog → shelf' ≡ shelf
+      → OneLogOutcome (ExplainsAs explain.is_json) input input' out out' outcome
       → Serves A reads writes words input input' shelf shelf' out out' outcome
   with_words : words ≢ [] → input' ≡ input → CommandOutcome A reads writes words shelf shelf' out out' outcome
       → Serves A reads writes words input input' shelf shelf' out out' outcome

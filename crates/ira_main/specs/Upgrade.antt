@@ -22,8 +22,8 @@ use Rattle.ira_main.specs.declared.status.Status.TheVariants.{Yes}
 abbrev pub upgraded_line : ℕ → List ℕ
 upgraded_line number = codes "upgraded " ++ decimal number ++ codes " logs\n"
 
--- each log was written in version 2 to the file of its place in this folder, and then their number was printed; or a log
--- wasn't written, and nothing was printed; or memory ran out, and the shelf is as it was
+-- each log was written in version 2 to the file of its place in this folder, and then their number was printed; or a
+-- log wasn't written, and nothing was printed; or memory ran out, and the shelf is as it was
 pub data KeepsUpgrades {S : Type 0} (writes : Writing S) (folder : Bor (List ℕ)) (logs : List Log) (shelf shelf' : S)
     (out out' : SinkState) (outcome : Outcome) : Type 0 where
   written : WritesLogs writes folder.now (map upgraded logs) shelf shelf'

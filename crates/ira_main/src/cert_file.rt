@@ -7,19 +7,11 @@ ghost use Rattle.ira_main.specs.Outcome.{Outcome, ReportsOutcome, outcome_number
 
 use crate::program_fault::{ProgramFault, report_outcome};
 use crate::status::Status;
+use crate::text_file::write_text;
 use ira_cert_text::{Certificate, write_cert};
-use ira_event::{Sink, write_bytes};
+use ira_event::Sink;
 use ira_files::{Shelf, ShelfFault};
 use std::alloc::Allocator;
-
-// Writes the text to a new file of this name.
-fn write_text<F: Shelf>(text: &[u8], name: &str, shelf: &mut F) -> Result<(), ShelfFault>
-    ensures { WritesFile F.creates F.closes F.Out.state name.now text.now shelf.old shelf.new result }
-{
-    let mut file = shelf.create(name)?;
-    write_bytes(text, &mut file)?;
-    shelf.close(file)
-}
 
 /// What comes of keeping the text of a certificate in a new file of this name. There is none where it is past the limits.
 pub(crate) fn keep_written<'a, F: Shelf>(
@@ -54,7 +46,7 @@ fn write_new<A: Allocator, F: Shelf>(
 }
 
 /// What comes of keeping the certificate in a new file of this name.
-fn keep<'a, A: Allocator, F: Shelf>(
+pub(crate) fn keep<'a, A: Allocator, F: Shelf>(
     certificate: &Certificate<A>,
     name: &'a str,
     shelf: &mut F,

@@ -4,7 +4,7 @@ ghost use Rattle.ira_audit.specs.Findings.{AreReportable};
 ghost use Rattle.ira_audit.specs.WrittenFindings.{AreWritten};
 ghost use Rattle.ira_audit.specs.declared.findings.Findings.{Findings};
 ghost use Rattle.ira_files.specs.Shelf.{WritesFile};
-ghost use Rattle.ira_main.specs.Decide.{KeepsFindings, PrintsFindings, PrintsFindingsText};
+ghost use Rattle.ira_main.specs.Decide.{KeepsFindings, PrintsFindings};
 ghost use Rattle.ira_main.specs.Serve.{DecidesLogs};
 ghost use Rattle.ira_main.specs.declared.program_fault.ProgramFault.TheVariants.{OutOfMemory};
 
@@ -12,6 +12,7 @@ use crate::cert_file::{keep, keep_written};
 use crate::overwriting::keep_inputs;
 use crate::program_fault::ProgramFault;
 use crate::read_files::{read_file, read_logs};
+use crate::report::print_text;
 use crate::source_names::source_names;
 use crate::status::Status;
 use ira_audit::{Findings, WrittenFindings};
@@ -23,7 +24,7 @@ use std::alloc::{Allocator, Global};
 use std::thread::Threads;
 
 // Keeps the certificate of these findings, if there is one, in a new file of this name, if there is one.
-fn keep_written_findings<'a, A: Allocator, F: Shelf>(
+fn keep_findings<'a, A: Allocator, F: Shelf>(
     written: &WrittenFindings<A>,
     name: Option<&'a str>,
     shelf: &mut F,
@@ -40,42 +41,7 @@ fn keep_written_findings<'a, A: Allocator, F: Shelf>(
     }
 }
 
-// Keeps the certificate of these findings, if there is one, in a new file of this name, if there is one.
-fn keep_findings<'a, A: Allocator + Clone, F: Shelf>(
-    findings: Findings<A>,
-    name: Option<&'a str>,
-    shelf: &mut F,
-) -> Result<Status, ProgramFault<'a>>
-    ensures { KeepsFindings (WritesFile F.creates F.closes F.Out.state) findings name.entry
-        shelf.old shelf.new result }
-{
-    let Some(name) = name else {
-        return Ok(Status::of_findings(&findings));
-    };
-    match findings.into_certificate()? {
-        Some(certificate) => keep(&certificate, name, shelf),
-        None => Ok(Status::No),
-    }
-}
-
-// Prints this text of the findings, and then keeps their certificate.
-fn print_text<'a, A: Allocator + Clone, F: Shelf, W: Sink>(
-    text: &[u8],
-    findings: Findings<A>,
-    name: Option<&'a str>,
-    shelf: &mut F,
-    out: &mut W,
-) -> Result<Status, ProgramFault<'a>>
-    ensures { PrintsFindingsText (WritesFile F.creates F.closes F.Out.state) name.entry shelf.old shelf.new
-        (W.state out.old) (W.state out.new) result text.now findings }
-{
-    match write_bytes(text, out) {
-        Ok(()) => keep_findings(findings, name, shelf),
-        Err(WriteFault) => Err(ProgramFault::CannotWriteAnswer),
-    }
-}
-
-// Prints the findings as JSON, and then keeps their certificate.
+// Prints the findings as JSON, and then keeps their certificate, which is made before anything is printed.
 fn print_json<'a, A: Allocator + Clone, F: Shelf, W: Sink>(
     alloc: Global,
     findings: Findings<A>,
@@ -90,7 +56,15 @@ fn print_json<'a, A: Allocator + Clone, F: Shelf, W: Sink>(
 {
     let status = Status::of_findings(&findings);
     let text = findings_lines(alloc, &findings, status.number())?;
-    print_text(text.as_bytes(), findings, name, shelf, out)
+    let Some(name) = name else {
+        return print_text(text.as_bytes(), status, out);
+    };
+    let certificate = findings.into_certificate()?;
+    print_text(text.as_bytes(), status, out)?;
+    match certificate {
+        Some(certificate) => keep(&certificate, name, shelf),
+        None => Ok(status),
+    }
 }
 
 /// Reads the question and then the logs, all before one is judged, decides the question, and prints what is found. A
@@ -122,7 +96,7 @@ where
     }
     let written = audit.decide_in_writing(question.bytes(), decide.certificate.is_some())?;
     match write_bytes(written.lines(), out) {
-        Ok(()) => keep_written_findings(&written, decide.certificate, shelf),
+        Ok(()) => keep_findings(&written, decide.certificate, shelf),
         Err(WriteFault) => Err(ProgramFault::CannotWriteAnswer),
     }
 }

@@ -13,10 +13,10 @@ use crate::program_fault::ProgramFault;
 use crate::show_files::{read_asked, shown_moment};
 use crate::source_names::source_names;
 use crate::status::Status;
+use crate::text_file::write_text;
 use ira_audit::write_report;
 use ira_event::{Sink, WriteFault};
-use ira_explain::Page;
-use ira_files::{Shelf, ShelfFault};
+use ira_files::Shelf;
 use ira_views::{DrawnColumns, DrawnRing, PictureFault, draw_texts};
 use ira_words::{AskedMoment, DrawRequest};
 use std::alloc::Allocator;
@@ -32,19 +32,6 @@ fn asked_name<'a>(moment: &AskedMoment<'a>) -> Option<&'a str>
     }
 }
 
-// Writes a picture to a new file of this name.
-fn write_new<A: Allocator, F: Shelf>(
-    picture: &Page<A>,
-    name: &str,
-    shelf: &mut F,
-) -> Result<(), ShelfFault>
-    ensures { WritesFile F.creates F.closes F.Out.state name.now picture.now shelf.old shelf.new result }
-{
-    let mut file = shelf.create(name)?;
-    picture.write(&mut file)?;
-    shelf.close(file)
-}
-
 // Keeps the picture, if there is one, in a new file of this name. The status is that of the answer.
 fn keep_picture<'a, A: Allocator, F: Shelf>(
     ring: &DrawnRing<A>,
@@ -54,12 +41,14 @@ fn keep_picture<'a, A: Allocator, F: Shelf>(
     ensures { KeepsPicture (WritesFile F.creates F.closes F.Out.state) ring.now.answer ring.now.picture name.entry
         shelf.old shelf.new result }
 {
-    if let Some(picture) = &ring.picture {
-        if let Err(fault) = write_new(picture, name, shelf) {
-            return Err(ProgramFault::cannot_write(name, fault));
-        }
+    let status = Status::of_answer(&ring.answer);
+    let Some(picture) = &ring.picture else {
+        return Ok(status);
+    };
+    match write_text(picture.text(), name, shelf) {
+        Ok(()) => Ok(status),
+        Err(fault) => Err(ProgramFault::cannot_write(name, fault)),
     }
-    Ok(Status::of_answer(&ring.answer))
 }
 
 // Prints the line of the answer, and then keeps the picture.

@@ -1,5 +1,5 @@
 ghost use Rattle.std.specs.Prelude.{◌≤◌, ◌+◌};
-ghost use Rattle.ira_main.specs.Outcome.{Explains};
+ghost use Rattle.ira_main.specs.Outcome.{ExplainsAs};
 ghost use Rattle.ira_main.specs.Serve.{OneLogOutcome, JudgesLogs};
 
 use crate::named_file::{named_texts, read_named};
@@ -12,7 +12,7 @@ use ira_explain::NamedText;
 use ira_files::{CountingReader, FileName, TextBuffer, TextSource};
 use ira_views::{explain_text, explain_texts};
 use ira_words::LogSource;
-use std::alloc::Allocator;
+use std::alloc::{Allocator, Global};
 use std::io::Read;
 use std::thread::Threads;
 
@@ -21,31 +21,34 @@ use std::thread::Threads;
 pub(crate) fn explain_files<'a, R, A, F, W>(
     rt: &R,
     alloc: A,
+    is_json: bool,
     source: &LogSource<'a>,
     shelf: &F,
     out: &mut W,
 ) -> Result<Status, ProgramFault<'a>>
 where
-    R: Threads,
+    R: AllocGlobal + Threads,
     A: Allocator + Clone + Sync,
     F: TextSource,
     W: Sink,
-    ensures { JudgesLogs Explains F.reads source.now shelf.now (W.state out.old) (W.state out.new) result }
+    ensures { JudgesLogs (ExplainsAs is_json) F.reads source.now shelf.now (W.state out.old) (W.state out.new) result }
 {
     let names = source_names(&alloc, source, shelf)?;
     let files = read_named(&alloc, &names, shelf)?;
     let named = named_texts(alloc.clone()?, &files)?;
     let view = explain_texts(rt, alloc, &named)?;
-    print_view(&view, out)
+    print_view(rt.alloc(), is_json, &view, out)
 }
 
 /// Judges the log on the input, and says why the answer is as it is.
 pub(crate) fn explain_input<'a, A: Allocator + Clone, I: Read, W: Sink>(
+    global: Global,
     alloc: A,
+    is_json: bool,
     input: &mut CountingReader<I>,
     out: &mut W,
 ) -> Result<Status, ProgramFault<'a>>
-    ensures judged { OneLogOutcome Explains input.old input.new (W.state out.old) (W.state out.new) result }
+    ensures judged { OneLogOutcome (ExplainsAs is_json) input.old input.new (W.state out.old) (W.state out.new) result }
     ensures reads { input.new.reads ≤ input.old.reads + (MAX_TEXT + 1) }
 {
     let mut text = TextBuffer::new(alloc.clone()?);
@@ -57,5 +60,5 @@ pub(crate) fn explain_input<'a, A: Allocator + Clone, I: Read, W: Sink>(
         text: text.bytes(),
     };
     let view = explain_text(alloc, &named)?;
-    print_view(&view, out)
+    print_view(global, is_json, &view, out)
 }

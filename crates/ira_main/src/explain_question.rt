@@ -1,4 +1,4 @@
-ghost use Rattle.ira_main.specs.Outcome.{Explains};
+ghost use Rattle.ira_main.specs.Outcome.{ExplainsAs};
 ghost use Rattle.ira_main.specs.Serve.{ExplainsQuestion, JudgesCheck};
 
 use crate::named_file::{NamedFile, named_texts, read_named};
@@ -10,14 +10,16 @@ use ira_event::Sink;
 use ira_files::{FileName, TextSource};
 use ira_views::{explain_certified, explain_findings};
 use ira_words::{AskedQuestion, LogSource};
-use std::alloc::Allocator;
+use std::alloc::{Allocator, Global};
 use std::sync::Wait;
 use std::thread::Threads;
 use std::time::Clock;
 
 /// Decides a question of the logs of this source, and says why what is found is so. The question is read first.
 pub(crate) fn explain_question_files<'a, A, F, W>(
+    global: Global,
     alloc: A,
+    is_json: bool,
     asked: AskedQuestion<'a>,
     source: &LogSource<'a>,
     shelf: &F,
@@ -27,14 +29,15 @@ where
     A: Allocator + Clone,
     F: TextSource,
     W: Sink,
-    ensures { ExplainsQuestion A F.reads asked.entry.question.now source.now shelf.now (W.state out.old) (W.state out.new) result }
+    ensures { ExplainsQuestion A is_json F.reads asked.entry.question.now source.now shelf.now
+        (W.state out.old) (W.state out.new) result }
 {
     let names = source_names(&alloc, source, shelf)?;
     let question = NamedFile::read(&alloc, FileName::Given(asked.question), shelf)?;
     let files = read_named(&alloc, &names, shelf)?;
     let named = named_texts(alloc.clone()?, &files)?;
     let view = explain_findings(alloc.clone()?, &named, &question.named(), asked.case)?;
-    print_findings_view(alloc, &view, out)
+    print_findings_view(global, alloc, is_json, &view, out)
 }
 
 /// Judges the logs of this source with the question and the certificate of these files, and says why the answer is as it is.
@@ -42,6 +45,7 @@ where
 pub(crate) fn explain_check_files<'a, R, A, F, W>(
     rt: &R,
     alloc: A,
+    is_json: bool,
     question: &'a str,
     certificate: &'a str,
     source: &LogSource<'a>,
@@ -49,11 +53,11 @@ pub(crate) fn explain_check_files<'a, R, A, F, W>(
     out: &mut W,
 ) -> Result<Status, ProgramFault<'a>>
 where
-    R: Threads + Wait + Clock + Sync,
+    R: AllocGlobal + Threads + Wait + Clock + Sync,
     A: Allocator + Clone + Send + Sync,
     F: TextSource,
     W: Sink,
-    ensures { JudgesCheck Explains F.reads question.now certificate.now source.now shelf.now (W.state out.old)
+    ensures { JudgesCheck (ExplainsAs is_json) F.reads question.now certificate.now source.now shelf.now (W.state out.old)
         (W.state out.new) result }
 {
     let names = source_names(&alloc, source, shelf)?;
@@ -63,5 +67,5 @@ where
     let named = named_texts(alloc.clone()?, &files)?;
     let (question, certificate) = (question.named(), certificate.named());
     let view = explain_certified(rt, alloc, &named, &question, &certificate)?;
-    print_view(&view, out)
+    print_view(rt.alloc(), is_json, &view, out)
 }

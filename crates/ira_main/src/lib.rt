@@ -27,6 +27,7 @@ mod show_files;
 mod source_names;
 mod status;
 mod system;
+mod text_file;
 mod upgrade_files;
 mod version;
 mod view_printer;

@@ -96,8 +96,7 @@ where
 }
 
 /// Does what the words ask for, unless that waits: it leaves a check, the evidence of one, and a run with a thread for each
-/// node. So all else is
-/// done when it returns, which it does. (The threads that read logs end by themselves.)
+/// node. So all else is done when it returns, which it does. (The threads that read logs end by themselves.)
 pub fn serve_without_wait<'a, R, A, I, F, W>(
     rt: &R,
     alloc: A,
@@ -124,33 +123,33 @@ where
     match request {
         Request::OneLog => Progress::Ended(judge_input(alloc, input, out)),
         Request::Logs(logs) => Progress::Ended(judge_files(rt, alloc, &logs, shelf, out)),
-        Request::Explain(ExplainRequest { is_json: true, .. }) => {
-            Progress::Ended(Err(ProgramFault::NoJson))
-        }
-        Request::Explain(
-            ExplainRequest {
-                answer,
-                is_json: false,
-            },
-        ) => match answer {
-            ExplainedAnswer::OneLog => Progress::Ended(explain_input(alloc, input, out)),
+        Request::Explain(ExplainRequest { answer, is_json }) => match answer {
+            ExplainedAnswer::OneLog => {
+                Progress::Ended(explain_input(rt.alloc(), alloc, is_json, input, out))
+            }
             ExplainedAnswer::Logs(logs) => {
-                Progress::Ended(explain_files(rt, alloc, &logs, shelf, out))
+                Progress::Ended(explain_files(rt, alloc, is_json, &logs, shelf, out))
             }
-            ExplainedAnswer::Findings { asked, logs } => {
-                Progress::Ended(explain_question_files(alloc, asked, &logs, shelf, out))
-            }
+            ExplainedAnswer::Findings { asked, logs } => Progress::Ended(explain_question_files(
+                rt.alloc(),
+                alloc,
+                is_json,
+                asked,
+                &logs,
+                shelf,
+                out,
+            )),
             ExplainedAnswer::Certificate {
                 question,
                 certificate,
                 logs,
             } => Progress::ExplainCheck {
+                is_json,
                 question,
                 certificate,
                 logs,
             },
         },
-        Request::Show(show) if show.is_json => Progress::Ended(Err(ProgramFault::NoJson)),
         Request::Show(show) => Progress::Ended(show_files(rt, alloc, &show, shelf, out)),
         Request::Draw(draw) => Progress::Ended(draw_files(rt, alloc, &draw, shelf, out)),
         Request::Check(check) => Progress::Check(check),
@@ -195,26 +194,43 @@ where
         Progress::Ended(outcome) => outcome,
         Progress::Check(check) => check_files(rt, alloc, &check, shelf, out),
         Progress::ExplainCheck {
+            is_json,
             question,
             certificate,
             logs,
-        } => explain_check_files(rt, alloc, question, certificate, &logs, shelf, out),
+        } => explain_check_files(rt, alloc, is_json, question, certificate, &logs, shelf, out),
         Progress::Run(ring) => record_run_on_threads(rt, alloc, &ring, shelf, out),
     }
 }
 
-/// The program: `words` are those after its name, `input` is its standard input, the files lie on
-/// `shelf`, and `out` and `err` are its standard streams. It gives the status: 0 yes, every case absent,
-/// a node elected, or logs upgraded or mended; 1 no, a case present, or none elected; 2 refused words, a refused ring, a failed read or
-/// write, or a certificate past the limits; 3 out of memory. A failed write to `err` changes no status.
+/// The program: `words` are those after its name, `input` is its standard input, the files lie on `shelf`, and `out` and
+/// `err` are its standard streams. It gives the status, which a failed write to `err` doesn't change:
 ///
-/// Without words it judges the log on `input`, of which it reads at most one byte more than
-/// `MAX_TEXT`, and so it does for `explain` without logs. With other words it reads nothing of `input`: `logs`, and
-/// `explain` with logs, judge the logs in the files that are named, or in a folder, together; `check` judges them with the question and the certificate in the files of its options; `decide`
-/// decides the question of them, and writes a certificate to a file if one is named and all cases are absent;
-/// `pairs` and a number prints the question of all pairs of nodes; `run` and its options runs a ring and writes the
-/// logs of its nodes to files; `upgrade` writes the logs in those files in version 2, each to a file of its folder; `mend` writes of
-/// each of them the longest beginning such that all are consistent; `version` prints the version; and all other words are refused. `logs`, `explain`, `check`, `decide` and `upgrade` read the logs on threads, `check` judges a section on some, and a run without `--alone` has a thread for each node; all of them are waited for.
+/// | Status | When |
+/// |---|---|
+/// | 0 | yes; every case is absent; a node leads, or those lead that are named; logs are upgraded or mended |
+/// | 1 | no; a case is present; no node leads, or others than are named |
+/// | 2 | refused words, a refused ring or moment, a failed read or write, a certificate or a picture past its limits |
+/// | 3 | out of memory |
+///
+/// Without words it judges the log on `input`, of which it reads at most one byte more than `MAX_TEXT`, and so it does for
+/// `explain` without logs. With other words it reads nothing of `input`:
+///
+/// * `logs` judges the logs of a ring together, in the files that are named or in a folder; `explain` does so too, and says why
+///   the answer is as it is, also with a question or a certificate;
+/// * `show` says what happened by the logs, and `draw` keeps a picture of it in a file;
+/// * `check` judges logs with the question and the certificate in the files of its options; `decide` decides the question of
+///   them, and keeps a certificate in a file if one is named and all cases are absent;
+/// * `pairs` and a number prints the question of all pairs of nodes;
+/// * `run` and its options runs a ring and writes the logs of its nodes to files;
+/// * `upgrade` writes logs in version 2, and `mend` of each the longest beginning such that all are consistent, each to a file
+///   of a folder;
+/// * `version` prints the version; all other words are refused.
+///
+/// With `--json` answers, what is found for a question, and what is shown are printed as JSON Lines.
+///
+/// Logs are read on threads, `check` judges a section on some, and a run without `--alone` has a thread for each node; all of
+/// them are waited for.
 pub fn serve<R, A, I, F, W, V>(
     rt: &R,
     alloc: A,

@@ -30,8 +30,6 @@ pub enum ProgramFault<'a> {
     NoMoment(CutFault),
     /// A node that is to lead is none of the ring.
     NoPlace,
-    /// A view is wanted as JSON, which has none.
-    NoJson,
     /// So many events have the columns that are asked for, and these are too many for one picture.
     TooManyEvents(u32),
     /// The run was refused, or came to nothing.
@@ -103,10 +101,6 @@ impl<'a> ProgramFault<'a> {
             ProgramFault::CannotRead(name) => write_file_named(b"ira: cannot read ", *name, err),
             ProgramFault::RingSize => write_bytes(b"ira: ring size\n", err),
             ProgramFault::NoMoment(fault) => write_cut_fault(*fault, err),
-            ProgramFault::NoJson => write_bytes(
-                b"ira: --json is for logs, check and decide\n",
-                err,
-            ),
             ProgramFault::NoPlace => {
                 write_bytes(b"ira: --leads names a node that the ring has not\n", err)
             }

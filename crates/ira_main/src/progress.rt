@@ -11,6 +11,7 @@ pub enum Progress<'a> {
     Check(CheckRequest<'a>),
     /// They ask for the evidence of a check, of which nothing was done.
     ExplainCheck {
+        is_json: bool,
         question: &'a str,
         certificate: &'a str,
         logs: LogSource<'a>,

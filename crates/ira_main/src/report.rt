@@ -1,6 +1,6 @@
 ghost use Rattle.std.specs.Prelude.{◌≡◌, ◌⊎◌, Err};
 ghost use Rattle.ira_audit.specs.Report.{IsReportable};
-ghost use Rattle.ira_main.specs.Outcome.{Reports, ReportsAs, ReportsJson};
+ghost use Rattle.ira_main.specs.Outcome.{Prints, Reports, ReportsAs};
 ghost use Rattle.ira_main.specs.declared.program_fault.ProgramFault.TheVariants.{OutOfMemory};
 
 use crate::program_fault::ProgramFault;
@@ -10,6 +10,20 @@ use ira_event::{Sink, WriteFault, write_bytes};
 use ira_json::answer_line;
 use std::alloc::Global;
 
+/// Writes a text that was put together before, and gives this status.
+pub(crate) fn print_text<'a, W: Sink>(
+    text: &[u8],
+    status: Status,
+    out: &mut W,
+) -> Result<Status, ProgramFault<'a>>
+    ensures { Prints text.now status (W.state out.old) (W.state out.new) result }
+{
+    match write_bytes(text, out) {
+        Ok(()) => Ok(status),
+        Err(WriteFault) => Err(ProgramFault::CannotWriteAnswer),
+    }
+}
+
 /// Writes the answer's line, and gives the answer's status.
 pub(crate) fn report<'a, W: Sink>(answer: &Answer, out: &mut W) -> Result<Status, ProgramFault<'a>>
     requires { IsReportable answer.now }
@@ -17,24 +31,6 @@ pub(crate) fn report<'a, W: Sink>(answer: &Answer, out: &mut W) -> Result<Status
 {
     match write_report(answer, out) {
         Ok(()) => Ok(Status::of_answer(answer)),
-        Err(WriteFault) => Err(ProgramFault::CannotWriteAnswer),
-    }
-}
-
-// Writes the answer as a line of JSON, and gives the answer's status.
-fn report_json<'a, W: Sink>(
-    alloc: Global,
-    answer: &Answer,
-    out: &mut W,
-) -> Result<Status, ProgramFault<'a>>
-    requires { IsReportable answer.now }
-    ensures { ReportsJson answer.now (W.state out.old) (W.state out.new) result
-        ⊎ ((W.state out.new ≡ W.state out.old) × (result ≡ Err OutOfMemory)) }
-{
-    let status = Status::of_answer(answer);
-    let line = answer_line(alloc, answer, status.number())?;
-    match write_bytes(line.as_bytes(), out) {
-        Ok(()) => Ok(status),
         Err(WriteFault) => Err(ProgramFault::CannotWriteAnswer),
     }
 }
@@ -50,9 +46,10 @@ pub(crate) fn report_as<'a, W: Sink>(
     ensures { ReportsAs is_json answer.now (W.state out.old) (W.state out.new) result
         ⊎ ((W.state out.new ≡ W.state out.old) × (result ≡ Err OutOfMemory)) }
 {
-    if is_json {
-        report_json(alloc, answer, out)
-    } else {
-        report(answer, out)
+    if !is_json {
+        return report(answer, out);
     }
+    let status = Status::of_answer(answer);
+    let line = answer_line(alloc, answer, status.number())?;
+    print_text(line.as_bytes(), status, out)
 }

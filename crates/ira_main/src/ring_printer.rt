@@ -1,5 +1,5 @@
-ghost use Rattle.std.specs.Prelude.{◌≡◌, ◌⊎◌, Err, false, true};
-ghost use Rattle.ira_main.specs.Show.{PrintsRing};
+ghost use Rattle.std.specs.Prelude.{◌≡◌, ◌⊎◌, Err, false, length, true};
+ghost use Rattle.ira_main.specs.Show.{PrintsRing, PrintsRingAs, PrintsRingLines};
 ghost use Rattle.ira_main.specs.declared.program_fault.ProgramFault.TheVariants.{OutOfMemory};
 
 use crate::program_fault::ProgramFault;
@@ -7,9 +7,12 @@ use crate::status::Status;
 use crate::view_printer::write_view;
 use ira_audit::Answer;
 use ira_event::{Sink, WriteFault};
+use ira_explain::NamedText;
+use ira_json::ShownAnswer;
 use ira_show::ShowFault;
 use ira_views::ShownRing;
-use std::alloc::Allocator;
+use ira_words::ShowRequest;
+use std::alloc::{Allocator, Global};
 
 // The status of a ring of which the tables were printed. They are put together before anything is printed.
 fn print_tables<'a, A: Allocator + Clone, W: Sink>(
@@ -50,17 +53,48 @@ fn print_events<'a, A: Allocator + Clone, W: Sink>(
     }
 }
 
-/// The status of a ring that was printed: of which an order of all events was, or else the tables.
-pub(crate) fn print_ring<'a, A: Allocator + Clone, W: Sink>(
+// The status of a ring that was printed as lines of JSON, one by one.
+fn print_json<'a, A: Allocator + Clone, W: Sink>(
+    global: Global,
     alloc: A,
     ring: &ShownRing<A>,
-    has_events: bool,
+    files: &[NamedText<'_>],
+    show: &ShowRequest<'_>,
     out: &mut W,
 ) -> Result<Status, ProgramFault<'a>>
-    ensures { PrintsRing ring.now.differences has_events (W.state out.old) (W.state out.new) result
+    requires { length files.now ≡ length ring.now.logs }
+    ensures { PrintsRingLines ring.now.differences (W.state out.old) (W.state out.new) result
         ⊎ ((W.state out.new ≡ W.state out.old) × (result ≡ Err OutOfMemory)) }
 {
-    if has_events {
+    let status = Status::of_differences(ring.differences().text());
+    let answer = ShownAnswer {
+        status: status.number(),
+        named: show.leads.as_ref().map(|places| places.as_slice()),
+    };
+    match ring.write_json(global, alloc, files, answer, show.has_events, out) {
+        Ok(()) => Ok(status),
+        Err(ShowFault::Write) => Err(ProgramFault::CannotWriteAnswer),
+        Err(ShowFault::OutOfMemory) => Err(ProgramFault::OutOfMemory),
+    }
+}
+
+/// The status of a ring that was printed as is asked for: as JSON; or an order of all events, or else the tables. The files
+/// are those of its logs.
+pub(crate) fn print_ring<'a, A: Allocator + Clone, W: Sink>(
+    global: Global,
+    alloc: A,
+    ring: &ShownRing<A>,
+    files: &[NamedText<'_>],
+    show: &ShowRequest<'_>,
+    out: &mut W,
+) -> Result<Status, ProgramFault<'a>>
+    requires { length files.now ≡ length ring.now.logs }
+    ensures { PrintsRingAs show.now.is_json ring.now.differences show.now.has_events (W.state out.old) (W.state out.new) result
+        ⊎ ((W.state out.new ≡ W.state out.old) × (result ≡ Err OutOfMemory)) }
+{
+    if show.is_json {
+        print_json(global, alloc, ring, files, show, out)
+    } else if show.has_events {
         print_events(alloc, ring, out)
     } else {
         print_tables(alloc, ring, out)

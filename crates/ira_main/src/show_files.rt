@@ -5,7 +5,7 @@ ghost use Rattle.ira_main.specs.Show.{IsAskedMoment, ShowsLogs, moment_names, mo
 use crate::named_file::{named_texts, read_named};
 use crate::program_fault::ProgramFault;
 use crate::read_files::read_file;
-use crate::report::report;
+use crate::report::report_as;
 use crate::ring_printer::print_ring;
 use crate::source_names::source_names;
 use crate::status::Status;
@@ -62,7 +62,7 @@ pub(crate) fn show_files<'a, R, A, F, W>(
     out: &mut W,
 ) -> Result<Status, ProgramFault<'a>>
 where
-    R: Threads,
+    R: AllocGlobal + Threads,
     A: Allocator + Clone + Sync,
     F: TextSource,
     W: Sink,
@@ -75,8 +75,8 @@ where
     let moment = shown_moment(&show.moment, &question);
     let leads = show.leads.as_ref().map(|places| places.as_slice());
     match show_texts(rt, alloc.clone()?, &named, moment, leads) {
-        Ok(ring) => print_ring(alloc, &ring, show.has_events, out),
-        Err(RingFault::No(reason)) => report(&Answer::No(reason), out),
+        Ok(ring) => print_ring(rt.alloc(), alloc, &ring, &named, show, out),
+        Err(RingFault::No(reason)) => report_as(rt.alloc(), show.is_json, &Answer::No(reason), out),
         Err(RingFault::Cut(fault)) => Err(ProgramFault::NoMoment(fault)),
         Err(RingFault::Place) => Err(ProgramFault::NoPlace),
         Err(RingFault::OutOfMemory) => Err(ProgramFault::OutOfMemory),

@@ -1,17 +1,21 @@
-ghost use Rattle.std.specs.Prelude.{◌≡◌, ◌⊎◌, ◌++◌, Err};
+ghost use Rattle.std.specs.Prelude.{◌≡◌, ◌⊎◌, ◌++◌, Err, false};
 ghost use Rattle.ira_event.specs.Sink.{Wrote};
 ghost use Rattle.ira_audit.specs.Findings.{AreReportable};
+ghost use Rattle.ira_audit.specs.FindingsText.{findings_text};
 ghost use Rattle.ira_audit.specs.Report.{IsReportable, report_line};
+ghost use Rattle.ira_explain.specs.Printable.{IsPrintable};
 ghost use Rattle.ira_main.specs.Decide.{ExplainsFindings};
-ghost use Rattle.ira_main.specs.Outcome.{Explains};
+ghost use Rattle.ira_main.specs.Outcome.{Explains, ExplainsAs};
 ghost use Rattle.ira_main.specs.declared.program_fault.ProgramFault.TheVariants.{OutOfMemory};
 
 use crate::program_fault::ProgramFault;
+use crate::report::print_text;
 use crate::status::Status;
 use ira_audit::{Answer, write_findings, write_report};
 use ira_event::{MemorySink, Sink, WriteFault, write_bytes};
+use ira_json::{explained_line, findings_lines};
 use ira_views::{FindingsView, View};
-use std::alloc::Allocator;
+use std::alloc::{Allocator, Global};
 
 /// Writes the line of an answer, and the page after it.
 #[tactic(auto, using(ira_event::proofs::Writing::writes))]
@@ -27,8 +31,8 @@ pub(crate) fn write_view<W: Sink>(
     write_bytes(page, sink)
 }
 
-/// The status of an answer whose line was printed with the page after it.
-pub(crate) fn print_view<'a, A: Allocator, W: Sink>(
+// The status of an answer whose line was printed with the page after it.
+fn print_page<'a, A: Allocator, W: Sink>(
     view: &View<A>,
     out: &mut W,
 ) -> Result<Status, ProgramFault<'a>>
@@ -41,33 +45,74 @@ pub(crate) fn print_view<'a, A: Allocator, W: Sink>(
     }
 }
 
-// Writes lines, and the page after them.
-#[tactic(auto, using(ira_event::proofs::Writing::writes))]
-fn write_both<W: Sink>(lines: &[u8], page: &[u8], sink: &mut W) -> Result<(), WriteFault>
-    ensures { Wrote result (lines.now ++ page.now) (W.state sink.old) (W.state sink.new) }
+/// The status of an answer that was printed with its reason, as JSON where that is wanted, or else with the page after its
+/// line.
+pub(crate) fn print_view<'a, A: Allocator, W: Sink>(
+    alloc: Global,
+    is_json: bool,
+    view: &View<A>,
+    out: &mut W,
+) -> Result<Status, ProgramFault<'a>>
+    requires { IsReportable view.now.answer }
+    ensures { ExplainsAs is_json view.now.answer (W.state out.old) (W.state out.new) result
+        ⊎ ((W.state out.new ≡ W.state out.old) × (result ≡ Err OutOfMemory)) }
 {
-    write_bytes(lines, sink)?;
-    write_bytes(page, sink)
+    if !is_json {
+        return print_page(view, out);
+    }
+    let status = Status::of_answer(&view.answer);
+    let line = explained_line(alloc, &view.answer, status.number())?;
+    print_text(line.as_bytes(), status, out)
 }
 
-/// The status of findings whose lines were printed with the page after them. The lines are put together first, since the
-/// output isn't buffered.
-pub(crate) fn print_findings_view<'a, A: Allocator + Clone, W: Sink>(
+// Writes the lines of findings, and the page after them.
+#[tactic(auto, using(ira_event::proofs::Writing::writes))]
+fn write_findings_view<A: Allocator, W: Sink>(
+    view: &FindingsView<A>,
+    sink: &mut W,
+) -> Result<(), WriteFault>
+    requires { AreReportable view.now.findings }
+    ensures wrote { Wrote result (findings_text view.now.findings ++ view.now.page) (W.state sink.old) (W.state sink.new) }
+    ensures printable { IsPrintable view.now.page }
+{
+    write_findings(&view.findings, sink)?;
+    write_bytes(view.page.text(), sink)
+}
+
+// The status of findings whose lines were printed with the page after them. They are put together first, since the output
+// isn't buffered.
+fn print_findings_page<'a, A: Allocator + Clone, W: Sink>(
     alloc: A,
     view: &FindingsView<A>,
     out: &mut W,
 ) -> Result<Status, ProgramFault<'a>>
     requires { AreReportable view.now.findings }
-    ensures { ExplainsFindings (W.state out.old) (W.state out.new) result view.now.findings
+    ensures { ExplainsFindings false (W.state out.old) (W.state out.new) result view.now.findings
         ⊎ ((W.state out.new ≡ W.state out.old) × (result ≡ Err OutOfMemory)) }
 {
-    let mut lines = MemorySink::new(alloc);
-    let Ok(()) = write_findings(&view.findings, &mut lines) else {
+    let mut text = MemorySink::new(alloc);
+    let Ok(()) = write_findings_view(view, &mut text) else {
         return Err(ProgramFault::OutOfMemory);
     };
-    let status = Status::of_findings(&view.findings);
-    match write_both(lines.bytes(), view.page.text(), out) {
-        Ok(()) => Ok(status),
-        Err(WriteFault) => Err(ProgramFault::CannotWriteAnswer),
+    print_text(text.bytes(), Status::of_findings(&view.findings), out)
+}
+
+/// The status of findings that were printed, as JSON where that is wanted, or else with the page after their lines.
+pub(crate) fn print_findings_view<'a, A: Allocator + Clone, W: Sink>(
+    text: Global,
+    alloc: A,
+    is_json: bool,
+    view: &FindingsView<A>,
+    out: &mut W,
+) -> Result<Status, ProgramFault<'a>>
+    requires { AreReportable view.now.findings }
+    ensures { ExplainsFindings is_json (W.state out.old) (W.state out.new) result view.now.findings
+        ⊎ ((W.state out.new ≡ W.state out.old) × (result ≡ Err OutOfMemory)) }
+{
+    if !is_json {
+        return print_findings_page(alloc, view, out);
     }
+    let status = Status::of_findings(&view.findings);
+    let lines = findings_lines(text, &view.findings, status.number())?;
+    print_text(lines.as_bytes(), status, out)
 }

@@ -77,7 +77,13 @@ fn pictures_of_a_run(rt: HostRuntime) {
         ),
     ] {
         let held = [title, words];
-        assert_drawn(&rt, &["draw", "--out=p", option, "0", "1"], 0, "yes\n", &held);
+        assert_drawn(
+            &rt,
+            &["draw", "--out=p", option, "0", "1"],
+            0,
+            "yes\n",
+            &held,
+        );
     }
     let words = ["draw", "--out=p", "--question=two", "--case=0", "0", "1"];
     assert_drawn(&rt, &words, 0, "yes\n", &[title]);

@@ -16,6 +16,8 @@ mod folders;
 #[cfg(test)]
 mod full_device;
 #[cfg(test)]
+mod jsons;
+#[cfg(test)]
 mod kept;
 #[cfg(test)]
 mod logs;

@@ -7,7 +7,8 @@ use Rattle.ira_picture.specs.declared.window.Window.{Window}
 abbrev pub IsIn : Window → ℕ → Type 0
 IsIn w c = (w.first ≤ c) × (c ≤ w.last)
 
--- the columns from one to another, of which the first or the last stands for one that isn't given or is past them; at least one
+-- the columns from one to another, of which the first or the last stands for one that isn't given or is past them; at
+-- least one
 abbrev pub asked_window : Option ℕ → Option ℕ → ℕ → Window
 asked_window from to last =
     record {

@@ -1,5 +1,6 @@
 -- Moments that are found for a question.
-use Rattle.std.proofs.Common.{◌≡◌, Bor, ℕ, zero, suc, List, [], ◌∷◌, Err, Option, Some, inl, inr, length, subst}
+use Rattle.std.proofs.Common.{◌≡◌, ◌∙◌, Bor, ap, ℕ, zero, suc, List, [], ◌∷◌, Err, Option, Some, inl, inr, length}
+use Rattle.std.proofs.Common.{subst}
 use Rattle.std.specs.Prelude.{slice_get}
 use Rattle.std.specs.List.{AllZip}
 use Rattle.ira_event.specs.Log.{Log}
@@ -17,7 +18,8 @@ use Rattle.ira_audit.specs.Refusal.{IsFindingsReason, IsLogsReason, MatchRefusal
 use Rattle.ira_audit.specs.declared.reason.Reason.{Reason}
 use Rattle.ira_audit.specs.declared.refusal.Refusal.{Refusal}
 use Rattle.ira_audit.specs.declared.refusal.Refusal.TheVariants as refusal
-use Rattle.ira_views.specs.Show.{IsMomentFault, IsPlaceFault, IsReasonAgainst, IsRingFault, refusal_fault}
+use Rattle.ira_views.specs.Show.{IsAskedMomentOf, IsMomentFault, IsPlaceFault, IsReasonAgainst, IsRingFault}
+use Rattle.ira_views.specs.Show.{refusal_fault}
 use Rattle.ira_views.specs.declared.ring_fault.RingFault.{RingFault}
 use Rattle.ira_views.specs.declared.ring_fault.RingFault.TheVariants as fault
 use Rattle.ira_views.specs.declared.shown_moment.ShownMoment.{ShownMoment}
@@ -45,6 +47,16 @@ pub found_consistent : {A : Type 0} (texts : List (List ℕ)) (logs : List Log) 
 found_consistent texts logs question nodes cases i cut are found at =
     let same = one_list texts found.0 logs found.2.logs_are.texts_are are in
     subst (λ ls. IsConsistentCut ls cut) same (found_cut found.0 found.1.cases cases i cut found.4 at)
+
+-- a question that is decided of texts is one of their ring
+pub found_asked : {A : Type 0} (texts : List (List ℕ)) (logs : List Log) (question : Bor (List ℕ)) (case : Option ℕ)
+    (nodes : ℕ) (cases : List (Found A)) → AreLogTexts texts logs
+    → (others : List Log) × (asked : QuestionCases) × QuestionFitsLogs texts question.now others asked
+    × (nodes ≡ length others) × AllZip (IsFound others) asked.cases cases
+    → IsAskedMomentOf logs (Of question case)
+found_asked texts logs question case nodes cases are found =
+    let same = one_list texts found.0 logs found.2.logs_are.texts_are are in
+    (found.1, found.2.question_is, found.2.ring ∙ ap length same)
 
 -- why a question isn't decided is why its moment isn't found
 pub moment_refused_for : {T : Type 0} (P : List (List ℕ) → T

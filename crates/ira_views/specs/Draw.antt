@@ -16,21 +16,22 @@ use Rattle.ira_views.specs.declared.picture_fault.PictureFault.TheVariants as fa
 use Rattle.ira_views.specs.declared.shown_moment.ShownMoment.{ShownMoment}
 
 -- what comes of texts: an answer, and a picture or none
-pub data IsDrawn (texts : List (List ℕ)) (moment : ShownMoment) (answer : Answer) (picture : Option (List ℕ)) : Type 0 where
-  -- the logs are good, and the moment that is asked for is theirs
-  good :
-      (logs : List Log) (page : List ℕ) → AreGoodLogs texts logs → IsAskedMomentOf logs moment → answer ≡ Yes
-      → picture ≡ Some page → IsDrawn texts moment answer picture
-  -- they are good, and the question whose moment is asked for isn't one of this ring: there is no picture
-  no_question :
-      (logs : List Log) (r : Reason) → AreGoodLogs texts logs → IsReasonAgainst texts moment r → answer ≡ No r
-      → picture ≡ None → IsDrawn texts moment answer picture
-  -- they are the logs of one ring, and something stands against them
-  refused :
-      (logs : List Log) (r : Reason) (page : List ℕ) → AreLogTexts texts logs → AreLogs logs → IsLogsReason texts r
-      → answer ≡ No r → picture ≡ Some page → IsDrawn texts moment answer picture
-  -- the texts aren't those of the logs of one ring: there is no picture
-  no_ring : (r : Reason) → IsRingReason texts r → answer ≡ No r → picture ≡ None → IsDrawn texts moment answer picture
+pub data IsDrawn (texts : List (List ℕ)) (moment : ShownMoment) (answer : Answer) (picture : Option (List ℕ)) : Type 0
+  where
+    -- the logs are good, and the moment that is asked for is theirs
+    good :
+        (logs : List Log) (page : List ℕ) → AreGoodLogs texts logs → IsAskedMomentOf logs moment → answer ≡ Yes
+        → picture ≡ Some page → IsDrawn texts moment answer picture
+    -- they are good, and the question whose moment is asked for isn't one of this ring: there is no picture
+    no_question :
+        (logs : List Log) (r : Reason) → AreGoodLogs texts logs → IsReasonAgainst texts moment r → answer ≡ No r
+        → picture ≡ None → IsDrawn texts moment answer picture
+    -- they are the logs of one ring, and something stands against them
+    refused :
+        (logs : List Log) (r : Reason) (page : List ℕ) → AreLogTexts texts logs → AreLogs logs → IsLogsReason texts r
+        → answer ≡ No r → picture ≡ Some page → IsDrawn texts moment answer picture
+    -- the texts aren't those of the logs of one ring: there is no picture
+    no_ring : (r : Reason) → IsRingReason texts r → answer ≡ No r → picture ≡ None → IsDrawn texts moment answer picture
 
 -- the fault where there is no picture
 abbrev pub picture_fault : DrawFault → PictureFault
@@ -42,7 +43,8 @@ abbrev pub HasTooManyEvents : List (List ℕ) → ℕ → Type 0
 HasTooManyEvents texts events =
     (logs : List Log) × AreLogTexts texts logs × AreLogs logs × (20000 < events)
 
--- why nothing is drawn: the logs are good, and what is asked for is no consistent cut of them; or there are too many events, or
+-- why nothing is drawn: the logs are good, and what is asked for is no consistent cut of them; or there are too many
+-- events, or
 -- memory ran out
 abbrev pub IsPictureFault : List (List ℕ) → ShownMoment → PictureFault → Type 0
 IsPictureFault texts moment (fault.Cut f) = (logs : List Log) × AreGoodLogs texts logs × IsCutFaultOf logs moment f

@@ -13,6 +13,8 @@ use Rattle.ira_moment.specs.CutFault.{IsCutFault}
 use Rattle.ira_moment.specs.Moment.{AreLeaders, IsMoment, Moment, whole_cut}
 use Rattle.ira_moment.specs.declared.cut_fault.CutFault.{CutFault}
 use Rattle.ira_order.specs.Cut.{IsConsistentCut}
+use Rattle.ira_pred.specs.Question.{QuestionCases}
+use Rattle.ira_pred.specs.QuestionText.{IsQuestionText}
 use Rattle.ira_views.specs.ShownRing.{ShownRing}
 use Rattle.ira_views.specs.declared.ring_fault.RingFault.{RingFault}
 use Rattle.ira_views.specs.declared.ring_fault.RingFault.TheVariants as fault
@@ -24,10 +26,12 @@ abbrev pub refusal_fault : Refusal → RingFault
 refusal_fault (refusal.No reason) = fault.No reason
 refusal_fault refusal.OutOfMemory = fault.OutOfMemory
 
--- numbers that are asked for are a consistent cut of the logs
+-- numbers that are asked for are a consistent cut of the logs, and a question is one of their ring
 abbrev pub IsAskedMomentOf : List Log → ShownMoment → Type 0
+IsAskedMomentOf logs AtEnd = ⊤
 IsAskedMomentOf logs (AtCut events) = IsConsistentCut logs events.now
-IsAskedMomentOf logs _ = ⊤
+IsAskedMomentOf logs (Of question case) =
+    (asked : QuestionCases) × IsQuestionText question.now asked × (asked.nodes ≡ length logs)
 
 -- each node that is to lead is one of the ring
 abbrev pub ArePlaces : List Log → List ℕ → Type 0

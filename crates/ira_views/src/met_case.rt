@@ -46,6 +46,11 @@ impl<A: Allocator> MetCase<A> {
         &self.cut
     }
 
+    /// The number of the case in the question, counted from 0.
+    pub(crate) fn number(&self) -> usize {
+        self.number
+    }
+
     /// What is said of the moment in a picture: the case's number, and what it asks of each node.
     pub(crate) fn words(&self, alloc: A) -> Result<Page<A>, OutOfMemory> {
         let mut words = Page::new(alloc);

@@ -1,15 +1,17 @@
-ghost use Rattle.std.specs.Prelude.{◌≡◌};
+ghost use Rattle.std.specs.Prelude.{◌≡◌, length};
+ghost use Rattle.ira_json.specs.ShownAnswer.{WroteRing};
 ghost use Rattle.ira_show.specs.Showed.{Showed};
 ghost use Rattle.ira_views.specs.FoundMoment.{IsMomentOf};
 
 use crate::found_moment::FoundMoment;
 use ira_audit::GoodLogs;
 use ira_event::{OutOfMemory, Sink};
-use ira_explain::Page;
+use ira_explain::{NamedText, Page};
+use ira_json::{ShownAnswer, write_ring};
 use ira_show::{
     Heading, ShowFault, show_cut, show_end, show_events, show_events_of_cut, show_no_moment,
 };
-use std::alloc::Allocator;
+use std::alloc::{Allocator, Global};
 use std::marker::Model;
 
 /// A ring against whose logs nothing stands, to be shown at a moment, and where the nodes that lead when the logs end differ
@@ -87,5 +89,24 @@ impl<A: Allocator + Clone> ShownRing<A> {
                 Ok(())
             }
         }
+    }
+
+    /// Writes, as lines of JSON, the answer and what is told of the moment: an order of all events through it, or else its
+    /// rounds, its nodes and what is on its way. These are the files of the logs, in their order; the differences aren't
+    /// told. It is written block by block.
+    pub fn write_json<W: Sink>(
+        &self,
+        text: Global,
+        alloc: A,
+        files: &[NamedText<'_>],
+        answer: ShownAnswer<'_>,
+        has_events: bool,
+        sink: &mut W,
+    ) -> Result<(), ShowFault>
+        requires { length files.now ≡ length self.now.logs }
+        ensures { WroteRing answer.entry.status result (W.state sink.old) (W.state sink.new) }
+    {
+        let (logs, asked) = (self.logs.logs(), self.moment.asked());
+        write_ring(text, alloc, logs, files, asked, answer, has_events, sink)
     }
 }

@@ -4,4 +4,6 @@ use Rattle.ira_main.proofs.asked_run.setup.Goals as goal
 pub returns : goal.returns
 returns g c =
     let lists = c.in_ok-draw_lists in
-    asked_setup (λ v. v.items) c.args.request.now c.args.nodes c.args.terms c.in_ok-initiators.field-0.items lists.field-0.items c.requires.size c.requires.terms c.in_ok-initiators.ensures lists.ensures.number lists.ensures.lists
+    asked_setup (λ v. v.items) c.args.request.now c.args.nodes c.args.terms c.in_ok-initiators.field-0.items
+    lists.field-0.items c.requires.size c.requires.terms c.in_ok-initiators.ensures lists.ensures.number
+    lists.ensures.lists

@@ -26,7 +26,8 @@ returns-then-decide g c =
             _,
             c.in_ok-names.ensures,
             inl (record {
-              kept = subst (λ (logs : List FileName). KeepsFiles c.args.decide.now.certificate (decide_names c.args.decide.now logs)) c.deref.ensures.value c.in_ok-keep_inputs.ensures;
+              kept = subst (λ (logs : List FileName). KeepsFiles c.args.decide.now.certificate
+                  (decide_names c.args.decide.now logs)) c.deref.ensures.value c.in_ok-keep_inputs.ensures;
               decided = record {
                 question = c.in_ok-question.question;
                 texts = taken.0;
@@ -58,14 +59,23 @@ returns-in-Ok g c =
       _,
       c.in_ok-names.ensures,
       inl (record {
-        kept = subst (λ (logs : List FileName). KeepsFiles certificate (decide_names c.args.decide.now logs)) c.deref.ensures.value c.in_ok-keep_inputs.ensures;
+        kept = subst (λ (logs : List FileName). KeepsFiles certificate (decide_names c.args.decide.now logs))
+            c.deref.ensures.value c.in_ok-keep_inputs.ensures;
         decided = record {
           question = c.in_ok-question.question;
           texts = taken.0;
           given = (c.in_ok-question.ensures.read, rw c.deref-2.ensures.value at taken.2);
           findings = findings;
           found = rw c.bytes-2.ensures at written.1;
-          told = rw c.if-decide.false (findings_text findings, refl, inl (subst (λ t. Takes t (g.W.Sink.state c.args.out.now) (g.W.Sink.state c.write_bytes.new.sink)) text_is c.in-Ok.ensures, c.keep_written_findings.ensures findings is));
+          told = rw c.if-decide.false (
+            findings_text findings,
+            refl,
+            inl (
+              subst (λ t. Takes t (g.W.Sink.state c.args.out.now) (g.W.Sink.state c.write_bytes.new.sink)) text_is
+                  c.in-Ok.ensures,
+              c.keep_findings.ensures findings is,
+            ),
+          );
         };
       }),
     )
@@ -81,14 +91,24 @@ returns g c =
       _,
       c.in_ok-names.ensures,
       inl (record {
-        kept = subst (λ (logs : List FileName). KeepsFiles c.args.decide.now.certificate (decide_names c.args.decide.now logs)) c.deref.ensures.value c.in_ok-keep_inputs.ensures;
+        kept = subst (λ (logs : List FileName). KeepsFiles c.args.decide.now.certificate
+            (decide_names c.args.decide.now logs)) c.deref.ensures.value c.in_ok-keep_inputs.ensures;
         decided = record {
           question = c.in_ok-question.question;
           texts = taken.0;
           given = (c.in_ok-question.ensures.read, rw c.deref-2.ensures.value at taken.2);
           findings = findings;
           found = rw c.bytes-2.ensures at written.1;
-          told = rw c.if-decide.false (findings_text findings, refl, inr (subst (λ t. StopsIn t (g.W.Sink.state c.args.out.now) (g.W.Sink.state c.write_bytes.new.sink)) text_is c.in-Err.ensures, refl, refl));
+          told = rw c.if-decide.false (
+            findings_text findings,
+            refl,
+            inr (
+              subst (λ t. StopsIn t (g.W.Sink.state c.args.out.now) (g.W.Sink.state c.write_bytes.new.sink)) text_is
+                  c.in-Err.ensures,
+              refl,
+              refl,
+            ),
+          );
         };
       }),
     )
@@ -108,7 +128,20 @@ pub returns-in_err-question : goal.returns-in_err-question
 returns-in_err-question g c =
     let decide = c.args.decide.now in
     let logs = names_of c.in_ok-names.names.items in
-    inl (_, c.in_ok-names.ensures, inr (refl, (_, inr (of_front g.F.TextSource.reads (decide.question.now ∷ []) logs _ _ c.in_err-question.ensures.fault), refl, search rules)))
+    inl (
+      _,
+      c.in_ok-names.ensures,
+      inr (
+        refl,
+        (
+          _,
+          inr (of_front g.F.TextSource.reads (decide.question.now ∷ []) logs _
+              _ c.in_err-question.ensures.fault),
+          refl,
+          search rules,
+        ),
+      ),
+    )
 
 pub returns-in_err-clone : goal.returns-in_err-clone
 returns-in_err-clone g c = inl (_, c.in_ok-names.ensures, inr (refl, (OutOfMemory, inr (inr refl), refl, search rules)))
@@ -118,10 +151,31 @@ returns-in_err-audit g c =
     let decide = c.args.decide.now in
     let logs = names_of c.in_ok-names.names.items in
     let fault = rw c.deref-2.ensures.value at c.in_err-audit.ensures in
-    inl (_, c.in_ok-names.ensures, inr (refl, (_, inr (of_back g.F.TextSource.reads (decide.question.now ∷ []) logs _ (_ ∷ []) _ (c.in_ok-question.ensures.read, tt) fault), refl, search rules)))
+    inl (
+      _,
+      c.in_ok-names.ensures,
+      inr (
+        refl,
+        (
+          _,
+          inr (of_back g.F.TextSource.reads (decide.question.now ∷ []) logs _
+              (_ ∷ []) _ (c.in_ok-question.ensures.read, tt) fault),
+          refl,
+          search rules,
+        ),
+      ),
+    )
 
 pub returns-in_err-written : goal.returns-in_err-written
-returns-in_err-written g c = inl (_, c.in_ok-names.ensures, inr (refl, (OutOfMemory, inr (inr refl), refl, search rules)))
+returns-in_err-written g c = inl (
+  _,
+  c.in_ok-names.ensures,
+  inr (refl, (OutOfMemory, inr (inr refl), refl, search rules)),
+)
 
 pub returns-in_err-findings : goal.returns-in_err-findings
-returns-in_err-findings g c = inl (_, c.in_ok-names.ensures, inr (refl, (OutOfMemory, inr (inr refl), refl, search rules)))
+returns-in_err-findings g c = inl (
+  _,
+  c.in_ok-names.ensures,
+  inr (refl, (OutOfMemory, inr (inr refl), refl, search rules)),
+)

@@ -2,24 +2,30 @@ use Rattle.std.proofs.Common.{◌≡◌, ◌∙◌, inl, inr, refl, rules, subst
 use Rattle.ira_audit.proofs.TextRuns.{yes_runs}
 use Rattle.ira_audit.specs.RingAnswer.{IsRingAnswer}
 use Rattle.ira_views.specs.Texts.{texts_of}
+use Rattle.ira_main.specs.declared.program_fault.ProgramFault.TheVariants.{OutOfMemory}
 use Rattle.ira_main.proofs.explain_files.explain_files.Goals as goal
 
 pub returns : goal.returns
 returns g c =
     let view = c.in_ok-view.view in
     let same : texts_of c.deref-3.result.now ≡ c.in_ok-files.files.items = search (rules) in
-    inl (
-      _,
-      c.in_ok-names.ensures,
-      inl (record {
-        texts = c.in_ok-files.files.items;
-        given = rw c.deref.ensures.value at c.in_ok-files.ensures;
-        answer = view.answer;
-        judged = subst (λ texts. IsRingAnswer texts view.answer) same c.in_ok-view.ensures.answer;
-        runs = λ e. yes_runs _ view.answer (subst (λ texts. IsRingAnswer texts view.answer) same c.in_ok-view.ensures.answer) e;
-        told = c.print_view.ensures;
-      }),
-    )
+    elim c.print_view.ensures [
+      | inl told ↦
+          inl (
+            _,
+            c.in_ok-names.ensures,
+            inl (record {
+              texts = c.in_ok-files.files.items;
+              given = rw c.deref.ensures.value at c.in_ok-files.ensures;
+              answer = view.answer;
+              judged = subst (λ texts. IsRingAnswer texts view.answer) same c.in_ok-view.ensures.answer;
+              runs = λ e. yes_runs _ view.answer (subst (λ texts. IsRingAnswer texts view.answer) same
+                  c.in_ok-view.ensures.answer) e;
+              told = told;
+            }),
+          )
+      | inr full ↦ inl (_, c.in_ok-names.ensures, inr (OutOfMemory, inr refl, full.0, full.1))
+    ]
 
 pub returns-in_err-files : goal.returns-in_err-files
 returns-in_err-files g c =

@@ -1,6 +1,6 @@
-use Rattle.std.proofs.Common.{Err, ap, refl, subst}
+use Rattle.std.proofs.Common.{Err, ap, inl, inr, refl, subst}
 use Rattle.ira_audit.specs.LogTextAnswer.{IsLogTextAnswer}
-use Rattle.ira_main.specs.Serve.OneLogOutcome.{judged}
+use Rattle.ira_main.specs.Serve.OneLogOutcome.{judged, no_memory}
 use Rattle.ira_main.proofs.Unjudged.{unjudged}
 use Rattle.ira_main.proofs.explain_files.explain_input.Goals as goal
 
@@ -11,4 +11,9 @@ returns-in-Err-clause-judged g c =
 pub returns-clause-judged : goal.returns-clause-judged
 returns-clause-judged g c =
     let view = c.in_ok-view.view in
-    judged _ view.answer c.in_default.ensures.text (subst (λ text. IsLogTextAnswer text view.answer) c.bytes.ensures c.in_ok-view.ensures.answer) c.print_view.ensures
+    elim c.print_view.ensures [
+      | inl told ↦
+          judged _ view.answer c.in_default.ensures.text
+          (subst (λ text. IsLogTextAnswer text view.answer) c.bytes.ensures c.in_ok-view.ensures.answer) told
+      | inr full ↦ no_memory full.0 full.1
+    ]

@@ -12,39 +12,79 @@ returns g c =
     let same : texts_of c.deref-3.result.now ≡ c.in_ok-files.files.items = search rules in
     let asked : c.named-question.result.text.now ≡ c.in_ok-question.question = search rules in
     let certified : c.named-certificate.result.text.now ≡ c.in_ok-certificate.certificate = search rules in
-    inl (
-      _,
-      c.in_ok-names.ensures,
-      inl (record {
-        question = c.in_ok-question.question;
-        certificate = c.in_ok-certificate.certificate;
-        texts = c.in_ok-files.files.items;
-        given = (c.in_ok-question.ensures.read, (c.in_ok-certificate.ensures.read, rw c.deref.ensures.value at c.in_ok-files.ensures));
-        answer = view.answer;
-        judged = rw (same, asked, certified) at c.in_ok-view.ensures.answer;
-        never = λ e. rw (same, asked, certified) at (c.in_ok-view.ensures.never e);
-        told = c.print_view.ensures;
-      }),
-    )
+    elim c.print_view.ensures [
+      | inl told ↦
+          inl (
+            _,
+            c.in_ok-names.ensures,
+            inl (record {
+              question = c.in_ok-question.question;
+              certificate = c.in_ok-certificate.certificate;
+              texts = c.in_ok-files.files.items;
+              given = (
+                c.in_ok-question.ensures.read,
+                (
+                  c.in_ok-certificate.ensures.read,
+                  rw c.deref.ensures.value at c.in_ok-files.ensures,
+                ),
+              );
+              answer = view.answer;
+              judged = rw (same, asked, certified) at c.in_ok-view.ensures.answer;
+              never = λ e. rw (same, asked, certified) at (c.in_ok-view.ensures.never e);
+              told = told;
+            }),
+          )
+      | inr full ↦ inl (_, c.in_ok-names.ensures, inr (OutOfMemory, inr refl, full.0, full.1))
+    ]
 
 pub returns-in_err-question : goal.returns-in_err-question
 returns-in_err-question g c =
     let others = c.args.certificate.now ∷ names_of c.in_ok-names.names.items in
-    inl (_, c.in_ok-names.ensures, inr (_, of_front g.F.TextSource.reads (c.args.question.now ∷ []) others _ _ c.in_err-question.ensures.fault, refl, search rules))
+    inl (
+      _,
+      c.in_ok-names.ensures,
+      inr (
+        _,
+        of_front g.F.TextSource.reads (c.args.question.now ∷ []) others _ _
+            c.in_err-question.ensures.fault,
+        refl,
+        search rules,
+      ),
+    )
 
 pub returns-in_err-certificate : goal.returns-in_err-certificate
 returns-in_err-certificate g c =
     let reads = g.F.TextSource.reads in
     let logs = names_of c.in_ok-names.names.items in
     let others = of_front reads (c.args.certificate.now ∷ []) logs _ _ c.in_err-certificate.ensures.fault in
-    inl (_, c.in_ok-names.ensures, inr (_, of_back reads (c.args.question.now ∷ []) (c.args.certificate.now ∷ logs) _ (_ ∷ []) _ (c.in_ok-question.ensures.read, tt) others, refl, search rules))
+    inl (
+      _,
+      c.in_ok-names.ensures,
+      inr (
+        _,
+        of_back reads (c.args.question.now ∷ []) (c.args.certificate.now ∷ logs) _
+            (_ ∷ []) _ (c.in_ok-question.ensures.read, tt) others,
+        refl,
+        search rules,
+      ),
+    )
 
 pub returns-in_err-files : goal.returns-in_err-files
 returns-in_err-files g c =
     let reads = g.F.TextSource.reads in
     let logs = names_of c.in_ok-names.names.items in
     let fault = rw c.deref.ensures.value at c.in_err-files.ensures in
-    inl (_, c.in_ok-names.ensures, inr (_, of_back reads (c.args.question.now ∷ c.args.certificate.now ∷ []) logs _ (_ ∷ _ ∷ []) _ (c.in_ok-question.ensures.read, (c.in_ok-certificate.ensures.read, tt)) fault, refl, search rules))
+    inl (
+      _,
+      c.in_ok-names.ensures,
+      inr (
+        _,
+        of_back reads (c.args.question.now ∷ c.args.certificate.now ∷ []) logs _ (_
+            ∷ _ ∷ []) _ (c.in_ok-question.ensures.read, (c.in_ok-certificate.ensures.read, tt)) fault,
+        refl,
+        search rules,
+      ),
+    )
 
 pub returns-in_err-clone : goal.returns-in_err-clone
 returns-in_err-clone g c =

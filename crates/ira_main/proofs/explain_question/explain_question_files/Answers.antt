@@ -33,14 +33,34 @@ pub returns-in_err-question : goal.returns-in_err-question
 returns-in_err-question g c =
     let asked = c.args.asked.question.now in
     let logs = names_of c.in_ok-names.names.items in
-    inl (_, c.in_ok-names.ensures, inr (_, of_front g.F.TextSource.reads (asked ∷ []) logs _ _ c.in_err-question.ensures.fault, refl, search rules))
+    inl (
+      _,
+      c.in_ok-names.ensures,
+      inr (
+        _,
+        of_front g.F.TextSource.reads (asked ∷ []) logs _ _
+            c.in_err-question.ensures.fault,
+        refl,
+        search rules,
+      ),
+    )
 
 pub returns-in_err-files : goal.returns-in_err-files
 returns-in_err-files g c =
     let asked = c.args.asked.question.now in
     let logs = names_of c.in_ok-names.names.items in
     let fault = rw c.deref.ensures.value at c.in_err-files.ensures in
-    inl (_, c.in_ok-names.ensures, inr (_, of_back g.F.TextSource.reads (asked ∷ []) logs _ (_ ∷ []) _ (c.in_ok-question.ensures.read, tt) fault, refl, search rules))
+    inl (
+      _,
+      c.in_ok-names.ensures,
+      inr (
+        _,
+        of_back g.F.TextSource.reads (asked ∷ []) logs _ (_ ∷ []) _
+            (c.in_ok-question.ensures.read, tt) fault,
+        refl,
+        search rules,
+      ),
+    )
 
 pub returns-in_err-clone : goal.returns-in_err-clone
 returns-in_err-clone g c =

@@ -3,7 +3,8 @@ use Rattle.std.proofs.KnownBytes.{Consumes-trans}
 use Rattle.ira_files.proofs.Reading.{reads_left}
 use Rattle.ira_main.proofs.InputAudits.{length-read}
 use Rattle.ira_main.proofs.input_audit.audit_input.Goals as goal
-use Rattle.ira_main.proofs.input_audit.audit_input.Goals.{then-loop-audit-test+else-len-le-MAX_TEXT, else-loop-audit-test}
+use Rattle.ira_main.proofs.input_audit.audit_input.Goals.{then-loop-audit-test+else-len-le-MAX_TEXT}
+use Rattle.ira_main.proofs.input_audit.audit_input.Goals.{else-loop-audit-test}
 
 pub loop-audit-preserved : goal.loop-audit-preserved
 loop-audit-preserved g c =
@@ -12,7 +13,8 @@ loop-audit-preserved g c =
     let once = c.in_ok-read.ensures.once in
     let unread : c.loop-audit.input.is_over ≡ false = search rules in
     let before_read = rw unread at before.reads in
-    let after = reads_left c.read.new.input.is_over c.loop-audit.input.reads c.read.new.input.reads (length once.0) c.in_ok-read.ensures.count once.1.going in
+    let after = reads_left c.read.new.input.is_over c.loop-audit.input.reads c.read.new.input.reads (length once.0)
+    c.in_ok-read.ensures.count once.1.going in
     record {
       text = before.text ++ once.0;
       read = once.3 before.text (room.read before.text before.read);
@@ -44,4 +46,5 @@ returns-clause-answer g c =
     )
 
 pub returns-clause-reportable : goal.returns-clause-reportable
-returns-clause-reportable g c = let before = c.loop-audit.invariant in c.finish.ensures.reportable before.text before.read
+returns-clause-reportable g c = let before = c.loop-audit.invariant in c.finish.ensures.reportable before.text
+    before.read

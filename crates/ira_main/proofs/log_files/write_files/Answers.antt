@@ -12,7 +12,8 @@ loop-place-preserved g c =
     let writes = WritesFile g.F.Shelf.creates g.F.Shelf.closes g.F.Out.Sink.state in
     let before = c.loop-place.invariant in
     elim c.in_default.ensures [
-      | inl wrote ↦ written_next writes c.args.folder.now c.args.logs.now c.loop-place.place c.log.result.now c.args.shelf.now c.loop-place.shelf c.write_file.new.shelf c.log.ensures.value before wrote
+      | inl wrote ↦ written_next writes c.args.folder.now c.args.logs.now c.loop-place.place c.log.result.now
+          c.args.shelf.now c.loop-place.shelf c.write_file.new.shelf c.log.ensures.value before wrote
       | inr unnamed ↦ let never = unnamed.1 in absurd cc
     ]
 
@@ -41,4 +42,5 @@ pub returns : goal.returns
 returns g c =
     let short : length c.args.logs.now ≤ c.loop-place.place = omega arith in
     let writes = WritesFile g.F.Shelf.creates g.F.Shelf.closes g.F.Out.Sink.state in
-    subst (λ xs. WritesLogs writes c.args.folder.now xs c.args.shelf.now c.loop-place.shelf) (take_all c.loop-place.place c.args.logs.now short) c.loop-place.invariant
+    subst (λ xs. WritesLogs writes c.args.folder.now xs c.args.shelf.now c.loop-place.shelf)
+    (take_all c.loop-place.place c.args.logs.now short) c.loop-place.invariant

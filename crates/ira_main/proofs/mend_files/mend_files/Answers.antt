@@ -11,11 +11,29 @@ returns-in_err-name g c = inl (_, c.in_ok-names.ensures, unread refl (OutOfMemor
 
 pub returns-in-Some : goal.returns-in-Some
 returns-in-Some g c =
-    inl (_, c.in_ok-names.ensures, overwriting refl (WouldOverwrite c.in-Some.name, (c.in-Some.name, rw (c.in-Some.is, c.deref.ensures.value) at c.in_ok-name.ensures, refl), refl, refl))
+    inl (
+      _,
+      c.in_ok-names.ensures,
+      overwriting refl (
+        WouldOverwrite c.in-Some.name,
+        (c.in-Some.name, rw (c.in-Some.is, c.deref.ensures.value) at c.in_ok-name.ensures, refl),
+        refl,
+        refl,
+      ),
+    )
 
 pub returns-in_err-recorded : goal.returns-in_err-recorded
 returns-in_err-recorded g c =
-    inl (_, c.in_ok-names.ensures, unread refl (_, rw c.deref-2.ensures.value at c.in_err-recorded.ensures, refl, search rules))
+    inl (
+      _,
+      c.in_ok-names.ensures,
+      unread refl (
+        _,
+        rw c.deref-2.ensures.value at c.in_err-recorded.ensures,
+        refl,
+        search rules,
+      ),
+    )
 
 pub report-requires : goal.report-requires
 report-requires g c =
@@ -27,7 +45,12 @@ pub returns-in-Err-No : goal.returns-in-Err-No
 returns-in-Err-No g c =
     let taken = c.in_ok-recorded.ensures in
     let why = rw c.in-Err-No.field-0-is at (c.in-Err-No.ensures taken.0 taken.1) in
-    inl (_, c.in_ok-names.ensures, no_ring taken.0 c.in-Err-No.reason (rw c.deref-2.ensures.value at taken.2) why.0 refl c.report.ensures)
+    inl (
+      _,
+      c.in_ok-names.ensures,
+      no_ring taken.0 c.in-Err-No.reason (rw c.deref-2.ensures.value at taken.2) why.0
+          refl c.report.ensures,
+    )
 
 pub returns-in-Ok-mend : goal.returns-in-Ok-mend
 returns-in-Ok-mend g c =
@@ -35,11 +58,21 @@ returns-in-Ok-mend g c =
     let keeps = rw (none, c.deref.ensures.value) at c.in_ok-name.ensures in
     let taken = c.in_ok-recorded.ensures in
     let ring = c.in-Ok.ensures taken.0 taken.1 in
-    inl (_, c.in_ok-names.ensures, mended taken.0 c.in-Ok.logs c.in-Ok-mend.mended keeps (rw c.deref-2.ensures.value at taken.2) ring.0 ring.1 c.in-Ok-mend.ensures c.keep_mended.ensures)
+    inl (
+      _,
+      c.in_ok-names.ensures,
+      mended taken.0 c.in-Ok.logs c.in-Ok-mend.mended keeps
+          (rw c.deref-2.ensures.value at taken.2) ring.0 ring.1 c.in-Ok-mend.ensures c.keep_mended.ensures,
+    )
 
 pub returns-in-Err-Match : goal.returns-in-Err-Match
 returns-in-Err-Match g c =
     let taken = c.in_ok-recorded.ensures in
     let ring = c.in-Ok.ensures taken.0 taken.1 in
     let why = rw c.in-Err-Match.field-0-is at c.in-Err-Match.ensures in
-    inl (_, c.in_ok-names.ensures, differ taken.0 c.in-Ok.logs c.in-Err-Match.fault (rw c.deref-2.ensures.value at taken.2) ring.0 ring.1 why refl c.report-in-Err-Match.ensures)
+    inl (
+      _,
+      c.in_ok-names.ensures,
+      differ taken.0 c.in-Ok.logs c.in-Err-Match.fault
+          (rw c.deref-2.ensures.value at taken.2) ring.0 ring.1 why refl c.report-in-Err-Match.ensures,
+    )

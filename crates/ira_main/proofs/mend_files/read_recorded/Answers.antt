@@ -12,7 +12,8 @@ returns-in_err-read_into g c =
     let i = c.loop-name.name-index in
     let at = named_at c.args.names.now i _ (omega arith) in
     let taken = c.loop-name.invariant.taken in
-    rw (p.1, p.2) (of_next g.F.TextSource.reads names i _ c.args.shelf.now taken.0 _ at taken.2 c.in_err-read_into.ensures.fault)
+    rw (p.1, p.2) (of_next g.F.TextSource.reads names i _ c.args.shelf.now taken.0 _ at taken.2
+    c.in_err-read_into.ensures.fault)
 
 pub loop-name-preserved : goal.loop-name-preserved
 loop-name-preserved g c =
@@ -21,8 +22,14 @@ loop-name-preserved g c =
     let at = named_at c.args.names.now i _ (omega arith) in
     let taken = c.loop-name.invariant.taken in
     let text = c.read_into.new.text in
-    let takes = subst (λ text. (texts : List (List ℕ)) → HasRecorded c.loop-name.recorded texts → HasRecorded c.take.new.self (texts ++ text ∷ [])) c.bytes.ensures c.in_ok-take.ensures.ok in
+    let takes = subst (λ text. (texts : List (List ℕ)) → HasRecorded c.loop-name.recorded texts
+    → HasRecorded c.take.new.self (texts ++ text ∷ [])) c.bytes.ensures c.in_ok-take.ensures.ok in
     record {
       within = omega arith;
-      taken = (taken.0 ++ text ∷ [], takes taken.0 taken.1, reads_next g.F.TextSource.reads names i _ c.args.shelf.now taken.0 text at taken.2 c.in_ok-read_into.ensures.read);
+      taken = (
+        taken.0 ++ text ∷ [],
+        takes taken.0 taken.1,
+        reads_next g.F.TextSource.reads names i _ c.args.shelf.now taken.0 text at taken.2
+            c.in_ok-read_into.ensures.read,
+      );
     }

@@ -10,7 +10,8 @@ returns-in_err-read g c =
     let names = names_of c.args.names.now in
     let i = c.loop-name.name-index in
     let at = named_at c.args.names.now i _ (omega arith) in
-    rw (p.1, p.2) (of_next g.F.TextSource.reads names i _ c.args.shelf.now _ _ at c.loop-name.invariant.given c.in_err-read.ensures.fault)
+    rw (p.1, p.2) (of_next g.F.TextSource.reads names i _ c.args.shelf.now _ _ at c.loop-name.invariant.given
+    c.in_err-read.ensures.fault)
 
 pub loop-name-preserved : goal.loop-name-preserved
 loop-name-preserved g c =
@@ -21,5 +22,6 @@ loop-name-preserved g c =
       within = omega arith;
       given =
           rw c.in_ok-push.ensures.items
-          (reads_next g.F.TextSource.reads names i _ c.args.shelf.now _ _ at c.loop-name.invariant.given c.in_ok-read.ensures.read);
+          (reads_next g.F.TextSource.reads names i _ c.args.shelf.now _ _ at c.loop-name.invariant.given
+          c.in_ok-read.ensures.read);
     }

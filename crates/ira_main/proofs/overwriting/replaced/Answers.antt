@@ -1,4 +1,5 @@
-use Rattle.std.proofs.Common.{◌≡◌, ◌∙◌, ◌+◌, ◌<◌, ℕ, List, Some, ap, arith, inl, inr, length, rules, slice_get, string_bytes, subst, sym}
+use Rattle.std.proofs.Common.{◌≡◌, ◌∙◌, ◌+◌, ◌<◌, ℕ, List, Some, ap, arith, inl, inr, length, rules, slice_get}
+use Rattle.std.proofs.Common.{string_bytes, subst, sym}
 use Rattle.std.specs.Prelude.{slice_index_or}
 use Rattle.std.proofs.lemmas.Bool.{cases_eq}
 use Rattle.std.proofs.lemmas.List.{length-map}
@@ -17,7 +18,8 @@ none_more : (written : List ℕ) (names : List FileName) (i : ℕ) (d : FileName
     → (j : ℕ) (name : List ℕ) → j < i + 1 → slice_get (names_of names) j ≡ Some name → ¬ (IsSamePath name written)
 none_more written names i d within before other j name lt at same = elim (cases_eq j i) [
   | inl e ↦
-      let here : Some name ≡ Some (file_name (slice_index_or names i d)) = sym at ∙ ap (slice_get (names_of names)) e ∙ named_at names i d within in
+      let here : Some name ≡ Some (file_name (slice_index_or names i d)) = sym at ∙ ap (slice_get (names_of names)) e
+      ∙ named_at names i d within in
       let same_name : name ≡ file_name (slice_index_or names i d) = cc in
       other (subst (λ n. IsSamePath n written) same_name same)
   | inr ne ↦ before j name (omega (arith, lt, ne)) at same
@@ -39,7 +41,8 @@ loop-name-preserved g c =
     let whole = text ∙ c.in_ok-path.ensures in
     record {
       within = omega arith;
-      none = none_more c.args.written.now c.args.names.now c.loop-name.name-index _ c.loop-name-test.true c.loop-name.invariant.none (λ same.
+      none = none_more c.args.written.now c.args.names.now c.loop-name.name-index _ c.loop-name-test.true
+          c.loop-name.invariant.none (λ same.
           let yes = c.in_ok-are_same_path.ensures.1 (rw whole same) in
           let no = c.if-branch.false in
           cc);
@@ -47,4 +50,9 @@ loop-name-preserved g c =
 
 pub returns : goal.returns
 returns g c = λ i name at.
-    c.loop-name.invariant.none i name (omega (arith, slice_get_within (names_of c.args.names.now) i name at, length-map c.args.names.now file_name, c.loop-name-test.false)) at
+    c.loop-name.invariant.none i name (omega (
+      arith,
+      slice_get_within (names_of c.args.names.now) i name at,
+      length-map c.args.names.now file_name,
+      c.loop-name-test.false,
+    )) at

@@ -1,4 +1,5 @@
-use Rattle.std.proofs.Common.{◌≡◌, ℕ, zero, suc, List, ◌∷◌, Err, IfOk, MatchOption, None, Ok, Option, Result, Some, slice_get, subst}
+use Rattle.std.proofs.Common.{◌≡◌, ℕ, zero, suc, List, ◌∷◌, Err, IfOk, MatchOption, None, Ok, Option, Result, Some}
+use Rattle.std.proofs.Common.{slice_get, subst}
 use Rattle.ira_files.specs.FileName.{file_name}
 use Rattle.ira_files.specs.declared.file_name.FileName.{FileName}
 use Rattle.ira_main.specs.Overwriting.{IsSamePath, Replaces, ReplacesNone}
@@ -8,7 +9,8 @@ use Rattle.ira_main.proofs.overwriting.replaced_input.Goals as goal
 behind : {E : Type 0} (written first : List ℕ) (names : List (List ℕ)) (r : Result (Option FileName) E)
     → ¬ (IsSamePath first written)
     → IfOk r (λ found. MatchOption found (ReplacesNone written names) (λ name. Replaces written names (file_name name)))
-    → IfOk r (λ found. MatchOption found (ReplacesNone written (first ∷ names)) (λ name. Replaces written (first ∷ names) (file_name name)))
+    → IfOk r (λ found. MatchOption found (ReplacesNone written (first ∷ names))
+    (λ name. Replaces written (first ∷ names) (file_name name)))
 behind written first names (Ok (Some name)) other found =
     record { index = suc found.index; named = found.named; same = found.same }
 behind written first names (Ok None) other none = none_of_all

@@ -25,7 +25,10 @@ returns g c =
               question = c.in_ok-question.question;
               certificate = c.in_ok-certificate.certificate;
               texts = taken.0;
-              given = (c.in_ok-question.ensures.read, (c.in_ok-certificate.ensures.read, rw c.deref.ensures.value at taken.2));
+              given = (
+                c.in_ok-question.ensures.read,
+                (c.in_ok-certificate.ensures.read, rw c.deref.ensures.value at taken.2),
+              );
               answer = answer;
               judged = rw (c.bytes-question.ensures, c.bytes-certificate.ensures) at is;
               never = λ e.
@@ -44,7 +47,17 @@ pub returns-in_err-question : goal.returns-in_err-question
 returns-in_err-question g c =
     let check = c.args.check.now in
     let others = check.certificate.now ∷ names_of c.in_ok-names.names.items in
-    inl (_, c.in_ok-names.ensures, inr (_, of_front g.F.TextSource.reads (check.question.now ∷ []) others _ _ c.in_err-question.ensures.fault, refl, search rules))
+    inl (
+      _,
+      c.in_ok-names.ensures,
+      inr (
+        _,
+        of_front g.F.TextSource.reads (check.question.now ∷ []) others _ _
+            c.in_err-question.ensures.fault,
+        refl,
+        search rules,
+      ),
+    )
 
 pub returns-in_err-certificate : goal.returns-in_err-certificate
 returns-in_err-certificate g c =
@@ -52,7 +65,17 @@ returns-in_err-certificate g c =
     let reads = g.F.TextSource.reads in
     let logs = names_of c.in_ok-names.names.items in
     let others = of_front reads (check.certificate.now ∷ []) logs _ _ c.in_err-certificate.ensures.fault in
-    inl (_, c.in_ok-names.ensures, inr (_, of_back reads (check.question.now ∷ []) (check.certificate.now ∷ logs) _ (_ ∷ []) _ (c.in_ok-question.ensures.read, tt) others, refl, search rules))
+    inl (
+      _,
+      c.in_ok-names.ensures,
+      inr (
+        _,
+        of_back reads (check.question.now ∷ []) (check.certificate.now ∷ logs) _ (_
+            ∷ []) _ (c.in_ok-question.ensures.read, tt) others,
+        refl,
+        search rules,
+      ),
+    )
 
 pub returns-in_err-audit : goal.returns-in_err-audit
 returns-in_err-audit g c =
@@ -60,7 +83,17 @@ returns-in_err-audit g c =
     let reads = g.F.TextSource.reads in
     let logs = names_of c.in_ok-names.names.items in
     let fault = rw c.deref.ensures.value at c.in_err-audit.ensures in
-    inl (_, c.in_ok-names.ensures, inr (_, of_back reads (check.question.now ∷ check.certificate.now ∷ []) logs _ (_ ∷ _ ∷ []) _ (c.in_ok-question.ensures.read, (c.in_ok-certificate.ensures.read, tt)) fault, refl, search rules))
+    inl (
+      _,
+      c.in_ok-names.ensures,
+      inr (
+        _,
+        of_back reads (check.question.now ∷ check.certificate.now ∷ []) logs _ (_ ∷
+            _ ∷ []) _ (c.in_ok-question.ensures.read, (c.in_ok-certificate.ensures.read, tt)) fault,
+        refl,
+        search rules,
+      ),
+    )
 
 pub returns-in_err-answer : goal.returns-in_err-answer
 returns-in_err-answer g c = inl (_, c.in_ok-names.ensures, inr (OutOfMemory, inr refl, refl, search rules))

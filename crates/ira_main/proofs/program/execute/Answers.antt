@@ -13,10 +13,12 @@ use Rattle.ira_main.specs.declared.program_fault.ProgramFault.TheVariants.{OutOf
 use Rattle.ira_main.proofs.program.execute.Goals as goal
 
 -- memory may run out before anything is done
-out_of_memory : (A : Type 0) {S : Type 0} (reads : Reading S) (writes : Writing S) (words : List (List ℕ)) (input : Reads) (shelf : S) (out : SinkState) (outcome : Outcome)
+out_of_memory : (A : Type 0) {S : Type 0} (reads : Reading S) (writes : Writing S) (words : List (List ℕ))
+    (input : Reads) (shelf : S) (out : SinkState) (outcome : Outcome)
     → outcome ≡ Err OutOfMemory → Serves A reads writes words input input shelf shelf out out outcome
 out_of_memory A reads writes [] input shelf out outcome is = without_words refl refl (no_memory refl is)
-out_of_memory A reads writes (w ∷ ws) input shelf out outcome is = with_words (λ none. cc) refl (refused fault.OutOfMemory tt refl refl is)
+out_of_memory A reads writes (w ∷ ws) input shelf out outcome is =
+    with_words (λ none. cc) refl (refused fault.OutOfMemory tt refl refl is)
 
 pub returns-in_err-clone-clause-executed : goal.returns-in_err-clone-clause-executed
 returns-in_err-clone-clause-executed g c =
@@ -29,7 +31,8 @@ returns-in-Check-clause-executed g c =
     let made = left.0 in
     let first = made.first in
     let same = left.1 in
-    with_words (λ none. cc) same.input_is (certified _ made same.shelf_is (rw (same.shelf_is, same.out_is) at c.check_files.ensures))
+    with_words (λ none. cc) same.input_is (certified _ made same.shelf_is
+    (rw (same.shelf_is, same.out_is) at c.check_files.ensures))
 
 pub returns-in-ExplainCheck-clause-executed : goal.returns-in-ExplainCheck-clause-executed
 returns-in-ExplainCheck-clause-executed g c =
@@ -38,7 +41,8 @@ returns-in-ExplainCheck-clause-executed g c =
     let first = made.first in
     let same = left.4 in
     with_words (λ none. cc) same.input_is
-    (explained _ made left.2 same.shelf_is (rw left.3 (rw (same.shelf_is, same.out_is) at c.explain_check_files.ensures)))
+    (explained _ made same.shelf_is (rw (left.2, left.3)
+    (rw (same.shelf_is, same.out_is) at c.explain_check_files.ensures)))
 
 pub returns-clause-executed : goal.returns-clause-executed
 returns-clause-executed g c =
@@ -46,4 +50,5 @@ returns-clause-executed g c =
     let made = left.0 in
     let first = made.first in
     let same = left.2 in
-    with_words (λ none. cc) same.input_is (recorded _ made (rw (same.shelf_is, same.out_is) at c.record_run_on_threads.ensures))
+    with_words (λ none. cc) same.input_is (recorded _ made
+    (rw (same.shelf_is, same.out_is) at c.record_run_on_threads.ensures))

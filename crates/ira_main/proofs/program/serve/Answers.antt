@@ -1,4 +1,9 @@
 use Rattle.ira_main.proofs.program.serve.Goals as goal
 
 pub returns-clause-served : goal.returns-clause-served
-returns-clause-served g c = (c.execute-outcome.result, c.execute-outcome.ensures.executed, c.report_outcome.ensures.number, c.report_outcome.ensures.reported)
+returns-clause-served g c = (
+  c.execute-outcome.result,
+  c.execute-outcome.ensures.executed,
+  c.report_outcome.ensures.number,
+  c.report_outcome.ensures.reported,
+)

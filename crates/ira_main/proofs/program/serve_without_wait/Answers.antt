@@ -1,6 +1,7 @@
 use Rattle.std.proofs.Common.{◌≡◌, ◌∙◌, Err, List, [], ◌∷◌, Ok, Result, ℕ, ap, map, refl, subst, sym}
 use Rattle.ira_words.specs.Request.{IsMadeOf}
-use Rattle.ira_main.specs.Serve.CommandOutcome.{decided, drawn, judged, mended, pairs, recorded, refused, shown, upgraded}
+use Rattle.ira_main.specs.Serve.CommandOutcome.{decided, drawn, judged, mended, pairs, recorded, refused, shown}
+use Rattle.ira_main.specs.Serve.CommandOutcome.{upgraded}
 use Rattle.ira_main.specs.Serve.CommandOutcome.{explained as explained_of_logs}
 use Rattle.ira_main.specs.Serve.Serves.{explained, with_words, without_words}
 use Rattle.ira_main.proofs.program.serve_without_wait.Goals as goal
@@ -18,7 +19,8 @@ never_both x y both = cc
 
 pub returns-in-Err-clause-served : goal.returns-in-Err-clause-served
 returns-in-Err-clause-served g c =
-    with_words (λ none. never_both _ _ (sym (c.read_words.ensures.none (none_of_none _ _ none)) ∙ c.in-Err.is)) refl (refused _ c.in-Err.ensures.refused refl refl (ap (λ f. Err f) c.into.ensures))
+    with_words (λ none. never_both _ _ (sym (c.read_words.ensures.none (none_of_none _ _ none)) ∙ c.in-Err.is)) refl
+    (refused _ c.in-Err.ensures.refused refl refl (ap (λ f. Err f) c.into.ensures))
 
 pub returns-in-OneLog-clause-served : goal.returns-in-OneLog-clause-served
 returns-in-OneLog-clause-served g c =
@@ -33,17 +35,19 @@ returns-in-Logs-clause-served g c =
 pub returns-in-OneLog-answer-clause-served : goal.returns-in-OneLog-answer-clause-served
 returns-in-OneLog-answer-clause-served g c =
     let made = subst (IsMadeOf (map (λ w. w.now) c.args.words.now)) c.in-Explain.is c.in-Ok.ensures.made in
-    explained _ made refl c.in-OneLog-answer.is refl c.explain_input.ensures.judged
+    explained _ made c.in-OneLog-answer.is refl c.explain_input.ensures.judged
 
 pub returns-in-Logs-answer-clause-served : goal.returns-in-Logs-answer-clause-served
 returns-in-Logs-answer-clause-served g c =
     let made = subst (IsMadeOf (map (λ w. w.now) c.args.words.now)) c.in-Explain.is c.in-Ok.ensures.made in
-    with_words (some_words _ _ _ made.first) refl (explained_of_logs _ made refl refl (rw c.in-Logs-answer.is c.explain_files.ensures))
+    with_words (some_words _ _ _ made.first) refl (explained_of_logs _ made refl
+    (rw c.in-Logs-answer.is c.explain_files.ensures))
 
 pub returns-in-Findings-clause-served : goal.returns-in-Findings-clause-served
 returns-in-Findings-clause-served g c =
     let made = subst (IsMadeOf (map (λ w. w.now) c.args.words.now)) c.in-Explain.is c.in-Ok.ensures.made in
-    with_words (some_words _ _ _ made.first) refl (explained_of_logs _ made refl refl (rw c.in-Findings.is c.explain_question_files.ensures))
+    with_words (some_words _ _ _ made.first) refl (explained_of_logs _ made refl
+    (rw c.in-Findings.is c.explain_question_files.ensures))
 
 pub returns-in-Certificate-clause-served : goal.returns-in-Certificate-clause-served
 returns-in-Certificate-clause-served g c =
@@ -53,7 +57,7 @@ returns-in-Certificate-clause-served g c =
 pub returns-in-Show-clause-served : goal.returns-in-Show-clause-served
 returns-in-Show-clause-served g c =
     let made = subst (IsMadeOf (map (λ w. w.now) c.args.words.now)) c.in-Show.is c.in-Ok.ensures.made in
-    with_words (some_words _ _ _ made.first) refl (shown _ made c.if-show.false refl c.show_files.ensures)
+    with_words (some_words _ _ _ made.first) refl (shown _ made refl c.show_files.ensures)
 
 pub returns-in-Draw-clause-served : goal.returns-in-Draw-clause-served
 returns-in-Draw-clause-served g c =

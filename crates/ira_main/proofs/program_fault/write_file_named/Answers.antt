@@ -7,8 +7,10 @@ regrouped : (before folder slash place log end : List ℕ)
     → before ++ (folder ++ slash ++ place ++ log) ++ end ≡ before ++ folder ++ (slash ++ place ++ (log ++ end))
 regrouped before folder slash place log end =
     append_assoc before (folder ++ slash ++ place ++ log) end
-    ∙ ap (λ t. before ++ t) (append_assoc (folder ++ slash ++ place) log end ∙ append_assoc (folder ++ slash) place (log ++ end)
-    ∙ append_assoc folder slash (place ++ (log ++ end)) ∙ ap (λ t. folder ++ t) (sym (append_assoc slash place (log ++ end))))
+    ∙ ap (λ t. before ++ t) (append_assoc (folder ++ slash ++ place) log end
+    ∙ append_assoc (folder ++ slash) place (log ++ end)
+    ∙ append_assoc folder slash (place ++ (log ++ end))
+    ∙ ap (λ t. folder ++ t) (sym (append_assoc slash place (log ++ end))))
     ∙ sym (append_assoc before folder (slash ++ place ++ (log ++ end)))
 
 pub returns-in-Given : goal.returns-in-Given
@@ -18,7 +20,8 @@ returns-in-Given g c =
 pub returns-in-Log : goal.returns-in-Log
 returns-in-Log g c =
     let said = rw (c.as_bytes-in-Log.ensures.value, c.log_in_folder.ensures) at c.write_named-in-Log.ensures in
-    let whole = regrouped c.args.before.now c.in-Log.folder.now (codes "/") (decimal c.in-Log.place) (codes ".log") (codes "\n") in
+    let whole = regrouped c.args.before.now c.in-Log.folder.now (codes "/") (decimal c.in-Log.place) (codes ".log")
+    (codes "\n") in
     let Says : List ℕ → Type 0 = λ t.
     Wrote c.write_named-in-Log.result t (g.V.Sink.state c.args.err.now) (g.V.Sink.state c.write_named-in-Log.new.err) in
     rw c.in-Log.is (subst Says (sym whole) said)

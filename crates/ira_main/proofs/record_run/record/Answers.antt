@@ -13,7 +13,12 @@ returns-in_err-clone g c =
     not_run refl (p.0, inr (run.OutOfMemory, asked_in_no_memory c.args.request.now, p.2), refl, p.1)
 
 pub returns-in_default : goal.returns-in_default
-returns-in_default g c = not_run refl (_, inr (run.OutOfMemory, asked_in_no_memory c.args.request.now, refl), refl, refl)
+returns-in_default g c = not_run refl (
+  _,
+  inr (run.OutOfMemory, asked_in_no_memory c.args.request.now, refl),
+  refl,
+  refl,
+)
 
 pub returns-in_err-write_files : goal.returns-in_err-write_files
 returns-in_err-write_files g c =
@@ -22,14 +27,18 @@ returns-in_err-write_files g c =
 pub returns-in-Ok-write_bytes : goal.returns-in-Ok-write_bytes
 returns-in-Ok-write_bytes g c =
     let text = ends_text c.args.run.now in
-    let text_is : c.bytes.result.now ≡ text = c.bytes.ensures ∙ c.in-Ok.ensures.took ∙ ap (λ (m : Memory). m.bytes ++ text) c.new-text.ensures in
-    let printed = subst (λ t. Takes t (g.W.Sink.state c.args.out.now) (g.W.Sink.state c.write_bytes.new.sink)) text_is c.in-Ok-write_bytes.ensures in
+    let text_is : c.bytes.result.now ≡ text = c.bytes.ensures ∙ c.in-Ok.ensures.took
+    ∙ ap (λ (m : Memory). m.bytes ++ text) c.new-text.ensures in
+    let printed = subst (λ t. Takes t (g.W.Sink.state c.args.out.now) (g.W.Sink.state c.write_bytes.new.sink)) text_is
+    c.in-Ok-write_bytes.ensures in
     recorded c.args.run.now c.requires (rw c.logs.ensures.value at c.in_ok-write_files.ensures)
     (inl (_, rw c.ends.ensures.value at c.of_ends.ensures, printed, refl))
 
 pub returns : goal.returns
 returns g c =
     let text = ends_text c.args.run.now in
-    let text_is : c.bytes.result.now ≡ text = c.bytes.ensures ∙ c.in-Ok.ensures.took ∙ ap (λ (m : Memory). m.bytes ++ text) c.new-text.ensures in
-    let stopped = subst (λ t. StopsIn t (g.W.Sink.state c.args.out.now) (g.W.Sink.state c.write_bytes.new.sink)) text_is c.in-Err.ensures in
+    let text_is : c.bytes.result.now ≡ text = c.bytes.ensures ∙ c.in-Ok.ensures.took
+    ∙ ap (λ (m : Memory). m.bytes ++ text) c.new-text.ensures in
+    let stopped = subst (λ t. StopsIn t (g.W.Sink.state c.args.out.now) (g.W.Sink.state c.write_bytes.new.sink))
+    text_is c.in-Err.ensures in
     recorded c.args.run.now c.requires (rw c.logs.ensures.value at c.in_ok-write_files.ensures) (inr (stopped, refl))

@@ -1,6 +1,7 @@
 use Rattle.std.proofs.Common.{◌≡◌, ◌∙◌, Err, Ok, subst, sym, true}
 use Rattle.ira_explain.specs.Printable.{IsPrintable}
-use Rattle.ira_main.proofs.RingPrinting.{no_memory_after, printed_after, ring_front, stopped_after, stopped_before, stopped_of, taken_of}
+use Rattle.ira_main.proofs.RingPrinting.{no_memory_after, printed_after, ring_front, stopped_after, stopped_before}
+use Rattle.ira_main.proofs.RingPrinting.{stopped_of, taken_of}
 use Rattle.ira_main.specs.Show.{PrintsRing}
 use Rattle.ira_main.specs.declared.program_fault.ProgramFault.TheVariants.{CannotWriteAnswer, OutOfMemory}
 use Rattle.ira_main.proofs.ring_printer.print_events.Goals as goal
@@ -41,7 +42,8 @@ returns-in-Err-Write g c =
     c.write_view.ensures in
     let u = g.W.Sink.state c.write_events.new.sink in
     subst (λ w. PrintsRing w true s u (Err CannotWriteAnswer)) same
-    (stopped_after d true s t u printable front (rw (c.in-Err-Write.is, c.in-Err-Write.field-0-is) at c.write_events.ensures))
+    (stopped_after d true s t u printable front (rw (c.in-Err-Write.is, c.in-Err-Write.field-0-is) at
+    c.write_events.ensures))
 
 pub returns-in-Err-OutOfMemory : goal.returns-in-Err-OutOfMemory
 returns-in-Err-OutOfMemory g c =
@@ -54,4 +56,5 @@ returns-in-Err-OutOfMemory g c =
     c.write_view.ensures in
     let u = g.W.Sink.state c.write_events.new.sink in
     subst (λ w. PrintsRing w true s u (Err OutOfMemory)) same
-    (no_memory_after d s t u printable front (rw (c.in-Err-OutOfMemory.is, c.in-Err-OutOfMemory.field-0-is) at c.write_events.ensures))
+    (no_memory_after d s t u printable front (rw (c.in-Err-OutOfMemory.is, c.in-Err-OutOfMemory.field-0-is) at
+    c.write_events.ensures))

@@ -8,4 +8,5 @@ pub returns-in-OfQuestion : goal.returns-in-OfQuestion
 returns-in-OfQuestion g c =
     let asked = c.in-OfQuestion.asked.question.now in
     rw c.in-OfQuestion.is
-    (reads_one g.F.TextSource.reads asked c.args.shelf.now c.read_file.result c.read_file.ensures.read c.read_file.ensures.fault)
+    (reads_one g.F.TextSource.reads asked c.args.shelf.now c.read_file.result c.read_file.ensures.read
+    c.read_file.ensures.fault)

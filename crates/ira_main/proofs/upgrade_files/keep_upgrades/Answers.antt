@@ -12,21 +12,26 @@ returns-in_err-logs g c = no_memory refl refl (search rules)
 
 pub returns-in_err-write_files : goal.returns-in_err-write_files
 returns-in_err-write_files g c =
-    let refused = err_from_is_err_and c.from_residual-in_err-write_files.result c.from_residual-in_err-write_files.ensures.1 in
+    let refused = err_from_is_err_and c.from_residual-in_err-write_files.result
+    c.from_residual-in_err-write_files.ensures.1 in
     unwritten (_, rw c.in_ok-logs.ensures at c.in_err-write_files.ensures, refl, refused.1 ∙ ap (λ f. Err f) refused.2)
 
 pub returns-in-Ok : goal.returns-in-Ok
 returns-in-Ok g c =
     let news = c.in_ok-logs.ensures in
-    let size : c.size.result ≡ length c.args.logs = c.size.ensures.value ∙ ap length news ∙ length-map c.args.logs upgraded in
+    let size : c.size.result ≡ length c.args.logs = c.size.ensures.value ∙ ap length news
+    ∙ length-map c.args.logs upgraded in
     let text_is = c.upgraded.ensures ∙ ap upgraded_line size in
-    let printed = subst (λ t. Takes t (g.W.Sink.state c.args.out.now) (g.W.Sink.state c.write.new.sink)) text_is c.in-Ok.ensures in
+    let printed = subst (λ t. Takes t (g.W.Sink.state c.args.out.now) (g.W.Sink.state c.write.new.sink)) text_is
+    c.in-Ok.ensures in
     written (rw news at c.in_ok-write_files.ensures) (inl (printed, refl))
 
 pub returns : goal.returns
 returns g c =
     let news = c.in_ok-logs.ensures in
-    let size : c.size.result ≡ length c.args.logs = c.size.ensures.value ∙ ap length news ∙ length-map c.args.logs upgraded in
+    let size : c.size.result ≡ length c.args.logs = c.size.ensures.value ∙ ap length news
+    ∙ length-map c.args.logs upgraded in
     let text_is = c.upgraded.ensures ∙ ap upgraded_line size in
-    let stopped = subst (λ t. StopsIn t (g.W.Sink.state c.args.out.now) (g.W.Sink.state c.write.new.sink)) text_is c.in-Err.ensures in
+    let stopped = subst (λ t. StopsIn t (g.W.Sink.state c.args.out.now) (g.W.Sink.state c.write.new.sink)) text_is
+    c.in-Err.ensures in
     written (rw news at c.in_ok-write_files.ensures) (inr (stopped, refl))

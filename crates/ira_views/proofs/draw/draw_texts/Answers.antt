@@ -33,4 +33,5 @@ pub returns-in-Err-No-clause-reportable : goal.returns-in-Err-No-clause-reportab
 returns-in-Err-No-clause-reportable g c =
     let texts = texts_of c.args.texts.now in
     reportable {D = DrawnRing g.row.A.Denot} {E = PictureFault} (λ ring. ring.answer) (λ ring. ring.picture)
-    (IsPictureFault texts c.args.moment) texts c.args.moment c.draw_refused.result (c.draw_refused.ensures c.args.moment)
+    (IsPictureFault texts c.args.moment) texts c.args.moment c.draw_refused.result
+    (c.draw_refused.ensures c.args.moment)

@@ -1,5 +1,5 @@
 use Rattle.std.proofs.lemmas.Result.{err_from_is_err_and}
-use Rattle.ira_views.proofs.Shown.{found_consistent, moment_refused_for}
+use Rattle.ira_views.proofs.Shown.{found_asked, found_consistent, moment_refused_for}
 use Rattle.ira_views.proofs.find_moment.find_moment.Goals as goal
 
 pub returns-in_err-reason-in-Of-clause-asked : goal.returns-in_err-reason-in-Of-clause-asked
@@ -15,6 +15,13 @@ pub returns-in-Refused-clause-asked : goal.returns-in-Refused-clause-asked
 returns-in-Refused-clause-asked g c = λ texts good.
     let both = rw c.in-Refused.is at (c.in_ok-reason-in-Of.ensures texts good.texts_are) in
     rw c.in-Of.is both
+
+pub returns-in_ok-first_met-in-Cases-clause-asked : goal.returns-in_ok-first_met-in-Cases-clause-asked
+returns-in_ok-first_met-in-Cases-clause-asked g c =
+    let all = rw c.in-Cases.is at (c.in_ok-reason-in-Of.ensures c.requires.0 c.requires.1).0 in
+    rw c.in-Of.is
+    (found_asked c.requires.0 c.args.logs.now c.in-Of.question c.in-Of.case c.in-Cases.nodes c.in-Cases.found.items
+    c.requires.1 all)
 
 pub returns-in_ok-first_met-in-Cases-clause-found : goal.returns-in_ok-first_met-in-Cases-clause-found
 returns-in_ok-first_met-in-Cases-clause-found g c =

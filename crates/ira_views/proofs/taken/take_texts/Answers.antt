@@ -14,11 +14,13 @@ loop-file-preserved g c =
     let at = text_at c.args.texts.now i _ c.loop-file-test.true in
     record {
       within = omega arith;
-      taken = subst (HasTaken c.take.new.self) (next_taken texts i _ at) (c.in_ok-take.ensures.ok (take i texts) c.loop-file.invariant.taken);
+      taken = subst (HasTaken c.take.new.self) (next_taken texts i _ at)
+          (c.in_ok-take.ensures.ok (take i texts) c.loop-file.invariant.taken);
     }
 
 pub returns : goal.returns
 returns g c =
     let texts = texts_of c.args.texts.now in
-    let all = take_all c.loop-file.file-index texts (omega (arith, length-map c.args.texts.now (λ (file : NamedText). file.text.now), c.loop-file-test.false)) in
+    let all = take_all c.loop-file.file-index texts
+    (omega (arith, length-map c.args.texts.now (λ (file : NamedText). file.text.now), c.loop-file-test.false)) in
     subst (HasTaken c.loop-file.audit) all c.loop-file.invariant.taken

@@ -15,12 +15,19 @@ returns-clause-once g c =
     let bytes = take n (drop f ys) in (
       bytes,
       e.once,
-      omega (arith, ap bytes_read c.self.view_is, length-take-le (f + n) ys e.bound, length-take-le f xs c.self.invariant.0, length-taken ys f n e.bound),
+      omega (
+        arith,
+        ap bytes_read c.self.view_is,
+        length-take-le (f + n) ys e.bound,
+        length-take-le f xs c.self.invariant.0,
+        length-taken ys f n e.bound,
+      ),
       λ text h.
           let P : InputAudit → Type 0 = λ it. HasReadText it text in
           let k = subst P (sym c.self.view_is) h in (
             k.0,
             k.1,
-            ap (λ t. t ++ bytes) k.2 ∙ append_assoc k.0 (take f xs) bytes ∙ ap (λ w. k.0 ++ w) (ap (λ w. w ++ bytes) (sym e.front) ∙ sym (take-add f n ys)),
+            ap (λ t. t ++ bytes) k.2 ∙ append_assoc k.0 (take f xs) bytes
+                ∙ ap (λ w. k.0 ++ w) (ap (λ w. w ++ bytes) (sym e.front) ∙ sym (take-add f n ys)),
           ),
     )

@@ -14,7 +14,8 @@ returns-in_err-read_into-clause-fault g c =
     let i = c.loop-self.self.read in
     let at = named_at c.args.names.now i _ c.loop-self-test.true in
     let before = c.loop-self.invariant.1 in
-    rw (p.1, p.2) (of_next g.F.TextSource.reads names i _ c.args.shelf.now before.0 _ at before.2 c.in_err-read_into.ensures.fault)
+    rw (p.1, p.2) (of_next g.F.TextSource.reads names i _ c.args.shelf.now before.0 _ at before.2
+    c.in_err-read_into.ensures.fault)
 
 pub loop-self-preserved : goal.loop-self-preserved
 loop-self-preserved g c =
@@ -23,9 +24,11 @@ loop-self-preserved g c =
     let at = named_at c.args.names.now i _ c.loop-self-test.true in
     let old = c.loop-self.self.audit in
     let new = c.take.new.self in
-    let takes = subst (λ text. (texts : List (List ℕ)) → HasTaken old texts → HasTaken new (texts ++ text ∷ [])) c.bytes.ensures c.in_ok-take.ensures.ok in
+    let takes = subst (λ text. (texts : List (List ℕ)) → HasTaken old texts → HasTaken new (texts ++ text ∷ []))
+    c.bytes.ensures c.in_ok-take.ensures.ok in
     let before = c.loop-self.invariant.1 in
     let many : length names ≡ length c.args.names.now = length-map c.args.names.now file_name in (
       omega (arith, many, c.loop-self-test.true),
-      taken_next g.F.TextSource.reads names i _ c.args.shelf.now old new c.read_into.new.text at before c.in_ok-read_into.ensures.read takes,
+      taken_next g.F.TextSource.reads names i _ c.args.shelf.now old new c.read_into.new.text at before
+          c.in_ok-read_into.ensures.read takes,
     )

@@ -1,6 +1,6 @@
 use Rattle.std.proofs.Common.{rules}
 use Rattle.ira_files.specs.Shelf.WritesFile.{unmade, stopped, closed}
-use Rattle.ira_main.proofs.cert_file.write_text.Goals as goal
+use Rattle.ira_main.proofs.text_file.write_text.Goals as goal
 
 pub returns-in_err-file : goal.returns-in_err-file
 returns-in_err-file g c = unmade _ c.in_err-file.ensures.made (search rules)
