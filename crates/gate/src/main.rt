@@ -102,6 +102,31 @@ where
         "upgrade --out=. elected/0.log elected/1.log",
     )?;
     ira(rt, input, out, "logs 0.log elected/1.log")?;
+    ira(
+        rt,
+        input,
+        out,
+        "show --leads=1 --at=1,0 elected/0.log elected/1.log",
+    )?;
+    ira(
+        rt,
+        input,
+        out,
+        "show --json --events elected/0.log elected/1.log",
+    )?;
+    ira(
+        rt,
+        input,
+        out,
+        "draw --out=ring.svg elected/0.log elected/1.log",
+    )?;
+    ira(
+        rt,
+        input,
+        out,
+        "draw --out=elected/0.log elected/0.log elected/1.log",
+    )?;
+    ira(rt, input, out, "explain --json elected/1.log elected/0.log")?;
     ira(rt, input, out, "run --nodes=5 --seed=7 --out=.")?;
     let by_threads = written(rt, 5);
     ira(rt, input, out, "run --nodes=5 --seed=7 --out=. --alone")?;

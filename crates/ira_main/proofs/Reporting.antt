@@ -1,13 +1,12 @@
 -- What is printed of answers.
 use Rattle.std.proofs.Common.{◌≡◌, ◌∙◌, ◌⊎◌, ℕ, true, List, Result, Ok, Err, ap, inl, inr, subst, sym}
-use Rattle.serde_json.specs.Data.{Data}
 use Rattle.ira_audit.specs.declared.answer.Answer.{Answer}
 use Rattle.ira_audit.specs.declared.findings.Findings.{Findings}
 use Rattle.ira_event.specs.Sink.{SinkState, Wrote, Takes, StopsIn}
 use Rattle.ira_json.specs.AnswerValue.{findings_values}
-use Rattle.ira_json.specs.Line.{AreLinesOf, IsLineOf}
+use Rattle.ira_json.specs.Line.{AreLinesOf}
 use Rattle.ira_main.specs.Decide.{IsFindingsText}
-use Rattle.ira_main.specs.Outcome.{Outcome, Prints, ReportsJson}
+use Rattle.ira_main.specs.Outcome.{Outcome, Prints, ReportsText}
 use Rattle.ira_main.specs.Status.{IsFindingsStatus, answer_status, status_number}
 use Rattle.ira_main.specs.declared.status.Status.{Status}
 
@@ -17,15 +16,15 @@ pub reported : {T E : Type 0} (r : Result T E) (text : List ℕ) (s t : SinkStat
 reported (Ok x) text s t wrote = inl wrote
 reported (Err e) text s t wrote = inr wrote
 
--- the line of a value of an answer was printed, which has the number of the answer's status
-pub json_reported : (value_of : ℕ → Answer → Data) (answer : Answer) (status : Status) (n : ℕ) (text lent : List ℕ)
-    (s t : SinkState) (outcome : Outcome) → status ≡ answer_status answer → n ≡ status_number status
-    → IsLineOf (value_of n answer) text → lent ≡ text → Prints lent status s t outcome
-    → ReportsJson value_of answer s t outcome
-json_reported value_of answer status n text lent s t outcome is number line same printed =
-    let told = subst (λ k. IsLineOf (value_of k answer) text) (number ∙ ap status_number is) line in (
+-- a text of an answer was printed, which goes with the number of the answer's status
+pub text_reported : (IsText : ℕ → Answer → List ℕ → Type 0) (answer : Answer) (status : Status) (n : ℕ)
+    (text lent : List ℕ) (s t : SinkState) (outcome : Outcome) → status ≡ answer_status answer
+    → n ≡ status_number status → IsText n answer text → lent ≡ text → Prints lent status s t outcome
+    → ReportsText IsText answer s t outcome
+text_reported IsText answer status n text lent s t outcome is number told same printed =
+    let numbered = subst (λ k. IsText k answer text) (number ∙ ap status_number is) told in (
       lent,
-      subst (IsLineOf (value_of (status_number (answer_status answer)) answer)) (sym same) told,
+      subst (IsText (status_number (answer_status answer)) answer) (sym same) numbered,
       subst (λ w. Prints lent w s t outcome) is printed,
     )
 

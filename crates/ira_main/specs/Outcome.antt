@@ -4,7 +4,6 @@ use Rattle.ira_event.specs.Sink.{SinkState, Takes, StopsIn}
 use Rattle.ira_audit.specs.Report.{report_line}
 use Rattle.ira_audit.specs.declared.answer.Answer.{Answer}
 use Rattle.ira_explain.specs.Printable.{IsPrintable}
-use Rattle.serde_json.specs.Data.{Data}
 use Rattle.ira_json.specs.AnswerValue.{answer_value}
 use Rattle.ira_json.specs.ExplainedValue.{explained_value}
 use Rattle.ira_json.specs.Line.{IsLineOf}
@@ -38,10 +37,10 @@ Prints text status out out' outcome =
 abbrev pub Reports : Answer → SinkState → SinkState → Outcome → Type 0
 Reports answer = Prints (report_line answer) (answer_status answer)
 
--- the answer was printed as the line of this value of it, which has the number of its status too
-abbrev pub ReportsJson : (ℕ → Answer → Data) → Answer → SinkState → SinkState → Outcome → Type 0
-ReportsJson value_of answer out out' outcome =
-    (text : List ℕ) × IsLineOf (value_of (status_number (answer_status answer)) answer) text
+-- the answer was printed as a text that is so related to it and to the number of its status
+abbrev pub ReportsText : (ℕ → Answer → List ℕ → Type 0) → Answer → SinkState → SinkState → Outcome → Type 0
+ReportsText IsText answer out out' outcome =
+    (text : List ℕ) × IsText (status_number (answer_status answer)) answer text
     × Prints text (answer_status answer) out out' outcome
 
 -- the line of the answer was printed, and a page of printable text after it
@@ -55,12 +54,12 @@ Telling = Answer → SinkState → SinkState → Outcome → Type 0
 
 -- an answer is printed as JSON, where that is wanted, or else as its line
 abbrev pub ReportsAs : Bool → Telling
-ReportsAs true = ReportsJson answer_value
+ReportsAs true = ReportsText (λ status answer. IsLineOf (answer_value status answer))
 ReportsAs false = Reports
 
 -- an answer is printed with its reason, as JSON, where that is wanted, or else as its line and a page
 abbrev pub ExplainsAs : Bool → Telling
-ExplainsAs true = ReportsJson explained_value
+ExplainsAs true = ReportsText (λ status answer. IsLineOf (explained_value status answer))
 ExplainsAs false = Explains
 
 -- nothing was printed, and the outcome is a fault of this kind

@@ -35,3 +35,54 @@ returns-in_default g c =
         | inr stop ↦ inr (stop.0, refl, stop.1)
       ],
     )
+
+pub returns-in-Some-2 : goal.returns-in-Some-2
+returns-in-Some-2 g c =
+    let findings = c.args.findings in
+    let status = c.of_findings-status.result in
+    let lent = c.as_bytes-2.result.now in
+    let is = findings_json findings status c.number.result (string_bytes c.in_ok-text.text) lent c.number.ensures
+    c.of_findings-status.ensures c.in_ok-text.ensures c.as_bytes-2.ensures.value in
+    let exact = unless_ok _ _ _ (c.in_ok-certificate.ensures.some c.in-Some-2.certificate) in
+    elim c.in_ok-print_text.ensures [
+      | inl took ↦
+          let made = exact.0 (ap (λ o. Ok o) c.in-Some-2.is) in
+          inl (lent, is, inl (took.0, certified _ _ made c.in-Some.is c.keep.ensures))
+      | inr stop ↦ let never = stop.1 in cc
+    ]
+
+pub returns-in-None : goal.returns-in-None
+returns-in-None g c =
+    let findings = c.args.findings in
+    let status = c.of_findings-status.result in
+    let lent = c.as_bytes-2.result.now in
+    let is = findings_json findings status c.number.result (string_bytes c.in_ok-text.text) lent c.number.ensures
+    c.of_findings-status.ensures c.in_ok-text.ensures c.as_bytes-2.ensures.value in
+    let none = c.in_ok-certificate.ensures.none.0 (ap (λ o. Ok o) c.in-None.is) in
+    elim c.in_ok-print_text.ensures [
+      | inl took ↦
+          inl (
+            lent,
+            is,
+            inl (
+              took.0,
+              refuted none refl (elim c.of_findings-status.ensures [
+                | inl no ↦ ap (λ s. Ok s) no.1
+                | inr yes ↦ absurd (yes.0 none)
+              ]),
+            ),
+          )
+      | inr stop ↦ let never = stop.1 in cc
+    ]
+
+pub returns-in_err-print_text : goal.returns-in_err-print_text
+returns-in_err-print_text g c =
+    let findings = c.args.findings in
+    let status = c.of_findings-status.result in
+    let lent = c.as_bytes-2.result.now in
+    let is = findings_json findings status c.number.result (string_bytes c.in_ok-text.text) lent c.number.ensures
+    c.of_findings-status.ensures c.in_ok-text.ensures c.as_bytes-2.ensures.value in
+    elim c.in_err-print_text.ensures [
+      | inl took ↦ let never = took.1 in cc
+      | inr stop ↦ inl (lent, is, inr (stop.0, refl, stop.1))
+    ]

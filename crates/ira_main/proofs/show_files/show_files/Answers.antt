@@ -1,8 +1,12 @@
-use Rattle.std.proofs.Common.{◌≡◌, ◌∙◌, Err, ap, inl, inr, refl, rules}
+use Rattle.std.proofs.Common.{◌≡◌, ◌∙◌, Err, ap, inl, inr, refl, rules, sym}
+use Rattle.std.proofs.lemmas.List.{length-map}
+use Rattle.std.proofs.lemmas.List.Elements.{length_all_zip}
 use Rattle.std.proofs.lemmas.Result.{err_from_is_err_and}
+use Rattle.ira_event.specs.LogText.{IsLogText}
+use Rattle.ira_explain.specs.declared.named_text.NamedText.{NamedText}
 use Rattle.ira_views.specs.Texts.{texts_of}
 use Rattle.ira_main.proofs.FilesRead.{of_back, of_front}
-use Rattle.ira_main.proofs.Showing.{shows}
+use Rattle.ira_main.proofs.Showing.{shows, shows_none}
 use Rattle.ira_main.specs.FilesRead.{names_of}
 use Rattle.ira_main.specs.Show.{moment_names, moment_texts}
 use Rattle.ira_main.specs.Show.TellsRing.{no_moment, no_place, refused, shown}
@@ -39,3 +43,62 @@ pub returns-in_err-clone-2 : goal.returns-in_err-clone-2
 returns-in_err-clone-2 g c =
     let p = err_from_is_err_and c.from_residual-in_err-clone-2.result c.from_residual-in_err-clone-2.ensures.1 in
     inl (_, c.in_ok-names.ensures, inr (OutOfMemory, inr refl, refl, p.1 ∙ ap (λ f. Err f) p.2))
+
+pub print_ring-requires : goal.print_ring-requires
+print_ring-requires g c =
+    let files = c.named.result.items in
+    let are = c.in-Ok.ensures.good.texts_are in
+    sym (length-map files (λ (file : NamedText). file.text.now)) ∙ length_all_zip IsLogText (texts_of files) _ are
+
+pub returns-in-Ok : goal.returns-in-Ok
+returns-in-Ok g c =
+    let show = c.args.show.now in
+    let same : texts_of c.deref-3.result.now ≡ c.in_ok-files.files.items = search rules in
+    let read = rw c.deref.ensures.value at c.in_ok-files.ensures in
+    elim c.print_ring.ensures [
+      | inl told ↦
+          shows g.F.TextSource.reads show _ _ _ _ _ c.in_ok-question.question c.in_ok-files.files.items
+          c.shown_moment-moment.result c.in_ok-names.ensures c.in_ok-question.ensures read
+          c.shown_moment-moment.ensures (shown c.in-Ok.ring (rw same at c.in-Ok.ensures) told)
+      | inr full ↦
+          shows_none g.F.TextSource.reads show _ _ _ _ _ OutOfMemory c.in_ok-names.ensures (inr refl) full.0 full.1
+    ]
+
+pub returns-in-Err-No : goal.returns-in-Err-No
+returns-in-Err-No g c =
+    let show = c.args.show.now in
+    let same : texts_of c.deref-3.result.now ≡ c.in_ok-files.files.items = search rules in
+    let read = rw c.deref.ensures.value at c.in_ok-files.ensures in
+    let why = rw (c.in-Err-No.field-0-is, same) at c.in-Err-No.ensures in
+    elim c.report_as.ensures [
+      | inl told ↦
+          shows g.F.TextSource.reads show _ _ _ _ _ c.in_ok-question.question c.in_ok-files.files.items
+          c.shown_moment-moment.result c.in_ok-names.ensures c.in_ok-question.ensures read
+          c.shown_moment-moment.ensures (refused c.in-Err-No.reason why told)
+      | inr full ↦
+          shows_none g.F.TextSource.reads show _ _ _ _ _ OutOfMemory c.in_ok-names.ensures (inr refl) full.0 full.1
+    ]
+
+pub returns-in-Err-Cut : goal.returns-in-Err-Cut
+returns-in-Err-Cut g c =
+    let show = c.args.show.now in
+    let same : texts_of c.deref-3.result.now ≡ c.in_ok-files.files.items = search rules in
+    let read = rw c.deref.ensures.value at c.in_ok-files.ensures in
+    let why = rw (c.in-Err-Cut.field-0-is, same) at c.in-Err-Cut.ensures in
+    shows g.F.TextSource.reads show _ _ _ _ _ c.in_ok-question.question c.in_ok-files.files.items
+    c.shown_moment-moment.result c.in_ok-names.ensures c.in_ok-question.ensures read
+    c.shown_moment-moment.ensures (no_moment why.0 c.in-Err-Cut.fault why.1 why.2 refl refl)
+
+pub returns-in-Err-Place : goal.returns-in-Err-Place
+returns-in-Err-Place g c =
+    let show = c.args.show.now in
+    let same : texts_of c.deref-3.result.now ≡ c.in_ok-files.files.items = search rules in
+    let read = rw c.deref.ensures.value at c.in_ok-files.ensures in
+    let why = rw (c.in-Err-Place.field-0-is, same) at c.in-Err-Place.ensures in
+    shows g.F.TextSource.reads show _ _ _ _ _ c.in_ok-question.question c.in_ok-files.files.items
+    c.shown_moment-moment.result c.in_ok-names.ensures c.in_ok-question.ensures read
+    c.shown_moment-moment.ensures (no_place why.0 why.2 why.1 why.3 why.4 refl refl)
+
+pub returns-in-Err-OutOfMemory : goal.returns-in-Err-OutOfMemory
+returns-in-Err-OutOfMemory g c =
+    shows_none g.F.TextSource.reads c.args.show.now _ _ _ _ _ OutOfMemory c.in_ok-names.ensures (inr refl) refl refl
