@@ -8,7 +8,7 @@ ghost use Rattle.ira_audit.specs.declared.findings.Findings.{Findings};
 
 use crate::findings_writer::write_decided_case;
 use crate::written_findings::WrittenFindings;
-use ira_cand::Profile;
+use ira_cert::Profiles;
 use ira_cert_text::{CertDraft, Section};
 use ira_elim::{Decided, StepCount, decide_into};
 use ira_event::{MemorySink, OutOfMemory, RingSize};
@@ -51,7 +51,7 @@ impl<A: Allocator + Clone> FindingsDraft<A> {
     pub(crate) fn decide_next<C: HappenedBefore>(
         &mut self,
         alloc: A,
-        profiles: &[Profile<'_, A>],
+        profiles: &Profiles<'_, '_, A>,
         ordered: &C,
         number: u64,
         case: &Case<A>,
@@ -74,7 +74,7 @@ impl<A: Allocator + Clone> FindingsDraft<A> {
     fn decide<C: HappenedBefore>(
         &mut self,
         alloc: A,
-        profiles: &[Profile<'_, A>],
+        profiles: &Profiles<'_, '_, A>,
         ordered: &C,
         case: &Case<A>,
     ) -> Result<Decided<StepCount, A>, OutOfMemory>
@@ -97,7 +97,7 @@ impl<A: Allocator + Clone> FindingsDraft<A> {
         &mut self,
         mut certificate: CertDraft<A>,
         alloc: A,
-        profiles: &[Profile<'_, A>],
+        profiles: &Profiles<'_, '_, A>,
         ordered: &C,
         case: &Case<A>,
     ) -> Result<Decided<StepCount, A>, OutOfMemory>
@@ -129,7 +129,7 @@ impl<A: Allocator + Clone> FindingsDraft<A> {
     fn decide_without<C: HappenedBefore>(
         &mut self,
         alloc: A,
-        profiles: &[Profile<'_, A>],
+        profiles: &Profiles<'_, '_, A>,
         ordered: &C,
         case: &Case<A>,
     ) -> Result<Decided<StepCount, A>, OutOfMemory>

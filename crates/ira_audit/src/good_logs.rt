@@ -19,8 +19,9 @@ use crate::findings::Findings;
 use crate::findings_draft::FindingsDraft;
 use crate::reason::Reason;
 use crate::refusal::Refusal;
-use crate::sections::{all_profiles, check_sections};
+use crate::sections::check_sections;
 use crate::written_findings::WrittenFindings;
+use ira_cert::Profiles;
 use ira_cert_text::{Certificate, read_cert};
 use ira_elim::{Found, decide_profiled};
 use ira_event::{Logs, OutOfMemory};
@@ -128,13 +129,14 @@ impl<A: Allocator + Clone> GoodLogs<A> {
         })
     }
 
-    /// What is found for each case. The states of each log are computed once, however many cases there are.
+    /// What is found for each case. The states of each log are computed once, however many cases there are, and so are
+    /// candidates that several of them ask for.
     fn decide_cases(&self, cases: &[Case<A>]) -> Result<Vec<Found<A>, A>, OutOfMemory>
         requires { (i : ℕ) (case : List Conjunct) → slice_get cases.now i ≡ Some case → HasPlacesOf self.now case }
         ensures { IfOk result (λ found. AllZip (IsFound self.now) cases.now found.items) }
     {
         let dependencies = DirectDependencies::new(self.alloc.clone()?, &self.logs)?;
-        let profiles = all_profiles(self.alloc.clone()?, &self.logs)?;
+        let profiles = Profiles::new(self.alloc.clone()?, &self.logs, cases)?;
         let mut found = Vec::with_capacity(self.alloc.clone()?, cases.len())?;
         for case in cases {
             let alloc = self.alloc.clone()?;
@@ -172,7 +174,7 @@ impl<A: Allocator + Clone> GoodLogs<A> {
             × AreDrafted (length self.now) certify found draft) }
     {
         let dependencies = DirectDependencies::new(self.alloc.clone()?, &self.logs)?;
-        let profiles = all_profiles(self.alloc.clone()?, &self.logs)?;
+        let profiles = Profiles::new(self.alloc.clone()?, &self.logs, cases)?;
         let mut draft = FindingsDraft::new(alloc, self.logs.size(), certify)?;
         for (number, case) in cases.iter().enumerate() {
             let alloc = self.alloc.clone()?;

@@ -7,9 +7,9 @@ ghost use Rattle.ira_audit.specs.Refusal.{MatchRefusal};
 
 use crate::reason::Reason;
 use crate::refusal::Refusal;
-use ira_cand::Profile;
+use ira_cert::Profiles;
 use ira_cert_text::Section;
-use ira_event::{Logs, OutOfMemory};
+use ira_event::OutOfMemory;
 use ira_links::Gate;
 use ira_order::{DirectDependencies, HappenedBefore};
 use ira_par::split_sections;
@@ -42,7 +42,7 @@ where
         (λ r. (i : ℕ) × (f : SectionFault) × (r ≡ Reason.Section i f)
         × IsFirstUnsound dependencies.now cases.now sections.now i f) }
 {
-    let profiles = all_profiles(alloc.clone()?, dependencies.logs())?;
+    let profiles = Profiles::new(alloc.clone()?, dependencies.logs(), cases)?;
     let found = split_sections(
         rt,
         alloc,
@@ -60,19 +60,4 @@ where
             fault: unsound.fault,
         })),
     }
-}
-
-/// The profile of each log.
-pub(crate) fn all_profiles<A: Allocator + Clone>(
-    alloc: A,
-    logs: &Logs<A>,
-) -> Result<Vec<Profile<'_, A>, A>, OutOfMemory>
-    ensures { IfOk result (λ profiles. profiles.items ≡ logs.now) }
-{
-    let nodes = logs.size().get();
-    let mut profiles = Vec::with_capacity(alloc.clone()?, usize::from(nodes))?;
-    for place in 0..nodes {
-        profiles.push(Profile::new(alloc.clone()?, logs.log(place))?)?;
-    }
-    Ok(profiles)
 }

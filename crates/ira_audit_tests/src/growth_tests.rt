@@ -50,6 +50,15 @@ const ASKED_OF_THREE: &[u8] = b"irask 1\nnodes 3\ncase\n0: leader\n1: leader\nen
 /// A question that asks a place which the ring hasn't.
 const PLACE_2: &[u8] = b"irask 1\nnodes 2\ncase\n0: (leader and owes)\n2: true\nend\n";
 
+/// One case twice: what it asks of a node is found once.
+const CASE_TWICE: &[u8] = b"irask 1\nnodes 2\n\
+    case\n0: leader\n1: active\n\
+    case\n0: leader\n1: active\n\
+    end\n";
+
+const CASE_TWICE_FOUND: &[u8] =
+    b"case 0: absent, 2 steps, node 1 spent\ncase 1: absent, 2 steps, node 1 spent\n";
+
 /// What is found for two cases.
 const TWO_CASES_FOUND: &[u8] = b"case 0: absent, 2 steps, node 1 spent\ncase 1: present at 2 3\n";
 
@@ -112,6 +121,7 @@ const CALLS: &[Call] = &[
         Answer::No(Reason::Question(AskFault::Place(5))),
     ),
     Call::Decide(&ELECTION, TWO_CASES, TWO_CASES_FOUND),
+    Call::Decide(&ELECTION, CASE_TWICE, CASE_TWICE_FOUND),
     Call::Decide(
         &RECEIPTS_EXCHANGED,
         TWO_CASES,

@@ -3,8 +3,10 @@ pub mod Front
 pub mod Fronts
 pub mod FrontsBehind
 pub mod Laws
+pub mod Positions
 pub mod QueueHead
 pub mod SectionFault
+pub mod SharedTable
 pub mod SoundSection
 pub mod Verdict
 pub use Rattle.ira_cert_text.specs.Certificate.{Section, Certificate}

@@ -2,14 +2,18 @@
 //! law that makes this matter.
 #![tactic(auto)]
 
+mod asked_clause;
 mod conjuncts;
 mod fronts;
 mod laws;
-mod owned_candidates;
+mod listed_candidates;
 mod plain;
+mod positions;
 mod profiled;
+mod profiles;
 mod queue_head;
 mod section_fault;
+mod shared_table;
 mod soundness;
 mod unsound;
 mod verdict;
@@ -20,9 +24,11 @@ pub use ira_cert_text::{
     CertFault, CertStep, Certificate, MAX_SECTIONS, MAX_STEPS, Section, read_cert, write_cert,
 };
 pub use laws::{a_section_has_one_verdict, sound_sections_leave_no_cut};
-pub use owned_candidates::OwnedCandidates;
+pub use listed_candidates::ListedCandidates;
 pub use plain::{Candidates, case_fronts, check_plain};
+pub use positions::Positions;
 pub use profiled::profiled_fronts;
+pub use profiles::Profiles;
 pub use queue_head::QueueHead;
 pub use section_fault::SectionFault;
 pub use soundness::judge_step;

@@ -3,20 +3,21 @@ ghost use Rattle.ira_cert.specs.Conjuncts.{HasDifferentPlaces, HasPlacesOf};
 ghost use Rattle.ira_cert.specs.Fronts.{AreFronts, AreCandidatesFor};
 
 use crate::conjuncts::map_conjuncts;
-use crate::owned_candidates::OwnedCandidates;
-use ira_cand::{Ahead, Profile};
+use crate::listed_candidates::ListedCandidates;
+use crate::profiles::Profiles;
+use ira_cand::Ahead;
 use ira_event::{OutOfMemory, RingSize};
 use ira_pred::Case;
 use std::alloc::Allocator;
 
 /// The candidates of the case, place by place, found in the profiles of the logs: of each node that it asks
 /// a list of them, of others none.
-pub fn profiled_fronts<A: Allocator + Clone>(
+pub fn profiled_fronts<'t, A: Allocator + Clone>(
     alloc: A,
     nodes: RingSize,
-    profiles: &[Profile<'_, A>],
+    profiles: &'t Profiles<'_, '_, A>,
     case: &Case<A>,
-) -> Result<Vec<Option<Ahead<OwnedCandidates<A>>>, A>, OutOfMemory>
+) -> Result<Vec<Option<Ahead<ListedCandidates<'t, A>>>, A>, OutOfMemory>
     requires nodes { length profiles.now ≡ nodes }
     requires places { HasPlacesOf profiles.now case.now }
     ensures different { OnOk result (HasDifferentPlaces case.now) }
@@ -32,8 +33,9 @@ pub fn profiled_fronts<A: Allocator + Clone>(
             ensures { IfOk result
                 (λ positions. AreCandidatesFor profiles.entry.now case.entry.now n positions) }
         {
-            let profile = &profiles[usize::from(case.place(n))];
-            Ok(Ahead::new(OwnedCandidates::new(profile.table(alloc.clone()?, case.clause(n))?)))
+            let (place, clause) = (case.place(n), case.clause(n));
+            let positions = profiles.positions(alloc.clone()?, place, clause)?;
+            Ok(Ahead::new(ListedCandidates::new(positions)))
         },
     )
 }

@@ -7,8 +7,7 @@ use crate::decided::Decided;
 use crate::elimination::decide_fronts;
 use crate::found::Found;
 use crate::step_sink::StepSink;
-use ira_cand::Profile;
-use ira_cert::{case_fronts, profiled_fronts};
+use ira_cert::{Profiles, case_fronts, profiled_fronts};
 use ira_event::{Logs, OutOfMemory};
 use ira_order::{HappenedBefore, Ordered};
 use ira_pred::Case;
@@ -37,10 +36,10 @@ pub fn decide<A: Allocator + Clone>(
 
 /// Decides a case as `decide` does, with the profiles of the logs, place by place: for many cases of the same
 /// logs no state is computed again. Of each node that the case asks it keeps a list of its candidates
-/// meanwhile.
+/// meanwhile, unless the profiles share it.
 pub fn decide_profiled<C: HappenedBefore, A: Allocator + Clone>(
     alloc: A,
-    profiles: &[Profile<'_, A>],
+    profiles: &Profiles<'_, '_, A>,
     ordered: &C,
     case: &Case<A>,
 ) -> Result<Found<A>, OutOfMemory>
@@ -55,7 +54,7 @@ pub fn decide_profiled<C: HappenedBefore, A: Allocator + Clone>(
 /// Decides a case as `decide_profiled` does. The steps go where the caller says.
 pub fn decide_into<C: HappenedBefore, A: Allocator + Clone, S: StepSink>(
     alloc: A,
-    profiles: &[Profile<'_, A>],
+    profiles: &Profiles<'_, '_, A>,
     ordered: &C,
     case: &Case<A>,
     steps: S,

@@ -46,7 +46,7 @@ pub(crate) fn count_before(steps: &[CertStep], end: usize, counts: &mut [usize])
 /// the steps before; each step that is found sound is counted, too.
 pub(crate) fn judge_range<C: HappenedBefore, A: Allocator>(
     ordered: &C,
-    tables: &[CandidateTable<A>],
+    tables: &[CandidateTable<'_, A>],
     steps: &[CertStep],
     from: usize,
     to: usize,
@@ -75,7 +75,7 @@ pub(crate) fn judge_range<C: HappenedBefore, A: Allocator>(
 
 /// What is left of the node's candidates after steps of which there are so many for each place.
 pub(crate) fn queue_head_at<A: Allocator>(
-    tables: &[CandidateTable<A>],
+    tables: &[CandidateTable<'_, A>],
     counts: &[usize],
     place: u8,
 ) -> QueueHead

@@ -46,7 +46,7 @@ impl<A: Allocator> Share<A> {
         number: usize,
         ranges: usize,
         ordered: &C,
-        tasks: &[Task<'_, A>],
+        tasks: &[Task<'_, '_, A>],
     )
         requires number { number < ranges }
         requires few { ranges ≤ 16 }

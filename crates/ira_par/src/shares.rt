@@ -22,7 +22,7 @@ pub(crate) fn judge_batch<R, G, C, A>(
     alloc: &A,
     gate: &G,
     ordered: &C,
-    tasks: &[Task<'_, A>],
+    tasks: &[Task<'_, '_, A>],
     depth: u8,
 ) -> Result<Option<UnsoundSection>, OutOfMemory>
 where
@@ -64,7 +64,7 @@ fn judge_tasks<R, G, C, A>(
     rt: &R,
     gate: &G,
     ordered: &C,
-    tasks: &[Task<'_, A>],
+    tasks: &[Task<'_, '_, A>],
     shares: &mut [Share<A>],
 ) -> Option<UnsoundSection>
 where

@@ -13,8 +13,7 @@ use crate::shares::judge_batch;
 use crate::tables::{case_tables, profiled_tables};
 use crate::task::Task;
 use crate::unsound_section::UnsoundSection;
-use ira_cand::Profile;
-use ira_cert::{Section, Verdict, case_fronts, check_fronts, profiled_fronts};
+use ira_cert::{Profiles, Section, Verdict, case_fronts, check_fronts, profiled_fronts};
 use ira_event::{Logs, OutOfMemory};
 use ira_links::Gate;
 use ira_order::{HappenedBefore, Ordered};
@@ -86,7 +85,7 @@ where
 pub fn split_sections<R, G, C, A>(
     rt: &R,
     alloc: A,
-    profiles: &[Profile<'_, A>],
+    profiles: &Profiles<'_, '_, A>,
     ordered: &C,
     cases: &[Case<A>],
     sections: &[Section<A>],
@@ -128,7 +127,7 @@ where
 fn check_one_by_one<R, G, C, A>(
     rt: &R,
     alloc: A,
-    profiles: &[Profile<'_, A>],
+    profiles: &Profiles<'_, '_, A>,
     ordered: &C,
     cases: &[Case<A>],
     sections: &[Section<A>],
@@ -157,13 +156,13 @@ where
 }
 
 /// The sections that are judged together, from this one on.
-fn next_batch<'a, A: Allocator + Clone>(
+fn next_batch<'t, 's, A: Allocator + Clone>(
     alloc: &A,
-    profiles: &[Profile<'_, A>],
+    profiles: &'t Profiles<'_, '_, A>,
     cases: &[Case<A>],
-    sections: &'a [Section<A>],
+    sections: &'s [Section<A>],
     first: usize,
-) -> Result<Vec<Task<'a, A>, A>, OutOfMemory>
+) -> Result<Vec<Task<'t, 's, A>, A>, OutOfMemory>
     requires places { (k : ℕ) (case : List Conjunct) → slice_get cases.now k ≡ Some case
         → HasPlacesOf profiles.now case }
     requires number { length sections.now ≡ length cases.now }
@@ -187,7 +186,7 @@ fn next_batch<'a, A: Allocator + Clone>(
 }
 
 /// How many tables there are, and candidates in them.
-fn entries_of<A: Allocator>(tables: &[CandidateTable<A>]) -> usize {
+fn entries_of<A: Allocator>(tables: &[CandidateTable<'_, A>]) -> usize {
     let mut count = tables.len();
     for table in tables {
         count = count.saturating_add(table.len());

@@ -4,17 +4,18 @@ ghost use Rattle.ira_cert.specs.Conjuncts.{HasDifferentPlaces, HasPlacesOf};
 ghost use Rattle.ira_par.specs.CandidateTable.{IsTableFor, IsListAt, AreTables, AreBelow};
 
 use crate::candidate_table::CandidateTable;
-use ira_cand::{Profile, table};
+use ira_cand::table;
+use ira_cert::{Positions, Profiles};
 use ira_event::{Logs, OutOfMemory};
 use ira_pred::Case;
 use std::alloc::Allocator;
 
 /// The candidates of the case, found in the logs.
-pub(crate) fn case_tables<A: Allocator + Clone>(
+pub(crate) fn case_tables<'t, A: Allocator + Clone>(
     alloc: A,
     logs: &Logs<A>,
     case: &Case<A>,
-) -> Result<Vec<CandidateTable<A>, A>, OutOfMemory>
+) -> Result<Vec<CandidateTable<'t, A>, A>, OutOfMemory>
     requires places { HasPlacesOf logs.now case.now }
     ensures different { OnOk result (HasDifferentPlaces case.now) }
     ensures places { IfOk result (λ tables. AreBelow (length logs.now) tables.items) }
@@ -29,17 +30,17 @@ pub(crate) fn case_tables<A: Allocator + Clone>(
         {
             let place = case.place(n);
             let positions = table(alloc.clone()?, logs.log(place), case.clause(n))?;
-            Ok(CandidateTable::new(place, positions))
+            Ok(CandidateTable::new(place, Positions::own(positions)))
         },
     )
 }
 
 /// The candidates of the case, found in the profiles of the logs.
-pub(crate) fn profiled_tables<A: Allocator + Clone>(
+pub(crate) fn profiled_tables<'t, A: Allocator + Clone>(
     alloc: A,
-    profiles: &[Profile<'_, A>],
+    profiles: &'t Profiles<'_, '_, A>,
     case: &Case<A>,
-) -> Result<Vec<CandidateTable<A>, A>, OutOfMemory>
+) -> Result<Vec<CandidateTable<'t, A>, A>, OutOfMemory>
     requires places { HasPlacesOf profiles.now case.now }
     ensures different { OnOk result (HasDifferentPlaces case.now) }
     ensures places { IfOk result (λ tables. AreBelow (length profiles.now) tables.items) }
@@ -53,7 +54,7 @@ pub(crate) fn profiled_tables<A: Allocator + Clone>(
             ensures { IfOk result (IsTableFor profiles.entry.now case.entry.now n) }
         {
             let place = case.place(n);
-            let positions = profiles[usize::from(place)].table(alloc.clone()?, case.clause(n))?;
+            let positions = profiles.positions(alloc.clone()?, place, case.clause(n))?;
             Ok(CandidateTable::new(place, positions))
         },
     )
@@ -81,10 +82,10 @@ where
 }
 
 /// The table of the place, if there is one.
-pub(crate) fn table_at<A: Allocator>(
-    tables: &[CandidateTable<A>],
+pub(crate) fn table_at<'t, 'p, A: Allocator>(
+    tables: &'t [CandidateTable<'p, A>],
     place: u8,
-) -> Option<&CandidateTable<A>>
+) -> Option<&'t CandidateTable<'p, A>>
     ensures { MatchOption result ((positions : List ℕ) → ¬ (IsListAt tables.now place positions))
         (λ table. IsListAt tables.now place table.now.positions) }
 {

@@ -11,12 +11,12 @@ use std::marker::Model;
 
 /// A section that is to be judged, and the candidates of its case.
 #[derive(Drop)]
-pub(crate) struct Task<'a, A: Allocator> {
-    pub(crate) tables: Vec<CandidateTable<A>, A>,
-    pub(crate) section: &'a Section<A>,
+pub(crate) struct Task<'t, 's, A: Allocator> {
+    pub(crate) tables: Vec<CandidateTable<'t, A>, A>,
+    pub(crate) section: &'s Section<A>,
 }
 
-impl<'a, A: Allocator> Model for Task<'a, A> {
+impl<'t, 's, A: Allocator> Model for Task<'t, 's, A> {
     ghost use Rattle.ira_par.specs.Task.{Task};
 
     ghost Value = { Task };
@@ -24,7 +24,7 @@ impl<'a, A: Allocator> Model for Task<'a, A> {
     ghost view = { λ t. record { tables = t.tables.items; section = t.section.now } };
 }
 
-impl<'a, A: Allocator> Task<'a, A> {
+impl<'t, 's, A: Allocator> Task<'t, 's, A> {
     /// What is found in the range of this number: its first step that isn't sound, or at the end of the last
     /// one that the node isn't spent. The steps before the range, which are taken for sound, are counted in
     /// the room for counts.

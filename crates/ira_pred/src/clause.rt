@@ -105,6 +105,32 @@ impl<A: Allocator> Clause<A> {
             Clause::Negated(a) => !a.holds(state),
         }
     }
+
+    /// Whether both are the same, part by part.
+    pub fn is_same_as(&self, other: &Clause<A>) -> bool
+        ensures { IsTrue result ↔ (formula self.now ≡ formula other.now) }
+    {
+        match self {
+            Clause::Always => matches!(other, Clause::Always),
+            Clause::Leader => matches!(other, Clause::Leader),
+            Clause::Active => matches!(other, Clause::Active),
+            Clause::Passive => matches!(other, Clause::Passive),
+            Clause::Choosing => matches!(other, Clause::Choosing),
+            Clause::Yielding => matches!(other, Clause::Yielding),
+            Clause::Owes => matches!(other, Clause::Owes),
+            Clause::Round(rel, n) => matches!(other, Clause::Round(r, m) if r == rel && m == n),
+            Clause::Id(rel, n) => matches!(other, Clause::Id(r, m) if r == rel && m == n),
+            Clause::Term(rel, n) => matches!(other, Clause::Term(r, m) if r == rel && m == n),
+            Clause::Both(a, b) => {
+                matches!(other, Clause::Both(c, d) if a.is_same_as(c) && b.is_same_as(d))
+            }
+            Clause::Either(a, b) => {
+                matches!(other, Clause::Either(c, d) if a.is_same_as(c) && b.is_same_as(d))
+            }
+            Clause::Negated(a) => matches!(other, Clause::Negated(b) if a.is_same_as(b)),
+        }
+    }
+
     /// Whether it compares a round or a term, of which a log may have as many as it has events. Any other clause tells no
     /// more states apart than there are IDs, and a few for the phases without one.
     pub fn names_round_or_term(&self) -> bool

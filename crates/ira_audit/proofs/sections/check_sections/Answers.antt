@@ -1,5 +1,5 @@
 use Rattle.std.proofs.Common.{◌≡◌, ◌<◌, ◌∙◌, ℕ, zero, suc, List, [], ◌∷◌, Option, Some, None, length, slice_get, take}
-use Rattle.std.proofs.Common.{refl, sym, ap, subst, arith}
+use Rattle.std.proofs.Common.{refl, sym, subst, arith}
 use Rattle.std.specs.List.{AllZip}
 use Rattle.std.proofs.lemmas.List.{take_all}
 use Rattle.ira_event.specs.Log.{Log}
@@ -41,16 +41,14 @@ all_sound logs cases sections number before =
 
 pub split_sections-requires-clause-places : goal.split_sections-requires-clause-places
 split_sections-requires-clause-places g c κs within = λ k case at.
-    let same : c.deref.result.now ≡ c.args.dependencies.now =
-    c.deref.ensures.value ∙ c.in_ok-profiles.ensures ∙ c.logs.ensures in
+    let same : c.in_ok-profiles.profiles ≡ c.args.dependencies.now = c.in_ok-profiles.ensures ∙ c.logs.ensures in
     subst (λ (ls : List Log). HasPlacesOf ls case) (sym same) (c.requires.places k case at)
 
 pub returns-in-None : goal.returns-in-None
 returns-in-None g c =
-    let same : c.deref.result.now ≡ c.args.dependencies.now =
-    c.deref.ensures.value ∙ c.in_ok-profiles.ensures ∙ c.logs.ensures in
-    let all : IsFound c.deref.result.now c.args.cases.now c.args.sections.now None =
-    subst (λ (f : Option UnsoundSection). IsFound c.deref.result.now c.args.cases.now c.args.sections.now f)
+    let same : c.in_ok-profiles.profiles ≡ c.args.dependencies.now = c.in_ok-profiles.ensures ∙ c.logs.ensures in
+    let all : IsFound c.in_ok-profiles.profiles c.args.cases.now c.args.sections.now None =
+    subst (λ (f : Option UnsoundSection). IsFound c.in_ok-profiles.profiles c.args.cases.now c.args.sections.now f)
     c.in-None.is c.in_ok-found.ensures in
     all_sound c.args.dependencies.now c.args.cases.now c.args.sections.now c.requires.number
     (subst (λ (ls : List Log). AreSoundBefore (length c.args.sections.now) ls c.args.cases.now c.args.sections.now) same
@@ -58,11 +56,10 @@ returns-in-None g c =
 
 pub returns : goal.returns
 returns g c =
-    let same : c.deref.result.now ≡ c.args.dependencies.now =
-    c.deref.ensures.value ∙ c.in_ok-profiles.ensures ∙ c.logs.ensures in
+    let same : c.in_ok-profiles.profiles ≡ c.args.dependencies.now = c.in_ok-profiles.ensures ∙ c.logs.ensures in
     let unsound = c.in-Some.unsound in
-    let there : IsFound c.deref.result.now c.args.cases.now c.args.sections.now (Some unsound) =
-    subst (λ (f : Option UnsoundSection). IsFound c.deref.result.now c.args.cases.now c.args.sections.now f)
+    let there : IsFound c.in_ok-profiles.profiles c.args.cases.now c.args.sections.now (Some unsound) =
+    subst (λ (f : Option UnsoundSection). IsFound c.in_ok-profiles.profiles c.args.cases.now c.args.sections.now f)
     c.in-Some.is c.in_ok-found.ensures in
     let first = subst (λ (ls : List Log). IsFirstUnsoundSection ls c.args.cases.now c.args.sections.now unsound.section
     unsound.fault) same there in (

@@ -13,7 +13,7 @@ loop-case-preserved g c =
     let case = c.case-item.result in
     let found = c.in_ok-decide_profiled.field-0 in
     let at = slice_get_read cases (length cases) c.loop-case.case-index case refl (search rules) c.case-item.is in
-    let same : c.deref.result.now ≡ logs = c.deref.ensures.value ∙ (c.in_ok-profiles.ensures ∙ c.self.view_is) in
+    let same : c.in_ok-profiles.profiles ≡ logs = c.in_ok-profiles.ensures ∙ c.self.view_is in
     let is = subst (λ (ls : List Log). IsFound ls case found) same c.in_ok-decide_profiled.ensures in
     rw (c.in_ok-push.ensures.items, ← next_taken cases c.loop-case.case-index case at)
     (zipped_more (IsFound logs) _ _ case found c.loop-case.invariant is)

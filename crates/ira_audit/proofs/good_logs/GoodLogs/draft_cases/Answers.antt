@@ -1,4 +1,4 @@
-use Rattle.std.proofs.Common.{◌≡◌, ◌≤◌, ◌++◌, ◌∷◌, [], ℕ, List, length, take, refl, subst, sym, ap, ◌∙◌, arith, rules}
+use Rattle.std.proofs.Common.{◌≡◌, ◌++◌, ◌∷◌, [], ℕ, List, length, take, refl, subst, ap, ◌∙◌, arith}
 use Rattle.std.specs.List.{AllZip}
 use Rattle.std.proofs.lemmas.List.{length-take-le, take_all}
 use Rattle.std.proofs.lemmas.Option.{slice_get_read}
@@ -25,7 +25,7 @@ loop-number-preserved g c =
     let case = c.index-cases-number.result in
     let within = c.loop-number-test.true in
     let at = slice_get_read cases (length cases) i case refl within c.index-cases-number.is in
-    let same : c.deref.result.now ≡ logs = c.deref.ensures.value ∙ (c.in_ok-profiles.ensures ∙ c.self.view_is) in
+    let same : c.in_ok-profiles.profiles ≡ logs = c.in_ok-profiles.ensures ∙ c.self.view_is in
     let counted : length so_far.0 ≡ i =
     as_many (IsFound logs) (take i cases) so_far.0 so_far.1 ∙ length-take-le i cases (omega (arith, within)) in
     let next = c.in_ok-decide_next.ensures (length logs) c.args.certify so_far.0 counted so_far.2 in

@@ -10,7 +10,7 @@ use Rattle.ira_cert.specs.Conjuncts.{HasDifferentPlaces}
 use Rattle.ira_cert.specs.QueueHead.{IsQueueHead}
 use Rattle.ira_cert.specs.SoundSection.{AreSoundSteps}
 use Rattle.ira_par.specs.Ranges.{begin_of, IsRangeFault}
-use Rattle.ira_par.specs.CandidateTable.{CandidateTable, AreTables}
+use Rattle.ira_par.specs.CandidateTable.{CandidateTable, AreBelow, AreTables}
 use Rattle.ira_par.specs.Task.{Task, IsFoundInRange}
 use Rattle.ira_par.proofs.Begins.{begin_within, begins_rise}
 use Rattle.ira_par.proofs.Verdicts.{before_range, range_of, step_found, none_found, spent_found, unspent_found}
@@ -37,6 +37,23 @@ judge_range-requires-clause-range g c =
         begin_within steps c.args.ranges some (c.args.number + 1) (omega (arith, c.requires.number)),
       ),
     )
+
+pub judge_range-requires-clause-places : goal.judge_range-requires-clause-places
+judge_range-requires-clause-places g c =
+    let logs = g.C.HappenedBefore.logs_of c.args.ordered.now in
+    let tables : c.as_slice-tables.result.now ≡ c.args.self.now.tables =
+    c.as_slice-tables.ensures.value ∙ ap (λ (t : Task). t.tables) c.self.view_is in
+    subst (λ (ts : List CandidateTable). AreBelow (length logs) ts) (sym tables) c.requires.places
+
+pub queue_head_at-requires : goal.queue_head_at-requires
+queue_head_at-requires g c =
+    let logs = g.C.HappenedBefore.logs_of c.args.ordered.now in
+    let tables : c.as_slice-tables.result.now ≡ c.args.self.now.tables =
+    c.as_slice-tables.ensures.value ∙ ap (λ (t : Task). t.tables) c.self.view_is in
+    let room : length c.judge_range.new.counts ≡ length logs =
+    c.judge_range.ensures.places ∙ (c.count_before.ensures.places ∙ c.requires.room) in
+    subst (λ (ts : List CandidateTable). AreBelow (length c.judge_range.new.counts) ts) (sym tables)
+    (subst (λ (n : ℕ). AreBelow n c.args.self.now.tables) (sym room) c.requires.places)
 
 -- the steps are the section's
 steps_are : (g : _) (c : After-judge_range g) → c.as_slice-steps.result.now ≡ c.args.self.now.section.steps

@@ -1,38 +1,39 @@
 ghost use Rattle.std.specs.Prelude.{◌≡◌};
 ghost use Rattle.std.specs.Iterator.{YieldsFirst, item_count};
 
+use crate::positions::Positions;
 use ira_event::Listed;
 use std::alloc::Allocator;
 use std::marker::Model;
 
-/// The positions of a list that it owns; seen by contracts as the list of those that are left.
+/// The positions of a list, one after the other; seen by contracts as the list of those that are left.
 #[derive(Drop)]
-pub struct OwnedCandidates<A: Allocator> {
-    positions: Vec<u32, A>,
+pub struct ListedCandidates<'t, A: Allocator> {
+    positions: Positions<'t, A>,
     given: usize,
 }
 
-impl<A: Allocator> Model for OwnedCandidates<A> {
+impl<'t, A: Allocator> Model for ListedCandidates<'t, A> {
     ghost use Rattle.std.specs.Prelude.{List, ℕ, drop};
 
     ghost Value = { List ℕ };
 
-    ghost view = { λ k. drop k.given k.positions.items };
+    ghost view = { λ k. drop k.given k.positions };
 }
 
-impl<A: Allocator> OwnedCandidates<A> {
+impl<'t, A: Allocator> ListedCandidates<'t, A> {
     /// All positions of the list.
-    pub(crate) fn new(positions: Vec<u32, A>) -> OwnedCandidates<A>
-        ensures { result ≡ positions.items }
+    pub(crate) fn new(positions: Positions<'t, A>) -> ListedCandidates<'t, A>
+        ensures { result ≡ positions.entry }
     {
-        OwnedCandidates {
+        ListedCandidates {
             positions,
             given: 0,
         }
     }
 }
 
-impl<A: Allocator> Iterator for OwnedCandidates<A> {
+impl<'t, A: Allocator> Iterator for ListedCandidates<'t, A> {
     type Item = u32;
 
     ghost next_gives = { YieldsFirst (λ p. p) };
@@ -40,13 +41,13 @@ impl<A: Allocator> Iterator for OwnedCandidates<A> {
     ghost remaining = { item_count (λ p. p) };
 
     fn next(&mut self) -> Option<u32> {
-        let first = *self.positions.get(self.given)?;
+        let first = *self.positions.as_slice().get(self.given)?;
         self.given += 1;
         Some(first)
     }
 }
 
-impl<A: Allocator> Listed for OwnedCandidates<A> {
+impl<'t, A: Allocator> Listed for ListedCandidates<'t, A> {
     ghost use Rattle.std.specs.Prelude.{refl};
 
     ghost left = { λ p. p };
