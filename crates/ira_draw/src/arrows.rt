@@ -3,7 +3,7 @@ use crate::stroke::{LINES, Line, Stroke, TIPS};
 use ira_event::Load;
 use ira_picture::{Arrow, Passage, Picture};
 use std::alloc::Allocator;
-use std::fmt;
+use std::fmt::{self, Write};
 
 /// How far the end is of an arrow that nobody receives.
 const STUB: u64 = 30;
@@ -139,7 +139,30 @@ fn place_of_words(arrow: &Arrow, grid: &Grid) -> Option<(u64, u64)> {
     }
 }
 
-/// What the arrows carry, where there is room beside them.
+/// How many bytes were written.
+#[derive(Clone, Copy)]
+struct Length(u64);
+
+impl fmt::Write for Length {
+    fn write_str(&mut self, text: &str) -> fmt::Result {
+        self.0 = self.0.saturating_add(text.len() as u64);
+        Ok(())
+    }
+}
+
+/// A box of the background's colour below words in the middle of which this place is.
+fn write_box<W: fmt::Write>(out: &mut W, words: ShortWords, x: u64, y: u64) -> fmt::Result {
+    let mut length = Length(0);
+    write!(length, "{words}")?;
+    let width = length.0.saturating_mul(6).saturating_add(6);
+    let (left, top) = (x.saturating_sub(width / 2), y.saturating_sub(10));
+    write!(
+        out,
+        "<rect class=\"bg\" x=\"{left}\" y=\"{top}\" width=\"{width}\" height=\"13\" rx=\"2\"/>"
+    )
+}
+
+/// What the arrows carry, where there is room beside them: above boxes, so that no line goes through the words.
 fn write_words<A: Allocator, W: fmt::Write>(
     out: &mut W,
     picture: &Picture<A>,
@@ -149,6 +172,11 @@ fn write_words<A: Allocator, W: fmt::Write>(
         return Ok(());
     }
     out.write_str("<g class=\"l\">")?;
+    for arrow in &picture.arrows {
+        if let Some((x, y)) = place_of_words(arrow, grid) {
+            write_box(out, ShortWords(arrow.load), x, y)?;
+        }
+    }
     for arrow in &picture.arrows {
         if let Some((x, y)) = place_of_words(arrow, grid) {
             write!(

@@ -1,6 +1,6 @@
 ghost use Rattle.std.specs.Prelude.{◌<◌};
 
-use crate::grid::{Grid, TOP};
+use crate::grid::{Grid, LEFT, TOP};
 use crate::headline::{write_description, write_heading, write_summary};
 use crate::objection::Objection;
 use crate::style::{DARK, LIGHT, MARKERS, SHAPES, TERM_SHAPES};
@@ -98,7 +98,7 @@ fn has_tick(grid: &Grid, column: u32) -> bool {
     column > 0 && column % tick_step(grid) == 0
 }
 
-/// The lines of columns, and their numbers.
+/// The lines of columns, and their numbers with their name.
 pub(crate) fn write_columns<W: fmt::Write>(out: &mut W, grid: &Grid) -> fmt::Result {
     let (top, low, below) = (TOP - 20, grid.foot() + 18, grid.foot() + 38);
     out.write_str("<path class=\"g\" d=\"")?;
@@ -114,6 +114,11 @@ pub(crate) fn write_columns<W: fmt::Write>(out: &mut W, grid: &Grid) -> fmt::Res
     if ticks == 0 {
         return Ok(());
     }
+    let left = LEFT - 20;
+    write!(
+        out,
+        "<text class=\"s cl\" x=\"{left}\" y=\"{below}\">column</text>"
+    )?;
     for column in grid.first..=grid.last {
         if has_tick(grid, column) {
             let x = grid.x(column);

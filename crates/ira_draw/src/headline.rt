@@ -71,7 +71,7 @@ fn sentence(objection: Option<Objection>) -> &'static str {
             ". Thick broken arrows join what is not the same message; the ringed receipt is the first such."
         }
         Some(Objection::Circle) => {
-            ". Each ringed receipt waits for a sending after the next one: the thick arrows run back."
+            ". Each ringed receipt waits for a sending that comes after the ringed receipt of its sender."
         }
         Some(Objection::Node(_)) => {
             ". The ringed event has no step; after it the states are unknown."

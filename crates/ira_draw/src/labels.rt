@@ -50,24 +50,50 @@ fn place_of_pairs(grid: &Grid, place: u8) -> u64 {
     }
 }
 
-/// Under which ID a node is active, where each such time begins.
+/// Under which ID a node is active, above a column.
+fn write_pair<W: fmt::Write>(
+    out: &mut W,
+    grid: &Grid,
+    pair: Pair,
+    column: u32,
+    y: u64,
+) -> fmt::Result {
+    let class = if grid.lane_height < 34 { "q" } else { "k" };
+    let x = grid.x(column);
+    write!(
+        out,
+        "<text class=\"{class}\" x=\"{x}\" y=\"{y}\">{pair}</text>\n"
+    )
+}
+
+/// Whether the first event that is drawn is at the first column, and changes under which ID the node is active.
+fn changes_at_first<A: Allocator>(grid: &Grid, lane: &Lane<A>) -> bool {
+    match lane.marks.first() {
+        Some(mark) if mark.column == grid.first => active_pair(mark.after)
+            != active_pair(lane.start),
+        _ => false,
+    }
+}
+
+/// Under which ID a node is active, where each such time begins, or the picture where it began before.
 fn write_pairs<A: Allocator, W: fmt::Write>(
     out: &mut W,
     grid: &Grid,
     lane: &Lane<A>,
     y: u64,
 ) -> fmt::Result {
-    let class = if grid.lane_height < 34 { "q" } else { "k" };
     let mut before = active_pair(lane.start);
+    match before {
+        Some(pair) if !changes_at_first(grid, lane) => {
+            write_pair(out, grid, pair, grid.first, y)?;
+        }
+        _ => {}
+    }
     for mark in &lane.marks {
         let after = active_pair(mark.after);
         if let Some(pair) = after {
             if before != after {
-                let x = grid.x(mark.column);
-                write!(
-                    out,
-                    "<text class=\"{class}\" x=\"{x}\" y=\"{y}\">{pair}</text>\n"
-                )?;
+                write_pair(out, grid, pair, mark.column, y)?;
             }
         }
         before = after;
@@ -115,7 +141,11 @@ fn write_end<A: Allocator, W: fmt::Write>(
     if is_passive && owed.is_none() && !is_stopped {
         return Ok(());
     }
-    let class = if is_passive { " class=\"s\"" } else { "" };
+    let class = if is_passive && !is_stopped {
+        " class=\"s\""
+    } else {
+        ""
+    };
     let (x, y) = (grid.edge() + 12, grid.y(row) + 4);
     let words = EndWords {
         end: lane.end,

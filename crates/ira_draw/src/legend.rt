@@ -2,7 +2,8 @@ use crate::arrows::has_stroke;
 use crate::grid::{Grid, LEFT};
 use crate::lanes::Shown;
 use crate::stroke::{LINES, Line, Stroke, TIPS, Tip};
-use ira_picture::{BandKind, Picture};
+use ira_event::Event;
+use ira_picture::{BandKind, Lane, Picture};
 use std::alloc::Allocator;
 use std::fmt;
 
@@ -11,6 +12,12 @@ use std::fmt;
 enum Sample {
     Band(Shown),
     Arrow(Stroke),
+    /// A mark of an event that isn't a draw.
+    Dot,
+    /// A mark of a draw.
+    Square,
+    /// The lane of node 0 below the last one.
+    SecondLane,
 }
 
 /// An entry of the legend, and how wide it is.
@@ -37,14 +44,24 @@ const fn arrow(line: Line, tip: Tip, words: &'static str, width: u64) -> Entry {
     }
 }
 
+const fn mark(sample: Sample, words: &'static str, width: u64) -> Entry {
+    Entry {
+        sample,
+        words,
+        width,
+    }
+}
+
 /// All that may be explained, in its order.
-fn entries(has_terms: bool) -> [Entry; 13] {
+fn entries(has_terms: bool) -> [Entry; 16] {
     let (active, width) = if has_terms {
         ("active, as term/round:ID", 198)
     } else {
         ("active, as round:ID", 168)
     };
     [
+        mark(Sample::Dot, "event", 92),
+        mark(Sample::Square, "draw", 88),
         band(BandKind::Choosing, "choosing", 108),
         band(BandKind::Active, active, width),
         band(BandKind::Passive, "passive", 98),
@@ -60,8 +77,9 @@ fn entries(has_terms: bool) -> [Entry; 13] {
         arrow(Line::Reset, Tip::Head, "reset", 88),
         arrow(Line::Clean, Tip::Cross, "dropped", 104),
         arrow(Line::Clean, Tip::Circle, "not received", 124),
-        arrow(Line::Lap, Tip::Head, "the lap that elected the leader", 220),
-        band(BandKind::Unknown, "no state", 100),
+        arrow(Line::Lap, Tip::Head, "the lap that elected the leader", 264),
+        band(BandKind::Unknown, "no state", 108),
+        mark(Sample::SecondLane, "node 0 once more", 176),
     ]
 }
 
@@ -110,10 +128,20 @@ fn has_line<A: Allocator>(picture: &Picture<A>, line: Line) -> bool {
     TIPS.iter().any(|tip| has_arrow(picture, line, *tip))
 }
 
+/// Whether an event of a lane is drawn that is a draw, or one that isn't.
+fn has_mark<A: Allocator>(lane: &Lane<A>, is_draw: bool) -> bool {
+    lane.marks
+        .iter()
+        .any(|mark| matches!(mark.event, Event::Draw(_)) == is_draw)
+}
+
 /// Whether the picture has what the entry explains.
 fn is_used<A: Allocator>(picture: &Picture<A>, sample: Sample) -> bool {
     match sample {
         Sample::Band(shown) => picture.lanes.iter().any(|lane| shown.is_in(lane)),
+        Sample::Dot => picture.lanes.iter().any(|lane| has_mark(lane, false)),
+        Sample::Square => picture.lanes.iter().any(|lane| has_mark(lane, true)),
+        Sample::SecondLane => picture.lanes.len() > 2,
         Sample::Arrow(
             Stroke {
                 line: Line::Clean,
@@ -148,16 +176,27 @@ fn write_entry<W: fmt::Write>(out: &mut W, entry: &Entry, x: u64, y: u64) -> fmt
         x.saturating_add(30),
         x.saturating_add(38),
     );
+    let middle = x.saturating_add(15);
     match entry.sample {
-        Sample::Band(shown) => write!(out, "<path class=\"{}\"", shown.class())?,
+        Sample::Band(shown) => write!(
+            out,
+            "<path class=\"{}\" d=\"M{x} {line}H{end}\"/>",
+            shown.class()
+        )?,
         Sample::Arrow(stroke) => {
             write!(out, "<path class=\"{}\"", stroke.line.class())?;
             if let Some(marker) = stroke.marker() {
                 write!(out, " marker-end=\"url(#{marker})\"")?;
             }
+            write!(out, " d=\"M{x} {line}H{end}\"/>")?;
         }
+        Sample::Dot => write!(out, "<path class=\"j\" d=\"M{middle} {line}h0\"/>")?,
+        Sample::Square => write!(out, "<path class=\"j d\" d=\"M{middle} {line}h0\"/>")?,
+        Sample::SecondLane => write!(
+            out,
+            "<g opacity=\".4\"><path class=\"p\" d=\"M{x} {line}H{end}\"/><path class=\"j\" d=\"M{middle} {line}h0\"/></g>"
+        )?,
     }
-    write!(out, " d=\"M{x} {line}H{end}\"/>")?;
     if let Sample::Arrow(
         Stroke {
             line: Line::Reset,

@@ -4,10 +4,12 @@ use std::fmt;
 pub(crate) const SHAPES: &str = concat!(
     "text{font:12px system-ui,sans-serif}.t{font-size:15px;font-weight:600}.n{text-anchor:end}",
     ".k{text-anchor:middle}.q{font-size:10px;text-anchor:middle}",
-    ".l text{font-size:11px;text-anchor:middle;paint-order:stroke;stroke-width:4px}path{fill:none}",
+    ".l text{font-size:11px;text-anchor:middle}.cl{font-size:10px;text-anchor:end}path{fill:none}",
     ".c{stroke-width:12}.a{stroke-width:12}.p{stroke-width:4}.w{stroke-width:18}",
     ".u{stroke-width:1;stroke-dasharray:2 3}.o{stroke-width:3}",
     ".e path{stroke-width:7;stroke-linecap:round}.e .d{stroke-linecap:square}",
+    ".j{stroke-width:7;stroke-linecap:round}.j.d{stroke-linecap:square}",
+    ".bt{paint-order:stroke;stroke-width:4px;stroke-linejoin:round}",
     ".e path:hover{stroke-width:14}.m{stroke-width:1.2}.b{stroke-width:2}.z{stroke-width:2.5}",
     ".y{stroke-dasharray:5 3}.h{stroke-width:2}.r{stroke-width:2}.f{opacity:.55}",
 );
@@ -103,17 +105,14 @@ impl fmt::Display for Palette {
             f,
             "text{{fill:{ink}}}.s,.q{{fill:{mute}}}.bg{{fill:{background}}}.g{{stroke:{grid}}}"
         )?;
+        write!(f, ".c{{stroke:{choosing}}}.a{{stroke:{active}}}")?;
         write!(
             f,
-            ".l text{{stroke:{background}}}.c{{stroke:{choosing}}}.a{{stroke:{active}}}"
+            ".p{{stroke:{passive}}}.w{{stroke:{leader}}}.u{{stroke:{mute}}}.o,.e,.j{{stroke:{ink}}}"
         )?;
         write!(
             f,
-            ".p{{stroke:{passive}}}.w{{stroke:{leader}}}.u{{stroke:{mute}}}.o,.e{{stroke:{ink}}}"
-        )?;
-        write!(
-            f,
-            ".m{{stroke:{message}}}.z{{stroke:{leader}}}.b{{stroke:{named}}}.bt{{fill:{named}}}"
+            ".m{{stroke:{message}}}.z{{stroke:{leader}}}.b{{stroke:{named}}}.bt{{fill:{named};stroke:{background}}}"
         )?;
         write!(
             f,

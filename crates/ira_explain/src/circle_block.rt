@@ -36,7 +36,7 @@ fn add_stuck<A: Allocator + Copy>(
     )?;
     let sender = format!(in alloc; "is sent by node {}", sending.place)?;
     let sent = format!(in alloc;
-        "{}:{}, behind its line {}",
+        "{}:{}, after its line {}",
         file_of(files, sending.place),
         line_of(sending.position),
         stuck_line(stuck, sending.place)
@@ -67,7 +67,7 @@ pub(crate) fn explain_circle<A: Allocator + Copy, P: Allocator>(
     evidence: &CircleEvidence<A>,
 ) -> Result<(), OutOfMemory> {
     page.paragraph(
-        "Each of these receipts waits for a sending that its sender made only behind its own such receipt:",
+        "Each of these receipts waits for a sending that its sender made only after its own such receipt:",
     )?;
     page.blank()?;
     let mut table = Table::new(alloc);

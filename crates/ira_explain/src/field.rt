@@ -34,6 +34,17 @@ impl Field {
         }
     }
 
+    /// Its name in a sentence.
+    pub(crate) fn noun(self) -> &'static str {
+        match self {
+            Field::Round => "round",
+            Field::Id => "ID",
+            Field::Hop => "hop",
+            Field::Bit => "bit",
+            Field::Count => "count",
+        }
+    }
+
     /// Several of it.
     pub(crate) fn plural(self) -> &'static str {
         match self {

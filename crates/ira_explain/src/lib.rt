@@ -3,6 +3,7 @@
 
 mod carets;
 mod circle_block;
+mod difference;
 mod event_words;
 mod explain;
 mod field;

@@ -2,18 +2,19 @@ ghost use Rattle.std.specs.Prelude.{◌<◌, length};
 ghost use Rattle.ira_order.specs.MatchFault.{IsMatchFault};
 
 use crate::carets::carets_below;
+use crate::field::Field;
 use crate::link_cause::LinkCause;
-use crate::link_sides::LinkSides;
+use crate::link_sides::{LinkSides, is_raised};
 use crate::load_words::LoadWords;
 use crate::named_text::NamedText;
 use crate::number_of::NumberOf;
 use crate::ordinal::Ordinal;
 use crate::page::{Mark, Page, shown_width};
-use crate::places::{file_of, line_of, next_place};
+use crate::places::{event_at, file_of, line_of, next_place};
 use crate::state_words::StateWords;
 use crate::table::{Row, Table};
-use ira_event::{Load, Logs, NodeLog, OutOfMemory};
-use ira_evidence::{Exchange, LinkEvidence, nth_receipt, nth_sending};
+use ira_event::{Event, Load, Logs, NodeLog, OutOfMemory};
+use ira_evidence::{EventAt, Exchange, LinkEvidence, nth_receipt, nth_sending};
 use ira_node::{NodeState, Phase};
 use ira_order::MatchFault;
 use ira_replay::{States, replay};
@@ -271,7 +272,7 @@ fn cause_words<A: Allocator>(
             )
         }
         LinkCause::Lost => format!(in alloc;
-            "from receipt {k} on each is the sending behind its own: sending {k} was lost, or its receipt is not recorded."
+            "from receipt {k} on each is the sending after its own: sending {k} was lost, or its receipt is not recorded."
         ),
         LinkCause::CameTwice => {
             let before = k.saturating_sub(1);
@@ -294,6 +295,29 @@ fn cause_words<A: Allocator>(
                  recorded; and further on it may be so again."
             )
         }
+        LinkCause::HopOfOneSide => format!(in alloc;
+            "only the hop differs: one side records it before it is raised, the other after."
+        ),
+        LinkCause::SentUnraised => format!(in alloc;
+            "node {link} records its sendings before the hop is raised: by its log it sends on with the hop of the receipt. \
+             Record a message as it was put on the link."
+        ),
+        LinkCause::RoundAndId => format!(in alloc;
+            "round and ID are exchanged in each row that differs: their order is ROUND ID HOP BIT."
+        ),
+        LinkCause::EachBit => format!(in alloc;
+            "only the bit differs, in every row: one side means the contrary by it. `clean` is \"unique so far\"."
+        ),
+        LinkCause::EachField(field) => {
+            let noun = field.noun();
+            format!(in alloc;
+                "in each row that differs it is the {noun} alone: one side records another {noun} than crosses the link."
+            )
+        }
+        LinkCause::OneField(field) => format!(in alloc;
+            "only the {} of this message differs: the link changed it, or one side recorded it wrongly.",
+            field.noun()
+        ),
         LinkCause::Bit => format!(in alloc;
             "only the bit differs: the link changed it, or one side records it after a change."
         ),
@@ -303,6 +327,55 @@ fn cause_words<A: Allocator>(
         ),
     };
     Ok(words?)
+}
+
+/// Whether two loads are alike but for the bit.
+fn have_one_hop(one: Load, other: Load) -> bool {
+    match (one, other) {
+        (Load::Msg(one), Load::Msg(other)) => {
+            (one.round, one.id, one.hop) == (other.round, other.id, other.hop)
+        }
+        (Load::Reset(one), Load::Reset(other)) => one == other,
+        _ => false,
+    }
+}
+
+/// Whether an event is a sending with the hop of the receipt before it, and else of the same, too.
+fn is_sent_unraised<A: Allocator>(logs: &Logs<A>, at: EventAt) -> bool {
+    let before = EventAt {
+        place: at.place,
+        position: at.position.saturating_sub(1),
+    };
+    match (event_at(logs, before), event_at(logs, at)) {
+        (Some(Event::Got(received)), Some(Event::Sent(sent))) => have_one_hop(received, sent),
+        _ => false,
+    }
+}
+
+/// The cause where the logs of both nodes are looked at: which of them has a sending with the hop of its receipt.
+fn cause_by_logs<A: Allocator>(
+    logs: &Logs<A>,
+    evidence: LinkEvidence,
+    cause: LinkCause,
+) -> LinkCause {
+    let LinkEvidence { receipt, sending } = evidence;
+    let Some(sending) = sending else {
+        return cause;
+    };
+    if !is_raised(receipt.load, sending.load) || !is_sent_unraised(logs, sending.at) {
+        return cause;
+    }
+    let passed_on = EventAt {
+        place: receipt.at.place,
+        position: receipt.at.position.saturating_add(1),
+    };
+    let is_by_both = is_sent_unraised(logs, passed_on);
+    match cause {
+        LinkCause::HopRaised if is_by_both => LinkCause::HopOfOneSide,
+        LinkCause::HopRaised | LinkCause::HopOfOneSide | LinkCause::OneField(Field::Hop)
+            if !is_by_both => { LinkCause::SentUnraised }
+        _ => cause,
+    }
 }
 
 /// Tells what both sides of a link have in common where a receipt isn't of the load of its sending.
@@ -329,6 +402,7 @@ fn explain_differs<A: Allocator + Copy, P: Allocator>(
             sending.load,
         )?;
     }
+    let cause = cause_by_logs(logs, evidence, cause);
     page.hint(cause_words(alloc, files, evidence.receipt.load, cause)?.as_str())
 }
 

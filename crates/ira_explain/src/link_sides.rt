@@ -1,3 +1,5 @@
+use crate::difference::Difference;
+use crate::field::Field;
 use crate::link_cause::LinkCause;
 use ira_event::{Event, Load, Msg, NodeLog, OutOfMemory};
 use std::alloc::Allocator;
@@ -78,6 +80,43 @@ impl<A: Allocator> LinkSides<A> {
         }
     }
 
+    /// How those receipts differ from their sendings that do, as far as these differ alike, and how many they are.
+    fn differences(&self) -> (Difference, usize) {
+        let (mut common, mut count) = (Difference::Nothing, 0usize);
+        for (receipt, sending) in self.received.iter().zip(self.sent.iter()) {
+            let difference = Difference::of(*receipt, *sending);
+            if difference != Difference::Nothing {
+                common = common.and(difference);
+                count = count.saturating_add(1);
+            }
+        }
+        (common, count)
+    }
+
+    /// What a difference comes from that all receipts have which aren't their sendings, where these are several or one
+    /// among others, and none lacks its sending.
+    fn field_cause(&self) -> Option<LinkCause> {
+        let receipts = self.received.len();
+        let (common, count) = self.differences();
+        let is_one = count == 1 && receipts > 1;
+        let is_each = count == receipts;
+        if receipts > self.sent.len() || count < 2 && !is_one {
+            return None;
+        }
+        match common {
+            Difference::RaisedHop | Difference::OneField(Field::Hop) if is_one => {
+                Some(LinkCause::OneField(Field::Hop))
+            }
+            Difference::RaisedHop => Some(LinkCause::HopOfOneSide),
+            Difference::OneField(Field::Bit) if is_each => Some(LinkCause::EachBit),
+            Difference::OneField(Field::Bit) => Some(LinkCause::Bit),
+            Difference::OneField(field) if is_one => Some(LinkCause::OneField(field)),
+            Difference::OneField(field) => Some(LinkCause::EachField(field)),
+            Difference::RoundAndId if !is_one => Some(LinkCause::RoundAndId),
+            _ => None,
+        }
+    }
+
     /// What the receipts from number `k` on and the sendings have in common, the first that holds. Receipt `k` isn't of
     /// the load of sending `k`.
     pub(crate) fn cause(&self, k: u32) -> Option<LinkCause> {
@@ -93,6 +132,8 @@ impl<A: Allocator> LinkSides<A> {
             Some(LinkCause::Lost)
         } else if k > 1 && self.go_on_alike(passed, k - 2) {
             Some(LinkCause::CameTwice)
+        } else if let Some(cause) = self.field_cause() {
+            Some(cause)
         } else if self.sent.get(k) == Some(&receipt) {
             Some(LinkCause::Skipped)
         } else if k > 1 && self.sent.get(k - 2) == Some(&receipt) {
@@ -108,7 +149,7 @@ impl<A: Allocator> LinkSides<A> {
 }
 
 /// Whether the receipt is the sending with its hop raised by one.
-fn is_raised(receipt: Load, sending: Load) -> bool {
+pub(crate) fn is_raised(receipt: Load, sending: Load) -> bool {
     match (receipt, sending) {
         (Load::Msg(receipt), Load::Msg(sending)) => {
             receipt

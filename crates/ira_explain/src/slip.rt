@@ -75,7 +75,7 @@ impl Slip {
             }
             Slip::Tab => "a tab: fields are parted by one space.",
             Slip::EmptyLine => {
-                "an empty line: each line behind the head is a record or the end line."
+                "an empty line: each line after the head is a record or the end line."
             }
             Slip::SpaceAtEnd => "a space at the end of the line.",
             Slip::TwoSpaces => "two spaces: fields are parted by one.",

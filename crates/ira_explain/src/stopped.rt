@@ -1,7 +1,11 @@
+ghost use Rattle.std.specs.Prelude.{◌≡◌};
+ghost use Rattle.ira_node.specs.NodeStep.{NodeStep};
+ghost use Rattle.ira_node.specs.declared.node_state.NodeState.{NodeState};
+
 use crate::load_words::LoadWords;
 use crate::places::{event_of, line_of};
 use crate::rule::Rule;
-use ira_event::{Event, Load, Msg, NodeLog, OutOfMemory};
+use ira_event::{Event, Load, Msg, NodeLog, OutOfMemory, RingSize};
 use ira_evidence::NodeEvidence;
 use ira_node::{NodeState, Phase, StepFault};
 use std::alloc::Allocator;
@@ -19,6 +23,10 @@ pub(crate) struct Stopped {
     last: Option<(NodeState, Event)>,
     /// The event after it.
     next: Option<Event>,
+    /// What the node would owe after that one, did it come in place of the event.
+    called: Option<Load>,
+    /// Where the log first has a sending that begins clean.
+    first_clean: Option<u32>,
 }
 
 impl Stopped {
@@ -41,6 +49,8 @@ impl Stopped {
             state: *state,
             last,
             next: event_of(log, position.saturating_add(1)),
+            called: called_for(log, *state, position.saturating_add(1)),
+            first_clean: first_clean_start(log),
         })
     }
 
@@ -163,7 +173,7 @@ impl Stopped {
             (StepFault::NotOwed, Event::Sent(sent), _) => return self.sending_cause(alloc, sent),
             (StepFault::NotChoosing, _, Phase::Yielding) => {
                 format!(in alloc;
-                    "its reset is not back yet: the node draws behind `recv reset {nodes}`."
+                    "its reset is not back yet: the node draws after `recv reset {nodes}`."
                 )
             }
             (StepFault::NotChoosing, _, _) if self.position == 1 => {
@@ -173,7 +183,7 @@ impl Stopped {
                 format!(in alloc; "a node that a message woke has `start passive` on line 4.")
             }
             (StepFault::MustDraw, _, _) if self.state.term > 1 => {
-                format!(in alloc; "behind a reset each node draws, initiator or not.")
+                format!(in alloc; "after a reset each node draws, initiator or not.")
             }
             (StepFault::DrawRange, _, _) => {
                 format!(in alloc; "IDs are 1 to N, and N is {nodes} (line 2).")
@@ -199,7 +209,7 @@ impl Stopped {
                 {
                     let line = line_of(self.position.saturating_add(1));
                     format!(in alloc;
-                        "the receipt by which it leads stands behind the yield, on line {line}: record it as soon as the \
+                        "the receipt by which it leads stands after the yield, on line {line}: record it as soon as the \
                      message is taken."
                     )
                 }
@@ -223,20 +233,53 @@ impl Stopped {
         self.next == Some(Event::Got(Load::Msg(home)))
     }
 
+    /// What a node may have done that sent one load and owed another.
+    fn debt_cause(&self, sent: Load, owed: Load) -> Option<&'static str> {
+        match (sent, owed) {
+            (Load::Msg(sent), Load::Msg(owed)) => self.message_cause(sent, owed),
+            (Load::Reset(sent), Load::Reset(owed)) => hop_cause(sent, owed),
+            _ => None,
+        }
+    }
+
+    fn message_cause(&self, sent: Msg, owed: Msg) -> Option<&'static str> {
+        if (sent.round, sent.id) != (owed.round, owed.id) {
+            return None;
+        }
+        if sent.dirty == owed.dirty {
+            return hop_cause(sent.hop, owed.hop);
+        }
+        match (sent.hop, owed.hop, self.first_clean) {
+            (1, 1, None) => Some("the bit means the contrary: `clean` is \"unique so far\"."),
+            (1, 1, Some(first)) if first < self.position => {
+                Some("the bit was kept from an earlier round: each own message starts clean.")
+            }
+            (hop, due, _) if hop == due => Some("only the bit differs."),
+            _ => None,
+        }
+    }
+
     /// What a sending that isn't owed may come from.
     fn sending_cause<A: Allocator>(
         &self,
         alloc: A,
         sent: Load,
     ) -> Result<Option<String<A>>, OutOfMemory> {
+        if self.called == Some(sent) {
+            let line = line_of(self.position.saturating_add(1));
+            return Ok(Some(format!(in alloc;
+                "the receipt on line {line} calls for this sending, and is recorded after it: record a message as soon as it is \
+                 taken."
+            )?));
+        }
         let words = match (self.state.owed, self.state.phase, sent) {
-            (Some(owed), _, _) => match debt_cause(sent, owed) {
+            (Some(owed), _, _) => match self.debt_cause(sent, owed) {
                 Some(words) => String::from_str(alloc, words),
                 None => return Ok(None),
             },
             (None, Phase::Choosing { .. }, Load::Msg(Msg { id, hop: 1, .. })) => {
                 format!(in alloc;
-                    "a draw of {id} may not be recorded, or stands behind its sending."
+                    "a draw of {id} may not be recorded, or stands after its sending."
                 )
             }
             (None, Phase::Choosing { .. }, Load::Reset(_)) => {
@@ -268,27 +311,43 @@ fn debt_rule((before, event): (NodeState, Event)) -> Option<Rule> {
     }
 }
 
-/// What a node may have done that sent one load and owed another.
-fn debt_cause(sent: Load, owed: Load) -> Option<&'static str> {
-    match (sent, owed) {
-        (Load::Msg(sent), Load::Msg(owed)) => message_cause(sent, owed),
-        (Load::Reset(sent), Load::Reset(owed)) => hop_cause(sent, owed),
+/// What a node in this state owes after an event, in a ring of so many nodes.
+fn owed_after(nodes: RingSize, state: NodeState, event: Event) -> Option<Load>
+    ensures { (t : NodeState) → NodeStep nodes state event t → result ≡ t.owed }
+{
+    match state.step(nodes, &event) {
+        Ok(after) => after.owed,
+        Err(_) => None,
+    }
+}
+
+/// What a node in this state would owe after the event of this number, where that is a receipt.
+fn called_for<A: Allocator>(log: &NodeLog<A>, state: NodeState, position: u32) -> Option<Load> {
+    match event_of(log, position) {
+        Some(event @ Event::Got(_)) => owed_after(log.nodes(), state, event),
         _ => None,
     }
 }
 
-fn message_cause(sent: Msg, owed: Msg) -> Option<&'static str> {
-    if (sent.round, sent.id) != (owed.round, owed.id) {
-        return None;
+/// The first sending of a log with hop 1 that is clean.
+fn first_clean_start<A: Allocator>(log: &NodeLog<A>) -> Option<u32> {
+    let mut position = 0u32;
+    for event in log.events() {
+        position = position.saturating_add(1);
+        if let Event::Sent(
+            Load::Msg(
+                Msg {
+                    hop: 1,
+                    dirty: false,
+                    ..
+                },
+            ),
+        ) = event
+        {
+            return Some(position);
+        }
     }
-    if sent.dirty == owed.dirty {
-        return hop_cause(sent.hop, owed.hop);
-    }
-    match (sent.hop, owed.hop) {
-        (1, 1) => Some("the bit means the contrary: `clean` is \"unique so far\"."),
-        (hop, due) if hop == due => Some("only the bit differs."),
-        _ => None,
-    }
+    None
 }
 
 fn hop_cause(sent: u32, owed: u32) -> Option<&'static str> {

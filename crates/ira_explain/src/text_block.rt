@@ -130,6 +130,9 @@ fn explain_range<A: Allocator + Clone>(
     if !stop.is_zero {
         return Ok(());
     }
+    if file.line(number).starts_with(b"draw ") {
+        return add_hint(page, "IDs count from 1: draw 1 to N.");
+    }
     let fields = stop.field.plural();
     let hint = format!(in alloc;
         "{fields} count from 1: add 1 to each, on both ends of the link."
@@ -164,16 +167,30 @@ fn explain_cut<A: Allocator + Clone>(
         page.point(file, whole, 0, file.line(whole).len())?;
         page.words(" the last line; `end ")?;
         page.number(records as u64)?;
-        page.words("` is due behind it")?;
+        page.words("` is due after it")?;
     } else {
         page.point(file, whole.saturating_add(1), piece.len(), piece.len())?;
         page.words(" a line feed is due here")?;
     }
     page.end()?;
+    if is_end_line(piece, records) {
+        return add_hint(page, "only the line feed is missing.");
+    }
     let hint = format!(in alloc;
         "a crash, or a file that was not closed. What stands in it up to its last whole line may be kept: take an incomplete line away and add the line `end {records}`."
     )?;
     add_hint(page, &hint)
+}
+
+/// Whether a piece is the end line of so many records without its line feed.
+fn is_end_line(piece: &[u8], records: usize) -> bool {
+    match skip_word(piece, b"end ") {
+        Some(number) => match take_number(number) {
+            Some((count, rest)) => count as usize == records && rest.is_empty(),
+            None => false,
+        },
+        None => false,
+    }
 }
 
 /// How many records stand in front of the first line that is none.
@@ -255,7 +272,7 @@ fn explain_trailing<A: Allocator>(
     let end = count_records(file) + 5;
     let line = file.line(end + 1);
     page.point(file, end + 1, 0, line.len())?;
-    page.words(" nothing stands behind the end line (line ")?;
+    page.words(" nothing stands after the end line (line ")?;
     page.number(end as u64)?;
     page.words(")")?;
     page.end()?;

@@ -127,7 +127,7 @@ fn add_state<A: Allocator + Copy, P: Allocator>(
     let position = progress.events;
     match event_at(logs, EventAt { place, position }) {
         Some(event) => {
-            page.words("behind ")?;
+            page.words("after ")?;
             page.place(file_of(files, place), line_of(position))?;
             page.words(format!(in alloc; ": {}", EventWords(event))?.as_str())?;
         }

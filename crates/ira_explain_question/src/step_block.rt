@@ -277,7 +277,7 @@ fn explain_order<A: Allocator + Copy, P: Allocator>(
     if pos as usize >= logs.log(node).len() {
         return page.paragraph(format!(in alloc;
             "State {pos} of node {node} is its last one: no event leads on from it, so nothing can have happened \
-                 behind it."
+                 after it."
         )?
         .as_str());
     }
@@ -374,7 +374,7 @@ fn add_states<A: Allocator + Copy, P: Allocator>(
         page.begin(Mark::Plain)?;
         page.words("  state ")?;
         page.number(u64::from(*position))?;
-        page.words(", behind ")?;
+        page.words(", after ")?;
         page.place(file, line_of(*position))?;
         add_state(alloc, page, logs, place, *position)?;
         page.end()?;

@@ -160,7 +160,7 @@ pub(crate) fn explain_cut<A: Allocator>(
     let whole = file.whole_lines();
     let piece = file.line(whole.saturating_add(1));
     if piece.is_empty() {
-        point_line(page, file, whole, "the last line; `end` is due behind it")
+        point_line(page, file, whole, "the last line; `end` is due after it")
     } else {
         point_due(
             page,
@@ -182,7 +182,7 @@ pub(crate) fn explain_trailing<A: Allocator>(
     };
     let number = end.saturating_add(1);
     page.point(file, number, 0, file.line(number).len())?;
-    page.words(" nothing stands behind the end line (line ")?;
+    page.words(" nothing stands after the end line (line ")?;
     page.number(end as u64)?;
     page.words(")")?;
     page.end()

@@ -88,8 +88,8 @@ const CASES: &[Case] = &[
         out: "case 0: absent, 2 steps, node 1 spent\ncase 1: present at 2 3\n\n  \
               case 1 (0: active, 1: passive)\n    \
               Of the moments that meet it this is the first: each other is there or later at every node.\n    \
-              node 0  asked active   is active in round 1 with ID 2, behind 0.log:6: send 1 2 1 clean\n    \
-              node 1  asked passive  is passive, owes 1 2 2 clean, behind 1.log:7: recv 1 2 1 clean\n    \
+              node 0  asked active   is active in round 1 with ID 2, after 0.log:6: send 1 2 1 clean\n    \
+              node 1  asked passive  is passive, owes 1 2 2 clean, after 1.log:7: recv 1 2 1 clean\n    \
               On their way: 1 1 1 clean from node 1.\n    \
               The way there: ira show --events --question two --case 1 LOG..\n",
         err: "",

@@ -202,7 +202,7 @@ fn explain_command<'a>(alloc: Global) -> Result<Command<'a>, AllocError>
     ensures { IfOk result (λ c. app_of c ≡ explain_app) }
 {
     let question = "The file with a question: what `decide` finds is explained";
-    let case = "The case of the question to explain, from 0; all if not given";
+    let case = "The case of the question to explain, from 0; the first 8 if not given";
     let certificate = "The file with a certificate: the answer of `check` is explained";
     Command::new(alloc, "explain")
         .about("Judges logs, or one log on standard input, and says why the answer is so")
