@@ -14,7 +14,8 @@ use Rattle.ira_show.specs.Showed.{OfPrintable}
 use Rattle.ira_main.specs.Outcome.{Outcome}
 use Rattle.ira_main.specs.Show.{PrintsRing, PrintsRingLines, ring_text}
 use Rattle.ira_main.specs.Show.PrintsRing.{no_memory, printed, stopped}
-use Rattle.ira_main.specs.Show.PrintsRingLines as lines
+use Rattle.ira_main.specs.Show.PrintsRingLines.{no_memory as no_memory_in_lines, printed as printed_lines}
+use Rattle.ira_main.specs.Show.PrintsRingLines.{stopped as stopped_lines}
 use Rattle.ira_main.specs.Status.{IsLeadsStatus, status_number}
 use Rattle.ira_main.specs.declared.program_fault.ProgramFault.TheVariants.{CannotWriteAnswer, OutOfMemory}
 use Rattle.ira_main.specs.declared.status.Status.{Status}
@@ -77,13 +78,13 @@ stopped_after d has_events s t u p front more =
 pub lines_printed : (d : List ℕ) (status : Status) (n : ℕ) (s t : SinkState) → n ≡ status_number status
     → IsLeadsStatus d status → OfRingText n (λ text. Takes text s t) → PrintsRingLines d s t (Ok status)
 lines_printed d status n s t number is took =
-    lines.printed took.0 status is (subst (λ k. IsRingText k took.0) number took.1) took.2 refl
+    printed_lines took.0 status is (subst (λ k. IsRingText k took.0) number took.1) took.2 refl
 
 -- the sink failed among them
 pub lines_stopped : (d : List ℕ) (status : Status) (n : ℕ) (s t : SinkState) → n ≡ status_number status
     → IsLeadsStatus d status → OfRingText n (λ text. StopsIn text s t) → PrintsRingLines d s t (Err CannotWriteAnswer)
 lines_stopped d status n s t number is stop =
-    lines.stopped stop.0 status is (subst (λ k. IsRingText k stop.0) number stop.1) stop.2 refl
+    stopped_lines stop.0 status is (subst (λ k. IsRingText k stop.0) number stop.1) stop.2 refl
 
 -- memory ran out before them, or among them
 pub lines_no_memory : (d : List ℕ) (status : Status) (n : ℕ) (s t : SinkState) → n ≡ status_number status
@@ -91,4 +92,4 @@ pub lines_no_memory : (d : List ℕ) (status : Status) (n : ℕ) (s t : SinkStat
     → PrintsRingLines d s t (Err OutOfMemory) ⊎ ((t ≡ s) × (◌≡◌ {A = Outcome} (Err OutOfMemory) (Err OutOfMemory)))
 lines_no_memory d status n s t number is (inl none) = inr (none, refl)
 lines_no_memory d status n s t number is (inr took) =
-    inl (lines.no_memory took.0 status is (subst (λ k. IsRingText k took.0) number took.1) took.2 refl)
+    inl (no_memory_in_lines took.0 status is (subst (λ k. IsRingText k took.0) number took.1) took.2 refl)

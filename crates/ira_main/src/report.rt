@@ -46,10 +46,10 @@ pub(crate) fn report_as<'a, W: Sink>(
     ensures { ReportsAs is_json answer.now (W.state out.old) (W.state out.new) result
         ⊎ ((W.state out.new ≡ W.state out.old) × (result ≡ Err OutOfMemory)) }
 {
-    if !is_json {
-        return report(answer, out);
+    if is_json {
+        let status = Status::of_answer(answer);
+        let line = answer_line(alloc, answer, status.number())?;
+        return print_text(line.as_bytes(), status, out);
     }
-    let status = Status::of_answer(answer);
-    let line = answer_line(alloc, answer, status.number())?;
-    print_text(line.as_bytes(), status, out)
+    report(answer, out)
 }

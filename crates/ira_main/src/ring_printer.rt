@@ -3,6 +3,7 @@ ghost use Rattle.ira_main.specs.Show.{PrintsRing, PrintsRingAs, PrintsRingLines}
 ghost use Rattle.ira_main.specs.declared.program_fault.ProgramFault.TheVariants.{OutOfMemory};
 
 use crate::program_fault::ProgramFault;
+use crate::show_files::named_leaders;
 use crate::status::Status;
 use crate::view_printer::write_view;
 use ira_audit::Answer;
@@ -69,7 +70,7 @@ fn print_json<'a, A: Allocator + Clone, W: Sink>(
     let status = Status::of_differences(ring.differences().text());
     let answer = ShownAnswer {
         status: status.number(),
-        named: show.leads.as_ref().map(|places| places.as_slice()),
+        named: named_leaders(show),
     };
     match ring.write_json(global, alloc, files, answer, show.has_events, out) {
         Ok(()) => Ok(status),

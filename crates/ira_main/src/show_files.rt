@@ -52,6 +52,16 @@ pub(crate) fn shown_moment<'t, A: Allocator>(
     }
 }
 
+/// The places of the nodes that are to lead, if some are named.
+pub(crate) fn named_leaders<'t>(show: &'t ShowRequest<'_>) -> Option<&'t [u64]>
+    ensures { option_map (λ named. named.now) result ≡ option_map (λ places. places.items) show.now.leads }
+{
+    match &show.leads {
+        Some(places) => Some(places.as_slice()),
+        None => None,
+    }
+}
+
 /// Judges the logs of this source together, and shows the ring at the moment that is asked for. The text of a question is
 /// read first, and all of them are before anything is judged.
 pub(crate) fn show_files<'a, R, A, F, W>(
@@ -73,8 +83,7 @@ where
     let files = read_named(&alloc, &names, shelf)?;
     let named = named_texts(alloc.clone()?, &files)?;
     let moment = shown_moment(&show.moment, &question);
-    let leads = show.leads.as_ref().map(|places| places.as_slice());
-    match show_texts(rt, alloc.clone()?, &named, moment, leads) {
+    match show_texts(rt, alloc.clone()?, &named, moment, named_leaders(show)) {
         Ok(ring) => print_ring(rt.alloc(), alloc, &ring, &named, show, out),
         Err(RingFault::No(reason)) => report_as(rt.alloc(), show.is_json, &Answer::No(reason), out),
         Err(RingFault::Cut(fault)) => Err(ProgramFault::NoMoment(fault)),

@@ -57,12 +57,12 @@ pub(crate) fn print_view<'a, A: Allocator, W: Sink>(
     ensures { ExplainsAs is_json view.now.answer (W.state out.old) (W.state out.new) result
         ⊎ ((W.state out.new ≡ W.state out.old) × (result ≡ Err OutOfMemory)) }
 {
-    if !is_json {
-        return print_page(view, out);
+    if is_json {
+        let status = Status::of_answer(&view.answer);
+        let line = explained_line(alloc, &view.answer, status.number())?;
+        return print_text(line.as_bytes(), status, out);
     }
-    let status = Status::of_answer(&view.answer);
-    let line = explained_line(alloc, &view.answer, status.number())?;
-    print_text(line.as_bytes(), status, out)
+    print_page(view, out)
 }
 
 // Writes the lines of findings, and the page after them.
@@ -75,8 +75,9 @@ fn write_findings_view<A: Allocator, W: Sink>(
     ensures wrote { Wrote result (findings_text view.now.findings ++ view.now.page) (W.state sink.old) (W.state sink.new) }
     ensures printable { IsPrintable view.now.page }
 {
+    let page = view.page.text();
     write_findings(&view.findings, sink)?;
-    write_bytes(view.page.text(), sink)
+    write_bytes(page, sink)
 }
 
 // The status of findings whose lines were printed with the page after them. They are put together first, since the output
@@ -109,10 +110,10 @@ pub(crate) fn print_findings_view<'a, A: Allocator + Clone, W: Sink>(
     ensures { ExplainsFindings is_json (W.state out.old) (W.state out.new) result view.now.findings
         ⊎ ((W.state out.new ≡ W.state out.old) × (result ≡ Err OutOfMemory)) }
 {
-    if !is_json {
-        return print_findings_page(alloc, view, out);
+    if is_json {
+        let status = Status::of_findings(&view.findings);
+        let lines = findings_lines(text, &view.findings, status.number())?;
+        return print_text(lines.as_bytes(), status, out);
     }
-    let status = Status::of_findings(&view.findings);
-    let lines = findings_lines(text, &view.findings, status.number())?;
-    print_text(lines.as_bytes(), status, out)
+    print_findings_page(alloc, view, out)
 }

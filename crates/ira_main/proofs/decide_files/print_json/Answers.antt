@@ -1,4 +1,5 @@
-use Rattle.std.proofs.Common.{◌≡◌, ◌∙◌, None, Ok, Option, Some, ap, inl, inr, List, ℕ, refl, string_bytes}
+use Rattle.std.proofs.Common.{◌≡◌, ◌∙◌, Err, None, Ok, Option, Some, ap, inl, inr, List, ℕ, refl, string_bytes}
+use Rattle.std.proofs.lemmas.Result.{err_from_is_err_and}
 use Rattle.std.specs.Borrow.{Bor}
 use Rattle.ira_audit.specs.declared.findings.Findings.{Findings}
 use Rattle.ira_event.proofs.Unless.{unless_ok}
@@ -15,9 +16,10 @@ use Rattle.ira_main.proofs.decide_files.print_json.Goals as goal
 kept_nowhere : {A S : Type 0} (writes : Writing S) (findings : Findings A) (name : Option (Bor (List ℕ))) (s : S)
     (status : Status) (outcome : Outcome) → name ≡ None → IsFindingsStatus findings status → outcome ≡ Ok status
     → KeepsFindings writes findings name s s outcome
-kept_nowhere writes findings name s status outcome none (inl no) is = refuted no.0 refl (is ∙ ap (λ t. Ok t) no.1)
-kept_nowhere writes findings name s status outcome none (inr yes) is =
-    absent yes.0 none refl (is ∙ ap (λ t. Ok t) yes.1)
+kept_nowhere writes findings name s status outcome none (inl refused) is =
+    refuted refused.0 refl (is ∙ ap (λ t. Ok t) refused.1)
+kept_nowhere writes findings name s status outcome none (inr found) is =
+    absent found.0 none refl (is ∙ ap (λ t. Ok t) found.1)
 
 pub returns-in_default : goal.returns-in_default
 returns-in_default g c =
@@ -36,23 +38,23 @@ returns-in_default g c =
       ],
     )
 
-pub returns-in-Some-2 : goal.returns-in-Some-2
-returns-in-Some-2 g c =
+pub returns-in-Some-certificate : goal.returns-in-Some-certificate
+returns-in-Some-certificate g c =
     let findings = c.args.findings in
     let status = c.of_findings-status.result in
     let lent = c.as_bytes-2.result.now in
     let is = findings_json findings status c.number.result (string_bytes c.in_ok-text.text) lent c.number.ensures
     c.of_findings-status.ensures c.in_ok-text.ensures c.as_bytes-2.ensures.value in
-    let exact = unless_ok _ _ _ (c.in_ok-certificate.ensures.some c.in-Some-2.certificate) in
+    let exact = unless_ok _ _ _ (c.in_ok-certificate.ensures.some c.in-Some-certificate.certificate) in
     elim c.in_ok-print_text.ensures [
       | inl took ↦
-          let made = exact.0 (ap (λ o. Ok o) c.in-Some-2.is) in
+          let made = exact.0 (ap (λ o. Ok o) c.in-Some-certificate.is) in
           inl (lent, is, inl (took.0, certified _ _ made c.in-Some.is c.keep.ensures))
       | inr stop ↦ let never = stop.1 in cc
     ]
 
-pub returns-in-None : goal.returns-in-None
-returns-in-None g c =
+pub returns : goal.returns
+returns g c =
     let findings = c.args.findings in
     let status = c.of_findings-status.result in
     let lent = c.as_bytes-2.result.now in
@@ -67,8 +69,8 @@ returns-in-None g c =
             inl (
               took.0,
               refuted none refl (elim c.of_findings-status.ensures [
-                | inl no ↦ ap (λ s. Ok s) no.1
-                | inr yes ↦ absurd (yes.0 none)
+                | inl refused ↦ ap (λ s. Ok s) refused.1
+                | inr found ↦ absurd (found.0 none)
               ]),
             ),
           )
@@ -82,7 +84,8 @@ returns-in_err-print_text g c =
     let lent = c.as_bytes-2.result.now in
     let is = findings_json findings status c.number.result (string_bytes c.in_ok-text.text) lent c.number.ensures
     c.of_findings-status.ensures c.in_ok-text.ensures c.as_bytes-2.ensures.value in
+    let p = err_from_is_err_and c.from_residual-in_err-print_text.result c.from_residual-in_err-print_text.ensures.1 in
     elim c.in_err-print_text.ensures [
       | inl took ↦ let never = took.1 in cc
-      | inr stop ↦ inl (lent, is, inr (stop.0, refl, stop.1))
+      | inr stop ↦ inl (lent, is, inr (stop.0, refl, p.1 ∙ ap (λ f. Err f) p.2 ∙ stop.1))
     ]

@@ -65,7 +65,9 @@ pub returns-in_err-clone : goal.returns-in_err-clone
 returns-in_err-clone g c = inl (_, c.in_ok-names.ensures, inr (refl, (OutOfMemory, inr (inr refl), refl, search rules)))
 
 pub returns-in_err-named : goal.returns-in_err-named
-returns-in_err-named g c = inl (_, c.in_ok-names.ensures, inr (refl, (OutOfMemory, inr (inr refl), refl, search rules)))
+returns-in_err-named g c =
+    let p = err_from_is_err_and c.from_residual-in_err-named.result c.from_residual-in_err-named.ensures.1 in
+    inl (_, c.in_ok-names.ensures, inr (refl, (OutOfMemory, inr (inr refl), refl, p.1 ∙ ap (λ f. Err f) p.2)))
 
 pub returns-in-Ok : goal.returns-in-Ok
 returns-in-Ok g c =
@@ -140,6 +142,3 @@ returns-in-Err-TooManyEvents g c =
         told = too_many c.in-Err-TooManyEvents.events why refl refl refl;
       }),
     )
-
-pub returns-in-Err-OutOfMemory : goal.returns-in-Err-OutOfMemory
-returns-in-Err-OutOfMemory g c = inl (_, c.in_ok-names.ensures, inr (refl, (OutOfMemory, inr (inr refl), refl, refl)))

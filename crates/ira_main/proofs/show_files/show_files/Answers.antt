@@ -1,7 +1,7 @@
 use Rattle.std.proofs.Common.{◌≡◌, ◌∙◌, Err, ap, inl, inr, refl, rules, sym}
 use Rattle.std.proofs.lemmas.List.{length-map}
-use Rattle.std.proofs.lemmas.List.Elements.{length_all_zip}
 use Rattle.std.proofs.lemmas.Result.{err_from_is_err_and}
+use Rattle.ira_audit.proofs.Zipped.{zipped_length}
 use Rattle.ira_event.specs.LogText.{IsLogText}
 use Rattle.ira_explain.specs.declared.named_text.NamedText.{NamedText}
 use Rattle.ira_views.specs.Texts.{texts_of}
@@ -46,9 +46,11 @@ returns-in_err-clone-2 g c =
 
 pub print_ring-requires : goal.print_ring-requires
 print_ring-requires g c =
-    let files = c.named.result.items in
-    let are = c.in-Ok.ensures.good.texts_are in
-    sym (length-map files (λ (file : NamedText). file.text.now)) ∙ length_all_zip IsLogText (texts_of files) _ are
+    let files = c.in_ok-named.named.items in
+    let are = rw c.deref-3.ensures.value at c.in-Ok.ensures.good.texts_are in
+    let many = sym (length-map files (λ (file : NamedText). file.text.now))
+    ∙ sym (zipped_length IsLogText (texts_of files) _ are) in
+    rw c.deref-in-Ok.ensures.value many
 
 pub returns-in-Ok : goal.returns-in-Ok
 returns-in-Ok g c =
@@ -59,7 +61,7 @@ returns-in-Ok g c =
       | inl told ↦
           shows g.F.TextSource.reads show _ _ _ _ _ c.in_ok-question.question c.in_ok-files.files.items
           c.shown_moment-moment.result c.in_ok-names.ensures c.in_ok-question.ensures read
-          c.shown_moment-moment.ensures (shown c.in-Ok.ring (rw same at c.in-Ok.ensures) told)
+          c.shown_moment-moment.ensures (shown c.in-Ok.ring (rw (same, c.named_leaders.ensures) at c.in-Ok.ensures) told)
       | inr full ↦
           shows_none g.F.TextSource.reads show _ _ _ _ _ OutOfMemory c.in_ok-names.ensures (inr refl) full.0 full.1
     ]
@@ -94,11 +96,7 @@ returns-in-Err-Place g c =
     let show = c.args.show.now in
     let same : texts_of c.deref-3.result.now ≡ c.in_ok-files.files.items = search rules in
     let read = rw c.deref.ensures.value at c.in_ok-files.ensures in
-    let why = rw (c.in-Err-Place.field-0-is, same) at c.in-Err-Place.ensures in
+    let why = rw (c.in-Err-Place.field-0-is, same, c.named_leaders.ensures) at c.in-Err-Place.ensures in
     shows g.F.TextSource.reads show _ _ _ _ _ c.in_ok-question.question c.in_ok-files.files.items
     c.shown_moment-moment.result c.in_ok-names.ensures c.in_ok-question.ensures read
     c.shown_moment-moment.ensures (no_place why.0 why.2 why.1 why.3 why.4 refl refl)
-
-pub returns-in-Err-OutOfMemory : goal.returns-in-Err-OutOfMemory
-returns-in-Err-OutOfMemory g c =
-    shows_none g.F.TextSource.reads c.args.show.now _ _ _ _ _ OutOfMemory c.in_ok-names.ensures (inr refl) refl refl
