@@ -61,14 +61,18 @@ pub data PrintsRing (differences : List ℕ) (has_events : Bool) (out out' : Sin
       → Takes (ring_text differences text) out out' → outcome ≡ Err OutOfMemory
       → PrintsRing differences has_events out out' outcome
 
--- the line of a yes with a status, and more lines of JSON were printed, and the status says whether there are differences;
+-- the line of a yes with a status, and more lines of JSON were printed, and the status says whether there are
+-- differences;
 -- or the output stopped within them; or memory ran out after a first part of them
 pub data PrintsRingLines (differences : List ℕ) (out out' : SinkState) (outcome : Outcome) : Type 0 where
-  printed : (text : List ℕ) (status : Status) → IsLeadsStatus differences status → IsRingText (status_number status) text
+  printed : (text : List ℕ) (status : Status) → IsLeadsStatus differences status
+      → IsRingText (status_number status) text
       → Takes text out out' → outcome ≡ Ok status → PrintsRingLines differences out out' outcome
-  stopped : (text : List ℕ) (status : Status) → IsLeadsStatus differences status → IsRingText (status_number status) text
+  stopped : (text : List ℕ) (status : Status) → IsLeadsStatus differences status
+      → IsRingText (status_number status) text
       → StopsIn text out out' → outcome ≡ Err CannotWriteAnswer → PrintsRingLines differences out out' outcome
-  no_memory : (text : List ℕ) (status : Status) → IsLeadsStatus differences status → IsRingText (status_number status) text
+  no_memory : (text : List ℕ) (status : Status) → IsLeadsStatus differences status
+      → IsRingText (status_number status) text
       → Takes text out out' → outcome ≡ Err OutOfMemory → PrintsRingLines differences out out' outcome
 
 -- a ring is printed as JSON, where that is wanted, or else for a person

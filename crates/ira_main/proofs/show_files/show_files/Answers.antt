@@ -61,7 +61,8 @@ returns-in-Ok g c =
       | inl told ↦
           shows g.F.TextSource.reads show _ _ _ _ _ c.in_ok-question.question c.in_ok-files.files.items
           c.shown_moment-moment.result c.in_ok-names.ensures c.in_ok-question.ensures read
-          c.shown_moment-moment.ensures (shown c.in-Ok.ring (rw (same, c.named_leaders.ensures) at c.in-Ok.ensures) told)
+          c.shown_moment-moment.ensures (shown c.in-Ok.ring (rw (same, c.named_leaders.ensures) at c.in-Ok.ensures)
+          told)
       | inr full ↦
           shows_none g.F.TextSource.reads show _ _ _ _ _ OutOfMemory c.in_ok-names.ensures (inr refl) full.0 full.1
     ]
