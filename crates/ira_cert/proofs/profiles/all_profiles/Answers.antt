@@ -10,7 +10,8 @@ loop-place-preserved g c =
     let p = c.loop-place.place in
     let log = c.log.result.now in
     let here = get_or_from_slice_get logs p log log c.log.ensures.value in
-    let more = sym (take_more logs p log (slice_get_within logs p log c.log.ensures.value) ∙ ap (λ (l : Log). take p logs ++ l ∷ []) here) in
+    let more = sym (take_more logs p log (slice_get_within logs p log c.log.ensures.value)
+    ∙ ap (λ (l : Log). take p logs ++ l ∷ []) here) in
     c.in_ok-push.ensures.items ∙ ap (λ (ls : List Log). ls ++ c.in_ok-new.field-0 ∷ []) c.loop-place.invariant
     ∙ ap (λ (l : Log). take p logs ++ l ∷ []) c.in_ok-new.ensures ∙ more
 

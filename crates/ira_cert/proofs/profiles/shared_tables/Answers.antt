@@ -14,6 +14,12 @@ loop-asked-preserved g c =
     subst (λ i. slice_get profiles i ≡ Some c.in-Some.profile.now) c.from.ensures
     (slice_get-get_or profiles c.from.result c.in-Some.profile.now lookup.3.0
     ∙ ap (λ (x : Log). Some x) (sym lookup.1)) in
-    let table : IsTableOf profiles (record { place = asked.place; clause = asked.clause; positions = c.in_ok-positions.positions }) =
+    let table : IsTableOf profiles (record {
+      place = asked.place;
+      clause = asked.clause;
+      positions =
+          c.in_ok-positions.positions;
+    }) =
     (c.in-Some.profile.now, at, c.in_ok-positions.ensures) in
-    rw c.in_ok-push.ensures.items (All-push (IsTableOf profiles) c.loop-asked.tables.items _ c.loop-asked.invariant table)
+    rw c.in_ok-push.ensures.items (All-push (IsTableOf profiles) c.loop-asked.tables.items _ c.loop-asked.invariant
+    table)

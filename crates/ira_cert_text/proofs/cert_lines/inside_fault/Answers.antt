@@ -2,7 +2,9 @@ use Rattle.std.proofs.Common.{sym, ◌∙◌, subst, arith}
 use Rattle.ira_event.proofs.LogReading.{FirstFeed, line_end_at}
 use Rattle.ira_cert_text.proofs.Reading.{fault_inside_cut, fault_unread_too_many, fault_inside_line}
 use Rattle.ira_cert_text.proofs.cert_lines.inside_fault.Goals as goal
-use Rattle.ira_cert_text.proofs.cert_lines.inside_fault.Goals.{else-steps-eq-MAX_STEPS-via-then-steps-eq-MAX_STEPS+else-begins_as_step}
+use Rattle.ira_cert_text.proofs.cert_lines.inside_fault.Goals.{
+  else-steps-eq-MAX_STEPS-via-then-steps-eq-MAX_STEPS+else-begins_as_step,
+}
 use Rattle.ira_cert_text.proofs.cert_lines.inside_fault.Goals.{else-steps-eq-MAX_STEPS-via-else-steps-eq-MAX_STEPS}
 
 pub returns-in_default : goal.returns-in_default

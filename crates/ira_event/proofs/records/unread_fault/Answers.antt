@@ -2,7 +2,9 @@ use Rattle.std.proofs.Common.{refl, sym, ◌∙◌, subst, arith}
 use Rattle.ira_event.specs.NextLine.{cut}
 use Rattle.ira_event.proofs.LogReading.{FirstFeed, no_line_end, line_end_at, fault_unread_too_many, fault_line}
 use Rattle.ira_event.proofs.records.unread_fault.Goals as goal
-use Rattle.ira_event.proofs.records.unread_fault.Goals.{else-records-eq-MAX_RECORDS-via-then-records-eq-MAX_RECORDS+else-begins_as_record}
+use Rattle.ira_event.proofs.records.unread_fault.Goals.{
+  else-records-eq-MAX_RECORDS-via-then-records-eq-MAX_RECORDS+else-begins_as_record,
+}
 use Rattle.ira_event.proofs.records.unread_fault.Goals.{else-records-eq-MAX_RECORDS-via-else-records-eq-MAX_RECORDS}
 
 pub returns-in_default : goal.returns-in_default

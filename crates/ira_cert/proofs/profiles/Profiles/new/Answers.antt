@@ -5,4 +5,5 @@ use Rattle.ira_cert.proofs.profiles.Profiles.new.Goals as goal
 
 pub invariant_of-result : goal.invariant_of-result
 invariant_of-result g c =
-    subst (λ (logs : List Log). All (IsTableOf logs) c.in_ok-shared.shared.items) c.deref.ensures.value c.in_ok-shared.ensures
+    subst (λ (logs : List Log). All (IsTableOf logs) c.in_ok-shared.shared.items) c.deref.ensures.value
+    c.in_ok-shared.ensures

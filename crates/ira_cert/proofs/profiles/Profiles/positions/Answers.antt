@@ -7,7 +7,8 @@ use Rattle.ira_cert.proofs.profiles.Profiles.positions.Goals as goal
 pub returns-in-Some : goal.returns-in-Some
 returns-in-Some g c =
     let logs = c.args.self.now in
-    let all = subst (λ (ls : List Log). All (IsTableOf ls) c.self.inside.shared.items) c.self.view_is c.self.invariant in
+    let all = subst (λ (ls : List Log). All (IsTableOf ls) c.self.inside.shared.items) c.self.view_is c.self.invariant
+    in
     rw c.shared.ensures (c.in-Some.ensures logs (rw c.deref.ensures.value all))
 
 pub returns : goal.returns

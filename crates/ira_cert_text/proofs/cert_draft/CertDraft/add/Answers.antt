@@ -3,7 +3,9 @@ use Rattle.ira_cert_text.specs.Certificate.{IsSection}
 use Rattle.ira_cert_text.proofs.Drafts.{all_last, past_more}
 use Rattle.ira_cert_text.proofs.cert_draft.CertDraft.add.Goals as goal
 use Rattle.ira_cert_text.proofs.cert_draft.CertDraft.add.Goals.{then-self-ge-MAX_SECTIONS-via-then-self-ge-MAX_SECTIONS}
-use Rattle.ira_cert_text.proofs.cert_draft.CertDraft.add.Goals.{then-self-ge-MAX_SECTIONS-via-else-self-ge-MAX_SECTIONS+then-not-is_in_range}
+use Rattle.ira_cert_text.proofs.cert_draft.CertDraft.add.Goals.{
+  then-self-ge-MAX_SECTIONS-via-else-self-ge-MAX_SECTIONS+then-not-is_in_range,
+}
 
 pub returns-in_default : goal.returns-in_default
 returns-in_default g c = λ nodes sections is.
