@@ -129,8 +129,8 @@ impl<A: Allocator + Clone> GoodLogs<A> {
         })
     }
 
-    /// What is found for each case. The states of each log are computed once, however many cases there are, and so are
-    /// candidates that several of them ask for.
+    /// What is found for each case. The states of each log are computed once, however many cases there are, and so are,
+    /// as far as `Profiles` has room, candidates that several of them ask for.
     fn decide_cases(&self, cases: &[Case<A>]) -> Result<Vec<Found<A>, A>, OutOfMemory>
         requires { (i : ℕ) (case : List Conjunct) → slice_get cases.now i ≡ Some case → HasPlacesOf self.now case }
         ensures { IfOk result (λ found. AllZip (IsFound self.now) cases.now found.items) }

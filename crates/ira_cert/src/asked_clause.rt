@@ -2,7 +2,7 @@ use ira_event::OutOfMemory;
 use ira_pred::{Case, Clause};
 use std::alloc::Allocator;
 
-/// How many clauses at places are looked at: two for each node of the largest ring.
+/// How many clauses at places are looked at: room for two of each node of the largest ring.
 const MAX_LOOKED_AT: usize = 512;
 
 /// A clause that is asked of the node at a place.

@@ -26,7 +26,7 @@ impl<'t, A: Allocator> Model for Positions<'t, A> {
 }
 
 impl<'t, A: Allocator> Positions<'t, A> {
-    /// Those of this list.
+    /// The positions of this list, which it owns.
     pub fn own(positions: Vec<u32, A>) -> Positions<'t, A>
         ensures { result ≡ positions.items }
     {
@@ -44,7 +44,7 @@ impl<'t, A: Allocator> Positions<'t, A> {
         }
     }
 
-    /// The positions.
+    /// The positions as a slice.
     pub fn as_slice(&self) -> &[u32]
         ensures { result.now ≡ self.now }
     {

@@ -340,7 +340,7 @@ fn have_one_hop(one: Load, other: Load) -> bool {
     }
 }
 
-/// Whether an event is a sending with the hop of the receipt before it, and else of the same, too.
+/// Whether an event is a sending with the round, the ID and the hop of the receipt before it; the bit may be another.
 fn is_sent_unraised<A: Allocator>(logs: &Logs<A>, at: EventAt) -> bool {
     let before = EventAt {
         place: at.place,

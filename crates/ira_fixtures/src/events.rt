@@ -32,7 +32,7 @@ pub fn winner() -> [Event; 4] {
     ]
 }
 
-/// The events of node 1.
+/// The events of node 1 of `ELECTION`.
 pub fn loser() -> [Event; 4] {
     [
         Event::Draw(1),
@@ -59,7 +59,7 @@ pub fn yielder() -> [Event; 11] {
     ]
 }
 
-/// The events of node 1.
+/// The events of node 1 of `SECOND_TERM`.
 pub fn next_leader() -> [Event; 10] {
     [
         Event::Draw(1),

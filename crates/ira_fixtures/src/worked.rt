@@ -8,6 +8,7 @@ use std::alloc::Allocator;
 /// An election of two nodes that both initiate.
 pub const ELECTION: [&[u8]; 2] = [ELECTION_0, ELECTION_1];
 
+/// The text of node 0 of `ELECTION`.
 pub const ELECTION_0: &[u8] = b"irlog 1\nnodes 2\nplace 0\nstart initiator\n\
     draw 2\n\
     send 1 2 1 clean\n\
@@ -15,6 +16,7 @@ pub const ELECTION_0: &[u8] = b"irlog 1\nnodes 2\nplace 0\nstart initiator\n\
     recv 1 2 2 clean\n\
     end 4\n";
 
+/// The text of node 1 of `ELECTION`.
 pub const ELECTION_1: &[u8] = b"irlog 1\nnodes 2\nplace 1\nstart initiator\n\
     draw 1\n\
     send 1 1 1 clean\n\
@@ -97,8 +99,10 @@ pub const SECOND_TERM: [&[u8]; 2] = [
 /// Logs of two initiators that did nothing yet.
 pub const EMPTY: [&[u8]; 2] = [EMPTY_0, EMPTY_1];
 
+/// The text of node 0 of `EMPTY`.
 pub const EMPTY_0: &[u8] = b"irlog 1\nnodes 2\nplace 0\nstart initiator\nend 0\n";
 
+/// The text of node 1 of `EMPTY`.
 pub const EMPTY_1: &[u8] = b"irlog 1\nnodes 2\nplace 1\nstart initiator\nend 0\n";
 
 /// Logs of two nodes each of which waits for the other.

@@ -20,8 +20,8 @@ ReadsFiles reads names shelf texts = AllZip (λ name text. reads shelf name (Ok 
 
 -- the files before one were read, and that one gave a fault, of which the program's fault tells. Files after it may
 -- have been read too, which changes nothing
-pub record StopsReading {S : Type 0} (reads : Reading S) (names : List (List ℕ)) (shelf : S) (f : ProgramFault) : Type
-    0 where
+pub record StopsReading {S : Type 0} (reads : Reading S) (names : List (List ℕ)) (shelf : S) (f : ProgramFault)
+    : Type 0 where
   pub front : List (List ℕ)
   pub name : FileName
   pub back : List (List ℕ)

@@ -7,8 +7,8 @@ use Rattle.ira_event.specs.Log.{Log}
 abbrev pub mended_line : Log × Log → List ℕ
 mended_line part =
     codes "node " ++ decimal part.0.place ++ codes ": "
-    ++ (if nat_lt (length part.1.events) (length part.0.events) then decimal (length part.1.events)
-    ++ codes " of " else [])
+    ++ (if nat_lt (length part.1.events) (length part.0.events)
+    then decimal (length part.1.events) ++ codes " of " else [])
     ++ decimal (length part.0.events) ++ codes " events\n"
 
 -- the lines of all nodes

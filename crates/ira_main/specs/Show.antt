@@ -62,8 +62,7 @@ pub data PrintsRing (differences : List ℕ) (has_events : Bool) (out out' : Sin
       → PrintsRing differences has_events out out' outcome
 
 -- the line of a yes with a status, and more lines of JSON were printed, and the status says whether there are
--- differences;
--- or the output stopped within them; or memory ran out after a first part of them
+-- differences; or the output stopped within them; or memory ran out after a first part of them
 pub data PrintsRingLines (differences : List ℕ) (out out' : SinkState) (outcome : Outcome) : Type 0 where
   printed : (text : List ℕ) (status : Status) → IsLeadsStatus differences status
       → IsRingText (status_number status) text

@@ -54,7 +54,7 @@ fn print_events<'a, A: Allocator + Clone, W: Sink>(
     }
 }
 
-// The status of a ring that was printed as lines of JSON, one by one.
+// The status of a ring that was printed as lines of JSON, block by block.
 fn print_json<'a, A: Allocator + Clone, W: Sink>(
     global: Global,
     alloc: A,

@@ -44,8 +44,7 @@ HasTooManyEvents texts events =
     (logs : List Log) × AreLogTexts texts logs × AreLogs logs × (20000 < events)
 
 -- why nothing is drawn: the logs are good, and what is asked for is no consistent cut of them; or there are too many
--- events, or
--- memory ran out
+-- events, or memory ran out
 abbrev pub IsPictureFault : List (List ℕ) → ShownMoment → PictureFault → Type 0
 IsPictureFault texts moment (fault.Cut f) = (logs : List Log) × AreGoodLogs texts logs × IsCutFaultOf logs moment f
 IsPictureFault texts moment (fault.TooManyEvents events) = HasTooManyEvents texts events
