@@ -145,8 +145,8 @@ impl<A: Allocator + Clone> GoodLogs<A> {
         Ok(found)
     }
 
-    /// What `decide` finds, written down case by case: no section is kept, but for the text of the certificate, if it is asked
-    /// for and as long as each case is absent.
+    /// What `decide` finds, written down case by case: no section is kept, but for the text of the certificate, if it
+    /// is asked for and as long as each case is absent.
     pub fn decide_in_writing(
         &self,
         question: &[u8],

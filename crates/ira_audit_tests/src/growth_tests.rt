@@ -1,5 +1,5 @@
-//! Each growth of a call is refused in turn, and a writer's sink fails after each byte. A call gives up then, or gives its
-//! own answer all the same.
+//! Each growth of a call is refused in turn, and a writer's sink fails after each byte. A call gives up then, or gives
+//! its own answer all the same.
 
 use crate::lines::has_lines;
 use ira_audit::{

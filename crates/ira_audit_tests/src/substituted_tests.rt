@@ -1,5 +1,5 @@
-//! Each number from 0 to 5 in place of each number of the two steps of a sound certificate: the answer is that of a plain
-//! computation, and no consistent cut meets the case where it is yes.
+//! Each number from 0 to 5 in place of each number of the two steps of a sound certificate: the answer is that of a
+//! plain computation, and no consistent cut meets the case where it is yes.
 
 use ira_audit::{Answer, Reason, audit};
 use ira_cert::{SectionFault, Unsound};
@@ -70,7 +70,8 @@ fn rest(positions: &'static [u32]) -> &'static [u32] {
     }
 }
 
-/// The answer to the certificate with these steps, where node 0 leads in state 4 and node 1 is active in states 1 and 2.
+/// The answer to the certificate with these steps, where node 0 leads in state 4 and node 1 is active in states 1 and
+/// 2.
 fn answer_to(steps: &[Step; 2]) -> Answer {
     let [first, second] = *steps;
     for (line, [node, _, other, _]) in [(4, first), (5, second)] {

@@ -119,8 +119,8 @@ const CALLS: &[Call] = &[
     Call::Table,
 ];
 
-/// Whether the call answers with this memory, on the election's logs or on that of its last node. Of these calls no answer
-/// but want of memory is an error.
+/// Whether the call answers with this memory, on the election's logs or on that of its last node. Of these calls no
+/// answer but want of memory is an error.
 fn answers(call: &Call, alloc: Memory, logs: &Logs<Memory>) -> bool {
     let log = logs.log(logs.size().get() - 1);
     match call {

@@ -11,8 +11,8 @@ use ira_pred::{Case, Clause};
 use std::alloc::Allocator;
 use std::marker::Model;
 
-/// The profiles of a ring's logs, place by place, and candidates that several of some cases ask for, found once: of the first
-/// clauses that are asked, and no more positions together than the logs have.
+/// The profiles of a ring's logs, place by place, and candidates that several of some cases ask for, found once: of
+/// the first clauses that are asked, and no more positions together than the logs have.
 #[derive(Drop)]
 pub struct Profiles<'a, 'q, A: Allocator> {
     profiles: Vec<Profile<'a, A>, A>,

@@ -62,7 +62,8 @@ fn second_term(rt: HostRuntime) {
     assert!(rt; is_absent_by(&found(&rt, &SECOND_TERM, question), &[], 0));
 }
 
-/// At the first step both node 0 and node 1 can be eliminated by node 2, and at the second both node 1 and node 2 by node 0.
+/// At the first step both node 0 and node 1 can be eliminated by node 2, and at the second both node 1 and node 2 by
+/// node 0.
 #[test]
 fn least_pair_first(rt: HostRuntime) {
     let question =
@@ -78,8 +79,8 @@ fn least_spent_node_first(rt: HostRuntime) {
     assert!(rt; is_absent_by(&found(&rt, &ELECTION, question), &[], 0));
 }
 
-/// One message goes round a ring of 70, and each node but the first owes it once. Of two nodes the one further on has heard
-/// of all that the other one did as soon as it owes.
+/// One message goes round a ring of 70, and each node but the first owes it once. Of two nodes the one further on has
+/// heard of all that the other one did as soon as it owes.
 #[test]
 fn least_pairs_of_seventy_places(rt: HostRuntime) {
     let texts = lone_initiator_texts(rt.alloc(), 70).expect(&rt, "memory");

@@ -1,5 +1,5 @@
-//! Each growth of a call is refused in turn, and a writer's sink fails after each byte. A call gives up then for want of
-//! memory, or gives its own answer all the same.
+//! Each growth of a call is refused in turn, and a writer's sink fails after each byte. A call gives up then for want
+//! of memory, or gives its own answer all the same.
 
 use crate::found_tests::{is_absent_by, is_present_at};
 use ira_cert::{
@@ -29,7 +29,8 @@ type Memory = Refusing<Global>;
 /// `TWO_STEPS` without its last line.
 const CUT: &[u8] = b"ircert 1\nnodes 2\nsection\ndrop 1 1 by 0 4\ndrop 1 2 by 0 4\nspent 1\n";
 
-/// A certificate of the election whose second step is unsound: node 0 is active at the cut (2, 3), where node 1 is passive.
+/// A certificate of the election whose second step is unsound: node 0 is active at the cut (2, 3), where node 1 is
+/// passive.
 const NOT_BEFORE: &[u8] =
     b"ircert 1\nnodes 2\nsection\ndrop 0 1 by 1 3\ndrop 0 2 by 1 3\nspent 0\nend\n";
 

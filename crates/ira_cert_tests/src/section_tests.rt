@@ -61,8 +61,8 @@ fn two_step_section(rt: HostRuntime) {
     assert_verdict(&rt, LEADER_AND_ACTIVE, &steps, 1, Verdict::Yes);
 }
 
-/// Judges a section of these steps that spends node 1, for the fronts that are left when node 1 lost its first one: what
-/// node 1 has first then, and the verdict.
+/// Judges a section of these steps that spends node 1, for the fronts that are left when node 1 lost its first one:
+/// what node 1 has first then, and the verdict.
 fn judge_behind_an_elimination(
     rt: &(impl Abort + AllocGlobal),
     steps: &[CertStep],

@@ -1,4 +1,5 @@
-//! For tests: logs and questions that several of them judge, and gates, at which two threads meet or which count passes.
+//! For tests: logs and questions that several of them judge, and gates, at which two threads meet or which count
+//! passes.
 #![tactic(auto)]
 
 mod events;

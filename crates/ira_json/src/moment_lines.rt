@@ -163,8 +163,8 @@ fn write_links<A: Allocator, W: Sink>(
     Ok(())
 }
 
-/// Writes, of the moment of a cut, a line for each round, each node, and each link that holds something. The files are those of
-/// the logs, in their order.
+/// Writes, of the moment of a cut, a line for each round, each node, and each link that holds something. The files are
+/// those of the logs, in their order.
 pub(crate) fn write_moment<A: Allocator + Clone, W: Sink>(
     text: Global,
     alloc: A,

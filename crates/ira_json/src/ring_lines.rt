@@ -40,9 +40,10 @@ fn write_cut<A: Allocator + Clone, W: Sink>(
     }
 }
 
-/// Writes good logs at a moment: the answer, and then a line for each round in which nodes drew by then, each node, and each
-/// link that holds something; or a line for each event, in one order of them all through the moment. Where no moment is told
-/// the answer is all. The files are those of the logs, in their order. Lines are written block by block, the answer first.
+/// Writes good logs at a moment: the answer, and then a line for each round in which nodes drew by then, each node,
+/// and each link that holds something; or a line for each event, in one order of them all through the moment. Where no
+/// moment is told the answer is all. The files are those of the logs, in their order. Lines are written block by
+/// block, the answer first.
 pub fn write_ring<A: Allocator + Clone, W: Sink>(
     text: Global,
     alloc: A,

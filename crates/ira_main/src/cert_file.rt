@@ -13,7 +13,8 @@ use ira_event::Sink;
 use ira_files::{Shelf, ShelfFault};
 use std::alloc::Allocator;
 
-/// What comes of keeping the text of a certificate in a new file of this name. There is none where it is past the limits.
+/// What comes of keeping the text of a certificate in a new file of this name. There is none where it is past the
+/// limits.
 pub(crate) fn keep_written<'a, F: Shelf>(
     text: Option<&[u8]>,
     name: &'a str,

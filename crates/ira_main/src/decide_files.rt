@@ -69,8 +69,8 @@ fn print_json<'a, A: Allocator + Clone, F: Shelf, W: Sink>(
 
 /// Reads the question and then the logs, all before one is judged, decides the question, and prints what is found. A
 /// certificate is kept only once that is printed, and never over one of these files. The lines are put together first,
-/// since the output isn't buffered; with them the text of the certificate, where one is asked for, so that the steps of no
-/// case need be kept. For JSON they are kept, and the certificate is made of them.
+/// since the output isn't buffered; with them the text of the certificate, where one is asked for, so that the steps
+/// of no case need be kept. For JSON they are kept, and the certificate is made of them.
 pub(crate) fn decide_files<'a, R, A, F, W>(
     rt: &R,
     alloc: A,

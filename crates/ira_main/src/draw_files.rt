@@ -68,9 +68,9 @@ fn print_drawn<'a, A: Allocator, F: Shelf, W: Sink>(
     }
 }
 
-/// Judges the logs of this source together, prints the line of their answer, and keeps a picture of them in the file that is
-/// named, which is none of those that are read. The text of a question is read first, and all of them are before anything is
-/// judged.
+/// Judges the logs of this source together, prints the line of their answer, and keeps a picture of them in the file
+/// that is named, which is none of those that are read. The text of a question is read first, and all of them are
+/// before anything is judged.
 pub(crate) fn draw_files<'a, R, A, F, W>(
     rt: &R,
     alloc: A,

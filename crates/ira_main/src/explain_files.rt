@@ -16,8 +16,8 @@ use std::alloc::{Allocator, Global};
 use std::io::Read;
 use std::thread::Threads;
 
-/// Judges the logs of this source together, and says why the answer is as it is. The texts are kept meanwhile, since a pipe
-/// can't be read twice; the page is put together before anything is printed.
+/// Judges the logs of this source together, and says why the answer is as it is. The texts are kept meanwhile, since a
+/// pipe can't be read twice; the page is put together before anything is printed.
 pub(crate) fn explain_files<'a, R, A, F, W>(
     rt: &R,
     alloc: A,

@@ -40,8 +40,8 @@ where
     print_findings_view(global, alloc, is_json, &view, out)
 }
 
-/// Judges the logs of this source with the question and the certificate of these files, and says why the answer is as it is.
-/// The files are read in this order: question, certificate, logs.
+/// Judges the logs of this source with the question and the certificate of these files, and says why the answer is as
+/// it is. The files are read in this order: question, certificate, logs.
 pub(crate) fn explain_check_files<'a, R, A, F, W>(
     rt: &R,
     alloc: A,

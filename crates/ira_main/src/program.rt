@@ -68,8 +68,8 @@ where
     report_as(rt.alloc(), asked.is_json, &answer, out)
 }
 
-// Judges the logs with the question and the certificate in the files that are named. The files are read in this order, all
-// before an answer is given: question, certificate, logs.
+// Judges the logs with the question and the certificate in the files that are named. The files are read in this order,
+// all before an answer is given: question, certificate, logs.
 fn check_files<'a, R, A, F, W>(
     rt: &R,
     alloc: A,
@@ -95,8 +95,8 @@ where
     report_as(rt.alloc(), check.is_json, &answer, out)
 }
 
-/// Does what the words ask for, unless that waits: it leaves a check, the evidence of one, and a run with a thread for each
-/// node. So all else is done when it returns, which it does. (The threads that read logs end by themselves.)
+/// Does what the words ask for, unless that waits: it leaves a check, the evidence of one, and a run with a thread for
+/// each node. So all else is done when it returns, which it does. (The threads that read logs end by themselves.)
 pub fn serve_without_wait<'a, R, A, I, F, W>(
     rt: &R,
     alloc: A,
@@ -203,8 +203,8 @@ where
     }
 }
 
-/// The program: `words` are those after its name, `input` is its standard input, the files lie on `shelf`, and `out` and
-/// `err` are its standard streams. It gives the status, which a failed write to `err` doesn't change:
+/// The program: `words` are those after its name, `input` is its standard input, the files lie on `shelf`, and `out`
+/// and `err` are its standard streams. It gives the status, which a failed write to `err` doesn't change:
 ///
 /// | Status | When |
 /// |---|---|
@@ -213,8 +213,8 @@ where
 /// | 2 | refused words, a refused ring or moment, a failed read or write, a certificate or a picture past its limits |
 /// | 3 | out of memory |
 ///
-/// Without words it judges the log on `input`, of which it reads at most one byte more than `MAX_TEXT`, and so it does for
-/// `explain` without logs. With other words it reads nothing of `input`:
+/// Without words it judges the log on `input`, of which it reads at most one byte more than `MAX_TEXT`, and so it does
+/// for `explain` without logs. With other words it reads nothing of `input`:
 ///
 /// * `logs` judges the logs of a ring together, in the files that are named or in a folder; `explain` does so too, and says why
 ///   the answer is as it is, also with a question or a certificate;
@@ -229,8 +229,8 @@ where
 ///
 /// With `--json` answers, what is found for a question, and what is shown are printed as JSON Lines.
 ///
-/// Logs are read on threads, `check` judges a section on some, and a run without `--alone` has a thread for each node; all of
-/// them are waited for.
+/// Logs are read on threads, `check` judges a section on some, and a run without `--alone` has a thread for each node;
+/// all of them are waited for.
 pub fn serve<R, A, I, F, W, V>(
     rt: &R,
     alloc: A,

@@ -79,8 +79,8 @@ fn print_json<'a, A: Allocator + Clone, W: Sink>(
     }
 }
 
-/// The status of a ring that was printed as is asked for: as JSON; or an order of all events, or else the tables. The files
-/// are those of its logs.
+/// The status of a ring that was printed as is asked for: as JSON; or an order of all events, or else the tables. The
+/// files are those of its logs.
 pub(crate) fn print_ring<'a, A: Allocator + Clone, W: Sink>(
     global: Global,
     alloc: A,

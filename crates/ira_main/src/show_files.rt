@@ -62,8 +62,8 @@ pub(crate) fn named_leaders<'t>(show: &'t ShowRequest<'_>) -> Option<&'t [u64]>
     }
 }
 
-/// Judges the logs of this source together, and shows the ring at the moment that is asked for. The text of a question is
-/// read first, and all of them are before anything is judged.
+/// Judges the logs of this source together, and shows the ring at the moment that is asked for. The text of a question
+/// is read first, and all of them are before anything is judged.
 pub(crate) fn show_files<'a, R, A, F, W>(
     rt: &R,
     alloc: A,

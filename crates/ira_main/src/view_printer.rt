@@ -45,8 +45,8 @@ fn print_page<'a, A: Allocator, W: Sink>(
     }
 }
 
-/// The status of an answer that was printed with its reason, as JSON where that is wanted, or else with the page after its
-/// line.
+/// The status of an answer that was printed with its reason, as JSON where that is wanted, or else with the page after
+/// its line.
 pub(crate) fn print_view<'a, A: Allocator, W: Sink>(
     alloc: Global,
     is_json: bool,
@@ -80,8 +80,8 @@ fn write_findings_view<A: Allocator, W: Sink>(
     write_bytes(page, sink)
 }
 
-// The status of findings whose lines were printed with the page after them. They are put together first, since the output
-// isn't buffered.
+// The status of findings whose lines were printed with the page after them. They are put together first, since the
+// output isn't buffered.
 fn print_findings_page<'a, A: Allocator + Clone, W: Sink>(
     alloc: A,
     view: &FindingsView<A>,

@@ -1,6 +1,6 @@
-//! What the program answers where a growth is refused, or a write of its answer fails after each byte. What the library of its
-//! command line allocates comes from the system's allocator alone, and is never refused here. What a shelf gives to be read
-//! is in no contract, so that answers are compared.
+//! What the program answers where a growth is refused, or a write of its answer fails after each byte. What the
+//! library of its command line allocates comes from the system's allocator alone, and is never refused here. What a
+//! shelf gives to be read is in no contract, so that answers are compared.
 
 use crate::fakes::{File, Input, Memory, MemoryShelf, NEVER, Output, served, served_amply};
 use crate::samples::{

@@ -131,8 +131,8 @@ impl<A: Allocator> Clause<A> {
         }
     }
 
-    /// Whether it compares a round or a term, of which a log may have as many as it has events. Any other clause tells no
-    /// more states apart than there are IDs, and a few for the phases without one.
+    /// Whether it compares a round or a term, of which a log may have as many as it has events. Any other clause tells
+    /// no more states apart than there are IDs, and a few for the phases without one.
     pub fn names_round_or_term(&self) -> bool
         ensures { result ≡ names_round_or_term (formula self.now) }
     {

@@ -1,5 +1,5 @@
-// What the gate of a ring's threads sees: that the nodes run at once, that a message comes after its sending, when nodes
-// pass, and that each started thread has ended.
+// What the gate of a ring's threads sees: that the nodes run at once, that a message comes after its sending, when
+// nodes pass, and that each started thread has ended.
 use crate::samples::{assert_run, clean, has_events, setup_of};
 use ira_event::{Event, NodeLog, RingSize};
 use ira_fixtures::{Meeting, Passes, TURN, comes_to, loser, winner};
@@ -101,7 +101,8 @@ fn nothing_is_received_before_it_is_sent(rt: HostRuntime) {
     assert_eq!(rt; gate.counts(), [4, 5, 0, 0]);
 }
 
-/// Both nodes draw 1 and pass once before each of their five events; for the draw that each lacks then they pass no gate.
+/// Both nodes draw 1 and pass once before each of their five events; for the draw that each lacks then they pass no
+/// gate.
 #[test]
 fn draws_spent_on_both(rt: HostRuntime) {
     let setup = setup_of(&rt, 2, &[true, true], &[&[1], &[1]], 100);
@@ -168,8 +169,8 @@ impl AllButOne {
         }
     }
 
-    /// Whether no node is left in a pass, each up to the one that isn't admitted was asked for, and those before it came
-    /// to their draws.
+    /// Whether no node is left in a pass, each up to the one that isn't admitted was asked for, and those before it
+    /// came to their draws.
     fn has_ended_all(&self) -> bool {
         let [first, second, third] = &self.entered;
         for (node, entered) in [(0, first), (1, second), (2, third)] {

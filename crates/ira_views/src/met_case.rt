@@ -7,8 +7,8 @@ use ira_show::{Heading, print_clause};
 use std::alloc::Allocator;
 use std::marker::Model;
 
-/// A case of a question that some moment meets, and the first moment that does. Contracts see how many events each node has
-/// made by then.
+/// A case of a question that some moment meets, and the first moment that does. Contracts see how many events each
+/// node has made by then.
 #[derive(Drop)]
 pub(crate) struct MetCase<A: Allocator> {
     question: Question<A>,

@@ -14,8 +14,8 @@ use ira_show::{
 use std::alloc::{Allocator, Global};
 use std::marker::Model;
 
-/// A ring against whose logs nothing stands, to be shown at a moment, and where the nodes that lead when the logs end differ
-/// from those that are to.
+/// A ring against whose logs nothing stands, to be shown at a moment, and where the nodes that lead when the logs end
+/// differ from those that are to.
 #[derive(Drop)]
 pub struct ShownRing<A: Allocator> {
     logs: GoodLogs<A>,
@@ -69,8 +69,8 @@ impl<A: Allocator + Clone> ShownRing<A> {
         }
     }
 
-    /// Writes, as the lines that follow the differences, an order of all events through the moment. Nothing is cut short: it
-    /// is written block by block.
+    /// Writes, as the lines that follow the differences, an order of all events through the moment. Nothing is cut
+    /// short: it is written block by block.
     pub fn write_events<W: Sink>(&self, alloc: A, sink: &mut W) -> Result<(), ShowFault>
         ensures { Showed result (W.state sink.old) (W.state sink.new) }
     {
@@ -91,9 +91,9 @@ impl<A: Allocator + Clone> ShownRing<A> {
         }
     }
 
-    /// Writes, as lines of JSON, the answer and what is told of the moment: an order of all events through it, or else its
-    /// rounds, its nodes and what is on its way. These are the files of the logs, in their order; the differences aren't
-    /// told. It is written block by block.
+    /// Writes, as lines of JSON, the answer and what is told of the moment: an order of all events through it, or else
+    /// its rounds, its nodes and what is on its way. These are the files of the logs, in their order; the differences
+    /// aren't told. It is written block by block.
     pub fn write_json<W: Sink>(
         &self,
         text: Global,
