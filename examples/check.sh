@@ -109,7 +109,7 @@ cert() {
     text 'ircert 1' "$1" "$2" > c.cert
 }
 
-# Runs each line behind `$`, and prints it, what it prints and its status; a line behind `#` is printed alone.
+# Runs each line after `$`, and prints it, what it prints and its status; a line after `#` is printed alone.
 replay() {
     ira() { "$ira" "$@" < /dev/null; }
     while read -r prompt line; do

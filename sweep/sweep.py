@@ -5,7 +5,7 @@ file open at a time.
 python3 sweep/sweep.py IRA.o: links this object, and runs each command line with its first growth refused, then with
 its second, and so on until no run meets a refusal. Each run must answer as with ample memory, or with status 3 and
 `ira: out of memory`, or with status 2 and `ira: run refused 3`, which says that a thread couldn't be started. Where
-it gives up it has printed nothing, or all (`decide` makes the certificate behind its findings), and each file that it
+it gives up it has printed nothing, or all (`decide` makes the certificate after its findings), and each file that it
 wrote is a first part of what it should be. An interrupted read or write is tried again, and a file that can't be opened
 while others are is opened later, so these runs answer as with ample memory.
 

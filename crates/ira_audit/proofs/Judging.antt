@@ -22,7 +22,7 @@ use Rattle.ira_order.specs.MatchFault.{IsMatchFault}
 use Rattle.ira_order.specs.Ordered.{IsOrdered}
 use Rattle.ira_audit.specs.GoodLogs.{AreGoodLogs}
 use Rattle.ira_audit.specs.LogTexts.{AreLogTexts}
-use Rattle.ira_audit.specs.RingAnswer.{IsRingAnswer, IsFirstStop, unmatched, circled, stopped, yes}
+use Rattle.ira_audit.specs.RingAnswer.{IsRingAnswer, IsFirstReplayFault, unmatched, circled, stopped, yes}
 use Rattle.ira_event.proofs.Unless.{ok_same}
 
 -- an answer that is right is the only one
@@ -68,7 +68,7 @@ module _ (texts : List (List ℕ)) (logs : List Log) (are : AreLogTexts texts lo
   order_refused order.OutOfMemory is ring h = rw is tt
 
   pub stop_refused : (s : Reason) → r ≡ Err (refusal.No s) → AreLogs logs → HasOrder logs
-      → (place : ℕ) × (f : ReplayFault) × (s ≡ reason.Replay place f.position f.fault) × IsFirstStop logs place f
+      → (place : ℕ) × (f : ReplayFault) × (s ≡ reason.Replay place f.position f.fault) × IsFirstReplayFault logs place f
       → MatchRefusal r P (IsLogsReason texts)
   stop_refused s is ring has h = rw (is, h.2) (stopped logs h.0 h.1 are ring has h.3 refl, tt)
 

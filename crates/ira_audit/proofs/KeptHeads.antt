@@ -30,7 +30,7 @@ other_at (a ∷ xs) [] i x e at = absurd cc
 other_at (a ∷ xs) (b ∷ ys) zero x e at =
     (b, refl, (let heads : head_of a ≡ head_of b = cc in let here : a ≡ x = cc in ap head_of (sym here) ∙ heads))
 other_at (a ∷ xs) (b ∷ ys) (suc i) x e at =
-    (let behind : map head_of xs ≡ map head_of ys = cc in other_at xs ys i x behind at)
+    (let rest : map head_of xs ≡ map head_of ys = cc in other_at xs ys i x rest at)
 
 module _ (xs ys : List Log) (e : map head_of xs ≡ map head_of ys) where
   nodes_of : (x y : Log) → head_of x ≡ head_of y → x.nodes ≡ y.nodes

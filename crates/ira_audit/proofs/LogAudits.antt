@@ -9,9 +9,9 @@ use Rattle.ira_event.specs.declared.log_head.LogHead.{LogHead}
 use Rattle.ira_event.specs.declared.log_fault.LogFault.{LogFault}
 use Rattle.ira_event.specs.Log.{Log}
 use Rattle.ira_event.specs.LogText.{IsLogText}
-use Rattle.ira_event.specs.LogTextFault.{LogTextFault, behind_head, BeginsWithHead, AreAllRecords, RecordsFault}
+use Rattle.ira_event.specs.LogTextFault.{LogTextFault, past_head, BeginsWithHead, AreAllRecords, RecordsFault}
 use Rattle.ira_event.specs.Records.{RecordsLeft, ReadsOn, ReadsRecord, IsAtEnd, IsEndOrFault}
-use Rattle.ira_event.proofs.LogReading.{behind_more, behind_all, behind_fault}
+use Rattle.ira_event.proofs.LogReading.{after_more, after_all, after_fault}
 use Rattle.ira_event.proofs.LogAnswers.{log_read}
 use Rattle.ira_audit.specs.LogAudit.{IsBegun, IsSuffix, ReplaysTo, log_of_records, AreWholeLines}
 use Rattle.ira_audit.specs.Replaying.{IsLogAnswer}
@@ -30,7 +30,7 @@ begun_more text r next old new e same read on b = record {
   head = subst (λ h. BeginsWithHead text h b.rest) (sym same) b.head;
   version = read.version ∙ b.version ∙ ap (λ (h : LogHead). h.version) (sym same);
   events = b.events ++ e ∷ [];
-  read = behind_more b.rest b.events old new e b.read read;
+  read = after_more b.rest b.events old new e b.read read;
   came = on b.events b.read.1 b.came;
 }
 
@@ -143,8 +143,8 @@ front_taken piece front left parts =
     let many : length front ≡ length piece - length left = omega (arith, ap length parts, length-append front left) in
     ap (λ w. take (length piece - length left) w) parts ∙ take_at front left (length piece - length left) many
 
-pub left_behind : (piece left : List ℕ) → IsSuffix left piece → drop (length piece - length left) piece ≡ left
-left_behind piece left s =
+pub left_past : (piece left : List ℕ) → IsSuffix left piece → drop (length piece - length left) piece ≡ left
+left_past piece left s =
     let many : length s.0 ≡ length piece - length left = omega (arith, ap length s.1, length-append s.0 left) in
     ap (λ w. drop (length piece - length left) w) s.1 ∙ drop_at s.0 left (length piece - length left) many
 
@@ -167,7 +167,7 @@ pub begun_judged : (text : List ℕ) (r : PartialReplay) (left : RecordsLeft) (a
 begun_judged text r left a answers b end = (
   log_of_records r.head b.events,
   log_read text r.head b.rest b.events b.head
-      (subst (λ (v : ℕ). AreAllRecords v b.rest b.events) b.version (behind_all b.rest b.events left b.read end)),
+      (subst (λ (v : ℕ). AreAllRecords v b.rest b.events) b.version (after_all b.rest b.events left b.read end)),
   answers b.events b.came,
 )
 
@@ -176,6 +176,6 @@ pub begun_refused : (text : List ℕ) (r : PartialReplay) (left : RecordsLeft) (
 begun_refused text r left f short b end =
     inr (
       short,
-      behind_head r.head b.rest b.head
-          (subst (λ (v : ℕ). RecordsFault v b.rest f) b.version (behind_fault b.rest b.events left f b.read end)),
+      past_head r.head b.rest b.head
+          (subst (λ (v : ℕ). RecordsFault v b.rest f) b.version (after_fault b.rest b.events left f b.read end)),
     )

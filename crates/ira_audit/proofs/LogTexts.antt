@@ -29,7 +29,7 @@ one_list [] [] (m ∷ ms) a b = absurd b
 one_list [] (l ∷ ls) ms a b = absurd a
 one_list (t ∷ ts) [] ms a b = absurd a
 one_list (t ∷ ts) (l ∷ ls) [] a b = absurd b
-one_list (t ∷ ts) (l ∷ ls) (m ∷ ms) a b = (let here = one_log t l m a.0 b.0 in let behind = one_list ts ls ms a.1 b.1 in
+one_list (t ∷ ts) (l ∷ ls) (m ∷ ms) a b = (let here = one_log t l m a.0 b.0 in let rest = one_list ts ls ms a.1 b.1 in
     cc)
 
 -- each of the texts is a log's
@@ -131,7 +131,7 @@ keeps_both [] more (l ∷ ls) others fault kept next = absurd kept
 keeps_both (t ∷ ts) more [] others fault kept next = absurd kept
 keeps_both (t ∷ ts) more (l ∷ ls) others None kept next = (kept.0, keeps_both ts more ls others None kept.1 next)
 keeps_both (t ∷ ts) more (l ∷ ls) others (Some f) kept next =
-    let behind = keeps_both ts more ls others (Some f) kept.1 next in ((kept.0, behind.0), behind.1)
+    let rest = keeps_both ts more ls others (Some f) kept.1 next in ((kept.0, rest.0), rest.1)
 
 pub keeps_all : (texts more : List (List ℕ)) (logs others : List Log) (fault next : Option LogFault)
     → false ≡ is_some fault → AreKept texts logs fault → AreKept more others next

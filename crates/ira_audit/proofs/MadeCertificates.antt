@@ -32,8 +32,8 @@ all_sound logs (c ∷ cases) [] sections is h = absurd h
 all_sound logs (c ∷ cases) (f ∷ found) [] is h = absurd cc
 all_sound logs (c ∷ cases) (Absent t ∷ found) (s ∷ sections) is h =
     let same : t ≡ s = cc in
-    let behind : found ≡ map Absent sections = cc in
-    (subst (IsSoundSection logs c) same h.0.sound, all_sound logs cases found sections behind h.1)
+    let after : found ≡ map Absent sections = cc in
+    (subst (IsSoundSection logs c) same h.0.sound, all_sound logs cases found sections after h.1)
 all_sound logs (c ∷ cases) (Present cut ∷ found) (s ∷ sections) is h = absurd cc
 
 -- the certificate of findings is accepted where it has a text
@@ -64,8 +64,8 @@ one_sections [] (y ∷ ys) e = absurd cc
 one_sections (x ∷ xs) [] e = absurd cc
 one_sections {A} (x ∷ xs) (y ∷ ys) e =
     let here : x ≡ y = cc in
-    let behind : ◌≡◌ {A = List (Found A)} (map Absent xs) (map Absent ys) = cc in
-    let rest = one_sections {A = A} xs ys behind in
+    let after : ◌≡◌ {A = List (Found A)} (map Absent xs) (map Absent ys) = cc in
+    let rest = one_sections {A = A} xs ys after in
     cc
 
 some_certificate : (c d : Certificate) → ◌≡◌ {A = Result (Option Certificate) OutOfMemory} (Ok (Some c)) (Ok (Some d))
@@ -99,8 +99,8 @@ made_or_none (Cases nodes found) made is none = absent_or_present found.items ma
 pub present_among : {A : Type 0} (found : List (Found A)) → list_any is_present found ≡ true → HasPresent found
 present_among [] e = absurd cc
 present_among (Absent s ∷ found) e =
-    let behind = present_among found e in
-    (behind.0, Contains-append_right (Absent s ∷ []) found _ behind.1)
+    let after = present_among found e in
+    (after.0, Contains-append_right (Absent s ∷ []) found _ after.1)
 present_among (Present cut ∷ found) e =
     (cut, Contains-append_left (Present cut ∷ []) found _ (Contains-push [] (Present cut)))
 
@@ -112,11 +112,11 @@ none_among found e has =
     cc
 
 -- a case that is present at some place is among the findings
-pub present_at : {A : Type 0} (found before behind : List (Found A)) (f : Found A) (cut : List ℕ)
-    → found ≡ before ++ (f ∷ behind) → f ≡ Present cut → HasPresent found
-present_at found before behind f cut is present =
-    let here : Contains (before ++ (f ∷ behind)) f =
-    Contains-append_right before (f ∷ behind) f (Contains-append_left (f ∷ []) behind f (Contains-push [] f)) in
+pub present_at : {A : Type 0} (found before after : List (Found A)) (f : Found A) (cut : List ℕ)
+    → found ≡ before ++ (f ∷ after) → f ≡ Present cut → HasPresent found
+present_at found before after f cut is present =
+    let here : Contains (before ++ (f ∷ after)) f =
+    Contains-append_right before (f ∷ after) f (Contains-append_left (f ∷ []) after f (Contains-push [] f)) in
     (cut, subst (Contains found) present (subst (λ xs. Contains xs f) (sym is) here))
 
 -- what holds anyway holds where it is refused

@@ -20,7 +20,8 @@ use Rattle.ira_audit.specs.declared.answer.Answer.{Answer}
 use Rattle.ira_audit.specs.declared.answer.Answer.TheVariants.{Yes, No}
 use Rattle.ira_audit.specs.LogTextAnswer as single
 use Rattle.ira_audit.specs.LogTexts.{AreLogTexts, IsFirstTextFault}
-use Rattle.ira_audit.specs.RingAnswer.{IsRingAnswer, IsFirstStop, no_log, no_ring, unmatched, circled, stopped, yes}
+use Rattle.ira_audit.specs.RingAnswer.{IsRingAnswer, IsFirstReplayFault, no_log, no_ring, unmatched, circled, stopped}
+use Rattle.ira_audit.specs.RingAnswer.{yes}
 use Rattle.ira_audit.proofs.LogTexts.{one_list, logs_or_fault, one_first}
 
 -- a text has one answer
@@ -49,15 +50,18 @@ matched_order logs f h o = matching.unmatched logs f h o.0
 circle_or_order : (logs : List Log) → HasCircle logs → HasOrder logs → ⊥
 circle_or_order logs c o = c.1 o.1 o.2
 
-pub stop_or_runs : (logs : List Log) (place : ℕ) (f : ReplayFault) → IsFirstStop logs place f → AreLocalRuns logs → ⊥
+pub stop_or_runs : (logs : List Log) (place : ℕ) (f : ReplayFault) → IsFirstReplayFault logs place f
+    → AreLocalRuns logs → ⊥
 stop_or_runs logs place f s runs = run_or_fault s.log f (runs place s.log s.at) s.fault
 
-no_earlier_stop : (logs : List Log) (i j : ℕ) (f g : ReplayFault) → IsFirstStop logs i f → IsFirstStop logs j g → i < j
+no_earlier_stop : (logs : List Log) (i j : ℕ) (f g : ReplayFault) → IsFirstReplayFault logs i f
+    → IsFirstReplayFault logs j g → i < j
     → ⊥
 no_earlier_stop logs i j f g s t lt = run_or_fault s.log f (t.before i s.log lt s.at) s.fault
 
 -- logs have one first log that is no local run
-one_first_stop : (logs : List Log) (i j : ℕ) (f g : ReplayFault) → IsFirstStop logs i f → IsFirstStop logs j g → (i ≡ j)
+one_first_stop : (logs : List Log) (i j : ℕ) (f g : ReplayFault) → IsFirstReplayFault logs i f
+    → IsFirstReplayFault logs j g → (i ≡ j)
     × (f ≡ g)
 one_first_stop logs i j f g s t =
     let here : i ≡ j = omega (arith, no_earlier_stop logs i j f g s t, no_earlier_stop logs j i g f t s) in
@@ -113,7 +117,8 @@ module _ (texts : List (List ℕ)) (logs : List Log) (are : AreLogTexts texts lo
         absurd (circle_or_order logs h (here HasOrder ms good.texts_are good.are_good.order))
 
     module _ (order : HasOrder logs) where
-      only_stopped : (place : ℕ) (f : ReplayFault) → IsFirstStop logs place f → (a : Answer) → IsRingAnswer texts a
+      only_stopped : (place : ℕ) (f : ReplayFault) → IsFirstReplayFault logs place f → (a : Answer)
+          → IsRingAnswer texts a
           → a ≡ No (reason.Replay place f.position f.fault)
       only_stopped place f h a (no_log m g k e) = absurd (logs_or_fault texts logs m g are k)
       only_stopped place f h a (no_ring ms g u k e) = absurd (no-fault logs g ring (here (λ x. HeadFaultOf x g) ms u k))
@@ -121,7 +126,7 @@ module _ (texts : List (List ℕ)) (logs : List Log) (are : AreLogTexts texts lo
           absurd (matched_order logs g (here (λ x. IsMatchFault x g) ms u k) order)
       only_stopped place f h a (circled ms u r k e) = absurd (circle_or_order logs (here HasCircle ms u k) order)
       only_stopped place f h a (stopped ms p g u r o k e) =
-          (let same = one_first_stop logs place p f g h (here (λ x. IsFirstStop x p g) ms u k) in cc)
+          (let same = one_first_stop logs place p f g h (here (λ x. IsFirstReplayFault x p g) ms u k) in cc)
       only_stopped place f h a (yes ms good e) =
           absurd (stop_or_runs logs place f h (here AreLocalRuns ms good.texts_are good.are_good.runs))
 
@@ -130,7 +135,8 @@ module _ (texts : List (List ℕ)) (logs : List Log) (are : AreLogTexts texts lo
       only_yes h a (no_ring ms g u k e) = absurd (no-fault logs g ring (here (λ x. HeadFaultOf x g) ms u k))
       only_yes h a (unmatched ms g u r k e) = absurd (matched_order logs g (here (λ x. IsMatchFault x g) ms u k) order)
       only_yes h a (circled ms u r k e) = absurd (circle_or_order logs (here HasCircle ms u k) order)
-      only_yes h a (stopped ms p g u r o k e) = absurd (stop_or_runs logs p g (here (λ x. IsFirstStop x p g) ms u k) h)
+      only_yes h a (stopped ms p g u r o k e) = absurd (stop_or_runs logs p g
+          (here (λ x. IsFirstReplayFault x p g) ms u k) h)
       only_yes h a (yes ms good e) = e
 
 pub one_logs_answer : (texts : List (List ℕ)) (a b : Answer) → IsRingAnswer texts a → IsRingAnswer texts b → a ≡ b

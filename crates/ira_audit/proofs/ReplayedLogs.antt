@@ -10,7 +10,7 @@ use Rattle.ira_replay.specs.LocalRun.{IsLocalRun}
 use Rattle.ira_order.specs.Run.{AreLocalRuns}
 use Rattle.ira_audit.specs.declared.reason.Reason.{Reason}
 use Rattle.ira_audit.specs.declared.reason.Reason.TheVariants.{Replay}
-use Rattle.ira_audit.specs.RingAnswer.{IsFirstStop}
+use Rattle.ira_audit.specs.RingAnswer.{IsFirstReplayFault}
 use Rattle.ira_audit.specs.ReplayedLogs.{IsReplayed, AreReplayed}
 
 -- a member before the last one
@@ -37,7 +37,7 @@ pub more_runs : (logs : List Log) (log : Log) (steps own : Result (Unit {0}) Rea
     → AreReplayed logs steps → IsReplayed log own → AreReplayed (logs ++ log ∷ []) own
 more_runs logs log (Ok done) (Ok own) good all is = runs_more logs log all is
 more_runs logs log (Ok done) (Err r) good all is =
-    let stop : IsFirstStop (logs ++ log ∷ []) (length logs) is.0 = record {
+    let stop : IsFirstReplayFault (logs ++ log ∷ []) (length logs) is.0 = record {
       before = λ i earlier lt at. all i earlier (sym (before_last logs log i lt) ∙ at);
       log = log;
       at = at_last logs log;
@@ -54,7 +54,7 @@ more_stopped logs log (Err r) bad h =
     let place = h.0 in
     let old = h.2 in
     let low : place < length logs = slice_get_within logs place old.log old.at in
-    let stop : IsFirstStop (logs ++ log ∷ []) place h.1 = record {
+    let stop : IsFirstReplayFault (logs ++ log ∷ []) place h.1 = record {
       before = λ i earlier lt at. old.before i earlier lt (sym (before_last logs log i (omega (arith, lt, low))) ∙ at);
       log = old.log;
       at = before_last logs log place low ∙ old.at;
@@ -64,7 +64,7 @@ more_stopped logs log (Err r) bad h =
 
 -- the reason names the place of the log in its ring
 pub stop_placed : (logs : List Log) (r : Reason) → AreLogs logs → AreReplayed logs (Err r) → (place : ℕ)
-    × (f : ReplayFault) × (r ≡ Replay place f.position f.fault) × IsFirstStop logs place f
+    × (f : ReplayFault) × (r ≡ Replay place f.position f.fault) × IsFirstReplayFault logs place f
 stop_placed logs r are h =
     let named : h.2.log.place ≡ h.0 = are.places h.0 h.2.log h.2.at in
     (h.0, h.1, subst (λ place. r ≡ Replay place h.1.position h.1.fault) named h.3, h.2)

@@ -8,7 +8,7 @@ use Rattle.ira_event.specs.LogText.{IsLogText}
 use Rattle.ira_event.specs.LogTextFault.{LogTextFault}
 use Rattle.ira_event.specs.Records.{RecordsLeft, ReadsRecord, HasRead}
 use Rattle.ira_event.proofs.EarlyFaults.{not_out_of_memory}
-use Rattle.ira_event.proofs.LogReading.{behind_more}
+use Rattle.ira_event.proofs.LogReading.{after_more}
 use Rattle.ira_event.specs.declared.out_of_memory.OutOfMemory.{OutOfMemory}
 use Rattle.ira_event.specs.declared.log_fault.LogFault.{LogFault}
 use Rattle.ira_event.specs.declared.log_fault.LogFault.TheVariants as fault
@@ -28,14 +28,16 @@ use Rattle.ira_audit.proofs.OneAnswer.{one_answer}
 
 module _ (nodes : ℕ) (first : NodeState) (events : List Event) (state after : NodeState) (e : Event) where
   -- it has a step
-  pub leads_on : (stop : Option ReplayFault) → LeadsOrStops nodes first events state stop → is_some stop ≡ false
-      → NodeStep nodes state e after → LeadsOrStops nodes first (events ++ e ∷ []) after stop
+  pub leads_on : (first_fault : Option ReplayFault) → LeadsOrStops nodes first events state first_fault
+      → is_some first_fault ≡ false
+      → NodeStep nodes state e after → LeadsOrStops nodes first (events ++ e ∷ []) after first_fault
   leads_on None h none step = leads_further nodes first events state e after h step
   leads_on (Some f) h none step = absurd cc
 
   -- it is the first without one
-  pub stops_there : (stop : Option ReplayFault) (f : ReplayFault) → LeadsOrStops nodes first events state stop
-      → is_some stop ≡ false
+  pub stops_there : (first_fault : Option ReplayFault) (f : ReplayFault)
+      → LeadsOrStops nodes first events state first_fault
+      → is_some first_fault ≡ false
       → f.position ≡ length events + 1 → NodeStepFault nodes state e f.fault
       → LeadsOrStops nodes first (events ++ e ∷ []) after (Some f)
   stops_there None f h none at bad = record {
@@ -51,8 +53,9 @@ module _ (nodes : ℕ) (first : NodeState) (events : List Event) (state after : 
   stops_there (Some g) f h none at bad = absurd cc
 
   -- it comes after one without a step
-  pub stays_stopped : (stop : Option ReplayFault) → LeadsOrStops nodes first events state stop → is_some stop ≡ true
-      → LeadsOrStops nodes first (events ++ e ∷ []) after stop
+  pub stays_stopped : (first_fault : Option ReplayFault) → LeadsOrStops nodes first events state first_fault
+      → is_some first_fault ≡ true
+      → LeadsOrStops nodes first (events ++ e ∷ []) after first_fault
   stays_stopped None h some = absurd cc
   stays_stopped (Some f) h some = record {
     before = h.before;
@@ -69,19 +72,19 @@ module _ (nodes : ℕ) (first : NodeState) (events : List Event) (state after : 
 
 -- the events that were read lead from the first state to this one, or stop at this fault
 pub record Keeping (version : ℕ) (text : List ℕ) (nodes : ℕ) (first : NodeState) (left : RecordsLeft)
-    (events : List Event) (state : NodeState) (position : ℕ) (stop : Option ReplayFault) : Type 0 where
+    (events : List Event) (state : NodeState) (position : ℕ) (first_fault : Option ReplayFault) : Type 0 where
   pub read : HasRead text events left
   pub same : left.version ≡ version
   pub at : position ≡ length events
-  pub replay : LeadsOrStops nodes first events state stop
+  pub replay : LeadsOrStops nodes first events state first_fault
 
 pub keeping_more : (version : ℕ) (text : List ℕ) (nodes : ℕ) (first : NodeState) (old new : RecordsLeft)
-    (events : List Event) (state after : NodeState) (position : ℕ) (e : Event) (stop next : Option ReplayFault)
-    → ReadsRecord old new e → Keeping version text nodes first old events state position stop
+    (events : List Event) (state after : NodeState) (position : ℕ) (e : Event) (first_fault next : Option ReplayFault)
+    → ReadsRecord old new e → Keeping version text nodes first old events state position first_fault
     → LeadsOrStops nodes first (events ++ e ∷ []) after next
     → Keeping version text nodes first new (events ++ e ∷ []) after (position + 1) next
-keeping_more version text nodes first old new events state after position e stop next r h replay = record {
-  read = behind_more text events old new e h.read r;
+keeping_more version text nodes first old new events state after position e first_fault next r h replay = record {
+  read = after_more text events old new e h.read r;
   same = r.version ∙ h.same;
   at = omega (arith, h.at, length-append events (e ∷ []));
   replay = replay;

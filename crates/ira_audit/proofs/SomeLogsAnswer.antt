@@ -19,7 +19,8 @@ use Rattle.ira_audit.specs.declared.answer.Answer.TheVariants.{Yes, No}
 use Rattle.ira_audit.specs.LogTextAnswer as single
 use Rattle.ira_audit.specs.GoodLogs.{AreGoodLogs}
 use Rattle.ira_audit.specs.LogTexts.{AreLogTexts, IsFirstTextFault}
-use Rattle.ira_audit.specs.RingAnswer.{IsFirstStop, IsRingAnswer, no_log, no_ring, unmatched, circled, stopped, yes}
+use Rattle.ira_audit.specs.RingAnswer.{IsFirstReplayFault, IsRingAnswer, no_log, no_ring, unmatched, circled, stopped}
+use Rattle.ira_audit.specs.RingAnswer.{yes}
 
 -- ---- texts are those of logs, or one is the first that isn't
 
@@ -53,7 +54,8 @@ all_valid (t ∷ texts) (l ∷ logs) are (suc i) log at = all_valid texts logs a
 
 -- ---- logs are local runs, or one is the first that stops
 
-runs_or_stop : (logs : List Log) → AreLocalRuns logs ⊎ ((place : ℕ) × (f : ReplayFault) × IsFirstStop logs place f)
+runs_or_stop : (logs : List Log) → AreLocalRuns logs
+    ⊎ ((place : ℕ) × (f : ReplayFault) × IsFirstReplayFault logs place f)
 runs_or_stop logs = elim (each_or_first logs (λ i log. IsLocalRun log) (λ i log. is_run log)) [
   | inl runs ↦ inl runs
   | inr o ↦ elim (run_or_stop o.1.log) [

@@ -22,7 +22,7 @@ use Rattle.ira_audit.specs.declared.answer.Answer.TheVariants.{No}
 use Rattle.ira_audit.specs.declared.reason.Reason.{Reason}
 use Rattle.ira_audit.specs.LogTextAnswer as single
 use Rattle.ira_audit.specs.LogTexts.{AreLogTexts}
-use Rattle.ira_audit.specs.RingAnswer.{IsRingAnswer, IsFirstStop}
+use Rattle.ira_audit.specs.RingAnswer.{IsRingAnswer, IsFirstReplayFault}
 use Rattle.ira_audit.specs.RingAnswer as together
 use Rattle.ira_audit.specs.GoodLogs.{AreGoodLogs}
 use Rattle.ira_audit.specs.QuestionFitsLogs.{QuestionFitsLogs, WhyNoQuestion, bad_logs, no_question, other_ring}
@@ -68,7 +68,7 @@ old_logs : (texts news : List (List ℕ)) → AreUpgraded texts news → (logs :
 old_logs [] [] u = ([], tt)
 old_logs [] (n ∷ ns) u = absurd u
 old_logs (t ∷ ts) [] u = absurd u
-old_logs (t ∷ ts) (n ∷ ns) u = (let behind = old_logs ts ns u.1 in (u.0.log ∷ behind.0, (u.0.text_is, behind.1)))
+old_logs (t ∷ ts) (n ∷ ns) u = (let rest = old_logs ts ns u.1 in (u.0.log ∷ rest.0, (u.0.text_is, rest.1)))
 
 new_texts : (texts news : List (List ℕ)) (logs : List Log) → AreUpgraded texts news → AreLogTexts texts logs
     → AreLogTexts news (map upgraded logs)
@@ -97,8 +97,8 @@ versions (t ∷ ts) (n ∷ ns) (l ∷ ls) u are (suc i) log at = versions ts ns 
 old_events : (logs : List Log) → HaveSameEvents logs (map upgraded logs)
 old_events logs = turned (map upgraded logs) logs (same_events logs)
 
-first_stop : (logs : List Log) (place : ℕ) (f : ReplayFault) → IsFirstStop logs place f
-    → IsFirstStop (map upgraded logs) place f
+first_stop : (logs : List Log) (place : ℕ) (f : ReplayFault) → IsFirstReplayFault logs place f
+    → IsFirstReplayFault (map upgraded logs) place f
 first_stop logs place f h = record {
   before = λ i earlier lt at.
       let o = old_at logs i earlier at in

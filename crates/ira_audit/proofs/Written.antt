@@ -44,13 +44,13 @@ pub present_counted : {A : Type 0} (found : Found A) (cut : List ℕ) → IsCoun
 present_counted (Absent section) cut is = absurd is
 present_counted {A} (Present cut') cut is = ap (λ (xs : List ℕ). found_words {A = A} (Present xs)) is
 
-line_behind : {A : Type 0} (k : ℕ) (found : List (Found A)) (next : Found A)
+line_after : {A : Type 0} (k : ℕ) (found : List (Found A)) (next : Found A)
     → flat_map case_line (enumerate_from k (found ++ next ∷ [])) ≡ flat_map case_line (enumerate_from k found)
     ++ case_line (k + length found, next)
-line_behind k [] next = append-nil (case_line (k, next)) ∙ ap (λ (n : ℕ). case_line (n, next)) (omega arith)
-line_behind k (f ∷ found) next =
+line_after k [] next = append-nil (case_line (k, next)) ∙ ap (λ (n : ℕ). case_line (n, next)) (omega arith)
+line_after k (f ∷ found) next =
     let number : k + 1 + length found ≡ k + length (f ∷ found) = omega arith in
-    ap (λ (t : List ℕ). case_line (k, f) ++ t) (line_behind (k + 1) found next
+    ap (λ (t : List ℕ). case_line (k, f) ++ t) (line_after (k + 1) found next
     ∙ ap (λ (n : ℕ). flat_map case_line (enumerate_from (k + 1) found) ++ case_line (n, next)) number)
     ∙ sym (append_assoc (case_line (k, f)) (flat_map case_line (enumerate_from (k + 1) found))
     (case_line (k + length (f ∷ found), next)))
@@ -63,13 +63,13 @@ lines_more found next number old new is so_far e =
     let first : number ≡ 0 + length found = omega (arith, is) in
     e ∙ ap (λ (t : List ℕ). t ++ case_line (number, next)) so_far
     ∙ ap (λ (n : ℕ). flat_map case_line (enumerate_from 0 found) ++ case_line (n, next)) first
-    ∙ sym (line_behind 0 found next)
+    ∙ sym (line_after 0 found next)
 
 -- ---- a certificate that is put together
 
-absent_behind : {A : Type 0} (found : List (Found A)) (s : Section) → HasPresent (found ++ Absent s ∷ [])
+absent_after : {A : Type 0} (found : List (Found A)) (s : Section) → HasPresent (found ++ Absent s ∷ [])
     → HasPresent found
-absent_behind found s has = elim (Contains-push_cases found (Absent s) (Present has.0) has.1) [
+absent_after found s has = elim (Contains-push_cases found (Absent s) (Present has.0) has.1) [
   | inl there ↦ (has.0, there)
   | inr here ↦ absurd (let never : Absent s ≡ Present has.0 = here in cc)
 ]
@@ -99,7 +99,7 @@ module _ {A Z : Type 0} (nodes : ℕ) (certify : Bool) where
       absent = (
         λ some. (let has = so_far.absent.0 some in
             (has.0, Contains-append_left found (Absent s ∷ []) (Present has.0) has.1)),
-        λ has. so_far.absent.1 (absent_behind found s has),
+        λ has. so_far.absent.1 (absent_after found s has),
       );
       sections_are = λ yes all.
           let old = so_far.sections_are yes all in

@@ -23,7 +23,7 @@ log_of_records head events =
 
 -- these events lead to the state that is told, or the first of them without a step is told
 abbrev pub ReplaysTo : PartialReplay → List Event → Type 0
-ReplaysTo r events = LeadsOrStops r.head.nodes (first_state r.head.initiator) events r.state r.stop
+ReplaysTo r events = LeadsOrStops r.head.nodes (first_state r.head.initiator) events r.state r.first_fault
 
 -- the text begins with the head and the records that were read, and this is left of it
 pub record IsBegun (text : List ℕ) (r : PartialReplay) (left : RecordsLeft) : Type 0 where

@@ -10,7 +10,7 @@ use Rattle.ira_order.specs.MatchFault.{IsMatchFault}
 use Rattle.ira_order.specs.Run.{AreLocalRuns}
 use Rattle.ira_audit.specs.declared.reason.Reason.{Reason}
 use Rattle.ira_audit.specs.declared.reason.Reason.TheVariants.{Replay}
-use Rattle.ira_audit.specs.RingAnswer.{IsFirstStop}
+use Rattle.ira_audit.specs.RingAnswer.{IsFirstReplayFault}
 
 -- the log is a local run, or this is the reason of its first event without a step
 abbrev pub IsReplayed : Log → Result (Unit {0}) Reason → Type 0
@@ -20,7 +20,8 @@ IsReplayed log steps = MatchResult steps (λ _. IsLocalRun log) (λ r. (f : Repl
 -- the logs are local runs, or this is the reason of the first that is none
 abbrev pub AreReplayed : List Log → Result (Unit {0}) Reason → Type 0
 AreReplayed logs steps =
-    MatchResult steps (λ _. AreLocalRuns logs) (λ r. (place : ℕ) × (f : ReplayFault) × (stop : IsFirstStop logs place f)
+    MatchResult steps (λ _. AreLocalRuns logs) (λ r. (place : ℕ) × (f : ReplayFault)
+        × (stop : IsFirstReplayFault logs place f)
     × (r ≡ Replay stop.log.place f.position f.fault))
 
 -- why the logs have no order; that memory ran out says nothing of them

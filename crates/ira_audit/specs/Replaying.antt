@@ -18,9 +18,10 @@ IsLogAnswer log a =
 
 -- all events lead on from the first state to this one, or this is the first event without a step, and its fault
 abbrev pub LeadsOrStops : ℕ → NodeState → List Event → NodeState → Option ReplayFault → Type 0
-LeadsOrStops nodes first events state stop =
-    MatchOption stop (LeadsTo nodes first events state) (StopsAt nodes first events)
+LeadsOrStops nodes first events state first_fault =
+    MatchOption first_fault (LeadsTo nodes first events state) (StopsAt nodes first events)
 
 -- all events lead on from the first state, or this is the first event without a step, and its fault
 abbrev pub ReplayGives : ℕ → Bool → List Event → Option ReplayFault → Type 0
-ReplayGives nodes initiator events stop = (t : NodeState) × LeadsOrStops nodes (first_state initiator) events t stop
+ReplayGives nodes initiator events first_fault = (t : NodeState)
+    × LeadsOrStops nodes (first_state initiator) events t first_fault

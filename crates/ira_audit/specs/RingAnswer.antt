@@ -17,7 +17,7 @@ use Rattle.ira_audit.specs.LogTexts.{AreLogTexts, IsFirstTextFault}
 use Rattle.ira_audit.specs.GoodLogs.{AreGoodLogs}
 
 -- the log of this place is the first that is no local run, and this is its first event without a step
-pub record IsFirstStop (logs : List Log) (place : ℕ) (f : ReplayFault) : Type 0 where
+pub record IsFirstReplayFault (logs : List Log) (place : ℕ) (f : ReplayFault) : Type 0 where
   pub before : (i : ℕ) (earlier : Log) → i < place → slice_get logs i ≡ Some earlier → IsLocalRun earlier
   pub log : Log
   pub at : slice_get logs place ≡ Some log
@@ -44,7 +44,8 @@ pub data IsRingAnswer (texts : List (List ℕ)) (answer : Answer) : Type 0 where
   -- the logs match and have an order, but an event has no step
   stopped :
       (logs : List Log) (place : ℕ) (f : ReplayFault) → AreLogTexts texts logs → AreLogs logs → HasOrder logs
-      → IsFirstStop logs place f → answer ≡ No (reason.Replay place f.position f.fault) → IsRingAnswer texts answer
+      → IsFirstReplayFault logs place f → answer ≡ No (reason.Replay place f.position f.fault)
+          → IsRingAnswer texts answer
   -- the logs match and have an order, and all events have steps
   yes : (logs : List Log) → AreGoodLogs texts logs → answer ≡ Yes → IsRingAnswer texts answer
 

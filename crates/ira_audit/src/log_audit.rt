@@ -59,7 +59,7 @@ impl LogAudit {
     /// these are. It takes none where the piece makes the text too long. What it left stands at the front of the next
     /// piece, or of what `finish` is given: a piece of the head or of a line, or an end line or a fault with all that is
     /// after it.
-    pub fn take(&mut self, piece: &[u8]) -> usize
+    pub fn feed(&mut self, piece: &[u8]) -> usize
         ensures within { result ≤ length piece.now }
         ensures count { self.new.taken ≡ self.old.taken + result }
         ensures taken { (text : List ℕ) → HasTakenBytes self.old text

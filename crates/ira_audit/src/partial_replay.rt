@@ -16,7 +16,7 @@ pub(crate) struct PartialReplay {
     /// The state after them, where they all have steps.
     state: NodeState,
     /// The first of them without a step.
-    stop: Option<ReplayFault>,
+    first_fault: Option<ReplayFault>,
 }
 
 impl PartialReplay {
@@ -35,7 +35,7 @@ impl PartialReplay {
             head,
             count: 0,
             state: NodeState::first(head.initiator),
-            stop: None,
+            first_fault: None,
         }
     }
 
@@ -69,19 +69,19 @@ impl PartialReplay {
             head,
             count: _,
             mut state,
-            mut stop,
+            mut first_fault,
         } = self;
         let mut records = records;
         let nodes = head.nodes;
         let end = loop {
             match records.next_event() {
                 Ok(Some(event)) => {
-                    if stop.is_none() {
+                    if first_fault.is_none() {
                         match state.advance(nodes, &event) {
                             Ok(()) => {}
                             Err(fault) => {
                                 let position = records.count() as u32;
-                                stop = Some(ReplayFault { position, fault });
+                                first_fault = Some(ReplayFault { position, fault });
                             }
                         }
                     }
@@ -94,7 +94,7 @@ impl PartialReplay {
             head,
             count: records.count(),
             state,
-            stop,
+            first_fault,
         };
         (replay, records, end)
     }
@@ -103,7 +103,7 @@ impl PartialReplay {
     pub(crate) fn answer(&self) -> Answer
         ensures { (events : List Event) → ReplaysTo self.now events → IsLogAnswer (log_of_records self.now.head events) result }
     {
-        match self.stop {
+        match self.first_fault {
             None => Answer::Yes,
             Some(ReplayFault { position, fault }) => Answer::No(Reason::Replay {
                 place: self.head.place,

@@ -36,9 +36,9 @@ impl<A: Allocator> ReplayedLog<A> {
         ensures { IsReading text.now result }
     {
         let (head, records) = open_log(text)?;
-        let (events, stop) = read_and_replay(alloc, head.nodes, head.initiator, records)?;
+        let (events, first_fault) = read_and_replay(alloc, head.nodes, head.initiator, records)?;
         let place = head.place;
-        let steps = match stop {
+        let steps = match first_fault {
             None => Ok(()),
             Some(ReplayFault { position, fault }) => Err(Reason::Replay {
                 place,
@@ -94,18 +94,18 @@ fn read_and_replay<A: Allocator>(
     let mut events = PackedEvents::with_room_for(alloc, &records)?;
     let mut state = NodeState::first(initiator);
     let mut position = 0;
-    let mut stop = None;
+    let mut first_fault = None;
     while let Some(event) = records.next_event()? {
         position += 1;
-        if stop.is_none() {
+        if first_fault.is_none() {
             match state.advance(nodes, &event) {
                 Ok(()) => {}
-                Err(fault) => stop = Some(ReplayFault { position, fault }),
+                Err(fault) => first_fault = Some(ReplayFault { position, fault }),
             }
         }
         events.push(event)?;
     }
-    Ok((events, stop))
+    Ok((events, first_fault))
 }
 
 /// The logs, and whether each event of each of them has a step.

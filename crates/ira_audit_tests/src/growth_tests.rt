@@ -348,7 +348,7 @@ where
 }
 
 #[test]
-fn sink_fails_behind_each_byte(rt: HostRuntime) {
+fn sink_fails_after_each_byte(rt: HostRuntime) {
     for row in &rows() {
         assert!(rt; is_cut_at_each_byte(&rt, row));
     }
@@ -368,7 +368,7 @@ impl Writer for TwoCasesFound {
 }
 
 #[test]
-fn sink_of_findings_fails_behind_each_byte(rt: HostRuntime) {
+fn sink_of_findings_fails_after_each_byte(rt: HostRuntime) {
     let refused = each_byte_refused(rt.alloc(), &TwoCasesFound(rt.alloc()), TWO_CASES_FOUND);
     assert!(rt; refused == Ok(()), "{refused:?}");
 }

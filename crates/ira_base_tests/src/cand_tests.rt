@@ -30,7 +30,7 @@ impl Going {
 }
 
 /// Compares the first position left, at first and after each way of going on.
-fn assert_fronts<I: Iterator<Item = u32> + Listed>(
+fn assert_queues<I: Iterator<Item = u32> + Listed>(
     rt: &impl Abort,
     ahead: &mut Ahead<I>,
     first: u32,
@@ -51,7 +51,7 @@ fn candidates_of_active(rt: HostRuntime) {
         (Going::Advance, None),
         (Going::Advance, None),
     ];
-    assert_fronts(&rt, &mut candidates(&log, &clause), 1, &rows);
+    assert_queues(&rt, &mut candidates(&log, &clause), 1, &rows);
     let positions = table(rt.alloc(), &log, &clause).expect(&rt, "memory");
     assert!(rt; positions.as_slice() == [1, 2].as_slice());
 }
@@ -189,5 +189,5 @@ fn source_and_test_written_by_hand(rt: HostRuntime) {
         (Going::Advance, Some(4)),
         (Going::SkipBelow(5), None),
     ];
-    assert_fronts(&rt, &mut ahead, 0, &rows);
+    assert_queues(&rt, &mut ahead, 0, &rows);
 }

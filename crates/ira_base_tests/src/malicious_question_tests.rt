@@ -18,7 +18,7 @@ fn assert_lines(
 }
 
 #[test]
-fn fronts_of_a_question(rt: HostRuntime) {
+fn queues_of_a_question(rt: HostRuntime) {
     for len in 0..PAIRS_OF_THREE.len() {
         let wanted = if len < 16 {
             AskFault::Head

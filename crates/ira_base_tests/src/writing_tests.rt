@@ -103,7 +103,7 @@ fn assert_each_byte_refused(
 }
 
 #[test]
-fn sink_fails_behind_each_byte(rt: HostRuntime) {
+fn sink_fails_after_each_byte(rt: HostRuntime) {
     assert_each_byte_refused(&rt, 1, &winner(), ELECTION_0);
     assert_each_byte_refused(&rt, 2, &yielder(), SECOND_TERM[0]);
 }
@@ -119,7 +119,7 @@ impl Writer for QuestionText<'_> {
 }
 
 #[test]
-fn sink_of_a_question_fails_behind_each_byte(rt: HostRuntime) {
+fn sink_of_a_question_fails_after_each_byte(rt: HostRuntime) {
     let text = b"irask 1\nnodes 2\ncase\n0: leader\n1: (leader or (not active))\nend\n";
     let question = read_question(rt.alloc(), text).expect(&rt, "a question");
     let refused = each_byte_refused(rt.alloc(), &QuestionText(&question), text);
@@ -144,7 +144,7 @@ fn sink_fails_after_ten_bytes(rt: HostRuntime) {
 }
 
 /// What writing to the buffer of a writer with room for ten bytes answers, and then flushing it.
-fn write_behind_a_buffer(
+fn write_after_a_buffer(
     rt: &(impl Abort + AllocGlobal),
     log: &NodeLog<Global>,
 ) -> (Result<(), WriteFault>, Result<(), WriteFault>) {
@@ -155,9 +155,9 @@ fn write_behind_a_buffer(
 }
 
 #[test]
-fn full_writer_behind_a_buffer(rt: HostRuntime) {
+fn full_writer_after_a_buffer(rt: HostRuntime) {
     let log = log_of(&rt, 2, 0, true, &winner());
-    let written = write_behind_a_buffer(&rt, &log);
+    let written = write_after_a_buffer(&rt, &log);
     assert!(rt;
         written == (Ok(()), Err(WriteFault)),
         "all fits in the buffer"

@@ -20,7 +20,7 @@ use Rattle.ira_cand.specs.Holding.{positions_passing}
 use Rattle.ira_cand.specs.HoldsAt.{HoldsAt}
 use Rattle.ira_cand.specs.Candidates.{AreCandidates}
 use Rattle.ira_cand.specs.CandidatesFound.{candidates_of}
-use Rattle.ira_cand.proofs.Rising.{contains_behind, contains_first, same_rising}
+use Rattle.ira_cand.proofs.Rising.{contains_after, contains_first, same_rising}
 
 -- ---- they rise
 
@@ -52,15 +52,15 @@ passing_rise test p ts d =
 abbrev PassesFrom : ℕ → List NodeState → (NodeState → Bool) → ℕ → Type 0
 PassesFrom p ts test a = (k : ℕ) × (a ≡ p + k) × (s : NodeState) × (slice_get ts k ≡ Some s) × IsTrue (test s)
 
-passes_behind : (p : ℕ) (t : NodeState) (ts : List NodeState) (test : NodeState → Bool) (a : ℕ)
+passes_after : (p : ℕ) (t : NodeState) (ts : List NodeState) (test : NodeState → Bool) (a : ℕ)
     → PassesFrom (p + 1) ts test a → PassesFrom p (t ∷ ts) test a
-passes_behind p t ts test a h = (suc h.0, omega (arith, h.1), h.2, h.3, h.4)
+passes_after p t ts test a h = (suc h.0, omega (arith, h.1), h.2, h.3, h.4)
 
 at_first : (test : NodeState → Bool) (p : ℕ) (t : NodeState) (ts : List NodeState) (a : ℕ) (xs : List ℕ)
     → IsTrue (test t) → (Contains xs a → PassesFrom (p + 1) ts test a) → Contains (p ∷ xs) a
     → PassesFrom p (t ∷ ts) test a
 at_first test p t ts a xs pass on (zero, l, e) = (0, omega (arith, e), t, refl, pass)
-at_first test p t ts a xs pass on (suc k, l, e) = passes_behind p t ts test a (on (k, omega (arith, l), e))
+at_first test p t ts a xs pass on (suc k, l, e) = passes_after p t ts test a (on (k, omega (arith, l), e))
 
 member_passes : (test : NodeState → Bool) (p : ℕ) (ts : List NodeState) (a : ℕ)
     → Contains (positions_passing test (enumerate_from p ts)) a → PassesFrom p ts test a
@@ -70,7 +70,7 @@ member_passes test p (t ∷ ts) a c =
     member_passes test (p + 1) ts a in
     cond_both (test t) _ _ (λ ys. Contains (map (λ x. x.0) ys) a → PassesFrom p (t ∷ ts) test a)
     (λ pass. at_first test p t ts a (positions_passing test (enumerate_from (p + 1) ts)) pass on)
-    (λ _. λ k. passes_behind p t ts test a (on k)) c
+    (λ _. λ k. passes_after p t ts test a (on k)) c
 
 passing_is_member : (test : NodeState → Bool) (p : ℕ) (ts : List NodeState) (k : ℕ) (s : NodeState)
     → slice_get ts k ≡ Some s → IsTrue (test s) → Contains (positions_passing test (enumerate_from p ts)) (p + k)
@@ -85,7 +85,7 @@ passing_is_member test p (t ∷ ts) (suc k) s g pass =
     let on : Contains xs (p + 1 + k) = passing_is_member test (p + 1) ts k s g pass in
     let here : Contains xs (p + suc k) = subst (λ q. Contains xs q) (omega arith) on in
     cond_both (test t) _ _ (λ ys. Contains (map (λ x. x.0) ys) (p + suc k)) (λ _.
-    contains_behind p xs (p + suc k) here) (λ _. here)
+    contains_after p xs (p + suc k) here) (λ _. here)
 
 -- ---- the candidates of a log
 

@@ -1,4 +1,4 @@
--- The positions that are picked run by run are the candidates.
+-- The positions that are picked span by span are the candidates.
 use Rattle.std.proofs.Common.{◌≡◌, ◌≤◌, ◌+◌, ℕ, suc, Bool, true, false, cond, not, ◌&&◌, ◌||◌, List, [], ◌∷◌, ◌++◌}
 use Rattle.std.proofs.Common.{Option, Some, None, option_map, slice_get, All, map, length, filter, append_assoc}
 use Rattle.std.proofs.Common.{length-append, drop, take, get_or, ◌<◌, refl, sym, ap, subst, ◌∙◌, arith}
@@ -26,9 +26,9 @@ use Rattle.ira_replay.specs.StatesLeft.{states_left, advanced}
 use Rattle.ira_replay.proofs.Along.{are_placed_states}
 use Rattle.ira_cand.specs.Holding.{positions_passing}
 use Rattle.ira_cand.specs.Candidates.{AreCandidates}
-use Rattle.ira_cand.specs.declared.phase_run.PhaseRun.{PhaseRun}
+use Rattle.ira_cand.specs.declared.phase_span.PhaseSpan.{PhaseSpan}
 use Rattle.ira_cand.specs.declared.stage.Stage.{Stage}
-use Rattle.ira_cand.specs.Profile.{HasKind, IsProfile, answers_in, in_first_round, phase_in_first_round, run_marks}
+use Rattle.ira_cand.specs.Profile.{HasKind, IsProfile, answers_in, in_first_round, phase_in_first_round, span_marks}
 use Rattle.ira_cand.specs.Profile.{stage, mark, marks_of, marks_passing, picked, sample, some_load}
 use Rattle.ira_cand.proofs.Passing.{are_candidates_as}
 
@@ -110,24 +110,24 @@ known_read f kinds known unnamed is k at pair here there =
     same ∙ ap (λ x. (x, test_of f (in_first_round at) true)) (told_by_kind f at false unnamed)
     ∙ ap (λ y. (test_of f at false, y)) (told_by_kind f at true unnamed)
 
--- runs have their kinds also once there are more of these
-still_have_kinds : {A : Type 0} (old new : List Stage) (runs : List (PhaseRun A))
+-- spans have their kinds also once there are more of these
+still_have_kinds : {A : Type 0} (old new : List Stage) (spans : List (PhaseSpan A))
     → ((k : ℕ) (kind : Stage) → slice_get old k ≡ Some kind → slice_get new k ≡ Some kind)
-    → All (HasKind old) runs → All (HasKind new) runs
-still_have_kinds old new runs kept h =
-    All-weaker (HasKind old) (HasKind new) (λ r. kept r.kind (in_first_round r.stage)) runs h
+    → All (HasKind old) spans → All (HasKind new) spans
+still_have_kinds old new spans kept h =
+    All-weaker (HasKind old) (HasKind new) (λ r. kept r.kind (in_first_round r.stage)) spans h
 
-pub one_run_more : {A : Type 0} (old new : List Stage) (runs : List (PhaseRun A)) (run : PhaseRun A)
+pub one_span_more : {A : Type 0} (old new : List Stage) (spans : List (PhaseSpan A)) (span : PhaseSpan A)
     → ((k : ℕ) (kind : Stage) → slice_get old k ≡ Some kind → slice_get new k ≡ Some kind)
-    → All (HasKind old) runs → HasKind old run → All (HasKind new) (runs ++ run ∷ [])
-one_run_more old new runs run kept theirs its =
-    All-push (HasKind new) runs run (still_have_kinds old new runs kept theirs)
-    (kept run.kind (in_first_round run.stage) its)
+    → All (HasKind old) spans → HasKind old span → All (HasKind new) (spans ++ span ∷ [])
+one_span_more old new spans span kept theirs its =
+    All-push (HasKind new) spans span (still_have_kinds old new spans kept theirs)
+    (kept span.kind (in_first_round span.stage) its)
 
-pub kind_of_run : {A : Type 0} (kinds : List Stage) (runs : List (PhaseRun A)) (k : ℕ) (r : PhaseRun A)
-    → All (HasKind kinds) runs → k < length runs → r ≡ get_or runs k r
+pub kind_of_span : {A : Type 0} (kinds : List Stage) (spans : List (PhaseSpan A)) (k : ℕ) (r : PhaseSpan A)
+    → All (HasKind kinds) spans → k < length spans → r ≡ get_or spans k r
     → HasKind kinds r
-kind_of_run kinds runs k r h lt is = subst (HasKind kinds) (sym is) (All-get_or (HasKind kinds) runs k r lt h)
+kind_of_span kinds spans k r h lt is = subst (HasKind kinds) (sym is) (All-get_or (HasKind kinds) spans k r lt h)
 
 -- ---- positions of marks
 
@@ -146,11 +146,11 @@ passing-append test p (x ∷ xs) ys =
     taken_or_not (test x.0 x.1) p _ _ _ moved
 
 -- the marks of one phase
-pub run_passing : (test : Stage → Bool → Bool) (at : Stage) (p : ℕ) (os : List Bool)
+pub span_passing : (test : Stage → Bool → Bool) (at : Stage) (p : ℕ) (os : List Bool)
     → marks_passing test p (map (λ o. (at, o)) os) ≡ picked (test at false) (test at true) p os
-run_passing test at p [] = refl
-run_passing test at p (true ∷ os) = ap (λ zs. cond (test at true) (p ∷ zs) zs) (run_passing test at (p + 1) os)
-run_passing test at p (false ∷ os) = ap (λ zs. cond (test at false) (p ∷ zs) zs) (run_passing test at (p + 1) os)
+span_passing test at p [] = refl
+span_passing test at p (true ∷ os) = ap (λ zs. cond (test at true) (p ∷ zs) zs) (span_passing test at (p + 1) os)
+span_passing test at p (false ∷ os) = ap (λ zs. cond (test at false) (p ∷ zs) zs) (span_passing test at (p + 1) os)
 
 -- one state more is picked, or not
 pub picked-more : (free owing : Bool) (p : ℕ) (os : List Bool) (o : Bool)
@@ -225,71 +225,72 @@ marks_count log most few =
     let same = length-map xs (λ x. mark x.1) in
     omega (arith, few, count, same)
 
--- the runs, and the last one, have all marks
-pub profile_ends : {A : Type 0} (log : Log) (runs all : List (PhaseRun A)) (run : PhaseRun A) (kinds : List Stage)
+-- the spans, and the last one, have all marks
+pub profile_ends : {A : Type 0} (log : Log) (spans all : List (PhaseSpan A)) (span : PhaseSpan A) (kinds : List Stage)
     (left : List (ℕ × NodeState)) → length log.events ≤ MAX_RECORDS
-    → marks_of log ≡ flat_map run_marks runs ++ run_marks run ++ map (λ x. mark x.1) left → left ≡ []
-    → all ≡ runs ++ run ∷ []
-    → All (HasKind kinds) runs → HasKind kinds run → IsProfile log all kinds
-profile_ends log runs all run kinds left few e none is theirs its = record {
+    → marks_of log ≡ flat_map span_marks spans ++ span_marks span ++ map (λ x. mark x.1) left → left ≡ []
+    → all ≡ spans ++ span ∷ []
+    → All (HasKind kinds) spans → HasKind kinds span → IsProfile log all kinds
+profile_ends log spans all span kinds left few e none is theirs its = record {
   marks =
-      ap (flat_map run_marks) is ∙ flat_map-append run_marks runs (run ∷ [])
-      ∙ ap (λ us. flat_map run_marks runs ++ us) (append-nil (run_marks run))
-      ∙ sym (e ∙ ap (λ xs. flat_map run_marks runs ++ run_marks run ++ map (λ x. mark x.1) xs) none
-      ∙ append-nil (flat_map run_marks runs ++ run_marks run));
+      ap (flat_map span_marks) is ∙ flat_map-append span_marks spans (span ∷ [])
+      ∙ ap (λ us. flat_map span_marks spans ++ us) (append-nil (span_marks span))
+      ∙ sym (e ∙ ap (λ xs. flat_map span_marks spans ++ span_marks span ++ map (λ x. mark x.1) xs) none
+      ∙ append-nil (flat_map span_marks spans ++ span_marks span));
   count = marks_count log MAX_RECORDS few;
-  kinds_are = subst (All (HasKind kinds)) (sym is) (All-push (HasKind kinds) runs run theirs its);
+  kinds_are = subst (All (HasKind kinds)) (sym is) (All-push (HasKind kinds) spans span theirs its);
 }
 
--- ---- a table that is found run by run
+-- ---- a table that is found span by span
 
--- after k runs, whose states end before the position, the positions found are those that pass so far
-pub record TableAt {A : Type 0} (log : Log) (f : Formula) (runs : List (PhaseRun A)) (k position : ℕ) (found : List ℕ)
+-- after k spans, whose states end before the position, the positions found are those that pass so far
+pub record TableAt {A : Type 0} (log : Log) (f : Formula) (spans : List (PhaseSpan A)) (k position : ℕ) (found : List ℕ)
     : Type 0 where
   pub passing : marks_passing (test_of f) 0 (marks_of log) ≡ found
-      ++ marks_passing (test_of f) position (flat_map run_marks (drop k runs))
-  pub room : position + length (flat_map run_marks (drop k runs)) ≤ MAX_RECORDS + 1
+      ++ marks_passing (test_of f) position (flat_map span_marks (drop k spans))
+  pub room : position + length (flat_map span_marks (drop k spans)) ≤ MAX_RECORDS + 1
 
-module _ {A : Type 0} (log : Log) (f : Formula) (runs : List (PhaseRun A)) where
-  pub table_begin : (kinds : List Stage) → IsProfile log runs kinds → TableAt log f runs 0 0 []
+module _ {A : Type 0} (log : Log) (f : Formula) (spans : List (PhaseSpan A)) where
+  pub table_begin : (kinds : List Stage) → IsProfile log spans kinds → TableAt log f spans 0 0 []
   table_begin kinds is = record {
     passing = ap (marks_passing (test_of f) 0) (sym is.marks);
     room = let count = is.count in let same = ap length is.marks in omega (arith, count, same);
   }
 
-  module _ (k p : ℕ) (found : List ℕ) (at : TableAt log f runs k p found) where
-    -- the next run, and those after it
-    next_run : (r : PhaseRun A) → k < length runs → r ≡ get_or runs k r
-        → flat_map run_marks (drop k runs) ≡ run_marks r ++ flat_map run_marks (drop (k + 1) runs)
-    next_run r lt is = ap (flat_map run_marks) (drop_more runs k r lt ∙ ap (λ q. q ∷ drop (k + 1) runs) (sym is))
+  module _ (k p : ℕ) (found : List ℕ) (at : TableAt log f spans k p found) where
+    -- the next span, and those after it
+    next_span : (r : PhaseSpan A) → k < length spans → r ≡ get_or spans k r
+        → flat_map span_marks (drop k spans) ≡ span_marks r ++ flat_map span_marks (drop (k + 1) spans)
+    next_span r lt is = ap (flat_map span_marks) (drop_more spans k r lt ∙ ap (λ q. q ∷ drop (k + 1) spans) (sym is))
 
-    next_length : (r : PhaseRun A) → k < length runs → r ≡ get_or runs k r
-        → length (flat_map run_marks (drop k runs))
-        ≡ length r.owes.items + length (flat_map run_marks (drop (k + 1) runs))
+    next_length : (r : PhaseSpan A) → k < length spans → r ≡ get_or spans k r
+        → length (flat_map span_marks (drop k spans))
+        ≡ length r.owes.items + length (flat_map span_marks (drop (k + 1) spans))
     next_length r lt is =
-        ap length (next_run r lt is) ∙ length-append (run_marks r) (flat_map run_marks (drop (k + 1) runs))
-        ∙ ap (λ n. n + length (flat_map run_marks (drop (k + 1) runs))) (length-map r.owes.items (λ o. (r.stage, o)))
+        ap length (next_span r lt is) ∙ length-append (span_marks r) (flat_map span_marks (drop (k + 1) spans))
+        ∙ ap (λ n. n + length (flat_map span_marks (drop (k + 1) spans))) (length-map r.owes.items (λ o. (r.stage, o)))
 
-    pub table_room : (r : PhaseRun A) → k < length runs → r ≡ get_or runs k r
+    pub table_room : (r : PhaseSpan A) → k < length spans → r ≡ get_or spans k r
         → p + length r.owes.items ≤ MAX_RECORDS + 1
     table_room r lt is = let room = at.room in let long = next_length r lt is in omega (arith, room, long)
 
-    pub table_more : (r : PhaseRun A) (more : List ℕ) → k < length runs → r ≡ get_or runs k r
+    pub table_more : (r : PhaseSpan A) (more : List ℕ) → k < length spans → r ≡ get_or spans k r
         → more ≡ found ++ picked (test_of f r.stage false) (test_of f r.stage true) p r.owes.items
-        → TableAt log f runs (k + 1) (p + length r.owes.items) more
+        → TableAt log f spans (k + 1) (p + length r.owes.items) more
     table_more r more lt is e =
-        let rest = flat_map run_marks (drop (k + 1) runs) in
+        let rest = flat_map span_marks (drop (k + 1) spans) in
         let test = test_of f in
-        let parts : marks_passing test p (flat_map run_marks (drop k runs)) ≡ marks_passing test p (run_marks r)
-        ++ marks_passing test (p + length (run_marks r)) rest =
-        ap (marks_passing test p) (next_run r lt is) ∙ passing-append test p (run_marks r) rest in
-        let long : length (run_marks r) ≡ length r.owes.items = length-map r.owes.items (λ o. (r.stage, o)) in
-        let here : marks_passing test p (run_marks r) ≡ picked (test r.stage false) (test r.stage true) p r.owes.items =
-        run_passing test r.stage p r.owes.items in
-        let both : marks_passing test p (flat_map run_marks (drop k runs))
+        let parts : marks_passing test p (flat_map span_marks (drop k spans)) ≡ marks_passing test p (span_marks r)
+        ++ marks_passing test (p + length (span_marks r)) rest =
+        ap (marks_passing test p) (next_span r lt is) ∙ passing-append test p (span_marks r) rest in
+        let long : length (span_marks r) ≡ length r.owes.items = length-map r.owes.items (λ o. (r.stage, o)) in
+        let here : marks_passing test p (span_marks r) ≡ picked (test r.stage false) (test r.stage true) p
+            r.owes.items =
+        span_passing test r.stage p r.owes.items in
+        let both : marks_passing test p (flat_map span_marks (drop k spans))
         ≡ picked (test r.stage false) (test r.stage true) p r.owes.items
         ++ marks_passing test (p + length r.owes.items) rest =
-        parts ∙ ap (λ us. us ++ marks_passing test (p + length (run_marks r)) rest) here
+        parts ∙ ap (λ us. us ++ marks_passing test (p + length (span_marks r)) rest) here
         ∙ ap (λ n. picked (test r.stage false) (test r.stage true) p r.owes.items
         ++ marks_passing test (p + n) rest) long in
         record {
@@ -300,9 +301,9 @@ module _ {A : Type 0} (log : Log) (f : Formula) (runs : List (PhaseRun A)) where
           room = let room = at.room in let far = next_length r lt is in omega (arith, room, far);
         }
 
-    pub table_end : length runs ≤ k → AreCandidates log f found
+    pub table_end : length spans ≤ k → AreCandidates log f found
     table_end all =
-        let none : drop k runs ≡ [] = drop_all k runs all in
+        let none : drop k spans ≡ [] = drop_all k spans all in
         marks_are_candidates log f found
-        (sym (at.passing ∙ ap (λ rs. found ++ marks_passing (test_of f) p (flat_map run_marks rs)) none
+        (sym (at.passing ∙ ap (λ rs. found ++ marks_passing (test_of f) p (flat_map span_marks rs)) none
         ∙ append-nil found))

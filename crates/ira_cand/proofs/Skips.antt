@@ -3,7 +3,7 @@ use Rattle.std.proofs.Common.{◌≡◌, ℕ, ◌<◌, ◌≤◌, List, [], ◌�
 use Rattle.std.proofs.Common.{length, refl, ap, arith}
 use Rattle.std.specs.List.Sorted.{IsStrictlyIncreasing}
 use Rattle.std.proofs.lemmas.Bool.Decides.{nat_tests}
-use Rattle.ira_cand.proofs.Rising.{rises_behind}
+use Rattle.ira_cand.proofs.Rising.{rises_after}
 
 le_true : (p x : ℕ) → p ≤ x → nat_le p x ≡ true
 le_true p x h = grind (arith, nat_tests)
@@ -15,7 +15,7 @@ all_kept : (p x : ℕ) (xs : List ℕ) → p ≤ x → IsStrictlyIncreasing (x �
 all_kept p x [] h r = rw (le_true p x h) refl
 all_kept p x (y ∷ ys) h r =
     let up : x < y = r 0 (omega arith) in
-    rw (le_true p x h) (ap (λ zs. x ∷ zs) (all_kept p y ys (omega arith) (rises_behind x (y ∷ ys) r)))
+    rw (le_true p x h) (ap (λ zs. x ∷ zs) (all_kept p y ys (omega arith) (rises_after x (y ∷ ys) r)))
 
 -- where the first is p or more, nothing is removed
 pub kept_from_first : (p x : ℕ) (xs : List ℕ) → slice_get xs 0 ≡ Some x → p ≤ x → IsStrictlyIncreasing xs

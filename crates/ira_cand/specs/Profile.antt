@@ -14,7 +14,7 @@ use Rattle.ira_node.specs.NodeState.{first_state}
 use Rattle.ira_pred.specs.ClauseAnswer.{holds_test}
 use Rattle.ira_pred.specs.Formula.{Formula}
 use Rattle.ira_replay.specs.StatesLeft.{states_left}
-use Rattle.ira_cand.specs.declared.phase_run.PhaseRun.{PhaseRun}
+use Rattle.ira_cand.specs.declared.phase_span.PhaseSpan.{PhaseSpan}
 use Rattle.ira_cand.specs.declared.stage.Stage.{Stage}
 
 -- the term and the phase of a state
@@ -29,9 +29,9 @@ mark s = (stage s, is_some s.owed)
 abbrev pub marks_of : Log → List (Stage × Bool)
 marks_of log = map (λ x. mark x.1) (states_left log.nodes (Some (0, first_state log.initiator)) log.events)
 
--- the marks of a run: one term and one phase for all of its states
-abbrev pub run_marks : {A : Type 0} → PhaseRun A → List (Stage × Bool)
-run_marks r = map (λ o. (r.stage, o)) r.owes.items
+-- the marks of a span: one term and one phase for all of its states
+abbrev pub span_marks : {A : Type 0} → PhaseSpan A → List (Stage × Bool)
+span_marks r = map (λ o. (r.stage, o)) r.owes.items
 
 -- the phase in the first round, where it has a round
 abbrev pub phase_in_first_round : Phase → Phase
@@ -45,16 +45,16 @@ phase_in_first_round Yielding = Yielding
 abbrev pub in_first_round : Stage → Stage
 in_first_round s = record { term = 1; phase = phase_in_first_round s.phase }
 
--- the run names the place at which its stage in the first round of the first term stands among the kinds
-abbrev pub HasKind : {A : Type 0} → List Stage → PhaseRun A → Type 0
+-- the span names the place at which its stage in the first round of the first term stands among the kinds
+abbrev pub HasKind : {A : Type 0} → List Stage → PhaseSpan A → Type 0
 HasKind kinds r = slice_get kinds r.kind ≡ Some (in_first_round r.stage)
 
--- the runs have the marks of the log's states, and each its kind, and there are at most as many marks as the most
+-- the spans have the marks of the log's states, and each its kind, and there are at most as many marks as the most
 -- records and one
-pub record IsProfile {A : Type 0} (log : Log) (runs : List (PhaseRun A)) (kinds : List Stage) : Type 0 where
-  pub marks : flat_map run_marks runs ≡ marks_of log
+pub record IsProfile {A : Type 0} (log : Log) (spans : List (PhaseSpan A)) (kinds : List Stage) : Type 0 where
+  pub marks : flat_map span_marks spans ≡ marks_of log
   pub count : length (marks_of log) ≤ MAX_RECORDS + 1
-  pub kinds_are : All (HasKind kinds) runs
+  pub kinds_are : All (HasKind kinds) spans
 
 -- the positions, the first mark's being p, of the marks that pass the test
 abbrev pub marks_passing : (Stage → Bool → Bool) → ℕ → List (Stage × Bool) → List ℕ

@@ -6,7 +6,7 @@ mod find_candidates;
 mod holding;
 mod laws;
 mod local_test;
-mod phase_run;
+mod phase_span;
 mod profile;
 mod stage;
 

@@ -3,10 +3,10 @@ ghost use Rattle.std.specs.List.{flat_map};
 ghost use Rattle.ira_event.specs.Limits.{MAX_RECORDS};
 ghost use Rattle.ira_pred.specs.Clause.{formula};
 ghost use Rattle.ira_cand.specs.Candidates.{AreCandidates};
-ghost use Rattle.ira_cand.specs.Profile.{HasKind, answers_in, in_first_round, mark, picked, run_marks};
+ghost use Rattle.ira_cand.specs.Profile.{HasKind, answers_in, in_first_round, mark, picked, span_marks};
 ghost use Rattle.ira_cand.specs.declared.stage.Stage.{Stage};
 
-use crate::phase_run::PhaseRun;
+use crate::phase_span::PhaseSpan;
 use crate::stage::Stage;
 use ira_event::{Load, Msg, NodeLog, OutOfMemory};
 use ira_node::NodeState;
@@ -23,8 +23,8 @@ use std::mem;
 #[derive(Drop)]
 pub struct Profile<'a, A: Allocator> {
     log: &'a NodeLog<A>,
-    runs: Vec<PhaseRun<A>, A>,
-    /// The stages of the runs in the first round of the first term, each once.
+    spans: Vec<PhaseSpan<A>, A>,
+    /// The stages of the spans in the first round of the first term, each once.
     kinds: Vec<Stage, A>,
 }
 
@@ -36,7 +36,7 @@ impl<'a, A: Allocator> Model for Profile<'a, A> {
 
     ghost view = { λ p. p.log.now };
 
-    ghost invariant = { λ p. IsProfile p.log.now p.runs.items p.kinds.items };
+    ghost invariant = { λ p. IsProfile p.log.now p.spans.items p.kinds.items };
 }
 
 impl<'a, A: Allocator + Clone> Profile<'a, A> {
@@ -45,19 +45,19 @@ impl<'a, A: Allocator + Clone> Profile<'a, A> {
         ensures { IfOk result (λ p. p ≡ log.now) }
     {
         let mut states = States::new(log.nodes(), log.initiator(), log.events());
-        let mut runs = Vec::new(alloc.clone()?);
+        let mut spans = Vec::new(alloc.clone()?);
         let mut kinds = Vec::new(alloc.clone()?);
         let stage = Stage::of(&NodeState::first(log.initiator()));
-        let mut run = PhaseRun {
+        let mut span = PhaseSpan {
             stage,
             kind: find_kind(&mut kinds, stage.in_first_round())?,
             owes: Vec::new(alloc.clone()?),
         };
         while let Some((_, state)) = states.next() {
-            add_state(&alloc, &mut runs, &mut run, &mut kinds, &state)?;
+            add_state(&alloc, &mut spans, &mut span, &mut kinds, &state)?;
         }
-        runs.push(run)?;
-        Ok(Profile { log, runs, kinds })
+        spans.push(span)?;
+        Ok(Profile { log, spans, kinds })
     }
 
     /// The candidates of the log for a clause, as a list.
@@ -67,10 +67,10 @@ impl<'a, A: Allocator + Clone> Profile<'a, A> {
         let known = known_answers(alloc.clone()?, clause, &self.kinds)?;
         let mut found = Vec::new(alloc);
         let mut position = 0;
-        for run in &self.runs {
-            let (free, owing) = run_answers(clause, run, &known);
-            pick(&mut found, position, &run.owes, free, owing)?;
-            position += run.owes.len();
+        for span in &self.spans {
+            let (free, owing) = span_answers(clause, span, &known);
+            pick(&mut found, position, &span.owes, free, owing)?;
+            position += span.owes.len();
         }
         Ok(found)
     }
@@ -91,31 +91,31 @@ fn find_kind<A: Allocator>(kinds: &mut Vec<Stage, A>, kind: Stage) -> Result<usi
     Ok(kinds.len() - 1)
 }
 
-/// Adds a state after those of the runs and of the last run.
+/// Adds a state after those of the spans and of the last span.
 fn add_state<A: Allocator + Clone>(
     alloc: &A,
-    runs: &mut Vec<PhaseRun<A>, A>,
-    run: &mut PhaseRun<A>,
+    spans: &mut Vec<PhaseSpan<A>, A>,
+    span: &mut PhaseSpan<A>,
     kinds: &mut Vec<Stage, A>,
     state: &NodeState,
 ) -> Result<(), OutOfMemory>
-    requires { All (HasKind kinds.old.items) runs.old.items × HasKind kinds.old.items run.old }
+    requires { All (HasKind kinds.old.items) spans.old.items × HasKind kinds.old.items span.old }
     ensures marks { OnOk result
-        (flat_map run_marks runs.new.items ++ run_marks run.new
-        ≡ flat_map run_marks runs.old.items ++ run_marks run.old ++ mark state.now ∷ []) }
+        (flat_map span_marks spans.new.items ++ span_marks span.new
+        ≡ flat_map span_marks spans.old.items ++ span_marks span.old ++ mark state.now ∷ []) }
     ensures kinds { OnOk result
-        (All (HasKind kinds.new.items) runs.new.items × HasKind kinds.new.items run.new) }
+        (All (HasKind kinds.new.items) spans.new.items × HasKind kinds.new.items span.new) }
 {
     let stage = Stage::of(state);
-    if stage != run.stage {
-        let next = PhaseRun {
+    if stage != span.stage {
+        let next = PhaseSpan {
             stage,
             kind: find_kind(kinds, stage.in_first_round())?,
             owes: Vec::new(alloc.clone()?),
         };
-        runs.push(mem::replace(run, next))?;
+        spans.push(mem::replace(span, next))?;
     }
-    run.owes.push(state.owed.is_some())?;
+    span.owes.push(state.owed.is_some())?;
     Ok(())
 }
 
@@ -163,23 +163,23 @@ fn known_answers<A: Allocator>(
     Ok(known)
 }
 
-/// What the clause answers in the phase of the run, where that of its kind may be known.
-fn run_answers<A: Allocator>(
+/// What the clause answers in the phase of the span, where that of its kind may be known.
+fn span_answers<A: Allocator>(
     clause: &Clause<A>,
-    run: &PhaseRun<A>,
+    span: &PhaseSpan<A>,
     known: &[(bool, bool)],
 ) -> (bool, bool)
-    requires { (both : Bool × Bool) → slice_get known.now run.now.kind ≡ Some both
-        → both ≡ answers_in (formula clause.now) run.now.stage }
-    ensures { result ≡ answers_in (formula clause.now) run.now.stage }
+    requires { (both : Bool × Bool) → slice_get known.now span.now.kind ≡ Some both
+        → both ≡ answers_in (formula clause.now) span.now.stage }
+    ensures { result ≡ answers_in (formula clause.now) span.now.stage }
 {
-    match known.get(run.kind) {
+    match known.get(span.kind) {
         Some(both) => *both,
-        None => answers(clause, run.stage),
+        None => answers(clause, span.stage),
     }
 }
 
-/// Adds the positions of the states of a run that pass; the first of them stands at `position`.
+/// Adds the positions of the states of a span that pass; the first of them stands at `position`.
 fn pick<A: Allocator>(
     found: &mut Vec<u32, A>,
     position: usize,
@@ -201,7 +201,7 @@ fn pick<A: Allocator>(
     Ok(())
 }
 
-/// Whether a state of a run passes, by whether something is owed.
+/// Whether a state of a span passes, by whether something is owed.
 fn passes(owes: bool, free: bool, owing: bool) -> bool
     ensures { result ≡ cond owes owing free }
 {

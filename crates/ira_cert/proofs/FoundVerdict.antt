@@ -23,16 +23,16 @@ use Rattle.ira_cert.specs.SoundSection.{IsSoundStep, AreSoundSteps}
 use Rattle.ira_cert.specs.SectionFault.{WhyUnsound, not_asked, same_node, node_spent, not_front, not_before}
 use Rattle.ira_cert.specs.SectionFault.{IsFirstUnsoundStep, unsound, not_spent}
 use Rattle.ira_cert.specs.Verdict.{IsVerdict}
-use Rattle.ira_cert.proofs.Behind.{one_front}
+use Rattle.ira_cert.proofs.QueueHeads.{one_front}
 use Rattle.ira_cert.proofs.Made.{step_at}
 use Rattle.ira_cert.proofs.OneList.{one_list}
 use Rattle.ira_cert.proofs.Prefixes.{sound_more}
 use Rattle.ira_cert.proofs.SomeVerdict.{candidates_at, enough}
 
 -- the first conjunct of a longer case is another one, or this one
-asked_behind : (c : Conjunct) (case : List Conjunct) (i : ℕ) → c.place ≢ i → IsAsked (c ∷ case) i → IsAsked case i
-asked_behind c case i other (f, (zero, within, is)) = absurd (other (ap (λ (x : Conjunct). x.place) is))
-asked_behind c case i other (f, (suc k, within, is)) = (f, (k, omega (arith, within), is))
+asked_after : (c : Conjunct) (case : List Conjunct) (i : ℕ) → c.place ≢ i → IsAsked (c ∷ case) i → IsAsked case i
+asked_after c case i other (f, (zero, within, is)) = absurd (other (ap (λ (x : Conjunct). x.place) is))
+asked_after c case i other (f, (suc k, within, is)) = (f, (k, omega (arith, within), is))
 
 is_asked : (case : List Conjunct) (i : ℕ) → IsAsked case i ⊎ ¬ (IsAsked case i)
 is_asked [] i = inr (λ asked. omega (arith, asked.1.1))
@@ -40,7 +40,7 @@ is_asked (c ∷ case) i = elim (cases_eq c.place i) [
   | inl here ↦ inl (c.formula, (0, omega arith, ap (λ (p : ℕ). record { place = p; formula = c.formula }) here))
   | inr other ↦ elim (is_asked case i) [
     | inl h ↦ inl (h.0, (suc h.1.0, omega (arith, h.1.1), h.1.2))
-    | inr none ↦ inr (λ asked. none (asked_behind c case i other asked))
+    | inr none ↦ inr (λ asked. none (asked_after c case i other asked))
   ]
 ]
 
@@ -78,7 +78,7 @@ module _ (logs : List Log) (case : List Conjunct)
                   NodeSpent,
                   node_spent asked other_asked apart (inr (d.0, d.1, omega (arith, d.2, past.0))) refl,
                 )
-                | inl other_first ↦ at_fronts steps k s apart first.0 other_first.0 (c.0, c.1, first.2) (
+                | inl other_first ↦ at_queues steps k s apart first.0 other_first.0 (c.0, c.1, first.2) (
                   d.0,
                   d.1,
                   other_first.2,
@@ -89,10 +89,10 @@ module _ (logs : List Log) (case : List Conjunct)
     ]
   ]
     where
-      at_fronts : (steps : List CertStep) (k : ℕ) (s : CertStep) → s.node ≢ s.other → (p q : ℕ)
+      at_queues : (steps : List CertStep) (k : ℕ) (s : CertStep) → s.node ≢ s.other → (p q : ℕ)
           → IsFront logs case (take k steps) s.node p → IsFront logs case (take k steps) s.other q
           → IsSoundStep logs case (take k steps) s ⊎ ((why : Unsound) × WhyUnsound logs case (take k steps) s why)
-      at_fronts steps k s apart p q first other_first = elim (is_front (take k steps) s.node p s.pos first) [
+      at_queues steps k s apart p q first other_first = elim (is_front (take k steps) s.node p s.pos first) [
         | inr isnt ↦ inr (NotFront, not_front apart (p, first) (q, other_first) (inl isnt) refl)
         | inl front ↦ elim (is_front (take k steps) s.other q s.other_pos other_first) [
           | inr isnt ↦ inr (NotFront, not_front apart (p, first) (q, other_first) (inr isnt) refl)

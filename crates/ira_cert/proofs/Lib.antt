@@ -1,5 +1,5 @@
-pub mod Behind
-pub mod CaseFronts
+pub mod QueueHeads
+pub mod CaseQueues
 pub mod Exactly
 pub mod FoundVerdict
 pub mod Judged

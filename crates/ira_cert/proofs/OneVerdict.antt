@@ -103,7 +103,7 @@ module _ (logs : List Log) (case : List Conjunct) (differ : HasDifferentPlaces c
     only_not_front why apart a b wrong (not_before _ f g _ e) =
         elim wrong [ inl isnt ↦ absurd (isnt f) | inr isnt ↦ absurd (isnt g) ]
 
-    -- of a step with the right fronts
+    -- of a step with the right queues
     only_not_before : (why : Unsound) → s.node ≢ s.other → IsFront logs case before s.node s.pos
         → IsFront logs case before s.other s.other_pos → WhyUnsound logs case before s why → (why ≡ NotBefore)
         × ¬ (Before logs s.node (s.pos + 1) s.other s.other_pos)

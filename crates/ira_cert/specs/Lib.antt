@@ -1,7 +1,7 @@
 pub mod Conjuncts
 pub mod Front
-pub mod Fronts
-pub mod FrontsBehind
+pub mod Queues
+pub mod QueuesAfter
 pub mod Laws
 pub mod Positions
 pub mod QueueHead

@@ -2,7 +2,7 @@
 ghost use Rattle.std.specs.Prelude.{◌≡◌, ◌<◌, ℕ, Ok, Some, IfOk, OnOk, MatchOption, length, slice_get};
 ghost use Rattle.ira_pred.specs.Case.{Conjunct};
 ghost use Rattle.ira_cert.specs.Conjuncts.{IsAsked, HasDifferentPlaces};
-ghost use Rattle.ira_cert.specs.Fronts.{AreFoundFor, IsFoundFor};
+ghost use Rattle.ira_cert.specs.Queues.{AreFoundFor, IsFoundFor};
 
 use ira_event::{OutOfMemory, RingSize};
 use ira_pred::Case;

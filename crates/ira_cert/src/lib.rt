@@ -4,7 +4,6 @@
 
 mod asked_clause;
 mod conjuncts;
-mod fronts;
 mod laws;
 mod listed_candidates;
 mod plain;
@@ -12,6 +11,7 @@ mod positions;
 mod profiled;
 mod profiles;
 mod queue_head;
+mod queues;
 mod section_fault;
 mod shared_table;
 mod soundness;
@@ -19,17 +19,17 @@ mod unsound;
 mod verdict;
 
 pub use conjuncts::map_conjuncts;
-pub use fronts::{candidates_left, check_fronts, eliminate};
 pub use ira_cert_text::{
     CertFault, CertStep, Certificate, MAX_SECTIONS, MAX_STEPS, Section, read_cert, write_cert,
 };
 pub use laws::{a_section_has_one_verdict, sound_sections_leave_no_cut};
 pub use listed_candidates::ListedCandidates;
-pub use plain::{Candidates, case_fronts, check_plain};
+pub use plain::{Candidates, case_queues, check_plain};
 pub use positions::Positions;
-pub use profiled::profiled_fronts;
+pub use profiled::profiled_queues;
 pub use profiles::Profiles;
 pub use queue_head::QueueHead;
+pub use queues::{candidates_left, check_queues, eliminate};
 pub use section_fault::SectionFault;
 pub use soundness::judge_step;
 pub use unsound::Unsound;

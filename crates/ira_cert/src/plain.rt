@@ -2,12 +2,12 @@ ghost use Rattle.std.specs.Prelude.{◌≡◌, ◌↔◌, ◌<◌, Ok, IfOk, OnO
 ghost use Rattle.ira_event.specs.Result.{UnlessErr};
 ghost use Rattle.ira_cert.specs.declared.section_fault.SectionFault.{SectionFault};
 ghost use Rattle.ira_cert.specs.Conjuncts.{HasDifferentPlaces, HasPlacesOf};
-ghost use Rattle.ira_cert.specs.Fronts.{AreFronts, AreCandidatesFor};
+ghost use Rattle.ira_cert.specs.Queues.{AreQueues, AreCandidatesFor};
 ghost use Rattle.ira_cert.specs.SoundSection.{IsSoundSection};
 ghost use Rattle.ira_cert.specs.SectionFault.{IsSectionFault};
 
 use crate::conjuncts::map_conjuncts;
-use crate::fronts::check_fronts;
+use crate::queues::check_queues;
 use crate::verdict::Verdict;
 use ira_cand::{Ahead, Holding, candidates};
 use ira_cert_text::Section;
@@ -42,21 +42,21 @@ pub fn check_plain<A: Allocator>(
         → UnlessErr result (record {})
         ((result ≡ Ok (Verdict.No f)) ↔ IsSectionFault logs.now case.now section.now f) }
 {
-    let fronts = case_fronts(alloc, logs, case)?;
-    Ok(check_fronts(ordered, fronts, section))
+    let queues = case_queues(alloc, logs, case)?;
+    Ok(check_queues(ordered, queues, section))
 }
 
 /// The candidates of the case, place by place: of each node that it asks those of its log, found as they
 /// are asked for; of others none.
-pub fn case_fronts<'a, 'b, A: Allocator>(
+pub fn case_queues<'a, 'b, A: Allocator>(
     alloc: A,
     logs: &'a Logs<A>,
     case: &'b Case<A>,
 ) -> Result<Vec<Option<Candidates<'a, 'b, A>>, A>, OutOfMemory>
     requires { HasPlacesOf logs.now case.now }
     ensures different { OnOk result (HasDifferentPlaces case.now) }
-    ensures count { IfOk result (λ fronts. length fronts.items ≡ length logs.now) }
-    ensures fronts { IfOk result (λ fronts. AreFronts logs.now case.now fronts.items) }
+    ensures count { IfOk result (λ queues. length queues.items ≡ length logs.now) }
+    ensures queues { IfOk result (λ queues. AreQueues logs.now case.now queues.items) }
 {
     map_conjuncts(
         alloc,

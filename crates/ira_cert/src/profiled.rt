@@ -1,6 +1,6 @@
 ghost use Rattle.std.specs.Prelude.{◌≡◌, ◌<◌, IfOk, OnOk, length};
 ghost use Rattle.ira_cert.specs.Conjuncts.{HasDifferentPlaces, HasPlacesOf};
-ghost use Rattle.ira_cert.specs.Fronts.{AreFronts, AreCandidatesFor};
+ghost use Rattle.ira_cert.specs.Queues.{AreQueues, AreCandidatesFor};
 
 use crate::conjuncts::map_conjuncts;
 use crate::listed_candidates::ListedCandidates;
@@ -12,7 +12,7 @@ use std::alloc::Allocator;
 
 /// The candidates of the case, place by place, found in the profiles of the logs: of each node that it asks
 /// a list of them, of others none.
-pub fn profiled_fronts<'t, A: Allocator + Clone>(
+pub fn profiled_queues<'t, A: Allocator + Clone>(
     alloc: A,
     nodes: RingSize,
     profiles: &'t Profiles<'_, '_, A>,
@@ -21,8 +21,8 @@ pub fn profiled_fronts<'t, A: Allocator + Clone>(
     requires nodes { length profiles.now ≡ nodes }
     requires places { HasPlacesOf profiles.now case.now }
     ensures different { OnOk result (HasDifferentPlaces case.now) }
-    ensures count { IfOk result (λ fronts. length fronts.items ≡ length profiles.now) }
-    ensures fronts { IfOk result (λ fronts. AreFronts profiles.now case.now fronts.items) }
+    ensures count { IfOk result (λ queues. length queues.items ≡ length profiles.now) }
+    ensures queues { IfOk result (λ queues. AreQueues profiles.now case.now queues.items) }
 {
     map_conjuncts(
         alloc.clone()?,

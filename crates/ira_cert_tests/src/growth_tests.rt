@@ -272,7 +272,7 @@ impl Writer for CertText<'_> {
 }
 
 #[test]
-fn sink_fails_behind_each_byte(rt: HostRuntime) {
+fn sink_fails_after_each_byte(rt: HostRuntime) {
     let certificate = read_cert(rt.alloc(), TWO_STEPS).expect(&rt, "a certificate");
     let refused = each_byte_refused(rt.alloc(), &CertText(&certificate), TWO_STEPS);
     assert!(rt; refused == Ok(()), "{refused:?}");

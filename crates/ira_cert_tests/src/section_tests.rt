@@ -2,7 +2,7 @@
 
 use crate::verdicts::{judge, judge_split};
 use ira_cert::{
-    CertStep, Section, SectionFault, Unsound, Verdict, candidates_left, case_fronts, check_fronts,
+    CertStep, Section, SectionFault, Unsound, Verdict, candidates_left, case_queues, check_queues,
     eliminate,
 };
 use ira_fixtures::{
@@ -61,9 +61,9 @@ fn two_step_section(rt: HostRuntime) {
     assert_verdict(&rt, LEADER_AND_ACTIVE, &steps, 1, Verdict::Yes);
 }
 
-/// Judges a section of these steps that spends node 1, for the fronts that are left when node 1 lost its first one:
+/// Judges a section of these steps that spends node 1, for the queues that are left when node 1 lost its first one:
 /// what node 1 has first then, and the verdict.
-fn judge_behind_an_elimination(
+fn judge_after_an_elimination(
     rt: &(impl Abort + AllocGlobal),
     steps: &[CertStep],
 ) -> (Option<u32>, Verdict) {
@@ -72,17 +72,17 @@ fn judge_behind_an_elimination(
     let ordered = order(alloc, &logs).expect(rt, "an order");
     let question = read_question(alloc, LEADER_AND_ACTIVE).expect(rt, "a question");
     let case = first_case(&question, &logs).expect(rt, "a question of the same ring");
-    let mut fronts = case_fronts(alloc, &logs, case).expect(rt, "memory");
-    eliminate(&mut fronts, 1);
-    let left = candidates_left(&fronts, 1).and_then(|candidates| candidates.front());
+    let mut queues = case_queues(alloc, &logs, case).expect(rt, "memory");
+    eliminate(&mut queues, 1);
+    let left = candidates_left(&queues, 1).and_then(|candidates| candidates.front());
     let steps = steps.to_vec(alloc).expect(rt, "memory");
     let section = Section { steps, spent: 1 };
-    (left, check_fronts(&ordered, fronts, &section))
+    (left, check_queues(&ordered, queues, &section))
 }
 
 #[test]
-fn candidates_behind_an_elimination(rt: HostRuntime) {
-    let judged = judge_behind_an_elimination(&rt, &[step(1, 2, 0, 4)]);
+fn candidates_after_an_elimination(rt: HostRuntime) {
+    let judged = judge_after_an_elimination(&rt, &[step(1, 2, 0, 4)]);
     assert!(rt; judged == (Some(2), Verdict::Yes));
 }
 

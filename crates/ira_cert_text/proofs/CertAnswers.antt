@@ -10,7 +10,7 @@ use Rattle.ira_cert_text.specs.Certificate.{Section, Certificate}
 use Rattle.ira_cert_text.specs.CertLines.{LinesLeft}
 use Rattle.ira_cert_text.specs.CertText.{IsCertText}
 use Rattle.ira_cert_text.specs.CertTextFault.{BeginsWithCertHead, BeginsWithSections, SectionsFault, CertLinesFault}
-use Rattle.ira_cert_text.specs.CertTextFault.{no_head, behind_head, CertTextFault}
+use Rattle.ira_cert_text.specs.CertTextFault.{no_head, past_head, CertTextFault}
 use Rattle.ira_cert_text.proofs.Heads.{heads_same}
 use Rattle.ira_cert_text.proofs.CertTexts.{sections_faults_same, sections_fault_not_all, all_sections_same}
 
@@ -50,7 +50,7 @@ one_certificate text a b h k =
 
 lines_or_fault : (text : List ℕ) (c : Certificate) (f : CertFault) → IsCertText text c → CertLinesFault text f → ⊥
 lines_or_fault text c f h (no_head none_there is) = none_there _ _ (head_of text c h)
-lines_or_fault text c f h (behind_head n rest b sf) =
+lines_or_fault text c f h (past_head n rest b sf) =
     let s = heads_same text n c.nodes rest _ b (head_of text c h) in
     sections_fault_not_all c.nodes h.valid.size.1 _ c.sections f
     (subst (λ t. SectionsFault c.nodes t f) s.1 (subst (λ m. SectionsFault m rest f) s.0 sf)) (sections_of text c h)
@@ -62,9 +62,9 @@ certificate_or_fault text c f h (inr lines) = lines_or_fault text c f h lines.1
 
 lines_faults_same : (text : List ℕ) (f g : CertFault) → CertLinesFault text f → CertLinesFault text g → f ≡ g
 lines_faults_same text f g (no_head a p) (no_head b q) = p ∙ sym q
-lines_faults_same text f g (no_head a p) (behind_head n rest b sf) = absurd (a n rest b)
-lines_faults_same text f g (behind_head n rest b sf) (no_head a p) = absurd (a n rest b)
-lines_faults_same text f g (behind_head n rest b sf) (behind_head m rest' c sg) =
+lines_faults_same text f g (no_head a p) (past_head n rest b sf) = absurd (a n rest b)
+lines_faults_same text f g (past_head n rest b sf) (no_head a p) = absurd (a n rest b)
+lines_faults_same text f g (past_head n rest b sf) (past_head m rest' c sg) =
     let s = heads_same text n m rest rest' b c in
     sections_faults_same m c.size.1 rest' f g
     (subst (λ t. SectionsFault m t f) s.1 (subst (λ x. SectionsFault x rest f) s.0 sf)) sg
@@ -97,7 +97,7 @@ certificate_read text nodes rest sections short a b = record {
 pub lines_refused : (text : List ℕ) (nodes : ℕ) (rest : List ℕ) (f : CertFault) → length text ≤ MAX_TEXT
     → BeginsWithCertHead text nodes rest → (f ≡ OutOfMemory) ⊎ SectionsFault nodes rest f → CertificateRead (Err f) text
 lines_refused text nodes rest f short b (inl e) = inl e
-lines_refused text nodes rest f short b (inr h) = inr (inr (short, behind_head nodes rest b h))
+lines_refused text nodes rest f short b (inr h) = inr (inr (short, past_head nodes rest b h))
 
 ok_is : (a b : Certificate) → ◌≡◌ {A = Result Certificate CertFault} (Ok a) (Ok b) → a ≡ b
 ok_is a b e = cc

@@ -9,7 +9,7 @@ use Rattle.ira_cert_text.specs.CertLaws.{NoTextIsOutOfMemory}
 use Rattle.ira_cert_text.specs.CertTextFault.{OutsideFault, too_many_sections, no_section_or_end, trailing, InsideFault}
 use Rattle.ira_cert_text.specs.CertTextFault.{too_many_steps, no_step_or_spent, step_range, spent_range}
 use Rattle.ira_cert_text.specs.CertTextFault.{BeginsWithCertHead, SectionsFault, outside, inside, CertLinesFault}
-use Rattle.ira_cert_text.specs.CertTextFault.{no_head, behind_head, CertTextFault}
+use Rattle.ira_cert_text.specs.CertTextFault.{no_head, past_head, CertTextFault}
 use Rattle.ira_cert_text.proofs.CertAnswers.{CertificateRead, certificate_or_fault, one_fault, err_is}
 
 -- a fault of what stands after a head
@@ -40,7 +40,7 @@ sections_fault_late nodes text f (inside ss steps body rest b few c d) =
 
 lines_memory : (text : List ℕ) → CertLinesFault text fault.OutOfMemory → ⊥
 lines_memory text (no_head a e) = absurd cc
-lines_memory text (behind_head n rest b h) = sections_fault_late n rest fault.OutOfMemory h
+lines_memory text (past_head n rest b h) = sections_fault_late n rest fault.OutOfMemory h
 
 pub not_out_of_memory : NoTextIsOutOfMemory
 not_out_of_memory text (inl a) = absurd cc
@@ -53,7 +53,7 @@ HasHead text = (length text ≤ MAX_TEXT) × (nodes : ℕ) × (rest : List ℕ) 
 
 lines_late : (text : List ℕ) (f : CertFault) → HasHead text → CertLinesFault text f → IsLate f
 lines_late text f has (no_head none e) = absurd (none has.1 has.2 has.3)
-lines_late text f has (behind_head n rest b h) = sections_fault_late n rest f h
+lines_late text f has (past_head n rest b h) = sections_fault_late n rest f h
 
 fault_late : (text : List ℕ) (f : CertFault) → HasHead text → CertTextFault text f → IsLate f
 fault_late text f has (inl long) = absurd (omega (arith, long.0, has.0))

@@ -4,7 +4,7 @@ use Rattle.std.proofs.Common.{append_assoc}
 use Rattle.std.specs.Prelude.{codes}
 use Rattle.std.specs.Option.{option_map}
 use Rattle.std.proofs.lemmas.Option.{same_Some}
-use Rattle.ira_event.specs.Scan.{kept, after_word, behind}
+use Rattle.ira_event.specs.Scan.{kept, after_word, then_or}
 use Rattle.ira_event.specs.LogScan.{number_line}
 use Rattle.ira_event.specs.NextLine.{HasNoLineFeed}
 use Rattle.ira_event.proofs.Pieces.{Lacks-append}
@@ -111,7 +111,7 @@ pub record FirstLine (text : List ℕ) (p : SpelledLine × List ℕ) : Type 0 wh
   pub says : Says line p.0
 
 -- the step that was taken from the front, after its word, with its line's end
-record StepTaken (text : List ℕ) (p : SpelledStep × List ℕ) : Type 0 where
+record StepScanned (text : List ℕ) (p : SpelledStep × List ℕ) : Type 0 where
   numbers : List ℕ
   s : CertStep
   parts : text ≡ numbers ++ codes "\n" ++ p.1
@@ -136,7 +136,7 @@ step_kept a b c d a' b' c' d' s is p q r t = cc
 step_built : (text : List ℕ) (p : SpelledStep × List ℕ) (n m o q : ℕ × List ℕ) (a b c rest : List ℕ) → Kept text n
     → n.1 ≡ codes " " ++ a → Kept a m → m.1 ≡ codes " by " ++ b → Kept b o → o.1 ≡ codes " " ++ c → Kept c q
     → q.1 ≡ codes "\n" ++ rest
-    → record { node = n.0; pos = m.0; other = o.0; other_pos = q.0 } ≡ p.0 → rest ≡ p.1 → StepTaken text p
+    → record { node = n.0; pos = m.0; other = o.0; other_pos = q.0 } ≡ p.0 → rest ≡ p.1 → StepScanned text p
 step_built text p n m o q a b c rest node s1 pos by other s2 other_pos end one two = record {
   numbers = node.text ++ codes " " ++ pos.text ++ codes " by " ++ other.text ++ codes " " ++ other_pos.text;
   s = record { node = node.n; pos = pos.n; other = other.n; other_pos = other_pos.n };
@@ -157,7 +157,7 @@ step_built text p n m o q a b c rest node s1 pos by other s2 other_pos end one t
       other_pos.kept_is;
 }
 
-step-takes : (text : List ℕ) (p : SpelledStep × List ℕ) → step_at text ≡ Some p → StepTaken text p
+step-takes : (text : List ℕ) (p : SpelledStep × List ℕ) → step_at text ≡ Some p → StepScanned text p
 unfolding step_at
 step-takes text p e =
     let n = bind_some _ _ _ e in
@@ -175,20 +175,20 @@ step-takes text p e =
     (word-takes (codes "\n") q.0.1 r.0 r.1)
     (ap (λ (y : SpelledStep × List ℕ). y.0) x) (ap (λ (y : SpelledStep × List ℕ). y.1) x)
 
-behind_word : (word text numbers rest after : List ℕ) → after_word word text ≡ Some after
+past_word : (word text numbers rest after : List ℕ) → after_word word text ≡ Some after
     → after ≡ numbers ++ codes "\n" ++ rest → text ≡ (word ++ numbers) ++ codes "\n" ++ rest
-behind_word word text numbers rest after e p = word-takes word text after e ∙ ap (λ w. word ++ w) p ∙ simp append_assoc
+past_word word text numbers rest after e p = word-takes word text after e ∙ ap (λ w. word ++ w) p ∙ simp append_assoc
 
 line-cases : (text : List ℕ) (p : SpelledLine × List ℕ) (a b : Option (List ℕ)) → after_word (codes "drop ") text ≡ a
     → after_word (codes "spent ") text ≡ b
-    → behind a (λ r. option_map (λ p. (Step p.0, p.1)) (step_at r))
-    (behind b (λ r. option_map (λ p. (Spent p.0, p.1)) (number_line r)) None) ≡ Some p → FirstLine text p
+    → then_or a (λ r. option_map (λ p. (Step p.0, p.1)) (step_at r))
+    (then_or b (λ r. option_map (λ p. (Spent p.0, p.1)) (number_line r)) None) ≡ Some p → FirstLine text p
 line-cases text p (Some r) b ea eb e =
     let m = map_some (step_at r) (λ p. (Step p.0, p.1)) p e in
     let t = step-takes r m.0 m.1 in
     subst (FirstLine text) m.2 (record {
       line = codes "drop " ++ t.numbers;
-      parts = behind_word (codes "drop ") text t.numbers m.0.1 r ea t.parts;
+      parts = past_word (codes "drop ") text t.numbers m.0.1 r ea t.parts;
       whole =
           step_is_one_line (codes "drop " ++ t.numbers) t.s t.is;
       says = (t.s, t.is, t.kept_is);
@@ -198,7 +198,7 @@ line-cases text p None (Some r) ea eb e =
     let t = number_line-takes r m.0 m.1 in
     subst (FirstLine text) m.2 (record {
       line = codes "spent " ++ t.0;
-      parts = behind_word (codes "spent ") text t.0 m.0.1 r eb t.2;
+      parts = past_word (codes "spent ") text t.0 m.0.1 r eb t.2;
       whole =
           spent_is_one_line (codes "spent " ++ t.0) t.1 (t.0, refl, t.3);
       says = (t.1, (t.0, refl, t.3), t.4);

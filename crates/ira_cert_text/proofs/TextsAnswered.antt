@@ -24,7 +24,7 @@ use Rattle.ira_cert_text.specs.CertLines.{LinesLeft, ReadsOutside, ReadsInside, 
 use Rattle.ira_cert_text.specs.CertScan.{as_step, section_line_at, head_at}
 use Rattle.ira_cert_text.specs.CertText.{IsCertText}
 use Rattle.ira_cert_text.specs.CertTextFault.{RestOutsideFault, RestInsideFault, BeginsWithCertHead, BeginsWithSections}
-use Rattle.ira_cert_text.specs.CertTextFault.{SectionsFault, no_head, behind_head, CertTextFault}
+use Rattle.ira_cert_text.specs.CertTextFault.{SectionsFault, no_head, past_head, CertTextFault}
 use Rattle.ira_cert_text.proofs.CertAnswers.{certificate_of, certificate_read}
 use Rattle.ira_cert_text.proofs.Heads as heads
 use Rattle.ira_cert_text.proofs.Reading as reading
@@ -232,7 +232,7 @@ head_there : (text : List ℕ) (nodes : ℕ) (rest : List ℕ) → length text �
     → SectionsAnswered nodes rest → Answered text
 head_there text nodes rest short b (inl r) =
     inl (certificate_of nodes r.0, certificate_read text nodes rest r.0 short b r.1)
-head_there text nodes rest short b (inr r) = inr (r.0, inr (short, behind_head nodes rest b r.1))
+head_there text nodes rest short b (inr r) = inr (r.0, inr (short, past_head nodes rest b r.1))
 
 by_head : (text : List ℕ) (head : Option (ℕ × List ℕ)) → length text ≤ MAX_TEXT → head_at text ≡ head → Answered text
 by_head text None short e = no_head_there text short (heads.no_head text e)

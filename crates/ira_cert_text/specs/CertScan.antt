@@ -1,7 +1,7 @@
 -- Helpers, no definitions: how the lines of a certificate's text are scanned, as the reader's contracts say.
 use Rattle.std.specs.Option.{option_map}
 use Rattle.std.specs.Prelude.{ℕ, List, Option, Some, None, codes}
-use Rattle.ira_event.specs.Scan.{kept_at, after_word, ◌>>=◌, behind}
+use Rattle.ira_event.specs.Scan.{kept_at, after_word, ◌>>=◌, then_or}
 use Rattle.ira_event.specs.LogScan.{number_line}
 use Rattle.ira_cert_text.specs.declared.cert_line.SpelledStep.{SpelledStep}
 use Rattle.ira_cert_text.specs.declared.cert_line.SpelledLine.{SpelledLine}
@@ -25,11 +25,11 @@ step_at text = do
   rest ← after_word (codes "\n") other_pos.1
   Some (record { node = node.0; pos = pos.0; other = other.0; other_pos = other_pos.0 }, rest)
 
--- the line of a section after its first one, and what follows it
+-- the line of a section then_or its first one, and what follows it
 abbrev pub section_line_at : List ℕ → Option (SpelledLine × List ℕ)
 section_line_at text =
-    behind (after_word (codes "drop ") text) (λ r. option_map (λ p. (Step p.0, p.1)) (step_at r))
-    (behind (after_word (codes "spent ") text) (λ r. option_map (λ p. (Spent p.0, p.1)) (number_line r)) None)
+    then_or (after_word (codes "drop ") text) (λ r. option_map (λ p. (Step p.0, p.1)) (step_at r))
+    (then_or (after_word (codes "spent ") text) (λ r. option_map (λ p. (Spent p.0, p.1)) (number_line r)) None)
 
 -- the head's two lines, its number of any size, and what follows them
 abbrev pub head_at : List ℕ → Option (ℕ × List ℕ)

@@ -95,7 +95,7 @@ pub data CertLinesFault (text : List ℕ) (f : CertFault) : Type 0 where
   -- it begins with no head
   no_head : ((nodes : ℕ) (rest : List ℕ) → ¬ (BeginsWithCertHead text nodes rest)) → f ≡ Head → CertLinesFault text f
   -- what stands after its head has a fault
-  behind_head : (nodes : ℕ) (rest : List ℕ) → BeginsWithCertHead text nodes rest → SectionsFault nodes rest f
+  past_head : (nodes : ℕ) (rest : List ℕ) → BeginsWithCertHead text nodes rest → SectionsFault nodes rest f
       → CertLinesFault text f
 
 -- the fault of a text

@@ -4,7 +4,7 @@ ghost use Rattle.ira_cert_text.specs.Certificate.{IsStep};
 ghost use Rattle.ira_cert_text.specs.CertScan.{as_step, step_at, section_line_at};
 
 use crate::cert_step::CertStep;
-use ira_event::{skip_word, take_number};
+use ira_event::{scan_number, skip_word};
 
 /// The numbers of a step as they are spelled, in range or not.
 #[derive(Clone, Copy)]
@@ -56,15 +56,15 @@ pub(crate) fn place_in_range(place: u32, nodes: u8) -> Option<u8>
 /// The line of a section, after its first one, that the text begins with, and what follows its line
 /// feed.
 #[inline(always)]
-pub(crate) fn take_section_line(text: &[u8]) -> Option<(SpelledLine, &[u8])>
+pub(crate) fn scan_section_line(text: &[u8]) -> Option<(SpelledLine, &[u8])>
     ensures { Gives (λ found. (found.0, found.1.now)) result (section_line_at text.now) }
 {
     if let Some(rest) = skip_word(text, b"drop ") {
-        let (step, rest) = take_step(rest)?;
+        let (step, rest) = scan_step(rest)?;
         return Some((SpelledLine::Step(step), rest));
     }
     let rest = skip_word(text, b"spent ")?;
-    let (place, rest) = take_number(rest)?;
+    let (place, rest) = scan_number(rest)?;
     let rest = skip_word(rest, b"\n")?;
     Some((SpelledLine::Spent(place), rest))
 }
@@ -72,16 +72,16 @@ pub(crate) fn take_section_line(text: &[u8]) -> Option<(SpelledLine, &[u8])>
 /// The numbers of a step to its line's end.
 #[inline(always)]
 #[tactic(auto, unfolding(crate::specs::CertScan::step_at))]
-fn take_step(text: &[u8]) -> Option<(SpelledStep, &[u8])>
+fn scan_step(text: &[u8]) -> Option<(SpelledStep, &[u8])>
     ensures { Gives (λ found. (found.0, found.1.now)) result (step_at text.now) }
 {
-    let (node, rest) = take_number(text)?;
+    let (node, rest) = scan_number(text)?;
     let rest = skip_word(rest, b" ")?;
-    let (pos, rest) = take_number(rest)?;
+    let (pos, rest) = scan_number(rest)?;
     let rest = skip_word(rest, b" by ")?;
-    let (other, rest) = take_number(rest)?;
+    let (other, rest) = scan_number(rest)?;
     let rest = skip_word(rest, b" ")?;
-    let (other_pos, rest) = take_number(rest)?;
+    let (other_pos, rest) = scan_number(rest)?;
     let rest = skip_word(rest, b"\n")?;
     let step = SpelledStep {
         node,

@@ -6,7 +6,7 @@ ghost use Rattle.ira_cert_text.specs.CertTextFault.{BeginsAsStep, RestOutsideFau
 ghost use Rattle.ira_cert_text.specs.CertLines.{ReadsOutside, ReadsInside};
 
 use crate::cert_fault::CertFault;
-use crate::cert_line::{SpelledLine, place_in_range, take_section_line};
+use crate::cert_line::{SpelledLine, place_in_range, scan_section_line};
 use crate::cert_step::CertStep;
 use crate::limits::{MAX_SECTIONS, MAX_STEPS};
 use ira_event::{line_end, skip_word};
@@ -84,7 +84,7 @@ impl<'a> CertLines<'a> {
     pub fn next_in_section(&mut self, nodes: u8, steps: usize) -> Result<SectionLine, CertFault>
         ensures { ReadsInside nodes steps self.old self.new result }
     {
-        let Some((line, after)) = take_section_line(self.rest) else {
+        let Some((line, after)) = scan_section_line(self.rest) else {
             return Err(inside_fault(self.rest, self.number, steps));
         };
         match line {

@@ -5,7 +5,7 @@ ghost use Rattle.ira_cert_text.specs.CertTextFault.{CertTextFault};
 ghost use Rattle.ira_cert_text.specs.CertLines.{ReadsSection, SectionsRead};
 
 use crate::cert_fault::CertFault;
-use crate::cert_head::take_head;
+use crate::cert_head::scan_head;
 use crate::cert_lines::{CertLines, SectionLine};
 use crate::certificate::Certificate;
 use crate::section::Section;
@@ -24,7 +24,7 @@ pub fn read_cert<A: Allocator + Clone>(alloc: A, text: &[u8]) -> Result<Certific
     if text.len() > MAX_TEXT {
         return Err(CertFault::TooLong);
     }
-    let Some(head) = take_head(text) else {
+    let Some(head) = scan_head(text) else {
         return Err(CertFault::Head);
     };
     let sections = read_sections(alloc, head.nodes.get(), CertLines::new(head.rest))?;

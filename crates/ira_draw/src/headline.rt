@@ -112,8 +112,8 @@ pub(crate) fn write_description<A: Allocator, W: fmt::Write>(
         thing: "event",
     };
     write!(out, "\nnode {place}: {events}, {}", StateWords(lane.end))?;
-    if let Some(stop) = lane.stop {
-        let (position, fault) = (stop.position, stop.fault);
+    if let Some(first_fault) = lane.first_fault {
+        let (position, fault) = (first_fault.position, first_fault.fault);
         write!(out, ", then event {position} has no step: {fault}")?;
     }
     Ok(())

@@ -1,12 +1,14 @@
 ghost use Rattle.std.specs.Prelude.{Some};
 ghost use Rattle.ira_order.specs.Circle.{HasOrder};
 ghost use Rattle.ira_order.specs.MatchFault.{IsMatchFault};
-ghost use Rattle.ira_evidence.specs.Stop.{IsFirstStop};
+ghost use Rattle.ira_evidence.specs.FaultyEvent.{IsFirstFaultyEvent};
 ghost use Rattle.ira_draw.specs.Objection.{IsObjection};
 
 use crate::objection::Objection;
 use ira_event::{Logs, OutOfMemory};
-use ira_evidence::{CircleEvidence, EventAt, LinkEvidence, Stop, beginnings, first_stops};
+use ira_evidence::{
+    CircleEvidence, EventAt, FaultyEvent, LinkEvidence, beginnings, first_faulty_events,
+};
 use ira_node::StepFault;
 use ira_order::{DirectDependencies, MatchFault};
 use std::alloc::Allocator;
@@ -89,28 +91,28 @@ fn stuck_receipts<A: Allocator, P: Allocator>(
 }
 
 /// The event without a step, and those to begin with.
-fn stops<A: Allocator + Clone, P: Allocator>(
+fn highlights_of_node<A: Allocator + Clone, P: Allocator>(
     alloc: A,
-    room: P,
+    list_alloc: P,
     logs: &Logs<A>,
-    named: Stop,
+    named: FaultyEvent,
 ) -> Result<Vec<Highlight, P>, OutOfMemory>
     requires order { HasOrder logs.now }
-    requires named { IsFirstStop logs.now named }
+    requires named { IsFirstFaultyEvent logs.now named }
 {
-    let mut events = Vec::new(room);
+    let mut events = Vec::new(list_alloc);
     events.push(Highlight {
         at: named.at,
         cause: Cause::NoStep(named.fault),
     })?;
-    let stops = first_stops(alloc.clone()?, logs)?;
+    let faulty = first_faulty_events(alloc.clone()?, logs)?;
     let ordered = DirectDependencies::new(alloc.clone()?, logs)?;
-    let beginnings = beginnings(alloc, &ordered, &stops, named)?;
+    let beginnings = beginnings(alloc, &ordered, &faulty, named)?;
     for beginning in &beginnings {
         if beginning.happened_before {
             events.push(Highlight {
-                at: beginning.stop.at,
-                cause: Cause::Begin(beginning.stop.fault),
+                at: beginning.event.at,
+                cause: Cause::Begin(beginning.event.fault),
             })?;
         }
     }
@@ -120,19 +122,19 @@ fn stops<A: Allocator + Clone, P: Allocator>(
 /// The events that an objection speaks of.
 pub(crate) fn highlights<A: Allocator + Clone, P: Allocator>(
     alloc: A,
-    room: P,
+    list_alloc: P,
     logs: &Logs<A>,
     objection: Option<Objection>,
 ) -> Result<Vec<Highlight, P>, OutOfMemory>
     requires { IsObjection logs.now objection }
 {
     match objection {
-        None => Ok(Vec::new(room)),
-        Some(Objection::Link(fault)) => sides_of_fault(room, logs, fault),
+        None => Ok(Vec::new(list_alloc)),
+        Some(Objection::Link(fault)) => sides_of_fault(list_alloc, logs, fault),
         Some(Objection::Circle) => match CircleEvidence::find(alloc, logs)? {
-            Some(evidence) => stuck_receipts(room, &evidence),
-            None => Ok(Vec::new(room)),
+            Some(evidence) => stuck_receipts(list_alloc, &evidence),
+            None => Ok(Vec::new(list_alloc)),
         },
-        Some(Objection::Node(named)) => stops(alloc, room, logs, named),
+        Some(Objection::Node(named)) => highlights_of_node(alloc, list_alloc, logs, named),
     }
 }

@@ -136,7 +136,7 @@ fn write_end<A: Allocator, W: fmt::Write>(
     row: u8,
 ) -> fmt::Result {
     let NodeState { phase, owed, .. } = lane.end;
-    let is_stopped = lane.stop.is_some();
+    let is_stopped = lane.first_fault.is_some();
     let is_passive = phase == Phase::Passive;
     if is_passive && owed.is_none() && !is_stopped {
         return Ok(());

@@ -4,7 +4,7 @@ ghost use Rattle.ira_order.specs.Matching.{Matches};
 ghost use Rattle.ira_draw.specs.Objection.{IsObjection};
 
 use ira_event::{Logs, OutOfMemory};
-use ira_evidence::{CircleEvidence, Stop, first_stops};
+use ira_evidence::{CircleEvidence, FaultyEvent, first_faulty_events};
 use ira_order::{MatchFault, match_links};
 use ira_replay::ReplayFault;
 use std::alloc::Allocator;
@@ -18,22 +18,25 @@ pub enum Objection {
     /// Events wait for one another.
     Circle,
     /// An event of a node has no step.
-    Node(Stop),
+    Node(FaultyEvent),
 }
 
 /// The first event without a step, of logs that have an order.
-fn first_stop<A: Allocator>(alloc: A, logs: &Logs<A>) -> Result<Option<Objection>, OutOfMemory>
+fn first_faulty_event<A: Allocator>(
+    alloc: A,
+    logs: &Logs<A>,
+) -> Result<Option<Objection>, OutOfMemory>
     requires { HasOrder logs.now }
     ensures { IfOk result (IsObjection logs.now) }
 {
-    let stops = first_stops(alloc, logs)?;
-    match stops.first() {
-        Some(stop) => Ok(Some(Objection::Node(*stop))),
+    let faulty = first_faulty_events(alloc, logs)?;
+    match faulty.first() {
+        Some(event) => Ok(Some(Objection::Node(*event))),
         None => Ok(None),
     }
 }
 
-/// That events wait for one another, or what `first_stop` says, of logs that match.
+/// That events wait for one another, or what `first_faulty_event` says, of logs that match.
 fn circle_or_stop<A: Allocator + Clone>(
     alloc: A,
     logs: &Logs<A>,
@@ -43,7 +46,7 @@ fn circle_or_stop<A: Allocator + Clone>(
 {
     match CircleEvidence::find(alloc.clone()?, logs)? {
         Some(_) => Ok(Some(Objection::Circle)),
-        None => first_stop(alloc, logs),
+        None => first_faulty_event(alloc, logs),
     }
 }
 
@@ -68,7 +71,7 @@ impl fmt::Display for Objection {
         match self {
             Objection::Link(fault) => write!(f, "no: {fault}"),
             Objection::Circle => f.write_str("no: circle"),
-            Objection::Node(Stop { at, fault }) => {
+            Objection::Node(FaultyEvent { at, fault }) => {
                 let (place, position) = (at.place, at.position);
                 let fault = ReplayFault {
                     position,

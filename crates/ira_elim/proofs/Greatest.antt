@@ -24,20 +24,20 @@ own_count logs order j q i n is count same = elim (cases_eq n 0) [
   ]
 ]
 
-module _ (logs : List Log) (fronts : List (Option (List ℕ))) (places : List ℕ) (place : ℕ) where
+module _ (logs : List Log) (queues : List (Option (List ℕ))) (places : List ℕ) (place : ℕ) where
   -- c is at or above the counts at the first candidates left of the first k places
   abbrev pub IsUpper : ℕ → ℕ → Type 0
-  IsUpper k c = (l : ℕ) → l < k → (q : ℕ) → IsFirstLeft fronts (get_or places l 0) q → (n : ℕ)
+  IsUpper k c = (l : ℕ) → l < k → (q : ℕ) → IsFirstLeft queues (get_or places l 0) q → (n : ℕ)
       × IsCount logs (get_or places l 0) q place n × (n ≤ c)
 
   -- c is 0 or one of the counts
   abbrev pub IsReached : ℕ → Type 0
-  IsReached c = (c ≡ 0) ⊎ ((j : ℕ) × (q : ℕ) × IsFirstLeft fronts j q × IsCount logs j q place c × (place ≡ j → c ≤ q))
+  IsReached c = (c ≡ 0) ⊎ ((j : ℕ) × (q : ℕ) × IsFirstLeft queues j q × IsCount logs j q place c × (place ≡ j → c ≤ q))
 
   raised : (k c d : ℕ) → c ≤ d → IsUpper k c → IsUpper k d
   raised k c d l upper i h q first = let u = upper i h q first in (u.0, u.1, omega (arith, u.2))
 
-  pub greatest_more : (k c p n d : ℕ) (order : List ℕ) → IsOrder logs order → IsFirstLeft fronts (get_or places k 0) p
+  pub greatest_more : (k c p n d : ℕ) (order : List ℕ) → IsOrder logs order → IsFirstLeft queues (get_or places k 0) p
       → IsCount logs (get_or places k 0) p place n → d ≡ ord_max nat_cmp c n → IsUpper k c → IsReached c
       → IsUpper (k + 1) d × IsReached d
   greatest_more k c p n d order is first count e upper reached =
@@ -45,9 +45,9 @@ module _ (logs : List Log) (fronts : List (Option (List ℕ))) (places : List �
       let either = greater_of d c n e in
       let low : c ≤ d = elim either [ inl h ↦ omega (arith, h.0) | inr h ↦ omega (arith, h.0, h.1) ] in
       let high : n ≤ d = elim either [ inl h ↦ omega (arith, h.0, h.1) | inr h ↦ omega (arith, h.0) ] in (
-        below_more (λ (i : ℕ). (q : ℕ) → IsFirstLeft fronts (get_or places i 0) q → (m : ℕ)
+        below_more (λ (i : ℕ). (q : ℕ) → IsFirstLeft queues (get_or places i 0) q → (m : ℕ)
             × IsCount logs (get_or places i 0) q place m × (m ≤ d)) k (raised k c d low upper)
-            (λ q other. (let same : p ≡ q = one_first fronts j j p q refl first other in
+            (λ q other. (let same : p ≡ q = one_first queues j j p q refl first other in
             (n, subst (λ (r : ℕ). IsCount logs j r place n) same count, high))),
         elim either [
           | inl h ↦ subst IsReached (sym h.0) reached
@@ -61,28 +61,28 @@ module _ (logs : List Log) (fronts : List (Option (List ℕ))) (places : List �
         ],
       )
 
-  pub greatest_stays : (k c d : ℕ) → ((p : ℕ) → IsFirstLeft fronts (get_or places k 0) p → ⊥) → d ≡ c → IsUpper k c
+  pub greatest_stays : (k c d : ℕ) → ((p : ℕ) → IsFirstLeft queues (get_or places k 0) p → ⊥) → d ≡ c → IsUpper k c
       → IsReached c → IsUpper (k + 1) d × IsReached d
   greatest_stays k c d none e upper reached = (
-    subst (IsUpper (k + 1)) (sym e) (below_more (λ (i : ℕ). (q : ℕ) → IsFirstLeft fronts (get_or places i 0) q → (m : ℕ)
+    subst (IsUpper (k + 1)) (sym e) (below_more (λ (i : ℕ). (q : ℕ) → IsFirstLeft queues (get_or places i 0) q → (m : ℕ)
         × IsCount logs (get_or places i 0) q place m × (m ≤ c)) k upper (λ q first. absurd (none q first))),
     subst IsReached (sym e) reached,
   )
 
 -- one place more
-pub counts_more : (logs : List Log) (fronts : List (Option (List ℕ))) (cut more : List ℕ) (place c : ℕ)
-    → more ≡ cut ++ c ∷ [] → length cut ≡ place → ((i : ℕ) → i < place → IsGreatestCount logs fronts i (get_or cut i 0))
-    → IsGreatestCount logs fronts place c → (length more ≡ place + 1)
-    × ((i : ℕ) → i < place + 1 → IsGreatestCount logs fronts i (get_or more i 0))
-counts_more logs fronts cut more place c pushed long counts here =
+pub counts_more : (logs : List Log) (queues : List (Option (List ℕ))) (cut more : List ℕ) (place c : ℕ)
+    → more ≡ cut ++ c ∷ [] → length cut ≡ place → ((i : ℕ) → i < place → IsGreatestCount logs queues i (get_or cut i 0))
+    → IsGreatestCount logs queues place c → (length more ≡ place + 1)
+    × ((i : ℕ) → i < place + 1 → IsGreatestCount logs queues i (get_or more i 0))
+counts_more logs queues cut more place c pushed long counts here =
     let long_more : length more ≡ place + 1 =
     omega (arith, ap (λ (xs : List ℕ). length xs) pushed, length-append cut (c ∷ []), long) in
     let last : get_or more place 0 ≡ c =
     ap (λ (xs : List ℕ). get_or xs place 0) pushed ∙ get_or_push cut c 0 place long in
-    let Q : ℕ → Type 0 = λ i. IsGreatestCount logs fronts i (get_or more i 0) in
+    let Q : ℕ → Type 0 = λ i. IsGreatestCount logs queues i (get_or more i 0) in
     let below : (i : ℕ) → i < place → Q i = λ i l.
     let same : get_or more i 0 ≡ get_or cut i 0 =
     ap (λ (xs : List ℕ). get_or xs i 0) pushed ∙ get_or_append_left cut (c ∷ []) 0 i (omega arith) in
-    subst (IsGreatestCount logs fronts i) (sym same) (counts i l)
+    subst (IsGreatestCount logs queues i) (sym same) (counts i l)
     in
-    (long_more, below_more Q place below (subst (IsGreatestCount logs fronts place) (sym last) here))
+    (long_more, below_more Q place below (subst (IsGreatestCount logs queues place) (sym last) here))

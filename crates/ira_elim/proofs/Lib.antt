@@ -5,7 +5,7 @@ pub mod PairSet
 pub mod Places
 pub mod Present
 pub mod SomeFound
-pub mod SomeFronts
+pub mod SomeQueues
 pub mod Standing
 pub mod Steps
 pub mod Within

@@ -14,10 +14,10 @@ use Rattle.ira_order.proofs.Acyclic.{before_within}
 use Rattle.ira_order.proofs.Bridge.{before_places}
 use Rattle.ira_cert_text.specs.declared.cert_step.CertStep.{CertStep}
 use Rattle.ira_cert.specs.Front.{made}
-use Rattle.ira_cert.specs.FrontsBehind.{AreFrontsBehind}
-use Rattle.ira_cert.proofs.Behind.{one_fewer, slice_get-drop, slice_get-set_same, slice_get-set_other}
+use Rattle.ira_cert.specs.QueuesAfter.{AreQueuesAfter}
+use Rattle.ira_cert.proofs.QueueHeads.{one_fewer, slice_get-drop, slice_get-set_same, slice_get-set_other}
 use Rattle.ira_cert.proofs.NoCut.{rising_le}
-use Rattle.ira_cert.specs.Fronts.{HasList}
+use Rattle.ira_cert.specs.Queues.{HasList}
 use Rattle.ira_elim.specs.Elimination.{HasEliminations, IsElimination, IsFirstLeft, AreWithin}
 use Rattle.ira_elim.specs.PairSet.{Has}
 use Rattle.ira_elim.proofs.Places.{one_first}
@@ -32,39 +32,40 @@ before_earlier logs i a b j c first le before = elim (cases_eq a b) [
 ]
 
 -- an event of a node that is eliminated is counted where it happened before
-pub is_counted : (logs : List Log) (fronts : List (Option (List ℕ))) (i p j q : ℕ) (counts : List ℕ)
-    → AreCountsOfOthers logs j q counts → AreWithin logs fronts → IsFirstLeft fronts i p → IsFirstLeft fronts j q
-    → (s : CertStep) → s.node ≡ i → s.other ≡ j → IsElimination logs fronts s → p < slice_index counts i
-is_counted logs fronts i p j q counts are inside first other_first s at by is =
-    let at_p : s.pos ≡ p = one_first fronts s.node i s.pos p at is.front first in
-    let at_q : s.other_pos ≡ q = one_first fronts s.other j s.other_pos q by is.other_front other_first in
+pub is_counted : (logs : List Log) (queues : List (Option (List ℕ))) (i p j q : ℕ) (counts : List ℕ)
+    → AreCountsOfOthers logs j q counts → AreWithin logs queues → IsFirstLeft queues i p → IsFirstLeft queues j q
+    → (s : CertStep) → s.node ≡ i → s.other ≡ j → IsElimination logs queues s → p < slice_index counts i
+is_counted logs queues i p j q counts are inside first other_first s at by is =
+    let at_p : s.pos ≡ p = one_first queues s.node i s.pos p at is.front first in
+    let at_q : s.other_pos ≡ q = one_first queues s.other j s.other_pos q by is.other_front other_first in
     let happened : Before logs i (p + 1) j q = rw (at, by, at_p, at_q) at is.happened_before in
     before_counts logs j q i (slice_index counts i) p
     (are.others i (inside i p first).0 (λ e. is.differ (at ∙ e ∙ sym by))) happened
 
-module _ (logs : List Log) (case : List Conjunct) (before : List CertStep) (fronts left : List (Option (List ℕ)))
-    (behind : AreFrontsBehind logs case before fronts) (s : CertStep) (is : IsElimination logs fronts s) (moved : left
-    ≡ one_fewer fronts s.node) where
+module _ (logs : List Log) (case : List Conjunct) (before : List CertStep) (queues left : List (Option (List ℕ)))
+    (queues_after : AreQueuesAfter logs case before queues) (s : CertStep) (is : IsElimination logs queues s)
+        (moved : left
+    ≡ one_fewer queues s.node) where
   -- the list of another node stays
-  other_list : (i : ℕ) → i ≢ s.node → slice_get left i ≡ slice_get fronts i
+  other_list : (i : ℕ) → i ≢ s.node → slice_get left i ≡ slice_get queues i
   other_list i other = ap (λ (fs : List (Option (List ℕ))). slice_get fs i) moved
-      ∙ slice_get-set_other fronts s.node i _ (λ e. other (sym e))
+      ∙ slice_get-set_other queues s.node i _ (λ e. other (sym e))
 
-  pub other_first : (i p : ℕ) → i ≢ s.node → IsFirstLeft left i p → IsFirstLeft fronts i p
+  pub other_first : (i p : ℕ) → i ≢ s.node → IsFirstLeft left i p → IsFirstLeft queues i p
   other_first i p other first = (first.0, sym (other_list i other) ∙ first.1, first.2)
 
   pub own_list : slice_get left s.node ≡ Some (Some (drop 1 is.front.0))
   own_list =
       ap (λ (fs : List (Option (List ℕ))). slice_get fs s.node) moved
-      ∙ slice_get-set_same fronts s.node (option_map (λ xs. drop 1 xs) (slice_index_or fronts s.node None))
-      (slice_get_within fronts s.node (Some is.front.0) is.front.1)
+      ∙ slice_get-set_same queues s.node (option_map (λ xs. drop 1 xs) (slice_index_or queues s.node None))
+      (slice_get_within queues s.node (Some is.front.0) is.front.1)
       ∙ ap (λ (o : Option (List ℕ)). Some (option_map (λ xs. drop 1 xs) o))
-      (get_or_from_slice_get fronts s.node (Some is.front.0) None is.front.1)
+      (get_or_from_slice_get queues s.node (Some is.front.0) None is.front.1)
 
   -- the node's first candidate left is now a later one
   pub own_first : (p : ℕ) → IsFirstLeft left s.node p → s.pos ≤ p
   own_first p first =
-      let h = behind.lists s.node is.front.0 is.front.1 in
+      let h = queues_after.lists s.node is.front.0 is.front.1 in
       let m : ℕ = made before s.node in
       let same : first.0 ≡ drop 1 is.front.0 = same_Some _ _ (same_Some _ _ (sym first.1 ∙ own_list)) in
       let old : slice_get h.0 m ≡ Some s.pos =
@@ -76,9 +77,9 @@ module _ (logs : List Log) (case : List Conjunct) (before : List CertStep) (fron
 
   -- an elimination by another node is of two nodes that had one before
   was_before : (t : CertStep) → t.other ≢ s.node → IsElimination logs left t → (u : CertStep) × (u.node ≡ t.node)
-      × (u.other ≡ t.other) × IsElimination logs fronts u
+      × (u.other ≡ t.other) × IsElimination logs queues u
   was_before t other eliminates =
-      let by : IsFirstLeft fronts t.other t.other_pos = other_first t.other t.other_pos other eliminates.other_front in
+      let by : IsFirstLeft queues t.other t.other_pos = other_first t.other t.other_pos other eliminates.other_front in
       elim (cases_eq t.node s.node) [
         | inl same ↦
             let first : IsFirstLeft left s.node t.pos =
@@ -110,7 +111,7 @@ module _ (logs : List Log) (case : List Conjunct) (before : List CertStep) (fron
       ]
 
   -- so pairs that had all eliminations have them again with those by the node that moved
-  pub all_again : (old new : List ℕ) → HasEliminations logs fronts old → ((a b : ℕ) → Has old a b → Has new a b)
+  pub all_again : (old new : List ℕ) → HasEliminations logs queues old → ((a b : ℕ) → Has old a b → Has new a b)
       → ((t : CertStep) → t.other ≡ s.node → IsElimination logs left t → Has new t.node t.other)
       → HasEliminations logs left new
   all_again old new all kept added t eliminates = elim (cases_eq t.other s.node) [
@@ -123,7 +124,7 @@ module _ (logs : List Log) (case : List Conjunct) (before : List CertStep) (fron
   ]
 
   -- where each node had a first candidate left, and the one that moved has one, each has one
-  pub still_left : ((i : ℕ) → HasList fronts i → (p : ℕ) × IsFirstLeft fronts i p) → (p : ℕ) → IsFirstLeft left s.node p
+  pub still_left : ((i : ℕ) → HasList queues i → (p : ℕ) × IsFirstLeft queues i p) → (p : ℕ) → IsFirstLeft left s.node p
       → (i : ℕ) → HasList left i → (q : ℕ) × IsFirstLeft left i q
   still_left each p own_has i has = elim (cases_eq i s.node) [
     | inl same ↦ (p, subst (λ (j : ℕ). IsFirstLeft left j p) (sym same) own_has)

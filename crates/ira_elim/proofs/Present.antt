@@ -21,7 +21,7 @@ use Rattle.ira_cert.specs.Conjuncts.{HasDifferentPlaces}
 use Rattle.ira_cert.specs.Front.{made}
 use Rattle.ira_cert.proofs.NoCut.{candidate_at, kept_all, rising_le}
 use Rattle.ira_cert.proofs.OneList.{one_formula}
-use Rattle.ira_cert.specs.Fronts.{HasList}
+use Rattle.ira_cert.specs.Queues.{HasList}
 use Rattle.ira_elim.specs.Elimination.{IsFirstLeft, IsElimination, AreGreatestCounts}
 use Rattle.ira_elim.specs.LeastCut.{IsLeastCut}
 use Rattle.ira_elim.proofs.Places.{one_first}
@@ -39,8 +39,8 @@ pub before_counts : (logs : List Log) (j q i n p : ℕ) → IsCount logs j q i n
 before_counts logs j q i n p count before = let l : p + 1 ≤ n = (count.events (p + 1) (omega arith)).1 (inr before) in
     omega arith
 
-module _ (logs : List Log) (fronts : List (Option (List ℕ))) (cut : List ℕ)
-    (greatest : AreGreatestCounts logs fronts cut) where
+module _ (logs : List Log) (queues : List (Option (List ℕ))) (cut : List ℕ)
+    (greatest : AreGreatestCounts logs queues cut) where
   -- what happened before an event that the cut holds is counted
   holds_before : HoldsAllBefore logs (slice_index cut)
   holds_before i a j b before l =
@@ -65,13 +65,13 @@ module _ (logs : List Log) (fronts : List (Option (List ℕ))) (cut : List ℕ)
   pub consistent : IsConsistentCut logs cut
   consistent = (record { places = greatest.places; within = within_logs }, holds_before)
 
-module _ (logs : List Log) (case : List Conjunct) (steps : List CertStep) (fronts : List (Option (List ℕ)))
-    (differ : HasDifferentPlaces case) (made_all : AreMade logs case steps fronts) where
+module _ (logs : List Log) (case : List Conjunct) (steps : List CertStep) (queues : List (Option (List ℕ)))
+    (differ : HasDifferentPlaces case) (made_all : AreMade logs case steps queues) where
   -- a consistent cut that meets the case is at or above each first candidate left
-  passes : (other : List ℕ) → IsConsistentCut logs other → Meets logs case other → (j q : ℕ) → IsFirstLeft fronts j q
+  passes : (other : List ℕ) → IsConsistentCut logs other → Meets logs case other → (j q : ℕ) → IsFirstLeft queues j q
       → q ≤ slice_index other j
   passes other consistent_other meets j q first =
-      let m = first_at logs case steps fronts made_all.behind j q first in
+      let m = first_at logs case steps queues made_all.queues_after j q first in
       let n = candidate_at logs case other j m.0 meets m.1 in
       let kept = kept_all logs case other differ consistent_other meets steps made_all.sound (length steps)
       (omega arith) j m.0 n.0 m.1 n.1 in
@@ -79,7 +79,7 @@ module _ (logs : List Log) (case : List Conjunct) (steps : List CertStep) (front
       let no_sooner : made steps j ≤ n.0 = subst (λ (ss : List CertStep). made ss j ≤ n.0) whole kept in
       rising_le m.0 (made steps j) n.0 q (slice_index other j) m.1.candidates_are.rising m.2 n.1 no_sooner
 
-  module _ (cut : List ℕ) (greatest : AreGreatestCounts logs fronts cut) where
+  module _ (cut : List ℕ) (greatest : AreGreatestCounts logs queues cut) where
     at_or_below : (other : List ℕ) → IsConsistentCut logs other → Meets logs case other → (i : ℕ) → i < length logs
         → slice_index cut i ≤ slice_index other i
     at_or_below other consistent_other meets i l = elim (greatest.counts i l).reached [
@@ -96,11 +96,11 @@ module _ (logs : List Log) (case : List Conjunct) (steps : List CertStep) (front
           ]
     ]
 
-    module _ (none : (s : CertStep) → IsElimination logs fronts s → ⊥) where
+    module _ (none : (s : CertStep) → IsElimination logs queues s → ⊥) where
       -- the position of a node that is asked is its first candidate left
-      first_is : (i p : ℕ) → IsFirstLeft fronts i p → slice_index cut i ≡ p
+      first_is : (i p : ℕ) → IsFirstLeft queues i p → slice_index cut i ≡ p
       first_is i p first =
-          let g = greatest.counts i (within logs case steps fronts made_all.behind i p first).0 in
+          let g = greatest.counts i (within logs case steps queues made_all.queues_after i p first).0 in
           let up = g.upper i p first in
           let least : p ≤ slice_index cut i = elim (cases_eq p 0) [
             | inl zero ↦ omega (arith, zero)
@@ -110,7 +110,7 @@ module _ (logs : List Log) (case : List Conjunct) (steps : List CertStep) (front
           let most : slice_index cut i ≤ p = elim g.reached [
             | inl zero ↦ omega (arith, zero)
             | inr h ↦ elim (cases_eq i h.0) [
-              | inl same ↦ (let e : p ≡ h.1 = one_first fronts i h.0 p h.1 same first h.2 in omega (arith, e, h.4 same))
+              | inl same ↦ (let e : p ≡ h.1 = one_first queues i h.0 p h.1 same first h.2 in omega (arith, e, h.4 same))
               | inr other ↦ elim (cases_order p (slice_index cut i)) [
                 | inl e ↦ omega (arith, e)
                 | inr side ↦ elim side [
@@ -127,12 +127,12 @@ module _ (logs : List Log) (case : List Conjunct) (steps : List CertStep) (front
           ] in
           omega (arith, least, most)
 
-      module _ (left : (i : ℕ) → HasList fronts i → (p : ℕ) × IsFirstLeft fronts i p) where
+      module _ (left : (i : ℕ) → HasList queues i → (p : ℕ) × IsFirstLeft queues i p) where
         met : (c : Conjunct) → Contains case c → (log : Log) × (slice_get logs c.place ≡ Some log)
             × HoldsAt log c.formula (slice_index cut c.place)
         met c asked =
-            let first = left c.place (made_all.behind.asked c.place (c.formula, asked)) in
-            let m = first_at logs case steps fronts made_all.behind c.place first.0 first.1 in
+            let first = left c.place (made_all.queues_after.asked c.place (c.formula, asked)) in
+            let m = first_at logs case steps queues made_all.queues_after c.place first.0 first.1 in
             let of = m.1 in
             let formula : of.formula ≡ c.formula =
             one_formula case c.place of.formula c.formula differ of.asked asked in
@@ -146,7 +146,7 @@ module _ (logs : List Log) (case : List Conjunct) (steps : List CertStep) (front
 
         pub present : IsLeastCut logs case cut
         present = record {
-          consistent = consistent logs fronts cut greatest;
+          consistent = consistent logs queues cut greatest;
           meets = All-weaker (Contains case) (λ (c : Conjunct). (log : Log) × (slice_get logs c.place ≡ Some log)
               × HoldsAt log c.formula (slice_index cut c.place)) met case (All-contains_itself case);
           least = at_or_below;

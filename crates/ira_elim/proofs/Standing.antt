@@ -8,9 +8,9 @@ use Rattle.std.proofs.lemmas.Option.{same_Some, slice_get-get_or, slice_get_with
 use Rattle.ira_event.specs.Log.{Log}
 use Rattle.ira_pred.specs.Case.{Conjunct}
 use Rattle.ira_cert_text.specs.declared.cert_step.CertStep.{CertStep}
-use Rattle.ira_cert.specs.FrontsBehind.{AreFrontsBehind}
-use Rattle.ira_cert.proofs.Behind.{one_fewer, slice_get-set_same, slice_get-set_other}
-use Rattle.ira_cert.specs.Fronts.{HasList}
+use Rattle.ira_cert.specs.QueuesAfter.{AreQueuesAfter}
+use Rattle.ira_cert.proofs.QueueHeads.{one_fewer, slice_get-set_same, slice_get-set_other}
+use Rattle.ira_cert.specs.Queues.{HasList}
 use Rattle.ira_elim.specs.Elimination.{ArePlaces, AreStands, AreWithin, HasEliminations, IsElimination, IsFirstLeft}
 use Rattle.ira_elim.specs.PairSet.{Has}
 use Rattle.ira_elim.specs.CandidateClock.{CandidateClock, AreStanding, HasSameCounts, IsCandidateClock, KnowsNext}
@@ -26,27 +26,27 @@ found_at xs k i s e l is =
     subst (λ (j : ℕ). slice_get xs j ≡ Some s) e (slice_get-get_or xs k s l
     ∙ ap (λ (x : CandidateClock). Some x) (sym is))
 
-module _ (logs : List Log) (fronts : List (Option (List ℕ))) (stands : List CandidateClock)
-    (inside : AreWithin logs fronts)
-    (are : AreStands logs fronts stands) where
+module _ (logs : List Log) (queues : List (Option (List ℕ))) (stands : List CandidateClock)
+    (inside : AreWithin logs queues)
+    (are : AreStands logs queues stands) where
   -- the stand of a node that has a first candidate left
-  pub stand_is : (j q : ℕ) (t : CandidateClock) → IsFirstLeft fronts j q → slice_get stands j ≡ Some t
+  pub stand_is : (j q : ℕ) (t : CandidateClock) → IsFirstLeft queues j q → slice_get stands j ≡ Some t
       → IsCandidateClock logs j q t
   stand_is j q t first at =
       let st = are j q first in
       subst (IsCandidateClock logs j q) (same_Some st.0 t (sym st.1 ∙ at)) st.2
 
   -- the other node counts the event that leads on from the eliminated state
-  pub counted : (s : CertStep) (t : CandidateClock) → IsElimination logs fronts s → slice_get stands s.other ≡ Some t
+  pub counted : (s : CertStep) (t : CandidateClock) → IsElimination logs queues s → slice_get stands s.other ≡ Some t
       → s.pos < slice_index t.counts s.node
   counted s t is at =
       let st = stand_is s.other s.other_pos t is.other_front at in
       before_counts logs s.other s.other_pos s.node (slice_index t.counts s.node) s.pos
       (st.counts.others s.node (inside s.node s.pos is.front).0 is.differ) is.happened_before
 
-  pub eliminates : (i p j q : ℕ) (t : CandidateClock) → IsFirstLeft fronts i p → IsFirstLeft fronts j q → i ≢ j
+  pub eliminates : (i p j q : ℕ) (t : CandidateClock) → IsFirstLeft queues i p → IsFirstLeft queues j q → i ≢ j
       → slice_get stands j ≡ Some t → p < slice_index t.counts i
-      → IsElimination logs fronts (record { node = i; pos = p; other = j; other_pos = q })
+      → IsElimination logs queues (record { node = i; pos = p; other = j; other_pos = q })
   eliminates i p j q t first other_first differ at l =
       let st = stand_is j q t other_first at in record {
         differ = differ;
@@ -56,22 +56,22 @@ module _ (logs : List Log) (fronts : List (Option (List ℕ))) (stands : List Ca
             (st.counts.others i (inside i p first).0 differ) l;
       }
 
-  pub knows : (s : CertStep) → IsElimination logs fronts s → KnowsNext stands s.other s.node
+  pub knows : (s : CertStep) → IsElimination logs queues s → KnowsNext stands s.other s.node
   knows s is =
       let own = are s.node s.pos is.front in
       let other = are s.other s.other_pos is.other_front in
       let more = counted s other.0 is other.1 in
       (own.0, other.0, own.1, other.1, omega (arith, own.2.position, more))
 
-  pub has_all : (asked pairs : List ℕ) → ArePlaces fronts asked
+  pub has_all : (asked pairs : List ℕ) → ArePlaces queues asked
       → ((i j : ℕ) → Contains asked i → Contains asked j → KnowsNext stands j i → Has pairs i j)
-      → HasEliminations logs fronts pairs
+      → HasEliminations logs queues pairs
   has_all asked pairs places added s is =
       added s.node s.other ((places s.node).1 (is.front.0, is.front.1))
       ((places s.other).1 (is.other_front.0, is.other_front.1)) (knows s is)
 
-  pub standing : (asked : List ℕ) → ArePlaces fronts asked
-      → ((i : ℕ) → HasList fronts i → (p : ℕ) × IsFirstLeft fronts i p) → length stands ≡ length logs
+  pub standing : (asked : List ℕ) → ArePlaces queues asked
+      → ((i : ℕ) → HasList queues i → (p : ℕ) × IsFirstLeft queues i p) → length stands ≡ length logs
       → AreStanding stands asked
   standing asked places left count i member =
       let first = left i ((places i).0 member) in
@@ -79,9 +79,9 @@ module _ (logs : List Log) (fronts : List (Option (List ℕ))) (stands : List Ca
       (st.0, st.1, st.2.counts.places ∙ sym count)
 
   -- after a step, where its node stands at its next candidate
-  module _ (case : List Conjunct) (before : List CertStep) (behind : AreFrontsBehind logs case before fronts)
-      (s : CertStep) (is : IsElimination logs fronts s) (left : List (Option (List ℕ))) (moved : left
-      ≡ one_fewer fronts s.node) (new : List CandidateClock) (t : CandidateClock) (set : new
+  module _ (case : List Conjunct) (before : List CertStep) (queues_after : AreQueuesAfter logs case before queues)
+      (s : CertStep) (is : IsElimination logs queues s) (left : List (Option (List ℕ))) (moved : left
+      ≡ one_fewer queues s.node) (new : List CandidateClock) (t : CandidateClock) (set : new
       ≡ slice_set stands s.node t) where
     pub stands_again : (p : ℕ) → IsFirstLeft left s.node p → IsCandidateClock logs s.node p t → AreStands logs left new
     stands_again p own_first stand j q first = elim (cases_eq j s.node) [
@@ -97,7 +97,7 @@ module _ (logs : List Log) (fronts : List (Option (List ℕ))) (stands : List Ca
                 (subst (λ (n : ℕ). IsCandidateClock logs s.node n t) e stand),
           )
       | inr other ↦
-          let st = are j q (other_first logs case before fronts left behind s is moved j q other first) in (
+          let st = are j q (other_first logs case before queues left queues_after s is moved j q other first) in (
             st.0,
             ap (λ (xs : List CandidateClock). slice_get xs j) set
                 ∙ slice_get-set_other stands s.node j t (λ e. other (sym e)) ∙ st.1,
@@ -123,16 +123,16 @@ long_counts stands asked i t are member at =
     let st = are i member in
     subst (λ (s : CandidateClock). length s.counts ≡ length stands) (same_Some st.0 t (sym st.1 ∙ at)) st.2
 
-pub one_stand_more : (logs : List Log) (fronts : List (Option (List ℕ))) (stands more : List CandidateClock)
+pub one_stand_more : (logs : List Log) (queues : List (Option (List ℕ))) (stands more : List CandidateClock)
     (t : CandidateClock) (n : ℕ)
     → more ≡ stands ++ t ∷ [] → length stands ≡ n
-    → ((j : ℕ) → j < n → (q : ℕ) → IsFirstLeft fronts j q → (s : CandidateClock) × (slice_get stands j ≡ Some s)
-    × IsCandidateClock logs j q s) → ((q : ℕ) → IsFirstLeft fronts n q → IsCandidateClock logs n q t)
+    → ((j : ℕ) → j < n → (q : ℕ) → IsFirstLeft queues j q → (s : CandidateClock) × (slice_get stands j ≡ Some s)
+    × IsCandidateClock logs j q s) → ((q : ℕ) → IsFirstLeft queues n q → IsCandidateClock logs n q t)
     → (length more ≡ n + 1)
-    × ((j : ℕ) → j < n + 1 → (q : ℕ) → IsFirstLeft fronts j q → (s : CandidateClock) × (slice_get more j ≡ Some s)
+    × ((j : ℕ) → j < n + 1 → (q : ℕ) → IsFirstLeft queues j q → (s : CandidateClock) × (slice_get more j ≡ Some s)
     × IsCandidateClock logs j q s)
-one_stand_more logs fronts stands more t n pushed count are here =
-    let Q : ℕ → Type 0 = λ j. (q : ℕ) → IsFirstLeft fronts j q → (s : CandidateClock) × (slice_get more j ≡ Some s)
+one_stand_more logs queues stands more t n pushed count are here =
+    let Q : ℕ → Type 0 = λ j. (q : ℕ) → IsFirstLeft queues j q → (s : CandidateClock) × (slice_get more j ≡ Some s)
     × IsCandidateClock logs j q s in
     let last : slice_get more n ≡ Some t =
     ap (λ (xs : List CandidateClock). slice_get xs n) pushed
@@ -173,23 +173,24 @@ set_standing stands new asked j t are within long set i member =
     ]
 
 -- what is said of lists that are viewed holds of the lists
-pub viewed : (logs : List Log) (fronts seen : List (Option (List ℕ))) (stands stood : List CandidateClock)
+pub viewed : (logs : List Log) (queues seen : List (Option (List ℕ))) (stands stood : List CandidateClock)
     (pairs : List ℕ)
-    (Q : List (Option (List ℕ)) → Type 0) → seen ≡ fronts → stood ≡ stands
+    (Q : List (Option (List ℕ)) → Type 0) → seen ≡ queues → stood ≡ stands
     → (AreWithin logs seen → AreStands logs seen stood → HasEliminations logs seen pairs → Q seen)
-    → AreWithin logs fronts → AreStands logs fronts stands → HasEliminations logs fronts pairs → Q fronts
-viewed logs fronts seen stands stood pairs Q e f said inside are all =
+    → AreWithin logs queues → AreStands logs queues stands → HasEliminations logs queues pairs → Q queues
+viewed logs queues seen stands stood pairs Q e f said inside are all =
     subst Q e (said (subst (AreWithin logs) (sym e) inside)
     (subst (λ (fs : List (Option (List ℕ))). AreStands logs fs stood) (sym e)
-    (subst (AreStands logs fronts) (sym f) are))
+    (subst (AreStands logs queues) (sym f) are))
     (subst (λ (fs : List (Option (List ℕ))). HasEliminations logs fs pairs) (sym e) all))
 
-module _ (logs : List Log) (case : List Conjunct) (before : List CertStep) (fronts left : List (Option (List ℕ)))
-    (behind : AreFrontsBehind logs case before fronts) (s : CertStep) (is : IsElimination logs fronts s) (moved : left
-    ≡ one_fewer fronts s.node) (stands new : List CandidateClock) (inside : AreWithin logs fronts)
-    (are : AreStands logs fronts stands) (inside_left : AreWithin logs left) (again : AreStands logs left new) where
+module _ (logs : List Log) (case : List Conjunct) (before : List CertStep) (queues left : List (Option (List ℕ)))
+    (queues_after : AreQueuesAfter logs case before queues) (s : CertStep) (is : IsElimination logs queues s)
+        (moved : left
+    ≡ one_fewer queues s.node) (stands new : List CandidateClock) (inside : AreWithin logs queues)
+    (are : AreStands logs queues stands) (inside_left : AreWithin logs left) (again : AreStands logs left new) where
   -- where the node that moved knows no more, it eliminates nothing anew
-  pub adds : (asked old pairs : List ℕ) → ArePlaces left asked → HasEliminations logs fronts old
+  pub adds : (asked old pairs : List ℕ) → ArePlaces left asked → HasEliminations logs queues old
       → ((a b : ℕ) → Has old a b → Has pairs a b) → HasSameCounts stands new s.node
       ⊎ ((i : ℕ) → Contains asked i → KnowsNext new s.node i → Has pairs i s.node) → (r : CertStep) → r.other ≡ s.node
       → IsElimination logs left r → Has pairs r.node r.other
@@ -201,8 +202,9 @@ module _ (logs : List Log) (case : List Conjunct) (before : List CertStep) (fron
         same st.0 next.0 st.1 (subst (λ (j : ℕ). slice_get new j ≡ Some next.0) by next.1) in
         let more = counted logs left new inside_left again r next.0 eliminated next.1 in
         let differ : r.node ≢ s.node = λ e. eliminated.differ (e ∙ sym by) in
-        let first = other_first logs case before fronts left behind s is moved r.node r.pos differ eliminated.front in
-        let was = eliminates logs fronts stands inside are r.node r.pos s.node s.pos st.0 first is.front differ st.1
+        let first = other_first logs case before queues left queues_after s is moved r.node r.pos differ
+            eliminated.front in
+        let was = eliminates logs queues stands inside are r.node r.pos s.node s.pos st.0 first is.front differ st.1
         (subst (λ (cs : List ℕ). r.pos < slice_index cs r.node) counts more) in
         subst (λ (j : ℕ). Has pairs r.node j) (sym by)
         (kept r.node s.node (all (record { node = r.node; pos = r.pos; other = s.node; other_pos = s.pos }) was))

@@ -10,21 +10,21 @@ use Rattle.ira_event.specs.Log.{Log}
 use Rattle.ira_pred.specs.Case.{Conjunct}
 use Rattle.ira_cert_text.specs.declared.cert_step.CertStep.{CertStep}
 use Rattle.ira_cert.specs.Conjuncts.{HasDifferentPlaces}
-use Rattle.ira_cert.specs.Fronts.{AreFronts}
-use Rattle.ira_cert.specs.FrontsBehind.{AreFrontsBehind}
+use Rattle.ira_cert.specs.Queues.{AreQueues}
+use Rattle.ira_cert.specs.QueuesAfter.{AreQueuesAfter}
 use Rattle.ira_cert.specs.SoundSection.{IsSoundStep, AreSoundSteps}
-use Rattle.ira_cert.proofs.Behind.{all_left, front_at, left_on, one_fewer, spent_at}
+use Rattle.ira_cert.proofs.QueueHeads.{all_left, front_at, left_on, one_fewer, spent_at}
 use Rattle.ira_cert.proofs.Prefixes.{sound_more}
 use Rattle.ira_elim.specs.Elimination.{IsFirstLeft, IsElimination}
 use Rattle.ira_elim.specs.Found.{candidate_count, IsAbsence}
 
-pub is_sound : (logs : List Log) (case : List Conjunct) (before : List CertStep) (fronts : List (Option (List ℕ)))
-    (s : CertStep) → AreFrontsBehind logs case before fronts → IsElimination logs fronts s
+pub is_sound : (logs : List Log) (case : List Conjunct) (before : List CertStep) (queues : List (Option (List ℕ)))
+    (s : CertStep) → AreQueuesAfter logs case before queues → IsElimination logs queues s
     → IsSoundStep logs case before s
-is_sound logs case before fronts s behind is = record {
+is_sound logs case before queues s queues_after is = record {
   differ = is.differ;
-  front = front_at logs case before fronts behind s.node s.pos is.front.0 is.front.1 is.front.2;
-  other_front = front_at logs case before fronts behind s.other s.other_pos is.other_front.0 is.other_front.1
+  front = front_at logs case before queues queues_after s.node s.pos is.front.0 is.front.1 is.front.2;
+  other_front = front_at logs case before queues queues_after s.other s.other_pos is.other_front.0 is.other_front.1
       is.other_front.2;
   happened_before = is.happened_before;
 }
@@ -34,23 +34,23 @@ last_at [] x = refl
 last_at (y ∷ xs) x = last_at xs x
 
 -- the steps made are sound, and the lists are those left after them
-pub record AreMade (logs : List Log) (case : List Conjunct) (steps : List CertStep) (fronts : List (Option (List ℕ)))
+pub record AreMade (logs : List Log) (case : List Conjunct) (steps : List CertStep) (queues : List (Option (List ℕ)))
     : Type 0 where
   pub sound : AreSoundSteps logs case steps
-  pub behind : AreFrontsBehind logs case steps fronts
+  pub queues_after : AreQueuesAfter logs case steps queues
 
-pub none_made : (logs : List Log) (case : List Conjunct) (steps : List CertStep) (fronts : List (Option (List ℕ)))
-    → AreFronts logs case fronts → steps ≡ [] → AreMade logs case steps fronts
-none_made logs case steps fronts fronts_are e =
-    subst (λ (ss : List CertStep). AreMade logs case ss fronts) (sym e)
-    (record { sound = λ k s at. cc; behind = all_left logs case fronts fronts_are })
+pub none_made : (logs : List Log) (case : List Conjunct) (steps : List CertStep) (queues : List (Option (List ℕ)))
+    → AreQueues logs case queues → steps ≡ [] → AreMade logs case steps queues
+none_made logs case steps queues queues_are e =
+    subst (λ (ss : List CertStep). AreMade logs case ss queues) (sym e)
+    (record { sound = λ k s at. cc; queues_after = all_left logs case queues queues_are })
 
 -- one step more
 pub made_more : (logs : List Log) (case : List Conjunct) (steps more : List CertStep)
-    (fronts left : List (Option (List ℕ))) (s : CertStep) → HasDifferentPlaces case → AreMade logs case steps fronts
-    → IsElimination logs fronts s → more ≡ steps ++ s ∷ [] → left ≡ one_fewer fronts s.node
+    (queues left : List (Option (List ℕ))) (s : CertStep) → HasDifferentPlaces case → AreMade logs case steps queues
+    → IsElimination logs queues s → more ≡ steps ++ s ∷ [] → left ≡ one_fewer queues s.node
     → AreMade logs case more left
-made_more logs case steps more fronts left s differ made is pushed e =
+made_more logs case steps more queues left s differ made is pushed e =
     let k : ℕ = length steps in
     let xs : List CertStep = steps ++ s ∷ [] in
     let at : slice_get xs k ≡ Some s = last_at steps s in
@@ -58,45 +58,45 @@ made_more logs case steps more fronts left s differ made is pushed e =
     let whole : take (k + 1) xs ≡ xs = take_all (k + 1) xs (omega (arith, length-append steps (s ∷ []))) in
     let sound : IsSoundStep logs case (take k xs) s =
     subst (λ (before : List CertStep). IsSoundStep logs case before s) (sym begin)
-    (is_sound logs case steps fronts s made.behind is) in
+    (is_sound logs case steps queues s made.queues_after is) in
     let before : AreSoundSteps logs case (take k xs) =
     subst (λ (ys : List CertStep). AreSoundSteps logs case ys) (sym begin) made.sound in
-    let behind : AreFrontsBehind logs case (take k xs) fronts =
-    subst (λ (ys : List CertStep). AreFrontsBehind logs case ys fronts) (sym begin) made.behind in
+    let queues_after : AreQueuesAfter logs case (take k xs) queues =
+    subst (λ (ys : List CertStep). AreQueuesAfter logs case ys queues) (sym begin) made.queues_after in
     subst (λ (ys : List CertStep). AreMade logs case ys left) (whole ∙ sym pushed) (record {
       sound = sound_more logs case xs k s at before sound;
-      behind = left_on logs case differ xs k s at sound fronts behind left e;
+      queues_after = left_on logs case differ xs k s at sound queues queues_after left e;
     })
 
 -- how many candidates are left of all nodes together
 abbrev pub total : List (Option (List ℕ)) → ℕ
-total fronts = sum_by candidate_count fronts
+total queues = sum_by candidate_count queues
 
 fewer : (left : List ℕ) (p : ℕ) → slice_get left 0 ≡ Some p → length left ≡ length (drop 1 left) + 1
 fewer [] p at = cc
 fewer (x ∷ xs) p at = omega arith
 
-pub total_less : (fronts : List (Option (List ℕ))) (i p : ℕ) → IsFirstLeft fronts i p
-    → total fronts ≡ total (one_fewer fronts i) + 1
-total_less fronts i p first =
-    let at : slice_index_or fronts i None ≡ Some first.0 = get_or_from_slice_get fronts i (Some first.0) None first.1 in
-    let next : Option (List ℕ) = option_map (λ xs. drop 1 xs) (slice_index_or fronts i None) in
-    let changed = sum_by-set candidate_count fronts i next None (slice_get_within fronts i (Some first.0) first.1) in
-    let old : candidate_count (slice_index_or fronts i None) ≡ length first.0 = ap candidate_count at in
+pub total_less : (queues : List (Option (List ℕ))) (i p : ℕ) → IsFirstLeft queues i p
+    → total queues ≡ total (one_fewer queues i) + 1
+total_less queues i p first =
+    let at : slice_index_or queues i None ≡ Some first.0 = get_or_from_slice_get queues i (Some first.0) None first.1 in
+    let next : Option (List ℕ) = option_map (λ xs. drop 1 xs) (slice_index_or queues i None) in
+    let changed = sum_by-set candidate_count queues i next None (slice_get_within queues i (Some first.0) first.1) in
+    let old : candidate_count (slice_index_or queues i None) ≡ length first.0 = ap candidate_count at in
     let new : candidate_count next ≡ length (drop 1 first.0) =
     ap (λ (o : Option (List ℕ)). candidate_count (option_map (λ xs. drop 1 xs) o)) at in
     omega (arith, changed, old, new, fewer first.0 p first.2)
 
-pub one_fewer-length : (fronts : List (Option (List ℕ))) (i : ℕ) → length (one_fewer fronts i) ≡ length fronts
-one_fewer-length fronts i = length-set fronts i (option_map (λ xs. drop 1 xs) (slice_index_or fronts i None))
+pub one_fewer-length : (queues : List (Option (List ℕ))) (i : ℕ) → length (one_fewer queues i) ≡ length queues
+one_fewer-length queues i = length-set queues i (option_map (λ xs. drop 1 xs) (slice_index_or queues i None))
 
 -- after the steps made a node without a candidate left is spent
-pub absent : (logs : List Log) (case : List Conjunct) (first fronts : List (Option (List ℕ))) (steps : List CertStep)
-    (spent : ℕ) → AreFronts logs case first → AreMade logs case steps fronts → length steps + total fronts ≡ total first
-    → slice_get fronts spent ≡ Some (Some []) → IsAbsence logs case (record { steps = steps; spent = spent })
-absent logs case first fronts steps spent fronts_are made count empty = record {
-  sound = record { steps = made.sound; spent = spent_at logs case steps fronts made.behind spent [] empty refl };
-  fronts = first;
-  fronts_are = fronts_are;
+pub absent : (logs : List Log) (case : List Conjunct) (first queues : List (Option (List ℕ))) (steps : List CertStep)
+    (spent : ℕ) → AreQueues logs case first → AreMade logs case steps queues → length steps + total queues ≡ total first
+    → slice_get queues spent ≡ Some (Some []) → IsAbsence logs case (record { steps = steps; spent = spent })
+absent logs case first queues steps spent queues_are made count empty = record {
+  sound = record { steps = made.sound; spent = spent_at logs case steps queues made.queues_after spent [] empty refl };
+  queues = first;
+  queues_are = queues_are;
   short = omega (arith, count);
 }

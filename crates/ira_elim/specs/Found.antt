@@ -4,7 +4,7 @@ use Rattle.std.specs.List.{sum_by}
 use Rattle.ira_event.specs.Log.{Log}
 use Rattle.ira_pred.specs.Case.{Conjunct}
 use Rattle.ira_cert_text.specs.Certificate.{Section}
-use Rattle.ira_cert.specs.Fronts.{AreFronts}
+use Rattle.ira_cert.specs.Queues.{AreQueues}
 use Rattle.ira_cert.specs.SoundSection.{IsSoundSection}
 use Rattle.ira_elim.specs.declared.found.Found.{Found}
 use Rattle.ira_elim.specs.declared.found.Found.TheVariants.{Absent, Present}
@@ -19,9 +19,9 @@ candidate_count (Some positions) = length positions
 -- have candidates together
 pub record IsAbsence (logs : List Log) (case : List Conjunct) (section : Section) : Type 0 where
   pub sound : IsSoundSection logs case section
-  pub fronts : List (Option (List ℕ))
-  pub fronts_are : AreFronts logs case fronts
-  pub short : length section.steps ≤ sum_by candidate_count fronts
+  pub queues : List (Option (List ℕ))
+  pub queues_are : AreQueues logs case queues
+  pub short : length section.steps ≤ sum_by candidate_count queues
 
 -- a section that shows it absent, or the least consistent cut that meets it
 abbrev pub IsFound : {A : Type 0} → List Log → List Conjunct → Found A → Type 0

@@ -4,9 +4,9 @@ ghost use Rattle.ira_pred.specs.Case.{Conjunct};
 ghost use Rattle.ira_order.specs.Ring.{log_of};
 ghost use Rattle.ira_cert_text.specs.declared.cert_step.CertStep.{CertStep};
 ghost use Rattle.ira_cert.specs.Conjuncts.{HasDifferentPlaces};
-ghost use Rattle.ira_cert.specs.Fronts.{AreFronts};
+ghost use Rattle.ira_cert.specs.Queues.{AreQueues};
 ghost use Rattle.ira_elim.specs.Decided.{IsDecided};
-ghost use Rattle.ira_elim.specs.Elimination.{AreFrontsOfSomeCase, AreGreatestCounts, ArePlaces, AreStands, AreWithin, HasEliminations, HasFirstLefts, IsElimination, IsFirstLeft, IsGreatestCount};
+ghost use Rattle.ira_elim.specs.Elimination.{AreQueuesOfSomeCase, AreGreatestCounts, ArePlaces, AreStands, AreWithin, HasEliminations, HasFirstLefts, IsElimination, IsFirstLeft, IsGreatestCount};
 ghost use Rattle.ira_elim.specs.PairSet.{Has};
 ghost use Rattle.ira_elim.specs.CandidateClock.{AreStanding, HasMovedOn, HasSameCounts, KnowsNext, StandsUpTo};
 
@@ -24,10 +24,10 @@ use std::alloc::Allocator;
 /// Decides a case of which the candidates are at hand, place by place: those of a place that the case
 /// asks, and none of another. Where they come from doesn't matter; nothing but one position is kept of
 /// each. The steps go where the caller says.
-pub fn decide_fronts<C, A, I, S>(
+pub fn decide_queues<C, A, I, S>(
     alloc: A,
     ordered: &C,
-    mut fronts: Vec<Option<Ahead<I>>, A>,
+    mut queues: Vec<Option<Ahead<I>>, A>,
     mut steps: S,
 ) -> Result<Decided<S, A>, OutOfMemory>
 where
@@ -36,22 +36,22 @@ where
     I: Iterator<Item = u32> + Listed + Drop,
     S: StepSink,
     requires none { S.has_taken steps [] }
-    requires places { length fronts.items ≤ length (C.logs_of ordered.now) }
-    requires fronts { AreFrontsOfSomeCase (C.logs_of ordered.now) fronts.items }
-    ensures { (case : List Conjunct) → HasDifferentPlaces case → AreFronts (C.logs_of ordered.now) case fronts.items
+    requires places { length queues.items ≤ length (C.logs_of ordered.now) }
+    requires queues { AreQueuesOfSomeCase (C.logs_of ordered.now) queues.items }
+    ensures { (case : List Conjunct) → HasDifferentPlaces case → AreQueues (C.logs_of ordered.now) case queues.items
         → IfOk result (λ decided. IsDecided S.has_taken (C.logs_of ordered.now) case decided) }
 {
     let nodes = ordered.logs().size().get();
-    let asked = asked_places(alloc.clone()?, nodes, &fronts)?;
-    if let Some(spent) = first_spent(&fronts, &asked) {
+    let asked = asked_places(alloc.clone()?, nodes, &queues)?;
+    if let Some(spent) = first_spent(&queues, &asked) {
         return Ok(Decided::Absent { steps, spent });
     }
-    let mut stands = stands(alloc.clone()?, ordered, nodes, &fronts)?;
+    let mut stands = stands(alloc.clone()?, ordered, nodes, &queues)?;
     let mut pairs = eliminating_pairs(alloc.clone()?, &stands, &asked)?;
-    'steps: while let Some(step) = next_step(&mut pairs, &stands, &fronts) {
+    'steps: while let Some(step) = next_step(&mut pairs, &stands, &queues) {
         steps.take(step)?;
-        eliminate(&mut fronts, step.node);
-        let Some(position) = front(&fronts, step.node) else {
+        eliminate(&mut queues, step.node);
+        let Some(position) = front(&queues, step.node) else {
             let spent = step.node;
             return Ok(Decided::Absent { steps, spent });
         };
@@ -72,14 +72,14 @@ where
 fn asked_places<A: Allocator, I: Iterator<Item = u32> + Listed>(
     alloc: A,
     nodes: u8,
-    fronts: &[Option<Ahead<I>>],
+    queues: &[Option<Ahead<I>>],
 ) -> Result<Vec<u8, A>, OutOfMemory>
-    requires { length fronts.now ≤ nodes }
-    ensures { IfOk result (λ asked. ArePlaces fronts.now asked.items) }
+    requires { length queues.now ≤ nodes }
+    ensures { IfOk result (λ asked. ArePlaces queues.now asked.items) }
 {
     let mut asked = Vec::new(alloc);
     for place in 0..nodes {
-        if candidates_left(fronts, place).is_some() {
+        if candidates_left(queues, place).is_some() {
             asked.push(place)?;
         }
     }
@@ -87,24 +87,24 @@ fn asked_places<A: Allocator, I: Iterator<Item = u32> + Listed>(
 }
 
 /// The first candidate left of the node.
-fn front<I: Iterator<Item = u32> + Listed>(fronts: &[Option<Ahead<I>>], place: u8) -> Option<u32>
-    ensures { MatchOption result ((p : ℕ) → IsFirstLeft fronts.now place p → ⊥)
-        (λ p. IsFirstLeft fronts.now place p) }
+fn front<I: Iterator<Item = u32> + Listed>(queues: &[Option<Ahead<I>>], place: u8) -> Option<u32>
+    ensures { MatchOption result ((p : ℕ) → IsFirstLeft queues.now place p → ⊥)
+        (λ p. IsFirstLeft queues.now place p) }
 {
-    candidates_left(fronts, place)?.front()
+    candidates_left(queues, place)?.front()
 }
 
 /// The least asked node without a candidate left.
 fn first_spent<I: Iterator<Item = u32> + Listed>(
-    fronts: &[Option<Ahead<I>>],
+    queues: &[Option<Ahead<I>>],
     asked: &[u8],
 ) -> Option<u8>
-    requires { ArePlaces fronts.now asked.now }
-    ensures { MatchOption result (HasFirstLefts fronts.now)
-        (λ i. slice_get fronts.now i ≡ Some (Some [])) }
+    requires { ArePlaces queues.now asked.now }
+    ensures { MatchOption result (HasFirstLefts queues.now)
+        (λ i. slice_get queues.now i ≡ Some (Some [])) }
 {
     for place in asked {
-        if front(fronts, *place).is_none() {
+        if front(queues, *place).is_none() {
             return Some(*place);
         }
     }
@@ -116,21 +116,21 @@ fn stands<C, A, I>(
     alloc: A,
     ordered: &C,
     nodes: u8,
-    fronts: &[Option<Ahead<I>>],
+    queues: &[Option<Ahead<I>>],
 ) -> Result<Vec<CandidateClock<A>, A>, OutOfMemory>
 where
     C: HappenedBefore,
     A: Allocator + Clone,
     I: Iterator<Item = u32> + Listed,
     requires nodes { nodes ≡ length (C.logs_of ordered.now) }
-    requires within { AreWithin (C.logs_of ordered.now) fronts.now }
+    requires within { AreWithin (C.logs_of ordered.now) queues.now }
     ensures count { IfOk result (λ stands. length stands.items ≡ nodes) }
-    ensures stands { IfOk result (λ stands. AreStands (C.logs_of ordered.now) fronts.now stands.items) }
+    ensures stands { IfOk result (λ stands. AreStands (C.logs_of ordered.now) queues.now stands.items) }
 {
     let mut stands = Vec::with_capacity(alloc.clone()?, usize::from(nodes))?;
     for place in 0..nodes {
         let alloc = alloc.clone()?;
-        let stand = match front(fronts, place) {
+        let stand = match front(queues, place) {
             Some(position) => CandidateClock::at(alloc, ordered, place, position)?,
             None => CandidateClock::nowhere(alloc),
         };
@@ -182,17 +182,17 @@ fn add_eliminated_by<A: Allocator>(
 fn next_step<A: Allocator, I: Iterator<Item = u32> + Listed>(
     pairs: &mut PairSet<A>,
     stands: &[CandidateClock<A>],
-    fronts: &[Option<Ahead<I>>],
+    queues: &[Option<Ahead<I>>],
 ) -> Option<CertStep>
-    ensures pairs { (logs : List Log) → AreWithin logs fronts.now → AreStands logs fronts.now stands.now
-        → HasEliminations logs fronts.now pairs.old → HasEliminations logs fronts.now pairs.new }
-    ensures step { (logs : List Log) → AreWithin logs fronts.now → AreStands logs fronts.now stands.now
-        → HasEliminations logs fronts.now pairs.old
-        → MatchOption result ((s : CertStep) → IsElimination logs fronts.now s → ⊥)
-        (λ s. IsElimination logs fronts.now s) }
+    ensures pairs { (logs : List Log) → AreWithin logs queues.now → AreStands logs queues.now stands.now
+        → HasEliminations logs queues.now pairs.old → HasEliminations logs queues.now pairs.new }
+    ensures step { (logs : List Log) → AreWithin logs queues.now → AreStands logs queues.now stands.now
+        → HasEliminations logs queues.now pairs.old
+        → MatchOption result ((s : CertStep) → IsElimination logs queues.now s → ⊥)
+        (λ s. IsElimination logs queues.now s) }
 {
     'pairs: while let Some((node, other)) = pairs.first() {
-        if let Some(step) = step_by(stands, fronts, node, other) {
+        if let Some(step) = step_by(stands, queues, node, other) {
             return Some(step);
         }
         pairs.remove(node, other);
@@ -203,17 +203,17 @@ fn next_step<A: Allocator, I: Iterator<Item = u32> + Listed>(
 /// The elimination of the node's first candidate left by that of the other.
 fn step_by<A: Allocator, I: Iterator<Item = u32> + Listed>(
     stands: &[CandidateClock<A>],
-    fronts: &[Option<Ahead<I>>],
+    queues: &[Option<Ahead<I>>],
     node: u8,
     other: u8,
 ) -> Option<CertStep>
-    ensures { (logs : List Log) → AreWithin logs fronts.now → AreStands logs fronts.now stands.now
+    ensures { (logs : List Log) → AreWithin logs queues.now → AreStands logs queues.now stands.now
         → MatchOption result
-        ((s : CertStep) → s.node ≡ node → s.other ≡ other → IsElimination logs fronts.now s → ⊥)
-        (λ s. IsElimination logs fronts.now s) }
+        ((s : CertStep) → s.node ≡ node → s.other ≡ other → IsElimination logs queues.now s → ⊥)
+        (λ s. IsElimination logs queues.now s) }
 {
-    let pos = front(fronts, node)?;
-    let other_pos = front(fronts, other)?;
+    let pos = front(queues, node)?;
+    let other_pos = front(queues, other)?;
     let count = *stands
         .get(usize::from(other))?
         .counts()
@@ -262,9 +262,9 @@ fn least_cut<A: Allocator>(
 ) -> Result<Vec<u32, A>, OutOfMemory>
     requires nodes { nodes ≡ length stands.now }
     requires standing { AreStanding stands.now asked.now }
-    ensures { (logs : List Log) (fronts : List (Option (List ℕ))) → nodes ≡ length logs
-        → ArePlaces fronts asked.now → HasFirstLefts fronts → AreWithin logs fronts
-        → AreStands logs fronts stands.now → IfOk result (λ cut. AreGreatestCounts logs fronts cut.items) }
+    ensures { (logs : List Log) (queues : List (Option (List ℕ))) → nodes ≡ length logs
+        → ArePlaces queues asked.now → HasFirstLefts queues → AreWithin logs queues
+        → AreStands logs queues stands.now → IfOk result (λ cut. AreGreatestCounts logs queues cut.items) }
 {
     let mut cut = Vec::with_capacity(alloc, usize::from(nodes))?;
     for place in 0..nodes {
@@ -277,9 +277,9 @@ fn least_cut<A: Allocator>(
 fn greatest_count<A: Allocator>(stands: &[CandidateClock<A>], asked: &[u8], place: u8) -> u32
     requires place { place < length stands.now }
     requires standing { AreStanding stands.now asked.now }
-    ensures { (logs : List Log) (fronts : List (Option (List ℕ))) → place < length logs
-        → ArePlaces fronts asked.now → HasFirstLefts fronts → AreWithin logs fronts
-        → AreStands logs fronts stands.now → IsGreatestCount logs fronts place result }
+    ensures { (logs : List Log) (queues : List (Option (List ℕ))) → place < length logs
+        → ArePlaces queues asked.now → HasFirstLefts queues → AreWithin logs queues
+        → AreStands logs queues stands.now → IsGreatestCount logs queues place result }
 {
     let mut greatest = 0;
     for other in asked {

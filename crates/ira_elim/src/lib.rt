@@ -14,7 +14,7 @@ mod step_sink;
 
 pub use cut::Cut;
 pub use decided::Decided;
-pub use elimination::decide_fronts;
+pub use elimination::decide_queues;
 pub use found::Found;
 pub use laws::a_case_is_absent_or_present;
 pub use maker::{decide, decide_into, decide_profiled};

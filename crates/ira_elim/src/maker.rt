@@ -4,10 +4,10 @@ ghost use Rattle.ira_elim.specs.Decided.{IsDecided};
 ghost use Rattle.ira_elim.specs.Found.{IsFound};
 
 use crate::decided::Decided;
-use crate::elimination::decide_fronts;
+use crate::elimination::decide_queues;
 use crate::found::Found;
 use crate::step_sink::StepSink;
-use ira_cert::{Profiles, case_fronts, profiled_fronts};
+use ira_cert::{Profiles, case_queues, profiled_queues};
 use ira_event::{Logs, OutOfMemory};
 use ira_order::{HappenedBefore, Ordered};
 use ira_pred::Case;
@@ -29,9 +29,9 @@ pub fn decide<A: Allocator + Clone>(
     requires places { HasPlacesOf logs.now case.now }
     ensures { IfOk result (λ found. IsFound logs.now case.now found) }
 {
-    let fronts = case_fronts(alloc.clone()?, logs, case)?;
+    let queues = case_queues(alloc.clone()?, logs, case)?;
     let steps = Vec::new(alloc.clone()?);
-    Ok(Found::of_decided(decide_fronts(alloc, ordered, fronts, steps)?))
+    Ok(Found::of_decided(decide_queues(alloc, ordered, queues, steps)?))
 }
 
 /// Decides a case as `decide` does, with the profiles of the logs, place by place: for many cases of the same
@@ -65,6 +65,6 @@ pub fn decide_into<C: HappenedBefore, A: Allocator + Clone, S: StepSink>(
     ensures { IfOk result (λ decided. IsDecided S.has_taken profiles.now case.now decided) }
 {
     let nodes = ordered.logs().size();
-    let fronts = profiled_fronts(alloc.clone()?, nodes, profiles, case)?;
-    decide_fronts(alloc, ordered, fronts, steps)
+    let queues = profiled_queues(alloc.clone()?, nodes, profiles, case)?;
+    decide_queues(alloc, ordered, queues, steps)
 }

@@ -7,7 +7,7 @@ use Rattle.ira_event.specs.Limits.{MAX_TEXT}
 use Rattle.ira_event.specs.Log.{Log}
 use Rattle.ira_event.specs.LogLaws.{NoTextIsOutOfMemory}
 use Rattle.ira_event.specs.LogTextFault.{BeginsWithHead, LineFault, too_many, no_line, out_of_range, other_count}
-use Rattle.ira_event.specs.LogTextFault.{trailing, RecordsFault, LinesFault, no_head, behind_head, LogTextFault}
+use Rattle.ira_event.specs.LogTextFault.{trailing, RecordsFault, LinesFault, no_head, past_head, LogTextFault}
 use Rattle.ira_event.proofs.LogAnswers.{LogRead, log_or_fault, one_fault, err_is}
 use Rattle.ira_event.proofs.NextLines.{next_fault_is}
 
@@ -34,7 +34,7 @@ records_fault_late v text f h =
 
 lines_memory : (text : List ℕ) → LinesFault text fault.OutOfMemory → ⊥
 lines_memory text (no_head a e) = absurd cc
-lines_memory text (behind_head head rest b h) = records_fault_late head.version rest fault.OutOfMemory h
+lines_memory text (past_head head rest b h) = records_fault_late head.version rest fault.OutOfMemory h
 
 pub not_out_of_memory : NoTextIsOutOfMemory
 not_out_of_memory text (inl a) = absurd cc
@@ -47,7 +47,7 @@ HasHead text = (length text ≤ MAX_TEXT) × (head : LogHead) × (rest : List �
 
 lines_late : (text : List ℕ) (f : LogFault) → HasHead text → LinesFault text f → IsLate f
 lines_late text f has (no_head none e) = absurd (none has.1 has.2 has.3)
-lines_late text f has (behind_head head rest b h) = records_fault_late head.version rest f h
+lines_late text f has (past_head head rest b h) = records_fault_late head.version rest f h
 
 fault_late : (text : List ℕ) (f : LogFault) → HasHead text → LogTextFault text f → IsLate f
 fault_late text f has (inl long) = absurd (omega (arith, long.0, has.0))

@@ -59,7 +59,7 @@ head-again lines head rest h =
     ) refl
 
 -- the head that was taken from the front
-pub record HeadTaken (text : List ℕ) (lines : HeadLines) (rest : List ℕ) : Type 0 where
+pub record HeadScanned (text : List ℕ) (lines : HeadLines) (rest : List ℕ) : Type 0 where
   pub front : List ℕ
   pub version : ℕ
   pub nodes : ℕ
@@ -86,9 +86,9 @@ head_built : (text : List ℕ) (lines : HeadLines) (rest : List ℕ) (v a d e : 
     → text ≡ codes "irlog " ++ v → Kept v z → z.1 ≡ codes "\nnodes " ++ a → Kept a n → n.1 ≡ codes "\nplace " ++ d
     → Kept d p → p.1 ≡ codes "\nstart " ++ e → e ≡ start_word s.0 ++ codes "\n" ++ s.1
     → record { version = z.0; nodes = n.0; place = p.0; initiator = s.0 } ≡ lines → s.1 ≡ rest
-    → HeadTaken text lines rest
+    → HeadScanned text lines rest
 head_built text lines rest v a d e z n p s w1 k0 w2 k1 w3 k2 w4 st one two =
-    let H : HeadLines → Type 0 = λ l. HeadTaken text l rest in
+    let H : HeadLines → Type 0 = λ l. HeadScanned text l rest in
     subst H one (record {
       front = codes "irlog " ++ k0.text ++ codes "\nnodes " ++ k1.text ++ codes "\nplace " ++ k2.text
           ++ codes "\nstart " ++ start_word s.0 ++ codes "\n";
@@ -112,7 +112,7 @@ head_built text lines rest v a d e z n p s w1 k0 w2 k1 w3 k2 w4 st one two =
     })
 
 pub head-takes : (text : List ℕ) (lines : HeadLines) (rest : List ℕ) → head_at text ≡ Some (lines, rest)
-    → HeadTaken text lines rest
+    → HeadScanned text lines rest
 unfolding head_at
 head-takes text lines rest e =
     let v = bind_some _ _ _ e in

@@ -11,7 +11,7 @@ use Rattle.ira_event.specs.declared.log_head.HeadLines.{HeadLines}
 use Rattle.ira_event.specs.Log.{Log, IsLog}
 use Rattle.ira_event.specs.declared.log_head.LogHead.{LogHead}
 use Rattle.ira_event.specs.LogText.{IsLogText, head_of, log_text}
-use Rattle.ira_event.specs.LogTextFault.{BeginsWithHead, OpeningFault, RecordsFault, LinesFault, no_head, behind_head}
+use Rattle.ira_event.specs.LogTextFault.{BeginsWithHead, OpeningFault, RecordsFault, LinesFault, no_head, past_head}
 use Rattle.ira_event.specs.LogTextFault.{LogTextFault, AreAllRecords}
 use Rattle.ira_event.specs.Result.{UnlessErr}
 use Rattle.ira_event.proofs.Heads.{begins-again, head_says}
@@ -103,7 +103,7 @@ log_or_fault text log f h (inl long) = omega (arith, log_text_short text log h, 
 log_or_fault text log f h (inr lines) =
     elim lines.1 [
       | no_head none_there is ↦ none_there _ _ (head_begins text log h)
-      | behind_head head rest b rf ↦
+      | past_head head rest b rf ↦
           let s = heads_same text head (head_of log) rest _ b (head_begins text log h) in
           let P : LogHead → Type 0 = λ x. RecordsFault x.version rest f in
           records_fault_not_all log.version _ log.events f
@@ -112,9 +112,9 @@ log_or_fault text log f h (inr lines) =
 
 lines_faults_same : (text : List ℕ) (f g : LogFault) → LinesFault text f → LinesFault text g → f ≡ g
 lines_faults_same text f g (no_head a p) (no_head b q) = p ∙ sym q
-lines_faults_same text f g (no_head a p) (behind_head head rest b rf) = absurd (a head rest b)
-lines_faults_same text f g (behind_head head rest b rf) (no_head a p) = absurd (a head rest b)
-lines_faults_same text f g (behind_head head rest b rf) (behind_head head' rest' b' rf') =
+lines_faults_same text f g (no_head a p) (past_head head rest b rf) = absurd (a head rest b)
+lines_faults_same text f g (past_head head rest b rf) (no_head a p) = absurd (a head rest b)
+lines_faults_same text f g (past_head head rest b rf) (past_head head' rest' b' rf') =
     let s = heads_same text head head' rest rest' b b' in
     let P : LogHead → Type 0 = λ x. RecordsFault x.version rest f in
     records_faults_same head'.version rest' f g (subst (λ t. RecordsFault head'.version t f) s.1 (subst P s.0 rf)) rf'
@@ -142,7 +142,7 @@ pub lines_refused : (text : List ℕ) (head : LogHead) (rest : List ℕ) (v : �
     → LogRead (Err f) text
 lines_refused text head rest v f short b is (inl e) = inl e
 lines_refused text head rest v f short b is (inr h) =
-    inr (inr (short, behind_head head rest b (subst (λ (x : ℕ). RecordsFault x rest f) is h)))
+    inr (inr (short, past_head head rest b (subst (λ (x : ℕ). RecordsFault x rest f) is h)))
 
 ok_is : (a b : Log) → ◌≡◌ {A = Result Log LogFault} (Ok a) (Ok b) → a ≡ b
 ok_is a b e = cc

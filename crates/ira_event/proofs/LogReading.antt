@@ -199,31 +199,31 @@ module _ (v : ℕ) (bs after : List ℕ) where
 
 -- ---- record by record
 
-pub behind_nothing : (text : List ℕ) (left : RecordsLeft) → left.rest ≡ text → left.count ≡ 0 → HasRead text [] left
-behind_nothing text left rest none =
+pub after_nothing : (text : List ℕ) (left : RecordsLeft) → left.rest ≡ text → left.count ≡ 0 → HasRead text [] left
+after_nothing text left rest none =
     (subst (BeginsWithRecords left.version text []) (sym rest) (begins_nothing left.version text), sym none)
 
-pub behind_more : (text : List ℕ) (es : List Event) (old new : RecordsLeft) (e : Event) → HasRead text es old
+pub after_more : (text : List ℕ) (es : List Event) (old new : RecordsLeft) (e : Event) → HasRead text es old
     → ReadsRecord old new e → HasRead text (es ++ e ∷ []) new
-behind_more text es old new e h r = (
+after_more text es old new e h r = (
   subst (λ (v : ℕ). BeginsWithRecords v text (es ++ e ∷ []) new.rest) (sym r.version)
       (begins_pushed old.version text old.rest r.line new.rest es e h.0 r.rest r.is (λ q.
       r.few (sym h.1 ∙ q)) r.number r.held),
   omega (arith, length-append es (e ∷ []), h.1, r.count),
 )
 
-pub behind_all : (text : List ℕ) (es : List Event) (left : RecordsLeft) → HasRead text es left → IsAtEnd left
+pub after_all : (text : List ℕ) (es : List Event) (left : RecordsLeft) → HasRead text es left → IsAtEnd left
     → AreAllRecords left.version text es
-behind_all text es left h r =
+after_all text es left h r =
     record {
       end = r.line;
       end_is = subst (IsEnd r.line) (sym h.1) r.is;
       begins = subst (BeginsWithRecords left.version text es) r.rest h.0;
     }
 
-pub behind_fault : (text : List ℕ) (es : List Event) (left : RecordsLeft) (f : LogFault) → HasRead text es left
+pub after_fault : (text : List ℕ) (es : List Event) (left : RecordsLeft) (f : LogFault) → HasRead text es left
     → RestFault left.version left.count left.rest f → RecordsFault left.version text f
-behind_fault text es left f h r =
+after_fault text es left f h r =
     record {
       events = es;
       rest = left.rest;

@@ -7,7 +7,7 @@ use Rattle.std.specs.Cmp.Lexicographic.{pointwise, bytes_decides}
 use Rattle.std.specs.Option.{option_map}
 use Rattle.std.proofs.lemmas.List.{take_at, drop_at, take-append-drop, append_cancel_left}
 use Rattle.std.proofs.lemmas.Option.{same_Some}
-use Rattle.ira_event.specs.Scan.{number_at, kept_at, kept, after_word, ◌>>=◌, or, behind}
+use Rattle.ira_event.specs.Scan.{number_at, kept_at, kept, after_word, ◌>>=◌, or, then_or}
 use Rattle.ira_event.specs.LogScan.{bit_at, message_at, reset_at, load_at, number_line, yield_at, line_at}
 use Rattle.ira_event.specs.Numeral.{IsNumeral}
 use Rattle.ira_event.specs.LogText.{IsMessage, IsLoad, IsRecord, IsEnd, bit_word}
@@ -255,9 +255,9 @@ pub number_line-again : (text : List ℕ) (n : ℕ) (rest : List ℕ) → IsNume
 number_line-again text n rest h =
     ap number_line (append_assoc text (codes "\n") rest) ∙ rw (kept-again text n (codes "\n" ++ rest) h refl) refl
 
-behind_word : (word bs text rest : List ℕ) (after : List ℕ) → after_word word bs ≡ Some after
+past_word : (word bs text rest : List ℕ) (after : List ℕ) → after_word word bs ≡ Some after
     → after ≡ text ++ codes "\n" ++ rest → bs ≡ (word ++ text) ++ codes "\n" ++ rest
-behind_word word bs text rest after e p = word-takes word bs after e ∙ ap (λ w. word ++ w) p ∙ simp append_assoc
+past_word word bs text rest after e p = word-takes word bs after e ∙ ap (λ w. word ++ w) p ∙ simp append_assoc
 
 -- ---- a load
 
@@ -281,37 +281,37 @@ load-again text (Reset n) rest h =
     ∙ ap (λ o. option_map (λ p. (Reset p.0, p.1)) o) reset
 
 -- the load that was taken from the front, with its line's end
-pub record LoadTaken (bs : List ℕ) (p : Load × List ℕ) : Type 0 where
+pub record LoadScanned (bs : List ℕ) (p : Load × List ℕ) : Type 0 where
   pub l : Load
   pub text : List ℕ
   pub parts : bs ≡ text ++ codes "\n" ++ p.1
   pub is : IsLoad text l
   pub kept_is : p.0 ≡ kept_load l
 
-message_taken : (bs : List ℕ) (p : Msg × List ℕ) → message_at bs ≡ Some p → LoadTaken bs (Sends p.0, p.1)
+message_taken : (bs : List ℕ) (p : Msg × List ℕ) → message_at bs ≡ Some p → LoadScanned bs (Sends p.0, p.1)
 message_taken bs p e = let t = message-takes bs p e in
     record { l = Sends t.m; text = t.text; parts = t.parts; is = t.is; kept_is = ap Sends t.kept_is }
 
-reset_taken : (bs : List ℕ) (p : ℕ × List ℕ) → reset_at bs ≡ Some p → LoadTaken bs (Reset p.0, p.1)
+reset_taken : (bs : List ℕ) (p : ℕ × List ℕ) → reset_at bs ≡ Some p → LoadScanned bs (Reset p.0, p.1)
 reset_taken bs p e =
     let a = bind_some (after_word (codes "reset ") bs) number_line p e in
     let t = number_line-takes a.0 p a.2 in
     record {
       l = Reset t.1;
       text = codes "reset " ++ t.0;
-      parts = behind_word (codes "reset ") bs t.0 p.1 a.0 a.1 t.2;
+      parts = past_word (codes "reset ") bs t.0 p.1 a.0 a.1 t.2;
       is = (t.0, refl, t.3);
       kept_is = ap Reset t.4;
     }
 
 load-cases : (bs : List ℕ) (p : Load × List ℕ) (a : Option (Msg × List ℕ)) (b : Option (ℕ × List ℕ)) → message_at bs ≡ a
     → reset_at bs ≡ b
-    → or (option_map (λ p. (Sends p.0, p.1)) a) (option_map (λ p. (Reset p.0, p.1)) b) ≡ Some p → LoadTaken bs p
-load-cases bs p (Some q) b ea eb e = subst (LoadTaken bs) (same_Some _ _ e) (message_taken bs q ea)
-load-cases bs p None (Some q) ea eb e = subst (LoadTaken bs) (same_Some _ _ e) (reset_taken bs q eb)
+    → or (option_map (λ p. (Sends p.0, p.1)) a) (option_map (λ p. (Reset p.0, p.1)) b) ≡ Some p → LoadScanned bs p
+load-cases bs p (Some q) b ea eb e = subst (LoadScanned bs) (same_Some _ _ e) (message_taken bs q ea)
+load-cases bs p None (Some q) ea eb e = subst (LoadScanned bs) (same_Some _ _ e) (reset_taken bs q eb)
 load-cases bs p None None ea eb e = absurd cc
 
-pub load-takes : (bs : List ℕ) (p : Load × List ℕ) → load_at bs ≡ Some p → LoadTaken bs p
+pub load-takes : (bs : List ℕ) (p : Load × List ℕ) → load_at bs ≡ Some p → LoadScanned bs p
 load-takes bs p e = load-cases bs p (message_at bs) (reset_at bs) refl refl e
 
 -- a load spells one thing
@@ -329,17 +329,17 @@ message_no_reset text m h a b =
 line-cases : (bs : List ℕ) (p : LogLine × List ℕ) (a b c d y : Option (List ℕ)) → after_word (codes "draw ") bs ≡ a
     → after_word (codes "send ") bs ≡ b → after_word (codes "recv ") bs ≡ c → after_word (codes "end ") bs ≡ d
     → after_word (codes "yield\n") bs ≡ y
-    → behind a (λ r. option_map (λ p. (Record (Draw p.0), p.1)) (number_line r))
-    (behind b (λ r. option_map (λ p. (Record (Sent p.0), p.1)) (load_at r))
-    (behind c (λ r. option_map (λ p. (Record (Got p.0), p.1)) (load_at r))
-    (behind d (λ r. option_map (λ p. (End p.0, p.1)) (number_line r)) (option_map (λ r. (Record Yield, r)) y))))
+    → then_or a (λ r. option_map (λ p. (Record (Draw p.0), p.1)) (number_line r))
+    (then_or b (λ r. option_map (λ p. (Record (Sent p.0), p.1)) (load_at r))
+    (then_or c (λ r. option_map (λ p. (Record (Got p.0), p.1)) (load_at r))
+    (then_or d (λ r. option_map (λ p. (End p.0, p.1)) (number_line r)) (option_map (λ r. (Record Yield, r)) y))))
     ≡ Some p → FirstLine bs p
 line-cases bs p (Some r) b c d y ea eb ec ed ey e =
     let m = map_some (number_line r) (λ p. (Record (Draw p.0), p.1)) p e in
     let t = number_line-takes r m.0 m.1 in
     subst (FirstLine bs) m.2 (record {
       text = codes "draw " ++ t.0;
-      parts = behind_word (codes "draw ") bs t.0 m.0.1 r ea t.2;
+      parts = past_word (codes "draw ") bs t.0 m.0.1 r ea t.2;
       whole =
           Lacks-append 10 (codes "draw ") t.0 refl (Lacks-numeral 10 t.0 t.1 (omega arith) t.3);
       says =
@@ -350,7 +350,7 @@ line-cases bs p None (Some r) c d y ea eb ec ed ey e =
     let t = load-takes r m.0 m.1 in
     subst (FirstLine bs) m.2 (record {
       text = codes "send " ++ t.text;
-      parts = behind_word (codes "send ") bs t.text m.0.1 r eb t.parts;
+      parts = past_word (codes "send ") bs t.text m.0.1 r eb t.parts;
       whole =
           Lacks-append 10 (codes "send ") t.text refl (load_is_one_line t.text t.l t.is);
       says =
@@ -361,7 +361,7 @@ line-cases bs p None None (Some r) d y ea eb ec ed ey e =
     let t = load-takes r m.0 m.1 in
     subst (FirstLine bs) m.2 (record {
       text = codes "recv " ++ t.text;
-      parts = behind_word (codes "recv ") bs t.text m.0.1 r ec t.parts;
+      parts = past_word (codes "recv ") bs t.text m.0.1 r ec t.parts;
       whole =
           Lacks-append 10 (codes "recv ") t.text refl (load_is_one_line t.text t.l t.is);
       says =
@@ -372,7 +372,7 @@ line-cases bs p None None None (Some r) y ea eb ec ed ey e =
     let t = number_line-takes r m.0 m.1 in
     subst (FirstLine bs) m.2 (record {
       text = codes "end " ++ t.0;
-      parts = behind_word (codes "end ") bs t.0 m.0.1 r ed t.2;
+      parts = past_word (codes "end ") bs t.0 m.0.1 r ed t.2;
       whole =
           Lacks-append 10 (codes "end ") t.0 refl (Lacks-numeral 10 t.0 t.1 (omega arith) t.3);
       says =

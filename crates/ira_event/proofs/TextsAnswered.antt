@@ -19,7 +19,7 @@ use Rattle.ira_event.specs.Log.{Log}
 use Rattle.ira_event.specs.LogScan.{line_at, head_at}
 use Rattle.ira_event.specs.LogLaws.{EachTextHasAnAnswer}
 use Rattle.ira_event.specs.LogText.{IsLogText}
-use Rattle.ira_event.specs.LogTextFault.{BeginsAsRecord, BeginsWithHead, RestFault, RecordsFault, no_head, behind_head}
+use Rattle.ira_event.specs.LogTextFault.{BeginsAsRecord, BeginsWithHead, RestFault, RecordsFault, no_head, past_head}
 use Rattle.ira_event.specs.LogTextFault.{LogTextFault, AreAllRecords}
 use Rattle.ira_event.specs.NextLine.{cut}
 use Rattle.ira_event.specs.RingSize.{FitsVersion}
@@ -29,7 +29,7 @@ use Rattle.ira_event.specs.Scan.{after_word}
 use Rattle.ira_event.proofs.Heads as heads
 use Rattle.ira_event.proofs.LogAnswers.{log_of, log_read}
 use Rattle.ira_event.proofs.LogReading.{reads_record, at_end, fault_too_many, fault_range, fault_count, fault_trailing}
-use Rattle.ira_event.proofs.LogReading.{behind_nothing, behind_more, behind_all, behind_fault, record_shorter}
+use Rattle.ira_event.proofs.LogReading.{after_nothing, after_more, after_all, after_fault, record_shorter}
 use Rattle.ira_event.proofs.LogReading.{no_line_end, line_end_at, fault_unread_too_many, fault_line}
 use Rattle.ira_event.proofs.RecordLines.{word-takes, word-again}
 
@@ -163,16 +163,16 @@ from_record (suc bytes) v text es rest k short h =
           let on : HasRead text (es ++ e ∷ []) (left_of v next.0.rest next.0.count) =
           let P : ℕ → Type 0 = λ w.
           HasRead text (es ++ e ∷ []) (record { version = w; rest = next.0.rest; count = next.0.count }) in
-          subst P r.version (behind_more text es left next.0 e h r) in
+          subst P r.version (after_more text es left next.0 e h r) in
           from_record bytes v text (es ++ e ∷ []) next.0.rest next.0.count
           (omega (arith, record_shorter left next.0 e r, short)) on
-      | Ok None ↦ λ r. inl (es, behind_all text es left h r.0)
-      | Err f ↦ λ r. inr (f, behind_fault text es left f h r.0)
+      | Ok None ↦ λ r. inl (es, after_all text es left h r.0)
+      | Err f ↦ λ r. inr (f, after_fault text es left f h r.0)
     ] next.2
 
 records_answered : (v : ℕ) (text : List ℕ) → RecordsAnswered v text
 records_answered v text =
-    from_record (suc (length text)) v text [] text 0 (omega arith) (behind_nothing text (left_of v text 0) refl refl)
+    from_record (suc (length text)) v text [] text 0 (omega arith) (after_nothing text (left_of v text 0) refl refl)
 
 -- ---- whole texts
 
@@ -219,7 +219,7 @@ no_head_there text short none = inr (fault.Head, inr (short, no_head none refl))
 head_there : (text : List ℕ) (head : LogHead) (rest : List ℕ) → length text ≤ MAX_TEXT → BeginsWithHead text head rest
     → RecordsAnswered head.version rest → Answered text
 head_there text head rest short b (inl r) = inl (log_of head r.0, log_read text head rest r.0 b r.1)
-head_there text head rest short b (inr r) = inr (r.0, inr (short, behind_head head rest b r.1))
+head_there text head rest short b (inr r) = inr (r.0, inr (short, past_head head rest b r.1))
 
 by_head : (text : List ℕ) (head : Option (HeadLines × List ℕ)) → length text ≤ MAX_TEXT → head_at text ≡ head
     → Answered text

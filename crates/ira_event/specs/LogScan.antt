@@ -1,7 +1,7 @@
 -- Helpers, no definitions: how the lines of a log text are scanned, as the reader's contracts say.
 use Rattle.std.specs.Option.{option_map}
 use Rattle.std.specs.Prelude.{ℕ, Bool, true, false, List, Option, Some, None, codes}
-use Rattle.ira_event.specs.Scan.{kept_at, after_word, ◌>>=◌, or, behind}
+use Rattle.ira_event.specs.Scan.{kept_at, after_word, ◌>>=◌, or, then_or}
 use Rattle.ira_event.specs.declared.msg.Msg.{Msg}
 use Rattle.ira_event.specs.declared.load.Load.{Load}
 use Rattle.ira_event.specs.declared.load.Load.TheVariants.{Msg as Message, Reset}
@@ -51,18 +51,18 @@ yield_at text = option_map (λ r. (Record Yield, r)) (after_word (codes "yield\n
 -- the word before a line's first space, and what follows that
 abbrev pub word_at : List ℕ → Option (LineWord × List ℕ)
 word_at text =
-    behind (after_word (codes "draw ") text) (λ r. Some (word.Draw, r))
-    (behind (after_word (codes "send ") text) (λ r. Some (word.Send, r))
-    (behind (after_word (codes "recv ") text) (λ r. Some (word.Recv, r))
-    (behind (after_word (codes "end ") text) (λ r. Some (word.End, r)) None)))
+    then_or (after_word (codes "draw ") text) (λ r. Some (word.Draw, r))
+    (then_or (after_word (codes "send ") text) (λ r. Some (word.Send, r))
+    (then_or (after_word (codes "recv ") text) (λ r. Some (word.Recv, r))
+    (then_or (after_word (codes "end ") text) (λ r. Some (word.End, r)) None)))
 
 -- a record's line or the end line, and what follows it
 unfoldable pub line_at : List ℕ → Option (LogLine × List ℕ)
 line_at text =
-    behind (after_word (codes "draw ") text) (λ r. option_map (λ p. (Record (Draw p.0), p.1)) (number_line r))
-    (behind (after_word (codes "send ") text) (λ r. option_map (λ p. (Record (Sent p.0), p.1)) (load_at r))
-    (behind (after_word (codes "recv ") text) (λ r. option_map (λ p. (Record (Got p.0), p.1)) (load_at r))
-    (behind (after_word (codes "end ") text) (λ r. option_map (λ p. (End p.0, p.1)) (number_line r)) (yield_at text))))
+    then_or (after_word (codes "draw ") text) (λ r. option_map (λ p. (Record (Draw p.0), p.1)) (number_line r))
+    (then_or (after_word (codes "send ") text) (λ r. option_map (λ p. (Record (Sent p.0), p.1)) (load_at r))
+    (then_or (after_word (codes "recv ") text) (λ r. option_map (λ p. (Record (Got p.0), p.1)) (load_at r))
+    (then_or (after_word (codes "end ") text) (λ r. option_map (λ p. (End p.0, p.1)) (number_line r)) (yield_at text))))
 
 -- the word for a start kind at its line's end, and what follows the line
 abbrev pub start_at : List ℕ → Option (Bool × List ℕ)

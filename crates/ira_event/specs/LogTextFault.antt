@@ -85,7 +85,7 @@ pub data LinesFault (text : List ℕ) (f : LogFault) : Type 0 where
   -- it begins with no head
   no_head : BeginsWithNoHead text → f ≡ Head → LinesFault text f
   -- what stands after its head has a fault
-  behind_head :
+  past_head :
       (head : LogHead) (rest : List ℕ) → BeginsWithHead text head rest → RecordsFault head.version rest f
       → LinesFault text f
 

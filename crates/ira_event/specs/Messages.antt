@@ -1,9 +1,16 @@
--- The loads that events send and receive.
-use Rattle.std.specs.Prelude.{◌≡◌, List, [], ◌++◌, Option, Some, None}
+-- What events draw, send and receive.
+use Rattle.std.specs.Prelude.{◌≡◌, ℕ, List, [], ◌++◌, Option, Some, None}
 use Rattle.std.specs.List.{filter_map}
 use Rattle.ira_event.specs.declared.load.Load.{Load}
 use Rattle.ira_event.specs.declared.event.Event.{Event}
 use Rattle.ira_event.specs.declared.event.Event.TheVariants.{Draw, Sent, Got, Yield}
+
+-- the ID that an event draws
+abbrev pub drawing : Event → Option ℕ
+drawing (Draw id) = Some id
+drawing (Sent l) = None
+drawing (Got l) = None
+drawing Yield = None
 
 -- the load that an event sends
 abbrev pub sending : Event → Option Load
@@ -18,6 +25,10 @@ receipt (Draw id) = None
 receipt (Sent l) = None
 receipt (Got l) = Some l
 receipt Yield = None
+
+-- the IDs that these events draw, in their order
+abbrev pub drawn : List Event → List ℕ
+drawn events = filter_map drawing events
 
 -- the loads that these events send, in their order
 abbrev pub sent : List Event → List Load

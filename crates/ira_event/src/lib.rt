@@ -53,7 +53,7 @@ pub use packed_event::PackedLoad;
 pub use packed_events::PackedEvents;
 pub use records::{Records, line_end};
 pub use ring_size::RingSize;
-pub use scan::{skip_word, take_number};
+pub use scan::{scan_number, skip_word};
 pub use sink::{Sink, SinkFault};
 pub use to_writer::ToWriter;
 pub use write::{WriteFault, write_bytes, write_number};

@@ -6,7 +6,7 @@ ghost use Rattle.ira_event.specs.LogHead.{AreInRange};
 
 use crate::limits::MAX_VERSION;
 use crate::ring_size::RingSize;
-use crate::scan::{skip_word, take_number};
+use crate::scan::{scan_number, skip_word};
 
 /// The head of a log text.
 #[derive(Clone, Copy, Debug)]
@@ -27,11 +27,11 @@ struct HeadLines {
 }
 
 /// The head that the text begins with, and what follows it.
-pub fn take_head(text: &[u8]) -> Option<(LogHead, &[u8])>
+pub fn scan_head(text: &[u8]) -> Option<(LogHead, &[u8])>
     ensures { MatchOption result (BeginsWithNoHead text.now)
         (λ found. BeginsWithHead text.now found.0 found.1.now) }
 {
-    let (lines, rest) = take_head_lines(text)?;
+    let (lines, rest) = scan_head_lines(text)?;
     let head = lines.in_range()?;
     Some((head, rest))
 }
@@ -64,17 +64,17 @@ impl HeadLines {
 }
 
 #[tactic(auto, unfolding(crate::specs::LogScan::head_at))]
-fn take_head_lines(text: &[u8]) -> Option<(HeadLines, &[u8])>
+fn scan_head_lines(text: &[u8]) -> Option<(HeadLines, &[u8])>
     ensures { Gives (λ found. (found.0, found.1.now)) result (head_at text.now) }
 {
     let rest = skip_word(text, b"irlog ")?;
-    let (version, rest) = take_number(rest)?;
+    let (version, rest) = scan_number(rest)?;
     let rest = skip_word(rest, b"\nnodes ")?;
-    let (nodes, rest) = take_number(rest)?;
+    let (nodes, rest) = scan_number(rest)?;
     let rest = skip_word(rest, b"\nplace ")?;
-    let (place, rest) = take_number(rest)?;
+    let (place, rest) = scan_number(rest)?;
     let rest = skip_word(rest, b"\nstart ")?;
-    let (initiator, rest) = take_start(rest)?;
+    let (initiator, rest) = scan_start(rest)?;
     let lines = HeadLines {
         version,
         nodes,
@@ -84,7 +84,7 @@ fn take_head_lines(text: &[u8]) -> Option<(HeadLines, &[u8])>
     Some((lines, rest))
 }
 
-fn take_start(text: &[u8]) -> Option<(bool, &[u8])>
+fn scan_start(text: &[u8]) -> Option<(bool, &[u8])>
     ensures { Gives (λ found. (found.0, found.1.now)) result (start_at text.now) }
 {
     if let Some(rest) = skip_word(text, b"initiator\n") {

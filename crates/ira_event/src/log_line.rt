@@ -5,7 +5,7 @@ ghost use Rattle.ira_event.specs.LogScan.{bit_at, message_at, reset_at, load_at,
 use crate::event::Event;
 use crate::load::Load;
 use crate::msg::Msg;
-use crate::scan::{skip_word, take_number};
+use crate::scan::{scan_number, skip_word};
 
 /// A line of a log text after its head.
 #[derive(Clone, Copy)]
@@ -28,19 +28,19 @@ pub(crate) enum LineWord {
 #[cold]
 #[inline(never)]
 #[tactic(auto, using(crate::proofs::LineWords::line_by_word))]
-pub fn take_line(text: &[u8]) -> Option<(LogLine, &[u8])>
+pub fn scan_line(text: &[u8]) -> Option<(LogLine, &[u8])>
     ensures { Gives (λ found. (found.0, found.1.now)) result (line_at text.now) }
 {
-    let Some((word, rest)) = take_word(text) else {
-        return take_yield(text);
+    let Some((word, rest)) = scan_word(text) else {
+        return scan_yield(text);
     };
     match word {
         LineWord::Draw => {
-            let (drawn, rest) = take_number_line(rest)?;
+            let (drawn, rest) = scan_number_line(rest)?;
             Some((LogLine::Record(Event::Draw(drawn)), rest))
         }
         LineWord::Send | LineWord::Recv => {
-            let (load, rest) = take_load_line(rest)?;
+            let (load, rest) = scan_load_line(rest)?;
             let event = match word {
                 LineWord::Send => Event::Sent(load),
                 _ => Event::Got(load),
@@ -48,14 +48,14 @@ pub fn take_line(text: &[u8]) -> Option<(LogLine, &[u8])>
             Some((LogLine::Record(event), rest))
         }
         LineWord::End => {
-            let (count, rest) = take_number_line(rest)?;
+            let (count, rest) = scan_number_line(rest)?;
             Some((LogLine::End(count), rest))
         }
     }
 }
 
 /// The yield that the text begins with.
-fn take_yield(text: &[u8]) -> Option<(LogLine, &[u8])>
+fn scan_yield(text: &[u8]) -> Option<(LogLine, &[u8])>
     ensures { Gives (λ found. (found.0, found.1.now)) result (yield_at text.now) }
 {
     let rest = skip_word(text, b"yield\n")?;
@@ -64,7 +64,7 @@ fn take_yield(text: &[u8]) -> Option<(LogLine, &[u8])>
 
 /// The word and the space that the line begins with.
 #[inline(always)]
-pub(crate) fn take_word(text: &[u8]) -> Option<(LineWord, &[u8])>
+pub(crate) fn scan_word(text: &[u8]) -> Option<(LineWord, &[u8])>
     ensures { Gives (λ found. (found.0, found.1.now)) result (word_at text.now) }
 {
     match text {
@@ -77,34 +77,34 @@ pub(crate) fn take_word(text: &[u8]) -> Option<(LineWord, &[u8])>
 }
 
 /// A load to its line's end.
-fn take_load_line(text: &[u8]) -> Option<(Load, &[u8])>
+fn scan_load_line(text: &[u8]) -> Option<(Load, &[u8])>
     ensures { Gives (λ found. (found.0, found.1.now)) result (load_at text.now) }
 {
-    if let Some((message, rest)) = take_message_line(text) {
+    if let Some((message, rest)) = scan_message_line(text) {
         return Some((Load::Msg(message), rest));
     }
-    let (hop, rest) = take_reset_line(text)?;
+    let (hop, rest) = scan_reset_line(text)?;
     Some((Load::Reset(hop), rest))
 }
 
-fn take_reset_line(text: &[u8]) -> Option<(u32, &[u8])>
+fn scan_reset_line(text: &[u8]) -> Option<(u32, &[u8])>
     ensures { Gives (λ found. (found.0, found.1.now)) result (reset_at text.now) }
 {
     let rest = skip_word(text, b"reset ")?;
-    take_number_line(rest)
+    scan_number_line(rest)
 }
 
 #[inline(always)]
 #[tactic(auto, unfolding(crate::specs::LogScan::message_at))]
-fn take_message_line(text: &[u8]) -> Option<(Msg, &[u8])>
+fn scan_message_line(text: &[u8]) -> Option<(Msg, &[u8])>
     ensures { Gives (λ found. (found.0, found.1.now)) result (message_at text.now) }
 {
-    let (round, rest) = take_number(text)?;
+    let (round, rest) = scan_number(text)?;
     let rest = skip_word(rest, b" ")?;
-    let (id, rest) = take_number(rest)?;
+    let (id, rest) = scan_number(rest)?;
     let rest = skip_word(rest, b" ")?;
-    let (hop, rest) = take_number(rest)?;
-    let (dirty, rest) = take_bit(rest)?;
+    let (hop, rest) = scan_number(rest)?;
+    let (dirty, rest) = scan_bit(rest)?;
     let message = Msg {
         round,
         id,
@@ -115,7 +115,7 @@ fn take_message_line(text: &[u8]) -> Option<(Msg, &[u8])>
 }
 
 #[inline(always)]
-pub(crate) fn take_bit(text: &[u8]) -> Option<(bool, &[u8])>
+pub(crate) fn scan_bit(text: &[u8]) -> Option<(bool, &[u8])>
     ensures { Gives (λ found. (found.0, found.1.now)) result (bit_at text.now) }
 {
     let [b' ', a, b, c, d, e, b'\n', rest @ ..] = text else {
@@ -131,10 +131,10 @@ pub(crate) fn take_bit(text: &[u8]) -> Option<(bool, &[u8])>
 }
 
 #[inline(always)]
-fn take_number_line(text: &[u8]) -> Option<(u32, &[u8])>
+fn scan_number_line(text: &[u8]) -> Option<(u32, &[u8])>
     ensures { Gives (λ found. (found.0, found.1.now)) result (number_line text.now) }
 {
-    let (n, rest) = take_number(text)?;
+    let (n, rest) = scan_number(text)?;
     let rest = skip_word(rest, b"\n")?;
     Some((n, rest))
 }

@@ -8,7 +8,7 @@ ghost use Rattle.ira_event.specs.declared.log_fault.LogFault.{LogFault};
 
 use crate::limits::MAX_TEXT;
 use crate::log_fault::LogFault;
-use crate::log_head::{LogHead, take_head};
+use crate::log_head::{LogHead, scan_head};
 use crate::node_log::NodeLog;
 use crate::packed_events::PackedEvents;
 use crate::records::Records;
@@ -41,7 +41,7 @@ pub fn open_log(text: &[u8]) -> Result<(LogHead, Records<'_>), LogFault>
     if text.len() > MAX_TEXT {
         return Err(LogFault::TooLong);
     }
-    let Some((head, rest)) = take_head(text) else {
+    let Some((head, rest)) = scan_head(text) else {
         return Err(LogFault::Head);
     };
     Ok((head, Records::new(head.version, rest, 0)))

@@ -1,4 +1,4 @@
-ghost use Rattle.std.specs.Prelude.{◌≡◌, ℕ, ◌<◌, ◌↔◌, List, Ok, Err, Some, MatchResult, OnOk, IfErr, IfOk, length, map, slice_get};
+ghost use Rattle.std.specs.Prelude.{◌≡◌, ℕ, ◌<◌, ◌↔◌, List, Ok, Err, Some, MatchResult, OnOk, IfErr, IfOk, length, map, slice_get, sum_by};
 ghost use Rattle.ira_event.specs.Log.{Log, IsLog};
 ghost use Rattle.ira_event.specs.Logs.{AreLogs, EachLog, HasNumber, HasVersion, IsFirstOther, HeadFaultOf, NoLogsHaveTwoHeadFaults, NoRingHasHeadFaults};
 ghost use Rattle.ira_event.specs.RingSize.{IsRingSize};
@@ -153,6 +153,17 @@ impl<A: Allocator> Logs<A> {
         ensures valid { AreLogs self.now }
     {
         &self.logs[usize::from(i)]
+    }
+
+    /// How many events they have together.
+    pub fn number_of_events(&self) -> usize
+        ensures { result ≡ sum_by (λ log. length log.events) self.now }
+    {
+        let mut events = 0;
+        for log in &self.logs {
+            events += log.len();
+        }
+        events
     }
 }
 

@@ -6,8 +6,8 @@ ghost use Rattle.ira_event.specs.Limits.{MAX_RECORDS};
 use crate::event::Event;
 use crate::limits::MAX_RECORDS;
 use crate::log_fault::LogFault;
-use crate::log_line::{LogLine, take_line};
-use crate::short_record::take_short_record;
+use crate::log_line::{LogLine, scan_line};
+use crate::short_record::scan_short_record;
 use std::marker::Model;
 
 /// What stands after the head of a log text of some version, read record by record; nothing is kept of those that
@@ -69,7 +69,7 @@ impl<'a> Records<'a> {
         ensures { ReadsOn self.old self.new result }
     {
         if self.count < MAX_RECORDS
-            && let Some((event, after)) = take_short_record(self.rest)
+            && let Some((event, after)) = scan_short_record(self.rest)
         {
             self.count += 1;
             self.rest = after;
@@ -84,7 +84,7 @@ impl<'a> Records<'a> {
     fn next_line(&mut self) -> Result<Option<Event>, LogFault>
         ensures { ReadsOn self.old self.new result }
     {
-        let Some((line, after)) = take_line(self.rest) else {
+        let Some((line, after)) = scan_line(self.rest) else {
             return Err(unread_fault(self.rest, self.count, self.version));
         };
         match line {

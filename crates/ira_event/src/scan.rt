@@ -28,19 +28,19 @@ pub(crate) fn to_digit(byte: u8) -> Option<u32>
 /// The number that the text begins with, and what follows it. A number is `0`, or a digit 1 to 9 and
 /// then any digits; `u32::MAX` stands for itself and for everything above.
 #[inline(always)]
-pub fn take_number(text: &[u8]) -> Option<(u32, &[u8])>
+pub fn scan_number(text: &[u8]) -> Option<(u32, &[u8])>
     ensures { Gives (λ found. (found.0, found.1.now)) result (kept_at text.now) }
 {
     match text {
         [b'0', rest @ ..] => Some((0, rest)),
-        [first @ b'1'..=b'9', rest @ ..] => Some(take_digits(u32::from(*first - b'0'), rest)),
+        [first @ b'1'..=b'9', rest @ ..] => Some(scan_digits(u32::from(*first - b'0'), rest)),
         _ => None,
     }
 }
 
 /// What the digits at the front go on to, after the number so far, and what follows them.
 #[inline(always)]
-fn take_digits(first: u32, text: &[u8]) -> (u32, &[u8])
+fn scan_digits(first: u32, text: &[u8]) -> (u32, &[u8])
     ensures value { result.0 ≡ kept (digits_from first text.now).0 }
     ensures rest { result.1.now ≡ (digits_from first text.now).1 }
 {

@@ -7,7 +7,7 @@ ghost use Rattle.ira_event.specs.declared.short_record.TheConstants.{NUMBER_ROOM
 
 use crate::event::Event;
 use crate::load::Load;
-use crate::log_line::{LineWord, take_bit, take_word};
+use crate::log_line::{LineWord, scan_bit, scan_word};
 use crate::msg::Msg;
 use crate::scan::{skip_word, to_digit};
 
@@ -23,7 +23,7 @@ const RECORD_ROOM: usize = 5 + MESSAGE_ROOM;
 /// `None` tells nothing of the text. Nearly all records are read here: with room for each number, no
 /// digit asks whether the text goes on.
 #[inline(always)]
-pub(crate) fn take_short_record(text: &[u8]) -> Option<(Event, &[u8])>
+pub(crate) fn scan_short_record(text: &[u8]) -> Option<(Event, &[u8])>
     ensures line { IfSome result (λ found. line_at text.now ≡ Some (Record found.0, found.1.now)) }
     ensures in_range { IfSome result (λ found. is_event found.0 ≡ true) }
     ensures version { (version : ℕ) → IfSome result (λ found. is_of_version version found.0 ≡ true) }
@@ -31,7 +31,7 @@ pub(crate) fn take_short_record(text: &[u8]) -> Option<(Event, &[u8])>
     if text.len() < RECORD_ROOM {
         return None;
     }
-    let (word, rest) = take_word(text)?;
+    let (word, rest) = scan_word(text)?;
     match word {
         LineWord::Draw => {
             let (drawn, end) = short_number(rest, 0)?;
@@ -39,11 +39,11 @@ pub(crate) fn take_short_record(text: &[u8]) -> Option<(Event, &[u8])>
             Some((Event::Draw(drawn), rest))
         }
         LineWord::Send => {
-            let (message, rest) = take_short_message(rest)?;
+            let (message, rest) = scan_short_message(rest)?;
             Some((Event::Sent(Load::Msg(message)), rest))
         }
         LineWord::Recv => {
-            let (message, rest) = take_short_message(rest)?;
+            let (message, rest) = scan_short_message(rest)?;
             Some((Event::Got(Load::Msg(message)), rest))
         }
         LineWord::End => None,
@@ -52,7 +52,7 @@ pub(crate) fn take_short_record(text: &[u8]) -> Option<(Event, &[u8])>
 
 /// The message of short numbers that the text begins with, to its line's end, and what follows it.
 #[inline(always)]
-fn take_short_message(text: &[u8]) -> Option<(Msg, &[u8])>
+fn scan_short_message(text: &[u8]) -> Option<(Msg, &[u8])>
     requires { MESSAGE_ROOM ≤ length text.now }
     ensures message { IfSome result (λ found. message_at text.now ≡ Some (found.0, found.1.now)) }
     ensures in_range { IfSome result (λ found. is_msg found.0 ≡ true) }
@@ -66,7 +66,7 @@ fn take_short_message(text: &[u8]) -> Option<(Msg, &[u8])>
         return None;
     }
     let (hop, end) = short_number(text, end + 1)?;
-    let (dirty, rest) = take_bit(&text[end..])?;
+    let (dirty, rest) = scan_bit(&text[end..])?;
     let message = Msg {
         round,
         id,

@@ -20,21 +20,21 @@ use Rattle.ira_replay.specs.LocalRun.{IsFirstFault, IsLocalRun, LeadsTo}
 use Rattle.ira_replay.specs.declared.replay_fault.ReplayFault.{ReplayFault}
 use Rattle.ira_replay.proofs.Alike.{leads_split}
 use Rattle.ira_replay.proofs.FirstFaults.{one_stop, run_or_fault, run_or_stop}
-use Rattle.ira_evidence.specs.declared.stop.Stop.{Stop}
+use Rattle.ira_evidence.specs.declared.faulty_event.FaultyEvent.{FaultyEvent}
 use Rattle.ira_evidence.specs.Beginning.{HappenedBefore, IsBeginning, IsEventAt}
-use Rattle.ira_evidence.specs.Stop.{IsFirstStop}
+use Rattle.ira_evidence.specs.FaultyEvent.{IsFirstFaultyEvent}
 
 -- the stop of node i where its log has this first fault
-abbrev pub stop_of : ℕ → ReplayFault → Stop
+abbrev pub stop_of : ℕ → ReplayFault → FaultyEvent
 stop_of i f = record { at = record { place = i; position = f.position }; fault = f.fault }
 
 pub is_stop : (logs : List Log) (i : ℕ) (log : Log) (f : ReplayFault) → slice_get logs i ≡ Some log → IsFirstFault log f
-    → IsFirstStop logs (stop_of i f)
+    → IsFirstFaultyEvent logs (stop_of i f)
 is_stop logs i log f at fault = record { log = log; log_is = at; fault = fault }
 
 -- a node has one
-pub same_stop : (logs : List Log) (i : ℕ) (log : Log) (f : ReplayFault) (s : Stop) → slice_get logs i ≡ Some log
-    → IsFirstFault log f → IsFirstStop logs s → s.at.place ≡ i → stop_of i f ≡ s
+pub same_stop : (logs : List Log) (i : ℕ) (log : Log) (f : ReplayFault) (s : FaultyEvent) → slice_get logs i ≡ Some log
+    → IsFirstFault log f → IsFirstFaultyEvent logs s → s.at.place ≡ i → stop_of i f ≡ s
 same_stop logs i log f s at fault is here =
     let there : slice_get logs i ≡ Some is.log = subst (λ k. slice_get logs k ≡ Some is.log) here is.log_is in
     let same : is.log ≡ log = cc in
@@ -45,7 +45,7 @@ same_stop logs i log f s at fault is here =
     (sym here)
 
 -- a stop is an event
-pub stop_event : (logs : List Log) (s : Stop) → IsFirstStop logs s → IsEventAt logs s.at
+pub stop_event : (logs : List Log) (s : FaultyEvent) → IsFirstFaultyEvent logs s → IsEventAt logs s.at
 stop_event logs s is =
     let events : log_of logs s.at.place ≡ is.log.events = ap events_of is.log_is in
     let parts = ap length is.fault.parts in
@@ -66,9 +66,10 @@ no_log = record { version = 0; nodes = 0; place = 0; initiator = false; events =
 
 module _ (logs : List Log) (order : List ℕ) (o : IsOrder logs order) (matches : Matches logs) where
   -- one of the first nodes' stops happened before, or none did
-  earlier : (s : Stop) (n : ℕ) → n ≤ length logs
-      → ((other : Stop) × IsFirstStop logs other × HappenedBefore logs other.at s.at)
-      ⊎ ((other : Stop) → IsFirstStop logs other → other.at.place < n → HappenedBefore logs other.at s.at → ⊥)
+  earlier : (s : FaultyEvent) (n : ℕ) → n ≤ length logs
+      → ((other : FaultyEvent) × IsFirstFaultyEvent logs other × HappenedBefore logs other.at s.at)
+      ⊎ ((other : FaultyEvent) → IsFirstFaultyEvent logs other → other.at.place < n → HappenedBefore logs other.at s.at
+          → ⊥)
   earlier s zero l = inr (λ other is below. absurd (omega (arith, below)))
   earlier s (suc n) l = elim (earlier s n (omega (arith, l))) [
     | inl found ↦ inl found
@@ -91,17 +92,19 @@ module _ (logs : List Log) (order : List ℕ) (o : IsOrder logs order) (matches 
               | inl here ↦ λ happened.
                   let same : stop_of n stops.0 ≡ other =
                   same_stop logs n (get_or logs n no_log) stops.0 other at stops.1 is here in
-                  never (subst (λ (x : Stop). HappenedBefore logs x.at s.at) (sym same) happened)
+                  never (subst (λ (x : FaultyEvent). HappenedBefore logs x.at s.at) (sym same) happened)
             ])
           ]
         ]
   ]
 
-  go_back : (room : ℕ) (s : Stop) (t : ℕ) → t < room → StandsAt order t s.at.place s.at.position → IsFirstStop logs s
-      → IsBeginning logs s ⊎ ((b : Stop) × IsBeginning logs b × HappenedBefore logs b.at s.at)
+  go_back : (room : ℕ) (s : FaultyEvent) (t : ℕ) → t < room → StandsAt order t s.at.place s.at.position
+      → IsFirstFaultyEvent logs s
+      → IsBeginning logs s ⊎ ((b : FaultyEvent) × IsBeginning logs b × HappenedBefore logs b.at s.at)
   go_back zero s t l stands is = absurd (omega (arith, l))
   go_back (suc room) s t l stands is = elim (earlier s (length logs) (omega arith)) [
-    | inr none ↦ inl (record { stop = is; least = λ other first. none other first (stop_event logs other first).place })
+    | inr none ↦ inl (record { faulty = is; least = λ other first. none other first (stop_event logs other first).place
+        })
     | inl found ↦
         let event = stop_event logs found.0 found.1 in
         let there = place_of logs order o found.0.at.place found.0.at.position event.place event.first event.last in
@@ -114,8 +117,9 @@ module _ (logs : List Log) (order : List ℕ) (o : IsOrder logs order) (matches 
         ]
   ]
 
-pub some_beginning : (logs : List Log) (named : Stop) → HasOrder logs → IsFirstStop logs named → IsBeginning logs named
-    ⊎ ((s : Stop) × IsBeginning logs s × HappenedBefore logs s.at named.at)
+pub some_beginning : (logs : List Log) (named : FaultyEvent) → HasOrder logs → IsFirstFaultyEvent logs named
+    → IsBeginning logs named
+    ⊎ ((s : FaultyEvent) × IsBeginning logs s × HappenedBefore logs s.at named.at)
 some_beginning logs named has is =
     let event = stop_event logs named is in
     let here = place_of logs has.1 has.2 named.at.place named.at.position event.place event.first event.last in
@@ -130,7 +134,7 @@ leads_begun n s es t b leads =
     let split = leads_split n s (take b es) (drop b es) t parts in
     (split.0, split.1)
 
-pub steps_before : (logs : List Log) (s : Stop) (j b : ℕ) (log : Log) → IsBeginning logs s
+pub steps_before : (logs : List Log) (s : FaultyEvent) (j b : ℕ) (log : Log) → IsBeginning logs s
     → Before logs j b s.at.place s.at.position → slice_get logs j ≡ Some log
     → (t : NodeState) × LeadsTo log.nodes (first_state log.initiator) (take b log.events) t
 steps_before logs s j b log is before at = elim (run_or_stop log) [

@@ -8,29 +8,31 @@ use Rattle.ira_event.specs.Log.{Log}
 use Rattle.ira_node.specs.declared.step_fault.StepFault.TheVariants.{Owes}
 use Rattle.ira_evidence.specs.declared.beginning.Beginning.{Beginning}
 use Rattle.ira_evidence.specs.declared.event_at.EventAt.{EventAt}
-use Rattle.ira_evidence.specs.declared.stop.Stop.{Stop}
+use Rattle.ira_evidence.specs.declared.faulty_event.FaultyEvent.{FaultyEvent}
 use Rattle.ira_evidence.specs.Beginning.{AreBeginnings, HappenedBefore, IsBeginning, IsEventAt}
-use Rattle.ira_evidence.specs.Stop.{AreFirstStops, IsFirstStop}
+use Rattle.ira_evidence.specs.FaultyEvent.{AreFirstFaultyEvents, IsFirstFaultyEvent}
 use Rattle.ira_evidence.proofs.BeginningLaws.{stop_event}
 use Rattle.ira_evidence.proofs.Pushed.{pushed_cases, pushed_last, pushed_old}
 
 -- stop k of the list
-abbrev pub stop_at : List Stop → ℕ → Stop
+abbrev pub stop_at : List FaultyEvent → ℕ → FaultyEvent
 stop_at stops k = get_or stops k (record { at = record { place = 0; position = 0 }; fault = Owes })
 
-pub listed : (stops : List Stop) (k : ℕ) → k < length stops → slice_get stops k ≡ Some (stop_at stops k)
+pub listed : (stops : List FaultyEvent) (k : ℕ) → k < length stops → slice_get stops k ≡ Some (stop_at stops k)
 listed stops k l = slice_get-get_or stops k (record { at = record { place = 0; position = 0 }; fault = Owes }) l
 
-module _ (logs : List Log) (stops : List Stop) (are : AreFirstStops logs stops) (k : ℕ) (l : k < length stops) where
-  pub stop_listed : IsFirstStop logs (stop_at stops k)
+module _ (logs : List Log) (stops : List FaultyEvent) (are : AreFirstFaultyEvents logs stops) (k : ℕ)
+    (l : k < length stops) where
+  pub stop_listed : IsFirstFaultyEvent logs (stop_at stops k)
   stop_listed = are.each k (stop_at stops k) (listed stops k l)
 
   pub event_listed : IsEventAt logs (stop_at stops k).at
   event_listed = stop_event logs (stop_at stops k) stop_listed
 
 -- what holds of the first stops, and of the next one, holds of one more
-pub stops_below : (stops : List Stop) (P : Stop → Type 0) (h : ℕ) → h < length stops
-    → ((k : ℕ) (s : Stop) → k < h → slice_get stops k ≡ Some s → P s) → P (stop_at stops h) → (k : ℕ) (s : Stop)
+pub stops_below : (stops : List FaultyEvent) (P : FaultyEvent → Type 0) (h : ℕ) → h < length stops
+    → ((k : ℕ) (s : FaultyEvent) → k < h → slice_get stops k ≡ Some s → P s) → P (stop_at stops h)
+        → (k : ℕ) (s : FaultyEvent)
     → k < h + 1 → slice_get stops k ≡ Some s → P s
 stops_below stops P h l before here k s below at = elim (cases_eq k h) [
   | inr ne ↦ before k s (omega (arith, below, ne)) at
@@ -42,18 +44,20 @@ stops_below stops P h l before here k s below at = elim (cases_eq k h) [
 ]
 
 -- those among the first h stops
-pub record BeginningsSoFar (logs : List Log) (named : EventAt) (stops : List Stop) (h : ℕ) (bs : List Beginning)
+pub record BeginningsSoFar (logs : List Log) (named : EventAt) (stops : List FaultyEvent) (h : ℕ) (bs : List Beginning)
     : Type 0 where
-  pub each : (k : ℕ) (b : Beginning) → slice_get bs k ≡ Some b → IsBeginning logs b.stop
-      × (IsTrue b.happened_before ↔ HappenedBefore logs b.stop.at named)
+  pub each : (k : ℕ) (b : Beginning) → slice_get bs k ≡ Some b → IsBeginning logs b.event
+      × (IsTrue b.happened_before ↔ HappenedBefore logs b.event.at named)
   pub listed_in : (k : ℕ) (b : Beginning) → slice_get bs k ≡ Some b → (i : ℕ) × (i < h)
-      × (slice_get stops i ≡ Some b.stop)
-  pub all : (i : ℕ) (s : Stop) → i < h → slice_get stops i ≡ Some s → IsBeginning logs s → (k : ℕ) × (b : Beginning)
-      × (slice_get bs k ≡ Some b) × (b.stop ≡ s)
+      × (slice_get stops i ≡ Some b.event)
+  pub all : (i : ℕ) (s : FaultyEvent) → i < h → slice_get stops i ≡ Some s → IsBeginning logs s → (k : ℕ)
+      × (b : Beginning)
+      × (slice_get bs k ≡ Some b) × (b.event ≡ s)
   pub rise : (k j : ℕ) (a b : Beginning) → k < j → slice_get bs k ≡ Some a → slice_get bs j ≡ Some b
-      → a.stop.at.place < b.stop.at.place
+      → a.event.at.place < b.event.at.place
 
-pub no_beginnings : (logs : List Log) (named : EventAt) (stops : List Stop) → BeginningsSoFar logs named stops 0 []
+pub no_beginnings : (logs : List Log) (named : EventAt) (stops : List FaultyEvent)
+    → BeginningsSoFar logs named stops 0 []
 no_beginnings logs named stops = record {
   each = λ k b at. absurd cc;
   listed_in = λ k b at. absurd cc;
@@ -61,37 +65,39 @@ no_beginnings logs named stops = record {
   rise = λ k j a b less at there. absurd cc;
 }
 
-module _ (logs : List Log) (named : EventAt) (stops : List Stop) (h : ℕ) (bs : List Beginning)
-    (are : AreFirstStops logs stops) (l : h < length stops) (so_far : BeginningsSoFar logs named stops h bs) where
+module _ (logs : List Log) (named : EventAt) (stops : List FaultyEvent) (h : ℕ) (bs : List Beginning)
+    (are : AreFirstFaultyEvents logs stops) (l : h < length stops) (so_far : BeginningsSoFar logs named stops h bs)
+        where
   -- a stop more that is none to begin with
-  pub beginnings_over : (other : Stop) → IsFirstStop logs other → HappenedBefore logs other.at (stop_at stops h).at
+  pub beginnings_over : (other : FaultyEvent) → IsFirstFaultyEvent logs other
+      → HappenedBefore logs other.at (stop_at stops h).at
       → BeginningsSoFar logs named stops (h + 1) bs
   beginnings_over other first happened = record {
     each = so_far.each;
     listed_in = λ k b at. (let found = so_far.listed_in k b at in (found.0, omega (arith, found.1), found.2));
     all = stops_below stops (λ s. IsBeginning logs s → (k : ℕ) × (b : Beginning) × (slice_get bs k ≡ Some b)
-        × (b.stop ≡ s)) h l so_far.all (λ is. absurd (is.least other first happened));
+        × (b.event ≡ s)) h l so_far.all (λ is. absurd (is.least other first happened));
     rise = so_far.rise;
   }
 
   -- and one that is
-  pub beginnings_more : (b : Beginning) → b.stop ≡ stop_at stops h
-      → ((other : Stop) → IsFirstStop logs other → HappenedBefore logs other.at (stop_at stops h).at → ⊥)
+  pub beginnings_more : (b : Beginning) → b.event ≡ stop_at stops h
+      → ((other : FaultyEvent) → IsFirstFaultyEvent logs other → HappenedBefore logs other.at (stop_at stops h).at → ⊥)
       → (IsTrue b.happened_before ↔ HappenedBefore logs (stop_at stops h).at named)
       → BeginningsSoFar logs named stops (h + 1) (bs ++ b ∷ [])
   beginnings_more b same least before =
-      let is : IsBeginning logs b.stop = rw same (record { stop = stop_listed logs stops are h l; least = least }) in
-      let before' : IsTrue b.happened_before ↔ HappenedBefore logs b.stop.at named = rw same before in
-      let here : slice_get stops h ≡ Some b.stop = listed stops h l ∙ ap Some (sym same) in
+      let is : IsBeginning logs b.event = rw same (record { faulty = stop_listed logs stops are h l; least = least }) in
+      let before' : IsTrue b.happened_before ↔ HappenedBefore logs b.event.at named = rw same before in
+      let here : slice_get stops h ≡ Some b.event = listed stops h l ∙ ap Some (sym same) in
       record {
         each = λ k c at. elim (pushed_cases bs b c k at) [
           | inl old ↦ so_far.each k c old
-          | inr new ↦ subst (λ (x : Beginning). IsBeginning logs x.stop
-              × (IsTrue x.happened_before ↔ HappenedBefore logs x.stop.at named)) new.1 (is, before')
+          | inr new ↦ subst (λ (x : Beginning). IsBeginning logs x.event
+              × (IsTrue x.happened_before ↔ HappenedBefore logs x.event.at named)) new.1 (is, before')
         ];
         listed_in = λ k c at. elim (pushed_cases bs b c k at) [
           | inl old ↦ (let found = so_far.listed_in k c old in (found.0, omega (arith, found.1), found.2))
-          | inr new ↦ subst (λ (x : Beginning). (i : ℕ) × (i < h + 1) × (slice_get stops i ≡ Some x.stop)) new.1 (
+          | inr new ↦ subst (λ (x : Beginning). (i : ℕ) × (i < h + 1) × (slice_get stops i ≡ Some x.event)) new.1 (
             h,
             omega arith,
             here,
@@ -110,18 +116,20 @@ module _ (logs : List Log) (named : EventAt) (stops : List Stop) (h : ℕ) (bs :
           | inr new ↦ elim (pushed_cases bs b a k at) [
             | inl early ↦
                 let found = so_far.listed_in k a early in
-                let lower : a.stop.at.place < b.stop.at.place = are.rise found.0 h a.stop b.stop found.1 found.2 here in
-                subst (λ (x : Beginning). a.stop.at.place < x.stop.at.place) new.1 lower
+                let lower : a.event.at.place < b.event.at.place = are.rise found.0 h a.event b.event found.1 found.2
+                    here in
+                subst (λ (x : Beginning). a.event.at.place < x.event.at.place) new.1 lower
             | inr twice ↦ absurd (omega (arith, less, new.0, twice.0))
           ]
         ];
       }
 
-pub beginnings_all : (logs : List Log) (named : EventAt) (stops : List Stop) (h : ℕ) (bs : List Beginning)
-    → AreFirstStops logs stops → length stops ≤ h → BeginningsSoFar logs named stops h bs → AreBeginnings logs named bs
+pub beginnings_all : (logs : List Log) (named : EventAt) (stops : List FaultyEvent) (h : ℕ) (bs : List Beginning)
+    → AreFirstFaultyEvents logs stops → length stops ≤ h → BeginningsSoFar logs named stops h bs
+        → AreBeginnings logs named bs
 beginnings_all logs named stops h bs are whole so_far = record {
   each = so_far.each;
-  all = λ s is. (let found = are.all s is.stop in
+  all = λ s is. (let found = are.all s is.faulty in
       so_far.all found.0 s (omega (arith, whole, slice_get_within stops found.0 s found.1)) found.1 is);
   rise = so_far.rise;
 }

@@ -30,12 +30,12 @@ counted_load h (d ∷ es) zero e x is has =
     let first : h d ≡ Some x = ap h same ∙ has in
     rw first refl
 counted_load h (d ∷ es) (suc n) e x is has =
-    behind (h d) (filter_map h es) (filter_map h (take n es)) (counted_load h es n e x is has)
+    rest (h d) (filter_map h es) (filter_map h (take n es)) (counted_load h es n e x is has)
   where
-    behind : (o : Option Load) (xs ys : List Load) → numbered xs (suc (length ys)) ≡ Some x
+    rest : (o : Option Load) (xs ys : List Load) → numbered xs (suc (length ys)) ≡ Some x
         → numbered (cons_option o xs) (suc (length (cons_option o ys))) ≡ Some x
-    behind None xs ys at = at
-    behind (Some y) xs ys at = at
+    rest None xs ys at = at
+    rest (Some y) xs ys at = at
 
 -- there is no k-th of fewer
 pub none_numbered : (xs : List Load) (k : ℕ) → (0 < k → length xs < k) → numbered xs k ≡ None

@@ -107,7 +107,7 @@ node_evidence log f states placed stop are is =
     let at : f.position ≡ suc (length stop.before) = omega (arith, stop.position) in
     rw at (ap (λ es. slice_get es (length stop.before)) stop.parts ∙ event_between stop.before stop.event stop.after) in
     record {
-      stop = stop;
+      faulty = stop;
       first_is = refl;
       all = are.0;
       are = are.1;

@@ -3,21 +3,21 @@ use Rattle.std.proofs.Common.{◌≡◌, ℕ, List, [], Option, Some, None, Vec,
 use Rattle.ira_event.specs.Log.{Log}
 use Rattle.ira_pred.specs.Case.{Conjunct}
 use Rattle.ira_cert_text.specs.declared.cert_step.CertStep.{CertStep}
-use Rattle.ira_cert.specs.FrontsBehind.{AreFrontsBehind}
-use Rattle.ira_cert.proofs.Behind.{not_asked_at}
+use Rattle.ira_cert.specs.QueuesAfter.{AreQueuesAfter}
+use Rattle.ira_cert.proofs.QueueHeads.{not_asked_at}
 use Rattle.ira_evidence.specs.SectionEvidence.{AreLeftOf, IsListAt, IsNoneLeft}
 
-pub none_there : {A : Type 0} → (fronts : List (Option (List ℕ))) (i : ℕ) (left : Option (Vec ℕ A))
-    → IsListAt fronts i left → IsNoneLeft left → slice_get fronts i ≡ Some (Some [])
-none_there fronts i None at none = absurd none
-none_there fronts i (Some left) at none = at ∙ ap (λ (xs : List ℕ). Some (Some xs)) none
+pub none_there : {A : Type 0} → (queues : List (Option (List ℕ))) (i : ℕ) (left : Option (Vec ℕ A))
+    → IsListAt queues i left → IsNoneLeft left → slice_get queues i ≡ Some (Some [])
+none_there queues i None at none = absurd none
+none_there queues i (Some left) at none = at ∙ ap (λ (xs : List ℕ). Some (Some xs)) none
 
 pub some_left : {A : Type 0}
-    → (logs : List Log) (case : List Conjunct) (steps : List CertStep) (fronts : List (Option (List ℕ))) (i : ℕ)
-    (left : Option (Vec ℕ A)) → AreFrontsBehind logs case steps fronts → IsListAt fronts i left → ¬ (IsNoneLeft left)
+    → (logs : List Log) (case : List Conjunct) (steps : List CertStep) (queues : List (Option (List ℕ))) (i : ℕ)
+    (left : Option (Vec ℕ A)) → AreQueuesAfter logs case steps queues → IsListAt queues i left → ¬ (IsNoneLeft left)
     → AreLeftOf logs case steps i left
-some_left logs case steps fronts i None behind at some =
-    not_asked_at logs case steps fronts behind i (λ xs h. at (xs, h))
-some_left logs case steps fronts i (Some left) behind at some =
-    let h = behind.lists i left.items at in
+some_left logs case steps queues i None rest at some =
+    not_asked_at logs case steps queues rest i (λ xs h. at (xs, h))
+some_left logs case steps queues i (Some left) rest at some =
+    let h = rest.lists i left.items at in
     (h.0, h.1, h.3, some)

@@ -5,8 +5,8 @@ use Rattle.ira_order.specs.Before.{Before}
 use Rattle.ira_order.specs.Ring.{log_of}
 use Rattle.ira_evidence.specs.declared.beginning.Beginning.{Beginning}
 use Rattle.ira_evidence.specs.declared.event_at.EventAt.{EventAt}
-use Rattle.ira_evidence.specs.declared.stop.Stop.{Stop}
-use Rattle.ira_evidence.specs.Stop.{IsFirstStop, Rises}
+use Rattle.ira_evidence.specs.declared.faulty_event.FaultyEvent.{FaultyEvent}
+use Rattle.ira_evidence.specs.FaultyEvent.{IsFirstFaultyEvent, Rises}
 
 -- there is such an event
 pub record IsEventAt (logs : List Log) (at : EventAt) : Type 0 where
@@ -19,21 +19,21 @@ abbrev pub HappenedBefore : List Log → EventAt → EventAt → Type 0
 HappenedBefore logs a b = Before logs a.place a.position b.place b.position
 
 -- a node's first event without a step before which no other node's happened
-pub record IsBeginning (logs : List Log) (s : Stop) : Type 0 where
-  pub stop : IsFirstStop logs s
-  pub least : (other : Stop) → IsFirstStop logs other → ¬ (HappenedBefore logs other.at s.at)
+pub record IsBeginning (logs : List Log) (s : FaultyEvent) : Type 0 where
+  pub faulty : IsFirstFaultyEvent logs s
+  pub least : (other : FaultyEvent) → IsFirstFaultyEvent logs other → ¬ (HappenedBefore logs other.at s.at)
 
 -- it is such an event, with whether it happened before the named one
 abbrev pub IsToldBeginning : List Log → EventAt → Beginning → Type 0
 IsToldBeginning logs named b =
-    IsBeginning logs b.stop × (IsTrue b.happened_before ↔ HappenedBefore logs b.stop.at named)
+    IsBeginning logs b.event × (IsTrue b.happened_before ↔ HappenedBefore logs b.event.at named)
 
 -- it is one of them
-abbrev pub IsAmong : List Beginning → Stop → Type 0
-IsAmong beginnings s = (k : ℕ) × (b : Beginning) × (slice_get beginnings k ≡ Some b) × (b.stop ≡ s)
+abbrev pub IsAmong : List Beginning → FaultyEvent → Type 0
+IsAmong beginnings s = (k : ℕ) × (b : Beginning) × (slice_get beginnings k ≡ Some b) × (b.event ≡ s)
 
 -- all such events, in the order of places, each with whether it happened before the named one
 pub record AreBeginnings (logs : List Log) (named : EventAt) (beginnings : List Beginning) : Type 0 where
   pub each : (k : ℕ) (b : Beginning) → slice_get beginnings k ≡ Some b → IsToldBeginning logs named b
-  pub all : (s : Stop) → IsBeginning logs s → IsAmong beginnings s
-  pub rise : Rises (λ b. b.stop.at.place) beginnings
+  pub all : (s : FaultyEvent) → IsBeginning logs s → IsAmong beginnings s
+  pub rise : Rises (λ b. b.event.at.place) beginnings

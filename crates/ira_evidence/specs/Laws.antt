@@ -1,4 +1,4 @@
--- Laws of what stands behind a no.
+-- Laws of what stands after a no.
 use Rattle.std.specs.Prelude.{◌≡◌, ℕ, ◌⊎◌, List, Some, slice_get, take}
 use Rattle.ira_event.specs.Log.{Log}
 use Rattle.ira_event.specs.Logs.{AreLogs}
@@ -9,10 +9,10 @@ use Rattle.ira_order.specs.Circle.{HasOrder}
 use Rattle.ira_order.specs.Matching.{Matches}
 use Rattle.ira_order.specs.Order.{IsOrder}
 use Rattle.ira_replay.specs.LocalRun.{LeadsTo}
-use Rattle.ira_evidence.specs.declared.stop.Stop.{Stop}
+use Rattle.ira_evidence.specs.declared.faulty_event.FaultyEvent.{FaultyEvent}
 use Rattle.ira_evidence.specs.Beginning.{HappenedBefore, IsBeginning}
 use Rattle.ira_evidence.specs.CircleEvidence.{IsCircle, IsLongestPrefix}
-use Rattle.ira_evidence.specs.Stop.{IsFirstStop}
+use Rattle.ira_evidence.specs.FaultyEvent.{IsFirstFaultyEvent}
 
 -- logs with a circle once round the ring have no order
 abbrev pub CirclesHaveNoOrder : Type 0
@@ -32,12 +32,12 @@ AnOrderOrACircle =
 -- where some event has no step there is a beginning: the named event, or one that happened before it
 abbrev pub SomeBeginning : Type 0
 SomeBeginning =
-    (logs : List Log) (named : Stop) → HasOrder logs → IsFirstStop logs named
-    → IsBeginning logs named ⊎ ((s : Stop) × IsBeginning logs s × HappenedBefore logs s.at named.at)
+    (logs : List Log) (named : FaultyEvent) → HasOrder logs → IsFirstFaultyEvent logs named
+    → IsBeginning logs named ⊎ ((s : FaultyEvent) × IsBeginning logs s × HappenedBefore logs s.at named.at)
 
 -- all events that happened before a beginning have steps: the log of each leads on to a state
 abbrev pub StepsBeforeABeginning : Type 0
 StepsBeforeABeginning =
-    (logs : List Log) (s : Stop) (j b : ℕ) (log : Log) → IsBeginning logs s
+    (logs : List Log) (s : FaultyEvent) (j b : ℕ) (log : Log) → IsBeginning logs s
     → Before logs j b s.at.place s.at.position → slice_get logs j ≡ Some log
     → (t : NodeState) × LeadsTo log.nodes (first_state log.initiator) (take b log.events) t

@@ -8,5 +8,5 @@ pub mod LinkEvidence
 pub mod NodeEvidence
 pub mod Reach
 pub mod SectionEvidence
-pub mod Stop
+pub mod FaultyEvent
 pub mod StuckNodes

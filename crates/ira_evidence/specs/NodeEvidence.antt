@@ -12,7 +12,7 @@ use Rattle.ira_replay.specs.StatesOfLog.{AreStatesOfLog}
 -- the log's first event without a step, and the last five states up to it, or all where there are fewer, from the one
 -- after the first so many events on; in the last of them the event has its fault
 pub record IsNodeEvidence (log : Log) (fault : ReplayFault) (first : ℕ) (states : List NodeState) : Type 0 where
-  pub stop : IsFirstFault log fault
+  pub faulty : IsFirstFault log fault
   pub first_is : first ≡ fault.position - 5
   pub all : List NodeState
   pub are : AreStatesOfLog log all

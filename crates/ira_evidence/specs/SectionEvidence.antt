@@ -6,7 +6,7 @@ use Rattle.ira_cert_text.specs.declared.cert_step.CertStep.{CertStep}
 use Rattle.ira_cert_text.specs.Certificate.{Section}
 use Rattle.ira_cert.specs.Conjuncts.{CandidatesOf, IsAsked}
 use Rattle.ira_cert.specs.Front.{made}
-use Rattle.ira_cert.specs.Fronts.{HasList}
+use Rattle.ira_cert.specs.Queues.{HasList}
 use Rattle.ira_cert.specs.QueueHead.{IsQueueHead}
 use Rattle.ira_cert.specs.SectionFault.{WhyUnsound}
 use Rattle.ira_cert.specs.SoundSection.{AreSoundSteps}
@@ -45,8 +45,8 @@ IsSectionEvidence logs case section (NotSpent unspent) = IsUnspent logs case sec
 
 -- a helper, no definition: these are the list at place i; nothing where there is none
 abbrev pub IsListAt : {A : Type 0} → List (Option (List ℕ)) → ℕ → Option (Vec ℕ A) → Type 0
-IsListAt fronts i None = ¬ (HasList fronts i)
-IsListAt fronts i (Some left) = slice_get fronts i ≡ Some (Some left.items)
+IsListAt queues i None = ¬ (HasList queues i)
+IsListAt queues i (Some left) = slice_get queues i ≡ Some (Some left.items)
 
 -- a helper, no definition: there is a list, and nothing in it
 abbrev pub IsNoneLeft : {A : Type 0} → Option (Vec ℕ A) → Type 0

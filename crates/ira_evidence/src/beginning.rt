@@ -1,11 +1,11 @@
 ghost use Rattle.std.specs.Prelude.{◌<◌, ◌≤◌, IfOk, MatchBool, length};
 ghost use Rattle.ira_order.specs.Ring.{log_of};
 ghost use Rattle.ira_evidence.specs.Beginning.{AreBeginnings, IsEventAt, HappenedBefore as Happened};
-ghost use Rattle.ira_evidence.specs.Stop.{AreFirstStops, IsFirstStop};
-ghost use Rattle.ira_evidence.specs.declared.stop.Stop.{Stop};
+ghost use Rattle.ira_evidence.specs.FaultyEvent.{AreFirstFaultyEvents, IsFirstFaultyEvent};
+ghost use Rattle.ira_evidence.specs.declared.faulty_event.FaultyEvent.{FaultyEvent};
 
 use crate::event_at::EventAt;
-use crate::stop::Stop;
+use crate::faulty_event::FaultyEvent;
 use ira_event::OutOfMemory;
 use ira_order::HappenedBefore;
 use std::alloc::Allocator;
@@ -14,51 +14,51 @@ use std::alloc::Allocator;
 /// before it has steps.
 #[derive(Clone, Copy, Debug, PartialEq, Eq)]
 pub struct Beginning {
-    pub stop: Stop,
+    pub event: FaultyEvent,
     /// Whether it happened before the one that was named.
     pub happened_before: bool,
 }
 
-/// Whether none of the stops happened before this event.
-fn is_least<H: HappenedBefore>(ordered: &H, stops: &[Stop], at: EventAt) -> bool
-    requires stops { AreFirstStops (H.logs_of ordered.now) stops.now }
+/// Whether none of the nodes' first faulty events happened before this event.
+fn is_least<H: HappenedBefore>(ordered: &H, faulty: &[FaultyEvent], at: EventAt) -> bool
+    requires faulty { AreFirstFaultyEvents (H.logs_of ordered.now) faulty.now }
     requires event { IsEventAt (H.logs_of ordered.now) at }
     ensures { MatchBool result
-        ((s : Stop) → IsFirstStop (H.logs_of ordered.now) s → ¬ (Happened (H.logs_of ordered.now) s.at at))
-        ((s : Stop) × IsFirstStop (H.logs_of ordered.now) s × Happened (H.logs_of ordered.now) s.at at) }
+        ((s : FaultyEvent) → IsFirstFaultyEvent (H.logs_of ordered.now) s → ¬ (Happened (H.logs_of ordered.now) s.at at))
+        ((s : FaultyEvent) × IsFirstFaultyEvent (H.logs_of ordered.now) s × Happened (H.logs_of ordered.now) s.at at) }
 {
-    for stop in stops {
-        if ordered.before(stop.at.place, stop.at.position, at.place, at.position) {
+    for event in faulty {
+        if ordered.before(event.at.place, event.at.position, at.place, at.position) {
             return false;
         }
     }
     true
 }
 
-/// Those of the nodes' first stops before which none of them happened, in the order of places, each with whether it
+/// Those of the nodes' first faulty events before which none of them happened, in the order of places, each with whether it
 /// happened before the named one.
 pub fn beginnings<H: HappenedBefore, A: Allocator>(
     alloc: A,
     ordered: &H,
-    stops: &[Stop],
-    named: Stop,
+    faulty: &[FaultyEvent],
+    named: FaultyEvent,
 ) -> Result<Vec<Beginning, A>, OutOfMemory>
-    requires stops { AreFirstStops (H.logs_of ordered.now) stops.now }
-    requires named { IsFirstStop (H.logs_of ordered.now) named }
+    requires faulty { AreFirstFaultyEvents (H.logs_of ordered.now) faulty.now }
+    requires named { IsFirstFaultyEvent (H.logs_of ordered.now) named }
     ensures { IfOk result
         (λ beginnings. AreBeginnings (H.logs_of ordered.now) named.at beginnings.items) }
 {
     let mut beginnings = Vec::new(alloc);
-    for stop in stops {
-        if is_least(ordered, stops, stop.at) {
+    for event in faulty {
+        if is_least(ordered, faulty, event.at) {
             let happened_before = ordered.before(
-                stop.at.place,
-                stop.at.position,
+                event.at.place,
+                event.at.position,
                 named.at.place,
                 named.at.position,
             );
             beginnings.push(Beginning {
-                stop: *stop,
+                event: *event,
                 happened_before,
             })?;
         }

@@ -10,7 +10,7 @@ pub fn stuck_receipts_are_a_circle()
 
 /// A law: where an event has no step, it is one to begin with, or one to begin with happened before it. All that
 /// happened before one to begin with has steps.
-pub fn some_stop_is_a_beginning()
+pub fn some_faulty_event_is_a_beginning()
     ensures some { SomeBeginning }
     ensures steps { StepsBeforeABeginning }
 {}

@@ -1,4 +1,4 @@
-//! What stands behind a no: of logs that were refused, the events that a reader has to look at.
+//! What stands after a no: of logs that were refused, the events that a reader has to look at.
 #![tactic(auto)]
 
 mod absence;
@@ -7,12 +7,12 @@ mod circle_evidence;
 mod elimination;
 mod event_at;
 mod exchange;
+mod faulty_event;
 mod laws;
 mod link_evidence;
 mod node_evidence;
 mod reach;
 mod section_evidence;
-mod stop;
 mod stuck_at;
 
 pub use absence::Absence;
@@ -21,9 +21,9 @@ pub use circle_evidence::CircleEvidence;
 pub use elimination::Elimination;
 pub use event_at::EventAt;
 pub use exchange::{Exchange, nth_receipt, nth_sending};
-pub use laws::{some_stop_is_a_beginning, stuck_receipts_are_a_circle};
+pub use faulty_event::{FaultyEvent, first_faulty_events};
+pub use laws::{some_faulty_event_is_a_beginning, stuck_receipts_are_a_circle};
 pub use link_evidence::LinkEvidence;
 pub use node_evidence::NodeEvidence;
 pub use section_evidence::{SectionEvidence, UnsoundStep, Unspent};
-pub use stop::{Stop, first_stops};
 pub use stuck_at::StuckAt;

@@ -63,7 +63,7 @@ fn advance<A: Allocator>(logs: &Logs<A>, reaches: &mut [Reach], place: u8) -> bo
 }
 
 /// Adds a node's events as far as they may come, and says whether there were any.
-fn run<A: Allocator>(logs: &Logs<A>, reaches: &mut [Reach], place: u8) -> bool
+fn advance_node<A: Allocator>(logs: &Logs<A>, reaches: &mut [Reach], place: u8) -> bool
     requires reached { AreReached logs.now reaches.old }
     requires place { place < length logs.now }
     ensures { HasGoneOn logs.now place reaches.old reaches.new result }
@@ -75,14 +75,14 @@ fn run<A: Allocator>(logs: &Logs<A>, reaches: &mut [Reach], place: u8) -> bool
     further
 }
 
-/// Runs each node in turn, and says whether one went on.
+/// Advances each node in turn, and says whether one went on.
 fn round<A: Allocator>(logs: &Logs<A>, reaches: &mut [Reach]) -> bool
     requires { AreReached logs.now reaches.old }
     ensures { HaveGoneOn logs.now reaches.old reaches.new result }
 {
     let mut further = false;
     for place in 0..logs.size().get() {
-        if run(logs, reaches, place) {
+        if advance_node(logs, reaches, place) {
             further = true;
         }
     }

@@ -3,8 +3,8 @@ ghost use Rattle.ira_event.specs.Log.{Log};
 ghost use Rattle.ira_pred.specs.Case.{Conjunct};
 ghost use Rattle.ira_cert_text.specs.declared.cert_step.CertStep.{CertStep};
 ghost use Rattle.ira_cert.specs.Conjuncts.{HasDifferentPlaces};
-ghost use Rattle.ira_cert.specs.Fronts.{AreFronts};
-ghost use Rattle.ira_cert.specs.FrontsBehind.{AreFrontsBehind};
+ghost use Rattle.ira_cert.specs.Queues.{AreQueues};
+ghost use Rattle.ira_cert.specs.QueuesAfter.{AreQueuesAfter};
 ghost use Rattle.ira_cert.specs.QueueHead.{IsQueueHead};
 ghost use Rattle.ira_cert.specs.SoundSection.{AreSoundSteps, IsSoundSection};
 ghost use Rattle.ira_cert.specs.declared.queue_head.QueueHead.{QueueHead};
@@ -44,14 +44,14 @@ pub struct Unspent<A: Allocator> {
 
 /// What is left of the node's candidates.
 fn queue_head_at<I: Iterator<Item = u32> + Listed>(
-    fronts: &[Option<Ahead<I>>],
+    queues: &[Option<Ahead<I>>],
     place: u8,
 ) -> QueueHead
-    ensures place { result ≢ QueueHead.NotAsked → place < length fronts.now }
+    ensures place { result ≢ QueueHead.NotAsked → place < length queues.now }
     ensures left { (logs : List Log) (case : List Conjunct) (before : List CertStep)
-        → AreFrontsBehind logs case before fronts.now → IsQueueHead logs case before place result }
+        → AreQueuesAfter logs case before queues.now → IsQueueHead logs case before place result }
 {
-    let Some(left) = candidates_left(fronts, place) else {
+    let Some(left) = candidates_left(queues, place) else {
         return QueueHead::NotAsked;
     };
     match left.front() {
@@ -63,19 +63,19 @@ fn queue_head_at<I: Iterator<Item = u32> + Listed>(
 /// The first step that isn't sound; those before it are made.
 fn first_unsound<C: HappenedBefore, I: Iterator<Item = u32> + Listed>(
     ordered: &C,
-    fronts: &mut [Option<Ahead<I>>],
+    queues: &mut [Option<Ahead<I>>],
     steps: &[CertStep],
 ) -> Option<UnsoundStep>
-    requires { length fronts.old ≤ length (C.logs_of ordered.now) }
-    ensures { (case : List Conjunct) → HasDifferentPlaces case → AreFronts (C.logs_of ordered.now) case fronts.old
+    requires { length queues.old ≤ length (C.logs_of ordered.now) }
+    ensures { (case : List Conjunct) → HasDifferentPlaces case → AreQueues (C.logs_of ordered.now) case queues.old
         → MatchOption result
         (AreSoundSteps (C.logs_of ordered.now) case steps.now
-        × AreFrontsBehind (C.logs_of ordered.now) case steps.now fronts.new)
+        × AreQueuesAfter (C.logs_of ordered.now) case steps.now queues.new)
         (IsUnsoundStep (C.logs_of ordered.now) case steps.now) }
 {
     for (number, step) in steps.iter().enumerate() {
-        let own = queue_head_at(fronts, step.node);
-        let other = queue_head_at(fronts, step.other);
+        let own = queue_head_at(queues, step.node);
+        let other = queue_head_at(queues, step.other);
         if let Err(why) = judge_step(ordered, step, own, other) {
             return Some(UnsoundStep {
                 number,
@@ -85,7 +85,7 @@ fn first_unsound<C: HappenedBefore, I: Iterator<Item = u32> + Listed>(
                 other,
             });
         }
-        eliminate(fronts, step.node);
+        eliminate(queues, step.node);
     }
     None
 }
@@ -93,12 +93,12 @@ fn first_unsound<C: HappenedBefore, I: Iterator<Item = u32> + Listed>(
 /// The candidates left of a node, in a list of their own; nothing where none are listed.
 fn take_left<A: Allocator, I: Iterator<Item = u32> + Listed>(
     alloc: A,
-    fronts: &mut [Option<Ahead<I>>],
+    queues: &mut [Option<Ahead<I>>],
     place: u8,
 ) -> Result<Option<Vec<u32, A>>, OutOfMemory>
-    ensures { IfOk result (IsListAt fronts.old place) }
+    ensures { IfOk result (IsListAt queues.old place) }
 {
-    let Some(Some(ahead)) = fronts.get_mut(usize::from(place)) else {
+    let Some(Some(ahead)) = queues.get_mut(usize::from(place)) else {
         return Ok(None);
     };
     let mut left = Vec::new(alloc);
@@ -125,24 +125,24 @@ impl<A: Allocator> SectionEvidence<A> {
     pub fn find<C, I>(
         alloc: A,
         ordered: &C,
-        fronts: &mut [Option<Ahead<I>>],
+        queues: &mut [Option<Ahead<I>>],
         section: &Section<A>,
     ) -> Result<Option<SectionEvidence<A>>, OutOfMemory>
     where
         C: HappenedBefore,
         I: Iterator<Item = u32> + Listed,
-        requires { length fronts.old ≤ length (C.logs_of ordered.now) }
+        requires { length queues.old ≤ length (C.logs_of ordered.now) }
         ensures { (case : List Conjunct) → HasDifferentPlaces case
-            → AreFronts (C.logs_of ordered.now) case fronts.old
+            → AreQueues (C.logs_of ordered.now) case queues.old
             → IfOk result
             (λ found. MatchOption found (IsSoundSection (C.logs_of ordered.now) case section.now)
             (IsSectionEvidence (C.logs_of ordered.now) case section.now)) }
     {
-        if let Some(step) = first_unsound(ordered, fronts, &section.steps) {
+        if let Some(step) = first_unsound(ordered, queues, &section.steps) {
             return Ok(Some(SectionEvidence::Unsound(step)));
         }
         let place = section.spent;
-        let left = take_left(alloc, fronts, place)?;
+        let left = take_left(alloc, queues, place)?;
         if is_none_left(&left) {
             return Ok(None);
         }

@@ -10,7 +10,7 @@ use Rattle.ira_event.specs.Numeral.{IsNumeral}
 use Rattle.ira_event.proofs.Numerals.{Lacks-numeral}
 use Rattle.ira_event.proofs.Pieces.{Lacks, Lacks-append}
 use Rattle.ira_event.proofs.RecordLines.{record_is_one_line}
-use Rattle.ira_explain.specs.Lines.{IsFromLine, IsLine, first, behind}
+use Rattle.ira_explain.specs.Lines.{IsFromLine, IsLine, first, next_line}
 use Rattle.ira_explain.specs.Places.{IsLineOfEvent}
 
 -- a word and a number are one line
@@ -48,13 +48,13 @@ after_head text front rest head is e =
     ∙ ap (λ w. codes "irlog " ++ (is.version_text ++ (codes "\n" ++ w))) second in
     let whole : text ≡ version ++ codes "\n" ++ after_version = parts ∙ sym lines in
     let one : IsFromLine text 1 (version ++ codes "\n" ++ after_version) = subst (IsFromLine text 1) whole first in
-    let two = behind 1 version after_version one
+    let two = next_line 1 version after_version one
     (number_line (codes "irlog ") is.version_text head.version refl is.version_is) in
-    let three = behind 2 nodes after_nodes two
+    let three = next_line 2 nodes after_nodes two
     (number_line (codes "nodes ") is.nodes_text head.nodes refl is.nodes_is) in
-    let four = behind 3 place after_place three
+    let four = next_line 3 place after_place three
     (number_line (codes "place ") is.place_text head.place refl is.place_is) in
-    behind 4 start rest four (start_line head.initiator)
+    next_line 4 start rest four (start_line head.initiator)
 
 -- a record is a line
 record_line : (text : List ℕ) (number k : ℕ) (records more : List ℕ) (events : List Event) (event : Event)
@@ -79,7 +79,7 @@ record_line text number (suc k) records more (e ∷ es) event (line, rest, parts
     let regrouped : records ++ more ≡ line ++ codes "\n" ++ (rest ++ more) =
     ap (λ w. w ++ more) parts ∙ simp append_assoc in
     let whole = record_is_one_line line e spelled in
-    let next = behind number line (rest ++ more) (subst (IsFromLine text number) regrouped from) whole in
+    let next = next_line number line (rest ++ more) (subst (IsFromLine text number) regrouped from) whole in
     let found = record_line text (number + 1) k rest more es event others next at in
     subst (λ n. (l : List ℕ) × IsLine text n l × IsRecord l event) (omega arith) found
 

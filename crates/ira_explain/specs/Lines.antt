@@ -5,7 +5,7 @@ use Rattle.ira_event.specs.NextLine.{HasNoLineFeed}
 -- the text from a line on; after its end it is empty
 pub data IsFromLine (text : List ℕ) : ℕ → List ℕ → Type 0 where
   first : IsFromLine text 1 text
-  behind :
+  next_line :
       (number : ℕ) (line rest : List ℕ) → IsFromLine text number (line ++ codes "\n" ++ rest) → HasNoLineFeed line
       → IsFromLine text (number + 1) rest
   past :

@@ -3,7 +3,7 @@ use crate::page::{Mark, Page};
 use crate::places::{file_of, line_of, record_cell};
 use crate::table::{Row, Table};
 use ira_event::{Event, Logs, OutOfMemory};
-use ira_evidence::{CircleEvidence, StuckAt, first_stops};
+use ira_evidence::{CircleEvidence, StuckAt, first_faulty_events};
 use std::alloc::Allocator;
 
 /// The line of the receipt at which a node is stuck; nothing where the place has none.
@@ -49,15 +49,6 @@ fn add_stuck<A: Allocator + Copy>(
     table.add(row)
 }
 
-/// How many events logs have.
-pub(crate) fn number_of_events<A: Allocator>(logs: &Logs<A>) -> usize {
-    let mut events = 0usize;
-    for place in 0..logs.size().get() {
-        events = events.saturating_add(logs.log(place).len());
-    }
-    events
-}
-
 /// Adds the receipts that wait for one another.
 pub(crate) fn explain_circle<A: Allocator + Copy, P: Allocator>(
     alloc: A,
@@ -76,14 +67,14 @@ pub(crate) fn explain_circle<A: Allocator + Copy, P: Allocator>(
     }
     table.print(page)?;
     page.blank()?;
-    let (ordered, events) = (evidence.ordered, number_of_events(logs));
+    let (ordered, events) = (evidence.ordered, logs.number_of_events());
     page.paragraph(format!(in alloc;
         "So none of them can come first. {ordered} of {events} events can be put in order; these come next."
     )?.as_str())?;
-    if let Some(stop) = first_stops(alloc, logs)?.first() {
+    if let Some(event) = first_faulty_events(alloc, logs)?.first() {
         page.paragraph(format!(in alloc;
             "Besides, node {} has no step for event {}: {}.",
-            stop.at.place, stop.at.position, stop.fault
+            event.at.place, event.at.position, event.fault
         )?
         .as_str())?;
     }

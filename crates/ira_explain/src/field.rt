@@ -1,4 +1,4 @@
-use ira_event::{skip_word, take_number};
+use ira_event::{scan_number, skip_word};
 
 /// A field of a line of a log, after the words that it begins with.
 #[derive(Clone, Copy, Debug, PartialEq, Eq)]
@@ -64,7 +64,7 @@ impl Field {
                 None => skip_word(text, b"dirty"),
             },
             Field::Round | Field::Id | Field::Hop | Field::Count => {
-                let (_, rest) = take_number(text)?;
+                let (_, rest) = scan_number(text)?;
                 Some(rest)
             }
         }

@@ -1,6 +1,6 @@
 use crate::field::Field;
 use crate::line_form::LineForm;
-use ira_event::{MAX_NUMBER, skip_word, take_number};
+use ira_event::{MAX_NUMBER, scan_number, skip_word};
 
 /// What is due at a place of a line.
 #[derive(Clone, Copy, Debug, PartialEq, Eq)]
@@ -89,7 +89,7 @@ impl RangeStop {
         let (form, rest) = LineForm::of_line(line, version)?;
         let mut rest = rest;
         for field in form.fields() {
-            let (number, after) = take_number(rest)?;
+            let (number, after) = scan_number(rest)?;
             if !(1..=MAX_NUMBER).contains(&number) {
                 return Some(RangeStop {
                     field: *field,

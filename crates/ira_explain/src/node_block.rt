@@ -1,5 +1,5 @@
 ghost use Rattle.ira_order.specs.Circle.{HasOrder};
-ghost use Rattle.ira_evidence.specs.Stop.{AreFirstStops, IsFirstStop};
+ghost use Rattle.ira_evidence.specs.FaultyEvent.{AreFirstFaultyEvents, IsFirstFaultyEvent};
 
 use crate::carets::{carets_at_end, carets_below};
 use crate::named_text::NamedText;
@@ -9,7 +9,7 @@ use crate::state_words::StateWords;
 use crate::stopped::Stopped;
 use crate::table::{Row, Table};
 use ira_event::{Event, Logs, NodeLog, OutOfMemory};
-use ira_evidence::{Beginning, EventAt, NodeEvidence, Stop, beginnings};
+use ira_evidence::{Beginning, EventAt, FaultyEvent, NodeEvidence, beginnings};
 use ira_node::StepFault;
 use ira_order::DirectDependencies;
 use std::alloc::Allocator;
@@ -148,14 +148,14 @@ fn explain_cause<A: Allocator + Copy, P: Allocator>(
 }
 
 /// Adds the event of another node that has no step.
-fn add_stop<A: Allocator + Copy, P: Allocator>(
+fn add_faulty_event<A: Allocator + Copy, P: Allocator>(
     alloc: A,
     page: &mut Page<P>,
     files: &[NamedText<'_>],
     logs: &Logs<A>,
-    stop: Stop,
+    event: FaultyEvent,
 ) -> Result<(), OutOfMemory> {
-    let Stop { at, fault } = stop;
+    let FaultyEvent { at, fault } = event;
     let EventAt { place, position } = at;
     let Some(event) = event_at(logs, at) else {
         return Ok(());
@@ -189,29 +189,29 @@ fn explain_beginnings<A: Allocator + Copy, P: Allocator>(
         .filter(|b| b.happened_before)
         .take(MOST_OTHERS)
     {
-        add_stop(alloc, page, files, logs, beginning.stop)?;
+        add_faulty_event(alloc, page, files, logs, beginning.event)?;
     }
     Ok(())
 }
 
 /// Adds the events without a step of the nodes but one.
-fn explain_other_stops<A: Allocator + Copy, P: Allocator>(
+fn explain_other_faulty_events<A: Allocator + Copy, P: Allocator>(
     alloc: A,
     page: &mut Page<P>,
     files: &[NamedText<'_>],
     logs: &Logs<A>,
-    stops: &[Stop],
-    named: Stop,
+    faulty: &[FaultyEvent],
+    named: FaultyEvent,
 ) -> Result<(), OutOfMemory> {
     page.line(Mark::Plain, "In other logs, and not before the above:")?;
-    for stop in stops
+    for event in faulty
         .iter()
-        .filter(|stop| **stop != named)
+        .filter(|event| **event != named)
         .take(MOST_OTHERS)
     {
-        add_stop(alloc, page, files, logs, *stop)?;
+        add_faulty_event(alloc, page, files, logs, *event)?;
     }
-    if stops.len() > MOST_OTHERS + 1 {
+    if faulty.len() > MOST_OTHERS + 1 {
         page.line(Mark::Plain, "  ..")?;
     }
     Ok(())
@@ -223,23 +223,23 @@ fn explain_others<A: Allocator + Copy, P: Allocator>(
     page: &mut Page<P>,
     files: &[NamedText<'_>],
     logs: &Logs<A>,
-    stops: &[Stop],
-    named: Stop,
+    faulty: &[FaultyEvent],
+    named: FaultyEvent,
 ) -> Result<(), OutOfMemory>
     requires order { HasOrder logs.now }
-    requires stops { AreFirstStops logs.now stops.now }
-    requires named { IsFirstStop logs.now named }
+    requires faulty { AreFirstFaultyEvents logs.now faulty.now }
+    requires named { IsFirstFaultyEvent logs.now named }
 {
-    if stops.len() < 2 {
+    if faulty.len() < 2 {
         return Ok(());
     }
     page.blank()?;
     let ordered = DirectDependencies::new(alloc, logs)?;
-    let found = beginnings(alloc, &ordered, stops, named)?;
+    let found = beginnings(alloc, &ordered, faulty, named)?;
     if found.iter().any(|beginning| beginning.happened_before) {
-        explain_beginnings(alloc, page, files, logs, stops.len(), &found)
+        explain_beginnings(alloc, page, files, logs, faulty.len(), &found)
     } else {
-        explain_other_stops(alloc, page, files, logs, stops, named)
+        explain_other_faulty_events(alloc, page, files, logs, faulty, named)
     }
 }
 
@@ -249,12 +249,12 @@ pub(crate) fn explain_node<A: Allocator + Copy, P: Allocator>(
     page: &mut Page<P>,
     files: &[NamedText<'_>],
     logs: &Logs<A>,
-    stops: &[Stop],
-    named: Stop,
+    faulty: &[FaultyEvent],
+    named: FaultyEvent,
 ) -> Result<(), OutOfMemory>
     requires order { HasOrder logs.now }
-    requires stops { AreFirstStops logs.now stops.now }
-    requires named { IsFirstStop logs.now named }
+    requires faulty { AreFirstFaultyEvents logs.now faulty.now }
+    requires named { IsFirstFaultyEvent logs.now named }
 {
     let place = named.at.place;
     let Some(log) = log_at(logs, place) else {
@@ -267,7 +267,7 @@ pub(crate) fn explain_node<A: Allocator + Copy, P: Allocator>(
         return Ok(());
     };
     explain_states(alloc, page, file_of(files, place), log, &evidence, &stopped)?;
-    explain_others(alloc, page, files, logs, stops, named)?;
+    explain_others(alloc, page, files, logs, faulty, named)?;
     explain_cause(alloc, page, &stopped)
 }
 

@@ -5,7 +5,7 @@ use crate::named_text::NamedText;
 use crate::node_block::{explain_log_alone, explain_node};
 use crate::page::Page;
 use ira_event::{LogFault, Logs, NodeLog, OutOfMemory, read_log};
-use ira_evidence::{CircleEvidence, NodeEvidence, first_stops};
+use ira_evidence::{CircleEvidence, NodeEvidence, first_faulty_events};
 use ira_order::match_links;
 use ira_replay::replay;
 use std::alloc::Allocator;
@@ -50,9 +50,9 @@ fn explain_logs_of_ring<A: Allocator + Copy, P: Allocator>(
     if let Some(evidence) = CircleEvidence::find(alloc, logs)? {
         return explain_circle(alloc, page, files, logs, &evidence);
     }
-    let stops = first_stops(alloc, logs)?;
-    match stops.first() {
-        Some(named) => explain_node(alloc, page, files, logs, &stops, *named),
+    let faulty = first_faulty_events(alloc, logs)?;
+    match faulty.first() {
+        Some(named) => explain_node(alloc, page, files, logs, &faulty, *named),
         None => explain_run(alloc, page, logs),
     }
 }

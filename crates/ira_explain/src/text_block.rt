@@ -6,7 +6,7 @@ use crate::named_text::NamedText;
 use crate::page::{Mark, Page};
 use crate::slip::Slip;
 use crate::text_head::explain_head;
-use ira_event::{LogFault, MAX_RECORDS, MAX_TEXT, OutOfMemory, open_log, skip_word, take_number};
+use ira_event::{LogFault, MAX_RECORDS, MAX_TEXT, OutOfMemory, open_log, scan_number, skip_word};
 use std::alloc::Allocator;
 
 /// Why an end line gives another number than there are records.
@@ -185,7 +185,7 @@ fn explain_cut<A: Allocator + Clone>(
 /// Whether a piece is the end line of so many records without its line feed.
 fn is_end_line(piece: &[u8], records: usize) -> bool {
     match skip_word(piece, b"end ") {
-        Some(number) => match take_number(number) {
+        Some(number) => match scan_number(number) {
             Some((count, rest)) => count as usize == records && rest.is_empty(),
             None => false,
         },
@@ -212,7 +212,7 @@ fn count_records(file: &NamedText<'_>) -> usize
 
 /// The number of an end line.
 fn said_count(line: &[u8]) -> Option<usize> {
-    let (count, _) = take_number(skip_word(line, b"end ")?)?;
+    let (count, _) = scan_number(skip_word(line, b"end ")?)?;
     Some(count as usize)
 }
 

@@ -1,7 +1,7 @@
 use crate::named_text::NamedText;
 use crate::page::{Mark, Page};
 use crate::slip::Slip;
-use ira_event::{MAX_NODES, MAX_VERSION, MAX_VERSION_1_NODES, OutOfMemory, skip_word, take_number};
+use ira_event::{MAX_NODES, MAX_VERSION, MAX_VERSION_1_NODES, OutOfMemory, scan_number, skip_word};
 use std::alloc::Allocator;
 
 /// A line of a log's head.
@@ -51,7 +51,7 @@ fn common_length(a: &[u8], b: &[u8]) -> usize {
 
 /// The number of a line of a word and a number.
 fn number_of(line: &[u8], word: &[u8]) -> Option<u32> {
-    let (number, rest) = take_number(skip_word(line, word)?)?;
+    let (number, rest) = scan_number(skip_word(line, word)?)?;
     if rest.is_empty() { Some(number) } else { None }
 }
 
@@ -60,7 +60,7 @@ fn number_stop(line: &[u8], word: &[u8], least: usize, most: usize) -> usize {
     let Some(rest) = skip_word(line, word) else {
         return common_length(line, word);
     };
-    match take_number(rest) {
+    match scan_number(rest) {
         Some((number, after)) if (least..=most).contains(&(number as usize)) => {
             line.len().saturating_sub(after.len())
         }

@@ -5,8 +5,8 @@ ghost use Rattle.ira_elim.specs.Found.{IsFound};
 
 use crate::asked_lines::AskedLines;
 use crate::found_block::{explain_absent, explain_present};
-use ira_cert::{Section, case_fronts};
-use ira_elim::{Decided, Found, decide_fronts};
+use ira_cert::{Section, case_queues};
+use ira_elim::{Decided, Found, decide_queues};
 use ira_event::OutOfMemory;
 use ira_explain::{Mark, NamedText, Page};
 use ira_order::{DirectDependencies, HappenedBefore};
@@ -30,8 +30,8 @@ pub(crate) fn decide_again<A: Allocator + Copy>(
     requires { HasPlacesOf dependencies.now case.now }
     ensures { IfOk result (λ found. IsFound dependencies.now case.now found) }
 {
-    let fronts = case_fronts(alloc, dependencies.logs(), case)?;
-    match decide_fronts(alloc, dependencies, fronts, Vec::new(alloc))? {
+    let queues = case_queues(alloc, dependencies.logs(), case)?;
+    match decide_queues(alloc, dependencies, queues, Vec::new(alloc))? {
         Decided::Absent { steps, spent } => Ok(Found::Absent(Section { steps, spent })),
         Decided::Present(cut) => Ok(Found::Present(cut)),
     }

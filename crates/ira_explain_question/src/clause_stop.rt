@@ -1,4 +1,4 @@
-use ira_event::{MAX_NUMBER, skip_word, take_number};
+use ira_event::{MAX_NUMBER, scan_number, skip_word};
 use ira_pred::MAX_DEPTH;
 
 /// What is due at a place of a clause.
@@ -137,7 +137,7 @@ fn after_comparison(text: &[u8]) -> Result<&[u8], ClauseStop<'_>> {
             due: Due::Space,
         });
     };
-    match take_number(rest) {
+    match scan_number(rest) {
         Some((number, after)) if number <= MAX_NUMBER => Ok(after),
         _ => Err(ClauseStop {
             rest,

@@ -6,7 +6,7 @@ use crate::text_block::{
     Form, add_format_hint, add_hint, explain_cut, explain_head, explain_length, explain_trailing,
     line_of_word, nodes_of, point_due, point_line,
 };
-use ira_event::{OutOfMemory, skip_word, take_number};
+use ira_event::{OutOfMemory, scan_number, skip_word};
 use ira_explain::{NamedText, Page};
 use ira_pred::{AskFault, MAX_CASES, MAX_DEPTH};
 use std::alloc::Allocator;
@@ -54,8 +54,8 @@ pub(crate) fn explain_question_text<A: Allocator + Clone>(
 }
 
 /// The place that a line begins with, and what follows the colon and the space after it.
-fn take_place(line: &[u8]) -> Option<(u32, &[u8])> {
-    let (place, rest) = take_number(line)?;
+fn scan_place(line: &[u8]) -> Option<(u32, &[u8])> {
+    let (place, rest) = scan_number(line)?;
     Some((place, skip_word(rest, b": ")?))
 }
 
@@ -66,7 +66,7 @@ fn explain_line<A: Allocator + Clone>(
     number: usize,
 ) -> Result<(), OutOfMemory> {
     let line = file.line(number);
-    let clause = take_place(line);
+    let clause = scan_place(line);
     match (number, clause) {
         (0..=3, _) => point_line(page, file, number, "`case` is due here")?,
         (_, Some((_, clause))) => return explain_clause(alloc, page, file, number, clause),
@@ -166,7 +166,7 @@ fn word_begun(text: &[u8]) -> Option<&'static str> {
 
 /// The place of the clause on the line before, if there is one.
 fn place_before(file: &NamedText<'_>, number: usize) -> Option<u32> {
-    let (place, _) = take_place(file.line(number.saturating_sub(1)))?;
+    let (place, _) = scan_place(file.line(number.saturating_sub(1)))?;
     Some(place)
 }
 
@@ -176,7 +176,7 @@ fn explain_place<A: Allocator + Clone>(
     file: &NamedText<'_>,
     number: usize,
 ) -> Result<(), OutOfMemory> {
-    let Some((place, rest)) = take_number(file.line(number)) else {
+    let Some((place, rest)) = scan_number(file.line(number)) else {
         return Ok(());
     };
     let digits = file.line(number).len().saturating_sub(rest.len());

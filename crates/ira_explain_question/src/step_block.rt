@@ -6,7 +6,7 @@ use crate::asked_lines::clause_at;
 use crate::case_block::{Told, decide_again};
 use crate::good_ring::state_after;
 use crate::section_lines::section_line;
-use ira_cert::{QueueHead, Section, Unsound, case_fronts};
+use ira_cert::{QueueHead, Section, Unsound, case_queues};
 use ira_elim::Found;
 use ira_event::{Logs, OutOfMemory};
 use ira_evidence::{SectionEvidence, UnsoundStep, Unspent};
@@ -68,8 +68,8 @@ fn find_evidence<A: Allocator + Copy>(
 ) -> Result<Option<SectionEvidence<A>>, OutOfMemory>
     requires { HasPlacesOf dependencies.now told.case.now }
 {
-    let mut fronts = case_fronts(alloc, dependencies.logs(), told.case)?;
-    SectionEvidence::find(alloc, dependencies, &mut fronts, section)
+    let mut queues = case_queues(alloc, dependencies.logs(), told.case)?;
+    SectionEvidence::find(alloc, dependencies, &mut queues, section)
 }
 
 /// Adds whether the case is absent all the same; where it is, perhaps by how many steps.
@@ -230,7 +230,7 @@ fn explain_fault<A: Allocator + Copy, P: Allocator>(
         }
         Unsound::NodeSpent => {
             page.paragraph(
-                "Behind the steps before this one a node of it has no candidate left: the section is done with it.",
+                "After the steps before this one a node of it has no candidate left: the section is done with it.",
             )
         }
         Unsound::NotFront => explain_front(alloc, page, unsound),
@@ -351,7 +351,7 @@ fn add_candidates<A: Allocator + Copy, P: Allocator>(
     let (steps, left) = (NumberOf(steps, "step"), NumberOf(left, "candidate"));
     page.begin(Mark::Plain)?;
     page.words(format!(in alloc;
-        "Behind {steps} node {place} has {left} left, where it meets `"
+        "QueueHeads {steps} node {place} has {left} left, where it meets `"
     )?.as_str())?;
     let n = clause_at(told.case, place).unwrap_or(0);
     page.quote(told.lines.clause(n))?;

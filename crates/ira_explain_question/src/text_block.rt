@@ -1,4 +1,4 @@
-use ira_event::{MAX_TEXT, OutOfMemory, skip_word, take_number};
+use ira_event::{MAX_TEXT, OutOfMemory, scan_number, skip_word};
 use ira_explain::{Mark, NamedText, Page, Slip, split_line};
 use std::alloc::Allocator;
 
@@ -190,7 +190,7 @@ pub(crate) fn explain_trailing<A: Allocator>(
 
 /// The number that a text's second line names.
 pub(crate) fn nodes_of(file: &NamedText<'_>) -> Option<u32> {
-    let (nodes, _) = take_number(skip_word(file.line(2), b"nodes ")?)?;
+    let (nodes, _) = scan_number(skip_word(file.line(2), b"nodes ")?)?;
     Some(nodes)
 }
 

@@ -14,7 +14,7 @@ mod text_source;
 pub use counting_reader::CountingReader;
 pub use file_name::FileName;
 pub use file_shelf::FileShelf;
-pub use read_text::read_behind;
+pub use read_text::read_after;
 pub use retrying_reader::RetryingReader;
 pub use shelf::Shelf;
 pub use shelf_fault::ShelfFault;

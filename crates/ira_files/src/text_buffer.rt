@@ -9,11 +9,11 @@ use std::alloc::Allocator;
 use std::io::Read;
 use std::marker::Model;
 
-/// A text that is read whole. Its room stays for the next text, which is read over what is there.
+/// A text that is read whole. Its buffer stays for the next text, which is read over what is there.
 #[derive(Drop)]
 pub struct TextBuffer<A: Allocator> {
     /// The text, and after it what is no part of it.
-    room: Vec<u8, A>,
+    buffer: Vec<u8, A>,
     /// How many bytes the text has.
     filled: usize,
 }
@@ -24,9 +24,9 @@ impl<A: Allocator> Model for TextBuffer<A> {
 
     ghost Value = { List ℕ };
 
-    ghost view = { λ b. take b.filled b.room.items };
+    ghost view = { λ b. take b.filled b.buffer.items };
 
-    ghost invariant = { λ b. (b.filled ≤ length b.room.items) × (length b.room.items ≤ MAX_TEXT + 1) };
+    ghost invariant = { λ b. (b.filled ≤ length b.buffer.items) × (length b.buffer.items ≤ MAX_TEXT + 1) };
 }
 
 impl<A: Allocator> TextBuffer<A> {
@@ -35,7 +35,7 @@ impl<A: Allocator> TextBuffer<A> {
         ensures { result ≡ [] }
     {
         TextBuffer {
-            room: Vec::new(alloc),
+            buffer: Vec::new(alloc),
             filled: 0,
         }
     }
@@ -44,7 +44,7 @@ impl<A: Allocator> TextBuffer<A> {
     pub fn bytes(&self) -> &[u8]
         ensures { result.now ≡ self.now }
     {
-        &self.room[..self.filled]
+        &self.buffer[..self.filled]
     }
 
     /// Reads what the input has left, to its end or to one more than `MAX_TEXT`, whichever comes first. That is
@@ -57,7 +57,7 @@ impl<A: Allocator> TextBuffer<A> {
             → (input.new.has_failed ≡ true) × (input.new.is_over ≡ true) }
     {
         self.filled = 0;
-        self.filled = read_text(input, &mut self.room)?;
+        self.filled = read_text(input, &mut self.buffer)?;
         Ok(())
     }
 }

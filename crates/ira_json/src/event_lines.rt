@@ -62,27 +62,6 @@ fn step_value<A: Allocator>(
     event_value(alloc, number, step, event, *state)
 }
 
-/// The first state of each node.
-fn first_states<A: Allocator>(alloc: A, logs: &Logs<A>) -> Result<Vec<NodeState, A>, OutOfMemory>
-    ensures { IfOk result (λ states. length states.items ≡ length logs.now) }
-{
-    let size = logs.size().get();
-    let mut states = Vec::with_capacity(alloc, usize::from(size))?;
-    for place in 0..size {
-        states.push(NodeState::first(logs.log(place).initiator()))?;
-    }
-    Ok(states)
-}
-
-/// How many events the logs have.
-fn number_of_events<A: Allocator>(logs: &Logs<A>) -> usize {
-    let mut events = 0usize;
-    for place in 0..logs.size().get() {
-        events = events.saturating_add(logs.log(place).len());
-    }
-    events
-}
-
 /// Writes a line for each event, in one order of them all, those of the cut first.
 pub(crate) fn write_events<A: Allocator + Clone, W: Sink>(
     text: Global,
@@ -95,10 +74,10 @@ pub(crate) fn write_events<A: Allocator + Clone, W: Sink>(
     requires cut { IsConsistentCut logs.now cut.now }
     ensures { WroteLines result (W.state sink.old) (W.state sink.new) }
 {
-    let mut states = first_states(alloc.clone()?, logs)?;
+    let mut states = NodeState::first_of_each(alloc.clone()?, logs)?;
     let mut trail = Trail::new(alloc, logs, cut)?;
     let mut lines = LineBlock::new(text);
-    for number in 0..number_of_events(logs) {
+    for number in 0..logs.number_of_events() {
         let Some(step) = trail.next()? else {
             break;
         };

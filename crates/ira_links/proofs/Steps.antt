@@ -79,9 +79,9 @@ puts n pass v x may room sound queue views _ rule at = let w : Known = record v 
     )
 
 -- the numbers of the frame after these are in range
-behind_in_range : (taken queue : List Frame) (x : Frame) → All IsInRange (taken ++ x ∷ queue) → IsInRange x
-behind_in_range [] queue x all = All-head IsInRange x queue all
-behind_in_range (y ∷ ys) queue x all = behind_in_range ys queue x (All-drop IsInRange 1 (y ∷ (ys ++ x ∷ queue)) all)
+after_in_range : (taken queue : List Frame) (x : Frame) → All IsInRange (taken ++ x ∷ queue) → IsInRange x
+after_in_range [] queue x all = All-head IsInRange x queue all
+after_in_range (y ∷ ys) queue x all = after_in_range ys queue x (All-drop IsInRange 1 (y ∷ (ys ++ x ∷ queue)) all)
 
 -- a frame is taken
 pub takes : (pass : ℕ) (v : Known) → v.takes ≡ true
@@ -109,7 +109,7 @@ takes pass v may x queue views rule at = let w : Known = record v { taken = v.ta
       },
       (
         refl,
-        behind_in_range rule.taken queue x
+        after_in_range rule.taken queue x
             (All-same IsInRange (rule.taken ++ x ∷ queue) rule.put (sym rule.parts) rule.numbers),
         subst (λ (l : List Frame). length l < MAX_FRAMES) (sym (mine.takes may).1) few,
       ),

@@ -1,5 +1,5 @@
 -- A setup that keeps the rules has a full run: as long as some node has a next event it is made, and there is
--- less room for events each time.
+-- less below_cap for events each time.
 use Rattle.std.proofs.Common.{◌≡◌, ◌≢◌, ℕ, zero, suc, ◌+◌, ◌<◌, ◌≤◌, ◌⊎◌, inl, inr, All, List, [], ◌∷◌, length, get_or}
 use Rattle.std.proofs.Common.{refl, sym, ◌∙◌, subst, ap, arith}
 use Rattle.std.specs.Prelude.{map}
@@ -50,26 +50,26 @@ no_step_where_fault n s e fault step =
     let good = step_gives n s e step.0 step.1 in
     cc
 
-module _ (n most terms : ℕ) (node : LoneNode) (room : length node.events < most) (few : terms ≤ MAX_NUMBER) where
+module _ (n most terms : ℕ) (node : LoneNode) (below_cap : length node.events < most) (few : terms ≤ MAX_NUMBER) where
   drawing : (ids : List ℕ) → node.ids ≡ ids → All (λ d. (1 ≤ d) × (d ≤ n)) ids
       → WantsDraw ≡ wanted_of node.state.term node.state.phase node.state.owed → CanCome n node.state WantsDraw
       → HasNext n most terms node ⊎ HasNoNext n most terms node
-  drawing [] is all wants can = inr (spent n most terms node wants room (ap length is))
+  drawing [] is all wants can = inr (spent n most terms node wants below_cap (ap length is))
   drawing (id ∷ rest) is all wants can =
       let within : (1 ≤ id) × (id ≤ n) = all 0 0 (omega arith) in
       let step : HasStep n node.state (Draw id) = can id within.0 within.1 in
-      inl (Draw id, step.0, next_draw n most terms node id rest step.0 wants room is step.1)
+      inl (Draw id, step.0, next_draw n most terms node id rest step.0 wants below_cap is step.1)
 
   receiving : (input : List Load) → node.input ≡ input
       → Receipt ≡ wanted_of node.state.term node.state.phase node.state.owed → HasNext n most terms node
       ⊎ HasNoNext n most terms node
-  receiving [] is wants = inr (quiet n most terms node wants room (λ some. omega (arith, some, ap length is)))
+  receiving [] is wants = inr (quiet n most terms node wants below_cap (λ some. omega (arith, some, ap length is)))
   receiving (m ∷ rest) is wants =
       let some : 0 < length node.input = omega (arith, ap length is) in
       let first : m ≡ get_or node.input 0 m = sym (ap (λ (ms : List Load). get_or ms 0 m) is) in
       elim (a_step_or_a_fault n node.state (Got m)) [
-        | inl step ↦ inl (Got m, step.0, next_got n most terms node m step.0 wants room some first step.1)
-        | inr fault ↦ inr (no_step n most terms node m wants room some first
+        | inl step ↦ inl (Got m, step.0, next_got n most terms node m step.0 wants below_cap some first step.1)
+        | inr fault ↦ inr (no_step n most terms node m wants below_cap some first
             (no_step_where_fault n node.state (Got m) fault))
       ]
 
@@ -80,20 +80,21 @@ module _ (n most terms : ℕ) (node : LoneNode) (room : length node.events < mos
       inr (leads_last n most terms node (wants_nothing node.state.term node.state.phase node.state.owed wants)
       (omega (arith, few, ends_nothing node.state.term node.state.phase node.state.owed wants)))
   by_want WantsYield wants all can = elim (cases_lt node.state.term terms) [
-    | inl below ↦ inl (Yield, can.0, next_yield n most terms node can.0 below room can.1)
+    | inl below ↦ inl (Yield, can.0, next_yield n most terms node can.0 below below_cap can.1)
     | inr past ↦ inr (leads_last n most terms node (wants_yield node.state.term node.state.phase node.state.owed wants)
         (omega arith))
   ]
   by_want WantsDraw wants all can = drawing node.ids refl all wants can
-  by_want (Send m) wants all can = inl (Sent m, can.0, next_sent n most terms node m can.0 wants room can.1)
+  by_want (Send m) wants all can = inl (Sent m, can.0, next_sent n most terms node m can.0 wants below_cap can.1)
   by_want Receipt wants all can = receiving node.input refl wants
 
 next_or_none : (s : Setup) (node : LoneNode) → KeepsRules s → All (λ d. (1 ≤ d) × (d ≤ s.nodes)) node.ids
     → HasNext s.nodes s.cap s.terms node ⊎ HasNoNext s.nodes s.cap s.terms node
 next_or_none s node rules all = elim (cases_lt (length node.events) s.cap) [
-  | inl room ↦
+  | inl below_cap ↦
       let w : Wanted = wanted_of node.state.term node.state.phase node.state.owed in
-      by_want s.nodes s.cap s.terms node room rules.terms.1 w refl all (can_come s.nodes node.state w refl rules.size)
+      by_want s.nodes s.cap s.terms node below_cap rules.terms.1 w refl all
+          (can_come s.nodes node.state w refl rules.size)
   | inr full ↦ inr (full_ends s.nodes s.cap s.terms node full)
 ]
 
@@ -154,8 +155,8 @@ module _ (s : Setup) (rules : KeepsRules s) where
 
   goes_to_end : (k : ℕ) (nodes : List LoneNode) → IsReached s nodes → room_in s.cap nodes < k → (last : List LoneNode)
       × AreAtEnd s last
-  goes_to_end zero nodes reached room = absurd (omega arith)
-  goes_to_end (suc k) nodes reached room = elim (some_next nodes reached s.nodes (omega arith)) [
+  goes_to_end zero nodes reached below_cap = absurd (omega arith)
+  goes_to_end (suc k) nodes reached below_cap = elim (some_next nodes reached s.nodes (omega arith)) [
     | inr none ↦ (nodes, (reached, none))
     | inl found ↦
         let i : ℕ = found.0 in

@@ -17,7 +17,8 @@ use Rattle.ira_run.specs.declared.node_end.NodeEnd.{NodeEnd}
 use Rattle.ira_run.specs.declared.node_end.NodeEnd.TheVariants.{Leader, Stopped, DrawsSpent, LogFull, NoStep, Quiet}
 use Rattle.ira_run.specs.Setup.{Setup, node_draws}
 use Rattle.ira_run.specs.Terms.{IsLastLeader}
-use Rattle.ira_run.specs.FullRun.{events_at, drawn, HasEvent, yields, owes, chooses, receives, CanStep}
+use Rattle.ira_event.specs.Messages.{drawn}
+use Rattle.ira_run.specs.FullRun.{events_at, HasEvent, yields, owes, chooses, receives, CanStep}
 use Rattle.ira_lone.specs.LoneNode.{LoneNode, Ends, HasNoNext}
 use Rattle.ira_lone.specs.LoneRing.{node_at, IsReached, AreAtEnd, AreEndsOfNodes}
 use Rattle.ira_run.proofs.Choosing.{choosing_no_receipt, choosing_no_waiting, choosing_no_leader, leader_no_waiting}
@@ -29,32 +30,32 @@ pub ended_no_event : (n most terms : ℕ) (ids : List ℕ) (node : LoneNode) (en
     → ids ≡ drawn node.events ++ node.ids → Ends n most terms node end
     → ¬ (IsLastLeader terms node.state) → length node.events < most
     → HasEvent n terms ids node.state node.events node.input → ⊥
-ended_no_event n most terms ids node Leader left h not_last room event = not_last h
-ended_no_event n most terms ids node Stopped left h not_last room event = h
-ended_no_event n most terms ids node LogFull left h not_last room event = omega (arith, h.1)
-ended_no_event n most terms ids node DrawsSpent left h not_last room (yields leads below) =
+ended_no_event n most terms ids node Leader left h not_last below_cap event = not_last h
+ended_no_event n most terms ids node Stopped left h not_last below_cap event = h
+ended_no_event n most terms ids node LogFull left h not_last below_cap event = omega (arith, h.1)
+ended_no_event n most terms ids node DrawsSpent left h not_last below_cap (yields leads below) =
     choosing_no_leader h.1.0 h.1.1 node.state h.1.2 leads
-ended_no_event n most terms ids node DrawsSpent left h not_last room (owes m o) = let is = h.1.2 in cc
-ended_no_event n most terms ids node DrawsSpent left h not_last room (chooses term round is unused) =
+ended_no_event n most terms ids node DrawsSpent left h not_last below_cap (owes m o) = let is = h.1.2 in cc
+ended_no_event n most terms ids node DrawsSpent left h not_last below_cap (chooses term round is unused) =
     omega (arith, ap length left, length-append (drawn node.events) node.ids, ap length h.2)
-ended_no_event n most terms ids node DrawsSpent left h not_last room (receives m others is step) =
+ended_no_event n most terms ids node DrawsSpent left h not_last below_cap (receives m others is step) =
     choosing_no_receipt n h.1.0 h.1.1 node.state m h.1.2 step
-ended_no_event n most terms ids node (NoStep k) left h not_last room (yields leads below) =
+ended_no_event n most terms ids node (NoStep k) left h not_last below_cap (yields leads below) =
     leader_no_waiting node.state.phase leads h.2
-ended_no_event n most terms ids node (NoStep k) left h not_last room (owes m o) = let is = h.1 in cc
-ended_no_event n most terms ids node (NoStep k) left h not_last room (chooses term round is unused) =
+ended_no_event n most terms ids node (NoStep k) left h not_last below_cap (owes m o) = let is = h.1 in cc
+ended_no_event n most terms ids node (NoStep k) left h not_last below_cap (chooses term round is unused) =
     choosing_no_waiting term round node.state is h.2
-ended_no_event n most terms ids node (NoStep k) left h not_last room (receives m others is step) =
+ended_no_event n most terms ids node (NoStep k) left h not_last below_cap (receives m others is step) =
     let first = h.3.1 in
     let same : m ≡ k = cc in
     let P : Load → Type 0 = λ x. HasStep n node.state (Got x) in
     h.4 (subst P same step)
-ended_no_event n most terms ids node Quiet left h not_last room (yields leads below) =
+ended_no_event n most terms ids node Quiet left h not_last below_cap (yields leads below) =
     leader_no_waiting node.state.phase leads h.2
-ended_no_event n most terms ids node Quiet left h not_last room (owes m o) = let is = h.1 in cc
-ended_no_event n most terms ids node Quiet left h not_last room (chooses term round is unused) =
+ended_no_event n most terms ids node Quiet left h not_last below_cap (owes m o) = let is = h.1 in cc
+ended_no_event n most terms ids node Quiet left h not_last below_cap (chooses term round is unused) =
     choosing_no_waiting term round node.state is h.2
-ended_no_event n most terms ids node Quiet left h not_last room (receives m others is step) = let none = h.3 in cc
+ended_no_event n most terms ids node Quiet left h not_last below_cap (receives m others is step) = let none = h.3 in cc
 
 -- so it can't step
 pub ended_no_step : (s : Setup) (nodes : List LoneNode) (reached : IsReached s nodes) (i : ℕ) → i < s.nodes
@@ -70,68 +71,68 @@ ended_no_step s nodes reached i l ended can =
     λ x. HasEvent s.nodes s.terms (node_draws s i) (reached.point.state i) (events_at reached.run i) x in
     ended_no_event s.nodes s.cap s.terms (node_draws s i) (node_at nodes i) ended.0 (reached.draws i l) ended.1
     (subst P (reached.states i l) can.not_last)
-    (omega (arith, can.room, ap length (reached.events i l)))
+    (omega (arith, can.below_cap, ap length (reached.events i l)))
     (subst Q (reached.states i l) (subst R (reached.events i l) (subst S (reached.links i l) can.event)))
 
 -- ---- the ends, as the code finds them
 
 spent_ids : (n most terms term round : ℕ) (node : LoneNode) (end : NodeEnd) (ids : List ℕ) → node.ids ≡ ids
     → Ends n most terms node end → node.state ≡ free term (Choosing round) → length node.events < most → ids ≡ []
-spent_ids n most terms term round node end [] is ends choosing room = refl
-spent_ids n most terms term round node end (id ∷ ids) is ends choosing room =
+spent_ids n most terms term round node end [] is ends choosing below_cap = refl
+spent_ids n most terms term round node end (id ∷ ids) is ends choosing below_cap =
     absurd (ended_no_event n most terms (drawn node.events ++ node.ids) node end refl ends (λ l.
-    choosing_leads_not node.state term round choosing l.0) room
+    choosing_leads_not node.state term round choosing l.0) below_cap
     (chooses term round choosing (omega (arith, length-append (drawn node.events) node.ids, ap length is))))
 
 pub ends_spent : (n most terms : ℕ) (state : NodeState) (ids : List ℕ) (input : List Load) (events : List Event)
     (node : LoneNode) → parts state ids input events ≡ node → WantsDraw ≡ wanted_of state.term state.phase state.owed
     → length events < most
     → HasNoNext n most terms node → Ends n most terms node DrawsSpent
-ends_spent n most terms state ids input events node is wants room =
+ends_spent n most terms state ids input events node is wants below_cap =
     let P : LoneNode → Type 0 = λ x. HasNoNext n most terms x → Ends n most terms x DrawsSpent in
     let w : (round : ℕ) × (state ≡ free state.term (Choosing round)) =
     wants_draw state.term state.phase state.owed wants in
     subst P is (λ ended. (
-      room,
+      below_cap,
       (state.term, w.0, w.1),
-      spent_ids n most terms state.term w.0 (parts state ids input events) ended.0 ids refl ended.1 w.1 room,
+      spent_ids n most terms state.term w.0 (parts state ids input events) ended.0 ids refl ended.1 w.1 below_cap,
     ))
 
 pub ends_waiting : (n most terms : ℕ) (state : NodeState) (ids : List ℕ) (input : List Load) (events : List Event)
     (node : LoneNode) (m : Load) → parts state ids input events ≡ node
     → Receipt ≡ wanted_of state.term state.phase state.owed → length events < most
     → 0 < length input → m ≡ get_or input 0 m → HasNoNext n most terms node → Ends n most terms node (NoStep m)
-ends_waiting n most terms state ids input events node m is wants room some first =
+ends_waiting n most terms state ids input events node m is wants below_cap some first =
     let P : LoneNode → Type 0 = λ x. HasNoNext n most terms x → Ends n most terms x (NoStep m) in
     let w : (state.owed ≡ None) × Receives state.phase = wants_receipt state.term state.phase state.owed wants in
     let f : (rest : List Load) × (input ≡ m ∷ rest) = first_load input m some first in
     subst P is (λ ended. (
-      room,
+      below_cap,
       w.0,
       w.1,
       f,
       λ step. ended_no_event n most terms (drawn events
           ++ ids) (parts state ids input events) ended.0 refl ended.1 (λ l.
-          receiving_leads_not state.phase w.1 l.0) room (receives m f.0 f.1 step),
+          receiving_leads_not state.phase w.1 l.0) below_cap (receives m f.0 f.1 step),
     ))
 
 pub owing_goes_on : (n most terms : ℕ) (state : NodeState) (ids : List ℕ) (input : List Load) (events : List Event)
     (node : LoneNode) (m : Load) → parts state ids input events ≡ node
     → Send m ≡ wanted_of state.term state.phase state.owed → length events < most
     → HasNoNext n most terms node → ⊥
-owing_goes_on n most terms state ids input events node m is wants room =
+owing_goes_on n most terms state ids input events node m is wants below_cap =
     let P : LoneNode → Type 0 = λ x. HasNoNext n most terms x → ⊥ in
     subst P is (λ ended. ended_no_event n most terms (drawn events
     ++ ids) (parts state ids input events) ended.0 refl ended.1 (λ l.
-    owing_leads_not state.term state.phase state.owed m wants l.0) room
+    owing_leads_not state.term state.phase state.owed m wants l.0) below_cap
     (owes m (wants_send state.term state.phase state.owed m wants)))
 
 pub ended_at : (s : Setup) (nodes : List LoneNode) (i most terms : ℕ) (node : LoneNode) → AreAtEnd s nodes
     → i < length nodes → most ≡ s.cap → terms ≡ s.terms → node ≡ get_or nodes i node → HasNoNext s.nodes most terms node
-ended_at s nodes i most terms node done l room last read =
+ended_at s nodes i most terms node done l below_cap last read =
     let P : ℕ → ℕ → Type 0 = λ x y. HasNoNext s.nodes x y node in
     subst (λ (y : ℕ). P most y) (sym last)
-    (subst (λ (x : ℕ). P x s.terms) (sym room)
+    (subst (λ (x : ℕ). P x s.terms) (sym below_cap)
     (subst (HasNoNext s.nodes s.cap s.terms) (sym (read_at nodes i i node l refl read))
     (done.1 i (omega (arith, done.0.many)))))
 
@@ -140,13 +141,13 @@ pub ends_more : (s : Setup) (nodes : List LoneNode) (i most terms : ℕ) (node :
     → (HasNoNext s.nodes most terms node → Ends s.nodes most terms node end) → length ends ≡ i
     → ((j : ℕ) → j < i → Ends s.nodes s.cap s.terms (node_at nodes j) (get_or ends j Quiet))
     → (j : ℕ) → j < i + 1 → Ends s.nodes s.cap s.terms (node_at nodes j) (get_or (ends ++ end ∷ []) j Quiet)
-ends_more s nodes i most terms node ends end done l room last read so many each =
+ends_more s nodes i most terms node ends end done l below_cap last read so many each =
     let P : ℕ → ℕ → Type 0 = λ x y. Ends s.nodes x y node end in
     let Q : LoneNode → Type 0 = λ x. Ends s.nodes s.cap s.terms x end in
     each_more (λ j x. Ends s.nodes s.cap s.terms (node_at nodes j) x) Quiet ends end i many each
     (subst Q (read_at nodes i i node l refl read)
     (subst (λ (y : ℕ). P s.cap y) last
-    (subst (λ (x : ℕ). P x terms) room (so (ended_at s nodes i most terms node done l room last read)))))
+    (subst (λ (x : ℕ). P x terms) below_cap (so (ended_at s nodes i most terms node done l below_cap last read)))))
 
 pub all_ends : (s : Setup) (nodes : List LoneNode) (ends : List NodeEnd) → length ends ≡ length nodes
     → ((j : ℕ) → j < length nodes → Ends s.nodes s.cap s.terms (node_at nodes j) (get_or ends j Quiet))
@@ -163,10 +164,10 @@ pub leading_goes_on : (n most terms : ℕ) (state : NodeState) (ids : List ℕ) 
     (node : LoneNode) → parts state ids input events ≡ node → IsLeader state.phase → ¬ (IsLastLeader terms state)
     → length events < most
     → HasNoNext n most terms node → ⊥
-leading_goes_on n most terms state ids input events node is leads not_last room =
+leading_goes_on n most terms state ids input events node is leads not_last below_cap =
     let P : LoneNode → Type 0 = λ x. HasNoNext n most terms x → ⊥ in
     subst P is (λ ended. elim (cases_lt state.term terms) [
       | inl below ↦ ended_no_event n most terms (drawn events
-          ++ ids) (parts state ids input events) ended.0 refl ended.1 not_last room (yields leads below)
+          ++ ids) (parts state ids input events) ended.0 refl ended.1 not_last below_cap (yields leads below)
       | inr past ↦ not_last (leads, omega arith)
     ])

@@ -84,45 +84,45 @@ pub next_draw : (n most terms : ℕ) (node : LoneNode) (id : ℕ) (rest : List �
     → WantsDraw ≡ wanted_of node.state.term node.state.phase node.state.owed → length node.events < most
     → node.ids ≡ id ∷ rest → NodeStep n node.state (Draw id) after
     → IsNext n most terms node (Draw id) after
-next_draw n most terms node id rest after wants room first step =
+next_draw n most terms node id rest after wants below_cap first step =
     let w : (round : ℕ) × (node.state ≡ free node.state.term (Choosing round)) =
     wants_draw node.state.term node.state.phase node.state.owed wants in
     record {
       not_last = λ l. choosing_leads_not node.state node.state.term w.0 w.1 l.0;
-      room = room;
+      below_cap = below_cap;
       step = step;
-      first = (rest, first);
+      first = ((rest, first), tt);
     }
 
 pub next_got : (n most terms : ℕ) (node : LoneNode) (m : Load) (after : NodeState)
     → Receipt ≡ wanted_of node.state.term node.state.phase node.state.owed → length node.events < most
     → 0 < length node.input → m ≡ get_or node.input 0 m → NodeStep n node.state (Got m) after
     → IsNext n most terms node (Got m) after
-next_got n most terms node m after wants room some first step =
+next_got n most terms node m after wants below_cap some first step =
     let w : (node.state.owed ≡ None) × Receives node.state.phase =
     wants_receipt node.state.term node.state.phase node.state.owed wants in
     record {
       not_last = λ l. receiving_leads_not node.state.phase w.1 l.0;
-      room = room;
+      below_cap = below_cap;
       step = step;
-      first = first_load node.input m some first;
+      first = (tt, first_load node.input m some first);
     }
 
 pub next_sent : (n most terms : ℕ) (node : LoneNode) (m : Load) (after : NodeState)
     → Send m ≡ wanted_of node.state.term node.state.phase node.state.owed → length node.events < most
     → NodeStep n node.state (Sent m) after → IsNext n most terms node (Sent m) after
-next_sent n most terms node m after wants room step =
+next_sent n most terms node m after wants below_cap step =
     record {
       not_last = λ l. owing_leads_not node.state.term node.state.phase node.state.owed m wants l.0;
-      room = room;
+      below_cap = below_cap;
       step = step;
-      first = tt;
+      first = (tt, tt);
     }
 
 pub next_yield : (n most terms : ℕ) (node : LoneNode) (after : NodeState) → node.state.term < terms
     → length node.events < most → NodeStep n node.state Yield after → IsNext n most terms node Yield after
-next_yield n most terms node after below room step =
-    record { not_last = λ l. omega (arith, below, l.1); room = room; step = step; first = tt }
+next_yield n most terms node after below below_cap step =
+    record { not_last = λ l. omega (arith, below, l.1); below_cap = below_cap; step = step; first = (tt, tt) }
 
 -- ---- no next event, by what the state wants
 
@@ -134,25 +134,25 @@ leads_last n most terms node leads past = (Leads, (leads, past))
 pub spent : (n most terms : ℕ) (node : LoneNode)
     → WantsDraw ≡ wanted_of node.state.term node.state.phase node.state.owed → length node.events < most
     → length node.ids ≡ 0 → HasNoNext n most terms node
-spent n most terms node wants room none =
+spent n most terms node wants below_cap none =
     let w : (round : ℕ) × (node.state ≡ free node.state.term (Choosing round)) =
     wants_draw node.state.term node.state.phase node.state.owed wants in
-    (DrawsSpent, (room, (node.state.term, w.0, w.1), no_number node.ids none))
+    (DrawsSpent, (below_cap, (node.state.term, w.0, w.1), no_number node.ids none))
 
 pub no_step : (n most terms : ℕ) (node : LoneNode) (m : Load)
     → Receipt ≡ wanted_of node.state.term node.state.phase node.state.owed → length node.events < most
     → 0 < length node.input → m ≡ get_or node.input 0 m → ¬ (HasStep n node.state (Got m)) → HasNoNext n most terms node
-no_step n most terms node m wants room some first none =
+no_step n most terms node m wants below_cap some first none =
     let w : (node.state.owed ≡ None) × Receives node.state.phase =
     wants_receipt node.state.term node.state.phase node.state.owed wants in
-    (NoStep m, (room, w.0, w.1, first_load node.input m some first, none))
+    (NoStep m, (below_cap, w.0, w.1, first_load node.input m some first, none))
 
 pub quiet : (n most terms : ℕ) (node : LoneNode) → Receipt ≡ wanted_of node.state.term node.state.phase node.state.owed
     → length node.events < most → ¬ (0 < length node.input) → HasNoNext n most terms node
-quiet n most terms node wants room none =
+quiet n most terms node wants below_cap none =
     let w : (node.state.owed ≡ None) × Receives node.state.phase =
     wants_receipt node.state.term node.state.phase node.state.owed wants in
-    (Quiet, (room, w.0, w.1, no_load node.input none))
+    (Quiet, (below_cap, w.0, w.1, no_load node.input none))
 
 -- ---- the same, as the code holds the parts of a node and its state
 
@@ -165,13 +165,13 @@ pub makes_draw : (n most terms : ℕ) (state : NodeState) (ids : List ℕ) (inpu
     → length node.events < most
     → ids ≡ id ∷ rest → NodeStep n held (Draw id) after → pushed ≡ events ++ Draw id ∷ []
     → MakesOwn n most terms node (parts after rest input pushed) (Some after)
-makes_draw n most terms state ids input events node held after id rest pushed is same wants room first step more =
+makes_draw n most terms state ids input events node held after id rest pushed is same wants below_cap first step more =
     let W : NodeState → Type 0 = λ x. WantsDraw ≡ wanted_of x.term x.phase x.owed in
     let S : NodeState → Type 0 = λ x. NodeStep n x (Draw id) after in
     let N : LoneNode → Type 0 = λ x. parts after rest input pushed ≡ after_event x (Draw id) after in (
       Draw id,
       λ m e. cc,
-      next_draw n most terms node id rest after (subst W same wants) room (sym (ap (λ (x : LoneNode). x.ids) is)
+      next_draw n most terms node id rest after (subst W same wants) below_cap (sym (ap (λ (x : LoneNode). x.ids) is)
           ∙ first) (subst S same step),
       subst N is (rw (first, more) refl),
     )
@@ -182,17 +182,17 @@ pub makes_got : (n most terms : ℕ) (state : NodeState) (ids : List ℕ) (input
     → length node.events < most
     → 0 < length input → m ≡ get_or input 0 m → NodeStep n held (Got m) after → pushed ≡ events ++ Got m ∷ []
     → rest ≡ drop 1 input → MakesOwn n most terms node (parts after ids rest pushed) (Some after)
-makes_got n most terms state ids input events node held after m rest pushed is same wants room some first step more
-    behind =
+makes_got n most terms state ids input events node held after m rest pushed is same wants below_cap some first step more
+    remainder =
     let W : NodeState → Type 0 = λ x. Receipt ≡ wanted_of x.term x.phase x.owed in
     let S : NodeState → Type 0 = λ x. NodeStep n x (Got m) after in
     let F : LoneNode → Type 0 = λ x. m ≡ get_or x.input 0 m in
     let N : LoneNode → Type 0 = λ x. parts after ids rest pushed ≡ after_event x (Got m) after in (
       Got m,
       λ k e. cc,
-      next_got n most terms node m after (subst W same wants) room
+      next_got n most terms node m after (subst W same wants) below_cap
           (omega (arith, some, ap (λ (x : LoneNode). length x.input) is)) (subst F is first) (subst S same step),
-      subst N is (rw (behind, more) refl),
+      subst N is (rw (remainder, more) refl),
     )
 
 pub makes_yield : (n most terms : ℕ) (state : NodeState) (ids : List ℕ) (input : List Load) (events : List Event)
@@ -200,13 +200,13 @@ pub makes_yield : (n most terms : ℕ) (state : NodeState) (ids : List ℕ) (inp
     → parts state ids input events ≡ node → held ≡ node.state → held.term < terms → length node.events < most
     → NodeStep n held Yield after → pushed ≡ events ++ Yield ∷ []
     → MakesOwn n most terms node (parts after ids input pushed) (Some after)
-makes_yield n most terms state ids input events node held after pushed is same below room step more =
+makes_yield n most terms state ids input events node held after pushed is same below below_cap step more =
     let B : NodeState → Type 0 = λ x. x.term < terms in
     let S : NodeState → Type 0 = λ x. NodeStep n x Yield after in
     let N : LoneNode → Type 0 = λ x. parts after ids input pushed ≡ after_event x Yield after in (
       Yield,
       λ k e. cc,
-      next_yield n most terms node after (subst B same below) room (subst S same step),
+      next_yield n most terms node after (subst B same below) below_cap (subst S same step),
       subst N is (rw more refl),
     )
 
@@ -224,12 +224,12 @@ pub makes_sending : (n most terms : ℕ) (state : NodeState) (ids : List ℕ) (i
     → length node.events < most
     → NodeStep n held (Sent m) after → pushed ≡ events ++ Sent m ∷ []
     → MakesSending n most terms node (parts after ids input pushed) m
-makes_sending n most terms state ids input events node held after m pushed is same wants room step more =
+makes_sending n most terms state ids input events node held after m pushed is same wants below_cap step more =
     let W : NodeState → Type 0 = λ x. Send m ≡ wanted_of x.term x.phase x.owed in
     let S : NodeState → Type 0 = λ x. NodeStep n x (Sent m) after in
     let N : LoneNode → Type 0 = λ x. parts after ids input pushed ≡ after_event x (Sent m) after in (
       after,
-      next_sent n most terms node m after (subst W same wants) room (subst S same step),
+      next_sent n most terms node m after (subst W same wants) below_cap (subst S same step),
       subst N is (rw more refl),
     )
 
@@ -237,28 +237,28 @@ pub draws_none : (n most terms : ℕ) (state : NodeState) (ids : List ℕ) (inpu
     (node : LoneNode) (held : NodeState) → parts state ids input events ≡ node → held ≡ node.state
     → WantsDraw ≡ wanted_of held.term held.phase held.owed → length node.events < most → length ids ≡ 0
     → HasNoNext n most terms node
-draws_none n most terms state ids input events node held is same wants room none =
+draws_none n most terms state ids input events node held is same wants below_cap none =
     let W : NodeState → Type 0 = λ x. WantsDraw ≡ wanted_of x.term x.phase x.owed in
-    spent n most terms node (subst W same wants) room (omega (arith, none, ap (λ (x : LoneNode). length x.ids) is))
+    spent n most terms node (subst W same wants) below_cap (omega (arith, none, ap (λ (x : LoneNode). length x.ids) is))
 
 pub takes_none : (n most terms : ℕ) (state : NodeState) (ids : List ℕ) (input : List Load) (events : List Event)
     (node : LoneNode) (held : NodeState) (m : Load) → parts state ids input events ≡ node → held ≡ node.state
     → Receipt ≡ wanted_of held.term held.phase held.owed → length node.events < most → 0 < length input
     → m ≡ get_or input 0 m → ¬ (HasStep n held (Got m)) → HasNoNext n most terms node
-takes_none n most terms state ids input events node held m is same wants room some first none =
+takes_none n most terms state ids input events node held m is same wants below_cap some first none =
     let W : NodeState → Type 0 = λ x. Receipt ≡ wanted_of x.term x.phase x.owed in
     let S : NodeState → Type 0 = λ x. ¬ (HasStep n x (Got m)) in
     let F : LoneNode → Type 0 = λ x. m ≡ get_or x.input 0 m in
-    no_step n most terms node m (subst W same wants) room
+    no_step n most terms node m (subst W same wants) below_cap
     (omega (arith, some, ap (λ (x : LoneNode). length x.input) is)) (subst F is first) (subst S same none)
 
 pub finds_none : (n most terms : ℕ) (state : NodeState) (ids : List ℕ) (input : List Load) (events : List Event)
     (node : LoneNode) (held : NodeState) → parts state ids input events ≡ node → held ≡ node.state
     → Receipt ≡ wanted_of held.term held.phase held.owed → length node.events < most → ¬ (0 < length input)
     → HasNoNext n most terms node
-finds_none n most terms state ids input events node held is same wants room none =
+finds_none n most terms state ids input events node held is same wants below_cap none =
     let W : NodeState → Type 0 = λ x. Receipt ≡ wanted_of x.term x.phase x.owed in
-    quiet n most terms node (subst W same wants) room (λ l.
+    quiet n most terms node (subst W same wants) below_cap (λ l.
     none (omega (arith, l, ap (λ (x : LoneNode). length x.input) is)))
 
 -- ---- a node that goes on
@@ -272,12 +272,12 @@ stopped n most terms k first old new None goes made none = (
   subst (HasNoNext n most terms) (sym made.1) made.0,
 )
 
-all_behind_drop : (P : ℕ → Type 0) (e : Event) (ids : List ℕ) → All P ids → All P (drop (drawn_by e) ids)
-all_behind_drop P (Draw id) [] all = all
-all_behind_drop P (Draw id) (x ∷ xs) all = λ k d l. all (suc k) d (omega (arith, l))
-all_behind_drop P (Sent m) ids all = all
-all_behind_drop P (Got m) ids all = all
-all_behind_drop P Yield ids all = all
+all_after_drop : (P : ℕ → Type 0) (e : Event) (ids : List ℕ) → All P ids → All P (drop (drawn_by e) ids)
+all_after_drop P (Draw id) [] all = all
+all_after_drop P (Draw id) (x ∷ xs) all = λ k d l. all (suc k) d (omega (arith, l))
+all_after_drop P (Sent m) ids all = all
+all_after_drop P (Got m) ids all = all
+all_after_drop P Yield ids all = all
 
 -- what is known after an event of its own
 pub record IsFurther (n most terms : ℕ) (first old new : LoneNode) (after : NodeState) : Type 0 where
@@ -297,7 +297,7 @@ further n most terms k first old new (Some t) after goes ids made is =
       goes = (suc k, (old, goes, (t, made)));
       state = sym same ∙ sym (ap (λ (x : LoneNode). x.state) made.3);
       ids = subst P (sym (ap (λ (x : LoneNode). x.ids) made.3))
-          (all_behind_drop (λ d. (1 ≤ d) × (d ≤ n)) made.0 old.ids ids);
+          (all_after_drop (λ d. (1 ≤ d) × (d ≤ n)) made.0 old.ids ids);
       longer = omega (arith, ap (λ (x : LoneNode). length x.events) made.3, length-append old.events (made.0 ∷ []));
     }
 

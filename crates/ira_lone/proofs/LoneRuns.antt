@@ -21,7 +21,8 @@ use Rattle.ira_run.specs.declared.node_end.NodeEnd.TheVariants.{Leader, Stopped,
 use Rattle.ira_run.specs.Setup.{Setup, is_initiator, node_draws, KeepsRules}
 use Rattle.ira_run.specs.Terms.{version_of}
 use Rattle.ira_run.specs.Run.{Run}
-use Rattle.ira_run.specs.FullRun.{opening_of, events_at, drawn, AreFullLogs}
+use Rattle.ira_event.specs.Messages.{drawn}
+use Rattle.ira_run.specs.FullRun.{opening_of, events_at, AreFullLogs}
 use Rattle.ira_run.specs.ShownEnd.{Says, IsShown, IsLoneRun}
 use Rattle.ira_lone.specs.LoneNode.{LoneNode, Ends}
 use Rattle.ira_lone.specs.LoneRing.{node_at, IsReached, AreAtEnd, AreLogsOfNodes, AreEndsOfNodes}

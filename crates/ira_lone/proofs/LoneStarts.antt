@@ -7,7 +7,8 @@ use Rattle.std.proofs.lemmas.List.{get_or_append_left, get_or_read, get_or-map, 
 use Rattle.ira_node.specs.NodeState.{first_state}
 use Rattle.std.proofs.lemmas.Bool.{cases_eq}
 use Rattle.ira_run.specs.Setup.{Setup, is_initiator, node_draws, KeepsRules}
-use Rattle.ira_run.specs.FullRun.{opening_of, drawn}
+use Rattle.ira_event.specs.Messages.{drawn}
+use Rattle.ira_run.specs.FullRun.{opening_of}
 use Rattle.ira_lone.specs.LoneNode.{LoneNode}
 use Rattle.ira_lone.specs.LoneRing.{idle, node_at, IsReached}
 

@@ -16,7 +16,8 @@ use Rattle.std.proofs.lemmas.Bool.{cases_eq, cases_lt}
 use Rattle.ira_order.proofs.Runs.{next_prev, prev_next, prev_below}
 use Rattle.ira_run.specs.Setup.{Setup, node_draws}
 use Rattle.ira_run.specs.Terms.{IsLastLeader}
-use Rattle.ira_run.specs.FullRun.{opening_of, events_at, drawing, drawn, HasEvent, yields, owes, chooses, receives}
+use Rattle.ira_event.specs.Messages.{drawing, drawn}
+use Rattle.ira_run.specs.FullRun.{opening_of, events_at, HasEvent, yields, owes, chooses, receives}
 use Rattle.ira_run.specs.FullRun.{CanStep}
 use Rattle.ira_lone.specs.LoneNode.{LoneNode, IsFirst, IsNext, drawn_by, after_event, after_put}
 use Rattle.ira_lone.specs.LoneRing.{node_at, IsMoved, IsReached}
@@ -34,9 +35,9 @@ pub has_event : (n most terms : ℕ) (ids : List ℕ) (node : LoneNode) (e : Eve
     → HasEvent n terms ids node.state node.events node.input
 has_event n most terms ids node (Draw id) after step left =
     let before = drawing_chooses n node.state after id step.step in
-    chooses before.0 before.1 before.2 (unused ids (drawn node.events) node.ids id step.first.0 left step.first.1)
+    chooses before.0 before.1 before.2 (unused ids (drawn node.events) node.ids id step.first.0.0 left step.first.0.1)
 has_event n most terms ids node (Sent m) after step left = owes m (sending_owes n node.state after m step.step)
-has_event n most terms ids node (Got m) after step left = receives m step.first.0 step.first.1 (after, step.step)
+has_event n most terms ids node (Got m) after step left = receives m step.first.1.0 step.first.1.1 (after, step.step)
 has_event n most terms ids node Yield after step left =
     let leads = yielding_leads n node.state after step.step in
     elim (cases_lt node.state.term terms) [
@@ -48,7 +49,7 @@ pub can_step : (s : Setup) (run : List (ℕ × Event)) (c : Configuration) (i : 
     → c.state i ≡ node.state → c.link (prev s.nodes i) ≡ node.input → events_at run i ≡ node.events
     → ¬ (IsLastLeader s.terms node.state) → length node.events < s.cap
     → HasEvent s.nodes s.terms (node_draws s i) node.state node.events node.input → CanStep s run c i
-can_step s run c i node state link events not_last room event =
+can_step s run c i node state link events not_last below_cap event =
     let P : NodeState → Type 0 = λ x. ¬ (IsLastLeader s.terms x) in
     let Q : NodeState → Type 0 =
     λ x. HasEvent s.nodes s.terms (node_draws s i) x (events_at run i) (c.link (prev s.nodes i)) in
@@ -57,7 +58,7 @@ can_step s run c i node state link events not_last room event =
     let S : List Load → Type 0 = λ x. HasEvent s.nodes s.terms (node_draws s i) node.state node.events x in
     record {
       not_last = subst P (sym state) not_last;
-      room = omega (arith, ap length events);
+      below_cap = omega (arith, ap length events);
       event = subst Q (sym state) (subst R (sym events) (subst S (sym link) event));
     }
 
@@ -126,11 +127,11 @@ module _ (n i : ℕ) (after : NodeState) (old new : List LoneNode) where
   )
   link_step (Got m) two here moved first =
       let q : next n (prev n i) ≡ i = next_prev n i here in
-      let before : (node_at old (next n (prev n i))).input ≡ m ∷ first.0 =
-      ap (λ (k : ℕ). (node_at old k).input) q ∙ first.1 in
-      let behind : (node_at new (next n (prev n i))).input ≡ first.0 =
-      ap (λ (k : ℕ). (node_at new k).input) q ∙ ap (λ (x : LoneNode). x.input) moved.0 ∙ ap (drop 1) first.1 in (
-        before ∙ ap (λ (x : List Load). m ∷ x) (sym behind),
+      let before : (node_at old (next n (prev n i))).input ≡ m ∷ first.1.0 =
+      ap (λ (k : ℕ). (node_at old k).input) q ∙ first.1.1 in
+      let remainder : (node_at new (next n (prev n i))).input ≡ first.1.0 =
+      ap (λ (k : ℕ). (node_at new k).input) q ∙ ap (λ (x : LoneNode). x.input) moved.0 ∙ ap (drop 1) first.1.1 in (
+        before ∙ ap (λ (x : List Load). m ∷ x) (sym remainder),
         λ j lj ne. ap (λ (x : LoneNode). x.input) (moved.1 (next n j) (λ e. ne (prev_next n i j here lj e))),
       )
 
@@ -144,10 +145,10 @@ left_after : (node : LoneNode) (e : Event) (ids : List ℕ) → IsFirst node e �
     → ids ≡ drawn (node.events ++ e ∷ []) ++ drop (drawn_by e) node.ids
 left_after node (Draw id) ids first left =
     left
-    ∙ ap (λ (x : List ℕ). drawn node.events ++ x) first.1
-    ∙ sym (append_assoc (drawn node.events) (id ∷ []) first.0)
-    ∙ ap (λ (x : List ℕ). x ++ first.0) (sym (drawn_more node.events (Draw id)))
-    ∙ ap (λ (x : List ℕ). drawn (node.events ++ Draw id ∷ []) ++ x) (sym (ap (drop 1) first.1))
+    ∙ ap (λ (x : List ℕ). drawn node.events ++ x) first.0.1
+    ∙ sym (append_assoc (drawn node.events) (id ∷ []) first.0.0)
+    ∙ ap (λ (x : List ℕ). x ++ first.0.0) (sym (drawn_more node.events (Draw id)))
+    ∙ ap (λ (x : List ℕ). drawn (node.events ++ Draw id ∷ []) ++ x) (sym (ap (drop 1) first.0.1))
 left_after node (Sent m) ids first left =
     left ∙ ap (λ (x : List ℕ). x ++ node.ids) (sym (drawn_more node.events (Sent m) ∙ append-nil (drawn node.events)))
 left_after node (Got m) ids first left =
@@ -195,7 +196,7 @@ module _ (s : Setup) (old new : List LoneNode) (i : ℕ) (e : Event) (after : No
   may_step : CanStep s reached.run reached.point i
   may_step =
       can_step s reached.run reached.point i (node_at old i) (reached.states i here) (reached.links i here)
-      (reached.events i here) is_next.not_last is_next.room
+      (reached.events i here) is_next.not_last is_next.below_cap
       (has_event s.nodes s.cap s.terms (node_draws s i) (node_at old i) e after is_next (reached.draws i here))
 
   events_of : (j : ℕ) → j < s.nodes → events_at (reached.run ++ (i, e) ∷ []) j ≡ (node_at new j).events

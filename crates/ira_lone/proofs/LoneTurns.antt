@@ -8,14 +8,14 @@ use Rattle.ira_event.specs.declared.load.Load.{Load}
 use Rattle.ira_order.specs.Ring.{next}
 use Rattle.ira_order.proofs.Ranks.{next_below}
 use Rattle.ira_run.specs.Setup.{Setup, KeepsRules}
-use Rattle.ira_run.specs.FullRun.{drawn}
+use Rattle.ira_event.specs.Messages.{drawn}
 use Rattle.ira_lone.specs.LoneNode.{LoneNode, GoesToSending, after_put}
 use Rattle.ira_lone.specs.LoneRing.{idle, node_at, IsReached, IsPut, IsTurn}
 
 -- what holds of a whole list holds of its end
-all_behind : (P : ℕ → Type 0) (xs ys : List ℕ) → All P (xs ++ ys) → All P ys
-all_behind P [] ys all = all
-all_behind P (x ∷ xs) ys all = all_behind P xs ys (λ k d l. all (suc k) d (omega (arith, l)))
+all_after : (P : ℕ → Type 0) (xs ys : List ℕ) → All P (xs ++ ys) → All P ys
+all_after P [] ys all = all
+all_after P (x ∷ xs) ys all = all_after P xs ys (λ k d l. all (suc k) d (omega (arith, l)))
 
 -- a node that was read
 pub read_at : (nodes : List LoneNode) (i j : ℕ) (node : LoneNode) → i < length nodes → j ≡ i
@@ -29,7 +29,7 @@ ids_of s nodes i rules reached place =
     let P : ℕ → Type 0 = λ d. (1 ≤ d) × (d ≤ s.nodes) in
     let all : All P (drawn (node_at nodes i).events ++ (node_at nodes i).ids) =
     subst (All P) (reached.draws i place) (rules.ids i place) in
-    all_behind P (drawn (node_at nodes i).events) (node_at nodes i).ids all
+    all_after P (drawn (node_at nodes i).events) (node_at nodes i).ids all
 
 -- the same of a node that was read
 pub ids_left : (s : Setup) (nodes : List LoneNode) (i j n : ℕ) (node : LoneNode) → KeepsRules s → IsReached s nodes
@@ -62,23 +62,23 @@ next_is n i x l (inr w) = w.1 ∙ sym (next_last n i (omega (arith, w.0)))
 goes_from : (s : Setup) (nodes : List LoneNode) (i j n most terms : ℕ) (node new : LoneNode) (sent : Option Load)
     → i < length nodes → j ≡ i → n ≡ s.nodes → most ≡ s.cap → terms ≡ s.terms → node ≡ get_or nodes j node
     → GoesToSending n most terms node new sent → GoesToSending s.nodes s.cap s.terms (node_at nodes i) new sent
-goes_from s nodes i j n most terms node new sent l is size room last read goes =
+goes_from s nodes i j n most terms node new sent l is size below_cap last read goes =
     let P : ℕ → Type 0 = λ x. GoesToSending x most terms node new sent in
     let Q : ℕ → Type 0 = λ x. GoesToSending s.nodes x terms node new sent in
     let T : ℕ → Type 0 = λ x. GoesToSending s.nodes s.cap x node new sent in
     let R : LoneNode → Type 0 = λ x. GoesToSending s.nodes s.cap s.terms x new sent in
-    subst R (read_at nodes i j node l is read) (subst T last (subst Q room (subst P size goes)))
+    subst R (read_at nodes i j node l is read) (subst T last (subst Q below_cap (subst P size goes)))
 
 pub turn_ended : (s : Setup) (nodes : List LoneNode) (i j n most terms : ℕ) (node new : LoneNode) (sent : Option Load)
     → i < length nodes → j ≡ i → n ≡ s.nodes → most ≡ s.cap → terms ≡ s.terms → node ≡ get_or nodes j node
     → GoesToSending n most terms node new sent
     → sent ≡ None → IsTurn s.nodes s.cap s.terms i nodes (set nodes j new) None
-turn_ended s nodes i j n most terms node new sent l is size room last read goes none =
+turn_ended s nodes i j n most terms node new sent l is size below_cap last read goes none =
     let P : ℕ → Type 0 = λ x. IsTurn s.nodes s.cap s.terms i nodes (set nodes x new) None in
     subst P (sym is) record {
       node = new;
       goes = subst (λ (x : Option Load). GoesToSending s.nodes s.cap s.terms (node_at nodes i) new x) none
-          (goes_from s nodes i j n most terms node new sent l is size room last read goes);
+          (goes_from s nodes i j n most terms node new sent l is size below_cap last read goes);
       put = (get_or-set_same nodes i new idle l, λ k ne. get_or-set_other nodes i k new idle ne);
       many = length-set nodes i new;
     }
@@ -113,7 +113,8 @@ pub turn_sent : (s : Setup) (nodes : List LoneNode) (i j n most terms : ℕ) (no
     → (((i + 1 < n) × (next_place ≡ i + 1)) ⊎ ((n ≤ i + 1) × (next_place ≡ 0))) → second_place ≡ next_place
     → second ≡ get_or (set nodes j new) second_place second → new2 ≡ after_put second m
     → IsTurn s.nodes s.cap s.terms i nodes (set (set nodes j new) second_place new2) (Some m)
-turn_sent s nodes i j n most terms node new sent next_place second_place second new2 m rules reached l is size room last
+turn_sent s nodes i j n most terms node new sent next_place second_place second new2 m rules reached l is size
+    below_cap last
     read goes some how second_is read2 put =
     let N : ℕ → Type 0 = λ x. ((i + 1 < x) × (next_place ≡ i + 1)) ⊎ ((x ≤ i + 1) × (next_place ≡ 0)) in
     let here : i < s.nodes = omega (arith, l, reached.many) in
@@ -123,7 +124,7 @@ turn_sent s nodes i j n most terms node new sent next_place second_place second 
     subst P (sym is) record {
       node = new;
       goes = subst (λ (x : Option Load). GoesToSending s.nodes s.cap s.terms (node_at nodes i) new x) some
-          (goes_from s nodes i j n most terms node new sent l is size room last read goes);
+          (goes_from s nodes i j n most terms node new sent l is size below_cap last read goes);
       put = sent_to s nodes i second_place new second new2 m rules.size.0 reached.many here place (subst Q is read2)
           put;
       many = length-set (set nodes i new) second_place new2 ∙ length-set nodes i new;

@@ -1,4 +1,4 @@
--- Turn after turn: the nodes below the least one have nothing to do, and there is less and less room.
+-- Turn after turn: the nodes below the least one have nothing to do, and there is less and less below_cap.
 use Rattle.std.proofs.Common.{◌≡◌, ◌≢◌, ℕ, zero, suc, ◌+◌, ◌-◌, ◌*◌, ◌<◌, ◌≤◌, inl, inr, Option, Some, None, List, []}
 use Rattle.std.proofs.Common.{◌∷◌, ◌++◌, length, refl, sym, ◌∙◌, subst, ap, length-append, arith}
 use Rattle.std.specs.List.{sum_by}
@@ -10,7 +10,7 @@ use Rattle.ira_event.specs.declared.event.Event.TheVariants.{Draw, Sent, Got, Yi
 use Rattle.ira_event.specs.declared.load.Load.{Load}
 use Rattle.ira_node.specs.declared.node_state.NodeState.{NodeState}
 use Rattle.ira_order.specs.Ring.{next}
-use Rattle.ira_run.specs.FullRun.{drawn}
+use Rattle.ira_event.specs.Messages.{drawn}
 use Rattle.ira_lone.specs.LoneNode.{LoneNode, IsNext, HasNoNext, SendsNothing, MakesOwn, MakesSending, GoesTo}
 use Rattle.ira_lone.specs.LoneNode.{after_event, after_put}
 use Rattle.ira_lone.specs.LoneRing.{idle, node_at, IsMoved, IsPut, IsTurn, IsLeastAfter, IsReached}
@@ -29,7 +29,7 @@ still_ended n most terms i m after old new moved far ended j l =
     let above : next n i ≡ i + 1 = next_above n i far in
     subst P (sym (moved.2 j (omega arith) (omega arith))) (ended j l)
 
--- ---- the room
+-- ---- the below_cap
 
 -- how many events the nodes may still make
 abbrev pub room_in : ℕ → List LoneNode → ℕ
@@ -78,7 +78,7 @@ less_room n most terms i e after old new here many is_next moved =
     let node_is = own n i after old new e moved in
     let longer : length (node_at new i).events ≡ length (node_at old i).events + 1 =
     ap (λ (x : LoneNode). length x.events) node_is ∙ length-append (node_at old i).events (e ∷ []) in
-    sum_less (λ node. most - length node.events) old new i many here (omega (arith, is_next.room, longer))
+    sum_less (λ node. most - length node.events) old new i many here (omega (arith, is_next.below_cap, longer))
     (λ j ne. omega (arith, ap length (apart n i after old new e moved j ne).events))
 
 -- ---- the measure
@@ -133,7 +133,7 @@ pub record IsWay (s : Setup) (old new : List LoneNode) (i : ℕ) (node : LoneNod
   pub many : length new ≡ length old
   pub here : node_at new i ≡ node
   pub others : (j : ℕ) → j ≢ i → node_at new j ≡ node_at old j
-  pub room : room_in s.cap new ≤ room_in s.cap old
+  pub below_cap : room_in s.cap new ≤ room_in s.cap old
 
 moved_own : (n i : ℕ) (e : Event) (after : NodeState) (old new : List LoneNode) → SendsNothing e
     → node_at new i ≡ after_event (node_at old i) e after → ((j : ℕ) → j ≢ i → node_at new j ≡ node_at old j)
@@ -146,7 +146,7 @@ moved_own n i (Sent m) after old new nothing here others = absurd (nothing m ref
 way : (s : Setup) (old : List LoneNode) (i k : ℕ) (node : LoneNode) → KeepsRules s → IsReached s old → i < s.nodes
     → GoesTo s.nodes s.cap s.terms k (node_at old i) node → (new : List LoneNode) × IsWay s old new i node
 way s old i zero node rules reached l goes =
-    (old, record { reached = reached; many = refl; here = sym goes; others = λ j ne. refl; room = omega arith })
+    (old, record { reached = reached; many = refl; here = sym goes; others = λ j ne. refl; below_cap = omega arith })
 way s old i (suc k) node rules reached l goes =
     let before = way s old i k goes.0 rules reached l goes.1 in
     let mid : List LoneNode = before.0 in
@@ -169,9 +169,9 @@ way s old i (suc k) node rules reached l goes =
         many = many ∙ w.many;
         here = here;
         others = λ j ne. others j ne ∙ w.others j ne;
-        room = omega (
+        below_cap = omega (
           arith,
-          w.room,
+          w.below_cap,
           less_room s.nodes s.cap s.terms i made.0 goes.2.0 before.0 (set before.0 i node)
               (omega (arith, w.many, reached.many)) many is_next moved,
         );
@@ -202,7 +202,7 @@ room_same most old new many same =
 
 less_past : (n most : ℕ) (old new : List LoneNode) (least : ℕ) → room_in most new ≤ room_in most old → least < n
     → measure n most new (least + 1) < measure n most old least
-less_past n most old new least room l = elim (cases_eq (room_in most new) (room_in most old)) [
+less_past n most old new least below_cap l = elim (cases_eq (room_in most new) (room_in most old)) [
   | inl e ↦ (let P : ℕ → Type 0 = λ a. room_in most new * (n + 1) + (n - (least + 1)) < a * (n + 1) + (n - least) in
       subst P e (omega arith))
   | inr ne ↦ less_measure n most old new least (least + 1) (omega arith)
@@ -210,7 +210,7 @@ less_past n most old new least room l = elim (cases_eq (room_in most new) (room_
 
 le_measure : (n most : ℕ) (old new : List LoneNode) (least : ℕ) → room_in most new ≤ room_in most old
     → measure n most new least ≤ measure n most old least
-le_measure n most old new least room = elim (cases_eq (room_in most new) (room_in most old)) [
+le_measure n most old new least below_cap = elim (cases_eq (room_in most new) (room_in most old)) [
   | inl e ↦ (let P : ℕ → Type 0 = λ a. room_in most new * (n + 1) + (n - least) ≤ a * (n + 1) + (n - least) in
       subst P e (omega arith))
   | inr ne ↦ (let less = less_measure n most old new least least (omega arith) in omega (arith, less))
@@ -241,7 +241,7 @@ module _ (s : Setup) (old new : List LoneNode) (least : ℕ)
           | inr ne ↦ subst (HasNoNext s.nodes s.cap s.terms) (sym (put.1 j ne)) (ended j (omega arith))
         ];
         less = less_past s.nodes s.cap old new least
-            (omega (arith, w.room, room_same s.cap before.0 new (many ∙ sym w.many) same)) here;
+            (omega (arith, w.below_cap, room_same s.cap before.0 new (many ∙ sym w.many) same)) here;
       }
 
   moves_on : (node mid : LoneNode) (m : Load) (k after : ℕ) → GoesTo s.nodes s.cap s.terms k (node_at old least) mid
@@ -266,7 +266,7 @@ module _ (s : Setup) (old new : List LoneNode) (least : ℕ)
         reached = on.reached;
         within = on.within;
         ended = on.ended;
-        less = omega (arith, on.less, le_measure s.nodes s.cap old before.0 least w.room);
+        less = omega (arith, on.less, le_measure s.nodes s.cap old before.0 least w.below_cap);
       }
 
   pub turns_on : (sent : Option Load) (after : ℕ) → IsTurn s.nodes s.cap s.terms least old new sent
@@ -276,19 +276,19 @@ module _ (s : Setup) (old new : List LoneNode) (least : ℕ)
       moves_on turn.node turn.goes.0 m turn.goes.1.0 after turn.goes.1.1 turn.goes.2 turn.put turn.many is
 
 -- the same where the setup is read at each turn
-pub record IsOnward (first before behind : Setup) (old new : List LoneNode) (least after : ℕ) : Type 0 where
-  pub setup : behind ≡ first
-  pub reached : IsReached behind new
-  pub within : after ≤ behind.nodes
-  pub ended : (j : ℕ) → j < after → HasNoNext behind.nodes behind.cap behind.terms (node_at new j)
-  pub less : measure behind.nodes behind.cap new after < measure before.nodes before.cap old least
+pub record IsOnward (first before rest : Setup) (old new : List LoneNode) (least after : ℕ) : Type 0 where
+  pub setup : rest ≡ first
+  pub reached : IsReached rest new
+  pub within : after ≤ rest.nodes
+  pub ended : (j : ℕ) → j < after → HasNoNext rest.nodes rest.cap rest.terms (node_at new j)
+  pub less : measure rest.nodes rest.cap new after < measure before.nodes before.cap old least
 
-pub onward : (first before behind : Setup) (n : ℕ) (old new : List LoneNode) (least after : ℕ) (sent : Option Load)
-    → KeepsRules first → before ≡ first → behind ≡ before → n ≡ first.nodes → IsReached before old
+pub onward : (first before rest : Setup) (n : ℕ) (old new : List LoneNode) (least after : ℕ) (sent : Option Load)
+    → KeepsRules first → before ≡ first → rest ≡ before → n ≡ first.nodes → IsReached before old
     → least < n → ((j : ℕ) → j < least → HasNoNext before.nodes before.cap before.terms (node_at old j))
     → IsTurn before.nodes before.cap before.terms least old new sent → IsLeastAfter n least sent after
-    → IsOnward first before behind old new least after
-onward first before behind n old new least after sent rules same still size reached here ended turn is =
+    → IsOnward first before rest old new least after
+onward first before rest n old new least after sent rules same still size reached here ended turn is =
     let n_is : n ≡ before.nodes = size ∙ ap (λ (s : Setup). s.nodes) (sym same) in
     let P : ℕ → Type 0 = λ x. IsLeastAfter x least sent after in
     let on : IsOn before old new least after =

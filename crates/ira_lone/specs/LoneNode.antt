@@ -1,8 +1,10 @@
 -- Helpers, no definitions: what the lone runner keeps of a node, and what it does with it.
 use Rattle.std.specs.Prelude.{◌≡◌, ◌≢◌, ℕ, zero, suc, ◌<◌, ◌≤◌, List, [], ◌∷◌, ◌++◌, Option, None, Some, length, drop}
+use Rattle.std.specs.Prelude.{cond, is_some}
 use Rattle.ira_event.specs.declared.load.Load.{Load}
 use Rattle.ira_event.specs.declared.event.Event.{Event}
-use Rattle.ira_event.specs.declared.event.Event.TheVariants.{Draw, Sent, Got, Yield}
+use Rattle.ira_event.specs.declared.event.Event.TheVariants.{Sent, Got}
+use Rattle.ira_event.specs.Messages.{drawing, receipt}
 use Rattle.ira_node.specs.declared.node_state.NodeState.{NodeState}
 use Rattle.ira_node.specs.NodeState.{Receives}
 use Rattle.ira_node.specs.NodeStep.{NodeStep, HasStep}
@@ -19,17 +21,19 @@ pub record LoneNode : Type 0 where
   pub input : List Load
   pub events : List Event
 
+-- what is taken off the list, if something is, stands first on it
+abbrev pub IsHead : {A : Type 0} → List A → Option A → Type 0
+IsHead {A} xs (Some x) = (rest : List A) × (xs ≡ x ∷ rest)
+IsHead {A} xs None = Unit {0}
+
 -- an ID that is drawn is the first one left, and a load that is received is the first one on the link
 abbrev pub IsFirst : LoneNode → Event → Type 0
-IsFirst node (Draw id) = (rest : List ℕ) × (node.ids ≡ id ∷ rest)
-IsFirst node (Sent l) = Unit {0}
-IsFirst node (Got l) = (rest : List Load) × (node.input ≡ l ∷ rest)
-IsFirst node Yield = Unit {0}
+IsFirst node e = IsHead node.ids (drawing e) × IsHead node.input (receipt e)
 
 -- the node's next event in a ring of n nodes and a run of so many terms, and the state after it
 pub record IsNext (n most terms : ℕ) (node : LoneNode) (event : Event) (after : NodeState) : Type 0 where
   pub not_last : ¬ (IsLastLeader terms node.state)
-  pub room : length node.events < most
+  pub below_cap : length node.events < most
   pub step : NodeStep n node.state event after
   pub first : IsFirst node event
 
@@ -52,16 +56,10 @@ HasNoNext n most terms node = (end : NodeEnd) × Ends n most terms node end
 
 -- how many of the IDs left an event draws, and how many of the loads it takes
 abbrev pub drawn_by : Event → ℕ
-drawn_by (Draw id) = 1
-drawn_by (Sent l) = 0
-drawn_by (Got l) = 0
-drawn_by Yield = 0
+drawn_by e = cond (is_some (drawing e)) 1 0
 
 abbrev pub taken_by : Event → ℕ
-taken_by (Draw id) = 0
-taken_by (Sent l) = 0
-taken_by (Got l) = 1
-taken_by Yield = 0
+taken_by e = cond (is_some (receipt e)) 1 0
 
 -- the node after an event
 abbrev pub after_event : LoneNode → Event → NodeState → LoneNode

@@ -3,7 +3,6 @@ use Rattle.std.specs.Prelude.{◌≡◌, ◌≢◌, ℕ, ◌+◌, ◌<◌, ◌�
 use Rattle.std.specs.Prelude.{slice_index_or}
 use Rattle.ira_event.specs.declared.load.Load.{Load}
 use Rattle.ira_event.specs.declared.event.Event.{Event}
-use Rattle.ira_event.specs.declared.event.Event.TheVariants.{Draw, Sent, Got, Yield}
 use Rattle.ira_event.specs.Log.{Log}
 use Rattle.ira_node.specs.declared.node_state.NodeState.{NodeState}
 use Rattle.ira_node.specs.NodeState.{first_state}
@@ -12,7 +11,8 @@ use Rattle.ira_order.specs.Run.{Configuration}
 use Rattle.ira_run.specs.declared.node_end.NodeEnd.{NodeEnd}
 use Rattle.ira_run.specs.Setup.{Setup, is_initiator, node_draws}
 use Rattle.ira_run.specs.Terms.{version_of}
-use Rattle.ira_run.specs.FullRun.{opening_of, events_at, drawn, Walks}
+use Rattle.ira_event.specs.Messages.{drawn, sending}
+use Rattle.ira_run.specs.FullRun.{opening_of, events_at, Walks}
 use Rattle.ira_lone.specs.LoneNode.{LoneNode, Ends, HasNoNext, GoesToSending, after_event, after_put}
 
 -- a node that has done nothing and has nothing to do
@@ -23,20 +23,6 @@ idle = record { state = first_state false; ids = []; input = []; events = [] }
 abbrev pub node_at : List LoneNode → ℕ → LoneNode
 node_at nodes i = slice_index_or nodes i idle
 
--- all nodes but node i, and but the next one where the event is a sending, are as they were, and these
--- two are as the event makes them
-abbrev pub IsMoved : ℕ → ℕ → Event → NodeState → List LoneNode → List LoneNode → Type 0
-IsMoved n i (Sent l) after old new =
-    (node_at new i ≡ after_event (node_at old i) (Sent l) after)
-    × (node_at new (next n i) ≡ after_put (node_at old (next n i)) l)
-    × ((j : ℕ) → j ≢ i → j ≢ next n i → node_at new j ≡ node_at old j)
-IsMoved n i (Draw id) after old new =
-    (node_at new i ≡ after_event (node_at old i) (Draw id) after) × ((j : ℕ) → j ≢ i → node_at new j ≡ node_at old j)
-IsMoved n i (Got l) after old new =
-    (node_at new i ≡ after_event (node_at old i) (Got l) after) × ((j : ℕ) → j ≢ i → node_at new j ≡ node_at old j)
-IsMoved n i Yield after old new =
-    (node_at new i ≡ after_event (node_at old i) Yield after) × ((j : ℕ) → j ≢ i → node_at new j ≡ node_at old j)
-
 -- node i becomes this one, the load sent is last on the link that leads to the next one, and all else
 -- is as it was
 abbrev pub IsPut : ℕ → ℕ → Option Load → LoneNode → List LoneNode → List LoneNode → Type 0
@@ -45,6 +31,11 @@ IsPut n i (Some l) node old new =
     (node_at new i ≡ node)
     × (node_at new (next n i) ≡ after_put (node_at old (next n i)) l)
     × ((j : ℕ) → j ≢ i → j ≢ next n i → node_at new j ≡ node_at old j)
+
+-- node i has made the event, which led it to this state: what it sends is last on the link that leads to the next node,
+-- and all else is as it was
+abbrev pub IsMoved : ℕ → ℕ → Event → NodeState → List LoneNode → List LoneNode → Type 0
+IsMoved n i e after old new = IsPut n i (sending e) (after_event (node_at old i) e after) old new
 
 -- what a turn of node i does: its events up to its next sending, where there is one
 pub record IsTurn (n most terms i : ℕ) (old new : List LoneNode) (sent : Option Load) : Type 0 where

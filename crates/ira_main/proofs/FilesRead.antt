@@ -24,23 +24,23 @@ pub reads_both : {S : Type 0} (reads : Reading S) (names more : List (List ℕ))
     (texts others : List (List ℕ))
     → ReadsFiles reads names shelf texts → ReadsFiles reads more shelf others
     → ReadsFiles reads (names ++ more) shelf (texts ++ others)
-reads_both reads [] more shelf [] others none behind = behind
-reads_both reads [] more shelf (t ∷ ts) others none behind = absurd none
-reads_both reads (n ∷ ns) more shelf [] others none behind = absurd none
-reads_both reads (n ∷ ns) more shelf (t ∷ ts) others front behind =
-    (front.0, reads_both reads ns more shelf ts others front.1 behind)
+reads_both reads [] more shelf [] others none rest = rest
+reads_both reads [] more shelf (t ∷ ts) others none rest = absurd none
+reads_both reads (n ∷ ns) more shelf [] others none rest = absurd none
+reads_both reads (n ∷ ns) more shelf (t ∷ ts) others front rest =
+    (front.0, reads_both reads ns more shelf ts others front.1 rest)
 
 -- the fault of some files is one of these and those after them
-pub of_front : {S : Type 0} (reads : Reading S) (names behind : List (List ℕ)) (shelf : S) (f : ProgramFault)
-    → IsFilesFault reads names shelf f → IsFilesFault reads (names ++ behind) shelf f
-of_front reads names behind shelf f (inr full) = inr full
-of_front reads names behind shelf f (inl stop) =
+pub of_front : {S : Type 0} (reads : Reading S) (names rest : List (List ℕ)) (shelf : S) (f : ProgramFault)
+    → IsFilesFault reads names shelf f → IsFilesFault reads (names ++ rest) shelf f
+of_front reads names rest shelf f (inr full) = inr full
+of_front reads names rest shelf f (inl stop) =
     inl (record {
       front = stop.front;
       name = stop.name;
-      back = stop.back ++ behind;
-      parts = sym (append_assoc stop.front (file_name stop.name ∷ stop.back) behind)
-          ∙ ap (λ ns. ns ++ behind) stop.parts;
+      back = stop.back ++ rest;
+      parts = sym (append_assoc stop.front (file_name stop.name ∷ stop.back) rest)
+          ∙ ap (λ ns. ns ++ rest) stop.parts;
       texts = stop.texts;
       given = stop.given;
       why = stop.why;

@@ -18,14 +18,14 @@ abbrev pub IsShare : {S A E : Type 0} → Reading S → S → List (List ℕ) �
 IsShare reads shelf names share = IfOk share (λ share. HasRead reads names shelf share.read share.audit)
 
 -- what stands after a chunk is what stands after as many names as it has
-behind : (size : ℕ) (names : List FileName) → drop (length (take size names)) names ≡ drop size names
-behind zero names = refl
-behind (suc size) [] = refl
-behind (suc size) (n ∷ ns) = behind size ns
+rest : (size : ℕ) (names : List FileName) → drop (length (take size names)) names ≡ drop size names
+rest zero names = refl
+rest (suc size) [] = refl
+rest (suc size) (n ∷ ns) = rest size ns
 
-pub behind_chunk : (size k : ℕ) (names : List FileName)
+pub after_chunk : (size k : ℕ) (names : List FileName)
     → drop (k + length (take size (drop k names))) names ≡ drop size (drop k names)
-behind_chunk size k names = sym (drop-drop (length (take size (drop k names))) k names) ∙ behind size (drop k names)
+after_chunk size k names = sym (drop-drop (length (take size (drop k names))) k names) ∙ rest size (drop k names)
 
 taken_within : (size : ℕ) (names : List FileName) → length (take size names) ≤ length names
 taken_within zero names = omega arith
@@ -59,8 +59,8 @@ chunk_shares Came size names (share ∷ shares) few each =
       first,
       chunk_shares Came size (drop size names) shares fewer (λ n d lt.
           let at : suc n * size ≡ size + n * size = omega (arith, suc-mul n size) in
-          let behind = ap (λ k. drop k names) at ∙ sym (drop-drop (n * size) size names) in
-          subst (λ ns. Came (names_of (take size ns)) (get_or shares n d)) behind (each (suc n) d (omega (arith, lt)))),
+          let rest = ap (λ k. drop k names) at ∙ sym (drop-drop (n * size) size names) in
+          subst (λ ns. Came (names_of (take size ns)) (get_or shares n d)) rest (each (suc n) d (omega (arith, lt)))),
     )
 
 -- the files of all names but those left were read and their texts taken; the others' shares are left
@@ -108,9 +108,9 @@ module _ {S R : Type 0} (reads : Reading S) (Came : List (List ℕ) → R → Ty
         → IsFilesFault reads (names_of names) shelf f
     gathering_fault f fault =
         let all = of_front reads (names_of (take size left)) (names_of (drop size left)) shelf f fault in
-        let behind = of_back reads h.done (names_of (take size left) ++ names_of (drop size left)) shelf h.taken.0 f
+        let rest = of_back reads h.done (names_of (take size left) ++ names_of (drop size left)) shelf h.taken.0 f
         h.taken.2 all in
-        subst (λ ns. IsFilesFault reads ns shelf f) (ap (λ ns. h.done ++ ns) both ∙ h.parts) behind
+        subst (λ ns. IsFilesFault reads ns shelf f) (ap (λ ns. h.done ++ ns) both ∙ h.parts) rest
 
   -- all shares
   pub gathered : (left : List FileName) (audit : RingAudit) (shares : List R)

@@ -5,7 +5,7 @@ ghost use Rattle.ira_files.specs.ReadText.{IsReadOnce, IsReadTo};
 
 use ira_audit::{Answer, LogAudit};
 use ira_event::MAX_TEXT;
-use ira_files::{CountingReader, ShelfFault, read_behind};
+use ira_files::{CountingReader, ShelfFault, read_after};
 use std::alloc::Allocator;
 use std::io::Read;
 use std::marker::Model;
@@ -19,7 +19,7 @@ const WINDOW: usize = 65_536;
 struct InputAudit<A: Allocator> {
     audit: LogAudit,
     /// What was read and not taken by the audit, and after it what is no part of the text.
-    room: Vec<u8, A>,
+    buffer: Vec<u8, A>,
     /// How many bytes were read and not taken.
     filled: usize,
 }
@@ -31,10 +31,10 @@ impl<A: Allocator> Model for InputAudit<A> {
 
     ghost Value = { InputAudit };
 
-    ghost view = { λ i. record { audit = i.audit; bytes = take i.filled i.room.items; room = length i.room.items } };
+    ghost view = { λ i. record { audit = i.audit; bytes = take i.filled i.buffer.items; buffer = length i.buffer.items } };
 
-    ghost invariant = { λ i. (i.filled ≤ length i.room.items) × (0 < length i.room.items)
-        × (i.audit.taken + length i.room.items ≤ MAX_TEXT + 1) };
+    ghost invariant = { λ i. (i.filled ≤ length i.buffer.items) × (0 < length i.buffer.items)
+        × (i.audit.taken + length i.buffer.items ≤ MAX_TEXT + 1) };
 }
 
 impl<A: Allocator> InputAudit<A> {
@@ -45,13 +45,13 @@ impl<A: Allocator> InputAudit<A> {
         ensures read { IfOk result (λ it. HasReadText it []) }
         ensures fault { IfErr result (λ f. f ≡ ShelfFault.OutOfMemory) }
     {
-        let mut room = Vec::new(alloc);
-        if room.resize(WINDOW, 0).is_err() {
+        let mut buffer = Vec::new(alloc);
+        if buffer.resize(WINDOW, 0).is_err() {
             return Err(ShelfFault::OutOfMemory);
         }
         Ok(InputAudit {
             audit: LogAudit::new(),
-            room,
+            buffer,
             filled: 0,
         })
     }
@@ -63,36 +63,36 @@ impl<A: Allocator> InputAudit<A> {
         self.audit.taken() + self.filled
     }
 
-    /// Makes room for more of the text where there is none: what the audit takes goes, and where it takes nothing the
-    /// room is made twice as long.
+    /// Makes buffer for more of the text where there is none: what the audit takes goes, and where it takes nothing the
+    /// buffer is made twice as long.
     fn make_room(&mut self) -> Result<(), ShelfFault>
         requires { bytes_read self.old ≤ MAX_TEXT }
         ensures read { OnOk result ((text : List ℕ) → HasReadText self.old text → HasReadText self.new text) }
-        ensures room { OnOk result (length self.new.bytes < self.new.room) }
+        ensures buffer { OnOk result (length self.new.bytes < self.new.buffer) }
         ensures len { OnOk result (bytes_read self.new ≡ bytes_read self.old) }
         ensures fault { IfErr result (λ f. f ≡ ShelfFault.OutOfMemory) }
     {
-        if self.filled < self.room.len() {
+        if self.filled < self.buffer.len() {
             return Ok(());
         }
-        let taken = self.audit.take(&self.room);
-        self.room.copy_within(taken.., 0);
+        let taken = self.audit.feed(&self.buffer);
+        self.buffer.copy_within(taken.., 0);
         self.filled -= taken;
         let size = if taken > 0 {
-            self.room.len()
+            self.buffer.len()
         } else {
-            2 * self.room.len()
+            2 * self.buffer.len()
         };
         let most = MAX_TEXT + 1 - self.audit.taken();
-        if self.room.resize(size.min(most), 0).is_err() {
+        if self.buffer.resize(size.min(most), 0).is_err() {
             return Err(ShelfFault::OutOfMemory);
         }
         Ok(())
     }
 
-    /// Reads once, where there is room.
+    /// Reads once, where there is buffer.
     fn read<I: Read>(&mut self, input: &mut CountingReader<I>) -> Result<(), ShelfFault>
-        requires room { length self.old.bytes < self.old.room }
+        requires buffer { length self.old.bytes < self.old.buffer }
         requires open { input.old.is_over ≡ false }
         ensures once { OnOk result ((bytes : List ℕ) × IsReadOnce input.old input.new bytes
             × (bytes_read self.new ≡ bytes_read self.old + length bytes)
@@ -102,7 +102,7 @@ impl<A: Allocator> InputAudit<A> {
         ensures device { result ≡ Err ShelfFault.Device
             → (input.new.has_failed ≡ true) × (input.new.is_over ≡ true) }
     {
-        self.filled += read_behind(input, &mut self.room, self.filled)?;
+        self.filled += read_after(input, &mut self.buffer, self.filled)?;
         Ok(())
     }
 
@@ -111,7 +111,7 @@ impl<A: Allocator> InputAudit<A> {
         ensures answer { (text : List ℕ) → HasReadText self text → IsLogTextAnswer text result }
         ensures reportable { (text : List ℕ) → HasReadText self text → IsReportable result }
     {
-        self.audit.finish(&self.room[..self.filled])
+        self.audit.finish(&self.buffer[..self.filled])
     }
 }
 

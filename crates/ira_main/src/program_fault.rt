@@ -116,7 +116,7 @@ impl<'a> ProgramFault<'a> {
                 write_file_named(b"ira: would overwrite ", *name, err)
             }
             ProgramFault::CannotWrite(name) => {
-                write_named(b"ira: cannot write ", name.as_bytes(), &line_end(), err)
+                write_named(b"ira: cannot write ", name.as_bytes(), &line_feed(), err)
             }
             ProgramFault::CertificatePastLimits => {
                 write_bytes(b"ira: certificate past the limits\n", err)
@@ -128,7 +128,7 @@ impl<'a> ProgramFault<'a> {
 }
 
 // The end of a line that names a file.
-fn line_end() -> Line
+fn line_feed() -> Line
     ensures { result ≡ codes "\n" }
 {
     let mut line = Line::new();
@@ -176,7 +176,7 @@ fn write_file_named<V: Sink>(
     ensures { Wrote result (before.now ++ file_name name.entry ++ codes "\n") (V.state err.old) (V.state err.new) }
 {
     match name {
-        FileName::Given(name) => write_named(before, name.as_bytes(), &line_end(), err),
+        FileName::Given(name) => write_named(before, name.as_bytes(), &line_feed(), err),
         FileName::Log(folder, place) => {
             write_named(before, folder.as_bytes(), &log_in_folder(place), err)
         }

@@ -69,9 +69,9 @@ module _ {X : Type 0} (h : X → Option File) (xs : List X) (i : ℕ) (d : X) (n
       (one (h (get_or xs i d)) other))
 
 -- the first of a list is the first after files of other names
-pub first_behind : (a b : List File) (name bytes : List ℕ) → All (λ file. file.name ≢ name) a → HasFirst b name bytes
+pub first_after : (a b : List File) (name bytes : List ℕ) → All (λ file. file.name ≢ name) a → HasFirst b name bytes
     → HasFirst (a ++ b) name bytes
-first_behind a b name bytes none h = record {
+first_after a b name bytes none h = record {
   before = a ++ h.before;
   after = h.after;
   parts =

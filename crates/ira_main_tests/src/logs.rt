@@ -133,7 +133,7 @@ fn files_that_cannot_be_read(rt: HostRuntime) {
 }
 
 #[test]
-fn names_behind_dashes(rt: HostRuntime) {
+fn names_after_dashes(rt: HostRuntime) {
     let files = [
         ("-0.log", File::Text(ELECTED_0)),
         ("--", File::Text(ELECTED_1)),

@@ -108,7 +108,7 @@ fn logs_with_another_fault(rt: HostRuntime) {
 }
 
 #[test]
-fn difference_behind_what_is_kept(rt: HostRuntime) {
+fn difference_after_what_is_kept(rt: HostRuntime) {
     // the receipt that differs is given up for want of the sending before it
     let first =
         "irlog 1\nnodes 2\nplace 0\nstart passive\nrecv 1 1 1 clean\nsend 1 1 2 clean\nend 2\n";

@@ -317,7 +317,7 @@ fn each_growth_is_refused(rt: HostRuntime) {
 
 /// Whether the program says that it can't write its answer to a sink that takes as many bytes as these, and has
 /// written these. The logs of a run and those of an upgrade are in their files then; `decide` makes none.
-fn is_cut_behind(
+fn is_cut_after(
     rt: &(impl Abort + AllocGlobal + Threads + Wait + Clock + Sync),
     case: &Case,
     taken: &[u8],
@@ -340,7 +340,7 @@ fn answer_cut_at_each_byte(rt: HostRuntime) {
         let out = case.out.as_bytes();
         for k in 0..out.len() {
             assert!(rt;
-                is_cut_behind(&rt, case, &out[..k]),
+                is_cut_after(&rt, case, &out[..k]),
                 "{k} bytes of {}",
                 case.out
             );

@@ -12,12 +12,12 @@ use Rattle.ira_event.specs.declared.log_fault.LogFault.TheVariants as fault
 use Rattle.ira_event.specs.declared.log_head.LogHead.{LogHead}
 use Rattle.ira_event.specs.Log.{Log, IsLog}
 use Rattle.ira_event.specs.LogTextFault.{BeginsWithHead, BeginsWithRecords, HasNoLineFeed, LineFault, LogTextFault}
-use Rattle.ira_event.specs.LogTextFault.{OpeningFault, RecordsFault, RestFault, behind_head, no_line, other_count}
+use Rattle.ira_event.specs.LogTextFault.{OpeningFault, RecordsFault, RestFault, past_head, no_line, other_count}
 use Rattle.ira_event.specs.LogTextFault.{out_of_range, too_many, trailing}
 use Rattle.ira_event.specs.NextLine.{at_line, cut}
 use Rattle.ira_event.specs.Records.{HasRead, IsAtEnd, ReadsOn, ReadsRecord, RecordsLeft}
 use Rattle.ira_event.proofs.LogAnswers.{log_of, log_read, opening_fault}
-use Rattle.ira_event.proofs.LogReading.{behind_all}
+use Rattle.ira_event.proofs.LogReading.{after_all}
 use Rattle.ira_mend.specs.RecordedLogs.{AreRecorded, AreRecordedTexts, HasReadLines, IsRecordedReason, IsRecordedText}
 use Rattle.ira_mend.specs.RecordedLogs.{ReadsWholeLine, no_log}
 use Rattle.ira_audit.specs.Report.{IsReportableReason}
@@ -61,7 +61,7 @@ pub lines_read : (text : List ℕ) (events : List Event) (old new : RecordsLeft)
     → HasRead text events old → ReadsWholeLine old new (Ok r) → r ≡ None → HasReadLines old.version text events
 lines_read text events old new r read h is = elim (read_last old new r h is) [
   | inl end ↦
-      let all = behind_all text events old read end in
+      let all = after_all text events old read end in
       record { tail = all.end ++ codes "\n"; begins = all.begins; ends = inl (all.end, all.end_is, refl) }
   | inr piece ↦ record { tail = old.rest; begins = read.0; ends = inr piece }
 ]
@@ -104,7 +104,7 @@ pub lines_not_recorded : (text : List ℕ) (head : LogHead) (rest : List ℕ) (v
     ⊎ (RecordsFault v rest f × (f ≢ fault.Cut)) → (f ≡ fault.OutOfMemory) ⊎ (LogTextFault text f × (f ≢ fault.Cut))
 lines_not_recorded text head rest v f few a same (inl full) = inl full
 lines_not_recorded text head rest v f few a same (inr bad) =
-    inr (inr (few, behind_head head rest a (subst (λ (w : ℕ). RecordsFault w rest f) same bad.0)), bad.1)
+    inr (inr (few, past_head head rest a (subst (λ (w : ℕ). RecordsFault w rest f) same bad.0)), bad.1)
 
 -- ---- texts that are taken one by one
 

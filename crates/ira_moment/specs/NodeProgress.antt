@@ -1,9 +1,8 @@
 -- How far a node has come along its log.
-use Rattle.std.specs.Prelude.{◌≡◌, ◌⊎◌, ℕ, zero, suc, ◌+◌, ◌≤◌, Bool, true, false, count_by, length, take}
+use Rattle.std.specs.Prelude.{◌≡◌, ◌⊎◌, ℕ, zero, suc, ◌+◌, ◌≤◌, Bool, count_by, is_some, length, take}
 use Rattle.ira_event.specs.declared.event.Event.{Event}
-use Rattle.ira_event.specs.declared.event.Event.TheVariants.{Draw, Sent, Got, Yield}
 use Rattle.ira_event.specs.Log.{Log}
-use Rattle.ira_event.specs.Messages.{sent, got}
+use Rattle.ira_event.specs.Messages.{drawing, sent, got}
 use Rattle.ira_node.specs.declared.node_state.NodeState.{NodeState}
 use Rattle.ira_node.specs.NodeState.{first_state}
 use Rattle.ira_replay.specs.LocalRun.{LeadsTo}
@@ -24,10 +23,7 @@ IsNumberBelow P (suc n) k = (P n × ((j : ℕ) × IsNumberBelow P n j × (k ≡ 
 
 -- the event is a draw
 abbrev pub is_draw : Event → Bool
-is_draw (Draw id) = true
-is_draw (Sent l) = false
-is_draw (Got l) = false
-is_draw Yield = false
+is_draw e = is_some (drawing e)
 
 -- where the node has come after its first a events
 pub record IsProgress (log : Log) (a : ℕ) (p : NodeProgress) : Type 0 where

@@ -1,4 +1,4 @@
-ghost use Rattle.std.specs.Prelude.{◌≡◌, ◌↔◌, ◌≤◌, ℕ, None, MatchResult, OnErr};
+ghost use Rattle.std.specs.Prelude.{◌≡◌, ◌↔◌, ◌≤◌, ℕ, None, MatchResult, OnErr, IfOk, map};
 ghost use Rattle.ira_event.specs.Limits.{MAX_NUMBER};
 ghost use Rattle.ira_event.specs.RingSize.{IsRingSize};
 ghost use Rattle.ira_node.specs.NodeState.{first_state, free, IsLeader};
@@ -10,7 +10,8 @@ ghost use Rattle.ira_node.specs.Wanted.{wanted_of, IsOfKind, CanCome};
 use crate::phase::Phase;
 use crate::step_fault::StepFault;
 use crate::wanted::Wanted;
-use ira_event::{Event, Load, MAX_NUMBER, Msg, RingSize};
+use ira_event::{Event, Load, Logs, MAX_NUMBER, Msg, OutOfMemory, RingSize};
+use std::alloc::Allocator;
 use std::cmp::Ordering;
 
 /// The state of one node: what it is doing, what it has to send next, if it owes something, and the
@@ -33,6 +34,21 @@ impl NodeState {
         } else {
             Phase::Passive
         })
+    }
+
+    /// The first state of each node of a ring.
+    pub fn first_of_each<A: Allocator, L: Allocator>(
+        alloc: A,
+        logs: &Logs<L>,
+    ) -> Result<Vec<NodeState, A>, OutOfMemory>
+        ensures { IfOk result (λ states. states.items ≡ map (λ log. first_state log.initiator) logs.now) }
+    {
+        let size = logs.size().get();
+        let mut states = Vec::with_capacity(alloc, usize::from(size))?;
+        for place in 0..size {
+            states.push(NodeState::first(logs.log(place).initiator()))?;
+        }
+        Ok(states)
     }
 
     /// The kind of event that can have a step.

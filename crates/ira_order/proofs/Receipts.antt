@@ -133,7 +133,7 @@ numbers_end es n numbers past h =
 -- the next event of those ahead
 pub next_ahead : (es : List Event) (n : ℕ) (e : Event) (rest : List Event) → e ∷ rest ≡ drop n es
     → (slice_get es n ≡ Some e) × (rest ≡ drop (n + 1) es)
-next_ahead es n e rest is = (at es n is, rw (add-one n) (behind es n is))
+next_ahead es n e rest is = (at es n is, rw (add-one n) (after es n is))
   where
     at : (es : List Event) (n : ℕ) → e ∷ rest ≡ drop n es → slice_get es n ≡ Some e
     at [] zero is = cc
@@ -141,11 +141,11 @@ next_ahead es n e rest is = (at es n is, rw (add-one n) (behind es n is))
     at (d ∷ es) zero is = cc
     at (d ∷ es) (suc n) is = at es n is
 
-    behind : (es : List Event) (n : ℕ) → e ∷ rest ≡ drop n es → rest ≡ drop (suc n) es
-    behind [] zero is = cc
-    behind [] (suc n) is = cc
-    behind (d ∷ es) zero is = cc
-    behind (d ∷ es) (suc n) is = behind es n is
+    after : (es : List Event) (n : ℕ) → e ∷ rest ≡ drop n es → rest ≡ drop (suc n) es
+    after [] zero is = cc
+    after [] (suc n) is = cc
+    after (d ∷ es) zero is = cc
+    after (d ∷ es) (suc n) is = after es n is
 
 pub none_ahead : (es : List Event) (n : ℕ) → [] ≡ drop n es → length es ≤ n
 none_ahead [] n is = omega arith

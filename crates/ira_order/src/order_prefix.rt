@@ -23,7 +23,7 @@ pub(crate) struct OrderPrefix<A: Allocator> {
 }
 
 impl<A: Allocator> OrderPrefix<A> {
-    /// A beginning that no event may come behind. Whether the logs match doesn't matter here.
+    /// A beginning that no event may come after. Whether the logs match doesn't matter here.
     pub(crate) fn longest(alloc: A, logs: &Logs<A>) -> Result<OrderPrefix<A>, AllocError>
     where
         A: Clone,
@@ -55,7 +55,7 @@ impl<A: Allocator> OrderPrefix<A> {
 
     /// Adds the events of a node as far as they may come. The node before it makes none meanwhile, so
     /// the number of its sendings stays.
-    fn run(&mut self, logs: &Logs<A>, i: u8) -> Result<(), AllocError>
+    fn advance_node(&mut self, logs: &Logs<A>, i: u8) -> Result<(), AllocError>
         requires prefix { IsOrderPrefix logs.now self.old.tally.done.items self.old.tally.sent.items
             self.old.tally.got.items self.old.places.items }
         requires place { i < length logs.now }
@@ -94,7 +94,7 @@ impl<A: Allocator> OrderPrefix<A> {
         Ok(())
     }
 
-    /// Runs each node in turn. After the first round a node can get on only after the one before it,
+    /// Advances each node in turn. After the first round a node can get on only after the one before it,
     /// and node 0 only after the last one; so every node gets on in each round but the first and the
     /// last two, and the rounds cost no more than the events and a few times the nodes.
     fn round(&mut self, logs: &Logs<A>) -> Result<(), AllocError>
@@ -109,7 +109,7 @@ impl<A: Allocator> OrderPrefix<A> {
             → IsStuckAt logs.now (occurrences self.new.places.items) i) }
     {
         for i in 0..logs.size().get() {
-            self.run(logs, i)?;
+            self.advance_node(logs, i)?;
         }
         Ok(())
     }

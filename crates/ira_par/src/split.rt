@@ -13,7 +13,7 @@ use crate::shares::judge_batch;
 use crate::tables::{case_tables, profiled_tables};
 use crate::task::Task;
 use crate::unsound_section::UnsoundSection;
-use ira_cert::{Profiles, Section, Verdict, case_fronts, check_fronts, profiled_fronts};
+use ira_cert::{Profiles, Section, Verdict, case_queues, check_queues, profiled_queues};
 use ira_event::{Logs, OutOfMemory};
 use ira_links::Gate;
 use ira_order::{HappenedBefore, Ordered};
@@ -60,9 +60,9 @@ where
         ((result ≡ Ok (Verdict.No f)) ↔ IsSectionFault logs.now case.now section.now f) }
 {
     if depth == 0 {
-        let fronts = case_fronts(alloc, logs, case)?;
+        let queues = case_queues(alloc, logs, case)?;
         gate.pass(rt, 0);
-        return Ok(check_fronts(ordered, fronts, section));
+        return Ok(check_queues(ordered, queues, section));
     }
     let tables = case_tables(alloc.clone()?, logs, case)?;
     let mut tasks = Vec::new(alloc.clone()?);
@@ -146,9 +146,9 @@ where
 {
     let nodes = ordered.logs().size();
     for section in 0..cases.len() {
-        let fronts = profiled_fronts(alloc.clone()?, nodes, profiles, &cases[section])?;
+        let queues = profiled_queues(alloc.clone()?, nodes, profiles, &cases[section])?;
         gate.pass(rt, 0);
-        if let Verdict::No(fault) = check_fronts(ordered, fronts, &sections[section]) {
+        if let Verdict::No(fault) = check_queues(ordered, queues, &sections[section]) {
             return Ok(Some(UnsoundSection { section, fault }));
         }
     }

@@ -54,12 +54,12 @@ module _ (log : Log) (n : ℕ) (s : NodeState) (e : Event) (reached : Reaches lo
       }
 
 -- without a stop the events lead to the last state
-pub still_going : (log : Log) (n : ℕ) (end : NodeState) (stop : Option ReplayFault) → false ≡ is_some stop
-    → IsReplayed log n end stop → Reaches log n end
+pub still_going : (log : Log) (n : ℕ) (end : NodeState) (first_fault : Option ReplayFault) → false ≡ is_some first_fault
+    → IsReplayed log n end first_fault → Reaches log n end
 still_going log n end None none is = is
 still_going log n end (Some f) none is = (let no : ⊥ = cc in absurd no)
 
-pub goes_on : (log : Log) (n : ℕ) (end : NodeState) (stop : Option ReplayFault) → false ≡ is_some stop
-    → Reaches log n end → IsReplayed log n end stop
+pub goes_on : (log : Log) (n : ℕ) (end : NodeState) (first_fault : Option ReplayFault) → false ≡ is_some first_fault
+    → Reaches log n end → IsReplayed log n end first_fault
 goes_on log n end None none reached = reached
 goes_on log n end (Some f) none reached = (let no : ⊥ = cc in absurd no)

@@ -6,7 +6,7 @@ use Rattle.ira_node.specs.declared.node_state.NodeState.{NodeState}
 use Rattle.ira_node.specs.NodeState.{first_state}
 use Rattle.ira_replay.specs.declared.replay_fault.ReplayFault.{ReplayFault}
 use Rattle.ira_replay.specs.LocalRun.{IsFirstFault, LeadsTo}
-use Rattle.ira_evidence.specs.Stop.{Rises}
+use Rattle.ira_evidence.specs.FaultyEvent.{Rises}
 use Rattle.ira_picture.specs.declared.after.After.{After}
 use Rattle.ira_picture.specs.declared.after.After.TheVariants.{NoStep, State, Unknown}
 use Rattle.ira_picture.specs.declared.mark.Mark.{Mark}
@@ -43,6 +43,6 @@ pub record AreMarks (log : Log) (columns : List ℕ) (w : Window) (n : ℕ) (mar
 
 -- the last state that is known after n events, and the first event without a step among them
 abbrev pub IsReplayed : Log → ℕ → NodeState → Option ReplayFault → Type 0
-IsReplayed log n end stop =
-    MatchOption stop (Reaches log n end)
+IsReplayed log n end first_fault =
+    MatchOption first_fault (Reaches log n end)
     (λ f. IsFirstFault log f × (f.position ≤ n) × Reaches log (f.position - 1) end)

@@ -13,13 +13,13 @@ pub record Drawn : Type 0 where
   pub events : ℕ
   pub marks : List Mark
   pub end : NodeState
-  pub stop : Option ReplayFault
+  pub first_fault : Option ReplayFault
 
 -- it is what is drawn of the node of this log
 pub record IsDrawnOf (log : Log) (columns : List ℕ) (w : Window) (d : Drawn) : Type 0 where
   pub events : d.events ≡ length log.events
   pub marks : AreMarks log columns w (length log.events) d.marks
-  pub replayed : IsReplayed log (length log.events) d.end d.stop
+  pub replayed : IsReplayed log (length log.events) d.end d.first_fault
 
 -- that of each node
 pub record AreLanes (logs : List Log) (table : List (List ℕ)) (w : Window) (ds : List Drawn) : Type 0 where

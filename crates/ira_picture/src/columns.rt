@@ -94,7 +94,7 @@ fn event_after<A: Allocator>(log: &NodeLog<A>, done: usize) -> Option<Event> {
 
 /// What columns are given to.
 #[derive(Drop)]
-struct Run<'a, L: Allocator, T: Allocator> {
+struct ColumnPass<'a, L: Allocator, T: Allocator> {
     logs: &'a Logs<L>,
     traffic: &'a [Traffic<T>],
     /// How many events of each node get a column, where not all do.
@@ -105,7 +105,7 @@ struct Run<'a, L: Allocator, T: Allocator> {
     ghost cut_of_all: { ForSome cut (λ c. length c.now ≡ length logs.now) },
 }
 
-impl<L: Allocator, T: Allocator> Run<'_, L, T> {
+impl<L: Allocator, T: Allocator> ColumnPass<'_, L, T> {
     /// How many events of a node get a column.
     fn end(&self, place: u8) -> usize
         requires { place < length self.now.logs.now }
@@ -138,7 +138,11 @@ impl<L: Allocator, T: Allocator> Run<'_, L, T> {
     }
 
     /// Gives columns to the events of a node as far as they may come. Says whether there were any.
-    fn run<A: Allocator>(&self, nodes: &mut [Progress<A>], place: u8) -> Result<bool, OutOfMemory>
+    fn advance_node<A: Allocator>(
+        &self,
+        nodes: &mut [Progress<A>],
+        place: u8,
+    ) -> Result<bool, OutOfMemory>
         requires place { place < length self.now.logs.now }
         requires nodes { length nodes.old ≡ length self.now.logs.now }
         ensures { length nodes.new ≡ length nodes.old }
@@ -161,7 +165,7 @@ impl<L: Allocator, T: Allocator> Run<'_, L, T> {
     {
         let mut further = false;
         for place in 0..self.logs.size().get() {
-            if self.run(nodes, place)? {
+            if self.advance_node(nodes, place)? {
                 further = true;
             }
         }
@@ -173,22 +177,13 @@ impl<L: Allocator, T: Allocator> Run<'_, L, T> {
         requires { length nodes.old ≡ length self.now.logs.now }
         ensures { length nodes.new ≡ length nodes.old }
     {
-        for _ in 0..=number_of_events(self.logs) {
+        for _ in 0..=self.logs.number_of_events() {
             if !self.round(nodes)? {
                 break;
             }
         }
         Ok(())
     }
-}
-
-/// How many events logs have.
-fn number_of_events<L: Allocator>(logs: &Logs<L>) -> usize {
-    let mut events = 0usize;
-    for place in 0..logs.size().get() {
-        events = events.saturating_add(logs.log(place).len());
-    }
-    events
 }
 
 /// The last column of all.
@@ -268,7 +263,7 @@ impl<A: Allocator + Clone> Columns<A> {
         ensures { IfOk result (λ columns. length columns.nodes ≡ length logs.now) }
     {
         let mut nodes = starts(alloc.clone()?, logs.size().get())?;
-        Run {
+        ColumnPass {
             logs,
             traffic,
             cut,
@@ -279,7 +274,7 @@ impl<A: Allocator + Clone> Columns<A> {
         if cut.is_some() {
             let base = last_column(&nodes).saturating_add(1);
             line = Some(base);
-            Run {
+            ColumnPass {
                 logs,
                 traffic,
                 cut: None,

@@ -26,7 +26,7 @@ pub struct Lane<A: Allocator> {
     /// Its last state that is known.
     pub end: NodeState,
     /// Its first event without a step.
-    pub stop: Option<ReplayFault>,
+    pub first_fault: Option<ReplayFault>,
 }
 
 /// How far a log was replayed.
@@ -36,19 +36,19 @@ struct Replay {
     /// The last state that is known.
     end: NodeState,
     /// The first event without a step.
-    stop: Option<ReplayFault>,
+    first_fault: Option<ReplayFault>,
 }
 
 impl Replay {
     /// Before the first event.
     fn start<L: Allocator>(log: &NodeLog<L>) -> Replay
         ensures events { result.events ≡ 0 }
-        ensures replayed { IsReplayed log.now 0 result.end result.stop }
+        ensures replayed { IsReplayed log.now 0 result.end result.first_fault }
     {
         Replay {
             events: 0,
             end: NodeState::first(log.initiator()),
-            stop: None,
+            first_fault: None,
         }
     }
 
@@ -56,22 +56,22 @@ impl Replay {
     fn advance<L: Allocator>(&mut self, log: &NodeLog<L>) -> (Event, After)
         requires within { self.old.events < length log.now.events }
         requires room { self.old.events + 1 < 2 ^ 32 }
-        requires replayed { IsReplayed log.now self.old.events self.old.end self.old.stop }
+        requires replayed { IsReplayed log.now self.old.events self.old.end self.old.first_fault }
         ensures events { self.new.events ≡ self.old.events + 1 }
-        ensures replayed { IsReplayed log.now (self.old.events + 1) self.new.end self.new.stop }
+        ensures replayed { IsReplayed log.now (self.old.events + 1) self.new.end self.new.first_fault }
         ensures event { slice_get log.now.events self.old.events ≡ Some result.0 }
         ensures known { IsKnown log.now (self.old.events + 1) result.1 }
     {
         let position = self.events + 1;
         let event = log.event(position);
         self.events = position;
-        if self.stop.is_some() {
+        if self.first_fault.is_some() {
             return (event, After::Unknown);
         }
         match self.end.advance(log.nodes(), &event) {
             Ok(()) => (event, After::State(self.end)),
             Err(fault) => {
-                self.stop = Some(ReplayFault { position, fault });
+                self.first_fault = Some(ReplayFault { position, fault });
                 (event, After::NoStep)
             }
         }
@@ -96,7 +96,7 @@ impl<A: Allocator> Lane<A> {
         ensures events { IfOk result (λ lane. lane.events ≡ length log.now.events) }
         ensures marks { IfOk result
             (λ lane. AreMarks log.now columns.now window (length log.now.events) lane.marks.items) }
-        ensures end { IfOk result (λ lane. IsReplayed log.now (length log.now.events) lane.end lane.stop) }
+        ensures end { IfOk result (λ lane. IsReplayed log.now (length log.now.events) lane.end lane.first_fault) }
     {
         let mut replay = Replay::start(log);
         let mut start = After::State(replay.end);
@@ -124,7 +124,7 @@ impl<A: Allocator> Lane<A> {
             debts,
             events: replay.events,
             end: replay.end,
-            stop: replay.stop,
+            first_fault: replay.first_fault,
         })
     }
 }

@@ -266,7 +266,7 @@ fn lanes_of_ring<A: Allocator + Clone, L: Allocator>(
           events = lane.events;
           marks = lane.marks.items;
           end = lane.end;
-          stop = lane.stop;
+          first_fault = lane.first_fault;
         }) lanes.items)) }
 {
     let size = logs.size().get();
@@ -312,7 +312,7 @@ impl<A: Allocator + Clone> Picture<A> {
               events = lane.events;
               marks = lane.marks.items;
               end = lane.end;
-              stop = lane.stop;
+              first_fault = lane.first_fault;
             }) picture.lanes.items)) }
     {
         let traffic = traffic_of_ring(alloc.clone()?, logs)?;

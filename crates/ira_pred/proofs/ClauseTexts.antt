@@ -5,7 +5,7 @@ use Rattle.std.specs.Prelude.{codes, decimal}
 use Rattle.std.proofs.lemmas.Bool.Decides.{nat_tests}
 use Rattle.std.proofs.lemmas.Option.{same_Some}
 use Rattle.ira_event.specs.Numeral.{IsNumeral}
-use Rattle.ira_event.specs.Scan.{kept, after_word, behind}
+use Rattle.ira_event.specs.Scan.{kept, after_word, then_or}
 use Rattle.ira_event.proofs.Numerals.{NoDigit}
 use Rattle.ira_event.proofs.RecordLines.{kept-again}
 use Rattle.ira_event.proofs.Spelled.{numeral_is_decimal, decimal_is_numeral}
@@ -105,8 +105,8 @@ no-not (negated a) text more h = rw h.1 refl
 opened-again : (d : ℕ) (x : List ℕ) (r : Formula × List ℕ) → after_word (codes "(not ") (codes "(" ++ x) ≡ None
     → joined_at (clause_at d) x ≡ Some r → clause_at (suc d) (codes "(" ++ x) ≡ Some r
 opened-again d x r begins is =
-    ap (λ o. behind o (negated_at (clause_at d))
-    (behind (after_word (codes "(") (codes "(" ++ x)) (joined_at (clause_at d)) (atom_at (codes "(" ++ x)))) begins
+    ap (λ o. then_or o (negated_at (clause_at d))
+    (then_or (after_word (codes "(") (codes "(" ++ x)) (joined_at (clause_at d)) (atom_at (codes "(" ++ x)))) begins
     ∙ is
 
 both-again : (inner : List ℕ → Option (Formula × List ℕ)) (a b : Formula) (left right rest : List ℕ)

@@ -19,7 +19,7 @@ use Rattle.ira_pred.specs.QuestionLines.{LinesLeft, ReadsLine, ClauseFault, AreA
 use Rattle.ira_pred.specs.QuestionScan.{head_at, place_at}
 use Rattle.ira_pred.specs.QuestionText.{IsClauseText, IsQuestionText}
 use Rattle.ira_pred.specs.QuestionTextFault.{IsTooDeep, Spot, CaseLineFault, NextLineFault, BeginsWithQuestionHead}
-use Rattle.ira_pred.specs.QuestionTextFault.{CasesFault, before_cases, QuestionTextFault, no_head, behind_head}
+use Rattle.ira_pred.specs.QuestionTextFault.{CasesFault, before_cases, QuestionTextFault, no_head, past_head}
 use Rattle.ira_pred.proofs.CaseReading.{HasRead, begins_case, more_asked, more_cases, all_cases, case_refused}
 use Rattle.ira_pred.proofs.CaseReading.{line_shorter}
 use Rattle.ira_pred.proofs.Depths.{deepest, too_deep_exactly}
@@ -87,9 +87,9 @@ complete_fault text fault = by_end (position (λ c. nat_eq c 10) text) refl
     by_end None e = (Cut, cut_here _ text Cut e refl)
     by_end (Some i) e = (fault, line_here _ text i fault e (λ more. refl))
 
-behind_place_fault : (number : ℕ) (text : List ℕ) → (f : AskFault)
+after_place_fault : (number : ℕ) (text : List ℕ) → (f : AskFault)
     × NextLineFault (λ line more g. ClauseFault (Line number) number line g) text f
-behind_place_fault number text = by_end (position (λ c. nat_eq c 10) text) refl
+after_place_fault number text = by_end (position (λ c. nat_eq c 10) text) refl
   where
     by_depth : (i : ℕ) → position (λ c. nat_eq c 10) text ≡ Some i → IsTooDeep (take i text)
         ⊎ (¬ (IsTooDeep (take i text))) → (f : AskFault)
@@ -129,14 +129,14 @@ module _ (nodes : ℕ) (text : List ℕ) (small : nodes
     no_clause_here : Follows nodes cs place
         → ((g : Formula) (line more : List ℕ) → t ≡ line ++ codes "\n" ++ more → depth g ≤ 32 → IsClauseText line g → ⊥)
         → CasesAnswer nodes text
-    no_clause_here may none = let d = behind_place_fault number t in
+    no_clause_here may none = let d = after_place_fault number t in
         refused d.0 (fault_clause nodes here rest place t read small d.0 may none d.1)
 
-    by_feed : (f : Formula) (behind : List ℕ) (o : Option (List ℕ)) → Follows nodes cs place
-        → clause_at 32 t ≡ Some (f, behind) → after_word (codes "\n") behind ≡ o → CasesAnswer nodes text
-    by_feed f behind None may is e = no_clause_here may (no_line_read t (f, behind) is e)
-    by_feed f behind (Some after) may is e =
-        let r = clause_read nodes rest place t (f, behind) after read small may.0 is e in
+    by_feed : (f : Formula) (remainder : List ℕ) (o : Option (List ℕ)) → Follows nodes cs place
+        → clause_at 32 t ≡ Some (f, remainder) → after_word (codes "\n") remainder ≡ o → CasesAnswer nodes text
+    by_feed f remainder None may is e = no_clause_here may (no_line_read t (f, remainder) is e)
+    by_feed f remainder (Some after) may is e =
+        let r = clause_read nodes rest place t (f, remainder) after read small may.0 is e in
         let line : ReadsLine (left_of rest number) (left_of after (number + 1)) r.line =
         record { rest = r.parts; number = refl } in
         let shorter = line_shorter (left_of rest number) (left_of after (number + 1)) r.line line in
@@ -218,7 +218,7 @@ module _ (text : List ℕ) (short : length text ≤ 67108864) where
       → TextAnswer text
   by_cases nodes rest h (inl a) =
       inl (asked_of nodes a.0, question_read text nodes nodes rest (left_of rest 3) a.0 short h refl refl a.1)
-  by_cases nodes rest h (inr d) = inr (d.0, inr (short, behind_head nodes rest h d.1))
+  by_cases nodes rest h (inr d) = inr (d.0, inr (short, past_head nodes rest h d.1))
 
   by_size : (p : ℕ × List ℕ) → head_at text ≡ Some p → IsRingSize p.0 ⊎ (¬ (IsRingSize p.0)) → TextAnswer text
   by_size p e (inl size) = by_cases p.0 p.1 (head_found text p.0 p.1 e size)

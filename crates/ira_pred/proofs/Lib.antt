@@ -1,6 +1,6 @@
 pub mod CaseReading
 pub mod ClauseTexts
-pub mod ClausesTaken
+pub mod ClausesScanned
 pub mod Depths
 pub mod EachText
 pub mod Meanings

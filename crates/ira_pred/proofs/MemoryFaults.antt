@@ -6,7 +6,7 @@ use Rattle.ira_pred.specs.declared.ask_fault.AskFault.TheVariants as fault
 use Rattle.ira_pred.specs.QuestionLaws.{NoTextIsOutOfMemory}
 use Rattle.ira_pred.specs.QuestionTextFault.{FirstLineFault, no_case, other_line, Spot, spot, CaseLineFault, empty}
 use Rattle.ira_pred.specs.QuestionTextFault.{too_many, no_place, wrong_place, too_deep, no_clause, trailing, CasesFault}
-use Rattle.ira_pred.specs.QuestionTextFault.{before_cases, in_case, QuestionLinesFault, no_head, behind_head}
+use Rattle.ira_pred.specs.QuestionTextFault.{before_cases, in_case, QuestionLinesFault, no_head, past_head}
 
 -- a fault of what the text says
 abbrev IsOfText : AskFault → Type 0
@@ -35,7 +35,7 @@ cases_fault nodes text f (in_case cases conjuncts rest b h) =
 
 lines_memory : (text : List ℕ) → QuestionLinesFault text fault.OutOfMemory → ⊥
 lines_memory text (no_head a e) = absurd cc
-lines_memory text (behind_head nodes rest b h) = cases_fault nodes rest fault.OutOfMemory h
+lines_memory text (past_head nodes rest b h) = cases_fault nodes rest fault.OutOfMemory h
 
 pub not_out_of_memory : NoTextIsOutOfMemory
 not_out_of_memory text (inl a) = absurd cc

@@ -19,7 +19,7 @@ use Rattle.ira_pred.specs.QuestionTextFault.{IsTooDeep, Spot, MayFollow, FirstLi
 use Rattle.ira_pred.specs.QuestionTextFault.{CaseLineFault, empty, too_many, no_place, wrong_place, too_deep, no_clause}
 use Rattle.ira_pred.specs.QuestionTextFault.{trailing, NextLineFault, BeginsWithQuestionHead, BeginsInCase, spot}
 use Rattle.ira_pred.specs.QuestionTextFault.{CasesFault, before_cases, in_case, QuestionLinesFault, no_head}
-use Rattle.ira_pred.specs.QuestionTextFault.{behind_head, QuestionTextFault}
+use Rattle.ira_pred.specs.QuestionTextFault.{past_head, QuestionTextFault}
 use Rattle.ira_pred.proofs.QuestionTexts.{placed_same, case_unplaced, end_unplaced}
 use Rattle.ira_pred.proofs.Walks.{Reading, Walk, Stops, walks_same, ReadsOn, reads_on, faults_stop, end_stops}
 
@@ -298,7 +298,7 @@ head_of text q h = record {
 no_lines_fault : (text : List ℕ) (q : QuestionCases) (f : AskFault) → IsQuestionText text q → QuestionLinesFault text f
     → ⊥
 no_lines_fault text q f h (no_head none is) = none q.nodes (h.cases ++ codes "end\n") (head_of text q h)
-no_lines_fault text q f h (behind_head nodes rest b cf) =
+no_lines_fault text q f h (past_head nodes rest b cf) =
     let s = heads_same text nodes q.nodes rest (h.cases ++ codes "end\n") b (head_of text q h) in
     let moved = subst (λ w. CasesFault q.nodes w f) s.1 (subst (λ n. CasesFault n rest f) s.0 cf) in
     no_cases_fault q.nodes h.cases q.cases f h.valid.some h.valid.count h.valid.cases_are h.cases_are moved
@@ -311,9 +311,9 @@ question_or_fault text q f h (inr lines) = no_lines_fault text q f h lines.1
 
 lines_faults_same : (text : List ℕ) (f g : AskFault) → QuestionLinesFault text f → QuestionLinesFault text g → f ≡ g
 lines_faults_same text f g (no_head a p) (no_head b q) = p ∙ sym q
-lines_faults_same text f g (no_head a p) (behind_head n rest b cf) = absurd (a n rest b)
-lines_faults_same text f g (behind_head n rest b cf) (no_head a p) = absurd (a n rest b)
-lines_faults_same text f g (behind_head n rest b cf) (behind_head m rest' b' cg) =
+lines_faults_same text f g (no_head a p) (past_head n rest b cf) = absurd (a n rest b)
+lines_faults_same text f g (past_head n rest b cf) (no_head a p) = absurd (a n rest b)
+lines_faults_same text f g (past_head n rest b cf) (past_head m rest' b' cg) =
     let s = heads_same text n m rest rest' b b' in
     cases_faults_same m rest' f g (subst (λ w. CasesFault m w f) s.1 (subst (λ k. CasesFault k rest f) s.0 cf)) cg
 

@@ -29,7 +29,7 @@ use Rattle.ira_pred.specs.QuestionText.{IsClauseText, IsPlaced, IsConjunctLine}
 use Rattle.ira_pred.specs.QuestionTextFault.{IsTooDeep, Spot, MayFollow, FirstLineFault, no_case, other_line}
 use Rattle.ira_pred.specs.QuestionTextFault.{CaseLineFault, empty, too_many, no_place, wrong_place, too_deep, no_clause}
 use Rattle.ira_pred.specs.QuestionTextFault.{trailing, NextLineFault}
-use Rattle.ira_pred.proofs.ClausesTaken.{clause-takes, clause_in_range}
+use Rattle.ira_pred.proofs.ClausesScanned.{clause-takes, clause_in_range}
 use Rattle.ira_pred.proofs.ClauseTexts.{clause-again}
 use Rattle.ira_pred.proofs.Depths.{clause_too_deep}
 
@@ -115,15 +115,15 @@ unplaced : (text line more : List ℕ) → place_at text ≡ None → text ≡ l
 unplaced text line more none p n t h = let e = sym none ∙ ap place_at p ∙ place-again line n t more h in absurd cc
 
 -- the next line's fault, seen from after its place
-behind_place : (F G : List ℕ → List ℕ → AskFault
+past_place : (F G : List ℕ → List ℕ → AskFault
     → Type 0) (text : List ℕ) (place : ℕ) (rest : List ℕ) (f : AskFault) (t : Placed text place rest)
     → ((line more : List ℕ) → rest ≡ line ++ codes "\n" ++ more → IsPlaced (t.number ++ codes ": " ++ line) t.n line
     → F line more f → G (t.number ++ codes ": " ++ line) more f)
     → NextLineFault F rest f → NextLineFault G text f
-behind_place F G text place rest f t step (cut whole is) =
+past_place F G text place rest f t step (cut whole is) =
     let front = Lacks-append 10 t.number (codes ": ") (Lacks-numeral 10 t.number t.n (omega arith) t.is) refl in
     cut (subst (Lacks 10) (sym t.parts) (Lacks-append 10 (t.number ++ codes ": ") rest front whole)) is
-behind_place F G text place rest f t step (at_line line more p whole h) =
+past_place F G text place rest f t step (at_line line more p whole h) =
     let front = Lacks-append 10 t.number (codes ": ") (Lacks-numeral 10 t.number t.n (omega arith) t.is) refl in
     let parts : text ≡ (t.number ++ codes ": " ++ line) ++ codes "\n" ++ more =
     t.parts ∙ ap (λ w. t.number ++ codes ": " ++ w) p ∙ simp append_assoc in
@@ -179,7 +179,7 @@ module _ (nodes : ℕ) (at : Spot) (text : List ℕ) where
         let t = place-takes text place rest read in
         let wrong : ¬ (MayFollow nodes at t.n) = λ may. let same : t.n ≡ place =
         omega (arith, small, may.0, t.kept_is) in bad (subst (Follows nodes at.conjuncts) same may) in
-        behind_place _ _ text place rest f t (λ line more p placed is. wrong_place t.n line placed wrong is) h
+        past_place _ _ text place rest f t (λ line more p placed is. wrong_place t.n line placed wrong is) h
 
     pub fault_clause : (f : AskFault) → Follows nodes at.conjuncts place
         → ((g : Formula) (line more : List ℕ) → rest ≡ line ++ codes "\n" ++ more → depth g ≤ 32 → IsClauseText line g
@@ -188,7 +188,7 @@ module _ (nodes : ℕ) (at : Spot) (text : List ℕ) where
         let t = place-takes text place rest read in
         let same : place ≡ t.n = omega (arith, small, may.0, t.kept_is) in
         let follows : MayFollow nodes at t.n = subst (Follows nodes at.conjuncts) same may in
-        behind_place _ _ text place rest f t (λ line more p placed h.
+        past_place _ _ text place rest f t (λ line more p placed h.
         by_depth t.n (t.number ++ codes ": " ++ line) line more p placed follows h) h
       where
         by_depth : (n : ℕ) (line0 line more : List ℕ) → rest ≡ line ++ codes "\n" ++ more → IsPlaced line0 n line
@@ -206,7 +206,7 @@ module _ (nodes : ℕ) (at : Spot) (text : List ℕ) where
         let follows : MayFollow nodes at t.n = subst (Follows nodes at.conjuncts) same may in
         elim (end_or_depth at.number rest f OutOfMemory h) [
           | inl none ↦ inl none
-          | inr deep ↦ inr (behind_place _ _ text place rest f t (λ line more p placed h.
+          | inr deep ↦ inr (past_place _ _ text place rest f t (λ line more p placed h.
               too_deep t.n line placed follows h.0 h.1) deep)
         ]
 
@@ -303,16 +303,17 @@ pub gives_nothing : {X Y : Type 0} (view : X → Y) (o : Option X) (scanned : Op
 gives_nothing view o scanned h e = subst (λ p. Gives view p scanned) e h
 
 pub goes_on_clause : (nodes number : ℕ) (text : List ℕ) (place p : ℕ) (rest : List ℕ) (f : Formula)
-    (behind after : List ℕ) (asked : List Conjunct) (new : LinesLeft) → place_at text ≡ Some (place, rest) → nodes ≤ 255
+    (remainder after : List ℕ) (asked : List Conjunct) (new : LinesLeft) → place_at text ≡ Some (place, rest)
+        → nodes ≤ 255
     → p ≡ place → Follows nodes asked place
-    → clause_at 32 rest ≡ Some (f, behind) → after_word (codes "\n") behind ≡ Some after
+    → clause_at 32 rest ≡ Some (f, remainder) → after_word (codes "\n") remainder ≡ Some after
     → new ≡ record { rest = after; number = number + 1 }
     → (line : List ℕ) × ReadsLine (record { rest = text; number = number }) new line
     × IsConjunctLine line (conjunct_of p f) × IsConjunct nodes (conjunct_of p f) × All (λ d. d.place < p) asked
-goes_on_clause nodes number text place p rest f behind after asked new read small same may is feed on =
+goes_on_clause nodes number text place p rest f remainder after asked new read small same may is feed on =
     let there : place_at text ≡ Some (p, rest) = read ∙ ap (λ n. Some (n, rest)) (sym same) in
     let follows : Follows nodes asked p = subst (Follows nodes asked) (sym same) may in
-    let r = clause_read nodes text p rest (f, behind) after there small follows.0 is feed in (
+    let r = clause_read nodes text p rest (f, remainder) after there small follows.0 is feed in (
       r.line,
       record {
         rest = r.parts ∙ ap (λ (x : LinesLeft). r.line ++ codes "\n" ++ x.rest) (sym on);
@@ -323,11 +324,11 @@ goes_on_clause nodes number text place p rest f behind after asked new read smal
       follows.1,
     )
 
-pub clause_shorter : (nodes : ℕ) (text : List ℕ) (place : ℕ) (rest : List ℕ) (f : Formula) (behind after : List ℕ)
-    → place_at text ≡ Some (place, rest) → nodes ≤ 255 → place < nodes → clause_at 32 rest ≡ Some (f, behind)
-    → after_word (codes "\n") behind ≡ Some after → length after + 1 ≤ length text
-clause_shorter nodes text place rest f behind after read small there is feed =
-    let r = clause_read nodes text place rest (f, behind) after read small there is feed in
+pub clause_shorter : (nodes : ℕ) (text : List ℕ) (place : ℕ) (rest : List ℕ) (f : Formula) (remainder after : List ℕ)
+    → place_at text ≡ Some (place, rest) → nodes ≤ 255 → place < nodes → clause_at 32 rest ≡ Some (f, remainder)
+    → after_word (codes "\n") remainder ≡ Some after → length after + 1 ≤ length text
+clause_shorter nodes text place rest f remainder after read small there is feed =
+    let r = clause_read nodes text place rest (f, remainder) after read small there is feed in
     omega (arith, ap length r.parts, length-append (r.line ++ codes "\n") after, length-append r.line (codes "\n"))
 
 pub none_below : {A : Type 0} (ps : List (PlacedClause A)) (place : ℕ) → length ps ≤ 0

@@ -9,7 +9,7 @@ use Rattle.ira_pred.specs.Question.{QuestionCases}
 use Rattle.ira_pred.specs.QuestionAnswer.{AnswersQuestions, AnswersFaults}
 use Rattle.ira_pred.specs.QuestionLines.{LinesLeft, AreAllCases}
 use Rattle.ira_pred.specs.QuestionText.{IsQuestionText}
-use Rattle.ira_pred.specs.QuestionTextFault.{BeginsWithQuestionHead, CasesFault, no_head, behind_head}
+use Rattle.ira_pred.specs.QuestionTextFault.{BeginsWithQuestionHead, CasesFault, no_head, past_head}
 use Rattle.ira_pred.specs.QuestionTextFault.{QuestionTextFault}
 use Rattle.ira_pred.proofs.QuestionAnswers.{question_or_fault, one_fault}
 use Rattle.ira_pred.proofs.QuestionTexts.{one_question}
@@ -66,7 +66,7 @@ pub question_not_read : (text : List ℕ) (nodes n : ℕ) (rest : List ℕ) (lef
 question_not_read text nodes n rest left f short a ring same (inl e) = inl e
 question_not_read text nodes n rest left f short a ring same (inr h) =
     let its = subst (λ (x : LinesLeft). CasesFault n x.rest f) same h in
-    inr (inr (short, behind_head nodes rest a (subst (λ m. CasesFault m rest f) ring its)))
+    inr (inr (short, past_head nodes rest a (subst (λ m. CasesFault m rest f) ring its)))
 
 pub head_not_read : (text : List ℕ) → length text ≤ 67108864
     → ((nodes : ℕ) (rest : List ℕ) → ¬ (BeginsWithQuestionHead text nodes rest)) → QuestionRead (Err Head) text

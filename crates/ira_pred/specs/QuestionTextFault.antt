@@ -121,7 +121,7 @@ pub data QuestionLinesFault (text : List ℕ) (f : AskFault) : Type 0 where
   no_head : ((nodes : ℕ) (rest : List ℕ) → ¬ (BeginsWithQuestionHead text nodes rest)) → f ≡ Head
       → QuestionLinesFault text f
   -- what stands after its head has a fault
-  behind_head : (nodes : ℕ) (rest : List ℕ) → BeginsWithQuestionHead text nodes rest → CasesFault nodes rest f
+  past_head : (nodes : ℕ) (rest : List ℕ) → BeginsWithQuestionHead text nodes rest → CasesFault nodes rest f
       → QuestionLinesFault text f
 
 -- the fault of a text

@@ -7,7 +7,7 @@ ghost use Rattle.ira_pred.specs.Formula.{Formula};
 
 use crate::clause::Clause;
 use crate::rel::Rel;
-use ira_event::{MAX_NUMBER, skip_word, take_number};
+use ira_event::{MAX_NUMBER, scan_number, skip_word};
 use std::alloc::{AllocError, Allocator};
 
 /// A clause, and what follows it in the text.
@@ -15,7 +15,7 @@ pub(crate) type Taken<'a, A> = (Clause<A>, &'a [u8]);
 
 /// The clause that the text begins with, nested no deeper than this.
 #[cycle(clauses)]
-pub(crate) fn take_clause<'a, A: Allocator + Clone>(
+pub(crate) fn scan_clause<'a, A: Allocator + Clone>(
     alloc: &A,
     depth: usize,
     text: &'a [u8],
@@ -24,18 +24,18 @@ pub(crate) fn take_clause<'a, A: Allocator + Clone>(
 {
     if depth > 0 {
         if let Some(rest) = skip_word(text, b"(not ") {
-            return take_negated(alloc, depth - 1, rest);
+            return scan_negated(alloc, depth - 1, rest);
         }
         if let Some(rest) = skip_word(text, b"(") {
-            return take_joined(alloc, depth - 1, rest);
+            return scan_joined(alloc, depth - 1, rest);
         }
     }
-    Ok(take_atom(text))
+    Ok(scan_atom(text))
 }
 
 /// The negation whose first word was read.
 #[cycle(clauses)]
-fn take_negated<'a, A: Allocator + Clone>(
+fn scan_negated<'a, A: Allocator + Clone>(
     alloc: &A,
     depth: usize,
     text: &'a [u8],
@@ -43,7 +43,7 @@ fn take_negated<'a, A: Allocator + Clone>(
     ensures { IfOk result
         (λ taken. Gives (λ t. (formula t.0, t.1.now)) taken (negated_at (clause_at depth) text.now)) }
 {
-    let Some((clause, rest)) = take_clause(alloc, depth, text)? else {
+    let Some((clause, rest)) = scan_clause(alloc, depth, text)? else {
         return Ok(None);
     };
     let Some(rest) = skip_word(rest, b")") else {
@@ -55,7 +55,7 @@ fn take_negated<'a, A: Allocator + Clone>(
 
 /// The two clauses and the word between them, of which the first parenthesis was read.
 #[cycle(clauses)]
-fn take_joined<'a, A: Allocator + Clone>(
+fn scan_joined<'a, A: Allocator + Clone>(
     alloc: &A,
     depth: usize,
     text: &'a [u8],
@@ -63,13 +63,13 @@ fn take_joined<'a, A: Allocator + Clone>(
     ensures { IfOk result
         (λ taken. Gives (λ t. (formula t.0, t.1.now)) taken (joined_at (clause_at depth) text.now)) }
 {
-    let Some((left, rest)) = take_clause(alloc, depth, text)? else {
+    let Some((left, rest)) = scan_clause(alloc, depth, text)? else {
         return Ok(None);
     };
-    let Some((both, rest)) = take_joint(rest) else {
+    let Some((both, rest)) = scan_joint(rest) else {
         return Ok(None);
     };
-    let Some((right, rest)) = take_clause(alloc, depth, rest)? else {
+    let Some((right, rest)) = scan_clause(alloc, depth, rest)? else {
         return Ok(None);
     };
     let Some(rest) = skip_word(rest, b")") else {
@@ -84,7 +84,7 @@ fn take_joined<'a, A: Allocator + Clone>(
 }
 
 /// Whether the word between two clauses is `and`, where it isn't `or`, and what follows it.
-fn take_joint(text: &[u8]) -> Option<(bool, &[u8])>
+fn scan_joint(text: &[u8]) -> Option<(bool, &[u8])>
     ensures { Gives (λ found. (found.0, found.1.now)) result (joint_at text.now) }
 {
     if let Some(rest) = skip_word(text, b" and ") {
@@ -95,7 +95,7 @@ fn take_joint(text: &[u8]) -> Option<(bool, &[u8])>
 }
 
 /// The clause without parentheses that the text begins with.
-fn take_atom<A: Allocator>(text: &[u8]) -> Option<Taken<'_, A>>
+fn scan_atom<A: Allocator>(text: &[u8]) -> Option<Taken<'_, A>>
     ensures { Gives (λ t. (formula t.0, t.1.now)) result (atom_at text.now) }
 {
     if let Some(rest) = skip_word(text, b"true") {
@@ -120,25 +120,25 @@ fn take_atom<A: Allocator>(text: &[u8]) -> Option<Taken<'_, A>>
         return Some((Clause::Owes, rest));
     }
     if let Some(rest) = skip_word(text, b"round ") {
-        let (rel, n, rest) = take_comparison(rest)?;
+        let (rel, n, rest) = scan_comparison(rest)?;
         return Some((Clause::Round(rel, n), rest));
     }
     if let Some(rest) = skip_word(text, b"id ") {
-        let (rel, n, rest) = take_comparison(rest)?;
+        let (rel, n, rest) = scan_comparison(rest)?;
         return Some((Clause::Id(rel, n), rest));
     }
     let rest = skip_word(text, b"term ")?;
-    let (rel, n, rest) = take_comparison(rest)?;
+    let (rel, n, rest) = scan_comparison(rest)?;
     Some((Clause::Term(rel, n), rest))
 }
 
 /// A comparison with a number that an atom may hold, and what follows it.
-fn take_comparison(text: &[u8]) -> Option<(Rel, u32, &[u8])>
+fn scan_comparison(text: &[u8]) -> Option<(Rel, u32, &[u8])>
     ensures { (f : Rel → ℕ → Formula)
         → Gives (λ found. (f found.0 found.1, found.2.now)) result (comparison_at f text.now) }
 {
-    let (rel, rest) = take_rel(text)?;
-    let (n, rest) = take_number(rest)?;
+    let (rel, rest) = scan_rel(text)?;
+    let (n, rest) = scan_number(rest)?;
     if n > MAX_NUMBER {
         return None;
     }
@@ -146,7 +146,7 @@ fn take_comparison(text: &[u8]) -> Option<(Rel, u32, &[u8])>
 }
 
 /// The sign of a comparison and the space after it, and what follows them.
-fn take_rel(text: &[u8]) -> Option<(Rel, &[u8])>
+fn scan_rel(text: &[u8]) -> Option<(Rel, &[u8])>
     ensures { Gives (λ found. (found.0, found.1.now)) result (rel_at text.now) }
 {
     if let Some(rest) = skip_word(text, b"< ") {

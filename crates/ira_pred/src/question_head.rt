@@ -3,7 +3,7 @@ ghost use Rattle.ira_event.specs.Scan.{Gives};
 ghost use Rattle.ira_pred.specs.QuestionScan.{head_at};
 ghost use Rattle.ira_pred.specs.QuestionTextFault.{BeginsWithQuestionHead};
 
-use ira_event::{RingSize, skip_word, take_number};
+use ira_event::{RingSize, scan_number, skip_word};
 
 /// The head of a question's text: the ring size that it names, and what follows it.
 #[derive(Clone, Copy)]
@@ -13,23 +13,23 @@ pub(crate) struct QuestionHead<'a> {
 }
 
 /// The head that the text begins with.
-pub(crate) fn take_head(text: &[u8]) -> Option<QuestionHead<'_>>
+pub(crate) fn scan_head(text: &[u8]) -> Option<QuestionHead<'_>>
     ensures { MatchOption result
         ((nodes : ℕ) (rest : List ℕ) → ¬ (BeginsWithQuestionHead text.now nodes rest))
         (λ head. BeginsWithQuestionHead text.now head.nodes head.rest.now) }
 {
-    let (nodes, rest) = take_head_lines(text)?;
+    let (nodes, rest) = scan_head_lines(text)?;
     let nodes = RingSize::of_number(nodes)?;
     Some(QuestionHead { nodes, rest })
 }
 
 /// The head's number as it is spelled, in range or not, and what follows the head.
-fn take_head_lines(text: &[u8]) -> Option<(u32, &[u8])>
+fn scan_head_lines(text: &[u8]) -> Option<(u32, &[u8])>
     ensures { Gives (λ found. (found.0, found.1.now)) result (head_at text.now) }
 {
     let rest = skip_word(text, b"irask 1\n")?;
     let rest = skip_word(rest, b"nodes ")?;
-    let (nodes, rest) = take_number(rest)?;
+    let (nodes, rest) = scan_number(rest)?;
     let rest = skip_word(rest, b"\n")?;
     Some((nodes, rest))
 }

@@ -7,10 +7,10 @@ ghost use Rattle.ira_pred.specs.QuestionTextFault.{IsTooDeep, NextLineFault};
 
 use crate::ask_fault::AskFault;
 use crate::case::PlacedClause;
-use crate::clause_reader::take_clause;
+use crate::clause_reader::scan_clause;
 use crate::limits::{MAX_CASES, MAX_DEPTH};
 use crate::question_line::QuestionLine;
-use ira_event::{line_end, skip_word, take_number};
+use ira_event::{line_end, scan_number, skip_word};
 use std::alloc::{AllocError, Allocator};
 use std::marker::Model;
 
@@ -85,7 +85,7 @@ impl<'a> QuestionLines<'a> {
               conjuncts = conjuncts asked.now;
             }) self.old self.new result }
     {
-        if let Some((place, text)) = take_place(self.rest) {
+        if let Some((place, text)) = scan_place(self.rest) {
             return self.next_clause(alloc, nodes, place, text, asked);
         }
         if let Some(after) = skip_word(self.rest, b"case\n") {
@@ -133,7 +133,7 @@ impl<'a> QuestionLines<'a> {
             return Err(complete(text, AskFault::Place(self.number)));
         };
         let number = self.number;
-        let taken = match take_clause(alloc, MAX_DEPTH, text) {
+        let taken = match scan_clause(alloc, MAX_DEPTH, text) {
             Ok(taken) => taken,
             Err(AllocError) => return Err(clause_fault(text, number, AskFault::OutOfMemory)),
         };
@@ -150,10 +150,10 @@ impl<'a> QuestionLines<'a> {
 
 /// The place in front of a clause, its number as it is spelled, and what follows the colon and the
 /// space after it.
-fn take_place(text: &[u8]) -> Option<(u32, &[u8])>
+fn scan_place(text: &[u8]) -> Option<(u32, &[u8])>
     ensures { Gives (λ found. (found.0, found.1.now)) result (place_at text.now) }
 {
-    let (place, rest) = take_number(text)?;
+    let (place, rest) = scan_number(text)?;
     let rest = skip_word(rest, b": ")?;
     Some((place, rest))
 }

@@ -1,12 +1,12 @@
 ghost use Rattle.std.specs.Prelude.{◌≡◌};
 ghost use Rattle.ira_event.specs.RingSize.{IsRingSize};
-ghost use Rattle.ira_pred.specs.QuestionAnswer.{AnswersQuestions, AnswersFaults, AnswersBadFronts};
+ghost use Rattle.ira_pred.specs.QuestionAnswer.{AnswersQuestions, AnswersFaults, AnswersBadQueues};
 ghost use Rattle.ira_pred.specs.QuestionLines.{CasesRead};
 
 use crate::ask_fault::AskFault;
 use crate::case::Case;
 use crate::question::Question;
-use crate::question_head::take_head;
+use crate::question_head::scan_head;
 use crate::question_line::QuestionLine;
 use crate::question_lines::QuestionLines;
 use ira_event::MAX_TEXT;
@@ -17,12 +17,12 @@ use std::mem;
 pub fn read_question<A: Allocator + Clone>(alloc: A, text: &[u8]) -> Result<Question<A>, AskFault>
     ensures ok { AnswersQuestions result text.now }
     ensures err { AnswersFaults result text.now }
-    ensures fronts { AnswersBadFronts result text.now }
+    ensures queues { AnswersBadQueues result text.now }
 {
     if text.len() > MAX_TEXT {
         return Err(AskFault::TooLong);
     }
-    let Some(head) = take_head(text) else {
+    let Some(head) = scan_head(text) else {
         return Err(AskFault::Head);
     };
     let cases = read_cases(alloc, head.nodes.get(), QuestionLines::new(head.rest))?;

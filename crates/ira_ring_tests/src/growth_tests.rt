@@ -119,7 +119,7 @@ impl Writer for Ends<'_> {
 }
 
 #[test]
-fn sink_fails_behind_each_byte(rt: HostRuntime) {
+fn sink_fails_after_each_byte(rt: HostRuntime) {
     let nodes = RingSize::new(2).expect(&rt, "a ring of two");
     let run = run_alone_seeded(rt.alloc(), nodes, &[true, true], 7, 1, 100, 1).expect(&rt, "a run");
     let ends = b"node 0: leader, 4 events\nnode 1: quiet, 4 events\n";

@@ -21,7 +21,8 @@ use Rattle.ira_order.proofs.Runs.{next_prev, prev_below}
 use Rattle.ira_order.proofs.Converse.{Balanced, balanced_step}
 use Rattle.ira_run.specs.Setup.{Setup, is_initiator, node_draws}
 use Rattle.ira_run.specs.Terms.{IsLastLeader}
-use Rattle.ira_run.specs.FullRun.{opening_of, events_at, drawing, drawn, HasEvent, yields, owes, chooses, receives}
+use Rattle.ira_event.specs.Messages.{drawing, drawn}
+use Rattle.ira_run.specs.FullRun.{opening_of, events_at, HasEvent, yields, owes, chooses, receives}
 use Rattle.ira_run.specs.FullRun.{CanStep, Walks, BeginsWith, IsFullRun}
 use Rattle.ira_run.proofs.Beginnings.{next_same, begin_each_other, sends_begin}
 use Rattle.ira_run.proofs.Walks.{own_more, other_more, walk_leads, walk_balanced}
@@ -66,7 +67,7 @@ module _ (s : Setup) (i : ℕ) (past log : List Event) (state : NodeState) (link
     (more : BeginsWith sendings writer)
     (ended : IsEnded s i log sendings)
     (not_last : ¬ (IsLastLeader s.terms state))
-    (room : length past < s.cap)
+    (below_cap : length past < s.cap)
     (event : HasEvent s.nodes s.terms (node_draws s i) state past link) where
   -- so they are not all of the log
   not_all : log ≡ past → ⊥
@@ -82,7 +83,7 @@ module _ (s : Setup) (i : ℕ) (past log : List Event) (state : NodeState) (link
       let Q : NodeState → Type 0 = λ x. ¬ (IsLastLeader s.terms x) in
       let R : NodeState → Type 0 = λ x. HasEvent s.nodes s.terms (node_draws s i) x past (link ++ more.0) in
       let S : List Load → Type 0 = λ x. HasEvent s.nodes s.terms (node_draws s i) here.state past x in
-      here.stays (subst Q (sym state_is) not_last) room
+      here.stays (subst Q (sym state_is) not_last) below_cap
       (subst S (sym left_is) (subst R (sym state_is)
       (has_event_still s.nodes s.terms (node_draws s i) state past link more.0 event)))
 
@@ -173,7 +174,7 @@ held_more s logs past c b i e two ended held can step draws =
     held_on s i (events_at past i) (logs i) (c.state i) (c.link (prev s.nodes i))
     (sent (events_at past (prev s.nodes i))) (sent (logs (prev s.nodes i)))
     (held.leads i l) link (sends_begin (logs (prev s.nodes i)) (events_at past (prev s.nodes i))
-    (held.begins (prev s.nodes i) p)) (ended i l) can.not_last can.room can.event
+    (held.begins (prev s.nodes i) p)) (ended i l) can.not_last can.below_cap can.event
     e (b.state i) (held.begins i l).0 step.node (subst P own draws) (λ m is.
     taken_first s.nodes i e c.link b.link m step.links is) (held.begins i l).1 in
     record {
@@ -259,7 +260,8 @@ full_run_ended s run end two full i l =
         sym (balanced (prev s.nodes i) (prev_below s.nodes i l))
             ∙ ap (λ (x : ℕ). got (events_at run x) ++ end.link (prev s.nodes i)) (next_prev s.nodes i l),
       );
-      stays = λ not_last room event. full.whole i l record { not_last = not_last; room = room; event = event };
+      stays = λ not_last below_cap event. full.whole i l record
+          { not_last = not_last; below_cap = below_cap; event = event };
     }
 
 -- each node does the same in two full runs

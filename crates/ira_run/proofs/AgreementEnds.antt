@@ -16,7 +16,8 @@ use Rattle.ira_run.specs.declared.node_end.NodeEnd.{NodeEnd}
 use Rattle.ira_run.specs.declared.node_end.NodeEnd.TheVariants.{Leader, Stopped, DrawsSpent, LogFull, NoStep, Quiet}
 use Rattle.ira_run.specs.Setup.{Setup, is_initiator, node_draws}
 use Rattle.ira_run.specs.Terms.{IsLastLeader}
-use Rattle.ira_run.specs.FullRun.{drawn, HasEvent, yields, owes, chooses, receives}
+use Rattle.ira_event.specs.Messages.{drawn}
+use Rattle.ira_run.specs.FullRun.{HasEvent, yields, owes, chooses, receives}
 use Rattle.ira_run.specs.ShownEnd.{Waits, Says, IsShown}
 use Rattle.ira_run.specs.Agreement.{stopped_for_quiet}
 use Rattle.ira_run.proofs.Beginnings.{next_same}
@@ -57,11 +58,11 @@ pub shown_stays : (s : Setup) (i : ℕ) (state : NodeState) (events : List Event
     → input ≡ got events ++ left → Says s i state events input end → ¬ (IsLastLeader s.terms state)
     → length events < s.cap
     → ¬ (HasEvent s.nodes s.terms (node_draws s i) state events left)
-shown_stays s i state events input left Leader all says not_last room = absurd (not_last says)
-shown_stays s i state events input left LogFull all says not_last room = absurd (omega (arith, says.1))
-shown_stays s i state events input left DrawsSpent all says not_last room =
+shown_stays s i state events input left Leader all says not_last below_cap = absurd (not_last says)
+shown_stays s i state events input left LogFull all says not_last below_cap = absurd (omega (arith, says.1))
+shown_stays s i state events input left DrawsSpent all says not_last below_cap =
     spent_no_event s i says.1.0 says.1.1 state events left says.1.2 says.2
-shown_stays s i state events input left (NoStep k) all says not_last room =
+shown_stays s i state events input left (NoStep k) all says not_last below_cap =
     waiting_no_event s i s.cap state events left says.0
     (λ m others is step.
     let here : input ≡ got events ++ m ∷ others = all ∙ ap (λ (x : List Load). got events ++ x) is in
@@ -69,10 +70,10 @@ shown_stays s i state events input left (NoStep k) all says not_last room =
     let same : m ≡ k = next_same (got events) others says.2.0 m k (sym here ∙ there) in
     let P : Load → Type 0 = λ x. HasStep s.nodes state (Got x) in
     says.1 (subst P same step))
-shown_stays s i state events input left Quiet all says not_last room =
+shown_stays s i state events input left Quiet all says not_last below_cap =
     waiting_no_event s i s.cap state events left says.0 (λ m others is step.
     none_left events input left others m all says.1 is)
-shown_stays s i state events input left Stopped all says not_last room =
+shown_stays s i state events input left Stopped all says not_last below_cap =
     waiting_no_event s i s.cap state events left says.0 (λ m others is step.
     none_left events input left others m all says.1 is)
 

@@ -19,7 +19,8 @@ use Rattle.ira_run.specs.declared.run_fault.RunFault.{RunFault}
 use Rattle.ira_run.specs.Setup.{Setup, is_initiator, node_draws}
 use Rattle.ira_run.specs.Terms.{YieldsBelow}
 use Rattle.ira_run.specs.Run.{Run}
-use Rattle.ira_run.specs.FullRun.{drawn, BeginsWith, AreLogsOf, AreFullLogs}
+use Rattle.ira_event.specs.Messages.{drawn}
+use Rattle.ira_run.specs.FullRun.{BeginsWith, AreLogsOf, AreFullLogs}
 use Rattle.ira_run.specs.ShownEnd.{IsShown, IsLoneRun}
 use Rattle.ira_run.specs.Recording.{IsRecording}
 use Rattle.ira_run.specs.Agreement.{AreOfEachFullRun, stopped_for_quiet, HasBusyEnd, Agrees}

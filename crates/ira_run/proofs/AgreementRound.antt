@@ -18,7 +18,8 @@ use Rattle.ira_run.specs.declared.node_end.NodeEnd.{NodeEnd}
 use Rattle.ira_run.specs.declared.node_end.NodeEnd.TheVariants.{Leader, Stopped, DrawsSpent, LogFull, NoStep, Quiet}
 use Rattle.ira_run.specs.Setup.{Setup, is_initiator, node_draws}
 use Rattle.ira_run.specs.Terms.{YieldsBelow}
-use Rattle.ira_run.specs.FullRun.{drawing, drawn, BeginsWith}
+use Rattle.ira_event.specs.Messages.{drawing, drawn}
+use Rattle.ira_run.specs.FullRun.{BeginsWith}
 use Rattle.ira_run.specs.ShownEnd.{Says}
 use Rattle.ira_run.proofs.Beginnings.{next_same}
 use Rattle.ira_run.proofs.Yields.{yields_at}

@@ -18,7 +18,8 @@ use Rattle.ira_run.specs.declared.node_end.NodeEnd.{NodeEnd}
 use Rattle.ira_run.specs.declared.node_end.NodeEnd.TheVariants.{Leader, Stopped, DrawsSpent, LogFull, NoStep, Quiet}
 use Rattle.ira_run.specs.Setup.{Setup, is_initiator, node_draws}
 use Rattle.ira_run.specs.Terms.{IsLastLeader}
-use Rattle.ira_run.specs.FullRun.{events_at, drawn, HasEvent, yields, owes, chooses, receives, BeginsWith, AreFullLogs}
+use Rattle.ira_event.specs.Messages.{drawn}
+use Rattle.ira_run.specs.FullRun.{events_at, HasEvent, yields, owes, chooses, receives, BeginsWith, AreFullLogs}
 use Rattle.ira_run.specs.ShownEnd.{Waits, Says, IsShown, IsLoneRun}
 use Rattle.ira_run.proofs.Agreement.{IsEnded, full_run_ended}
 use Rattle.ira_run.proofs.Recordable.{run_within}
@@ -43,12 +44,12 @@ module _ (s : Setup) (i : ℕ) (events : List Event) (input : List Load)
 
   spent : (term round : ℕ) (left : List Load) → length events < s.cap → Stays (free term (Choosing round)) left
       → Shows (free term (Choosing round))
-  spent term round left room stays = (
+  spent term round left below_cap stays = (
     DrawsSpent,
     (
-      ((λ l. l.0), room),
+      ((λ l. l.0), below_cap),
       (term, round, refl),
-      all_drawn draws.0 draws.1 (λ unused. stays (λ l. l.0) room (chooses term round refl unused)),
+      all_drawn draws.0 draws.1 (λ unused. stays (λ l. l.0) below_cap (chooses term round refl unused)),
     ),
     (λ e. cc),
   )
@@ -69,20 +70,21 @@ module _ (s : Setup) (i : ℕ) (events : List Event) (input : List Load)
   goes_on : (term : ℕ) (phase : Phase) (owed : Option Load) (left : List Load) → length events < s.cap
       → input ≡ got events ++ left → Stays (record { phase = phase; owed = owed; term = term }) left
       → Shows (record { phase = phase; owed = owed; term = term })
-  goes_on term (Leads round id) owed left room is stays = elim (cases_lt term s.terms) [
-    | inl below ↦ absurd (stays (λ l. omega (arith, below, l.1)) room (yields tt below))
+  goes_on term (Leads round id) owed left below_cap is stays = elim (cases_lt term s.terms) [
+    | inl below ↦ absurd (stays (λ l. omega (arith, below, l.1)) below_cap (yields tt below))
     | inr past ↦ (Leader, (tt, omega arith), (λ e. cc))
   ]
-  goes_on term (Choosing round) None left room is stays = spent term round left room stays
-  goes_on term (Choosing round) (Some m) left room is stays = absurd (stays (λ l. l.0) room (owes m refl))
-  goes_on term (Active round id) None left room is stays =
-      waits (free term (Active round id)) left (((λ l. l.0), room), refl, tt) is stays
-  goes_on term (Active round id) (Some m) left room is stays = absurd (stays (λ l. l.0) room (owes m refl))
-  goes_on term Passive None left room is stays = waits (free term Passive) left (((λ l. l.0), room), refl, tt) is stays
-  goes_on term Passive (Some m) left room is stays = absurd (stays (λ l. l.0) room (owes m refl))
-  goes_on term Yielding None left room is stays =
-      waits (free term Yielding) left (((λ l. l.0), room), refl, tt) is stays
-  goes_on term Yielding (Some m) left room is stays = absurd (stays (λ l. l.0) room (owes m refl))
+  goes_on term (Choosing round) None left below_cap is stays = spent term round left below_cap stays
+  goes_on term (Choosing round) (Some m) left below_cap is stays = absurd (stays (λ l. l.0) below_cap (owes m refl))
+  goes_on term (Active round id) None left below_cap is stays =
+      waits (free term (Active round id)) left (((λ l. l.0), below_cap), refl, tt) is stays
+  goes_on term (Active round id) (Some m) left below_cap is stays = absurd (stays (λ l. l.0) below_cap (owes m refl))
+  goes_on term Passive None left below_cap is stays = waits (free term Passive) left
+      (((λ l. l.0), below_cap), refl, tt) is stays
+  goes_on term Passive (Some m) left below_cap is stays = absurd (stays (λ l. l.0) below_cap (owes m refl))
+  goes_on term Yielding None left below_cap is stays =
+      waits (free term Yielding) left (((λ l. l.0), below_cap), refl, tt) is stays
+  goes_on term Yielding (Some m) left below_cap is stays = absurd (stays (λ l. l.0) below_cap (owes m refl))
 
   full : (term : ℕ) (phase : Phase) (owed : Option Load) → length events ≡ s.cap
       → Shows (record { phase = phase; owed = owed; term = term })
@@ -98,7 +100,7 @@ module _ (s : Setup) (i : ℕ) (events : List Event) (input : List Load)
   shows : (state : NodeState) (left : List Load) → length events ≤ s.cap → input ≡ got events ++ left → Stays state left
       → Shows state
   shows state left within is stays = elim (cases_lt (length events) s.cap) [
-    | inl room ↦ goes_on state.term state.phase state.owed left room is stays
+    | inl below_cap ↦ goes_on state.term state.phase state.owed left below_cap is stays
     | inr past ↦ full state.term state.phase state.owed (omega arith)
   ]
 

@@ -50,9 +50,9 @@ get-set-cases (z ∷ xs) (suc i) zero x y p = inr p
 get-set-cases (z ∷ xs) (suc i) (suc j) x y p =
     elim (get-set-cases xs i j x y p) [ inl q ↦ inl (ap suc q.0, q.1) | inr q ↦ inr q ]
 
-pub get-behind : {X : Type 0} (xs : List X) (x : X) (ys : List X) → slice_get (xs ++ x ∷ ys) (length xs) ≡ Some x
-get-behind [] x ys = refl
-get-behind (y ∷ xs) x ys = get-behind xs x ys
+pub get-after : {X : Type 0} (xs : List X) (x : X) (ys : List X) → slice_get (xs ++ x ∷ ys) (length xs) ≡ Some x
+get-after [] x ys = refl
+get-after (y ∷ xs) x ys = get-after xs x ys
 
 pub some-of : {X : Type 0} (o : Option X) → is_some o ≡ true → (x : X) × (o ≡ Some x)
 some-of (Some x) e = (x, refl)
@@ -106,13 +106,13 @@ parts-whole logs ends [] taken none parts = parts ∙ append-nil (parts_of logs 
 parts-whole logs ends (part ∷ rest) taken none parts = absurd (omega arith)
 
 -- a place without a part after those that were taken
-pub missing-behind : (taken front rest others : List (Option (Log × NodeEnd))) → rest ≡ None ∷ others
+pub missing-after : (taken front rest others : List (Option (Log × NodeEnd))) → rest ≡ None ∷ others
     → taken ≡ front ++ rest → HasNoEnd taken
-missing-behind taken front rest others r parts =
+missing-after taken front rest others r parts =
     inl (
       length front,
       ap (λ xs. slice_get xs (length front)) (parts ∙ ap (λ xs. front ++ xs) r)
-          ∙ get-behind front None others,
+          ∙ get-after front None others,
     )
 
 no-missing : (logs : List Log) (ends : List NodeEnd) (i : ℕ) → ¬ (IsMissing (parts_of logs ends) i)
@@ -180,10 +180,10 @@ AreOfVersion version taken = (i : ℕ) (log : Log) (end : NodeEnd) → slice_get
     → log.version ≡ version
 
 -- so it is where one of this version is put to those that were
-version-behind : (taken : List (Option (Log × NodeEnd))) (i : ℕ) (log : Log) (end : NodeEnd)
+version-after : (taken : List (Option (Log × NodeEnd))) (i : ℕ) (log : Log) (end : NodeEnd)
     → AreOfVersion log.version taken → (j : ℕ) (other : Log) (last : NodeEnd)
     → slice_get (set taken i (Some (log, end))) j ≡ Some (Some (other, last)) → other.version ≡ log.version
-version-behind taken i log end versions j other last p =
+version-after taken i log end versions j other last p =
     elim (get-set-cases taken i j (Some (log, end)) (Some (other, last)) p) [
       | inl q ↦ let same : log ≡ other = (some_pair_parts log other end last q.1).0 in
           ap (λ (x : Log). x.version) (sym same)
@@ -251,8 +251,8 @@ AreTaken-more n taken i log end old nodes place valid versions = record {
     )
     | inr q ↦ old.fit j other last q
   ];
-  alike = λ j k other another last latest p q. version-behind taken i log end versions j other last p
-      ∙ sym (version-behind taken i log end versions k another latest q);
+  alike = λ j k other another last latest p q. version-after taken i log end versions j other last p
+      ∙ sym (version-after taken i log end versions k another latest q);
 }
 
 pub keeps-part : (taken : List (Option (Log × NodeEnd))) (i : ℕ) (part : Log × NodeEnd) → i < length taken

@@ -17,7 +17,8 @@ use Rattle.ira_run.specs.declared.node_end.NodeEnd.{NodeEnd}
 use Rattle.ira_run.specs.declared.node_end.NodeEnd.TheVariants.{Leader, Stopped, DrawsSpent, LogFull, NoStep, Quiet}
 use Rattle.ira_run.specs.Setup.{Setup, is_initiator, node_draws}
 use Rattle.ira_run.specs.Run.{Run}
-use Rattle.ira_run.specs.FullRun.{opening_of, events_at, drawn, HasEvent, yields, owes, chooses, receives, CanStep}
+use Rattle.ira_event.specs.Messages.{drawn}
+use Rattle.ira_run.specs.FullRun.{opening_of, events_at, HasEvent, yields, owes, chooses, receives, CanStep}
 use Rattle.ira_run.specs.FullRun.{Walks, BeginsWith}
 use Rattle.ira_run.specs.ShownEnd.{Says, IsShown, IsLoneRun}
 use Rattle.ira_run.proofs.Choosing.{choosing_no_waiting, choosing_no_leader}
@@ -27,15 +28,15 @@ use Rattle.ira_run.proofs.Walks.{walk_leads}
 pub must_have_spent : (s : Setup) (i term round : ℕ) (state : NodeState) (events : List Event) (input : List Load)
     (end : NodeEnd) → state ≡ free term (Choosing round) → length events < s.cap → Says s i state events input end
     → (end ≡ DrawsSpent) × (drawn events ≡ node_draws s i)
-must_have_spent s i term round state events input Leader is room says =
+must_have_spent s i term round state events input Leader is below_cap says =
     absurd (choosing_no_leader term round state is says.0)
-must_have_spent s i term round state events input LogFull is room says = absurd (omega (arith, says.1))
-must_have_spent s i term round state events input DrawsSpent is room says = (refl, says.2)
-must_have_spent s i term round state events input (NoStep m) is room says =
+must_have_spent s i term round state events input LogFull is below_cap says = absurd (omega (arith, says.1))
+must_have_spent s i term round state events input DrawsSpent is below_cap says = (refl, says.2)
+must_have_spent s i term round state events input (NoStep m) is below_cap says =
     absurd (choosing_no_waiting term round state is says.0.2)
-must_have_spent s i term round state events input Quiet is room says =
+must_have_spent s i term round state events input Quiet is below_cap says =
     absurd (choosing_no_waiting term round state is says.0.2)
-must_have_spent s i term round state events input Stopped is room says =
+must_have_spent s i term round state events input Stopped is below_cap says =
     absurd (choosing_no_waiting term round state is says.0.2)
 
 abbrev pub with_draws : Setup → List (List ℕ) → Setup
@@ -59,7 +60,7 @@ module _ (s : Setup) (ds : List (List ℕ)) (more : (i : ℕ) → i < s.nodes
       → CanStep (with_draws s ds) past c i
   can_step_still past c i l can = record {
     not_last = can.not_last;
-    room = can.room;
+    below_cap = can.below_cap;
     event = has_event_still i l (c.state i) (events_at past i) (c.link (prev s.nodes i)) can.event;
   }
 
@@ -77,7 +78,7 @@ module _ (s : Setup) (ds : List (List ℕ)) (more : (i : ℕ) → i < s.nodes
     none_unused : (i term round : ℕ) → i < s.nodes → lone.logs.end.state i ≡ free term (Choosing round)
         → length (events_at lone.logs.run i) < s.cap
         → length (drawn (events_at lone.logs.run i)) < length (node_draws (with_draws s ds) i) → ⊥
-    none_unused i term round l is room unused =
+    none_unused i term round l is below_cap unused =
         let at : slice_get run.ends i ≡ Some (get_or run.ends i Quiet) =
         slice_get-get_or run.ends i Quiet (omega (arith, lone.many)) in
         let shown : IsShown s run.logs i (get_or run.ends i Quiet) = lone.ends i (get_or run.ends i Quiet) at in
@@ -91,7 +92,7 @@ module _ (s : Setup) (ds : List (List ℕ)) (more : (i : ℕ) → i < s.nodes
         one_end s.nodes (first_state (is_initiator s i)) (log_of run.logs i) shown.0 (lone.logs.end.state i) shown.1
         (subst P log leads) in
         let spent = must_have_spent s i term round shown.0 (log_of run.logs i) (sent (log_of run.logs (prev s.nodes i)))
-        (get_or run.ends i Quiet) (same ∙ is) (omega (arith, room, ap length log)) shown.2 in
+        (get_or run.ends i Quiet) (same ∙ is) (omega (arith, below_cap, ap length log)) shown.2 in
         let all : node_draws (with_draws s ds) i ≡ node_draws s i = alike i l (at ∙ ap Some spent.0) in
         omega (arith, unused, ap length all, ap length spent.1, ap (λ (es : List Event). length (drawn es)) log)
 
@@ -99,14 +100,15 @@ module _ (s : Setup) (ds : List (List ℕ)) (more : (i : ℕ) → i < s.nodes
         → HasEvent s.nodes s.terms (node_draws (with_draws s ds) i) (lone.logs.end.state i) (events_at lone.logs.run i)
         (lone.logs.end.link (prev s.nodes i)) → ⊥
     no_step_still i l can (yields leads below) =
-        lone.logs.full.whole i l (record { not_last = can.not_last; room = can.room; event = yields leads below })
+        lone.logs.full.whole i l (record { not_last = can.not_last; below_cap = can.below_cap; event = yields leads
+            below })
     no_step_still i l can (owes m o) =
-        lone.logs.full.whole i l (record { not_last = can.not_last; room = can.room; event = owes m o })
-    no_step_still i l can (chooses term round is unused) = none_unused i term round l is can.room unused
+        lone.logs.full.whole i l (record { not_last = can.not_last; below_cap = can.below_cap; event = owes m o })
+    no_step_still i l can (chooses term round is unused) = none_unused i term round l is can.below_cap unused
     no_step_still i l can (receives m others is step) =
         lone.logs.full.whole i l (record {
           not_last = can.not_last;
-          room = can.room;
+          below_cap = can.below_cap;
           event = receives m others is step;
         })
 

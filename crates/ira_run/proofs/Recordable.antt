@@ -217,7 +217,7 @@ few_events s past c (x ∷ run) d i few walk =
     let more : length (events_at (past ++ x ∷ []) i) ≤ s.cap = elim (cases_eq x.0 i) [
       | inl e ↦
           let Q : ℕ → Type 0 = λ j. length (events_at past j) < s.cap in
-          let room : length (events_at past i) < s.cap = subst Q e walk.0.room in
+          let room : length (events_at past i) < s.cap = subst Q e walk.0.below_cap in
           omega (arith, room, ap length (own_more past x.0 i x.1 e), length-append (events_at past i) (x.1 ∷ []))
       | inr ne ↦ omega (arith, few, ap length (other_more past x.0 i x.1 ne))
     ] in

@@ -3,9 +3,10 @@ use Rattle.std.specs.Prelude.{◌≡◌, ℕ, ◌<◌, List, [], ◌∷◌, ◌+
 use Rattle.std.specs.List.{filter_map}
 use Rattle.ira_event.specs.declared.load.Load.{Load}
 use Rattle.ira_event.specs.declared.event.Event.{Event}
-use Rattle.ira_event.specs.declared.event.Event.TheVariants.{Draw, Sent, Got, Yield}
+use Rattle.ira_event.specs.declared.event.Event.TheVariants.{Got}
 use Rattle.ira_event.specs.Log.{Log}
 use Rattle.ira_event.specs.Logs.{AreLogs, EachLog}
+use Rattle.ira_event.specs.Messages.{drawn}
 use Rattle.ira_node.specs.declared.phase.Phase.TheVariants.{Choosing}
 use Rattle.ira_node.specs.declared.node_state.NodeState.{NodeState}
 use Rattle.ira_node.specs.NodeState.{first_state, free, IsLeader}
@@ -22,17 +23,6 @@ opening_of s = record { state = λ i. first_state (is_initiator s i); link = λ 
 -- the events of node i among these, in their order
 abbrev pub events_at : List (ℕ × Event) → ℕ → List Event
 events_at run i = filter_map (event_of i) run
-
--- the ID that an event draws
-abbrev pub drawing : Event → Option ℕ
-drawing (Draw id) = Some id
-drawing (Sent l) = None
-drawing (Got l) = None
-drawing Yield = None
-
--- the IDs that these events draw, in their order
-abbrev pub drawn : List Event → List ℕ
-drawn events = filter_map drawing events
 
 -- in a run of so many terms a node in this state, which has made these events, was given these IDs, and has
 -- these loads before it, leads in a term before the last, or owes a load, or has to draw and has an unused
@@ -51,7 +41,7 @@ pub data HasEvent (n terms : ℕ) (ids : List ℕ) (state : NodeState) (events :
 -- and has an unused ID, or receives and the first load on the link that leads to it has a step
 pub record CanStep (s : Setup) (past : List (ℕ × Event)) (c : Configuration) (i : ℕ) : Type 0 where
   pub not_last : ¬ (IsLastLeader s.terms (c.state i))
-  pub room : length (events_at past i) < s.cap
+  pub below_cap : length (events_at past i) < s.cap
   pub event : HasEvent s.nodes s.terms (node_draws s i) (c.state i) (events_at past i) (c.link (prev s.nodes i))
 
 -- from configuration c, to which the events past led, these events, each with the place of its node,

@@ -14,7 +14,8 @@ use Rattle.ira_run.specs.declared.node_end.NodeEnd.{NodeEnd}
 use Rattle.ira_run.specs.declared.node_end.NodeEnd.TheVariants.{Leader, Stopped, DrawsSpent, LogFull, NoStep, Quiet}
 use Rattle.ira_run.specs.Terms.{version_of, IsLastLeader, YieldsBelow}
 use Rattle.ira_run.specs.Setup.{Setup, is_initiator, node_draws}
-use Rattle.ira_run.specs.FullRun.{drawn, BeginsWith, AreLogsOf}
+use Rattle.ira_event.specs.Messages.{drawn}
+use Rattle.ira_run.specs.FullRun.{BeginsWith, AreLogsOf}
 use Rattle.ira_run.specs.Run.{Run}
 use Rattle.ira_run.specs.ShownEnd.{MayGoOn, Waits, HasToDraw, AreShown}
 

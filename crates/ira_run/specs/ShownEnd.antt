@@ -15,7 +15,8 @@ use Rattle.ira_run.specs.declared.node_end.NodeEnd.{NodeEnd}
 use Rattle.ira_run.specs.declared.node_end.NodeEnd.TheVariants.{Leader, Stopped, DrawsSpent, LogFull, NoStep, Quiet}
 use Rattle.ira_run.specs.Terms.{IsLastLeader}
 use Rattle.ira_run.specs.Setup.{Setup, is_initiator, node_draws}
-use Rattle.ira_run.specs.FullRun.{drawn, BeginsWith, AreFullLogs}
+use Rattle.ira_event.specs.Messages.{drawn}
+use Rattle.ira_run.specs.FullRun.{BeginsWith, AreFullLogs}
 use Rattle.ira_run.specs.Run.{Run}
 
 -- in a run of so many terms a node in this state that has made these events doesn't lead in the last term, and

@@ -19,27 +19,6 @@ use std::alloc::Allocator;
 /// When so many bytes of lines are put together they are written.
 const BLOCK: usize = 65_536;
 
-/// The first state of each node.
-fn first_states<A: Allocator>(alloc: A, logs: &Logs<A>) -> Result<Vec<NodeState, A>, OutOfMemory>
-    ensures { IfOk result (λ states. length states.items ≡ length logs.now) }
-{
-    let size = logs.size().get();
-    let mut states = Vec::with_capacity(alloc, usize::from(size))?;
-    for place in 0..size {
-        states.push(NodeState::first(logs.log(place).initiator()))?;
-    }
-    Ok(states)
-}
-
-/// How many events the logs have.
-fn number_of_events<A: Allocator>(logs: &Logs<A>) -> usize {
-    let mut events = 0usize;
-    for place in 0..logs.size().get() {
-        events = events.saturating_add(logs.log(place).len());
-    }
-    events
-}
-
 /// Goes on by an event of a log, and gives what it changed: nothing where it has no step.
 fn go_on<L: Allocator>(log: &NodeLog<L>, state: &mut NodeState, event: &Event) -> ChangeWords {
     let before = *state;
@@ -92,9 +71,9 @@ fn write_lines<A: Allocator + Clone, W: Sink>(
     requires cut { IsConsistentCut logs.now cut.now }
     ensures { Showed result (W.state sink.old) (W.state sink.new) }
 {
-    let events = number_of_events(logs);
+    let events = logs.number_of_events();
     let columns = EventColumns::of(logs, events);
-    let mut states = first_states(alloc.clone()?, logs)?;
+    let mut states = NodeState::first_of_each(alloc.clone()?, logs)?;
     let mut trail = Trail::new(alloc.clone()?, logs, cut)?;
     let mut page = heading;
     let mut is_line_due = is_asked;

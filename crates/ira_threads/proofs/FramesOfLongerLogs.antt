@@ -9,7 +9,7 @@ use Rattle.ira_event.specs.Log.{Log}
 use Rattle.ira_links.specs.declared.frame.Frame.{Frame}
 use Rattle.ira_links.specs.declared.frame.Frame.TheVariants.{Load as Loaded}
 use Rattle.ira_order.specs.Matching.{sending, receipt, sent, got}
-use Rattle.ira_run.specs.FullRun.{drawing, drawn}
+use Rattle.ira_event.specs.Messages.{drawing, drawn}
 use Rattle.ira_threads.specs.NodeFrames.{frames}
 
 -- with these events the node has put and taken these frames, of which it found those put and taken before, and of its

@@ -21,7 +21,8 @@ use Rattle.ira_run.specs.declared.run_fault.RunFault.{RunFault}
 use Rattle.ira_run.specs.declared.node_end.NodeEnd.TheVariants.{Leader, Stopped, DrawsSpent, LogFull, NoStep, Quiet}
 use Rattle.ira_run.specs.Terms.{version_of, YieldsBelow}
 use Rattle.ira_run.specs.Setup.{Setup, is_initiator, node_draws}
-use Rattle.ira_run.specs.FullRun.{drawn, BeginsWith}
+use Rattle.ira_event.specs.Messages.{drawn}
+use Rattle.ira_run.specs.FullRun.{BeginsWith}
 use Rattle.ira_run.specs.Run.{Run, IsRun}
 use Rattle.ira_threads.specs.NodeFrames.{frames, last_taken, frames_put, frames_taken}
 use Rattle.ira_threads.specs.FinishedNode.{FinishedNode, AreFinishedOnRing, FramesPassRoundRing}

@@ -24,7 +24,7 @@ use Rattle.ira_run.specs.Recording.{HasOwnEnd}
 use Rattle.ira_run.specs.Collector.{KeepsPart, PartFaultOf, HasNoEnd, FinishFaultOf, AreParts}
 use Rattle.ira_threads.specs.FinishedNode.{FinishedNode, AreFinishedOnPlaces, AreOfOneRing, FramesPass}
 use Rattle.ira_threads.specs.FinishedNode.{FramesPassRoundRing}
-use Rattle.ira_run.proofs.Collecting.{AreOfVersion, member-replicate, keeps-part, no-stranger, get-behind, each-stopped}
+use Rattle.ira_run.proofs.Collecting.{AreOfVersion, member-replicate, keeps-part, no-stranger, get-after, each-stopped}
 use Rattle.ira_threads.proofs.FinishedNodes.{passed_more, place_count}
 
 -- the part of a node, as a collector takes it
@@ -96,7 +96,7 @@ takes past m n place log taken f at within many nodes place_is versions is fault
     let front : place ≡ length (map part_of past) = at ∙ sym (length-map past part_of) in
     let free : slice_get taken place ≡ Some None =
     ap (λ xs. slice_get xs place) is ∙ ap (λ k. slice_get (taken_of past (suc m)) k) front
-    ∙ get-behind (map part_of past) None (replicate m None) in
+    ∙ get-after (map part_of past) None (replicate m None) in
     elim fault [
       | inl stranger ↦ fits stranger.0
       | inr double ↦ let was = double.1.1 in absurd cc

@@ -29,14 +29,14 @@ no_later true h = absurd cc
 no_later false h = refl
 
 -- a node that owed no reset owes none after events of version 1
-plain_behind : (version n : ℕ) (s : NodeState) (es : List Event) (t : NodeState) → nat_lt 1 version ≡ false
+plain_after : (version n : ℕ) (s : NodeState) (es : List Event) (t : NodeState) → nat_lt 1 version ≡ false
     → list_all (is_of_version version) es ≡ true → is_plain s.owed ≡ true → LeadsTo n s es t → is_plain t.owed ≡ true
-plain_behind version n s [] t first held plain leads = rw leads plain
-plain_behind version n s (e ∷ es) t first held plain leads =
+plain_after version n s [] t first held plain leads = rw leads plain
+plain_after version n s (e ∷ es) t first held plain leads =
     let parts = and_parts (is_of_version version e) (list_all (is_of_version version) es) held in
     let here : (not (is_later e) || false) ≡ true =
     subst (λ (b : Bool). (not (is_later e) || b) ≡ true) first parts.0 in
-    plain_behind version n leads.0 es t first parts.1 (owes_no_reset n s e leads.0 (no_later (is_later e) here) leads.1)
+    plain_after version n leads.0 es t first parts.1 (owes_no_reset n s e leads.0 (no_later (is_later e) here) leads.1)
     leads.2
 
 sends_held : (b : Bool) (n : ℕ) (t : NodeState) (l : Load) → (b ≡ false → is_plain t.owed ≡ true) → HasStep n t (Sent l)
@@ -49,7 +49,7 @@ pub sending_of_version : (r : Recorder) (l : Load) → IsRecorder r → HasStep 
     → is_of_version r.log.version (Sent l) ≡ true
 sending_of_version r l valid step =
     sends_held (nat_lt 1 r.log.version) r.log.nodes r.state l
-    (λ first. plain_behind r.log.version r.log.nodes (first_state r.log.initiator) r.log.events r.state first
+    (λ first. plain_after r.log.version r.log.nodes (first_state r.log.initiator) r.log.events r.state first
     valid.log.held (first_plain r.log.initiator) valid.leads) step
 
 -- ---- the version for so many terms

@@ -20,7 +20,8 @@ use Rattle.ira_node.specs.Wanted.{wanted_of}
 use Rattle.ira_node.proofs.Wants.{wants_draw, wants_receipt, wants_send, receiving_leads_not}
 use Rattle.ira_replay.specs.LocalRun.{LeadsTo}
 use Rattle.ira_run.specs.Terms.{version_of, IsLastLeader, YieldsBelow}
-use Rattle.ira_run.specs.FullRun.{drawn, BeginsWith}
+use Rattle.ira_event.specs.Messages.{drawn}
+use Rattle.ira_run.specs.FullRun.{BeginsWith}
 use Rattle.ira_run.specs.ShownEnd.{HasToDraw}
 use Rattle.ira_run.specs.Recording.{EndsAs, IsRecorded}
 use Rattle.ira_run.specs.declared.node_end.NodeEnd.{NodeEnd}

@@ -187,9 +187,9 @@ version_command = command version_app (record { stops = refl; enters = refl; nam
 fine : (name : Text) (s : Shape) → Enters name s → (others : List Text) → fault_of ira_app (name ∷ others) ≡ []
     → level_fault s [] nothing_held others false [] ≡ []
 fine name s is others none =
-    let behind = second_none (walk_fault top names (walk_from nothing_held) (name ∷ others)) _ none in
+    let rest = second_none (walk_fault top names (walk_from nothing_held) (name ∷ others)) _ none in
     let below : entered_fault (built ira_app) (Some (name, others)) ≡ [] =
-    subst (λ o. entered_fault (built ira_app) o ≡ []) (stopped_at name s is others) (first_none _ _ behind) in
+    subst (λ o. entered_fault (built ira_app) o ≡ []) (stopped_at name s is others) (first_none _ _ rest) in
     subst (λ (o : Option Shape). option_map_or (λ x. level_fault x [] nothing_held others false []) o [] ≡ [])
     is.enters below
 
@@ -209,8 +209,8 @@ module _ (app : App) (is : IsCommand app) (m : ArgMatches) (words : List Text) (
       same ∙ ap (λ (rs : List Rule). rows_after rs [] first.0) is.rules
 
   -- values of its arguments
-  pub found_behind : AreFoundAfter app found
-  found_behind =
+  pub found_after : AreFoundAfter app found
+  found_after =
       let none = fine app.top.name is.shape is.enters first.0 (subst (λ ws. fault_of ira_app ws ≡ []) first.1
       parse.accepted) in
       subst (AreFoundAfter app) (sym rows_are) (record {
@@ -221,8 +221,8 @@ module _ (app : App) (is : IsCommand app) (m : ArgMatches) (words : List Text) (
       })
 
   -- what is so of all that is found after it is so of this
-  pub so_behind : (IsSo : List Row → Type 0) → After app words IsSo → IsSo found
-  so_behind IsSo behind = subst IsSo (sym rows_are) (behind first.0 first.1)
+  pub so_after : (IsSo : List Row → Type 0) → After app words IsSo → IsSo found
+  so_after IsSo rest = subst IsSo (sym rows_are) (rest first.0 first.1)
 
   -- and the words ask for what is so of it
   pub asked_for : (IsSo : List Row → Type 0) → IsSo found → IsCommandLine app words IsSo

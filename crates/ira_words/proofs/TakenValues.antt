@@ -484,10 +484,10 @@ module _ (s : Shape) (once : s.args_override_self ≡ false) (all : AllFit s.rul
       → AreTaken s.rules (rows_after s.rules [] words)
   rows_taken words none =
       let end = (walk s.rules [] nothing_held words).held in
-      let behind = second_none (walk_fault s [] (walk_from nothing_held) words) _ none in
-      let settles = first_none (settle_fault s.rules s.args_override_self end) _ behind in
+      let remainder = second_none (walk_fault s [] (walk_from nothing_held) words) _ none in
+      let settles = first_none (settle_fault s.rules s.args_override_self end) _ remainder in
       let defaults = first_none (defaults_fault (settled s.rules end).rows s.rules) _
-      (second_none (settle_fault s.rules s.args_override_self end) _ behind) in
+      (second_none (settle_fault s.rules s.args_override_self end) _ remainder) in
       let walked_on = walk_taken (walk_from nothing_held) words tt (first_none _ _ none) in
       defaults_taken s.rules (settled s.rules end).rows all
       (settled_taken s.rules s.args_override_self once all end walked_on settles) defaults
@@ -496,9 +496,9 @@ module _ (s : Shape) (once : s.args_override_self ≡ false) (all : AllFit s.rul
       → check_fault s (rows_after s.rules [] words) false ≡ []
   check_passes words none =
       let end = (walk s.rules [] nothing_held words).held in
-      let behind = second_none (walk_fault s [] (walk_from nothing_held) words) _ none in
+      let remainder = second_none (walk_fault s [] (walk_from nothing_held) words) _ none in
       second_none (defaults_fault (settled s.rules end).rows s.rules) _
-      (second_none (settle_fault s.rules s.args_override_self end) _ behind)
+      (second_none (settle_fault s.rules s.args_override_self end) _ remainder)
 
 -- ---- what is read of it
 

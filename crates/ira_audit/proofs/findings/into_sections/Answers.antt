@@ -20,6 +20,6 @@ pub unreachable-requires : goal.unreachable-requires
 unreachable-requires g c =
     let none : list_any is_present c.args.found.items ≡ false =
     ap (list_any is_present) (sym c.deref.ensures.value) ∙ sym c.has_present.ensures ∙ c.if-has_present.false in
-    let behind = c.loop-found.invariant.absent
+    let rest = c.loop-found.invariant.absent
     ∙ ap (λ xs. map Absent c.loop-found.sections.items ++ xs) c.in-Some.ensures.steps.0 in
-    none_among c.args.found.items none (present_at _ _ _ _ _ behind c.in-Present.is)
+    none_among c.args.found.items none (present_at _ _ _ _ _ rest c.in-Present.is)

@@ -6,7 +6,7 @@ use Rattle.ira_audit.proofs.replayed_log.read_and_replay.Given as goal
 abbrev pub invariant-loop-events : goal.invariant-loop-events
 invariant-loop-events g l =
     Keeping l.fn.records.version l.fn.records.rest l.nodes (first_state l.initiator) l.records l.events l.state
-    l.position l.stop
+    l.position l.first_fault
 
 abbrev pub decreases-loop-events : goal.decreases-loop-events
 decreases-loop-events g l = length l.records.rest

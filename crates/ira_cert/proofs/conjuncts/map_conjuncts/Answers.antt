@@ -1,6 +1,6 @@
 use Rattle.std.proofs.Common.{◌≡◌, [], ◌∷◌, ◌++◌, Ok, length, sym, subst, ap, arith, length-append}
-use Rattle.ira_cert.specs.Fronts.{AreFoundFor, IsFoundFor}
-use Rattle.ira_cert.proofs.CaseFronts.{found_more}
+use Rattle.ira_cert.specs.Queues.{AreFoundFor, IsFoundFor}
+use Rattle.ira_cert.proofs.CaseQueues.{found_more}
 use Rattle.ira_cert.proofs.conjuncts.map_conjuncts.Goals as goal
 
 pub loop-place-init : goal.loop-place-init

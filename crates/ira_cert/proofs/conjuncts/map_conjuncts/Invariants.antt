@@ -1,6 +1,6 @@
 use Rattle.std.proofs.Common.{◌≡◌, ◌<◌, Ok, length}
 use Rattle.ira_cert.specs.Conjuncts.{HasDifferentPlaces}
-use Rattle.ira_cert.specs.Fronts.{AreFoundFor}
+use Rattle.ira_cert.specs.Queues.{AreFoundFor}
 use Rattle.ira_cert.proofs.conjuncts.map_conjuncts.Given as goal
 
 abbrev pub invariant-loop-place : goal.invariant-loop-place

@@ -1,6 +1,6 @@
 use Rattle.std.proofs.Common.{◌≡◌, ◌∙◌, Some, inl, inr, slice_get, subst, arith}
 use Rattle.std.proofs.lemmas.Bool.{cases_eq}
-use Rattle.ira_cert.proofs.CaseFronts.{conjunct_there, none_asked, place_at}
+use Rattle.ira_cert.proofs.CaseQueues.{conjunct_there, none_asked, place_at}
 use Rattle.ira_cert.proofs.Exactly.{rising_differ}
 use Rattle.ira_cert.proofs.conjuncts.number_at.Goals as goal
 

@@ -3,7 +3,7 @@ use Rattle.ira_cert.specs.declared.queue_head.QueueHead.{QueueHead}
 use Rattle.ira_cert.specs.QueueHead.{IsQueueHead}
 use Rattle.ira_cert.specs.Front.{IsFront}
 use Rattle.ira_cert.specs.SectionFault.{not_front, not_before}
-use Rattle.ira_cert.proofs.Behind.{one_front}
+use Rattle.ira_cert.proofs.QueueHeads.{one_front}
 use Rattle.ira_cert.proofs.soundness.judge_step.Goals as goal
 use Rattle.ira_cert.proofs.soundness.judge_step.Goals.{then-step-front-via-then-step-front}
 use Rattle.ira_cert.proofs.soundness.judge_step.Goals.{then-step-front-via-else-step-front+then-step-other_front}

@@ -1,7 +1,7 @@
 use Rattle.std.proofs.Common.{◌≡◌, ◌≤◌, ◌<◌, ℕ, Some, true, false, inl, inr, length, slice_get, slice_set, ap, refl}
 use Rattle.std.proofs.Common.{sym, ◌∙◌, subst, arith}
 use Rattle.std.proofs.lemmas.Option.{same_Some}
-use Rattle.ira_cert.proofs.Behind.{slice_get-set_same}
+use Rattle.ira_cert.proofs.QueueHeads.{slice_get-set_same}
 use Rattle.ira_elim.specs.CandidateClock.{CandidateClock, IsCandidateClock}
 use Rattle.ira_elim.proofs.Standing.{found_at, is_within, long_counts, set_standing}
 use Rattle.ira_elim.proofs.elimination.advance.Goals as goal

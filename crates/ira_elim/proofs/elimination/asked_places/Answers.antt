@@ -6,20 +6,20 @@ use Rattle.ira_elim.proofs.elimination.asked_places.Goals.{then-is_some+in_ok-pu
 
 pub loop-place-preserved : goal.loop-place-preserved
 loop-place-preserved g c =
-    let fronts = c.args.fronts.now in let asked = c.loop-place.asked.items in let place = c.loop-place.place in
+    let queues = c.args.queues.now in let asked = c.loop-place.asked.items in let place = c.loop-place.place in
     let so_far = c.loop-place.invariant in
     elim c.if-is_some.branch [
       | then-is_some+in_ok-push w ↦
-          let has = found_some fronts (λ left. left.now) place c.candidates_left.result c.is_some.result
+          let has = found_some queues (λ left. left.now) place c.candidates_left.result c.is_some.result
           c.candidates_left.ensures c.is_some.ensures w.if-is_some.true in
-          let more = one_more fronts asked c.if-is_some.asked.items place has
+          let more = one_more queues asked c.if-is_some.asked.items place has
           (ap (λ (v : Vec ℕ g.row.A.Denot). v.items) w.asked-is
           ∙ w.in_ok-push.ensures.items) so_far.listed so_far.all in
           record { listed = more.0; all = more.1 }
       | else-is_some w ↦
-          let none = found_none fronts (λ left. left.now) place c.candidates_left.result c.is_some.result
+          let none = found_none queues (λ left. left.now) place c.candidates_left.result c.is_some.result
           c.candidates_left.ensures c.is_some.ensures w.if-is_some.false in
-          let same = none_more fronts asked c.if-is_some.asked.items place none
+          let same = none_more queues asked c.if-is_some.asked.items place none
           (ap (λ (v : Vec ℕ g.row.A.Denot). v.items) w.asked-is) so_far.listed so_far.all in
           record { listed = same.0; all = same.1 }
     ]
@@ -27,6 +27,6 @@ loop-place-preserved g c =
 pub returns : goal.returns
 returns g c = λ i. (
   c.loop-place.invariant.listed i,
-  λ has. c.loop-place.invariant.all i (let l = slice_get_within c.args.fronts.now i (Some has.0) has.1 in
+  λ has. c.loop-place.invariant.all i (let l = slice_get_within c.args.queues.now i (Some has.0) has.1 in
       omega arith) has,
 )

@@ -9,7 +9,7 @@ use Rattle.ira_elim.proofs.Standing.{found_at, is_within, long_counts}
 use Rattle.ira_elim.proofs.elimination.greatest_count.Goals as goal
 
 pub loop-other-init : goal.loop-other-init
-loop-other-init g c = λ logs fronts lp places left inside are. (λ k l. absurd (omega arith), inl refl)
+loop-other-init g c = λ logs queues lp places left inside are. (λ k l. absurd (omega arith), inl refl)
 
 pub bounds-stands-from : goal.bounds-stands-from
 bounds-stands-from g c =
@@ -46,9 +46,9 @@ count-requires g c =
     )
 
 pub loop-other-preserved : goal.loop-other-preserved
-loop-other-preserved g c = λ logs fronts lp places left inside are.
+loop-other-preserved g c = λ logs queues lp places left inside are.
     let stands = c.args.stands.now in let asked = c.args.asked.now in
-    let so_far = c.loop-other.invariant logs fronts lp places left inside are in
+    let so_far = c.loop-other.invariant logs queues lp places left inside are in
     let other : ℕ = get_or asked c.loop-other.other-index 0 in
     let member = at_place asked c.loop-other.other-index c.loop-other-test.true in
     let within = is_within stands asked other c.requires.standing member in
@@ -61,15 +61,15 @@ loop-other-preserved g c = λ logs fronts lp places left inside are.
     let here = inside other first.0 first.1 in
     let count : IsCount logs other first.0 c.args.place c.count.result =
     c.count.ensures logs first.0 here.0 lp here.1 is in
-    greatest_more logs fronts asked c.args.place c.loop-other.other-index c.loop-other.greatest first.0 c.count.result
+    greatest_more logs queues asked c.args.place c.loop-other.other-index c.loop-other.greatest first.0 c.count.result
     c.max-greatest.result is.order.1 is.order.2 first.1 count c.max-greatest.ensures so_far.0 so_far.1
 
 pub returns : goal.returns
-returns g c = λ logs fronts lp places left inside are.
-    let all = c.loop-other.invariant logs fronts lp places left inside are in
+returns g c = λ logs queues lp places left inside are.
+    let all = c.loop-other.invariant logs queues lp places left inside are in
     record {
       upper = λ j q first.
-          each_place fronts c.args.asked.now (λ (j : ℕ). (q : ℕ) → IsFirstLeft fronts j q → (n : ℕ)
+          each_place queues c.args.asked.now (λ (j : ℕ). (q : ℕ) → IsFirstLeft queues j q → (n : ℕ)
           × IsCount logs j q c.args.place n × (n ≤ c.loop-other.greatest)) places
           (λ k l. all.0 k (omega arith)) j (first.0, first.1) q first;
       reached = all.1;

@@ -6,6 +6,6 @@ use Rattle.ira_elim.proofs.elimination.greatest_count.Given as goal
 
 abbrev pub invariant-loop-other : goal.invariant-loop-other
 invariant-loop-other g l =
-    (logs : List Log) (fronts : List (Option (List ℕ))) → l.place < length logs → ArePlaces fronts l.asked
-    → HasFirstLefts fronts → AreWithin logs fronts → AreStands logs fronts l.stands
-    → IsUpper logs fronts l.asked l.place l.other-index l.greatest × IsReached logs fronts l.asked l.place l.greatest
+    (logs : List Log) (queues : List (Option (List ℕ))) → l.place < length logs → ArePlaces queues l.asked
+    → HasFirstLefts queues → AreWithin logs queues → AreStands logs queues l.stands
+    → IsUpper logs queues l.asked l.place l.other-index l.greatest × IsReached logs queues l.asked l.place l.greatest

@@ -5,6 +5,6 @@ use Rattle.ira_elim.proofs.elimination.least_cut.Given as goal
 
 abbrev pub invariant-loop-place : goal.invariant-loop-place
 invariant-loop-place g l =
-    (logs : List Log) (fronts : List (Option (List ℕ))) → l.nodes ≡ length logs → ArePlaces fronts l.asked
-    → HasFirstLefts fronts → AreWithin logs fronts → AreStands logs fronts l.stands
-    → (length l.cut.items ≡ l.place) × ((i : ℕ) → i < l.place → IsGreatestCount logs fronts i (get_or l.cut.items i 0))
+    (logs : List Log) (queues : List (Option (List ℕ))) → l.nodes ≡ length logs → ArePlaces queues l.asked
+    → HasFirstLefts queues → AreWithin logs queues → AreStands logs queues l.stands
+    → (length l.cut.items ≡ l.place) × ((i : ℕ) → i < l.place → IsGreatestCount logs queues i (get_or l.cut.items i 0))

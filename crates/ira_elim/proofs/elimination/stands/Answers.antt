@@ -10,14 +10,14 @@ at-requires-clause-position g c = (c.requires.within _ _ c.in-Some.ensures).1
 
 pub loop-place-preserved : goal.loop-place-preserved
 loop-place-preserved g c =
-    let logs = (g.C.HappenedBefore.logs_of c.args.ordered.now) in let fronts = c.args.fronts.now in
+    let logs = (g.C.HappenedBefore.logs_of c.args.ordered.now) in let queues = c.args.queues.now in
     let so_far = c.loop-place.invariant in
-    let more = one_stand_more logs fronts c.loop-place.stands.items c.push.new.self.items c.match-front.stand
+    let more = one_stand_more logs queues c.loop-place.stands.items c.push.new.self.items c.match-front.stand
     c.loop-place.place c.in_ok-push.ensures.items so_far.count so_far.stands
     (elim c.match-front.branch [
       | in-Some+in_ok-stand-in-Some w ↦ λ q first.
           let same : w.in-Some.position ≡ q =
-          one_first fronts c.loop-place.place c.loop-place.place w.in-Some.position q refl w.in-Some.ensures first
+          one_first queues c.loop-place.place c.loop-place.place w.in-Some.position q refl w.in-Some.ensures first
           in
           rw w.stand-is (subst (λ (n : ℕ). IsCandidateClock logs c.loop-place.place n w.in_ok-stand-in-Some.stand) same
           w.in_ok-stand-in-Some.ensures)

@@ -6,6 +6,6 @@ use Rattle.ira_elim.proofs.elimination.stands.Given as goal
 abbrev pub invariant-loop-place : goal.invariant-loop-place
 invariant-loop-place g l = record {
   count : length l.stands.items ≡ l.place;
-  stands : (j : ℕ) → j < l.place → (q : ℕ) → IsFirstLeft l.fronts j q → (s : CandidateClock)
+  stands : (j : ℕ) → j < l.place → (q : ℕ) → IsFirstLeft l.queues j q → (s : CandidateClock)
       × (slice_get l.stands.items j ≡ Some s) × IsCandidateClock (g.C.HappenedBefore.logs_of l.ordered) j q s;
 }

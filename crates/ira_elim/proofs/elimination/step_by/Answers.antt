@@ -16,13 +16,13 @@ pub returns-in_err-pos : goal.returns-in_err-pos
 returns-in_err-pos g c = λ logs inside are.
     none_is _ _ _ c.from_residual.ensures
     (λ s node other is. c.in_err-pos.ensures s.pos
-    (subst (λ (i : ℕ). IsFirstLeft c.args.fronts.now i s.pos) node is.front))
+    (subst (λ (i : ℕ). IsFirstLeft c.args.queues.now i s.pos) node is.front))
 
 pub returns-in_err-other_pos : goal.returns-in_err-other_pos
 returns-in_err-other_pos g c = λ logs inside are.
     none_is _ _ _ c.from_residual-in_err-other_pos.ensures
     (λ s node other is. c.in_err-other_pos.ensures s.other_pos
-    (subst (λ (i : ℕ). IsFirstLeft c.args.fronts.now i s.other_pos) other is.other_front))
+    (subst (λ (i : ℕ). IsFirstLeft c.args.queues.now i s.other_pos) other is.other_front))
 
 pub returns-in_err-get : goal.returns-in_err-get
 returns-in_err-get g c = λ logs inside are.
@@ -40,7 +40,7 @@ returns-in_err-count g c = λ logs inside are.
     let at : slice_get c.args.stands.now c.args.other ≡ Some c.in_ok-get.field-0.now =
     found_at c.args.stands.now c.from.result c.args.other c.in_ok-get.field-0.now c.from.ensures found.3.0 found.1
     in
-    let stand = stand_is logs c.args.fronts.now c.args.stands.now inside are s.other s.other_pos c.in_ok-get.field-0.now
+    let stand = stand_is logs c.args.queues.now c.args.stands.now inside are s.other s.other_pos c.in_ok-get.field-0.now
     is.other_front (rw other at) in
     let within = (inside s.node s.pos is.front).0 in
     let long = ap (λ (xs : List ℕ). length xs) c.counts.ensures in
@@ -55,12 +55,12 @@ returns-then-node-other g c = λ logs inside are s node other is.
     elim c.then-node-other.either [
       | inl same ↦ absurd (is.differ (node ∙ same ∙ sym other))
       | inr few ↦
-          let more = counted logs c.args.fronts.now c.args.stands.now inside are s c.in_ok-get.field-0.now is
+          let more = counted logs c.args.queues.now c.args.stands.now inside are s c.in_ok-get.field-0.now is
           (rw other at) in
           let count : c.in_ok-count.field-0.now ≡ slice_index c.in_ok-get.field-0.now.counts s.node =
           rw (node, ← c.from-2.ensures, ← c.counts.ensures) (c.in_ok-count.ensures.lookup.3.1 0) in
           let same : s.pos ≡ c.in_ok-pos.pos =
-          one_first c.args.fronts.now s.node c.args.node s.pos c.in_ok-pos.pos node is.front c.in_ok-pos.ensures in
+          one_first c.args.queues.now s.node c.args.node s.pos c.in_ok-pos.pos node is.front c.in_ok-pos.ensures in
           absurd (omega (arith, more, count, same, few.1))
     ]
 
@@ -72,6 +72,6 @@ returns g c = λ logs inside are.
     in
     let count : c.in_ok-count.field-0.now ≡ slice_index c.in_ok-get.field-0.now.counts c.args.node =
     rw (← c.from-2.ensures, ← c.counts.ensures) (c.in_ok-count.ensures.lookup.3.1 0) in
-    eliminates logs c.args.fronts.now c.args.stands.now inside are c.args.node c.in_ok-pos.pos c.args.other
+    eliminates logs c.args.queues.now c.args.stands.now inside are c.args.node c.in_ok-pos.pos c.args.other
     c.in_ok-other_pos.other_pos c.in_ok-get.field-0.now
     c.in_ok-pos.ensures c.in_ok-other_pos.ensures c.if-node-other.false at (omega (arith, count, c.if-count-pos.false))

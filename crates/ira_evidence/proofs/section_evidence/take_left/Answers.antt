@@ -14,12 +14,12 @@ all_taken left rest whole e none = sym e ∙ ap (λ (xs : List ℕ). left ++ xs)
 pub returns : goal.returns
 returns g c =
     let lookup = c.in-Some-Some.ensures.lookup in
-    let fronts = c.args.fronts.now in
+    let queues = c.args.queues.now in
     let item = c.in-Some-Some.field-0.now in
-    let at = slice_get-get_or fronts c.from.result item lookup.3.0
+    let at = slice_get-get_or queues c.from.result item lookup.3.0
     ∙ ap (λ (x : Option (List ℕ)). Some x) (sym lookup.1) in
     let whole = all_taken c.loop-position.left.items c.loop-position.ahead c.in-Some-Some.ahead
     c.loop-position.invariant c.in_default-front.ensures.value in
     let is : item ≡ Some c.in-Some-Some.ahead = c.in-Some-Some.field-0-is in
-    ap (λ (n : ℕ). slice_get fronts n) (sym c.from.ensures) ∙ at
+    ap (λ (n : ℕ). slice_get queues n) (sym c.from.ensures) ∙ at
     ∙ ap (λ (x : Option (List ℕ)). Some x) (is ∙ ap (λ (xs : List ℕ). Some xs) whole)

@@ -16,6 +16,6 @@ returns c =
     let at = sym c.line_end.ensures ∙ c.in-Some.is in
     let front : take end text ≡ c.split_at.result.0.now = sym c.split_at.ensures.front in
     let after : drop 1 (drop end text) ≡ more = sym (c.split_at-2.ensures.back ∙ ap (drop 1) c.split_at.ensures.back) in
-    let behind = ap (λ (x : List ℕ). take end text ++ codes "\n" ++ x) after in
+    let rest = ap (λ (x : List ℕ). take end text ++ codes "\n" ++ x) after in
     let line = ap (λ (x : List ℕ). x ++ codes "\n" ++ more) front in
-    (first_feed text end at ∙ behind ∙ line, subst HasNoLineFeed front (line_end_at text end at).whole)
+    (first_feed text end at ∙ rest ∙ line, subst HasNoLineFeed front (line_end_at text end at).whole)

@@ -3,7 +3,7 @@ use Rattle.std.proofs.Common.{subst, sym, take}
 use Rattle.std.proofs.lemmas.Grind.{div_ceil_times}
 use Rattle.std.proofs.lemmas.Result.{err_from_is_err_and}
 use Rattle.std.specs.Vec.Iter.{into_iter_items}
-use Rattle.ira_main.proofs.Shares.{AreShares, IsGathering, IsShare, behind_chunk, chunk_shares, chunk_within}
+use Rattle.ira_main.proofs.Shares.{AreShares, IsGathering, IsShare, after_chunk, chunk_shares, chunk_within}
 use Rattle.ira_main.proofs.Shares.{gathered, gathering_fault, gathering_next, gathering_none}
 use Rattle.ira_main.specs.FilesRead.{HasTakenFiles, IsFilesFault, names_of}
 use Rattle.ira_main.proofs.read_files.read_logs.Goals as goal
@@ -70,7 +70,7 @@ loop-share-preserved g c =
       left = omega (arith, ap length rest, steps.1);
       within = rw long (chunk_within size done names c.loop-share.invariant.within);
       gathering = rw long (subst (λ left. IsGathering reads (IsShare reads shelf) size names left shelf
-          c.append.new.self (into_iter_items c.next.new.self)) (sym (behind_chunk size done names)) more);
+          c.append.new.self (into_iter_items c.next.new.self)) (sym (after_chunk size done names)) more);
     }
 
 pub returns : goal.returns

@@ -2,7 +2,7 @@ use Rattle.std.proofs.Common.{◌≡◌, ℕ, [], sym, subst, inr, refl, ◌∙�
 use Rattle.std.proofs.lemmas.Result.{err_from_is_err_and}
 use Rattle.ira_event.specs.LogTextFault.{RecordsFault}
 use Rattle.ira_event.specs.Records.{HasRead}
-use Rattle.ira_event.proofs.LogReading.{behind_nothing, behind_more, behind_fault, record_shorter}
+use Rattle.ira_event.proofs.LogReading.{after_nothing, after_more, after_fault, record_shorter}
 use Rattle.ira_mend.specs.RecordedLogs.{HasReadLines}
 use Rattle.ira_mend.proofs.RecordedTexts.{lines_read, read_whole}
 use Rattle.ira_mend.proofs.recorded_logs.read_lines.Goals as goal
@@ -12,7 +12,7 @@ loop-events-init g c =
     let none : c.in_ok-events.events ≡ [] = c.in_ok-events.ensures in
     record {
       read = subst (λ es. HasRead c.args.records.rest es c.args.records) (sym none)
-          (behind_nothing c.args.records.rest c.args.records refl c.requires);
+          (after_nothing c.args.records.rest c.args.records refl c.requires);
       version = refl;
     }
 
@@ -22,7 +22,7 @@ returns-in_err-event g c =
     let same : p.0 ≡ c.in_err-event.field-0.0 = p.2 in
     rw (p.1, same) (inr (
       subst (λ (v : ℕ). RecordsFault v c.args.records.rest c.in_err-event.field-0.0)
-          c.loop-events.invariant.version (behind_fault _ _ _ _ c.loop-events.invariant.read c.in_err-event.ensures.0),
+          c.loop-events.invariant.version (after_fault _ _ _ _ c.loop-events.invariant.read c.in_err-event.ensures.0),
       c.in_err-event.ensures.1,
     ))
 
@@ -35,7 +35,7 @@ pub loop-events-preserved : goal.loop-events-preserved
 loop-events-preserved g c =
     let read = read_whole _ _ _ _ c.in_ok-event.ensures c.in-Some.is in
     record {
-      read = rw c.in_ok-push.ensures.ok (behind_more _ _ _ _ _ c.loop-events.invariant.read read);
+      read = rw c.in_ok-push.ensures.ok (after_more _ _ _ _ _ c.loop-events.invariant.read read);
       version = read.version ∙ c.loop-events.invariant.version;
     }
 

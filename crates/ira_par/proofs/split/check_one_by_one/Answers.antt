@@ -3,7 +3,7 @@ use Rattle.std.proofs.lemmas.Option.{slice_get_read}
 use Rattle.ira_event.specs.Log.{Log}
 use Rattle.ira_cert.specs.declared.verdict.Verdict.{Verdict}
 use Rattle.ira_cert.specs.declared.verdict.Verdict.TheVariants.{Yes}
-use Rattle.ira_cert.specs.Fronts.{AreFronts}
+use Rattle.ira_cert.specs.Queues.{AreQueues}
 use Rattle.ira_cert.specs.SoundSection.{IsSoundSection}
 use Rattle.ira_cert.specs.Verdict.{IsVerdict}
 use Rattle.ira_par.specs.Sections.{AreSoundBefore}
@@ -19,12 +19,12 @@ loop-section-preserved g c =
     c.index-cases-section.is in
     let section_at = slice_get_read c.args.sections.now (length c.args.cases.now) c.loop-section.section section
     (sym c.requires.number) (search rules) c.index-sections-section.is in
-    let fronts : AreFronts logs case c.in_ok-fronts.fronts.items =
-    subst (λ (ls : List Log). AreFronts ls case c.in_ok-fronts.fronts.items) (sym c.requires.order)
-    c.in_ok-fronts.ensures.fronts in
+    let queues : AreQueues logs case c.in_ok-queues.queues.items =
+    subst (λ (ls : List Log). AreQueues ls case c.in_ok-queues.queues.items) (sym c.requires.order)
+    c.in_ok-queues.ensures.queues in
     let verdict : IsVerdict logs case section Yes =
     subst (λ (v : Verdict). IsVerdict logs case section v) c.in_default.is
-    (c.check_fronts.ensures case c.in_ok-fronts.ensures.different fronts) in
+    (c.check_queues.ensures case c.in_ok-queues.ensures.different queues) in
     sound_more c.args.profiles.now c.args.cases.now c.args.sections.now c.loop-section.section case section case_at
     section_at c.loop-section.invariant
     (subst (λ (ls : List Log). IsSoundSection ls case section) c.requires.order verdict)

@@ -1,7 +1,7 @@
 use Rattle.std.proofs.Common.{◌≡◌, ◌∙◌, ◌++◌, ◌∷◌, [], List, Ok, length, sym, ap, subst}
 use Rattle.ira_event.specs.Log.{Log}
 use Rattle.ira_cert.specs.declared.verdict.Verdict.TheVariants.{Yes, No}
-use Rattle.ira_cert.specs.Fronts.{AreFronts}
+use Rattle.ira_cert.specs.Queues.{AreQueues}
 use Rattle.ira_par.specs.CandidateTable.{AreTables, AreBelow}
 use Rattle.ira_par.specs.Task.{Task}
 use Rattle.ira_par.proofs.Answered.{answered}
@@ -11,17 +11,17 @@ use Rattle.ira_par.proofs.split.check_split.Goals.{After-judge_batch}
 
 pub returns-then-depth-eq0-clause-yes : goal.returns-then-depth-eq0-clause-yes
 returns-then-depth-eq0-clause-yes g c =
-    let fronts = c.in_ok-fronts.ensures in
-    answered c.args.ordered.now.logs c.args.logs.now c.requires.order c.args.case.now fronts.different (λ logs case.
-    AreFronts logs case c.in_ok-fronts.fronts.items) fronts.fronts c.args.section.now
-    (Ok c.check_fronts.result) c.check_fronts.ensures Yes
+    let queues = c.in_ok-queues.ensures in
+    answered c.args.ordered.now.logs c.args.logs.now c.requires.order c.args.case.now queues.different (λ logs case.
+    AreQueues logs case c.in_ok-queues.queues.items) queues.queues c.args.section.now
+    (Ok c.check_queues.result) c.check_queues.ensures Yes
 
 pub returns-then-depth-eq0-clause-no : goal.returns-then-depth-eq0-clause-no
 returns-then-depth-eq0-clause-no g c = λ f.
-    let fronts = c.in_ok-fronts.ensures in
-    answered c.args.ordered.now.logs c.args.logs.now c.requires.order c.args.case.now fronts.different (λ logs case.
-    AreFronts logs case c.in_ok-fronts.fronts.items) fronts.fronts c.args.section.now
-    (Ok c.check_fronts.result) c.check_fronts.ensures (No f)
+    let queues = c.in_ok-queues.ensures in
+    answered c.args.ordered.now.logs c.args.logs.now c.requires.order c.args.case.now queues.different (λ logs case.
+    AreQueues logs case c.in_ok-queues.queues.items) queues.queues c.args.section.now
+    (Ok c.check_queues.result) c.check_queues.ensures (No f)
 
 pub judge_batch-requires-clause-places : goal.judge_batch-requires-clause-places
 judge_batch-requires-clause-places g c κs within = λ k other at.

@@ -12,7 +12,7 @@ use Rattle.ira_picture.proofs.picture.lanes_of_ring.Goals as goal
 pub returns : goal.returns
 returns g c =
     let shown : Lane g.row.A.Denot → Drawn =
-    λ lane. record { events = lane.events; marks = lane.marks.items; end = lane.end; stop = lane.stop } in
+    λ lane. record { events = lane.events; marks = lane.marks.items; end = lane.end; first_fault = lane.first_fault } in
     record {
       places = length-map c.loop-place.lanes.items shown ∙ search rules;
       each = λ i log d at_log at_d. c.loop-place.invariant.each i d at_d log at_log;
@@ -21,7 +21,7 @@ returns g c =
 pub loop-place-preserved : goal.loop-place-preserved
 loop-place-preserved g c =
     let shown : Lane g.row.A.Denot → Drawn =
-    λ lane. record { events = lane.events; marks = lane.marks.items; end = lane.end; stop = lane.stop } in
+    λ lane. record { events = lane.events; marks = lane.marks.items; end = lane.end; first_fault = lane.first_fault } in
     let items : c.push.new.self.items ≡ c.loop-place.lanes.items ++ c.in_ok-lane.lane ∷ [] =
     c.in_ok-push.ensures.items in
     let mapped : map shown c.push.new.self.items ≡ map shown c.loop-place.lanes.items ++ shown c.in_ok-lane.lane ∷ [] =

@@ -4,7 +4,7 @@ use Rattle.ira_event.specs.declared.event.Event.TheVariants.{Draw, Sent, Got, Yi
 use Rattle.ira_links.specs.declared.frame.Frame.TheVariants.{Load as Loaded}
 use Rattle.ira_node.specs.declared.node_state.NodeState.{NodeState}
 use Rattle.ira_node.specs.NodeStep.{HasStep}
-use Rattle.ira_run.specs.FullRun.{drawn}
+use Rattle.ira_event.specs.Messages.{drawn}
 use Rattle.ira_run.specs.Terms.{version_of}
 use Rattle.ira_order.specs.Matching.{got}
 use Rattle.ira_threads.specs.NodeFrames.{frames}

@@ -22,8 +22,8 @@ use Rattle.ira_words.specs.ShowRequest.{HasLogsToShow, NamesLogsToShow}
 use Rattle.ira_words.specs.declared.options_fault.OptionsFault.{OptionsFault}
 use Rattle.ira_words.specs.declared.options_fault.OptionsFault.TheVariants as options
 use Rattle.ira_words.proofs.AfterCommands.{IsCommand, asked_for, check_command, decide_command, draw_command}
-use Rattle.ira_words.proofs.AfterCommands.{explain_command, found_behind, logs_command, mend_command, pairs_command}
-use Rattle.ira_words.proofs.AfterCommands.{run_command, show_command, so_behind, upgrade_command, version_command}
+use Rattle.ira_words.proofs.AfterCommands.{explain_command, found_after, logs_command, mend_command, pairs_command}
+use Rattle.ira_words.proofs.AfterCommands.{run_command, show_command, so_after, upgrade_command, version_command}
 use Rattle.ira_words.proofs.FirstWord.{NamesOne, command_met}
 use Rattle.ira_words.proofs.GivenNames.{dashes_rows, of_files, words_rows}
 use Rattle.ira_words.proofs.command_line.found_request.Goals.{in_default-via-in-Some+in_default}
@@ -35,27 +35,27 @@ met_name : {X : Type 0} (n m : X) (o : Option X) → n ≡ m → Some n ≡ o �
 met_name n m o is met = ap (λ x. Some x) (sym is) ∙ met
 
 -- a failure after a command is handed on
-refused_behind : {X : Type 0} (r : Result X OptionsFault) (e : OptionsFault) (app : App) → IsCommand app
+refused_after : {X : Type 0} (r : Result X OptionsFault) (e : OptionsFault) (app : App) → IsCommand app
     → (m : ArgMatches) (found : List Row)
     → Some found ≡ option_map (λ s. s.1) (subcommand_rows_of m) → Some app.top.name ≡ subcommand_name_of m
     → (IsSo : List Row → Type 0) → ((words : List (List ℕ)) → GoTogether words → After app words IsSo)
     → IsErrAnd r (λ f. f ≡ e) → (IsSo found → e ≡ options.OutOfMemory)
     → IfErr r (λ why. (words : List (List ℕ)) → AreMatchesOf words m → GoTogether words → why ≡ options.OutOfMemory)
-refused_behind (Ok x) e app is m found read name IsSo once fails memory = tt
-refused_behind (Err f) e app is m found read name IsSo once fails memory =
-    λ words parse named. fails ∙ memory (so_behind app is m words parse found read name IsSo (once words named))
+refused_after (Ok x) e app is m found read name IsSo once fails memory = tt
+refused_after (Err f) e app is m found read name IsSo once fails memory =
+    λ words parse named. fails ∙ memory (so_after app is m words parse found read name IsSo (once words named))
 
 pub logs_request-requires : goal.logs_request-requires
 logs_request-requires c =
     let arm = c.in-Some-logs-default in
-    found_behind logs_app logs_command _ _ c.requires.1 _ arm.ensures.rows (met_name _ _ _ arm.is-logs arm.ensures.name)
+    found_after logs_app logs_command _ _ c.requires.1 _ arm.ensures.rows (met_name _ _ _ arm.is-logs arm.ensures.name)
 
 pub returns-in_err-logs_request-in-Some-logs-default-clause-refused :
     goal.returns-in_err-logs_request-in-Some-logs-default-clause-refused
 returns-in_err-logs_request-in-Some-logs-default-clause-refused c =
     let arm = c.in-Some-logs-default in
     let failed = c.in_err-logs_request-in-Some-logs-default in
-    refused_behind c.from_residual.result _ logs_app logs_command _ _ arm.ensures.rows
+    refused_after c.from_residual.result _ logs_app logs_command _ _ arm.ensures.rows
     (met_name _ _ _ arm.is-logs arm.ensures.name)
     NamesLogs (λ words named. named.logs) c.from_residual.ensures.1 failed.ensures.refused
 
@@ -85,7 +85,7 @@ returns-in_ok-logs_request-in-Some-logs-default-clause-made c = λ words parse.
 pub explain_request-requires : goal.explain_request-requires
 explain_request-requires c =
     let arm = c.in-Some-explain-default in
-    found_behind explain_app explain_command _ _ c.requires.1 _ arm.ensures.rows
+    found_after explain_app explain_command _ _ c.requires.1 _ arm.ensures.rows
     (met_name _ _ _ arm.is-explain arm.ensures.name)
 
 pub returns-in_err-explain_request-in-Some-explain-default-clause-refused :
@@ -93,7 +93,7 @@ pub returns-in_err-explain_request-in-Some-explain-default-clause-refused :
 returns-in_err-explain_request-in-Some-explain-default-clause-refused c =
     let arm = c.in-Some-explain-default in
     let failed = c.in_err-explain_request-in-Some-explain-default in
-    refused_behind c.from_residual-in_err-explain_request-in-Some-explain-default.result _ explain_app explain_command
+    refused_after c.from_residual-in_err-explain_request-in-Some-explain-default.result _ explain_app explain_command
     _ _ arm.ensures.rows (met_name _ _ _ arm.is-explain arm.ensures.name)
     NamesAnswer (λ words named. named.explain) c.from_residual-in_err-explain_request-in-Some-explain-default.ensures.1
     failed.ensures.refused
@@ -110,14 +110,14 @@ returns-in_ok-explain_request-in-Some-explain-default-clause-made c = λ words p
 pub draw_request-requires : goal.draw_request-requires
 draw_request-requires c =
     let arm = c.in-Some-draw-default in
-    found_behind draw_app draw_command _ _ c.requires.1 _ arm.ensures.rows (met_name _ _ _ arm.is-draw arm.ensures.name)
+    found_after draw_app draw_command _ _ c.requires.1 _ arm.ensures.rows (met_name _ _ _ arm.is-draw arm.ensures.name)
 
 pub returns-in_err-draw_request-in-Some-draw-default-clause-refused :
     goal.returns-in_err-draw_request-in-Some-draw-default-clause-refused
 returns-in_err-draw_request-in-Some-draw-default-clause-refused c =
     let arm = c.in-Some-draw-default in
     let failed = c.in_err-draw_request-in-Some-draw-default in
-    refused_behind c.from_residual-in_err-draw_request-in-Some-draw-default.result _ draw_app draw_command _ _
+    refused_after c.from_residual-in_err-draw_request-in-Some-draw-default.result _ draw_app draw_command _ _
     arm.ensures.rows (met_name _ _ _ arm.is-draw arm.ensures.name)
     NamesLogsToDraw (λ words named. named.draw) c.from_residual-in_err-draw_request-in-Some-draw-default.ensures.1
     failed.ensures.refused
@@ -133,14 +133,14 @@ returns-in_ok-draw_request-in-Some-draw-default-clause-made c = λ words parse.
 pub show_request-requires : goal.show_request-requires
 show_request-requires c =
     let arm = c.in-Some-show-default in
-    found_behind show_app show_command _ _ c.requires.1 _ arm.ensures.rows (met_name _ _ _ arm.is-show arm.ensures.name)
+    found_after show_app show_command _ _ c.requires.1 _ arm.ensures.rows (met_name _ _ _ arm.is-show arm.ensures.name)
 
 pub returns-in_err-show_request-in-Some-show-default-clause-refused :
     goal.returns-in_err-show_request-in-Some-show-default-clause-refused
 returns-in_err-show_request-in-Some-show-default-clause-refused c =
     let arm = c.in-Some-show-default in
     let failed = c.in_err-show_request-in-Some-show-default in
-    refused_behind c.from_residual-in_err-show_request-in-Some-show-default.result _ show_app show_command _ _
+    refused_after c.from_residual-in_err-show_request-in-Some-show-default.result _ show_app show_command _ _
     arm.ensures.rows (met_name _ _ _ arm.is-show arm.ensures.name)
     NamesLogsToShow (λ words named. named.show) c.from_residual-in_err-show_request-in-Some-show-default.ensures.1
     failed.ensures.refused
@@ -156,7 +156,7 @@ returns-in_ok-show_request-in-Some-show-default-clause-made c = λ words parse.
 pub check_request-requires : goal.check_request-requires
 check_request-requires c =
     let arm = c.in-Some-check-default in
-    found_behind check_app check_command _ _ c.requires.1 _ arm.ensures.rows
+    found_after check_app check_command _ _ c.requires.1 _ arm.ensures.rows
     (met_name _ _ _ arm.is-check arm.ensures.name)
 
 pub returns-in_err-check_request-in-Some-check-default-clause-refused :
@@ -164,7 +164,7 @@ pub returns-in_err-check_request-in-Some-check-default-clause-refused :
 returns-in_err-check_request-in-Some-check-default-clause-refused c =
     let arm = c.in-Some-check-default in
     let failed = c.in_err-check_request-in-Some-check-default in
-    refused_behind c.from_residual-in_err-check_request-in-Some-check-default.result _ check_app check_command _ _
+    refused_after c.from_residual-in_err-check_request-in-Some-check-default.result _ check_app check_command _ _
     arm.ensures.rows (met_name _ _ _ arm.is-check arm.ensures.name)
     NamesLogs (λ words named. named.check) c.from_residual-in_err-check_request-in-Some-check-default.ensures.1
     failed.ensures.refused
@@ -180,7 +180,7 @@ returns-in_ok-check_request-in-Some-check-default-clause-made c = λ words parse
 pub decide_request-requires : goal.decide_request-requires
 decide_request-requires c =
     let arm = c.in-Some-decide-default in
-    found_behind decide_app decide_command _ _ c.requires.1 _ arm.ensures.rows
+    found_after decide_app decide_command _ _ c.requires.1 _ arm.ensures.rows
     (met_name _ _ _ arm.is-decide arm.ensures.name)
 
 pub returns-in_err-decide_request-in-Some-decide-default-clause-refused :
@@ -188,7 +188,7 @@ pub returns-in_err-decide_request-in-Some-decide-default-clause-refused :
 returns-in_err-decide_request-in-Some-decide-default-clause-refused c =
     let arm = c.in-Some-decide-default in
     let failed = c.in_err-decide_request-in-Some-decide-default in
-    refused_behind c.from_residual-in_err-decide_request-in-Some-decide-default.result _ decide_app decide_command _ _
+    refused_after c.from_residual-in_err-decide_request-in-Some-decide-default.result _ decide_app decide_command _ _
     arm.ensures.rows (met_name _ _ _ arm.is-decide arm.ensures.name)
     NamesLogs (λ words named. named.decide) c.from_residual-in_err-decide_request-in-Some-decide-default.ensures.1
     failed.ensures.refused
@@ -204,7 +204,7 @@ returns-in_ok-decide_request-in-Some-decide-default-clause-made c = λ words par
 pub pairs_nodes-requires : goal.pairs_nodes-requires
 pairs_nodes-requires c =
     let arm = c.in-Some-pairs-default in
-    found_behind pairs_app pairs_command _ _ c.requires.1 _ arm.ensures.rows
+    found_after pairs_app pairs_command _ _ c.requires.1 _ arm.ensures.rows
     (met_name _ _ _ arm.is-pairs arm.ensures.name)
 
 pub returns-in-Some-pairs-default-clause-made : goal.returns-in-Some-pairs-default-clause-made
@@ -216,7 +216,7 @@ returns-in-Some-pairs-default-clause-made c = λ words parse.
 pub run_request-requires : goal.run_request-requires
 run_request-requires c =
     let arm = c.in-Some-run-default in
-    found_behind run_app run_command _ _ c.requires.1 _ arm.ensures.rows (met_name _ _ _ arm.is-run arm.ensures.name)
+    found_after run_app run_command _ _ c.requires.1 _ arm.ensures.rows (met_name _ _ _ arm.is-run arm.ensures.name)
 
 pub returns-in-Some-run-default-clause-made : goal.returns-in-Some-run-default-clause-made
 returns-in-Some-run-default-clause-made c = λ words parse.
@@ -228,7 +228,7 @@ pub rewrite_request-requires : goal.rewrite_request-requires
 rewrite_request-requires c =
     let arm = c.in-Some-upgrade-default in (
       _,
-      found_behind upgrade_app upgrade_command _ _ c.requires.1 _ arm.ensures.rows
+      found_after upgrade_app upgrade_command _ _ c.requires.1 _ arm.ensures.rows
           (met_name _ _ _ arm.is-upgrade arm.ensures.name),
     )
 
@@ -237,7 +237,7 @@ pub returns-in_err-rewrite_request-in-Some-upgrade-default-clause-refused :
 returns-in_err-rewrite_request-in-Some-upgrade-default-clause-refused c =
     let arm = c.in-Some-upgrade-default in
     let failed = c.in_err-rewrite_request-in-Some-upgrade-default in
-    refused_behind c.from_residual-in_err-rewrite_request-in-Some-upgrade-default.result _ upgrade_app upgrade_command
+    refused_after c.from_residual-in_err-rewrite_request-in-Some-upgrade-default.result _ upgrade_app upgrade_command
     _ _ arm.ensures.rows (met_name _ _ _ arm.is-upgrade arm.ensures.name)
     NamesLogs (λ words named. named.upgrade) c.from_residual-in_err-rewrite_request-in-Some-upgrade-default.ensures.1
     failed.ensures.refused
@@ -255,7 +255,7 @@ pub rewrite_request-requires-in-Some-mend-default : goal.rewrite_request-require
 rewrite_request-requires-in-Some-mend-default c =
     let arm = c.in-Some-mend-default in (
       _,
-      found_behind mend_app mend_command _ _ c.requires.1 _ arm.ensures.rows
+      found_after mend_app mend_command _ _ c.requires.1 _ arm.ensures.rows
           (met_name _ _ _ arm.is-mend arm.ensures.name),
     )
 
@@ -264,7 +264,7 @@ pub returns-in_err-rewrite_request-in-Some-mend-default-clause-refused :
 returns-in_err-rewrite_request-in-Some-mend-default-clause-refused c =
     let arm = c.in-Some-mend-default in
     let failed = c.in_err-rewrite_request-in-Some-mend-default in
-    refused_behind c.from_residual-in_err-rewrite_request-in-Some-mend-default.result _ mend_app mend_command _ _
+    refused_after c.from_residual-in_err-rewrite_request-in-Some-mend-default.result _ mend_app mend_command _ _
     arm.ensures.rows (met_name _ _ _ arm.is-mend arm.ensures.name)
     NamesLogs (λ words named. named.mend) c.from_residual-in_err-rewrite_request-in-Some-mend-default.ensures.1
     failed.ensures.refused

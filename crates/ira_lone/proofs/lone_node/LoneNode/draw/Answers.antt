@@ -3,13 +3,13 @@ use Rattle.ira_lone.proofs.LoneNodes.{makes_draw, draws_none}
 use Rattle.ira_lone.proofs.lone_node.LoneNode.draw.Goals as goal
 
 pub returns-in_default : goal.returns-in_default
-returns-in_default g c = λ most terms room. (
-  draws_none _ most terms _ _ _ _ _ _ c.self.view_is c.requires.state c.requires.wanted room
+returns-in_default g c = λ most terms below_cap. (
+  draws_none _ most terms _ _ _ _ _ _ c.self.view_is c.requires.state c.requires.wanted below_cap
       c.in_default.ensures.cases,
   refl,
 )
 
 pub returns : goal.returns
-returns g c = λ most terms room.
-    makes_draw _ most terms _ _ _ _ _ _ _ _ _ _ c.self.view_is c.requires.state c.requires.wanted room
+returns g c = λ most terms below_cap.
+    makes_draw _ most terms _ _ _ _ _ _ _ _ _ _ c.self.view_is c.requires.state c.requires.wanted below_cap
     c.in-Some.ensures.cases.0 ((c.in-Ok.ensures.ok c.in-Ok.after).0 refl) c.in_ok-push.ensures.items

@@ -15,6 +15,6 @@ unreachable-requires g c =
     c.in_default.not-Ok (free s.term s.phase) ((c.step.ensures.ok (free s.term s.phase)).1 step)
 
 pub returns : goal.returns
-returns g c = λ most terms room.
-    makes_sending _ most terms _ _ _ _ _ _ _ _ _ c.self.view_is c.requires.state c.requires.wanted room
+returns g c = λ most terms below_cap.
+    makes_sending _ most terms _ _ _ _ _ _ _ _ _ c.self.view_is c.requires.state c.requires.wanted below_cap
     ((c.in-Ok.ensures.ok c.in-Ok.after).0 refl) c.in_ok-push.ensures.items

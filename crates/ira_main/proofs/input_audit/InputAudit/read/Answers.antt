@@ -10,8 +10,8 @@ returns-clause-once g c =
     let e = c.in_ok-self-inside.ensures in
     let n = c.in_ok-self-inside.field-0 in
     let f = c.self.inside.filled in
-    let xs = c.self.inside.room.items in
-    let ys = c.read_behind.new.room.items in
+    let xs = c.self.inside.buffer.items in
+    let ys = c.read_after.new.buffer.items in
     let bytes = take n (drop f ys) in (
       bytes,
       e.once,

@@ -16,9 +16,9 @@ returns-in-Ok-clause-replayed g c =
     rw back at c.event-event.ensures in
     let step : NodeStep c.args.log.now.nodes c.args.self.now.end c.event-event.result c.advance.new.self =
     rw c.nodes.ensures at c.in-Ok.ensures.steps in
-    let reached = still_going c.args.log.now n c.args.self.now.end c.args.self.now.stop c.if-is_some.ensures
+    let reached = still_going c.args.log.now n c.args.self.now.end c.args.self.now.first_fault c.if-is_some.ensures
     c.requires.replayed in
-    goes_on c.args.log.now (n + 1) c.advance.new.self c.args.self.now.stop c.if-is_some.ensures
+    goes_on c.args.log.now (n + 1) c.advance.new.self c.args.self.now.first_fault c.if-is_some.ensures
     (reaches_more c.args.log.now n c.args.self.now.end c.event-event.result reached at c.advance.new.self step)
 
 pub returns-in-Ok-clause-known : goal.returns-in-Ok-clause-known
@@ -29,7 +29,7 @@ returns-in-Ok-clause-known g c =
     rw back at c.event-event.ensures in
     let step : NodeStep c.args.log.now.nodes c.args.self.now.end c.event-event.result c.advance.new.self =
     rw c.nodes.ensures at c.in-Ok.ensures.steps in
-    let reached = still_going c.args.log.now n c.args.self.now.end c.args.self.now.stop c.if-is_some.ensures
+    let reached = still_going c.args.log.now n c.args.self.now.end c.args.self.now.first_fault c.if-is_some.ensures
     c.requires.replayed in
     reaches_more c.args.log.now n c.args.self.now.end c.event-event.result reached at c.advance.new.self step
 
@@ -41,7 +41,7 @@ returns-in-Err-clause-replayed g c =
     rw back at c.event-event.ensures in
     let fault : NodeStepFault c.args.log.now.nodes c.args.self.now.end c.event-event.result c.in-Err.fault =
     rw c.nodes.ensures at c.in-Err.ensures.steps in
-    let reached = still_going c.args.log.now n c.args.self.now.end c.args.self.now.stop c.if-is_some.ensures
+    let reached = still_going c.args.log.now n c.args.self.now.end c.args.self.now.first_fault c.if-is_some.ensures
     c.requires.replayed in (
       stops_here c.args.log.now n c.args.self.now.end c.event-event.result reached at c.in-Err.fault fault,
       omega arith,
@@ -56,7 +56,7 @@ returns-in-Err-clause-known g c =
     rw back at c.event-event.ensures in
     let fault : NodeStepFault c.args.log.now.nodes c.args.self.now.end c.event-event.result c.in-Err.fault =
     rw c.nodes.ensures at c.in-Err.ensures.steps in
-    let reached = still_going c.args.log.now n c.args.self.now.end c.args.self.now.stop c.if-is_some.ensures
+    let reached = still_going c.args.log.now n c.args.self.now.end c.args.self.now.first_fault c.if-is_some.ensures
     c.requires.replayed in (
       record { position = n + 1; fault = c.in-Err.fault },
       stops_here c.args.log.now n c.args.self.now.end c.event-event.result reached at c.in-Err.fault fault,

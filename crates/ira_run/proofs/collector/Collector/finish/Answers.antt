@@ -5,7 +5,7 @@ use Rattle.ira_event.proofs.Gathering.{no-fault}
 use Rattle.ira_run.specs.Collector.{AreTaken, HasNoEnd}
 use Rattle.ira_run.specs.NodeEnd.{is_stopped}
 use Rattle.ira_run.specs.Run.{Run, IsRun}
-use Rattle.ira_run.proofs.Collecting.{parts_of, none-by, parts-more, parts-whole, missing-behind, each-stopped}
+use Rattle.ira_run.proofs.Collecting.{parts_of, none-by, parts-more, parts-whole, missing-after, each-stopped}
 use Rattle.ira_run.proofs.Collecting.{run-has-end, parts-are-logs, run-of-parts, answers-no-end, answers-run}
 use Rattle.ira_run.proofs.collector.Collector.finish.Goals as goal
 
@@ -16,7 +16,7 @@ returns-in_default-clause-err g c =
     let rest : into_iter_items c.loop-part.part-iterator ≡ None ∷ others =
     c.in-Some.ensures.steps.0 ∙ ap (λ part. part ∷ others) none in
     answers-no-end c.args.self
-    (missing-behind c.args.self (parts_of c.loop-part.logs.items c.loop-part.ends.items)
+    (missing-after c.args.self (parts_of c.loop-part.logs.items c.loop-part.ends.items)
     (into_iter_items c.loop-part.part-iterator) others rest c.loop-part.invariant.parts)
 
 pub loop-part-preserved : goal.loop-part-preserved

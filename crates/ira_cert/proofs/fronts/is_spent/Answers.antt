@@ -1,6 +1,0 @@
-use Rattle.ira_cert.proofs.Behind.{none_left}
-use Rattle.ira_cert.proofs.fronts.is_spent.Goals as goal
-
-pub returns : goal.returns
-returns g c = none_left c.args.fronts.now c.args.place c.in-Some.left.now c.front.result c.is_none.result
-    c.in-Some.ensures c.front.ensures.value c.is_none.ensures

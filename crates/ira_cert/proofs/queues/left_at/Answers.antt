@@ -1,0 +1,27 @@
+use Rattle.std.proofs.Common.{Some, ◌∙◌, sym}
+use Rattle.std.proofs.lemmas.Option.{slice_get_within}
+use Rattle.ira_cert.proofs.QueueHeads.{not_asked_at, spent_at, front_at}
+use Rattle.ira_cert.proofs.queues.left_at.Goals as goal
+
+pub returns-in_default-clause-left : goal.returns-in_default-clause-left
+returns-in_default-clause-left g c =
+    λ logs case before rest.
+    not_asked_at logs case before c.args.queues.now rest c.args.place (λ xs at. c.in_default.ensures (xs, at))
+
+pub returns-in-Some-front-clause-place : goal.returns-in-Some-front-clause-place
+returns-in-Some-front-clause-place g c =
+    λ _. slice_get_within c.args.queues.now c.args.place (Some c.in-Some.left.now) c.in-Some.ensures
+
+pub returns-in-Some-front-clause-left : goal.returns-in-Some-front-clause-left
+returns-in-Some-front-clause-left g c = λ logs case before rest.
+    front_at logs case before c.args.queues.now rest c.args.place c.in-Some-front.position c.in-Some.left.now
+    c.in-Some.ensures (sym c.front.ensures.value ∙ c.in-Some-front.is)
+
+pub returns-in-None-clause-place : goal.returns-in-None-clause-place
+returns-in-None-clause-place g c =
+    λ _. slice_get_within c.args.queues.now c.args.place (Some c.in-Some.left.now) c.in-Some.ensures
+
+pub returns-in-None-clause-left : goal.returns-in-None-clause-left
+returns-in-None-clause-left g c = λ logs case before rest.
+    spent_at logs case before c.args.queues.now rest c.args.place c.in-Some.left.now c.in-Some.ensures
+    (sym c.front.ensures.value ∙ c.in-None.is)

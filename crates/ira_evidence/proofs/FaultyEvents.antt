@@ -1,0 +1,85 @@
+-- The first stops of nodes, as they are listed.
+use Rattle.std.proofs.Common.{◌≡◌, ℕ, ◌+◌, ◌<◌, ◌≤◌, inl, inr, List, [], ◌∷◌, ◌++◌, Some, length, subst, arith}
+use Rattle.std.specs.Prelude.{slice_get}
+use Rattle.std.proofs.lemmas.Bool.{cases_eq}
+use Rattle.std.proofs.lemmas.Option.{slice_get_within}
+use Rattle.ira_event.specs.Log.{Log}
+use Rattle.ira_replay.specs.LocalRun.{IsFirstFault}
+use Rattle.ira_replay.specs.declared.replay_fault.ReplayFault.{ReplayFault}
+use Rattle.ira_evidence.specs.declared.faulty_event.FaultyEvent.{FaultyEvent}
+use Rattle.ira_evidence.specs.FaultyEvent.{AreFirstFaultyEvents, IsFirstFaultyEvent}
+use Rattle.ira_evidence.proofs.BeginningLaws.{is_stop, same_stop, stop_event, stop_of}
+use Rattle.ira_evidence.proofs.Pushed.{pushed_cases, pushed_last, pushed_old}
+
+-- the stops of the first n nodes
+pub record StopsSoFar (logs : List Log) (stops : List FaultyEvent) (n : ℕ) : Type 0 where
+  pub each : (k : ℕ) (s : FaultyEvent) → slice_get stops k ≡ Some s → IsFirstFaultyEvent logs s × (s.at.place < n)
+  pub all : (s : FaultyEvent) → IsFirstFaultyEvent logs s → s.at.place < n → (k : ℕ) × (slice_get stops k ≡ Some s)
+  pub rise : (k h : ℕ) (s t : FaultyEvent) → k < h → slice_get stops k ≡ Some s → slice_get stops h ≡ Some t
+      → s.at.place < t.at.place
+
+pub no_stops : (logs : List Log) → StopsSoFar logs [] 0
+no_stops logs = record {
+  each = λ k s at. absurd cc;
+  all = λ s is below. absurd (omega (arith, below));
+  rise = λ k h s t less at there. absurd cc;
+}
+
+-- a node more, without a stop
+pub stops_over : (logs : List Log) (stops : List FaultyEvent) (n : ℕ) (log : Log) → slice_get logs n ≡ Some log
+    → ((f : ReplayFault) → IsFirstFault log f → ⊥) → StopsSoFar logs stops n → StopsSoFar logs stops (n + 1)
+stops_over logs stops n log at none so_far = record {
+  each = λ k s there. ((so_far.each k s there).0, omega (arith, (so_far.each k s there).1));
+  all = λ s is below. elim (cases_eq s.at.place n) [
+    | inr ne ↦ so_far.all s is (omega (arith, below, ne))
+    | inl here ↦
+        let there : slice_get logs n ≡ Some is.log = subst (λ k. slice_get logs k ≡ Some is.log) here is.log_is in
+        let same : is.log ≡ log = cc in
+        absurd (none _ (subst (λ l. IsFirstFault l (record { position = s.at.position; fault = s.fault })) same
+        is.fault))
+  ];
+  rise = so_far.rise;
+}
+
+-- a node more, with one
+pub stops_more : (logs : List Log) (stops : List FaultyEvent) (n : ℕ) (log : Log) (f : ReplayFault)
+    → slice_get logs n ≡ Some log → IsFirstFault log f → StopsSoFar logs stops n
+    → StopsSoFar logs (stops ++ stop_of n f ∷ []) (n + 1)
+stops_more logs stops n log f at fault so_far = record {
+  each = λ k s there. elim (pushed_cases stops (stop_of n f) s k there) [
+    | inl old ↦ ((so_far.each k s old).0, omega (arith, (so_far.each k s old).1))
+    | inr new ↦ subst (λ (x : FaultyEvent). IsFirstFaultyEvent logs x × (x.at.place < n + 1)) new.1 (
+      is_stop logs n log f at fault,
+      omega arith,
+    )
+  ];
+  all = λ s is below. elim (cases_eq s.at.place n) [
+    | inr ne ↦
+        let found = so_far.all s is (omega (arith, below, ne)) in
+        (found.0, pushed_old stops (stop_of n f) s found.0 found.1)
+    | inl here ↦
+        let same : stop_of n f ≡ s = same_stop logs n log f s at fault is here in (
+          length stops,
+          subst (λ (x : FaultyEvent). slice_get (stops ++ stop_of n f ∷ []) (length stops)
+              ≡ Some x) same (pushed_last stops (stop_of n f)),
+        )
+  ];
+  rise = λ k h s t less there further. elim (pushed_cases stops (stop_of n f) t h further) [
+    | inl old ↦ elim (pushed_cases stops (stop_of n f) s k there) [
+      | inl early ↦ so_far.rise k h s t less early old
+      | inr new ↦ absurd (omega (arith, less, new.0, slice_get_within stops h t old))
+    ]
+    | inr new ↦ elim (pushed_cases stops (stop_of n f) s k there) [
+      | inl early ↦ subst (λ (x : FaultyEvent). s.at.place < x.at.place) new.1 ((so_far.each k s early).1)
+      | inr same ↦ absurd (omega (arith, less, new.0, same.0))
+    ]
+  ];
+}
+
+pub stops_all : (logs : List Log) (stops : List FaultyEvent) (n : ℕ) → length logs ≤ n → StopsSoFar logs stops n
+    → AreFirstFaultyEvents logs stops
+stops_all logs stops n whole so_far = record {
+  each = λ k s at. (so_far.each k s at).0;
+  all = λ s is. so_far.all s is (omega (arith, whole, (stop_event logs s is).place));
+  rise = so_far.rise;
+}

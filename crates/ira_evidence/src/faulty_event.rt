@@ -1,0 +1,39 @@
+ghost use Rattle.std.specs.Prelude.{IfOk};
+ghost use Rattle.ira_evidence.specs.FaultyEvent.{AreFirstFaultyEvents};
+
+use crate::event_at::EventAt;
+use ira_event::{Logs, OutOfMemory};
+use ira_node::StepFault;
+use ira_replay::replay;
+use std::alloc::Allocator;
+
+/// A node's first event without a step.
+#[derive(Clone, Copy, Debug, PartialEq, Eq)]
+pub struct FaultyEvent {
+    pub at: EventAt,
+    /// Why it has none.
+    pub fault: StepFault,
+}
+
+/// Each node's first event without a step, where it has one, in the order of places.
+pub fn first_faulty_events<A: Allocator>(
+    alloc: A,
+    logs: &Logs<A>,
+) -> Result<Vec<FaultyEvent, A>, OutOfMemory>
+    ensures { IfOk result (λ faulty. AreFirstFaultyEvents logs.now faulty.items) }
+{
+    let nodes = logs.size().get();
+    let mut faulty = Vec::new(alloc);
+    for place in 0..nodes {
+        if let Err(fault) = replay(logs.log(place)) {
+            faulty.push(FaultyEvent {
+                at: EventAt {
+                    place,
+                    position: fault.position,
+                },
+                fault: fault.fault,
+            })?;
+        }
+    }
+    Ok(faulty)
+}
