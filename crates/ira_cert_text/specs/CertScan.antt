@@ -25,7 +25,7 @@ step_at text = do
   rest ← after_word (codes "\n") other_pos.1
   Some (record { node = node.0; pos = pos.0; other = other.0; other_pos = other_pos.0 }, rest)
 
--- the line of a section then_or its first one, and what follows it
+-- the line of a section after its first one, and what follows it
 abbrev pub section_line_at : List ℕ → Option (SpelledLine × List ℕ)
 section_line_at text =
     then_or (after_word (codes "drop ") text) (λ r. option_map (λ p. (Step p.0, p.1)) (step_at r))

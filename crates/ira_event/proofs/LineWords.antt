@@ -10,21 +10,21 @@ use Rattle.ira_event.specs.declared.log_line.LogLine.TheVariants.{Record, End}
 use Rattle.ira_event.specs.LogScan.{load_at, number_line, word_at, yield_at, line_at}
 use Rattle.ira_event.specs.Scan.{after_word, then_or}
 
--- what stands then_or the word, to its line's end
+-- what stands after the word, to its line's end
 abbrev pub line_after : LineWord → List ℕ → Option (LogLine × List ℕ)
 line_after word.Draw r = option_map (λ p. (Record (Draw p.0), p.1)) (number_line r)
 line_after word.Send r = option_map (λ p. (Record (Sent p.0), p.1)) (load_at r)
 line_after word.Recv r = option_map (λ p. (Record (Got p.0), p.1)) (load_at r)
 line_after word.End r = option_map (λ p. (End p.0, p.1)) (number_line r)
 
--- the word, of what stands then_or each of the four where the text begins with it
+-- the word, of what stands after each of the four where the text begins with it
 abbrev first_word : Option (List ℕ) → Option (List ℕ) → Option (List ℕ) → Option (List ℕ) → Option (LineWord × List ℕ)
 first_word d s r e =
     then_or d (λ x. Some (word.Draw, x))
     (then_or s (λ x. Some (word.Send, x))
     (then_or r (λ x. Some (word.Recv, x)) (then_or e (λ x. Some (word.End, x)) None)))
 
--- the line then_or its word, or else a yield
+-- the line after its word, or else a yield
 abbrev pub line_of : Option (LineWord × List ℕ) → List ℕ → Option (LogLine × List ℕ)
 line_of None text = yield_at text
 line_of (Some p) text = line_after p.0 p.1

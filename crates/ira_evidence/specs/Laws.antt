@@ -1,4 +1,4 @@
--- Laws of what stands after a no.
+-- Laws of what a no rests on.
 use Rattle.std.specs.Prelude.{◌≡◌, ℕ, ◌⊎◌, List, Some, slice_get, take}
 use Rattle.ira_event.specs.Log.{Log}
 use Rattle.ira_event.specs.Logs.{AreLogs}

@@ -1,4 +1,4 @@
-//! What stands after a no: of logs that were refused, the events that a reader has to look at.
+//! What a no rests on: of logs that were refused, the events that a reader has to look at.
 #![tactic(auto)]
 
 mod absence;

@@ -1,5 +1,5 @@
 -- A setup that keeps the rules has a full run: as long as some node has a next event it is made, and there is
--- less below_cap for events each time.
+-- less room for events each time.
 use Rattle.std.proofs.Common.{◌≡◌, ◌≢◌, ℕ, zero, suc, ◌+◌, ◌<◌, ◌≤◌, ◌⊎◌, inl, inr, All, List, [], ◌∷◌, length, get_or}
 use Rattle.std.proofs.Common.{refl, sym, ◌∙◌, subst, ap, arith}
 use Rattle.std.specs.Prelude.{map}

@@ -1,4 +1,4 @@
--- Turn after turn: the nodes below the least one have nothing to do, and there is less and less below_cap.
+-- Turn after turn: the nodes below the least one have nothing to do, and there is less and less room.
 use Rattle.std.proofs.Common.{◌≡◌, ◌≢◌, ℕ, zero, suc, ◌+◌, ◌-◌, ◌*◌, ◌<◌, ◌≤◌, inl, inr, Option, Some, None, List, []}
 use Rattle.std.proofs.Common.{◌∷◌, ◌++◌, length, refl, sym, ◌∙◌, subst, ap, length-append, arith}
 use Rattle.std.specs.List.{sum_by}
@@ -29,7 +29,7 @@ still_ended n most terms i m after old new moved far ended j l =
     let above : next n i ≡ i + 1 = next_above n i far in
     subst P (sym (moved.2 j (omega arith) (omega arith))) (ended j l)
 
--- ---- the below_cap
+-- ---- the room
 
 -- how many events the nodes may still make
 abbrev pub room_in : ℕ → List LoneNode → ℕ

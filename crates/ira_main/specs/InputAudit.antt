@@ -2,11 +2,11 @@
 use Rattle.std.specs.Prelude.{◌≡◌, ℕ, ◌+◌, List, ◌++◌, length}
 use Rattle.ira_audit.specs.LogAudit.{LogAudit, HasTakenBytes}
 
--- an audit of the text's front, what was read after it, and for how many bytes there is buffer in all, these among them
+-- an audit of the text's front, what was read after it, and for how many bytes there is room in all, these among them
 pub record InputAudit : Type 0 where
   pub audit : LogAudit
   pub bytes : List ℕ
-  pub buffer : ℕ
+  pub capacity : ℕ
 
 -- how many bytes were read
 abbrev pub bytes_read : InputAudit → ℕ

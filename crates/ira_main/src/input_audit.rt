@@ -31,7 +31,7 @@ impl<A: Allocator> Model for InputAudit<A> {
 
     ghost Value = { InputAudit };
 
-    ghost view = { λ i. record { audit = i.audit; bytes = take i.filled i.buffer.items; buffer = length i.buffer.items } };
+    ghost view = { λ i. record { audit = i.audit; bytes = take i.filled i.buffer.items; capacity = length i.buffer.items } };
 
     ghost invariant = { λ i. (i.filled ≤ length i.buffer.items) × (0 < length i.buffer.items)
         × (i.audit.taken + length i.buffer.items ≤ MAX_TEXT + 1) };
@@ -63,12 +63,12 @@ impl<A: Allocator> InputAudit<A> {
         self.audit.taken() + self.filled
     }
 
-    /// Makes buffer for more of the text where there is none: what the audit takes goes, and where it takes nothing the
+    /// Makes room for more of the text where there is none: what the audit takes goes, and where it takes nothing the
     /// buffer is made twice as long.
     fn make_room(&mut self) -> Result<(), ShelfFault>
         requires { bytes_read self.old ≤ MAX_TEXT }
         ensures read { OnOk result ((text : List ℕ) → HasReadText self.old text → HasReadText self.new text) }
-        ensures buffer { OnOk result (length self.new.bytes < self.new.buffer) }
+        ensures room { OnOk result (length self.new.bytes < self.new.capacity) }
         ensures len { OnOk result (bytes_read self.new ≡ bytes_read self.old) }
         ensures fault { IfErr result (λ f. f ≡ ShelfFault.OutOfMemory) }
     {
@@ -90,9 +90,9 @@ impl<A: Allocator> InputAudit<A> {
         Ok(())
     }
 
-    /// Reads once, where there is buffer.
+    /// Reads once, where there is room.
     fn read<I: Read>(&mut self, input: &mut CountingReader<I>) -> Result<(), ShelfFault>
-        requires buffer { length self.old.bytes < self.old.buffer }
+        requires room { length self.old.bytes < self.old.capacity }
         requires open { input.old.is_over ≡ false }
         ensures once { OnOk result ((bytes : List ℕ) × IsReadOnce input.old input.new bytes
             × (bytes_read self.new ≡ bytes_read self.old + length bytes)

@@ -1,4 +1,4 @@
--- Helpers, no definitions: how a clause is scanned from the front. The grammar doesn't then_or on it, and
+-- Helpers, no definitions: how a clause is scanned from the front. The grammar doesn't rest on it, and
 -- proofs tie both.
 use Rattle.std.specs.Option.{option_map}
 use Rattle.std.specs.Prelude.{ℕ, zero, suc, Bool, true, false, List, Option, Some, None, codes, nat_le, if◌then◌else◌}
