@@ -44,14 +44,18 @@ fail() {
     failed=$((failed + 1))
 }
 
-while IFS=$tab read -r name line status; do
-    found=$(judge "$name")
-    found_status=$?
-    if [ "$found" = "$line" ] && [ "$found_status" = "$status" ]; then
+# Compares the line and the status that were found for a row with those that it has.
+compare() {
+    if [ "$1" = "$line" ] && [ "$2" = "$status" ]; then
         passed=$((passed + 1))
     else
-        fail "$name: wanted $line ($status), found $found ($found_status)"
+        fail "$3: wanted $line ($status), found $1 ($2)"
     fi
+}
+
+while IFS=$tab read -r name line status; do
+    found=$(judge "$name")
+    compare "$found" $? "$name"
 done <<END
 $rows
 END
@@ -146,11 +150,7 @@ while IFS=$tab read -r name line status; do
     *) [ "$(head -c 5 "$folder/drawn.svg")" = "<svg " ] || found="no picture" ;;
     esac
     rm -f "$folder/drawn.svg"
-    if [ "$found" = "$line" ] && [ "$found_status" = "$status" ]; then
-        passed=$((passed + 1))
-    else
-        fail "draw of $name: wanted $line ($status), found $found ($found_status)"
-    fi
+    compare "$found" "$found_status" "draw of $name"
 done <<END
 $rows
 END
