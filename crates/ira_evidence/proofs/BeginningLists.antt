@@ -104,7 +104,7 @@ module _ (logs : List Log) (named : EventAt) (stops : List FaultyEvent) (h : ℕ
           )
         ];
         all = stops_below stops (λ s. IsBeginning logs s → (k : ℕ) × (c : Beginning)
-            × (slice_get (bs ++ b ∷ []) k ≡ Some c) × (c.stop ≡ s)) h l
+            × (slice_get (bs ++ b ∷ []) k ≡ Some c) × (c.event ≡ s)) h l
             (λ i s below at begins. (let found = so_far.all i s below at begins in
             (found.0, found.1, pushed_old bs b found.1 found.0 found.2, found.3)))
             (λ begins. (length bs, b, pushed_last bs b, same));
