@@ -4,7 +4,6 @@
 mod after_words;
 mod arrows;
 mod drawing;
-mod event_words;
 mod frame;
 mod grid;
 mod headline;

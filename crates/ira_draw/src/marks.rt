@@ -1,7 +1,7 @@
 use crate::after_words::AfterWords;
-use crate::event_words::EventWords;
 use crate::grid::{Grid, TOP};
 use ira_event::Event;
+use ira_explain::EventWords;
 use ira_picture::{Lane, Mark, Picture};
 use std::alloc::Allocator;
 use std::fmt;
