@@ -21,7 +21,7 @@ IsReplayed log steps = MatchResult steps (λ _. IsLocalRun log) (λ r. (f : Repl
 abbrev pub AreReplayed : List Log → Result (Unit {0}) Reason → Type 0
 AreReplayed logs steps =
     MatchResult steps (λ _. AreLocalRuns logs) (λ r. (place : ℕ) × (f : ReplayFault)
-        × (stop : IsFirstReplayFault logs place f)
+    × (stop : IsFirstReplayFault logs place f)
     × (r ≡ Replay stop.log.place f.position f.fault))
 
 -- why the logs have no order; that memory ran out says nothing of them

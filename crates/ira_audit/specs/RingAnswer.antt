@@ -45,7 +45,7 @@ pub data IsRingAnswer (texts : List (List ℕ)) (answer : Answer) : Type 0 where
   stopped :
       (logs : List Log) (place : ℕ) (f : ReplayFault) → AreLogTexts texts logs → AreLogs logs → HasOrder logs
       → IsFirstReplayFault logs place f → answer ≡ No (reason.Replay place f.position f.fault)
-          → IsRingAnswer texts answer
+      → IsRingAnswer texts answer
   -- the logs match and have an order, and all events have steps
   yes : (logs : List Log) → AreGoodLogs texts logs → answer ≡ Yes → IsRingAnswer texts answer
 

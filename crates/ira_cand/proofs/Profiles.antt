@@ -285,7 +285,7 @@ module _ {A : Type 0} (log : Log) (f : Formula) (spans : List (PhaseSpan A)) whe
         ap (marks_passing test p) (next_span r lt is) ∙ passing-append test p (span_marks r) rest in
         let long : length (span_marks r) ≡ length r.owes.items = length-map r.owes.items (λ o. (r.stage, o)) in
         let here : marks_passing test p (span_marks r) ≡ picked (test r.stage false) (test r.stage true) p
-            r.owes.items =
+        r.owes.items =
         span_passing test r.stage p r.owes.items in
         let both : marks_passing test p (flat_map span_marks (drop k spans))
         ≡ picked (test r.stage false) (test r.stage true) p r.owes.items

@@ -44,7 +44,7 @@ is_counted logs queues i p j q counts are inside first other_first s at by is =
 
 module _ (logs : List Log) (case : List Conjunct) (before : List CertStep) (queues left : List (Option (List ℕ)))
     (queues_after : AreQueuesAfter logs case before queues) (s : CertStep) (is : IsElimination logs queues s)
-        (moved : left
+    (moved : left
     ≡ one_fewer queues s.node) where
   -- the list of another node stays
   other_list : (i : ℕ) → i ≢ s.node → slice_get left i ≡ slice_get queues i

@@ -186,7 +186,7 @@ viewed logs queues seen stands stood pairs Q e f said inside are all =
 
 module _ (logs : List Log) (case : List Conjunct) (before : List CertStep) (queues left : List (Option (List ℕ)))
     (queues_after : AreQueuesAfter logs case before queues) (s : CertStep) (is : IsElimination logs queues s)
-        (moved : left
+    (moved : left
     ≡ one_fewer queues s.node) (stands new : List CandidateClock) (inside : AreWithin logs queues)
     (are : AreStands logs queues stands) (inside_left : AreWithin logs left) (again : AreStands logs left new) where
   -- where the node that moved knows no more, it eliminates nothing anew
@@ -203,7 +203,7 @@ module _ (logs : List Log) (case : List Conjunct) (before : List CertStep) (queu
         let more = counted logs left new inside_left again r next.0 eliminated next.1 in
         let differ : r.node ≢ s.node = λ e. eliminated.differ (e ∙ sym by) in
         let first = other_first logs case before queues left queues_after s is moved r.node r.pos differ
-            eliminated.front in
+        eliminated.front in
         let was = eliminates logs queues stands inside are r.node r.pos s.node s.pos st.0 first is.front differ st.1
         (subst (λ (cs : List ℕ). r.pos < slice_index cs r.node) counts more) in
         subst (λ (j : ℕ). Has pairs r.node j) (sym by)

@@ -69,7 +69,7 @@ module _ (logs : List Log) (order : List ℕ) (o : IsOrder logs order) (matches 
   earlier : (s : FaultyEvent) (n : ℕ) → n ≤ length logs
       → ((other : FaultyEvent) × IsFirstFaultyEvent logs other × HappenedBefore logs other.at s.at)
       ⊎ ((other : FaultyEvent) → IsFirstFaultyEvent logs other → other.at.place < n → HappenedBefore logs other.at s.at
-          → ⊥)
+      → ⊥)
   earlier s zero l = inr (λ other is below. absurd (omega (arith, below)))
   earlier s (suc n) l = elim (earlier s n (omega (arith, l))) [
     | inl found ↦ inl found
@@ -103,8 +103,10 @@ module _ (logs : List Log) (order : List ℕ) (o : IsOrder logs order) (matches 
       → IsBeginning logs s ⊎ ((b : FaultyEvent) × IsBeginning logs b × HappenedBefore logs b.at s.at)
   go_back zero s t l stands is = absurd (omega (arith, l))
   go_back (suc room) s t l stands is = elim (earlier s (length logs) (omega arith)) [
-    | inr none ↦ inl (record { faulty = is; least = λ other first. none other first (stop_event logs other first).place
-        })
+    | inr none ↦ inl (record {
+      faulty = is;
+      least = λ other first. none other first (stop_event logs other first).place;
+    })
     | inl found ↦
         let event = stop_event logs found.0 found.1 in
         let there = place_of logs order o found.0.at.place found.0.at.position event.place event.first event.last in

@@ -32,7 +32,7 @@ module _ (logs : List Log) (stops : List FaultyEvent) (are : AreFirstFaultyEvent
 -- what holds of the first stops, and of the next one, holds of one more
 pub stops_below : (stops : List FaultyEvent) (P : FaultyEvent → Type 0) (h : ℕ) → h < length stops
     → ((k : ℕ) (s : FaultyEvent) → k < h → slice_get stops k ≡ Some s → P s) → P (stop_at stops h)
-        → (k : ℕ) (s : FaultyEvent)
+    → (k : ℕ) (s : FaultyEvent)
     → k < h + 1 → slice_get stops k ≡ Some s → P s
 stops_below stops P h l before here k s below at = elim (cases_eq k h) [
   | inr ne ↦ before k s (omega (arith, below, ne)) at
@@ -67,66 +67,68 @@ no_beginnings logs named stops = record {
 
 module _ (logs : List Log) (named : EventAt) (stops : List FaultyEvent) (h : ℕ) (bs : List Beginning)
     (are : AreFirstFaultyEvents logs stops) (l : h < length stops) (so_far : BeginningsSoFar logs named stops h bs)
-        where
-  -- a stop more that is none to begin with
-  pub beginnings_over : (other : FaultyEvent) → IsFirstFaultyEvent logs other
-      → HappenedBefore logs other.at (stop_at stops h).at
-      → BeginningsSoFar logs named stops (h + 1) bs
-  beginnings_over other first happened = record {
-    each = so_far.each;
-    listed_in = λ k b at. (let found = so_far.listed_in k b at in (found.0, omega (arith, found.1), found.2));
-    all = stops_below stops (λ s. IsBeginning logs s → (k : ℕ) × (b : Beginning) × (slice_get bs k ≡ Some b)
-        × (b.event ≡ s)) h l so_far.all (λ is. absurd (is.least other first happened));
-    rise = so_far.rise;
-  }
+  where
+    -- a stop more that is none to begin with
+    pub beginnings_over : (other : FaultyEvent) → IsFirstFaultyEvent logs other
+        → HappenedBefore logs other.at (stop_at stops h).at
+        → BeginningsSoFar logs named stops (h + 1) bs
+    beginnings_over other first happened = record {
+      each = so_far.each;
+      listed_in = λ k b at. (let found = so_far.listed_in k b at in (found.0, omega (arith, found.1), found.2));
+      all = stops_below stops (λ s. IsBeginning logs s → (k : ℕ) × (b : Beginning) × (slice_get bs k ≡ Some b)
+          × (b.event ≡ s)) h l so_far.all (λ is. absurd (is.least other first happened));
+      rise = so_far.rise;
+    }
 
-  -- and one that is
-  pub beginnings_more : (b : Beginning) → b.event ≡ stop_at stops h
-      → ((other : FaultyEvent) → IsFirstFaultyEvent logs other → HappenedBefore logs other.at (stop_at stops h).at → ⊥)
-      → (IsTrue b.happened_before ↔ HappenedBefore logs (stop_at stops h).at named)
-      → BeginningsSoFar logs named stops (h + 1) (bs ++ b ∷ [])
-  beginnings_more b same least before =
-      let is : IsBeginning logs b.event = rw same (record { faulty = stop_listed logs stops are h l; least = least }) in
-      let before' : IsTrue b.happened_before ↔ HappenedBefore logs b.event.at named = rw same before in
-      let here : slice_get stops h ≡ Some b.event = listed stops h l ∙ ap Some (sym same) in
-      record {
-        each = λ k c at. elim (pushed_cases bs b c k at) [
-          | inl old ↦ so_far.each k c old
-          | inr new ↦ subst (λ (x : Beginning). IsBeginning logs x.event
-              × (IsTrue x.happened_before ↔ HappenedBefore logs x.event.at named)) new.1 (is, before')
-        ];
-        listed_in = λ k c at. elim (pushed_cases bs b c k at) [
-          | inl old ↦ (let found = so_far.listed_in k c old in (found.0, omega (arith, found.1), found.2))
-          | inr new ↦ subst (λ (x : Beginning). (i : ℕ) × (i < h + 1) × (slice_get stops i ≡ Some x.event)) new.1 (
-            h,
-            omega arith,
-            here,
-          )
-        ];
-        all = stops_below stops (λ s. IsBeginning logs s → (k : ℕ) × (c : Beginning)
-            × (slice_get (bs ++ b ∷ []) k ≡ Some c) × (c.event ≡ s)) h l
-            (λ i s below at begins. (let found = so_far.all i s below at begins in
-            (found.0, found.1, pushed_old bs b found.1 found.0 found.2, found.3)))
-            (λ begins. (length bs, b, pushed_last bs b, same));
-        rise = λ k j a c less at there. elim (pushed_cases bs b c j there) [
-          | inl old ↦ elim (pushed_cases bs b a k at) [
-            | inl early ↦ so_far.rise k j a c less early old
-            | inr new ↦ absurd (omega (arith, less, new.0, slice_get_within bs j c old))
-          ]
-          | inr new ↦ elim (pushed_cases bs b a k at) [
-            | inl early ↦
-                let found = so_far.listed_in k a early in
-                let lower : a.event.at.place < b.event.at.place = are.rise found.0 h a.event b.event found.1 found.2
-                    here in
-                subst (λ (x : Beginning). a.event.at.place < x.event.at.place) new.1 lower
-            | inr twice ↦ absurd (omega (arith, less, new.0, twice.0))
-          ]
-        ];
-      }
+    -- and one that is
+    pub beginnings_more : (b : Beginning) → b.event ≡ stop_at stops h
+        → ((other : FaultyEvent) → IsFirstFaultyEvent logs other
+        → HappenedBefore logs other.at (stop_at stops h).at → ⊥)
+        → (IsTrue b.happened_before ↔ HappenedBefore logs (stop_at stops h).at named)
+        → BeginningsSoFar logs named stops (h + 1) (bs ++ b ∷ [])
+    beginnings_more b same least before =
+        let is : IsBeginning logs b.event =
+        rw same (record { faulty = stop_listed logs stops are h l; least = least }) in
+        let before' : IsTrue b.happened_before ↔ HappenedBefore logs b.event.at named = rw same before in
+        let here : slice_get stops h ≡ Some b.event = listed stops h l ∙ ap Some (sym same) in
+        record {
+          each = λ k c at. elim (pushed_cases bs b c k at) [
+            | inl old ↦ so_far.each k c old
+            | inr new ↦ subst (λ (x : Beginning). IsBeginning logs x.event
+                × (IsTrue x.happened_before ↔ HappenedBefore logs x.event.at named)) new.1 (is, before')
+          ];
+          listed_in = λ k c at. elim (pushed_cases bs b c k at) [
+            | inl old ↦ (let found = so_far.listed_in k c old in (found.0, omega (arith, found.1), found.2))
+            | inr new ↦ subst (λ (x : Beginning). (i : ℕ) × (i < h + 1) × (slice_get stops i ≡ Some x.event)) new.1 (
+              h,
+              omega arith,
+              here,
+            )
+          ];
+          all = stops_below stops (λ s. IsBeginning logs s → (k : ℕ) × (c : Beginning)
+              × (slice_get (bs ++ b ∷ []) k ≡ Some c) × (c.event ≡ s)) h l
+              (λ i s below at begins. (let found = so_far.all i s below at begins in
+              (found.0, found.1, pushed_old bs b found.1 found.0 found.2, found.3)))
+              (λ begins. (length bs, b, pushed_last bs b, same));
+          rise = λ k j a c less at there. elim (pushed_cases bs b c j there) [
+            | inl old ↦ elim (pushed_cases bs b a k at) [
+              | inl early ↦ so_far.rise k j a c less early old
+              | inr new ↦ absurd (omega (arith, less, new.0, slice_get_within bs j c old))
+            ]
+            | inr new ↦ elim (pushed_cases bs b a k at) [
+              | inl early ↦
+                  let found = so_far.listed_in k a early in
+                  let lower : a.event.at.place < b.event.at.place = are.rise found.0 h a.event b.event found.1 found.2
+                  here in
+                  subst (λ (x : Beginning). a.event.at.place < x.event.at.place) new.1 lower
+              | inr twice ↦ absurd (omega (arith, less, new.0, twice.0))
+            ]
+          ];
+        }
 
 pub beginnings_all : (logs : List Log) (named : EventAt) (stops : List FaultyEvent) (h : ℕ) (bs : List Beginning)
     → AreFirstFaultyEvents logs stops → length stops ≤ h → BeginningsSoFar logs named stops h bs
-        → AreBeginnings logs named bs
+    → AreBeginnings logs named bs
 beginnings_all logs named stops h bs are whole so_far = record {
   each = so_far.each;
   all = λ s is. (let found = are.all s is.faulty in

@@ -94,7 +94,7 @@ next_or_none s node rules all = elim (cases_lt (length node.events) s.cap) [
   | inl below_cap ↦
       let w : Wanted = wanted_of node.state.term node.state.phase node.state.owed in
       by_want s.nodes s.cap s.terms node below_cap rules.terms.1 w refl all
-          (can_come s.nodes node.state w refl rules.size)
+      (can_come s.nodes node.state w refl rules.size)
   | inr full ↦ inr (full_ends s.nodes s.cap s.terms node full)
 ]
 

@@ -21,7 +21,7 @@ use Rattle.ira_pred.specs.ClauseScan.{negated_at, clause_at}
 rel-cases : (text : List ℕ) (p : Rel × List ℕ) (a b c : Option (List ℕ)) → after_word (codes "< ") text ≡ a
     → after_word (codes "= ") text ≡ b → after_word (codes "> ") text ≡ c
     → then_or a (λ r. Some (Less, r)) (then_or b (λ r. Some (Equal, r)) (then_or c (λ r. Some (Greater, r)) None)) ≡
-        Some p
+    Some p
     → text ≡ rel_sign p.0 ++ codes " " ++ p.1
 rel-cases text p (Some r) b c ea eb ec e =
     word-takes (codes "< ") text r ea
@@ -126,7 +126,7 @@ atom-cases : (d : ℕ) (text : List ℕ) (p : Formula × List ℕ) (a b c g h y 
     (then_or g (λ r. Some (passive, r))
     (then_or h (λ r. Some (choosing, r)) (then_or y (λ r. Some (yielding, r)) (then_or i (λ r. Some (owes, r))
     (then_or j (comparison_at round) (then_or k (comparison_at id) (then_or t (comparison_at term) None))))))))) ≡ Some
-        p
+    p
     → Taken d text p
 atom-cases d text p (Some r) b c g h y i j k t ea eb ec eg eh ey ei ej ek et e =
     fact d text (codes "true") r always p ea refl refl e

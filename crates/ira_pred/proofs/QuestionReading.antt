@@ -304,7 +304,7 @@ gives_nothing view o scanned h e = subst (λ p. Gives view p scanned) e h
 
 pub goes_on_clause : (nodes number : ℕ) (text : List ℕ) (place p : ℕ) (rest : List ℕ) (f : Formula)
     (remainder after : List ℕ) (asked : List Conjunct) (new : LinesLeft) → place_at text ≡ Some (place, rest)
-        → nodes ≤ 255
+    → nodes ≤ 255
     → p ≡ place → Follows nodes asked place
     → clause_at 32 rest ≡ Some (f, remainder) → after_word (codes "\n") remainder ≡ Some after
     → new ≡ record { rest = after; number = number + 1 }

@@ -100,8 +100,12 @@ module _ (s : Setup) (ds : List (List ℕ)) (more : (i : ℕ) → i < s.nodes
         → HasEvent s.nodes s.terms (node_draws (with_draws s ds) i) (lone.logs.end.state i) (events_at lone.logs.run i)
         (lone.logs.end.link (prev s.nodes i)) → ⊥
     no_step_still i l can (yields leads below) =
-        lone.logs.full.whole i l (record { not_last = can.not_last; below_cap = can.below_cap; event = yields leads
-            below })
+        lone.logs.full.whole i l (record {
+          not_last = can.not_last;
+          below_cap = can.below_cap;
+          event = yields leads
+              below;
+        })
     no_step_still i l can (owes m o) =
         lone.logs.full.whole i l (record { not_last = can.not_last; below_cap = can.below_cap; event = owes m o })
     no_step_still i l can (chooses term round is unused) = none_unused i term round l is can.below_cap unused

@@ -230,7 +230,7 @@ advance-requires-clause-stand g c = λ t at.
     c.deref-in-Some-next_step.ensures.value c.in-Some-front.ensures in
     let stand = stand_is logs queues c.steps.stands.items inside so_far.stands s.node s.pos t is.front at in
     let onward = own_first logs some.0 c.steps.invariant.0 queues _ made.queues_after s is left
-        c.in-Some-front.position first
+    c.in-Some-front.position first
     in (
       omega (arith, stand.position, onward),
       subst (λ (n : ℕ). IsCandidateClock logs s.node n t) (sym stand.position) stand,
@@ -278,7 +278,7 @@ steps-preserved g c =
     let set = moved.1 in
     let inside_left = within logs some.0 (c.steps.invariant.0 ++ s ∷ []) _ next.queues_after in
     let again = stands_again logs queues stands inside so_far.stands some.0 c.steps.invariant.0 made.queues_after s is
-        _ left
+    _ left
     _ moved.0 set c.in-Some-front.position first moved.2 in
     let old = viewed logs queues c.deref-in-steps-2.result.now stands c.deref-in-steps.result.now c.steps.pairs
     (λ (fs : List (Option (List ℕ))). HasEliminations logs fs c.next_step.new.pairs)

@@ -45,7 +45,7 @@ loop-event-preserved g c =
 pub returns : goal.returns
 returns g c = beginnings_all (g.H.HappenedBefore.logs_of c.args.ordered.now) c.args.named.at c.args.faulty.now
     c.loop-event.event-index c.loop-event.beginnings.items c.requires.faulty c.loop-event-test.false
-        c.loop-event.invariant
+    c.loop-event.invariant
 
 pub before-happened_before-requires-clause-second : goal.before-happened_before-requires-clause-second
 before-happened_before-requires-clause-second g c =

@@ -6,7 +6,12 @@ abbrev pub invariant-loop-place : goal.invariant-loop-place
 invariant-loop-place g l = record {
   number : length l.lanes.items ≡ l.place;
   each : EachDrawn l.logs l.columns.nodes l.window
-      (map (λ lane. record { events = lane.events; marks = lane.marks.items; end = lane.end; first_fault =
-          lane.first_fault })
+      (map (λ lane. record {
+        events = lane.events;
+        marks = lane.marks.items;
+        end = lane.end;
+        first_fault =
+            lane.first_fault;
+      })
       l.lanes.items);
 }

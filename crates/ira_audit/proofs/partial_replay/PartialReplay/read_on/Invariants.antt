@@ -6,7 +6,7 @@ abbrev pub invariant-loop-event : goal.invariant-loop-event
 invariant-loop-event l = record {
   begun : (text : List ℕ) → IsBegun text l.fn.self l.initial.records
       → IsBegun text (record { head = l.head; count = l.records.count; state = l.state; first_fault = l.first_fault })
-          l.records;
+      l.records;
   suffix : IsSuffix l.records.rest l.initial.records.rest;
   version : l.records.version ≡ l.head.version;
 }

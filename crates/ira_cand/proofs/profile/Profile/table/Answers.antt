@@ -33,7 +33,7 @@ span_answers-free-requires g c = λ pair there.
 pub pick-requires : goal.pick-requires
 pick-requires g c =
     let room = table_room c.args.self.now (formula c.args.clause.now) c.deref-span-items.result.now
-        c.loop-span.span-index
+    c.loop-span.span-index
     c.loop-span.position c.loop-span.found.items c.loop-span.invariant c.span-item.result c.loop-span-test.true
     c.span-item.is in
     rw c.deref-in-loop-span-2.ensures.value room
@@ -41,7 +41,7 @@ pick-requires g c =
 pub overflow_add-position : goal.overflow_add-position
 overflow_add-position g c =
     let room = table_room c.args.self.now (formula c.args.clause.now) c.deref-span-items.result.now
-        c.loop-span.span-index
+    c.loop-span.span-index
     c.loop-span.position c.loop-span.found.items c.loop-span.invariant c.span-item.result c.loop-span-test.true
     c.span-item.is in
     let long : c.len.result ≡ length c.span-item.result.owes.items = c.len.ensures ∙ c.span-item.result.owes.ok.0 in
@@ -62,7 +62,7 @@ loop-span-preserved g c =
     ∙ ap (λ b. c.loop-span.found.items ++ picked b.0 b.1 c.loop-span.position span.owes.items) both.ensures in
     rw long (table_more log f c.deref-span-items.result.now c.loop-span.span-index c.loop-span.position
     c.loop-span.found.items c.loop-span.invariant span c.pick.new.found.items c.loop-span-test.true c.span-item.is
-        found)
+    found)
 
 pub returns : goal.returns
 returns g c =
