@@ -1,5 +1,16 @@
+mod Bands
+mod Counts
+mod Debts
+mod DrawnArrows
 mod DrawnMarks
+mod Effects
 mod EventNumbers
+mod Known
 mod NodeLanes
 mod NodeTraffic
+mod OnePlace
+mod Placed
 mod Replays
+mod Rising
+mod SliceReads
+mod Starts

@@ -3,7 +3,6 @@ use Rattle.std.proofs.Common.{◌≡◌, ℕ, List, [], ◌∷◌, ◌++◌, Som
 use Rattle.std.specs.Prelude.{slice_get, slice_index_or}
 use Rattle.ira_event.specs.Log.{Log}
 use Rattle.ira_evidence.proofs.Pushed.{each_pushed}
-use Rattle.ira_order.specs.Ring.{events_of, log_of}
 use Rattle.ira_picture.specs.declared.window.Window.{Window}
 use Rattle.ira_picture.specs.Picture.{Drawn, IsDrawnOf}
 use Rattle.ira_picture.specs.Traffic.{IsTraffic, Traffic}
@@ -24,12 +23,12 @@ drawn_more logs table w ds n d log many each at is =
 
 -- each of these is what its node sends and receives
 abbrev pub EachTraffic : List Log → List Traffic → Type 0
-EachTraffic logs ts = (i : ℕ) (t : Traffic) → slice_get ts i ≡ Some t
-    → IsTraffic (log_of logs i) (length (log_of logs i)) t
+EachTraffic logs ts = (i : ℕ) (t : Traffic) → slice_get ts i ≡ Some t → (log : Log) × (slice_get logs i ≡ Some log)
+    × IsTraffic log (length log.events) t
 
 pub traffic_more : (logs : List Log) (ts : List Traffic) (n : ℕ) (t : Traffic) (log : Log) → length ts ≡ n
-    → EachTraffic logs ts → slice_get logs n ≡ Some log → IsTraffic log.events (length log.events) t
+    → EachTraffic logs ts → slice_get logs n ≡ Some log → IsTraffic log (length log.events) t
     → EachTraffic logs (ts ++ t ∷ [])
 traffic_more logs ts n t log many each at is =
-    each_pushed (λ i x. IsTraffic (log_of logs i) (length (log_of logs i)) x) ts n t many each
-    (subst (λ es. IsTraffic es (length es) t) (sym (ap events_of at)) is)
+    each_pushed (λ i x. (l : Log) × (slice_get logs i ≡ Some l) × IsTraffic l (length l.events) x) ts n t many each
+    (log, at, is)

@@ -7,57 +7,73 @@ use Rattle.std.proofs.lemmas.List.{length_push}
 use Rattle.ira_event.specs.declared.event.Event.{Event}
 use Rattle.ira_event.specs.declared.event.Event.TheVariants.{Got, Sent}
 use Rattle.ira_event.specs.declared.load.Load.{Load}
+use Rattle.ira_event.specs.Log.{Log}
 use Rattle.ira_order.specs.Matching.{receipt, sending}
 use Rattle.ira_evidence.specs.Exchange.{IsNthGot, IsNthSent}
 use Rattle.ira_evidence.proofs.Counted.{counted_more, nth_got, nth_sent}
 use Rattle.ira_evidence.proofs.Pushed.{each_pushed}
 use Rattle.ira_picture.specs.declared.traffic.Receipt.{Receipt}
-use Rattle.ira_picture.specs.Traffic.{IsTraffic, Traffic}
+use Rattle.ira_picture.specs.Traffic.{IsEffect, IsTraffic, Traffic}
 
-pub no_traffic : (events : List Event) → IsTraffic events 0 (record { sendings = []; receipts = [] })
-no_traffic events = record {
+pub no_traffic : (log : Log) → IsTraffic log 0 (record { sendings = []; receipts = [] })
+no_traffic log = record {
   sent_count = refl;
   sent_each = λ k p at. absurd cc;
   got_count = refl;
   got_each = λ k r at. absurd cc;
+  effects = λ k r at. absurd cc;
 }
 
-module _ (events : List Event) (n : ℕ) (t : Traffic) (is : IsTraffic events n t) where
-  pub sent_more : (p : ℕ) (x : Load) → slice_get events n ≡ Some (Sent x) → p ≡ n + 1
-      → IsTraffic events (n + 1) (record { sendings = t.sendings ++ p ∷ []; receipts = t.receipts })
+module _ (log : Log) (n : ℕ) (t : Traffic) (is : IsTraffic log n t) where
+  pub sent_more : (p : ℕ) (x : Load) → slice_get log.events n ≡ Some (Sent x) → p ≡ n + 1
+      → IsTraffic log (n + 1) (record { sendings = t.sendings ++ p ∷ []; receipts = t.receipts })
   sent_more p x at here =
-      let nth : IsNthSent events (length t.sendings + 1) (n + 1) x =
-      nth_sent events n (length t.sendings + 1) x at (omega (arith, is.sent_count)) in
-      let last : (y : Load) × IsNthSent events (length t.sendings + 1) p y =
-      (x, subst (λ q. IsNthSent events (length t.sendings + 1) q x) (sym here) nth) in
+      let nth : IsNthSent log.events (length t.sendings + 1) (n + 1) x =
+      nth_sent log.events n (length t.sendings + 1) x at (omega (arith, is.sent_count)) in
+      let last : (y : Load) × IsNthSent log.events (length t.sendings + 1) p y =
+      (x, subst (λ q. IsNthSent log.events (length t.sendings + 1) q x) (sym here) nth) in
       record {
-        sent_count = omega (arith, is.sent_count, length_push t.sendings p, counted_more sending events n (Sent x) at);
+        sent_count = omega (
+          arith,
+          is.sent_count,
+          length_push t.sendings p,
+          counted_more sending log.events n (Sent x) at,
+        );
         sent_each = each_pushed (λ k q. (y : Load)
-            × IsNthSent events (k + 1) q y) t.sendings (length t.sendings) p refl is.sent_each last;
-        got_count = omega (arith, is.got_count, counted_more receipt events n (Sent x) at);
+            × IsNthSent log.events (k + 1) q y) t.sendings (length t.sendings) p refl is.sent_each last;
+        got_count = omega (arith, is.got_count, counted_more receipt log.events n (Sent x) at);
         got_each = is.got_each;
+        effects = is.effects;
       }
 
-  pub got_more : (r : Receipt) (x : Load) → slice_get events n ≡ Some (Got x) → r.position ≡ n + 1
-      → IsTraffic events (n + 1) (record { sendings = t.sendings; receipts = t.receipts ++ r ∷ [] })
-  got_more r x at here =
-      let nth : IsNthGot events (length t.receipts + 1) (n + 1) x =
-      nth_got events n (length t.receipts + 1) x at (omega (arith, is.got_count)) in
-      let last : (y : Load) × IsNthGot events (length t.receipts + 1) r.position y =
-      (x, subst (λ q. IsNthGot events (length t.receipts + 1) q x) (sym here) nth) in
+  pub got_more : (r : Receipt) (x : Load) → slice_get log.events n ≡ Some (Got x) → r.position ≡ n + 1
+      → IsEffect log r.position r.effect
+      → IsTraffic log (n + 1) (record { sendings = t.sendings; receipts = t.receipts ++ r ∷ [] })
+  got_more r x at here effect =
+      let nth : IsNthGot log.events (length t.receipts + 1) (n + 1) x =
+      nth_got log.events n (length t.receipts + 1) x at (omega (arith, is.got_count)) in
+      let last : (y : Load) × IsNthGot log.events (length t.receipts + 1) r.position y =
+      (x, subst (λ q. IsNthGot log.events (length t.receipts + 1) q x) (sym here) nth) in
       record {
-        sent_count = omega (arith, is.sent_count, counted_more sending events n (Got x) at);
+        sent_count = omega (arith, is.sent_count, counted_more sending log.events n (Got x) at);
         sent_each = is.sent_each;
-        got_count = omega (arith, is.got_count, length_push t.receipts r, counted_more receipt events n (Got x) at);
+        got_count = omega (
+          arith,
+          is.got_count,
+          length_push t.receipts r,
+          counted_more receipt log.events n (Got x) at,
+        );
         got_each = each_pushed (λ k q. (y : Load)
-            × IsNthGot events (k + 1) q.position y) t.receipts (length t.receipts) r refl is.got_each last;
+            × IsNthGot log.events (k + 1) q.position y) t.receipts (length t.receipts) r refl is.got_each last;
+        effects = each_pushed (λ k q. IsEffect log q.position q.effect) t.receipts (length t.receipts) r refl is.effects
+            effect;
       }
 
-  pub neither_more : (e : Event) → slice_get events n ≡ Some e → sending e ≡ None → receipt e ≡ None
-      → IsTraffic events (n + 1) t
+  pub neither_more : (e : Event) → slice_get log.events n ≡ Some e → sending e ≡ None → receipt e ≡ None
+      → IsTraffic log (n + 1) t
   neither_more e at no_sending no_receipt =
-      let s = counted_more sending events n e at in
-      let r = counted_more receipt events n e at in
+      let s = counted_more sending log.events n e at in
+      let r = counted_more receipt log.events n e at in
       let no_s : length (cons_option (sending e) []) ≡ 0 =
       ap (λ (o : Option Load). length (cons_option o [])) no_sending in
       let no_r : length (cons_option (receipt e) []) ≡ 0 =
@@ -67,4 +83,5 @@ module _ (events : List Event) (n : ℕ) (t : Traffic) (is : IsTraffic events n 
         sent_each = is.sent_each;
         got_count = omega (arith, is.got_count, r, no_r);
         got_each = is.got_each;
+        effects = is.effects;
       }

@@ -17,7 +17,7 @@ use Rattle.ira_replay.proofs.Along.{leads_further}
 use Rattle.ira_picture.specs.Lane.{IsReplayed, Reaches}
 
 -- one member more is taken
-take_more : (es : List Event) (n : ℕ) (e : Event) → slice_get es n ≡ Some e → take (n + 1) es ≡ take n es ++ e ∷ []
+pub take_more : (es : List Event) (n : ℕ) (e : Event) → slice_get es n ≡ Some e → take (n + 1) es ≡ take n es ++ e ∷ []
 take_more es n e at = ap (λ k. take k es) (add-one n) ∙ by_number es n at
   where
     by_number : (es : List Event) (n : ℕ) → slice_get es n ≡ Some e → take (suc n) es ≡ take n es ++ e ∷ []

@@ -1,6 +1,6 @@
 -- What is drawn of a node.
 use Rattle.std.specs.Prelude.{◌≡◌, ℕ, ◌+◌, ◌-◌, ◌<◌, ◌≤◌, List, Option, Some, None, MatchOption, length, slice_get}
-use Rattle.std.specs.Prelude.{slice_index, take}
+use Rattle.std.specs.Prelude.{◌↔◌, slice_index, take}
 use Rattle.ira_event.specs.Log.{Log}
 use Rattle.ira_node.specs.declared.node_state.NodeState.{NodeState}
 use Rattle.ira_node.specs.NodeState.{first_state}
@@ -40,6 +40,13 @@ pub record AreMarks (log : Log) (columns : List ℕ) (w : Window) (n : ℕ) (mar
   pub each : (k : ℕ) (m : Mark) → slice_get marks k ≡ Some m → IsMark log columns m × IsIn w m.column × (m.position ≤ n)
   pub all : (a : ℕ) → a < n → HasMark columns w marks a
   pub rise : Rises (λ m. m.position) marks
+
+-- what is known of the node before the window: after those of its first n events that are left of it
+pub record IsStart (log : Log) (columns : List ℕ) (w : Window) (n : ℕ) (start : After) : Type 0 where
+  pub number : ℕ
+  pub within : number ≤ n
+  pub left : (a : ℕ) → a < n → (slice_index columns a < w.first) ↔ (a < number)
+  pub known : IsKnown log number start
 
 -- the last state that is known after n events, and the first event without a step among them
 abbrev pub IsReplayed : Log → ℕ → NodeState → Option ReplayFault → Type 0

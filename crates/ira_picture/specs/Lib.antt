@@ -1,4 +1,5 @@
 pub mod Arrow
+pub mod Band
 pub mod Columns
 pub mod DrawFault
 pub mod Lane

@@ -1,3 +1,6 @@
+ghost use Rattle.std.specs.Prelude.{◌≡◌};
+ghost use Rattle.ira_picture.specs.Band.{kind_of};
+
 use crate::after::After;
 use ira_node::Phase;
 
@@ -29,7 +32,9 @@ pub struct Band {
 
 impl BandKind {
     /// Of what is known after an event.
-    pub(crate) fn of(after: After) -> BandKind {
+    pub(crate) fn of(after: After) -> BandKind
+        ensures { result ≡ kind_of after }
+    {
         match after {
             After::NoStep | After::Unknown => BandKind::Unknown,
             After::State(state) => match state.phase {

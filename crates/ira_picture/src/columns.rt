@@ -1,7 +1,8 @@
-ghost use Rattle.std.specs.Prelude.{◌≡◌, ◌<◌, IfOk, length};
+ghost use Rattle.std.specs.Prelude.{◌≡◌, ◌+◌, ◌-◌, ◌<◌, ◌≤◌, ◌^◌, ◌++◌, ◌∷◌, [], ℕ, List, Some, IfOk, IfSome, OnOk, length, map, replicate, slice_get, slice_index, sum_by};
 ghost use Rattle.std.specs.Option.{ForSome};
-ghost use Rattle.ira_order.specs.Ring.{prev};
-ghost use Rattle.ira_picture.specs.Columns.{column_at};
+ghost use Rattle.ira_order.specs.Ring.{log_of, prev};
+ghost use Rattle.ira_evidence.specs.FaultyEvent.{Rises};
+ghost use Rattle.ira_picture.specs.Columns.{AreColumns, AreColumnsOf, AreUnderWay, AreUpTo, IsLastColumn, PlacedEvents, column_at, number_placed};
 
 use crate::traffic::Traffic;
 use ira_event::{Event, Logs, NodeLog, OutOfMemory};
@@ -36,10 +37,19 @@ struct Progress<A: Allocator> {
     receipts: usize,
 }
 
+impl<A: Allocator> Model for Progress<A> {
+    ghost use Rattle.ira_picture.specs.Columns.{PlacedEvents};
+
+    ghost Value = { PlacedEvents };
+
+    ghost view = { λ p. record { columns = p.columns.items; sendings = p.sendings.items; receipts = p.receipts } };
+}
+
 impl<A: Allocator> Progress<A> {
     fn start(alloc: A) -> Result<Progress<A>, OutOfMemory>
     where
         A: Clone,
+        ensures { IfOk result (λ p. p ≡ record { columns = []; sendings = []; receipts = 0 }) }
     {
         Ok(Progress {
             columns: Vec::new(alloc.clone()?),
@@ -49,11 +59,17 @@ impl<A: Allocator> Progress<A> {
     }
 
     /// The last column so far.
-    fn last(&self) -> u32 {
+    fn last(&self) -> u32
+        ensures { result ≡ slice_index self.now.columns (length self.now.columns - 1) }
+    {
         self.columns.last().copied().unwrap_or(0)
     }
 
-    fn add(&mut self, event: Event, column: u32) -> Result<(), OutOfMemory> {
+    fn add(&mut self, event: Event, column: u32) -> Result<(), OutOfMemory>
+        ensures columns { OnOk result (self.new.columns ≡ self.old.columns ++ column ∷ []) }
+        ensures sendings { OnOk result
+            ((last : ℕ) → column ≤ last → AreUpTo last self.old.sendings → AreUpTo last self.new.sendings) }
+    {
         self.columns.push(column)?;
         match event {
             Event::Sent(_) => self.sendings.push(column)?,
@@ -66,7 +82,9 @@ impl<A: Allocator> Progress<A> {
 
 /// The column that an event has to be right of since it is a receipt: that of its sending, or 0 where it has none.
 /// Nothing where the sending has no column yet.
-fn column_of_sending(sendings: &[u32], number_of_sendings: usize, receipt: usize) -> Option<u32> {
+fn column_of_sending(sendings: &[u32], number_of_sendings: usize, receipt: usize) -> Option<u32>
+    ensures { IfSome result (λ c. (last : ℕ) → AreUpTo last sendings.now → c ≤ last) }
+{
     if receipt < number_of_sendings {
         sendings.get(receipt).copied()
     } else {
@@ -84,7 +102,9 @@ pub(crate) fn writer_of(nodes: u8, place: u8) -> u8
 }
 
 /// The event after so many of a log.
-fn event_after<A: Allocator>(log: &NodeLog<A>, done: usize) -> Option<Event> {
+fn event_after<A: Allocator>(log: &NodeLog<A>, done: usize) -> Option<Event>
+    ensures { IfSome result (λ event. slice_get log.now.events done ≡ Some event) }
+{
     if done < log.len() {
         Some(log.event(done as u32 + 1))
     } else {
@@ -103,6 +123,7 @@ struct ColumnPass<'a, L: Allocator, T: Allocator> {
     base: u32,
     ghost traffic_of_all: { length traffic.now ≡ length logs.now },
     ghost cut_of_all: { ForSome cut (λ c. length c.now ≡ length logs.now) },
+    ghost base_bound: { base ≤ 2 ^ 31 },
 }
 
 impl<L: Allocator, T: Allocator> ColumnPass<'_, L, T> {
@@ -119,22 +140,26 @@ impl<L: Allocator, T: Allocator> ColumnPass<'_, L, T> {
     /// The next event of a node, and its column; nothing where it has to wait.
     fn next<A: Allocator>(&self, nodes: &[Progress<A>], place: u8) -> Option<(Event, u32)>
         requires place { place < length self.now.logs.now }
-        requires nodes { length nodes.now ≡ length self.now.logs.now }
+        requires nodes { AreUnderWay self.now.logs.now self.now.base nodes.now }
+        ensures { IfSome result (λ next. (p : PlacedEvents) × (slice_get nodes.now place ≡ Some p)
+            × (slice_get (log_of self.now.logs.now place) (length p.columns) ≡ Some next.0)
+            × ((k c : ℕ) → slice_get p.columns k ≡ Some c → c < next.1)
+            × (next.1 ≤ number_placed nodes.now + self.now.base + 1)) }
     {
         let progress = &nodes[usize::from(place)];
         let event = event_after(self.logs.log(place), progress.columns.len())?;
         let mut before = progress.last().max(self.base);
         if let Event::Got(_) = event {
             let writer = usize::from(writer_of(self.logs.size().get(), place));
-            let traffic = &self.traffic[writer];
+            let (sender, traffic) = (&nodes[writer], &self.traffic[writer]);
             let sent = column_of_sending(
-                &nodes[writer].sendings,
+                &sender.sendings,
                 traffic.sendings.len(),
                 progress.receipts,
             )?;
             before = before.max(sent);
         }
-        Some((event, before.saturating_add(1)))
+        Some((event, before + 1))
     }
 
     /// Gives columns to the events of a node as far as they may come. Says whether there were any.
@@ -144,11 +169,12 @@ impl<L: Allocator, T: Allocator> ColumnPass<'_, L, T> {
         place: u8,
     ) -> Result<bool, OutOfMemory>
         requires place { place < length self.now.logs.now }
-        requires nodes { length nodes.old ≡ length self.now.logs.now }
-        ensures { length nodes.new ≡ length nodes.old }
+        requires nodes { AreUnderWay self.now.logs.now self.now.base nodes.old }
+        ensures { OnOk result (AreUnderWay self.now.logs.now self.now.base nodes.new) }
     {
         let mut further = false;
-        for _ in nodes[usize::from(place)].columns.len()..self.end(place) {
+        let progress = &nodes[usize::from(place)];
+        for _ in progress.columns.len()..self.end(place) {
             let Some((event, column)) = self.next(nodes, place) else {
                 break;
             };
@@ -160,8 +186,8 @@ impl<L: Allocator, T: Allocator> ColumnPass<'_, L, T> {
 
     /// The same of each node in turn.
     fn round<A: Allocator>(&self, nodes: &mut [Progress<A>]) -> Result<bool, OutOfMemory>
-        requires { length nodes.old ≡ length self.now.logs.now }
-        ensures { length nodes.new ≡ length nodes.old }
+        requires { AreUnderWay self.now.logs.now self.now.base nodes.old }
+        ensures { OnOk result (AreUnderWay self.now.logs.now self.now.base nodes.new) }
     {
         let mut further = false;
         for place in 0..self.logs.size().get() {
@@ -174,8 +200,8 @@ impl<L: Allocator, T: Allocator> ColumnPass<'_, L, T> {
 
     /// Rounds until no event may come. In each but the last one an event gets its column.
     fn rounds<A: Allocator>(&self, nodes: &mut [Progress<A>]) -> Result<(), OutOfMemory>
-        requires { length nodes.old ≡ length self.now.logs.now }
-        ensures { length nodes.new ≡ length nodes.old }
+        requires { AreUnderWay self.now.logs.now self.now.base nodes.old }
+        ensures { OnOk result (AreUnderWay self.now.logs.now self.now.base nodes.new) }
     {
         for _ in 0..=self.logs.number_of_events() {
             if !self.round(nodes)? {
@@ -187,7 +213,12 @@ impl<L: Allocator, T: Allocator> ColumnPass<'_, L, T> {
 }
 
 /// The last column of all.
-fn last_column<A: Allocator>(nodes: &[Progress<A>]) -> u32 {
+fn last_column<A: Allocator>(nodes: &[Progress<A>]) -> u32
+    ensures all { (i : ℕ) (p : PlacedEvents) → slice_get nodes.now i ≡ Some p → Rises (λ c. c) p.columns
+        → AreUpTo result p.columns }
+    ensures least { (last : ℕ) → ((i : ℕ) (p : PlacedEvents) → slice_get nodes.now i ≡ Some p → AreUpTo last p.columns)
+        → result ≤ last }
+{
     let mut last = 0;
     for node in nodes {
         last = node.last().max(last);
@@ -200,10 +231,16 @@ fn add_stuck<A: Allocator, L: Allocator>(
     log: &NodeLog<L>,
     base: u32,
     node: &mut Progress<A>,
-) -> Result<(), OutOfMemory> {
+) -> Result<(), OutOfMemory>
+    requires few { length node.old.columns ≤ length log.now.events }
+    requires rise { Rises (λ c. c) node.old.columns }
+    requires base { AreUpTo base node.old.columns }
+    requires room { base + length log.now.events < 2 ^ 32 }
+    ensures { OnOk result (AreColumnsOf log.now.events node.new.columns) }
+{
     let mut column = base;
     for done in node.columns.len()..log.len() {
-        column = column.saturating_add(1);
+        column += 1;
         node.add(log.event(done as u32 + 1), column)?;
     }
     Ok(())
@@ -214,8 +251,8 @@ fn add_all_stuck<A: Allocator, L: Allocator>(
     logs: &Logs<L>,
     nodes: &mut [Progress<A>],
 ) -> Result<(), OutOfMemory>
-    requires { length nodes.old ≡ length logs.now }
-    ensures { length nodes.new ≡ length nodes.old }
+    requires { (base : ℕ) × (base ≤ 2 ^ 31) × AreUnderWay logs.now base nodes.old }
+    ensures { OnOk result (AreColumns logs.now (map (λ p. p.columns) nodes.new)) }
 {
     let base = last_column(nodes);
     for place in 0..logs.size().get() {
@@ -226,7 +263,8 @@ fn add_all_stuck<A: Allocator, L: Allocator>(
 
 /// No columns yet.
 fn starts<A: Allocator + Clone>(alloc: A, nodes: u8) -> Result<Vec<Progress<A>, A>, OutOfMemory>
-    ensures { IfOk result (λ starts. length starts.items ≡ nodes) }
+    ensures { IfOk result
+        (λ starts. starts.items ≡ replicate nodes (record { columns = []; sendings = []; receipts = 0 })) }
 {
     let mut starts = Vec::with_capacity(alloc.clone()?, usize::from(nodes))?;
     for _ in 0..nodes {
@@ -240,7 +278,7 @@ fn columns_of<A: Allocator + Clone>(
     alloc: A,
     nodes: Vec<Progress<A>, A>,
 ) -> Result<Vec<Vec<u32, A>, A>, OutOfMemory>
-    ensures { IfOk result (λ columns. length columns.items ≡ length nodes.items) }
+    ensures { IfOk result (λ columns. map (λ row. row.items) columns.items ≡ map (λ p. p.columns) nodes.items) }
 {
     let mut columns = Vec::with_capacity(alloc, nodes.len())?;
     for node in nodes {
@@ -260,7 +298,8 @@ impl<A: Allocator + Clone> Columns<A> {
     ) -> Result<Columns<A>, OutOfMemory>
         requires traffic { length traffic.now ≡ length logs.now }
         requires cut { ForSome cut (λ c. length c.now ≡ length logs.now) }
-        ensures { IfOk result (λ columns. length columns.nodes ≡ length logs.now) }
+        ensures columns { IfOk result (λ columns. AreColumns logs.now columns.nodes) }
+        ensures few { IfOk result (λ columns. sum_by length columns.nodes < 2 ^ 32) }
     {
         let mut nodes = starts(alloc.clone()?, logs.size().get())?;
         ColumnPass {
@@ -272,7 +311,7 @@ impl<A: Allocator + Clone> Columns<A> {
         .rounds(&mut nodes)?;
         let mut line = None;
         if cut.is_some() {
-            let base = last_column(&nodes).saturating_add(1);
+            let base = last_column(&nodes) + 1;
             line = Some(base);
             ColumnPass {
                 logs,
@@ -305,7 +344,10 @@ impl<A: Allocator> Columns<A> {
     }
 
     /// The last column, or 0 where there is none.
-    pub(crate) fn last(&self) -> u32 {
+    pub(crate) fn last(&self) -> u32
+        requires { (i : ℕ) (row : List ℕ) → slice_get self.now.nodes i ≡ Some row → Rises (λ c. c) row }
+        ensures { IsLastColumn self.now.nodes result }
+    {
         let mut last = 0;
         for columns in &self.nodes {
             last = columns.last().copied().unwrap_or(0).max(last);

@@ -1,5 +1,10 @@
-ghost use Rattle.std.specs.Prelude.{◌≡◌, ◌+◌, ◌<◌, ◌≤◌, ◌^◌, Some, IfOk, OnOk, length, slice_get};
-ghost use Rattle.ira_picture.specs.Lane.{AreMarks, IsKnown, IsReplayed};
+ghost use Rattle.std.specs.Prelude.{◌≡◌, ◌↔◌, ◌+◌, ◌<◌, ◌≤◌, ◌^◌, ℕ, Some, Any, IfOk, IsTrue, OnOk, length, slice_get};
+ghost use Rattle.ira_evidence.specs.FaultyEvent.{Rises};
+ghost use Rattle.ira_picture.specs.Band.{AreBands, AreDebts, Owes};
+ghost use Rattle.ira_picture.specs.Columns.{AreColumnsOf};
+ghost use Rattle.ira_picture.specs.Lane.{AreMarks, IsKnown, IsReplayed, IsStart};
+ghost use Rattle.ira_picture.specs.Picture.{HasTerms};
+ghost use Rattle.ira_picture.specs.declared.mark.Mark.{Mark};
 
 use crate::after::After;
 use crate::band::{Band, BandKind, Span};
@@ -44,6 +49,7 @@ impl Replay {
     fn start<L: Allocator>(log: &NodeLog<L>) -> Replay
         ensures events { result.events ≡ 0 }
         ensures replayed { IsReplayed log.now 0 result.end result.first_fault }
+        ensures known { IsKnown log.now 0 (After.State result.end) }
     {
         Replay {
             events: 0,
@@ -80,8 +86,17 @@ impl Replay {
 
 impl<A: Allocator> Lane<A> {
     /// Whether it has bands of a kind.
-    pub fn has(&self, kind: BandKind) -> bool {
+    pub fn has(&self, kind: BandKind) -> bool
+        ensures { IsTrue result ↔ Any (λ band. band.kind ≡ kind) self.now.bands.items }
+    {
         self.bands.iter().any(|band| band.kind == kind)
+    }
+
+    /// Whether a leader yields at the columns that are drawn, or the node has left its first term in the end.
+    pub(crate) fn has_terms(&self) -> bool
+        ensures { IsTrue result ↔ HasTerms self.now }
+    {
+        self.has(BandKind::Yielding) || self.end.term > 1
     }
 
     /// What is drawn of the node of a log, whose events have these columns.
@@ -93,9 +108,16 @@ impl<A: Allocator> Lane<A> {
     ) -> Result<Lane<A>, OutOfMemory>
     where
         A: Clone,
+        requires { AreColumnsOf log.now.events columns.now }
         ensures events { IfOk result (λ lane. lane.events ≡ length log.now.events) }
         ensures marks { IfOk result
             (λ lane. AreMarks log.now columns.now window (length log.now.events) lane.marks.items) }
+        ensures start { IfOk result
+            (λ lane. IsStart log.now columns.now window (length log.now.events) lane.start) }
+        ensures bands { IfOk result
+            (λ lane. AreBands lane.start window.first lane.marks.items lane.bands.items) }
+        ensures debts { IfOk result
+            (λ lane. AreDebts lane.start window.first lane.marks.items lane.debts.items) }
         ensures end { IfOk result (λ lane. IsReplayed log.now (length log.now.events) lane.end lane.first_fault) }
     {
         let mut replay = Replay::start(log);
@@ -129,74 +151,74 @@ impl<A: Allocator> Lane<A> {
     }
 }
 
-/// From where to where what is known after mark `k` holds, where that is anywhere; marks count from 1, and 0 stands for
-/// what is known before the first one.
-fn span_of(first: u32, marks: &[Mark], k: usize) -> Option<Span> {
-    let from = match k.checked_sub(1) {
-        Some(mark) => marks.get(mark)?.column,
-        None => first,
-    };
-    let to = marks.get(k).map(|mark| mark.column);
-    if to == Some(from) {
-        None
-    } else {
-        Some(Span { from, to })
-    }
-}
-
-/// What is known after mark `k`, or before the first one.
-fn after_mark(start: After, marks: &[Mark], k: usize) -> After {
-    match k.checked_sub(1).and_then(|mark| marks.get(mark)) {
-        Some(mark) => mark.after,
-        None => start,
-    }
-}
-
 /// Whether the node owes something then.
-fn owes(after: After) -> bool {
+fn owes(after: After) -> bool
+    ensures { IsTrue result ↔ Owes after }
+{
     matches!(after, After::State(NodeState { owed: Some(_), .. }))
 }
 
-/// When a node owes something.
+/// When a node owes something: spans from mark to mark, and to the right edge.
 fn debts_of<A: Allocator>(
     alloc: A,
     start: After,
     first: u32,
     marks: &[Mark],
-) -> Result<Vec<Span, A>, OutOfMemory> {
+) -> Result<Vec<Span, A>, OutOfMemory>
+    requires from { (k : ℕ) (m : Mark) → slice_get marks.now k ≡ Some m → first ≤ m.column }
+    requires rise { Rises (λ m. m.column) marks.now }
+    ensures { IfOk result (λ debts. AreDebts start first marks.now debts.items) }
+{
     let mut debts = Vec::new(alloc);
-    for k in 0..=marks.len() {
-        if owes(after_mark(start, marks, k)) {
-            if let Some(span) = span_of(first, marks, k) {
-                debts.push(span)?;
-            }
+    let mut known = start;
+    let mut from = first;
+    for mark in marks {
+        let column = mark.column;
+        if owes(known) && from < column {
+            debts.push(Span {
+                from,
+                to: Some(column),
+            })?;
         }
+        known = mark.after;
+        from = column;
+    }
+    if owes(known) {
+        debts.push(Span { from, to: None })?;
     }
     Ok(debts)
 }
 
-/// Adds a band, or makes the last one longer that is of its kind.
-fn add_band<A: Allocator>(bands: &mut Vec<Band, A>, band: Band) -> Result<(), OutOfMemory> {
-    match bands.last_mut() {
-        Some(last) if last.kind == band.kind => last.span.to = band.span.to,
-        _ => bands.push(band)?,
-    }
-    Ok(())
-}
-
-/// What a node is.
+/// What a node is: spans from where its kind changes to where it changes again, and to the right edge.
 fn bands_of<A: Allocator>(
     alloc: A,
     start: After,
     first: u32,
     marks: &[Mark],
-) -> Result<Vec<Band, A>, OutOfMemory> {
+) -> Result<Vec<Band, A>, OutOfMemory>
+    requires from { (k : ℕ) (m : Mark) → slice_get marks.now k ≡ Some m → first ≤ m.column }
+    requires rise { Rises (λ m. m.column) marks.now }
+    ensures { IfOk result (λ bands. AreBands start first marks.now bands.items) }
+{
     let mut bands = Vec::new(alloc);
-    for k in 0..=marks.len() {
-        let kind = BandKind::of(after_mark(start, marks, k));
-        if let Some(span) = span_of(first, marks, k) {
-            add_band(&mut bands, Band { kind, span })?;
+    let mut kind = BandKind::of(start);
+    let mut from = first;
+    for mark in marks {
+        let column = mark.column;
+        let next = BandKind::of(mark.after);
+        if next != kind {
+            if from < column {
+                let span = Span {
+                    from,
+                    to: Some(column),
+                };
+                bands.push(Band { kind, span })?;
+                from = column;
+            }
+            kind = next;
         }
     }
+    let span = Span { from, to: None };
+    bands.push(Band { kind, span })?;
     Ok(bands)
 }

@@ -8,6 +8,7 @@ mod columns;
 mod draw_fault;
 mod lane;
 mod laps;
+mod links;
 mod mark;
 mod picture;
 mod traffic;

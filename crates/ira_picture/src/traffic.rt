@@ -1,6 +1,8 @@
-ghost use Rattle.std.specs.Prelude.{◌≡◌, ◌+◌, ℕ, List, Some, IfOk, OnOk, IfSome, length, slice_get};
-ghost use Rattle.ira_event.specs.declared.event.Event.{Event};
-ghost use Rattle.ira_picture.specs.Traffic.{IsTraffic};
+ghost use Rattle.std.specs.Prelude.{◌≡◌, ◌↔◌, ◌+◌, ℕ, None, Some, IfOk, IsSome, MatchOption, OnOk, length, slice_get};
+ghost use Rattle.ira_event.specs.Log.{Log};
+ghost use Rattle.ira_node.specs.declared.node_state.NodeState.{NodeState};
+ghost use Rattle.ira_node.specs.NodeStep.{NodeStep};
+ghost use Rattle.ira_picture.specs.Traffic.{IsEffect, IsTraffic};
 
 use ira_event::{Event, NodeLog, OutOfMemory};
 use ira_node::{NodeState, Phase};
@@ -42,17 +44,29 @@ impl<A: Allocator> Model for Traffic<A> {
     ghost view = { λ t. record { sendings = t.sendings.items; receipts = t.receipts.items } };
 }
 
-/// What an event does that leads from a state to another.
-fn effect_of(before: Option<NodeState>, after: Option<NodeState>) -> Effect {
-    match after {
-        Some(_) if after == before => Effect::Nothing,
-        Some(
-            NodeState {
-                phase: Phase::Leader { .. },
-                ..
-            },
-        ) => Effect::Leads,
+/// What an event does that leads from one state to another.
+fn effect_between(before: NodeState, after: NodeState) -> Effect
+    ensures { (result ≡ Effect.Nothing) ↔ (after ≡ before) }
+{
+    if after == before {
+        return Effect::Nothing;
+    }
+    match after.phase {
+        Phase::Leader { .. } => Effect::Leads,
         _ => Effect::GoesOn,
+    }
+}
+
+/// What an event does, by the states before and after it, as far as there are such.
+fn effect_of(before: Option<NodeState>, after: Option<NodeState>) -> Effect
+    ensures { (result ≡ Effect.Nothing) ↔ (IsSome after × (after ≡ before)) }
+{
+    match after {
+        Some(after) => match before {
+            Some(before) => effect_between(before, after),
+            None => Effect::GoesOn,
+        },
+        None => Effect::GoesOn,
     }
 }
 
@@ -61,7 +75,10 @@ fn state_after<L: Allocator>(
     log: &NodeLog<L>,
     state: Option<NodeState>,
     event: &Event,
-) -> Option<NodeState> {
+) -> Option<NodeState>
+    ensures { MatchOption state (result ≡ None)
+        (λ s. (t : NodeState) → (result ≡ Some t) ↔ NodeStep log.now.nodes s event.now t) }
+{
     state?.step(log.nodes(), event).ok()
 }
 
@@ -69,7 +86,7 @@ impl<A: Allocator> Traffic<A> {
     fn new(alloc: A) -> Result<Traffic<A>, OutOfMemory>
     where
         A: Clone,
-        ensures { IfOk result (λ t. (events : List Event) → IsTraffic events 0 t) }
+        ensures { IfOk result (λ t. (log : Log) → IsTraffic log 0 t) }
     {
         Ok(Traffic {
             sendings: Vec::new(alloc.clone()?),
@@ -80,8 +97,8 @@ impl<A: Allocator> Traffic<A> {
     /// Adds an event.
     fn add(&mut self, position: u32, event: Event, effect: Effect) -> Result<(), OutOfMemory>
         ensures { OnOk result
-            ((events : List Event) (n : ℕ) → slice_get events n ≡ Some event → position ≡ n + 1
-            → IsTraffic events n self.old → IsTraffic events (n + 1) self.new) }
+            ((log : Log) (n : ℕ) → slice_get log.events n ≡ Some event → position ≡ n + 1
+            → IsEffect log position effect → IsTraffic log n self.old → IsTraffic log (n + 1) self.new) }
     {
         match event {
             Event::Sent(_) => self.sendings.push(position)?,
@@ -95,7 +112,7 @@ impl<A: Allocator> Traffic<A> {
     pub(crate) fn of<L: Allocator>(alloc: A, log: &NodeLog<L>) -> Result<Traffic<A>, OutOfMemory>
     where
         A: Clone,
-        ensures { IfOk result (IsTraffic log.now.events (length log.now.events)) }
+        ensures { IfOk result (IsTraffic log.now (length log.now.events)) }
     {
         let mut traffic = Traffic::new(alloc)?;
         let mut state = Some(NodeState::first(log.initiator()));

@@ -1,5 +1,7 @@
-use Rattle.std.proofs.Common.{◌≡◌, ◌+◌, length}
+use Rattle.std.proofs.Common.{◌≡◌, ◌++◌, map}
 use Rattle.ira_picture.proofs.columns.columns_of.Given as goal
 
 abbrev pub invariant-loop-node : goal.invariant-loop-node
-invariant-loop-node g l = length l.columns.items + length l.node-iterator.rest.items ≡ length l.fn.nodes.items
+invariant-loop-node g l =
+    map (λ row. row.items) l.columns.items ++ map (λ p. p.columns) l.node-iterator.rest.items
+    ≡ map (λ p. p.columns) l.fn.nodes.items

@@ -2,7 +2,8 @@ use Rattle.std.proofs.Common.{◌≡◌, ◌+◌, ◌-◌, Some, arith, length, 
 use Rattle.std.specs.Prelude.{slice_get, slice_index}
 use Rattle.ira_picture.specs.Lane.{IsKnown, IsMark}
 use Rattle.ira_picture.specs.Window.{IsIn}
-use Rattle.ira_picture.proofs.DrawnMarks.{marks_more, marks_over}
+use Rattle.ira_picture.proofs.DrawnMarks.{marks_more, marks_over, marks_rise}
+use Rattle.ira_picture.proofs.Starts.{start_more, start_over}
 use Rattle.ira_picture.proofs.lane.Lane.of.Goals as goal
 use Rattle.ira_picture.proofs.lane.Lane.of.Goals.{then-contains+in_ok-push, else-contains+then-column-window}
 use Rattle.ira_picture.proofs.lane.Lane.of.Goals.{else-contains+else-column-window}
@@ -49,7 +50,40 @@ loop-k-preserved g c =
             c.loop-k.invariant.marks
             (λ within. (let drawn : IsIn c.args.window c.unwrap_or-column.result = rw column within in search rules)))
       ];
+      start = elim c.if-contains.branch [
+        | then-contains+in_ok-push w ↦
+            let within : IsIn c.args.window c.unwrap_or-column.result = search rules in
+            rw w.start-is (start_over log c.args.columns.now c.args.window k c.loop-k.start c.loop-k.invariant.start
+            (omega (arith, column, within.0)))
+        | else-contains+then-column-window w ↦
+            rw w.start-is (start_more log c.args.columns.now c.args.window k c.advance-event.result.1 c.requires.rise
+            (omega (arith, c.requires.count, c.loop-k-test.true, c.loop-k.auto.k-end, c.len-k-end.ensures.value))
+            (omega (arith, column, w.if-column-window.true)) (rw before at c.advance-event.ensures.known))
+        | else-contains+else-column-window w ↦
+            rw w.start-is (start_over log c.args.columns.now c.args.window k c.loop-k.start c.loop-k.invariant.start
+            (omega (arith, column, w.if-column-window.false)))
+      ];
     }
+
+pub bands_of-requires-clause-from : goal.bands_of-requires-clause-from
+bands_of-requires-clause-from g c =
+    rw c.deref.ensures.value (λ k m at. (c.loop-k.invariant.marks.each k m at).1.0)
+
+pub bands_of-requires-clause-rise : goal.bands_of-requires-clause-rise
+bands_of-requires-clause-rise g c =
+    rw c.deref.ensures.value
+    (marks_rise c.args.log.now c.args.columns.now c.args.window c.loop-k.k c.loop-k.marks.items c.loop-k.invariant.marks
+    c.requires.rise (omega (arith, c.requires.count, c.loop-k.auto.k-end, c.len-k-end.ensures.value)))
+
+pub debts_of-requires-clause-from : goal.debts_of-requires-clause-from
+debts_of-requires-clause-from g c =
+    rw c.deref-2.ensures.value (λ k m at. (c.loop-k.invariant.marks.each k m at).1.0)
+
+pub debts_of-requires-clause-rise : goal.debts_of-requires-clause-rise
+debts_of-requires-clause-rise g c =
+    rw c.deref-2.ensures.value
+    (marks_rise c.args.log.now c.args.columns.now c.args.window c.loop-k.k c.loop-k.marks.items c.loop-k.invariant.marks
+    c.requires.rise (omega (arith, c.requires.count, c.loop-k.auto.k-end, c.len-k-end.ensures.value)))
 
 pub returns-clause-marks : goal.returns-clause-marks
 returns-clause-marks g c =

@@ -1,5 +1,5 @@
 use Rattle.std.proofs.Common.{◌≡◌}
-use Rattle.ira_picture.specs.Lane.{AreMarks, IsReplayed}
+use Rattle.ira_picture.specs.Lane.{AreMarks, IsReplayed, IsStart}
 use Rattle.ira_picture.proofs.lane.Lane.of.Given as goal
 
 abbrev pub invariant-loop-k : goal.invariant-loop-k
@@ -7,4 +7,5 @@ invariant-loop-k g l = record {
   events : l.replay.events ≡ l.k;
   replayed : IsReplayed l.log l.k l.replay.end l.replay.first_fault;
   marks : AreMarks l.log l.columns l.window l.k l.marks.items;
+  start : IsStart l.log l.columns l.window l.k l.start;
 }

@@ -1,5 +1,8 @@
-use Rattle.ira_picture.specs.Traffic.{IsTraffic}
+use Rattle.ira_picture.specs.Traffic.{IsStateAfter, IsTraffic}
 use Rattle.ira_picture.proofs.traffic.Traffic.of.Given as goal
 
 abbrev pub invariant-loop-done : goal.invariant-loop-done
-invariant-loop-done g l = IsTraffic l.log.events l.done l.traffic
+invariant-loop-done g l = record {
+  state : IsStateAfter l.log l.done l.state;
+  traffic : IsTraffic l.log l.done l.traffic;
+}
