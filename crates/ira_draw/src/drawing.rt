@@ -78,6 +78,13 @@ fn write_highlights<A: Allocator, W: fmt::Write>(
     Ok(())
 }
 
+/// Whether one of these events is drawn.
+fn is_ringed<A: Allocator>(picture: &Picture<A>, events: &[Highlight]) -> bool {
+    events
+        .iter()
+        .any(|event| column_of(picture, event.at).is_some())
+}
+
 /// Writes a picture.
 fn write_picture<A: Allocator, P: Allocator>(
     out: &mut Svg<P>,
@@ -89,7 +96,8 @@ fn write_picture<A: Allocator, P: Allocator>(
 ) -> fmt::Result {
     let grid = Grid::new(nodes, picture.window.first, picture.window.last);
     let height = legend_foot(picture, &grid).saturating_add(20);
-    write_head(out, picture, &grid, objection, height)?;
+    let is_ringed = is_ringed(picture, events);
+    write_head(out, picture, &grid, objection, is_ringed, height)?;
     write_columns(out, &grid)?;
     write_lanes(out, picture, &grid)?;
     write_arrows(out, picture, &grid)?;

@@ -16,11 +16,12 @@ fn write_words<A: Allocator, W: fmt::Write>(
     out: &mut W,
     picture: &Picture<A>,
     objection: Option<Objection>,
+    is_ringed: bool,
 ) -> fmt::Result {
     out.write_str("<title id=\"t\">")?;
     write_heading(out, picture, objection)?;
     out.write_str("</title>\n<desc id=\"d\">")?;
-    write_summary(out, picture, objection)?;
+    write_summary(out, picture, objection, is_ringed)?;
     let mut place = 0u8;
     for lane in &picture.lanes {
         if place < MOST_LINES {
@@ -56,6 +57,7 @@ pub(crate) fn write_head<A: Allocator, W: fmt::Write>(
     picture: &Picture<A>,
     grid: &Grid,
     objection: Option<Objection>,
+    is_ringed: bool,
     height: u64,
 ) -> fmt::Result {
     let width = grid.width();
@@ -67,7 +69,7 @@ pub(crate) fn write_head<A: Allocator, W: fmt::Write>(
         out,
         " width=\"{width}\" height=\"{height}\" role=\"img\" aria-labelledby=\"t d\">\n"
     )?;
-    write_words(out, picture, objection)?;
+    write_words(out, picture, objection, is_ringed)?;
     write_style(out, picture.has_terms())?;
     write!(out, "<defs>{MARKERS}</defs>")?;
     write!(
@@ -78,7 +80,7 @@ pub(crate) fn write_head<A: Allocator, W: fmt::Write>(
     write!(out, "<text class=\"{class}\" x=\"16\" y=\"28\">")?;
     write_heading(out, picture, objection)?;
     out.write_str("</text><text class=\"s\" x=\"16\" y=\"48\">")?;
-    write_summary(out, picture, objection)?;
+    write_summary(out, picture, objection, is_ringed)?;
     out.write_str("</text>\n")
 }
 

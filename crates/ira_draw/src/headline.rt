@@ -63,10 +63,11 @@ fn number_of_events<A: Allocator>(picture: &Picture<A>) -> u64 {
     events
 }
 
-/// How to read the picture.
-fn sentence(objection: Option<Objection>) -> &'static str {
+/// How to read the picture, in which what the answer speaks of is ringed, or isn't drawn.
+fn sentence(objection: Option<Objection>, is_ringed: bool) -> &'static str {
     match objection {
         None => ". Each event stands right of all that happened before it; this is no clock.",
+        Some(_) if !is_ringed => ". What the answer speaks of stands at other columns.",
         Some(Objection::Link(_)) => {
             ". Thick broken arrows join what is not the same message; the ringed receipt is the first such."
         }
@@ -84,6 +85,7 @@ pub(crate) fn write_summary<A: Allocator, W: fmt::Write>(
     out: &mut W,
     picture: &Picture<A>,
     objection: Option<Objection>,
+    is_ringed: bool,
 ) -> fmt::Result {
     let nodes = Count {
         number: picture.lanes.len() as u64,
@@ -98,7 +100,7 @@ pub(crate) fn write_summary<A: Allocator, W: fmt::Write>(
     if first != 0 || last != all {
         write!(out, ", columns {first} to {last} of {all}")?;
     }
-    out.write_str(sentence(objection))
+    out.write_str(sentence(objection, is_ringed))
 }
 
 /// Adds a line on a node for those who don't see the picture.

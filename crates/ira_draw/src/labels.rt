@@ -58,11 +58,10 @@ fn write_pair<W: fmt::Write>(
     column: u32,
     y: u64,
 ) -> fmt::Result {
-    let class = if grid.lane_height < 34 { "q" } else { "k" };
     let x = grid.x(column);
     write!(
         out,
-        "<text class=\"{class}\" x=\"{x}\" y=\"{y}\">{pair}</text>\n"
+        "<text class=\"k\" x=\"{x}\" y=\"{y}\">{pair}</text>\n"
     )
 }
 
