@@ -126,18 +126,20 @@ class Ring:
         return None
 
     def laps(self):
-        """The sendings of the laps by which nodes lead: back from the receipt, once round the ring."""
+        """The sendings of the laps by which nodes lead: back from the receipt, once round the ring, each received as sent."""
         laps = set()
         for i, states in enumerate(self.states):
             for p in range(1, len(states)):
                 if states[p].phase == 'leader':
-                    j, q = i, p
+                    j, q, lap = i, p, []
                     for _ in range(self.n):
                         s = self.sending(j, q) if q and self.events[j][q - 1][0] == 'recv' else None
-                        if s is None:
+                        if s is None or load(self.events[s[0]][s[1] - 1]) != load(self.events[j][q - 1]):
                             break
-                        laps.add(s)
+                        lap.append(s)
                         j, q = s[0], s[1] - 1
+                    if len(lap) == self.n:
+                        laps.update(lap)
         return laps
 
     def past(self, i, p):

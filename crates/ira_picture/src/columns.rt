@@ -1,9 +1,10 @@
 ghost use Rattle.std.specs.Prelude.{◌≡◌, ◌+◌, ◌-◌, ◌<◌, ◌≤◌, ◌^◌, ◌++◌, ◌∷◌, [], ℕ, List, Some, IfOk, IfSome, OnOk, length, map, replicate, slice_get, slice_index, sum_by};
 ghost use Rattle.std.specs.Option.{ForSome};
-ghost use Rattle.ira_order.specs.Ring.{log_of, prev};
+ghost use Rattle.ira_order.specs.Ring.{log_of};
 ghost use Rattle.ira_evidence.specs.FaultyEvent.{Rises};
 ghost use Rattle.ira_picture.specs.Columns.{AreColumns, AreColumnsOf, AreUnderWay, AreUpTo, IsLastColumn, PlacedEvents, column_at, number_placed};
 
+use crate::ring::writer_of;
 use crate::traffic::Traffic;
 use ira_event::{Event, Logs, NodeLog, OutOfMemory};
 use std::alloc::Allocator;
@@ -90,15 +91,6 @@ fn column_of_sending(sendings: &[u32], number_of_sendings: usize, receipt: usize
     } else {
         Some(0)
     }
-}
-
-/// The place before.
-pub(crate) fn writer_of(nodes: u8, place: u8) -> u8
-    requires { place < nodes }
-    ensures value { result ≡ prev nodes place }
-    ensures place { result < nodes }
-{
-    if place == 0 { nodes - 1 } else { place - 1 }
 }
 
 /// The event after so many of a log.

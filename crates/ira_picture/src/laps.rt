@@ -1,14 +1,87 @@
-ghost use Rattle.std.specs.Prelude.{◌≡◌, ◌<◌, IfOk, length};
+ghost use Rattle.std.specs.Prelude.{◌≡◌, ◌<◌, IfSome, length};
 
-use crate::columns::writer_of;
+use crate::ring::{load_at, reader_of, writer_of};
 use crate::traffic::{Effect, Traffic};
-use ira_event::OutOfMemory;
+use ira_event::{Logs, OutOfMemory};
 use std::alloc::Allocator;
 
 /// Which sendings of each link are part of a lap by which a node came to lead.
 #[derive(Drop)]
 pub(crate) struct Laps<A: Allocator> {
     links: Vec<Vec<bool, A>, A>,
+}
+
+/// A link's sending and receipt of one number, counted from 0.
+#[derive(Clone, Copy)]
+struct Pair {
+    link: u8,
+    k: usize,
+}
+
+/// What laps are found in.
+#[derive(Drop)]
+struct Exchanges<'a, L: Allocator, A: Allocator> {
+    logs: &'a Logs<L>,
+    traffic: &'a [Traffic<A>],
+    ghost traffic_of_all: { length traffic.now ≡ length logs.now },
+}
+
+impl<L: Allocator, A: Allocator + Clone> Exchanges<'_, L, A> {
+    /// Whether a pair has both sides, and what was received is what was sent.
+    fn is_matched(&self, pair: Pair) -> bool
+        requires { pair.link < length self.now.logs.now }
+    {
+        let reader = reader_of(self.logs.size().get(), pair.link);
+        let (from, to) = (
+            &self.traffic[usize::from(pair.link)],
+            &self.traffic[usize::from(reader)],
+        );
+        match (from.sendings.get(pair.k), to.receipts.get(pair.k)) {
+            (Some(sending), Some(receipt)) => {
+                load_at(self.logs, pair.link, *sending)
+                    == load_at(self.logs, reader, receipt.position)
+            }
+            _ => false,
+        }
+    }
+
+    /// The pair whose receipt stands right before the sending of this one, where there is one.
+    fn pair_before(&self, pair: Pair) -> Option<Pair>
+        requires { pair.link < length self.now.logs.now }
+        ensures { IfSome result (λ before. before.link < length self.now.logs.now) }
+    {
+        let node = &self.traffic[usize::from(pair.link)];
+        let sending = node.sendings.get(pair.k).copied()?;
+        let k = node.receipt_at(sending.saturating_sub(1))?;
+        Some(Pair {
+            link: writer_of(self.logs.size().get(), pair.link),
+            k,
+        })
+    }
+
+    /// The pairs of a lap from its last one back, once round the ring; nothing where it isn't whole or one of them
+    /// doesn't match.
+    fn lap(&self, alloc: A, last: Pair) -> Result<Option<Vec<Pair, A>>, OutOfMemory>
+        requires { last.link < length self.now.logs.now }
+    {
+        let mut pairs = Vec::new(alloc);
+        let mut pair = last;
+        for _ in 1..self.logs.size().get() {
+            if !self.is_matched(pair) {
+                return Ok(None);
+            }
+            pairs.push(pair)?;
+            match self.pair_before(pair) {
+                Some(before) => pair = before,
+                None => return Ok(None),
+            }
+        }
+        if !self.is_matched(pair) {
+            return Ok(None);
+        }
+        pairs.push(pair)?;
+        Ok(Some(pairs))
+    }
 }
 
 /// Whether member `k` is set.
@@ -26,9 +99,7 @@ fn set(flags: &mut [bool], k: usize) {
 fn no_laps<A: Allocator + Clone, T: Allocator>(
     alloc: A,
     traffic: &[Traffic<T>],
-) -> Result<Vec<Vec<bool, A>, A>, OutOfMemory>
-    ensures { IfOk result (λ links. length links.items ≡ length traffic.now) }
-{
+) -> Result<Vec<Vec<bool, A>, A>, OutOfMemory> {
     let mut links = Vec::with_capacity(alloc.clone()?, traffic.len())?;
     for node in traffic {
         links.push(vec![in alloc.clone()?; false; node.sendings.len()]?)?;
@@ -38,22 +109,54 @@ fn no_laps<A: Allocator + Clone, T: Allocator>(
 
 impl<A: Allocator + Clone> Laps<A> {
     /// All of them.
-    pub(crate) fn of<T: Allocator>(
+    pub(crate) fn of<L: Allocator>(
         alloc: A,
-        traffic: &[Traffic<T>],
-        nodes: u8,
+        logs: &Logs<L>,
+        traffic: &[Traffic<A>],
     ) -> Result<Laps<A>, OutOfMemory>
-        requires { nodes ≡ length traffic.now }
+        requires { length traffic.now ≡ length logs.now }
     {
-        let mut links = no_laps(alloc, traffic)?;
-        for place in 0..nodes {
-            add_laps(&mut links, traffic, nodes, place);
+        let mut laps = Laps {
+            links: no_laps(alloc.clone()?, traffic)?,
+        };
+        let exchanges = Exchanges { logs, traffic };
+        for place in 0..logs.size().get() {
+            laps.add_of_leader(&exchanges, &alloc, place)?;
         }
-        Ok(Laps { links })
+        Ok(laps)
+    }
+
+    /// Adds the laps by which a node came to lead.
+    fn add_of_leader<L: Allocator>(
+        &mut self,
+        exchanges: &Exchanges<'_, L, A>,
+        alloc: &A,
+        place: u8,
+    ) -> Result<(), OutOfMemory>
+        requires { place < length exchanges.now.logs.now }
+    {
+        let link = writer_of(exchanges.logs.size().get(), place);
+        let node = &exchanges.traffic[usize::from(place)];
+        for k in 0..node.receipts.len() {
+            if node.receipts[k].effect == Effect::Leads {
+                if let Some(pairs) = exchanges.lap(alloc.clone()?, Pair { link, k })? {
+                    self.add(&pairs);
+                }
+            }
+        }
+        Ok(())
     }
 }
 
 impl<A: Allocator> Laps<A> {
+    fn add(&mut self, pairs: &[Pair]) {
+        for pair in pairs {
+            if let Some(flags) = self.links.get_mut(usize::from(pair.link)) {
+                set(flags, pair.k);
+            }
+        }
+    }
+
     /// Whether sending `k` of a link is part of one, counted from 0.
     pub(crate) fn contains(&self, link: u8, k: usize) -> bool {
         match self.links.get(usize::from(link)) {
@@ -61,55 +164,4 @@ impl<A: Allocator> Laps<A> {
             None => false,
         }
     }
-}
-
-/// Adds the laps by which a node came to lead.
-fn add_laps<A: Allocator, T: Allocator>(
-    links: &mut [Vec<bool, A>],
-    traffic: &[Traffic<T>],
-    nodes: u8,
-    place: u8,
-)
-    requires nodes { nodes ≡ length traffic.now }
-    requires links { length links.old ≡ length traffic.now }
-    requires place { place < nodes }
-    ensures { length links.new ≡ length links.old }
-{
-    let node = &traffic[usize::from(place)];
-    for k in 0..node.receipts.len() {
-        if node.receipts[k].effect == Effect::Leads {
-            add_lap(links, traffic, nodes, place, k);
-        }
-    }
-}
-
-/// Goes back once round the ring from a receipt: to its sending, to the receipt before that in the log, and so on.
-fn add_lap<A: Allocator, T: Allocator>(
-    links: &mut [Vec<bool, A>],
-    traffic: &[Traffic<T>],
-    nodes: u8,
-    leader: u8,
-    receipt: usize,
-)
-    requires nodes { nodes ≡ length traffic.now }
-    requires links { length links.old ≡ length traffic.now }
-    requires leader { leader < nodes }
-    ensures { length links.new ≡ length links.old }
-{
-    let mut place = leader;
-    let mut k = receipt;
-    for _ in 0..nodes {
-        place = writer_of(nodes, place);
-        set(&mut links[usize::from(place)], k);
-        match receipt_before(&traffic[usize::from(place)], k) {
-            Some(before) => k = before,
-            None => break,
-        }
-    }
-}
-
-/// The number, from 0, of the receipt after which a node sends sending `k`, where there is one.
-fn receipt_before<T: Allocator>(node: &Traffic<T>, k: usize) -> Option<usize> {
-    let sending = node.sendings.get(k).copied()?;
-    node.receipt_at(sending.saturating_sub(1))
 }

@@ -11,6 +11,7 @@ mod laps;
 mod links;
 mod mark;
 mod picture;
+mod ring;
 mod traffic;
 mod window;
 

@@ -1,50 +1,19 @@
 ghost use Rattle.std.specs.Prelude.{◌≡◌, ◌+◌, ◌<◌, None, IfNone, IfOk, IfSome, OnOk, length, max};
-ghost use Rattle.std.specs.Option.{option_and_then, option_map};
+ghost use Rattle.std.specs.Option.{option_map};
 ghost use Rattle.ira_order.specs.Matching.{got, sent};
-ghost use Rattle.ira_order.specs.Ring.{log_of, next, numbered};
-ghost use Rattle.ira_picture.specs.Arrow.{AreArrows, AreArrowsBefore, IsArrow, IsEffectOf, IsPassage, IsReceipt, IsSending, column_of, load_in};
+ghost use Rattle.ira_order.specs.Ring.{log_of, next};
+ghost use Rattle.ira_picture.specs.Arrow.{AreArrows, AreArrowsBefore, IsArrow, IsEffectOf, IsPassage, IsReceipt, IsSending, column_of};
 ghost use Rattle.ira_picture.specs.Traffic.{AreTraffic};
 
 use crate::arrow::{Arrow, Passage};
 use crate::columns::Columns;
 use crate::laps::Laps;
+use crate::ring::{load_at, reader_of};
 use crate::traffic::{Effect, Traffic};
 use crate::window::Window;
-use ira_event::{Event, Load, Logs, OutOfMemory};
+use ira_event::{Logs, OutOfMemory};
 use ira_evidence::{EventAt, Exchange};
 use std::alloc::Allocator;
-
-/// The place that a link leads to.
-fn reader_of(nodes: u8, link: u8) -> u8
-    requires { link < nodes }
-    ensures value { result ≡ next nodes link }
-    ensures place { result < nodes }
-{
-    if link + 1 < nodes { link + 1 } else { 0 }
-}
-
-/// What an event sends or receives.
-fn load_of(event: Event) -> Option<Load>
-    ensures { result ≡ load_in event }
-{
-    match event {
-        Event::Sent(load) | Event::Got(load) => Some(load),
-        Event::Draw(_) | Event::Yield => None,
-    }
-}
-
-/// What an event of a place sends or receives.
-fn load_at<L: Allocator>(logs: &Logs<L>, place: u8, position: u32) -> Option<Load>
-    requires { place < length logs.now }
-    ensures { result ≡ option_and_then load_in (numbered (log_of logs.now place) position) }
-{
-    let log = logs.log(place);
-    if position >= 1 && position as usize <= log.len() {
-        load_of(log.event(position))
-    } else {
-        None
-    }
-}
 
 /// What the links of a ring carry.
 #[derive(Drop)]
@@ -222,7 +191,7 @@ pub(crate) fn arrows_of_ring<'x, A: Allocator + Clone, L: Allocator>(
     requires { AreTraffic logs.now traffic.now }
     ensures { IfOk result (λ arrows. AreArrows logs.now columns.now.nodes window arrows.items) }
 {
-    let laps = Laps::of(alloc.clone()?, traffic, logs.size().get())?;
+    let laps = Laps::of(alloc.clone()?, logs, traffic)?;
     let links = Links {
         logs,
         traffic,

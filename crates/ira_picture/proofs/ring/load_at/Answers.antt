@@ -3,9 +3,9 @@ use Rattle.std.specs.Option.{option_and_then}
 use Rattle.ira_order.specs.Ring.{events_of, log_of, numbered}
 use Rattle.ira_picture.specs.Arrow.{load_in}
 use Rattle.ira_picture.proofs.EventNumbers.{numbered_at, numbered_none, numbered_zero}
-use Rattle.ira_picture.proofs.links.load_at.Goals as goal
-use Rattle.ira_picture.proofs.links.load_at.Goals.{else-position-ge1-via-then-position-ge1+else-position-len}
-use Rattle.ira_picture.proofs.links.load_at.Goals.{else-position-ge1-via-else-position-ge1}
+use Rattle.ira_picture.proofs.ring.load_at.Goals as goal
+use Rattle.ira_picture.proofs.ring.load_at.Goals.{else-position-ge1-via-then-position-ge1+else-position-len}
+use Rattle.ira_picture.proofs.ring.load_at.Goals.{else-position-ge1-via-else-position-ge1}
 
 pub returns-then-position-len : goal.returns-then-position-len
 returns-then-position-len g c =
