@@ -59,10 +59,7 @@ fn write_pair<W: fmt::Write>(
     y: u64,
 ) -> fmt::Result {
     let x = grid.x(column);
-    write!(
-        out,
-        "<text class=\"k\" x=\"{x}\" y=\"{y}\">{pair}</text>\n"
-    )
+    write!(out, "<text class=\"k\" x=\"{x}\" y=\"{y}\">{pair}</text>\n")
 }
 
 /// Whether the first event that is drawn is at the first column, and changes under which ID the node is active.
