@@ -1,5 +1,7 @@
 use Rattle.std.proofs.Common.{◌≡◌, ◌∙◌, ◌∷◌, ◌++◌, ◌<◌, ◌≤◌, [], Err, ap, arith, length, rules}
-use Rattle.std.proofs.lemmas.List.{length-set}
+use Rattle.std.proofs.lemmas.List.{length-map, length-set}
+use Rattle.ira_event.specs.Log.{Log}
+use Rattle.ira_node.specs.NodeState.{first_state}
 use Rattle.ira_order.specs.Ring.{events_of, log_of}
 use Rattle.ira_show.proofs.Steps.{last_is_there}
 use Rattle.ira_show.specs.declared.show_fault.ShowFault.TheVariants.{OutOfMemory}
@@ -25,7 +27,7 @@ pub loop-number-init : goal.loop-number-init
 loop-number-init g c = record {
   begun = ([], c.in_ok-trail.ensures.none_given);
   logs = c.in_ok-trail.ensures.logs;
-  states = c.in_ok-states.ensures;
+  states = ap length c.in_ok-states.ensures ∙ length-map c.args.logs.now (λ (log : Log). first_state log.initiator);
   took = none_taken (g.W.Sink.state c.args.sink.now);
 }
 

@@ -1,10 +1,18 @@
 use Rattle.std.proofs.Common.{◌≡◌, ◌∙◌, ◌∷◌, ◌++◌, ◌<◌, ◌≤◌, [], Err, ap, arith, length, rules}
-use Rattle.std.proofs.lemmas.List.{length-set}
+use Rattle.std.proofs.lemmas.List.{length-map, length-set}
+use Rattle.ira_event.specs.Log.{Log}
+use Rattle.ira_node.specs.NodeState.{first_state}
 use Rattle.ira_order.specs.Ring.{events_of, log_of}
 use Rattle.ira_show.specs.declared.show_fault.ShowFault.TheVariants.{Write}
 use Rattle.ira_show.proofs.Printing.{failed_then, more_taken, part_taken}
 use Rattle.ira_show.proofs.Steps.{last_is_there}
 use Rattle.ira_show.proofs.event_lines.write_lines.Goals as goal
+
+pub loop-number-init : goal.loop-number-init
+loop-number-init g c =
+    let first = λ (log : Log). first_state log.initiator in
+    let states = ap length c.in_ok-states.ensures ∙ length-map c.args.logs.now first in
+    record { begun = search rules; logs = search rules; states = states; took = search rules }
 
 pub log-log-requires : goal.log-log-requires
 log-log-requires g c =
