@@ -1,5 +1,5 @@
-"""Reads what `ira ... --json` prints with a JSON parser, and holds it against the plain answers, and against the matching
-and the states of the logs, which are computed here anew.
+"""Reads what `ira ... --json` prints with a JSON parser, and holds it against the plain answers and pages, against the lines of
+the files, and against the matching and the states of the logs, which are computed here anew.
 
     python3 check_json.py PROGRAM      PROGRAM judges and shows the examples, and elections that it records
 """
@@ -47,6 +47,152 @@ def assert_state(value, state):
     found = value['phase'], value.get('id'), owed, value.get('term', 1)
     assert found == (state.phase, state.id, state.owed, state.term), (value, state)
     assert value.get('round') == state.round or state.phase == 'passive', (value, state)
+
+
+def shown(line):
+    """What a page shows of a line, of which it shows 80 characters at most."""
+    marks = {9: '\\t', 13: '\\r'}
+    each = [marks.get(c) or (chr(c) if 32 <= c <= 126 else f'\\x{c:02x}') for c in line]
+    if sum(map(len, each)) <= 80:
+        return ''.join(each)
+    text = ''
+    for c in each:
+        if len(text + c) > 78:
+            break
+        text += c
+    return text + '..'
+
+
+class Files:
+    """The lines of files, counted from 1; after the last one they are empty."""
+
+    def __init__(self):
+        self.read = {}
+
+    def line(self, name, number):
+        if name not in self.read:
+            with open(name, 'rb') as file:
+                self.read[name] = file.read().split(b'\n')
+        lines = self.read[name]
+        return lines[number - 1] if number <= len(lines) else b''
+
+
+def check_record(files, names, value):
+    """An event's record stands in the file of its node, four lines further on than its number says."""
+    assert value['file'] == names[value['node']] and value['line'] == value['event'] + 4, value
+    assert files.line(value['file'], value['line']) == value['record'].encode(), value
+
+
+def check_line(files, page, value):
+    if 'line' not in value:
+        assert set(value) == {'role', 'file'} and value['file'] in page, value
+        return
+    line = files.line(value['file'], value['line'])
+    assert value['text'] == shown(line), value
+    place = f"{value['file']}:{value['line']}"
+    assert ('byte' in value) == ('due' in value or 'note' in value), value
+    if 'byte' in value:
+        assert 1 <= value['byte'] <= len(line) + 1 and f"> {place}: {value['text']}".rstrip() in page, value
+        said = value['note'] if 'note' in value else value['due'] + ' is due here'
+        assert f'^ {said}\n' in page, value
+    else:
+        assert place in page, value
+
+
+def check_head(files, names, value):
+    name = value['file']
+    assert name == names[value['log']], value
+    for number, word in enumerate(('version', 'nodes', 'place'), 1):
+        assert files.line(name, number) == f"{'irlog' if number == 1 else word} {value[word]}".encode(), value
+
+
+def check_front(names, page, value):
+    if 'pos' in value:
+        state = Ring(names).states[value['node']][value['pos']]
+        assert_state(value, state)
+    assert ('pos' in value) == (value['left'] > 0) and f"node {value['node']} " in page, value
+
+
+def check_evidence(names, page, answer):
+    """Each object speaks of what stands in the files, and is that of the reason."""
+    files, roles = Files(), {}
+    for value in answer.get('evidence', []):
+        role = value['role']
+        roles.setdefault(role, []).append(value)
+        if role in ('sent', 'received', 'event', 'other'):
+            check_record(files, names, value)
+        elif role == 'line':
+            check_line(files, page, value)
+        elif role == 'head':
+            check_head(files, names, value)
+        elif role == 'front':
+            check_front(names, page, value)
+        else:
+            line = files.line(value['file'], value['line']).decode()
+            step = 'drop {node} {pos} by {other} {other_pos}' if role == 'step' else 'spent {node}'
+            assert line == step.format(**value), value
+    reason = answer['reason']
+    of_reason = {None: set(), 'log': {'line'}, 'heads': {'head'}, 'link': {'sent', 'received'},
+                 'circle': {'sent', 'received'}, 'node': {'event', 'other'}, 'question': {'line'},
+                 'certificate': {'line'}, 'sections': {'line'}, 'case': {'step', 'spent', 'front'}}
+    assert set(roles) <= of_reason[reason] and (reason is None or roles), answer
+    if reason == 'heads':
+        assert [value['log'] for value in roles['head']] == list(range(len(names)))
+    elif reason == 'link':
+        ring, (received,), k = Ring(names), roles['received'], answer['receipt']
+        assert (answer['link'] + 1) % ring.n == received['node']
+        assert ring.got[answer['link']][k - 1] == received['event']
+        sent = [value['event'] for value in roles.get('sent', [])]
+        assert sent == ring.sent[answer['link']][k - 1:k] and ring.mismatch() is not None
+    elif reason == 'circle':
+        ring = Ring(names)
+        assert [(v['node'], v['event']) for v in roles['received']] == [(i, p + 1) for i, p in enumerate(ring.stuck)]
+        for received, sent in zip(roles['received'], roles['sent']):
+            assert ring.sending(received['node'], received['event']) == (sent['node'], sent['event'])
+    elif reason == 'node':
+        check_node(names, roles, answer)
+
+
+def check_node(names, roles, answer):
+    """The states up to the event that is named, and the first event without a step of each other node."""
+    (named,) = roles['event']
+    assert (named['node'], named['event']) == (answer.get('node', named['node']), answer['event'])
+    if len(names) == 1:
+        return
+    ring = Ring(names)
+    faulty = {i: len(states) for i, states in enumerate(ring.states) if len(states) <= len(ring.events[i])}
+    assert faulty.pop(named['node']) == named['event']
+    assert_state(answer['state_before'], ring.states[named['node']][-1])
+    past = ring.past(named['node'], named['event'])
+    others = {v['node']: (v['event'], v['happened_before']) for v in roles.get('other', [])}
+    assert others == {i: (p, past[i] >= p) for i, p in faulty.items()}, answer
+
+
+def check_explained(reader, options, names):
+    """The answer with what it rests on; hints stand on the page. Gives the lines."""
+    _, page = reader.run('explain', *options, *names)
+    _, values = reader.json('explain', '--json', *options, *names)
+    answer = values[0]
+    words = ' '.join(page.split())
+    assert all('hint: ' + ' '.join(hint.split()) in words for hint in answer['hints']), answer
+    assert len(answer['hints']) == page.count('\n  hint: '), answer
+    if answer['reason'] in ('log', 'heads'):
+        assert 'nodes' not in answer and 'events' not in answer
+    else:
+        events = Ring(names).events
+        assert answer['nodes'] == len(names) and answer['events'] == sum(map(len, events))
+    check_evidence(names, page, answer)
+    return values
+
+
+def check_asks(question, page, cases):
+    """What the cases that are explained ask stands in the question."""
+    files = Files()
+    for value in cases:
+        asks = value.pop('asks', None)
+        assert (asks is not None) == (f"\n  case {value['case']} (" in page), value
+        for ask in asks or []:
+            assert files.line(question, ask['line']) == f"{ask['node']}: {ask['clause']}".encode(), ask
 
 
 def check_moment(reader, ring, names, cut, words):
@@ -122,12 +268,15 @@ def check_question(reader, question, certificate, names):
             else:
                 lines.append(f"case {k}: present at {' '.join(map(str, value['cut']))}\n")
         assert plain == ''.join(lines), plain
-    assert reader.json('explain', '--json', *options) == (status, [answer, *cases])
+    explained, *asked = check_explained(reader, ['--question', question], names)
+    assert explained['answer'] == answer['answer'] and explained['status'] == status
+    check_asks(question, reader.run('explain', *options)[1], asked)
+    assert asked == cases
     if certificate:
         plain_status, plain = reader.run('check', '--cert', certificate, *options)
         status, (answer,) = reader.json('check', '--json', '--cert', certificate, *options)
-        explained_status, (explained,) = reader.json('explain', '--json', '--cert', certificate, *options)
-        assert plain_status == status == explained_status
+        (explained,) = check_explained(reader, ['--question', question, '--cert', certificate], names)
+        assert plain_status == status
         assert plain == answer['answer'] + '\n' and {**explained, **answer} == explained
 
 
@@ -135,13 +284,14 @@ def check_logs(reader, names, folder):
     plain_status, plain = reader.run('logs', *names)
     status, (answer,) = reader.json('logs', '--json', *names)
     assert status == plain_status and plain == answer['answer'] + '\n'
-    explained_status, (explained,) = reader.json('explain', '--json', *names)
-    assert explained_status == status and {**explained, **answer} == explained
+    (explained,) = check_explained(reader, [], names)
+    assert {**explained, **answer} == explained
     assert ('fault' in explained) == (status != 0)
     for place in range(len(names)):
         with open(names[place]) as log:
             done = subprocess.run([reader.program, 'explain', '--json'], check=False, stdin=log, capture_output=True, text=True)
-        assert done.stderr == '' and json.loads(done.stdout)['status'] == done.returncode
+        alone = json.loads(done.stdout)
+        assert done.stderr == '' and alone['status'] == done.returncode and 'nodes' not in alone
         reader.lines += 1
     if status == 0:
         ring = Ring(names)
@@ -158,6 +308,49 @@ def check_logs(reader, names, folder):
             out.write(reader.run('pairs', str(len(names)))[1])
         reader.run('decide', '--question', question, '--out', certificate, *names)
         check_question(reader, question, certificate if os.path.exists(certificate) else None, names)
+
+
+def check_broken(reader, names):
+    """Logs that are broken in one place each, and given in another order."""
+    def rewritten(place, change):
+        with open(names[place]) as log:
+            lines = log.read().split('\n')
+        return change(lines)
+
+    def changed(place, change):
+        kept = rewritten(place, lambda lines: lines)
+        with open(names[place], 'w') as log:
+            log.write('\n'.join(change(list(kept))))
+        check_logs(reader, names, None)
+        with open(names[place], 'w') as log:
+            log.write('\n'.join(kept))
+
+    def without(lines, number):
+        return [*lines[:number - 1], *lines[number:-2], f'end {len(lines) - 7}', '']
+
+    def at(lines, word, new):
+        for number, line in enumerate(lines):
+            if line.startswith(word):
+                lines[number] = new(line)
+                return lines
+        return lines
+
+    check_logs(reader, [names[1], names[0], *names[2:]], None)
+    check_logs(reader, names[:-1], None)
+    for place in range(len(names)):
+        changed(place, lambda lines: at(lines, 'irlog', lambda _: 'irlog 2'))
+        changed(place, lambda lines: at(lines, 'start', lambda _: 'start passive'))
+        changed(place, lambda lines: at(lines, 'send', lambda line: line.title()))
+        changed(place, lambda lines: at(lines, 'send', lambda line: line + '\t'))
+        changed(place, lambda lines: at(lines, 'recv', lambda line: line.replace(' ', ' 1', 1)))
+        changed(place, lambda lines: at(lines, 'draw', lambda _: 'draw 0'))
+        changed(place, lambda lines: at(lines, 'draw', lambda _: 'draw 64'))
+        changed(place, lambda lines: lines[:-2] + [''])
+        changed(place, lambda lines: without(lines, 5))
+        changed(place, lambda lines: without(lines, 7))
+        changed(place, lambda lines: without(lines, len(lines) - 2))
+        changed(place, lambda lines: [*lines[:4], lines[5], lines[4], *lines[6:]])
+        changed(place, lambda lines: [*lines[:4], *lines[6:8], *lines[4:6], *lines[8:]])
 
 
 def main():
@@ -178,6 +371,8 @@ def main():
             os.mkdir(folder)
             reader.run('run', '--nodes', str(nodes), '--seed', str(seed), '--terms', str(terms), '--out', folder)
             check_logs(reader, logs_in(folder), folder)
+            if nodes in (3, 4):
+                check_broken(reader, logs_in(folder))
     print(f'{reader.lines} lines of JSON say what the plain answers and the logs do')
 
 

@@ -1,6 +1,8 @@
+use crate::evidence::Evidence;
+use crate::explanation::Explanation;
 use crate::named_text::NamedText;
-use crate::page::{Mark, Page};
-use crate::places::{file_of, line_of, record_cell};
+use crate::page::Mark;
+use crate::places::{file_of, line_of};
 use crate::table::{Row, Table};
 use ira_event::{Event, Logs, OutOfMemory};
 use ira_evidence::{CircleEvidence, StuckAt, first_faulty_events};
@@ -15,8 +17,9 @@ fn stuck_line(stuck: &[StuckAt], place: u8) -> usize {
 }
 
 /// Adds where a node is stuck, and where the sending stands that it waits for.
-fn add_stuck<A: Allocator + Copy>(
+fn add_stuck<A: Allocator + Copy, P: Allocator + Clone>(
     alloc: A,
+    explanation: &mut Explanation<P>,
     table: &mut Table<A>,
     files: &[NamedText<'_>],
     stuck: &[StuckAt],
@@ -27,44 +30,41 @@ fn add_stuck<A: Allocator + Copy>(
         load,
         sending,
     } = at;
-    let node = format!(in alloc; "node {}", receipt.place)?;
-    let record = record_cell(
-        alloc,
-        file_of(files, receipt.place),
-        receipt.position,
-        Event::Got(load),
-    )?;
-    let sender = format!(in alloc; "is sent by node {}", sending.place)?;
-    let sent = format!(in alloc;
-        "{}:{}, after its line {}",
-        file_of(files, sending.place),
+    let (reader_file, writer_file) = (file_of(files, receipt.place), file_of(files, sending.place));
+    let received = explanation.record_at(reader_file, receipt, Event::Got(load))?;
+    let sent = explanation.record_at(writer_file, sending, Event::Sent(load))?;
+    let mut row = Row::new(alloc, Mark::Plain);
+    row.add(format!(in alloc; "node {}", receipt.place)?)?;
+    row.add(received.cell(alloc)?)?;
+    row.add(format!(in alloc; "is sent by node {}", sending.place)?)?;
+    row.add(format!(in alloc;
+        "{writer_file}:{}, after its line {}",
         line_of(sending.position),
         stuck_line(stuck, sending.place)
-    )?;
-    let mut row = Row::new(alloc, Mark::Plain);
-    row.add(node)?;
-    row.add(record)?;
-    row.add(sender)?;
-    row.add(sent)?;
-    table.add(row)
+    )?)?;
+    table.add(row)?;
+    explanation.evidence.push(Evidence::Received(received))?;
+    explanation.evidence.push(Evidence::Sent(sent))?;
+    Ok(())
 }
 
 /// Adds the receipts that wait for one another.
-pub(crate) fn explain_circle<A: Allocator + Copy, P: Allocator>(
+pub(crate) fn explain_circle<A: Allocator + Copy, P: Allocator + Clone>(
     alloc: A,
-    page: &mut Page<P>,
+    explanation: &mut Explanation<P>,
     files: &[NamedText<'_>],
     logs: &Logs<A>,
     evidence: &CircleEvidence<A>,
 ) -> Result<(), OutOfMemory> {
-    page.paragraph(
+    explanation.page.paragraph(
         "Each of these receipts waits for a sending that its sender made only after its own such receipt:",
     )?;
-    page.blank()?;
+    explanation.page.blank()?;
     let mut table = Table::new(alloc);
     for at in &evidence.stuck {
-        add_stuck(alloc, &mut table, files, &evidence.stuck, *at)?;
+        add_stuck(alloc, explanation, &mut table, files, &evidence.stuck, *at)?;
     }
+    let page = &mut explanation.page;
     table.print(page)?;
     page.blank()?;
     let (ordered, events) = (evidence.ordered, logs.number_of_events());
@@ -78,7 +78,7 @@ pub(crate) fn explain_circle<A: Allocator + Copy, P: Allocator>(
         )?
         .as_str())?;
     }
-    page.hint(
+    explanation.hint(
         "records that are not in the order of the node: two threads write one log, or records were sorted by a clock.",
     )
 }

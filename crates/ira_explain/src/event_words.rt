@@ -7,6 +7,11 @@ use std::fmt;
 pub struct EventWords(pub Event);
 
 impl fmt::Display for EventWords {
+    ghost use Rattle.std.specs.Prelude.{Some};
+    ghost use Rattle.ira_explain.specs.Record.{record_words};
+
+    ghost output = { λ words. Some (record_words words.0) };
+
     fn fmt<W: fmt::Write>(&self, f: &mut fmt::Formatter<W>) -> fmt::Result {
         match self.0 {
             Event::Draw(id) => write!(f, "draw {id}"),

@@ -1,5 +1,8 @@
 ghost use Rattle.std.specs.Prelude.{◌≤◌};
 
+use crate::evidence::Evidence;
+use crate::explanation::Explanation;
+use crate::head_row::HeadRow;
 use crate::named_text::NamedText;
 use crate::page::{Mark, Page, shown_width};
 use ira_event::{HeadFault, OutOfMemory, open_log};
@@ -8,64 +11,57 @@ use std::alloc::Allocator;
 /// The most files that are all shown.
 const ALL: usize = 12;
 
-/// The numbers of a log's head, and the name of its file.
-#[derive(Clone, Copy)]
-struct HeadRow<'a> {
-    name: &'a str,
-    version: u8,
-    nodes: u8,
-    place: u8,
-}
-
-/// The row of a log, if there is one of this number.
-fn row_of<'a>(files: &[NamedText<'a>], number: usize) -> Option<HeadRow<'a>> {
-    let file = files.get(number)?;
-    match open_log(file.text) {
-        Ok((head, _)) => Some(HeadRow {
-            name: file.name,
-            version: head.version,
-            nodes: head.nodes.get(),
-            place: head.place,
-        }),
-        Err(_) => None,
+/// The rows of the logs, in their order.
+fn read_rows<A: Allocator + Clone>(
+    alloc: A,
+    files: &[NamedText<'_>],
+) -> Result<Vec<HeadRow<A>, A>, OutOfMemory> {
+    let mut rows = Vec::with_capacity(alloc.clone()?, files.len())?;
+    for (log, file) in files.iter().enumerate() {
+        if let Ok((head, _)) = open_log(file.text) {
+            rows.push(HeadRow {
+                log,
+                file: String::from_str(alloc.clone()?, file.name)?,
+                version: head.version,
+                nodes: head.nodes.get(),
+                place: head.place,
+            })?;
+        }
     }
-}
-
-/// The place of a log, if there is one of this number.
-fn place_of(files: &[NamedText<'_>], number: usize) -> Option<u8> {
-    match row_of(files, number) {
-        Some(row) => Some(row.place),
-        None => None,
-    }
+    Ok(rows)
 }
 
 /// Why logs aren't those of one ring: their heads as a table.
 pub(crate) fn explain_heads<A: Allocator + Clone>(
     alloc: A,
-    page: &mut Page<A>,
+    explanation: &mut Explanation<A>,
     files: &[NamedText<'_>],
     fault: HeadFault,
 ) -> Result<(), OutOfMemory> {
+    let rows = read_rows(alloc.clone()?, files)?;
     match fault {
-        HeadFault::Number => explain_number(alloc, page, files),
-        HeadFault::Size(i) => explain_size(page, files, usize::from(i)),
-        HeadFault::Place(i) => explain_place(alloc, page, files, usize::from(i)),
-        HeadFault::Version(i) => explain_version(page, files, usize::from(i)),
+        HeadFault::Number => explain_number(alloc, explanation, &rows)?,
+        HeadFault::Size(i) => explain_size(&mut explanation.page, &rows, usize::from(i))?,
+        HeadFault::Place(i) => explain_place(alloc, explanation, &rows, usize::from(i))?,
+        HeadFault::Version(i) => explain_version(explanation, &rows, usize::from(i))?,
     }
+    for row in rows {
+        explanation.evidence.push(Evidence::Head(row))?;
+    }
+    Ok(())
 }
 
 /// Adds `Log I (FILE:LINE) says `, or with a small letter.
 fn add_speaker<A: Allocator>(
     page: &mut Page<A>,
     log: &str,
-    number: usize,
-    row: &HeadRow<'_>,
+    row: &HeadRow<A>,
     line: usize,
 ) -> Result<(), OutOfMemory> {
     page.words(log)?;
-    page.number(number as u64)?;
+    page.number(row.log as u64)?;
     page.words(" (")?;
-    page.place(row.name, line)?;
+    page.place(row.file.as_str(), line)?;
     page.words(") says ")
 }
 
@@ -79,58 +75,59 @@ fn add_quoted<A: Allocator>(page: &mut Page<A>, word: &str, n: u8) -> Result<(),
 
 fn explain_number<A: Allocator + Clone>(
     alloc: A,
-    page: &mut Page<A>,
-    files: &[NamedText<'_>],
+    explanation: &mut Explanation<A>,
+    rows: &[HeadRow<A>],
 ) -> Result<(), OutOfMemory> {
-    let Some(first) = row_of(files, 0) else {
+    let page = &mut explanation.page;
+    let Some(first) = rows.first() else {
         return page.line(Mark::Plain, "No file is given.");
     };
     let nodes = first.nodes;
     page.begin(Mark::Plain)?;
-    page.number(files.len() as u64)?;
-    page.words(if files.len() == 1 {
+    page.number(rows.len() as u64)?;
+    page.words(if rows.len() == 1 {
         " file given; "
     } else {
         " files given; "
     })?;
-    add_speaker(page, "log ", 0, &first, 2)?;
+    add_speaker(page, "log ", first, 2)?;
     add_quoted(page, "nodes ", nodes)?;
     page.words(", so ")?;
     page.number(u64::from(nodes))?;
     page.words(" are due.")?;
     page.end()?;
     page.blank()?;
-    add_table(page, files, None, false)?;
-    page.blank()?;
-    if files.len() < usize::from(nodes) {
-        add_missing(alloc, page, files, nodes)
+    add_table(page, rows, None, false)?;
+    if rows.len() < usize::from(nodes) {
+        let hint = missing_places(alloc, rows, nodes)?;
+        explanation.hint_apart(&hint)
     } else {
-        page.hint("files of a larger ring that ran in the same folder before may be left there.")
+        explanation.hint_apart(
+            "files of a larger ring that ran in the same folder before may be left there.",
+        )
     }
 }
 
 /// Whether a log of this place is there.
-fn has_place(files: &[NamedText<'_>], place: u8) -> bool {
-    (0..files.len()).any(|i| place_of(files, i) == Some(place))
+fn has_place<A: Allocator>(rows: &[HeadRow<A>], place: u8) -> bool {
+    rows.iter().any(|row| row.place == place)
 }
 
 /// Which places have no log, the first eight.
-fn add_missing<A: Allocator + Clone>(
+fn missing_places<A: Allocator + Clone>(
     alloc: A,
-    page: &mut Page<A>,
-    files: &[NamedText<'_>],
+    rows: &[HeadRow<A>],
     nodes: u8,
-) -> Result<(), OutOfMemory> {
+) -> Result<String<A>, OutOfMemory> {
     let mut places = String::new(alloc.clone()?);
     let mut count = 0u8;
     for place in 0..nodes {
-        if !has_place(files, place) {
+        if !has_place(rows, place) {
             add_missing_place(&alloc, &mut places, place, count)?;
             count = count.saturating_add(1);
         }
     }
-    let hint = format!(in alloc; "no file is of place {places}.")?;
-    page.hint(&hint)
+    Ok(format!(in alloc; "no file is of place {places}.")?)
 }
 
 fn add_missing_place<A: Allocator + Clone>(
@@ -150,59 +147,60 @@ fn add_missing_place<A: Allocator + Clone>(
 
 fn explain_size<A: Allocator>(
     page: &mut Page<A>,
-    files: &[NamedText<'_>],
+    rows: &[HeadRow<A>],
     named: usize,
 ) -> Result<(), OutOfMemory> {
-    let (Some(first), Some(row)) = (row_of(files, 0), row_of(files, named)) else {
+    let (Some(first), Some(row)) = (rows.first(), rows.get(named)) else {
         return Ok(());
     };
     page.begin(Mark::Plain)?;
-    add_speaker(page, "Log ", named, &row, 2)?;
+    add_speaker(page, "Log ", row, 2)?;
     add_quoted(page, "nodes ", row.nodes)?;
     page.words(", ")?;
-    add_speaker(page, "log ", 0, &first, 2)?;
+    add_speaker(page, "log ", first, 2)?;
     add_quoted(page, "nodes ", first.nodes)?;
     page.words(".")?;
     page.end()?;
     page.blank()?;
-    add_table(page, files, Some(named), false)
+    add_table(page, rows, Some(named), false)
 }
 
-fn explain_version<A: Allocator>(
-    page: &mut Page<A>,
-    files: &[NamedText<'_>],
+fn explain_version<A: Allocator + Clone>(
+    explanation: &mut Explanation<A>,
+    rows: &[HeadRow<A>],
     named: usize,
 ) -> Result<(), OutOfMemory> {
-    let (Some(first), Some(row)) = (row_of(files, 0), row_of(files, named)) else {
+    let (Some(first), Some(row)) = (rows.first(), rows.get(named)) else {
         return Ok(());
     };
+    let page = &mut explanation.page;
     page.begin(Mark::Plain)?;
-    add_speaker(page, "Log ", named, &row, 1)?;
+    add_speaker(page, "Log ", row, 1)?;
     add_quoted(page, "irlog ", row.version)?;
     page.words(", ")?;
-    add_speaker(page, "log ", 0, &first, 1)?;
+    add_speaker(page, "log ", first, 1)?;
     add_quoted(page, "irlog ", first.version)?;
     page.words(".")?;
     page.end()?;
     page.blank()?;
-    add_table(page, files, Some(named), true)?;
-    page.blank()?;
-    page.hint(
+    add_table(page, rows, Some(named), true)?;
+    explanation.hint_apart(
         "a log of version 1 is one of version 2 but for its first line: write `irlog 2` there.",
     )
 }
 
 fn explain_place<A: Allocator + Clone>(
     alloc: A,
-    page: &mut Page<A>,
-    files: &[NamedText<'_>],
+    explanation: &mut Explanation<A>,
+    rows: &[HeadRow<A>],
     named: usize,
 ) -> Result<(), OutOfMemory> {
-    let Some(row) = row_of(files, named) else {
+    let Some(row) = rows.get(named) else {
         return Ok(());
     };
+    let page = &mut explanation.page;
     page.begin(Mark::Plain)?;
-    add_speaker(page, "Log ", named, &row, 3)?;
+    add_speaker(page, "Log ", row, 3)?;
     add_quoted(page, "place ", row.place)?;
     page.words("; log number ")?;
     page.number(named as u64)?;
@@ -211,24 +209,23 @@ fn explain_place<A: Allocator + Clone>(
     page.words(".")?;
     page.end()?;
     page.blank()?;
-    add_table(page, files, Some(named), false)?;
-    page.blank()?;
-    match repeated_place(files) {
+    add_table(page, rows, Some(named), false)?;
+    match repeated_place(rows) {
         Some(place) => {
             let hint = format!(in alloc; "place {place} is there twice.")?;
-            page.hint(&hint)
+            explanation.hint_apart(&hint)
         }
-        None => page.hint(
+        None => explanation.hint_apart(
             "these are all the logs, in another order. A shell sorts 10.log before 2.log; in order of place: ira logs --dir DIR, or ira logs $(ls FILES | sort -V)",
         ),
     }
 }
 
 /// The place of the first log whose place another one has too.
-fn repeated_place(files: &[NamedText<'_>]) -> Option<u8> {
-    for i in 0..files.len() {
-        let place = place_of(files, i)?;
-        if (i + 1..files.len()).any(|j| place_of(files, j) == Some(place)) {
+fn repeated_place<A: Allocator>(rows: &[HeadRow<A>]) -> Option<u8> {
+    for i in 0..rows.len() {
+        let place = rows[i].place;
+        if has_place(&rows[i + 1..], place) {
             return Some(place);
         }
     }
@@ -236,12 +233,12 @@ fn repeated_place(files: &[NamedText<'_>]) -> Option<u8> {
 }
 
 /// How wide the column of names is.
-fn names_width(files: &[NamedText<'_>]) -> usize
+fn names_width<A: Allocator>(rows: &[HeadRow<A>]) -> usize
     ensures { result ≤ 1000 }
 {
     let mut width = 4;
-    for file in files {
-        width = width.max(shown_width(file.name.as_bytes()));
+    for row in rows {
+        width = width.max(shown_width(row.file.as_bytes()));
     }
     width.min(1000)
 }
@@ -258,11 +255,11 @@ fn is_shown(row: usize, named: Option<usize>) -> bool {
 /// Adds the table of heads, its named row marked.
 fn add_table<A: Allocator>(
     page: &mut Page<A>,
-    files: &[NamedText<'_>],
+    rows: &[HeadRow<A>],
     named: Option<usize>,
     with_versions: bool,
 ) -> Result<(), OutOfMemory> {
-    let width = names_width(files);
+    let width = names_width(rows);
     page.begin(Mark::Plain)?;
     page.words("log  file")?;
     page.pad_to(7 + width)?;
@@ -272,10 +269,10 @@ fn add_table<A: Allocator>(
     }
     page.end()?;
     let mut skips = false;
-    for i in 0..files.len() {
-        if files.len() <= ALL || is_shown(i, named) {
+    for row in rows {
+        if rows.len() <= ALL || is_shown(row.log, named) {
             skips = false;
-            add_row(page, files, i, named == Some(i), width, with_versions)?;
+            add_row(page, row, named == Some(row.log), width, with_versions)?;
         } else if !skips {
             skips = true;
             page.line(Mark::Plain, "..")?;
@@ -286,21 +283,17 @@ fn add_table<A: Allocator>(
 
 fn add_row<A: Allocator>(
     page: &mut Page<A>,
-    files: &[NamedText<'_>],
-    number: usize,
+    row: &HeadRow<A>,
     is_named: bool,
     width: usize,
     with_versions: bool,
 ) -> Result<(), OutOfMemory>
     requires { width ≤ 1000 }
 {
-    let Some(row) = row_of(files, number) else {
-        return Ok(());
-    };
     page.begin(if is_named { Mark::Named } else { Mark::Plain })?;
-    page.number_to(5, number as u64)?;
+    page.number_to(5, row.log as u64)?;
     page.words("  ")?;
-    page.words(row.name)?;
+    page.words(row.file.as_str())?;
     page.number_to(14 + width, u64::from(row.nodes))?;
     page.number_to(21 + width, u64::from(row.place))?;
     if with_versions {

@@ -1,14 +1,19 @@
 //! Why an answer is as it is: the lines that follow an answer for a person who asks.
 #![tactic(auto)]
 
+mod asked_case;
 mod carets;
 mod circle_block;
 mod difference;
 mod event_words;
+mod evidence;
 mod explain;
+mod explanation;
 mod field;
 mod first_line;
+mod front;
 mod good_block;
+mod head_row;
 mod heads_block;
 mod line_form;
 mod line_stop;
@@ -22,7 +27,11 @@ mod number_of;
 mod ordinal;
 mod page;
 mod places;
+mod quoted_line;
+mod record_at;
+mod remark;
 mod ring_block;
+mod ring_counts;
 mod round_words;
 mod rule;
 mod slip;
@@ -32,14 +41,23 @@ mod table;
 mod text_block;
 mod text_head;
 
+pub use asked_case::{AskedCase, AskedNode};
 pub use event_words::EventWords;
+pub use evidence::Evidence;
 pub use explain::{explain_log, explain_logs};
+pub use explanation::Explanation;
 pub use first_line::split_line;
+pub use front::Front;
+pub use head_row::HeadRow;
 pub use load_words::LoadWords;
 pub use named_text::NamedText;
 pub use number_of::NumberOf;
 pub use page::{Mark, Page, shown_width};
 pub use places::{event_at, file_of, line_of};
+pub use quoted_line::{Carets, QuotedLine};
+pub use record_at::RecordAt;
+pub use remark::Remark;
+pub use ring_counts::RingCounts;
 pub use round_words::RoundWords;
 pub use slip::Slip;
 pub use state_words::StateWords;

@@ -2,6 +2,8 @@ ghost use Rattle.std.specs.Prelude.{◌<◌, length};
 ghost use Rattle.ira_order.specs.MatchFault.{IsMatchFault};
 
 use crate::carets::carets_below;
+use crate::evidence::Evidence;
+use crate::explanation::Explanation;
 use crate::field::Field;
 use crate::link_cause::LinkCause;
 use crate::link_sides::{LinkSides, is_raised};
@@ -9,7 +11,7 @@ use crate::load_words::LoadWords;
 use crate::named_text::NamedText;
 use crate::number_of::NumberOf;
 use crate::ordinal::Ordinal;
-use crate::page::{Mark, Page, shown_width};
+use crate::page::Mark;
 use crate::places::{event_at, file_of, line_of, next_place};
 use crate::state_words::StateWords;
 use crate::table::{Row, Table};
@@ -185,9 +187,9 @@ fn is_dropped(state: NodeState, load: Load) -> bool {
 }
 
 /// Tells, of a link that lacks the sending of a receipt, how many it has, and what the end of the sender's log shows.
-fn explain_no_sending<A: Allocator + Copy, P: Allocator>(
+fn explain_no_sending<A: Allocator + Copy, P: Allocator + Clone>(
     alloc: A,
-    page: &mut Page<P>,
+    explanation: &mut Explanation<P>,
     files: LinkFiles<'_>,
     logs: &Logs<A>,
     sides: &LinkSides<A>,
@@ -203,7 +205,7 @@ fn explain_no_sending<A: Allocator + Copy, P: Allocator>(
     } = files;
     let sendings = NumberOf(sides.sent.len(), "sending");
     let receipts = NumberOf(sides.received.len(), "receipt");
-    page.paragraph(format!(in alloc;
+    explanation.page.paragraph(format!(in alloc;
         "Node {link} made {sendings}, node {reader} {receipts}."
     )?.as_str())?;
     let writer = logs.log(link);
@@ -211,23 +213,23 @@ fn explain_no_sending<A: Allocator + Copy, P: Allocator>(
         Ok(state) if state.owed == Some(receipt.load) => {
             let end = writer.len() + 5;
             let line = line_of(receipt.at.position);
-            page.hint(format!(in alloc;
+            explanation.hint(format!(in alloc;
                 "the log of node {link} ends ({writer_file}:{end}) where it owes exactly this message: the node stopped \
                  before its last record was written. Where a crash is the cause, end the log of node {reader} before line \
                  {line}, and so on along the ring."
             )?
             .as_str())
         }
-        _ => page.hint(format!(in alloc;
+        _ => explanation.hint(format!(in alloc;
             "messages that node {link} passes on may not be recorded, or a signal to stop is recorded as a receipt."
         )?.as_str()),
     }
 }
 
 /// Tells where a node would have dropped a sending that it has no receipt of.
-fn explain_drop<A: Allocator + Copy, P: Allocator>(
+fn explain_drop<A: Allocator + Copy, P: Allocator + Clone>(
     alloc: A,
-    page: &mut Page<P>,
+    explanation: &mut Explanation<P>,
     reader: &NodeLog<A>,
     receipt: u32,
     sending: Load,
@@ -236,7 +238,7 @@ fn explain_drop<A: Allocator + Copy, P: Allocator>(
         Some(state) if is_dropped(state, sending) => {
             let place = reader.place();
             let (state, load) = (StateWords(state), LoadWords(sending));
-            page.hint(format!(in alloc;
+            explanation.hint(format!(in alloc;
                 "node {place} was then {state}, so it drops {load} for its lesser pair: a dropped message is a receipt too, \
                  and is recorded."
             )?
@@ -329,8 +331,8 @@ fn cause_words<A: Allocator>(
     Ok(words?)
 }
 
-/// Whether two loads are alike but for the bit.
-fn have_one_hop(one: Load, other: Load) -> bool {
+/// Whether two loads are the same, or messages that differ by the bit alone.
+fn differ_by_bit_at_most(one: Load, other: Load) -> bool {
     match (one, other) {
         (Load::Msg(one), Load::Msg(other)) => {
             (one.round, one.id, one.hop) == (other.round, other.id, other.hop)
@@ -347,7 +349,9 @@ fn is_sent_unraised<A: Allocator>(logs: &Logs<A>, at: EventAt) -> bool {
         position: at.position.saturating_sub(1),
     };
     match (event_at(logs, before), event_at(logs, at)) {
-        (Some(Event::Got(received)), Some(Event::Sent(sent))) => have_one_hop(received, sent),
+        (Some(Event::Got(received)), Some(Event::Sent(sent))) => differ_by_bit_at_most(
+            received, sent,
+        ),
         _ => false,
     }
 }
@@ -379,9 +383,9 @@ fn cause_by_logs<A: Allocator>(
 }
 
 /// Tells what both sides of a link have in common where a receipt isn't of the load of its sending.
-fn explain_differs<A: Allocator + Copy, P: Allocator>(
+fn explain_differs<A: Allocator + Copy, P: Allocator + Clone>(
     alloc: A,
-    page: &mut Page<P>,
+    explanation: &mut Explanation<P>,
     files: LinkFiles<'_>,
     logs: &Logs<A>,
     sides: &LinkSides<A>,
@@ -396,20 +400,36 @@ fn explain_differs<A: Allocator + Copy, P: Allocator>(
         let reader = logs.log(files.reader);
         explain_drop(
             alloc,
-            page,
+            explanation,
             reader,
             evidence.receipt.at.position,
             sending.load,
         )?;
     }
     let cause = cause_by_logs(logs, evidence, cause);
-    page.hint(cause_words(alloc, files, evidence.receipt.load, cause)?.as_str())
+    explanation.hint(cause_words(alloc, files, evidence.receipt.load, cause)?.as_str())
+}
+
+/// Adds the receipt that doesn't match, and its sending, where there is one, to the evidence.
+fn add_evidence<P: Allocator + Clone>(
+    explanation: &mut Explanation<P>,
+    files: LinkFiles<'_>,
+    evidence: LinkEvidence,
+) -> Result<(), OutOfMemory> {
+    let LinkEvidence { receipt, sending } = evidence;
+    if let Some(Exchange { at, load }) = sending {
+        let sent = explanation.record_at(files.writer_file, at, Event::Sent(load))?;
+        explanation.evidence.push(Evidence::Sent(sent))?;
+    }
+    let received = explanation.record_at(files.reader_file, receipt.at, Event::Got(receipt.load))?;
+    explanation.evidence.push(Evidence::Received(received))?;
+    Ok(())
 }
 
 /// Adds both sides of the link that has the fault.
-pub(crate) fn explain_link<A: Allocator + Copy, P: Allocator>(
+pub(crate) fn explain_link<A: Allocator + Copy, P: Allocator + Clone>(
     alloc: A,
-    page: &mut Page<P>,
+    explanation: &mut Explanation<P>,
     files: &[NamedText<'_>],
     logs: &Logs<A>,
     fault: MatchFault,
@@ -429,21 +449,30 @@ pub(crate) fn explain_link<A: Allocator + Copy, P: Allocator>(
     let sides = LinkSides::of(alloc, logs.log(link), logs.log(reader))?;
     let exchanges = sides.sent.len().max(sides.received.len());
     let nth = Ordinal(k);
+    let page = &mut explanation.page;
     page.paragraph(format!(in alloc;
         "Link {link} leads from node {link} to node {reader}, first in, first out: its {nth} receipt takes the {nth} sending."
     )?.as_str())?;
     page.blank()?;
     exchange_table(alloc, told, logs, exchanges)?.print(page)?;
     page.blank()?;
+    add_evidence(explanation, told, evidence)?;
     if is_numbered_backwards(alloc, logs)? {
-        return page.hint(
+        return explanation.hint(
             "numbered the other way round, all links match: your node I sends to node I-1.",
         );
     }
     match fault {
         MatchFault::NoSending { .. } => {
-            explain_no_sending(alloc, page, told, logs, &sides, evidence.receipt)
+            explain_no_sending(alloc, explanation, told, logs, &sides, evidence.receipt)
         }
-        MatchFault::Differs { .. } => explain_differs(alloc, page, told, logs, &sides, evidence),
+        MatchFault::Differs { .. } => explain_differs(
+            alloc,
+            explanation,
+            told,
+            logs,
+            &sides,
+            evidence,
+        ),
     }
 }

@@ -2,6 +2,8 @@ ghost use Rattle.ira_order.specs.Circle.{HasOrder};
 ghost use Rattle.ira_evidence.specs.FaultyEvent.{AreFirstFaultyEvents, IsFirstFaultyEvent};
 
 use crate::carets::{carets_at_end, carets_below};
+use crate::evidence::Evidence;
+use crate::explanation::Explanation;
 use crate::named_text::NamedText;
 use crate::page::{Mark, Page};
 use crate::places::{event_at, event_of, file_of, log_at, record_cell};
@@ -11,7 +13,7 @@ use crate::table::{Row, Table};
 use ira_event::{Event, Logs, NodeLog, OutOfMemory};
 use ira_evidence::{Beginning, EventAt, FaultyEvent, NodeEvidence, beginnings};
 use ira_node::StepFault;
-use ira_order::DirectDependencies;
+use ira_order::{DirectDependencies, HappenedBefore};
 use std::alloc::Allocator;
 
 /// So many events are shown before the one that has no step, and how the node starts where these are all.
@@ -114,14 +116,22 @@ fn state_table<A: Allocator + Copy>(
 }
 
 /// Adds the states that lead to the event, and the rules that say what is due there.
-fn explain_states<A: Allocator + Copy, P: Allocator>(
+fn explain_states<A: Allocator + Copy, P: Allocator + Clone>(
     alloc: A,
-    page: &mut Page<P>,
+    explanation: &mut Explanation<P>,
     file: &str,
     log: &NodeLog<A>,
     evidence: &NodeEvidence<A>,
     stopped: &Stopped,
 ) -> Result<(), OutOfMemory> {
+    let at = EventAt {
+        place: log.place(),
+        position: evidence.fault.position,
+    };
+    let event = explanation.record_at(file, at, stopped.event)?;
+    explanation.evidence.push(Evidence::Faulty(event))?;
+    explanation.state_before = Some(stopped.state);
+    let page = &mut explanation.page;
     state_table(alloc, file, log, evidence, stopped)?.print(page)?;
     page.blank()?;
     let (rule, further) = stopped.rules();
@@ -133,16 +143,13 @@ fn explain_states<A: Allocator + Copy, P: Allocator>(
 }
 
 /// Adds the usual cause, where there is one.
-fn explain_cause<A: Allocator + Copy, P: Allocator>(
+fn explain_cause<A: Allocator + Copy, P: Allocator + Clone>(
     alloc: A,
-    page: &mut Page<P>,
+    explanation: &mut Explanation<P>,
     stopped: &Stopped,
 ) -> Result<(), OutOfMemory> {
     match stopped.cause(alloc)? {
-        Some(words) => {
-            page.blank()?;
-            page.hint(words.as_str())
-        }
+        Some(words) => explanation.hint_apart(words.as_str()),
         None => Ok(()),
     }
 }
@@ -217,10 +224,35 @@ fn explain_other_faulty_events<A: Allocator + Copy, P: Allocator>(
     Ok(())
 }
 
+/// Adds another node's event without a step to the evidence.
+fn add_other<A: Allocator, P: Allocator + Clone>(
+    explanation: &mut Explanation<P>,
+    files: &[NamedText<'_>],
+    ordered: &DirectDependencies<'_, A>,
+    event: FaultyEvent,
+    named: FaultyEvent,
+) -> Result<(), OutOfMemory>
+    requires event { IsFirstFaultyEvent ordered.now event }
+    requires named { IsFirstFaultyEvent ordered.now named }
+{
+    let FaultyEvent { at, fault } = event;
+    let Some(event) = event_at(ordered.logs(), at) else {
+        return Ok(());
+    };
+    let event = explanation.record_at(file_of(files, at.place), at, event)?;
+    let happened_before = ordered.before(at.place, at.position, named.at.place, named.at.position);
+    explanation.evidence.push(Evidence::OtherFaulty {
+        event,
+        fault,
+        happened_before,
+    })?;
+    Ok(())
+}
+
 /// Adds the events without a step of other nodes, where there are any.
-fn explain_others<A: Allocator + Copy, P: Allocator>(
+fn explain_others<A: Allocator + Copy, P: Allocator + Clone>(
     alloc: A,
-    page: &mut Page<P>,
+    explanation: &mut Explanation<P>,
     files: &[NamedText<'_>],
     logs: &Logs<A>,
     faulty: &[FaultyEvent],
@@ -233,9 +265,15 @@ fn explain_others<A: Allocator + Copy, P: Allocator>(
     if faulty.len() < 2 {
         return Ok(());
     }
-    page.blank()?;
     let ordered = DirectDependencies::new(alloc, logs)?;
+    for event in faulty {
+        if *event != named {
+            add_other(explanation, files, &ordered, *event, named)?;
+        }
+    }
     let found = beginnings(alloc, &ordered, faulty, named)?;
+    let page = &mut explanation.page;
+    page.blank()?;
     if found.iter().any(|beginning| beginning.happened_before) {
         explain_beginnings(alloc, page, files, logs, faulty.len(), &found)
     } else {
@@ -244,9 +282,9 @@ fn explain_others<A: Allocator + Copy, P: Allocator>(
 }
 
 /// Adds why the named event has no step, and which such events other nodes have.
-pub(crate) fn explain_node<A: Allocator + Copy, P: Allocator>(
+pub(crate) fn explain_node<A: Allocator + Copy, P: Allocator + Clone>(
     alloc: A,
-    page: &mut Page<P>,
+    explanation: &mut Explanation<P>,
     files: &[NamedText<'_>],
     logs: &Logs<A>,
     faulty: &[FaultyEvent],
@@ -266,15 +304,22 @@ pub(crate) fn explain_node<A: Allocator + Copy, P: Allocator>(
     let Some(stopped) = Stopped::of(log, &evidence) else {
         return Ok(());
     };
-    explain_states(alloc, page, file_of(files, place), log, &evidence, &stopped)?;
-    explain_others(alloc, page, files, logs, faulty, named)?;
-    explain_cause(alloc, page, &stopped)
+    explain_states(
+        alloc,
+        explanation,
+        file_of(files, place),
+        log,
+        &evidence,
+        &stopped,
+    )?;
+    explain_others(alloc, explanation, files, logs, faulty, named)?;
+    explain_cause(alloc, explanation, &stopped)
 }
 
 /// Adds why an event of a log that is judged alone has no step.
-pub(crate) fn explain_log_alone<A: Allocator + Copy, P: Allocator>(
+pub(crate) fn explain_log_alone<A: Allocator + Copy, P: Allocator + Clone>(
     alloc: A,
-    page: &mut Page<P>,
+    explanation: &mut Explanation<P>,
     file: &str,
     log: &NodeLog<A>,
     evidence: &NodeEvidence<A>,
@@ -282,6 +327,6 @@ pub(crate) fn explain_log_alone<A: Allocator + Copy, P: Allocator>(
     let Some(stopped) = Stopped::of(log, evidence) else {
         return Ok(());
     };
-    explain_states(alloc, page, file, log, evidence, &stopped)?;
-    explain_cause(alloc, page, &stopped)
+    explain_states(alloc, explanation, file, log, evidence, &stopped)?;
+    explain_cause(alloc, explanation, &stopped)
 }

@@ -1,9 +1,8 @@
-ghost use Rattle.std.specs.Prelude.{◌≡◌, ◌++◌, [], ◌<◌, ◌≤◌, OnOk, codes, decimal, length, min};
+ghost use Rattle.std.specs.Prelude.{◌≡◌, ◌++◌, [], ◌<◌, ◌≤◌, OnOk, codes, decimal, length, min, string_bytes};
 ghost use Rattle.ira_event.specs.Sink.{Wrote};
 ghost use Rattle.ira_explain.specs.Printable.{IsPrintable, hex_digit_of, shown, shown_byte};
 ghost use Rattle.ira_explain.specs.Page.{mark_text};
 
-use crate::named_text::NamedText;
 use ira_event::{OutOfMemory, Sink, WriteFault, write_bytes};
 use itoa::Buffer;
 use std::alloc::Allocator;
@@ -56,6 +55,17 @@ impl<A: Allocator> Page<A> {
         ensures printable { IsPrintable self.now }
     {
         &self.text
+    }
+
+    /// What is on it, as a text of its own.
+    pub fn into_text(self) -> String<A>
+        ensures text { string_bytes result ≡ self }
+        ensures printable { IsPrintable self }
+    {
+        match String::from_utf8(self.text) {
+            Ok(text) => text,
+            Err(_) => unreachable!(),
+        }
     }
 
     /// Writes all of it.
@@ -130,30 +140,6 @@ impl<A: Allocator> Page<A> {
             self.push(b" ")?;
         }
         Ok(())
-    }
-
-    /// Adds a line of a file as the one that the answer speaks of, and begins the next with carets below the bytes
-    /// `from` to `to` of it, one at least. Bytes count from 0.
-    pub fn point(
-        &mut self,
-        file: &NamedText<'_>,
-        number: usize,
-        from: usize,
-        to: usize,
-    ) -> Result<(), OutOfMemory> {
-        let line = file.line(number);
-        self.begin(Mark::Named)?;
-        self.place(file.name, number)?;
-        self.push(b":")?;
-        let column = self.column().saturating_add(1);
-        if !line.is_empty() {
-            self.push(b" ")?;
-            self.quote(line)?;
-        }
-        self.end()?;
-        let first = quoted_column(line, from);
-        self.pad_to(column.saturating_add(first))?;
-        self.carets(quoted_column(line, to).saturating_sub(first))
     }
 
     /// Adds so many carets, one at least.
@@ -305,7 +291,7 @@ fn quoted_front(line: &[u8]) -> usize
 }
 
 /// The column at which the byte of a line stands in its quote; a byte after the line stands at its end.
-fn quoted_column(line: &[u8], byte: usize) -> usize
+pub(crate) fn quoted_column(line: &[u8], byte: usize) -> usize
     ensures { result ≤ 80 }
 {
     shown_width(&line[..byte.min(line.len())]).min(QUOTED)

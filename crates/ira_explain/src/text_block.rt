@@ -1,12 +1,14 @@
 ghost use Rattle.std.specs.Prelude.{◌≢◌, ◌≤◌};
 ghost use Rattle.ira_event.specs.Limits.{MAX_RECORDS};
 
+use crate::explanation::Explanation;
 use crate::line_stop::{Due, LineStop, RangeStop};
 use crate::named_text::NamedText;
-use crate::page::{Mark, Page};
+use crate::number_of::NumberOf;
+use crate::remark::Remark;
 use crate::slip::Slip;
 use crate::text_head::explain_head;
-use ira_event::{LogFault, MAX_RECORDS, MAX_TEXT, OutOfMemory, open_log, scan_number, skip_word};
+use ira_event::{LogFault, MAX_RECORDS, OutOfMemory, open_log, scan_number, skip_word};
 use std::alloc::Allocator;
 
 /// Why an end line gives another number than there are records.
@@ -21,44 +23,31 @@ enum CountCause {
 /// Why a text is no log's: its line, what is due there, and a usual cause.
 pub(crate) fn explain_text<A: Allocator + Clone>(
     alloc: A,
-    page: &mut Page<A>,
+    explanation: &mut Explanation<A>,
     file: &NamedText<'_>,
     fault: LogFault,
 ) -> Result<(), OutOfMemory>
     requires { fault ≢ LogFault.OutOfMemory }
 {
     match fault {
-        LogFault::TooLong => explain_length(page, file),
-        LogFault::Head => explain_head(page, file),
-        LogFault::Line(line) => explain_line(page, file, line as usize),
-        LogFault::Range(line) => explain_range(alloc, page, file, line as usize),
-        LogFault::TooMany => explain_too_many(page, file),
-        LogFault::Cut => explain_cut(alloc, page, file),
-        LogFault::Count => explain_count(alloc, page, file),
-        LogFault::Trailing => explain_trailing(page, file),
+        LogFault::TooLong => explain_length(explanation, file),
+        LogFault::Head => explain_head(alloc, explanation, file),
+        LogFault::Line(line) => explain_line(alloc, explanation, file, line as usize),
+        LogFault::Range(line) => explain_range(alloc, explanation, file, line as usize),
+        LogFault::TooMany => explain_too_many(explanation, file),
+        LogFault::Cut => explain_cut(alloc, explanation, file),
+        LogFault::Count => explain_count(alloc, explanation, file),
+        LogFault::Trailing => explain_trailing(alloc, explanation, file),
         LogFault::OutOfMemory => unreachable!(),
     }
 }
 
-/// The hint, after an empty line.
-fn add_hint<A: Allocator>(page: &mut Page<A>, hint: &str) -> Result<(), OutOfMemory> {
-    page.blank()?;
-    page.hint(hint)
-}
-
-fn explain_length<A: Allocator>(
-    page: &mut Page<A>,
+fn explain_length<A: Allocator + Clone>(
+    explanation: &mut Explanation<A>,
     file: &NamedText<'_>,
 ) -> Result<(), OutOfMemory> {
-    page.begin(Mark::Plain)?;
-    page.words(file.name)?;
-    page.words(": ")?;
-    page.grouped(file.text.len() as u64)?;
-    page.words(" bytes; a text has at most ")?;
-    page.grouped(MAX_TEXT as u64)?;
-    page.words(".")?;
-    page.end()?;
-    add_hint(page, "such a file is seldom a log: look at the names.")
+    explanation.too_long(file)?;
+    explanation.hint_apart("such a file is seldom a log: look at the names.")
 }
 
 /// The version of a text that begins with a head.
@@ -69,23 +58,21 @@ fn version_of(file: &NamedText<'_>) -> u8 {
     }
 }
 
-fn explain_line<A: Allocator>(
-    page: &mut Page<A>,
+fn explain_line<A: Allocator + Clone>(
+    alloc: A,
+    explanation: &mut Explanation<A>,
     file: &NamedText<'_>,
     number: usize,
 ) -> Result<(), OutOfMemory> {
     let line = file.line(number);
     let version = version_of(file);
     let stop = LineStop::find(line, version);
-    page.point(file, number, stop.byte, stop.byte)?;
-    page.words(" ")?;
-    add_due(page, stop.due, version)?;
-    page.words(" is due here")?;
-    page.end()?;
-    page.blank()?;
-    page.paragraph(line_forms(version))?;
+    let due = due_words(alloc, stop.due, version)?;
+    explanation.point(file, number, stop.byte, stop.byte, Remark::Due, &due)?;
+    explanation.page.blank()?;
+    explanation.page.paragraph(line_forms(version))?;
     match Slip::of_line(line, stop, version) {
-        Some(slip) => page.hint(slip.hint()),
+        Some(slip) => explanation.hint(slip.hint()),
         None => Ok(()),
     }
 }
@@ -99,87 +86,76 @@ fn line_forms(version: u8) -> &'static str {
     }
 }
 
-fn add_due<A: Allocator>(page: &mut Page<A>, due: Due, version: u8) -> Result<(), OutOfMemory> {
-    match due {
-        Due::Word if version == 1 => page.words("`draw`, `send`, `recv` or `end`"),
-        Due::Word => page.words("`draw`, `send`, `recv`, `yield` or `end`"),
-        Due::Field(field) => page.words(field.due(version)),
-        Due::Space => page.words("one space"),
-        Due::SpaceAnd(field) => {
-            page.words("one space and ")?;
-            page.words(field.name())
-        }
-        Due::End => page.words("the end of the line"),
-    }
+fn due_words<A: Allocator>(alloc: A, due: Due, version: u8) -> Result<String<A>, OutOfMemory> {
+    let words = match due {
+        Due::Word if version == 1 => "`draw`, `send`, `recv` or `end`",
+        Due::Word => "`draw`, `send`, `recv`, `yield` or `end`",
+        Due::Field(field) => field.due(version),
+        Due::Space => "one space",
+        Due::SpaceAnd(field) => return Ok(format!(in alloc; "one space and {}", field.name())?),
+        Due::End => "the end of the line",
+    };
+    Ok(String::from_str(alloc, words)?)
 }
 
 fn explain_range<A: Allocator + Clone>(
     alloc: A,
-    page: &mut Page<A>,
+    explanation: &mut Explanation<A>,
     file: &NamedText<'_>,
     number: usize,
 ) -> Result<(), OutOfMemory> {
     let Some(stop) = RangeStop::find(file.line(number), version_of(file)) else {
         return Ok(());
     };
-    page.point(file, number, stop.from, stop.to)?;
-    page.words(" ")?;
-    page.words(stop.field.name())?;
-    page.words(" is 1 to 1,000,000")?;
-    page.end()?;
+    let range = format!(in &alloc; "{} is 1 to 1,000,000", stop.field.name())?;
+    explanation.point(file, number, stop.from, stop.to, Remark::Note, &range)?;
     if !stop.is_zero {
         return Ok(());
     }
     if file.line(number).starts_with(b"draw ") {
-        return add_hint(page, "IDs count from 1: draw 1 to N.");
+        return explanation.hint_apart("IDs count from 1: draw 1 to N.");
     }
     let fields = stop.field.plural();
-    let hint = format!(in alloc;
+    let hint = format!(in &alloc;
         "{fields} count from 1: add 1 to each, on both ends of the link."
     )?;
-    add_hint(page, &hint)
+    explanation.hint_apart(&hint)
 }
 
-fn explain_too_many<A: Allocator>(
-    page: &mut Page<A>,
+fn explain_too_many<A: Allocator + Clone>(
+    explanation: &mut Explanation<A>,
     file: &NamedText<'_>,
 ) -> Result<(), OutOfMemory> {
     let number = MAX_RECORDS + 5;
-    page.point(file, number, 0, file.line(number).len())?;
-    page.words(" record ")?;
-    page.grouped(MAX_RECORDS as u64 + 1)?;
-    page.end()?;
-    add_hint(
-        page,
-        "end the log in front of this line: a log may end anywhere.",
-    )
+    let end = file.line(number).len();
+    explanation.point(file, number, 0, end, Remark::Note, "record 100,001")?;
+    explanation.hint_apart("end the log in front of this line: a log may end anywhere.")
 }
 
 fn explain_cut<A: Allocator + Clone>(
     alloc: A,
-    page: &mut Page<A>,
+    explanation: &mut Explanation<A>,
     file: &NamedText<'_>,
 ) -> Result<(), OutOfMemory> {
     let whole = file.whole_lines();
     let records = whole.saturating_sub(4);
-    let piece = file.line(whole.saturating_add(1));
+    let number = whole.saturating_add(1);
+    let piece = file.line(number);
     if piece.is_empty() {
-        page.point(file, whole, 0, file.line(whole).len())?;
-        page.words(" the last line; `end ")?;
-        page.number(records as u64)?;
-        page.words("` is due after it")?;
+        let words = format!(in &alloc; "the last line; `end {records}` is due after it")?;
+        let end = file.line(whole).len();
+        explanation.point(file, whole, 0, end, Remark::Note, &words)?;
     } else {
-        page.point(file, whole.saturating_add(1), piece.len(), piece.len())?;
-        page.words(" a line feed is due here")?;
+        let end = piece.len();
+        explanation.point(file, number, end, end, Remark::Due, "a line feed")?;
     }
-    page.end()?;
     if is_end_line(piece, records) {
-        return add_hint(page, "only the line feed is missing.");
+        return explanation.hint_apart("only the line feed is missing.");
     }
-    let hint = format!(in alloc;
+    let hint = format!(in &alloc;
         "a crash, or a file that was not closed. What stands in it up to its last whole line may be kept: take an incomplete line away and add the line `end {records}`."
     )?;
-    add_hint(page, &hint)
+    explanation.hint_apart(&hint)
 }
 
 /// Whether a piece is the end line of so many records without its line feed.
@@ -227,63 +203,53 @@ fn count_cause(said: usize, found: usize) -> Option<CountCause> {
     }
 }
 
-/// A number of records, in words.
-fn add_records<A: Allocator>(page: &mut Page<A>, count: usize) -> Result<(), OutOfMemory> {
-    page.number(count as u64)?;
-    page.words(if count == 1 { " record" } else { " records" })
-}
-
 fn explain_count<A: Allocator + Clone>(
     alloc: A,
-    page: &mut Page<A>,
+    explanation: &mut Explanation<A>,
     file: &NamedText<'_>,
 ) -> Result<(), OutOfMemory> {
     let found = count_records(file);
     let number = found + 5;
     let line = file.line(number);
-    page.point(file, number, 4, line.len())?;
-    page.words(" the log has ")?;
-    add_records(page, found)?;
-    if found > 0 {
-        page.words(" (lines 5 to ")?;
-        page.number(number as u64 - 1)?;
-        page.words(")")?;
-    }
-    page.end()?;
+    let records = NumberOf(found, "record");
+    let words = if found > 0 {
+        let last = number - 1;
+        format!(in &alloc; "the log has {records} (lines 5 to {last})")?
+    } else {
+        format!(in &alloc; "the log has {records}")?
+    };
+    explanation.point(file, number, 4, line.len(), Remark::Note, &words)?;
     match said_count(line).and_then(|said| count_cause(said, found)) {
         Some(CountCause::HeadCounted) => {
-            add_hint(page, "the head is counted too: count the records alone.")
+            explanation.hint_apart("the head is counted too: count the records alone.")
         }
         Some(CountCause::LinesLost(lost)) => {
-            let records = if lost == 1 { "record" } else { "records" };
-            let hint = format!(in alloc;
-                "{lost} {records} fewer than the writer counted: lines were lost."
+            let records = NumberOf(lost, "record");
+            let hint = format!(in &alloc;
+                "{records} fewer than the writer counted: lines were lost."
             )?;
-            add_hint(page, &hint)
+            explanation.hint_apart(&hint)
         }
         None => Ok(()),
     }
 }
 
-fn explain_trailing<A: Allocator>(
-    page: &mut Page<A>,
+fn explain_trailing<A: Allocator + Clone>(
+    alloc: A,
+    explanation: &mut Explanation<A>,
     file: &NamedText<'_>,
 ) -> Result<(), OutOfMemory> {
     let end = count_records(file) + 5;
     let line = file.line(end + 1);
-    page.point(file, end + 1, 0, line.len())?;
-    page.words(" nothing stands after the end line (line ")?;
-    page.number(end as u64)?;
-    page.words(")")?;
-    page.end()?;
+    let words = format!(in alloc; "nothing stands after the end line (line {end})")?;
+    explanation.point(file, end + 1, 0, line.len(), Remark::Note, &words)?;
     if line.starts_with(b"irlog") {
-        return add_hint(
-            page,
+        return explanation.hint_apart(
             "a second log follows: the file was opened to append to. Use a new file for each run.",
         );
     }
     if file.from_line(end + 1) == b"\n".as_slice() {
-        return add_hint(page, "an empty line.");
+        return explanation.hint_apart("an empty line.");
     }
     Ok(())
 }

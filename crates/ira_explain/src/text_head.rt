@@ -1,5 +1,8 @@
+use crate::explanation::Explanation;
 use crate::named_text::NamedText;
-use crate::page::{Mark, Page};
+use crate::number_of::NumberOf;
+use crate::page::Mark;
+use crate::remark::Remark;
 use crate::slip::Slip;
 use ira_event::{MAX_NODES, MAX_VERSION, MAX_VERSION_1_NODES, OutOfMemory, scan_number, skip_word};
 use std::alloc::Allocator;
@@ -24,6 +27,20 @@ impl HeadLine {
             HeadLine::Place { .. } => 3,
             HeadLine::Start => 4,
         }
+    }
+
+    /// What such a line says.
+    fn due<A: Allocator>(self, alloc: A) -> Result<String<A>, OutOfMemory> {
+        let words = match self {
+            HeadLine::Version => format!(in alloc; "`irlog 1` or `irlog 2`"),
+            HeadLine::Nodes { most } => format!(in alloc; "`nodes N` with N from 2 to {most}"),
+            HeadLine::Place { nodes } => {
+                let last = nodes.saturating_sub(1);
+                format!(in alloc; "`place I` with I from 0 to {last}")
+            }
+            HeadLine::Start => format!(in alloc; "`start initiator` or `start passive`"),
+        };
+        Ok(words?)
     }
 
     /// The first byte with which no such line goes on, counted from 0.
@@ -99,89 +116,52 @@ fn first_stop(file: &NamedText<'_>, lines: usize) -> Option<HeadLine> {
 }
 
 /// What is wrong with the head of a text.
-pub(crate) fn explain_head<A: Allocator>(
-    page: &mut Page<A>,
+pub(crate) fn explain_head<A: Allocator + Clone>(
+    alloc: A,
+    explanation: &mut Explanation<A>,
     file: &NamedText<'_>,
 ) -> Result<(), OutOfMemory> {
     let whole = file.whole_lines();
     match first_stop(file, whole) {
-        Some(line) => explain_head_line(page, file, line),
-        None => explain_short_head(page, file, whole),
+        Some(line) => explain_head_line(alloc, explanation, file, line),
+        None => explain_short_head(alloc, explanation, file, whole),
     }
 }
 
-fn explain_short_head<A: Allocator>(
-    page: &mut Page<A>,
+fn explain_short_head<A: Allocator + Clone>(
+    alloc: A,
+    explanation: &mut Explanation<A>,
     file: &NamedText<'_>,
     whole: usize,
 ) -> Result<(), OutOfMemory> {
-    page.begin(Mark::Plain)?;
-    page.words(file.name)?;
-    page.words(": ")?;
-    page.number(whole as u64)?;
-    page.words(if whole == 1 {
-        " whole line"
-    } else {
-        " whole lines"
-    })?;
-    page.words("; the head has four.")?;
-    page.end()?;
+    let lines = NumberOf(whole, "whole line");
+    let words = format!(in alloc; "{}: {lines}; the head has four.", file.name)?;
+    explanation.page.line(Mark::Plain, &words)?;
     let number = whole.saturating_add(1);
-    let piece = file.line(number);
-    if piece.is_empty() {
-        return Ok(());
+    let end = file.line(number).len();
+    if end == 0 {
+        return explanation.add_text(file);
     }
-    page.point(file, number, piece.len(), piece.len())?;
-    page.words(" a line feed is due here")?;
-    page.end()
+    explanation.point(file, number, end, end, Remark::Due, "a line feed")
 }
 
-fn explain_head_line<A: Allocator>(
-    page: &mut Page<A>,
+fn explain_head_line<A: Allocator + Clone>(
+    alloc: A,
+    explanation: &mut Explanation<A>,
     file: &NamedText<'_>,
-    due: HeadLine,
+    head_line: HeadLine,
 ) -> Result<(), OutOfMemory> {
-    let number = due.number();
+    let number = head_line.number();
     let line = file.line(number);
-    let stop = due.stop(line);
-    page.point(file, number, stop, stop)?;
-    page.words(" ")?;
-    add_head_due(page, due)?;
-    page.end()?;
-    match Slip::of_format(line) {
-        Some(slip) => {
-            page.blank()?;
-            page.hint(slip.hint())
-        }
-        None => add_head_hint(page, due, line),
-    }
-}
-
-fn add_head_due<A: Allocator>(page: &mut Page<A>, due: HeadLine) -> Result<(), OutOfMemory> {
-    match due {
-        HeadLine::Version => page.words("`irlog 1` or `irlog 2`"),
-        HeadLine::Nodes { most } => {
-            page.words("`nodes N`, N from 2 to ")?;
-            page.number(most as u64)
-        }
-        HeadLine::Place { nodes } => {
-            page.words("`place I`, I from 0 to ")?;
-            page.number(u64::from(nodes).saturating_sub(1))
-        }
-        HeadLine::Start => page.words("`start initiator` or `start passive`"),
-    }
-}
-
-fn add_head_hint<A: Allocator>(
-    page: &mut Page<A>,
-    due: HeadLine,
-    line: &[u8],
-) -> Result<(), OutOfMemory> {
-    match head_hint(due, line) {
-        Some(hint) => {
-            page.blank()?;
-            page.hint(hint)
-        }
+    let stop = head_line.stop(line);
+    let due = head_line.due(alloc)?;
+    explanation.point(file, number, stop, stop, Remark::Due, &due)?;
+    let hint = match Slip::of_format(line) {
+        Some(slip) => Some(slip.hint()),
+        None => head_hint(head_line, line),
+    };
+    match hint {
+        Some(hint) => explanation.hint_apart(hint),
         None => Ok(()),
     }
 }

@@ -8,7 +8,7 @@ use crate::found_block::{explain_absent, explain_present};
 use ira_cert::{Section, case_queues};
 use ira_elim::{Decided, Found, decide_queues};
 use ira_event::OutOfMemory;
-use ira_explain::{Mark, NamedText, Page};
+use ira_explain::{AskedCase, AskedNode, Explanation, Mark, NamedText, Page};
 use ira_order::{DirectDependencies, HappenedBefore};
 use ira_pred::Case;
 use std::alloc::Allocator;
@@ -52,10 +52,29 @@ fn add_case<P: Allocator, A: Allocator>(
     page.end()
 }
 
+/// What a case asks, for programs.
+fn asked_case<A: Allocator, P: Allocator + Clone>(
+    explanation: &Explanation<P>,
+    told: Told<'_, A>,
+) -> Result<AskedCase<P>, OutOfMemory> {
+    let mut asks = Vec::with_capacity(explanation.alloc()?, told.case.len())?;
+    for n in 0..told.case.len() {
+        asks.push(AskedNode {
+            node: told.case.place(n),
+            clause: explanation.shown(told.lines.clause(n))?,
+            line: told.lines.line(n),
+        })?;
+    }
+    Ok(AskedCase {
+        number: told.number,
+        asks,
+    })
+}
+
 /// Adds what is found for a case.
-pub(crate) fn explain_case<A: Allocator + Copy, P: Allocator>(
+pub(crate) fn explain_case<A: Allocator + Copy, P: Allocator + Clone>(
     alloc: A,
-    page: &mut Page<P>,
+    explanation: &mut Explanation<P>,
     files: &[NamedText<'_>],
     dependencies: &DirectDependencies<'_, A>,
     told: Told<'_, A>,
@@ -63,6 +82,9 @@ pub(crate) fn explain_case<A: Allocator + Copy, P: Allocator>(
     requires good { AreGood dependencies.now }
     requires places { HasPlacesOf dependencies.now told.case.now }
 {
+    let asked = asked_case(explanation, told)?;
+    explanation.cases.push(asked)?;
+    let page = &mut explanation.page;
     add_case(page, told)?;
     let logs = dependencies.logs();
     match decide_again(alloc, dependencies, told.case)? {

@@ -2,57 +2,49 @@ ghost use Rattle.std.specs.Prelude.{◌≢◌};
 ghost use Rattle.ira_cert_text.specs.declared.cert_fault.CertFault.{CertFault};
 
 use crate::text_block::{
-    Form, HEAD_LINES, add_format_hint, explain_cut, explain_head, explain_length, explain_trailing,
-    point_line,
+    Form, HEAD_LINES, add_format_hint, explain_cut, explain_head, explain_trailing, point_line,
 };
 use ira_cert_text::{CertFault, MAX_SECTIONS, MAX_STEPS};
 use ira_event::OutOfMemory;
-use ira_explain::{Mark, NamedText, Page, split_line};
+use ira_explain::{Explanation, Mark, NamedText, Remark, split_line};
 use std::alloc::Allocator;
 
 /// Why a text is no certificate's: its line, and what is due there.
-pub(crate) fn explain_certificate_text<A: Allocator>(
-    page: &mut Page<A>,
+pub(crate) fn explain_certificate_text<A: Allocator + Clone>(
+    alloc: A,
+    explanation: &mut Explanation<A>,
     file: &NamedText<'_>,
     fault: CertFault,
 ) -> Result<(), OutOfMemory>
     requires { fault ≢ CertFault.OutOfMemory }
 {
     match fault {
-        CertFault::TooLong => explain_length(page, file),
-        CertFault::Head => explain_head(page, file, Form::Certificate),
-        CertFault::Line(line) => explain_line(page, file, line as usize),
+        CertFault::TooLong => explanation.too_long(file),
+        CertFault::Head => explain_head(alloc, explanation, file, Form::Certificate),
+        CertFault::Line(line) => explain_line(explanation, file, line as usize),
         CertFault::Range(line) => {
-            point_line(
-                page,
-                file,
-                line as usize,
-                "NODE and OTHER are below N, POS and OTHERPOS at most 100,000",
-            )
+            let words = "NODE and OTHER are below N, POS and OTHERPOS at most 100,000";
+            point_line(explanation, file, line as usize, Remark::Note, words)
         }
-        CertFault::TooMany => explain_too_many(page, file),
-        CertFault::Cut => explain_cut(page, file),
-        CertFault::Trailing => explain_trailing(page, file),
+        CertFault::TooMany => explain_too_many(explanation, file),
+        CertFault::Cut => explain_cut(explanation, file),
+        CertFault::Trailing => explain_trailing(alloc, explanation, file),
         CertFault::OutOfMemory => unreachable!(),
     }
 }
 
-fn explain_line<A: Allocator>(
-    page: &mut Page<A>,
+fn explain_line<A: Allocator + Clone>(
+    explanation: &mut Explanation<A>,
     file: &NamedText<'_>,
     number: usize,
 ) -> Result<(), OutOfMemory> {
-    point_line(
-        page,
-        file,
-        number,
-        "outside a section `section` or `end` is due, inside one",
-    )?;
-    page.line(
+    let words = "outside a section `section` or `end` is due, inside one";
+    point_line(explanation, file, number, Remark::Note, words)?;
+    explanation.page.line(
         Mark::Plain,
         "`drop NODE POS by OTHER OTHERPOS` or `spent NODE`",
     )?;
-    add_format_hint(page, file.line(number))?;
+    add_format_hint(explanation, file.line(number))?;
     Ok(())
 }
 
@@ -105,17 +97,13 @@ fn first_past_limits(file: &NamedText<'_>) -> Option<usize> {
     None
 }
 
-fn explain_too_many<A: Allocator>(
-    page: &mut Page<A>,
+fn explain_too_many<A: Allocator + Clone>(
+    explanation: &mut Explanation<A>,
     file: &NamedText<'_>,
 ) -> Result<(), OutOfMemory> {
     let Some(number) = first_past_limits(file) else {
         return Ok(());
     };
-    point_line(
-        page,
-        file,
-        number,
-        "a certificate has at most 32,385 sections, of 1,000,000 steps each",
-    )
+    let words = "a certificate has at most 32,385 sections, of 1,000,000 steps each";
+    point_line(explanation, file, number, Remark::Note, words)
 }

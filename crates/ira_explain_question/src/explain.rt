@@ -12,14 +12,17 @@ use crate::text_block::explain_ring_size;
 use crate::yes_block::explain_yes;
 use ira_audit::{Answer, Findings, Reason};
 use ira_event::OutOfMemory;
-use ira_explain::{NamedText, Page, explain_logs};
+use ira_explain::{Explanation, NamedText, RingCounts, explain_logs};
 use std::alloc::Allocator;
 
-/// An empty page that follows an answer.
-fn page_after_answer<A: Allocator>(alloc: A) -> Result<Page<A>, OutOfMemory> {
-    let mut page = Page::new(alloc);
-    page.blank()?;
-    Ok(page)
+/// What follows an answer about logs that are those of a ring.
+fn after_answer<A: Allocator + Clone>(
+    alloc: A,
+    logs: &[NamedText<'_>],
+) -> Result<Explanation<A>, OutOfMemory> {
+    let mut explanation = Explanation::after_answer(alloc)?;
+    explanation.ring = Some(RingCounts::of(logs));
+    Ok(explanation)
 }
 
 /// Why what is found for a question about the logs of a ring is as it is, of one case or of the first ones: an empty
@@ -31,17 +34,18 @@ pub fn explain_question_answer<A: Allocator + Clone>(
     question: &NamedText<'_>,
     findings: &Findings<A>,
     case: Option<u64>,
-) -> Result<Page<A>, OutOfMemory>
+) -> Result<Explanation<A>, OutOfMemory>
     requires found { AreFindings (map (λ log. log.text.now) logs.now) question.now.text.now findings.now }
     requires reportable { AreReportable findings.now }
 {
     match findings {
         Findings::Refused(reason) => explain_refused(alloc, logs, question, *reason),
         Findings::Cases { found, .. } => {
-            let mut page = Page::new(alloc.clone()?);
+            let mut explanation = Explanation::new(alloc.clone()?)?;
+            explanation.ring = Some(RingCounts::of(logs));
             let number = case.map(|number| number as usize);
-            explain_findings(&alloc, &mut page, logs, question, found, number)?;
-            Ok(page)
+            explain_findings(&alloc, &mut explanation, logs, question, found, number)?;
+            Ok(explanation)
         }
     }
 }
@@ -52,20 +56,20 @@ fn explain_refused<A: Allocator + Clone>(
     logs: &[NamedText<'_>],
     question: &NamedText<'_>,
     reason: Reason,
-) -> Result<Page<A>, OutOfMemory>
+) -> Result<Explanation<A>, OutOfMemory>
     requires refused { WhyNoQuestion (map (λ log. log.text.now) logs.now) question.now.text.now reason }
     requires reportable { IsReportableReason reason }
 {
     match reason {
         Reason::Question(fault) => {
-            let mut page = page_after_answer(alloc.clone()?)?;
-            explain_question_text(alloc, &mut page, question, fault)?;
-            Ok(page)
+            let mut explanation = after_answer(alloc.clone()?, logs)?;
+            explain_question_text(alloc, &mut explanation, question, fault)?;
+            Ok(explanation)
         }
         Reason::QuestionSize => {
-            let mut page = page_after_answer(alloc)?;
-            explain_ring_size(&mut page, question, logs)?;
-            Ok(page)
+            let mut explanation = after_answer(alloc, logs)?;
+            explain_ring_size(&mut explanation, question, logs)?;
+            Ok(explanation)
         }
         _ => explain_logs(alloc, logs, &Answer::No(reason)),
     }
@@ -79,7 +83,7 @@ pub fn explain_check_answer<A: Allocator + Clone>(
     question: &NamedText<'_>,
     certificate: &NamedText<'_>,
     answer: &Answer,
-) -> Result<Page<A>, OutOfMemory>
+) -> Result<Explanation<A>, OutOfMemory>
     requires answered { IsCheckAnswer (map (λ log. log.text.now) logs.now) question.now.text.now
         certificate.now.text.now answer.now }
     requires reportable { IsReportable answer.now }
@@ -97,31 +101,38 @@ fn explain_no<A: Allocator + Clone>(
     question: &NamedText<'_>,
     certificate: &NamedText<'_>,
     reason: Reason,
-) -> Result<Page<A>, OutOfMemory>
+) -> Result<Explanation<A>, OutOfMemory>
     requires answered { IsCheckAnswer (map (λ log. log.text.now) logs.now) question.now.text.now
         certificate.now.text.now (answer.No reason) }
     requires reportable { IsReportableReason reason }
 {
     match reason {
         Reason::Certificate(fault) => {
-            let mut page = page_after_answer(alloc)?;
-            explain_certificate_text(&mut page, certificate, fault)?;
-            Ok(page)
+            let mut explanation = after_answer(alloc.clone()?, logs)?;
+            explain_certificate_text(alloc, &mut explanation, certificate, fault)?;
+            Ok(explanation)
         }
         Reason::CertificateSize => {
-            let mut page = page_after_answer(alloc)?;
-            explain_ring_size(&mut page, certificate, logs)?;
-            Ok(page)
+            let mut explanation = after_answer(alloc, logs)?;
+            explain_ring_size(&mut explanation, certificate, logs)?;
+            Ok(explanation)
         }
         Reason::Sections { .. } => {
-            let mut page = page_after_answer(alloc.clone()?)?;
-            explain_certificate(&alloc, &mut page, logs, question, certificate, None)?;
-            Ok(page)
+            let mut explanation = after_answer(alloc.clone()?, logs)?;
+            explain_certificate(&alloc, &mut explanation, logs, question, certificate, None)?;
+            Ok(explanation)
         }
         Reason::Section { case, .. } => {
-            let mut page = page_after_answer(alloc.clone()?)?;
-            explain_certificate(&alloc, &mut page, logs, question, certificate, Some(case))?;
-            Ok(page)
+            let mut explanation = after_answer(alloc.clone()?, logs)?;
+            explain_certificate(
+                &alloc,
+                &mut explanation,
+                logs,
+                question,
+                certificate,
+                Some(case),
+            )?;
+            Ok(explanation)
         }
         _ => explain_refused(alloc, logs, question, reason),
     }

@@ -3,11 +3,11 @@ ghost use Rattle.ira_pred.specs.declared.ask_fault.AskFault.{AskFault};
 
 use crate::clause_stop::clause_stop;
 use crate::text_block::{
-    Form, add_format_hint, add_hint, explain_cut, explain_head, explain_length, explain_trailing,
-    line_of_word, nodes_of, point_due, point_line,
+    Form, add_format_hint, explain_cut, explain_head, explain_trailing, line_of_word, nodes_of,
+    point_due, point_line,
 };
 use ira_event::{OutOfMemory, scan_number, skip_word};
-use ira_explain::{NamedText, Page};
+use ira_explain::{Explanation, NamedText, Remark};
 use ira_pred::{AskFault, MAX_CASES, MAX_DEPTH};
 use std::alloc::Allocator;
 use std::str;
@@ -20,35 +20,28 @@ static WORDS: [&str; 10] = [
 /// So many letters tell a word.
 const TELLING: usize = 4;
 
-/// The last column at which a caret below a quoted line that is cut short stands.
-const LAST_COLUMN: usize = 78;
-
 /// Why a text is no question's: its line, what is due there, and a usual cause.
 pub(crate) fn explain_question_text<A: Allocator + Clone>(
     alloc: A,
-    page: &mut Page<A>,
+    explanation: &mut Explanation<A>,
     file: &NamedText<'_>,
     fault: AskFault,
 ) -> Result<(), OutOfMemory>
     requires { fault ≢ AskFault.OutOfMemory }
 {
     match fault {
-        AskFault::TooLong => explain_length(page, file),
-        AskFault::Head => explain_head(page, file, Form::Question),
-        AskFault::Line(line) => explain_line(alloc, page, file, line as usize),
-        AskFault::Place(line) => explain_place(alloc, page, file, line as usize),
-        AskFault::Depth(line) => explain_depth(page, file, line as usize),
+        AskFault::TooLong => explanation.too_long(file),
+        AskFault::Head => explain_head(alloc, explanation, file, Form::Question),
+        AskFault::Line(line) => explain_line(alloc, explanation, file, line as usize),
+        AskFault::Place(line) => explain_place(alloc, explanation, file, line as usize),
+        AskFault::Depth(line) => explain_depth(explanation, file, line as usize),
         AskFault::Empty(line) => {
-            point_line(
-                page,
-                file,
-                line as usize,
-                "the case in front of this line has no clause",
-            )
+            let words = "the case in front of this line has no clause";
+            point_line(explanation, file, line as usize, Remark::Note, words)
         }
-        AskFault::Cases => explain_cases(page, file),
-        AskFault::Cut => explain_cut(page, file),
-        AskFault::Trailing => explain_trailing(page, file),
+        AskFault::Cases => explain_cases(explanation, file),
+        AskFault::Cut => explain_cut(explanation, file),
+        AskFault::Trailing => explain_trailing(alloc, explanation, file),
         AskFault::OutOfMemory => unreachable!(),
     }
 }
@@ -61,32 +54,25 @@ fn scan_place(line: &[u8]) -> Option<(u32, &[u8])> {
 
 fn explain_line<A: Allocator + Clone>(
     alloc: A,
-    page: &mut Page<A>,
+    explanation: &mut Explanation<A>,
     file: &NamedText<'_>,
     number: usize,
 ) -> Result<(), OutOfMemory> {
     let line = file.line(number);
-    let clause = scan_place(line);
-    match (number, clause) {
-        (0..=3, _) => point_line(page, file, number, "`case` is due here")?,
-        (_, Some((_, clause))) => return explain_clause(alloc, page, file, number, clause),
-        (_, None) => {
-            point_line(
-                page,
-                file,
-                number,
-                "`case`, `end` or `PLACE: CLAUSE` is due here",
-            )?;
-        }
-    }
-    add_format_hint(page, line)?;
+    let due = match (number, scan_place(line)) {
+        (0..=3, _) => "`case`",
+        (_, Some((_, clause))) => return explain_clause(alloc, explanation, file, number, clause),
+        (_, None) => "`case`, `end` or `PLACE: CLAUSE`",
+    };
+    point_line(explanation, file, number, Remark::Due, due)?;
+    add_format_hint(explanation, line)?;
     Ok(())
 }
 
 /// Adds where what stands after the place of a line goes on as no clause does.
 fn explain_clause<A: Allocator + Clone>(
     alloc: A,
-    page: &mut Page<A>,
+    explanation: &mut Explanation<A>,
     file: &NamedText<'_>,
     number: usize,
     clause: &[u8],
@@ -96,19 +82,17 @@ fn explain_clause<A: Allocator + Clone>(
     };
     let line = file.line(number);
     let byte = line.len().saturating_sub(stop.rest.len());
-    point_due(page, file, number, byte, stop.due.words())?;
-    if add_format_hint(page, line)? {
+    point_due(explanation, file, number, byte, stop.due.words())?;
+    if add_format_hint(explanation, line)? {
         return Ok(());
     }
     if lacks_brackets(clause) {
-        return add_bracket_hint(alloc, page, line, clause);
+        return add_bracket_hint(alloc, explanation, line, clause);
     }
     match word_begun(stop.rest) {
         Some(word) => {
-            add_hint(
-                page,
-                format!(in alloc; "`{word}` has that beginning.")?.as_str(),
-            )
+            let hint = format!(in alloc; "`{word}` has that beginning.")?;
+            explanation.hint_apart(&hint)
         }
         None => Ok(()),
     }
@@ -131,9 +115,9 @@ fn has_word(text: &[u8], word: &[u8]) -> bool {
 }
 
 /// Adds how a clause of several words is spelled, with this one where it is a text.
-fn add_bracket_hint<A: Allocator>(
+fn add_bracket_hint<A: Allocator + Clone>(
     alloc: A,
-    page: &mut Page<A>,
+    explanation: &mut Explanation<A>,
     line: &[u8],
     clause: &[u8],
 ) -> Result<(), OutOfMemory> {
@@ -146,9 +130,9 @@ fn add_bracket_hint<A: Allocator>(
     match (str::from_utf8(place), str::from_utf8(clause)) {
         (Ok(place), Ok(clause)) => {
             let hint = format!(in alloc; "{words} in brackets: `{place}({clause})`")?;
-            add_hint(page, hint.as_str())
+            explanation.hint_apart(&hint)
         }
-        _ => add_hint(page, "`not`, `and` and `or` stand in brackets."),
+        _ => explanation.hint_apart("`not`, `and` and `or` stand in brackets."),
     }
 }
 
@@ -172,7 +156,7 @@ fn place_before(file: &NamedText<'_>, number: usize) -> Option<u32> {
 
 fn explain_place<A: Allocator + Clone>(
     alloc: A,
-    page: &mut Page<A>,
+    explanation: &mut Explanation<A>,
     file: &NamedText<'_>,
     number: usize,
 ) -> Result<(), OutOfMemory> {
@@ -180,30 +164,29 @@ fn explain_place<A: Allocator + Clone>(
         return Ok(());
     };
     let digits = file.line(number).len().saturating_sub(rest.len());
-    page.point(file, number, 0, digits)?;
-    page.words(" places are below N, and rise within a case")?;
-    page.end()?;
+    let words = "places are below N, and rise within a case";
+    explanation.point(file, number, 0, digits, Remark::Note, words)?;
     if let Some(before) = place_before(file, number) {
         if before == place {
-            return add_hint(page, "two clauses for one node are one clause with `and`.");
+            return explanation.hint_apart("two clauses for one node are one clause with `and`.");
         }
         if before > place {
-            return add_hint(page, "order the lines of a case by place.");
+            return explanation.hint_apart("order the lines of a case by place.");
         }
     }
-    add_places_hint(alloc, page, file)
+    add_places_hint(alloc, explanation, file)
 }
 
 /// Adds how places count.
-fn add_places_hint<A: Allocator>(
+fn add_places_hint<A: Allocator + Clone>(
     alloc: A,
-    page: &mut Page<A>,
+    explanation: &mut Explanation<A>,
     file: &NamedText<'_>,
 ) -> Result<(), OutOfMemory> {
     match nodes_of(file) {
         Some(nodes) => {
             let hint = format!(in alloc; "places count from 0, and N is {nodes}.")?;
-            add_hint(page, hint.as_str())
+            explanation.hint_apart(&hint)
         }
         None => Ok(()),
     }
@@ -225,36 +208,27 @@ fn deepest(line: &[u8]) -> usize {
     line.len()
 }
 
-fn explain_depth<A: Allocator>(
-    page: &mut Page<A>,
+fn explain_depth<A: Allocator + Clone>(
+    explanation: &mut Explanation<A>,
     file: &NamedText<'_>,
     number: usize,
 ) -> Result<(), OutOfMemory> {
-    let byte = deepest(file.line(number)).min(LAST_COLUMN);
-    page.point(file, number, byte, byte)?;
-    page.words(" the 33rd bracket that is open")?;
-    page.end()
+    let byte = deepest(file.line(number));
+    let words = "the 33rd bracket that is open";
+    explanation.point(file, number, byte, byte, Remark::Note, words)
 }
 
-fn explain_cases<A: Allocator>(
-    page: &mut Page<A>,
+fn explain_cases<A: Allocator + Clone>(
+    explanation: &mut Explanation<A>,
     file: &NamedText<'_>,
 ) -> Result<(), OutOfMemory> {
     if file.line(3) == b"end".as_slice() {
-        return point_line(
-            page,
-            file,
-            3,
-            "a `case` is due here: a question has 1 to 32,385",
-        );
+        let words = "a `case` is due here: a question has 1 to 32,385";
+        return point_line(explanation, file, 3, Remark::Note, words);
     }
     let Some(number) = line_of_word(file, b"case", MAX_CASES + 1) else {
         return Ok(());
     };
-    point_line(
-        page,
-        file,
-        number,
-        "case 32,386: a question has at most 32,385",
-    )
+    let words = "case 32,386: a question has at most 32,385";
+    point_line(explanation, file, number, Remark::Note, words)
 }

@@ -11,7 +11,7 @@ use crate::step_block::explain_section;
 use ira_cert::Section;
 use ira_elim::Found;
 use ira_event::{Logs, OutOfMemory};
-use ira_explain::{Mark, NamedText, NumberOf, Page};
+use ira_explain::{Explanation, Mark, NamedText, NumberOf, Page};
 use ira_order::DirectDependencies;
 use ira_pred::Case;
 use std::alloc::Allocator;
@@ -20,24 +20,32 @@ use std::alloc::Allocator;
 const MOST_CASES: usize = 8;
 
 /// Adds what is found for one case of a question, or for the first ones: those that are present, or all where none is.
-pub(crate) fn explain_findings<A: Allocator + Copy, P: Allocator>(
+pub(crate) fn explain_findings<A: Allocator + Copy, P: Allocator + Clone>(
     alloc: A,
-    page: &mut Page<P>,
+    explanation: &mut Explanation<P>,
     files: &[NamedText<'_>],
     question: &NamedText<'_>,
     found: &[Found<P>],
     case: Option<usize>,
 ) -> Result<(), OutOfMemory> {
     match read_good_logs(alloc, files)? {
-        Some(logs) => explain_asked(alloc, page, files, question, logs.logs(), found, case),
+        Some(logs) => explain_asked(
+            alloc,
+            explanation,
+            files,
+            question,
+            logs.logs(),
+            found,
+            case,
+        ),
         None => Ok(()),
     }
 }
 
 /// The same of these logs.
-fn explain_asked<A: Allocator + Copy, P: Allocator>(
+fn explain_asked<A: Allocator + Copy, P: Allocator + Clone>(
     alloc: A,
-    page: &mut Page<P>,
+    explanation: &mut Explanation<P>,
     files: &[NamedText<'_>],
     file: &NamedText<'_>,
     logs: &Logs<A>,
@@ -51,13 +59,22 @@ fn explain_asked<A: Allocator + Copy, P: Allocator>(
     };
     let dependencies = DirectDependencies::new(alloc, logs)?;
     let cases = question.cases();
-    explain_cases(alloc, page, files, file, &dependencies, cases, found, case)
+    explain_cases(
+        alloc,
+        explanation,
+        files,
+        file,
+        &dependencies,
+        cases,
+        found,
+        case,
+    )
 }
 
 /// The same of these cases.
-fn explain_cases<A: Allocator + Copy, P: Allocator>(
+fn explain_cases<A: Allocator + Copy, P: Allocator + Clone>(
     alloc: A,
-    page: &mut Page<P>,
+    explanation: &mut Explanation<P>,
     files: &[NamedText<'_>],
     file: &NamedText<'_>,
     dependencies: &DirectDependencies<'_, A>,
@@ -70,8 +87,8 @@ fn explain_cases<A: Allocator + Copy, P: Allocator>(
         → HasPlacesOf dependencies.now case }
 {
     match case {
-        Some(number) => explain_one(alloc, page, files, file, dependencies, cases, number),
-        None => explain_first(alloc, page, files, file, dependencies, cases, found),
+        Some(number) => explain_one(alloc, explanation, files, file, dependencies, cases, number),
+        None => explain_first(alloc, explanation, files, file, dependencies, cases, found),
     }
 }
 
@@ -81,9 +98,9 @@ fn is_present<A: Allocator>(found: &Found<A>) -> bool {
 }
 
 /// Adds what is found for the first cases.
-fn explain_first<A: Allocator + Copy, P: Allocator>(
+fn explain_first<A: Allocator + Copy, P: Allocator + Clone>(
     alloc: A,
-    page: &mut Page<P>,
+    explanation: &mut Explanation<P>,
     files: &[NamedText<'_>],
     file: &NamedText<'_>,
     dependencies: &DirectDependencies<'_, A>,
@@ -99,13 +116,13 @@ fn explain_first<A: Allocator + Copy, P: Allocator>(
     for (number, found) in found.iter().enumerate() {
         if is_present(found) == some_present {
             if told < MOST_CASES {
-                explain_one(alloc, page, files, file, dependencies, cases, number)?;
+                explain_one(alloc, explanation, files, file, dependencies, cases, number)?;
             }
             told = told.saturating_add(1);
         }
     }
     if told > MOST_CASES {
-        add_further(alloc, page, told - MOST_CASES)?;
+        add_further(alloc, &mut explanation.page, told - MOST_CASES)?;
     }
     Ok(())
 }
@@ -125,9 +142,9 @@ fn add_further<A: Allocator + Copy, P: Allocator>(
 }
 
 /// Adds what is found for the case of a number, where there is one.
-fn explain_one<A: Allocator + Copy, P: Allocator>(
+fn explain_one<A: Allocator + Copy, P: Allocator + Clone>(
     alloc: A,
-    page: &mut Page<P>,
+    explanation: &mut Explanation<P>,
     files: &[NamedText<'_>],
     file: &NamedText<'_>,
     dependencies: &DirectDependencies<'_, A>,
@@ -139,7 +156,7 @@ fn explain_one<A: Allocator + Copy, P: Allocator>(
         → HasPlacesOf dependencies.now case }
 {
     let Some(case) = cases.get(number) else {
-        return add_no_case(alloc, page, number, cases.len());
+        return add_no_case(alloc, &mut explanation.page, number, cases.len());
     };
     let lines = AskedLines::of(file, cases, number);
     let told = Told {
@@ -147,7 +164,7 @@ fn explain_one<A: Allocator + Copy, P: Allocator>(
         number,
         lines,
     };
-    explain_case(alloc, page, files, dependencies, told)
+    explain_case(alloc, explanation, files, dependencies, told)
 }
 
 /// Adds that there is no case of this number.
@@ -168,9 +185,9 @@ fn add_no_case<A: Allocator + Copy, P: Allocator>(
 }
 
 /// Adds what stands against a certificate: the section of a case, or the number of its sections.
-pub(crate) fn explain_certificate<A: Allocator + Copy, P: Allocator>(
+pub(crate) fn explain_certificate<A: Allocator + Copy, P: Allocator + Clone>(
     alloc: A,
-    page: &mut Page<P>,
+    explanation: &mut Explanation<P>,
     files: &[NamedText<'_>],
     question: &NamedText<'_>,
     certificate: &NamedText<'_>,
@@ -184,7 +201,7 @@ pub(crate) fn explain_certificate<A: Allocator + Copy, P: Allocator>(
             let (logs, sections) = (logs.logs(), read.sections.as_slice());
             explain_answered(
                 alloc,
-                page,
+                explanation,
                 files,
                 question,
                 certificate,
@@ -198,9 +215,9 @@ pub(crate) fn explain_certificate<A: Allocator + Copy, P: Allocator>(
 }
 
 /// The same of these logs and sections.
-fn explain_answered<A: Allocator + Copy, P: Allocator>(
+fn explain_answered<A: Allocator + Copy, P: Allocator + Clone>(
     alloc: A,
-    page: &mut Page<P>,
+    explanation: &mut Explanation<P>,
     files: &[NamedText<'_>],
     file: &NamedText<'_>,
     certificate: &NamedText<'_>,
@@ -215,7 +232,7 @@ fn explain_answered<A: Allocator + Copy, P: Allocator>(
     };
     let cases = question.cases();
     let Some(number) = case else {
-        return explain_sections(alloc, page, file, certificate, cases, sections.len());
+        return explain_sections(alloc, explanation, file, certificate, cases, sections.len());
     };
     let Some(case) = cases.get(number) else {
         return Ok(());
@@ -228,7 +245,7 @@ fn explain_answered<A: Allocator + Copy, P: Allocator>(
     let dependencies = DirectDependencies::new(alloc, logs)?;
     explain_section(
         alloc,
-        page,
+        explanation,
         files,
         &dependencies,
         told,

@@ -1,18 +1,19 @@
 use crate::asked_lines::AskedLines;
 use ira_event::OutOfMemory;
-use ira_explain::{Mark, NamedText, NumberOf, Page};
+use ira_explain::{Evidence, Explanation, Mark, NamedText, NumberOf};
 use ira_pred::Case;
 use std::alloc::Allocator;
 
 /// Adds how many sections a certificate has, and how many are due.
-pub(crate) fn explain_sections<A: Allocator + Copy, P: Allocator>(
+pub(crate) fn explain_sections<A: Allocator + Copy, P: Allocator + Clone>(
     alloc: A,
-    page: &mut Page<P>,
+    explanation: &mut Explanation<P>,
     question: &NamedText<'_>,
     certificate: &NamedText<'_>,
     cases: &[Case<A>],
     found: usize,
 ) -> Result<(), OutOfMemory> {
+    let page = &mut explanation.page;
     let due = NumberOf(cases.len(), "case");
     page.line(
         Mark::Plain,
@@ -36,6 +37,12 @@ pub(crate) fn explain_sections<A: Allocator + Copy, P: Allocator>(
         page.words(")")?;
     }
     page.end()?;
-    page.blank()?;
-    page.hint("the certificate is of another question: `ira decide --out` writes one for this.")
+    if found < cases.len() {
+        let line = AskedLines::of(question, cases, found).line(0);
+        let quoted = explanation.quoted(question, line)?;
+        explanation.evidence.push(Evidence::Line(quoted))?;
+    }
+    explanation.hint_apart(
+        "the certificate is of another question: `ira decide --out` writes one for this.",
+    )
 }

@@ -6,11 +6,15 @@ use crate::asked_lines::clause_at;
 use crate::case_block::{Told, decide_again};
 use crate::good_ring::state_after;
 use crate::section_lines::section_line;
+use ira_cand::Ahead;
 use ira_cert::{QueueHead, Section, Unsound, case_queues};
 use ira_elim::Found;
-use ira_event::{Logs, OutOfMemory};
+use ira_event::{Listed, Logs, OutOfMemory};
 use ira_evidence::{SectionEvidence, UnsoundStep, Unspent};
-use ira_explain::{Mark, NamedText, NumberOf, Page, StateWords, file_of, line_of};
+use ira_explain::{
+    Evidence, Explanation, Front, Mark, NamedText, NumberOf, Page, StateWords, file_of, line_of,
+};
+use ira_node::NodeState;
 use ira_order::{DirectDependencies, HappenedBefore};
 use std::alloc::Allocator;
 
@@ -26,9 +30,9 @@ struct LineAt<'a> {
 }
 
 /// Adds why the section of a case isn't sound.
-pub(crate) fn explain_section<A: Allocator + Copy, P: Allocator>(
+pub(crate) fn explain_section<A: Allocator + Copy, P: Allocator + Clone>(
     alloc: A,
-    page: &mut Page<P>,
+    explanation: &mut Explanation<P>,
     files: &[NamedText<'_>],
     dependencies: &DirectDependencies<'_, A>,
     told: Told<'_, A>,
@@ -45,31 +49,75 @@ pub(crate) fn explain_section<A: Allocator + Copy, P: Allocator>(
         line: section_line(sections, told.number).saturating_add(1),
         steps: section.steps.len(),
     };
-    match find_evidence(alloc, dependencies, told, section)? {
+    let mut queues = case_queues(alloc, dependencies.logs(), told.case)?;
+    match SectionEvidence::find(alloc, dependencies, &mut queues, section)? {
         Some(SectionEvidence::Unsound(unsound)) => {
-            explain_step(alloc, page, dependencies.logs(), told, at, unsound)?;
-            explain_fault(alloc, page, files, dependencies, unsound)?;
-            add_outcome(alloc, page, dependencies, told, false)
+            explain_step(
+                alloc,
+                explanation,
+                dependencies.logs(),
+                &mut queues,
+                told,
+                at,
+                unsound,
+            )?;
+            explain_fault(alloc, &mut explanation.page, files, dependencies, unsound)?;
+            add_outcome(alloc, &mut explanation.page, dependencies, told, false)
         }
         Some(SectionEvidence::NotSpent(unspent)) => {
-            explain_unspent(alloc, page, files, dependencies.logs(), told, at, &unspent)?;
-            add_outcome(alloc, page, dependencies, told, true)
+            explain_unspent(
+                alloc,
+                explanation,
+                files,
+                dependencies.logs(),
+                told,
+                at,
+                &unspent,
+            )?;
+            add_outcome(alloc, &mut explanation.page, dependencies, told, true)
         }
         None => Ok(()),
     }
 }
 
-/// What stands against a section.
-fn find_evidence<A: Allocator + Copy>(
-    alloc: A,
-    dependencies: &DirectDependencies<'_, A>,
-    told: Told<'_, A>,
-    section: &Section<A>,
-) -> Result<Option<SectionEvidence<A>>, OutOfMemory>
-    requires { HasPlacesOf dependencies.now told.case.now }
-{
-    let mut queues = case_queues(alloc, dependencies.logs(), told.case)?;
-    SectionEvidence::find(alloc, dependencies, &mut queues, section)
+/// How many candidates of a node are left; nothing where none are listed.
+fn number_left<I: Iterator<Item = u32> + Listed>(
+    queues: &mut [Option<Ahead<I>>],
+    place: u8,
+) -> Option<usize> {
+    let Some(Some(ahead)) = queues.get_mut(usize::from(place)) else {
+        return None;
+    };
+    let mut left = 0usize;
+    while ahead.front().is_some() {
+        left = left.saturating_add(1);
+        ahead.advance();
+    }
+    Some(left)
+}
+
+/// What the steps before one left of a node's candidates, of which these are at hand; nothing where the case asks
+/// nothing of it.
+fn front_of<A: Allocator, I: Iterator<Item = u32> + Listed>(
+    logs: &Logs<A>,
+    queues: &mut [Option<Ahead<I>>],
+    node: u8,
+    head: QueueHead,
+) -> Option<Front> {
+    let left = number_left(queues, node)?;
+    let first = match head {
+        QueueHead::First(position) => state_at(logs, node, position),
+        QueueHead::NotAsked | QueueHead::Spent => None,
+    };
+    Some(Front { node, left, first })
+}
+
+/// A number of events of a node, and its state after them.
+fn state_at<A: Allocator>(logs: &Logs<A>, node: u8, events: u32) -> Option<(u32, NodeState)> {
+    if node >= logs.size().get() {
+        return None;
+    }
+    Some((events, state_after(logs.log(node), events)?))
 }
 
 /// Adds whether the case is absent all the same; where it is, perhaps by how many steps.
@@ -134,10 +182,9 @@ fn begin_named<P: Allocator>(
 fn add_left<A: Allocator + Copy, P: Allocator>(
     alloc: A,
     page: &mut Page<P>,
-    logs: &Logs<A>,
     told: Told<'_, A>,
     place: u8,
-    left: QueueHead,
+    front: Option<Front>,
 ) -> Result<(), OutOfMemory> {
     page.begin(Mark::Plain)?;
     page.words("node ")?;
@@ -156,14 +203,18 @@ fn add_left<A: Allocator + Copy, P: Allocator>(
             page.words(" asks nothing of it")?;
         }
     }
-    match left {
-        QueueHead::NotAsked => {}
-        QueueHead::Spent => page.words("no candidate left")?,
-        QueueHead::First(position) => {
-            page.words("first candidate left ")?;
-            page.number(u64::from(position))?;
-            add_state(alloc, page, logs, place, position)?;
+    match front {
+        Some(
+            Front {
+                first: Some((position, state)),
+                ..
+            },
+        ) => {
+            let state = StateWords(state);
+            page.words(format!(in alloc; "first candidate left {position}: {state}")?.as_str())?;
         }
+        Some(Front { first: None, .. }) => page.words("no candidate left")?,
+        None => {}
     }
     page.end()
 }
@@ -185,32 +236,50 @@ fn add_state<A: Allocator + Copy, P: Allocator>(
     }
 }
 
-/// Adds a step that isn't sound, and what is left of its two nodes.
-fn explain_step<A: Allocator + Copy, P: Allocator>(
+/// Adds what is left of a node's candidates.
+fn add_front<A: Allocator + Copy, P: Allocator + Clone>(
     alloc: A,
-    page: &mut Page<P>,
+    explanation: &mut Explanation<P>,
+    told: Told<'_, A>,
+    place: u8,
+    front: Option<Front>,
+) -> Result<(), OutOfMemory> {
+    add_left(alloc, &mut explanation.page, told, place, front)?;
+    if let Some(front) = front {
+        explanation.evidence.push(Evidence::Front(front))?;
+    }
+    Ok(())
+}
+
+/// Adds a step that isn't sound, and what is left of its two nodes.
+fn explain_step<A: Allocator + Copy, P: Allocator + Clone, I: Iterator<Item = u32> + Listed>(
+    alloc: A,
+    explanation: &mut Explanation<P>,
     logs: &Logs<A>,
+    queues: &mut [Option<Ahead<I>>],
     told: Told<'_, A>,
     at: LineAt<'_>,
     unsound: UnsoundStep,
 ) -> Result<(), OutOfMemory> {
     let step = unsound.step;
-    begin_named(page, at.name, at.line.saturating_add(unsound.number))?;
-    page.words("drop ")?;
-    page.number(u64::from(step.node))?;
-    page.words(" ")?;
-    page.number(u64::from(step.pos))?;
-    page.words(" by ")?;
-    page.number(u64::from(step.other))?;
-    page.words(" ")?;
-    page.number(u64::from(step.other_pos))?;
+    let (pos, node, other_pos, other) = (step.pos, step.node, step.other_pos, step.other);
+    let line = at.line.saturating_add(unsound.number);
+    let page = &mut explanation.page;
+    begin_named(page, at.name, line)?;
+    page.words(format!(in alloc; "drop {node} {pos} by {other} {other_pos}")?.as_str())?;
     page.end()?;
     page.blank()?;
-    add_left(alloc, page, logs, told, step.node, unsound.own)?;
-    if step.node != step.other {
-        add_left(alloc, page, logs, told, step.other, unsound.other)?;
+    let file = explanation.own(at.name)?;
+    explanation
+        .evidence
+        .push(Evidence::Step { file, line, step })?;
+    let front = front_of(logs, queues, node, unsound.own);
+    add_front(alloc, explanation, told, node, front)?;
+    if node != other {
+        let front = front_of(logs, queues, other, unsound.other);
+        add_front(alloc, explanation, told, other, front)?;
     }
-    page.blank()
+    explanation.page.blank()
 }
 
 /// Adds why a step isn't sound.
@@ -299,9 +368,9 @@ fn explain_order<A: Allocator + Copy, P: Allocator>(
 }
 
 /// Adds a node that has candidates left after all steps of a section, or isn't asked.
-fn explain_unspent<A: Allocator + Copy, P: Allocator>(
+fn explain_unspent<A: Allocator + Copy, P: Allocator + Clone>(
     alloc: A,
-    page: &mut Page<P>,
+    explanation: &mut Explanation<P>,
     files: &[NamedText<'_>],
     logs: &Logs<A>,
     told: Told<'_, A>,
@@ -309,7 +378,15 @@ fn explain_unspent<A: Allocator + Copy, P: Allocator>(
     unspent: &Unspent<A>,
 ) -> Result<(), OutOfMemory> {
     let place = unspent.place;
-    begin_named(page, at.name, at.line.saturating_add(at.steps))?;
+    let line = at.line.saturating_add(at.steps);
+    let file = explanation.own(at.name)?;
+    explanation.evidence.push(Evidence::Spent {
+        file,
+        line,
+        node: place,
+    })?;
+    let page = &mut explanation.page;
+    begin_named(page, at.name, line)?;
     page.words("spent ")?;
     page.number(u64::from(place))?;
     page.end()?;
@@ -318,10 +395,16 @@ fn explain_unspent<A: Allocator + Copy, P: Allocator>(
         Some(left) => {
             add_candidates(alloc, page, told, place, at.steps, left.len())?;
             add_states(alloc, page, file_of(files, place), logs, place, left)?;
+            let first = left.first().and_then(|first| state_at(logs, place, *first));
+            explanation.evidence.push(Evidence::Front(Front {
+                node: place,
+                left: left.len(),
+                first,
+            }))?;
         }
         None => add_not_asked(page, told.number, place)?,
     }
-    page.blank()
+    explanation.page.blank()
 }
 
 /// Adds that a case asks nothing of a node.
@@ -351,7 +434,7 @@ fn add_candidates<A: Allocator + Copy, P: Allocator>(
     let (steps, left) = (NumberOf(steps, "step"), NumberOf(left, "candidate"));
     page.begin(Mark::Plain)?;
     page.words(format!(in alloc;
-        "QueueHeads {steps} node {place} has {left} left, where it meets `"
+        "After {steps} node {place} has {left} left, where it meets `"
     )?.as_str())?;
     let n = clause_at(told.case, place).unwrap_or(0);
     page.quote(told.lines.clause(n))?;

@@ -6,7 +6,7 @@ use crate::good_ring::read_certificate;
 use crate::section_lines::number_of_steps;
 use ira_audit::Answer;
 use ira_event::OutOfMemory;
-use ira_explain::{NamedText, NumberOf, Page, explain_logs};
+use ira_explain::{Explanation, NamedText, NumberOf, Page, explain_logs};
 use std::alloc::Allocator;
 
 /// Why the answer is yes: how the run stands, and of how many cases and steps the certificate is.
@@ -15,13 +15,13 @@ pub(crate) fn explain_yes<A: Allocator + Clone>(
     logs: &[NamedText<'_>],
     question: &NamedText<'_>,
     certificate: &NamedText<'_>,
-) -> Result<Page<A>, OutOfMemory>
+) -> Result<Explanation<A>, OutOfMemory>
     requires { IsCheckAnswer (map (λ log. log.text.now) logs.now) question.now.text.now certificate.now.text.now
         answer.Yes }
 {
-    let mut page = explain_logs(alloc.clone()?, logs, &Answer::Yes)?;
-    add_sum(&alloc, &mut page, certificate)?;
-    Ok(page)
+    let mut explanation = explain_logs(alloc.clone()?, logs, &Answer::Yes)?;
+    add_sum(&alloc, &mut explanation.page, certificate)?;
+    Ok(explanation)
 }
 
 /// Adds of how many cases and steps a yes is.

@@ -1,3 +1,4 @@
 pub mod AnswerWords
+pub mod ExplainedLists
 pub mod LineTexts
 pub mod LinesWritten

@@ -1,8 +1,7 @@
 -- What an answer, and what is found for cases, are as JSON.
 use Rattle.std.specs.Prelude.{ℕ, List, [], ◌∷◌, Bool, true, false, codes, length, map}
 use Rattle.std.specs.List.{enumerate_from, list_any}
-use Rattle.serde_json.specs.Data.{Data, Members, array, member, no_members, number, object, string, unsigned}
-use Rattle.serde_json.specs.View.{items_of}
+use Rattle.serde_json.specs.Data.{Data, Members, member, no_members, object, string}
 use Rattle.ira_elim.specs.declared.found.Found.{Found}
 use Rattle.ira_elim.specs.declared.found.Found.TheVariants.{Absent, Present}
 use Rattle.ira_audit.specs.Findings.{is_present}
@@ -11,26 +10,24 @@ use Rattle.ira_audit.specs.declared.answer.Answer.{Answer}
 use Rattle.ira_audit.specs.declared.answer.Answer.TheVariants.{Yes, No}
 use Rattle.ira_audit.specs.declared.findings.Findings.{Findings}
 use Rattle.ira_audit.specs.declared.findings.Findings.TheVariants.{Refused, Cases}
-
--- a number, and a list of them
-abbrev pub natural : ℕ → Data
-natural n = number (unsigned n)
-
-abbrev pub naturals : List ℕ → Data
-naturals numbers = array (items_of (map natural numbers))
+use Rattle.ira_json.specs.Members.{natural, naturals}
 
 -- the line of an answer, without its line feed
 abbrev pub answer_words : Answer → List ℕ
 answer_words Yes = codes "yes"
 answer_words (No reason) = reason_words reason
 
--- an answer, and the status that goes with it; the version is that of what members mean
-abbrev pub answer_members : ℕ → Answer → Members
-answer_members status answer =
-    member (codes "answer") (string (answer_words answer))
+-- an answer in words, and the status that goes with it; the version is that of what members mean
+abbrev pub worded_members : List ℕ → ℕ → Members
+worded_members words status =
+    member (codes "answer") (string words)
     (member (codes "status") (natural status)
     (member (codes "type") (string (codes "answer"))
     (member (codes "version") (natural 1) no_members)))
+
+-- an answer, and the status that goes with it
+abbrev pub answer_members : ℕ → Answer → Members
+answer_members status answer = worded_members (answer_words answer) status
 
 abbrev pub answer_value : ℕ → Answer → Data
 answer_value status answer = object (answer_members status answer)
@@ -50,30 +47,30 @@ decision_value word nodes status =
     (member (codes "version") (natural 1) no_members)))))
 
 -- that a case is absent: how many steps its section has, and which node it spends
-abbrev pub absent_value : ℕ → ℕ → ℕ → Data
-absent_value case steps spent =
-    object (member (codes "case") (natural case)
+abbrev pub absent_members : ℕ → ℕ → ℕ → Members
+absent_members case steps spent =
+    member (codes "case") (natural case)
     (member (codes "found") (string (codes "absent"))
     (member (codes "spent") (natural spent)
     (member (codes "steps") (natural steps)
-    (member (codes "type") (string (codes "case")) no_members)))))
-
--- that a case is present: the least cut that meets it
-abbrev pub present_value : ℕ → List ℕ → Data
-present_value case cut =
-    object (member (codes "case") (natural case)
-    (member (codes "cut") (naturals cut)
-    (member (codes "found") (string (codes "present"))
     (member (codes "type") (string (codes "case")) no_members))))
 
+-- that a case is present: the least cut that meets it
+abbrev pub present_members : ℕ → List ℕ → Members
+present_members case cut =
+    member (codes "case") (natural case)
+    (member (codes "cut") (naturals cut)
+    (member (codes "found") (string (codes "present"))
+    (member (codes "type") (string (codes "case")) no_members)))
+
 -- what is found for the case of this number
-abbrev pub found_value : {A : Type 0} → ℕ → Found A → Data
-found_value case (Absent section) = absent_value case (length section.steps) section.spent
-found_value case (Present cut) = present_value case cut
+abbrev pub found_members : {A : Type 0} → ℕ → Found A → Members
+found_members case (Absent section) = absent_members case (length section.steps) section.spent
+found_members case (Present cut) = present_members case cut
 
 -- the same of a case with its number
 abbrev pub case_value : {A : Type 0} → ℕ × Found A → Data
-case_value case = found_value case.0 case.1
+case_value case = object (found_members case.0 case.1)
 
 -- what is found for all cases of a question about a ring of so many nodes, and then for each, in order
 abbrev pub cases_values : {A : Type 0} → ℕ → ℕ → List (Found A) → List Data

@@ -1,7 +1,8 @@
--- What an answer is as JSON, with its reason: what is wrong, in words without numbers, and the numbers by what they
--- count.
-use Rattle.std.specs.Prelude.{ℕ, List, codes}
-use Rattle.serde_json.specs.Data.{Data, Members, null, object, put, string}
+-- What an answer is as JSON, with its reason and what it rests on: what is wrong, in words without numbers; the numbers
+-- by what they count; evidence, and usual causes.
+use Rattle.std.specs.Prelude.{ℕ, List, [], Option, Some, None, String, codes, map, string_bytes}
+use Rattle.serde_json.specs.Data.{Data, Members, array, no_members, null, object, put, string}
+use Rattle.serde_json.specs.View.{items_of}
 use Rattle.ira_event.specs.declared.log_fault.LogFault.{LogFault}
 use Rattle.ira_event.specs.declared.log_fault.LogFault.TheVariants as log
 use Rattle.ira_event.specs.declared.head_fault.HeadFault.{HeadFault}
@@ -22,14 +23,14 @@ use Rattle.ira_audit.specs.declared.reason.Reason.{Reason}
 use Rattle.ira_audit.specs.declared.reason.Reason.TheVariants.{Log, Heads, Match, Circle, Replay, Question}
 use Rattle.ira_audit.specs.declared.reason.Reason.TheVariants.{QuestionSize, Certificate, CertificateSize, Sections}
 use Rattle.ira_audit.specs.declared.reason.Reason.TheVariants.{Section}
-use Rattle.ira_json.specs.AnswerValue.{answer_members, natural}
-
--- members, and a number or words more
-abbrev pub with_number : List ℕ → ℕ → Members → Members
-with_number key n members = put key (natural n) members
-
-abbrev pub with_words : List ℕ → List ℕ → Members → Members
-with_words key words members = put key (string words) members
+use Rattle.ira_node.specs.declared.node_state.NodeState.{NodeState}
+use Rattle.ira_explain.specs.declared.evidence.Evidence.{Evidence}
+use Rattle.ira_explain.specs.declared.explanation.Explanation.{Explanation}
+use Rattle.ira_explain.specs.declared.ring_counts.RingCounts.{RingCounts}
+use Rattle.ira_json.specs.AnswerValue.{answer_members}
+use Rattle.ira_json.specs.EvidenceValue.{evidence_value}
+use Rattle.ira_json.specs.Members.{with_number, with_words}
+use Rattle.ira_json.specs.StateValue.{with_state}
 
 -- of which kind the reason is, and what is wrong
 abbrev pub with_fault : List ℕ → List ℕ → Members → Members
@@ -128,6 +129,38 @@ abbrev pub with_reason_of : Answer → Members → Members
 with_reason_of Yes members = put (codes "reason") null members
 with_reason_of (No reason) members = with_reason reason members
 
--- an answer with its reason, and the status that goes with it
-abbrev pub explained_value : ℕ → Answer → Data
-explained_value status answer = object (with_reason_of answer (answer_members status answer))
+-- how many nodes the ring has, and how many events its logs, where the texts are those of a ring's logs
+abbrev pub with_ring : Option RingCounts → Members → Members
+with_ring None members = members
+with_ring (Some ring) members =
+    with_number (codes "events") ring.events (with_number (codes "nodes") ring.nodes members)
+
+-- the state in which the event that is named has no step, where one is
+abbrev pub with_state_before : Option NodeState → Members → Members
+with_state_before None members = members
+with_state_before (Some state) members = put (codes "state_before") (object (with_state state no_members)) members
+
+-- the evidence, where there is some
+abbrev pub with_evidence : {A : Type 0} → List (Evidence A) → Members → Members
+with_evidence [] members = members
+with_evidence evidence members = put (codes "evidence") (array (items_of (map evidence_value evidence))) members
+
+-- usual causes, each as words
+abbrev pub hint_value : {A : Type 0} → String A → Data
+hint_value hint = string (string_bytes hint)
+
+abbrev pub with_hints : {A : Type 0} → List (String A) → Members → Members
+with_hints hints members = put (codes "hints") (array (items_of (map hint_value hints))) members
+
+-- what an answer rests on
+abbrev pub with_explanation : {A : Type 0} → Explanation A → Members → Members
+with_explanation explanation members =
+    with_hints explanation.hints.items
+    (with_evidence explanation.evidence.items
+    (with_state_before explanation.state_before
+    (with_ring explanation.ring members)))
+
+-- an answer with its reason and what it rests on, and the status that goes with it
+abbrev pub explained_value : {A : Type 0} → ℕ → Answer → Explanation A → Data
+explained_value status answer explanation =
+    object (with_explanation explanation (with_reason_of answer (answer_members status answer)))

@@ -1,5 +1,9 @@
 pub mod AnswerValue
 pub mod Asked
+pub mod EvidenceValue
+pub mod ExplainedFindings
 pub mod ExplainedValue
 pub mod Line
+pub mod Members
 pub mod ShownAnswer
+pub mod StateValue

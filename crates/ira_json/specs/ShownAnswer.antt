@@ -4,8 +4,8 @@ use Rattle.serde_json.specs.Data.{Data, Members, object}
 use Rattle.ira_event.specs.Sink.{SinkState, StopsIn, Takes}
 use Rattle.ira_show.specs.declared.show_fault.ShowFault.{ShowFault}
 use Rattle.ira_show.specs.declared.show_fault.ShowFault.TheVariants.{OutOfMemory, Write}
-use Rattle.ira_json.specs.ExplainedValue.{with_number, with_words}
 use Rattle.ira_json.specs.Line.{AreLinesOf}
+use Rattle.ira_json.specs.Members.{with_number, with_words}
 
 -- the value is an object that says yes, with this status
 abbrev pub IsYes : ℕ → Data → Type 0

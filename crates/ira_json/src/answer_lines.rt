@@ -1,16 +1,20 @@
-ghost use Rattle.std.specs.Prelude.{IfOk, string_bytes};
+ghost use Rattle.std.specs.Prelude.{◌∷◌, IfOk, map, string_bytes};
+ghost use Rattle.std.specs.List.{enumerate_from};
+ghost use Rattle.serde_json.specs.View.{view};
 ghost use Rattle.ira_audit.specs.Findings.{AreReportable};
 ghost use Rattle.ira_audit.specs.Report.{IsReportable};
-ghost use Rattle.ira_json.specs.AnswerValue.{answer_value, case_value, cases_values, findings_values};
+ghost use Rattle.ira_json.specs.AnswerValue.{answer_value, findings_values};
+ghost use Rattle.ira_json.specs.ExplainedFindings.{explained_case, explained_findings};
 ghost use Rattle.ira_json.specs.ExplainedValue.{explained_value};
 ghost use Rattle.ira_json.specs.Line.{AreLinesOf, IsLineOf};
 
-use crate::answer_values::{answer_members, cases_value, found_value};
+use crate::answer_values::{answer_members, cases_value, explained_case, explained_decision};
 use crate::explained::explained_value;
 use crate::line::line_of;
 use ira_audit::{Answer, Findings};
 use ira_elim::Found;
 use ira_event::OutOfMemory;
+use ira_explain::{AskedCase, Explanation};
 use serde_json::Value;
 use std::alloc::{Allocator, Global};
 
@@ -25,37 +29,45 @@ pub fn answer_line(alloc: Global, answer: &Answer, status: u8) -> Result<String,
     )
 }
 
-/// The line of an answer with its reason, and the status that goes with it. The answer must not say that memory ran out.
-pub fn explained_line(alloc: Global, answer: &Answer, status: u8) -> Result<String, OutOfMemory>
+/// The line of an answer with its reason and what it rests on, and the status that goes with it. The answer must not say that
+/// memory ran out.
+pub fn explained_line<A: Allocator>(
+    alloc: Global,
+    answer: &Answer,
+    status: u8,
+    explanation: &Explanation<A>,
+) -> Result<String, OutOfMemory>
     requires { IsReportable answer.now }
-    ensures { IfOk result (λ text. IsLineOf (explained_value status answer.now) (string_bytes text)) }
+    ensures { IfOk result (λ text. IsLineOf (explained_value status answer.now explanation.now) (string_bytes text)) }
 {
-    line_of(alloc, &explained_value(alloc, answer, status)?)
+    line_of(alloc, &explained_value(alloc, answer, status, explanation)?)
 }
 
-/// The line of a case.
-fn case_line<A: Allocator>(
+/// The line of a case, with what it asks where it is one of those that are explained.
+fn case_line<A: Allocator, B: Allocator>(
     alloc: Global,
     case: u64,
-    found: &Found<A>,
+    found: &Found<B>,
+    explained: &[AskedCase<A>],
 ) -> Result<String, OutOfMemory>
-    ensures { IfOk result (λ text. IsLineOf (case_value (case, found.now)) (string_bytes text)) }
+    ensures { IfOk result (λ text. IsLineOf (explained_case explained.now (case, found.now)) (string_bytes text)) }
 {
-    line_of(alloc, &found_value(alloc, case, found)?)
+    line_of(alloc, &explained_case(alloc, case, found, explained)?)
 }
 
-/// The lines of cases, and before them that of the decision, with the status that goes with it.
-fn cases_lines<A: Allocator>(
+/// The line of a value, and those of cases after it.
+fn cases_lines<A: Allocator, B: Allocator>(
     alloc: Global,
-    found: &[Found<A>],
-    nodes: u8,
-    status: u8,
+    first: &Value,
+    found: &[Found<B>],
+    explained: &[AskedCase<A>],
 ) -> Result<String, OutOfMemory>
-    ensures { IfOk result (λ text. AreLinesOf (cases_values nodes status found.now) (string_bytes text)) }
+    ensures { IfOk result (λ text. AreLinesOf
+        (view first.now ∷ map (explained_case explained.now) (enumerate_from 0 found.now)) (string_bytes text)) }
 {
-    let mut text = line_of(alloc, &cases_value(alloc, found, nodes, status)?)?;
+    let mut text = line_of(alloc, first)?;
     for (case, found) in found.iter().enumerate() {
-        text.push_str(case_line(alloc, case as u64, found)?.as_str())?;
+        text.push_str(case_line(alloc, case as u64, found, explained)?.as_str())?;
     }
     Ok(text)
 }
@@ -72,6 +84,32 @@ pub fn findings_lines<A: Allocator>(
 {
     match findings {
         Findings::Refused(reason) => answer_line(alloc, &Answer::No(*reason), status),
-        Findings::Cases { nodes, found } => cases_lines(alloc, found, nodes.get(), status),
+        Findings::Cases { nodes, found } => {
+            let decision = cases_value(alloc, found, nodes.get(), status)?;
+            let explained: Vec<AskedCase<Global>> = Vec::new(alloc);
+            cases_lines(alloc, &decision, found, &explained)
+        }
+    }
+}
+
+/// The same with what they rest on: for a refusal its reason, and for a case that is explained what it asks.
+pub fn explained_findings_lines<A: Allocator, B: Allocator>(
+    alloc: Global,
+    findings: &Findings<B>,
+    status: u8,
+    explanation: &Explanation<A>,
+) -> Result<String, OutOfMemory>
+    requires { AreReportable findings.now }
+    ensures { IfOk result (λ text. AreLinesOf
+        (explained_findings status findings.now explanation.now) (string_bytes text)) }
+{
+    match findings {
+        Findings::Refused(reason) => {
+            explained_line(alloc, &Answer::No(*reason), status, explanation)
+        }
+        Findings::Cases { found, .. } => {
+            let decision = explained_decision(alloc, found, status, explanation)?;
+            cases_lines(alloc, &decision, found, &explanation.cases)
+        }
     }
 }

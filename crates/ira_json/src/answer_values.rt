@@ -1,15 +1,19 @@
-ghost use Rattle.std.specs.Prelude.{◌≡◌, IfOk, string_bytes};
-ghost use Rattle.std.specs.List.{list_any};
-ghost use Rattle.serde_json.specs.View.{members_view, view};
+ghost use Rattle.std.specs.Prelude.{◌≡◌, IfOk, map, nat_eq, option_map, string_bytes};
+ghost use Rattle.std.specs.List.{find, list_any};
+ghost use Rattle.serde_json.specs.Data.{array};
+ghost use Rattle.serde_json.specs.View.{items_of, members_view, view};
 ghost use Rattle.ira_audit.specs.Findings.{is_present};
 ghost use Rattle.ira_audit.specs.Report.{IsReportable};
-ghost use Rattle.ira_json.specs.AnswerValue.{absent_value, answer_members, answer_words, decision_value, decision_word, found_value, present_value};
+ghost use Rattle.ira_json.specs.AnswerValue.{absent_members, answer_members, answer_words, decision_value, decision_word, found_members, present_members, worded_members};
+ghost use Rattle.ira_json.specs.ExplainedFindings.{ask_value, explained_case, explained_decision};
 
+use crate::explained::put_explanation;
 use crate::values::{Members, members_of, numbers_value, put_number, put_words};
 use ira_audit::{Answer, write_report};
 use ira_elim::Found;
 use ira_event::{MemorySink, OutOfMemory};
-use serde_json::{Value, json};
+use ira_explain::{AskedCase, AskedNode, Explanation};
+use serde_json::{Map, Value, json, put};
 use std::alloc::{Allocator, Global};
 use std::str;
 
@@ -29,7 +33,18 @@ fn answer_words(alloc: Global, answer: &Answer) -> Result<String, OutOfMemory>
     }
 }
 
-/// What is told of each answer, and the status that goes with it.
+/// What is told of each answer: its words, and the status that goes with it.
+fn worded_members(alloc: Global, words: &str, status: u8) -> Result<Members, OutOfMemory>
+    ensures { IfOk result (λ members. members_view members.entries ≡ worded_members words.now status) }
+{
+    let mut members = members_of(alloc, "answer")?;
+    put_words(&mut members, alloc, "answer", words)?;
+    put_number(&mut members, alloc, "status", u64::from(status))?;
+    put_number(&mut members, alloc, "version", 1)?;
+    Ok(members)
+}
+
+/// What is told of an answer, and the status that goes with it.
 pub(crate) fn answer_members(
     alloc: Global,
     answer: &Answer,
@@ -38,12 +53,7 @@ pub(crate) fn answer_members(
     requires { IsReportable answer.now }
     ensures { IfOk result (λ members. members_view members.entries ≡ answer_members status answer.now) }
 {
-    let words = answer_words(alloc, answer)?;
-    let mut members = members_of(alloc, "answer")?;
-    put_words(&mut members, alloc, "answer", words.as_str())?;
-    put_number(&mut members, alloc, "status", u64::from(status))?;
-    put_number(&mut members, alloc, "version", 1)?;
-    Ok(members)
+    worded_members(alloc, answer_words(alloc, answer)?.as_str(), status)
 }
 
 /// That a question about a ring of so many nodes was decided, in a word, and the status that goes with it.
@@ -59,25 +69,27 @@ fn decision_value(alloc: Global, word: &str, nodes: u8, status: u8) -> Result<Va
         })?)
 }
 
-/// That a case is absent, by a section of so many steps that spends this node.
-fn absent_value(alloc: Global, case: u64, steps: u64, spent: u8) -> Result<Value, OutOfMemory>
-    ensures { IfOk result (λ value. view value ≡ absent_value case steps spent) }
+/// What is told of a case that is absent, by a section of so many steps that spends this node.
+fn absent_members(alloc: Global, case: u64, steps: u64, spent: u8) -> Result<Members, OutOfMemory>
+    ensures { IfOk result (λ members. members_view members.entries ≡ absent_members case steps spent) }
 {
-    Ok(json!(in alloc; {
-            "case": case,
-            "found": "absent",
-            "spent": spent,
-            "steps": steps,
-            "type": "case"
-        })?)
+    let mut members = members_of(alloc, "case")?;
+    put_number(&mut members, alloc, "case", case)?;
+    put_words(&mut members, alloc, "found", "absent")?;
+    put_number(&mut members, alloc, "spent", u64::from(spent))?;
+    put_number(&mut members, alloc, "steps", steps)?;
+    Ok(members)
 }
 
-/// That a case is present, at this cut.
-fn present_value(alloc: Global, case: u64, cut: &[u32]) -> Result<Value, OutOfMemory>
-    ensures { IfOk result (λ value. view value ≡ present_value case cut.now) }
+/// What is told of a case that is present, at this cut.
+fn present_members(alloc: Global, case: u64, cut: &[u32]) -> Result<Members, OutOfMemory>
+    ensures { IfOk result (λ members. members_view members.entries ≡ present_members case cut.now) }
 {
-    let cut = numbers_value(alloc, cut)?;
-    Ok(json!(in alloc; {"case": case, "cut": cut, "found": "present", "type": "case"})?)
+    let mut members = members_of(alloc, "case")?;
+    put_number(&mut members, alloc, "case", case)?;
+    put(&mut members, alloc, "cut", numbers_value(alloc, cut)?)?;
+    put_words(&mut members, alloc, "found", "present")?;
+    Ok(members)
 }
 
 /// What is found for all cases, in a word.
@@ -107,18 +119,78 @@ pub(crate) fn cases_value<A: Allocator>(
     decision_value(alloc, decision_word(has_present(found)), nodes, status)
 }
 
-/// What is found for the case of this number.
-pub(crate) fn found_value<A: Allocator>(
+/// What is found for all cases, and what that rests on, with the status that goes with it.
+pub(crate) fn explained_decision<A: Allocator, B: Allocator>(
+    alloc: Global,
+    found: &[Found<B>],
+    status: u8,
+    explanation: &Explanation<A>,
+) -> Result<Value, OutOfMemory>
+    ensures { IfOk result (λ value. view value ≡ explained_decision status found.now explanation.now) }
+{
+    let mut members = worded_members(alloc, decision_word(has_present(found)), status)?;
+    put(&mut members, alloc, "reason", Value::Null)?;
+    put_explanation(&mut members, alloc, explanation)?;
+    Ok(Value::Object(members))
+}
+
+/// What is told of a case of this number.
+pub(crate) fn found_members<A: Allocator>(
     alloc: Global,
     case: u64,
     found: &Found<A>,
-) -> Result<Value, OutOfMemory>
-    ensures { IfOk result (λ value. view value ≡ found_value case found.now) }
+) -> Result<Members, OutOfMemory>
+    ensures { IfOk result (λ members. members_view members.entries ≡ found_members case found.now) }
 {
     match found {
         Found::Absent(section) => {
-            absent_value(alloc, case, section.steps.len() as u64, section.spent)
+            absent_members(alloc, case, section.steps.len() as u64, section.spent)
         }
-        Found::Present(cut) => present_value(alloc, case, cut.positions()),
+        Found::Present(cut) => present_members(alloc, case, cut.positions()),
     }
+}
+
+/// What a case asks of a node.
+fn ask_value<A: Allocator>(alloc: Global, ask: &AskedNode<A>) -> Result<Value, OutOfMemory>
+    ensures { IfOk result (λ value. view value ≡ ask_value ask.now) }
+{
+    let mut members = Map::new(alloc);
+    put_number(&mut members, alloc, "node", u64::from(ask.node))?;
+    put_words(&mut members, alloc, "clause", ask.clause.as_str())?;
+    put_number(&mut members, alloc, "line", ask.line as u64)?;
+    Ok(Value::Object(members))
+}
+
+/// What a case asks, in a list.
+fn asks_list<A: Allocator>(alloc: Global, asks: &[AskedNode<A>]) -> Result<Value, OutOfMemory>
+    ensures { IfOk result (λ value. view value ≡ array (items_of (map ask_value asks.now))) }
+{
+    let mut list = Vec::with_capacity(alloc, asks.len())?;
+    for ask in asks {
+        list.push(ask_value(alloc, ask)?)?;
+    }
+    Ok(Value::Array(list))
+}
+
+/// The case of this number, where it is one of those that are explained.
+fn asked_case<A: Allocator>(explained: &[AskedCase<A>], number: u64) -> Option<&AskedCase<A>>
+    ensures { option_map (λ asked. asked.now) result ≡ find (λ asked. nat_eq asked.number number) explained.now }
+{
+    explained.iter().find(|asked| asked.number as u64 == number)
+}
+
+/// What is found for the case of this number; and what it asks, where it is one of those that are explained.
+pub(crate) fn explained_case<A: Allocator, B: Allocator>(
+    alloc: Global,
+    case: u64,
+    found: &Found<B>,
+    explained: &[AskedCase<A>],
+) -> Result<Value, OutOfMemory>
+    ensures { IfOk result (λ value. view value ≡ explained_case explained.now (case, found.now)) }
+{
+    let mut members = found_members(alloc, case, found)?;
+    if let Some(asked) = asked_case(explained, case) {
+        put(&mut members, alloc, "asks", asks_list(alloc, &asked.asks)?)?;
+    }
+    Ok(Value::Object(members))
 }

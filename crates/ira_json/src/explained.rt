@@ -1,19 +1,22 @@
-ghost use Rattle.std.specs.Prelude.{◌≡◌, ◌≢◌, IfOk, OnOk};
-ghost use Rattle.serde_json.specs.View.{members_view, view};
+ghost use Rattle.std.specs.Prelude.{◌≡◌, ◌≢◌, IfOk, OnOk, map};
+ghost use Rattle.serde_json.specs.Data.{array};
+ghost use Rattle.serde_json.specs.View.{items_of, members_view, view};
 ghost use Rattle.ira_audit.specs.Report.{IsReportable, IsReportableReason, step_fault_words, unsound_words};
-ghost use Rattle.ira_json.specs.ExplainedValue.{explained_value, with_ask_fault, with_cert_fault, with_fault, with_head_fault, with_log_fault, with_match_fault, with_numbered, with_reason, with_reason_of, with_receipt, with_section_fault, with_sections, with_step_fault};
+ghost use Rattle.ira_json.specs.ExplainedValue.{explained_value, hint_value, with_ask_fault, with_cert_fault, with_evidence, with_explanation, with_fault, with_head_fault, with_log_fault, with_match_fault, with_numbered, with_reason, with_reason_of, with_receipt, with_ring, with_section_fault, with_sections, with_state_before, with_step_fault};
 
 use crate::answer_values::answer_members;
-use crate::values::{Members, put_number, put_words};
+use crate::evidence_values::evidence_list;
+use crate::values::{Members, put_number, put_state, put_words};
 use ira_audit::{Answer, Reason};
 use ira_cert::{SectionFault, Unsound};
 use ira_cert_text::CertFault;
 use ira_event::{HeadFault, LogFault, OutOfMemory};
-use ira_node::StepFault;
+use ira_explain::{Evidence, Explanation, RingCounts};
+use ira_node::{NodeState, StepFault};
 use ira_order::MatchFault;
 use ira_pred::AskFault;
-use serde_json::{Value, put};
-use std::alloc::Global;
+use serde_json::{Map, Value, put};
+use std::alloc::{Allocator, Global};
 
 /// Adds of which kind the reason is, and what is wrong.
 fn put_fault(
@@ -115,7 +118,7 @@ fn put_match_fault(
     }
 }
 
-fn step_fault_word(fault: StepFault) -> &'static str
+pub(crate) fn step_fault_word(fault: StepFault) -> &'static str
     ensures { result.now ≡ step_fault_words fault }
 {
     match fault {
@@ -286,16 +289,100 @@ fn put_reason_of(members: &mut Members, alloc: Global, answer: &Answer) -> Resul
     }
 }
 
-/// An answer with its reason, and the status that goes with it.
-pub(crate) fn explained_value(
+fn put_ring(
+    members: &mut Members,
+    alloc: Global,
+    ring: Option<RingCounts>,
+) -> Result<(), OutOfMemory>
+    ensures { OnOk result (members_view members.new.entries ≡ with_ring ring (members_view members.old.entries)) }
+{
+    match ring {
+        Some(ring) => {
+            put_number(members, alloc, "nodes", ring.nodes as u64)?;
+            put_number(members, alloc, "events", ring.events as u64)
+        }
+        None => Ok(()),
+    }
+}
+
+fn put_state_before(
+    members: &mut Members,
+    alloc: Global,
+    state: Option<NodeState>,
+) -> Result<(), OutOfMemory>
+    ensures { OnOk result (members_view members.new.entries
+        ≡ with_state_before state (members_view members.old.entries)) }
+{
+    match state {
+        Some(state) => {
+            let mut before = Map::new(alloc);
+            put_state(&mut before, alloc, state)?;
+            put(members, alloc, "state_before", Value::Object(before))?;
+            Ok(())
+        }
+        None => Ok(()),
+    }
+}
+
+fn put_evidence<A: Allocator>(
+    members: &mut Members,
+    alloc: Global,
+    evidence: &[Evidence<A>],
+) -> Result<(), OutOfMemory>
+    ensures { OnOk result (members_view members.new.entries
+        ≡ with_evidence evidence.now (members_view members.old.entries)) }
+{
+    if evidence.is_empty() {
+        return Ok(());
+    }
+    put(members, alloc, "evidence", evidence_list(alloc, evidence)?)?;
+    Ok(())
+}
+
+/// Usual causes, in a list.
+fn hints_list<A: Allocator>(alloc: Global, hints: &[String<A>]) -> Result<Value, OutOfMemory>
+    ensures { IfOk result (λ value. view value ≡ array (items_of (map hint_value hints.now))) }
+{
+    let mut list = Vec::with_capacity(alloc, hints.len())?;
+    for hint in hints {
+        list.push(Value::try_from_str(alloc, hint.as_str())?)?;
+    }
+    Ok(Value::Array(list))
+}
+
+/// Adds what an answer rests on.
+pub(crate) fn put_explanation<A: Allocator>(
+    members: &mut Members,
+    alloc: Global,
+    explanation: &Explanation<A>,
+) -> Result<(), OutOfMemory>
+    ensures { OnOk result (members_view members.new.entries
+        ≡ with_explanation explanation.now (members_view members.old.entries)) }
+{
+    put_ring(members, alloc, explanation.ring)?;
+    put_state_before(members, alloc, explanation.state_before)?;
+    put_evidence(members, alloc, &explanation.evidence)?;
+    put(
+        members,
+        alloc,
+        "hints",
+        hints_list(alloc, &explanation.hints)?,
+    )?;
+    Ok(())
+}
+
+/// An answer with its reason and what it rests on, and the status that goes with it.
+pub(crate) fn explained_value<A: Allocator>(
     alloc: Global,
     answer: &Answer,
     status: u8,
+    explanation: &Explanation<A>,
 ) -> Result<Value, OutOfMemory>
     requires { IsReportable answer.now }
-    ensures { IfOk result (λ value. view value ≡ explained_value status answer.now) }
+    ensures { IfOk result (λ value. view value ≡ explained_value status answer.now explanation.now) }
 {
     let mut members = answer_members(alloc, answer, status)?;
     put_reason_of(&mut members, alloc, answer)?;
+    put_explanation(&mut members, alloc, explanation)?;
     Ok(Value::Object(members))
 }

@@ -5,6 +5,7 @@ mod answer_lines;
 mod answer_values;
 mod asked;
 mod event_lines;
+mod evidence_values;
 mod explained;
 mod line;
 mod line_block;
@@ -14,7 +15,7 @@ mod ring_lines;
 mod shown_answer;
 mod values;
 
-pub use answer_lines::{answer_line, explained_line, findings_lines};
+pub use answer_lines::{answer_line, explained_findings_lines, explained_line, findings_lines};
 pub use asked::Asked;
 pub use line::write_line;
 pub use ring_lines::write_ring;

@@ -1,8 +1,8 @@
 ghost use Rattle.std.specs.Prelude.{◌≡◌, IfOk, OnOk, codes};
 ghost use Rattle.serde_json.specs.Data.{member, no_members, string};
 ghost use Rattle.serde_json.specs.View.{members_view, view};
-ghost use Rattle.ira_json.specs.AnswerValue.{naturals};
-ghost use Rattle.ira_json.specs.ExplainedValue.{with_number, with_words};
+ghost use Rattle.ira_json.specs.Members.{naturals, with_number, with_words};
+ghost use Rattle.ira_json.specs.StateValue.{with_load, with_owed, with_phase, with_state, with_term};
 
 use ira_event::{Load, Msg, OutOfMemory};
 use ira_node::{NodeState, Phase};
@@ -41,11 +41,9 @@ pub(crate) fn put_words(
 }
 
 /// Adds what an object tells of a load: its fields, or the hop of a reset.
-pub(crate) fn put_load(
-    members: &mut Members,
-    alloc: Global,
-    load: Load,
-) -> Result<(), OutOfMemory> {
+pub(crate) fn put_load(members: &mut Members, alloc: Global, load: Load) -> Result<(), OutOfMemory>
+    ensures { OnOk result (members_view members.new.entries ≡ with_load load (members_view members.old.entries)) }
+{
     match load {
         Load::Msg(
             Msg {
@@ -59,10 +57,56 @@ pub(crate) fn put_load(
             put_number(members, alloc, "id", u64::from(id))?;
             put_number(members, alloc, "hop", u64::from(hop))?;
             put(members, alloc, "dirty", Value::from(dirty))?;
+            Ok(())
         }
-        Load::Reset(hop) => put_number(members, alloc, "reset", u64::from(hop))?,
+        Load::Reset(hop) => put_number(members, alloc, "reset", u64::from(hop)),
     }
-    Ok(())
+}
+
+fn put_phase(members: &mut Members, alloc: Global, phase: Phase) -> Result<(), OutOfMemory>
+    ensures { OnOk result (members_view members.new.entries ≡ with_phase phase (members_view members.old.entries)) }
+{
+    match phase {
+        Phase::Choosing { round } => {
+            put_words(members, alloc, "phase", "choosing")?;
+            put_number(members, alloc, "round", u64::from(round))
+        }
+        Phase::Active { round, id } => {
+            put_words(members, alloc, "phase", "active")?;
+            put_number(members, alloc, "round", u64::from(round))?;
+            put_number(members, alloc, "id", u64::from(id))
+        }
+        Phase::Passive => put_words(members, alloc, "phase", "passive"),
+        Phase::Leader { round, id } => {
+            put_words(members, alloc, "phase", "leader")?;
+            put_number(members, alloc, "round", u64::from(round))?;
+            put_number(members, alloc, "id", u64::from(id))
+        }
+        Phase::Yielding => put_words(members, alloc, "phase", "yielding"),
+    }
+}
+
+fn put_term(members: &mut Members, alloc: Global, term: u32) -> Result<(), OutOfMemory>
+    ensures { OnOk result (members_view members.new.entries ≡ with_term term (members_view members.old.entries)) }
+{
+    if term == 1 {
+        return Ok(());
+    }
+    put_number(members, alloc, "term", u64::from(term))
+}
+
+fn put_owed(members: &mut Members, alloc: Global, owed: Option<Load>) -> Result<(), OutOfMemory>
+    ensures { OnOk result (members_view members.new.entries ≡ with_owed owed (members_view members.old.entries)) }
+{
+    match owed {
+        Some(load) => {
+            let mut owes = Map::new(alloc);
+            put_load(&mut owes, alloc, load)?;
+            put(members, alloc, "owes", Value::Object(owes))?;
+            Ok(())
+        }
+        None => Ok(()),
+    }
 }
 
 /// Adds a state, as far as it has a round, an ID and a debt; its term where that isn't the first one.
@@ -70,34 +114,12 @@ pub(crate) fn put_state(
     members: &mut Members,
     alloc: Global,
     state: NodeState,
-) -> Result<(), OutOfMemory> {
-    let NodeState { phase, owed, term } = state;
-    let word = match phase {
-        Phase::Choosing { .. } => "choosing",
-        Phase::Active { .. } => "active",
-        Phase::Passive => "passive",
-        Phase::Leader { .. } => "leader",
-        Phase::Yielding => "yielding",
-    };
-    put_words(members, alloc, "phase", word)?;
-    if let Phase::Choosing { round }
-    | Phase::Active { round, .. }
-    | Phase::Leader { round, .. } = phase
-    {
-        put_number(members, alloc, "round", u64::from(round))?;
-    }
-    if let Phase::Active { id, .. } | Phase::Leader { id, .. } = phase {
-        put_number(members, alloc, "id", u64::from(id))?;
-    }
-    if term != 1 {
-        put_number(members, alloc, "term", u64::from(term))?;
-    }
-    if let Some(load) = owed {
-        let mut owes = Map::new(alloc);
-        put_load(&mut owes, alloc, load)?;
-        put(members, alloc, "owes", Value::Object(owes))?;
-    }
-    Ok(())
+) -> Result<(), OutOfMemory>
+    ensures { OnOk result (members_view members.new.entries ≡ with_state state (members_view members.old.entries)) }
+{
+    put_phase(members, alloc, state.phase)?;
+    put_term(members, alloc, state.term)?;
+    put_owed(members, alloc, state.owed)
 }
 
 /// An object with a type.

@@ -3,9 +3,11 @@ use Rattle.std.proofs.Common.{◌≡◌, ◌∙◌, ◌⊎◌, ℕ, true, List, 
 use Rattle.ira_audit.specs.declared.answer.Answer.{Answer}
 use Rattle.ira_audit.specs.declared.findings.Findings.{Findings}
 use Rattle.ira_event.specs.Sink.{SinkState, Wrote, Takes, StopsIn}
+use Rattle.ira_explain.specs.declared.explanation.Explanation.{Explanation}
 use Rattle.ira_json.specs.AnswerValue.{findings_values}
+use Rattle.ira_json.specs.ExplainedFindings.{explained_findings}
 use Rattle.ira_json.specs.Line.{AreLinesOf}
-use Rattle.ira_main.specs.Decide.{IsFindingsText}
+use Rattle.ira_main.specs.Decide.{IsExplainedText, IsFindingsText}
 use Rattle.ira_main.specs.Outcome.{Outcome, Prints, ReportsText}
 use Rattle.ira_main.specs.Status.{IsFindingsStatus, answer_status, status_number}
 use Rattle.ira_main.specs.declared.status.Status.{Status}
@@ -35,3 +37,15 @@ pub findings_json : {A : Type 0} (findings : Findings A) (status : Status) (n : 
 findings_json findings status n text lent number is lines same =
     let told = subst (λ k. AreLinesOf (findings_values k findings) text) number lines in
     (status, is, subst (AreLinesOf (findings_values (status_number status) findings)) (sym same) told)
+
+-- the same of findings that are explained
+pub explained_json : {A : Type 0} (findings : Findings A) (explanation : Explanation A) (status : Status) (n : ℕ)
+    (text lent : List ℕ) → n ≡ status_number status → IsFindingsStatus findings status
+    → AreLinesOf (explained_findings n findings explanation) text → lent ≡ text → IsExplainedText true findings lent
+explained_json findings explanation status n text lent number is lines same =
+    let told = subst (λ k. AreLinesOf (explained_findings k findings explanation) text) number lines in (
+      status,
+      is,
+      explanation,
+      subst (AreLinesOf (explained_findings (status_number status) findings explanation)) (sym same) told,
+    )

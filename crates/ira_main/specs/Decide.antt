@@ -7,7 +7,9 @@ use Rattle.ira_audit.specs.Findings.{AreFindings, IsCertificateOf, MakeNoCertifi
 use Rattle.ira_audit.specs.FindingsText.{findings_text}
 use Rattle.ira_audit.specs.declared.findings.Findings.{Findings}
 use Rattle.ira_explain.specs.Printable.{IsPrintable}
+use Rattle.ira_explain.specs.declared.explanation.Explanation.{Explanation}
 use Rattle.ira_json.specs.AnswerValue.{findings_values}
+use Rattle.ira_json.specs.ExplainedFindings.{explained_findings}
 use Rattle.ira_json.specs.Line.{AreLinesOf}
 use Rattle.ira_words.specs.declared.decide_request.DecideRequest.{DecideRequest}
 use Rattle.ira_files.specs.Shelf.{Reading, Writing}
@@ -71,10 +73,12 @@ PrintsFindings writes is_json name shelf shelf' out out' outcome findings =
     × ((Takes text out out' × KeepsFindings writes findings name shelf shelf' outcome)
     ⊎ (StopsIn text out out' × (shelf' ≡ shelf) × (outcome ≡ Err CannotWriteAnswer)))
 
--- the text that is printed of findings that are explained: as JSON, where that is wanted; or else their lines, and a
--- page of printable text after them
+-- the text that is printed of findings that are explained: as JSON with what they rest on, where that is wanted; or
+-- else their lines, and a page of printable text after them
 abbrev pub IsExplainedText : {A : Type 0} → Bool → Findings A → List ℕ → Type 0
-IsExplainedText true findings text = IsFindingsText true findings text
+IsExplainedText {A} true findings text =
+    (status : Status) × IsFindingsStatus findings status × (explanation : Explanation A)
+    × AreLinesOf (explained_findings (status_number status) findings explanation) text
 IsExplainedText false findings text = (page : List ℕ) × IsPrintable page × (text ≡ findings_text findings ++ page)
 
 -- that text was printed, with the status of the findings

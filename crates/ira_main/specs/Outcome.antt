@@ -4,6 +4,7 @@ use Rattle.ira_event.specs.Sink.{SinkState, Takes, StopsIn}
 use Rattle.ira_audit.specs.Report.{report_line}
 use Rattle.ira_audit.specs.declared.answer.Answer.{Answer}
 use Rattle.ira_explain.specs.Printable.{IsPrintable}
+use Rattle.ira_explain.specs.declared.explanation.Explanation.{Explanation}
 use Rattle.ira_json.specs.AnswerValue.{answer_value}
 use Rattle.ira_json.specs.ExplainedValue.{explained_value}
 use Rattle.ira_json.specs.Line.{IsLineOf}
@@ -57,10 +58,13 @@ abbrev pub ReportsAs : Bool → Telling
 ReportsAs true = ReportsText (λ status answer. IsLineOf (answer_value status answer))
 ReportsAs false = Reports
 
--- an answer is printed with its reason, as JSON, where that is wanted, or else as its line and a page
-abbrev pub ExplainsAs : Bool → Telling
-ExplainsAs true = ReportsText (λ status answer. IsLineOf (explained_value status answer))
-ExplainsAs false = Explains
+-- an answer is printed with its reason and what it rests on, as JSON, where that is wanted, or else as its line and a
+-- page
+abbrev pub ExplainsAs : Type 0 → Bool → Telling
+ExplainsAs A true answer out out' outcome =
+    (explanation : Explanation A)
+    × ReportsText (λ status answer. IsLineOf (explained_value status answer explanation)) answer out out' outcome
+ExplainsAs A false answer out out' outcome = Explains answer out out' outcome
 
 -- nothing was printed, and the outcome is a fault of this kind
 abbrev pub GivesNoAnswer : (ProgramFault → Type 0) → SinkState → SinkState → Outcome → Type 0

@@ -127,11 +127,11 @@ abbrev pub ExplainsAnswer : Type 0 → Bool → {S : Type 0} → Reading S → E
     → Outcome → Type 0
 ExplainsAnswer A is_json reads OneLog shelf out out' outcome = ⊥
 ExplainsAnswer A is_json reads (Logs source) shelf out out' outcome =
-    JudgesLogs (ExplainsAs is_json) reads source shelf out out' outcome
+    JudgesLogs (ExplainsAs A is_json) reads source shelf out out' outcome
 ExplainsAnswer A is_json reads (Findings asked source) shelf out out' outcome =
     ExplainsQuestion A is_json reads asked.question.now source shelf out out' outcome
 ExplainsAnswer A is_json reads (Certificate question certificate source) shelf out out' outcome =
-    JudgesCheck (ExplainsAs is_json) reads question.now certificate.now source shelf out out' outcome
+    JudgesCheck (ExplainsAs A is_json) reads question.now certificate.now source shelf out out' outcome
 
 -- the question whether two nodes of a ring of so many ever lead at once was printed
 pub record AsksPairs (nodes : ℕ) (out out' : SinkState) (outcome : Outcome) : Type 0 where
@@ -225,7 +225,7 @@ pub data Serves (A : Type 0) {S : Type 0} (reads : Reading S) (writes : Writing 
   without_words : words ≡ [] → shelf' ≡ shelf → OneLogOutcome Reports input input' out out' outcome
       → Serves A reads writes words input input' shelf shelf' out out' outcome
   explained : (explain : ExplainRequest) → IsExplainLine words explain → explain.answer ≡ OneLog → shelf' ≡ shelf
-      → OneLogOutcome (ExplainsAs explain.is_json) input input' out out' outcome
+      → OneLogOutcome (ExplainsAs A explain.is_json) input input' out out' outcome
       → Serves A reads writes words input input' shelf shelf' out out' outcome
   with_words : words ≢ [] → input' ≡ input → CommandOutcome A reads writes words shelf shelf' out out' outcome
       → Serves A reads writes words input input' shelf shelf' out out' outcome

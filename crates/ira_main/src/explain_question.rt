@@ -57,7 +57,7 @@ where
     A: Allocator + Clone + Send + Sync,
     F: TextSource,
     W: Sink,
-    ensures { JudgesCheck (ExplainsAs is_json) F.reads question.now certificate.now source.now shelf.now (W.state out.old)
+    ensures { JudgesCheck (ExplainsAs A is_json) F.reads question.now certificate.now source.now shelf.now (W.state out.old)
         (W.state out.new) result }
 {
     let names = source_names(&alloc, source, shelf)?;

@@ -13,7 +13,7 @@ use crate::report::print_text;
 use crate::status::Status;
 use ira_audit::{Answer, write_findings, write_report};
 use ira_event::{MemorySink, Sink, WriteFault, write_bytes};
-use ira_json::{explained_line, findings_lines};
+use ira_json::{explained_findings_lines, explained_line};
 use ira_views::{FindingsView, View};
 use std::alloc::{Allocator, Global};
 
@@ -39,14 +39,14 @@ fn print_page<'a, A: Allocator, W: Sink>(
     requires { IsReportable view.now.answer }
     ensures { Explains view.now.answer (W.state out.old) (W.state out.new) result }
 {
-    match write_view(&view.answer, view.page.text(), out) {
+    match write_view(&view.answer, view.explanation.page.text(), out) {
         Ok(()) => Ok(Status::of_answer(&view.answer)),
         Err(WriteFault) => Err(ProgramFault::CannotWriteAnswer),
     }
 }
 
-/// The status of an answer that was printed with its reason, as JSON where that is wanted, or else with the page after
-/// its line.
+/// The status of an answer that was printed with why it is so, as JSON where that is wanted, or else as a page after its
+/// line.
 pub(crate) fn print_view<'a, A: Allocator, W: Sink>(
     alloc: Global,
     is_json: bool,
@@ -54,12 +54,12 @@ pub(crate) fn print_view<'a, A: Allocator, W: Sink>(
     out: &mut W,
 ) -> Result<Status, ProgramFault<'a>>
     requires { IsReportable view.now.answer }
-    ensures { ExplainsAs is_json view.now.answer (W.state out.old) (W.state out.new) result
+    ensures { ExplainsAs A is_json view.now.answer (W.state out.old) (W.state out.new) result
         ⊎ ((W.state out.new ≡ W.state out.old) × (result ≡ Err OutOfMemory)) }
 {
     if is_json {
         let status = Status::of_answer(&view.answer);
-        let line = explained_line(alloc, &view.answer, status.number())?;
+        let line = explained_line(alloc, &view.answer, status.number(), &view.explanation)?;
         return print_text(line.as_bytes(), status, out);
     }
     print_page(view, out)
@@ -72,10 +72,11 @@ fn write_findings_view<A: Allocator, W: Sink>(
     sink: &mut W,
 ) -> Result<(), WriteFault>
     requires { AreReportable view.now.findings }
-    ensures wrote { Wrote result (findings_text view.now.findings ++ view.now.page) (W.state sink.old) (W.state sink.new) }
-    ensures printable { IsPrintable view.now.page }
+    ensures wrote { Wrote result (findings_text view.now.findings ++ view.now.explanation.page)
+        (W.state sink.old) (W.state sink.new) }
+    ensures printable { IsPrintable view.now.explanation.page }
 {
-    let page = view.page.text();
+    let page = view.explanation.page.text();
     write_findings(&view.findings, sink)?;
     write_bytes(page, sink)
 }
@@ -112,7 +113,12 @@ pub(crate) fn print_findings_view<'a, A: Allocator + Clone, W: Sink>(
 {
     if is_json {
         let status = Status::of_findings(&view.findings);
-        let lines = findings_lines(text, &view.findings, status.number())?;
+        let lines = explained_findings_lines(
+            text,
+            &view.findings,
+            status.number(),
+            &view.explanation,
+        )?;
         return print_text(lines.as_bytes(), status, out);
     }
     print_findings_page(alloc, view, out)

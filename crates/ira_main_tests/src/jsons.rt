@@ -15,7 +15,8 @@ const FILES: &[(&str, File<'static>)] = &[
 fn answers(rt: HostRuntime) {
     let yes = "{\"answer\":\"yes\",\"status\":0,\"type\":\"answer\",\"version\":1}\n";
     let why =
-        "{\"answer\":\"yes\",\"reason\":null,\"status\":0,\"type\":\"answer\",\"version\":1}\n";
+        "{\"answer\":\"yes\",\"events\":8,\"hints\":[],\"nodes\":2,\"reason\":null,\"status\":0,\
+               \"type\":\"answer\",\"version\":1}\n";
     for (words, line) in [
         (["logs", "--json", "0", "1"].as_slice(), yes),
         (&["explain", "--json", "0", "1"], why),
@@ -44,9 +45,12 @@ fn reasons(rt: HostRuntime) {
         assert_written(&rt, words, FILES, 1, line, "", &[]);
     }
     let words = ["explain", "--json", "1", "0"];
-    let line =
-        "{\"answer\":\"no: heads: place 0\",\"fault\":\"place\",\"log\":0,\"reason\":\"heads\",\
-                \"status\":1,\"type\":\"answer\",\"version\":1}\n";
+    let line = "{\"answer\":\"no: heads: place 0\",\"evidence\":[\
+                {\"file\":\"1\",\"log\":0,\"nodes\":2,\"place\":1,\"role\":\"head\",\"version\":1},\
+                {\"file\":\"0\",\"log\":1,\"nodes\":2,\"place\":0,\"role\":\"head\",\"version\":1}],\
+                \"fault\":\"place\",\"hints\":[\"these are all the logs, in another order. A shell sorts 10.log \
+                before 2.log; in order of place: ira logs --dir DIR, or ira logs $(ls FILES | sort -V)\"],\
+                \"log\":0,\"reason\":\"heads\",\"status\":1,\"type\":\"answer\",\"version\":1}\n";
     assert_written(&rt, &words, FILES, 1, line, "", &[]);
 }
 
@@ -61,12 +65,17 @@ fn findings(rt: HostRuntime) {
         "{\"answer\":\"present\",\"nodes\":2,\"status\":1,\"type\":\"answer\",\"version\":1}\n\
                    {\"case\":0,\"found\":\"absent\",\"spent\":1,\"steps\":2,\"type\":\"case\"}\n\
                    {\"case\":1,\"cut\":[2,3],\"found\":\"present\",\"type\":\"case\"}\n";
-    for words in [
-        ["decide", "--json", "--question=two", "0", "1"],
-        ["explain", "--json", "--question=two", "0", "1"],
-    ] {
-        assert_written(&rt, &words, FILES, 1, present, "", &[]);
-    }
+    let words = ["decide", "--json", "--question=two", "0", "1"];
+    assert_written(&rt, &words, FILES, 1, present, "", &[]);
+    let asked =
+        "{\"answer\":\"present\",\"events\":8,\"hints\":[],\"nodes\":2,\"reason\":null,\"status\":1,\
+                 \"type\":\"answer\",\"version\":1}\n\
+                 {\"case\":0,\"found\":\"absent\",\"spent\":1,\"steps\":2,\"type\":\"case\"}\n\
+                 {\"asks\":[{\"clause\":\"active\",\"line\":7,\"node\":0},\
+                 {\"clause\":\"passive\",\"line\":8,\"node\":1}],\
+                 \"case\":1,\"cut\":[2,3],\"found\":\"present\",\"type\":\"case\"}\n";
+    let words = ["explain", "--json", "--question=two", "0", "1"];
+    assert_written(&rt, &words, FILES, 1, asked, "", &[]);
 }
 
 #[test]

@@ -4,8 +4,8 @@
 
 use crate::fakes::{File, Input, Memory, MemoryShelf, NEVER, Output, served, served_amply};
 use crate::samples::{
-    ELECTED_0, ELECTED_1, EXPLAINED, LEADER_AND_ACTIVE, PAIRS_OF_THREE, TWO_CASES, TWO_STEPS,
-    UPGRADED_0, UPGRADED_1,
+    ELECTED_0, ELECTED_1, EXCHANGED_0, EXPLAINED, LEADER_AND_ACTIVE, PAIRS_OF_THREE, TWO_CASES,
+    TWO_STEPS, UPGRADED_0, UPGRADED_1,
 };
 use ira_files::CountingReader;
 use ira_refusing::each_growth_refused;
@@ -28,6 +28,8 @@ const FILES: &[(&str, File<'static>)] = &[
     ("1.log", File::Text(ELECTED_1)),
     ("ring/0.log", File::Text(ELECTED_0)),
     ("ring/1.log", File::Text(ELECTED_1)),
+    ("exchanged/0.log", File::Text(EXCHANGED_0)),
+    ("exchanged/1.log", File::Text(ELECTED_1)),
     ("one", File::Text(LEADER_AND_ACTIVE)),
     ("two", File::Text(TWO_CASES)),
     ("c", File::Text(TWO_STEPS)),
@@ -100,6 +102,51 @@ const CASES: &[Case] = &[
         status: 0,
         out: "yes\n\n  Node 0 leads in round 1 with ID 2. 2 nodes, 8 events; 3 messages sent, 3 received, \
               0 on the way.\n  1 case, 2 steps: no moment of any order of these events met any case.\n",
+        err: "",
+        written: &[],
+    },
+    Case {
+        words: &["explain", "--json", "1.log", "0.log"],
+        status: 1,
+        out: "{\"answer\":\"no: heads: place 0\",\"evidence\":[\
+              {\"file\":\"1.log\",\"log\":0,\"nodes\":2,\"place\":1,\"role\":\"head\",\"version\":1},\
+              {\"file\":\"0.log\",\"log\":1,\"nodes\":2,\"place\":0,\"role\":\"head\",\"version\":1}],\
+              \"fault\":\"place\",\"hints\":[\"these are all the logs, in another order. A shell sorts 10.log \
+              before 2.log; in order of place: ira logs --dir DIR, or ira logs $(ls FILES | sort -V)\"],\
+              \"log\":0,\"reason\":\"heads\",\"status\":1,\"type\":\"answer\",\"version\":1}\n",
+        err: "",
+        written: &[],
+    },
+    Case {
+        words: &["explain", "--json", "--dir=exchanged"],
+        status: 1,
+        out: "{\"answer\":\"no: link 1: receipt 1 differs\",\"events\":8,\"evidence\":[\
+              {\"event\":2,\"file\":\"exchanged/1.log\",\"line\":6,\"node\":1,\
+              \"record\":\"send 1 1 1 clean\",\"role\":\"sent\"},\
+              {\"event\":3,\"file\":\"exchanged/0.log\",\"line\":7,\"node\":0,\
+              \"record\":\"recv 1 2 2 clean\",\"role\":\"received\"}],\
+              \"fault\":\"differs\",\"hints\":[\"receipts 1 and 2 are sendings 2 and 1: the link changed \
+              their order, or the records were sorted.\"],\"link\":1,\"nodes\":2,\"reason\":\"link\",\
+              \"receipt\":1,\"status\":1,\"type\":\"answer\",\"version\":1}\n",
+        err: "",
+        written: &[],
+    },
+    Case {
+        words: &[
+            "explain",
+            "--json",
+            "--question=two",
+            "--case=1",
+            "0.log",
+            "1.log",
+        ],
+        status: 1,
+        out: "{\"answer\":\"present\",\"events\":8,\"hints\":[],\"nodes\":2,\"reason\":null,\"status\":1,\
+              \"type\":\"answer\",\"version\":1}\n\
+              {\"case\":0,\"found\":\"absent\",\"spent\":1,\"steps\":2,\"type\":\"case\"}\n\
+              {\"asks\":[{\"clause\":\"active\",\"line\":7,\"node\":0},\
+              {\"clause\":\"passive\",\"line\":8,\"node\":1}],\
+              \"case\":1,\"cut\":[2,3],\"found\":\"present\",\"type\":\"case\"}\n",
         err: "",
         written: &[],
     },

@@ -9,7 +9,12 @@ pub(crate) const ELECTED_1: &str =
     "irlog 1\nnodes 2\nplace 1\nstart initiator\ndraw 1\nsend 1 1 1 clean\n\
                          recv 1 2 1 clean\nsend 1 2 2 clean\nend 4\n";
 
-/// The same logs in version 2.
+/// The log of node 0 with its two receipts exchanged.
+pub(crate) const EXCHANGED_0: &str =
+    "irlog 1\nnodes 2\nplace 0\nstart initiator\ndraw 2\nsend 1 2 1 clean\n\
+                           recv 1 2 2 clean\nrecv 1 1 1 clean\nend 4\n";
+
+/// The logs of the election in version 2.
 pub(crate) const UPGRADED_0: &str =
     "irlog 2\nnodes 2\nplace 0\nstart initiator\ndraw 2\nsend 1 2 1 clean\n\
                           recv 1 1 1 clean\nrecv 1 2 2 clean\nend 4\n";

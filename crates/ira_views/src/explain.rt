@@ -22,8 +22,11 @@ pub fn explain_texts<R: Threads, A: Allocator + Clone + Sync>(
     ensures reportable { IfOk result (λ view. IsReportable view.answer) }
 {
     let answer = take_texts(alloc.clone()?, texts)?.finish(rt)?;
-    let page = explain_logs(alloc, texts, &answer)?;
-    Ok(View { answer, page })
+    let explanation = explain_logs(alloc, texts, &answer)?;
+    Ok(View {
+        answer,
+        explanation,
+    })
 }
 
 /// Judges the text of one log alone, and says why the answer is as it is.
@@ -35,6 +38,9 @@ pub fn explain_text<A: Allocator + Clone>(
     ensures reportable { IfOk result (λ view. IsReportable view.answer) }
 {
     let answer = audit_one(alloc.clone()?, text.text)?;
-    let page = explain_log(alloc, text, &answer)?;
-    Ok(View { answer, page })
+    let explanation = explain_log(alloc, text, &answer)?;
+    Ok(View {
+        answer,
+        explanation,
+    })
 }

@@ -1,10 +1,10 @@
 use ira_audit::Findings;
-use ira_explain::Page;
+use ira_explain::Explanation;
 use std::alloc::Allocator;
 
-/// What is told of texts and a question: what is found for it, and the page after its lines.
+/// What is told of texts and a question: what is found for it, and why it is so.
 #[derive(Drop)]
 pub struct FindingsView<A: Allocator> {
     pub findings: Findings<A>,
-    pub page: Page<A>,
+    pub explanation: Explanation<A>,
 }

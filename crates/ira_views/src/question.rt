@@ -33,8 +33,11 @@ pub fn explain_findings<A: Allocator + Clone>(
     ensures reportable { IfOk result (λ view. AreReportable view.findings) }
 {
     let findings = take_texts(alloc.clone()?, texts)?.decide(question.text)?;
-    let page = explain_question_answer(alloc, texts, question, &findings, case)?;
-    Ok(FindingsView { findings, page })
+    let explanation = explain_question_answer(alloc, texts, question, &findings, case)?;
+    Ok(FindingsView {
+        findings,
+        explanation,
+    })
 }
 
 /// Judges the texts of a ring's logs together with those of a question and of a certificate, and says why the answer is as it
@@ -57,6 +60,9 @@ where
 {
     let audit = take_texts(alloc.clone()?, texts)?;
     let answer = audit.finish_check(rt, question.text, certificate.text, DEPTH, &OpenGate)?;
-    let page = explain_check_answer(alloc, texts, question, certificate, &answer)?;
-    Ok(View { answer, page })
+    let explanation = explain_check_answer(alloc, texts, question, certificate, &answer)?;
+    Ok(View {
+        answer,
+        explanation,
+    })
 }

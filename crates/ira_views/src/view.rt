@@ -1,10 +1,10 @@
 use ira_audit::Answer;
-use ira_explain::Page;
+use ira_explain::Explanation;
 use std::alloc::Allocator;
 
-/// What is told of texts: their answer, and the page after its line.
+/// What is told of texts: their answer, and why it is so.
 #[derive(Drop)]
 pub struct View<A: Allocator> {
     pub answer: Answer,
-    pub page: Page<A>,
+    pub explanation: Explanation<A>,
 }
