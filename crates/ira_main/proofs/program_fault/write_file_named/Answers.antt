@@ -15,7 +15,7 @@ regrouped before folder slash place log end =
 
 pub returns-in-Given : goal.returns-in-Given
 returns-in-Given g c =
-    rw c.in-Given.is (rw (c.as_bytes.ensures.value, c.line_end.ensures) at c.write_named.ensures)
+    rw c.in-Given.is (rw (c.as_bytes.ensures.value, c.line_feed.ensures) at c.write_named.ensures)
 
 pub returns-in-Log : goal.returns-in-Log
 returns-in-Log g c =
