@@ -20,7 +20,7 @@ _ira_options() {
 _ira() {
     local word=${COMP_WORDS[COMP_CWORD]} before=${COMP_WORDS[COMP_CWORD - 1]} command=${COMP_WORDS[1]}
     if ((COMP_CWORD == 1)); then
-        mapfile -t COMPREPLY < <(compgen -W "$_ira_commands" -- "$word")
+        mapfile -t COMPREPLY < <(compgen -W "$_ira_commands --help --version -V" -- "$word")
         return
     fi
     if [[ $word == -* ]]; then

@@ -12,6 +12,8 @@ complete -c ira -f -n __fish_use_subcommand -a upgrade -d 'Write logs in version
 complete -c ira -f -n __fish_use_subcommand -a mend -d 'Write what is consistent of the logs of a ring that crashed'
 complete -c ira -f -n __fish_use_subcommand -a version -d 'Print which version this is'
 complete -c ira -f -n __fish_use_subcommand -a help -d 'Print the help of a command'
+complete -c ira -f -n __fish_use_subcommand -l version -s V -d 'Print which version this is'
+complete -c ira -f -n __fish_use_subcommand -l help -d 'Print help'
 
 complete -c ira -n '__fish_seen_subcommand_from explain' -l question -r -F -d 'The question'
 complete -c ira -n '__fish_seen_subcommand_from explain' -l case -x -d 'The case to explain, from 0'

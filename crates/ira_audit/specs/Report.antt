@@ -3,10 +3,7 @@ use Rattle.std.specs.Prelude.{◌≢◌, ℕ, List, [], ◌++◌, codes, decimal
 use Rattle.ira_event.specs.declared.log_fault.LogFault.{LogFault}
 use Rattle.ira_event.specs.declared.log_fault.LogFault.TheVariants.{TooLong, Head, Line, Range, TooMany, Cut, Count}
 use Rattle.ira_event.specs.declared.log_fault.LogFault.TheVariants.{Trailing, OutOfMemory}
-use Rattle.ira_node.specs.declared.step_fault.StepFault.{StepFault}
-use Rattle.ira_node.specs.declared.step_fault.StepFault.TheVariants.{Owes, NotOwed, NotChoosing, DrawRange, MustDraw}
-use Rattle.ira_node.specs.declared.step_fault.StepFault.TheVariants.{Ended, HopPast, RoundLimit, HopLimit, NotLeader}
-use Rattle.ira_node.specs.declared.step_fault.StepFault.TheVariants.{WrongReset, NotReset, TermLimit}
+use Rattle.ira_node.specs.StepFault.{step_fault_words}
 use Rattle.ira_event.specs.declared.head_fault.HeadFault.{HeadFault}
 use Rattle.ira_event.specs.declared.head_fault.HeadFault.TheVariants.{Number, Size, Place, Version}
 use Rattle.ira_order.specs.declared.match_fault.MatchFault.{MatchFault}
@@ -57,22 +54,6 @@ receipt_words i k = numbered (codes "no: link ") i ++ numbered (codes ": receipt
 abbrev pub match_reason_words : MatchFault → List ℕ
 match_reason_words (NoSending link k) = receipt_words link k ++ codes " has no sending"
 match_reason_words (Differs link k) = receipt_words link k ++ codes " differs"
-
--- why an event has no step, in words
-abbrev pub step_fault_words : StepFault → List ℕ
-step_fault_words Owes = codes "owes"
-step_fault_words NotOwed = codes "not owed"
-step_fault_words NotChoosing = codes "not choosing"
-step_fault_words DrawRange = codes "draw range"
-step_fault_words MustDraw = codes "must draw"
-step_fault_words Ended = codes "ended"
-step_fault_words HopPast = codes "hop past"
-step_fault_words RoundLimit = codes "round limit"
-step_fault_words HopLimit = codes "hop limit"
-step_fault_words NotLeader = codes "not leader"
-step_fault_words WrongReset = codes "wrong reset"
-step_fault_words NotReset = codes "not a reset"
-step_fault_words TermLimit = codes "term limit"
 
 -- what is wrong with a question's text, in words
 abbrev pub ask_fault_words : AskFault → List ℕ

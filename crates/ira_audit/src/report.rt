@@ -1,6 +1,6 @@
 ghost use Rattle.std.specs.Prelude.{◌≡◌, ◌≢◌, ◌++◌, decimal};
 ghost use Rattle.ira_event.specs.Sink.{Wrote};
-ghost use Rattle.ira_audit.specs.Report.{log_fault_words, ask_fault_words, cert_fault_words, head_fault_words, receipt_words, step_fault_words, unsound_words, section_fault_words, reason_words, report_line, IsReportable, IsReportableReason};
+ghost use Rattle.ira_audit.specs.Report.{log_fault_words, ask_fault_words, cert_fault_words, head_fault_words, receipt_words, unsound_words, section_fault_words, reason_words, report_line, IsReportable, IsReportableReason};
 
 use crate::answer::Answer;
 use crate::reason::Reason;
@@ -106,26 +106,6 @@ fn write_match_reason<W: Sink>(fault: MatchFault, sink: &mut W) -> Result<(), Wr
     }
 }
 
-fn step_fault_text(fault: StepFault) -> &'static [u8]
-    ensures { result.now ≡ step_fault_words fault }
-{
-    match fault {
-        StepFault::Owes => b"owes",
-        StepFault::NotOwed => b"not owed",
-        StepFault::NotChoosing => b"not choosing",
-        StepFault::DrawRange => b"draw range",
-        StepFault::MustDraw => b"must draw",
-        StepFault::Ended => b"ended",
-        StepFault::HopPast => b"hop past",
-        StepFault::RoundLimit => b"round limit",
-        StepFault::HopLimit => b"hop limit",
-        StepFault::NotLeader => b"not leader",
-        StepFault::WrongReset => b"wrong reset",
-        StepFault::NotReset => b"not a reset",
-        StepFault::TermLimit => b"term limit",
-    }
-}
-
 #[tactic(auto, using(ira_event::proofs::Writing::writes))]
 fn write_log_reason<W: Sink>(number: u64, fault: LogFault, sink: &mut W) -> Result<(), WriteFault>
     requires { fault ≢ LogFault.OutOfMemory }
@@ -149,7 +129,7 @@ fn write_replay_reason<W: Sink>(
     write_numbered(b"no: node ", place, sink)?;
     write_numbered(b": event ", position, sink)?;
     write_bytes(b": ", sink)?;
-    write_bytes(step_fault_text(fault), sink)
+    write_bytes(fault.words().as_bytes(), sink)
 }
 
 #[tactic(auto, using(ira_event::proofs::Writing::writes))]

@@ -1,9 +1,13 @@
+ghost use Rattle.std.specs.Prelude.{◌≤◌};
+
+use crate::class;
 use crate::grid::{Grid, Point};
 use crate::stroke::{LINES, Line, Stroke, TIPS};
+use crate::svg::Svg;
 use ira_event::Load;
 use ira_picture::{Arrow, Passage, Picture};
+use ira_view_page::Page;
 use std::alloc::Allocator;
-use std::fmt::{self, Write};
 
 /// How far the end is of an arrow that nobody receives.
 const STUB: u64 = 30;
@@ -19,17 +23,17 @@ fn beyond(y: u64, leads_up: bool, distance: u64) -> u64 {
 
 /// Whether the link is drawn upwards: of two nodes the second one's is.
 fn leads_up(grid: &Grid, link: u8) -> bool {
-    grid.row_of_reader(link) < link
+    grid.row_of_reader(link) < usize::from(link)
 }
 
 /// Where an arrow begins and ends.
 fn ends_of(arrow: &Arrow, grid: &Grid) -> (Point, Point) {
     let up = leads_up(grid, arrow.link);
-    let row = grid.row_of_reader(arrow.link);
+    let (place, row) = (usize::from(arrow.link), grid.row_of_reader(arrow.link));
     match (arrow.sent, arrow.received) {
-        (Some(sent), Some(received)) => grid.line((sent, arrow.link), (received, row)),
+        (Some(sent), Some(received)) => grid.line((sent, place), (received, row)),
         (Some(sent), None) => {
-            let (x, y) = (grid.x(sent), grid.y(arrow.link));
+            let (x, y) = (grid.x(sent), grid.y(place));
             let end = Point {
                 x: x + grid.column_width.min(STUB),
                 y: beyond(y, up, (grid.lane_height * 2 / 5).min(24)),
@@ -48,51 +52,48 @@ fn ends_of(arrow: &Arrow, grid: &Grid) -> (Point, Point) {
 }
 
 /// The lines of all arrows that are drawn so.
-fn write_paths<A: Allocator, W: fmt::Write>(
-    out: &mut W,
-    picture: &Picture<A>,
-    grid: &Grid,
-    stroke: Stroke,
-) -> fmt::Result {
+fn write_paths<A: Allocator>(out: &mut Svg<A>, picture: &Picture<A>, grid: &Grid, stroke: Stroke) {
     for arrow in &picture.arrows {
         if Stroke::of(arrow, grid.last) == stroke {
             let (begin, end) = ends_of(arrow, grid);
-            let (x, y, to_x, to_y) = (begin.x, begin.y, end.x, end.y);
-            write!(out, "<path d=\"M{x} {y}L{to_x} {to_y}\"/>")?;
+            out.begin_lines("");
+            out.move_to(begin.x, begin.y);
+            out.page.words("L");
+            out.page.number(end.x);
+            out.page.words(" ");
+            out.page.number(end.y);
+            out.page.words("\"/>");
         }
     }
-    Ok(())
 }
 
-/// Begins a group of lines of a class, which end with a marker.
-fn begin_group<W: fmt::Write>(out: &mut W, class: &str, marker: Option<&str>) -> fmt::Result {
-    write!(out, "<g class=\"{class}\"")?;
-    if let Some(marker) = marker {
-        write!(out, " marker-end=\"url(#{marker})\"")?;
-    }
-    out.write_str(">")
-}
-
-/// The arrows that are drawn so. The line of a reset is double: a narrow one of the background's colour on a wide one.
-fn write_group<A: Allocator, W: fmt::Write>(
-    out: &mut W,
+/// The arrows that are drawn so, as a group.
+fn write_group<A: Allocator>(
+    out: &mut Svg<A>,
     picture: &Picture<A>,
     grid: &Grid,
     stroke: Stroke,
-) -> fmt::Result {
+    class: &str,
+    marker: Option<&str>,
+) {
+    out.open("g", class);
+    out.marker(marker);
+    out.page.words(">");
+    write_paths(out, picture, grid, stroke);
+    out.page.words("</g>\n");
+}
+
+/// The arrows that are drawn so. The line of a reset is double: a narrow one of the background's colour on a wide one.
+fn write_stroke<A: Allocator>(out: &mut Svg<A>, picture: &Picture<A>, grid: &Grid, stroke: Stroke) {
     if !has_stroke(picture, stroke) {
-        return Ok(());
+        return;
     }
     let mut class = stroke.line.class();
     if stroke.line == Line::Reset {
-        begin_group(out, class, None)?;
-        write_paths(out, picture, grid, stroke)?;
-        out.write_str("</g>\n")?;
-        class = "i";
+        write_group(out, picture, grid, stroke, class, None);
+        class = class::INSIDE;
     }
-    begin_group(out, class, stroke.marker())?;
-    write_paths(out, picture, grid, stroke)?;
-    out.write_str("</g>\n")
+    write_group(out, picture, grid, stroke, class, stroke.marker());
 }
 
 /// A quarter of the way between two places.
@@ -101,22 +102,6 @@ fn quarter(from: u64, to: u64) -> u64 {
         from + (to - from) / 4
     } else {
         from - (from - to) / 4
-    }
-}
-
-/// A load without its bit.
-#[derive(Clone, Copy)]
-struct ShortWords(Load);
-
-impl fmt::Display for ShortWords {
-    fn fmt<W: fmt::Write>(&self, f: &mut fmt::Formatter<W>) -> fmt::Result {
-        match self.0 {
-            Load::Msg(message) => {
-                let (round, id, hop) = (message.round, message.id, message.hop);
-                write!(f, "{round} {id} {hop}")
-            }
-            Load::Reset(hop) => write!(f, "reset {hop}"),
-        }
     }
 }
 
@@ -139,72 +124,91 @@ fn place_of_words(arrow: &Arrow, grid: &Grid) -> Option<(u64, u64)> {
     }
 }
 
-/// How many bytes were written.
-#[derive(Clone, Copy)]
-struct Length(u64);
-
-impl fmt::Write for Length {
-    fn write_str(&mut self, text: &str) -> fmt::Result {
-        self.0 = self.0.saturating_add(text.len() as u64);
-        Ok(())
+/// How many digits a number has.
+fn digits(n: u32) -> u64
+    ensures { result ≤ 10 }
+{
+    match n.checked_ilog10() {
+        Some(log) => log as u64 + 1,
+        None => 1,
     }
 }
 
-/// A box of the background's colour below words in the middle of which this place is.
-fn write_box<W: fmt::Write>(out: &mut W, words: ShortWords, x: u64, y: u64) -> fmt::Result {
-    let mut length = Length(0);
-    write!(length, "{words}")?;
-    let width = length.0.saturating_mul(6).saturating_add(6);
-    let (left, top) = (x.saturating_sub(width / 2), y.saturating_sub(10));
-    write!(
-        out,
-        "<rect class=\"bg\" x=\"{left}\" y=\"{top}\" width=\"{width}\" height=\"13\" rx=\"2\"/>"
-    )
+/// How many characters the words of an arrow have.
+fn width_of_words(load: Load) -> u64
+    ensures { result ≤ 32 }
+{
+    match load {
+        Load::Msg(message) => {
+            digits(message.round) + digits(message.id) + digits(message.hop) + 2
+        }
+        Load::Reset(hop) => digits(hop) + 6,
+    }
+}
+
+/// Adds the words of an arrow: a load without its bit.
+fn write_load<A: Allocator>(page: &mut Page<A>, load: Load) {
+    match load {
+        Load::Msg(message) => {
+            page.number(message.round as u64);
+            page.words(" ");
+            page.number(message.id as u64);
+            page.words(" ");
+            page.number(message.hop as u64);
+        }
+        Load::Reset(hop) => {
+            page.words("reset ");
+            page.number(hop as u64);
+        }
+    }
+}
+
+/// A box of the background's colour below the words of an arrow, in the middle of which this place is.
+fn write_box<A: Allocator>(out: &mut Svg<A>, load: Load, x: u64, y: u64) {
+    let width = width_of_words(load) * 6 + 6;
+    out.open("rect", class::BACKGROUND);
+    out.number("x", x.saturating_sub(width / 2));
+    out.number("y", y.saturating_sub(10));
+    out.number("width", width);
+    out.number("height", 13);
+    out.number("rx", 2);
+    out.page.words("/>");
 }
 
 /// What the arrows carry, where there is room beside them: above boxes, so that no line goes through the words.
-fn write_words<A: Allocator, W: fmt::Write>(
-    out: &mut W,
-    picture: &Picture<A>,
-    grid: &Grid,
-) -> fmt::Result {
+fn write_words<A: Allocator>(out: &mut Svg<A>, picture: &Picture<A>, grid: &Grid) {
     if !grid.has_labels() || picture.arrows.is_empty() {
-        return Ok(());
+        return;
     }
-    out.write_str("<g class=\"l\">")?;
+    out.open("g", class::ARROW_WORDS);
+    out.page.words(">");
     for arrow in &picture.arrows {
         if let Some((x, y)) = place_of_words(arrow, grid) {
-            write_box(out, ShortWords(arrow.load), x, y)?;
+            write_box(out, arrow.load, x, y);
         }
     }
     for arrow in &picture.arrows {
         if let Some((x, y)) = place_of_words(arrow, grid) {
-            write!(
-                out,
-                "<text x=\"{x}\" y=\"{y}\">{}</text>",
-                ShortWords(arrow.load)
-            )?;
+            out.begin_text("", x, y);
+            write_load(&mut out.page, arrow.load);
+            out.page.words("</text>");
         }
     }
-    out.write_str("</g>\n")
+    out.page.words("</g>\n");
 }
 
 /// All arrows, those drawn alike in a group.
-pub(crate) fn write_arrows<A: Allocator, W: fmt::Write>(
-    out: &mut W,
-    picture: &Picture<A>,
-    grid: &Grid,
-) -> fmt::Result {
+pub(crate) fn write_arrows<A: Allocator>(out: &mut Svg<A>, picture: &Picture<A>, grid: &Grid) {
     for line in LINES {
         for tip in TIPS {
-            write_group(out, picture, grid, Stroke { line, tip })?;
+            write_stroke(out, picture, grid, Stroke { line, tip });
         }
     }
-    write_words(out, picture, grid)
+    write_words(out, picture, grid);
 }
 
 /// Whether a picture has an arrow that is drawn so.
-pub(crate) fn has_stroke<A: Allocator>(picture: &Picture<A>, stroke: Stroke) -> bool {
+fn has_stroke<A: Allocator>(picture: &Picture<A>, stroke: Stroke) -> bool {
     picture
         .arrows
         .iter()

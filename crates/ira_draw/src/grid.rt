@@ -111,7 +111,7 @@ impl Grid {
     }
 
     /// A line between two lanes and columns, as far as there is room for it.
-    pub(crate) fn line(&self, from: (u32, u8), to: (u32, u8)) -> (Point, Point) {
+    pub(crate) fn line(&self, from: (u32, usize), to: (u32, usize)) -> (Point, Point) {
         let a = Point {
             x: self.offset(from.0),
             y: self.y(from.1),
@@ -142,10 +142,10 @@ impl Grid {
     }
 
     /// Where a lane stands.
-    pub(crate) fn y(&self, row: u8) -> u64
+    pub(crate) fn y(&self, row: usize) -> u64
         ensures { IsDown result }
     {
-        TOP + u64::from(row).saturating_mul(self.lane_height).min(LOWEST)
+        TOP + (row as u64).saturating_mul(self.lane_height).min(LOWEST)
     }
 
     /// The right edge of bands.
@@ -161,9 +161,9 @@ impl Grid {
     }
 
     /// The lane of the node at the end of a link.
-    pub(crate) fn row_of_reader(&self, link: u8) -> u8 {
-        let below = link.saturating_add(1);
-        if below < self.nodes || self.is_unrolled() {
+    pub(crate) fn row_of_reader(&self, link: u8) -> usize {
+        let below = usize::from(link) + 1;
+        if below < usize::from(self.nodes) || self.is_unrolled() {
             below
         } else {
             0
@@ -174,7 +174,11 @@ impl Grid {
     pub(crate) fn foot(&self) -> u64
         ensures { IsDown result }
     {
-        self.y(if self.is_unrolled() { self.nodes } else { 1 })
+        self.y(if self.is_unrolled() {
+            usize::from(self.nodes)
+        } else {
+            1
+        })
     }
 
     pub(crate) fn width(&self) -> u64 {

@@ -7,15 +7,15 @@ ghost use Rattle.ira_draw.specs.Objection.{IsObjection};
 use crate::objection::Objection;
 use ira_event::{Logs, OutOfMemory};
 use ira_evidence::{
-    CircleEvidence, EventAt, FaultyEvent, LinkEvidence, beginnings, first_faulty_events,
+    Beginning, CircleEvidence, FaultyEvent, LinkEvidence, beginnings, first_faulty_events,
 };
 use ira_node::StepFault;
-use ira_order::{DirectDependencies, MatchFault};
+use ira_order::{DirectDependencies, EventAt, MatchFault};
+use ira_view_page::Page;
 use std::alloc::Allocator;
-use std::fmt;
 
 /// Why an event has a ring round it.
-#[derive(Clone, Copy, Debug, PartialEq, Eq)]
+#[derive(Clone, Copy)]
 pub(crate) enum Cause {
     /// It is the receipt that a link's fault names.
     Receipt(MatchFault),
@@ -30,33 +30,48 @@ pub(crate) enum Cause {
 }
 
 /// An event that the answer speaks of.
-#[derive(Clone, Copy, Debug, PartialEq, Eq)]
+#[derive(Clone, Copy)]
 pub(crate) struct Highlight {
     pub(crate) at: EventAt,
     pub(crate) cause: Cause,
 }
 
-impl fmt::Display for Cause {
-    fn fmt<W: fmt::Write>(&self, f: &mut fmt::Formatter<W>) -> fmt::Result {
+/// Adds what is wrong with a receipt.
+pub(crate) fn write_receipt<A: Allocator>(page: &mut Page<A>, fault: MatchFault) {
+    let (MatchFault::NoSending { k, .. } | MatchFault::Differs { k, .. }) = fault;
+    page.words("receipt ");
+    page.number(k as u64);
+    match fault {
+        MatchFault::NoSending { .. } => page.words(" has no sending"),
+        MatchFault::Differs { .. } => page.words(" differs"),
+    }
+}
+
+impl Cause {
+    /// Adds why.
+    pub(crate) fn write<A: Allocator>(self, page: &mut Page<A>) {
         match self {
-            Cause::Receipt(MatchFault::NoSending { k, .. }) => {
-                write!(f, "receipt {k} has no sending")
+            Cause::Receipt(fault) => write_receipt(page, fault),
+            Cause::Sending(k) => {
+                page.words("sending ");
+                page.number(k as u64);
             }
-            Cause::Receipt(MatchFault::Differs { k, .. }) => write!(f, "receipt {k} differs"),
-            Cause::Sending(k) => write!(f, "sending {k}"),
-            Cause::Waits => f.write_str("waits"),
-            Cause::NoStep(fault) => write!(f, "{fault}"),
-            Cause::Begin(fault) => write!(f, "begin here: {fault}"),
+            Cause::Waits => page.words("waits"),
+            Cause::NoStep(fault) => page.fault(fault),
+            Cause::Begin(fault) => {
+                page.words("begin here: ");
+                page.fault(fault);
+            }
         }
     }
 }
 
 /// Both sides of a link's fault.
-fn sides_of_fault<A: Allocator, P: Allocator>(
-    alloc: P,
+fn sides_of_fault<A: Allocator>(
+    alloc: A,
     logs: &Logs<A>,
     fault: MatchFault,
-) -> Result<Vec<Highlight, P>, OutOfMemory>
+) -> Result<Vec<Highlight, A>, OutOfMemory>
     requires { IsMatchFault logs.now fault }
 {
     let (MatchFault::NoSending { k, .. } | MatchFault::Differs { k, .. }) = fault;
@@ -76,10 +91,10 @@ fn sides_of_fault<A: Allocator, P: Allocator>(
 }
 
 /// The receipts of a circle.
-fn stuck_receipts<A: Allocator, P: Allocator>(
-    alloc: P,
+fn stuck_receipts<A: Allocator>(
+    alloc: A,
     evidence: &CircleEvidence<A>,
-) -> Result<Vec<Highlight, P>, OutOfMemory> {
+) -> Result<Vec<Highlight, A>, OutOfMemory> {
     let mut events = Vec::new(alloc);
     for stuck in &evidence.stuck {
         events.push(Highlight {
@@ -90,25 +105,18 @@ fn stuck_receipts<A: Allocator, P: Allocator>(
     Ok(events)
 }
 
-/// The event without a step, and those to begin with.
-fn highlights_of_node<A: Allocator + Clone, P: Allocator>(
+/// The event without a step, and of these events those that happened before it.
+fn named_events<A: Allocator>(
     alloc: A,
-    list_alloc: P,
-    logs: &Logs<A>,
     named: FaultyEvent,
-) -> Result<Vec<Highlight, P>, OutOfMemory>
-    requires order { HasOrder logs.now }
-    requires named { IsFirstFaultyEvent logs.now named }
-{
-    let mut events = Vec::new(list_alloc);
+    beginnings: &[Beginning],
+) -> Result<Vec<Highlight, A>, OutOfMemory> {
+    let mut events = Vec::new(alloc);
     events.push(Highlight {
         at: named.at,
         cause: Cause::NoStep(named.fault),
     })?;
-    let faulty = first_faulty_events(alloc.clone()?, logs)?;
-    let ordered = DirectDependencies::new(alloc.clone()?, logs)?;
-    let beginnings = beginnings(alloc, &ordered, &faulty, named)?;
-    for beginning in &beginnings {
+    for beginning in beginnings {
         if beginning.happened_before {
             events.push(Highlight {
                 at: beginning.event.at,
@@ -119,22 +127,36 @@ fn highlights_of_node<A: Allocator + Clone, P: Allocator>(
     Ok(events)
 }
 
-/// The events that an objection speaks of.
-pub(crate) fn highlights<A: Allocator + Clone, P: Allocator>(
+/// The event without a step, and those to begin with.
+fn highlights_of_node<A: Allocator + Clone>(
     alloc: A,
-    list_alloc: P,
+    logs: &Logs<A>,
+    named: FaultyEvent,
+) -> Result<Vec<Highlight, A>, OutOfMemory>
+    requires order { HasOrder logs.now }
+    requires named { IsFirstFaultyEvent logs.now named }
+{
+    let faulty = first_faulty_events(alloc.clone()?, logs)?;
+    let ordered = DirectDependencies::new(alloc.clone()?, logs)?;
+    let beginnings = beginnings(alloc.clone()?, &ordered, &faulty, named)?;
+    named_events(alloc, named, &beginnings)
+}
+
+/// The events that an objection speaks of.
+pub(crate) fn highlights<A: Allocator + Clone>(
+    alloc: A,
     logs: &Logs<A>,
     objection: Option<Objection>,
-) -> Result<Vec<Highlight, P>, OutOfMemory>
+) -> Result<Vec<Highlight, A>, OutOfMemory>
     requires { IsObjection logs.now objection }
 {
     match objection {
-        None => Ok(Vec::new(list_alloc)),
-        Some(Objection::Link(fault)) => sides_of_fault(list_alloc, logs, fault),
-        Some(Objection::Circle) => match CircleEvidence::find(alloc, logs)? {
-            Some(evidence) => stuck_receipts(list_alloc, &evidence),
-            None => Ok(Vec::new(list_alloc)),
+        None => Ok(Vec::new(alloc)),
+        Some(Objection::Link(fault)) => sides_of_fault(alloc, logs, fault),
+        Some(Objection::Circle) => match CircleEvidence::find(alloc.clone()?, logs)? {
+            Some(evidence) => stuck_receipts(alloc, &evidence),
+            None => Ok(Vec::new(alloc)),
         },
-        Some(Objection::Node(named)) => highlights_of_node(alloc, list_alloc, logs, named),
+        Some(Objection::Node(named)) => highlights_of_node(alloc, logs, named),
     }
 }

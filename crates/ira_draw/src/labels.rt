@@ -1,9 +1,10 @@
+use crate::class;
 use crate::grid::{Grid, LEFT};
-use ira_explain::LoadWords;
+use crate::svg::Svg;
 use ira_node::{NodeState, Phase};
 use ira_picture::{After, Lane, Picture};
+use ira_view_page::Page;
 use std::alloc::Allocator;
-use std::fmt;
 
 /// A round and an ID, with the term where that isn't the first one.
 #[derive(Clone, Copy, PartialEq, Eq)]
@@ -13,14 +14,15 @@ struct Pair {
     id: u32,
 }
 
-impl fmt::Display for Pair {
-    fn fmt<W: fmt::Write>(&self, f: &mut fmt::Formatter<W>) -> fmt::Result {
-        let Pair { term, round, id } = *self;
-        if term == 1 {
-            write!(f, "{round}:{id}")
-        } else {
-            write!(f, "{term}/{round}:{id}")
+impl Pair {
+    fn write<A: Allocator>(self, page: &mut Page<A>) {
+        if self.term != 1 {
+            page.number(self.term as u64);
+            page.words("/");
         }
+        page.number(self.round as u64);
+        page.words(":");
+        page.number(self.id as u64);
     }
 }
 
@@ -39,7 +41,7 @@ fn active_pair(after: After) -> Option<Pair> {
 }
 
 /// Where these stand: above the lane, at node 1 of two below it, since arrows lead up there.
-fn place_of_pairs(grid: &Grid, place: u8) -> u64 {
+fn place_of_pairs(grid: &Grid, place: usize) -> u64 {
     let y = grid.y(place);
     if grid.nodes == 2 && place == 1 {
         y + 22
@@ -51,15 +53,10 @@ fn place_of_pairs(grid: &Grid, place: u8) -> u64 {
 }
 
 /// Under which ID a node is active, above a column.
-fn write_pair<W: fmt::Write>(
-    out: &mut W,
-    grid: &Grid,
-    pair: Pair,
-    column: u32,
-    y: u64,
-) -> fmt::Result {
-    let x = grid.x(column);
-    write!(out, "<text class=\"k\" x=\"{x}\" y=\"{y}\">{pair}</text>\n")
+fn write_pair<A: Allocator>(out: &mut Svg<A>, grid: &Grid, pair: Pair, column: u32, y: u64) {
+    out.begin_text(class::CENTRED, grid.x(column), y);
+    pair.write(&mut out.page);
+    out.page.words("</text>\n");
 }
 
 /// Whether the first event that is drawn is at the first column, and changes under which ID the node is active.
@@ -72,16 +69,11 @@ fn changes_at_first<A: Allocator>(grid: &Grid, lane: &Lane<A>) -> bool {
 }
 
 /// Under which ID a node is active, where each such time begins, or the picture where it began before.
-fn write_pairs<A: Allocator, W: fmt::Write>(
-    out: &mut W,
-    grid: &Grid,
-    lane: &Lane<A>,
-    y: u64,
-) -> fmt::Result {
+fn write_pairs<A: Allocator>(out: &mut Svg<A>, grid: &Grid, lane: &Lane<A>, y: u64) {
     let mut before = active_pair(lane.start);
     match before {
         Some(pair) if !changes_at_first(grid, lane) => {
-            write_pair(out, grid, pair, grid.first, y)?;
+            write_pair(out, grid, pair, grid.first, y);
         }
         _ => {}
     }
@@ -89,94 +81,71 @@ fn write_pairs<A: Allocator, W: fmt::Write>(
         let after = active_pair(mark.after);
         if let Some(pair) = after {
             if before != after {
-                write_pair(out, grid, pair, mark.column, y)?;
+                write_pair(out, grid, pair, mark.column, y);
             }
         }
         before = after;
     }
-    Ok(())
 }
 
-/// What a node is in the end, in few words.
-#[derive(Clone, Copy)]
-struct EndWords {
-    end: NodeState,
-    is_stopped: bool,
-}
-
-impl fmt::Display for EndWords {
-    fn fmt<W: fmt::Write>(&self, f: &mut fmt::Formatter<W>) -> fmt::Result {
-        if self.is_stopped {
-            return f.write_str("no step");
+/// Adds what a node is in the end, in few words.
+fn write_state<A: Allocator>(page: &mut Page<A>, state: &NodeState) {
+    let NodeState { phase, owed, term } = *state;
+    match phase {
+        Phase::Leader { round, id } => {
+            page.words("leads ");
+            Pair { term, round, id }.write(page);
         }
-        let NodeState { phase, owed, term } = self.end;
-        match phase {
-            Phase::Leader { round, id } => write!(f, "leads {}", Pair { term, round, id })?,
-            Phase::Active { round, id } => write!(f, "active {}", Pair { term, round, id })?,
-            Phase::Choosing { .. } => f.write_str("choosing")?,
-            Phase::Passive => f.write_str("passive")?,
-            Phase::Yielding => f.write_str("yielding")?,
+        Phase::Active { round, id } => {
+            page.words("active ");
+            Pair { term, round, id }.write(page);
         }
-        match owed {
-            Some(load) => write!(f, ", owes {}", LoadWords(load)),
-            None => Ok(()),
-        }
+        Phase::Choosing { .. } => page.words("choosing"),
+        Phase::Passive => page.words("passive"),
+        Phase::Yielding => page.words("yielding"),
+    }
+    if let Some(load) = owed {
+        page.words(", owes ");
+        page.load(load);
     }
 }
 
 /// What a node is in the end, unless it is passive and owes nothing.
-fn write_end<A: Allocator, W: fmt::Write>(
-    out: &mut W,
-    grid: &Grid,
-    lane: &Lane<A>,
-    row: u8,
-) -> fmt::Result {
-    let NodeState { phase, owed, .. } = lane.end;
+fn write_end<A: Allocator>(out: &mut Svg<A>, grid: &Grid, lane: &Lane<A>, place: usize) {
     let is_stopped = lane.first_fault.is_some();
-    let is_passive = phase == Phase::Passive;
-    if is_passive && owed.is_none() && !is_stopped {
-        return Ok(());
+    let is_passive = lane.end.phase == Phase::Passive;
+    if is_passive && lane.end.owed.is_none() && !is_stopped {
+        return;
     }
-    let class = if is_passive && !is_stopped {
-        " class=\"s\""
+    let is_aside = is_passive && !is_stopped;
+    let class = if is_aside { class::ASIDE } else { "" };
+    out.begin_text(class, grid.edge() + 12, grid.y(place) + 4);
+    if is_stopped {
+        out.page.words("no step");
     } else {
-        ""
-    };
-    let (x, y) = (grid.edge() + 12, grid.y(row) + 4);
-    let words = EndWords {
-        end: lane.end,
-        is_stopped,
-    };
-    write!(out, "<text{class} x=\"{x}\" y=\"{y}\">{words}</text>\n")
+        write_state(&mut out.page, &lane.end);
+    }
+    out.page.words("</text>\n");
 }
 
 /// The name of a lane's node.
-fn write_name<W: fmt::Write>(out: &mut W, grid: &Grid, row: u8, place: u8) -> fmt::Result {
-    let class = if row == place { "n" } else { "n s" };
-    let (x, y) = (LEFT - 12, grid.y(row) + 4);
-    write!(
-        out,
-        "<text class=\"{class}\" x=\"{x}\" y=\"{y}\">node {place}</text>\n"
-    )
+fn write_name<A: Allocator>(out: &mut Svg<A>, grid: &Grid, class: &str, row: usize, place: usize) {
+    out.begin_text(class, LEFT - 12, grid.y(row) + 4);
+    out.page.words("node ");
+    out.page.number(place as u64);
+    out.page.words("</text>\n");
 }
 
 /// The words beside the lanes.
-pub(crate) fn write_labels<A: Allocator, W: fmt::Write>(
-    out: &mut W,
-    picture: &Picture<A>,
-    grid: &Grid,
-) -> fmt::Result {
-    let mut place = 0u8;
-    for lane in &picture.lanes {
-        write_name(out, grid, place, place)?;
-        write_pairs(out, grid, lane, place_of_pairs(grid, place))?;
+pub(crate) fn write_labels<A: Allocator>(out: &mut Svg<A>, picture: &Picture<A>, grid: &Grid) {
+    for (place, lane) in picture.lanes.iter().enumerate() {
+        write_name(out, grid, class::NAME, place, place);
+        write_pairs(out, grid, lane, place_of_pairs(grid, place));
         if picture.window.last == picture.last {
-            write_end(out, grid, lane, place)?;
+            write_end(out, grid, lane, place);
         }
-        place = place.saturating_add(1);
     }
     if grid.is_unrolled() {
-        write_name(out, grid, grid.nodes, 0)?;
+        write_name(out, grid, class::SECOND_NAME, usize::from(grid.nodes), 0);
     }
-    Ok(())
 }

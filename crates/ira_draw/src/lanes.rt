@@ -1,10 +1,11 @@
+use crate::class;
 use crate::grid::{Grid, TOP};
+use crate::svg::Svg;
 use ira_picture::{BandKind, Lane, Picture, Span};
 use std::alloc::Allocator;
-use std::fmt;
 
 /// What a path of bands shows.
-#[derive(Clone, Copy, Debug, PartialEq, Eq)]
+#[derive(Clone, Copy)]
 pub(crate) enum Shown {
     Band(BandKind),
     /// When nodes owe something.
@@ -26,13 +27,13 @@ impl Shown {
     /// The class of its path.
     pub(crate) fn class(self) -> &'static str {
         match self {
-            Shown::Band(BandKind::Unknown) => "u",
-            Shown::Band(BandKind::Passive) => "p",
-            Shown::Band(BandKind::Active) => "a",
-            Shown::Band(BandKind::Choosing) => "c",
-            Shown::Band(BandKind::Yielding) => "v",
-            Shown::Band(BandKind::Leader) => "w",
-            Shown::Debt => "o",
+            Shown::Band(BandKind::Unknown) => class::UNKNOWN,
+            Shown::Band(BandKind::Passive) => class::PASSIVE,
+            Shown::Band(BandKind::Active) => class::ACTIVE,
+            Shown::Band(BandKind::Choosing) => class::CHOOSING,
+            Shown::Band(BandKind::Yielding) => class::YIELDING,
+            Shown::Band(BandKind::Leader) => class::LEADER,
+            Shown::Debt => class::DEBT,
         }
     }
 
@@ -45,93 +46,75 @@ impl Shown {
     }
 }
 
-fn write_span<W: fmt::Write>(out: &mut W, grid: &Grid, y: u64, span: Span) -> fmt::Result {
-    let from = grid.x(span.from);
-    let to = match span.to {
-        Some(to) => grid.x(to),
-        None => grid.edge(),
-    };
-    write!(out, "M{from} {y}H{to}")
-}
-
-fn write_spans<A: Allocator, W: fmt::Write>(
-    out: &mut W,
+/// The bands of a kind of a lane, or when its node owes something, as lines of a path.
+fn write_spans<A: Allocator>(
+    out: &mut Svg<A>,
     grid: &Grid,
     lane: &Lane<A>,
-    row: u8,
+    place: usize,
     shown: Shown,
-) -> fmt::Result {
-    let y = grid.y(row);
+) {
+    let y = grid.y(place);
     match shown {
         Shown::Band(kind) => {
             for band in &lane.bands {
                 if band.kind == kind {
-                    write_span(out, grid, y, band.span)?;
+                    write_span(out, grid, y, band.span);
                 }
             }
         }
         Shown::Debt => {
             for debt in &lane.debts {
-                write_span(out, grid, y, *debt)?;
+                write_span(out, grid, y, *debt);
             }
         }
     }
-    Ok(())
+}
+
+fn write_span<A: Allocator>(out: &mut Svg<A>, grid: &Grid, y: u64, span: Span) {
+    let to = match span.to {
+        Some(to) => grid.x(to),
+        None => grid.edge(),
+    };
+    out.along(grid.x(span.from), y, to);
 }
 
 /// The bands of a kind of all lanes but the first one, as one path.
-fn write_bands<A: Allocator, W: fmt::Write>(
-    out: &mut W,
-    picture: &Picture<A>,
-    grid: &Grid,
-    shown: Shown,
-) -> fmt::Result {
+fn write_bands<A: Allocator>(out: &mut Svg<A>, picture: &Picture<A>, grid: &Grid, shown: Shown) {
     if !picture.lanes.iter().skip(1).any(|lane| shown.is_in(lane)) {
-        return Ok(());
+        return;
     }
-    write!(out, "<path class=\"{}\" d=\"", shown.class())?;
-    let mut row = 0u8;
-    for lane in &picture.lanes {
-        if row > 0 {
-            write_spans(out, grid, lane, row, shown)?;
+    out.begin_lines(shown.class());
+    for (place, lane) in picture.lanes.iter().enumerate() {
+        if place > 0 {
+            write_spans(out, grid, lane, place, shown);
         }
-        row = row.saturating_add(1);
     }
-    out.write_str("\"/>\n")
+    out.page.words("\"/>\n");
 }
 
 /// The bands of the first lane, in a group of their own, since they are drawn twice.
-fn write_first_lane<A: Allocator, W: fmt::Write>(
-    out: &mut W,
-    lane: &Lane<A>,
-    grid: &Grid,
-) -> fmt::Result {
-    out.write_str("<g id=\"n0\">")?;
+fn write_first_lane<A: Allocator>(out: &mut Svg<A>, lane: &Lane<A>, grid: &Grid) {
+    out.page.words("<g id=\"n0\">");
     for shown in SHOWN {
         if shown.is_in(lane) {
-            write!(out, "<path class=\"{}\" d=\"", shown.class())?;
-            write_spans(out, grid, lane, 0, shown)?;
-            out.write_str("\"/>")?;
+            out.begin_lines(shown.class());
+            write_spans(out, grid, lane, 0, shown);
+            out.page.words("\"/>");
         }
     }
-    out.write_str("</g>\n")
+    out.page.words("</g>\n");
 }
 
 /// What each node is, from column to column, and when it owes something.
-pub(crate) fn write_lanes<A: Allocator, W: fmt::Write>(
-    out: &mut W,
-    picture: &Picture<A>,
-    grid: &Grid,
-) -> fmt::Result {
+pub(crate) fn write_lanes<A: Allocator>(out: &mut Svg<A>, picture: &Picture<A>, grid: &Grid) {
     for shown in SHOWN {
-        write_bands(out, picture, grid, shown)?;
+        write_bands(out, picture, grid, shown);
     }
     if let Some(lane) = picture.lanes.first() {
-        write_first_lane(out, lane, grid)?;
+        write_first_lane(out, lane, grid);
     }
     if grid.is_unrolled() {
-        let below = grid.foot() - TOP;
-        write!(out, "<use href=\"#n0\" y=\"{below}\" opacity=\".35\"/>\n")?;
+        out.once_more("#n0", grid.foot() - TOP, ".35");
     }
-    Ok(())
 }

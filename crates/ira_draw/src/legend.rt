@@ -1,85 +1,59 @@
-use crate::arrows::has_stroke;
+use crate::class;
 use crate::grid::{Grid, LEFT};
 use crate::lanes::Shown;
-use crate::stroke::{LINES, Line, Stroke, TIPS, Tip};
+use crate::stroke::{Line, Stroke, Tip};
+use crate::svg::Svg;
 use ira_event::Event;
 use ira_picture::{BandKind, Lane, Picture};
 use std::alloc::Allocator;
-use std::fmt;
 
 /// What an entry explains.
 #[derive(Clone, Copy)]
 enum Sample {
-    Band(Shown),
-    Arrow(Stroke),
     /// A mark of an event that isn't a draw.
     Dot,
     /// A mark of a draw.
     Square,
+    Band(BandKind),
+    Debt,
+    /// An arrow of a message that isn't dirty and is received.
+    Message,
+    /// An arrow of this line, however it ends.
+    Line(Line),
+    /// An arrow that ends so, of any line.
+    Tip(Tip),
     /// The lane of node 0 below the last one.
     SecondLane,
 }
 
-/// An entry of the legend, and how wide it is.
-#[derive(Clone, Copy)]
-struct Entry {
-    sample: Sample,
-    words: &'static str,
-    width: u64,
-}
-
-const fn band(kind: BandKind, words: &'static str, width: u64) -> Entry {
-    Entry {
-        sample: Sample::Band(Shown::Band(kind)),
-        words,
-        width,
-    }
-}
-
-const fn arrow(line: Line, tip: Tip, words: &'static str, width: u64) -> Entry {
-    Entry {
-        sample: Sample::Arrow(Stroke { line, tip }),
-        words,
-        width,
-    }
-}
-
-const fn mark(sample: Sample, words: &'static str, width: u64) -> Entry {
-    Entry {
-        sample,
-        words,
-        width,
-    }
-}
-
-/// All that may be explained, in its order.
-fn entries(has_terms: bool) -> [Entry; 16] {
+/// All that may be explained, in its order: by which words, and how wide the entry is.
+fn entries(has_terms: bool) -> [(Sample, &'static str, u64); 16] {
     let (active, width) = if has_terms {
         ("active, as term/round:ID", 198)
     } else {
         ("active, as round:ID", 168)
     };
     [
-        mark(Sample::Dot, "event", 92),
-        mark(Sample::Square, "draw", 88),
-        band(BandKind::Choosing, "choosing", 108),
-        band(BandKind::Active, active, width),
-        band(BandKind::Passive, "passive", 98),
-        band(BandKind::Leader, "leader", 94),
-        band(BandKind::Yielding, "yielding", 102),
-        Entry {
-            sample: Sample::Band(Shown::Debt),
-            words: "owes a message",
-            width: 158,
-        },
-        arrow(Line::Clean, Tip::Head, "message", 106),
-        arrow(Line::Dirty, Tip::Head, "dirty", 84),
-        arrow(Line::Reset, Tip::Head, "reset", 88),
-        arrow(Line::Clean, Tip::Cross, "dropped", 104),
-        arrow(Line::Clean, Tip::Circle, "not received", 124),
-        arrow(Line::Lap, Tip::Head, "the lap that elected the leader", 264),
-        band(BandKind::Unknown, "no state", 108),
-        mark(Sample::SecondLane, "node 0 once more", 176),
+        (Sample::Dot, "event", 92),
+        (Sample::Square, "draw", 88),
+        (Sample::Band(BandKind::Choosing), "choosing", 108),
+        (Sample::Band(BandKind::Active), active, width),
+        (Sample::Band(BandKind::Passive), "passive", 98),
+        (Sample::Band(BandKind::Leader), "leader", 94),
+        (Sample::Band(BandKind::Yielding), "yielding", 102),
+        (Sample::Debt, "owes a message", 158),
+        (Sample::Message, "message", 106),
+        (Sample::Line(Line::Dirty), "dirty", 84),
+        (Sample::Line(Line::Reset), "reset", 88),
+        (Sample::Tip(Tip::Cross), "dropped", 104),
+        (Sample::Tip(Tip::Circle), "not received", 124),
+        (
+            Sample::Line(Line::Lap),
+            "the lap that elected the leader",
+            264,
+        ),
+        (Sample::Band(BandKind::Unknown), "no state", 108),
+        (Sample::SecondLane, "node 0 once more", 176),
     ]
 }
 
@@ -113,21 +87,6 @@ impl Room {
     }
 }
 
-/// Whether an arrow of this line ends so.
-fn has_arrow<A: Allocator>(picture: &Picture<A>, line: Line, tip: Tip) -> bool {
-    has_stroke(picture, Stroke { line, tip })
-}
-
-/// Whether an arrow of any line ends so.
-fn has_tip<A: Allocator>(picture: &Picture<A>, tip: Tip) -> bool {
-    LINES.iter().any(|line| has_arrow(picture, *line, tip))
-}
-
-/// Whether an arrow of this line is drawn, however it ends.
-fn has_line<A: Allocator>(picture: &Picture<A>, line: Line) -> bool {
-    TIPS.iter().any(|tip| has_arrow(picture, line, *tip))
-}
-
 /// Whether an event of a lane is drawn that is a draw, or one that isn't.
 fn has_mark<A: Allocator>(lane: &Lane<A>, is_draw: bool) -> bool {
     lane.marks
@@ -135,97 +94,105 @@ fn has_mark<A: Allocator>(lane: &Lane<A>, is_draw: bool) -> bool {
         .any(|mark| matches!(mark.event, Event::Draw(_)) == is_draw)
 }
 
+impl Sample {
+    /// Whether a lane has it.
+    fn is_in<A: Allocator>(self, lane: &Lane<A>) -> bool {
+        match self {
+            Sample::Dot => has_mark(lane, false),
+            Sample::Square => has_mark(lane, true),
+            Sample::Band(kind) => lane.has(kind),
+            Sample::Debt => !lane.debts.is_empty(),
+            _ => false,
+        }
+    }
+
+    /// Whether it is an arrow that is drawn so.
+    fn is_drawn(self, stroke: Stroke) -> bool {
+        match self {
+            Sample::Message => stroke.line == Line::Clean && stroke.tip == Tip::Head,
+            Sample::Line(line) => stroke.line == line,
+            Sample::Tip(tip) => stroke.tip == tip,
+            _ => false,
+        }
+    }
+}
+
 /// Whether the picture has what the entry explains.
 fn is_used<A: Allocator>(picture: &Picture<A>, sample: Sample) -> bool {
-    match sample {
-        Sample::Band(shown) => picture.lanes.iter().any(|lane| shown.is_in(lane)),
-        Sample::Dot => picture.lanes.iter().any(|lane| has_mark(lane, false)),
-        Sample::Square => picture.lanes.iter().any(|lane| has_mark(lane, true)),
-        Sample::SecondLane => picture.lanes.len() > 2,
-        Sample::Arrow(
-            Stroke {
-                line: Line::Clean,
-                tip: Tip::Head,
-            },
-        ) => { has_arrow(picture, Line::Clean, Tip::Head) }
-        Sample::Arrow(
-            Stroke {
-                line: Line::Clean,
-                tip,
-            },
-        ) => has_tip(picture, tip),
-        Sample::Arrow(Stroke { line, .. }) => has_line(picture, line),
+    if let Sample::SecondLane = sample {
+        return picture.lanes.len() > 2;
     }
+    let last = picture.window.last;
+    picture.lanes.iter().any(|lane| sample.is_in(lane))
+        || picture
+            .arrows
+            .iter()
+            .any(|arrow| sample.is_drawn(Stroke::of(arrow, last)))
 }
 
 /// Where the last line of the legend stands.
 pub(crate) fn legend_foot<A: Allocator>(picture: &Picture<A>, grid: &Grid) -> u64 {
     let mut room = Room::new(grid);
-    let entries = entries(picture.has_terms());
-    for entry in &entries {
-        if is_used(picture, entry.sample) {
-            room.place(entry.width);
+    for (sample, _, width) in entries(picture.has_terms()) {
+        if is_used(picture, sample) {
+            room.place(width);
         }
     }
     room.y
 }
 
-fn write_entry<W: fmt::Write>(out: &mut W, entry: &Entry, x: u64, y: u64) -> fmt::Result {
-    let (line, end, beside) = (
-        y.saturating_sub(4),
-        x.saturating_add(30),
-        x.saturating_add(38),
-    );
-    let middle = x.saturating_add(15);
-    match entry.sample {
-        Sample::Band(shown) => write!(
-            out,
-            "<path class=\"{}\" d=\"M{x} {line}H{end}\"/>",
-            shown.class()
-        )?,
-        Sample::Arrow(stroke) => {
-            write!(out, "<path class=\"{}\"", stroke.line.class())?;
-            if let Some(marker) = stroke.marker() {
-                write!(out, " marker-end=\"url(#{marker})\"")?;
-            }
-            write!(out, " d=\"M{x} {line}H{end}\"/>")?;
+/// A line of a class, and what it ends with.
+fn write_bar<A: Allocator>(out: &mut Svg<A>, class: &str, marker: Option<&str>, x: u64, y: u64) {
+    out.open("path", class);
+    out.marker(marker);
+    out.page.words(" d=\"");
+    out.along(x, y, x.saturating_add(30));
+    out.page.words("\"/>");
+}
+
+/// A mark of a class.
+fn write_dot<A: Allocator>(out: &mut Svg<A>, class: &str, x: u64, y: u64) {
+    out.begin_lines(class);
+    out.dot(x.saturating_add(15), y);
+    out.page.words("\"/>");
+}
+
+/// An arrow of such a line with such an end.
+fn write_arrow<A: Allocator>(out: &mut Svg<A>, line: Line, tip: Tip, x: u64, y: u64) {
+    write_bar(out, line.class(), Stroke { line, tip }.marker(), x, y);
+    if line == Line::Reset {
+        write_bar(out, class::INSIDE, None, x, y);
+    }
+}
+
+fn write_sample<A: Allocator>(out: &mut Svg<A>, sample: Sample, x: u64, y: u64) {
+    match sample {
+        Sample::Dot => write_dot(out, class::SAMPLE_MARK, x, y),
+        Sample::Square => write_dot(out, class::SAMPLE_DRAW, x, y),
+        Sample::Band(kind) => write_bar(out, Shown::Band(kind).class(), None, x, y),
+        Sample::Debt => write_bar(out, class::DEBT, None, x, y),
+        Sample::Message => write_arrow(out, Line::Clean, Tip::Head, x, y),
+        Sample::Line(line) => write_arrow(out, line, Tip::Head, x, y),
+        Sample::Tip(tip) => write_arrow(out, Line::Clean, tip, x, y),
+        Sample::SecondLane => {
+            out.page.words("<g opacity=\".4\">");
+            write_bar(out, class::PASSIVE, None, x, y);
+            write_dot(out, class::SAMPLE_MARK, x, y);
+            out.page.words("</g>");
         }
-        Sample::Dot => write!(out, "<path class=\"j\" d=\"M{middle} {line}h0\"/>")?,
-        Sample::Square => write!(out, "<path class=\"j d\" d=\"M{middle} {line}h0\"/>")?,
-        Sample::SecondLane => write!(
-            out,
-            "<g opacity=\".4\"><path class=\"p\" d=\"M{x} {line}H{end}\"/><path class=\"j\" d=\"M{middle} {line}h0\"/></g>"
-        )?,
     }
-    if let Sample::Arrow(
-        Stroke {
-            line: Line::Reset,
-            ..
-        },
-    ) = entry.sample
-    {
-        write!(out, "<path class=\"i\" d=\"M{x} {line}H{end}\"/>")?;
-    }
-    write!(
-        out,
-        "<text class=\"s\" x=\"{beside}\" y=\"{y}\">{}</text>\n",
-        entry.words
-    )
 }
 
 /// What the picture has, with words.
-pub(crate) fn write_legend<A: Allocator, W: fmt::Write>(
-    out: &mut W,
-    picture: &Picture<A>,
-    grid: &Grid,
-) -> fmt::Result {
+pub(crate) fn write_legend<A: Allocator>(out: &mut Svg<A>, picture: &Picture<A>, grid: &Grid) {
     let mut room = Room::new(grid);
-    let entries = entries(picture.has_terms());
-    for entry in &entries {
-        if is_used(picture, entry.sample) {
-            let (x, y) = room.place(entry.width);
-            write_entry(out, entry, x, y)?;
+    for (sample, words, width) in entries(picture.has_terms()) {
+        if is_used(picture, sample) {
+            let (x, y) = room.place(width);
+            write_sample(out, sample, x, y.saturating_sub(4));
+            out.begin_text(class::ASIDE, x.saturating_add(38), y);
+            out.text(words.as_bytes());
+            out.page.words("</text>\n");
         }
     }
-    Ok(())
 }

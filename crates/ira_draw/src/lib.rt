@@ -1,8 +1,8 @@
 //! Space-time diagrams of a ring's logs, as SVG.
 #![tactic(auto)]
 
-mod after_words;
 mod arrows;
+mod class;
 mod drawing;
 mod frame;
 mod grid;

@@ -1,63 +1,59 @@
-use crate::after_words::AfterWords;
+use crate::class;
 use crate::grid::{Grid, TOP};
+use crate::svg::Svg;
 use ira_event::Event;
-use ira_explain::EventWords;
-use ira_picture::{Lane, Mark, Picture};
+use ira_picture::{After, Lane, Mark, Picture};
+use ira_view_page::Page;
 use std::alloc::Allocator;
-use std::fmt;
+
+/// Adds what is known of a node after an event.
+fn write_after<A: Allocator>(page: &mut Page<A>, after: After) {
+    match after {
+        After::State(state) => page.state(&state),
+        After::NoStep => page.words("no step"),
+        After::Unknown => page.words("no state"),
+    }
+}
 
 /// An event, with what it is for those who point at it.
-fn write_mark<W: fmt::Write>(out: &mut W, grid: &Grid, place: u8, mark: &Mark) -> fmt::Result {
-    let (x, y) = (grid.x(mark.column), grid.y(place));
-    let class = match mark.event {
-        Event::Draw(_) => " class=\"d\"",
+fn write_mark<A: Allocator>(out: &mut Svg<A>, grid: &Grid, place: usize, mark: &Mark) {
+    out.begin_lines(match mark.event {
+        Event::Draw(_) => class::DRAW,
         Event::Sent(_) | Event::Got(_) | Event::Yield => "",
-    };
-    let (position, event, after) = (
-        mark.position,
-        EventWords(mark.event),
-        AfterWords(mark.after),
-    );
-    write!(out, "<path{class} d=\"M{x} {y}h0\"><title>")?;
-    write!(
-        out,
-        "node {place} event {position}: {event}\n{after}</title></path>"
-    )
+    });
+    out.dot(grid.x(mark.column), grid.y(place));
+    out.page.words("\"><title>node ");
+    out.page.number(place as u64);
+    out.page.words(" event ");
+    out.page.number(mark.position as u64);
+    out.page.words(": ");
+    out.page.event(mark.event);
+    out.page.end();
+    write_after(&mut out.page, mark.after);
+    out.page.words("</title></path>");
 }
 
 /// The events of a node.
-fn write_lane<A: Allocator, W: fmt::Write>(
-    out: &mut W,
-    grid: &Grid,
-    place: u8,
-    lane: &Lane<A>,
-) -> fmt::Result {
-    write!(out, "<g class=\"e\" id=\"e{place}\">")?;
-    let mut is_first = true;
-    for mark in &lane.marks {
-        if !is_first {
-            out.write_str("\n")?;
+fn write_lane<A: Allocator>(out: &mut Svg<A>, grid: &Grid, place: usize, lane: &Lane<A>) {
+    out.open("g", class::MARKS);
+    out.page.words(" id=\"e");
+    out.page.number(place as u64);
+    out.page.words("\">");
+    for (i, mark) in lane.marks.iter().enumerate() {
+        if i > 0 {
+            out.page.end();
         }
-        is_first = false;
-        write_mark(out, grid, place, mark)?;
+        write_mark(out, grid, place, mark);
     }
-    out.write_str("</g>\n")
+    out.page.words("</g>\n");
 }
 
 /// All events that are drawn.
-pub(crate) fn write_marks<A: Allocator, W: fmt::Write>(
-    out: &mut W,
-    picture: &Picture<A>,
-    grid: &Grid,
-) -> fmt::Result {
-    let mut place = 0u8;
-    for lane in &picture.lanes {
-        write_lane(out, grid, place, lane)?;
-        place = place.saturating_add(1);
+pub(crate) fn write_marks<A: Allocator>(out: &mut Svg<A>, picture: &Picture<A>, grid: &Grid) {
+    for (place, lane) in picture.lanes.iter().enumerate() {
+        write_lane(out, grid, place, lane);
     }
     if grid.is_unrolled() {
-        let below = grid.foot() - TOP;
-        write!(out, "<use href=\"#e0\" y=\"{below}\" opacity=\".45\"/>\n")?;
+        out.once_more("#e0", grid.foot() - TOP, ".45");
     }
-    Ok(())
 }

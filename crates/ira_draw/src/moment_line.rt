@@ -1,55 +1,60 @@
+ghost use Rattle.ira_view_page.specs.Page.{Added};
+ghost use Rattle.ira_draw.specs.Escaped.{told_words};
+
+use crate::class;
 use crate::grid::{Grid, LEFT, TOP};
 use crate::svg::Svg;
 use crate::view::Asked;
 use std::alloc::Allocator;
-use std::fmt::{self, Write};
 
 /// The most bytes of what is said of a moment.
 const MOST: usize = 100;
 
 /// The words of a moment, of which no more stand than there is room for.
-fn shortened(words: &[u8]) -> (&[u8], &str) {
+fn write_words<A: Allocator>(out: &mut Svg<A>, words: &[u8])
+    ensures { Added out.old.page (told_words words.now) out.new.page }
+{
     if words.len() <= MOST {
-        (words, "")
+        out.text(words);
     } else {
-        (&words[..MOST - 2], "..")
+        out.text(&words[..MOST - 2]);
+        out.page.words("..");
     }
 }
 
 /// The line of the moment, right of which all is pale that hasn't happened, with a ring at each asked node.
-pub(crate) fn write_moment<P: Allocator>(
-    out: &mut Svg<P>,
+pub(crate) fn write_moment<A: Allocator>(
+    out: &mut Svg<A>,
     grid: &Grid,
     column: u32,
     moment: &Asked<'_>,
-) -> fmt::Result {
+) {
     if !grid.contains(column) {
-        return Ok(());
+        return;
     }
     let (x, top, low) = (grid.x(column), TOP - 22, grid.foot() + 18);
-    let (width, height) = (grid.width().saturating_sub(x), low - top);
-    write!(
-        out,
-        "<rect class=\"bg f\" x=\"{x}\" y=\"{top}\" width=\"{width}\" height=\"{height}\"/>\n"
-    )?;
-    write!(out, "<path class=\"h\" d=\"M{x} {top}V{low}\"/>\n")?;
+    out.open("rect", class::PALE);
+    out.number("x", x);
+    out.number("y", top);
+    out.number("width", grid.width().saturating_sub(x));
+    out.number("height", low - top);
+    out.page.words("/>\n");
+    out.begin_lines(class::MOMENT);
+    out.down(x, top, low);
+    out.page.words("\"/>\n");
     let anchor = if x > LEFT + 260 { "middle" } else { "start" };
-    let (words, cut) = shortened(moment.words);
-    let above = top - 5;
-    write!(
-        out,
-        "<text class=\"ht\" x=\"{x}\" y=\"{above}\" text-anchor=\"{anchor}\">"
-    )?;
-    if out.text(words).is_err() {
-        return Err(fmt::Error);
-    }
-    write!(out, "{cut}</text>\n")?;
+    out.open("text", class::MOMENT_WORDS);
+    out.number("x", x);
+    out.number("y", top - 5);
+    out.attribute("text-anchor", anchor);
+    out.page.words(">");
+    write_words(out, moment.words);
+    out.page.words("</text>\n");
     for place in moment.places {
-        let y = grid.y(*place);
-        write!(
-            out,
-            "<circle class=\"h bg\" cx=\"{x}\" cy=\"{y}\" r=\"5\"/>\n"
-        )?;
+        out.open("circle", class::MOMENT_NODE);
+        out.number("cx", x);
+        out.number("cy", grid.y(usize::from(*place)));
+        out.number("r", 5);
+        out.page.words("/>\n");
     }
-    Ok(())
 }

@@ -6,9 +6,7 @@ ghost use Rattle.ira_draw.specs.Objection.{IsObjection};
 use ira_event::{Logs, OutOfMemory};
 use ira_evidence::{CircleEvidence, FaultyEvent, first_faulty_events};
 use ira_order::{MatchFault, match_links};
-use ira_replay::ReplayFault;
 use std::alloc::Allocator;
-use std::fmt;
 
 /// What stands against the logs of a ring.
 #[derive(Clone, Copy, Debug, PartialEq, Eq)]
@@ -61,24 +59,6 @@ impl Objection {
         match match_links(logs) {
             Err(fault) => Ok(Some(Objection::Link(fault))),
             Ok(()) => circle_or_stop(alloc, logs),
-        }
-    }
-}
-
-/// The answer to the logs.
-impl fmt::Display for Objection {
-    fn fmt<W: fmt::Write>(&self, f: &mut fmt::Formatter<W>) -> fmt::Result {
-        match self {
-            Objection::Link(fault) => write!(f, "no: {fault}"),
-            Objection::Circle => f.write_str("no: circle"),
-            Objection::Node(FaultyEvent { at, fault }) => {
-                let (place, position) = (at.place, at.position);
-                let fault = ReplayFault {
-                    position,
-                    fault: *fault,
-                };
-                write!(f, "no: node {place}: {fault}")
-            }
         }
     }
 }

@@ -1,8 +1,9 @@
+use crate::class;
 use ira_event::{Load, Msg};
 use ira_picture::{Arrow, Passage};
 
 /// How the line of an arrow is drawn.
-#[derive(Clone, Copy, Debug, PartialEq, Eq)]
+#[derive(Clone, Copy, PartialEq, Eq)]
 pub(crate) enum Line {
     /// What was received isn't what was sent.
     Wrong,
@@ -15,7 +16,7 @@ pub(crate) enum Line {
 }
 
 /// What an arrow ends with.
-#[derive(Clone, Copy, Debug, PartialEq, Eq)]
+#[derive(Clone, Copy, PartialEq, Eq)]
 pub(crate) enum Tip {
     /// Nothing: it goes on right of the picture.
     Open,
@@ -27,7 +28,7 @@ pub(crate) enum Tip {
 }
 
 /// How an arrow is drawn.
-#[derive(Clone, Copy, Debug, PartialEq, Eq)]
+#[derive(Clone, Copy, PartialEq, Eq)]
 pub(crate) struct Stroke {
     pub(crate) line: Line,
     pub(crate) tip: Tip,
@@ -62,12 +63,12 @@ impl Line {
     /// Its class.
     pub(crate) fn class(self) -> &'static str {
         match self {
-            Line::Wrong => "b y",
-            Line::Back => "b",
-            Line::Reset => "m x",
-            Line::Dirty => "m y",
-            Line::Clean => "m",
-            Line::Lap => "z",
+            Line::Wrong => class::WRONG,
+            Line::Back => class::BACK,
+            Line::Reset => class::RESET,
+            Line::Dirty => class::DIRTY,
+            Line::Clean => class::MESSAGE,
+            Line::Lap => class::LAP,
         }
     }
 

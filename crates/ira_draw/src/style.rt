@@ -1,7 +1,10 @@
-use std::fmt;
+//! The style sheet of a picture, and what its arrows end with.
+
+use crate::svg::Svg;
+use std::alloc::Allocator;
 
 /// What doesn't depend on the colours.
-pub(crate) const SHAPES: &str = concat!(
+const SHAPES: &str = concat!(
     "text{font:12px system-ui,sans-serif}.t{font-size:15px;font-weight:600}.n{text-anchor:end}",
     ".k{text-anchor:middle}.q{font-size:10px;text-anchor:middle}",
     ".l text{font-size:11px;text-anchor:middle}.cl{font-size:10px;text-anchor:end}path{fill:none}",
@@ -15,7 +18,7 @@ pub(crate) const SHAPES: &str = concat!(
 );
 
 /// What a picture of more than one term has besides.
-pub(crate) const TERM_SHAPES: &str = ".v{stroke-width:12}.x{stroke-width:4}.i{stroke-width:1.6}";
+const TERM_SHAPES: &str = ".v{stroke-width:12}.x{stroke-width:4}.i{stroke-width:1.6}";
 
 /// What arrows end with.
 pub(crate) const MARKERS: &str = concat!(
@@ -36,25 +39,29 @@ pub(crate) const MARKERS: &str = concat!(
     "<circle cx=\"4\" cy=\"4\" r=\"3\"/></marker>",
 );
 
-/// The colours of a picture.
-#[derive(Clone, Copy)]
-pub(crate) struct Palette {
-    background: &'static str,
-    ink: &'static str,
-    mute: &'static str,
-    grid: &'static str,
-    message: &'static str,
-    choosing: &'static str,
-    active: &'static str,
-    passive: &'static str,
-    leader: &'static str,
-    yielding: &'static str,
-    /// What the answer speaks of.
-    named: &'static str,
-    moment: &'static str,
+/// What has which colour, and what a picture of more than one term has besides.
+macro_rules! colours {
+    (
+        background: $background:literal, ink: $ink:literal, mute: $mute:literal, grid: $grid:literal,
+        message: $message:literal, choosing: $choosing:literal, active: $active:literal, passive: $passive:literal,
+        leader: $leader:literal, yielding: $yielding:literal, named: $named:literal, moment: $moment:literal,
+    ) => {
+        (
+            concat!(
+                "text{fill:", $ink, "}.s,.q{fill:", $mute, "}.bg{fill:", $background, "}.g{stroke:", $grid, "}",
+                ".c{stroke:", $choosing, "}.a{stroke:", $active, "}.p{stroke:", $passive, "}.w{stroke:", $leader, "}",
+                ".u{stroke:", $mute, "}.o,.e,.j{stroke:", $ink, "}.m{stroke:", $message, "}.z{stroke:", $leader, "}",
+                ".b{stroke:", $named, "}.bt{fill:", $named, ";stroke:", $background, "}",
+                ".h{stroke:", $moment, "}.ht{fill:", $moment, "}#A path{fill:", $message, "}#Z path{fill:", $leader,
+                "}#B path{fill:", $named, "}#X path{stroke:", $message, "}",
+                "#F circle{stroke:", $message, ";fill:", $background, "}",
+            ),
+            concat!(".v{stroke:", $yielding, "}.i{stroke:", $background, "}"),
+        )
+    };
 }
 
-pub(crate) const LIGHT: Palette = Palette {
+const LIGHT: (&str, &str) = colours! {
     background: "#fff",
     ink: "#1f2328",
     mute: "#6e7781",
@@ -69,7 +76,7 @@ pub(crate) const LIGHT: Palette = Palette {
     moment: "#a8326e",
 };
 
-pub(crate) const DARK: Palette = Palette {
+const DARK: (&str, &str) = colours! {
     background: "#0d1117",
     ink: "#f0f3f6",
     mute: "#9198a1",
@@ -84,56 +91,21 @@ pub(crate) const DARK: Palette = Palette {
     moment: "#f093c6",
 };
 
-/// What a palette colours.
-impl fmt::Display for Palette {
-    fn fmt<W: fmt::Write>(&self, f: &mut fmt::Formatter<W>) -> fmt::Result {
-        let Palette {
-            background,
-            ink,
-            mute,
-            grid,
-            message,
-            choosing,
-            active,
-            passive,
-            leader,
-            named,
-            moment,
-            ..
-        } = *self;
-        write!(
-            f,
-            "text{{fill:{ink}}}.s,.q{{fill:{mute}}}.bg{{fill:{background}}}.g{{stroke:{grid}}}"
-        )?;
-        write!(f, ".c{{stroke:{choosing}}}.a{{stroke:{active}}}")?;
-        write!(
-            f,
-            ".p{{stroke:{passive}}}.w{{stroke:{leader}}}.u{{stroke:{mute}}}.o,.e,.j{{stroke:{ink}}}"
-        )?;
-        write!(
-            f,
-            ".m{{stroke:{message}}}.z{{stroke:{leader}}}.b{{stroke:{named}}}.bt{{fill:{named};stroke:{background}}}"
-        )?;
-        write!(
-            f,
-            ".h{{stroke:{moment}}}.ht{{fill:{moment}}}#A path{{fill:{message}}}"
-        )?;
-        write!(
-            f,
-            "#Z path{{fill:{leader}}}#B path{{fill:{named}}}#X path{{stroke:{message}}}"
-        )?;
-        write!(f, "#F circle{{stroke:{message};fill:{background}}}")
+/// Writes the style sheet.
+pub(crate) fn write_style<A: Allocator>(out: &mut Svg<A>, has_terms: bool) {
+    out.page.words("<style>");
+    out.page.words(SHAPES);
+    if has_terms {
+        out.page.words(TERM_SHAPES);
     }
-}
-
-impl Palette {
-    /// What a picture of more than one term has besides.
-    pub(crate) fn write_terms<W: fmt::Write>(&self, out: &mut W) -> fmt::Result {
-        let Palette {
-            background,
-            yielding,
-            ..
-        } = *self;
-        write!(out, ".v{{stroke:{yielding}}}.i{{stroke:{background}}}")
+    out.page.words(LIGHT.0);
+    if has_terms {
+        out.page.words(LIGHT.1);
     }
+    out.page.words("@media(prefers-color-scheme:dark){");
+    out.page.words(DARK.0);
+    if has_terms {
+        out.page.words(DARK.1);
+    }
+    out.page.words("}</style>\n");
 }

@@ -7,7 +7,7 @@ use Rattle.std.proofs.lemmas.Option.{slice_get-get_or, slice_get_within}
 use Rattle.ira_event.specs.Log.{Log}
 use Rattle.ira_node.specs.declared.step_fault.StepFault.TheVariants.{Owes}
 use Rattle.ira_evidence.specs.declared.beginning.Beginning.{Beginning}
-use Rattle.ira_evidence.specs.declared.event_at.EventAt.{EventAt}
+use Rattle.ira_order.specs.declared.event_at.EventAt.{EventAt}
 use Rattle.ira_evidence.specs.declared.faulty_event.FaultyEvent.{FaultyEvent}
 use Rattle.ira_evidence.specs.Beginning.{AreBeginnings, HappenedBefore, IsBeginning, IsEventAt}
 use Rattle.ira_evidence.specs.FaultyEvent.{AreFirstFaultyEvents, IsFirstFaultyEvent}

@@ -4,7 +4,7 @@ use Rattle.ira_event.specs.Log.{Log}
 use Rattle.ira_order.specs.Before.{Before}
 use Rattle.ira_order.specs.Ring.{log_of}
 use Rattle.ira_evidence.specs.declared.beginning.Beginning.{Beginning}
-use Rattle.ira_evidence.specs.declared.event_at.EventAt.{EventAt}
+use Rattle.ira_order.specs.declared.event_at.EventAt.{EventAt}
 use Rattle.ira_evidence.specs.declared.faulty_event.FaultyEvent.{FaultyEvent}
 use Rattle.ira_evidence.specs.FaultyEvent.{IsFirstFaultyEvent, Rises}
 

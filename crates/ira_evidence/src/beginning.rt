@@ -4,10 +4,9 @@ ghost use Rattle.ira_evidence.specs.Beginning.{AreBeginnings, IsEventAt, Happene
 ghost use Rattle.ira_evidence.specs.FaultyEvent.{AreFirstFaultyEvents, IsFirstFaultyEvent};
 ghost use Rattle.ira_evidence.specs.declared.faulty_event.FaultyEvent.{FaultyEvent};
 
-use crate::event_at::EventAt;
 use crate::faulty_event::FaultyEvent;
 use ira_event::OutOfMemory;
-use ira_order::HappenedBefore;
+use ira_order::{EventAt, HappenedBefore};
 use std::alloc::Allocator;
 
 /// Where to begin: a first event without a step before which no other such event happened, so that all that happened

@@ -6,11 +6,11 @@ ghost use Rattle.ira_evidence.specs.CircleEvidence.{IsCircleEvidence, IsStuckAt}
 ghost use Rattle.ira_evidence.specs.Reach.{AreReached, IsReach, reach_of};
 ghost use Rattle.ira_evidence.specs.StuckNodes.{AreStuckNodes, IsWaiting};
 
-use crate::event_at::EventAt;
 use crate::exchange::nth_sending;
 use crate::reach::{Reach, is_whole, longest_reaches, writer_of};
 use crate::stuck_at::StuckAt;
 use ira_event::{Event, Logs, OutOfMemory};
+use ira_order::EventAt;
 use std::alloc::Allocator;
 
 /// Logs that match and have no order: where each node is stuck when as many events as can be are put in order.

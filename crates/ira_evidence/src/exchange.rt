@@ -3,8 +3,8 @@ ghost use Rattle.ira_order.specs.Ring.{log_of, next, numbered};
 ghost use Rattle.ira_order.specs.Matching.{sent, got};
 ghost use Rattle.ira_evidence.specs.Exchange.{IsNthGot, IsNthReceipt, IsNthSending, IsNthSent};
 
-use crate::event_at::EventAt;
 use ira_event::{Event, Load, Logs, NodeLog};
+use ira_order::EventAt;
 use std::alloc::Allocator;
 
 /// A load that an event sent or received.

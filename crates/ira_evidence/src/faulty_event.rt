@@ -1,9 +1,9 @@
 ghost use Rattle.std.specs.Prelude.{IfOk};
 ghost use Rattle.ira_evidence.specs.FaultyEvent.{AreFirstFaultyEvents};
 
-use crate::event_at::EventAt;
 use ira_event::{Logs, OutOfMemory};
 use ira_node::StepFault;
+use ira_order::EventAt;
 use ira_replay::replay;
 use std::alloc::Allocator;
 

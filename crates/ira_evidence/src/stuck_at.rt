@@ -1,5 +1,5 @@
-use crate::event_at::EventAt;
 use ira_event::Load;
+use ira_order::EventAt;
 
 /// Where a node is stuck: a receipt that no order of the ring's events comes to.
 #[derive(Clone, Copy, Debug, PartialEq, Eq)]

@@ -1,70 +1,79 @@
-use crate::load_words::LoadWords;
-use crate::page::shown_width;
-use ira_event::{Load, OutOfMemory};
+use ira_event::{Load, Msg};
+use ira_view_page::Page;
 use std::alloc::Allocator;
 
-/// Adds so many carets.
-fn add_carets<A: Allocator>(line: &mut String<A>, count: usize) -> Result<(), OutOfMemory> {
-    for _ in 0..count {
-        line.push('^')?;
+/// How many digits a number has.
+pub(crate) fn digits(number: u32) -> usize {
+    match number.checked_ilog10() {
+        Some(log) => log as usize + 1,
+        None => 1,
     }
-    Ok(())
 }
 
-/// Adds carets below each word that differs from the word at its place in another text, and spaces below the others.
-fn add_differences<A: Allocator>(
-    line: &mut String<A>,
-    own: &str,
-    other: &str,
-) -> Result<(), OutOfMemory> {
-    for (word, other_word) in own.split(' ').zip(other.split(' ')) {
-        if word == other_word {
-            for _ in 0..word.len() {
-                line.push(' ')?;
-            }
-        } else {
-            add_carets(line, word.len())?;
+/// How many characters spell a load.
+fn load_width(load: Load) -> usize {
+    match load {
+        Load::Msg(Msg { round, id, hop, .. }) => {
+            let numbers = digits(round)
+                .saturating_add(digits(id))
+                .saturating_add(digits(hop));
+            numbers.saturating_add("   clean".len())
         }
-        line.push(' ')?;
+        Load::Reset(hop) => digits(hop).saturating_add("reset ".len()),
     }
-    Ok(())
-}
-
-/// So many spaces.
-fn spaces<A: Allocator>(alloc: A, count: usize) -> Result<String<A>, OutOfMemory> {
-    Ok(format!(in alloc; "{:>count$}", "")?)
 }
 
 /// Carets below the last `count` characters of a cell.
-pub(crate) fn carets_at_end<A: Allocator>(
+pub(crate) fn carets_at_end<A: Allocator + Copy>(
     alloc: A,
-    cell: &str,
+    cell: &Page<A>,
     count: usize,
-) -> Result<String<A>, OutOfMemory> {
-    let mut line = spaces(alloc, shown_width(cell.as_bytes()).saturating_sub(count))?;
-    add_carets(&mut line, count)?;
-    Ok(line)
+) -> Page<A> {
+    let mut line = Page::new(alloc);
+    line.pad_to(cell.len().saturating_sub(count));
+    line.carets(count);
+    line
 }
 
-/// Carets below the fields of a load at the end of a cell that another load hasn't: below all of it where one is a message
-/// and one a reset.
+/// Adds carets below a field of this width where it isn't the same, and gives the column of the next field.
+fn add_carets<A: Allocator>(
+    line: &mut Page<A>,
+    column: usize,
+    width: usize,
+    is_same: bool,
+) -> usize {
+    if !is_same {
+        line.pad_to(column);
+        line.carets(width);
+    }
+    column.saturating_add(width).saturating_add(1)
+}
+
+/// Adds carets below the fields of a message, from a column on, that another message hasn't.
+fn add_differences<A: Allocator>(line: &mut Page<A>, column: usize, own: Msg, other: Msg) {
+    let column = add_carets(line, column, digits(own.round), own.round == other.round);
+    let column = add_carets(line, column, digits(own.id), own.id == other.id);
+    let column = add_carets(line, column, digits(own.hop), own.hop == other.hop);
+    add_carets(line, column, "clean".len(), own.dirty == other.dirty);
+}
+
+/// Carets below the fields of a load at the end of a cell that another load hasn't: below all of it where one is a
+/// message and one a reset. Nothing where both are the same.
 pub(crate) fn carets_below<A: Allocator + Copy>(
     alloc: A,
-    cell: &str,
+    cell: &Page<A>,
     own: Load,
     other: Load,
-) -> Result<String<A>, OutOfMemory> {
-    let words = format!(in alloc; "{}", LoadWords(own))?;
-    let other_words = format!(in alloc; "{}", LoadWords(other))?;
-    let before = shown_width(cell.as_bytes()).saturating_sub(words.len());
-    let mut line = spaces(alloc, before)?;
+) -> Option<Page<A>> {
     match (own, other) {
-        (Load::Msg(_), Load::Msg(_)) | (Load::Reset(_), Load::Reset(_)) => {
-            add_differences(&mut line, words.as_str(), other_words.as_str())?;
+        _ if own == other => None,
+        (Load::Reset(hop), Load::Reset(_)) => Some(carets_at_end(alloc, cell, digits(hop))),
+        (Load::Msg(own_message), Load::Msg(other_message)) => {
+            let mut line = Page::new(alloc);
+            let column = cell.len().saturating_sub(load_width(own));
+            add_differences(&mut line, column, own_message, other_message);
+            Some(line)
         }
-        (Load::Msg(_), Load::Reset(_)) | (Load::Reset(_), Load::Msg(_)) => {
-            add_carets(&mut line, words.len())?;
-        }
+        _ => Some(carets_at_end(alloc, cell, load_width(own))),
     }
-    Ok(String::from_str(alloc, line.as_str().trim_end())?)
 }

@@ -1,11 +1,8 @@
-use crate::evidence::Evidence;
-use crate::explanation::Explanation;
-use crate::named_text::NamedText;
-use crate::page::Mark;
-use crate::places::{file_of, line_of};
-use crate::table::{Row, Table};
-use ira_event::{Event, Logs, OutOfMemory};
-use ira_evidence::{CircleEvidence, StuckAt, first_faulty_events};
+use crate::numbered::{numbered, numbered_page};
+use crate::ring_files::RingFiles;
+use ira_event::{Event, OutOfMemory};
+use ira_evidence::{CircleEvidence, FaultyEvent, StuckAt, first_faulty_events};
+use ira_view_page::{ExplanationDraft, Mark, Page, Row, Table, file_of, line_of};
 use std::alloc::Allocator;
 
 /// The line of the receipt at which a node is stuck; nothing where the place has none.
@@ -16,69 +13,83 @@ fn stuck_line(stuck: &[StuckAt], place: u8) -> usize {
     }
 }
 
-/// Adds where a node is stuck, and where the sending stands that it waits for.
-fn add_stuck<A: Allocator + Copy, P: Allocator + Clone>(
-    alloc: A,
-    explanation: &mut Explanation<P>,
-    table: &mut Table<A>,
-    files: &[NamedText<'_>],
-    stuck: &[StuckAt],
-    at: StuckAt,
-) -> Result<(), OutOfMemory> {
-    let StuckAt {
-        receipt,
-        load,
-        sending,
-    } = at;
-    let (reader_file, writer_file) = (file_of(files, receipt.place), file_of(files, sending.place));
-    let received = explanation.record_at(reader_file, receipt, Event::Got(load))?;
-    let sent = explanation.record_at(writer_file, sending, Event::Sent(load))?;
-    let mut row = Row::new(alloc, Mark::Plain);
-    row.add(format!(in alloc; "node {}", receipt.place)?)?;
-    row.add(received.cell(alloc)?)?;
-    row.add(format!(in alloc; "is sent by node {}", sending.place)?)?;
-    row.add(format!(in alloc;
-        "{writer_file}:{}, after its line {}",
-        line_of(sending.position),
-        stuck_line(stuck, sending.place)
-    )?)?;
-    table.add(row)?;
-    explanation.evidence.push(Evidence::Received(received))?;
-    explanation.evidence.push(Evidence::Sent(sent))?;
-    Ok(())
+/// Adds how many events can be put in order.
+fn add_ordered<A: Allocator>(text: &mut Page<A>, ordered: u32, events: usize) {
+    numbered(text, "So none of them can come first. ", ordered);
+    text.words(" of ");
+    text.number(events as u64);
+    text.words(" events can be put in order; these come next.");
+}
+
+/// Adds a node's first event without a step.
+fn add_faulty<A: Allocator>(text: &mut Page<A>, event: FaultyEvent) {
+    numbered(text, "Besides, node ", u32::from(event.at.place));
+    numbered(text, " has no step for event ", event.at.position);
+    text.words(": ");
+    text.fault(event.fault);
+    text.words(".");
+}
+
+impl<'l, A: Allocator + Clone> RingFiles<'_, 'l, A> {
+    /// Where a node is stuck, and where the sending stands that it waits for.
+    fn stuck_row(&self, stuck: &[StuckAt], at: StuckAt) -> Row<&'l A> {
+        let (receipt, sending) = (at.receipt, at.sending);
+        let mut record = Page::new(self.alloc);
+        record.record(
+            file_of(self.files, receipt.place),
+            receipt.position,
+            Event::Got(at.load),
+        );
+        let mut sent = Page::new(self.alloc);
+        sent.place(
+            file_of(self.files, sending.place),
+            line_of(sending.position),
+        );
+        sent.words(", after its line ");
+        sent.number(stuck_line(stuck, sending.place) as u64);
+        let mut row = Row::new(self.alloc);
+        row.left(numbered_page(self.alloc, "node ", u32::from(receipt.place)));
+        row.left(record);
+        row.left(numbered_page(self.alloc, "is sent by node ", u32::from(sending.place)));
+        row.left(sent);
+        row
+    }
+
+    /// Adds the receipts that wait for one another, and the sendings that they wait for.
+    fn add_stuck(&self, draft: &mut ExplanationDraft<A>, stuck: &[StuckAt]) {
+        let mut table = Table::new(self.alloc);
+        for at in stuck {
+            table.add(Mark::Plain, self.stuck_row(stuck, *at));
+            draft.received(file_of(self.files, at.receipt.place), at.receipt, at.load);
+            draft.sent(file_of(self.files, at.sending.place), at.sending, at.load);
+        }
+        draft.page.table(&table);
+    }
 }
 
 /// Adds the receipts that wait for one another.
-pub(crate) fn explain_circle<A: Allocator + Copy, P: Allocator + Clone>(
-    alloc: A,
-    explanation: &mut Explanation<P>,
-    files: &[NamedText<'_>],
-    logs: &Logs<A>,
-    evidence: &CircleEvidence<A>,
+pub(crate) fn explain_circle<A: Allocator + Clone>(
+    ring: &RingFiles<'_, '_, A>,
+    draft: &mut ExplanationDraft<A>,
+    evidence: &CircleEvidence<&A>,
 ) -> Result<(), OutOfMemory> {
-    explanation.page.paragraph(
+    let faulty = first_faulty_events(ring.alloc, ring.logs)?;
+    draft.page.paragraph(
         "Each of these receipts waits for a sending that its sender made only after its own such receipt:",
-    )?;
-    explanation.page.blank()?;
-    let mut table = Table::new(alloc);
-    for at in &evidence.stuck {
-        add_stuck(alloc, explanation, &mut table, files, &evidence.stuck, *at)?;
+    );
+    draft.page.blank();
+    ring.add_stuck(draft, &evidence.stuck);
+    draft.page.blank();
+    let mut text = Page::new(ring.alloc);
+    add_ordered(&mut text, evidence.ordered, ring.logs.number_of_events());
+    draft.page.paragraph_of(&text);
+    if let Some(event) = faulty.first() {
+        let mut text = Page::new(ring.alloc);
+        add_faulty(&mut text, *event);
+        draft.page.paragraph_of(&text);
     }
-    let page = &mut explanation.page;
-    table.print(page)?;
-    page.blank()?;
-    let (ordered, events) = (evidence.ordered, logs.number_of_events());
-    page.paragraph(format!(in alloc;
-        "So none of them can come first. {ordered} of {events} events can be put in order; these come next."
-    )?.as_str())?;
-    if let Some(event) = first_faulty_events(alloc, logs)?.first() {
-        page.paragraph(format!(in alloc;
-            "Besides, node {} has no step for event {}: {}.",
-            event.at.place, event.at.position, event.fault
-        )?
-        .as_str())?;
-    }
-    explanation.hint(
+    draft.hint(
         "records that are not in the order of the node: two threads write one log, or records were sorted by a clock.",
-    )
+    );
+    Ok(())
 }

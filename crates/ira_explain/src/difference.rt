@@ -4,7 +4,7 @@ use crate::field::Field;
 use ira_event::{Load, Msg};
 
 /// How a receipt differs from the sending of its number.
-#[derive(Clone, Copy, Debug, PartialEq, Eq)]
+#[derive(Clone, Copy, PartialEq, Eq)]
 pub(crate) enum Difference {
     Nothing,
     /// The hop of one is that of the other raised by one, and all else is the same.
@@ -35,12 +35,8 @@ impl Difference {
     fn of_messages(receipt: Msg, sending: Msg) -> Difference
         ensures { result ≢ Difference.Nothing }
     {
-        let Msg {
-            round,
-            id,
-            hop,
-            dirty,
-        } = receipt;
+        let (round, id) = (receipt.round, receipt.id);
+        let (hop, dirty) = (receipt.hop, receipt.dirty);
         if (Msg { hop, ..sending }) == receipt {
             Difference::of_hops(hop, sending.hop)
         } else if (Msg { dirty, ..sending }) == receipt {

@@ -1,7 +1,9 @@
+ghost use Rattle.ira_view_page.specs.Printable.{IsPrintable};
+
 use ira_event::{scan_number, skip_word};
 
 /// A field of a line of a log, after the words that it begins with.
-#[derive(Clone, Copy, Debug, PartialEq, Eq)]
+#[derive(Clone, Copy, PartialEq, Eq)]
 pub(crate) enum Field {
     Round,
     Id,
@@ -12,7 +14,9 @@ pub(crate) enum Field {
 
 impl Field {
     /// Its name in the form of a line.
-    pub(crate) fn name(self) -> &'static str {
+    pub(crate) fn name(self) -> &'static str
+        ensures { IsPrintable result.now }
+    {
         match self {
             Field::Round => "ROUND",
             Field::Id => "ID",
@@ -23,7 +27,9 @@ impl Field {
     }
 
     /// What is said to be due where it is missing in a log of this version.
-    pub(crate) fn due(self, version: u8) -> &'static str {
+    pub(crate) fn due(self, version: u8) -> &'static str
+        ensures { IsPrintable result.now }
+    {
         match self {
             Field::Round if version > 1 => "the round or `reset`",
             Field::Round => "the round",
@@ -35,24 +41,15 @@ impl Field {
     }
 
     /// Its name in a sentence.
-    pub(crate) fn noun(self) -> &'static str {
+    pub(crate) fn noun(self) -> &'static str
+        ensures { IsPrintable result.now }
+    {
         match self {
             Field::Round => "round",
             Field::Id => "ID",
             Field::Hop => "hop",
             Field::Bit => "bit",
             Field::Count => "count",
-        }
-    }
-
-    /// Several of it.
-    pub(crate) fn plural(self) -> &'static str {
-        match self {
-            Field::Round => "rounds",
-            Field::Id => "IDs",
-            Field::Hop => "hops",
-            Field::Bit => "bits",
-            Field::Count => "counts",
         }
     }
 

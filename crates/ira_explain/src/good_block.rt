@@ -1,118 +1,106 @@
-use crate::number_of::NumberOf;
-use crate::page::Page;
-use crate::round_words::RoundWords;
-use crate::state_words::StateWords;
-use ira_event::{Event, Load, Logs, NodeLog, OutOfMemory};
+use crate::numbered::{numbered, numbered_page};
+use ira_event::{Event, Load, Logs, NodeLog};
 use ira_node::{NodeState, Phase};
 use ira_replay::replay;
+use ira_view_page::Page;
 use std::alloc::Allocator;
 
 /// How many loads crossed the links of a ring.
 #[derive(Clone, Copy)]
 struct Traffic {
-    events: usize,
     sent: usize,
     received: usize,
     has_resets: bool,
 }
 
 impl Traffic {
-    const NONE: Traffic = Traffic {
-        events: 0,
-        sent: 0,
-        received: 0,
-        has_resets: false,
-    };
-
-    /// The traffic with an event more.
-    fn with(self, event: Event) -> Traffic {
-        let mut traffic = self;
-        traffic.events = traffic.events.saturating_add(1);
+    /// Takes an event more.
+    fn add(&mut self, event: Event) {
         match event {
             Event::Sent(load) => {
-                traffic.sent = traffic.sent.saturating_add(1);
-                traffic.has_resets |= matches!(load, Load::Reset(_));
+                self.sent = self.sent.saturating_add(1);
+                self.has_resets |= matches!(load, Load::Reset(_));
             }
-            Event::Got(_) => traffic.received = traffic.received.saturating_add(1),
+            Event::Got(_) => self.received = self.received.saturating_add(1),
             Event::Draw(_) | Event::Yield => {}
         }
-        traffic
     }
 
     /// The traffic of all logs.
     fn of<A: Allocator>(logs: &Logs<A>) -> Traffic {
-        let mut traffic = Traffic::NONE;
+        let mut traffic = Traffic {
+            sent: 0,
+            received: 0,
+            has_resets: false,
+        };
         for place in 0..logs.size().get() {
             for event in logs.log(place).events() {
-                traffic = traffic.with(event);
+                traffic.add(event);
             }
         }
         traffic
     }
 
-    /// So many sendings and receipts, in words.
-    fn words<A: Allocator>(self, alloc: A) -> Result<String<A>, OutOfMemory> {
-        let Traffic { sent, received, .. } = self;
-        let under_way = sent.saturating_sub(received);
-        let words = if self.has_resets {
-            format!(in alloc;
-                "{sent} messages and resets sent, {received} received, {under_way} on the way."
-            )
+    /// Adds so many sendings and receipts, in words.
+    fn print<A: Allocator>(self, text: &mut Page<A>) {
+        if self.has_resets {
+            text.number(self.sent as u64);
+            text.words(" messages and resets");
         } else {
-            format!(in alloc;
-                "{} sent, {received} received, {under_way} on the way.",
-                NumberOf(sent, "message")
-            )
-        };
-        Ok(words?)
+            text.number_of(self.sent, "message");
+        }
+        text.words(" sent, ");
+        text.number(self.received as u64);
+        text.words(" received, ");
+        text.number(self.sent.saturating_sub(self.received) as u64);
+        text.words(" on the way.");
     }
 }
 
-/// Who leads where the logs end: the least place.
-fn leader_words<A: Allocator>(alloc: A, logs: &Logs<A>) -> Result<String<A>, OutOfMemory> {
+/// Adds who leads where the logs end: the least place.
+fn add_leader<A: Allocator>(text: &mut Page<A>, logs: &Logs<A>) {
     for place in 0..logs.size().get() {
-        if let Ok(
-            NodeState {
-                phase: Phase::Leader { round, id },
-                term,
-                ..
-            },
-        ) = replay(logs.log(place))
+        if let Ok(end) = replay(logs.log(place))
+            && let Phase::Leader { round, id } = end.phase
         {
-            let round = RoundWords { round, term };
-            return Ok(format!(in alloc; "Node {place} leads in {round} with ID {id}.")?);
+            numbered(text, "Node ", u32::from(place));
+            text.words(" leads in ");
+            text.round(round, end.term);
+            numbered(text, " with ID ", id);
+            text.words(".");
+            return;
         }
     }
-    Ok(String::from_str(alloc, "Nobody leads yet.")?)
+    text.words("Nobody leads yet.");
 }
 
 /// Adds how a run that has nothing against it stands.
-pub(crate) fn explain_run<A: Allocator + Copy, P: Allocator>(
-    alloc: A,
-    page: &mut Page<P>,
-    logs: &Logs<A>,
-) -> Result<(), OutOfMemory> {
+pub(crate) fn explain_run<'l, A: Allocator>(alloc: &'l A, page: &mut Page<A>, logs: &Logs<&'l A>) {
     let traffic = Traffic::of(logs);
-    let leader = leader_words(alloc, logs)?;
-    let nodes = NumberOf(usize::from(logs.size().get()), "node");
-    let events = NumberOf(traffic.events, "event");
-    let words = traffic.words(alloc)?;
-    page.paragraph(format!(in alloc; "{leader} {nodes}, {events}; {words}")?.as_str())
+    let mut text = Page::new(alloc);
+    add_leader(&mut text, logs);
+    text.words(" ");
+    text.number_of(usize::from(logs.size().get()), "node");
+    text.words(", ");
+    text.number_of(logs.number_of_events(), "event");
+    text.words("; ");
+    traffic.print(&mut text);
+    page.paragraph_of(&text);
 }
 
 /// Adds how a log that is judged alone ends, in this state.
-pub(crate) fn explain_end_alone<A: Allocator + Copy, P: Allocator>(
-    alloc: A,
-    page: &mut Page<P>,
-    log: &NodeLog<A>,
+pub(crate) fn explain_end_alone<A: Allocator>(
+    alloc: &A,
+    page: &mut Page<A>,
+    log: &NodeLog<&A>,
     end: NodeState,
-) -> Result<(), OutOfMemory> {
-    let (place, nodes) = (log.place(), log.nodes().get());
-    let events = NumberOf(log.len(), "event");
-    let end = StateWords(end);
-    page.paragraph(format!(in alloc;
-        "The log of place {place} of {nodes}: {events}, each has a step. At its end: {end}. Nothing is said of the other \
-         nodes: give all logs to `ira explain`."
-    )?
-    .as_str())
+) {
+    let mut text = numbered_page(alloc, "The log of place ", u32::from(log.place()));
+    numbered(&mut text, " of ", u32::from(log.nodes().get()));
+    text.words(": ");
+    text.number_of(log.len(), "event");
+    text.words(", each has a step. At its end: ");
+    text.state(&end);
+    text.words(". Nothing is said of the other nodes: give all logs to `ira explain`.");
+    page.paragraph_of(&text);
 }

@@ -1,16 +1,8 @@
 use crate::field::Field;
 use ira_event::skip_word;
 
-static DRAW: [Field; 1] = [Field::Id];
-
-static MESSAGE: [Field; 4] = [Field::Round, Field::Id, Field::Hop, Field::Bit];
-
-static RESET: [Field; 1] = [Field::Hop];
-
-static END: [Field; 1] = [Field::Count];
-
 /// What a line of a log is by the words that it begins with.
-#[derive(Clone, Copy, Debug, PartialEq, Eq)]
+#[derive(Clone, Copy)]
 pub(crate) enum LineForm {
     Draw,
     Message,
@@ -48,11 +40,11 @@ impl LineForm {
     /// What stands after the words.
     pub(crate) fn fields(self) -> &'static [Field] {
         match self {
-            LineForm::Draw => &DRAW,
-            LineForm::Message => &MESSAGE,
-            LineForm::Reset => &RESET,
+            LineForm::Draw => &[Field::Id],
+            LineForm::Message => &[Field::Round, Field::Id, Field::Hop, Field::Bit],
+            LineForm::Reset => &[Field::Hop],
             LineForm::Yield => &[],
-            LineForm::End => &END,
+            LineForm::End => &[Field::Count],
         }
     }
 }

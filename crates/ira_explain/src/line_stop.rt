@@ -3,7 +3,7 @@ use crate::line_form::LineForm;
 use ira_event::{MAX_NUMBER, scan_number, skip_word};
 
 /// What is due at a place of a line.
-#[derive(Clone, Copy, Debug, PartialEq, Eq)]
+#[derive(Clone, Copy, PartialEq, Eq)]
 pub(crate) enum Due {
     /// The word that a line begins with.
     Word,
@@ -18,7 +18,7 @@ pub(crate) enum Due {
 }
 
 /// Where a line goes on as no line does that is allowed there.
-#[derive(Clone, Copy, Debug, PartialEq, Eq)]
+#[derive(Clone, Copy)]
 pub(crate) struct LineStop {
     /// The first such byte, counted from 0.
     pub(crate) byte: usize,
@@ -72,7 +72,7 @@ impl LineStop {
 }
 
 /// A number of a record that is out of its range.
-#[derive(Clone, Copy, Debug, PartialEq, Eq)]
+#[derive(Clone, Copy)]
 pub(crate) struct RangeStop {
     pub(crate) field: Field,
     /// Where its first digit stands in the line, counted from 0.

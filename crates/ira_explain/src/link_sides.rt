@@ -11,26 +11,20 @@ pub(crate) struct LinkSides<A: Allocator> {
     pub(crate) received: Vec<Load, A>,
 }
 
-/// The loads that a node sent.
-fn loads_sent<A: Allocator>(alloc: A, log: &NodeLog<A>) -> Result<Vec<Load, A>, OutOfMemory> {
-    let mut loads = Vec::new(alloc);
-    for event in log.events() {
-        if let Event::Sent(load) = event {
-            loads.push(load)?;
-        }
+/// What an event sent.
+fn load_sent(event: Event) -> Option<Load> {
+    match event {
+        Event::Sent(load) => Some(load),
+        _ => None,
     }
-    Ok(loads)
 }
 
-/// The loads that a node received.
-fn loads_received<A: Allocator>(alloc: A, log: &NodeLog<A>) -> Result<Vec<Load, A>, OutOfMemory> {
-    let mut loads = Vec::new(alloc);
-    for event in log.events() {
-        if let Event::Got(load) = event {
-            loads.push(load)?;
-        }
+/// What an event received.
+fn load_received(event: Event) -> Option<Load> {
+    match event {
+        Event::Got(load) => Some(load),
+        _ => None,
     }
-    Ok(loads)
 }
 
 impl<A: Allocator + Copy> LinkSides<A> {
@@ -41,8 +35,8 @@ impl<A: Allocator + Copy> LinkSides<A> {
         reader: &NodeLog<A>,
     ) -> Result<LinkSides<A>, OutOfMemory> {
         Ok(LinkSides {
-            sent: loads_sent(alloc, writer)?,
-            received: loads_received(alloc, reader)?,
+            sent: writer.events().filter_map(load_sent).collect(alloc)?,
+            received: reader.events().filter_map(load_received).collect(alloc)?,
         })
     }
 }
@@ -138,7 +132,7 @@ impl<A: Allocator> LinkSides<A> {
             Some(LinkCause::Skipped)
         } else if k > 1 && self.sent.get(k - 2) == Some(&receipt) {
             Some(LinkCause::Repeated)
-        } else if differ_by_bit(receipt, sending) {
+        } else if Difference::of(receipt, sending) == Difference::OneField(Field::Bit) {
             Some(LinkCause::Bit)
         } else if !self.sent.contains(&receipt) {
             Some(LinkCause::NeverSent)
@@ -152,27 +146,10 @@ impl<A: Allocator> LinkSides<A> {
 pub(crate) fn is_raised(receipt: Load, sending: Load) -> bool {
     match (receipt, sending) {
         (Load::Msg(receipt), Load::Msg(sending)) => {
-            receipt
-                == Msg {
-                    hop: sending.hop.saturating_add(1),
-                    ..sending
-                }
+            let hop = sending.hop.saturating_add(1);
+            receipt == Msg { hop, ..sending }
         }
         (Load::Reset(receipt), Load::Reset(sending)) => receipt == sending.saturating_add(1),
-        _ => false,
-    }
-}
-
-/// Whether two loads are messages that differ by the bit alone.
-fn differ_by_bit(receipt: Load, sending: Load) -> bool {
-    match (receipt, sending) {
-        (Load::Msg(receipt), Load::Msg(sending)) => {
-            receipt
-                == Msg {
-                    dirty: !sending.dirty,
-                    ..sending
-                }
-        }
         _ => false,
     }
 }

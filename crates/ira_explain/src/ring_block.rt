@@ -1,13 +1,13 @@
 use crate::circle_block::explain_circle;
-use crate::explanation::Explanation;
 use crate::good_block::{explain_end_alone, explain_run};
 use crate::link_block::explain_link;
-use crate::named_text::NamedText;
 use crate::node_block::{explain_log_alone, explain_node};
+use crate::ring_files::RingFiles;
 use ira_event::{LogFault, Logs, NodeLog, OutOfMemory, read_log};
 use ira_evidence::{CircleEvidence, NodeEvidence, first_faulty_events};
 use ira_order::match_links;
 use ira_replay::replay;
+use ira_view_page::{ExplanationDraft, NamedText};
 use std::alloc::Allocator;
 
 /// The log of a text, where it is one.
@@ -38,51 +38,59 @@ fn read_files<A: Allocator + Copy>(
 }
 
 /// Adds what stands against the logs of a ring, or how they end where nothing does.
-fn explain_logs_of_ring<A: Allocator + Copy, P: Allocator + Clone>(
-    alloc: A,
-    explanation: &mut Explanation<P>,
-    files: &[NamedText<'_>],
-    logs: &Logs<A>,
+fn explain_logs_of_ring<A: Allocator + Clone>(
+    ring: &RingFiles<'_, '_, A>,
+    draft: &mut ExplanationDraft<A>,
 ) -> Result<(), OutOfMemory> {
-    if let Err(fault) = match_links(logs) {
-        return explain_link(alloc, explanation, files, logs, fault);
+    if let Err(fault) = match_links(ring.logs) {
+        return explain_link(ring, draft, fault);
     }
-    if let Some(evidence) = CircleEvidence::find(alloc, logs)? {
-        return explain_circle(alloc, explanation, files, logs, &evidence);
+    if let Some(evidence) = CircleEvidence::find(ring.alloc, ring.logs)? {
+        return explain_circle(ring, draft, &evidence);
     }
-    let faulty = first_faulty_events(alloc, logs)?;
+    let faulty = first_faulty_events(ring.alloc, ring.logs)?;
     match faulty.first() {
-        Some(named) => explain_node(alloc, explanation, files, logs, &faulty, *named),
-        None => explain_run(alloc, &mut explanation.page, logs),
+        Some(named) => explain_node(ring, draft, &faulty, *named),
+        None => {
+            explain_run(ring.alloc, &mut draft.page, ring.logs);
+            Ok(())
+        }
     }
 }
 
 /// Adds what stands against the logs of a ring whose texts have no fault, or how they end where nothing does.
-pub(crate) fn explain_ring<A: Allocator, P: Allocator + Clone>(
-    alloc: A,
-    explanation: &mut Explanation<P>,
+pub(crate) fn explain_ring<A: Allocator + Clone>(
+    alloc: &A,
+    draft: &mut ExplanationDraft<A>,
     files: &[NamedText<'_>],
 ) -> Result<(), OutOfMemory> {
-    match read_files(&alloc, files)? {
-        Some(logs) => explain_logs_of_ring(&alloc, explanation, files, &logs),
-        None => Ok(()),
-    }
+    let Some(logs) = read_files(alloc, files)? else {
+        return Ok(());
+    };
+    let ring = RingFiles {
+        alloc,
+        files,
+        logs: &logs,
+    };
+    explain_logs_of_ring(&ring, draft)
 }
 
-/// The same of a log that is judged alone.
-pub(crate) fn explain_alone<A: Allocator, P: Allocator + Clone>(
-    alloc: A,
-    explanation: &mut Explanation<P>,
+/// Adds why an event of a log that is judged alone has no step, or how the log ends.
+pub(crate) fn explain_alone<A: Allocator + Clone>(
+    alloc: &A,
+    draft: &mut ExplanationDraft<A>,
     file: &NamedText<'_>,
 ) -> Result<(), OutOfMemory> {
-    let Some(log) = read_file(&alloc, file)? else {
+    let Some(log) = read_file(alloc, file)? else {
         return Ok(());
     };
     match replay(&log) {
-        Ok(end) => explain_end_alone(&alloc, &mut explanation.page, &log, end),
-        Err(_) => match NodeEvidence::find(&alloc, &log)? {
-            Some(evidence) => explain_log_alone(&alloc, explanation, file.name, &log, &evidence),
-            None => Ok(()),
-        },
+        Ok(end) => explain_end_alone(alloc, &mut draft.page, &log, end),
+        Err(_) => {
+            if let Some(evidence) = NodeEvidence::find(alloc, &log)? {
+                explain_log_alone(alloc, draft, file.name, &log, &evidence);
+            }
+        }
     }
+    Ok(())
 }

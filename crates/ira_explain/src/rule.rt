@@ -1,5 +1,7 @@
+ghost use Rattle.ira_view_page.specs.Printable.{IsPrintable};
+
 /// A rule of the algorithm that an event without a step broke, or by which a node owes what is due there.
-#[derive(Clone, Copy, Debug, PartialEq, Eq)]
+#[derive(Clone, Copy)]
 pub(crate) enum Rule {
     Begins,
     Draws,
@@ -29,7 +31,9 @@ pub(crate) enum Rule {
 
 impl Rule {
     /// The rule as a sentence, with its number.
-    pub(crate) fn words(self) -> &'static str {
+    pub(crate) fn words(self) -> &'static str
+        ensures { IsPrintable result.now }
+    {
         match self {
             Rule::Begins => {
                 "Rule 1: an initiator begins by choosing in round 1, any other node begins passive."
@@ -42,15 +46,15 @@ impl Rule {
                 "Rule 4: a passive node passes each message on, the hop raised by one, the bit unchanged."
             }
             Rule::GivesIn => {
-                "Rule 5: an active node that receives a greater pair becomes passive and passes the message on, the hop \
-                 raised by one."
+                "Rule 5: an active node that receives a greater pair becomes passive and passes the message on, the \
+                 hop raised by one."
             }
             Rule::Drops => {
                 "Rule 5: an active node drops a message whose pair is less than its own."
             }
             Rule::PassesOwn => {
-                "Rule 5: an active node passes its own pair on with the bit dirty, where the hop is below N: somebody else \
-                 has the same pair."
+                "Rule 5: an active node passes its own pair on with the bit dirty, where the hop is below N: somebody \
+                 else has the same pair."
             }
             Rule::ChoosesAgain => {
                 "Rule 5: its own pair is back with hop N and dirty, so the node chooses in the next round."
@@ -68,21 +72,22 @@ impl Rule {
             Rule::Yields => { "Rule 6: a leader that yields owes a reset with hop 1." }
             Rule::OnlyLeaderYields => "Rule 6: a leader may yield, and no other node.",
             Rule::PassesReset => {
-                "Rule 7: a passive node that receives a reset with a hop below N owes it with the hop raised by one, and \
-                 passes it on before it draws."
+                "Rule 7: a passive node that receives a reset with a hop below N owes it with the hop raised by one, \
+                 and passes it on before it draws."
             }
             Rule::BeginsTerm => {
                 "Rule 7: a reset begins the next term, in which each node chooses in round 1."
             }
             Rule::TakesReset => {
-                "Rule 7: a reset is taken by a passive node, with a hop below N, and by the node that yielded, with hop N."
+                "Rule 7: a reset is taken by a passive node, with a hop below N, and by the node that yielded, \
+                 with hop N."
             }
             Rule::ResetComesHome => {
                 "Rule 7: the node that yielded receives its reset with hop N, and owes nothing then."
             }
             Rule::WaitsForReset => {
-                "Rule 7: the node that yielded receives its reset with hop N, and nothing else before it; then it chooses \
-                 in the next term."
+                "Rule 7: the node that yielded receives its reset with hop N, and nothing else before it; then it \
+                 chooses in the next term."
             }
             Rule::SendsDebtsAlone => "A node sends nothing but what it owes.",
             Rule::HopLimit => "A hop is at most 1,000,000.",

@@ -1,4 +1,5 @@
 ghost use Rattle.ira_explain.specs.Slip.{IsFormatSlip};
+ghost use Rattle.ira_view_page.specs.Printable.{IsPrintable};
 
 use crate::field::Field;
 use crate::line_form::LineForm;
@@ -65,10 +66,13 @@ impl Slip {
     }
 
     /// What it is, and what to write.
-    pub fn hint(self) -> &'static str {
+    pub fn hint(self) -> &'static str
+        ensures { IsPrintable result.now }
+    {
         match self {
             Slip::CarriageReturn => {
-                "the line ends in a carriage return: `file` says CRLF. Write line feeds alone; to mend a file: sed -i 's/\\r$//' FILE"
+                "the line ends in a carriage return: `file` says CRLF. Write line feeds alone; to mend a file: \
+                 sed -i 's/\\r$//' FILE"
             }
             Slip::ByteOrderMark => {
                 "a byte order mark stands in front. Write ASCII; to mend a file: sed -i '1s/^\\xEF\\xBB\\xBF//' FILE"

@@ -1,13 +1,14 @@
-ghost use Rattle.std.specs.Prelude.{◌≡◌};
+ghost use Rattle.std.specs.Prelude.{◌≡◌, IfSome};
 ghost use Rattle.ira_node.specs.NodeStep.{NodeStep};
 ghost use Rattle.ira_node.specs.declared.node_state.NodeState.{NodeState};
+ghost use Rattle.ira_view_page.specs.Printable.{IsPrintable};
 
-use crate::load_words::LoadWords;
-use crate::places::{event_of, line_of};
+use crate::numbered::numbered;
 use crate::rule::Rule;
-use ira_event::{Event, Load, Msg, NodeLog, OutOfMemory, RingSize};
+use ira_event::{Event, Load, Msg, NodeLog, RingSize};
 use ira_evidence::NodeEvidence;
 use ira_node::{NodeState, Phase, StepFault};
+use ira_view_page::{Page, event_of, line_of};
 use std::alloc::Allocator;
 
 /// An event without a step, with the state and the event before it.
@@ -54,61 +55,64 @@ impl Stopped {
         })
     }
 
-    /// What is due in place of the event, or why it can't be there.
-    pub(crate) fn note<A: Allocator>(&self, alloc: A) -> Result<String<A>, OutOfMemory> {
-        let nodes = self.nodes;
-        let words = match self.fault {
-            StepFault::Owes | StepFault::NotOwed => return self.debt_note(alloc),
-            StepFault::NotChoosing => format!(in alloc; "only a choosing node draws"),
-            StepFault::DrawRange => format!(in alloc; "an ID is 1 to {nodes}"),
-            StepFault::MustDraw => format!(in alloc; "`draw` is due"),
-            StepFault::Ended => format!(in alloc; "it leads"),
-            StepFault::HopPast => return self.past_note(alloc),
-            StepFault::HopLimit => format!(in alloc; "the hop is to be raised"),
-            StepFault::RoundLimit => format!(in alloc; "the round is to be raised"),
-            StepFault::NotLeader => format!(in alloc; "only a leader yields"),
-            StepFault::WrongReset => return self.reset_note(alloc),
-            StepFault::NotReset => format!(in alloc; "`recv reset {nodes}` is due"),
-            StepFault::TermLimit => format!(in alloc; "the term is to be raised"),
-        };
-        Ok(words?)
+    /// Adds what is due in place of the event, or why it can't be there.
+    pub(crate) fn add_due<A: Allocator>(&self, text: &mut Page<A>) {
+        match self.fault {
+            StepFault::Owes | StepFault::NotOwed => self.add_debt(text),
+            StepFault::NotChoosing => text.words("only a choosing node draws"),
+            StepFault::DrawRange => numbered(text, "an ID is 1 to ", u32::from(self.nodes)),
+            StepFault::MustDraw => text.words("`draw` is due"),
+            StepFault::Ended => text.words("it leads"),
+            StepFault::HopPast => self.add_past(text),
+            StepFault::HopLimit => text.words("the hop is to be raised"),
+            StepFault::RoundLimit => text.words("the round is to be raised"),
+            StepFault::NotLeader => text.words("only a leader yields"),
+            StepFault::WrongReset => self.add_reset(text),
+            StepFault::NotReset => self.add_due_reset(text),
+            StepFault::TermLimit => text.words("the term is to be raised"),
+        }
     }
 
-    fn debt_note<A: Allocator>(&self, alloc: A) -> Result<String<A>, OutOfMemory> {
-        let nodes = self.nodes;
-        let words = match (self.state.owed, self.state.phase) {
-            (Some(load), _) => format!(in alloc; "`send {}` is due", LoadWords(load)),
-            (None, Phase::Choosing { .. }) => format!(in alloc; "it owes nothing, `draw` is due"),
+    fn add_due_reset<A: Allocator>(&self, text: &mut Page<A>) {
+        numbered(text, "`recv reset ", u32::from(self.nodes));
+        text.words("` is due");
+    }
+
+    fn add_debt<A: Allocator>(&self, text: &mut Page<A>) {
+        match (self.state.owed, self.state.phase) {
+            (Some(load), _) => {
+                text.words("`send ");
+                text.load(load);
+                text.words("` is due");
+            }
+            (None, Phase::Choosing { .. }) => text.words("it owes nothing, `draw` is due"),
             (None, Phase::Yielding) => {
-                format!(in alloc; "it owes nothing, `recv reset {nodes}` is due")
+                text.words("it owes nothing, ");
+                self.add_due_reset(text);
             }
-            (None, _) => format!(in alloc; "it owes nothing"),
-        };
-        Ok(words?)
+            (None, _) => text.words("it owes nothing"),
+        }
     }
 
-    fn past_note<A: Allocator>(&self, alloc: A) -> Result<String<A>, OutOfMemory> {
-        let nodes = self.nodes;
-        let words = match self.event {
-            Event::Got(Load::Msg(message)) => {
-                let hop = message.hop;
-                format!(in alloc; "its own pair with hop {hop}, and N is {nodes}")
-            }
-            _ => format!(in alloc; "N is {nodes}"),
-        };
-        Ok(words?)
+    fn add_past<A: Allocator>(&self, text: &mut Page<A>) {
+        if let Event::Got(Load::Msg(message)) = self.event {
+            numbered(text, "its own pair with hop ", message.hop);
+            text.words(", and ");
+        }
+        numbered(text, "N is ", u32::from(self.nodes));
     }
 
-    fn reset_note<A: Allocator>(&self, alloc: A) -> Result<String<A>, OutOfMemory> {
-        let nodes = self.nodes;
-        let words = match self.state.phase {
-            Phase::Passive => {
-                format!(in alloc; "a passive node takes a reset with a hop below {nodes}")
-            }
-            Phase::Yielding => format!(in alloc; "its reset comes back with hop {nodes}"),
-            _ => format!(in alloc; "an active node takes no reset"),
-        };
-        Ok(words?)
+    fn add_reset<A: Allocator>(&self, text: &mut Page<A>) {
+        let nodes = u32::from(self.nodes);
+        match self.state.phase {
+            Phase::Passive => numbered(
+                text,
+                "a passive node takes a reset with a hop below ",
+                nodes,
+            ),
+            Phase::Yielding => numbered(text, "its reset comes back with hop ", nodes),
+            _ => text.words("an active node takes no reset"),
+        }
     }
 
     /// The rules that say what is due in place of the event: one or two.
@@ -166,56 +170,63 @@ impl Stopped {
         matches!(self.event, Event::Sent(Load::Reset(_)))
     }
 
-    /// A usual cause, where something that the log says points to it.
-    pub(crate) fn cause<A: Allocator>(&self, alloc: A) -> Result<Option<String<A>>, OutOfMemory> {
-        let nodes = self.nodes;
-        let words = match (self.fault, self.event, self.state.phase) {
-            (StepFault::NotOwed, Event::Sent(sent), _) => return self.sending_cause(alloc, sent),
+    /// Adds a usual cause, where something that the log says points to it, and tells whether there is one.
+    pub(crate) fn add_cause<A: Allocator>(&self, text: &mut Page<A>) -> bool {
+        let nodes = u32::from(self.nodes);
+        match (self.fault, self.event, self.state.phase) {
+            (StepFault::NotOwed, Event::Sent(sent), _) => return self.add_sending_cause(text, sent),
             (StepFault::NotChoosing, _, Phase::Yielding) => {
-                format!(in alloc;
-                    "its reset is not back yet: the node draws after `recv reset {nodes}`."
-                )
+                numbered(
+                    text,
+                    "its reset is not back yet: the node draws after `recv reset ",
+                    nodes,
+                );
+                text.words("`.");
             }
             (StepFault::NotChoosing, _, _) if self.position == 1 => {
-                format!(in alloc; "a node that begins by itself has `start initiator` on line 4.")
+                text.words("a node that begins by itself has `start initiator` on line 4.");
             }
             (StepFault::MustDraw, _, _) if self.position == 1 => {
-                format!(in alloc; "a node that a message woke has `start passive` on line 4.")
+                text.words("a node that a message woke has `start passive` on line 4.");
             }
             (StepFault::MustDraw, _, _) if self.state.term > 1 => {
-                format!(in alloc; "after a reset each node draws, initiator or not.")
+                text.words("after a reset each node draws, initiator or not.");
             }
             (StepFault::DrawRange, _, _) => {
-                format!(in alloc; "IDs are 1 to N, and N is {nodes} (line 2).")
+                numbered(text, "IDs are 1 to N, and N is ", nodes);
+                text.words(" (line 2).");
             }
             (StepFault::Ended, Event::Got(_), _) => {
-                format!(in alloc; "what a leader finds on its link is not recorded.")
+                text.words("what a leader finds on its link is not recorded.");
             }
             (StepFault::Ended, Event::Sent(Load::Reset(1)), _) => {
-                format!(in alloc; "the `yield` is recorded too, in front of its `send reset 1`.")
+                text.words("the `yield` is recorded too, in front of its `send reset 1`.");
             }
             (StepFault::Owes, Event::Got(_), _) => {
-                format!(in alloc;
-                    "a message is passed on before the next one is taken: record the sending where it was made."
-                )
+                text.words(
+                    "a message is passed on before the next one is taken: record the sending where it was made.",
+                );
             }
             (StepFault::Owes, Event::Draw(_), _) if self.owes_reset() => {
-                format!(in alloc; "a reset is passed on before the node draws in the new term.")
+                text.words("a reset is passed on before the node draws in the new term.");
             }
             (StepFault::NotLeader, _, Phase::Yielding) => {
-                format!(in alloc; "it has yielded in this term already.")
+                text.words("it has yielded in this term already.");
             }
             (StepFault::NotLeader, _, Phase::Active { round, id }) if self.leads_next(round, id) =>
                 {
-                    let line = line_of(self.position.saturating_add(1));
-                    format!(in alloc;
-                        "the receipt by which it leads stands after the yield, on line {line}: record it as soon as the \
-                     message is taken."
-                    )
+                    text.words("the receipt by which it leads stands after the yield, on line ");
+                    text.number(self.next_line());
+                    text.words(": record it as soon as the message is taken.");
                 }
-            _ => return Ok(None),
-        };
-        Ok(Some(words?))
+            _ => return false,
+        }
+        true
+    }
+
+    /// The line of the event after it.
+    fn next_line(&self) -> u64 {
+        line_of(self.position.saturating_add(1)) as u64
     }
 
     fn owes_reset(&self) -> bool {
@@ -234,7 +245,9 @@ impl Stopped {
     }
 
     /// What a node may have done that sent one load and owed another.
-    fn debt_cause(&self, sent: Load, owed: Load) -> Option<&'static str> {
+    fn debt_cause(&self, sent: Load, owed: Load) -> Option<&'static str>
+        ensures { IfSome result (λ words. IsPrintable words.now) }
+    {
         match (sent, owed) {
             (Load::Msg(sent), Load::Msg(owed)) => self.message_cause(sent, owed),
             (Load::Reset(sent), Load::Reset(owed)) => hop_cause(sent, owed),
@@ -242,7 +255,9 @@ impl Stopped {
         }
     }
 
-    fn message_cause(&self, sent: Msg, owed: Msg) -> Option<&'static str> {
+    fn message_cause(&self, sent: Msg, owed: Msg) -> Option<&'static str>
+        ensures { IfSome result (λ words. IsPrintable words.now) }
+    {
         if (sent.round, sent.id) != (owed.round, owed.id) {
             return None;
         }
@@ -259,37 +274,31 @@ impl Stopped {
         }
     }
 
-    /// What a sending that isn't owed may come from.
-    fn sending_cause<A: Allocator>(
-        &self,
-        alloc: A,
-        sent: Load,
-    ) -> Result<Option<String<A>>, OutOfMemory> {
+    /// Adds what a sending that isn't owed may come from, and tells whether something points to it.
+    fn add_sending_cause<A: Allocator>(&self, text: &mut Page<A>, sent: Load) -> bool {
         if self.called == Some(sent) {
-            let line = line_of(self.position.saturating_add(1));
-            return Ok(Some(format!(in alloc;
-                "the receipt on line {line} calls for this sending, and is recorded after it: record a message as soon as it is \
-                 taken."
-            )?));
+            text.words("the receipt on line ");
+            text.number(self.next_line());
+            text.words(
+                " calls for this sending, and is recorded after it: record a message as soon as it is taken.",
+            );
+            return true;
         }
-        let words = match (self.state.owed, self.state.phase, sent) {
+        match (self.state.owed, self.state.phase, sent) {
             (Some(owed), _, _) => match self.debt_cause(sent, owed) {
-                Some(words) => String::from_str(alloc, words),
-                None => return Ok(None),
+                Some(words) => text.words(words),
+                None => return false,
             },
             (None, Phase::Choosing { .. }, Load::Msg(Msg { id, hop: 1, .. })) => {
-                format!(in alloc;
-                    "a draw of {id} may not be recorded, or stands after its sending."
-                )
+                numbered(text, "a draw of ", id);
+                text.words(" may not be recorded, or stands after its sending.");
             }
             (None, Phase::Choosing { .. }, Load::Reset(_)) => {
-                format!(in alloc;
-                    "its own reset is back: the node that yielded takes it off the ring."
-                )
+                text.words("its own reset is back: the node that yielded takes it off the ring.");
             }
-            _ => return Ok(None),
-        };
-        Ok(Some(words?))
+            _ => return false,
+        }
+        true
     }
 }
 
@@ -350,7 +359,9 @@ fn first_clean_start<A: Allocator>(log: &NodeLog<A>) -> Option<u32> {
     None
 }
 
-fn hop_cause(sent: u32, owed: u32) -> Option<&'static str> {
+fn hop_cause(sent: u32, owed: u32) -> Option<&'static str>
+    ensures { IfSome result (λ words. IsPrintable words.now) }
+{
     if sent.saturating_add(1) == owed {
         Some("the hop is not raised.")
     } else if owed.saturating_add(1) == sent {

@@ -1,53 +1,26 @@
 ghost use Rattle.std.specs.Prelude.{◌≢◌, ◌≤◌};
 ghost use Rattle.ira_event.specs.Limits.{MAX_RECORDS};
+ghost use Rattle.ira_view_page.specs.Printable.{IsPrintable};
 
-use crate::explanation::Explanation;
 use crate::line_stop::{Due, LineStop, RangeStop};
-use crate::named_text::NamedText;
-use crate::number_of::NumberOf;
-use crate::remark::Remark;
+use crate::numbered::page_of;
 use crate::slip::Slip;
-use crate::text_head::explain_head;
-use ira_event::{LogFault, MAX_RECORDS, OutOfMemory, open_log, scan_number, skip_word};
+use crate::text_head::number_of;
+use ira_event::{LogFault, MAX_RECORDS, open_log, scan_number, skip_word};
+use ira_view_page::{ExplanationDraft, NamedText, Page, Remark};
 use std::alloc::Allocator;
 
-/// Why an end line gives another number than there are records.
-#[derive(Clone, Copy, Debug, PartialEq, Eq)]
-enum CountCause {
-    /// The four lines of the head are counted too.
-    HeadCounted,
-    /// So many records are missing.
-    LinesLost(usize),
+/// A text that is no log's.
+#[derive(Drop)]
+pub(crate) struct NoLog<'a, A: Allocator> {
+    pub(crate) alloc: &'a A,
+    pub(crate) file: &'a NamedText<'a>,
 }
 
-/// Why a text is no log's: its line, what is due there, and a usual cause.
-pub(crate) fn explain_text<A: Allocator + Clone>(
-    alloc: A,
-    explanation: &mut Explanation<A>,
-    file: &NamedText<'_>,
-    fault: LogFault,
-) -> Result<(), OutOfMemory>
-    requires { fault ≢ LogFault.OutOfMemory }
-{
-    match fault {
-        LogFault::TooLong => explain_length(explanation, file),
-        LogFault::Head => explain_head(alloc, explanation, file),
-        LogFault::Line(line) => explain_line(alloc, explanation, file, line as usize),
-        LogFault::Range(line) => explain_range(alloc, explanation, file, line as usize),
-        LogFault::TooMany => explain_too_many(explanation, file),
-        LogFault::Cut => explain_cut(alloc, explanation, file),
-        LogFault::Count => explain_count(alloc, explanation, file),
-        LogFault::Trailing => explain_trailing(alloc, explanation, file),
-        LogFault::OutOfMemory => unreachable!(),
+impl<'a, A: Allocator> NoLog<'a, A> {
+    pub(crate) fn new(alloc: &'a A, file: &'a NamedText<'a>) -> NoLog<'a, A> {
+        NoLog { alloc, file }
     }
-}
-
-fn explain_length<A: Allocator + Clone>(
-    explanation: &mut Explanation<A>,
-    file: &NamedText<'_>,
-) -> Result<(), OutOfMemory> {
-    explanation.too_long(file)?;
-    explanation.hint_apart("such a file is seldom a log: look at the names.")
 }
 
 /// The version of a text that begins with a head.
@@ -58,115 +31,38 @@ fn version_of(file: &NamedText<'_>) -> u8 {
     }
 }
 
-fn explain_line<A: Allocator + Clone>(
-    alloc: A,
-    explanation: &mut Explanation<A>,
-    file: &NamedText<'_>,
-    number: usize,
-) -> Result<(), OutOfMemory> {
-    let line = file.line(number);
-    let version = version_of(file);
-    let stop = LineStop::find(line, version);
-    let due = due_words(alloc, stop.due, version)?;
-    explanation.point(file, number, stop.byte, stop.byte, Remark::Due, &due)?;
-    explanation.page.blank()?;
-    explanation.page.paragraph(line_forms(version))?;
-    match Slip::of_line(line, stop, version) {
-        Some(slip) => explanation.hint(slip.hint()),
-        None => Ok(()),
-    }
-}
-
 /// What lines stand after the head of a log of this version.
-fn line_forms(version: u8) -> &'static str {
+fn line_forms(version: u8) -> &'static str
+    ensures { IsPrintable result.now }
+{
     if version == 1 {
         "Records: `draw ID`, `send ROUND ID HOP BIT`, `recv ROUND ID HOP BIT`; last line: `end COUNT`."
     } else {
-        "Records: `draw ID`, `send ROUND ID HOP BIT`, `recv ROUND ID HOP BIT`, `yield`, `send reset HOP`, `recv reset HOP`; last line: `end COUNT`."
+        "Records: `draw ID`, `send ROUND ID HOP BIT`, `recv ROUND ID HOP BIT`, `yield`, `send reset HOP`, \
+         `recv reset HOP`; last line: `end COUNT`."
     }
 }
 
-fn due_words<A: Allocator>(alloc: A, due: Due, version: u8) -> Result<String<A>, OutOfMemory> {
-    let words = match due {
-        Due::Word if version == 1 => "`draw`, `send`, `recv` or `end`",
-        Due::Word => "`draw`, `send`, `recv`, `yield` or `end`",
-        Due::Field(field) => field.due(version),
-        Due::Space => "one space",
-        Due::SpaceAnd(field) => return Ok(format!(in alloc; "one space and {}", field.name())?),
-        Due::End => "the end of the line",
-    };
-    Ok(String::from_str(alloc, words)?)
+/// Adds what is due there, in a log of this version.
+fn add_due<A: Allocator>(text: &mut Page<A>, due: Due, version: u8) {
+    match due {
+        Due::Word if version == 1 => text.words("`draw`, `send`, `recv` or `end`"),
+        Due::Word => text.words("`draw`, `send`, `recv`, `yield` or `end`"),
+        Due::Field(field) => text.words(field.due(version)),
+        Due::Space => text.words("one space"),
+        Due::SpaceAnd(field) => {
+            text.words("one space and ");
+            text.words(field.name());
+        }
+        Due::End => text.words("the end of the line"),
+    }
 }
 
-fn explain_range<A: Allocator + Clone>(
-    alloc: A,
-    explanation: &mut Explanation<A>,
-    file: &NamedText<'_>,
-    number: usize,
-) -> Result<(), OutOfMemory> {
-    let Some(stop) = RangeStop::find(file.line(number), version_of(file)) else {
-        return Ok(());
-    };
-    let range = format!(in &alloc; "{} is 1 to 1,000,000", stop.field.name())?;
-    explanation.point(file, number, stop.from, stop.to, Remark::Note, &range)?;
-    if !stop.is_zero {
-        return Ok(());
-    }
-    if file.line(number).starts_with(b"draw ") {
-        return explanation.hint_apart("IDs count from 1: draw 1 to N.");
-    }
-    let fields = stop.field.plural();
-    let hint = format!(in &alloc;
-        "{fields} count from 1: add 1 to each, on both ends of the link."
-    )?;
-    explanation.hint_apart(&hint)
-}
-
-fn explain_too_many<A: Allocator + Clone>(
-    explanation: &mut Explanation<A>,
-    file: &NamedText<'_>,
-) -> Result<(), OutOfMemory> {
-    let number = MAX_RECORDS + 5;
-    let end = file.line(number).len();
-    explanation.point(file, number, 0, end, Remark::Note, "record 100,001")?;
-    explanation.hint_apart("end the log in front of this line: a log may end anywhere.")
-}
-
-fn explain_cut<A: Allocator + Clone>(
-    alloc: A,
-    explanation: &mut Explanation<A>,
-    file: &NamedText<'_>,
-) -> Result<(), OutOfMemory> {
-    let whole = file.whole_lines();
-    let records = whole.saturating_sub(4);
-    let number = whole.saturating_add(1);
-    let piece = file.line(number);
-    if piece.is_empty() {
-        let words = format!(in &alloc; "the last line; `end {records}` is due after it")?;
-        let end = file.line(whole).len();
-        explanation.point(file, whole, 0, end, Remark::Note, &words)?;
-    } else {
-        let end = piece.len();
-        explanation.point(file, number, end, end, Remark::Due, "a line feed")?;
-    }
-    if is_end_line(piece, records) {
-        return explanation.hint_apart("only the line feed is missing.");
-    }
-    let hint = format!(in &alloc;
-        "a crash, or a file that was not closed. What stands in it up to its last whole line may be kept: take an incomplete line away and add the line `end {records}`."
-    )?;
-    explanation.hint_apart(&hint)
-}
-
-/// Whether a piece is the end line of so many records without its line feed.
-fn is_end_line(piece: &[u8], records: usize) -> bool {
-    match skip_word(piece, b"end ") {
-        Some(number) => match scan_number(number) {
-            Some((count, rest)) => count as usize == records && rest.is_empty(),
-            None => false,
-        },
-        None => false,
-    }
+/// Adds the end line of so many records.
+fn add_end_line<A: Allocator>(text: &mut Page<A>, records: usize) {
+    text.words("`end ");
+    text.number(records as u64);
+    text.words("`");
 }
 
 /// How many records stand in front of the first line that is none.
@@ -192,64 +88,141 @@ fn said_count(line: &[u8]) -> Option<usize> {
     Some(count as usize)
 }
 
-/// What makes an end line say so many where so many records were found, if that is known.
-fn count_cause(said: usize, found: usize) -> Option<CountCause> {
-    if said == found.saturating_add(4) {
-        Some(CountCause::HeadCounted)
-    } else if said > found && said <= MAX_RECORDS {
-        Some(CountCause::LinesLost(said - found))
-    } else {
-        None
+/// Adds how many records a log has, and on which lines.
+fn add_records<A: Allocator>(text: &mut Page<A>, found: usize)
+    requires { found ≤ MAX_RECORDS }
+{
+    text.words("the log has ");
+    text.number_of(found, "record");
+    if found > 0 {
+        text.words(" (lines 5 to ");
+        text.number((found + 4) as u64);
+        text.words(")");
     }
 }
 
-fn explain_count<A: Allocator + Clone>(
-    alloc: A,
-    explanation: &mut Explanation<A>,
-    file: &NamedText<'_>,
-) -> Result<(), OutOfMemory> {
-    let found = count_records(file);
-    let number = found + 5;
-    let line = file.line(number);
-    let records = NumberOf(found, "record");
-    let words = if found > 0 {
-        let last = number - 1;
-        format!(in &alloc; "the log has {records} (lines 5 to {last})")?
-    } else {
-        format!(in &alloc; "the log has {records}")?
-    };
-    explanation.point(file, number, 4, line.len(), Remark::Note, &words)?;
-    match said_count(line).and_then(|said| count_cause(said, found)) {
-        Some(CountCause::HeadCounted) => {
-            explanation.hint_apart("the head is counted too: count the records alone.")
+impl<A: Allocator + Clone> NoLog<'_, A> {
+    /// Adds why it is none: its line, what is due there, and a usual cause.
+    pub(crate) fn explain(&self, draft: &mut ExplanationDraft<A>, fault: LogFault)
+        requires { fault ≢ LogFault.OutOfMemory }
+    {
+        match fault {
+            LogFault::TooLong => {
+                draft.too_long(self.file);
+                draft.hint_apart("such a file is seldom a log: look at the names.");
+            }
+            LogFault::Head => self.explain_head(draft),
+            LogFault::Line(line) => self.explain_line(draft, line as usize),
+            LogFault::Range(line) => self.explain_range(draft, line as usize),
+            LogFault::TooMany => self.explain_too_many(draft),
+            LogFault::Cut => self.explain_cut(draft),
+            LogFault::Count => self.explain_count(draft),
+            LogFault::Trailing => self.explain_trailing(draft),
+            LogFault::OutOfMemory => unreachable!(),
         }
-        Some(CountCause::LinesLost(lost)) => {
-            let records = NumberOf(lost, "record");
-            let hint = format!(in &alloc;
-                "{records} fewer than the writer counted: lines were lost."
-            )?;
-            explanation.hint_apart(&hint)
-        }
-        None => Ok(()),
     }
-}
 
-fn explain_trailing<A: Allocator + Clone>(
-    alloc: A,
-    explanation: &mut Explanation<A>,
-    file: &NamedText<'_>,
-) -> Result<(), OutOfMemory> {
-    let end = count_records(file) + 5;
-    let line = file.line(end + 1);
-    let words = format!(in alloc; "nothing stands after the end line (line {end})")?;
-    explanation.point(file, end + 1, 0, line.len(), Remark::Note, &words)?;
-    if line.starts_with(b"irlog") {
-        return explanation.hint_apart(
-            "a second log follows: the file was opened to append to. Use a new file for each run.",
-        );
+    fn explain_line(&self, draft: &mut ExplanationDraft<A>, number: usize) {
+        let line = self.file.line(number);
+        let version = version_of(self.file);
+        let stop = LineStop::find(line, version);
+        let mut due = Page::new(self.alloc);
+        add_due(&mut due, stop.due, version);
+        draft.point(self.file, number, stop.byte, stop.byte, Remark::Due, &due);
+        draft.page.blank();
+        draft.page.paragraph(line_forms(version));
+        if let Some(slip) = Slip::of_line(line, stop, version) {
+            draft.hint(slip.hint());
+        }
     }
-    if file.from_line(end + 1) == b"\n".as_slice() {
-        return explanation.hint_apart("an empty line.");
+
+    fn explain_range(&self, draft: &mut ExplanationDraft<A>, number: usize) {
+        let line = self.file.line(number);
+        let Some(stop) = RangeStop::find(line, version_of(self.file)) else {
+            return;
+        };
+        let mut range = page_of(self.alloc, stop.field.name());
+        range.words(" is 1 to 1,000,000");
+        draft.point(self.file, number, stop.from, stop.to, Remark::Note, &range);
+        if stop.is_zero && line.starts_with(b"draw ") {
+            draft.hint_apart("IDs count from 1: draw 1 to N.");
+        } else if stop.is_zero {
+            let mut hint = page_of(self.alloc, stop.field.noun());
+            hint.words("s count from 1: add 1 to each, on both ends of the link.");
+            draft.hint_apart_of(&hint);
+        }
     }
-    Ok(())
+
+    fn explain_too_many(&self, draft: &mut ExplanationDraft<A>) {
+        let number = MAX_RECORDS + 5;
+        let end = self.file.line(number).len();
+        let record = page_of(self.alloc, "record 100,001");
+        draft.point(self.file, number, 0, end, Remark::Note, &record);
+        draft.hint_apart("end the log in front of this line: a log may end anywhere.");
+    }
+
+    fn explain_cut(&self, draft: &mut ExplanationDraft<A>) {
+        let whole = self.file.whole_lines();
+        let records = whole.saturating_sub(4);
+        let number = whole.saturating_add(1);
+        let piece = self.file.line(number);
+        if piece.is_empty() {
+            let mut due = page_of(self.alloc, "the last line; ");
+            add_end_line(&mut due, records);
+            due.words(" is due after it");
+            let end = self.file.line(whole).len();
+            draft.point(self.file, whole, 0, end, Remark::Note, &due);
+        } else {
+            let (due, end) = (page_of(self.alloc, "a line feed"), piece.len());
+            draft.point(self.file, number, end, end, Remark::Due, &due);
+        }
+        if number_of(piece, b"end ").is_some_and(|count| count as usize == records) {
+            draft.hint_apart("only the line feed is missing.");
+        } else {
+            let mut hint = Page::new(self.alloc);
+            hint.words("a crash, or a file that was not closed. What stands in it up to its last ");
+            hint.words("whole line may be kept: take an incomplete line away and add the line ");
+            add_end_line(&mut hint, records);
+            hint.words(".");
+            draft.hint_apart_of(&hint);
+        }
+    }
+
+    fn explain_count(&self, draft: &mut ExplanationDraft<A>) {
+        let found = count_records(self.file);
+        let number = found + 5;
+        let line = self.file.line(number);
+        let mut records = Page::new(self.alloc);
+        add_records(&mut records, found);
+        draft.point(self.file, number, 4, line.len(), Remark::Note, &records);
+        match said_count(line) {
+            Some(said) if said == found + 4 => {
+                draft.hint_apart("the head is counted too: count the records alone.");
+            }
+            Some(said) if said > found && said <= MAX_RECORDS => {
+                let mut hint = Page::new(self.alloc);
+                hint.number_of(said - found, "record");
+                hint.words(" fewer than the writer counted: lines were lost.");
+                draft.hint_apart_of(&hint);
+            }
+            _ => {}
+        }
+    }
+
+    fn explain_trailing(&self, draft: &mut ExplanationDraft<A>) {
+        let end = count_records(self.file) + 5;
+        let line = self.file.line(end + 1);
+        let mut nothing = Page::new(self.alloc);
+        nothing.words("nothing stands after the end line (line ");
+        nothing.number(end as u64);
+        nothing.words(")");
+        draft.point(self.file, end + 1, 0, line.len(), Remark::Note, &nothing);
+        if line.starts_with(b"irlog") {
+            draft.hint_apart(
+                "a second log follows: the file was opened to append to. Use a new file for each run.",
+            );
+        } else if self.file.from_line(end + 1) == b"\n".as_slice() {
+            draft.hint_apart("an empty line.");
+        }
+    }
 }

@@ -1,14 +1,15 @@
-use crate::explanation::Explanation;
-use crate::named_text::NamedText;
-use crate::number_of::NumberOf;
-use crate::page::Mark;
-use crate::remark::Remark;
+ghost use Rattle.std.specs.Prelude.{IfSome};
+ghost use Rattle.ira_view_page.specs.Printable.{IsPrintable};
+
+use crate::numbered::{numbered, page_of};
 use crate::slip::Slip;
-use ira_event::{MAX_NODES, MAX_VERSION, MAX_VERSION_1_NODES, OutOfMemory, scan_number, skip_word};
+use crate::text_block::NoLog;
+use ira_event::{MAX_NODES, MAX_VERSION, MAX_VERSION_1_NODES, scan_number, skip_word};
+use ira_view_page::{ExplanationDraft, Mark, NamedText, Page, Remark};
 use std::alloc::Allocator;
 
 /// A line of a log's head.
-#[derive(Clone, Copy, Debug, PartialEq, Eq)]
+#[derive(Clone, Copy)]
 enum HeadLine {
     Version,
     /// The ring's size, of which the log's version has so many at most.
@@ -29,18 +30,19 @@ impl HeadLine {
         }
     }
 
-    /// What such a line says.
-    fn due<A: Allocator>(self, alloc: A) -> Result<String<A>, OutOfMemory> {
-        let words = match self {
-            HeadLine::Version => format!(in alloc; "`irlog 1` or `irlog 2`"),
-            HeadLine::Nodes { most } => format!(in alloc; "`nodes N` with N from 2 to {most}"),
-            HeadLine::Place { nodes } => {
-                let last = nodes.saturating_sub(1);
-                format!(in alloc; "`place I` with I from 0 to {last}")
+    /// Adds what such a line says.
+    fn add_due<A: Allocator>(self, text: &mut Page<A>) {
+        match self {
+            HeadLine::Version => text.words("`irlog 1` or `irlog 2`"),
+            HeadLine::Nodes { most } => {
+                text.words("`nodes N` with N from 2 to ");
+                text.number(most as u64);
             }
-            HeadLine::Start => format!(in alloc; "`start initiator` or `start passive`"),
-        };
-        Ok(words?)
+            HeadLine::Place { nodes } => {
+                numbered(text, "`place I` with I from 0 to ", nodes.saturating_sub(1));
+            }
+            HeadLine::Start => text.words("`start initiator` or `start passive`"),
+        }
     }
 
     /// The first byte with which no such line goes on, counted from 0.
@@ -67,7 +69,7 @@ fn common_length(a: &[u8], b: &[u8]) -> usize {
 }
 
 /// The number of a line of a word and a number.
-fn number_of(line: &[u8], word: &[u8]) -> Option<u32> {
+pub(crate) fn number_of(line: &[u8], word: &[u8]) -> Option<u32> {
     let (number, rest) = scan_number(skip_word(line, word)?)?;
     if rest.is_empty() { Some(number) } else { None }
 }
@@ -85,88 +87,26 @@ fn number_stop(line: &[u8], word: &[u8], least: usize, most: usize) -> usize {
     }
 }
 
-/// The first of the head's lines that isn't as it should be, of so many lines.
-fn first_stop(file: &NamedText<'_>, lines: usize) -> Option<HeadLine> {
-    if lines < 1 {
-        return None;
-    }
+/// The first of the head's lines that isn't as it should be.
+fn first_stop(file: &NamedText<'_>) -> HeadLine {
     let most = match number_of(file.line(1), b"irlog ") {
         Some(1) => MAX_VERSION_1_NODES,
         Some(2) => MAX_NODES,
-        _ => return Some(HeadLine::Version),
+        _ => return HeadLine::Version,
     };
-    if lines < 2 {
-        return None;
-    }
     let nodes = match number_of(file.line(2), b"nodes ") {
         Some(nodes) if (2..=most).contains(&(nodes as usize)) => nodes,
-        _ => return Some(HeadLine::Nodes { most }),
+        _ => return HeadLine::Nodes { most },
     };
-    if lines < 3 {
-        return None;
-    }
     match number_of(file.line(3), b"place ") {
-        Some(place) if place < nodes => {}
-        _ => return Some(HeadLine::Place { nodes }),
-    }
-    if lines < 4 {
-        return None;
-    }
-    Some(HeadLine::Start)
-}
-
-/// What is wrong with the head of a text.
-pub(crate) fn explain_head<A: Allocator + Clone>(
-    alloc: A,
-    explanation: &mut Explanation<A>,
-    file: &NamedText<'_>,
-) -> Result<(), OutOfMemory> {
-    let whole = file.whole_lines();
-    match first_stop(file, whole) {
-        Some(line) => explain_head_line(alloc, explanation, file, line),
-        None => explain_short_head(alloc, explanation, file, whole),
+        Some(place) if place < nodes => HeadLine::Start,
+        _ => HeadLine::Place { nodes },
     }
 }
 
-fn explain_short_head<A: Allocator + Clone>(
-    alloc: A,
-    explanation: &mut Explanation<A>,
-    file: &NamedText<'_>,
-    whole: usize,
-) -> Result<(), OutOfMemory> {
-    let lines = NumberOf(whole, "whole line");
-    let words = format!(in alloc; "{}: {lines}; the head has four.", file.name)?;
-    explanation.page.line(Mark::Plain, &words)?;
-    let number = whole.saturating_add(1);
-    let end = file.line(number).len();
-    if end == 0 {
-        return explanation.add_text(file);
-    }
-    explanation.point(file, number, end, end, Remark::Due, "a line feed")
-}
-
-fn explain_head_line<A: Allocator + Clone>(
-    alloc: A,
-    explanation: &mut Explanation<A>,
-    file: &NamedText<'_>,
-    head_line: HeadLine,
-) -> Result<(), OutOfMemory> {
-    let number = head_line.number();
-    let line = file.line(number);
-    let stop = head_line.stop(line);
-    let due = head_line.due(alloc)?;
-    explanation.point(file, number, stop, stop, Remark::Due, &due)?;
-    let hint = match Slip::of_format(line) {
-        Some(slip) => Some(slip.hint()),
-        None => head_hint(head_line, line),
-    };
-    match hint {
-        Some(hint) => explanation.hint_apart(hint),
-        None => Ok(()),
-    }
-}
-
-fn head_hint(due: HeadLine, line: &[u8]) -> Option<&'static str> {
+fn head_hint(due: HeadLine, line: &[u8]) -> Option<&'static str>
+    ensures { IfSome result (λ hint. IsPrintable hint.now) }
+{
     match due {
         HeadLine::Nodes { .. } => {
             let nodes = number_of(line, b"nodes ")? as usize;
@@ -180,5 +120,52 @@ fn head_hint(due: HeadLine, line: &[u8]) -> Option<&'static str> {
             Some("places count from 0; this one is N.")
         }
         HeadLine::Version | HeadLine::Place { .. } | HeadLine::Start => None,
+    }
+}
+
+impl<A: Allocator + Clone> NoLog<'_, A> {
+    /// Adds what is wrong with its head.
+    pub(crate) fn explain_head(&self, draft: &mut ExplanationDraft<A>) {
+        let whole = self.file.whole_lines();
+        let stop = first_stop(self.file);
+        if stop.number() <= whole {
+            self.explain_head_line(draft, stop);
+        } else {
+            self.explain_short_head(draft, whole);
+        }
+    }
+
+    fn explain_short_head(&self, draft: &mut ExplanationDraft<A>, whole: usize) {
+        let page = &mut draft.page;
+        page.begin(Mark::Plain);
+        page.show(self.file.name.as_bytes());
+        page.words(": ");
+        page.number_of(whole, "whole line");
+        page.words("; the head has four.");
+        page.end();
+        let number = whole.saturating_add(1);
+        let end = self.file.line(number).len();
+        if end == 0 {
+            draft.text(self.file);
+        } else {
+            let due = page_of(self.alloc, "a line feed");
+            draft.point(self.file, number, end, end, Remark::Due, &due);
+        }
+    }
+
+    fn explain_head_line(&self, draft: &mut ExplanationDraft<A>, head_line: HeadLine) {
+        let number = head_line.number();
+        let line = self.file.line(number);
+        let stop = head_line.stop(line);
+        let mut due = Page::new(self.alloc);
+        head_line.add_due(&mut due);
+        draft.point(self.file, number, stop, stop, Remark::Due, &due);
+        let hint = match Slip::of_format(line) {
+            Some(slip) => Some(slip.hint()),
+            None => head_hint(head_line, line),
+        };
+        if let Some(hint) = hint {
+            draft.hint_apart(hint);
+        }
     }
 }

@@ -1,30 +1,18 @@
 use crate::text_block::HEAD_LINES;
-use ira_event::OutOfMemory;
-use ira_explain::{NamedText, Page, shown_width};
 use ira_pred::Case;
+use ira_view_page::{NamedText, Page};
 use std::alloc::Allocator;
 
 /// So many clauses of a case are shown on one line at most.
 const MOST_CLAUSES: usize = 8;
 
 /// The lines of a question's text that ask a case.
-#[derive(Clone, Copy, Debug)]
+#[derive(Drop)]
 pub(crate) struct AskedLines<'a> {
-    /// The name of the question's file.
-    pub(crate) name: &'a str,
     /// The line of the first clause.
     first: usize,
-    /// The text from that line on.
-    rest: &'a [u8],
-}
-
-/// How many lines stand before the first clause of the case of a number.
-fn lines_before<A: Allocator>(cases: &[Case<A>], number: usize) -> usize {
-    let mut lines = HEAD_LINES + 1;
-    for case in cases.iter().take(number) {
-        lines = lines.saturating_add(case.len()).saturating_add(1);
-    }
-    lines
+    /// The text from that line on, with the name of the question's file.
+    rest: NamedText<'a>,
 }
 
 impl<'a> AskedLines<'a> {
@@ -34,12 +22,20 @@ impl<'a> AskedLines<'a> {
         cases: &[Case<A>],
         number: usize,
     ) -> AskedLines<'a> {
-        let first = lines_before(cases, number).saturating_add(1);
-        AskedLines {
-            name: question.name,
-            first,
-            rest: question.from_line(first),
+        let mut first = HEAD_LINES + 2;
+        for case in cases.iter().take(number) {
+            first = first.saturating_add(case.len()).saturating_add(1);
         }
+        let rest = NamedText {
+            name: question.name,
+            text: question.from_line(first),
+        };
+        AskedLines { first, rest }
+    }
+
+    /// The name of the question's file.
+    pub(crate) fn file(&self) -> &'a str {
+        self.rest.name
     }
 
     /// The line of clause `n`, counted from 0.
@@ -49,11 +45,7 @@ impl<'a> AskedLines<'a> {
 
     /// The place and the clause, as the line spells them.
     fn spelling(&self, n: usize) -> &'a [u8] {
-        let text = NamedText {
-            name: self.name,
-            text: self.rest,
-        };
-        text.line(n.saturating_add(1))
+        self.rest.line(n.saturating_add(1))
     }
 
     /// The clause as its line spells it.
@@ -65,31 +57,17 @@ impl<'a> AskedLines<'a> {
         }
     }
 
-    /// How wide the widest of so many clauses is, where at most so many characters are shown of one.
-    pub(crate) fn width(&self, clauses: usize, most: usize) -> usize {
-        let mut width = 0usize;
-        for n in 0..clauses {
-            width = width.max(shown_width(self.clause(n)).min(most));
-        }
-        width
-    }
-
     /// Adds the clauses with their places, of which there are so many, parted by commas.
-    pub(crate) fn add_clauses<P: Allocator>(
-        &self,
-        page: &mut Page<P>,
-        clauses: usize,
-    ) -> Result<(), OutOfMemory> {
+    pub(crate) fn add_clauses<P: Allocator>(&self, page: &mut Page<P>, clauses: usize) {
         for n in 0..clauses.min(MOST_CLAUSES) {
             if n > 0 {
-                page.words(", ")?;
+                page.words(", ");
             }
-            page.quote(self.spelling(n))?;
+            page.quote(self.spelling(n));
         }
         if clauses > MOST_CLAUSES {
-            page.words(", ..")?;
+            page.words(", ..");
         }
-        Ok(())
     }
 }
 

@@ -1,3 +1,5 @@
+ghost use Rattle.ira_view_page.specs.Printable.{IsPrintable};
+
 use ira_event::{MAX_NUMBER, scan_number, skip_word};
 use ira_pred::MAX_DEPTH;
 
@@ -22,7 +24,9 @@ pub(crate) enum Due {
 
 impl Due {
     /// In words.
-    pub(crate) fn words(self) -> &'static str {
+    pub(crate) fn words(self) -> &'static str
+        ensures { IsPrintable result.now }
+    {
         match self {
             Due::Clause => {
                 "`true`, `leader`, `active`, `passive`, `choosing`, `yielding`, `owes`, `round`, `id`, `term` or `(`"
@@ -34,6 +38,11 @@ impl Due {
             Due::Bracket => "`)`",
             Due::End => "the end of the line",
         }
+    }
+
+    /// It is due where this is left of a line.
+    fn at(self, rest: &[u8]) -> ClauseStop<'_> {
+        ClauseStop { rest, due: self }
     }
 }
 
@@ -48,10 +57,7 @@ pub(crate) struct ClauseStop<'a> {
 pub(crate) fn clause_stop(text: &[u8]) -> Option<ClauseStop<'_>> {
     match after_clause(MAX_DEPTH, text) {
         Ok([]) => None,
-        Ok(rest) => Some(ClauseStop {
-            rest,
-            due: Due::End,
-        }),
+        Ok(rest) => Some(Due::End.at(rest)),
         Err(stop) => Some(stop),
     }
 }
@@ -73,27 +79,12 @@ fn after_clause(depth: usize, text: &[u8]) -> Result<&[u8], ClauseStop<'_>> {
 
 /// What follows the bracket that ends a clause.
 fn after_bracket(text: &[u8]) -> Result<&[u8], ClauseStop<'_>> {
-    match skip_word(text, b")") {
-        Some(rest) => Ok(rest),
-        None => Err(ClauseStop {
-            rest: text,
-            due: Due::Bracket,
-        }),
-    }
+    after_word(text, &[b")"]).ok_or(Due::Bracket.at(text))
 }
 
 /// What follows the word between two clauses.
 fn after_joint(text: &[u8]) -> Result<&[u8], ClauseStop<'_>> {
-    if let Some(rest) = skip_word(text, b" and ") {
-        return Ok(rest);
-    }
-    match skip_word(text, b" or ") {
-        Some(rest) => Ok(rest),
-        None => Err(ClauseStop {
-            rest: text,
-            due: Due::Joint,
-        }),
-    }
+    after_word(text, &[b" and ", b" or "]).ok_or(Due::Joint.at(text))
 }
 
 /// What follows the first of these words that the text begins with.
@@ -108,40 +99,21 @@ fn after_word<'a>(text: &'a [u8], words: &[&[u8]]) -> Option<&'a [u8]> {
 
 /// What follows the clause without brackets that the text begins with.
 fn after_atom(text: &[u8]) -> Result<&[u8], ClauseStop<'_>> {
+    if let Some(rest) = after_word(text, &[b"round ", b"id ", b"term "]) {
+        return after_comparison(rest);
+    }
     if let Some(rest) = after_word(text, &[b"true", b"leader", b"active", b"passive"]) {
         return Ok(rest);
     }
-    if let Some(rest) = after_word(text, &[b"choosing", b"yielding", b"owes"]) {
-        return Ok(rest);
-    }
-    match after_word(text, &[b"round ", b"id ", b"term "]) {
-        Some(rest) => after_comparison(rest),
-        None => Err(ClauseStop {
-            rest: text,
-            due: Due::Clause,
-        }),
-    }
+    after_word(text, &[b"choosing", b"yielding", b"owes"]).ok_or(Due::Clause.at(text))
 }
 
 /// What follows a comparison with a number.
 fn after_comparison(text: &[u8]) -> Result<&[u8], ClauseStop<'_>> {
-    let Some(rest) = after_word(text, &[b"<", b"=", b">"]) else {
-        return Err(ClauseStop {
-            rest: text,
-            due: Due::Relation,
-        });
-    };
-    let Some(rest) = skip_word(rest, b" ") else {
-        return Err(ClauseStop {
-            rest,
-            due: Due::Space,
-        });
-    };
+    let rest = after_word(text, &[b"<", b"=", b">"]).ok_or(Due::Relation.at(text))?;
+    let rest = skip_word(rest, b" ").ok_or(Due::Space.at(rest))?;
     match scan_number(rest) {
         Some((number, after)) if number <= MAX_NUMBER => Ok(after),
-        _ => Err(ClauseStop {
-            rest,
-            due: Due::Number,
-        }),
+        _ => Err(Due::Number.at(rest)),
     }
 }

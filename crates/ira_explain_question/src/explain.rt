@@ -5,33 +5,22 @@ ghost use Rattle.ira_audit.specs.QuestionFitsLogs.{WhyNoQuestion};
 ghost use Rattle.ira_audit.specs.Report.{IsReportable, IsReportableReason};
 ghost use Rattle.ira_audit.specs.declared.answer.Answer.TheVariants as answer;
 
-use crate::certificate_block::explain_certificate_text;
-use crate::question_block::explain_question_text;
-use crate::ring_block::{explain_certificate, explain_findings};
-use crate::text_block::explain_ring_size;
-use crate::yes_block::explain_yes;
+use crate::asked_files::{AskedFiles, read_certificate};
+use crate::text_block::AskedText;
 use ira_audit::{Answer, Findings, Reason};
+use ira_cert::Section;
 use ira_event::OutOfMemory;
-use ira_explain::{Explanation, NamedText, RingCounts, explain_logs};
+use ira_explain::{draft_logs, explain_logs};
+use ira_view_page::{Explanation, ExplanationDraft, Mark, NamedText, Page, RingCounts};
 use std::alloc::Allocator;
-
-/// What follows an answer about logs that are those of a ring.
-fn after_answer<A: Allocator + Clone>(
-    alloc: A,
-    logs: &[NamedText<'_>],
-) -> Result<Explanation<A>, OutOfMemory> {
-    let mut explanation = Explanation::after_answer(alloc)?;
-    explanation.ring = Some(RingCounts::of(logs));
-    Ok(explanation)
-}
 
 /// Why what is found for a question about the logs of a ring is as it is, of one case or of the first ones: an empty
 /// line, and then each case with the states of the first moment that meets it, or why there is no such moment; or why
 /// the question isn't posed. Cases count from 0.
-pub fn explain_question_answer<A: Allocator + Clone>(
+pub fn explain_question_answer<'a, A: Allocator + Clone>(
     alloc: A,
-    logs: &[NamedText<'_>],
-    question: &NamedText<'_>,
+    logs: &'a [NamedText<'a>],
+    question: &'a NamedText<'a>,
     findings: &Findings<A>,
     case: Option<u64>,
 ) -> Result<Explanation<A>, OutOfMemory>
@@ -41,12 +30,82 @@ pub fn explain_question_answer<A: Allocator + Clone>(
     match findings {
         Findings::Refused(reason) => explain_refused(alloc, logs, question, *reason),
         Findings::Cases { found, .. } => {
-            let mut explanation = Explanation::new(alloc.clone()?)?;
-            explanation.ring = Some(RingCounts::of(logs));
-            let number = case.map(|number| number as usize);
-            explain_findings(&alloc, &mut explanation, logs, question, found, number)?;
-            Ok(explanation)
+            let mut draft = ExplanationDraft::new(alloc.clone()?)?;
+            draft.ring = Some(RingCounts::of(logs));
+            let files = AskedFiles::new(&alloc, logs, question);
+            files.explain_findings(&mut draft, found, case.map(|number| number as usize))?;
+            draft.finish()
         }
+    }
+}
+
+/// Why the answer of the logs of a ring, a question and a certificate is as it is: an empty line, and what stands in
+/// which lines of which files, what is due there, and whether another certificate shows what this one doesn't.
+pub fn explain_check_answer<'a, A: Allocator + Clone>(
+    alloc: A,
+    logs: &'a [NamedText<'a>],
+    question: &'a NamedText<'a>,
+    certificate: &NamedText<'_>,
+    answer: &Answer,
+) -> Result<Explanation<A>, OutOfMemory>
+    requires answered { IsCheckAnswer (map (λ log. log.text.now) logs.now) question.now.text.now
+        certificate.now.text.now answer.now }
+    requires reportable { IsReportable answer.now }
+{
+    match *answer {
+        Answer::Yes => {
+            let mut draft = draft_logs(alloc.clone()?, logs, &Answer::Yes)?;
+            if let Some(certificate) = read_certificate(&alloc, certificate)? {
+                draft.page.paragraph_of(&sum(&alloc, &certificate.sections));
+            }
+            draft.finish()
+        }
+        Answer::No(reason) => explain_no(alloc, logs, question, certificate, reason),
+    }
+}
+
+/// Of how many cases and steps a yes is.
+fn sum<A: Allocator + Copy>(alloc: A, sections: &[Section<A>]) -> Page<A> {
+    let add = |steps: usize, section: &Section<A>| steps.saturating_add(section.steps.len());
+    let steps = sections.iter().fold(0, add);
+    let mut text = Page::new(alloc);
+    text.number_of(sections.len(), "case");
+    text.words(", ");
+    text.number_of(steps, "step");
+    text.words(": no moment of any order of these events met any case.");
+    text
+}
+
+/// Why the answer is no.
+fn explain_no<'a, A: Allocator + Clone>(
+    alloc: A,
+    logs: &'a [NamedText<'a>],
+    question: &'a NamedText<'a>,
+    certificate: &NamedText<'_>,
+    reason: Reason,
+) -> Result<Explanation<A>, OutOfMemory>
+    requires answered { IsCheckAnswer (map (λ log. log.text.now) logs.now) question.now.text.now
+        certificate.now.text.now (answer.No reason) }
+    requires reportable { IsReportableReason reason }
+{
+    match reason {
+        Reason::Certificate(fault) => {
+            let mut draft = after_answer(alloc.clone()?, logs)?;
+            AskedText::new(&alloc, certificate).explain_certificate(&mut draft, fault);
+            draft.finish()
+        }
+        Reason::CertificateSize => explain_size(alloc, logs, certificate),
+        Reason::Sections { .. } | Reason::Section { .. } => {
+            let mut draft = after_answer(alloc.clone()?, logs)?;
+            let files = AskedFiles::new(&alloc, logs, question);
+            let case = match reason {
+                Reason::Section { case, .. } => Some(case),
+                _ => None,
+            };
+            files.explain_certificate(&mut draft, certificate, case)?;
+            draft.finish()
+        }
+        _ => explain_refused(alloc, logs, question, reason),
     }
 }
 
@@ -62,78 +121,35 @@ fn explain_refused<A: Allocator + Clone>(
 {
     match reason {
         Reason::Question(fault) => {
-            let mut explanation = after_answer(alloc.clone()?, logs)?;
-            explain_question_text(alloc, &mut explanation, question, fault)?;
-            Ok(explanation)
+            let mut draft = after_answer(alloc.clone()?, logs)?;
+            AskedText::new(&alloc, question).explain_question(&mut draft, fault);
+            draft.finish()
         }
-        Reason::QuestionSize => {
-            let mut explanation = after_answer(alloc, logs)?;
-            explain_ring_size(&mut explanation, question, logs)?;
-            Ok(explanation)
-        }
+        Reason::QuestionSize => explain_size(alloc, logs, question),
         _ => explain_logs(alloc, logs, &Answer::No(reason)),
     }
 }
 
-/// Why the answer of the logs of a ring, a question and a certificate is as it is: an empty line, and what stands in
-/// which lines of which files, what is due there, and whether another certificate shows what this one doesn't.
-pub fn explain_check_answer<A: Allocator + Clone>(
+/// What follows an answer about logs that are those of a ring.
+fn after_answer<A: Allocator + Clone>(
     alloc: A,
     logs: &[NamedText<'_>],
-    question: &NamedText<'_>,
-    certificate: &NamedText<'_>,
-    answer: &Answer,
-) -> Result<Explanation<A>, OutOfMemory>
-    requires answered { IsCheckAnswer (map (λ log. log.text.now) logs.now) question.now.text.now
-        certificate.now.text.now answer.now }
-    requires reportable { IsReportable answer.now }
-{
-    match *answer {
-        Answer::Yes => explain_yes(alloc, logs, question, certificate),
-        Answer::No(reason) => explain_no(alloc, logs, question, certificate, reason),
-    }
+) -> Result<ExplanationDraft<A>, OutOfMemory> {
+    let mut draft = ExplanationDraft::after_answer(alloc)?;
+    draft.ring = Some(RingCounts::of(logs));
+    Ok(draft)
 }
 
-/// Why the answer is no.
-fn explain_no<A: Allocator + Clone>(
+/// By which lines a text and the logs are of rings of different sizes.
+fn explain_size<A: Allocator + Clone>(
     alloc: A,
     logs: &[NamedText<'_>],
-    question: &NamedText<'_>,
-    certificate: &NamedText<'_>,
-    reason: Reason,
-) -> Result<Explanation<A>, OutOfMemory>
-    requires answered { IsCheckAnswer (map (λ log. log.text.now) logs.now) question.now.text.now
-        certificate.now.text.now (answer.No reason) }
-    requires reportable { IsReportableReason reason }
-{
-    match reason {
-        Reason::Certificate(fault) => {
-            let mut explanation = after_answer(alloc.clone()?, logs)?;
-            explain_certificate_text(alloc, &mut explanation, certificate, fault)?;
-            Ok(explanation)
-        }
-        Reason::CertificateSize => {
-            let mut explanation = after_answer(alloc, logs)?;
-            explain_ring_size(&mut explanation, certificate, logs)?;
-            Ok(explanation)
-        }
-        Reason::Sections { .. } => {
-            let mut explanation = after_answer(alloc.clone()?, logs)?;
-            explain_certificate(&alloc, &mut explanation, logs, question, certificate, None)?;
-            Ok(explanation)
-        }
-        Reason::Section { case, .. } => {
-            let mut explanation = after_answer(alloc.clone()?, logs)?;
-            explain_certificate(
-                &alloc,
-                &mut explanation,
-                logs,
-                question,
-                certificate,
-                Some(case),
-            )?;
-            Ok(explanation)
-        }
-        _ => explain_refused(alloc, logs, question, reason),
+    file: &NamedText<'_>,
+) -> Result<Explanation<A>, OutOfMemory> {
+    let mut draft = after_answer(alloc, logs)?;
+    draft.quote(Mark::Named, file, 2);
+    if let Some(log) = logs.first() {
+        draft.quote(Mark::Plain, log, 2);
     }
+    draft.finish()
 }

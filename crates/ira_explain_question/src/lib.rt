@@ -2,19 +2,17 @@
 //! who asks.
 #![tactic(auto)]
 
+mod asked_files;
 mod asked_lines;
-mod case_block;
 mod certificate_block;
 mod clause_stop;
 mod explain;
+mod explained_case;
 mod found_block;
-mod good_ring;
+mod named_sections;
 mod question_block;
 mod ring_block;
-mod section_lines;
-mod sections_block;
 mod step_block;
 mod text_block;
-mod yes_block;
 
 pub use explain::{explain_check_answer, explain_question_answer};

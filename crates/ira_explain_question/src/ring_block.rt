@@ -1,255 +1,231 @@
-ghost use Rattle.std.specs.Prelude.{◌≡◌, ℕ, List, Some, slice_get};
+ghost use Rattle.std.specs.Prelude.{◌≡◌, IfSome, length};
 ghost use Rattle.ira_audit.specs.GoodLogs.{AreGood};
 ghost use Rattle.ira_cert.specs.Conjuncts.{HasPlacesOf};
-ghost use Rattle.ira_pred.specs.Case.{Conjunct};
 
+use crate::asked_files::{AskedFiles, read_certificate};
 use crate::asked_lines::AskedLines;
-use crate::case_block::{Told, explain_case};
-use crate::good_ring::{read_asked, read_certificate, read_good_logs};
-use crate::sections_block::explain_sections;
-use crate::step_block::explain_section;
-use ira_cert::Section;
+use crate::explained_case::ExplainedCase;
+use crate::named_sections::NamedSections;
 use ira_elim::Found;
 use ira_event::{Logs, OutOfMemory};
-use ira_explain::{Explanation, Mark, NamedText, NumberOf, Page};
 use ira_order::DirectDependencies;
-use ira_pred::Case;
+use ira_pred::Question;
+use ira_view_page::{ExplanationDraft, Mark, NamedText, Page};
 use std::alloc::Allocator;
 
 /// At most so many cases are told, where none is named.
 const MOST_CASES: usize = 8;
 
-/// Adds what is found for one case of a question, or for the first ones: those that are present, or all where none is.
-pub(crate) fn explain_findings<A: Allocator + Copy, P: Allocator + Clone>(
-    alloc: A,
-    explanation: &mut Explanation<P>,
-    files: &[NamedText<'_>],
-    question: &NamedText<'_>,
-    found: &[Found<P>],
-    case: Option<usize>,
-) -> Result<(), OutOfMemory> {
-    match read_good_logs(alloc, files)? {
-        Some(logs) => explain_asked(
-            alloc,
-            explanation,
-            files,
-            question,
-            logs.logs(),
-            found,
-            case,
-        ),
-        None => Ok(()),
+/// What is explained: what was found for the cases of a question, or the sections of a certificate.
+#[derive(Drop)]
+enum Subject<'a, A: Allocator, P: Allocator> {
+    Findings(&'a [Found<P>]),
+    Sections(NamedSections<'a, A>),
+}
+
+impl<'a, A: Allocator + Copy> AskedFiles<'a, A> {
+    /// Adds what is found for the case of a number, or for the first ones: those that are present, or all where none is.
+    pub(crate) fn explain_findings<P: Allocator + Clone>(
+        &self,
+        draft: &mut ExplanationDraft<P>,
+        found: &[Found<P>],
+        case: Option<usize>,
+    ) -> Result<(), OutOfMemory> {
+        self.explain(draft, Subject::Findings(found), case)
     }
-}
 
-/// The same of these logs.
-fn explain_asked<A: Allocator + Copy, P: Allocator + Clone>(
-    alloc: A,
-    explanation: &mut Explanation<P>,
-    files: &[NamedText<'_>],
-    file: &NamedText<'_>,
-    logs: &Logs<A>,
-    found: &[Found<P>],
-    case: Option<usize>,
-) -> Result<(), OutOfMemory>
-    requires { AreGood logs.now }
-{
-    let Some(question) = read_asked(alloc, file, logs.size().get())? else {
-        return Ok(());
-    };
-    let dependencies = DirectDependencies::new(alloc, logs)?;
-    let cases = question.cases();
-    explain_cases(
-        alloc,
-        explanation,
-        files,
-        file,
-        &dependencies,
-        cases,
-        found,
-        case,
-    )
-}
-
-/// The same of these cases.
-fn explain_cases<A: Allocator + Copy, P: Allocator + Clone>(
-    alloc: A,
-    explanation: &mut Explanation<P>,
-    files: &[NamedText<'_>],
-    file: &NamedText<'_>,
-    dependencies: &DirectDependencies<'_, A>,
-    cases: &[Case<A>],
-    found: &[Found<P>],
-    case: Option<usize>,
-) -> Result<(), OutOfMemory>
-    requires good { AreGood dependencies.now }
-    requires places { (i : ℕ) (case : List Conjunct) → slice_get cases.now i ≡ Some case
-        → HasPlacesOf dependencies.now case }
-{
-    match case {
-        Some(number) => explain_one(alloc, explanation, files, file, dependencies, cases, number),
-        None => explain_first(alloc, explanation, files, file, dependencies, cases, found),
+    /// Adds what stands against a certificate: the section of the case of a number, or how many sections there are.
+    pub(crate) fn explain_certificate<P: Allocator + Clone>(
+        &self,
+        draft: &mut ExplanationDraft<P>,
+        certificate: &NamedText<'_>,
+        case: Option<usize>,
+    ) -> Result<(), OutOfMemory> {
+        let Some(read) = read_certificate(self.alloc, certificate)? else {
+            return Ok(());
+        };
+        let sections = NamedSections {
+            file: certificate.name,
+            sections: &read.sections,
+        };
+        self.explain(draft, Subject::Sections(sections), case)
     }
-}
 
-/// Whether a case is present.
-fn is_present<A: Allocator>(found: &Found<A>) -> bool {
-    matches!(found, Found::Present(_))
-}
+    fn explain<P: Allocator + Clone>(
+        &self,
+        draft: &mut ExplanationDraft<P>,
+        subject: Subject<'_, A, P>,
+        case: Option<usize>,
+    ) -> Result<(), OutOfMemory> {
+        match self.good_logs()? {
+            Some(logs) => self.explain_logs(draft, logs.logs(), subject, case),
+            None => Ok(()),
+        }
+    }
 
-/// Adds what is found for the first cases.
-fn explain_first<A: Allocator + Copy, P: Allocator + Clone>(
-    alloc: A,
-    explanation: &mut Explanation<P>,
-    files: &[NamedText<'_>],
-    file: &NamedText<'_>,
-    dependencies: &DirectDependencies<'_, A>,
-    cases: &[Case<A>],
-    found: &[Found<P>],
-) -> Result<(), OutOfMemory>
-    requires good { AreGood dependencies.now }
-    requires places { (i : ℕ) (case : List Conjunct) → slice_get cases.now i ≡ Some case
-        → HasPlacesOf dependencies.now case }
-{
-    let some_present = found.iter().any(|found| matches!(found, Found::Present(_)));
-    let mut told = 0usize;
-    for (number, found) in found.iter().enumerate() {
-        if is_present(found) == some_present {
-            if told < MOST_CASES {
-                explain_one(alloc, explanation, files, file, dependencies, cases, number)?;
+    fn explain_logs<P: Allocator + Clone>(
+        &self,
+        draft: &mut ExplanationDraft<P>,
+        logs: &'a Logs<A>,
+        subject: Subject<'_, A, P>,
+        case: Option<usize>,
+    ) -> Result<(), OutOfMemory>
+        requires { AreGood logs.now }
+    {
+        let Some(question) = self.question_of(logs.size().get())? else {
+            return Ok(());
+        };
+        let dependencies = DirectDependencies::new(self.alloc, logs)?;
+        let ring = AskedRing {
+            alloc: self.alloc,
+            logs: self.logs,
+            file: self.question,
+            dependencies: &dependencies,
+            question: &question,
+        };
+        match (subject, case) {
+            (Subject::Findings(_), Some(number)) => ring.explain_case(draft, number),
+            (Subject::Findings(found), None) => ring.explain_first(draft, found),
+            (Subject::Sections(sections), Some(number)) => match ring.case(number) {
+                Some(case) => case.explain_section(draft, sections),
+                None => Ok(()),
+            },
+            (Subject::Sections(sections), None) => {
+                ring.count_sections(draft, sections);
+                Ok(())
             }
-            told = told.saturating_add(1);
         }
     }
-    if told > MOST_CASES {
-        add_further(alloc, &mut explanation.page, told - MOST_CASES)?;
+}
+
+/// A question about the logs of a ring, and the files of both.
+#[derive(Drop)]
+pub(crate) struct AskedRing<'a, A: Allocator> {
+    pub(crate) alloc: A,
+    /// The files of the logs, by place.
+    pub(crate) logs: &'a [NamedText<'a>],
+    /// The file of the question.
+    file: &'a NamedText<'a>,
+    pub(crate) dependencies: &'a DirectDependencies<'a, A>,
+    question: &'a Question<A>,
+}
+
+impl<'a, A: Allocator + Copy> AskedRing<'a, A> {
+    /// The case of a number, where there is one.
+    fn case(&'a self, number: usize) -> Option<ExplainedCase<'a, A>>
+        requires { self.now.question.now.nodes ≡ length self.now.dependencies.now }
+        ensures ring { IfSome result (λ case. case.ring.now.dependencies.now ≡ self.now.dependencies.now) }
+        ensures places { IfSome result (λ case. HasPlacesOf self.now.dependencies.now case.case.now) }
+    {
+        let file = self.file;
+        let cases = self.question.cases();
+        let case = cases.get(number)?;
+        let lines = AskedLines::of(file, cases, number);
+        Some(ExplainedCase {
+            ring: self,
+            case,
+            number,
+            lines,
+        })
     }
-    Ok(())
-}
 
-/// Adds how many cases aren't told.
-fn add_further<A: Allocator + Copy, P: Allocator>(
-    alloc: A,
-    page: &mut Page<P>,
-    cases: usize,
-) -> Result<(), OutOfMemory> {
-    let cases = NumberOf(cases, "case");
-    page.blank()?;
-    page.line(
-        Mark::Plain,
-        format!(in alloc; "and {cases} more: name one by --case C")?.as_str(),
-    )
-}
-
-/// Adds what is found for the case of a number, where there is one.
-fn explain_one<A: Allocator + Copy, P: Allocator + Clone>(
-    alloc: A,
-    explanation: &mut Explanation<P>,
-    files: &[NamedText<'_>],
-    file: &NamedText<'_>,
-    dependencies: &DirectDependencies<'_, A>,
-    cases: &[Case<A>],
-    number: usize,
-) -> Result<(), OutOfMemory>
-    requires good { AreGood dependencies.now }
-    requires places { (i : ℕ) (case : List Conjunct) → slice_get cases.now i ≡ Some case
-        → HasPlacesOf dependencies.now case }
-{
-    let Some(case) = cases.get(number) else {
-        return add_no_case(alloc, &mut explanation.page, number, cases.len());
-    };
-    let lines = AskedLines::of(file, cases, number);
-    let told = Told {
-        case,
-        number,
-        lines,
-    };
-    explain_case(alloc, explanation, files, dependencies, told)
-}
-
-/// Adds that there is no case of this number.
-fn add_no_case<A: Allocator + Copy, P: Allocator>(
-    alloc: A,
-    page: &mut Page<P>,
-    number: usize,
-    cases: usize,
-) -> Result<(), OutOfMemory> {
-    let cases = NumberOf(cases, "case");
-    page.blank()?;
-    page.line(
-        Mark::Plain,
-        format!(in alloc;
-            "There is no case {number}: the question has {cases}, counted from 0."
-        )?.as_str(),
-    )
-}
-
-/// Adds what stands against a certificate: the section of a case, or the number of its sections.
-pub(crate) fn explain_certificate<A: Allocator + Copy, P: Allocator + Clone>(
-    alloc: A,
-    explanation: &mut Explanation<P>,
-    files: &[NamedText<'_>],
-    question: &NamedText<'_>,
-    certificate: &NamedText<'_>,
-    case: Option<usize>,
-) -> Result<(), OutOfMemory> {
-    let Some(read) = read_certificate(alloc, certificate)? else {
-        return Ok(());
-    };
-    match read_good_logs(alloc, files)? {
-        Some(logs) => {
-            let (logs, sections) = (logs.logs(), read.sections.as_slice());
-            explain_answered(
-                alloc,
-                explanation,
-                files,
-                question,
-                certificate,
-                logs,
-                sections,
-                case,
-            )
+    /// Adds what is found for the first cases.
+    fn explain_first<P: Allocator + Clone>(
+        &self,
+        draft: &mut ExplanationDraft<P>,
+        found: &[Found<P>],
+    ) -> Result<(), OutOfMemory>
+        requires good { AreGood self.now.dependencies.now }
+        requires ring { self.now.question.now.nodes ≡ length self.now.dependencies.now }
+    {
+        let some_present = found.iter().any(|found| matches!(found, Found::Present(_)));
+        let mut told = 0usize;
+        for (number, found) in found.iter().enumerate() {
+            if matches!(found, Found::Present(_)) == some_present {
+                if told < MOST_CASES {
+                    self.explain_case(draft, number)?;
+                }
+                told = told.saturating_add(1);
+            }
         }
-        None => Ok(()),
+        if told > MOST_CASES {
+            let page = &mut draft.page;
+            page.blank();
+            page.begin(Mark::Plain);
+            page.words("and ");
+            page.number_of(told - MOST_CASES, "case");
+            page.words(" more: name one by --case C");
+            page.end();
+        }
+        Ok(())
     }
-}
 
-/// The same of these logs and sections.
-fn explain_answered<A: Allocator + Copy, P: Allocator + Clone>(
-    alloc: A,
-    explanation: &mut Explanation<P>,
-    files: &[NamedText<'_>],
-    file: &NamedText<'_>,
-    certificate: &NamedText<'_>,
-    logs: &Logs<A>,
-    sections: &[Section<A>],
-    case: Option<usize>,
-) -> Result<(), OutOfMemory>
-    requires { AreGood logs.now }
-{
-    let Some(question) = read_asked(alloc, file, logs.size().get())? else {
-        return Ok(());
-    };
-    let cases = question.cases();
-    let Some(number) = case else {
-        return explain_sections(alloc, explanation, file, certificate, cases, sections.len());
-    };
-    let Some(case) = cases.get(number) else {
-        return Ok(());
-    };
-    let told = Told {
-        case,
-        number,
-        lines: AskedLines::of(file, cases, number),
-    };
-    let dependencies = DirectDependencies::new(alloc, logs)?;
-    explain_section(
-        alloc,
-        explanation,
-        files,
-        &dependencies,
-        told,
-        certificate.name,
-        sections,
-    )
+    /// Adds what is found for the case of a number, where there is one.
+    fn explain_case<P: Allocator + Clone>(
+        &self,
+        draft: &mut ExplanationDraft<P>,
+        number: usize,
+    ) -> Result<(), OutOfMemory>
+        requires good { AreGood self.now.dependencies.now }
+        requires ring { self.now.question.now.nodes ≡ length self.now.dependencies.now }
+    {
+        match self.case(number) {
+            Some(case) => case.explain(draft),
+            None => {
+                self.add_no_case(&mut draft.page, number);
+                Ok(())
+            }
+        }
+    }
+
+    /// Adds that there is no case of this number.
+    fn add_no_case<P: Allocator>(&self, page: &mut Page<P>, number: usize) {
+        page.blank();
+        page.begin(Mark::Plain);
+        page.words("There is no case ");
+        page.number(number as u64);
+        page.words(": the question has ");
+        page.number_of(self.question.cases().len(), "case");
+        page.words(", counted from 0.");
+        page.end();
+    }
+
+    /// Adds how many sections a certificate has, and how many are due.
+    fn count_sections<P: Allocator + Clone>(
+        &self,
+        draft: &mut ExplanationDraft<P>,
+        certificate: NamedSections<'_, A>,
+    ) {
+        let (file, cases) = (self.file, self.question.cases());
+        let found = certificate.sections.len();
+        let page = &mut draft.page;
+        page.begin(Mark::Plain);
+        page.show(file.name.as_bytes());
+        page.words(": ");
+        page.number_of(cases.len(), "case");
+        page.words(", so as many sections are due, in their order.");
+        page.end();
+        page.begin(Mark::Plain);
+        page.show(certificate.file.as_bytes());
+        page.words(": ");
+        page.number_of(found, "section");
+        match cases.get(found) {
+            Some(case) => {
+                let lines = AskedLines::of(file, cases, found);
+                page.words("; the first case without one is case ");
+                page.number(found as u64);
+                page.words(", ");
+                lines.add_clauses(page, case.len());
+                page.words(" (");
+                page.place(file.name, lines.line(0));
+                page.words(")");
+                page.end();
+                draft.quoted(file, lines.line(0));
+            }
+            None => page.end(),
+        }
+        draft.hint_apart(
+            "the certificate is of another question: `ira decide --out` writes one for this.",
+        );
+    }
 }

@@ -1,469 +1,371 @@
-ghost use Rattle.std.specs.Prelude.{◌<◌, ◌≤◌, length};
 ghost use Rattle.ira_cert.specs.Conjuncts.{HasPlacesOf};
-ghost use Rattle.ira_order.specs.Ring.{log_of};
 
 use crate::asked_lines::clause_at;
-use crate::case_block::{Told, decide_again};
-use crate::good_ring::state_after;
-use crate::section_lines::section_line;
+use crate::explained_case::ExplainedCase;
+use crate::named_sections::NamedSections;
 use ira_cand::Ahead;
-use ira_cert::{QueueHead, Section, Unsound, case_queues};
+use ira_cert::{CertStep, QueueHead, Unsound, case_queues};
 use ira_elim::Found;
-use ira_event::{Listed, Logs, OutOfMemory};
+use ira_event::{Listed, OutOfMemory};
 use ira_evidence::{SectionEvidence, UnsoundStep, Unspent};
-use ira_explain::{
-    Evidence, Explanation, Front, Mark, NamedText, NumberOf, Page, StateWords, file_of, line_of,
-};
 use ira_node::NodeState;
-use ira_order::{DirectDependencies, HappenedBefore};
+use ira_order::HappenedBefore;
+use ira_replay::States;
+use ira_view_page::{ExplanationDraft, Front, Mark, Page, line_of, log_at};
 use std::alloc::Allocator;
 
 /// At most so many candidates left are told.
 const MOST_LEFT: usize = 5;
 
-/// A line of a certificate's text, and how many steps its section has.
-#[derive(Clone, Copy)]
-struct LineAt<'a> {
-    name: &'a str,
+/// Begins a line of a certificate, as the one that the answer speaks of.
+fn begin_named<P: Allocator>(page: &mut Page<P>, file: &str, line: usize) {
+    page.begin(Mark::Named);
+    page.place(file, line);
+    page.words(": ");
+}
+
+/// Adds the line of a certificate that has this step.
+fn add_step<P: Allocator + Clone>(
+    draft: &mut ExplanationDraft<P>,
+    file: &str,
     line: usize,
-    steps: usize,
+    step: CertStep,
+) {
+    let page = &mut draft.page;
+    begin_named(page, file, line);
+    page.words("drop ");
+    page.number(u64::from(step.node));
+    page.words(" ");
+    page.number(u64::from(step.pos));
+    page.words(" by ");
+    page.number(u64::from(step.other));
+    page.words(" ");
+    page.number(u64::from(step.other_pos));
+    page.end();
+    page.blank();
+    draft.step(file, line, step);
 }
 
-/// Adds why the section of a case isn't sound.
-pub(crate) fn explain_section<A: Allocator + Copy, P: Allocator + Clone>(
-    alloc: A,
-    explanation: &mut Explanation<P>,
-    files: &[NamedText<'_>],
-    dependencies: &DirectDependencies<'_, A>,
-    told: Told<'_, A>,
-    certificate: &str,
-    sections: &[Section<A>],
-) -> Result<(), OutOfMemory>
-    requires { HasPlacesOf dependencies.now told.case.now }
-{
-    let Some(section) = sections.get(told.number) else {
-        return Ok(());
-    };
-    let at = LineAt {
-        name: certificate,
-        line: section_line(sections, told.number).saturating_add(1),
-        steps: section.steps.len(),
-    };
-    let mut queues = case_queues(alloc, dependencies.logs(), told.case)?;
-    match SectionEvidence::find(alloc, dependencies, &mut queues, section)? {
-        Some(SectionEvidence::Unsound(unsound)) => {
-            explain_step(
-                alloc,
-                explanation,
-                dependencies.logs(),
-                &mut queues,
-                told,
-                at,
-                unsound,
-            )?;
-            explain_fault(alloc, &mut explanation.page, files, dependencies, unsound)?;
-            add_outcome(alloc, &mut explanation.page, dependencies, told, false)
-        }
-        Some(SectionEvidence::NotSpent(unspent)) => {
-            explain_unspent(
-                alloc,
-                explanation,
-                files,
-                dependencies.logs(),
-                told,
-                at,
-                &unspent,
-            )?;
-            add_outcome(alloc, &mut explanation.page, dependencies, told, true)
-        }
-        None => Ok(()),
-    }
-}
-
-/// How many candidates of a node are left; nothing where none are listed.
-fn number_left<I: Iterator<Item = u32> + Listed>(
-    queues: &mut [Option<Ahead<I>>],
-    place: u8,
-) -> Option<usize> {
-    let Some(Some(ahead)) = queues.get_mut(usize::from(place)) else {
-        return None;
-    };
-    let mut left = 0usize;
-    while ahead.front().is_some() {
-        left = left.saturating_add(1);
-        ahead.advance();
-    }
-    Some(left)
-}
-
-/// What the steps before one left of a node's candidates, of which these are at hand; nothing where the case asks
-/// nothing of it.
-fn front_of<A: Allocator, I: Iterator<Item = u32> + Listed>(
-    logs: &Logs<A>,
-    queues: &mut [Option<Ahead<I>>],
+/// Adds the line of a certificate that says that a node is spent.
+fn add_spent<P: Allocator + Clone>(
+    draft: &mut ExplanationDraft<P>,
+    file: &str,
+    line: usize,
     node: u8,
-    head: QueueHead,
-) -> Option<Front> {
-    let left = number_left(queues, node)?;
-    let first = match head {
-        QueueHead::First(position) => state_at(logs, node, position),
-        QueueHead::NotAsked | QueueHead::Spent => None,
-    };
-    Some(Front { node, left, first })
-}
-
-/// A number of events of a node, and its state after them.
-fn state_at<A: Allocator>(logs: &Logs<A>, node: u8, events: u32) -> Option<(u32, NodeState)> {
-    if node >= logs.size().get() {
-        return None;
-    }
-    Some((events, state_after(logs.log(node), events)?))
-}
-
-/// Adds whether the case is absent all the same; where it is, perhaps by how many steps.
-fn add_outcome<A: Allocator + Copy, P: Allocator>(
-    alloc: A,
-    page: &mut Page<P>,
-    dependencies: &DirectDependencies<'_, A>,
-    told: Told<'_, A>,
-    with_steps: bool,
-) -> Result<(), OutOfMemory>
-    requires { HasPlacesOf dependencies.now told.case.now }
-{
-    match decide_again(alloc, dependencies, told.case)? {
-        Found::Present(_) => add_met(alloc, page, told.lines.name),
-        Found::Absent(section) if with_steps => {
-            add_absent(alloc, page, section.steps.len(), section.spent)
-        }
-        Found::Absent(_) => {
-            page.paragraph(
-                "The case is absent all the same: `ira decide --out` writes a certificate.",
-            )
-        }
-    }
-}
-
-/// Adds that a case is met.
-fn add_met<A: Allocator + Copy, P: Allocator>(
-    alloc: A,
-    page: &mut Page<P>,
-    question: &str,
-) -> Result<(), OutOfMemory> {
-    page.paragraph(format!(in alloc;
-        "The case is met: no certificate shows it absent. See `ira explain --question {question} LOG..`."
-    )?.as_str())
-}
-
-/// Adds that a case is absent, by a section of so many steps.
-fn add_absent<A: Allocator + Copy, P: Allocator>(
-    alloc: A,
-    page: &mut Page<P>,
-    steps: usize,
-    spent: u8,
-) -> Result<(), OutOfMemory> {
-    let steps = NumberOf(steps, "step");
-    page.paragraph(format!(in alloc;
-        "The case is absent all the same: `ira decide --out` writes a certificate ({steps}, node {spent} spent)."
-    )?.as_str())
-}
-
-/// Begins the line of a certificate that the answer speaks of.
-fn begin_named<P: Allocator>(
-    page: &mut Page<P>,
-    name: &str,
-    line: usize,
-) -> Result<(), OutOfMemory> {
-    page.begin(Mark::Named)?;
-    page.place(name, line)?;
-    page.words(": ")
-}
-
-/// Adds what a case asks of a node, and what the steps before left of its candidates.
-fn add_left<A: Allocator + Copy, P: Allocator>(
-    alloc: A,
-    page: &mut Page<P>,
-    told: Told<'_, A>,
-    place: u8,
-    front: Option<Front>,
-) -> Result<(), OutOfMemory> {
-    page.begin(Mark::Plain)?;
-    page.words("node ")?;
-    page.number(u64::from(place))?;
-    page.words("  ")?;
-    match clause_at(told.case, place) {
-        Some(n) => {
-            page.place(told.lines.name, told.lines.line(n))?;
-            page.words(": ")?;
-            page.quote(told.lines.clause(n))?;
-            page.words("   ")?;
-        }
-        None => {
-            page.words("case ")?;
-            page.number(told.number as u64)?;
-            page.words(" asks nothing of it")?;
-        }
-    }
-    match front {
-        Some(
-            Front {
-                first: Some((position, state)),
-                ..
-            },
-        ) => {
-            let state = StateWords(state);
-            page.words(format!(in alloc; "first candidate left {position}: {state}")?.as_str())?;
-        }
-        Some(Front { first: None, .. }) => page.words("no candidate left")?,
-        None => {}
-    }
-    page.end()
+) {
+    let page = &mut draft.page;
+    begin_named(page, file, line);
+    page.words("spent ");
+    page.number(u64::from(node));
+    page.end();
+    page.blank();
+    draft.spent(file, line, node);
 }
 
 /// Adds the state of a node after so many events.
-fn add_state<A: Allocator + Copy, P: Allocator>(
-    alloc: A,
-    page: &mut Page<P>,
-    logs: &Logs<A>,
-    place: u8,
-    events: u32,
-) -> Result<(), OutOfMemory> {
-    if place >= logs.size().get() {
-        return Ok(());
-    }
-    match state_after(logs.log(place), events) {
-        Some(state) => page.words(format!(in alloc; ": {}", StateWords(state))?.as_str()),
-        None => Ok(()),
-    }
+fn add_position<P: Allocator>(page: &mut Page<P>, position: u32, node: u8) {
+    page.number(u64::from(position));
+    page.words(" of node ");
+    page.number(u64::from(node));
 }
 
-/// Adds what is left of a node's candidates.
-fn add_front<A: Allocator + Copy, P: Allocator + Clone>(
-    alloc: A,
-    explanation: &mut Explanation<P>,
-    told: Told<'_, A>,
-    place: u8,
-    front: Option<Front>,
-) -> Result<(), OutOfMemory> {
-    add_left(alloc, &mut explanation.page, told, place, front)?;
-    if let Some(front) = front {
-        explanation.evidence.push(Evidence::Front(front))?;
-    }
-    Ok(())
-}
-
-/// Adds a step that isn't sound, and what is left of its two nodes.
-fn explain_step<A: Allocator + Copy, P: Allocator + Clone, I: Iterator<Item = u32> + Listed>(
-    alloc: A,
-    explanation: &mut Explanation<P>,
-    logs: &Logs<A>,
-    queues: &mut [Option<Ahead<I>>],
-    told: Told<'_, A>,
-    at: LineAt<'_>,
-    unsound: UnsoundStep,
-) -> Result<(), OutOfMemory> {
-    let step = unsound.step;
-    let (pos, node, other_pos, other) = (step.pos, step.node, step.other_pos, step.other);
-    let line = at.line.saturating_add(unsound.number);
-    let page = &mut explanation.page;
-    begin_named(page, at.name, line)?;
-    page.words(format!(in alloc; "drop {node} {pos} by {other} {other_pos}")?.as_str())?;
-    page.end()?;
-    page.blank()?;
-    let file = explanation.own(at.name)?;
-    explanation
-        .evidence
-        .push(Evidence::Step { file, line, step })?;
-    let front = front_of(logs, queues, node, unsound.own);
-    add_front(alloc, explanation, told, node, front)?;
-    if node != other {
-        let front = front_of(logs, queues, other, unsound.other);
-        add_front(alloc, explanation, told, other, front)?;
-    }
-    explanation.page.blank()
-}
-
-/// Adds why a step isn't sound.
-fn explain_fault<A: Allocator + Copy, P: Allocator>(
-    alloc: A,
-    page: &mut Page<P>,
-    files: &[NamedText<'_>],
-    dependencies: &DirectDependencies<'_, A>,
-    unsound: UnsoundStep,
-) -> Result<(), OutOfMemory> {
-    match unsound.why {
-        Unsound::NotAsked => {
-            page.paragraph("A step speaks of two nodes of which the case asks something.")
+impl<A: Allocator + Copy> ExplainedCase<'_, A> {
+    /// Adds why its section of a certificate isn't sound, where it has one.
+    pub(crate) fn explain_section<P: Allocator + Clone>(
+        &self,
+        draft: &mut ExplanationDraft<P>,
+        certificate: NamedSections<'_, A>,
+    ) -> Result<(), OutOfMemory>
+        requires { HasPlacesOf self.now.ring.now.dependencies.now self.now.case.now }
+    {
+        let Some(section) = certificate.sections.get(self.number) else {
+            return Ok(());
+        };
+        let (alloc, dependencies) = (self.ring.alloc, self.ring.dependencies);
+        let first = certificate.first_step(self.number);
+        let steps = section.steps.len();
+        let mut queues = case_queues(alloc, dependencies.logs(), self.case)?;
+        match SectionEvidence::find(alloc, dependencies, &mut queues, section)? {
+            Some(SectionEvidence::Unsound(unsound)) => {
+                let line = first.saturating_add(unsound.number);
+                add_step(draft, certificate.file, line, unsound.step);
+                self.add_fronts(draft, &mut queues, unsound);
+                self.add_fault(&mut draft.page, unsound);
+                self.add_outcome(&mut draft.page, false)
+            }
+            Some(SectionEvidence::NotSpent(unspent)) => {
+                let line = first.saturating_add(steps);
+                add_spent(draft, certificate.file, line, unspent.place);
+                self.add_unspent(draft, steps, &unspent);
+                self.add_outcome(&mut draft.page, true)
+            }
+            None => Ok(()),
         }
-        Unsound::SameNode => {
-            page.paragraph("A step rules a state of one node out by a state of another.")
+    }
+
+    /// A number of events of a node, and its state after them, where it has so many.
+    fn state_at(&self, node: u8, events: u32) -> Option<(u32, NodeState)> {
+        let log = log_at(self.ring.dependencies.logs(), node)?;
+        for (position, state) in States::new(log.nodes(), log.initiator(), log.events()) {
+            if position == events {
+                return Some((position, state));
+            }
         }
-        Unsound::NodeSpent => {
-            page.paragraph(
+        None
+    }
+
+    /// What the steps before one left of a node's candidates, of which these are at hand; nothing where it asks nothing
+    /// of it.
+    fn front<I: Iterator<Item = u32> + Listed>(
+        &self,
+        queues: &mut [Option<Ahead<I>>],
+        node: u8,
+        head: QueueHead,
+    ) -> Option<Front> {
+        let Some(Some(ahead)) = queues.get_mut(usize::from(node)) else {
+            return None;
+        };
+        let mut left = 0usize;
+        while ahead.front().is_some() {
+            left = left.saturating_add(1);
+            ahead.advance();
+        }
+        let first = match head {
+            QueueHead::First(position) => self.state_at(node, position),
+            QueueHead::NotAsked | QueueHead::Spent => None,
+        };
+        Some(Front { node, left, first })
+    }
+
+    /// Adds what is left of the two nodes of a step.
+    fn add_fronts<P: Allocator + Clone, I: Iterator<Item = u32> + Listed>(
+        &self,
+        draft: &mut ExplanationDraft<P>,
+        queues: &mut [Option<Ahead<I>>],
+        unsound: UnsoundStep,
+    ) {
+        let (node, other) = (unsound.step.node, unsound.step.other);
+        self.add_front(draft, node, self.front(queues, node, unsound.own));
+        if node != other {
+            self.add_front(draft, other, self.front(queues, other, unsound.other));
+        }
+        draft.page.blank();
+    }
+
+    /// Adds what it asks of a node, and what the steps before left of its candidates.
+    fn add_front<P: Allocator + Clone>(
+        &self,
+        draft: &mut ExplanationDraft<P>,
+        node: u8,
+        front: Option<Front>,
+    ) {
+        let page = &mut draft.page;
+        page.begin(Mark::Plain);
+        page.words("node ");
+        page.number(u64::from(node));
+        page.words("  ");
+        match clause_at(self.case, node) {
+            Some(n) => {
+                page.place(self.lines.file(), self.lines.line(n));
+                page.words(": ");
+                page.quote(self.lines.clause(n));
+                page.words("   ");
+            }
+            None => {
+                page.words("case ");
+                page.number(self.number as u64);
+                page.words(" asks nothing of it");
+            }
+        }
+        if let Some(front) = front {
+            match front.first {
+                Some((position, state)) => {
+                    page.words("first candidate left ");
+                    page.number(u64::from(position));
+                    page.words(": ");
+                    page.state(&state);
+                }
+                None => page.words("no candidate left"),
+            }
+            draft.front(front);
+        }
+        draft.page.end();
+    }
+
+    /// Adds why a step isn't sound.
+    fn add_fault<P: Allocator>(&self, page: &mut Page<P>, unsound: UnsoundStep) {
+        match unsound.why {
+            Unsound::NotAsked => {
+                page.paragraph("A step speaks of two nodes of which the case asks something.");
+            }
+            Unsound::SameNode => {
+                page.paragraph("A step rules a state of one node out by a state of another.");
+            }
+            Unsound::NodeSpent => page.paragraph(
                 "After the steps before this one a node of it has no candidate left: the section is done with it.",
-            )
+            ),
+            Unsound::NotFront => self.add_not_first(page, unsound),
+            Unsound::NotBefore => self.add_not_before(page, unsound.step),
         }
-        Unsound::NotFront => explain_front(alloc, page, unsound),
-        Unsound::NotBefore => explain_order(alloc, page, files, dependencies, unsound),
     }
-}
 
-/// Adds which of the two states of a step isn't its node's first candidate left.
-fn explain_front<A: Allocator + Copy, P: Allocator>(
-    alloc: A,
-    page: &mut Page<P>,
-    unsound: UnsoundStep,
-) -> Result<(), OutOfMemory> {
-    let step = unsound.step;
-    let (pos, node, other_pos, other) = (step.pos, step.node, step.other_pos, step.other);
-    let begin = "A step speaks of the first candidate left of each node;";
-    let words = if unsound.other == QueueHead::First(other_pos) {
-        format!(in alloc; "{begin} {pos} of node {node} is not it.")?
-    } else if unsound.own == QueueHead::First(pos) {
-        format!(in alloc; "{begin} {other_pos} of node {other} is not it.")?
-    } else {
-        format!(in alloc;
-            "{begin} {pos} of node {node} and {other_pos} of node {other} are not it."
-        )?
-    };
-    page.paragraph(words.as_str())
-}
-
-/// Adds why the event that leads on from the state of a step didn't happen before the one that led to the other.
-fn explain_order<A: Allocator + Copy, P: Allocator>(
-    alloc: A,
-    page: &mut Page<P>,
-    files: &[NamedText<'_>],
-    dependencies: &DirectDependencies<'_, A>,
-    unsound: UnsoundStep,
-) -> Result<(), OutOfMemory> {
-    let step = unsound.step;
-    let (pos, node, other_pos, other) = (step.pos, step.node, step.other_pos, step.other);
-    let logs = dependencies.logs();
-    let nodes = logs.size().get();
-    if node >= nodes || other >= nodes || other_pos as usize > logs.log(other).len() {
-        return Ok(());
-    }
-    if pos as usize >= logs.log(node).len() {
-        return page.paragraph(format!(in alloc;
-            "State {pos} of node {node} is its last one: no event leads on from it, so nothing can have happened \
-                 after it."
-        )?
-        .as_str());
-    }
-    if other_pos == 0 {
-        return page.paragraph(format!(in alloc;
-            "State 0 of node {other} is there before any event, so nothing happened before it."
-        )?.as_str());
-    }
-    let known = NumberOf(dependencies.count(other, other_pos, node) as usize, "event");
-    let event = pos.saturating_add(1);
-    let (file, line) = (file_of(files, node), line_of(event));
-    let (other_file, other_line) = (file_of(files, other), line_of(other_pos));
-    page.paragraph(format!(in alloc;
-        "State {pos} of node {node} is ruled out where event {event} of node {node} ({file}:{line}) happened before \
-             event {other_pos} of node {other} ({other_file}:{other_line}). But of node {node} only {known} happened \
-             before that one."
-    )?
-    .as_str())
-}
-
-/// Adds a node that has candidates left after all steps of a section, or isn't asked.
-fn explain_unspent<A: Allocator + Copy, P: Allocator + Clone>(
-    alloc: A,
-    explanation: &mut Explanation<P>,
-    files: &[NamedText<'_>],
-    logs: &Logs<A>,
-    told: Told<'_, A>,
-    at: LineAt<'_>,
-    unspent: &Unspent<A>,
-) -> Result<(), OutOfMemory> {
-    let place = unspent.place;
-    let line = at.line.saturating_add(at.steps);
-    let file = explanation.own(at.name)?;
-    explanation.evidence.push(Evidence::Spent {
-        file,
-        line,
-        node: place,
-    })?;
-    let page = &mut explanation.page;
-    begin_named(page, at.name, line)?;
-    page.words("spent ")?;
-    page.number(u64::from(place))?;
-    page.end()?;
-    page.blank()?;
-    match &unspent.left {
-        Some(left) => {
-            add_candidates(alloc, page, told, place, at.steps, left.len())?;
-            add_states(alloc, page, file_of(files, place), logs, place, left)?;
-            let first = left.first().and_then(|first| state_at(logs, place, *first));
-            explanation.evidence.push(Evidence::Front(Front {
-                node: place,
-                left: left.len(),
-                first,
-            }))?;
+    /// Adds which of the two states of a step isn't its node's first candidate left.
+    fn add_not_first<P: Allocator>(&self, page: &mut Page<P>, unsound: UnsoundStep) {
+        let step = unsound.step;
+        let mut text = Page::new(self.ring.alloc);
+        text.words("A step speaks of the first candidate left of each node; ");
+        if unsound.other == QueueHead::First(step.other_pos) {
+            add_position(&mut text, step.pos, step.node);
+            text.words(" is not it.");
+        } else if unsound.own == QueueHead::First(step.pos) {
+            add_position(&mut text, step.other_pos, step.other);
+            text.words(" is not it.");
+        } else {
+            add_position(&mut text, step.pos, step.node);
+            text.words(" and ");
+            add_position(&mut text, step.other_pos, step.other);
+            text.words(" are not it.");
         }
-        None => add_not_asked(page, told.number, place)?,
+        page.paragraph_of(&text);
     }
-    explanation.page.blank()
-}
 
-/// Adds that a case asks nothing of a node.
-fn add_not_asked<P: Allocator>(
-    page: &mut Page<P>,
-    case: usize,
-    place: u8,
-) -> Result<(), OutOfMemory> {
-    page.begin(Mark::Plain)?;
-    page.words("Case ")?;
-    page.number(case as u64)?;
-    page.words(" asks nothing of node ")?;
-    page.number(u64::from(place))?;
-    page.words(".")?;
-    page.end()
-}
-
-/// Adds how many candidates a node has left after so many steps.
-fn add_candidates<A: Allocator + Copy, P: Allocator>(
-    alloc: A,
-    page: &mut Page<P>,
-    told: Told<'_, A>,
-    place: u8,
-    steps: usize,
-    left: usize,
-) -> Result<(), OutOfMemory> {
-    let (steps, left) = (NumberOf(steps, "step"), NumberOf(left, "candidate"));
-    page.begin(Mark::Plain)?;
-    page.words(format!(in alloc;
-        "After {steps} node {place} has {left} left, where it meets `"
-    )?.as_str())?;
-    let n = clause_at(told.case, place).unwrap_or(0);
-    page.quote(told.lines.clause(n))?;
-    page.words("` (")?;
-    page.place(told.lines.name, told.lines.line(n))?;
-    page.words("):")?;
-    page.end()
-}
-
-/// Adds the first of these states of a node.
-fn add_states<A: Allocator + Copy, P: Allocator>(
-    alloc: A,
-    page: &mut Page<P>,
-    file: &str,
-    logs: &Logs<A>,
-    place: u8,
-    states: &[u32],
-) -> Result<(), OutOfMemory> {
-    for position in states.iter().take(MOST_LEFT) {
-        page.begin(Mark::Plain)?;
-        page.words("  state ")?;
-        page.number(u64::from(*position))?;
-        page.words(", after ")?;
-        page.place(file, line_of(*position))?;
-        add_state(alloc, page, logs, place, *position)?;
-        page.end()?;
+    /// Adds why the event that leads on from the state of a step didn't happen before the one that led to the other.
+    fn add_not_before<P: Allocator>(&self, page: &mut Page<P>, step: CertStep) {
+        let (pos, node, other_pos, other) = (step.pos, step.node, step.other_pos, step.other);
+        let dependencies = self.ring.dependencies;
+        let logs = dependencies.logs();
+        let nodes = logs.size().get();
+        if node >= nodes || other >= nodes || other_pos as usize > logs.log(other).len() {
+            return;
+        }
+        let mut text = Page::new(self.ring.alloc);
+        if pos as usize >= logs.log(node).len() {
+            text.words("State ");
+            add_position(&mut text, pos, node);
+            text.words(
+                " is its last one: no event leads on from it, so nothing can have happened after it.",
+            );
+        } else if other_pos == 0 {
+            text.words("State ");
+            add_position(&mut text, other_pos, other);
+            text.words(" is there before any event, so nothing happened before it.");
+        } else {
+            text.words("State ");
+            add_position(&mut text, pos, node);
+            text.words(" is ruled out where event ");
+            self.add_event_of(&mut text, pos.saturating_add(1), node);
+            text.words(" happened before event ");
+            self.add_event_of(&mut text, other_pos, other);
+            text.words(". But of node ");
+            text.number(u64::from(node));
+            text.words(" only ");
+            text.number_of(dependencies.count(other, other_pos, node) as usize, "event");
+            text.words(" happened before that one.");
+        }
+        page.paragraph_of(&text);
     }
-    if states.len() > MOST_LEFT {
-        page.line(Mark::Plain, "  ..")?;
+
+    /// Adds an event of a node, and the line that it stands on.
+    fn add_event_of<P: Allocator>(&self, page: &mut Page<P>, position: u32, node: u8) {
+        add_position(page, position, node);
+        page.words(" (");
+        page.place(self.file_of(node), line_of(position));
+        page.words(")");
     }
-    Ok(())
+
+    /// Adds what so many steps left of a node's candidates, or that it asks nothing of the node.
+    fn add_unspent<P: Allocator + Clone>(
+        &self,
+        draft: &mut ExplanationDraft<P>,
+        steps: usize,
+        unspent: &Unspent<A>,
+    ) {
+        let node = unspent.place;
+        let page = &mut draft.page;
+        page.begin(Mark::Plain);
+        match &unspent.left {
+            Some(left) => {
+                page.words("After ");
+                page.number_of(steps, "step");
+                page.words(" node ");
+                page.number(u64::from(node));
+                page.words(" has ");
+                page.number_of(left.len(), "candidate");
+                page.words(" left, where it meets `");
+                let n = clause_at(self.case, node).unwrap_or(0);
+                page.quote(self.lines.clause(n));
+                page.words("` (");
+                page.place(self.lines.file(), self.lines.line(n));
+                page.words("):");
+                page.end();
+                self.add_states(page, node, left);
+                let first = left.first().and_then(|first| self.state_at(node, *first));
+                let left = left.len();
+                draft.front(Front { node, left, first });
+            }
+            None => {
+                page.words("Case ");
+                page.number(self.number as u64);
+                page.words(" asks nothing of node ");
+                page.number(u64::from(node));
+                page.words(".");
+                page.end();
+            }
+        }
+        draft.page.blank();
+    }
+
+    /// Adds the first of these states of a node.
+    fn add_states<P: Allocator>(&self, page: &mut Page<P>, node: u8, states: &[u32]) {
+        for position in states.iter().take(MOST_LEFT) {
+            page.begin(Mark::Plain);
+            page.words("  state ");
+            page.number(u64::from(*position));
+            page.words(", after ");
+            page.place(self.file_of(node), line_of(*position));
+            if let Some((_, state)) = self.state_at(node, *position) {
+                page.words(": ");
+                page.state(&state);
+            }
+            page.end();
+        }
+        if states.len() > MOST_LEFT {
+            page.line(Mark::Plain, "  ..");
+        }
+    }
+
+    /// Adds whether it is absent all the same; where it is, perhaps by how many steps.
+    fn add_outcome<P: Allocator>(
+        &self,
+        page: &mut Page<P>,
+        with_steps: bool,
+    ) -> Result<(), OutOfMemory>
+        requires { HasPlacesOf self.now.ring.now.dependencies.now self.now.case.now }
+    {
+        let mut text = Page::new(self.ring.alloc);
+        match self.decide()? {
+            Found::Present(_) => {
+                text.words(
+                    "The case is met: no certificate shows it absent. See `ira explain --question ",
+                );
+                text.show(self.lines.file().as_bytes());
+                text.words(" LOG..`.");
+            }
+            Found::Absent(section) => {
+                text.words(
+                    "The case is absent all the same: `ira decide --out` writes a certificate",
+                );
+                if with_steps {
+                    text.words(" (");
+                    text.number_of(section.steps.len(), "step");
+                    text.words(", node ");
+                    text.number(u64::from(section.spent));
+                    text.words(" spent)");
+                }
+                text.words(".");
+            }
+        }
+        page.paragraph_of(&text);
+        Ok(())
+    }
 }

@@ -1,173 +1,137 @@
-use ira_event::{OutOfMemory, scan_number, skip_word};
-use ira_explain::{Explanation, Mark, NamedText, NumberOf, Remark, Slip, split_line};
+ghost use Rattle.ira_view_page.specs.Printable.{IsPrintable};
+
+use ira_explain::Slip;
+use ira_view_page::{ExplanationDraft, Mark, NamedText, Page, Remark, split_line};
 use std::alloc::Allocator;
-
-/// The texts that are asked together with logs.
-#[derive(Clone, Copy, Debug, PartialEq, Eq)]
-pub(crate) enum Form {
-    Question,
-    Certificate,
-}
-
-impl Form {
-    /// Its first line.
-    fn first_line(self) -> &'static str {
-        match self {
-            Form::Question => "irask 1",
-            Form::Certificate => "ircert 1",
-        }
-    }
-}
+use std::ops::Range;
 
 /// How many lines stand in front of the first case or section.
 pub(crate) const HEAD_LINES: usize = 2;
 
-/// The line of that number, after the head, which is the k-th that is this word.
-pub(crate) fn line_of_word(file: &NamedText<'_>, word: &[u8], k: usize) -> Option<usize> {
-    let mut rest = file.from_line(HEAD_LINES + 1);
-    let mut found = 0usize;
-    for number in 0..file.whole_lines() {
-        let (line, after) = split_line(rest)?;
-        if line == word {
-            found = found.saturating_add(1);
-        }
-        if found == k {
-            return Some(number.saturating_add(HEAD_LINES + 1));
-        }
-        rest = after;
+/// A text that is asked together with logs, and what memory is taken from while it is explained.
+#[derive(Drop)]
+pub(crate) struct AskedText<'a, A: Allocator> {
+    pub(crate) alloc: &'a A,
+    pub(crate) file: &'a NamedText<'a>,
+}
+
+impl<'a, A: Allocator + Clone> AskedText<'a, A> {
+    pub(crate) fn new(alloc: &'a A, file: &'a NamedText<'a>) -> AskedText<'a, A> {
+        AskedText { alloc, file }
     }
-    None
-}
 
-/// Adds a line of a file as the one that the answer speaks of, with carets below all of it and what there is to say of it.
-pub(crate) fn point_line<A: Allocator + Clone>(
-    explanation: &mut Explanation<A>,
-    file: &NamedText<'_>,
-    number: usize,
-    remark: Remark,
-    words: &str,
-) -> Result<(), OutOfMemory> {
-    explanation.point(file, number, 0, file.line(number).len(), remark, words)
-}
+    /// The number of the line, after the head, which is the k-th that is this word.
+    pub(crate) fn line_of_word(&self, word: &[u8], k: usize) -> Option<usize> {
+        let mut rest = self.file.from_line(HEAD_LINES + 1);
+        let mut found = 0usize;
+        for number in 0..self.file.whole_lines() {
+            let (line, after) = split_line(rest)?;
+            if line == word {
+                found = found.saturating_add(1);
+            }
+            if found == k {
+                return Some(number.saturating_add(HEAD_LINES + 1));
+            }
+            rest = after;
+        }
+        None
+    }
 
-/// Adds a line of a file as the one that the answer speaks of, with a caret below a byte of it and what is due there.
-pub(crate) fn point_due<A: Allocator + Clone>(
-    explanation: &mut Explanation<A>,
-    file: &NamedText<'_>,
-    number: usize,
-    byte: usize,
-    due: &str,
-) -> Result<(), OutOfMemory> {
-    explanation.point(file, number, byte, byte, Remark::Due, due)
+    /// All bytes of a line.
+    pub(crate) fn bytes(&self, line: usize) -> Range<usize> {
+        0..self.file.line(line).len()
+    }
+
+    /// Adds a line as the one that the answer speaks of, with carets below these bytes of it and a remark beside them.
+    pub(crate) fn point(
+        &self,
+        draft: &mut ExplanationDraft<A>,
+        line: usize,
+        bytes: Range<usize>,
+        remark: Remark,
+        words: &str,
+    )
+        requires { IsPrintable words.now }
+    {
+        let mut page = Page::new(self.alloc);
+        page.words(words);
+        draft.point(self.file, line, bytes.start, bytes.end, remark, &page);
+    }
+
+    /// Adds a line as the one that the answer speaks of, and what there is to say of all of it.
+    pub(crate) fn note(&self, draft: &mut ExplanationDraft<A>, line: usize, words: &str)
+        requires { IsPrintable words.now }
+    {
+        self.point(draft, line, self.bytes(line), Remark::Note, words);
+    }
+
+    /// Adds what is wrong with its head, which has this first line.
+    pub(crate) fn explain_head(&self, draft: &mut ExplanationDraft<A>, first_line: &str)
+        requires { IsPrintable first_line.now }
+    {
+        let line = self.file.line(1);
+        let number = if line == first_line.as_bytes() { 2 } else { 1 };
+        let whole = self.file.whole_lines();
+        if number > whole {
+            let page = &mut draft.page;
+            page.begin(Mark::Plain);
+            page.show(self.file.name.as_bytes());
+            page.words(": ");
+            page.number_of(whole, "whole line");
+            page.words("; the head has two.");
+            page.end();
+            return draft.text(self.file);
+        }
+        if number == 1 {
+            let mut due = Page::new(self.alloc);
+            due.words("`");
+            due.words(first_line);
+            due.words("`");
+            draft.point(self.file, 1, 0, line.len(), Remark::Due, &due);
+        } else {
+            let due = "`nodes N` with N from 2 to 255";
+            self.point(draft, 2, self.bytes(2), Remark::Due, due);
+        }
+        add_format_hint(draft, self.file.line(number));
+    }
+
+    /// Adds where it ends before a whole end line.
+    pub(crate) fn explain_cut(&self, draft: &mut ExplanationDraft<A>) {
+        let whole = self.file.whole_lines();
+        let number = whole.saturating_add(1);
+        let end = self.file.line(number).len();
+        if end == 0 {
+            self.note(draft, whole, "the last line; `end` is due after it");
+        } else {
+            self.point(draft, number, end..end, Remark::Due, "a line feed");
+        }
+    }
+
+    /// Adds what follows the end line, which is the first that says `end`.
+    pub(crate) fn explain_trailing(&self, draft: &mut ExplanationDraft<A>) {
+        let Some(end) = self.line_of_word(b"end", 1) else {
+            return;
+        };
+        let mut words = Page::new(self.alloc);
+        words.words("nothing stands after the end line (line ");
+        words.number(end as u64);
+        words.words(")");
+        let number = end.saturating_add(1);
+        let bytes = self.file.line(number).len();
+        draft.point(self.file, number, 0, bytes, Remark::Note, &words);
+    }
 }
 
 /// Adds what the file's format does to a line, if that is wrong with it, and tells whether it is.
 pub(crate) fn add_format_hint<A: Allocator + Clone>(
-    explanation: &mut Explanation<A>,
+    draft: &mut ExplanationDraft<A>,
     line: &[u8],
-) -> Result<bool, OutOfMemory> {
+) -> bool {
     match Slip::of_format(line) {
         Some(slip) => {
-            explanation.hint_apart(slip.hint())?;
-            Ok(true)
+            draft.hint_apart(slip.hint());
+            true
         }
-        None => Ok(false),
-    }
-}
-
-/// The first line of the head that isn't as it should be, if it is whole.
-fn head_stop(file: &NamedText<'_>, form: Form) -> usize {
-    if file.line(1) == form.first_line().as_bytes() {
-        2
-    } else {
-        1
-    }
-}
-
-/// Adds what is wrong with the head of a text.
-pub(crate) fn explain_head<A: Allocator + Clone>(
-    alloc: A,
-    explanation: &mut Explanation<A>,
-    file: &NamedText<'_>,
-    form: Form,
-) -> Result<(), OutOfMemory> {
-    let number = head_stop(file, form);
-    let whole = file.whole_lines();
-    if number > whole {
-        return explain_short_head(alloc, explanation, file, whole);
-    }
-    let due = if number == 1 {
-        format!(in alloc; "`{}`", form.first_line())?
-    } else {
-        String::from_str(alloc, "`nodes N` with N from 2 to 255")?
-    };
-    point_line(explanation, file, number, Remark::Due, &due)?;
-    add_format_hint(explanation, file.line(number))?;
-    Ok(())
-}
-
-fn explain_short_head<A: Allocator + Clone>(
-    alloc: A,
-    explanation: &mut Explanation<A>,
-    file: &NamedText<'_>,
-    whole: usize,
-) -> Result<(), OutOfMemory> {
-    let lines = NumberOf(whole, "whole line");
-    let words = format!(in alloc; "{}: {lines}; the head has two.", file.name)?;
-    explanation.page.line(Mark::Plain, &words)?;
-    explanation.add_text(file)
-}
-
-/// Adds where a text ends before a whole end line.
-pub(crate) fn explain_cut<A: Allocator + Clone>(
-    explanation: &mut Explanation<A>,
-    file: &NamedText<'_>,
-) -> Result<(), OutOfMemory> {
-    let whole = file.whole_lines();
-    let number = whole.saturating_add(1);
-    let piece = file.line(number);
-    if piece.is_empty() {
-        let words = "the last line; `end` is due after it";
-        point_line(explanation, file, whole, Remark::Note, words)
-    } else {
-        point_due(explanation, file, number, piece.len(), "a line feed")
-    }
-}
-
-/// Adds what follows the end line, which is the first that says `end`.
-pub(crate) fn explain_trailing<A: Allocator + Clone>(
-    alloc: A,
-    explanation: &mut Explanation<A>,
-    file: &NamedText<'_>,
-) -> Result<(), OutOfMemory> {
-    let Some(end) = line_of_word(file, b"end", 1) else {
-        return Ok(());
-    };
-    let words = format!(in alloc; "nothing stands after the end line (line {end})")?;
-    point_line(
-        explanation,
-        file,
-        end.saturating_add(1),
-        Remark::Note,
-        &words,
-    )
-}
-
-/// The number that a text's second line names.
-pub(crate) fn nodes_of(file: &NamedText<'_>) -> Option<u32> {
-    let (nodes, _) = scan_number(skip_word(file.line(2), b"nodes ")?)?;
-    Some(nodes)
-}
-
-/// Adds the lines by which a text and the logs are of rings of different sizes.
-pub(crate) fn explain_ring_size<A: Allocator + Clone>(
-    explanation: &mut Explanation<A>,
-    file: &NamedText<'_>,
-    logs: &[NamedText<'_>],
-) -> Result<(), OutOfMemory> {
-    explanation.quote(Mark::Named, file, 2)?;
-    match logs.first() {
-        Some(log) => explanation.quote(Mark::Plain, log, 2),
-        None => Ok(()),
+        None => false,
     }
 }

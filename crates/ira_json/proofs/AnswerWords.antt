@@ -25,7 +25,8 @@ use Rattle.ira_cert.specs.declared.unsound.Unsound.{Unsound}
 use Rattle.ira_cert.specs.declared.unsound.Unsound.TheVariants.{NotAsked, SameNode, NodeSpent, NotFront, NotBefore}
 use Rattle.ira_audit.specs.Report.{ask_fault_words, cert_fault_words, head_fault_words, log_fault_words, numbered}
 use Rattle.ira_audit.specs.Report.{match_reason_words, reason_words, receipt_words, report_line, section_fault_words}
-use Rattle.ira_audit.specs.Report.{step_fault_words, unsound_words}
+use Rattle.ira_node.specs.StepFault.{step_fault_words}
+use Rattle.ira_audit.specs.Report.{unsound_words}
 use Rattle.ira_audit.specs.declared.answer.Answer.{Answer}
 use Rattle.ira_audit.specs.declared.answer.Answer.TheVariants.{Yes, No}
 use Rattle.ira_audit.specs.declared.reason.Reason.{Reason}

@@ -1,19 +1,18 @@
 -- Lists of values, and the lines of cases.
-use Rattle.std.proofs.Common.{◌≡◌, ◌∙◌, ℕ, ◌+◌, ◌<◌, false, List, [], ◌∷◌, ◌++◌, Option, ap, get_or, length, map}
-use Rattle.std.proofs.Common.{nat_eq}
+use Rattle.std.proofs.Common.{◌≡◌, ◌∙◌, ℕ, ◌+◌, ◌<◌, false, List, [], ◌∷◌, ◌++◌, ap, get_or, length, map}
 use Rattle.std.proofs.Common.{refl, sym, take}
 use Rattle.std.specs.Prelude.{◌==◌, codes}
-use Rattle.std.specs.List.{enumerate_from, find}
+use Rattle.std.specs.List.{enumerate_from}
 use Rattle.std.proofs.lemmas.List.{map-append, take_more}
-use Rattle.serde_json.specs.Data.{Data, Members, array, object, put}
+use Rattle.serde_json.specs.Data.{Data, Members, array, put}
 use Rattle.serde_json.specs.View.{items_of, view}
 use Rattle.serde_json.specs.declared.value.Value.{Value}
 use Rattle.ira_elim.specs.declared.found.Found.{Found}
-use Rattle.ira_explain.specs.declared.asked_case.AskedCase.{AskedCase}
-use Rattle.ira_explain.specs.declared.evidence.Evidence.{Evidence}
-use Rattle.ira_json.specs.AnswerValue.{case_value, found_members}
+use Rattle.ira_view_page.specs.declared.asked_case.AskedCase.{AskedCase}
+use Rattle.ira_view_page.specs.declared.evidence.Evidence.{Evidence}
+use Rattle.ira_json.specs.AnswerValue.{case_value}
 use Rattle.ira_json.specs.EvidenceValue.{evidence_value}
-use Rattle.ira_json.specs.ExplainedFindings.{explained_case, with_asks}
+use Rattle.ira_json.specs.ExplainedFindings.{explained_case}
 use Rattle.ira_json.specs.ExplainedValue.{with_evidence}
 
 -- a value more for an element more
@@ -30,14 +29,6 @@ pub some_evidence : {A : Type 0} (evidence : List (Evidence A)) (members : Membe
     → put (codes "evidence") (array (items_of (map evidence_value evidence))) members ≡ with_evidence evidence members
 some_evidence [] members none = absurd cc
 some_evidence (e ∷ es) members some = refl
-
--- the object of a case, whose members are these
-pub case_is : {A B : Type 0} (explained : List (AskedCase A)) (case : ℕ) (found : Found B)
-    (asked : Option (AskedCase A))
-    (members : Members) → asked ≡ find (λ a. nat_eq a.number case) explained
-    → members ≡ with_asks asked (found_members case found) → object members ≡ explained_case explained (case, found)
-case_is explained case found asked members at is =
-    ap object is ∙ ap (λ o. object (with_asks o (found_members case found))) at
 
 -- where no case is explained, none has what it asks
 pub none_explained : (A : Type 0) {B : Type 0} (cases : List (ℕ × Found B)) → map (explained_case {A = A} []) cases

@@ -2,3 +2,4 @@ pub mod AnswerWords
 pub mod ExplainedLists
 pub mod LineTexts
 pub mod LinesWritten
+pub mod Putting

@@ -1,11 +1,16 @@
 -- Lines that are written one after the other.
-use Rattle.std.proofs.Common.{◌≡◌, ℕ, List, [], ◌∷◌, ◌++◌, Result, Ok, Err, inl, inr, refl}
-use Rattle.serde_json.specs.Data.{Data}
+use Rattle.std.proofs.Common.{◌≡◌, ◌∙◌, ℕ, List, [], ◌∷◌, ◌++◌, Option, Result, Ok, Err, IfOk, ap, inl, inr, refl}
+use Rattle.std.specs.Prelude.{codes}
+use Rattle.serde_json.specs.Data.{Data, object}
+use Rattle.serde_json.specs.View.{members_view, view}
+use Rattle.serde_json.specs.declared.value.Value.{Value}
 use Rattle.ira_event.specs.Sink.{SinkState, StopsIn, Takes}
 use Rattle.ira_event.proofs.Writing.{Appends-nothing, Takes-append, Takes-StopsIn}
-use Rattle.ira_show.specs.declared.show_fault.ShowFault.{ShowFault}
-use Rattle.ira_show.specs.declared.show_fault.ShowFault.TheVariants.{OutOfMemory, Write}
+use Rattle.ira_view_page.specs.declared.show_fault.ShowFault.{ShowFault}
+use Rattle.ira_view_page.specs.declared.show_fault.ShowFault.TheVariants.{OutOfMemory, Write}
 use Rattle.ira_json.specs.Line.{AreLines, IsLineOf, OfLines, WroteLine, WroteLines}
+use Rattle.ira_json.specs.Members.{with_number, with_words}
+use Rattle.ira_json.specs.Object.{Entries, Gives, Puts}
 use Rattle.ira_json.specs.ShownAnswer.{IsRingText, IsYes, OfRingText, WroteRing}
 use Rattle.ira_json.proofs.LineTexts.{lines_append, no_lines, one_line}
 
@@ -52,6 +57,16 @@ wrote_then (Err Write) s t u so_far more = part_taken s t u so_far more
 pub failed_then : {T : Type 0} (r : Result T ShowFault) (f : ShowFault) (s t u : SinkState) → r ≡ Err f
     → OfLines (λ text. Takes text s t) → WroteLines {T = T} (Err f) t u → WroteLines r s u
 failed_then {T} r f s t u is so_far more = rw is (wrote_then {T = T} (Err f) s t u so_far more)
+
+-- an object that was told the status, and then that the answer is yes
+pub says_yes : {E : Type 0} {a b c : Option Entries} (r : Result Value E) (status : ℕ)
+    → Puts (with_number (codes "status") status) a b → Puts (with_words (codes "answer") (codes "yes")) b c → Gives c r
+    → IfOk r (λ value. IsYes status (view value))
+says_yes (Ok value) status p q gives =
+    let r = q.ends gives.0 gives.1 in
+    let s = p.ends r.0 r.1 in
+    (members_view s.0, gives.2 ∙ ap object (r.2 ∙ ap (with_words (codes "answer") (codes "yes")) s.2))
+says_yes (Err e) status p q gives = tt
 
 -- the answer alone
 answer_text : (status : ℕ) (value : Data) (line : List ℕ) → IsYes status value → IsLineOf value line

@@ -1,28 +1,29 @@
 -- What the evidence of an answer is as JSON: objects, each with a role.
-use Rattle.std.specs.Prelude.{ℕ, ◌+◌, List, Option, Some, None, codes, string_bytes}
+use Rattle.std.specs.Prelude.{ℕ, ◌+◌, Bool, List, Option, Some, None, codes, string_bytes}
 use Rattle.serde_json.specs.Data.{Data, Members, boolean, member, no_members, object, put, string}
 use Rattle.ira_cert_text.specs.declared.cert_step.CertStep.{CertStep}
 use Rattle.ira_node.specs.declared.node_state.NodeState.{NodeState}
-use Rattle.ira_audit.specs.Report.{step_fault_words}
-use Rattle.ira_explain.specs.Record.{record_words}
-use Rattle.ira_explain.specs.declared.evidence.Evidence.{Evidence}
-use Rattle.ira_explain.specs.declared.evidence.Evidence.TheVariants.{Text, Line, Head, Sent, Received, Faulty}
-use Rattle.ira_explain.specs.declared.evidence.Evidence.TheVariants.{OtherFaulty}
-use Rattle.ira_explain.specs.declared.evidence.Evidence.TheVariants.{Step, Spent, Front as FrontOf}
-use Rattle.ira_explain.specs.declared.front.Front.{Front}
-use Rattle.ira_explain.specs.declared.head_row.HeadRow.{HeadRow}
-use Rattle.ira_explain.specs.declared.quoted_line.Carets.{Carets}
-use Rattle.ira_explain.specs.declared.quoted_line.QuotedLine.{QuotedLine}
-use Rattle.ira_explain.specs.declared.record_at.RecordAt.{RecordAt}
-use Rattle.ira_explain.specs.declared.remark.Remark.{Remark}
-use Rattle.ira_explain.specs.declared.remark.Remark.TheVariants.{Due, Note}
+use Rattle.ira_node.specs.declared.step_fault.StepFault.{StepFault}
+use Rattle.ira_node.specs.StepFault.{step_fault_words}
+use Rattle.ira_view_page.specs.Words.{event_text}
+use Rattle.ira_view_page.specs.declared.evidence.Evidence.{Evidence}
+use Rattle.ira_view_page.specs.declared.evidence.Evidence.TheVariants.{Text, Line, Head, Sent, Received, Faulty}
+use Rattle.ira_view_page.specs.declared.evidence.Evidence.TheVariants.{OtherFaulty}
+use Rattle.ira_view_page.specs.declared.evidence.Evidence.TheVariants.{Step, Spent, Front as FrontOf}
+use Rattle.ira_view_page.specs.declared.front.Front.{Front}
+use Rattle.ira_view_page.specs.declared.head_row.HeadRow.{HeadRow}
+use Rattle.ira_view_page.specs.declared.quoted_line.Carets.{Carets}
+use Rattle.ira_view_page.specs.declared.quoted_line.QuotedLine.{QuotedLine}
+use Rattle.ira_view_page.specs.declared.record_at.RecordAt.{RecordAt}
+use Rattle.ira_view_page.specs.declared.remark.Remark.{Remark}
+use Rattle.ira_view_page.specs.declared.remark.Remark.TheVariants.{Due, Note}
 use Rattle.ira_json.specs.Members.{with_number, with_words}
 use Rattle.ira_json.specs.StateValue.{with_state}
 
 -- an event: its node and its number, and its record, which stands four lines further on in its file
 abbrev pub with_record : {A : Type 0} → RecordAt A → Members → Members
 with_record at members =
-    with_words (codes "record") (record_words at.event)
+    with_words (codes "record") (event_text at.event)
     (with_number (codes "line") (at.at.position + 4)
     (with_words (codes "file") (string_bytes at.file)
     (with_number (codes "event") at.at.position
@@ -55,6 +56,12 @@ with_head row members =
     (with_number (codes "nodes") row.nodes
     (with_words (codes "file") (string_bytes row.file)
     (with_number (codes "log") row.log members))))
+
+-- another node's event, why it has no step, and whether it came first
+abbrev pub with_other : {A : Type 0} → RecordAt A → StepFault → Bool → Members → Members
+with_other at fault happened_before members =
+    put (codes "happened_before") (boolean happened_before)
+    (with_words (codes "fault") (step_fault_words fault) (with_record at members))
 
 -- a line of a certificate, and the node that it is about
 abbrev pub with_place : List ℕ → ℕ → ℕ → Members → Members
@@ -101,9 +108,7 @@ with_told (Head row) members = with_head row members
 with_told (Sent at) members = with_record at members
 with_told (Received at) members = with_record at members
 with_told (Faulty at) members = with_record at members
-with_told (OtherFaulty at fault happened_before) members =
-    put (codes "happened_before") (boolean happened_before)
-    (with_words (codes "fault") (step_fault_words fault) (with_record at members))
+with_told (OtherFaulty at fault happened_before) members = with_other at fault happened_before members
 with_told (Step file line step) members = with_step step (with_place (string_bytes file) line step.node members)
 with_told (Spent file line node) members = with_place (string_bytes file) line node members
 with_told (FrontOf front) members = with_front front members

@@ -8,9 +8,9 @@ use Rattle.ira_audit.specs.Findings.{is_present}
 use Rattle.ira_audit.specs.declared.answer.Answer.TheVariants.{No}
 use Rattle.ira_audit.specs.declared.findings.Findings.{Findings}
 use Rattle.ira_audit.specs.declared.findings.Findings.TheVariants.{Refused, Cases}
-use Rattle.ira_explain.specs.declared.asked_case.AskedCase.{AskedCase}
-use Rattle.ira_explain.specs.declared.asked_case.AskedNode.{AskedNode}
-use Rattle.ira_explain.specs.declared.explanation.Explanation.{Explanation}
+use Rattle.ira_view_page.specs.declared.asked_case.AskedCase.{AskedCase}
+use Rattle.ira_view_page.specs.declared.asked_case.AskedNode.{AskedNode}
+use Rattle.ira_view_page.specs.declared.explanation.Explanation.{Explanation}
 use Rattle.ira_json.specs.AnswerValue.{decision_word, found_members, worded_members}
 use Rattle.ira_json.specs.ExplainedValue.{explained_value, with_explanation}
 use Rattle.ira_json.specs.Members.{with_number, with_words}

@@ -16,7 +16,8 @@ use Rattle.ira_cert_text.specs.declared.cert_fault.CertFault.{CertFault}
 use Rattle.ira_cert_text.specs.declared.cert_fault.CertFault.TheVariants as cert
 use Rattle.ira_cert.specs.declared.section_fault.SectionFault.{SectionFault}
 use Rattle.ira_cert.specs.declared.section_fault.SectionFault.TheVariants.{Step, NotSpent}
-use Rattle.ira_audit.specs.Report.{step_fault_words, unsound_words}
+use Rattle.ira_node.specs.StepFault.{step_fault_words}
+use Rattle.ira_audit.specs.Report.{unsound_words}
 use Rattle.ira_audit.specs.declared.answer.Answer.{Answer}
 use Rattle.ira_audit.specs.declared.answer.Answer.TheVariants.{Yes, No}
 use Rattle.ira_audit.specs.declared.reason.Reason.{Reason}
@@ -24,9 +25,9 @@ use Rattle.ira_audit.specs.declared.reason.Reason.TheVariants.{Log, Heads, Match
 use Rattle.ira_audit.specs.declared.reason.Reason.TheVariants.{QuestionSize, Certificate, CertificateSize, Sections}
 use Rattle.ira_audit.specs.declared.reason.Reason.TheVariants.{Section}
 use Rattle.ira_node.specs.declared.node_state.NodeState.{NodeState}
-use Rattle.ira_explain.specs.declared.evidence.Evidence.{Evidence}
-use Rattle.ira_explain.specs.declared.explanation.Explanation.{Explanation}
-use Rattle.ira_explain.specs.declared.ring_counts.RingCounts.{RingCounts}
+use Rattle.ira_view_page.specs.declared.evidence.Evidence.{Evidence}
+use Rattle.ira_view_page.specs.declared.explanation.Explanation.{Explanation}
+use Rattle.ira_view_page.specs.declared.ring_counts.RingCounts.{RingCounts}
 use Rattle.ira_json.specs.AnswerValue.{answer_members}
 use Rattle.ira_json.specs.EvidenceValue.{evidence_value}
 use Rattle.ira_json.specs.Members.{with_number, with_words}

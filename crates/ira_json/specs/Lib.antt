@@ -5,5 +5,6 @@ pub mod ExplainedFindings
 pub mod ExplainedValue
 pub mod Line
 pub mod Members
+pub mod Object
 pub mod ShownAnswer
 pub mod StateValue

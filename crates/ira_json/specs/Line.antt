@@ -5,8 +5,8 @@ use Rattle.serde_json.specs.Data.{Data, depth}
 use Rattle.serde_json.specs.Read.{max_depth, read}
 use Rattle.serde_json.specs.Written.{compact_text, has_float}
 use Rattle.ira_event.specs.Sink.{SinkState, StopsIn, Takes}
-use Rattle.ira_show.specs.declared.show_fault.ShowFault.{ShowFault}
-use Rattle.ira_show.specs.declared.show_fault.ShowFault.TheVariants.{OutOfMemory, Write}
+use Rattle.ira_view_page.specs.declared.show_fault.ShowFault.{ShowFault}
+use Rattle.ira_view_page.specs.declared.show_fault.ShowFault.TheVariants.{OutOfMemory, Write}
 
 -- the text ends in a line feed, and what stands in front of it reads as the value, where that nests no deeper than
 -- readers take it; it is the value's compact text, where the value has no float

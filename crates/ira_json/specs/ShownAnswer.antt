@@ -2,8 +2,8 @@
 use Rattle.std.specs.Prelude.{◌≡◌, ◌⊎◌, ℕ, List, ◌∷◌, Result, Ok, Err, codes}
 use Rattle.serde_json.specs.Data.{Data, Members, object}
 use Rattle.ira_event.specs.Sink.{SinkState, StopsIn, Takes}
-use Rattle.ira_show.specs.declared.show_fault.ShowFault.{ShowFault}
-use Rattle.ira_show.specs.declared.show_fault.ShowFault.TheVariants.{OutOfMemory, Write}
+use Rattle.ira_view_page.specs.declared.show_fault.ShowFault.{ShowFault}
+use Rattle.ira_view_page.specs.declared.show_fault.ShowFault.TheVariants.{OutOfMemory, Write}
 use Rattle.ira_json.specs.Line.{AreLinesOf}
 use Rattle.ira_json.specs.Members.{with_number, with_words}
 

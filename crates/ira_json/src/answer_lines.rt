@@ -8,13 +8,13 @@ ghost use Rattle.ira_json.specs.ExplainedFindings.{explained_case, explained_fin
 ghost use Rattle.ira_json.specs.ExplainedValue.{explained_value};
 ghost use Rattle.ira_json.specs.Line.{AreLinesOf, IsLineOf};
 
-use crate::answer_values::{answer_members, cases_value, explained_case, explained_decision};
+use crate::answer_values::{answer_value, cases_value, explained_case, explained_decision};
 use crate::explained::explained_value;
 use crate::line::line_of;
 use ira_audit::{Answer, Findings};
 use ira_elim::Found;
 use ira_event::OutOfMemory;
-use ira_explain::{AskedCase, Explanation};
+use ira_view_page::{AskedCase, Explanation};
 use serde_json::Value;
 use std::alloc::{Allocator, Global};
 
@@ -23,14 +23,11 @@ pub fn answer_line(alloc: Global, answer: &Answer, status: u8) -> Result<String,
     requires { IsReportable answer.now }
     ensures { IfOk result (λ text. IsLineOf (answer_value status answer.now) (string_bytes text)) }
 {
-    line_of(
-        alloc,
-        &Value::Object(answer_members(alloc, answer, status)?),
-    )
+    line_of(alloc, &answer_value(alloc, answer, status)?)
 }
 
-/// The line of an answer with its reason and what it rests on, and the status that goes with it. The answer must not say that
-/// memory ran out.
+/// The line of an answer with its reason and what it rests on, and the status that goes with it. The answer must not
+/// say that memory ran out.
 pub fn explained_line<A: Allocator>(
     alloc: Global,
     answer: &Answer,
@@ -72,8 +69,8 @@ fn cases_lines<A: Allocator, B: Allocator>(
     Ok(text)
 }
 
-/// The lines of findings, with the status that goes with them: for a refusal that of its answer, else one for the decision,
-/// and one for each case. The reason must not say that memory ran out.
+/// The lines of findings, with the status that goes with them: for a refusal that of its answer, else one for the
+/// decision, and one for each case. The reason must not say that memory ran out.
 pub fn findings_lines<A: Allocator>(
     alloc: Global,
     findings: &Findings<A>,

@@ -1,20 +1,16 @@
-ghost use Rattle.std.specs.Prelude.{◌≡◌, ◌≤◌, IfOk, length};
+ghost use Rattle.std.specs.Prelude.{◌≤◌, length};
 ghost use Rattle.ira_order.specs.Circle.{HasOrder};
 ghost use Rattle.ira_order.specs.Cut.{IsConsistentCut};
 ghost use Rattle.ira_json.specs.Line.{WroteLines};
 
 use crate::line_block::LineBlock;
-use crate::values::{members_of, put_number, put_state, put_words};
+use crate::object::Object;
 use ira_event::{Event, Logs, NodeLog, OutOfMemory, Sink};
-use ira_explain::EventWords;
 use ira_node::NodeState;
-use ira_show::ShowFault;
 use ira_trail::{Trail, TrailStep};
-use serde_json::{Value, put};
+use ira_view_page::{ShowFault, line_of};
+use serde_json::Value;
 use std::alloc::{Allocator, Global};
-
-/// How many lines stand in front of a log's first record.
-const HEAD_LINES: u32 = 4;
 
 /// An event, which is step `number` of a trail, and the state of its node after it.
 fn event_value(
@@ -24,25 +20,19 @@ fn event_value(
     event: Event,
     state: NodeState,
 ) -> Result<Value, OutOfMemory> {
-    let mut members = members_of(alloc, "event")?;
-    put_number(&mut members, alloc, "step", number as u64)?;
-    put_number(&mut members, alloc, "node", u64::from(step.place))?;
-    put_number(&mut members, alloc, "event", u64::from(step.event))?;
-    put_number(
-        &mut members,
-        alloc,
-        "line",
-        u64::from(step.event) + u64::from(HEAD_LINES),
-    )?;
-    let record = format!(in alloc; "{}", EventWords(event))?;
-    put_words(&mut members, alloc, "record", record.as_str())?;
-    put_number(&mut members, alloc, "column", u64::from(step.column))?;
-    put(&mut members, alloc, "in_cut", Value::from(step.in_cut))?;
+    let mut object = Object::of(alloc, "event");
+    object.number("step", number as u64);
+    object.number("node", step.place as u64);
+    object.number("event", step.event as u64);
+    object.number("line", line_of(step.event) as u64);
+    object.event(event);
+    object.number("column", step.column as u64);
+    object.flag("in_cut", step.in_cut);
     if let Some(sender) = step.sent_by {
-        put_number(&mut members, alloc, "of_step", u64::from(sender))?;
+        object.number("of_step", sender as u64);
     }
-    put_state(&mut members, alloc, state)?;
-    Ok(Value::Object(members))
+    object.state(state);
+    object.finish()
 }
 
 /// What is told of step `number` of a trail, before which its node, whose log this is, is in this state.

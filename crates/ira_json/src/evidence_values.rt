@@ -1,36 +1,20 @@
-ghost use Rattle.std.specs.Prelude.{◌≡◌, IfOk, OnOk, codes, map};
-ghost use Rattle.serde_json.specs.Data.{array, boolean, put as put_data};
-ghost use Rattle.serde_json.specs.View.{items_of, members_view, view};
-ghost use Rattle.ira_audit.specs.Report.{step_fault_words};
-ghost use Rattle.ira_json.specs.EvidenceValue.{evidence_value, remark_key, role_of, with_carets, with_first, with_front, with_head, with_line, with_place, with_record, with_step, with_told};
+ghost use Rattle.std.specs.Prelude.{◌≡◌, IfOk, codes, map, string_bytes};
+ghost use Rattle.serde_json.specs.Data.{array};
+ghost use Rattle.serde_json.specs.View.{items_of, view};
+ghost use Rattle.ira_json.specs.EvidenceValue.{evidence_value, remark_key, role_of, with_carets, with_first, with_front, with_head, with_line, with_other, with_place, with_record, with_step, with_told};
 ghost use Rattle.ira_json.specs.Members.{with_words};
+ghost use Rattle.ira_json.specs.Object.{Puts};
+ghost use Rattle.ira_view_page.specs.Words.{event_text};
 
-use crate::explained::step_fault_word;
-use crate::values::{Members, put_number, put_state, put_words};
+use crate::object::Object;
 use ira_cert_text::CertStep;
-use ira_event::OutOfMemory;
-use ira_explain::{
-    Carets, EventWords, Evidence, Front, HeadRow, QuotedLine, RecordAt, Remark, line_of,
-};
+use ira_event::{Event, OutOfMemory};
 use ira_node::{NodeState, StepFault};
-use serde_json::{Map, Value, put};
+use ira_view_page::{
+    Carets, Evidence, Front, HeadRow, Page, QuotedLine, RecordAt, Remark, line_of,
+};
+use serde_json::Value;
 use std::alloc::{Allocator, Global};
-
-fn put_record<A: Allocator>(
-    members: &mut Members,
-    alloc: Global,
-    record: &RecordAt<A>,
-) -> Result<(), OutOfMemory>
-    ensures { OnOk result (members_view members.new.entries
-        ≡ with_record record.now (members_view members.old.entries)) }
-{
-    let words = format!(in alloc; "{}", EventWords(record.event))?;
-    put_number(members, alloc, "node", u64::from(record.at.place))?;
-    put_number(members, alloc, "event", u64::from(record.at.position))?;
-    put_words(members, alloc, "file", record.file.as_str())?;
-    put_number(members, alloc, "line", line_of(record.at.position) as u64)?;
-    put_words(members, alloc, "record", words.as_str())
-}
 
 fn remark_key(remark: Remark) -> &'static str
     ensures { result.now ≡ remark_key remark }
@@ -39,102 +23,6 @@ fn remark_key(remark: Remark) -> &'static str
         Remark::Due => "due",
         Remark::Note => "note",
     }
-}
-
-fn put_carets<A: Allocator>(
-    members: &mut Members,
-    alloc: Global,
-    carets: &Option<Carets<A>>,
-) -> Result<(), OutOfMemory>
-    ensures { OnOk result (members_view members.new.entries
-        ≡ with_carets carets.now (members_view members.old.entries)) }
-{
-    match carets {
-        Some(carets) => {
-            put_number(members, alloc, "byte", carets.byte as u64)?;
-            put_words(
-                members,
-                alloc,
-                remark_key(carets.remark),
-                carets.words.as_str(),
-            )
-        }
-        None => Ok(()),
-    }
-}
-
-fn put_line<A: Allocator>(
-    members: &mut Members,
-    alloc: Global,
-    line: &QuotedLine<A>,
-) -> Result<(), OutOfMemory>
-    ensures { OnOk result (members_view members.new.entries ≡ with_line line.now (members_view members.old.entries)) }
-{
-    put_words(members, alloc, "file", line.file.as_str())?;
-    put_number(members, alloc, "line", line.number as u64)?;
-    put_words(members, alloc, "text", line.text.as_str())?;
-    put_carets(members, alloc, &line.carets)
-}
-
-fn put_head<A: Allocator>(
-    members: &mut Members,
-    alloc: Global,
-    row: &HeadRow<A>,
-) -> Result<(), OutOfMemory>
-    ensures { OnOk result (members_view members.new.entries ≡ with_head row.now (members_view members.old.entries)) }
-{
-    put_number(members, alloc, "log", row.log as u64)?;
-    put_words(members, alloc, "file", row.file.as_str())?;
-    put_number(members, alloc, "nodes", u64::from(row.nodes))?;
-    put_number(members, alloc, "place", u64::from(row.place))?;
-    put_number(members, alloc, "version", u64::from(row.version))
-}
-
-fn put_place(
-    members: &mut Members,
-    alloc: Global,
-    file: &str,
-    line: usize,
-    node: u8,
-) -> Result<(), OutOfMemory>
-    ensures { OnOk result (members_view members.new.entries
-        ≡ with_place file.now line node (members_view members.old.entries)) }
-{
-    put_words(members, alloc, "file", file)?;
-    put_number(members, alloc, "line", line as u64)?;
-    put_number(members, alloc, "node", u64::from(node))
-}
-
-fn put_step(members: &mut Members, alloc: Global, step: CertStep) -> Result<(), OutOfMemory>
-    ensures { OnOk result (members_view members.new.entries ≡ with_step step (members_view members.old.entries)) }
-{
-    put_number(members, alloc, "pos", u64::from(step.pos))?;
-    put_number(members, alloc, "other", u64::from(step.other))?;
-    put_number(members, alloc, "other_pos", u64::from(step.other_pos))
-}
-
-fn put_first(
-    members: &mut Members,
-    alloc: Global,
-    first: Option<(u32, NodeState)>,
-) -> Result<(), OutOfMemory>
-    ensures { OnOk result (members_view members.new.entries ≡ with_first first (members_view members.old.entries)) }
-{
-    match first {
-        Some((position, state)) => {
-            put_number(members, alloc, "pos", u64::from(position))?;
-            put_state(members, alloc, state)
-        }
-        None => Ok(()),
-    }
-}
-
-fn put_front(members: &mut Members, alloc: Global, front: Front) -> Result<(), OutOfMemory>
-    ensures { OnOk result (members_view members.new.entries ≡ with_front front (members_view members.old.entries)) }
-{
-    put_number(members, alloc, "node", u64::from(front.node))?;
-    put_number(members, alloc, "left", front.left as u64)?;
-    put_first(members, alloc, front.first)
 }
 
 /// What kind of thing it is that an answer rests on.
@@ -154,57 +42,116 @@ fn role_of<A: Allocator>(evidence: &Evidence<A>) -> &'static str
     }
 }
 
-fn put_other<A: Allocator>(
-    members: &mut Members,
-    alloc: Global,
-    record: &RecordAt<A>,
-    fault: StepFault,
-    happened_before: bool,
-) -> Result<(), OutOfMemory>
-    ensures { OnOk result (members_view members.new.entries
-        ≡ put_data (codes "happened_before") (boolean happened_before)
-        (with_words (codes "fault") (step_fault_words fault) (with_record record.now (members_view members.old.entries)))) }
-{
-    put_record(members, alloc, record)?;
-    put_words(members, alloc, "fault", step_fault_word(fault))?;
-    put(
-        members,
-        alloc,
-        "happened_before",
-        Value::from(happened_before),
-    )?;
-    Ok(())
-}
+impl Object {
+    /// Puts the record of an event, as logs spell it.
+    pub(crate) fn event(&mut self, event: Event)
+        ensures { Puts (with_words (codes "record") (event_text event)) self.old self.new }
+    {
+        let mut record = Page::new(self.alloc());
+        record.event(event);
+        self.text("record", record);
+    }
 
-/// Adds what is told of it.
-fn put_told<A: Allocator>(
-    members: &mut Members,
-    alloc: Global,
-    evidence: &Evidence<A>,
-) -> Result<(), OutOfMemory>
-    ensures { OnOk result (members_view members.new.entries
-        ≡ with_told evidence.now (members_view members.old.entries)) }
-{
-    match evidence {
-        Evidence::Text(file) => put_words(members, alloc, "file", file.as_str()),
-        Evidence::Line(line) => put_line(members, alloc, line),
-        Evidence::Head(row) => put_head(members, alloc, row),
-        Evidence::Sent(at) | Evidence::Received(at) | Evidence::Faulty(at) => {
-            put_record(members, alloc, at)
+    fn record<A: Allocator>(&mut self, event: &RecordAt<A>)
+        ensures { Puts (with_record event.now) self.old self.new }
+    {
+        self.number("node", event.at.place as u64);
+        self.number("event", event.at.position as u64);
+        self.string("file", &event.file);
+        self.number("line", line_of(event.at.position) as u64);
+        self.event(event.event);
+    }
+
+    fn carets<A: Allocator>(&mut self, carets: &Option<Carets<A>>)
+        ensures { Puts (with_carets carets.now) self.old self.new }
+    {
+        if let Some(carets) = carets {
+            self.number("byte", carets.byte as u64);
+            self.string(remark_key(carets.remark), &carets.words);
         }
-        Evidence::OtherFaulty {
-            event,
-            fault,
-            happened_before,
-        } => put_other(members, alloc, event, *fault, *happened_before),
-        Evidence::Step { file, line, step } => {
-            put_place(members, alloc, file.as_str(), *line, step.node)?;
-            put_step(members, alloc, *step)
+    }
+
+    fn line<A: Allocator>(&mut self, line: &QuotedLine<A>)
+        ensures { Puts (with_line line.now) self.old self.new }
+    {
+        self.string("file", &line.file);
+        self.number("line", line.number as u64);
+        self.string("text", &line.text);
+        self.carets(&line.carets);
+    }
+
+    fn head<A: Allocator>(&mut self, row: &HeadRow<A>)
+        ensures { Puts (with_head row.now) self.old self.new }
+    {
+        self.number("log", row.log as u64);
+        self.string("file", &row.file);
+        self.number("nodes", row.nodes as u64);
+        self.number("place", row.place as u64);
+        self.number("version", row.version as u64);
+    }
+
+    fn place<A: Allocator>(&mut self, file: &String<A>, line: usize, node: u8)
+        ensures { Puts (with_place (string_bytes file.now) line node) self.old self.new }
+    {
+        self.string("file", file);
+        self.number("line", line as u64);
+        self.number("node", node as u64);
+    }
+
+    fn step(&mut self, step: CertStep)
+        ensures { Puts (with_step step) self.old self.new }
+    {
+        self.number("pos", step.pos as u64);
+        self.number("other", step.other as u64);
+        self.number("other_pos", step.other_pos as u64);
+    }
+
+    fn first(&mut self, first: Option<(u32, NodeState)>)
+        ensures { Puts (with_first first) self.old self.new }
+    {
+        if let Some((position, state)) = first {
+            self.number("pos", position as u64);
+            self.state(state);
         }
-        Evidence::Spent { file, line, node } => {
-            put_place(members, alloc, file.as_str(), *line, *node)
+    }
+
+    fn front(&mut self, front: Front)
+        ensures { Puts (with_front front) self.old self.new }
+    {
+        self.number("node", front.node as u64);
+        self.number("left", front.left as u64);
+        self.first(front.first);
+    }
+
+    fn other<A: Allocator>(&mut self, event: &RecordAt<A>, fault: StepFault, happened_before: bool)
+        ensures { Puts (with_other event.now fault happened_before) self.old self.new }
+    {
+        self.record(event);
+        self.words("fault", fault.words());
+        self.flag("happened_before", happened_before);
+    }
+
+    /// Puts what is told of a thing that an answer rests on.
+    fn told<A: Allocator>(&mut self, evidence: &Evidence<A>)
+        ensures { Puts (with_told evidence.now) self.old self.new }
+    {
+        match evidence {
+            Evidence::Text(file) => self.string("file", file),
+            Evidence::Line(line) => self.line(line),
+            Evidence::Head(row) => self.head(row),
+            Evidence::Sent(at) | Evidence::Received(at) | Evidence::Faulty(at) => self.record(at),
+            Evidence::OtherFaulty {
+                event,
+                fault,
+                happened_before,
+            } => self.other(event, *fault, *happened_before),
+            Evidence::Step { file, line, step } => {
+                self.place(file, *line, step.node);
+                self.step(*step);
+            }
+            Evidence::Spent { file, line, node } => self.place(file, *line, *node),
+            Evidence::Front(front) => self.front(*front),
         }
-        Evidence::Front(front) => put_front(members, alloc, *front),
     }
 }
 
@@ -212,10 +159,10 @@ fn put_told<A: Allocator>(
 fn evidence_value<A: Allocator>(alloc: Global, evidence: &Evidence<A>) -> Result<Value, OutOfMemory>
     ensures { IfOk result (λ value. view value ≡ evidence_value evidence.now) }
 {
-    let mut members = Map::new(alloc);
-    put_words(&mut members, alloc, "role", role_of(evidence))?;
-    put_told(&mut members, alloc, evidence)?;
-    Ok(Value::Object(members))
+    let mut object = Object::new(alloc);
+    object.words("role", role_of(evidence));
+    object.told(evidence);
+    object.finish()
 }
 
 /// All that an answer rests on, in a list.

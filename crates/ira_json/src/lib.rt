@@ -11,6 +11,7 @@ mod line;
 mod line_block;
 mod moment_answer;
 mod moment_lines;
+mod object;
 mod ring_lines;
 mod shown_answer;
 mod values;

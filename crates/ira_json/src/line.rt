@@ -3,7 +3,7 @@ ghost use Rattle.serde_json.specs.View.{view};
 ghost use Rattle.ira_json.specs.Line.{IsLineOf, WroteLine};
 
 use ira_event::{OutOfMemory, Sink, write_bytes};
-use ira_show::ShowFault;
+use ira_view_page::ShowFault;
 use serde_json::Value;
 use std::alloc::Global;
 

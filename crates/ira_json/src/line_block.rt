@@ -2,7 +2,7 @@ ghost use Rattle.ira_json.specs.Line.{WroteLines};
 
 use crate::line::line_of;
 use ira_event::{Sink, write_bytes};
-use ira_show::ShowFault;
+use ira_view_page::ShowFault;
 use serde_json::Value;
 use std::alloc::Global;
 use std::marker::Model;

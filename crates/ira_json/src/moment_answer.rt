@@ -6,57 +6,57 @@ ghost use Rattle.ira_json.specs.ShownAnswer.{IsYes, WroteRing};
 
 use crate::asked::Asked;
 use crate::line::write_line;
+use crate::object::Object;
 use crate::shown_answer::ShownAnswer;
-use crate::values::{Members, members_of, numbers_value, places_value, put_number, put_words};
+use crate::values::{numbers_value, places_value};
 use ira_event::{Logs, OutOfMemory, Sink};
 use ira_moment::Moment;
-use ira_show::ShowFault;
-use serde_json::{Value, put};
+use ira_view_page::ShowFault;
+use serde_json::Value;
 use std::alloc::{Allocator, Global};
 
-/// What all events of logs come to, at whose end the ring is this.
-fn totals<A: Allocator>(alloc: Global, end: &Moment<A>) -> Result<Members, OutOfMemory> {
-    let mut events = 0u64;
-    let mut sent = 0u64;
-    let mut received = 0u64;
+/// The places that lead, in a list.
+fn leaders_value<A: Allocator>(alloc: Global, moment: &Moment<A>) -> Result<Value, OutOfMemory> {
     let mut leaders = Vec::new(alloc);
-    for place in 0..end.size() {
-        let node = end.node(place);
-        events = events.saturating_add(u64::from(node.events));
-        sent = sent.saturating_add(u64::from(node.sent));
-        received = received.saturating_add(u64::from(node.received));
-        if end.leads(place) {
+    for place in 0..moment.size() {
+        if moment.leads(place) {
             leaders.push(place)?;
         }
     }
-    let mut members = members_of(alloc, "answer")?;
-    put_number(&mut members, alloc, "version", 1)?;
-    put_number(&mut members, alloc, "nodes", u64::from(end.size()))?;
-    put_number(&mut members, alloc, "events", events)?;
-    put_number(&mut members, alloc, "sent", sent)?;
-    put_number(&mut members, alloc, "received", received)?;
-    put(
-        &mut members,
-        alloc,
-        "leaders",
-        places_value(alloc, &leaders)?,
-    )?;
-    Ok(members)
+    places_value(alloc, &leaders)
 }
 
-/// Adds which moment is told; nothing at the end of the logs.
-fn put_asked(members: &mut Members, alloc: Global, asked: Asked<'_>) -> Result<(), OutOfMemory> {
-    let cut = match asked {
-        Asked::End => return Ok(()),
-        Asked::Cut(cut) => numbers_value(alloc, cut)?,
-        Asked::Case { number, cut } => {
-            put_number(members, alloc, "case", number as u64)?;
-            numbers_value(alloc, cut)?
+impl Object {
+    /// Puts what all events of logs come to, at whose end the ring is this.
+    fn totals<A: Allocator>(&mut self, end: &Moment<A>) {
+        let mut events = 0u64;
+        let mut sent = 0u64;
+        let mut received = 0u64;
+        for node in end.nodes() {
+            events = events.saturating_add(node.events as u64);
+            sent = sent.saturating_add(node.sent as u64);
+            received = received.saturating_add(node.received as u64);
         }
-        Asked::NoMoment => Value::Null,
-    };
-    put(members, alloc, "cut", cut)?;
-    Ok(())
+        self.number("version", 1);
+        self.number("nodes", end.size() as u64);
+        self.number("events", events);
+        self.number("sent", sent);
+        self.number("received", received);
+        self.value("leaders", leaders_value(self.alloc(), end));
+    }
+
+    /// Puts which moment is told; nothing at the end of the logs.
+    fn asked(&mut self, asked: Asked<'_>) {
+        match asked {
+            Asked::End => {}
+            Asked::Cut(cut) => self.value("cut", numbers_value(self.alloc(), cut)),
+            Asked::Case { number, cut } => {
+                self.number("case", number as u64);
+                self.value("cut", numbers_value(self.alloc(), cut));
+            }
+            Asked::NoMoment => self.null("cut"),
+        }
+    }
 }
 
 /// The answer for logs, at whose end the ring is this.
@@ -68,14 +68,15 @@ fn shown_value<A: Allocator>(
 ) -> Result<Value, OutOfMemory>
     ensures { IfOk result (λ value. IsYes answer.entry.status (view value)) }
 {
-    let mut members = totals(alloc, end)?;
-    put_asked(&mut members, alloc, asked)?;
+    let mut object = Object::of(alloc, "answer");
+    object.totals(end);
+    object.asked(asked);
     if let Some(named) = answer.named {
-        put(&mut members, alloc, "named", places_value(alloc, named)?)?;
+        object.value("named", places_value(alloc, named));
     }
-    put_number(&mut members, alloc, "status", u64::from(answer.status))?;
-    put_words(&mut members, alloc, "answer", "yes")?;
-    Ok(Value::Object(members))
+    object.number("status", answer.status as u64);
+    object.words("answer", "yes");
+    object.finish()
 }
 
 /// Writes the answer for good logs: what all their events come to, and which moment of them is told.

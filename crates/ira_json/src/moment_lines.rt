@@ -5,30 +5,25 @@ ghost use Rattle.ira_order.specs.Run.{AreLocalRuns};
 ghost use Rattle.ira_json.specs.Line.{WroteLines};
 
 use crate::line_block::LineBlock;
-use crate::values::{members_of, places_value, put_load, put_number, put_state, put_words};
+use crate::object::Object;
+use crate::values::places_value;
 use ira_event::{Event, Logs, NodeLog, OutOfMemory, Sink};
-use ira_explain::NamedText;
-use ira_moment::{Moment, NodeProgress};
-use ira_show::{Round, Rounds, ShowFault};
-use serde_json::{Map, Value, put};
+use ira_moment::{Moment, NodeProgress, Round, Rounds};
+use ira_view_page::{NamedText, ShowFault};
+use serde_json::Value;
 use std::alloc::{Allocator, Global};
 
 /// What was drawn in a round.
 fn round_value(alloc: Global, round: &Round<Global>) -> Result<Value, OutOfMemory> {
-    let mut members = members_of(alloc, "round")?;
-    put_number(&mut members, alloc, "round", u64::from(round.number))?;
+    let mut object = Object::of(alloc, "round");
+    object.number("round", round.number as u64);
     if round.term != 1 {
-        put_number(&mut members, alloc, "term", u64::from(round.term))?;
+        object.number("term", round.term as u64);
     }
-    put_number(&mut members, alloc, "drew", round.drew as u64)?;
-    put_number(&mut members, alloc, "greatest", u64::from(round.greatest))?;
-    put(
-        &mut members,
-        alloc,
-        "drawn_by",
-        places_value(alloc, &round.greatest_of)?,
-    )?;
-    Ok(Value::Object(members))
+    object.number("drew", round.drew as u64);
+    object.number("greatest", round.greatest as u64);
+    object.value("drawn_by", places_value(alloc, &round.greatest_of));
+    object.finish()
 }
 
 /// How far a node has come, whose log stands in this file.
@@ -43,18 +38,18 @@ fn node_value<A: Allocator>(
     } else {
         "passive"
     };
-    let mut members = members_of(alloc, "node")?;
-    put_number(&mut members, alloc, "node", u64::from(log.place()))?;
-    put_words(&mut members, alloc, "file", file)?;
-    put_words(&mut members, alloc, "start", start)?;
-    put_number(&mut members, alloc, "events", u64::from(node.events))?;
-    put_number(&mut members, alloc, "of", log.len() as u64)?;
-    put_number(&mut members, alloc, "draws", u64::from(node.draws))?;
-    put_number(&mut members, alloc, "sent", u64::from(node.sent))?;
-    put_number(&mut members, alloc, "received", u64::from(node.received))?;
-    put_number(&mut members, alloc, "dropped", u64::from(node.dropped))?;
-    put_state(&mut members, alloc, node.state)?;
-    Ok(Value::Object(members))
+    let mut object = Object::of(alloc, "node");
+    object.number("node", log.place() as u64);
+    object.words("file", file);
+    object.words("start", start);
+    object.number("events", node.events as u64);
+    object.number("of", log.len() as u64);
+    object.number("draws", node.draws as u64);
+    object.number("sent", node.sent as u64);
+    object.number("received", node.received as u64);
+    object.number("dropped", node.dropped as u64);
+    object.state(node.state);
+    object.finish()
 }
 
 /// The last sendings of a node, so many, each with its event.
@@ -70,10 +65,10 @@ fn last_sendings<A: Allocator>(
     for (i, event) in log.events().take(node.events as usize).enumerate() {
         if let Event::Sent(load) = event {
             if sendings >= before {
-                let mut members = Map::new(alloc);
-                put_load(&mut members, alloc, load)?;
-                put_number(&mut members, alloc, "event", (i as u64).saturating_add(1))?;
-                list.push(Value::Object(members))?;
+                let mut sending = Object::new(alloc);
+                sending.load(load);
+                sending.number("event", (i as u64).saturating_add(1));
+                list.push(sending.finish()?)?;
             }
             sendings = sendings.saturating_add(1);
         }
@@ -82,11 +77,15 @@ fn last_sendings<A: Allocator>(
 }
 
 /// What is on its way on a link: the last sendings of its writer.
-fn link_value(alloc: Global, link: u8, way: Value) -> Result<Value, OutOfMemory> {
-    let mut members = members_of(alloc, "link")?;
-    put_number(&mut members, alloc, "link", u64::from(link))?;
-    put(&mut members, alloc, "on_the_way", way)?;
-    Ok(Value::Object(members))
+fn link_value(
+    alloc: Global,
+    link: u8,
+    way: Result<Value, OutOfMemory>,
+) -> Result<Value, OutOfMemory> {
+    let mut object = Object::of(alloc, "link");
+    object.number("link", link as u64);
+    object.value("on_the_way", way);
+    object.finish()
 }
 
 /// Writes a line for each round.
@@ -142,7 +141,7 @@ fn write_link<A: Allocator, W: Sink>(
     if number == 0 {
         return Ok(());
     }
-    let way = last_sendings(text, log, moment.node(link), number)?;
+    let way = last_sendings(text, log, moment.node(link), number);
     lines.add(&link_value(text, link, way)?, sink)
 }
 

@@ -12,9 +12,8 @@ use crate::moment_answer::write_answer;
 use crate::moment_lines::write_moment;
 use crate::shown_answer::ShownAnswer;
 use ira_event::{Logs, Sink};
-use ira_explain::NamedText;
 use ira_moment::cut_at_end;
-use ira_show::ShowFault;
+use ira_view_page::{NamedText, ShowFault};
 use std::alloc::{Allocator, Global};
 
 /// Writes what there is at a cut: an order of all events through it, or else the rounds, the nodes and the links.

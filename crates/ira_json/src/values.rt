@@ -1,135 +1,80 @@
-ghost use Rattle.std.specs.Prelude.{◌≡◌, IfOk, OnOk, codes};
-ghost use Rattle.serde_json.specs.Data.{member, no_members, string};
-ghost use Rattle.serde_json.specs.View.{members_view, view};
-ghost use Rattle.ira_json.specs.Members.{naturals, with_number, with_words};
+ghost use Rattle.std.specs.Prelude.{◌≡◌, IfOk};
+ghost use Rattle.serde_json.specs.View.{view};
+ghost use Rattle.ira_json.specs.Members.{naturals};
+ghost use Rattle.ira_json.specs.Object.{Puts};
 ghost use Rattle.ira_json.specs.StateValue.{with_load, with_owed, with_phase, with_state, with_term};
 
-use ira_event::{Load, Msg, OutOfMemory};
+use crate::object::Object;
+use ira_event::{Load, OutOfMemory};
 use ira_node::{NodeState, Phase};
-use serde_json::{Map, Value, put};
+use serde_json::Value;
 use std::alloc::Global;
 
-/// The members of an object.
-pub(crate) type Members = Map<String, Value>;
-
-/// Adds a number.
-pub(crate) fn put_number(
-    members: &mut Members,
-    alloc: Global,
-    key: &str,
-    number: u64,
-) -> Result<(), OutOfMemory>
-    ensures { OnOk result (members_view members.new.entries
-        ≡ with_number key.now number (members_view members.old.entries)) }
-{
-    put(members, alloc, key, Value::from(number))?;
-    Ok(())
-}
-
-/// Adds words.
-pub(crate) fn put_words(
-    members: &mut Members,
-    alloc: Global,
-    key: &str,
-    words: &str,
-) -> Result<(), OutOfMemory>
-    ensures { OnOk result (members_view members.new.entries
-        ≡ with_words key.now words.now (members_view members.old.entries)) }
-{
-    put(members, alloc, key, Value::try_from_str(alloc, words)?)?;
-    Ok(())
-}
-
-/// Adds what an object tells of a load: its fields, or the hop of a reset.
-pub(crate) fn put_load(members: &mut Members, alloc: Global, load: Load) -> Result<(), OutOfMemory>
-    ensures { OnOk result (members_view members.new.entries ≡ with_load load (members_view members.old.entries)) }
-{
-    match load {
-        Load::Msg(
-            Msg {
-                round,
-                id,
-                hop,
-                dirty,
-            },
-        ) => {
-            put_number(members, alloc, "round", u64::from(round))?;
-            put_number(members, alloc, "id", u64::from(id))?;
-            put_number(members, alloc, "hop", u64::from(hop))?;
-            put(members, alloc, "dirty", Value::from(dirty))?;
-            Ok(())
+impl Object {
+    /// Puts what is told of a load: its fields, or the hop of a reset.
+    pub(crate) fn load(&mut self, load: Load)
+        ensures { Puts (with_load load) self.old self.new }
+    {
+        match load {
+            Load::Msg(message) => {
+                self.number("round", message.round as u64);
+                self.number("id", message.id as u64);
+                self.number("hop", message.hop as u64);
+                self.flag("dirty", message.dirty);
+            }
+            Load::Reset(hop) => self.number("reset", hop as u64),
         }
-        Load::Reset(hop) => put_number(members, alloc, "reset", u64::from(hop)),
     }
-}
 
-fn put_phase(members: &mut Members, alloc: Global, phase: Phase) -> Result<(), OutOfMemory>
-    ensures { OnOk result (members_view members.new.entries ≡ with_phase phase (members_view members.old.entries)) }
-{
-    match phase {
-        Phase::Choosing { round } => {
-            put_words(members, alloc, "phase", "choosing")?;
-            put_number(members, alloc, "round", u64::from(round))
+    fn phase(&mut self, phase: Phase)
+        ensures { Puts (with_phase phase) self.old self.new }
+    {
+        match phase {
+            Phase::Choosing { round } => {
+                self.words("phase", "choosing");
+                self.number("round", round as u64);
+            }
+            Phase::Active { round, id } => {
+                self.words("phase", "active");
+                self.number("round", round as u64);
+                self.number("id", id as u64);
+            }
+            Phase::Passive => self.words("phase", "passive"),
+            Phase::Leader { round, id } => {
+                self.words("phase", "leader");
+                self.number("round", round as u64);
+                self.number("id", id as u64);
+            }
+            Phase::Yielding => self.words("phase", "yielding"),
         }
-        Phase::Active { round, id } => {
-            put_words(members, alloc, "phase", "active")?;
-            put_number(members, alloc, "round", u64::from(round))?;
-            put_number(members, alloc, "id", u64::from(id))
-        }
-        Phase::Passive => put_words(members, alloc, "phase", "passive"),
-        Phase::Leader { round, id } => {
-            put_words(members, alloc, "phase", "leader")?;
-            put_number(members, alloc, "round", u64::from(round))?;
-            put_number(members, alloc, "id", u64::from(id))
-        }
-        Phase::Yielding => put_words(members, alloc, "phase", "yielding"),
     }
-}
 
-fn put_term(members: &mut Members, alloc: Global, term: u32) -> Result<(), OutOfMemory>
-    ensures { OnOk result (members_view members.new.entries ≡ with_term term (members_view members.old.entries)) }
-{
-    if term == 1 {
-        return Ok(());
-    }
-    put_number(members, alloc, "term", u64::from(term))
-}
-
-fn put_owed(members: &mut Members, alloc: Global, owed: Option<Load>) -> Result<(), OutOfMemory>
-    ensures { OnOk result (members_view members.new.entries ≡ with_owed owed (members_view members.old.entries)) }
-{
-    match owed {
-        Some(load) => {
-            let mut owes = Map::new(alloc);
-            put_load(&mut owes, alloc, load)?;
-            put(members, alloc, "owes", Value::Object(owes))?;
-            Ok(())
+    fn term(&mut self, term: u32)
+        ensures { Puts (with_term term) self.old self.new }
+    {
+        if term != 1 {
+            self.number("term", term as u64);
         }
-        None => Ok(()),
     }
-}
 
-/// Adds a state, as far as it has a round, an ID and a debt; its term where that isn't the first one.
-pub(crate) fn put_state(
-    members: &mut Members,
-    alloc: Global,
-    state: NodeState,
-) -> Result<(), OutOfMemory>
-    ensures { OnOk result (members_view members.new.entries ≡ with_state state (members_view members.old.entries)) }
-{
-    put_phase(members, alloc, state.phase)?;
-    put_term(members, alloc, state.term)?;
-    put_owed(members, alloc, state.owed)
-}
+    fn owed(&mut self, owed: Option<Load>)
+        ensures { Puts (with_owed owed) self.old self.new }
+    {
+        if let Some(load) = owed {
+            let mut owes = Object::new(self.alloc());
+            owes.load(load);
+            self.value("owes", owes.finish());
+        }
+    }
 
-/// An object with a type.
-pub(crate) fn members_of(alloc: Global, kind: &str) -> Result<Members, OutOfMemory>
-    ensures { IfOk result (λ members.
-        members_view members.entries ≡ member (codes "type") (string kind.now) no_members) }
-{
-    let mut members = Map::new(alloc);
-    put_words(&mut members, alloc, "type", kind)?;
-    Ok(members)
+    /// Puts a state, as far as it has a round, an ID and a debt; its term where that isn't the first one.
+    pub(crate) fn state(&mut self, state: NodeState)
+        ensures { Puts (with_state state) self.old self.new }
+    {
+        self.phase(state.phase);
+        self.term(state.term);
+        self.owed(state.owed);
+    }
 }
 
 /// A list of numbers.

@@ -3,7 +3,7 @@ use Rattle.std.proofs.Common.{◌≡◌, ◌∙◌, ◌⊎◌, ℕ, true, List, 
 use Rattle.ira_audit.specs.declared.answer.Answer.{Answer}
 use Rattle.ira_audit.specs.declared.findings.Findings.{Findings}
 use Rattle.ira_event.specs.Sink.{SinkState, Wrote, Takes, StopsIn}
-use Rattle.ira_explain.specs.declared.explanation.Explanation.{Explanation}
+use Rattle.ira_view_page.specs.declared.explanation.Explanation.{Explanation}
 use Rattle.ira_json.specs.AnswerValue.{findings_values}
 use Rattle.ira_json.specs.ExplainedFindings.{explained_findings}
 use Rattle.ira_json.specs.Line.{AreLinesOf}

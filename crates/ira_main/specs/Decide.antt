@@ -6,8 +6,8 @@ use Rattle.ira_cert_text.specs.Certificate.{Certificate}
 use Rattle.ira_audit.specs.Findings.{AreFindings, IsCertificateOf, MakeNoCertificate}
 use Rattle.ira_audit.specs.FindingsText.{findings_text}
 use Rattle.ira_audit.specs.declared.findings.Findings.{Findings}
-use Rattle.ira_explain.specs.Printable.{IsPrintable}
-use Rattle.ira_explain.specs.declared.explanation.Explanation.{Explanation}
+use Rattle.ira_view_page.specs.Printable.{IsPrintable}
+use Rattle.ira_view_page.specs.declared.explanation.Explanation.{Explanation}
 use Rattle.ira_json.specs.AnswerValue.{findings_values}
 use Rattle.ira_json.specs.ExplainedFindings.{explained_findings}
 use Rattle.ira_json.specs.Line.{AreLinesOf}

@@ -6,7 +6,7 @@ use Rattle.ira_event.specs.Sink.{SinkState, StopsIn, Takes}
 use Rattle.ira_audit.specs.GoodLogs.{AreGoodLogs}
 use Rattle.ira_audit.specs.Report.{report_line}
 use Rattle.ira_audit.specs.declared.answer.Answer.{Answer}
-use Rattle.ira_explain.specs.Printable.{IsPrintable}
+use Rattle.ira_view_page.specs.Printable.{IsPrintable}
 use Rattle.ira_moment.specs.declared.cut_fault.CutFault.{CutFault}
 use Rattle.ira_views.specs.Draw.{HasTooManyEvents, IsDrawn}
 use Rattle.ira_views.specs.Show.{IsCutFaultOf}

@@ -3,8 +3,8 @@ use Rattle.std.specs.Prelude.{◌≡◌, ◌⊎◌, ℕ, Bool, true, false, List
 use Rattle.ira_event.specs.Sink.{SinkState, Takes, StopsIn}
 use Rattle.ira_audit.specs.Report.{report_line}
 use Rattle.ira_audit.specs.declared.answer.Answer.{Answer}
-use Rattle.ira_explain.specs.Printable.{IsPrintable}
-use Rattle.ira_explain.specs.declared.explanation.Explanation.{Explanation}
+use Rattle.ira_view_page.specs.Printable.{IsPrintable}
+use Rattle.ira_view_page.specs.declared.explanation.Explanation.{Explanation}
 use Rattle.ira_json.specs.AnswerValue.{answer_value}
 use Rattle.ira_json.specs.ExplainedValue.{explained_value}
 use Rattle.ira_json.specs.Line.{IsLineOf}

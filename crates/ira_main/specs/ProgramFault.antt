@@ -2,7 +2,7 @@
 use Rattle.std.specs.Prelude.{ℕ, List, ◌++◌, codes, decimal}
 use Rattle.std.specs.Borrow.{Bor}
 use Rattle.std.specs.String.{string_bytes}
-use Rattle.ira_evidence.specs.declared.event_at.EventAt.{EventAt}
+use Rattle.ira_order.specs.declared.event_at.EventAt.{EventAt}
 use Rattle.ira_moment.specs.declared.cut_fault.CutFault.{CutFault}
 use Rattle.ira_moment.specs.declared.cut_fault.CutFault.TheVariants as cut
 use Rattle.ira_run.specs.RunFault.{run_fault_number}

@@ -7,7 +7,7 @@ use Rattle.ira_audit.specs.GoodLogs.{AreGoodLogs}
 use Rattle.ira_audit.specs.Report.{report_line}
 use Rattle.ira_audit.specs.declared.answer.Answer.TheVariants as audit
 use Rattle.ira_audit.specs.declared.reason.Reason.{Reason}
-use Rattle.ira_explain.specs.Printable.{IsPrintable}
+use Rattle.ira_view_page.specs.Printable.{IsPrintable}
 use Rattle.ira_json.specs.ShownAnswer.{IsRingText}
 use Rattle.ira_moment.specs.declared.cut_fault.CutFault.{CutFault}
 use Rattle.ira_views.specs.Show.{ArePlaces, IsCutFaultOf, IsReasonAgainst, IsShown}

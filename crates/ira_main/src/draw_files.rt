@@ -45,7 +45,7 @@ fn keep_picture<'a, A: Allocator, F: Shelf>(
     let Some(picture) = &ring.picture else {
         return Ok(status);
     };
-    match write_text(picture.text(), name, shelf) {
+    match write_text(picture.bytes(), name, shelf) {
         Ok(()) => Ok(status),
         Err(fault) => Err(ProgramFault::cannot_write(name, fault)),
     }

@@ -5,8 +5,8 @@ ghost use Rattle.ira_views.specs.Texts.{texts_of};
 
 use crate::program_fault::ProgramFault;
 use crate::read_files::read_file;
-use ira_explain::NamedText;
 use ira_files::{FileName, TextBuffer, TextSource};
+use ira_view_page::NamedText;
 use std::alloc::{AllocError, Allocator};
 use std::marker::Model;
 

@@ -8,9 +8,8 @@ use crate::status::Status;
 use crate::view_printer::write_view;
 use ira_audit::Answer;
 use ira_event::{Sink, WriteFault};
-use ira_explain::NamedText;
 use ira_json::ShownAnswer;
-use ira_show::ShowFault;
+use ira_view_page::{NamedText, ShowFault};
 use ira_views::ShownRing;
 use ira_words::ShowRequest;
 use std::alloc::{Allocator, Global};
@@ -25,7 +24,7 @@ fn print_tables<'a, A: Allocator + Clone, W: Sink>(
         ⊎ ((W.state out.new ≡ W.state out.old) × (result ≡ Err OutOfMemory)) }
 {
     let page = ring.page(alloc)?;
-    let differences = ring.differences().text();
+    let differences = ring.differences().bytes();
     if write_view(&Answer::Yes, differences, out).is_err() {
         return Err(ProgramFault::CannotWriteAnswer);
     }
@@ -43,7 +42,7 @@ fn print_events<'a, A: Allocator + Clone, W: Sink>(
 ) -> Result<Status, ProgramFault<'a>>
     ensures { PrintsRing ring.now.differences true (W.state out.old) (W.state out.new) result }
 {
-    let differences = ring.differences().text();
+    let differences = ring.differences().bytes();
     if write_view(&Answer::Yes, differences, out).is_err() {
         return Err(ProgramFault::CannotWriteAnswer);
     }
@@ -67,7 +66,7 @@ fn print_json<'a, A: Allocator + Clone, W: Sink>(
     ensures { PrintsRingLines ring.now.differences (W.state out.old) (W.state out.new) result
         ⊎ ((W.state out.new ≡ W.state out.old) × (result ≡ Err OutOfMemory)) }
 {
-    let status = Status::of_differences(ring.differences().text());
+    let status = Status::of_differences(ring.differences().bytes());
     let answer = ShownAnswer {
         status: status.number(),
         named: named_leaders(show),

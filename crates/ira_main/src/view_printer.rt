@@ -3,7 +3,7 @@ ghost use Rattle.ira_event.specs.Sink.{Wrote};
 ghost use Rattle.ira_audit.specs.Findings.{AreReportable};
 ghost use Rattle.ira_audit.specs.FindingsText.{findings_text};
 ghost use Rattle.ira_audit.specs.Report.{IsReportable, report_line};
-ghost use Rattle.ira_explain.specs.Printable.{IsPrintable};
+ghost use Rattle.ira_view_page.specs.Printable.{IsPrintable};
 ghost use Rattle.ira_main.specs.Decide.{ExplainsFindings};
 ghost use Rattle.ira_main.specs.Outcome.{Explains, ExplainsAs};
 ghost use Rattle.ira_main.specs.declared.program_fault.ProgramFault.TheVariants.{OutOfMemory};
@@ -39,7 +39,7 @@ fn print_page<'a, A: Allocator, W: Sink>(
     requires { IsReportable view.now.answer }
     ensures { Explains view.now.answer (W.state out.old) (W.state out.new) result }
 {
-    match write_view(&view.answer, view.explanation.page.text(), out) {
+    match write_view(&view.answer, view.explanation.page.bytes(), out) {
         Ok(()) => Ok(Status::of_answer(&view.answer)),
         Err(WriteFault) => Err(ProgramFault::CannotWriteAnswer),
     }
@@ -76,7 +76,7 @@ fn write_findings_view<A: Allocator, W: Sink>(
         (W.state sink.old) (W.state sink.new) }
     ensures printable { IsPrintable view.now.explanation.page }
 {
-    let page = view.explanation.page.text();
+    let page = view.explanation.page.bytes();
     write_findings(&view.findings, sink)?;
     write_bytes(page, sink)
 }

@@ -1,7 +1,7 @@
 -- Why numbers of events are not a consistent cut of logs.
 use Rattle.std.specs.Prelude.{◌≡◌, ◌⊎◌, ℕ, ◌<◌, ◌≤◌, List, length, slice_index, take}
 use Rattle.ira_event.specs.Log.{Log}
-use Rattle.ira_evidence.specs.declared.event_at.EventAt.{EventAt}
+use Rattle.ira_order.specs.declared.event_at.EventAt.{EventAt}
 use Rattle.ira_order.specs.Cut.{IsCut}
 use Rattle.ira_order.specs.Matching.{got, sent}
 use Rattle.ira_order.specs.Order.{IsPair}

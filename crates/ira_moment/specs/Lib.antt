@@ -2,3 +2,4 @@ pub mod CutFault
 pub mod Laws
 pub mod Moment
 pub mod NodeProgress
+pub mod Rounds

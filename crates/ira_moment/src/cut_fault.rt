@@ -1,4 +1,4 @@
-use ira_evidence::EventAt;
+use ira_order::EventAt;
 use thiserror::Error;
 
 /// Why numbers of events, one after the other for the nodes of a ring, aren't a consistent cut of its logs.

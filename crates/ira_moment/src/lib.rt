@@ -6,9 +6,11 @@ mod cuts;
 mod laws;
 mod moment;
 mod node_progress;
+mod rounds;
 
 pub use cut_fault::CutFault;
 pub use cuts::{check_cut, cut_at_end};
 pub use laws::moments_are_configurations;
 pub use moment::Moment;
 pub use node_progress::NodeProgress;
+pub use rounds::{Round, Rounds};

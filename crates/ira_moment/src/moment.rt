@@ -161,6 +161,13 @@ impl<A: Allocator> Moment<A> {
         self.nodes.len() as u8
     }
 
+    /// How far each node has come.
+    pub fn nodes(&self) -> &[NodeProgress]
+        ensures { result.now ≡ self.now.nodes }
+    {
+        &self.nodes
+    }
+
     /// How far node `i` has come.
     pub fn node(&self, i: u8) -> NodeProgress
         requires { i < length self.now.nodes }

@@ -5,4 +5,5 @@ pub mod NodeStep
 pub mod NodeStepFault
 pub mod Plain
 pub mod StepAnswer
+pub mod StepFault
 pub mod Wanted

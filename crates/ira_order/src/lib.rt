@@ -3,6 +3,7 @@
 #![tactic(auto)]
 
 mod direct_dependencies;
+mod event_at;
 mod happened_before;
 mod laws;
 mod links;
@@ -18,6 +19,7 @@ mod stamps;
 mod tally;
 
 pub use direct_dependencies::DirectDependencies;
+pub use event_at::EventAt;
 pub use happened_before::HappenedBefore;
 pub use laws::{
     counts_are_cuts, cuts_are_a_lattice, cuts_are_moments, events_have_counts, moments_are_cuts,

@@ -1,11 +1,14 @@
-ghost use Rattle.std.specs.Prelude.{◌≡◌, ◌+◌, ◌-◌, ◌<◌, ◌≤◌, ◌^◌, ◌++◌, ◌∷◌, [], ℕ, List, Some, IfOk, IfSome, OnOk, length, map, replicate, slice_get, slice_index, sum_by};
+ghost use Rattle.std.specs.Prelude.{◌≡◌, ◌+◌, ◌-◌, ◌<◌, ◌≤◌, ◌^◌, ◌++◌, ◌∷◌, [], ℕ, List, Some, IfOk, IfSome, OnOk};
+ghost use Rattle.std.specs.Prelude.{length, map, replicate, slice_get, slice_index, sum_by};
 ghost use Rattle.std.specs.Option.{ForSome};
+ghost use Rattle.ira_event.specs.Logs.{AreLogs};
 ghost use Rattle.ira_order.specs.Ring.{log_of};
 ghost use Rattle.ira_evidence.specs.FaultyEvent.{Rises};
-ghost use Rattle.ira_picture.specs.Columns.{AreColumns, AreColumnsOf, AreUnderWay, AreUpTo, IsLastColumn, PlacedEvents, column_at, number_placed};
+ghost use Rattle.ira_picture.specs.Columns.{AreColumns, AreColumnsOf, AreUnderWay, AreUpTo, IsLastColumn, PlacedEvents};
+ghost use Rattle.ira_picture.specs.Columns.{column_at, number_placed};
 
 use crate::ring::writer_of;
-use crate::traffic::Traffic;
+use crate::traffic::{Traffic, traffic_of};
 use ira_event::{Event, Logs, NodeLog, OutOfMemory};
 use std::alloc::Allocator;
 use std::marker::Model;
@@ -59,11 +62,30 @@ impl<A: Allocator> Progress<A> {
         })
     }
 
+    /// How many events have a column.
+    fn len(&self) -> usize
+        ensures { result ≡ length self.now.columns }
+    {
+        self.columns.len()
+    }
+
     /// The last column so far.
     fn last(&self) -> u32
         ensures { result ≡ slice_index self.now.columns (length self.now.columns - 1) }
     {
         self.columns.last().copied().unwrap_or(0)
+    }
+
+    /// The column that a receipt has to be right of: that of its sending, or 0 where it has none. Nothing where the
+    /// sending has no column yet.
+    fn column_of_sending(&self, number_of_sendings: usize, receipt: usize) -> Option<u32>
+        ensures { IfSome result (λ c. (last : ℕ) → AreUpTo last self.now.sendings → c ≤ last) }
+    {
+        if receipt < number_of_sendings {
+            self.sendings.get(receipt).copied()
+        } else {
+            Some(0)
+        }
     }
 
     fn add(&mut self, event: Event, column: u32) -> Result<(), OutOfMemory>
@@ -78,18 +100,6 @@ impl<A: Allocator> Progress<A> {
             Event::Draw(_) | Event::Yield => {}
         }
         Ok(())
-    }
-}
-
-/// The column that an event has to be right of since it is a receipt: that of its sending, or 0 where it has none.
-/// Nothing where the sending has no column yet.
-fn column_of_sending(sendings: &[u32], number_of_sendings: usize, receipt: usize) -> Option<u32>
-    ensures { IfSome result (λ c. (last : ℕ) → AreUpTo last sendings.now → c ≤ last) }
-{
-    if receipt < number_of_sendings {
-        sendings.get(receipt).copied()
-    } else {
-        Some(0)
     }
 }
 
@@ -124,8 +134,30 @@ impl<L: Allocator, T: Allocator> ColumnPass<'_, L, T> {
         requires { place < length self.now.logs.now }
     {
         match self.cut {
-            Some(cut) => cut[usize::from(place)] as usize,
+            Some(cut) => cut[place as usize] as usize,
             None => self.logs.log(place).len(),
+        }
+    }
+
+    /// The column that the next event of a node has to be right of; nothing where it has to wait.
+    fn before<A: Allocator>(&self, nodes: &[Progress<A>], place: u8, event: Event) -> Option<u32>
+        requires place { place < length self.now.logs.now }
+        requires nodes { AreUnderWay self.now.logs.now self.now.base nodes.now }
+        ensures bound { IfSome result (λ before. before ≤ number_placed nodes.now + self.now.base) }
+        ensures after { IfSome result
+            (λ before. (p : PlacedEvents) → slice_get nodes.now place ≡ Some p → AreUpTo before p.columns) }
+    {
+        let progress = &nodes[place as usize];
+        let last = progress.last().max(self.base);
+        match event {
+            Event::Got(_) => {
+                let writer = writer_of(self.logs.size().get(), place);
+                let sendings = traffic_of(self.traffic, writer).number_of_sendings();
+                let sender = &nodes[writer as usize];
+                let sent = sender.column_of_sending(sendings, progress.receipts)?;
+                Some(last.max(sent))
+            }
+            Event::Draw(_) | Event::Sent(_) | Event::Yield => Some(last),
         }
     }
 
@@ -138,19 +170,8 @@ impl<L: Allocator, T: Allocator> ColumnPass<'_, L, T> {
             × ((k c : ℕ) → slice_get p.columns k ≡ Some c → c < next.1)
             × (next.1 ≤ number_placed nodes.now + self.now.base + 1)) }
     {
-        let progress = &nodes[usize::from(place)];
-        let event = event_after(self.logs.log(place), progress.columns.len())?;
-        let mut before = progress.last().max(self.base);
-        if let Event::Got(_) = event {
-            let writer = usize::from(writer_of(self.logs.size().get(), place));
-            let (sender, traffic) = (&nodes[writer], &self.traffic[writer]);
-            let sent = column_of_sending(
-                &sender.sendings,
-                traffic.sendings.len(),
-                progress.receipts,
-            )?;
-            before = before.max(sent);
-        }
+        let event = event_after(self.logs.log(place), nodes[place as usize].len())?;
+        let before = self.before(nodes, place, event)?;
         Some((event, before + 1))
     }
 
@@ -165,12 +186,11 @@ impl<L: Allocator, T: Allocator> ColumnPass<'_, L, T> {
         ensures { OnOk result (AreUnderWay self.now.logs.now self.now.base nodes.new) }
     {
         let mut further = false;
-        let progress = &nodes[usize::from(place)];
-        for _ in progress.columns.len()..self.end(place) {
+        for _ in nodes[place as usize].len()..self.end(place) {
             let Some((event, column)) = self.next(nodes, place) else {
                 break;
             };
-            nodes[usize::from(place)].add(event, column)?;
+            nodes[place as usize].add(event, column)?;
             further = true;
         }
         Ok(further)
@@ -248,7 +268,7 @@ fn add_all_stuck<A: Allocator, L: Allocator>(
 {
     let base = last_column(nodes);
     for place in 0..logs.size().get() {
-        add_stuck(logs.log(place), base, &mut nodes[usize::from(place)])?;
+        add_stuck(logs.log(place), base, &mut nodes[place as usize])?;
     }
     Ok(())
 }
@@ -279,6 +299,43 @@ fn columns_of<A: Allocator + Clone>(
     Ok(columns)
 }
 
+/// Columns for all events, and that of the line where there is a cut: its events stand left of the line, all others
+/// right of it.
+fn place_all<A: Allocator, L: Allocator, T: Allocator>(
+    logs: &Logs<L>,
+    traffic: &[Traffic<T>],
+    cut: Option<&[u32]>,
+    nodes: &mut [Progress<A>],
+) -> Result<Option<u32>, OutOfMemory>
+    requires traffic { length traffic.now ≡ length logs.now }
+    requires cut { ForSome cut (λ c. length c.now ≡ length logs.now) }
+    requires valid { AreLogs logs.now }
+    requires nodes { AreUnderWay logs.now 0 nodes.old }
+    ensures { OnOk result (AreColumns logs.now (map (λ p. p.columns) nodes.new)) }
+{
+    ColumnPass {
+        logs,
+        traffic,
+        cut,
+        base: 0,
+    }
+    .rounds(nodes)?;
+    if cut.is_none() {
+        add_all_stuck(logs, nodes)?;
+        return Ok(None);
+    }
+    let base = last_column(nodes) + 1;
+    ColumnPass {
+        logs,
+        traffic,
+        cut: None,
+        base,
+    }
+    .rounds(nodes)?;
+    add_all_stuck(logs, nodes)?;
+    Ok(Some(base))
+}
+
 impl<A: Allocator + Clone> Columns<A> {
     /// Of logs of a ring, also of such that have no order; with a consistent cut its events stand left of a line, all
     /// others right of it.
@@ -294,26 +351,7 @@ impl<A: Allocator + Clone> Columns<A> {
         ensures few { IfOk result (λ columns. sum_by length columns.nodes < 2 ^ 32) }
     {
         let mut nodes = starts(alloc.clone()?, logs.size().get())?;
-        ColumnPass {
-            logs,
-            traffic,
-            cut,
-            base: 0,
-        }
-        .rounds(&mut nodes)?;
-        let mut line = None;
-        if cut.is_some() {
-            let base = last_column(&nodes) + 1;
-            line = Some(base);
-            ColumnPass {
-                logs,
-                traffic,
-                cut: None,
-                base,
-            }
-            .rounds(&mut nodes)?;
-        }
-        add_all_stuck(logs, &mut nodes)?;
+        let line = place_all(logs, traffic, cut, &mut nodes)?;
         Ok(Columns {
             nodes: columns_of(alloc, nodes)?,
             line,

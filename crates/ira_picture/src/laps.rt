@@ -1,7 +1,7 @@
 ghost use Rattle.std.specs.Prelude.{◌≡◌, ◌<◌, IfSome, length};
 
 use crate::ring::{load_at, reader_of, writer_of};
-use crate::traffic::{Effect, Traffic};
+use crate::traffic::{Effect, Traffic, traffic_of};
 use ira_event::{Logs, OutOfMemory};
 use std::alloc::Allocator;
 
@@ -32,13 +32,11 @@ impl<L: Allocator, A: Allocator + Clone> Exchanges<'_, L, A> {
         requires { pair.link < length self.now.logs.now }
     {
         let reader = reader_of(self.logs.size().get(), pair.link);
-        let (from, to) = (
-            &self.traffic[usize::from(pair.link)],
-            &self.traffic[usize::from(reader)],
-        );
-        match (from.sendings.get(pair.k), to.receipts.get(pair.k)) {
+        let sending = traffic_of(self.traffic, pair.link).sending(pair.k);
+        let receipt = traffic_of(self.traffic, reader).receipt(pair.k);
+        match (sending, receipt) {
             (Some(sending), Some(receipt)) => {
-                load_at(self.logs, pair.link, *sending)
+                load_at(self.logs, pair.link, sending)
                     == load_at(self.logs, reader, receipt.position)
             }
             _ => false,
@@ -50,8 +48,8 @@ impl<L: Allocator, A: Allocator + Clone> Exchanges<'_, L, A> {
         requires { pair.link < length self.now.logs.now }
         ensures { IfSome result (λ before. before.link < length self.now.logs.now) }
     {
-        let node = &self.traffic[usize::from(pair.link)];
-        let sending = node.sendings.get(pair.k).copied()?;
+        let node = traffic_of(self.traffic, pair.link);
+        let sending = node.sending(pair.k)?;
         let k = node.receipt_at(sending.saturating_sub(1))?;
         Some(Pair {
             link: writer_of(self.logs.size().get(), pair.link),
@@ -136,9 +134,9 @@ impl<A: Allocator + Clone> Laps<A> {
         requires { place < length exchanges.now.logs.now }
     {
         let link = writer_of(exchanges.logs.size().get(), place);
-        let node = &exchanges.traffic[usize::from(place)];
-        for k in 0..node.receipts.len() {
-            if node.receipts[k].effect == Effect::Leads {
+        let node = traffic_of(exchanges.traffic, place);
+        for (k, receipt) in node.receipts.iter().enumerate() {
+            if receipt.effect == Effect::Leads {
                 if let Some(pairs) = exchanges.lap(alloc.clone()?, Pair { link, k })? {
                     self.add(&pairs);
                 }

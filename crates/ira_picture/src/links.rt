@@ -2,17 +2,19 @@ ghost use Rattle.std.specs.Prelude.{◌≡◌, ◌+◌, ◌<◌, None, IfNone, I
 ghost use Rattle.std.specs.Option.{option_map};
 ghost use Rattle.ira_order.specs.Matching.{got, sent};
 ghost use Rattle.ira_order.specs.Ring.{log_of, next};
-ghost use Rattle.ira_picture.specs.Arrow.{AreArrows, AreArrowsBefore, IsArrow, IsEffectOf, IsPassage, IsReceipt, IsSending, column_of};
+ghost use Rattle.ira_picture.specs.Arrow.{AreArrows, AreArrowsBefore, IsArrow, IsEffectOf, IsPassage, IsReceipt};
+ghost use Rattle.ira_picture.specs.Arrow.{IsSending, column_of};
 ghost use Rattle.ira_picture.specs.Traffic.{AreTraffic};
 
 use crate::arrow::{Arrow, Passage};
 use crate::columns::Columns;
 use crate::laps::Laps;
 use crate::ring::{load_at, reader_of};
-use crate::traffic::{Effect, Traffic};
+use crate::traffic::{Effect, Traffic, traffic_of};
 use crate::window::Window;
 use ira_event::{Logs, OutOfMemory};
-use ira_evidence::{EventAt, Exchange};
+use ira_evidence::Exchange;
+use ira_order::EventAt;
 use std::alloc::Allocator;
 
 /// What the links of a ring carry.
@@ -31,8 +33,7 @@ impl<L: Allocator, A: Allocator + Clone> Links<'_, L, A> {
         requires traffic { AreTraffic self.now.logs.now self.now.traffic.now }
         ensures { IsSending self.now.logs.now link (k + 1) result }
     {
-        let node = &self.traffic[usize::from(link)];
-        let position = node.sendings.get(k).copied()?;
+        let position = traffic_of(self.traffic, link).sending(k)?;
         let load = load_at(self.logs, link, position)?;
         Some(Exchange {
             at: EventAt {
@@ -51,8 +52,7 @@ impl<L: Allocator, A: Allocator + Clone> Links<'_, L, A> {
         ensures effect { IfSome result (λ r. IsEffectOf self.now.logs.now r.0 r.1) }
     {
         let place = reader_of(self.logs.size().get(), link);
-        let node = &self.traffic[usize::from(place)];
-        let receipt = node.receipts.get(k).copied()?;
+        let receipt = traffic_of(self.traffic, place).receipt(k)?;
         let position = receipt.position;
         let load = load_at(self.logs, place, position)?;
         let at = EventAt { place, position };
@@ -136,11 +136,9 @@ impl<L: Allocator, A: Allocator + Clone> Links<'_, L, A> {
             (length (got (log_of self.now.logs.now (next (length self.now.logs.now) link)))) }
     {
         let reader = reader_of(self.logs.size().get(), link);
-        let (from, to) = (
-            &self.traffic[usize::from(link)],
-            &self.traffic[usize::from(reader)],
-        );
-        from.sendings.len().max(to.receipts.len())
+        let sendings = traffic_of(self.traffic, link).number_of_sendings();
+        let receipts = traffic_of(self.traffic, reader).number_of_receipts();
+        sendings.max(receipts)
     }
 
     /// Adds those arrows of a link that are drawn.

@@ -1,4 +1,5 @@
-ghost use Rattle.std.specs.Prelude.{◌≡◌, ◌↔◌, ◌+◌, ℕ, None, Some, IfOk, IsSome, MatchOption, OnOk, length, slice_get};
+ghost use Rattle.std.specs.Prelude.{◌≡◌, ◌↔◌, ◌+◌, ◌<◌, ℕ, None, Some, IfOk, IsSome, MatchOption, OnOk, length};
+ghost use Rattle.std.specs.Prelude.{slice_get};
 ghost use Rattle.ira_event.specs.Log.{Log};
 ghost use Rattle.ira_node.specs.declared.node_state.NodeState.{NodeState};
 ghost use Rattle.ira_node.specs.NodeStep.{NodeStep};
@@ -126,10 +127,46 @@ impl<A: Allocator> Traffic<A> {
         Ok(traffic)
     }
 
+    /// How many sendings there are.
+    pub(crate) fn number_of_sendings(&self) -> usize
+        ensures { result ≡ length self.now.sendings }
+    {
+        self.sendings.len()
+    }
+
+    /// How many receipts there are.
+    pub(crate) fn number_of_receipts(&self) -> usize
+        ensures { result ≡ length self.now.receipts }
+    {
+        self.receipts.len()
+    }
+
+    /// The number of the event that is sending `k`, from 0.
+    pub(crate) fn sending(&self, k: usize) -> Option<u32>
+        ensures { result ≡ slice_get self.now.sendings k }
+    {
+        self.sendings.get(k).copied()
+    }
+
+    /// Receipt `k`, from 0.
+    pub(crate) fn receipt(&self, k: usize) -> Option<Receipt>
+        ensures { result ≡ slice_get self.now.receipts k }
+    {
+        self.receipts.get(k).copied()
+    }
+
     /// The number, from 0, of the receipt that is this event, where it is one.
     pub(crate) fn receipt_at(&self, position: u32) -> Option<usize> {
         self.receipts
             .binary_search_by_key(&position, |receipt| receipt.position)
             .ok()
     }
+}
+
+/// What the node at a place sends and receives.
+pub(crate) fn traffic_of<A: Allocator>(traffic: &[Traffic<A>], place: u8) -> &Traffic<A>
+    requires { place < length traffic.now }
+    ensures { slice_get traffic.now place ≡ Some result.now }
+{
+    &traffic[place as usize]
 }

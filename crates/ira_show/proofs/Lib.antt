@@ -1,3 +1,6 @@
+pub mod Counting
+pub mod Leading
+pub mod Lines
 pub mod Naming
+pub mod Parts
 pub mod Printing
-pub mod Steps

@@ -4,9 +4,9 @@ use Rattle.std.specs.Prelude.{nat_eq, ◌||◌}
 use Rattle.std.proofs.lemmas.List.Folds.{list_all-append}
 use Rattle.ira_event.specs.Sink.{SinkState, StopsIn, Takes}
 use Rattle.ira_event.proofs.Writing.{Appends-nothing, Takes-append, Takes-StopsIn}
-use Rattle.ira_explain.specs.Printable.{IsPrintable, is_graphic}
-use Rattle.ira_show.specs.declared.show_fault.ShowFault.{ShowFault}
-use Rattle.ira_show.specs.declared.show_fault.ShowFault.TheVariants.{OutOfMemory, Write}
+use Rattle.ira_view_page.specs.Printable.{IsPrintable, is_graphic}
+use Rattle.ira_view_page.specs.declared.show_fault.ShowFault.{ShowFault}
+use Rattle.ira_view_page.specs.declared.show_fault.ShowFault.TheVariants.{OutOfMemory, Write}
 use Rattle.ira_show.specs.Showed.{OfPrintable, Showed}
 
 printable_append : (a b : List ℕ) → IsPrintable a → IsPrintable b → IsPrintable (a ++ b)

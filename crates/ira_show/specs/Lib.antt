@@ -1,1 +1,15 @@
+pub mod Asked
+pub mod Cells
+pub mod Change
+pub mod Counts
+pub mod EventLine
+pub mod EventParts
+pub mod Heading
+pub mod Leaders
+pub mod Listed
+pub mod MomentText
+pub mod NodeLines
+pub mod RoundLines
 pub mod Showed
+pub mod Summary
+pub mod Way

@@ -1,60 +1,68 @@
-ghost use Rattle.std.specs.Prelude.{◌≡◌, IfOk, length};
+ghost use Rattle.std.specs.Prelude.{OnOk};
 ghost use Rattle.ira_order.specs.Circle.{HasOrder};
 ghost use Rattle.ira_order.specs.Cut.{IsConsistentCut};
+ghost use Rattle.ira_order.specs.Matching.{Matches};
 ghost use Rattle.ira_order.specs.Run.{AreLocalRuns};
-ghost use Rattle.ira_show.specs.Showed.{Showed};
+ghost use Rattle.ira_show.specs.Asked.{line_of_cut};
+ghost use Rattle.ira_show.specs.Showed.{GoesOn, Showed, TookPage};
+ghost use Rattle.ira_view_page.specs.Page.{Added};
 
-use crate::change_words::ChangeWords;
-use crate::event_columns::EventColumns;
-use crate::heading::Heading;
-use crate::show_fault::ShowFault;
+use crate::change::Change;
+use crate::event_line::EventColumns;
+use crate::heading::{Heading, print_positions};
 use crate::summary::show_summary;
 use ira_event::{Event, Logs, NodeLog, OutOfMemory, Sink};
-use ira_explain::{Mark, Page};
 use ira_moment::{Moment, cut_at_end};
 use ira_node::NodeState;
 use ira_trail::Trail;
+use ira_view_page::{Mark, Page, ShowFault};
 use std::alloc::Allocator;
 
 /// When so many bytes of lines are put together they are written.
 const BLOCK: usize = 65_536;
 
 /// Goes on by an event of a log, and gives what it changed: nothing where it has no step.
-fn go_on<L: Allocator>(log: &NodeLog<L>, state: &mut NodeState, event: &Event) -> ChangeWords {
+fn go_on<L: Allocator>(log: &NodeLog<L>, state: &mut NodeState, event: &Event) -> Change {
     let before = *state;
     match state.advance(log.nodes(), event) {
-        Ok(()) | Err(_) => ChangeWords {
-            before,
-            after: *state,
-        },
+        Ok(()) | Err(_) => Change::between(before, *state),
     }
 }
 
 /// Adds the line that stands where the cut ends.
-fn print_line_of_cut<P: Allocator>(page: &mut Page<P>, cut: &[u32]) -> Result<(), OutOfMemory> {
-    page.begin(Mark::Plain)?;
-    page.words("-- here:")?;
-    for position in cut {
-        page.words(" ")?;
-        page.number(u64::from(*position))?;
-    }
-    page.words(" --")?;
-    page.end()
+fn print_line_of_cut<P: Allocator>(page: &mut Page<P>, cut: &[u32])
+    ensures { Added page.old (line_of_cut cut.now) page.new }
+{
+    page.begin(Mark::Plain);
+    page.words("-- here:");
+    print_positions(page, cut);
+    page.words(" --");
+    page.end();
+}
+
+/// Writes a page.
+fn write_page<A: Allocator, W: Sink>(page: Page<A>, sink: &mut W) -> Result<(), ShowFault>
+    ensures showed { Showed result (W.state sink.old) (W.state sink.new) }
+    ensures took { OnOk result (TookPage page (W.state sink.old) (W.state sink.new)) }
+{
+    page.finish()?.write(sink)?;
+    Ok(())
 }
 
 /// Writes a page where it is a block, and gives one to go on with.
-fn write_block<A: Allocator, W: Sink>(
-    alloc: A,
+fn write_block<A: Allocator + Clone, W: Sink>(
+    alloc: &A,
     page: Page<A>,
     sink: &mut W,
 ) -> Result<Page<A>, ShowFault>
-    ensures { Showed result (W.state sink.old) (W.state sink.new) }
+    ensures showed { Showed result (W.state sink.old) (W.state sink.new) }
+    ensures goes_on { GoesOn page result (W.state sink.old) (W.state sink.new) }
 {
-    if page.text().len() < BLOCK {
+    if page.len() < BLOCK {
         return Ok(page);
     }
-    page.write(sink)?;
-    Ok(Page::new(alloc))
+    write_page(page, sink)?;
+    Ok(Page::new(alloc.clone()?))
 }
 
 /// Writes what is on a page and then a line for each event, those of the cut first, where it is asked for with a line
@@ -82,20 +90,32 @@ fn write_lines<A: Allocator + Clone, W: Sink>(
             break;
         };
         if is_line_due && !step.in_cut {
-            print_line_of_cut(&mut page, cut)?;
+            print_line_of_cut(&mut page, cut);
             is_line_due = false;
         }
         let log = logs.log(step.place);
         let event = log.event(step.event);
         let change = go_on(log, &mut states[usize::from(step.place)], &event);
-        columns.print(&alloc, &mut page, number + 1, step, event, change)?;
-        page = write_block(alloc.clone()?, page, sink)?;
+        columns.print(&mut page, number + 1, step, event, change);
+        page = write_block(&alloc, page, sink)?;
     }
     if is_line_due {
-        print_line_of_cut(&mut page, cut)?;
+        print_line_of_cut(&mut page, cut);
     }
-    page.write(sink)?;
-    Ok(())
+    write_page(page, sink)
+}
+
+/// A page that says who leads at the end of logs.
+fn summary_page<A: Allocator + Clone>(alloc: A, logs: &Logs<A>) -> Result<Page<A>, OutOfMemory>
+    requires matches { Matches logs.now }
+    requires local { AreLocalRuns logs.now }
+{
+    let moment = Moment::at_end(alloc.clone()?, logs)?;
+    let mut page = Page::new(alloc);
+    page.blank();
+    show_summary(&mut page, &moment);
+    page.blank();
+    Ok(page)
 }
 
 /// Writes, as the lines that follow the answer for logs, who leads at their end, and then a line for each event, in
@@ -111,10 +131,7 @@ pub fn show_events<A: Allocator + Clone, W: Sink>(
     ensures { Showed result (W.state sink.old) (W.state sink.new) }
 {
     let cut = cut_at_end(alloc.clone()?, logs)?;
-    let mut page = Page::new(alloc.clone()?);
-    page.blank()?;
-    show_summary(&alloc, &mut page, &Moment::at_end(alloc.clone()?, logs)?)?;
-    page.blank()?;
+    let page = summary_page(alloc.clone()?, logs)?;
     write_lines(alloc, logs, &cut, false, page, sink)
 }
 
@@ -131,8 +148,8 @@ pub fn show_events_of_cut<A: Allocator + Clone, Q: Allocator, W: Sink>(
     ensures { Showed result (W.state sink.old) (W.state sink.new) }
 {
     let mut page = Page::new(alloc.clone()?);
-    page.blank()?;
-    heading.print(&alloc, &mut page, cut)?;
-    page.blank()?;
+    page.blank();
+    heading.print(&mut page, cut);
+    page.blank();
     write_lines(alloc, logs, cut, true, page, sink)
 }

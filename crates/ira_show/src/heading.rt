@@ -1,6 +1,11 @@
-use ira_event::OutOfMemory;
-use ira_explain::Page;
-use ira_pred::{Case, Clause, Rel};
+ghost use Rattle.std.specs.List.{flat_map};
+ghost use Rattle.ira_pred.specs.Clause.{formula};
+ghost use Rattle.ira_view_page.specs.Page.{Added};
+ghost use Rattle.ira_show.specs.Asked.{case_text, conjunct_text, position_text};
+
+use crate::listed::add_comma;
+use ira_pred::{Case, Clause};
+use ira_view_page::Page;
 use std::alloc::Allocator;
 
 /// Which moment is shown, where it is not the end.
@@ -17,99 +22,73 @@ pub enum Heading<'a, A: Allocator> {
 }
 
 impl<A: Allocator> Heading<'_, A> {
+    ghost use Rattle.ira_show.specs.Heading.{heading_text, heading_words};
+
     /// Adds its sentence.
-    pub(crate) fn print<B: Allocator + Copy, P: Allocator>(
-        &self,
-        alloc: B,
-        page: &mut Page<P>,
-        cut: &[u32],
-    ) -> Result<(), OutOfMemory> {
+    pub(crate) fn print<P: Allocator>(&self, page: &mut Page<P>, cut: &[u32])
+        ensures { Added page.old (heading_text self.now cut.now) page.new }
+    {
+        self.print_words(page, cut);
+        page.end();
+    }
+
+    fn print_words<P: Allocator>(&self, page: &mut Page<P>, cut: &[u32])
+        ensures { Added page.old (heading_words self.now cut.now) page.new }
+    {
         match self {
             Heading::Cut => {
-                page.words("At the cut")?;
-                for position in cut {
-                    page.words(" ")?;
-                    page.number(u64::from(*position))?;
-                }
-                page.words(":")?;
+                page.words("At the cut");
+                print_positions(page, cut);
+                page.words(":");
             }
             Heading::Case { number, case } => {
-                page.words(format!(in alloc; "The first moment of case {number} (")?.as_str())?;
-                print_case(page, case)?;
-                page.words("):")?;
+                page.words("The first moment of case ");
+                page.number(*number as u64);
+                page.words(" (");
+                print_case(page, case);
+                page.words("):");
             }
         }
-        page.end()
     }
+}
+
+/// Adds how many events each node has made.
+pub(crate) fn print_positions<P: Allocator>(page: &mut Page<P>, cut: &[u32])
+    ensures { Added page.old (flat_map position_text cut.now) page.new }
+{
+    for position in cut {
+        print_position(page, *position);
+    }
+}
+
+fn print_position<P: Allocator>(page: &mut Page<P>, position: u32)
+    ensures { Added page.old (position_text position) page.new }
+{
+    page.words(" ");
+    page.number(position as u64);
 }
 
 /// Adds what a case asks of each node.
-fn print_case<A: Allocator, P: Allocator>(
-    page: &mut Page<P>,
-    case: &Case<A>,
-) -> Result<(), OutOfMemory> {
+fn print_case<A: Allocator, P: Allocator>(page: &mut Page<P>, case: &Case<A>)
+    ensures { Added page.old (case_text case.now) page.new }
+{
     for n in 0..case.len() {
-        if n > 0 {
-            page.words(", ")?;
-        }
-        page.number(u64::from(case.place(n)))?;
-        page.words(": ")?;
-        print_clause(page, case.clause(n))?;
+        print_conjunct(page, n == 0, case.place(n), case.clause(n));
     }
-    Ok(())
 }
 
-/// Adds a clause as questions spell it.
-pub fn print_clause<A: Allocator, P: Allocator>(
+/// Adds what is asked of a node, with a comma before it where it isn't the first.
+fn print_conjunct<A: Allocator, P: Allocator>(
     page: &mut Page<P>,
+    is_first: bool,
+    place: u8,
     clause: &Clause<A>,
-) -> Result<(), OutOfMemory> {
-    match clause {
-        Clause::Always => page.words("true"),
-        Clause::Leader => page.words("leader"),
-        Clause::Active => page.words("active"),
-        Clause::Passive => page.words("passive"),
-        Clause::Choosing => page.words("choosing"),
-        Clause::Yielding => page.words("yielding"),
-        Clause::Owes => page.words("owes"),
-        Clause::Round(rel, number) => print_comparison(page, "round", *rel, *number),
-        Clause::Id(rel, number) => print_comparison(page, "id", *rel, *number),
-        Clause::Term(rel, number) => print_comparison(page, "term", *rel, *number),
-        Clause::Both(left, right) => {
-            page.words("(")?;
-            print_clause(page, left)?;
-            page.words(" and ")?;
-            print_clause(page, right)?;
-            page.words(")")
-        }
-        Clause::Either(left, right) => {
-            page.words("(")?;
-            print_clause(page, left)?;
-            page.words(" or ")?;
-            print_clause(page, right)?;
-            page.words(")")
-        }
-        Clause::Negated(clause) => {
-            page.words("(not ")?;
-            print_clause(page, clause)?;
-            page.words(")")
-        }
-    }
-}
-
-/// Adds a clause that compares a number of the state.
-fn print_comparison<P: Allocator>(
-    page: &mut Page<P>,
-    word: &str,
-    rel: Rel,
-    number: u32,
-) -> Result<(), OutOfMemory> {
-    let sign = match rel {
-        Rel::Less => " < ",
-        Rel::Equal => " = ",
-        Rel::Greater => " > ",
-    };
-    page.words(word)?;
-    page.words(sign)?;
-    page.number(u64::from(number))
+)
+    ensures { Added page.old
+        (conjunct_text is_first (record { place = place; formula = formula clause.now })) page.new }
+{
+    add_comma(page, is_first);
+    page.number(place as u64);
+    page.words(": ");
+    page.clause(clause);
 }

@@ -1,63 +1,88 @@
-ghost use Rattle.std.specs.Prelude.{◌≡◌, ◌≢◌, ◌↔◌, ℕ, List, [], ◌++◌, IfOk, OnOk};
+ghost use Rattle.std.specs.Prelude.{◌≡◌, ◌==◌, ◌↔◌, [], IfOk};
+ghost use Rattle.std.specs.List.{list_any};
 ghost use Rattle.ira_moment.specs.Moment.{AreLeaders};
+ghost use Rattle.ira_show.specs.Leaders.{difference_text, differences_text, due_text, is_leader};
+ghost use Rattle.ira_view_page.specs.Page.{Added};
 
 use ira_event::OutOfMemory;
-use ira_explain::{Page, StateWords};
 use ira_moment::Moment;
-use ira_node::{NodeState, Wanted};
+use ira_node::{NodeState, Phase, Wanted};
+use ira_view_page::{Page, PageText};
 use std::alloc::Allocator;
 
+/// Whether a node in the phase leads.
+fn is_leader(phase: Phase) -> bool
+    ensures { result ≡ is_leader phase }
+{
+    matches!(phase, Phase::Leader { .. })
+}
+
+/// Whether a place is named.
+fn is_named(named: &[u8], place: u8) -> bool
+    ensures { result ≡ list_any (λ n. n == place) named.now }
+{
+    named.iter().any(|n| *n == place)
+}
+
+/// Adds that a node is about to draw, where it is.
+fn print_due<A: Allocator>(page: &mut Page<A>, wanted: Wanted)
+    ensures { Added page.old (due_text wanted) page.new }
+{
+    match wanted {
+        Wanted::Draw => page.words(", must draw"),
+        Wanted::Send(_) | Wanted::Receipt | Wanted::Yield | Wanted::Nothing => {}
+    }
+}
+
 /// Adds a line where a node leads and isn't named, or is named and doesn't lead.
-fn compare<A: Allocator, P: Allocator>(
-    alloc: A,
-    page: &mut Page<P>,
+fn compare<A: Allocator>(
+    page: &mut Page<A>,
     place: u8,
-    state: NodeState,
+    state: &NodeState,
     leads: bool,
     is_named: bool,
-) -> Result<(), OutOfMemory>
-    ensures same { OnOk result (leads ≡ is_named → page.new ≡ page.old) }
-    ensures differ { OnOk result
-        (leads ≢ is_named → (more : List ℕ) × (page.new ≡ page.old ++ more) × (more ≢ [])) }
+)
+    ensures { Added page.old (difference_text leads is_named place state.now) page.new }
 {
-    if leads == is_named {
-        return Ok(());
+    match (leads, is_named) {
+        (true, false) => {
+            page.words("node ");
+            page.number(place as u64);
+            page.words(" leads, and isn't named");
+            page.end();
+        }
+        (false, true) => {
+            page.words("node ");
+            page.number(place as u64);
+            page.words(" doesn't lead: ");
+            page.state(state);
+            print_due(page, state.wanted());
+            page.end();
+        }
+        (true, true) | (false, false) => {}
     }
-    let words = if leads {
-        format!(in alloc; "node {place} leads, and isn't named")?
-    } else {
-        let due = match state.wanted() {
-            Wanted::Draw => ", must draw",
-            Wanted::Send(_) | Wanted::Receipt | Wanted::Yield | Wanted::Nothing => "",
-        };
-        let state = StateWords(state);
-        format!(in alloc; "node {place} doesn't lead: {state}{due}")?
-    };
-    page.words(words.as_str())?;
-    page.end()
 }
 
 /// A line for each node of which a ring says otherwise than its logs whether it leads; so none exactly where the named
 /// nodes are those that lead. Each name is to be a place of the ring.
-pub fn leads_differ<A: Allocator + Clone>(
+pub fn leads_differ<A: Allocator, M: Allocator>(
     alloc: A,
-    moment: &Moment<A>,
+    moment: &Moment<M>,
     named: &[u8],
-) -> Result<Page<A>, OutOfMemory>
-    ensures { IfOk result (λ page. (page ≡ []) ↔ AreLeaders moment.now named.now) }
+) -> Result<PageText<A>, OutOfMemory>
+    ensures text { IfOk result (λ text. text ≡ differences_text named.now moment.now.nodes) }
+    ensures none { IfOk result (λ text. (text ≡ []) ↔ AreLeaders moment.now named.now) }
 {
-    let mut page = Page::new(alloc.clone()?);
+    let mut page = Page::new(alloc);
     for place in 0..moment.size() {
         let state = moment.node(place).state;
-        let is_named = named.contains(&place);
         compare(
-            &alloc,
             &mut page,
             place,
-            state,
-            moment.leads(place),
-            is_named,
-        )?;
+            &state,
+            is_leader(state.phase),
+            is_named(named, place),
+        );
     }
-    Ok(page)
+    page.finish()
 }

@@ -1,71 +1,77 @@
-ghost use Rattle.std.specs.Prelude.{◌≡◌, length};
+ghost use Rattle.std.specs.Prelude.{◌≡◌, [], Some, length};
+ghost use Rattle.ira_show.specs.NodeLines.{head_cells, node_cells, nodes_text, start_text};
+ghost use Rattle.ira_view_page.specs.Page.{Added};
 
-use crate::grid::{Cell, Grid};
-use ira_event::{Logs, NodeLog, OutOfMemory};
-use ira_explain::{Page, StateWords};
+use crate::cells::{add_left, add_number, add_number_if, add_right, add_right_if};
+use ira_event::{Logs, NodeLog};
 use ira_moment::{Moment, NodeProgress};
+use ira_view_page::{Mark, Page, Row, Table};
 use std::alloc::Allocator;
 
-/// The first row of the table of nodes, perhaps with the number of all events of a log, whose column is no narrower
-/// than five.
-fn heads<A: Allocator + Copy>(alloc: A, has_all: bool) -> Result<Vec<Cell<A>, A>, OutOfMemory> {
-    let mut cells = Vec::new(alloc);
-    cells.push(Cell::right(String::from_str(alloc, "node")?))?;
-    cells.push(Cell::left(String::from_str(alloc, "start")?))?;
-    cells.push(Cell::right(String::from_str(alloc, "events")?))?;
-    if has_all {
-        cells.push(Cell::right(String::from_str(alloc, "   of")?))?;
-    }
-    for head in ["draws", "sent", "received", "dropped"] {
-        cells.push(Cell::right(String::from_str(alloc, head)?))?;
-    }
-    cells.push(Cell::left(String::from_str(alloc, "state")?))?;
-    Ok(cells)
+/// The first row of the table of nodes. The column that says how many events a log has in all is no narrower than five.
+fn heads<T: Allocator + Copy>(alloc: T, has_all: bool) -> Row<T>
+    ensures { Added (Some []) (head_cells has_all) result }
+{
+    let mut row = Row::new(alloc);
+    add_right(&mut row, alloc, "node");
+    add_left(&mut row, alloc, "start");
+    add_right(&mut row, alloc, "events");
+    add_right_if(&mut row, alloc, has_all, "   of");
+    add_right(&mut row, alloc, "draws");
+    add_right(&mut row, alloc, "sent");
+    add_right(&mut row, alloc, "received");
+    add_right(&mut row, alloc, "dropped");
+    add_left(&mut row, alloc, "state");
+    row
+}
+
+/// How a node starts: words as wide as one another, so that this column is as wide in each ring.
+fn start_words(initiator: bool) -> &'static str
+    ensures { result.now ≡ start_text initiator }
+{
+    if initiator { "initiator" } else { "passive  " }
 }
 
 /// The row of a node.
-fn cells<A: Allocator + Copy, L: Allocator>(
-    alloc: A,
+fn cells<T: Allocator + Copy, L: Allocator>(
+    alloc: T,
+    has_all: bool,
     log: &NodeLog<L>,
     node: NodeProgress,
-    has_all: bool,
-) -> Result<Vec<Cell<A>, A>, OutOfMemory> {
-    // As wide as one another, so that this column is as wide in each ring.
-    let start = if log.initiator() {
-        "initiator"
-    } else {
-        "passive  "
-    };
-    let mut cells = Vec::new(alloc);
-    cells.push(Cell::number(alloc, usize::from(log.place()))?)?;
-    cells.push(Cell::left(String::from_str(alloc, start)?))?;
-    cells.push(Cell::number(alloc, node.events as usize)?)?;
-    if has_all {
-        cells.push(Cell::number(alloc, log.len())?)?;
-    }
-    for number in [node.draws, node.sent, node.received, node.dropped] {
-        cells.push(Cell::number(alloc, number as usize)?)?;
-    }
-    let state = StateWords(node.state);
-    cells.push(Cell::left(format!(in alloc; "{state}")?))?;
-    Ok(cells)
+) -> Row<T>
+    ensures { Added (Some []) (node_cells has_all (log.now, node)) result }
+{
+    let mut row = Row::new(alloc);
+    add_number(&mut row, alloc, log.place() as u64);
+    add_left(&mut row, alloc, start_words(log.initiator()));
+    add_number(&mut row, alloc, node.events as u64);
+    add_number_if(&mut row, alloc, has_all, log.len() as u64);
+    add_number(&mut row, alloc, node.draws as u64);
+    add_number(&mut row, alloc, node.sent as u64);
+    add_number(&mut row, alloc, node.received as u64);
+    add_number(&mut row, alloc, node.dropped as u64);
+    let mut state = Page::new(alloc);
+    state.state(&node.state);
+    row.left(state);
+    row
 }
 
-/// Adds a line for each node.
-pub(crate) fn show_nodes<A: Allocator + Copy, L: Allocator, P: Allocator>(
-    alloc: A,
-    page: &mut Page<P>,
+/// Adds a line for each node, with how many events its log has in all where that is asked for.
+pub(crate) fn show_nodes<A: Allocator, T: Allocator + Copy, L: Allocator, M: Allocator>(
+    page: &mut Page<A>,
+    alloc: T,
     logs: &Logs<L>,
-    moment: &Moment<L>,
+    moment: &Moment<M>,
     has_all: bool,
-) -> Result<(), OutOfMemory>
+)
     requires { length moment.now.nodes ≡ length logs.now }
+    ensures { Added page.old (nodes_text has_all logs.now moment.now.nodes) page.new }
 {
-    let mut grid = Grid::new(alloc);
-    grid.add(heads(alloc, has_all)?)?;
+    let mut table = Table::new(alloc);
+    table.add(Mark::Plain, heads(alloc, has_all));
     for place in 0..logs.size().get() {
-        let node = moment.node(place);
-        grid.add(cells(alloc, logs.log(place), node, has_all)?)?;
+        let row = cells(alloc, has_all, logs.log(place), moment.node(place));
+        table.add(Mark::Plain, row);
     }
-    grid.print(page)
+    page.table(&table);
 }

@@ -1,194 +1,109 @@
-ghost use Rattle.std.specs.Prelude.{◌≡◌, ◌≤◌, length, vec_len};
+ghost use Rattle.std.specs.Prelude.{◌≡◌, [], Some, take};
+ghost use Rattle.std.specs.List.{flat_map, list_any};
+ghost use Rattle.ira_moment.specs.Rounds.{drawn};
+ghost use Rattle.ira_show.specs.RoundLines.{beyond_text, head_cells, is_later, round_cells, round_row, rounds_text};
+ghost use Rattle.ira_view_page.specs.Page.{Added};
 
-use crate::grid::{Cell, Grid};
-use crate::places::Places;
-use ira_event::{Event, Logs, NodeLog, OutOfMemory};
-use ira_explain::{Mark, Page};
-use ira_moment::Moment;
-use ira_node::{NodeState, Phase};
+use crate::cells::{add_left, add_number, add_number_if, add_right, add_right_if};
+use ira_moment::{Round, Rounds};
+use ira_view_page::{Mark, Page, Row, Table};
 use std::alloc::Allocator;
 
 /// The most rounds that are shown.
 const SHOWN: usize = 20;
 
-/// A draw of a node.
-#[derive(Clone, Copy)]
-struct DrawnId {
-    term: u32,
-    round: u32,
-    id: u32,
-    place: u8,
-}
-
-/// What was drawn in a round of a term.
-#[derive(Drop)]
-pub struct Round<A: Allocator> {
-    pub term: u32,
-    pub number: u32,
-    /// How many nodes drew.
-    pub drew: usize,
-    pub greatest: u32,
-    /// The places that drew the greatest ID.
-    pub greatest_of: Vec<u8, A>,
-}
-
-impl<A: Allocator> Round<A> {
-    /// The round in which there was no draw yet but this one.
-    fn new(alloc: A, drawn: DrawnId) -> Result<Round<A>, OutOfMemory> {
-        Ok(Round {
-            term: drawn.term,
-            number: drawn.round,
-            drew: 1,
-            greatest: drawn.id,
-            greatest_of: vec![in alloc; drawn.place]?,
-        })
-    }
-
-    /// Adds a draw.
-    fn add(&mut self, drawn: DrawnId) -> Result<(), OutOfMemory> {
-        self.drew = self.drew.saturating_add(1);
-        if drawn.id > self.greatest {
-            self.greatest = drawn.id;
-            self.greatest_of.clear();
-        }
-        if drawn.id == self.greatest {
-            self.greatest_of.push(drawn.place)?;
-        }
-        Ok(())
-    }
-}
-
-/// The rounds in which nodes drew, in their order.
-#[derive(Drop)]
-pub struct Rounds<A: Allocator> {
-    rounds: Vec<Round<A>, A>,
-}
-
-impl<A: Allocator + Copy> Rounds<A> {
-    /// The rounds up to a moment of the logs.
-    pub fn of<L: Allocator, M: Allocator>(
-        alloc: A,
-        logs: &Logs<L>,
-        moment: &Moment<M>,
-    ) -> Result<Rounds<A>, OutOfMemory>
-        requires { length moment.now.nodes ≡ length logs.now }
-    {
-        let mut rounds = Rounds {
-            rounds: Vec::new(alloc),
-        };
-        for place in 0..logs.size().get() {
-            rounds.add_draws(alloc, place, logs.log(place), moment.node(place).events)?;
-        }
-        Ok(rounds)
-    }
-
-    /// Adds the draws among the first events of a node, up to one without a step.
-    fn add_draws<L: Allocator>(
-        &mut self,
-        alloc: A,
-        place: u8,
-        log: &NodeLog<L>,
-        events: u32,
-    ) -> Result<(), OutOfMemory> {
-        let mut state = NodeState::first(log.initiator());
-        let mut at = 0usize;
-        for event in log.events().take(events as usize) {
-            if state.advance(log.nodes(), &event).is_err() {
-                return Ok(());
-            }
-            if let (Event::Draw(id), Phase::Active { round, .. }) = (event, state.phase) {
-                let term = state.term;
-                let drawn = DrawnId {
-                    term,
-                    round,
-                    id,
-                    place,
-                };
-                at = self.add(alloc, at, drawn)?;
-            }
-        }
-        Ok(())
-    }
-
-    /// Adds a draw to its round, which is that of number `from` or one after it, and answers the round's number. A node
-    /// draws in one round after the other.
-    fn add(&mut self, alloc: A, from: usize, drawn: DrawnId) -> Result<usize, OutOfMemory> {
-        let at = self.first_from(from, drawn);
-        match self.rounds.get_mut(at) {
-            Some(round) if (round.term, round.number) == (drawn.term, drawn.round) => {
-                round.add(drawn)?;
-            }
-            _ => self.rounds.insert(at, Round::new(alloc, drawn)?)?,
-        }
-        Ok(at)
-    }
-
-    /// The first round from number `from` on that doesn't come before that of the draw, or the number of all.
-    fn first_from(&self, from: usize, drawn: DrawnId) -> usize
-        ensures { result ≤ vec_len self.now.rounds }
-    {
-        for at in from..self.rounds.len() {
-            let round = &self.rounds[at];
-            if (round.term, round.number) >= (drawn.term, drawn.round) {
-                return at;
-            }
-        }
-        self.rounds.len()
-    }
-
-    pub fn as_slice(&self) -> &[Round<A>] {
-        &self.rounds
-    }
-
-    /// Adds a line for each round to a page.
-    pub(crate) fn print<P: Allocator>(
-        &self,
-        alloc: A,
-        page: &mut Page<P>,
-    ) -> Result<(), OutOfMemory> {
-        if self.rounds.is_empty() {
-            return Ok(());
-        }
-        let has_terms = self.rounds.iter().any(|round| round.term > 1);
-        let mut grid = Grid::new(alloc);
-        grid.add(heads(alloc, has_terms)?)?;
-        for round in self.rounds.iter().take(SHOWN) {
-            grid.add(round.cells(alloc, has_terms)?)?;
-        }
-        grid.print(page)?;
-        if self.rounds.len() > SHOWN {
-            let more = self.rounds.len() - SHOWN;
-            page.line(Mark::Plain, format!(in alloc; "and {more} more")?.as_str())?;
-        }
-        page.blank()
-    }
-}
-
-impl<A: Allocator + Copy> Round<A> {
-    /// Its row of the table.
-    fn cells(&self, alloc: A, has_terms: bool) -> Result<Vec<Cell<A>, A>, OutOfMemory> {
-        let mut cells = Vec::new(alloc);
-        if has_terms {
-            cells.push(Cell::number(alloc, self.term as usize)?)?;
-        }
-        cells.push(Cell::number(alloc, self.number as usize)?)?;
-        cells.push(Cell::number(alloc, self.drew)?)?;
-        cells.push(Cell::number(alloc, self.greatest as usize)?)?;
-        let nodes = Places(&self.greatest_of);
-        cells.push(Cell::left(format!(in alloc; "{nodes}")?))?;
-        Ok(cells)
-    }
-}
-
 /// The first row of the table of rounds.
-fn heads<A: Allocator + Copy>(alloc: A, has_terms: bool) -> Result<Vec<Cell<A>, A>, OutOfMemory> {
-    let mut cells = Vec::new(alloc);
-    if has_terms {
-        cells.push(Cell::right(String::from_str(alloc, "term")?))?;
+fn heads<T: Allocator + Copy>(alloc: T, has_terms: bool) -> Row<T>
+    ensures { Added (Some []) (head_cells has_terms) result }
+{
+    let mut row = Row::new(alloc);
+    add_right_if(&mut row, alloc, has_terms, "term");
+    add_right(&mut row, alloc, "round");
+    add_right(&mut row, alloc, "drew");
+    add_right(&mut row, alloc, "greatest ID");
+    add_left(&mut row, alloc, "of node");
+    row
+}
+
+/// The row of a round.
+fn cells<T: Allocator + Copy, R: Allocator>(alloc: T, has_terms: bool, round: &Round<R>) -> Row<T>
+    ensures { Added (Some []) (round_cells has_terms (drawn round.now)) result }
+{
+    let mut row = Row::new(alloc);
+    add_number_if(&mut row, alloc, has_terms, round.term as u64);
+    add_number(&mut row, alloc, round.number as u64);
+    add_number(&mut row, alloc, round.drew as u64);
+    add_number(&mut row, alloc, round.greatest as u64);
+    let mut nodes = Page::new(alloc);
+    nodes.places(&round.greatest_of);
+    row.left(nodes);
+    row
+}
+
+/// Adds a row for each round to a table.
+fn add_rounds<T: Allocator + Copy, R: Allocator>(
+    table: &mut Table<T>,
+    alloc: T,
+    has_terms: bool,
+    rounds: &[Round<R>],
+)
+    ensures { Added table.old (flat_map (λ r. round_row has_terms (drawn r)) rounds.now) table.new }
+{
+    for round in rounds {
+        table.add(Mark::Plain, cells(alloc, has_terms, round));
     }
-    for head in ["round", "drew", "greatest ID"] {
-        cells.push(Cell::right(String::from_str(alloc, head)?))?;
+}
+
+/// Adds a row for each of the first twenty rounds.
+fn add_shown<T: Allocator + Copy, R: Allocator>(
+    table: &mut Table<T>,
+    alloc: T,
+    has_terms: bool,
+    rounds: &[Round<R>],
+)
+    ensures { Added table.old (flat_map (λ r. round_row has_terms (drawn r)) (take 20 rounds.now)) table.new }
+{
+    let shown = rounds.len().min(SHOWN);
+    add_rounds(table, alloc, has_terms, &rounds[..shown]);
+}
+
+/// Whether some round is of a later term than the first.
+fn has_later<R: Allocator>(rounds: &[Round<R>]) -> bool
+    ensures { result ≡ list_any (λ r. is_later (drawn r)) rounds.now }
+{
+    rounds.iter().any(|round| round.term > 1)
+}
+
+/// Adds how many rounds there are besides, where there are any.
+fn show_beyond<A: Allocator>(page: &mut Page<A>, count: usize)
+    ensures { Added page.old (beyond_text count) page.new }
+{
+    if count > 0 {
+        page.begin(Mark::Plain);
+        page.words("and ");
+        page.number(count as u64);
+        page.words(" more");
+        page.end();
     }
-    cells.push(Cell::left(String::from_str(alloc, "of node")?))?;
-    Ok(cells)
+}
+
+/// Adds a line for each round, at most twenty, and an empty line; nothing where nobody drew.
+pub(crate) fn show_rounds<A: Allocator, T: Allocator + Copy, R: Allocator>(
+    page: &mut Page<A>,
+    alloc: T,
+    rounds: &Rounds<R>,
+)
+    ensures { Added page.old (rounds_text rounds.now) page.new }
+{
+    let rounds = rounds.as_slice();
+    if rounds.is_empty() {
+        return;
+    }
+    let has_terms = has_later(rounds);
+    let mut table = Table::new(alloc);
+    table.add(Mark::Plain, heads(alloc, has_terms));
+    add_shown(&mut table, alloc, has_terms, rounds);
+    page.table(&table);
+    show_beyond(page, rounds.len().saturating_sub(SHOWN));
+    page.blank();
 }

@@ -1,65 +1,64 @@
-use crate::way::number_on_the_way;
-use ira_event::OutOfMemory;
-use ira_explain::{NumberOf, Page, RoundWords};
+ghost use Rattle.ira_show.specs.Summary.{counts_text, leader_text, sent_text, summary_text};
+ghost use Rattle.ira_view_page.specs.Page.{Added};
+
+use crate::counts::Counts;
+use crate::leads::{Leads, first_leader};
 use ira_moment::Moment;
-use ira_node::{NodeState, Phase};
+use ira_view_page::Page;
 use std::alloc::Allocator;
 
-/// Who leads: the least place.
-fn leader_words<A: Allocator, M: Allocator>(
-    alloc: A,
-    moment: &Moment<M>,
-) -> Result<String<A>, OutOfMemory> {
-    for place in 0..moment.size() {
-        if let NodeState {
-            phase: Phase::Leader { round, id },
-            term,
-            ..
-        } = moment.node(place).state
-        {
-            let round = RoundWords { round, term };
-            return Ok(format!(in alloc; "Node {place} leads in {round} with ID {id}.")?);
-        }
-    }
-    Ok(String::from_str(alloc, "Nobody leads yet.")?)
+/// Adds who leads.
+fn show_leader<A: Allocator>(page: &mut Page<A>, leader: Option<Leads>)
+    ensures { Added page.old (leader_text leader) page.new }
+{
+    let Some(leads) = leader else {
+        page.words("Nobody leads yet.");
+        return;
+    };
+    page.words("Node ");
+    page.number(leads.node as u64);
+    page.words(" leads in ");
+    page.round(leads.round, leads.term);
+    page.words(" with ID ");
+    page.number(leads.id as u64);
+    page.words(".");
 }
 
-/// Whether a reset was sent: by a node that yielded and owes it no more, or before a node came to a later term.
-fn has_resets<A: Allocator>(moment: &Moment<A>) -> bool {
-    for place in 0..moment.size() {
-        let NodeState { phase, owed, term } = moment.node(place).state;
-        if term > 1 || (matches!(phase, Phase::Yielding) && owed.is_none()) {
-            return true;
-        }
+/// Adds how much was sent.
+fn show_sent<A: Allocator>(page: &mut Page<A>, has_resets: bool, sent: usize)
+    ensures { Added page.old (sent_text has_resets sent) page.new }
+{
+    if has_resets {
+        page.number(sent as u64);
+        page.words(" messages and resets sent");
+    } else {
+        page.number_of(sent, "message");
+        page.words(" sent");
     }
-    false
+}
+
+/// Adds how many nodes and events there are, and what crossed the links.
+fn show_counts<A: Allocator>(page: &mut Page<A>, counts: Counts)
+    ensures { Added page.old (counts_text counts) page.new }
+{
+    page.number_of(counts.nodes, "node");
+    page.words(", ");
+    page.number_of(counts.events, "event");
+    page.words("; ");
+    show_sent(page, counts.has_resets, counts.sent);
+    page.words(", ");
+    page.number(counts.received as u64);
+    page.words(" received, ");
+    page.number(counts.way as u64);
+    page.words(" on the way.");
+    page.end();
 }
 
 /// Adds a sentence on the whole ring: who leads, how many nodes and events there are, and what crossed the links.
-pub(crate) fn show_summary<A: Allocator + Copy, M: Allocator, P: Allocator>(
-    alloc: A,
-    page: &mut Page<P>,
-    moment: &Moment<M>,
-) -> Result<(), OutOfMemory> {
-    let mut events = 0usize;
-    let mut sent = 0usize;
-    let mut received = 0usize;
-    for place in 0..moment.size() {
-        let node = moment.node(place);
-        events = events.saturating_add(node.events as usize);
-        sent = sent.saturating_add(node.sent as usize);
-        received = received.saturating_add(node.received as usize);
-    }
-    let leader = leader_words(alloc, moment)?;
-    let nodes = NumberOf(usize::from(moment.size()), "node");
-    let events = NumberOf(events, "event");
-    let way = number_on_the_way(moment);
-    page.words(format!(in alloc; "{leader} {nodes}, {events}; ")?.as_str())?;
-    if has_resets(moment) {
-        page.words(format!(in alloc; "{sent} messages and resets sent")?.as_str())?;
-    } else {
-        page.words(format!(in alloc; "{} sent", NumberOf(sent, "message"))?.as_str())?;
-    }
-    page.words(format!(in alloc; ", {received} received, {way} on the way.")?.as_str())?;
-    page.end()
+pub(crate) fn show_summary<A: Allocator, M: Allocator>(page: &mut Page<A>, moment: &Moment<M>)
+    ensures { Added page.old (summary_text moment.now) page.new }
+{
+    show_leader(page, first_leader(moment));
+    page.words(" ");
+    show_counts(page, Counts::of(moment));
 }

@@ -1,62 +1,84 @@
-use ira_event::{Load, OutOfMemory};
-use ira_explain::{LoadWords, Mark, Page};
+ghost use Rattle.ira_show.specs.Way.{link_text, listed_load, loads_text, way_text};
+ghost use Rattle.ira_show.specs.Listed.{list_text};
+ghost use Rattle.ira_view_page.specs.Numbers.{more_text};
+ghost use Rattle.ira_view_page.specs.Page.{Added};
+
+use crate::counts::number_on_the_way;
+use crate::listed::add_comma;
+use ira_event::Load;
 use ira_moment::Moment;
+use ira_view_page::{Mark, Page, next_place};
 use std::alloc::Allocator;
-use std::fmt;
 
 /// The most loads of a link that are shown.
 const SHOWN: usize = 6;
 
-/// The loads on a link, the next to be received first: at most six, and how many there are besides.
-#[derive(Clone, Copy)]
-struct Loads<'a>(&'a [Load]);
+/// Adds a load, with a comma before it where it isn't the first.
+fn show_load<A: Allocator>(page: &mut Page<A>, is_first: bool, load: Load)
+    ensures { Added page.old (listed_load is_first load) page.new }
+{
+    add_comma(page, is_first);
+    page.load(load);
+}
 
-impl fmt::Display for Loads<'_> {
-    fn fmt<W: fmt::Write>(&self, f: &mut fmt::Formatter<W>) -> fmt::Result {
-        let loads = self.0;
-        for i in 0..loads.len().min(SHOWN) {
-            if i > 0 {
-                f.write_str(", ")?;
-            }
-            write!(f, "{}", LoadWords(loads[i]))?;
-        }
-        if loads.len() > SHOWN {
-            write!(f, " and {} more", loads.len() - SHOWN)?;
-        }
-        Ok(())
+/// Adds how many there are besides, where there are any.
+pub(crate) fn show_more<A: Allocator>(page: &mut Page<A>, count: usize)
+    ensures { Added page.old (more_text count) page.new }
+{
+    if count > 0 {
+        page.words(" and ");
+        page.number(count as u64);
+        page.words(" more");
     }
 }
 
-/// How many loads are on their way.
-pub(crate) fn number_on_the_way<A: Allocator>(moment: &Moment<A>) -> usize {
-    let mut number = 0usize;
-    for link in 0..moment.size() {
-        number = number.saturating_add(moment.on_link(link).len());
+fn show_listed<A: Allocator>(page: &mut Page<A>, loads: &[Load])
+    ensures { Added page.old (list_text listed_load loads.now) page.new }
+{
+    for (i, load) in loads.iter().enumerate() {
+        show_load(page, i == 0, *load);
     }
-    number
+}
+
+/// Adds the loads on a link, the next to be received first: at most six, and how many there are besides.
+fn show_loads<A: Allocator>(page: &mut Page<A>, loads: &[Load])
+    ensures { Added page.old (loads_text loads.now) page.new }
+{
+    let shown = loads.len().min(SHOWN);
+    show_listed(page, &loads[..shown]);
+    show_more(page, loads.len() - shown);
+}
+
+/// Adds the line of a link, where it holds something.
+fn show_link<A: Allocator>(page: &mut Page<A>, link: u8, reader: u8, loads: &[Load])
+    ensures { Added page.old (link_text link reader loads.now) page.new }
+{
+    if loads.is_empty() {
+        return;
+    }
+    page.begin(Mark::Plain);
+    page.words("link ");
+    page.number(link as u64);
+    page.words(", node ");
+    page.number(link as u64);
+    page.words(" to ");
+    page.number(reader as u64);
+    page.words(": ");
+    show_loads(page, loads);
+    page.end();
 }
 
 /// Adds what is on its way, link by link.
-pub(crate) fn show_way<A: Allocator + Copy, M: Allocator, P: Allocator>(
-    alloc: A,
-    page: &mut Page<P>,
-    moment: &Moment<M>,
-) -> Result<(), OutOfMemory> {
+pub(crate) fn show_way<A: Allocator, M: Allocator>(page: &mut Page<A>, moment: &Moment<M>)
+    ensures { Added page.old (way_text moment.now.links) page.new }
+{
     if number_on_the_way(moment) == 0 {
-        return page.line(Mark::Plain, "No message is on its way.");
+        page.line(Mark::Plain, "No message is on its way.");
+        return;
     }
-    page.line(Mark::Plain, "On their way, the next to be received first:")?;
+    page.line(Mark::Plain, "On their way, the next to be received first:");
     let size = moment.size();
     for link in 0..size {
-        let loads = moment.on_link(link);
-        if !loads.is_empty() {
-            let reader = if link + 1 < size { link + 1 } else { 0 };
-            let loads = Loads(loads);
-            page.line(
-                Mark::Plain,
-                format!(in alloc; "link {link}, node {link} to {reader}: {loads}")?.as_str(),
-            )?;
-        }
+        show_link(page, link, next_place(size, link), moment.on_link(link));
     }
-    Ok(())
 }

@@ -1,7 +1,7 @@
 -- The texts of files with names.
 use Rattle.std.proofs.Common.{◌≡◌, ℕ, zero, suc, ◌<◌, List, [], ◌∷◌, Some, arith, length, refl}
 use Rattle.std.specs.Prelude.{slice_get, slice_index_or}
-use Rattle.ira_explain.specs.declared.named_text.NamedText.{NamedText}
+use Rattle.ira_view_page.specs.declared.named_text.NamedText.{NamedText}
 use Rattle.ira_views.specs.Texts.{texts_of}
 
 -- the text at an index

@@ -1,6 +1,6 @@
 -- The texts of files with names.
 use Rattle.std.specs.Prelude.{ℕ, List, map}
-use Rattle.ira_explain.specs.declared.named_text.NamedText.{NamedText}
+use Rattle.ira_view_page.specs.declared.named_text.NamedText.{NamedText}
 
 -- the texts, without the names of their files
 abbrev pub texts_of : List NamedText → List (List ℕ)

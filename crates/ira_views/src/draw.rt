@@ -20,8 +20,8 @@ use crate::taken::take_texts;
 use ira_audit::{Answer, GoodLogs, Reason, Refusal};
 use ira_draw::{Asked, draw};
 use ira_event::Logs;
-use ira_explain::{NamedText, Page};
 use ira_picture::DrawFault;
+use ira_view_page::{NamedText, PageText};
 use std::alloc::Allocator;
 use std::thread::Threads;
 
@@ -34,7 +34,7 @@ fn draw_moment<A: Allocator + Clone>(
     logs: &Logs<A>,
     moment: &FoundMoment<A>,
     columns: DrawnColumns,
-) -> Result<Page<A>, DrawFault>
+) -> Result<PageText<A>, DrawFault>
     requires { IsMomentOf logs.now moment.now }
     ensures { IfErr result IsDrawFault }
 {
@@ -53,7 +53,7 @@ fn draw_moment<A: Allocator + Clone>(
             let places = met.places(alloc.clone()?)?;
             let asked = Asked {
                 cut: met.cut(),
-                words: words.text(),
+                words: words.bytes(),
                 places: &places,
             };
             draw(alloc, logs, &columns.view(Some(asked)))

@@ -1,5 +1,5 @@
 use ira_audit::Answer;
-use ira_explain::Page;
+use ira_view_page::PageText;
 use std::alloc::Allocator;
 
 /// What is drawn of texts.
@@ -8,5 +8,5 @@ pub struct DrawnRing<A: Allocator> {
     /// Their answer; where nothing stands against them, that of the question whose moment is asked for.
     pub answer: Answer,
     /// The text of an SVG file, where there is something to draw.
-    pub picture: Option<Page<A>>,
+    pub picture: Option<PageText<A>>,
 }

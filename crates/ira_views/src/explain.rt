@@ -8,7 +8,8 @@ use crate::taken::take_texts;
 use crate::view::View;
 use ira_audit::audit_one;
 use ira_event::OutOfMemory;
-use ira_explain::{NamedText, explain_log, explain_logs};
+use ira_explain::{explain_log, explain_logs};
+use ira_view_page::NamedText;
 use std::alloc::Allocator;
 use std::thread::Threads;
 

@@ -1,5 +1,5 @@
 use ira_audit::Findings;
-use ira_explain::Explanation;
+use ira_view_page::Explanation;
 use std::alloc::Allocator;
 
 /// What is told of texts and a question: what is found for it, and why it is so.

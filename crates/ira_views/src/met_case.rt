@@ -1,9 +1,9 @@
 ghost use Rattle.std.specs.Prelude.{◌≡◌, ◌<◌, length};
 
 use ira_event::OutOfMemory;
-use ira_explain::Page;
 use ira_pred::Question;
-use ira_show::{Heading, print_clause};
+use ira_show::Heading;
+use ira_view_page::{Page, PageText};
 use std::alloc::Allocator;
 use std::marker::Model;
 
@@ -52,19 +52,19 @@ impl<A: Allocator> MetCase<A> {
     }
 
     /// What is said of the moment in a picture: the case's number, and what it asks of each node.
-    pub(crate) fn words(&self, alloc: A) -> Result<Page<A>, OutOfMemory> {
-        let mut words = Page::new(alloc);
-        words.words("case ")?;
-        words.number(self.number as u64)?;
-        words.words(" is met here: ")?;
+    pub(crate) fn words(&self, alloc: A) -> Result<PageText<A>, OutOfMemory> {
+        let mut page = Page::new(alloc);
+        page.words("case ");
+        page.number(self.number as u64);
+        page.words(" is met here: ");
         let case = &self.question.cases()[self.number];
         for n in 0..case.len() {
-            words.words(if n > 0 { ", node " } else { "node " })?;
-            words.number(u64::from(case.place(n)))?;
-            words.words(" ")?;
-            print_clause(&mut words, case.clause(n))?;
+            page.words(if n > 0 { ", node " } else { "node " });
+            page.number(u64::from(case.place(n)));
+            page.words(" ");
+            page.clause(case.clause(n));
         }
-        Ok(words)
+        page.finish()
     }
 
     /// The places of the nodes that the case asks.

@@ -8,9 +8,9 @@ use crate::shown_moment::ShownMoment;
 use crate::shown_ring::ShownRing;
 use crate::taken::take_texts;
 use ira_audit::GoodLogs;
-use ira_explain::{NamedText, Page};
 use ira_moment::Moment;
 use ira_show::leads_differ;
+use ira_view_page::{NamedText, Page, PageText};
 use std::alloc::{AllocError, Allocator};
 use std::thread::Threads;
 
@@ -40,12 +40,12 @@ fn differences<A: Allocator + Clone>(
     alloc: A,
     logs: &GoodLogs<A>,
     leads: Option<&[u64]>,
-) -> Result<Page<A>, RingFault>
+) -> Result<PageText<A>, RingFault>
     ensures same { IfOk result (AreDifferences logs.now (option_map (λ named. named.now) leads.entry)) }
     ensures fault { IfErr result (IsPlaceFault logs.now (option_map (λ named. named.now) leads.entry)) }
 {
     let Some(asked) = leads else {
-        return Ok(Page::new(alloc));
+        return Ok(Page::new(alloc).finish()?);
     };
     let logs = logs.logs();
     let Some(named) = places(alloc.clone()?, asked, logs.size().get())? else {

@@ -6,11 +6,9 @@ ghost use Rattle.ira_views.specs.FoundMoment.{IsMomentOf};
 use crate::found_moment::FoundMoment;
 use ira_audit::GoodLogs;
 use ira_event::{OutOfMemory, Sink};
-use ira_explain::{NamedText, Page};
 use ira_json::{ShownAnswer, write_ring};
-use ira_show::{
-    Heading, ShowFault, show_cut, show_end, show_events, show_events_of_cut, show_no_moment,
-};
+use ira_show::{Heading, show_cut, show_end, show_events, show_events_of_cut, show_no_moment};
+use ira_view_page::{NamedText, PageText, ShowFault};
 use std::alloc::{Allocator, Global};
 use std::marker::Model;
 
@@ -20,7 +18,7 @@ use std::marker::Model;
 pub struct ShownRing<A: Allocator> {
     logs: GoodLogs<A>,
     moment: FoundMoment<A>,
-    differences: Page<A>,
+    differences: PageText<A>,
 }
 
 impl<A: Allocator> Model for ShownRing<A> {
@@ -39,7 +37,7 @@ impl<A: Allocator + Clone> ShownRing<A> {
     pub(crate) fn new(
         logs: GoodLogs<A>,
         moment: FoundMoment<A>,
-        differences: Page<A>,
+        differences: PageText<A>,
     ) -> ShownRing<A>
         requires { IsMomentOf logs moment }
         ensures { result ≡ record { logs = logs; differences = differences } }
@@ -52,14 +50,14 @@ impl<A: Allocator + Clone> ShownRing<A> {
     }
 
     /// A line for each node that leads and isn't to, or is to lead and doesn't.
-    pub fn differences(&self) -> &Page<A>
+    pub fn differences(&self) -> &PageText<A>
         ensures { result.now ≡ self.now.differences }
     {
         &self.differences
     }
 
     /// What the ring looks like at the moment, as the lines that follow the differences.
-    pub fn page(&self, alloc: A) -> Result<Page<A>, OutOfMemory> {
+    pub fn page(&self, alloc: A) -> Result<PageText<A>, OutOfMemory> {
         let logs = self.logs.logs();
         match &self.moment {
             FoundMoment::AtEnd => show_end(alloc, logs),

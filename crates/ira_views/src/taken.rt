@@ -4,7 +4,7 @@ ghost use Rattle.ira_views.specs.Texts.{texts_of};
 
 use ira_audit::RingAudit;
 use ira_event::OutOfMemory;
-use ira_explain::NamedText;
+use ira_view_page::NamedText;
 use std::alloc::Allocator;
 
 /// An audit that has taken these texts.

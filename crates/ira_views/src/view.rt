@@ -1,5 +1,5 @@
 use ira_audit::Answer;
-use ira_explain::Explanation;
+use ira_view_page::Explanation;
 use std::alloc::Allocator;
 
 /// What is told of texts: their answer, and why it is so.

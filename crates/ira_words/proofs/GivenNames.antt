@@ -1,15 +1,15 @@
 -- The files that words after `logs` name: those up to `--`, where none of them begins with a dash, and
 -- each after it.
-use Rattle.std.proofs.Common.{◌≡◌, ◌≢◌, ℕ, Bool, true, false, List, [], ◌∷◌, ◌++◌, None, Some, All, refl, sym, ap}
+use Rattle.std.proofs.Common.{◌≡◌, ◌≢◌, ℕ, true, false, List, [], ◌∷◌, ◌++◌, None, Some, All, refl, sym, ap}
 use Rattle.std.proofs.Common.{subst, ◌∙◌, codes, append_assoc, arith, suc}
-use Rattle.std.specs.Prelude.{fold, ◌==◌, if◌then◌else◌, map}
-use Rattle.std.proofs.lemmas.Bool.Decides.{Decides-eqb}
+use Rattle.std.specs.Prelude.{fold, if◌then◌else◌, map}
+use Rattle.std.proofs.lemmas.Bool.{ne_eqb}
 use Rattle.std.proofs.lemmas.List.{append-nil}
 use Rattle.clap.specs.Lexer.{strip_byte}
 use Rattle.clap.specs.Simple.{built_leaf}
 use Rattle.clap.specs.Walk.{Row, Rule, Text, Walk, finished, positional, rows_after, walk_from, nothing_held, walked}
 use Rattle.ira_words.specs.CommandLine.{logs_app}
-use Rattle.ira_words.specs.LogSource.{HasLogs, IsOfFiles}
+use Rattle.ira_words.specs.Asked.{HasLogs, IsOfFiles}
 use Rattle.ira_words.specs.Request.{IsFileName}
 use Rattle.ira_words.specs.declared.log_source.LogSource.{LogSource}
 use Rattle.ira_words.specs.declared.log_source.LogSource.TheVariants.{Files, Folder}
@@ -28,25 +28,18 @@ named ws = record {
   stopped = None;
 }
 
-plain_byte : (b : ℕ) → b ≢ 45 → (b == 45) ≡ false
-plain_byte b other = go (b == 45) refl
-  where
-    go : (t : Bool) → (b == 45) ≡ t → (b == 45) ≡ false
-    go true is = absurd (other ((Decides-eqb b 45).0 is))
-    go false is = is
-
 no_dash : (b : ℕ) (bs : Text) → b ≢ 45 → strip_byte 45 (b ∷ bs) ≡ None
-no_dash b bs other = subst (λ t. (if t then Some bs else None) ≡ None) (sym (plain_byte b other)) refl
+no_dash b bs other = subst (λ t. (if t then Some bs else None) ≡ None) (sym (ne_eqb b 45 other)) refl
 
 first_name : (w : Text) → IsFileName w → walked rules [] (walk_from nothing_held) w ≡ named (w ∷ [])
 unfolding walked
 first_name [] is = refl
-first_name (b ∷ bs) is = rw (no_dash b bs is, plain_byte b is) refl
+first_name (b ∷ bs) is = rw (no_dash b bs is, ne_eqb b 45 is) refl
 
 next_name : (ws : List Text) (w : Text) → IsFileName w → walked rules [] (named ws) w ≡ named (ws ++ w ∷ [])
 unfolding walked
 next_name ws [] is = refl
-next_name ws (b ∷ bs) is = rw (no_dash b bs is, plain_byte b is) refl
+next_name ws (b ∷ bs) is = rw (no_dash b bs is, ne_eqb b 45 is) refl
 
 next_names : (ws rest : List Text) → All IsFileName rest → fold (walked rules []) (named ws) rest ≡ named (ws ++ rest)
 next_names ws [] are = ap named (sym (append-nil ws))

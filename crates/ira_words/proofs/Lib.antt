@@ -1,9 +1,7 @@
-pub mod AfterCommands
-pub mod FirstWord
-pub mod FoundValues
+pub mod Commands
+pub mod Entered
+pub mod FoundRows
+pub mod Getters
 pub mod GivenNames
-pub mod Numbers
-pub mod Options
-pub mod Ranges
-pub mod Results
-pub mod TakenValues
+pub mod Requests
+pub mod TypedUses

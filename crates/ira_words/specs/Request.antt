@@ -1,22 +1,14 @@
 -- What the words after the program's name ask for.
-use Rattle.std.specs.Prelude.{◌≡◌, ◌≢◌, ℕ, All, List, [], ◌∷◌, ◌++◌, codes}
+use Rattle.std.specs.Prelude.{◌≡◌, ◌≢◌, ◌⊎◌, ℕ, All, List, [], ◌∷◌, ◌++◌, codes}
 use Rattle.clap.specs.Faults.{fault_of}
-use Rattle.clap.specs.Simple.{App, HasMatchesOf, built_leaf}
-use Rattle.clap.specs.Walk.{Row, rows_after}
+use Rattle.clap.specs.Simple.{HasMatchesOf}
+use Rattle.clap.specs.Walk.{Row, Text, rows_after}
 use Rattle.clap.specs.declared.parser.matches.ArgMatches.{ArgMatches}
-use Rattle.ira_words.specs.CheckRequest.{HasFiles}
-use Rattle.ira_words.specs.CommandLine.{check_app, decide_app, draw_app, explain_app, ira_app, logs_app, mend_app}
-use Rattle.ira_words.specs.CommandLine.{pairs_app, run_app, show_app, upgrade_app, version_app}
-use Rattle.ira_words.specs.DecideRequest.{HasFilesToDecide}
-use Rattle.ira_words.specs.DrawRequest.{HasLogsToDraw, NamesLogsToDraw}
-use Rattle.ira_words.specs.ExplainRequest.{HasAnswerToExplain}
-use Rattle.ira_words.specs.ExplainedAnswer.{NamesAnswer}
-use Rattle.ira_words.specs.LogSource.{IsOfFiles, NamesLogs}
-use Rattle.ira_words.specs.LogsRequest.{HasLogsToJudge}
+use Rattle.ira_words.specs.Asked.{HasAnswerToExplain, HasFiles, HasFilesToDecide, HasFilesToRewrite, HasLogsToDraw}
+use Rattle.ira_words.specs.Asked.{HasLogsToJudge, HasLogsToShow, HasOptions, IsOfFiles, NamesAnswer, NamesLogs}
+use Rattle.ira_words.specs.Asked.{NamesLogsToDraw, NamesLogsToShow}
+use Rattle.ira_words.specs.CommandLine.{ira_app, rules_named}
 use Rattle.ira_words.specs.Options.{HasNumber}
-use Rattle.ira_words.specs.RewriteRequest.{HasFilesToRewrite}
-use Rattle.ira_words.specs.RunRequest.{HasOptions}
-use Rattle.ira_words.specs.ShowRequest.{HasLogsToShow, NamesLogsToShow}
 use Rattle.ira_words.specs.declared.check_request.CheckRequest.{CheckRequest}
 use Rattle.ira_words.specs.declared.decide_request.DecideRequest.{DecideRequest}
 use Rattle.ira_words.specs.declared.draw_request.DrawRequest.{DrawRequest}
@@ -32,114 +24,124 @@ use Rattle.ira_words.specs.declared.words_fault.WordsFault.{WordsFault}
 use Rattle.ira_words.specs.declared.words_fault.WordsFault.TheVariants.{OutOfMemory, Refused}
 
 -- the command line accepts the words: their parse has no fault, of which `fault_of` lists the kinds
-abbrev pub AreAcceptedWords : List (List ℕ) → Type 0
+abbrev pub AreAcceptedWords : List Text → Type 0
 AreAcceptedWords words = fault_of ira_app words ≡ []
 
--- what is found of the words after a command, where the first word names it, is so
-abbrev pub After : App → List (List ℕ) → (List Row → Type 0) → Type 0
-After app words IsSo =
-    (others : List (List ℕ)) → words ≡ app.top.name ∷ others → IsSo (rows_after (built_leaf app.top).rules [] others)
+-- what is found of the words after a command, by its name
+abbrev pub found_after : Text → List Text → List Row
+found_after name others = rows_after (rules_named name) [] others
 
--- the options and names after a command go together: logs are named in one way, by names or by a folder, where the
--- command takes logs; after `explain` there may be none, where no question is named
-pub record GoTogether (words : List (List ℕ)) : Type 0 where
-  pub logs : After logs_app words NamesLogs
-  pub explain : After explain_app words NamesAnswer
-  pub show : After show_app words NamesLogsToShow
-  pub draw : After draw_app words NamesLogsToDraw
-  pub check : After check_app words NamesLogs
-  pub decide : After decide_app words NamesLogs
-  pub upgrade : After upgrade_app words NamesLogs
-  pub mend : After mend_app words NamesLogs
+-- the options and names that are found after a command go together: logs are named in one way, by names or by a folder,
+-- where the command takes logs; after `explain` there may be none, where no question is named
+pub record GoTogetherAfter (name : Text) (rows : List Row) : Type 0 where
+  pub logs : name ≡ codes "logs" → NamesLogs rows
+  pub explain : name ≡ codes "explain" → NamesAnswer rows
+  pub show : name ≡ codes "show" → NamesLogsToShow rows
+  pub draw : name ≡ codes "draw" → NamesLogsToDraw rows
+  pub check : name ≡ codes "check" → NamesLogs rows
+  pub decide : name ≡ codes "decide" → NamesLogs rows
+  pub upgrade : name ≡ codes "upgrade" → NamesLogs rows
+  pub mend : name ≡ codes "mend" → NamesLogs rows
+
+-- so do those of the words, of which the first names the command
+abbrev pub GoTogether : List Text → Type 0
+GoTogether words =
+    (name : Text) (others : List Text) → words ≡ name ∷ others → GoTogetherAfter name (found_after name others)
+
+-- what is found after a command asks for this
+abbrev pub Asks : Text → List Row → Request → Type 0
+Asks name rows OneLog = ⊥
+Asks name rows (Logs request) = (name ≡ codes "logs") × HasLogsToJudge rows request
+Asks name rows (Explain explain) = (name ≡ codes "explain") × HasAnswerToExplain rows explain
+Asks name rows (Show show) = (name ≡ codes "show") × HasLogsToShow rows show
+Asks name rows (Draw draw) = (name ≡ codes "draw") × HasLogsToDraw rows draw
+Asks name rows (Check check) = (name ≡ codes "check") × HasFiles rows check
+Asks name rows (Decide decide) = (name ≡ codes "decide") × HasFilesToDecide rows decide
+Asks name rows (Pairs nodes) = (name ≡ codes "pairs") × HasNumber rows (codes "N") nodes
+Asks name rows (Run ring) = (name ≡ codes "run") × HasOptions rows ring
+Asks name rows (Upgrade upgrade) = (name ≡ codes "upgrade") × HasFilesToRewrite rows upgrade
+Asks name rows (Mend mend) = (name ≡ codes "mend") × HasFilesToRewrite rows mend
+Asks name rows Version = name ≡ codes "version"
+
+-- the command line accepts the words: the name of a command and others, and what is found of these asks for the request
+pub record IsCommandLine (words : List Text) (request : Request) : Type 0 where
+  pub accepted : AreAcceptedWords words
+  pub name : Text
+  pub others : List Text
+  pub first : words ≡ name ∷ others
+  pub asked : Asks name (found_after name others) request
 
 -- a word that may name a file as it stands: it doesn't begin with a dash
-abbrev pub IsFileName : List ℕ → Type 0
+abbrev pub IsFileName : Text → Type 0
 IsFileName [] = Unit {0}
 IsFileName (b ∷ bs) = b ≢ 45
 
--- the command line accepts the words: `logs` and others, which name the source of logs, and `--json` perhaps. Where
--- none of the others begins with a dash, these are names of files; where one is the first that does, and is `--`, the
--- words after it are names too
-pub record IsLogsLine (words : List (List ℕ)) (request : LogsRequest) : Type 0 where
-  pub accepted : AreAcceptedWords words
-  pub others : List (List ℕ)
-  pub first : words ≡ codes "logs" ∷ others
-  pub given : HasLogsToJudge (rows_after (built_leaf logs_app.top).rules [] others) request
-  pub plain : All IsFileName others → IsOfFiles request.logs others
-  pub marked : (front back : List (List ℕ)) → All IsFileName front → others ≡ front ++ codes "--" ∷ back
+-- `logs` and others, which name the source of logs, and `--json` perhaps. Where none of the others begins with a dash,
+-- these are names of files; where one is the first that does, and is `--`, the words after it are names too
+pub record IsLogsLine (words : List Text) (request : LogsRequest) : Type 0 where
+  pub line : IsCommandLine words (Logs request)
+  pub plain : All IsFileName line.others → IsOfFiles request.logs line.others
+  pub marked : (front back : List Text) → All IsFileName front → line.others ≡ front ++ codes "--" ∷ back
       → IsOfFiles request.logs (front ++ back)
 
--- the command line accepts the words: the name of this command and others, and what is found of these is so
-pub record IsCommandLine (app : App) (words : List (List ℕ)) (IsSo : List Row → Type 0) : Type 0 where
-  pub accepted : AreAcceptedWords words
-  pub others : List (List ℕ)
-  pub first : words ≡ app.top.name ∷ others
-  pub found : IsSo (rows_after (built_leaf app.top).rules [] others)
-
 -- `explain`, options and logs, or `explain` alone, which ask for this answer
-abbrev pub IsExplainLine : List (List ℕ) → ExplainRequest → Type 0
-IsExplainLine words explain = IsCommandLine explain_app words (λ rows. HasAnswerToExplain rows explain)
+abbrev pub IsExplainLine : List Text → ExplainRequest → Type 0
+IsExplainLine words explain = IsCommandLine words (Explain explain)
 
 -- `show`, options and logs, which ask for these to be shown
-abbrev pub IsShowLine : List (List ℕ) → ShowRequest → Type 0
-IsShowLine words show = IsCommandLine show_app words (λ rows. HasLogsToShow rows show)
+abbrev pub IsShowLine : List Text → ShowRequest → Type 0
+IsShowLine words show = IsCommandLine words (Show show)
 
 -- `draw`, options and logs, which ask for these to be drawn
-abbrev pub IsDrawLine : List (List ℕ) → DrawRequest → Type 0
-IsDrawLine words draw = IsCommandLine draw_app words (λ rows. HasLogsToDraw rows draw)
+abbrev pub IsDrawLine : List Text → DrawRequest → Type 0
+IsDrawLine words draw = IsCommandLine words (Draw draw)
 
 -- `check`, options and logs, which ask for these files
-abbrev pub IsCheckLine : List (List ℕ) → CheckRequest → Type 0
-IsCheckLine words check = IsCommandLine check_app words (λ rows. HasFiles rows check)
+abbrev pub IsCheckLine : List Text → CheckRequest → Type 0
+IsCheckLine words check = IsCommandLine words (Check check)
 
 -- `decide`, options and logs, which ask for these files
-abbrev pub IsDecideLine : List (List ℕ) → DecideRequest → Type 0
-IsDecideLine words decide = IsCommandLine decide_app words (λ rows. HasFilesToDecide rows decide)
+abbrev pub IsDecideLine : List Text → DecideRequest → Type 0
+IsDecideLine words decide = IsCommandLine words (Decide decide)
 
 -- `pairs` and a number of nodes
-abbrev pub IsPairsLine : List (List ℕ) → ℕ → Type 0
-IsPairsLine words nodes = IsCommandLine pairs_app words (λ rows. HasNumber rows (codes "N") nodes)
+abbrev pub IsPairsLine : List Text → ℕ → Type 0
+IsPairsLine words nodes = IsCommandLine words (Pairs nodes)
 
 -- `run` and options, which ask for this ring
-abbrev pub IsRunLine : List (List ℕ) → RunRequest → Type 0
-IsRunLine words ring = IsCommandLine run_app words (λ rows. HasOptions rows ring)
+abbrev pub IsRunLine : List Text → RunRequest → Type 0
+IsRunLine words ring = IsCommandLine words (Run ring)
 
 -- `upgrade`, an option and logs, which ask for these files
-abbrev pub IsUpgradeLine : List (List ℕ) → RewriteRequest → Type 0
-IsUpgradeLine words upgrade = IsCommandLine upgrade_app words (λ rows. HasFilesToRewrite rows upgrade)
+abbrev pub IsUpgradeLine : List Text → RewriteRequest → Type 0
+IsUpgradeLine words upgrade = IsCommandLine words (Upgrade upgrade)
 
 -- `mend`, an option and logs, which ask for these files
-abbrev pub IsMendLine : List (List ℕ) → RewriteRequest → Type 0
-IsMendLine words mend = IsCommandLine mend_app words (λ rows. HasFilesToRewrite rows mend)
+abbrev pub IsMendLine : List Text → RewriteRequest → Type 0
+IsMendLine words mend = IsCommandLine words (Mend mend)
 
--- `version`
-abbrev pub IsVersionLine : List (List ℕ) → Type 0
-IsVersionLine words = IsCommandLine version_app words (λ rows. Unit {0})
+-- the option `--version` or `-V` alone
+abbrev pub IsVersionOption : List Text → Type 0
+IsVersionOption words = (words ≡ codes "--version" ∷ []) ⊎ (words ≡ codes "-V" ∷ [])
+
+-- that, or `version`
+abbrev pub IsVersionLine : List Text → Type 0
+IsVersionLine words = IsVersionOption words ⊎ IsCommandLine words Version
 
 -- these words make the request
-abbrev pub IsMadeOf : List (List ℕ) → Request → Type 0
+abbrev pub IsMadeOf : List Text → Request → Type 0
 IsMadeOf words OneLog = words ≡ []
 IsMadeOf words (Logs request) = IsLogsLine words request
-IsMadeOf words (Explain explain) = IsExplainLine words explain
-IsMadeOf words (Show show) = IsShowLine words show
-IsMadeOf words (Draw draw) = IsDrawLine words draw
-IsMadeOf words (Check check) = IsCheckLine words check
-IsMadeOf words (Decide decide) = IsDecideLine words decide
-IsMadeOf words (Pairs nodes) = IsPairsLine words nodes
-IsMadeOf words (Run ring) = IsRunLine words ring
-IsMadeOf words (Upgrade upgrade) = IsUpgradeLine words upgrade
-IsMadeOf words (Mend mend) = IsMendLine words mend
 IsMadeOf words Version = IsVersionLine words
+IsMadeOf words request = IsCommandLine words request
 
 -- such words may be refused so: for want of memory any, and else only those that the command line doesn't accept, or
--- whose options and names don't go together
-abbrev pub MayBeRefused : List (List ℕ) → WordsFault → Type 0
-MayBeRefused words (Refused text) = AreAcceptedWords words → GoTogether words → ⊥
+-- whose options and names don't go together; never an option that asks for the version
+abbrev pub MayBeRefused : List Text → WordsFault → Type 0
+MayBeRefused words (Refused text) = ¬ IsVersionOption words × (AreAcceptedWords words → GoTogether words → ⊥)
 MayBeRefused words OutOfMemory = Unit {0}
 
--- What follows no public contract names: a parse that succeeds hands it on.
-
--- the command line accepts the words, and this is what it found of them
-pub record AreMatchesOf (words : List (List ℕ)) (matches : ArgMatches) : Type 0 where
+-- the command line accepts the words, and this is what it found of them. No public contract names it
+pub record AreMatchesOf (words : List Text) (matches : ArgMatches) : Type 0 where
   pub accepted : AreAcceptedWords words
   pub found : HasMatchesOf ira_app words matches

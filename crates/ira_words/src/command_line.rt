@@ -1,34 +1,33 @@
-ghost use Rattle.std.specs.Prelude.{◌≡◌, ℕ, List, [], Ok, IfErr, IfOk, IsOkAnd, codes, false, map, option_map};
-ghost use Rattle.clap.specs.Words.{AddsSubcommand, Rule, app_of, found_of, kind_of, rows_of, rule_of};
+ghost use Rattle.std.specs.Prelude.{◌≡◌, ◌↔◌, [], IfErr, IfOk, IsTrue, Ok, codes, fold, map, option_map};
+ghost use Rattle.clap.specs.Words.{app_of, found_of, kind_of, rows_of};
 ghost use Rattle.clap.specs.declared.error.kind.ErrorKind.TheVariants as kind;
-ghost use Rattle.ira_words.specs.CommandLine.{check_app, decide_app, depth_rule, dir_rule, draw_app, draws_rule, explain_app, flag_rule, folder_rule, ira_app, ira_top, json_rule, logs_app, logs_rule, number_rule, option_rule, pairs_app, rewrite_app, run_app, run_required_app, show_app, version_app, with_moment_rules};
-ghost use Rattle.ira_words.specs.CheckRequest.{HasFiles};
-ghost use Rattle.ira_words.specs.DecideRequest.{HasFilesToDecide};
-ghost use Rattle.ira_words.specs.DrawRequest.{HasLogsToDraw, NamesLogsToDraw};
-ghost use Rattle.ira_words.specs.ExplainRequest.{HasAnswerToExplain};
-ghost use Rattle.ira_words.specs.ExplainedAnswer.{HasAnswer, NamesAnswer};
-ghost use Rattle.ira_words.specs.LogSource.{HasLogs, MayHaveLogs, MayNameLogs, NamesLogs};
-ghost use Rattle.ira_words.specs.LogsRequest.{HasLogsToJudge};
-ghost use Rattle.ira_words.specs.AskedMoment.{HasMoment, NamesMoment};
-ghost use Rattle.ira_words.specs.Options.{AreNumbers, HasNumber, ListsNumbers, MayHaveNumbers, WritesNumbers, parts_of};
-ghost use Rattle.ira_words.specs.Request.{AreMatchesOf, AreAcceptedWords, IsMadeOf, MayBeRefused, GoTogether};
-ghost use Rattle.ira_words.specs.RewriteRequest.{HasFilesToRewrite};
-ghost use Rattle.ira_words.specs.RunRequest.{HasOptions};
-ghost use Rattle.ira_words.specs.ShowRequest.{HasLogsToShow, NamesLogsToShow};
-ghost use Rattle.ira_words.specs.TakenValues.{AreFoundAfter, AreTaken, HasCaseTaken};
+ghost use Rattle.ira_words.specs.Asked.{HasAnswer, HasAnswerToExplain, HasFiles, HasFilesToDecide, HasFilesToRewrite};
+ghost use Rattle.ira_words.specs.Asked.{HasLogs, HasLogsToDraw, HasLogsToJudge, HasLogsToShow, HasMoment, HasOptions};
+ghost use Rattle.ira_words.specs.Asked.{MayHaveLogs, MayNameLogs, NamesAnswer, NamesLogs, NamesLogsToDraw};
+ghost use Rattle.ira_words.specs.Asked.{NamesLogsToShow, NamesMoment};
+ghost use Rattle.ira_words.specs.CommandEntry.{with_entry};
+ghost use Rattle.ira_words.specs.CommandLine.{commands, ira_app, ira_top};
+ghost use Rattle.ira_words.specs.FoundOptions.{AreFoundAfter, AreTyped, IsOneOf};
+ghost use Rattle.ira_words.specs.Options.{AreNumbers, ListsNumbers, MayHaveNumbers, WritesNumbers, parts_of};
+ghost use Rattle.ira_words.specs.Request.{AreAcceptedWords, Asks, GoTogether, GoTogetherAfter, IsMadeOf, IsVersionOption, MayBeRefused};
 ghost use Rattle.ira_words.specs.declared.options_fault.OptionsFault.TheVariants as options;
 ghost use Rattle.ira_words.specs.declared.request.Request.TheVariants as request;
 ghost use Rattle.ira_words.specs.declared.words_fault.WordsFault.TheVariants as fault;
 
+use crate::argument::Argument;
+use crate::argument::Form::{Files, Flag, Number, Value};
+use crate::argument::Need::{Default, Optional, Required};
 use crate::asked_moment::AskedMoment;
 use crate::asked_question::AskedQuestion;
 use crate::check_request::CheckRequest;
+use crate::command_entry::CommandEntry;
 use crate::decide_request::DecideRequest;
 use crate::draw_request::DrawRequest;
 use crate::explain_request::ExplainRequest;
 use crate::explained_answer::ExplainedAnswer;
 use crate::log_source::LogSource;
 use crate::logs_request::LogsRequest;
+use crate::options::{flag, given_number, given_text, names, number, text};
 use crate::options_fault::OptionsFault;
 use crate::request::Request;
 use crate::rewrite_request::RewriteRequest;
@@ -37,7 +36,7 @@ use crate::show_request::ShowRequest;
 use crate::words_fault::WordsFault;
 use clap::builder::ValueParser;
 use clap::error::ErrorKind;
-use clap::{Arg, ArgAction, ArgMatches, Command, Error, value_parser};
+use clap::{ArgMatches, Command, Error};
 use std::alloc::{AllocError, Global};
 
 const USAGE: &str = "ira < LOG\n       ira logs [--json] <LOGS>\n       \
@@ -60,37 +59,210 @@ const NOTE: &str =
     or mended\nlogs, 1 for no, a case that is present, no leader or other leaders than --leads names, \
     2 for\nrefused words, a refused ring, a failed read or a failed write, 3 out of memory.";
 
-const UPGRADE: &str = "Writes the logs of all nodes of a ring in version 2, each to a file";
+const TEXT: ValueParser = ValueParser::String;
 
-const MEND: &str =
-    "Writes of each log of a ring the longest beginning such that all are consistent";
+const FOLDER: ValueParser = ValueParser::NonEmptyString;
+
+const NUMBER: ValueParser = ValueParser::Unsigned(0, u64::MAX);
+
+const UP_TO_4: ValueParser = ValueParser::Unsigned(0, 4);
+
+const UP_TO_100000: ValueParser = ValueParser::Unsigned(0, 100_000);
+
+const JSON_HELP: &str = "Print the answer as JSON, an object a line";
+
+const DIR_HELP: &str = "The folder with the logs 0.log, 1.log and so on, as many as the first says";
+
+const LOG_HELP: &str = "A file with the log of a node, in the order of the ring's places";
+
+const WHY_QUESTION_HELP: &str = "The file with a question: what `decide` finds is explained";
+
+const WHY_CASE_HELP: &str = "The case of the question to explain, from 0; the first 8 if not given";
+
+const WHY_CERT_HELP: &str = "The file with a certificate: the answer of `check` is explained";
+
+const LEADS_HELP: &str =
+    "The places of the nodes that are to lead at the end, and no other, as 1,2";
+
+const AT_HELP: &str = "The moment when each node has made so many events, by place, as 2,3";
+
+const MET_QUESTION_HELP: &str =
+    "The file with a question: the first moment that meets a case of it";
+
+const MET_CASE_HELP: &str =
+    "The case of the question, from 0; the first that is present if not given";
+
+const EVENTS_HELP: &str = "Print an order of all events in place of the tables";
+
+const PICTURE_HELP: &str = "The file for the picture";
+
+const FROM_HELP: &str = "The column that the picture begins with; the first if not given";
+
+const TO_HELP: &str = "The column that the picture ends with; the last if not given";
+
+const QUESTION_HELP: &str = "The file with the question";
+
+const CERT_HELP: &str = "The file with the certificate";
+
+const DEPTH_HELP: &str = "How often the steps of a section are halved among threads, 0 to 4";
+
+const MADE_CERT_HELP: &str =
+    "The file for the certificate, which is made where all cases are absent";
+
+const NODES_HELP: &str = "How many nodes the ring has, 2 to 255";
+
+const SEED_HELP: &str = "The number that all draws come from";
+
+const OUT_HELP: &str = "The folder, which exists, for the logs 0.log, 1.log and so on";
+
+const INITIATORS_HELP: &str = "How many nodes begin, from node 0 on; all if not given";
+
+const DRAWS_HELP: &str = "How many IDs each node is given to draw, 0 to 100000";
+
+const CAP_HELP: &str = "The most records of a log, 1 to 100000";
+
+const TERMS_HELP: &str = "How many terms, 1 to 1000000; each leader but the last yields";
+
+const ALONE_HELP: &str = "Run all nodes on one thread";
+
+const JSON: Argument = Argument("json", Flag, Optional, JSON_HELP);
+
+const DIR: Argument = Argument("dir", Value("DIR", FOLDER), Optional, DIR_HELP);
+
+const LOG: Argument = Argument("LOG", Files, Optional, LOG_HELP);
+
+const OUT: Argument = Argument("out", Value("DIR", FOLDER), Required, OUT_HELP);
+
+const AT: Argument = Argument("at", Value("N0,N1,..", TEXT), Optional, AT_HELP);
+
+const MET_QUESTION: Argument = Argument("question", Value("Q", TEXT), Optional, MET_QUESTION_HELP);
+
+const MET_CASE: Argument = Argument("case", Value("K", NUMBER), Optional, MET_CASE_HELP);
+
+const COMMANDS: &[CommandEntry] = &[
+    CommandEntry {
+        name: "logs",
+        about: "Judges the logs of all nodes of a ring together",
+        arguments: &[JSON, DIR, LOG],
+    },
+    CommandEntry {
+        name: "explain",
+        about: "Judges logs, or one log on standard input, and says why the answer is so",
+        arguments: &[
+            Argument("question", Value("Q", TEXT), Optional, WHY_QUESTION_HELP),
+            Argument("case", Value("K", NUMBER), Optional, WHY_CASE_HELP),
+            Argument("cert", Value("C", TEXT), Optional, WHY_CERT_HELP),
+            JSON,
+            DIR,
+            LOG,
+        ],
+    },
+    CommandEntry {
+        name: "show",
+        about: "Shows what happened, at the end of the logs or at another moment",
+        arguments: &[
+            Argument("leads", Value("P,..", TEXT), Optional, LEADS_HELP),
+            AT,
+            MET_QUESTION,
+            MET_CASE,
+            Argument("events", Flag, Optional, EVENTS_HELP),
+            JSON,
+            DIR,
+            LOG,
+        ],
+    },
+    CommandEntry {
+        name: "draw",
+        about: "Draws what happened, as a space-time diagram in one SVG file",
+        arguments: &[
+            Argument("out", Value("FILE", TEXT), Required, PICTURE_HELP),
+            AT,
+            MET_QUESTION,
+            MET_CASE,
+            Argument("from", Value("A", NUMBER), Optional, FROM_HELP),
+            Argument("to", Value("B", NUMBER), Optional, TO_HELP),
+            DIR,
+            LOG,
+        ],
+    },
+    CommandEntry {
+        name: "check",
+        about: "Judges logs together with a certificate that no moment met a case of a question",
+        arguments: &[
+            Argument("question", Value("Q", TEXT), Required, QUESTION_HELP),
+            Argument("cert", Value("C", TEXT), Required, CERT_HELP),
+            Argument("depth", Value("D", UP_TO_4), Default("2"), DEPTH_HELP),
+            JSON,
+            DIR,
+            LOG,
+        ],
+    },
+    CommandEntry {
+        name: "decide",
+        about: "Decides for each case of a question whether some moment of the logged run met it",
+        arguments: &[
+            Argument("question", Value("Q", TEXT), Required, QUESTION_HELP),
+            Argument("out", Value("C", TEXT), Optional, MADE_CERT_HELP),
+            JSON,
+            DIR,
+            LOG,
+        ],
+    },
+    CommandEntry {
+        name: "pairs",
+        about: "Prints the question whether two nodes of a ring ever lead at once",
+        arguments: &[Argument("N", Number, Required, NODES_HELP)],
+    },
+    CommandEntry {
+        name: "run",
+        about: "Runs an election, and writes the log of each node to a file",
+        arguments: &[
+            Argument("nodes", Value("N", NUMBER), Required, NODES_HELP),
+            Argument("seed", Value("S", NUMBER), Required, SEED_HELP),
+            OUT,
+            Argument("initiators", Value("M", NUMBER), Optional, INITIATORS_HELP),
+            Argument("draws", Value("K", UP_TO_100000), Default("64"), DRAWS_HELP),
+            Argument("cap", Value("C", NUMBER), Default("10000"), CAP_HELP),
+            Argument("terms", Value("T", NUMBER), Default("1"), TERMS_HELP),
+            Argument("alone", Flag, Optional, ALONE_HELP),
+        ],
+    },
+    CommandEntry {
+        name: "upgrade",
+        about: "Writes the logs of all nodes of a ring in version 2, each to a file",
+        arguments: &[OUT, DIR, LOG],
+    },
+    CommandEntry {
+        name: "mend",
+        about: "Writes of each log of a ring the longest beginning such that all are consistent",
+        arguments: &[OUT, DIR, LOG],
+    },
+    CommandEntry {
+        name: "version",
+        about: "Prints which version this is, and what proved it",
+        arguments: &[],
+    },
+];
 
 /// The program's command line.
 fn command<'a>(alloc: Global) -> Result<Command<'a>, AllocError>
     ensures { IfOk result (λ c. app_of c ≡ ira_app) }
 {
-    let command = top_command(alloc)?;
-    let command = add_command(command, logs_command(alloc))?;
-    let command = add_command(command, explain_command(alloc))?;
-    let command = add_command(command, show_command(alloc))?;
-    let command = add_command(command, draw_command(alloc))?;
-    let command = add_command(command, check_command(alloc))?;
-    let command = add_command(command, decide_command(alloc))?;
-    let command = add_command(command, pairs_command(alloc))?;
-    let command = add_command(command, run_command(alloc))?;
-    let command = add_command(command, rewrite_command(alloc, "upgrade", UPGRADE))?;
-    let command = add_command(command, rewrite_command(alloc, "mend", MEND))?;
-    add_command(command, version_command(alloc))
+    with_commands(alloc, top_command(alloc)?, COMMANDS)
 }
 
-/// The command with this one below it, if that could be made.
-fn add_command<'a>(
-    command: Command<'a>,
-    below: Result<Command<'a>, AllocError>,
+/// The command with these below it.
+fn with_commands<'a>(
+    alloc: Global,
+    mut command: Command<'a>,
+    entries: &[CommandEntry],
 ) -> Result<Command<'a>, AllocError>
-    ensures { IfOk result (λ c. IsOkAnd below.entry (λ b. AddsSubcommand command.entry b c)) }
+    ensures { IfOk result (λ c. app_of c ≡ fold with_entry (app_of command.entry) entries.now) }
 {
-    command.subcommand(below?)
+    for entry in entries {
+        command = command.subcommand(entry.command(alloc)?)?;
+    }
+    Ok(command)
 }
 
 /// The program's command line without its commands.
@@ -109,61 +281,32 @@ fn top_command<'a>(alloc: Global) -> Result<Command<'a>, AllocError>
     )
 }
 
-/// The files with the logs of a ring.
-fn log_files<'a>(alloc: Global) -> Arg<'a>
-    ensures rule { rule_of result ≡ logs_rule }
-    ensures local { result.global ≡ false }
-{
-    Arg::new(alloc, "LOG")
-        .help("A file with the log of a node, in the order of the ring's places")
-        .action(ArgAction::Append)
-        .num_args(1..)
-}
-
-/// The folder with the logs of a ring.
-fn log_folder<'a>(alloc: Global) -> Arg<'a>
-    ensures rule { rule_of result ≡ dir_rule }
-    ensures local { result.global ≡ false }
-{
-    let help = "The folder with the logs 0.log, 1.log and so on, as many as the first says";
-    option(alloc, "dir", "DIR", help).value_parser(ValueParser::NonEmptyString)
-}
-
-/// Whether the answer is wanted as JSON.
-fn json<'a>(alloc: Global) -> Arg<'a>
-    ensures rule { rule_of result ≡ json_rule }
-    ensures local { result.global ≡ false }
-{
-    flag(alloc, "json", "Print the answer as JSON, an object a line")
-}
-
 /// Where logs come from, if any are named. They aren't named twice.
 fn found_logs<'a>(
     alloc: Global,
     matches: &ArgMatches<'a>,
 ) -> Result<Option<LogSource<'a>>, OptionsFault>
-    requires { (rules : List Rule) × AreTaken rules (rows_of (found_of matches.now)) }
+    requires { AreTyped (rows_of (found_of matches.now)) }
     ensures found { IfOk result (MayHaveLogs (rows_of (found_of matches.now))) }
-    ensures refused { IfErr result
-        (λ why. MayNameLogs (rows_of (found_of matches.now)) → why ≡ options.OutOfMemory) }
+    ensures refused { IfErr result (λ why. MayNameLogs (rows_of (found_of matches.now)) → why ≡ options.OutOfMemory) }
 {
-    match (matches.get_str("dir"), matches.get_strs("LOG")) {
-        (None, None) => Ok(None),
-        (Some(folder), None) => Ok(Some(LogSource::Folder(folder))),
-        (None, Some(names)) => match names.to_vec(alloc) {
-            Ok(names) => Ok(Some(LogSource::Files(names))),
-            Err(AllocError) => Err(OptionsFault::OutOfMemory),
+    match text(matches, "dir") {
+        None => match names(matches, "LOG") {
+            None => Ok(None),
+            Some(names) => Ok(Some(LogSource::Files(names.to_vec(alloc)?))),
         },
-        (Some(_), Some(_)) => Err(OptionsFault::Sources),
+        Some(folder) => match names(matches, "LOG") {
+            None => Ok(Some(LogSource::Folder(folder))),
+            Some(_) => Err(OptionsFault::Sources),
+        },
     }
 }
 
 /// Where the logs come from, which are named.
 fn log_source<'a>(alloc: Global, matches: &ArgMatches<'a>) -> Result<LogSource<'a>, OptionsFault>
-    requires { (rules : List Rule) × AreTaken rules (rows_of (found_of matches.now)) }
+    requires { AreTyped (rows_of (found_of matches.now)) }
     ensures found { IfOk result (HasLogs (rows_of (found_of matches.now))) }
-    ensures refused { IfErr result
-        (λ why. NamesLogs (rows_of (found_of matches.now)) → why ≡ options.OutOfMemory) }
+    ensures refused { IfErr result (λ why. NamesLogs (rows_of (found_of matches.now)) → why ≡ options.OutOfMemory) }
 {
     match found_logs(alloc, matches)? {
         Some(source) => Ok(source),
@@ -171,47 +314,28 @@ fn log_source<'a>(alloc: Global, matches: &ArgMatches<'a>) -> Result<LogSource<'
     }
 }
 
-fn logs_command<'a>(alloc: Global) -> Result<Command<'a>, AllocError>
-    ensures { IfOk result (λ c. app_of c ≡ logs_app) }
-{
-    Command::new(alloc, "logs")
-        .about("Judges the logs of all nodes of a ring together")
-        .arg(json(alloc))?
-        .arg(log_folder(alloc))?
-        .arg(log_files(alloc))
-}
-
 /// The logs to judge together.
-fn logs_request<'a>(
-    alloc: Global,
-    matches: &ArgMatches<'a>,
-) -> Result<LogsRequest<'a>, OptionsFault>
-    requires { AreFoundAfter logs_app (rows_of (found_of matches.now)) }
+fn logs<'a>(alloc: Global, matches: &ArgMatches<'a>) -> Result<LogsRequest<'a>, OptionsFault>
+    requires { AreTyped (rows_of (found_of matches.now)) }
     ensures asked { IfOk result (HasLogsToJudge (rows_of (found_of matches.now))) }
-    ensures refused { IfErr result
-        (λ why. NamesLogs (rows_of (found_of matches.now)) → why ≡ options.OutOfMemory) }
+    ensures refused { IfErr result (λ why. NamesLogs (rows_of (found_of matches.now)) → why ≡ options.OutOfMemory) }
 {
-    let logs = log_source(alloc, matches)?;
     Ok(LogsRequest {
-        is_json: matches.get_flag("json"),
-        logs,
+        is_json: flag(matches, "json"),
+        logs: log_source(alloc, matches)?,
     })
 }
 
-fn explain_command<'a>(alloc: Global) -> Result<Command<'a>, AllocError>
-    ensures { IfOk result (λ c. app_of c ≡ explain_app) }
+/// The answer to explain, and how.
+fn explain<'a>(alloc: Global, matches: &ArgMatches<'a>) -> Result<ExplainRequest<'a>, OptionsFault>
+    requires { AreTyped (rows_of (found_of matches.now)) }
+    ensures asked { IfOk result (HasAnswerToExplain (rows_of (found_of matches.now))) }
+    ensures refused { IfErr result (λ why. NamesAnswer (rows_of (found_of matches.now)) → why ≡ options.OutOfMemory) }
 {
-    let question = "The file with a question: what `decide` finds is explained";
-    let case = "The case of the question to explain, from 0; the first 8 if not given";
-    let certificate = "The file with a certificate: the answer of `check` is explained";
-    Command::new(alloc, "explain")
-        .about("Judges logs, or one log on standard input, and says why the answer is so")
-        .arg(option(alloc, "question", "Q", question))?
-        .arg(number(alloc, "case", "K", case))?
-        .arg(option(alloc, "cert", "C", certificate))?
-        .arg(json(alloc))?
-        .arg(log_folder(alloc))?
-        .arg(log_files(alloc))
+    Ok(ExplainRequest {
+        answer: explained_answer(alloc, matches)?,
+        is_json: flag(matches, "json"),
+    })
 }
 
 /// The answer to explain.
@@ -219,77 +343,39 @@ fn explained_answer<'a>(
     alloc: Global,
     matches: &ArgMatches<'a>,
 ) -> Result<ExplainedAnswer<'a>, OptionsFault>
-    requires { AreFoundAfter explain_app (rows_of (found_of matches.now)) }
+    requires { AreTyped (rows_of (found_of matches.now)) }
     ensures asked { IfOk result (HasAnswer (rows_of (found_of matches.now))) }
-    ensures refused { IfErr result
-        (λ why. NamesAnswer (rows_of (found_of matches.now)) → why ≡ options.OutOfMemory) }
+    ensures refused { IfErr result (λ why. NamesAnswer (rows_of (found_of matches.now)) → why ≡ options.OutOfMemory) }
 {
-    let question = matches.get_str("question");
-    let case = matches.get_one("case");
-    let certificate = matches.get_str("cert");
-    match (question, case, certificate) {
-        (None, None, None) => match found_logs(alloc, matches)? {
-            None => Ok(ExplainedAnswer::OneLog),
-            Some(logs) => Ok(ExplainedAnswer::Logs(logs)),
+    match text(matches, "question") {
+        None => match number(matches, "case") {
+            Some(_) => Err(OptionsFault::CaseWithoutQuestion),
+            None => match text(matches, "cert") {
+                Some(_) => Err(OptionsFault::CertificateWithoutQuestion),
+                None => match found_logs(alloc, matches)? {
+                    None => Ok(ExplainedAnswer::OneLog),
+                    Some(logs) => Ok(ExplainedAnswer::Logs(logs)),
+                },
+            },
         },
-        (None, Some(_), _) => Err(OptionsFault::CaseWithoutQuestion),
-        (None, None, Some(_)) => Err(OptionsFault::CertificateWithoutQuestion),
-        (Some(question), case, None) => Ok(ExplainedAnswer::Findings {
-            asked: AskedQuestion { question, case },
-            logs: log_source(alloc, matches)?,
-        }),
-        (Some(question), None, Some(certificate)) => Ok(ExplainedAnswer::Certificate {
-            question,
-            certificate,
-            logs: log_source(alloc, matches)?,
-        }),
-        (Some(_), Some(_), Some(_)) => Err(OptionsFault::CaseAndCertificate),
+        Some(question) => match text(matches, "cert") {
+            None => Ok(ExplainedAnswer::Findings {
+                asked: AskedQuestion {
+                    question,
+                    case: number(matches, "case"),
+                },
+                logs: log_source(alloc, matches)?,
+            }),
+            Some(certificate) => match number(matches, "case") {
+                Some(_) => Err(OptionsFault::CaseAndCertificate),
+                None => Ok(ExplainedAnswer::Certificate {
+                    question,
+                    certificate,
+                    logs: log_source(alloc, matches)?,
+                }),
+            },
+        },
     }
-}
-
-/// The answer to explain, and how.
-fn explain_request<'a>(
-    alloc: Global,
-    matches: &ArgMatches<'a>,
-) -> Result<ExplainRequest<'a>, OptionsFault>
-    requires { AreFoundAfter explain_app (rows_of (found_of matches.now)) }
-    ensures asked { IfOk result (HasAnswerToExplain (rows_of (found_of matches.now))) }
-    ensures refused { IfErr result
-        (λ why. NamesAnswer (rows_of (found_of matches.now)) → why ≡ options.OutOfMemory) }
-{
-    let answer = explained_answer(alloc, matches)?;
-    Ok(ExplainRequest {
-        answer,
-        is_json: matches.get_flag("json"),
-    })
-}
-
-/// The command with the options that name a moment.
-fn with_moment<'a>(alloc: Global, command: Command<'a>) -> Result<Command<'a>, AllocError>
-    ensures { IfOk result (λ c. app_of c ≡ with_moment_rules (app_of command.entry)) }
-{
-    let cut = "The moment when each node has made so many events, by place, as 2,3";
-    let question = "The file with a question: the first moment that meets a case of it";
-    let case = "The case of the question, from 0; the first that is present if not given";
-    command
-        .arg(option(alloc, "at", "N0,N1,..", cut))?
-        .arg(option(alloc, "question", "Q", question))?
-        .arg(number(alloc, "case", "K", case))
-}
-
-fn show_command<'a>(alloc: Global) -> Result<Command<'a>, AllocError>
-    ensures { IfOk result (λ c. app_of c ≡ show_app) }
-{
-    let leads = "The places of the nodes that are to lead at the end, and no other, as 1,2";
-    let events = "Print an order of all events in place of the tables";
-    let command = Command::new(alloc, "show")
-        .about("Shows what happened, at the end of the logs or at another moment")
-        .arg(option(alloc, "leads", "P,..", leads))?;
-    with_moment(alloc, command)?
-        .arg(flag(alloc, "events", events))?
-        .arg(json(alloc))?
-        .arg(log_folder(alloc))?
-        .arg(log_files(alloc))
 }
 
 /// Numbers with commas between them.
@@ -321,7 +407,7 @@ fn asked_leaders<'a>(
     ensures refused { IfErr result
         (λ why. ListsNumbers (codes "leads") (rows_of (found_of matches.now)) → why ≡ options.OutOfMemory) }
 {
-    match matches.get_str("leads") {
+    match text(matches, "leads") {
         None => Ok(None),
         Some(text) => Ok(Some(numbers(alloc, text)?)),
     }
@@ -332,32 +418,31 @@ fn asked_moment<'a>(
     alloc: Global,
     matches: &ArgMatches<'a>,
 ) -> Result<AskedMoment<'a>, OptionsFault>
-    requires { HasCaseTaken (rows_of (found_of matches.now)) }
+    requires { AreTyped (rows_of (found_of matches.now)) }
     ensures asked { IfOk result (HasMoment (rows_of (found_of matches.now))) }
-    ensures refused { IfErr result
-        (λ why. NamesMoment (rows_of (found_of matches.now)) → why ≡ options.OutOfMemory) }
+    ensures refused { IfErr result (λ why. NamesMoment (rows_of (found_of matches.now)) → why ≡ options.OutOfMemory) }
 {
-    let cut = matches.get_str("at");
-    let question = matches.get_str("question");
-    let case = matches.get_one("case");
-    match (cut, question, case) {
-        (None, None, None) => Ok(AskedMoment::AtEnd),
-        (Some(cut), None, None) => Ok(AskedMoment::AtCut(numbers(alloc, cut)?)),
-        (None, Some(question), case) => {
-            Ok(AskedMoment::OfQuestion(AskedQuestion { question, case }))
-        }
-        (None, None, Some(_)) => Err(OptionsFault::CaseWithoutQuestion),
-        (Some(_), None, Some(_)) => Err(OptionsFault::CaseWithoutQuestion),
-        (Some(_), Some(_), _) => Err(OptionsFault::CutAndQuestion),
+    match text(matches, "question") {
+        None => match number(matches, "case") {
+            Some(_) => Err(OptionsFault::CaseWithoutQuestion),
+            None => match text(matches, "at") {
+                None => Ok(AskedMoment::AtEnd),
+                Some(cut) => Ok(AskedMoment::AtCut(numbers(alloc, cut)?)),
+            },
+        },
+        Some(question) => match text(matches, "at") {
+            None => Ok(AskedMoment::OfQuestion(AskedQuestion {
+                question,
+                case: number(matches, "case"),
+            })),
+            Some(_) => Err(OptionsFault::CutAndQuestion),
+        },
     }
 }
 
 /// The logs to show, and how.
-fn show_request<'a>(
-    alloc: Global,
-    matches: &ArgMatches<'a>,
-) -> Result<ShowRequest<'a>, OptionsFault>
-    requires { AreFoundAfter show_app (rows_of (found_of matches.now)) }
+fn show<'a>(alloc: Global, matches: &ArgMatches<'a>) -> Result<ShowRequest<'a>, OptionsFault>
+    requires { AreTyped (rows_of (found_of matches.now)) }
     ensures asked { IfOk result (HasLogsToShow (rows_of (found_of matches.now))) }
     ensures refused { IfErr result
         (λ why. NamesLogsToShow (rows_of (found_of matches.now)) → why ≡ options.OutOfMemory) }
@@ -368,33 +453,15 @@ fn show_request<'a>(
     Ok(ShowRequest {
         leads,
         moment,
-        has_events: matches.get_flag("events"),
-        is_json: matches.get_flag("json"),
+        has_events: flag(matches, "events"),
+        is_json: flag(matches, "json"),
         logs,
     })
 }
 
-fn draw_command<'a>(alloc: Global) -> Result<Command<'a>, AllocError>
-    ensures { IfOk result (λ c. app_of c ≡ draw_app) }
-{
-    let from = "The column that the picture begins with; the first if not given";
-    let to = "The column that the picture ends with; the last if not given";
-    let command = Command::new(alloc, "draw")
-        .about("Draws what happened, as a space-time diagram in one SVG file")
-        .arg(option(alloc, "out", "FILE", "The file for the picture").required(true))?;
-    with_moment(alloc, command)?
-        .arg(number(alloc, "from", "A", from))?
-        .arg(number(alloc, "to", "B", to))?
-        .arg(log_folder(alloc))?
-        .arg(log_files(alloc))
-}
-
 /// The logs to draw, and how.
-fn draw_request<'a>(
-    alloc: Global,
-    matches: &ArgMatches<'a>,
-) -> Result<DrawRequest<'a>, OptionsFault>
-    requires { AreFoundAfter draw_app (rows_of (found_of matches.now)) }
+fn draw<'a>(alloc: Global, matches: &ArgMatches<'a>) -> Result<DrawRequest<'a>, OptionsFault>
+    requires { AreFoundAfter (codes "draw") (rows_of (found_of matches.now)) }
     ensures asked { IfOk result (HasLogsToDraw (rows_of (found_of matches.now))) }
     ensures refused { IfErr result
         (λ why. NamesLogsToDraw (rows_of (found_of matches.now)) → why ≡ options.OutOfMemory) }
@@ -402,272 +469,99 @@ fn draw_request<'a>(
     let moment = asked_moment(alloc, matches)?;
     let logs = log_source(alloc, matches)?;
     Ok(DrawRequest {
-        picture: matches.get_str("out").unwrap(),
+        picture: given_text(matches, "out"),
         moment,
-        from: matches.get_one("from"),
-        to: matches.get_one("to"),
+        from: number(matches, "from"),
+        to: number(matches, "to"),
         logs,
     })
-}
-
-fn check_command<'a>(alloc: Global) -> Result<Command<'a>, AllocError>
-    ensures { IfOk result (λ c. app_of c ≡ check_app) }
-{
-    Command::new(alloc, "check")
-        .about("Judges logs together with a certificate that no moment met a case of a question")
-        .arg(option(alloc, "question", "Q", "The file with the question").required(true))?
-        .arg(option(alloc, "cert", "C", "The file with the certificate").required(true))?
-        .arg(depth(alloc))?
-        .arg(json(alloc))?
-        .arg(log_folder(alloc))?
-        .arg(log_files(alloc))
-}
-
-fn depth<'a>(alloc: Global) -> Arg<'a>
-    ensures rule { rule_of result ≡ depth_rule }
-    ensures local { result.global ≡ false }
-{
-    option(
-        alloc,
-        "depth",
-        "D",
-        "How often the steps of a section are halved among threads, 0 to 4",
-    )
-    .value_parser(value_parser!(u64).range(0..=4))
-    .default_value("2")
 }
 
 /// The files to judge.
-fn check_request<'a>(
-    alloc: Global,
-    matches: &ArgMatches<'a>,
-) -> Result<CheckRequest<'a>, OptionsFault>
-    requires { AreFoundAfter check_app (rows_of (found_of matches.now)) }
+fn check<'a>(alloc: Global, matches: &ArgMatches<'a>) -> Result<CheckRequest<'a>, OptionsFault>
+    requires { AreFoundAfter (codes "check") (rows_of (found_of matches.now)) }
     ensures asked { IfOk result (HasFiles (rows_of (found_of matches.now))) }
-    ensures refused { IfErr result
-        (λ why. NamesLogs (rows_of (found_of matches.now)) → why ≡ options.OutOfMemory) }
+    ensures refused { IfErr result (λ why. NamesLogs (rows_of (found_of matches.now)) → why ≡ options.OutOfMemory) }
 {
     let logs = log_source(alloc, matches)?;
     Ok(CheckRequest {
-        question: matches.get_str("question").unwrap(),
-        certificate: matches.get_str("cert").unwrap(),
-        depth: matches.get_one("depth").unwrap(),
-        is_json: matches.get_flag("json"),
+        question: given_text(matches, "question"),
+        certificate: given_text(matches, "cert"),
+        depth: given_number(matches, "depth") as u8,
+        is_json: flag(matches, "json"),
         logs,
     })
-}
-
-fn decide_command<'a>(alloc: Global) -> Result<Command<'a>, AllocError>
-    ensures { IfOk result (λ c. app_of c ≡ decide_app) }
-{
-    let certificate = "The file for the certificate, which is made where all cases are absent";
-    Command::new(alloc, "decide")
-        .about("Decides for each case of a question whether some moment of the logged run met it")
-        .arg(option(alloc, "question", "Q", "The file with the question").required(true))?
-        .arg(option(alloc, "out", "C", certificate))?
-        .arg(json(alloc))?
-        .arg(log_folder(alloc))?
-        .arg(log_files(alloc))
 }
 
 /// The files to decide of.
-fn decide_request<'a>(
-    alloc: Global,
-    matches: &ArgMatches<'a>,
-) -> Result<DecideRequest<'a>, OptionsFault>
-    requires { AreFoundAfter decide_app (rows_of (found_of matches.now)) }
+fn decide<'a>(alloc: Global, matches: &ArgMatches<'a>) -> Result<DecideRequest<'a>, OptionsFault>
+    requires { AreFoundAfter (codes "decide") (rows_of (found_of matches.now)) }
     ensures asked { IfOk result (HasFilesToDecide (rows_of (found_of matches.now))) }
-    ensures refused { IfErr result
-        (λ why. NamesLogs (rows_of (found_of matches.now)) → why ≡ options.OutOfMemory) }
+    ensures refused { IfErr result (λ why. NamesLogs (rows_of (found_of matches.now)) → why ≡ options.OutOfMemory) }
 {
     let logs = log_source(alloc, matches)?;
     Ok(DecideRequest {
-        question: matches.get_str("question").unwrap(),
-        certificate: matches.get_str("out"),
-        is_json: matches.get_flag("json"),
+        question: given_text(matches, "question"),
+        certificate: text(matches, "out"),
+        is_json: flag(matches, "json"),
         logs,
     })
-}
-
-fn pairs_command<'a>(alloc: Global) -> Result<Command<'a>, AllocError>
-    ensures { IfOk result (λ c. app_of c ≡ pairs_app) }
-{
-    let nodes = Arg::new(alloc, "N")
-        .help("How many nodes the ring has, 2 to 255")
-        .value_parser(value_parser!(u64))
-        .required(true);
-    Command::new(alloc, "pairs")
-        .about("Prints the question whether two nodes of a ring ever lead at once")
-        .arg(nodes)
-}
-
-/// The number of nodes.
-fn pairs_nodes<'a>(matches: &ArgMatches<'a>) -> u64
-    requires { AreFoundAfter pairs_app (rows_of (found_of matches.now)) }
-    ensures { HasNumber (rows_of (found_of matches.now)) (codes "N") result }
-{
-    matches.get_one("N").unwrap()
-}
-
-/// An option that takes a value.
-fn option<'a>(alloc: Global, name: &'a str, value: &'a str, help: &'a str) -> Arg<'a>
-    ensures rule { rule_of result ≡ option_rule name.entry.now }
-    ensures local { result.global ≡ false }
-{
-    Arg::new(alloc, name)
-        .long(name)
-        .value_name(value)
-        .help(help)
-}
-
-/// An option that takes a number.
-fn number<'a>(alloc: Global, name: &'a str, value: &'a str, help: &'a str) -> Arg<'a>
-    ensures rule { rule_of result ≡ number_rule name.entry.now }
-    ensures local { result.global ≡ false }
-{
-    option(alloc, name, value, help).value_parser(value_parser!(u64))
-}
-
-/// An option that is given or not.
-fn flag<'a>(alloc: Global, name: &'a str, help: &'a str) -> Arg<'a>
-    ensures rule { rule_of result ≡ flag_rule name.entry.now }
-    ensures local { result.global ≡ false }
-{
-    Arg::new(alloc, name)
-        .long(name)
-        .action(ArgAction::SetTrue)
-        .help(help)
-}
-
-fn run_command<'a>(alloc: Global) -> Result<Command<'a>, AllocError>
-    ensures { IfOk result (λ c. app_of c ≡ run_app) }
-{
-    let initiators = "How many nodes begin, from node 0 on; all if not given";
-    let cap = "The most records of a log, 1 to 100000";
-    let terms = "How many terms, 1 to 1000000; each leader but the last yields";
-    run_required(alloc)?
-        .arg(number(alloc, "initiators", "M", initiators))?
-        .arg(draws(alloc))?
-        .arg(number(alloc, "cap", "C", cap).default_value("10000"))?
-        .arg(number(alloc, "terms", "T", terms).default_value("1"))?
-        .arg(flag(alloc, "alone", "Run all nodes on one thread"))
-}
-
-/// The command `run` with the options that it must have.
-fn run_required<'a>(alloc: Global) -> Result<Command<'a>, AllocError>
-    ensures { IfOk result (λ c. app_of c ≡ run_required_app) }
-{
-    let nodes = "How many nodes the ring has, 2 to 255";
-    let seed = "The number that all draws come from";
-    Command::new(alloc, "run")
-        .about("Runs an election, and writes the log of each node to a file")
-        .arg(number(alloc, "nodes", "N", nodes).required(true))?
-        .arg(number(alloc, "seed", "S", seed).required(true))?
-        .arg(folder(alloc))
-}
-
-fn folder<'a>(alloc: Global) -> Arg<'a>
-    ensures rule { rule_of result ≡ folder_rule }
-    ensures local { result.global ≡ false }
-{
-    option(
-        alloc,
-        "out",
-        "DIR",
-        "The folder, which exists, for the logs 0.log, 1.log and so on",
-    )
-    .value_parser(ValueParser::NonEmptyString)
-    .required(true)
-}
-
-fn draws<'a>(alloc: Global) -> Arg<'a>
-    ensures rule { rule_of result ≡ draws_rule }
-    ensures local { result.global ≡ false }
-{
-    option(
-        alloc,
-        "draws",
-        "K",
-        "How many IDs each node is given to draw, 0 to 100000",
-    )
-    .value_parser(value_parser!(u64).range(0..=100_000))
-    .default_value("64")
 }
 
 /// The ring to run.
-fn run_request<'a>(matches: &ArgMatches<'a>) -> RunRequest<'a>
-    requires { AreFoundAfter run_app (rows_of (found_of matches.now)) }
+fn run<'a>(matches: &ArgMatches<'a>) -> RunRequest<'a>
+    requires { AreFoundAfter (codes "run") (rows_of (found_of matches.now)) }
     ensures { HasOptions (rows_of (found_of matches.now)) result }
 {
     RunRequest {
-        nodes: matches.get_one("nodes").unwrap(),
-        seed: matches.get_one("seed").unwrap(),
-        folder: matches.get_str("out").unwrap(),
-        initiators: matches.get_one("initiators"),
-        draws: matches.get_one("draws").unwrap(),
-        cap: matches.get_one("cap").unwrap(),
-        terms: matches.get_one("terms").unwrap(),
-        is_alone: matches.get_flag("alone"),
+        nodes: given_number(matches, "nodes"),
+        seed: given_number(matches, "seed"),
+        folder: given_text(matches, "out"),
+        initiators: number(matches, "initiators"),
+        draws: given_number(matches, "draws") as u32,
+        cap: given_number(matches, "cap"),
+        terms: given_number(matches, "terms"),
+        is_alone: flag(matches, "alone"),
     }
 }
 
-/// A command that writes logs anew.
-fn rewrite_command<'a>(
-    alloc: Global,
-    name: &'a str,
-    about: &'a str,
-) -> Result<Command<'a>, AllocError>
-    ensures { IfOk result (λ c. app_of c ≡ rewrite_app name.entry.now) }
-{
-    Command::new(alloc, name)
-        .about(about)
-        .arg(folder(alloc))?
-        .arg(log_folder(alloc))?
-        .arg(log_files(alloc))
-}
-
-fn version_command<'a>(alloc: Global) -> Result<Command<'a>, AllocError>
-    ensures { IfOk result (λ c. app_of c ≡ version_app) }
-{
-    Ok(Command::new(alloc, "version").about("Prints which version this is, and what proved it"))
-}
-
 /// The files to write anew.
-fn rewrite_request<'a>(
-    alloc: Global,
-    matches: &ArgMatches<'a>,
-) -> Result<RewriteRequest<'a>, OptionsFault>
-    requires { (name : List ℕ) × AreFoundAfter (rewrite_app name) (rows_of (found_of matches.now)) }
+fn rewrite<'a>(alloc: Global, matches: &ArgMatches<'a>) -> Result<RewriteRequest<'a>, OptionsFault>
+    requires { AreFoundAfter (codes "upgrade") (rows_of (found_of matches.now)) }
     ensures asked { IfOk result (HasFilesToRewrite (rows_of (found_of matches.now))) }
-    ensures refused { IfErr result
-        (λ why. NamesLogs (rows_of (found_of matches.now)) → why ≡ options.OutOfMemory) }
+    ensures refused { IfErr result (λ why. NamesLogs (rows_of (found_of matches.now)) → why ≡ options.OutOfMemory) }
 {
     let logs = log_source(alloc, matches)?;
     Ok(RewriteRequest {
-        folder: matches.get_str("out").unwrap(),
+        folder: given_text(matches, "out"),
         logs,
     })
 }
 
-// What words ask for, by what was found of them.
-fn found_request<'a>(alloc: Global, matches: &ArgMatches<'a>) -> Result<Request<'a>, OptionsFault>
-    requires { (words : List (List ℕ)) × AreMatchesOf words matches.now }
-    ensures made { IfOk result (λ r. (words : List (List ℕ)) → AreMatchesOf words matches.now → IsMadeOf words r) }
-    ensures refused { IfErr result (λ why. (words : List (List ℕ)) → AreMatchesOf words matches.now
-        → GoTogether words → why ≡ options.OutOfMemory) }
+// What is asked for after the command of this name, by what was found of the words.
+fn found_request<'a>(
+    alloc: Global,
+    name: &str,
+    matches: &ArgMatches<'a>,
+) -> Result<Request<'a>, OptionsFault>
+    requires named { IsOneOf name.now commands }
+    requires found { AreFoundAfter name.now (rows_of (found_of matches.now)) }
+    ensures asked { IfOk result (Asks name.now (rows_of (found_of matches.now))) }
+    ensures refused { IfErr result
+        (λ why. GoTogetherAfter name.now (rows_of (found_of matches.now)) → why ≡ options.OutOfMemory) }
 {
-    match matches.subcommand() {
-        Some(("logs", found)) => Ok(Request::Logs(logs_request(alloc, found)?)),
-        Some(("explain", found)) => Ok(Request::Explain(explain_request(alloc, found)?)),
-        Some(("show", found)) => Ok(Request::Show(show_request(alloc, found)?)),
-        Some(("draw", found)) => Ok(Request::Draw(draw_request(alloc, found)?)),
-        Some(("check", found)) => Ok(Request::Check(check_request(alloc, found)?)),
-        Some(("decide", found)) => Ok(Request::Decide(decide_request(alloc, found)?)),
-        Some(("pairs", found)) => Ok(Request::Pairs(pairs_nodes(found))),
-        Some(("run", found)) => Ok(Request::Run(run_request(found))),
-        Some(("upgrade", found)) => Ok(Request::Upgrade(rewrite_request(alloc, found)?)),
-        Some(("mend", found)) => Ok(Request::Mend(rewrite_request(alloc, found)?)),
-        Some(("version", _)) => Ok(Request::Version),
+    match name {
+        "logs" => Ok(Request::Logs(logs(alloc, matches)?)),
+        "explain" => Ok(Request::Explain(explain(alloc, matches)?)),
+        "show" => Ok(Request::Show(show(alloc, matches)?)),
+        "draw" => Ok(Request::Draw(draw(alloc, matches)?)),
+        "check" => Ok(Request::Check(check(alloc, matches)?)),
+        "decide" => Ok(Request::Decide(decide(alloc, matches)?)),
+        "pairs" => Ok(Request::Pairs(given_number(matches, "N"))),
+        "run" => Ok(Request::Run(run(matches))),
+        "upgrade" => Ok(Request::Upgrade(rewrite(alloc, matches)?)),
+        "mend" => Ok(Request::Mend(rewrite(alloc, matches)?)),
+        "version" => Ok(Request::Version),
         _ => unreachable!(),
     }
 }
@@ -679,7 +573,8 @@ fn request_of_words<'a>(alloc: Global, words: &'a [&'a str]) -> Result<Request<'
         → GoTogether (map (λ word. word.now) words.now) → kind_of e ≡ kind.OutOfMemory) }
 {
     let matches = command(alloc)?.try_get_matches_from(words)?;
-    match found_request(alloc, &matches) {
+    let (name, found) = matches.subcommand().unwrap();
+    match found_request(alloc, name, found) {
         Ok(request) => Ok(request),
         Err(why) => Err(command(alloc)?.error(why.kind(), why.text())?),
     }
@@ -698,14 +593,28 @@ fn refusal(alloc: Global, refused: &Error) -> WordsFault
     }
 }
 
+/// Whether the words are an option that asks for the version.
+fn is_version_option(words: &[&str]) -> bool
+    ensures { IsTrue result ↔ IsVersionOption (map (λ word. word.now) words.now) }
+{
+    match words {
+        [word] => *word == "--version" || *word == "-V",
+        _ => false,
+    }
+}
+
 /// What the words after the program's name ask for. Asking for help is refused as well.
 pub fn read_words<'a>(alloc: Global, words: &'a [&'a str]) -> Result<Request<'a>, WordsFault>
     ensures none { words.now ≡ [] → result ≡ Ok request.OneLog }
+    ensures version { IsVersionOption (map (λ word. word.now) words.now) → result ≡ Ok request.Version }
     ensures made { IfOk result (IsMadeOf (map (λ word. word.now) words.now)) }
     ensures refused { IfErr result (MayBeRefused (map (λ word. word.now) words.now)) }
 {
     if words.is_empty() {
         return Ok(Request::OneLog);
+    }
+    if is_version_option(words) {
+        return Ok(Request::Version);
     }
     match request_of_words(alloc, words) {
         Ok(request) => Ok(request),

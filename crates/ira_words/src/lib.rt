@@ -1,9 +1,11 @@
 //! What the words after the name of the program `ira` ask for.
 #![tactic(auto)]
 
+mod argument;
 mod asked_moment;
 mod asked_question;
 mod check_request;
+mod command_entry;
 mod command_line;
 mod decide_request;
 mod draw_request;
@@ -11,6 +13,7 @@ mod explain_request;
 mod explained_answer;
 mod log_source;
 mod logs_request;
+mod options;
 mod options_fault;
 mod request;
 mod rewrite_request;

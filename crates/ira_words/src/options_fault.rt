@@ -2,6 +2,7 @@ ghost use Rattle.std.specs.Prelude.{◌≡◌};
 ghost use Rattle.clap.specs.declared.error.kind.ErrorKind.TheVariants as kind;
 
 use clap::error::ErrorKind;
+use std::alloc::AllocError;
 
 /// Why options and names that the command line takes ask for nothing.
 #[derive(Clone, Copy)]
@@ -53,5 +54,15 @@ impl OptionsFault {
             }
             OptionsFault::OutOfMemory => "out of memory",
         }
+    }
+}
+
+impl From<AllocError> for OptionsFault {
+    ghost use Rattle.ira_words.specs.declared.options_fault.OptionsFault.TheVariants as options;
+
+    ghost from_gives = { λ _ f. f ≡ options.OutOfMemory };
+
+    fn from(_refused: AllocError) -> OptionsFault {
+        OptionsFault::OutOfMemory
     }
 }

@@ -1,7 +1,8 @@
-use Rattle.std.proofs.Common.{◌++◌, codes}
+use Rattle.std.proofs.Common.{◌++◌, ◌∙◌, codes}
 use Rattle.std.proofs.lemmas.Result.{err_from_is_err_and}
 use Rattle.ira_event.proofs.Writing.{StopsIn-append, Takes-StopsIn, Takes-append, Wrote-then}
-use Rattle.ira_audit.specs.Report.{numbered, step_fault_words}
+use Rattle.ira_node.specs.StepFault.{step_fault_words}
+use Rattle.ira_audit.specs.Report.{numbered}
 use Rattle.ira_audit.proofs.report.write_replay_reason.Goals as goal
 
 pub returns-in_err-write_numbered : goal.returns-in_err-write_numbered
@@ -39,5 +40,5 @@ returns g c =
     let event = numbered (codes ": event ") c.args.position in
     let front = Takes-append _ _ _ place event c.in_ok-write_numbered.ensures c.in_ok-write_numbered-2.ensures in
     let all = Takes-append _ _ _ (place ++ event) (codes ": ") front c.in_ok-write_bytes.ensures in
-    let words = rw c.step_fault_text.ensures at c.write_bytes-2.ensures in
+    let words = rw (c.as_bytes.ensures.value ∙ c.words.ensures) at c.write_bytes-2.ensures in
     Wrote-then c.write_bytes-2.result _ _ _ (place ++ event ++ codes ": ") (step_fault_words c.args.fault) all words

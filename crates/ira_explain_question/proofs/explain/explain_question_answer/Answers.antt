@@ -1,5 +1,5 @@
 use Rattle.std.proofs.Common.{map}
-use Rattle.ira_explain.specs.declared.named_text.NamedText.{NamedText}
+use Rattle.ira_view_page.specs.declared.named_text.NamedText.{NamedText}
 use Rattle.ira_explain_question.proofs.Refusals.{findings_are}
 use Rattle.ira_explain_question.proofs.explain.explain_question_answer.Goals as goal
 

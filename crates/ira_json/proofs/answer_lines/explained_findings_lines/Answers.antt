@@ -1,5 +1,4 @@
 use Rattle.std.proofs.Common.{◌∙◌, IfOk, ap, string_bytes, subst, sym}
-use Rattle.serde_json.specs.View.{view}
 use Rattle.ira_audit.specs.declared.answer.Answer.TheVariants.{No}
 use Rattle.ira_json.specs.ExplainedFindings.{explained_decision, explained_findings}
 use Rattle.ira_json.specs.ExplainedValue.{explained_value}

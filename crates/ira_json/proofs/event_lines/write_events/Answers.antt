@@ -3,8 +3,8 @@ use Rattle.std.proofs.lemmas.List.{length-map, length-set}
 use Rattle.ira_event.specs.Log.{Log}
 use Rattle.ira_node.specs.NodeState.{first_state}
 use Rattle.ira_order.specs.Ring.{events_of, log_of}
-use Rattle.ira_show.proofs.Steps.{last_is_there}
-use Rattle.ira_show.specs.declared.show_fault.ShowFault.TheVariants.{OutOfMemory}
+use Rattle.ira_trail.proofs.Steps.{last_is_there}
+use Rattle.ira_view_page.specs.declared.show_fault.ShowFault.TheVariants.{OutOfMemory}
 use Rattle.ira_json.proofs.LinesWritten.{failed_then, more_taken, none_taken, none_wrote, wrote_then}
 use Rattle.ira_json.proofs.event_lines.write_events.Goals as goal
 

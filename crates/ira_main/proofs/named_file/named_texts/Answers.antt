@@ -2,7 +2,7 @@ use Rattle.std.proofs.Common.{◌≡◌, ◌∙◌, ◌++◌, ◌∷◌, [], ℕ
 use Rattle.std.proofs.lemmas.List.{map-append, take_all}
 use Rattle.std.proofs.lemmas.Option.{slice_get_read}
 use Rattle.ira_audit.proofs.LogTexts.{next_taken}
-use Rattle.ira_explain.specs.declared.named_text.NamedText.{NamedText}
+use Rattle.ira_view_page.specs.declared.named_text.NamedText.{NamedText}
 use Rattle.ira_main.proofs.named_file.named_texts.Goals as goal
 
 pub loop-file-preserved : goal.loop-file-preserved

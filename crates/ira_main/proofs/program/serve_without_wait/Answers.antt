@@ -1,7 +1,7 @@
-use Rattle.std.proofs.Common.{◌≡◌, ◌∙◌, Err, List, [], ◌∷◌, Ok, Result, ℕ, ap, map, refl, subst, sym}
-use Rattle.ira_words.specs.Request.{IsMadeOf}
+use Rattle.std.proofs.Common.{◌≡◌, ◌∙◌, Err, List, [], ◌∷◌, Ok, Result, ℕ, ap, inl, inr, map, refl, subst, sym}
+use Rattle.ira_words.specs.Request.{IsMadeOf, IsVersionLine}
 use Rattle.ira_main.specs.Serve.CommandOutcome.{decided, drawn, judged, mended, pairs, recorded, refused, shown}
-use Rattle.ira_main.specs.Serve.CommandOutcome.{upgraded}
+use Rattle.ira_main.specs.Serve.CommandOutcome.{upgraded, versioned}
 use Rattle.ira_main.specs.Serve.CommandOutcome.{explained as explained_of_logs}
 use Rattle.ira_main.specs.Serve.Serves.{explained, with_words, without_words}
 use Rattle.ira_main.proofs.program.serve_without_wait.Goals as goal
@@ -13,6 +13,11 @@ none_of_none f (x ∷ xs) e = cc
 -- words that begin with one are some
 some_words : (words others : List (List ℕ)) (word : List ℕ) → words ≡ word ∷ others → words ≡ [] → ⊥
 some_words words others word first none = cc
+
+words_of_version : (words : List (List ℕ)) → IsVersionLine words → words ≡ [] → ⊥
+words_of_version words (inl (inl is)) none = cc
+words_of_version words (inl (inr is)) none = cc
+words_of_version words (inr line) none = some_words _ _ _ line.first none
 
 never_both : {X Y : Type 0} (x : X) (y : Y) → ◌≡◌ {A = Result X Y} (Ok x) (Err y) → ⊥
 never_both x y both = cc
@@ -30,7 +35,7 @@ returns-in-OneLog-clause-served g c =
 pub returns-in-Logs-clause-served : goal.returns-in-Logs-clause-served
 returns-in-Logs-clause-served g c =
     let made = subst (IsMadeOf (map (λ w. w.now) c.args.words.now)) c.in-Logs.is c.in-Ok.ensures.made in
-    with_words (some_words _ _ _ made.first) refl (judged _ made refl c.judge_files.ensures)
+    with_words (some_words _ _ _ made.line.first) refl (judged _ made refl c.judge_files.ensures)
 
 pub returns-in-OneLog-answer-clause-served : goal.returns-in-OneLog-answer-clause-served
 returns-in-OneLog-answer-clause-served g c =
@@ -93,3 +98,8 @@ pub returns-in-Mend-clause-served : goal.returns-in-Mend-clause-served
 returns-in-Mend-clause-served g c =
     let made = subst (IsMadeOf (map (λ w. w.now) c.args.words.now)) c.in-Mend.is c.in-Ok.ensures.made in
     with_words (some_words _ _ _ made.first) refl (mended _ made c.mend_files.ensures)
+
+pub returns-in-Version-clause-served : goal.returns-in-Version-clause-served
+returns-in-Version-clause-served g c =
+    let made = subst (IsMadeOf (map (λ w. w.now) c.args.words.now)) c.in-Version.is c.in-Ok.ensures.made in
+    with_words (words_of_version _ made) refl (versioned made refl c.print_version.ensures)

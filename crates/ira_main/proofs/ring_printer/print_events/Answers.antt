@@ -1,5 +1,5 @@
 use Rattle.std.proofs.Common.{◌≡◌, ◌∙◌, Err, Ok, subst, sym, true}
-use Rattle.ira_explain.specs.Printable.{IsPrintable}
+use Rattle.ira_view_page.specs.Printable.{IsPrintable}
 use Rattle.ira_main.proofs.RingPrinting.{no_memory_after, printed_after, ring_front, stopped_after, stopped_before}
 use Rattle.ira_main.proofs.RingPrinting.{stopped_of, taken_of}
 use Rattle.ira_main.specs.Show.{PrintsRing}
@@ -8,22 +8,22 @@ use Rattle.ira_main.proofs.ring_printer.print_events.Goals as goal
 
 pub returns-then-is_err : goal.returns-then-is_err
 returns-then-is_err g c =
-    let d = c.text-differences.result.now in
+    let d = c.bytes-differences.result.now in
     let s = g.W.Sink.state c.args.out.now in
     let t = g.W.Sink.state c.write_view.new.sink in
-    let same : d ≡ c.args.ring.now.differences = c.text-differences.ensures.text ∙ c.differences.ensures in
-    let printable = subst IsPrintable (sym c.text-differences.ensures.text) c.text-differences.ensures.printable in
+    let same : d ≡ c.args.ring.now.differences = c.bytes-differences.ensures.text ∙ c.differences.ensures in
+    let printable = subst IsPrintable (sym c.bytes-differences.ensures.text) c.bytes-differences.ensures.printable in
     let stop = stopped_of c.write_view.result (ring_front d) s t (sym c.is_err.ensures.value ∙ c.if-is_err.true)
     c.write_view.ensures in
     subst (λ w. PrintsRing w true s t (Err CannotWriteAnswer)) same (stopped_before d true s t printable stop)
 
 pub returns-in-Ok : goal.returns-in-Ok
 returns-in-Ok g c =
-    let d = c.text-differences.result.now in
+    let d = c.bytes-differences.result.now in
     let s = g.W.Sink.state c.args.out.now in
     let t = g.W.Sink.state c.write_view.new.sink in
-    let same : d ≡ c.args.ring.now.differences = c.text-differences.ensures.text ∙ c.differences.ensures in
-    let printable = subst IsPrintable (sym c.text-differences.ensures.text) c.text-differences.ensures.printable in
+    let same : d ≡ c.args.ring.now.differences = c.bytes-differences.ensures.text ∙ c.differences.ensures in
+    let printable = subst IsPrintable (sym c.bytes-differences.ensures.text) c.bytes-differences.ensures.printable in
     let front = taken_of c.write_view.result (ring_front d) s t (sym c.is_err.ensures.value ∙ c.if-is_err.false)
     c.write_view.ensures in
     let u = g.W.Sink.state c.write_events.new.sink in
@@ -33,11 +33,11 @@ returns-in-Ok g c =
 
 pub returns-in-Err-Write : goal.returns-in-Err-Write
 returns-in-Err-Write g c =
-    let d = c.text-differences.result.now in
+    let d = c.bytes-differences.result.now in
     let s = g.W.Sink.state c.args.out.now in
     let t = g.W.Sink.state c.write_view.new.sink in
-    let same : d ≡ c.args.ring.now.differences = c.text-differences.ensures.text ∙ c.differences.ensures in
-    let printable = subst IsPrintable (sym c.text-differences.ensures.text) c.text-differences.ensures.printable in
+    let same : d ≡ c.args.ring.now.differences = c.bytes-differences.ensures.text ∙ c.differences.ensures in
+    let printable = subst IsPrintable (sym c.bytes-differences.ensures.text) c.bytes-differences.ensures.printable in
     let front = taken_of c.write_view.result (ring_front d) s t (sym c.is_err.ensures.value ∙ c.if-is_err.false)
     c.write_view.ensures in
     let u = g.W.Sink.state c.write_events.new.sink in
@@ -47,11 +47,11 @@ returns-in-Err-Write g c =
 
 pub returns-in-Err-OutOfMemory : goal.returns-in-Err-OutOfMemory
 returns-in-Err-OutOfMemory g c =
-    let d = c.text-differences.result.now in
+    let d = c.bytes-differences.result.now in
     let s = g.W.Sink.state c.args.out.now in
     let t = g.W.Sink.state c.write_view.new.sink in
-    let same : d ≡ c.args.ring.now.differences = c.text-differences.ensures.text ∙ c.differences.ensures in
-    let printable = subst IsPrintable (sym c.text-differences.ensures.text) c.text-differences.ensures.printable in
+    let same : d ≡ c.args.ring.now.differences = c.bytes-differences.ensures.text ∙ c.differences.ensures in
+    let printable = subst IsPrintable (sym c.bytes-differences.ensures.text) c.bytes-differences.ensures.printable in
     let front = taken_of c.write_view.result (ring_front d) s t (sym c.is_err.ensures.value ∙ c.if-is_err.false)
     c.write_view.ensures in
     let u = g.W.Sink.state c.write_events.new.sink in

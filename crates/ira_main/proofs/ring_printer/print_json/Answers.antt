@@ -9,7 +9,7 @@ returns-in-Ok g c =
     let s = g.W.Sink.state c.args.out.now in
     let t = g.W.Sink.state c.write_json.new.sink in
     let status = c.of_differences-status.result in
-    let is = subst (λ w. IsLeadsStatus w status) (c.text.ensures.text ∙ c.differences.ensures)
+    let is = subst (λ w. IsLeadsStatus w status) (c.bytes.ensures.text ∙ c.differences.ensures)
     c.of_differences-status.ensures in
     inl (lines_printed d status c.number.result s t c.number.ensures is c.in-Ok.ensures)
 
@@ -19,7 +19,7 @@ returns-in-Err-Write g c =
     let s = g.W.Sink.state c.args.out.now in
     let t = g.W.Sink.state c.write_json.new.sink in
     let status = c.of_differences-status.result in
-    let is = subst (λ w. IsLeadsStatus w status) (c.text.ensures.text ∙ c.differences.ensures)
+    let is = subst (λ w. IsLeadsStatus w status) (c.bytes.ensures.text ∙ c.differences.ensures)
     c.of_differences-status.ensures in
     inl (lines_stopped d status c.number.result s t c.number.ensures is
     (rw (c.in-Err-Write.is, c.in-Err-Write.field-0-is) at c.write_json.ensures))
@@ -30,7 +30,7 @@ returns-in-Err-OutOfMemory g c =
     let s = g.W.Sink.state c.args.out.now in
     let t = g.W.Sink.state c.write_json.new.sink in
     let status = c.of_differences-status.result in
-    let is = subst (λ w. IsLeadsStatus w status) (c.text.ensures.text ∙ c.differences.ensures)
+    let is = subst (λ w. IsLeadsStatus w status) (c.bytes.ensures.text ∙ c.differences.ensures)
     c.of_differences-status.ensures in
     lines_no_memory d status c.number.result s t c.number.ensures is
     (rw (c.in-Err-OutOfMemory.is, c.in-Err-OutOfMemory.field-0-is) at c.write_json.ensures)

@@ -1,5 +1,5 @@
-use Rattle.std.proofs.Common.{◌≡◌, ◌+◌, ◌<◌, ◌≤◌, ◌∙◌, Some, inl, inr, ap, arith, get_or, length, length-set, refl}
-use Rattle.std.proofs.Common.{subst, sym}
+use Rattle.std.proofs.Common.{◌≡◌, ◌+◌, ◌<◌, ◌≤◌, ◌∙◌, Some, inl, inr, ap, arith, length, length-set, refl}
+use Rattle.std.proofs.Common.{subst}
 use Rattle.std.specs.Prelude.{slice_get}
 use Rattle.std.proofs.lemmas.List.{length-map}
 use Rattle.std.proofs.lemmas.Option.{slice_get_read, slice_get_within}
@@ -13,7 +13,7 @@ use Rattle.ira_picture.proofs.columns.add_all_stuck.Goals as goal
 pub add_stuck-requires-clause-few : goal.add_stuck-requires-clause-few
 add_stuck-requires-clause-few g c =
     let nodes = c.loop-place.nodes in
-    let node = c.index-nodes-from.result in
+    let node = c.index-nodes-place.result in
     let within : c.loop-place.place < length c.loop-place.nodes = omega (
       arith,
       c.loop-place.invariant.places,
@@ -21,21 +21,20 @@ add_stuck-requires-clause-few g c =
       c.get-place-end.ensures.value,
       c.size.ensures.value,
     ) in
-    let at : slice_get c.loop-place.nodes c.loop-place.place ≡ Some c.index-nodes-from.result =
-    slice_get_read nodes (length nodes) c.loop-place.place node refl within
-    (rw c.from.ensures at c.index-nodes-from.is) in
+    let at : slice_get c.loop-place.nodes c.loop-place.place ≡ Some c.index-nodes-place.result =
+    slice_get_read nodes (length nodes) c.loop-place.place node refl within c.index-nodes-place.is in
     let was = c.loop-place.invariant.left c.loop-place.place node (omega arith) at in
     let old = c.requires.2.each c.loop-place.place node was in
     let events : log_of c.args.logs.now c.loop-place.place ≡ c.log.result.now.events =
     ap events_of c.log.ensures.value in
-    let few : length c.index-nodes-from.result.columns ≤ length c.log.result.now.events =
+    let few : length c.index-nodes-place.result.columns ≤ length c.log.result.now.events =
     omega (arith, old.few, ap length events) in
-    subst (λ (p : PlacedEvents). length p.columns ≤ length c.log.result.now.events) c.index-nodes-from.is few
+    subst (λ (p : PlacedEvents). length p.columns ≤ length c.log.result.now.events) c.index-nodes-place.is few
 
 pub add_stuck-requires-clause-rise : goal.add_stuck-requires-clause-rise
 add_stuck-requires-clause-rise g c =
     let nodes = c.loop-place.nodes in
-    let node = c.index-nodes-from.result in
+    let node = c.index-nodes-place.result in
     let within : c.loop-place.place < length c.loop-place.nodes = omega (
       arith,
       c.loop-place.invariant.places,
@@ -43,17 +42,16 @@ add_stuck-requires-clause-rise g c =
       c.get-place-end.ensures.value,
       c.size.ensures.value,
     ) in
-    let at : slice_get c.loop-place.nodes c.loop-place.place ≡ Some c.index-nodes-from.result =
-    slice_get_read nodes (length nodes) c.loop-place.place node refl within
-    (rw c.from.ensures at c.index-nodes-from.is) in
+    let at : slice_get c.loop-place.nodes c.loop-place.place ≡ Some c.index-nodes-place.result =
+    slice_get_read nodes (length nodes) c.loop-place.place node refl within c.index-nodes-place.is in
     let was = c.loop-place.invariant.left c.loop-place.place node (omega arith) at in
     let old = c.requires.2.each c.loop-place.place node was in
-    subst (λ (p : PlacedEvents). Rises (λ x. x) p.columns) c.index-nodes-from.is old.rise
+    subst (λ (p : PlacedEvents). Rises (λ x. x) p.columns) c.index-nodes-place.is old.rise
 
 pub add_stuck-requires-clause-base : goal.add_stuck-requires-clause-base
 add_stuck-requires-clause-base g c =
     let nodes = c.loop-place.nodes in
-    let node = c.index-nodes-from.result in
+    let node = c.index-nodes-place.result in
     let within : c.loop-place.place < length c.loop-place.nodes = omega (
       arith,
       c.loop-place.invariant.places,
@@ -61,13 +59,12 @@ add_stuck-requires-clause-base g c =
       c.get-place-end.ensures.value,
       c.size.ensures.value,
     ) in
-    let at : slice_get c.loop-place.nodes c.loop-place.place ≡ Some c.index-nodes-from.result =
-    slice_get_read nodes (length nodes) c.loop-place.place node refl within
-    (rw c.from.ensures at c.index-nodes-from.is) in
+    let at : slice_get c.loop-place.nodes c.loop-place.place ≡ Some c.index-nodes-place.result =
+    slice_get_read nodes (length nodes) c.loop-place.place node refl within c.index-nodes-place.is in
     let was = c.loop-place.invariant.left c.loop-place.place node (omega arith) at in
     let old = c.requires.2.each c.loop-place.place node was in
     let up_to = c.last_column-base.ensures.all c.loop-place.place node was old.rise in
-    subst (λ (p : PlacedEvents). AreUpTo c.last_column-base.result p.columns) c.index-nodes-from.is up_to
+    subst (λ (p : PlacedEvents). AreUpTo c.last_column-base.result p.columns) c.index-nodes-place.is up_to
 
 pub add_stuck-requires-clause-room : goal.add_stuck-requires-clause-room
 add_stuck-requires-clause-room g c =
@@ -93,19 +90,19 @@ loop-place-preserved g c =
     let new : AreColumnsOf (log_of c.args.logs.now c.loop-place.place) c.add_stuck.new.node.columns =
     rw events c.in_ok-add_stuck.ensures in
     record {
-      places = length-set c.loop-place.nodes c.from.result c.add_stuck.new.node ∙ c.loop-place.invariant.places;
+      places = length-set c.loop-place.nodes c.loop-place.place c.add_stuck.new.node ∙ c.loop-place.invariant.places;
       done = λ i p less there.
-          elim (set_cases c.loop-place.nodes c.from.result i c.add_stuck.new.node p there) [
+          elim (set_cases c.loop-place.nodes c.loop-place.place i c.add_stuck.new.node p there) [
             | inl same ↦
-                subst (λ k. AreColumnsOf (log_of c.args.logs.now k) p.columns) (sym c.from.ensures ∙ same.0)
+                subst (λ k. AreColumnsOf (log_of c.args.logs.now k) p.columns) same.0
                 (subst (λ (q : PlacedEvents). AreColumnsOf (log_of c.args.logs.now c.loop-place.place) q.columns) same.1
                 new)
             | inr other ↦ c.loop-place.invariant.done i p
-                (let ne : ¬ (c.loop-place.place ≡ i) = λ e. other.0 (c.from.ensures ∙ e) in omega (arith, less, ne))
+                (let ne : ¬ (c.loop-place.place ≡ i) = other.0 in omega (arith, less, ne))
                 other.1
           ];
-      left = λ i p more there. elim (set_cases c.loop-place.nodes c.from.result i c.add_stuck.new.node p there) [
-        | inl same ↦ absurd (omega (arith, more, same.0, c.from.ensures))
+      left = λ i p more there. elim (set_cases c.loop-place.nodes c.loop-place.place i c.add_stuck.new.node p there) [
+        | inl same ↦ absurd (omega (arith, more, same.0))
         | inr other ↦ c.loop-place.invariant.left i p (omega (arith, more)) other.1
       ];
     }

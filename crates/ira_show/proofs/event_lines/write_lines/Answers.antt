@@ -3,9 +3,9 @@ use Rattle.std.proofs.lemmas.List.{length-map, length-set}
 use Rattle.ira_event.specs.Log.{Log}
 use Rattle.ira_node.specs.NodeState.{first_state}
 use Rattle.ira_order.specs.Ring.{events_of, log_of}
-use Rattle.ira_show.specs.declared.show_fault.ShowFault.TheVariants.{Write}
-use Rattle.ira_show.proofs.Printing.{failed_then, more_taken, part_taken}
-use Rattle.ira_show.proofs.Steps.{last_is_there}
+use Rattle.ira_view_page.specs.declared.show_fault.ShowFault.TheVariants.{Write}
+use Rattle.ira_show.proofs.Printing.{failed_then, more_taken, showed_then}
+use Rattle.ira_trail.proofs.Steps.{last_is_there}
 use Rattle.ira_show.proofs.event_lines.write_lines.Goals as goal
 
 pub loop-number-init : goal.loop-number-init
@@ -48,7 +48,7 @@ returns-in_err-page g c =
     let is : c.from_residual-in_err-page.result ≡ Err c.in_err-page.field-0.0 = search rules in
     failed_then c.from_residual-in_err-page.result c.in_err-page.field-0.0 (g.W.Sink.state c.args.sink.now)
     (g.W.Sink.state c.loop-number.sink) (g.W.Sink.state c.write_block.new.sink) is c.loop-number.invariant.took
-    c.in_err-page.ensures
+    c.in_err-page.ensures.showed
 
 pub loop-number-preserved : goal.loop-number-preserved
 loop-number-preserved g c =
@@ -60,19 +60,12 @@ loop-number-preserved g c =
       states = length-set c.loop-number.states.items c.from.result c.go_on-change.new.state
           ∙ c.loop-number.invariant.states;
       took =
-          let more = c.in_ok-page.ensures in
+          let more = c.in_ok-page.ensures.showed in
           more_taken (g.W.Sink.state c.args.sink.now) (g.W.Sink.state c.loop-number.sink)
           (g.W.Sink.state c.write_block.new.sink) more.0 c.loop-number.invariant.took more.1 more.2;
     }
 
-pub returns-in_err-write : goal.returns-in_err-write
-returns-in_err-write g c =
-    let is : c.from_residual-in_err-write.result ≡ Err Write = search rules in
-    rw is
-    (part_taken (g.W.Sink.state c.args.sink.now) (g.W.Sink.state c.loop-number.sink) (g.W.Sink.state c.write.new.sink) _
-    c.loop-number.invariant.took c.in_err-write.ensures.printable c.in_err-write.ensures.text)
-
 pub returns : goal.returns
 returns g c =
-    more_taken (g.W.Sink.state c.args.sink.now) (g.W.Sink.state c.loop-number.sink) (g.W.Sink.state c.write.new.sink) _
-    c.loop-number.invariant.took c.in_ok-write.ensures.printable c.in_ok-write.ensures.text
+    showed_then c.write_page.result (g.W.Sink.state c.args.sink.now) (g.W.Sink.state c.loop-number.sink)
+    (g.W.Sink.state c.write_page.new.sink) c.loop-number.invariant.took c.write_page.ensures.showed

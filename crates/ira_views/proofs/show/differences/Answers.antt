@@ -22,5 +22,5 @@ returns-in_default-2-clause-fault g c =
 pub returns-clause-same : goal.returns-clause-same
 returns-clause-same g c =
     let named = rw c.in-Some-2.is at c.in_ok-named.ensures in
-    let differ = rw (c.deref.ensures.value, named) at c.in_ok-leads_differ.ensures in
+    let differ = rw (c.deref.ensures.value, named) at c.in_ok-leads_differ.ensures.none in
     rw c.in-Some.is (c.in_ok-moment.moment, rw c.logs-logs.ensures.value at c.in_ok-moment.ensures, differ)

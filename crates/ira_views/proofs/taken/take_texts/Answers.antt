@@ -1,7 +1,7 @@
 use Rattle.std.proofs.Common.{arith, length, rules, subst, take}
 use Rattle.std.proofs.lemmas.List.{length-map, take_all}
 use Rattle.ira_audit.specs.RingAudit.{HasTaken}
-use Rattle.ira_explain.specs.declared.named_text.NamedText.{NamedText}
+use Rattle.ira_view_page.specs.declared.named_text.NamedText.{NamedText}
 use Rattle.ira_audit.proofs.LogTexts.{next_taken}
 use Rattle.ira_views.proofs.Texts.{text_at}
 use Rattle.ira_views.specs.Texts.{texts_of}

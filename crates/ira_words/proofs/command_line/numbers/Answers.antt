@@ -1,11 +1,30 @@
-use Rattle.std.proofs.Common.{◌≡◌, ◌∙◌, Bool, [], ◌∷◌, ◌++◌, ap, lit<, map, subst, sym, true}
+use Rattle.std.proofs.Common.{◌≡◌, ◌<◌, ◌^◌, ◌∙◌, Bool, ℕ, List, [], ◌∷◌, ◌++◌, Err, Ok, Result, ap, false, lit<, map, refl}
+use Rattle.std.proofs.Common.{subst, sym, true}
 use Rattle.std.proofs.lemmas.Iterator.Consumers.{YieldsList-end, YieldsList-turn}
 use Rattle.std.proofs.lemmas.Iterator.Splits.{YieldsList-from_str_split}
 use Rattle.std.proofs.lemmas.List.{map-append}
-use Rattle.std.specs.Prelude.{if◌then◌else◌, is_ok}
+use Rattle.std.specs.Prelude.{if◌then◌else◌, is_err, is_ok}
+use Rattle.std.specs.Str.Parse.{IsNumeral, digits_value, without_leading_plus}
+use Rattle.clap.specs.Walk.{Text}
 use Rattle.ira_words.specs.Options.{AreNumbers, IsNumber, WritesNumber}
-use Rattle.ira_words.proofs.Numbers.{is_read, more_numbers, ok_of}
 use Rattle.ira_words.proofs.command_line.numbers.Goals as goal
+
+-- one more number, by one more text
+more_numbers : (ns : List ℕ) (ts : List Text) (n : ℕ) (t : Text) → AreNumbers ns ts → IsNumber n t
+    → AreNumbers (ns ++ n ∷ []) (ts ++ t ∷ [])
+more_numbers [] [] n t are is = (is, tt)
+more_numbers (m ∷ ns) (u ∷ ts) n t are is = (are.0, more_numbers ns ts n t are.1 is)
+more_numbers [] (u ∷ ts) n t are is = absurd are
+more_numbers (m ∷ ns) [] n t are is = absurd are
+
+ok_of : {X E : Type 0} (r : Result X E) → is_err r ≡ false → is_ok r ≡ true
+ok_of (Ok x) e = refl
+ok_of (Err f) e = cc
+
+-- what writes a number is read as one
+is_read : (t : Text) → WritesNumber t → IsNumeral 10 (without_leading_plus t)
+    × (digits_value 10 (without_leading_plus t) < 2 ^ 64)
+is_read t writes = (writes.1.0, subst (λ (k : ℕ). k < 2 ^ 64) (sym writes.1.1) writes.2)
 
 pub loop-part-preserved : goal.loop-part-preserved
 loop-part-preserved c =

@@ -1,6 +1,6 @@
 use Rattle.std.proofs.Common.{◌≡◌, ◌++◌, Err, rules, string_bytes, subst, sym}
 use Rattle.serde_json.specs.View.{view}
-use Rattle.ira_show.specs.declared.show_fault.ShowFault.TheVariants.{OutOfMemory}
+use Rattle.ira_view_page.specs.declared.show_fault.ShowFault.TheVariants.{OutOfMemory}
 use Rattle.ira_json.specs.Line.{AreLines}
 use Rattle.ira_json.proofs.LinesWritten.{add_line, none_wrote}
 use Rattle.ira_json.proofs.line_block.LineBlock.add.Goals as goal

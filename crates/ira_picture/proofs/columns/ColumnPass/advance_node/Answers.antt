@@ -1,5 +1,4 @@
-use Rattle.std.proofs.Common.{◌≡◌, ◌<◌, Some, arith, get_or, length}
-use Rattle.std.specs.Prelude.{slice_get}
+use Rattle.std.proofs.Common.{◌≡◌, get_or, length}
 use Rattle.std.proofs.lemmas.Option.{get_or_from_slice_get, slice_get_within}
 use Rattle.ira_order.specs.Ring.{log_of}
 use Rattle.ira_picture.specs.Columns.{PlacedEvents}
@@ -11,11 +10,9 @@ loop-preserved g c =
     let logs = c.args.self.now.logs.now in
     let next = c.in-Some.ensures in
     let p : PlacedEvents = next.0 in
-    let at : slice_get c.loop.nodes c.from-in-loop.result ≡ Some p = rw c.from-in-loop.ensures next.1 in
-    let old : get_or c.loop.nodes c.from-in-loop.result c.index-nodes-from-in-loop.result ≡ p =
-    get_or_from_slice_get c.loop.nodes c.from-in-loop.result p c.index-nodes-from-in-loop.result at in
-    let room : length p.columns < length (log_of c.args.self.now.logs.now c.from-in-loop.result) =
-    rw c.from-in-loop.ensures (slice_get_within (log_of logs c.args.place) (length p.columns) _ next.2) in
-    placed_more logs c.args.self.now.base c.loop.nodes c.loop.invariant c.from-in-loop.result c.in-Some.column p
-    c.add.new.self at room (rw old at c.in_ok-add.ensures.columns) (rw old at c.in_ok-add.ensures.sendings) next.3
+    let old : get_or c.loop.nodes c.args.place c.index-nodes-place-in-loop.result ≡ p =
+    get_or_from_slice_get c.loop.nodes c.args.place p c.index-nodes-place-in-loop.result next.1 in
+    placed_more logs c.args.self.now.base c.loop.nodes c.loop.invariant c.args.place c.in-Some.column p
+    c.add.new.self next.1 (slice_get_within (log_of logs c.args.place) (length p.columns) _ next.2)
+    (rw old at c.in_ok-add.ensures.columns) (rw old at c.in_ok-add.ensures.sendings) next.3
     next.4

@@ -1,5 +1,0 @@
-use Rattle.ira_explain.specs.Lines.{IsFromLine}
-use Rattle.ira_explain.proofs.named_text.NamedText.from_line.Given as goal
-
-abbrev pub invariant-loop-line : goal.invariant-loop-line
-invariant-loop-line l = IsFromLine l.self.text.now l.line l.rest

@@ -1,5 +1,0 @@
-use Rattle.ira_explain.proofs.EventLines.{event_line}
-use Rattle.ira_explain.proofs.places.line_of.Goals as goal
-
-pub returns-clause-line : goal.returns-clause-line
-returns-clause-line c = event_line c.args.position

@@ -1,0 +1,6 @@
+pub mod Adding
+pub mod EventLines
+pub mod FirstLines
+pub mod Printables
+pub mod Tables
+pub mod Telling

@@ -1,0 +1,5 @@
+use Rattle.ira_view_page.proofs.Adding.{◌&◌}
+use Rattle.ira_view_page.proofs.page.Page.hint.Goals as goal
+
+pub returns : goal.returns
+returns g c = (_, c.begin.ensures & c.words.ensures & c.fill.ensures.1 & c.end.ensures)

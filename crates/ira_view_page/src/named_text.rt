@@ -1,0 +1,46 @@
+ghost use Rattle.std.specs.Prelude.{◌≡◌, ◌≤◌, ◌==◌, count_by};
+ghost use Rattle.ira_view_page.specs.Lines.{IsFromLine, IsLine};
+
+use crate::first_line::split_line;
+
+/// A text with the name of the file that it is of.
+#[derive(Clone, Copy, Debug)]
+pub struct NamedText<'a> {
+    pub name: &'a str,
+    pub text: &'a [u8],
+}
+
+impl<'a> NamedText<'a> {
+    /// How many lines end in a line feed.
+    pub fn whole_lines(&self) -> usize
+        ensures { result ≡ count_by (λ c. c == 10) self.now.text.now }
+    {
+        self.text.iter().filter(|c| **c == b'\n').count()
+    }
+
+    /// A line, counted from 1, without its line feed: a piece after the last line feed is one too, and further ones
+    /// are empty.
+    pub fn line(&self, number: usize) -> &'a [u8]
+        ensures { 1 ≤ number → IsLine self.now.text.now number result.now }
+    {
+        let rest = self.from_line(number);
+        match split_line(rest) {
+            Some((line, _)) => line,
+            None => rest,
+        }
+    }
+
+    /// All from a line on.
+    pub fn from_line(&self, number: usize) -> &'a [u8]
+        ensures { 1 ≤ number → IsFromLine self.now.text.now number result.now }
+    {
+        let mut rest = self.text;
+        for line in 1..number {
+            rest = match split_line(rest) {
+                Some((_, after)) => after,
+                None => b"",
+            };
+        }
+        rest
+    }
+}
