@@ -13,9 +13,10 @@ fi
 
 rm -rf "$folder" "bin/$name.tar.gz"
 make --no-print-directory install DESTDIR="$PWD/$folder" PREFIX= > /dev/null
-mkdir -p "$folder/docs"
+mkdir -p "$folder/docs" "$folder/checks"
 cp docs/*.md "$folder/docs"
 cp -r examples "$folder"
+cp checks/examples.sh "$folder/checks"
 commit=$(git rev-parse --short=12 HEAD 2> /dev/null || echo unknown)
 git diff --quiet HEAD 2> /dev/null || commit="$commit, with changes"
 sed -e "s/@COMMIT@/$commit/" -e "s/@KIT@/$(rt version)/" build/dist-README.md > "$folder/README.md"

@@ -2,11 +2,12 @@
 then each start of a thread. Then it interrupts each read and write of a file in turn, and lets the program have but one
 file open at a time.
 
-python3 sweep/sweep.py IRA.o: links this object, and runs each command line with its first growth refused, then with
+python3 checks/sweep.py IRA.o: links this object, and runs each command line with its first growth refused, then with
 its second, and so on until no run meets a refusal. Each run must answer as with ample memory, or with status 3 and
 `ira: out of memory`, or with status 2 and `ira: run refused 3`, which says that a thread couldn't be started. Where
-it gives up it has printed nothing, or all (`decide` makes the certificate after its findings), and each file that it
-wrote is a first part of what it should be. An interrupted read or write is tried again, and a file that can't be opened
+it gives up it has printed nothing, or all (`decide` makes the certificate after its findings, `draw` the picture after its
+line), or where it prints lines block by block, as `show --events`, a first part of them; and each file that it wrote is a
+first part of what it should be. An interrupted read or write is tried again, and a file that can't be opened
 while others are is opened later, so these runs answer as with ample memory.
 
 The program is linked as the kit does, over the C library of the machine, whose calls a preloaded library can stand
@@ -41,7 +42,23 @@ LINES = [
     ["pairs", "1"],
     ["upgrade", "--out", "d", "0.log", "1.log"],
     ["mend", "--out", "d", "0.log", "1.log"],
+    ["explain"],
     ["explain", "1.log", "0.log"],
+    ["explain", "--json", "1.log", "0.log"],
+    ["explain", "--question", *ABSENT],
+    ["explain", "--question", "active_beside_passive.ask", "0.log", "1.log"],
+    ["explain", "--question", "two_leaders.ask", "--cert", "one_step_short.cert", "0.log", "1.log"],
+    ["show", "--leads", "1", "0.log", "1.log"],
+    ["show", "--question", "active_beside_passive.ask", "0.log", "1.log"],
+    ["show", "--events", "--at", "2,3", "0.log", "1.log"],
+    ["show", "--json", "0.log", "1.log"],
+    ["show", "--json", "--events", "--at", "2,3", "0.log", "1.log"],
+    ["draw", "--out", "d/p", "0.log", "1.log"],
+    ["draw", "--out", "d/p", "--question", "active_beside_passive.ask", "--from", "1", "--to", "4", "0.log", "1.log"],
+    ["logs", "--json", "1.log", "0.log"],
+    ["decide", "--json", "--question", *ABSENT],
+    [*CHECK, "--json", "0.log", "1.log"],
+    ["version"],
     RUN,
     [*RUN, "--alone"],
     [*RUN, "--initiators", "1", "--draws", "0"],
@@ -98,13 +115,17 @@ def starved(ira, words, ample, shim):
     return found != ample
 
 
-def has_given_up(found, ample):
-    """Whether a run told that it gave up, and printed and wrote nothing else than with ample memory."""
+def prints_in_blocks(words):
+    return words[:1] == ["show"] and ("--events" in words or "--json" in words)
+
+
+def has_given_up(words, found, ample):
+    """Whether a run said that it gave up, and printed and wrote nothing else than with ample memory."""
     (status, out, err), files = found
     (_, ample_out, _), ample_files = ample
     return (
         (status, err) in GAVE_UP
-        and out in (b"", ample_out)
+        and (out in (b"", ample_out) or prints_in_blocks(words) and ample_out.startswith(out))
         and files.keys() <= ample_files.keys()
         and all(ample_files[name].startswith(text) for name, text in files.items())
     )
@@ -121,7 +142,7 @@ def swept(ira, words, refused, shim):
             untouched += 1
             continue
         untouched = 0
-        if has_given_up(found, ample):
+        if has_given_up(words, found, ample):
             told += 1
         else:
             wrong += 1

@@ -2,7 +2,7 @@
 moment and what is ringed are computed from coordinates, and held against the matching and the states of the logs,
 which are computed here anew.
 
-    python3 check_svg.py PROGRAM      PROGRAM draws the examples, and elections that it records
+    python3 checks/pictures.py PROGRAM      PROGRAM draws the examples, and elections that it records
 """
 import os
 import re

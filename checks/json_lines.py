@@ -1,7 +1,7 @@
 """Reads what `ira ... --json` prints with a JSON parser, and holds it against the plain answers and pages, against the lines of
 the files, and against the matching and the states of the logs, which are computed here anew.
 
-    python3 check_json.py PROGRAM      PROGRAM judges and shows the examples, and elections that it records
+    python3 checks/json_lines.py PROGRAM      PROGRAM judges and shows the examples, and elections that it records
 """
 import json
 import os
@@ -9,7 +9,7 @@ import subprocess
 import sys
 import tempfile
 
-from check_svg import HERE, Ring, logs_in
+from pictures import HERE, Ring, logs_in
 
 
 class Reader:

@@ -1,19 +1,19 @@
 #!/bin/sh
-# Records elections with each recorder of this folder, and judges their logs: each is to be `yes`. A recorder whose
-# compiler isn't there is passed over.
+# Records elections with each recorder of examples/recorders, and judges their logs: each is to be `yes`. A recorder whose
+# compiler isn't there is skipped.
 #
-#     sh examples/recorders/try.sh bin/ira
+#     sh checks/recorders.sh bin/ira
 
 ira=$(realpath "$1") || exit 2
 [ -x "$ira" ] || { echo "recorders: no program at $1"; exit 2; }
-cd "$(dirname "$0")" || exit 2
+cd "$(dirname "$0")/../examples/recorders" || exit 2
 made=$(mktemp -d) || exit 2
 trap 'rm -rf "$made"' EXIT
 failed=0
 
 # Whether the command is there; says so where it isn't.
 is_there() {
-    command -v "$2" > /dev/null || { echo "$1: passed over, there is no $2"; false; }
+    command -v "$2" > /dev/null || { echo "skipped: the recorder in $1 (no $2)"; false; }
 }
 
 # Runs a ring of 2, 5 and 16 nodes: the words given, a number of nodes, a seed and a folder.

@@ -1,0 +1,76 @@
+#!/bin/sh
+# Holds the program from outside, by checks that no proof gives, and says in its last line which ran, what was skipped and why.
+#
+#     sh checks/all.sh bin/ira [CHECK...]
+#
+# Those that are named run, or all. What a check skips itself it names in a line `skipped: WHAT (WHY)`.
+
+ira=$(realpath "$1") || exit 2
+[ -x "$ira" ] || { echo "checks: no program at $1"; exit 2; }
+cd "$(dirname "$0")" || exit 2
+shift
+all='definitions names examples limits pages completions version pictures json recorders sweep'
+said=$(mktemp) || exit 2
+trap 'rm -f "$said"' EXIT
+
+for name in "$@"; do
+    case " $all " in
+    *" $name "*) ;;
+    *) echo "checks: there are $all, and no $name"; exit 2 ;;
+    esac
+done
+
+# What a check needs and isn't there.
+lacks() {
+    case $1 in
+    pictures | json | sweep) command -v python3 > /dev/null || { echo 'no python3'; return; } ;;
+    esac
+    case $1 in
+    sweep)
+        [ -f "$ira.o" ] || { echo 'no object file beside the program, as make ira leaves it'; return; }
+        command -v rt > /dev/null || echo 'no Rattle kit'
+        ;;
+    esac
+}
+
+check() {
+    case $1 in
+    definitions | names) sh "$1.sh" ;;
+    examples | limits | pages | completions | version | recorders) sh "$1.sh" "$ira" ;;
+    pictures) python3 -B pictures.py "$ira" ;;
+    json) python3 -B json_lines.py "$ira" ;;
+    sweep) python3 -B sweep.py "$ira.o" ;;
+    esac
+}
+
+# Adds a name to a list of names.
+listed() {
+    echo "${1:+$1, }$2"
+}
+
+ran='' left_out=''
+for name in ${*:-$all}; do
+    why=$(lacks "$name")
+    if [ -n "$why" ]; then
+        echo "skipped: $name ($why)" | tee -a "$said"
+    else
+        ran=$(listed "$ran" "$name")
+        { check "$name" || echo "failed: $name"; } 2>&1 | tee -a "$said"
+    fi
+done
+for name in $all; do
+    case " ${*:-$all} " in
+    *" $name "*) ;;
+    *) left_out=$(listed "$left_out" "$name") ;;
+    esac
+done
+
+# What was said after such a word, on one line.
+lines_of() {
+    sed -n "s/^$1: //p" "$said" | paste -s -d , - | sed 's/,\([^ ]\)/, \1/g'
+}
+
+skipped=$(lines_of skipped)
+failed=$(lines_of failed)
+echo "checks: ran ${ran:-none}${skipped:+; skipped $skipped}${left_out:+; not asked for $left_out}; failed ${failed:-none}"
+[ -z "$failed" ]

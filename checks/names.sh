@@ -1,0 +1,66 @@
+#!/bin/sh
+# What pages name is there: the file and the heading that a link leads to, and in back quotes files and the items of code, as
+# `NodeLog`, `read_log` or `RingAudit::take`. And each crate has a user, but for programs and tests.
+#
+#     sh checks/names.sh
+
+cd "$(dirname "$0")/.." || exit 2
+made=$(mktemp -d) || exit 2
+trap 'rm -rf "$made"' EXIT
+LC_ALL=C
+export LC_ALL
+pages="README.md CONTRIBUTING.md CHANGELOG.md docs/*.md examples/README.md crates/*/README.md"
+failed=0
+
+fail() {
+    echo "names: $1"
+    failed=$((failed + 1))
+}
+
+# The headings of a page, as links name them.
+anchors_of() {
+    sed -n 's/^##* //p' "$1" | tr '[:upper:]' '[:lower:]' | sed 's/[^a-z0-9 _-]//g; s/ /-/g'
+}
+
+for page in $pages; do
+    grep -o '](\([^) ]*\))' "$page" | sed 's/^](//; s/)$//' | grep -v '^https\{0,1\}:' | sort -u |
+        while IFS='#' read -r file anchor; do
+            to=${page%"${page##*/}"}$file
+            [ -n "$file" ] || to=$page
+            [ -e "$to" ] || { echo "$page: no $file"; continue; }
+            [ -z "$anchor" ] || anchors_of "$to" | grep -qx -e "$anchor" || echo "$page: no heading $anchor in $to"
+        done
+done > "$made/links"
+
+# All words of the code, and those that pages have in back quotes: with an underline, a capital inside, or after `::`.
+find crates.txt crates/*/src crates/*/specs crates/*/proofs checks build -type f -exec cat {} + |
+    grep -oE '[A-Za-z_][A-Za-z0-9_]*' | sort -u > "$made/words"
+for page in $pages; do
+    grep -oE '`[A-Za-z_][A-Za-z0-9_]*(::[A-Za-z_][A-Za-z0-9_]*)*`' "$page" | tr -d '`' |
+        grep -E '_|[a-z][A-Z]|::' | sed 's/::/\n/g' | sort -u | comm -23 - "$made/words" | sed "s|^|$page: nothing is called |"
+done > "$made/items"
+
+# Files in back quotes: a crate's by its name, `ira_event/src/log_reader.rt`, or in some crate, `src/reason.rt`, `specs/Report`;
+# X is any name.
+for page in $pages; do
+    grep -oE '`([a-z_]+/)?(src|specs|proofs)/[A-Za-z0-9_/]+(\.rt|\.antt)?`' "$page" | tr -d '`' | grep -v '/X' | sort -u |
+        while read -r it; do
+            set -- crates/$it crates/$it.antt crates/$it/ crates/*/$it crates/*/$it.antt
+            for file in "$@"; do
+                [ -e "$file" ] && continue 2
+            done
+            echo "$page: no file $it"
+        done
+done > "$made/files"
+
+sed -n 's/^\([a-z0-9_]*\):\(.*\)/\1 \2/p' crates.txt | awk '
+    { crate[NR] = $1; for (i = 2; i <= NF; i++) used[$i] = 1 }
+    END { for (n = 1; n <= NR; n++) if (!(crate[n] in used) && crate[n] !~ /^(ira|gate|.*_tests)$/) print crate[n] }' |
+    sed 's/$/: no crate rests on it/' > "$made/crates"
+
+for it in links items files crates; do
+    while read -r line; do
+        fail "$line"
+    done < "$made/$it"
+done
+[ "$failed" -eq 0 ] && echo 'names: what pages name is there'
