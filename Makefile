@@ -23,7 +23,7 @@ needs_kit = command -v rt > /dev/null && command -v rattle > /dev/null || \
 help:
 	@echo 'make try        builds the program with no proof, in minutes, leaves it at bin/ira-unproved, and judges examples with it'
 	@echo 'make ira        proves the program and the libraries that it rests on, and leaves it at bin/ira:'
-	@echo '                the first time 30 to 75 minutes of processor time, over all cores; then the crates that'
+	@echo '                the first time 1 to 2 hours of processor time, over all cores; then the crates that'
 	@echo '                have changed, and those that rest on them'
 	@echo 'make run        makes ira, judges the examples with it, types the commands of the pages, and compares what it prints'
 	@echo '                with what is expected'
@@ -31,7 +31,7 @@ help:
 	@echo '                $(PREFIX) if not given'
 	@echo 'make dist       makes ira, and packs it with its manual, completions, examples and pages, for machines without the kit'
 	@echo 'make test       the gate: all proofs from nothing, the edits that must be refused, all tests and'
-	@echo '                programs: `N passed, 0 failed`; and the checks but for the last two. CONTRIBUTING.md says what it costs'
+	@echo '                programs: `N passed, 0 failed`; and the checks but for the last two. CONTRIBUTING.md says what makes it costly'
 	@echo 'make checks     makes ira, and holds it against what no proof speaks of; CHECKS="A B" runs these alone:'
 	@echo '    definitions docs/DEFINITIONS.md, the comments above the definitions'
 	@echo '    names       what pages name: links, headings, items of code; crates without a user'
