@@ -5,7 +5,9 @@ use crate::pairs::pairs_text;
 use ira_audit::audit;
 use ira_event::OutOfMemory;
 use ira_fixtures::{
-    BOTH_LEAD, ELECTION, ELECTION_0, LEADER_AND_ACTIVE, LONE_INITIATOR, NODE_1_SPENT, SECOND_TERM,
+    ACTIVE_AND_PASSIVE, BOTH_LEAD, BOTH_LEAD_OF_THREE, CUT_1, ELECTION, ELECTION_0, FIVE_ASKED,
+    FIVE_STEPS, LEADER, LEADER_AND_ACTIVE, LEADER_AND_OTHER, LONE_INITIATOR, NODE_1_SPENT,
+    NODE_1_SPENT_OF_THREE, NOT_BEFORE, SECOND_TERM, THREE_ASKED, THREE_STEPS, TWO_SECTIONS,
     bytes_of, lone_initiator_texts,
 };
 use ira_links::OpenGate;
@@ -15,7 +17,7 @@ use std::thread::Threads;
 use std::time::Clock;
 
 /// Whether the answer at this depth has this line.
-fn is_answered<R>(
+pub(crate) fn is_answered<R>(
     rt: &R,
     texts: &[&[u8]],
     question: &[u8],
@@ -48,20 +50,31 @@ where
 
 #[test]
 fn sections_with_and_without_steps(rt: HostRuntime) {
-    let question =
-        b"irask 1\nnodes 2\ncase\n0: leader\n1: leader\ncase\n0: leader\n1: active\nend\n";
-    for (certificate, line) in [
-        (
-            b"ircert 1\nnodes 2\nsection\nspent 1\nsection\ndrop 1 1 by 0 4\ndrop 1 2 by 0 4\nspent 1\nend\n",
-            "yes\n",
-        ),
-        (
-            b"ircert 1\nnodes 2\nsection\nspent 0\nsection\ndrop 1 1 by 0 4\ndrop 1 2 by 0 4\nspent 1\nend\n",
-            "no: case 0: node 0 not spent\n",
-        ),
-    ] {
-        assert_answered(&rt, &ELECTION, question, certificate, line);
-    }
+    assert_answered(&rt, &ELECTION, LEADER_AND_OTHER, TWO_SECTIONS, "yes\n");
+    let other =
+        b"ircert 1\nnodes 2\nsection\nspent 0\nsection\ndrop 1 1 by 0 4\ndrop 1 2 by 0 4\nspent 1\nend\n";
+    let line = "no: case 0: node 0 not spent\n";
+    assert_answered(&rt, &ELECTION, LEADER_AND_OTHER, other, line);
+}
+
+/// The case is met: no section is sound for it.
+#[test]
+fn case_that_is_met(rt: HostRuntime) {
+    let line = "no: case 0: step 1: not before\n";
+    assert_answered(&rt, &ELECTION, ACTIVE_AND_PASSIVE, NOT_BEFORE, line);
+}
+
+#[test]
+fn three_asked_nodes(rt: HostRuntime) {
+    assert_answered(&rt, &LONE_INITIATOR, THREE_ASKED, THREE_STEPS, "yes\n");
+}
+
+#[test]
+fn five_asked_nodes(rt: HostRuntime) {
+    let texts = lone_initiator_texts(rt.alloc(), 5).expect(&rt, "memory");
+    let texts = bytes_of(rt.alloc(), &texts).expect(&rt, "memory");
+    let line = "no: case 1: node 0 not spent\n";
+    assert_answered(&rt, &texts, FIVE_ASKED, FIVE_STEPS, line);
 }
 
 #[test]
@@ -113,13 +126,13 @@ fn pairs_of_the_largest_ring(rt: HostRuntime) {
 fn other_ring_sizes_and_asked_nodes(rt: HostRuntime) {
     let rows: [(&[u8], &[u8], &str); 5] = [
         (
-            b"irask 1\nnodes 3\ncase\n0: leader\n1: leader\nend\n",
+            BOTH_LEAD_OF_THREE,
             NODE_1_SPENT,
             "no: question: other ring size\n",
         ),
         (
             BOTH_LEAD,
-            b"ircert 1\nnodes 3\nsection\nspent 1\nend\n",
+            NODE_1_SPENT_OF_THREE,
             "no: certificate: other ring size\n",
         ),
         (
@@ -133,7 +146,7 @@ fn other_ring_sizes_and_asked_nodes(rt: HostRuntime) {
             "no: case 0: step 0: same node\n",
         ),
         (
-            b"irask 1\nnodes 2\ncase\n0: leader\nend\n",
+            LEADER,
             b"ircert 1\nnodes 2\nsection\ndrop 0 4 by 1 4\nspent 1\nend\n",
             "no: case 0: step 0: not asked\n",
         ),
@@ -272,8 +285,7 @@ fn question_faults(rt: HostRuntime) {
 fn logs_are_judged_first(rt: HostRuntime) {
     let line = "no: heads: number\n";
     assert_answered(&rt, &[ELECTION_0], b"", b"", line);
-    let cut = b"irlog 1\nnodes 2\nplace 1\nstart passive\n";
-    assert_answered(&rt, &[ELECTION_0, cut], b"", b"", "no: log 1: cut\n");
+    assert_answered(&rt, &[ELECTION_0, CUT_1], b"", b"", "no: log 1: cut\n");
     assert_answered(&rt, &ELECTION, b"", b"", "no: question: head\n");
 }
 

@@ -1,10 +1,13 @@
+use crate::certified_tests::is_answered;
 use crate::lines::has_lines;
 use crate::pairs::pairs_text;
 use ira_audit::{Findings, decide_all};
 use ira_cert_text::{Certificate, write_cert};
 use ira_event::MemorySink;
 use ira_fixtures::{
-    ELECTION, ELECTION_0, LEADER_AND_ACTIVE, SECOND_TERM, bytes_of, lone_initiator_texts,
+    ACTIVE_AND_PASSIVE, BOTH_LEAD_OF_THREE, CUT_1, ELECTION, ELECTION_0, FIVE_ASKED,
+    LEADER_AND_ACTIVE, LONE_INITIATOR, SECOND_TERM, THREE_ASKED, THREE_STEPS, bytes_of,
+    lone_initiator_texts,
 };
 use std::alloc::Global;
 use std::process::Abort;
@@ -74,6 +77,27 @@ fn absences_with_and_without_steps(rt: HostRuntime) {
 }
 
 #[test]
+fn case_that_is_met(rt: HostRuntime) {
+    let lines = "case 0: present at 2 3\n";
+    assert_uncertified(&rt, &ELECTION, ACTIVE_AND_PASSIVE, lines);
+}
+
+#[test]
+fn three_asked_nodes(rt: HostRuntime) {
+    let lines = "case 0: absent, 3 steps, node 2 spent\n";
+    let findings = found(&rt, &LONE_INITIATOR, THREE_ASKED, lines);
+    assert!(rt; certificate_text(&rt, findings).bytes() == THREE_STEPS);
+}
+
+#[test]
+fn five_asked_nodes(rt: HostRuntime) {
+    let texts = lone_initiator_texts(rt.alloc(), 5).expect(&rt, "memory");
+    let texts = bytes_of(rt.alloc(), &texts).expect(&rt, "memory");
+    let lines = "case 0: absent, 5 steps, node 4 spent\ncase 1: present at 2 2 1 0 0\n";
+    assert_uncertified(&rt, &texts, FIVE_ASKED, lines);
+}
+
+#[test]
 fn pairs_of_the_largest_ring(rt: HostRuntime) {
     let texts = lone_initiator_texts(rt.alloc(), 255).expect(&rt, "memory");
     let texts = bytes_of(rt.alloc(), &texts).expect(&rt, "memory");
@@ -83,6 +107,8 @@ fn pairs_of_the_largest_ring(rt: HostRuntime) {
     let first = made.sections.first().map(|section| section.spent);
     assert!(rt; made.sections.len() == 32_385 && first == Some(1));
     assert!(rt; made.sections.iter().all(|section| section.steps.is_empty()));
+    let text = text_of(&rt, &made);
+    assert!(rt; is_answered(&rt, &texts, question.bytes(), text.bytes(), 2, b"yes\n"));
 }
 
 #[test]
@@ -103,14 +129,13 @@ fn second_term(rt: HostRuntime) {
 
 #[test]
 fn refusals(rt: HostRuntime) {
-    let cut = b"irlog 1\nnodes 2\nplace 1\nstart passive\n";
     assert_uncertified(
         &rt,
-        &[ELECTION_0, cut],
+        &[ELECTION_0, CUT_1],
         LEADER_AND_ACTIVE,
         "no: log 1: cut\n",
     );
     assert_uncertified(&rt, &ELECTION, b"irask 2\n", "no: question: head\n");
-    let other = b"irask 1\nnodes 3\ncase\n0: leader\n1: leader\nend\n";
-    assert_uncertified(&rt, &ELECTION, other, "no: question: other ring size\n");
+    let line = "no: question: other ring size\n";
+    assert_uncertified(&rt, &ELECTION, BOTH_LEAD_OF_THREE, line);
 }

@@ -10,8 +10,9 @@ use ira_cert::{SectionFault, Unsound};
 use ira_cert_text::{CertFault, Certificate, write_cert};
 use ira_event::{HeadFault, MemorySink, OutOfMemory};
 use ira_fixtures::{
-    BOTH_LEAD, CIRCLE, ELECTION, ELECTION_0, ELECTION_1, EMPTY_1, LEADER_AND_ACTIVE, NODE_1_SPENT,
-    ONE_STEP, RECEIPTS_EXCHANGED, STEPS_SWAPPED, TWO_CASES, TWO_STEPS,
+    BOTH_LEAD, BOTH_LEAD_OF_THREE, CIRCLE, ELECTION, ELECTION_0, ELECTION_1, EMPTY_1,
+    LEADER_AND_ACTIVE, NODE_1_SPENT, NODE_1_SPENT_OF_THREE, ONE_STEP, PLACE_2, RECEIPTS_EXCHANGED,
+    STEPS_SWAPPED, TWO_CASES, TWO_STEPS,
 };
 use ira_links::OpenGate;
 use ira_order::MatchFault;
@@ -41,14 +42,6 @@ const NOT_OWED_0: &[u8] = b"irlog 1\nnodes 2\nplace 0\nstart initiator\n\
 
 /// A certificate without its last line.
 const CUT: &[u8] = b"ircert 1\nnodes 2\nsection\ndrop 1 1 by 0 4\nspent 1\n";
-
-/// Certificates and questions of a ring of three.
-const OF_THREE: &[u8] = b"ircert 1\nnodes 3\nsection\nspent 1\nend\n";
-
-const ASKED_OF_THREE: &[u8] = b"irask 1\nnodes 3\ncase\n0: leader\n1: leader\nend\n";
-
-/// A question that asks a place which the ring hasn't.
-const PLACE_2: &[u8] = b"irask 1\nnodes 2\ncase\n0: (leader and owes)\n2: true\nend\n";
 
 /// One case twice: what it asks of a node is found once.
 const CASE_TWICE: &[u8] = b"irask 1\nnodes 2\n\
@@ -283,12 +276,16 @@ fn rows() -> [Row; 15] {
         judged(NOT_OWED, b"no: node 0: event 2: not owed\n"),
         checked(PLACE_2, TWO_STEPS, b"no: question: place 5\n"),
         checked(
-            ASKED_OF_THREE,
+            BOTH_LEAD_OF_THREE,
             TWO_STEPS,
             b"no: question: other ring size\n",
         ),
         checked(BOTH_LEAD, CUT, b"no: certificate: cut\n"),
-        checked(BOTH_LEAD, OF_THREE, b"no: certificate: other ring size\n"),
+        checked(
+            BOTH_LEAD,
+            NODE_1_SPENT_OF_THREE,
+            b"no: certificate: other ring size\n",
+        ),
         checked(TWO_CASES, TWO_STEPS, b"no: sections: 2 wanted, 1 found\n"),
         checked(
             LEADER_AND_ACTIVE,

@@ -1,4 +1,4 @@
-//! Tests of the audits.
+//! Tests of the audits, and of logs that are mended.
 #![tactic(auto)]
 
 #[cfg(test)]
@@ -13,6 +13,8 @@ mod growth_tests;
 mod lines;
 #[cfg(test)]
 mod logs_tests;
+#[cfg(test)]
+mod mend_tests;
 #[cfg(test)]
 mod pairs;
 #[cfg(test)]

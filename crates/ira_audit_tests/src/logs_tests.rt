@@ -2,7 +2,7 @@
 
 use crate::lines::has_line;
 use ira_audit::{Answer, Reason, audit_logs, audit_one};
-use ira_fixtures::{ELECTION_0, EMPTY_0, bytes_of, lone_initiator_texts};
+use ira_fixtures::{CUT_1, ELECTION_0, EMPTY_0, HEAD_0, bytes_of, lone_initiator_texts};
 use ira_node::StepFault;
 use std::process::Abort;
 
@@ -29,9 +29,8 @@ fn no_logs(rt: HostRuntime) {
 
 #[test]
 fn text_without_end(rt: HostRuntime) {
-    let cut = b"irlog 1\nnodes 2\nplace 1\nstart passive\n";
-    assert_reported(&rt, &[ELECTION_0, cut], "no: log 1: cut\n");
-    assert_reported(&rt, &[b"", cut], "no: log 0: head\n");
+    assert_reported(&rt, &[ELECTION_0, CUT_1], "no: log 1: cut\n");
+    assert_reported(&rt, &[b"", CUT_1], "no: log 0: head\n");
 }
 
 #[test]
@@ -80,9 +79,7 @@ fn events_without_a_step(rt: HostRuntime) {
 
 #[test]
 fn more_records_than_a_log_may_have(rt: HostRuntime) {
-    let mut text = b"irlog 1\nnodes 2\nplace 0\nstart initiator\n"
-        .to_vec(rt.alloc())
-        .expect(&rt, "memory");
+    let mut text = HEAD_0.to_vec(rt.alloc()).expect(&rt, "memory");
     let records = b"draw 1\n"
         .repeat(rt.alloc(), 100_001)
         .expect(&rt, "memory");

@@ -4,7 +4,7 @@ ghost use Rattle.std.specs.Iterator.{YieldsFirst, item_count};
 
 use crate::samples::{free, log_of, owing};
 use ira_cand::{Ahead, Holding, LocalTest, Profile, candidates, table};
-use ira_event::{Event, Listed, NodeLog, OutOfMemory, read_log};
+use ira_event::{Event, Listed, NodeLog, OutOfMemory, RingSize, read_log};
 use ira_fixtures::{ELECTION_0, ELECTION_1, SECOND_TERM, clean, loser};
 use ira_node::{NodeState, Phase};
 use ira_pred::{Clause, Rel};
@@ -12,7 +12,7 @@ use std::alloc::Global;
 use std::process::Abort;
 
 /// How one goes on along the positions that are left.
-#[derive(Clone, Copy, Debug)]
+#[derive(Clone, Copy)]
 enum Going {
     Advance,
     SkipBelow(u32),
@@ -36,38 +36,62 @@ fn assert_queues<I: Iterator<Item = u32> + Listed>(
     first: u32,
     rows: &[(Going, Option<u32>)],
 ) {
-    assert_eq!(rt; ahead.front(), Some(first));
-    for (going, front) in rows {
-        assert_eq!(rt; going.on(ahead), *front, "after {going:?}");
+    let at_first = ahead.front();
+    assert!(rt; at_first == Some(first), "{at_first:?}");
+    for (number, (going, front)) in rows.iter().enumerate() {
+        let found = going.on(ahead);
+        assert!(rt; found == *front, "{found:?} in row {number}");
     }
 }
 
 #[test]
 fn candidates_of_active(rt: HostRuntime) {
     let log = log_of(&rt, 2, 1, true, &loser());
-    let clause = Clause::Active;
+    let clause: Clause<Global> = Clause::Active;
     let rows = [
         (Going::SkipBelow(2), Some(2)),
         (Going::Advance, None),
         (Going::Advance, None),
     ];
     assert_queues(&rt, &mut candidates(&log, &clause), 1, &rows);
-    let positions = table(rt.alloc(), &log, &clause).expect(&rt, "memory");
-    assert!(rt; positions.as_slice() == [1, 2].as_slice());
 }
 
-/// Compares at which positions of the text's log the clause holds, by the log and by its profile.
+/// Whether the clause holds at these positions of the log, by the log itself.
+fn is_table(alloc: Global, log: &NodeLog<Global>, clause: &Clause<Global>, wanted: &[u32]) -> bool {
+    match table(alloc, log, clause) {
+        Ok(positions) => positions.as_slice() == wanted,
+        Err(_) => false,
+    }
+}
+
+/// The same by its profile.
+fn is_told(alloc: Global, log: &NodeLog<Global>, clause: &Clause<Global>, wanted: &[u32]) -> bool {
+    match told_in_short(alloc, log, clause) {
+        Ok(positions) => positions.as_slice() == wanted,
+        Err(_) => false,
+    }
+}
+
+/// Whether the clause holds at these positions of the text's log, by the log and by its profile.
+fn holds_at(alloc: Global, text: &[u8], clause: Clause<Global>, wanted: &[u32]) -> (bool, bool) {
+    match read_log(alloc, text) {
+        Ok(log) => (
+            is_table(alloc, &log, &clause, wanted),
+            is_told(alloc, &log, &clause, wanted),
+        ),
+        Err(_) => (false, false),
+    }
+}
+
+/// Compares at which positions of the text's log the clause holds.
 fn assert_table(
     rt: &(impl Abort + AllocGlobal),
     text: &[u8],
     clause: Clause<Global>,
     positions: &[u32],
 ) {
-    let log = read_log(rt.alloc(), text).expect(rt, "a log");
-    let own = table(rt.alloc(), &log, &clause).expect(rt, "memory");
-    let told = told_in_short(rt.alloc(), &log, &clause).expect(rt, "memory");
-    let are_wanted = own.as_slice() == positions && told.as_slice() == positions;
-    assert!(rt; are_wanted, "{clause:?}");
+    let found = holds_at(rt.alloc(), text, clause, positions);
+    assert!(rt; found == (true, true), "{found:?} for {positions:?}");
 }
 
 #[test]
@@ -93,10 +117,19 @@ fn second_term(rt: HostRuntime) {
 }
 
 /// The log of a passive node that passes 2,000 messages on: it owes one after each receipt.
-fn long_log(rt: &(impl Abort + AllocGlobal)) -> NodeLog<Global> {
+fn long_log(alloc: Global) -> Option<NodeLog<Global>> {
     let passed_on = [Event::Got(clean(1, 1, 1)), Event::Sent(clean(1, 1, 2))];
-    let events = passed_on.repeat(rt.alloc(), 2_000).expect(rt, "memory");
-    log_of(rt, 2, 1, false, &events)
+    let events = passed_on.repeat(alloc, 2_000).ok()?;
+    NodeLog::new(1, RingSize::new(2)?, 1, false, events)
+}
+
+/// The odd numbers below 4,000.
+fn odd_positions(alloc: Global) -> Option<Vec<u32>> {
+    let mut positions = Vec::new(alloc);
+    for number in 0..2_000 {
+        positions.push(2 * number + 1).ok()?;
+    }
+    Some(positions)
 }
 
 /// The positions at which the clause holds, by the log's profile.
@@ -109,28 +142,20 @@ fn told_in_short(
     profile.table(alloc, clause)
 }
 
-/// How many positions are listed, where all are odd.
-fn count_odd(
-    rt: &(impl Abort + AllocGlobal),
-    positions: Result<Vec<u32>, OutOfMemory>,
-) -> Option<usize> {
-    let positions = positions.expect(rt, "memory");
-    for position in &positions {
-        if *position % 2 == 0 {
-            return None;
-        }
-    }
-    Some(positions.len())
+/// Whether the long log owes at the odd positions, by the log and by its profile.
+fn owes_at_odd(alloc: Global) -> Option<(bool, bool)> {
+    let log = long_log(alloc)?;
+    let odd = odd_positions(alloc)?;
+    let owes = Clause::Owes;
+    Some((
+        is_table(alloc, &log, &owes, &odd),
+        is_told(alloc, &log, &owes, &odd),
+    ))
 }
 
 #[test]
 fn candidates_of_a_long_log(rt: HostRuntime) {
-    let log = long_log(&rt);
-    let counts = (
-        count_odd(&rt, table(rt.alloc(), &log, &Clause::Owes)),
-        count_odd(&rt, told_in_short(rt.alloc(), &log, &Clause::Owes)),
-    );
-    assert!(rt; counts == (Some(2_000), Some(2_000)));
+    assert!(rt; owes_at_odd(rt.alloc()) == Some((true, true)));
 }
 
 /// A test written by hand.

@@ -1,31 +1,34 @@
 use crate::samples::text_of;
 use ira_cert_text::{CertFault, CertStep, Certificate, Section, read_cert, write_cert};
 use ira_event::{MemorySink, RingSize};
-use ira_fixtures::{TWO_STEPS, step};
+use ira_fixtures::{TWO_STEPS, two_steps};
 use std::alloc::Global;
 use std::process::Abort;
 
 /// A certificate of a ring of two with a section of these steps, which spends node 1.
-fn one_section(rt: &(impl Abort + AllocGlobal), steps: &[CertStep]) -> Certificate<Global> {
-    let steps = Vec::from_slice(rt.alloc(), steps).expect(rt, "memory");
-    let mut sections = Vec::new(rt.alloc());
-    sections
-        .push(Section { steps, spent: 1 })
-        .expect(rt, "memory");
-    Certificate {
-        nodes: RingSize::new(2).expect(rt, "a ring of two"),
-        sections,
-    }
+fn one_section(alloc: Global, steps: &[CertStep]) -> Option<Certificate<Global>> {
+    let nodes = RingSize::new(2)?;
+    let steps = Vec::from_slice(alloc, steps).ok()?;
+    let mut sections = Vec::new(alloc);
+    sections.push(Section { steps, spent: 1 }).ok()?;
+    Some(Certificate { nodes, sections })
 }
 
-/// Whether the certificate can be read, and is written as this text.
-fn is_written_as(alloc: Global, certificate: &Certificate<Global>, text: &[u8]) -> bool {
+/// Whether the certificate of one section of these steps can be read, and is written as this text.
+fn is_written_as(alloc: Global, steps: &[CertStep], text: &[u8]) -> bool {
+    let Some(certificate) = one_section(alloc, steps) else {
+        return false;
+    };
     let mut sink = MemorySink::new(alloc);
-    certificate.readable() && write_cert(certificate, &mut sink) == Ok(()) && sink.bytes() == text
+    certificate.readable() && write_cert(&certificate, &mut sink) == Ok(()) && sink.bytes() == text
 }
 
-/// Whether the certificate is one of a ring of two with one section, which has these steps and spends node 1.
-fn is_one_section(certificate: &Certificate<Global>, steps: &[CertStep]) -> bool {
+/// Whether the text is read as the certificate of a ring of two with one section, which has these steps and spends node
+/// 1.
+fn is_read_as(alloc: Global, text: &[u8], steps: &[CertStep]) -> bool {
+    let Ok(certificate) = read_cert(alloc, text) else {
+        return false;
+    };
     match certificate.sections.as_slice() {
         [section] => {
             certificate.nodes.get() == 2 && section.steps.as_slice() == steps && section.spent == 1
@@ -37,11 +40,8 @@ fn is_one_section(certificate: &Certificate<Global>, steps: &[CertStep]) -> bool
 #[test]
 fn two_step_section(rt: HostRuntime) {
     assert_eq!(rt; TWO_STEPS.len(), 69);
-    let steps = [step(1, 1, 0, 4), step(1, 2, 0, 4)];
-    let certificate = one_section(&rt, &steps);
-    let is_written = is_written_as(rt.alloc(), &certificate, TWO_STEPS);
-    let read = read_cert(rt.alloc(), TWO_STEPS).expect(&rt, "a certificate");
-    assert!(rt; is_written && is_one_section(&read, &steps));
+    let is_written = is_written_as(rt.alloc(), &two_steps(), TWO_STEPS);
+    assert!(rt; is_written && is_read_as(rt.alloc(), TWO_STEPS, &two_steps()));
 }
 
 /// What reading the text answers: the number of its sections, or its fault.
@@ -51,11 +51,8 @@ fn answer(alloc: Global, text: &[u8]) -> Result<usize, CertFault> {
 
 fn assert_answer(rt: &(impl Abort + AllocGlobal), text: &[u8], wanted: Result<usize, CertFault>) {
     let text_len = text.len();
-    assert_eq!(rt;
-        answer(rt.alloc(), text),
-        wanted,
-        "a text of {text_len} bytes"
-    );
+    let found = answer(rt.alloc(), text);
+    assert!(rt; found == wanted, "{found:?} for a text of {text_len} bytes");
 }
 
 /// Compares what reading a certificate of a ring of two with these lines answers.
@@ -102,6 +99,9 @@ fn certificate_table(rt: HostRuntime) {
     for (lines, wanted) in rows {
         assert_lines(&rt, lines, wanted);
     }
+    assert_answer(&rt, b"ircert 1\nnodes 255\nend\n", Ok(0));
+    let larger = b"ircert 1\nnodes 256\nend\n";
+    assert_answer(&rt, larger, Err(CertFault::Head));
 }
 
 #[test]

@@ -9,28 +9,26 @@ use ira_pred::{Clause, Rel};
 use std::alloc::Global;
 use std::process::Abort;
 
-/// Compares of which of the states the clause holds.
-fn assert_holds(rt: &impl Abort, clause: Clause<Global>, rows: &[(NodeState, bool)]) {
-    for (state, want) in rows {
-        let holds = clause.holds(state);
-        assert!(rt; holds == *want, "{clause:?} in {state:?}");
+/// In which of the states the clause holds.
+fn holds_in<const N: usize>(clause: Clause<Global>, states: [NodeState; N]) -> [bool; N] {
+    let mut holds = [false; N];
+    for i in 0..N {
+        holds[i] = clause.holds(&states[i]);
     }
+    holds
 }
 
 /// Compares in which phases the clause holds: of a node that chooses, is active, passive or the leader, or yields.
-fn assert_phases(
-    rt: &impl Abort,
-    clause: Clause<Global>,
-    [choosing, active, passive, leader, yielding]: [bool; 5],
-) {
-    let rows = [
-        (free(CHOOSING), choosing),
-        (free(ACTIVE), active),
-        (free(Phase::Passive), passive),
-        (free(LEADER), leader),
-        (free(Phase::Yielding), yielding),
+fn assert_phases(rt: &impl Abort, clause: Clause<Global>, wanted: [bool; 5]) {
+    let states = [
+        free(CHOOSING),
+        free(ACTIVE),
+        free(Phase::Passive),
+        free(LEADER),
+        free(Phase::Yielding),
     ];
-    assert_holds(rt, clause, &rows);
+    let found = holds_in(clause, states);
+    assert!(rt; found == wanted, "{found:?}");
 }
 
 #[test]
@@ -64,46 +62,58 @@ fn clauses_of_one_fact(rt: HostRuntime) {
 
 #[test]
 fn clauses_of_later_terms(rt: HostRuntime) {
-    let yielded = in_term(3, owing(Phase::Yielding, Load::Reset(1)));
-    let leader = in_term(3, free(LEADER));
-    let both = [(yielded, true), (leader, true)];
-    assert_holds(&rt, Clause::Term(Rel::Equal, 3), &both);
-    assert_holds(&rt, Clause::Term(Rel::Greater, 2), &both);
-    assert_holds(&rt, Clause::Owes, &[(yielded, true), (leader, false)]);
-    assert_holds(
-        &rt,
-        Clause::Round(Rel::Equal, 2),
-        &[(yielded, false), (leader, true)],
-    );
+    let states = [
+        in_term(3, owing(Phase::Yielding, Load::Reset(1))),
+        in_term(3, free(LEADER)),
+    ];
+    let found = [
+        holds_in(Clause::Term(Rel::Equal, 3), states),
+        holds_in(Clause::Term(Rel::Greater, 2), states),
+        holds_in(Clause::Owes, states),
+        holds_in(Clause::Round(Rel::Equal, 2), states),
+    ];
+    let wanted = [[true, true], [true, true], [true, false], [false, true]];
+    assert!(rt; found == wanted, "{found:?}");
 }
 
-fn boxed(rt: &(impl Abort + AllocGlobal), clause: Clause<Global>) -> Box<Clause<Global>> {
-    Box::new(rt.alloc(), clause).expect(rt, "memory")
+/// In which of the states a node doesn't have ID 1.
+fn has_other_id(alloc: Global, states: [NodeState; 4]) -> Option<[bool; 4]> {
+    let id_1 = Box::new(alloc, Clause::Id(Rel::Equal, 1)).ok()?;
+    Some(holds_in(Clause::Negated(id_1), states))
+}
+
+/// In which of the states a node owes and is active.
+fn owes_and_is_active(alloc: Global, states: [NodeState; 4]) -> Option<[bool; 4]> {
+    let owes = Box::new(alloc, Clause::Owes).ok()?;
+    let active = Box::new(alloc, Clause::Active).ok()?;
+    Some(holds_in(Clause::Both(owes, active), states))
+}
+
+/// In which of the states a node owes or is active.
+fn owes_or_is_active(alloc: Global, states: [NodeState; 4]) -> Option<[bool; 4]> {
+    let owes = Box::new(alloc, Clause::Owes).ok()?;
+    let active = Box::new(alloc, Clause::Active).ok()?;
+    Some(holds_in(Clause::Either(owes, active), states))
 }
 
 #[test]
 fn clauses_of_parts(rt: HostRuntime) {
-    let passive = free(Phase::Passive);
-    let active = free(ACTIVE);
-    let passive_debtor = owing(Phase::Passive, clean(2, 3, 1));
-    let active_debtor = owing(ACTIVE, clean(2, 3, 1));
-    // A passive node has no ID, so that it isn't 1.
-    let other = Clause::Negated(boxed(&rt, Clause::Id(Rel::Equal, 1)));
-    assert_holds(&rt, other, &[(passive, true)]);
-    let both = Clause::Both(boxed(&rt, Clause::Owes), boxed(&rt, Clause::Active));
-    assert_holds(
-        &rt,
-        both,
-        &[
-            (active_debtor, true),
-            (active, false),
-            (passive_debtor, false),
-        ],
-    );
-    let either = Clause::Either(boxed(&rt, Clause::Owes), boxed(&rt, Clause::Active));
-    assert_holds(
-        &rt,
-        either,
-        &[(active, true), (passive_debtor, true), (passive, false)],
-    );
+    let states = [
+        free(Phase::Passive),
+        free(ACTIVE),
+        owing(Phase::Passive, clean(2, 3, 1)),
+        owing(ACTIVE, clean(2, 3, 1)),
+    ];
+    let found = [
+        has_other_id(rt.alloc(), states),
+        owes_and_is_active(rt.alloc(), states),
+        owes_or_is_active(rt.alloc(), states),
+    ];
+    // a passive node has no ID, so that it isn't 1
+    let wanted = [
+        Some([true, true, true, true]),
+        Some([false, false, false, true]),
+        Some([false, true, true, true]),
+    ];
+    assert!(rt; found == wanted, "{found:?}");
 }

@@ -6,7 +6,7 @@ use ira_cand::table;
 use ira_event::{
     LogFault, Logs, MemorySink, RingSize, Sink, SinkFault, read_log, upgrade, write_log,
 };
-use ira_fixtures::{CIRCLE, ELECTION, ELECTION_0, RECEIPTS_EXCHANGED, logs_of};
+use ira_fixtures::{CIRCLE, ELECTION, ELECTION_0, PLACE_2, RECEIPTS_EXCHANGED, logs_of};
 use ira_links::link;
 use ira_order::{MatchFault, OrderFault, find_order, order};
 use ira_pred::{AskFault, Clause, pairs_question, read_question};
@@ -38,59 +38,6 @@ const MANY_YIELDS: &[u8] = b"irlog 2\nnodes 2\nplace 0\nstart initiator\n\
 const NESTED: &[u8] =
     b"irask 1\nnodes 2\ncase\n0: (leader and (not (yielding or term < 2)))\nend\n";
 
-/// The election's log without its last line, with another count, with a byte after, and with both.
-const ENDINGS: [(&[u8], LogFault); 4] = [
-    (
-        b"irlog 1\nnodes 2\nplace 0\nstart initiator\n\
-        draw 2\nsend 1 2 1 clean\nrecv 1 1 1 clean\nrecv 1 2 2 clean\n",
-        LogFault::Cut,
-    ),
-    (
-        b"irlog 1\nnodes 2\nplace 0\nstart initiator\n\
-        draw 2\nsend 1 2 1 clean\nrecv 1 1 1 clean\nrecv 1 2 2 clean\nend 3\n",
-        LogFault::Count,
-    ),
-    (
-        b"irlog 1\nnodes 2\nplace 0\nstart initiator\n\
-        draw 2\nsend 1 2 1 clean\nrecv 1 1 1 clean\nrecv 1 2 2 clean\nend 4\nx",
-        LogFault::Trailing,
-    ),
-    (
-        b"irlog 1\nnodes 2\nplace 0\nstart initiator\n\
-        draw 2\nsend 1 2 1 clean\nrecv 1 1 1 clean\nrecv 1 2 2 clean\nend 3\nx",
-        LogFault::Count,
-    ),
-];
-
-/// Questions of a case that is read, with a fault after it.
-const ASK_FAULTS: [(&[u8], AskFault); 6] = [
-    (
-        b"irask 1\nnodes 2\ncase\n0: (leader and owes)\n1: leader and owes\nend\n",
-        AskFault::Line(5),
-    ),
-    (
-        b"irask 1\nnodes 2\ncase\n0: (leader and owes)\n2: true\nend\n",
-        AskFault::Place(5),
-    ),
-    (
-        b"irask 1\nnodes 2\ncase\n0: (leader and owes)\n\
-        1: (((((((((((((((((((((((((((((((((\nend\n",
-        AskFault::Depth(5),
-    ),
-    (
-        b"irask 1\nnodes 2\ncase\n0: (leader and owes)\ncase\nend\n",
-        AskFault::Empty(6),
-    ),
-    (
-        b"irask 1\nnodes 2\ncase\n0: (leader and owes)\n",
-        AskFault::Cut,
-    ),
-    (
-        b"irask 1\nnodes 2\ncase\n0: (leader and owes)\nend\nend\n",
-        AskFault::Trailing,
-    ),
-];
-
 /// A line nested too deep, whose first clause asks for memory.
 const TOO_DEEP: &[u8] = b"irask 1\nnodes 2\ncase\n\
     0: ((not true) and (((((((((((((((((((((((((((((((((\n";
@@ -98,61 +45,80 @@ const TOO_DEEP: &[u8] = b"irask 1\nnodes 2\ncase\n\
 /// A line that doesn't end, with a clause that asks for memory.
 const UNENDED: &[u8] = b"irask 1\nnodes 2\ncase\n0: (not true)";
 
-/// The calls whose growths are refused.
+/// The calls whose growths are refused; those that read, with the fault that they answer or none.
 enum Call {
+    ReadLog(&'static [u8], Option<LogFault>),
+    ReadQuestion(&'static [u8], Option<AskFault>),
     WriteLog,
     Upgrade,
     MakePairs,
     FindOrder,
     Order,
+    OrderCircle,
     Link,
     Table,
 }
 
 const CALLS: &[Call] = &[
+    Call::ReadLog(ELECTION_0, None),
+    Call::ReadLog(MANY_DRAWS, None),
+    Call::ReadLog(LATE_FAULT, Some(LogFault::Line(24))),
+    Call::ReadLog(MANY_YIELDS, None),
+    // the election's log without its last line, with another count, with a byte after, and with both
+    Call::ReadLog(
+        b"irlog 1\nnodes 2\nplace 0\nstart initiator\n\
+        draw 2\nsend 1 2 1 clean\nrecv 1 1 1 clean\nrecv 1 2 2 clean\n",
+        Some(LogFault::Cut),
+    ),
+    Call::ReadLog(
+        b"irlog 1\nnodes 2\nplace 0\nstart initiator\n\
+        draw 2\nsend 1 2 1 clean\nrecv 1 1 1 clean\nrecv 1 2 2 clean\nend 3\n",
+        Some(LogFault::Count),
+    ),
+    Call::ReadLog(
+        b"irlog 1\nnodes 2\nplace 0\nstart initiator\n\
+        draw 2\nsend 1 2 1 clean\nrecv 1 1 1 clean\nrecv 1 2 2 clean\nend 4\nx",
+        Some(LogFault::Trailing),
+    ),
+    Call::ReadLog(
+        b"irlog 1\nnodes 2\nplace 0\nstart initiator\n\
+        draw 2\nsend 1 2 1 clean\nrecv 1 1 1 clean\nrecv 1 2 2 clean\nend 3\nx",
+        Some(LogFault::Count),
+    ),
+    Call::ReadQuestion(NESTED, None),
+    Call::ReadQuestion(PAIRS_OF_THREE, None),
+    // a case that is read, with a fault after it
+    Call::ReadQuestion(
+        b"irask 1\nnodes 2\ncase\n0: (leader and owes)\n1: leader and owes\nend\n",
+        Some(AskFault::Line(5)),
+    ),
+    Call::ReadQuestion(PLACE_2, Some(AskFault::Place(5))),
+    Call::ReadQuestion(
+        b"irask 1\nnodes 2\ncase\n0: (leader and owes)\n\
+        1: (((((((((((((((((((((((((((((((((\nend\n",
+        Some(AskFault::Depth(5)),
+    ),
+    Call::ReadQuestion(
+        b"irask 1\nnodes 2\ncase\n0: (leader and owes)\ncase\nend\n",
+        Some(AskFault::Empty(6)),
+    ),
+    Call::ReadQuestion(
+        b"irask 1\nnodes 2\ncase\n0: (leader and owes)\n",
+        Some(AskFault::Cut),
+    ),
+    Call::ReadQuestion(
+        b"irask 1\nnodes 2\ncase\n0: (leader and owes)\nend\nend\n",
+        Some(AskFault::Trailing),
+    ),
     Call::WriteLog,
     Call::Upgrade,
     Call::MakePairs,
     Call::FindOrder,
     Call::Order,
+    Call::OrderCircle,
     Call::Link,
     Call::Table,
 ];
-
-/// Whether the call answers with this memory, on the election's logs or on that of its last node. Of these calls no
-/// answer but want of memory is an error.
-fn answers(call: &Call, alloc: Memory, logs: &Logs<Memory>) -> bool {
-    let log = logs.log(logs.size().get() - 1);
-    match call {
-        Call::WriteLog => write_log(log, &mut MemorySink::new(alloc)).is_ok(),
-        Call::Upgrade => has_answered(upgrade(alloc, log)),
-        Call::MakePairs => has_answered(pairs_question(alloc, RingSize::new(3).unwrap())),
-        Call::FindOrder => find_order(alloc, logs).is_ok(),
-        Call::Order => order(alloc, logs).is_ok(),
-        Call::Link => has_answered(link(alloc, 2)),
-        Call::Table => has_answered(table(alloc, log, &Clause::Active)),
-    }
-}
-
-#[test]
-fn each_growth_is_refused(rt: HostRuntime) {
-    let memory = Refusing::new(rt.alloc()).expect(&rt, "memory");
-    let logs = logs_of(memory, &ELECTION).expect(&rt, "two logs");
-    let refused = each_growth_refused(rt.alloc(), CALLS, |call, alloc| answers(call, alloc, &logs));
-    assert!(rt; refused.is_ok(), "{refused:?}");
-}
-
-/// A text, and the fault that reading it answers, or none.
-type Read<F> = (&'static [u8], Option<F>);
-
-const LOGS: [Read<LogFault>; 4] = [
-    (ELECTION_0, None),
-    (MANY_DRAWS, None),
-    (LATE_FAULT, Some(LogFault::Line(24))),
-    (MANY_YIELDS, None),
-];
-
-const QUESTIONS: [Read<AskFault>; 2] = [(NESTED, None), (PAIRS_OF_THREE, None)];
 
 /// Whether reading a log answers so with this memory.
 fn reads_log(rt: &impl Abort, text: &[u8], wanted: Option<LogFault>, alloc: Memory) -> bool {
@@ -172,28 +138,6 @@ fn reads_question(rt: &impl Abort, text: &[u8], wanted: Option<AskFault>, alloc:
     )
 }
 
-#[test]
-fn texts_read(rt: HostRuntime) {
-    let refused = [
-        each_growth_refused(rt.alloc(), &LOGS, |(text, fault), alloc| {
-            reads_log(&rt, text, *fault, alloc)
-        }),
-        each_growth_refused(rt.alloc(), &ENDINGS, |(text, fault), alloc| {
-            reads_log(&rt, text, Some(*fault), alloc)
-        }),
-        each_growth_refused(rt.alloc(), &QUESTIONS, |(text, fault), alloc| {
-            reads_question(&rt, text, *fault, alloc)
-        }),
-        each_growth_refused(rt.alloc(), &ASK_FAULTS, |(text, fault), alloc| {
-            reads_question(&rt, text, Some(*fault), alloc)
-        }),
-    ];
-    assert!(rt;
-        matches!(refused, [Ok(_), Ok(_), Ok(_), Ok(_)]),
-        "{refused:?}"
-    );
-}
-
 /// Whether these logs have no order for the reason that they are a circle, with this memory.
 fn is_circle(rt: &impl Abort, logs: &Logs<Memory>, alloc: Memory) -> bool {
     let (circle, refused) = (Some(OrderFault::Circle), Some(OrderFault::OutOfMemory));
@@ -203,11 +147,43 @@ fn is_circle(rt: &impl Abort, logs: &Logs<Memory>, alloc: Memory) -> bool {
     )
 }
 
+/// Whether the call answers with this memory, on the election's logs or on that of its last node, or on a circle's. Of
+/// those that don't read no answer but want of memory is an error.
+fn answers(
+    rt: &impl Abort,
+    call: &Call,
+    alloc: Memory,
+    logs: &Logs<Memory>,
+    circle: &Logs<Memory>,
+) -> bool {
+    let log = logs.log(logs.size().get() - 1);
+    match call {
+        Call::ReadLog(text, fault) => reads_log(rt, *text, *fault, alloc),
+        Call::ReadQuestion(text, fault) => reads_question(rt, *text, *fault, alloc),
+        Call::WriteLog => write_log(log, &mut MemorySink::new(alloc)).is_ok(),
+        Call::Upgrade => has_answered(upgrade(alloc, log)),
+        Call::MakePairs => has_answered(pairs_question(alloc, RingSize::new(3).unwrap())),
+        Call::FindOrder => find_order(alloc, logs).is_ok(),
+        Call::Order => order(alloc, logs).is_ok(),
+        Call::OrderCircle => is_circle(rt, circle, alloc),
+        Call::Link => has_answered(link(alloc, 2)),
+        Call::Table => has_answered(table(alloc, log, &Clause::Active)),
+    }
+}
+
+/// The logs of the election, and those of a circle.
+fn two_rings(alloc: Global) -> Option<(Logs<Memory>, Logs<Memory>)> {
+    let memory = Refusing::new(alloc).ok()?;
+    let logs = logs_of(memory.clone().ok()?, &ELECTION)?;
+    Some((logs, logs_of(memory, &CIRCLE)?))
+}
+
 #[test]
-fn circle_of_two(rt: HostRuntime) {
-    let memory = Refusing::new(rt.alloc()).expect(&rt, "memory");
-    let logs = logs_of(memory, &CIRCLE).expect(&rt, "two logs");
-    let refused = each_growth_refused(rt.alloc(), &[()], |_, alloc| is_circle(&rt, &logs, alloc));
+fn each_growth_is_refused(rt: HostRuntime) {
+    let (logs, circle) = two_rings(rt.alloc()).expect(&rt, "the logs of two rings");
+    let refused = each_growth_refused(rt.alloc(), CALLS, |call, alloc| {
+        answers(&rt, call, alloc, &logs, &circle)
+    });
     assert!(rt; refused.is_ok(), "{refused:?}");
 }
 

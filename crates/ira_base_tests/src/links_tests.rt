@@ -88,19 +88,27 @@ fn ends_wait_for_each_other(rt: HostRuntime) {
     assert_eq!(rt; both, (true, true));
 }
 
+/// Takes what comes first.
+fn take_one<R: Wait>(rt: &R, mut input: LinkIn<Global>) -> Result<Frame, Closed> {
+    input.take(rt)
+}
+
+/// Lets go of the end of a link after a while.
+fn drop_later<R: Clock, T: Drop>(rt: &R, end: T) {
+    thread::sleep(rt, Duration::from_millis(A_WHILE));
+    drop(end);
+}
+
 #[test]
 fn dropped_output_wakes_the_input(rt: HostRuntime) {
     let host = &rt;
-    let (output, mut input) = link(rt.alloc(), 1).expect(host, "memory");
+    let (output, input) = link(rt.alloc(), 1).expect(host, "memory");
     let (taken, ()) = join(
         host,
-        move || input.take(host),
-        move || {
-            thread::sleep(host, Duration::from_millis(A_WHILE));
-            drop(output);
-        },
+        move || take_one(host, input),
+        move || drop_later(host, output),
     );
-    assert_eq!(rt; taken, Err(Closed));
+    assert!(rt; taken == Err(Closed));
 }
 
 #[test]
@@ -112,12 +120,9 @@ fn dropped_input_wakes_the_output(rt: HostRuntime) {
     let (refused, ()) = join(
         host,
         move || output.put(host, frame),
-        move || {
-            thread::sleep(host, Duration::from_millis(A_WHILE));
-            drop(input);
-        },
+        move || drop_later(host, input),
     );
-    assert_eq!(rt; (put, refused), (Ok(()), Err(frame)));
+    assert!(rt; (put, refused) == (Ok(()), Err(frame)));
 }
 
 fn enters<R: Wait + Clock, G: Gate>(rt: &R, gate: &G, who: u32) -> bool {

@@ -33,6 +33,8 @@ fn queues_of_a_question(rt: HostRuntime) {
 fn malicious_questions(rt: HostRuntime) {
     let twice = text_of(&rt, b"", PAIRS_OF_THREE, 2, b"");
     assert_answer(&rt, &twice, Err(AskFault::Trailing));
+    let larger = b"irask 1\nnodes 256\ncase\n0: true\nend\n";
+    assert_answer(&rt, larger, Err(AskFault::Head));
     for (lines, count, last, wanted) in [
         (
             b"case\n4294967296: true\n".as_slice(),

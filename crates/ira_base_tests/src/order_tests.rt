@@ -1,11 +1,11 @@
 //! Whether logs match, and their orders.
 ghost use Rattle.std.specs.Prelude.{◌<◌, length};
 
-use crate::samples::{assert_shown, log_of};
-use ira_event::{Event, Logs, NodeLog};
+use crate::samples::assert_shown;
+use ira_event::{Event, Logs, NodeLog, RingSize};
 use ira_fixtures::{
     CIRCLE, ELECTION, ELECTION_0, EMPTY, EMPTY_1, EQUAL_PAIR_PASSED_ON_CLEAN, LONE_INITIATOR,
-    RECEIPT_WITHOUT_SENDING, RECEIPTS_EXCHANGED, TIE, bytes_of, clean, lone_initiator_texts,
+    RECEIPT_WITHOUT_SENDING, RECEIPTS_EXCHANGED, TIE, clean, logs_of, lone_initiator_logs,
 };
 use ira_order::{
     MatchFault, OrderFault, Ordered, find_order, find_order_on_threads, match_links, order,
@@ -13,11 +13,6 @@ use ira_order::{
 use std::alloc::Global;
 use std::process::Abort;
 use std::thread::Threads;
-
-/// The logs of these texts.
-fn logs_of(rt: &(impl Abort + AllocGlobal), texts: &[&[u8]]) -> Logs<Global> {
-    ira_fixtures::logs_of(rt.alloc(), texts).expect(rt, "the logs of one ring")
-}
 
 /// Whether the places have each event of the reader once, and each receipt after its sending.
 fn keeps_link(logs: &Logs<Global>, places: &[u8], writer: u8, reader: u8) -> bool
@@ -72,21 +67,31 @@ fn are_ordered(alloc: Global, logs: &Logs<Global>) -> bool {
     }
 }
 
+/// Whether the logs of these texts match, and have a list of places and a schedule.
+fn answers(alloc: Global, texts: &[&[u8]]) -> Option<(Result<(), MatchFault>, bool, bool)> {
+    let logs = logs_of(alloc, texts)?;
+    Some((
+        match_links(&logs),
+        are_listed(alloc, &logs),
+        are_ordered(alloc, &logs),
+    ))
+}
+
 /// Compares that the logs match and have an order.
 fn assert_ordered(rt: &(impl Abort + AllocGlobal), texts: &[&[u8]]) {
-    let logs = logs_of(rt, texts);
-    let answers = (
-        match_links(&logs),
-        are_listed(rt.alloc(), &logs),
-        are_ordered(rt.alloc(), &logs),
-    );
-    assert!(rt; answers == (Ok(()), true, true));
+    let found = answers(rt.alloc(), texts);
+    assert!(rt; found == Some((Ok(()), true, true)));
+}
+
+/// Why the logs of these texts have no order.
+fn refusal(alloc: Global, texts: &[&[u8]]) -> Option<OrderFault> {
+    let logs = logs_of(alloc, texts)?;
+    order(alloc, &logs).err()
 }
 
 fn assert_refused(rt: &(impl Abort + AllocGlobal), texts: &[&[u8]], fault: OrderFault) {
-    let logs = logs_of(rt, texts);
-    let refused = order(rt.alloc(), &logs).err();
-    assert_eq!(rt; refused, Some(fault));
+    let refused = refusal(rt.alloc(), texts);
+    assert!(rt; refused == Some(fault), "{refused:?}");
 }
 
 // Two nodes that both begin; the greater draw wins.
@@ -134,22 +139,28 @@ fn receipt_without_sending(rt: HostRuntime) {
     assert_refused(&rt, &RECEIPT_WITHOUT_SENDING, fault);
 }
 
-/// Compares what both calls find for these logs.
-fn assert_same_on_threads(rt: &(impl Abort + AllocGlobal + Threads), texts: &[&[u8]]) {
-    let logs = logs_of(rt, texts);
-    let found = find_order_on_threads(rt, rt.alloc(), &logs);
-    assert!(rt; found == find_order(rt.alloc(), &logs));
+/// Whether both calls find the same for the logs of these texts.
+fn is_same_on_threads(rt: &(impl AllocGlobal + Threads), texts: &[&[u8]]) -> Option<bool> {
+    let alloc = rt.alloc();
+    let logs = logs_of(alloc, texts)?;
+    Some(find_order_on_threads(rt, alloc, &logs) == find_order(alloc, &logs))
 }
 
 #[test]
 fn same_on_threads(rt: HostRuntime) {
-    assert_same_on_threads(&rt, &ELECTION);
-    assert_same_on_threads(&rt, &[ELECTION_0, EMPTY_1]);
-    assert_same_on_threads(&rt, &CIRCLE);
+    let are_same = [
+        is_same_on_threads(&rt, &ELECTION),
+        is_same_on_threads(&rt, &[ELECTION_0, EMPTY_1]),
+        is_same_on_threads(&rt, &CIRCLE),
+    ];
+    assert!(rt;
+        are_same == [Some(true), Some(true), Some(true)],
+        "{are_same:?}"
+    );
 }
 
 /// Of two logs of four events each: some counts, and which of some events happened before which.
-fn asked(ordered: &Ordered<'_, Global>) -> Option<([u32; 5], [bool; 2])> {
+fn asked_of_two(ordered: &Ordered<'_, Global>) -> Option<([u32; 5], [bool; 2])> {
     let logs = ordered.logs();
     if logs.size().get() != 2 || logs.log(0).len() != 4 || logs.log(1).len() != 4 {
         return None;
@@ -165,104 +176,126 @@ fn asked(ordered: &Ordered<'_, Global>) -> Option<([u32; 5], [bool; 2])> {
     Some((counts, before))
 }
 
-#[test]
-fn counts_of_two_node_election(rt: HostRuntime) {
-    let logs = logs_of(&rt, &ELECTION);
-    let ordered = order(rt.alloc(), &logs).expect(&rt, "an order");
-    assert!(rt; asked(&ordered) == Some(([2, 4, 2, 0, 2], [true, false])));
+/// The same of the order of the logs of these texts.
+fn asked_of_texts(alloc: Global, texts: &[&[u8]]) -> Option<([u32; 5], [bool; 2])> {
+    let logs = logs_of(alloc, texts)?;
+    let ordered = order(alloc, &logs).ok()?;
+    asked_of_two(&ordered)
 }
 
-/// Of the logs of the lone initiator in a ring of three: how many events of nodes 1 and 2 happened before its last one.
-fn asked_of_three(ordered: &Ordered<'_, Global>) -> Option<[u32; 2]> {
+#[test]
+fn counts_of_two_node_election(rt: HostRuntime) {
+    let asked = asked_of_texts(rt.alloc(), &ELECTION);
+    assert!(rt;
+        asked == Some(([2, 4, 2, 0, 2], [true, false])),
+        "{asked:?}"
+    );
+}
+
+/// Of the logs of the lone initiator in a ring of three or more: how many events of the second node and of the last one
+/// happened before its third one, and how many counters are kept.
+fn asked_of_lone(ordered: &Ordered<'_, Global>) -> Option<([u32; 2], usize)> {
     let logs = ordered.logs();
-    if logs.size().get() != 3 || logs.log(0).len() != 3 {
+    if logs.size().get() < 3 || logs.log(0).len() != 3 {
         return None;
     }
-    Some([ordered.count(0, 3, 1), ordered.count(0, 3, 2)])
+    let counts = [
+        ordered.count(0, 3, 1),
+        ordered.count(0, 3, logs.size().get() - 1),
+    ];
+    Some((counts, ordered.stored()))
+}
+
+/// The same of a ring of so many nodes.
+fn asked_of_ring(alloc: Global, nodes: u8) -> Option<([u32; 2], usize)> {
+    let logs = lone_initiator_logs(alloc, 2, nodes)?;
+    let ordered = order(alloc, &logs).ok()?;
+    asked_of_lone(&ordered)
 }
 
 #[test]
 fn counts_of_the_lone_initiator(rt: HostRuntime) {
-    let logs = logs_of(&rt, &LONE_INITIATOR);
-    let ordered = order(rt.alloc(), &logs).expect(&rt, "an order");
-    assert!(rt; asked_of_three(&ordered) == Some([2, 2]));
+    let asked = [asked_of_ring(rt.alloc(), 3), asked_of_ring(rt.alloc(), 255)];
+    assert!(rt;
+        asked == [Some(([2, 2], 9)), Some(([2, 2], 65_025))],
+        "{asked:?}"
+    );
 }
 
 /// How many counters the order of these logs keeps.
-fn stored(rt: &(impl Abort + AllocGlobal), texts: &[&[u8]]) -> usize {
-    let logs = logs_of(rt, texts);
-    let ordered = order(rt.alloc(), &logs).expect(rt, "an order");
-    ordered.stored()
+fn stored(alloc: Global, texts: &[&[u8]]) -> Option<usize> {
+    let logs = logs_of(alloc, texts)?;
+    let ordered = order(alloc, &logs).ok()?;
+    Some(ordered.stored())
 }
 
 #[test]
 fn stored_counters(rt: HostRuntime) {
     let counters = [
-        stored(&rt, &ELECTION),
-        stored(&rt, &TIE),
-        stored(&rt, &LONE_INITIATOR),
-        stored(&rt, &EMPTY),
+        stored(rt.alloc(), &ELECTION),
+        stored(rt.alloc(), &TIE),
+        stored(rt.alloc(), &LONE_INITIATOR),
+        stored(rt.alloc(), &EMPTY),
     ];
-    assert_eq!(rt; counters, [6, 14, 9, 0]);
-}
-
-/// Of a ring of 255 nodes: how many events of the last one happened before the third of node 0, and how many counters
-/// are kept.
-fn asked_of_255(ordered: &Ordered<'_, Global>) -> Option<(u32, usize)> {
-    let logs = ordered.logs();
-    if logs.size().get() != 255 || logs.log(0).len() != 3 {
-        return None;
-    }
-    Some((ordered.count(0, 3, 254), ordered.stored()))
-}
-
-#[test]
-fn counts_of_the_largest_ring(rt: HostRuntime) {
-    let texts = lone_initiator_texts(rt.alloc(), 255).expect(&rt, "memory");
-    let texts = bytes_of(rt.alloc(), &texts).expect(&rt, "memory");
-    let logs = logs_of(&rt, &texts);
-    let ordered = order(rt.alloc(), &logs).expect(&rt, "an order");
-    assert!(rt; asked_of_255(&ordered) == Some((2, 65_025)));
+    assert!(rt;
+        counters == [Some(6), Some(14), Some(9), Some(0)],
+        "{counters:?}"
+    );
 }
 
 /// The log of a passive node of a ring of 64 that does so 500 times.
-fn long_log(rt: &(impl Abort + AllocGlobal), place: u8, turn: [Event; 2]) -> NodeLog<Global> {
-    let events = turn.repeat(rt.alloc(), 500).expect(rt, "memory");
-    log_of(rt, 64, place, false, &events)
+fn long_log(alloc: Global, place: u8, turn: [Event; 2]) -> Option<NodeLog<Global>> {
+    let events = turn.repeat(alloc, 500).ok()?;
+    NodeLog::new(1, RingSize::new(64)?, place, false, events)
 }
 
 /// The logs of a ring of 64 nodes, each of 1,000 events: one message goes round 500 times. Where node
 /// 0 receives it first, nobody can begin.
-fn long_logs(rt: &(impl Abort + AllocGlobal), begins: bool) -> Logs<Global> {
+fn long_logs(alloc: Global, begins: bool) -> Option<Logs<Global>> {
     let message = clean(1, 1, 1);
     let (got, sent) = (Event::Got(message), Event::Sent(message));
     let first = if begins { [sent, got] } else { [got, sent] };
-    let mut logs = Vec::new(rt.alloc());
+    let mut logs = Vec::new(alloc);
     for place in 0..64 {
         let turn = if place == 0 { first } else { [got, sent] };
-        logs.push(long_log(rt, place, turn)).expect(rt, "memory");
+        logs.push(long_log(alloc, place, turn)?).ok()?;
     }
-    Logs::gather(logs).expect(rt, "the logs of one ring")
+    Logs::gather(logs).ok()
 }
 
-/// How many events the order of these logs has.
-fn count_ordered(alloc: Global, logs: &Logs<Global>) -> Option<usize> {
-    let ordered = order(alloc, logs).ok()?;
-    let places = ordered.schedule();
+/// How many events the order of these places has, where it is one of the logs.
+fn count_places(logs: &Logs<Global>, places: &[u8]) -> usize {
     if is_order(logs, places) {
-        Some(places.len())
+        places.len()
     } else {
-        None
+        0
     }
+}
+
+/// Whether these logs match, and how many events their schedule has, or why they have none.
+fn count_ordered(
+    alloc: Global,
+    begins: bool,
+) -> Option<(Result<(), MatchFault>, Result<usize, OrderFault>)> {
+    let logs = long_logs(alloc, begins)?;
+    let count = match order(alloc, &logs) {
+        Ok(ordered) => Ok(count_places(&logs, ordered.schedule())),
+        Err(fault) => Err(fault),
+    };
+    Some((match_links(&logs), count))
 }
 
 #[test]
 fn ring_of_64_with_1000_events_a_node(rt: HostRuntime) {
-    let logs = long_logs(&rt, true);
-    assert!(rt; count_ordered(rt.alloc(), &logs) == Some(64_000));
-    let stuck = long_logs(&rt, false);
-    let answers = (match_links(&stuck), order(rt.alloc(), &stuck).err());
-    assert!(rt; answers == (Ok(()), Some(OrderFault::Circle)));
+    let found = [
+        count_ordered(rt.alloc(), true),
+        count_ordered(rt.alloc(), false),
+    ];
+    let wanted = [
+        Some((Ok(()), Ok(64_000))),
+        Some((Ok(()), Err(OrderFault::Circle))),
+    ];
+    assert!(rt; found == wanted, "{found:?}");
 }
 
 #[test]

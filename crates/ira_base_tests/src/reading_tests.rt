@@ -2,14 +2,13 @@
 
 use crate::samples::text_of;
 use ira_event::{Event, Load, LogFault, NodeLog, RingSize, read_log};
-use ira_fixtures::{ELECTION_0, SECOND_TERM, clean, next_leader, winner, yielder};
+use ira_fixtures::{
+    ELECTION_0, ELECTION_1, HEAD_0, SECOND_TERM, clean, loser, next_leader, winner, yielder,
+};
 use std::alloc::Global;
 use std::process::Abort;
 
-/// The head of an initiator at place 0 in a ring of two.
-const HEAD: &[u8] = b"irlog 1\nnodes 2\nplace 0\nstart initiator\n";
-
-/// The same of version 2.
+/// `HEAD_0` in version 2.
 const LATER_HEAD: &[u8] = b"irlog 2\nnodes 2\nplace 0\nstart initiator\n";
 
 /// What reading the text answers: the number of its events, or its fault.
@@ -38,23 +37,40 @@ fn assert_parts(
     assert_answer(rt, &text_of(rt, first, line, lines, last), wanted);
 }
 
-/// The head of a log of four events, and the last of them.
-fn head_and_last(log: &NodeLog<Global>) -> Option<(u8, u8, bool, Event)> {
+/// The version, ring size, place and start of the log of this text, where these are its events.
+fn head_of(alloc: Global, text: &[u8], events: &[Event]) -> Option<(u8, u8, u8, bool)> {
+    let log = read_log(alloc, text).ok()?;
+    let found: Vec<Event> = log.events().collect(alloc).ok()?;
+    if found.as_slice() != events {
+        return None;
+    }
+    Some((
+        log.version(),
+        log.nodes().get(),
+        log.place(),
+        log.initiator(),
+    ))
+}
+
+/// The last event of the log of four events of this text.
+fn fourth_of(alloc: Global, text: &[u8]) -> Option<Event> {
+    let log = read_log(alloc, text).ok()?;
     if log.len() != 4 {
         return None;
     }
-    let nodes = log.nodes().get();
-    Some((nodes, log.place(), log.initiator(), log.event(4)))
+    Some(log.event(4))
 }
 
 #[test]
 fn two_node_election(rt: HostRuntime) {
     assert_eq!(rt; ELECTION_0.len(), 104);
-    let log = read_log(rt.alloc(), ELECTION_0).expect(&rt, "a log");
-    let last = Event::Got(clean(1, 2, 2));
-    let is_read = head_and_last(&log) == Some((2, 0, true, last));
-    let events: Vec<Event> = log.events().collect(rt.alloc()).expect(&rt, "memory");
-    assert!(rt; is_read && events.as_slice() == winner().as_slice());
+    let heads = [
+        head_of(rt.alloc(), ELECTION_0, &winner()),
+        head_of(rt.alloc(), ELECTION_1, &loser()),
+    ];
+    let last = fourth_of(rt.alloc(), ELECTION_0);
+    assert!(rt; heads == [Some((1, 2, 0, true)), Some((1, 2, 1, true))]);
+    assert!(rt; last == Some(Event::Got(clean(1, 2, 2))));
 }
 
 #[test]
@@ -107,30 +123,34 @@ fn log_text_table(rt: HostRuntime) {
             b"end 0\n".as_slice(),
             Err(LogFault::Head),
         ),
-        (HEAD, b"end 0\n".as_slice(), Ok(0)),
-        (HEAD, b"draw 01\n".as_slice(), Err(LogFault::Line(5))),
-        (HEAD, b"draw 1000001\n".as_slice(), Err(LogFault::Range(5))),
-        (HEAD, b"draw 0\n".as_slice(), Err(LogFault::Range(5))),
-        (HEAD, b"draw 1000000\nend 1\n".as_slice(), Ok(1)),
+        (HEAD_0, b"end 0\n".as_slice(), Ok(0)),
+        (HEAD_0, b"draw 01\n".as_slice(), Err(LogFault::Line(5))),
         (
-            HEAD,
+            HEAD_0,
+            b"draw 1000001\n".as_slice(),
+            Err(LogFault::Range(5)),
+        ),
+        (HEAD_0, b"draw 0\n".as_slice(), Err(LogFault::Range(5))),
+        (HEAD_0, b"draw 1000000\nend 1\n".as_slice(), Ok(1)),
+        (
+            HEAD_0,
             b"recv 0 1 1 clean\n".as_slice(),
             Err(LogFault::Range(5)),
         ),
         (
-            HEAD,
+            HEAD_0,
             b"recv 1 1 1 Clean\n".as_slice(),
             Err(LogFault::Line(5)),
         ),
-        (HEAD, b"end 0\r\n".as_slice(), Err(LogFault::Line(5))),
-        (HEAD, b"end 0".as_slice(), Err(LogFault::Cut)),
+        (HEAD_0, b"end 0\r\n".as_slice(), Err(LogFault::Line(5))),
+        (HEAD_0, b"end 0".as_slice(), Err(LogFault::Cut)),
         (
-            HEAD,
+            HEAD_0,
             b"draw 18446744073709551617\n".as_slice(),
             Err(LogFault::Range(5)),
         ),
         (
-            HEAD,
+            HEAD_0,
             b"end 18446744073709551616\n".as_slice(),
             Err(LogFault::Count),
         ),
@@ -170,25 +190,21 @@ fn records_of_version_2(rt: HostRuntime) {
         ),
         (LATER_HEAD, b"yield \n".as_slice(), Err(LogFault::Line(5))),
         (LATER_HEAD, b"yield".as_slice(), Err(LogFault::Cut)),
-        (HEAD, b"yield\n".as_slice(), Err(LogFault::Line(5))),
-        (HEAD, b"send reset 1\n".as_slice(), Err(LogFault::Line(5))),
-        (HEAD, b"recv reset 0\n".as_slice(), Err(LogFault::Line(5))),
+        (HEAD_0, b"yield\n".as_slice(), Err(LogFault::Line(5))),
+        (HEAD_0, b"send reset 1\n".as_slice(), Err(LogFault::Line(5))),
+        (HEAD_0, b"recv reset 0\n".as_slice(), Err(LogFault::Line(5))),
     ] {
         assert_parts(&rt, head, b"", 0, lines, wanted);
     }
 }
 
-/// Compares the events of the log of version 2 that the text is.
-fn assert_later(rt: &(impl Abort + AllocGlobal), text: &[u8], wanted: &[Event]) {
-    let log = read_log(rt.alloc(), text).expect(rt, "a log");
-    let events: Vec<Event> = log.events().collect(rt.alloc()).expect(rt, "memory");
-    assert!(rt; log.version() == 2 && events.as_slice() == wanted);
-}
-
 #[test]
 fn second_term(rt: HostRuntime) {
-    assert_later(&rt, SECOND_TERM[0], &yielder());
-    assert_later(&rt, SECOND_TERM[1], &next_leader());
+    let heads = [
+        head_of(rt.alloc(), SECOND_TERM[0], &yielder()),
+        head_of(rt.alloc(), SECOND_TERM[1], &next_leader()),
+    ];
+    assert!(rt; heads == [Some((2, 2, 0, true)), Some((2, 2, 1, true))]);
 }
 
 #[test]
@@ -222,13 +238,13 @@ fn prefixes_and_repetition(rt: HostRuntime) {
 #[test]
 fn as_many_records_as_a_log_has(rt: HostRuntime) {
     for (head, last, wanted) in [
-        (HEAD, b"end 100000\n".as_slice(), Ok(100_000)),
-        (HEAD, b"draw 1\n".as_slice(), Err(LogFault::TooMany)),
-        (HEAD, b"draw x\n".as_slice(), Err(LogFault::TooMany)),
-        (HEAD, b"draw x".as_slice(), Err(LogFault::Cut)),
-        (HEAD, b"drop\n".as_slice(), Err(LogFault::Line(100_005))),
-        (HEAD, b"yield\n".as_slice(), Err(LogFault::Line(100_005))),
-        (HEAD, b"send reset 1\n".as_slice(), Err(LogFault::TooMany)),
+        (HEAD_0, b"end 100000\n".as_slice(), Ok(100_000)),
+        (HEAD_0, b"draw 1\n".as_slice(), Err(LogFault::TooMany)),
+        (HEAD_0, b"draw x\n".as_slice(), Err(LogFault::TooMany)),
+        (HEAD_0, b"draw x".as_slice(), Err(LogFault::Cut)),
+        (HEAD_0, b"drop\n".as_slice(), Err(LogFault::Line(100_005))),
+        (HEAD_0, b"yield\n".as_slice(), Err(LogFault::Line(100_005))),
+        (HEAD_0, b"send reset 1\n".as_slice(), Err(LogFault::TooMany)),
         (LATER_HEAD, b"end 100000\n".as_slice(), Ok(100_000)),
         (LATER_HEAD, b"yield\n".as_slice(), Err(LogFault::TooMany)),
         (

@@ -2,10 +2,11 @@
 
 use crate::samples::{log_in, log_of};
 use ira_event::{
-    Event, HeadFault, Logs, MemorySink, NodeLog, ToWriter, WriteFault, upgrade, write_log,
+    Event, HeadFault, Logs, MemorySink, NodeLog, ToWriter, WriteFault, read_log, upgrade, write_log,
 };
 use ira_fixtures::{
-    ELECTION_0, ELECTION_1, SECOND_TERM, dirty, loser, next_leader, winner, yielder,
+    ELECTION_0, ELECTION_1, SECOND_TERM, dirty, lone_initiator_logs, lone_initiator_texts, loser,
+    next_leader, winner, yielder,
 };
 use ira_pred::{Question, read_question, write_question};
 use ira_refusing::{FailingSink, Writer, each_byte_refused};
@@ -13,12 +14,11 @@ use std::alloc::Global;
 use std::io::BufWriter;
 use std::process::Abort;
 
-/// Writes the log to memory, and compares the text.
-fn assert_text(rt: &(impl Abort + AllocGlobal), log: &NodeLog<Global>, text: &[u8]) {
-    let mut sink = MemorySink::new(rt.alloc());
+/// Whether the log is written to empty memory as this text.
+fn is_written_as(alloc: Global, log: &NodeLog<Global>, text: &[u8]) -> bool {
+    let mut sink = MemorySink::new(alloc);
     let is_empty = sink.bytes().is_empty();
-    let written = write_log(log, &mut sink);
-    assert!(rt; is_empty && written == Ok(()) && sink.bytes() == text);
+    is_empty && write_log(log, &mut sink) == Ok(()) && sink.bytes() == text
 }
 
 /// Writes the log of these events to memory, and compares the text.
@@ -32,7 +32,8 @@ fn assert_written(
     text: &[u8],
 ) {
     let log = log_in(rt, version, nodes, place, initiator, events);
-    assert_text(rt, &log, text);
+    let is_written = is_written_as(rt.alloc(), &log, text);
+    assert!(rt; is_written);
 }
 
 #[test]
@@ -48,10 +49,12 @@ fn second_term(rt: HostRuntime) {
     assert_written(&rt, 2, 2, 1, true, &next_leader(), SECOND_TERM[1]);
 }
 
-/// Upgrades the log, and compares the text of what it becomes.
-fn assert_upgraded(rt: &(impl Abort + AllocGlobal), log: &NodeLog<Global>, text: &[u8]) {
-    let upgraded = upgrade(rt.alloc(), log).expect(rt, "memory");
-    assert_text(rt, &upgraded, text);
+/// Whether the log is upgraded to that of this text.
+fn is_upgraded(alloc: Global, log: &NodeLog<Global>, text: &[u8]) -> bool {
+    match upgrade(alloc, log) {
+        Ok(upgraded) => is_written_as(alloc, &upgraded, text),
+        Err(_) => false,
+    }
 }
 
 #[test]
@@ -59,9 +62,48 @@ fn upgrade_of_logs(rt: HostRuntime) {
     let election =
         b"irlog 2\nnodes 2\nplace 0\nstart initiator\ndraw 2\nsend 1 2 1 clean\nrecv 1 1 1 clean\nrecv 1 2 2 clean\nend 4\n";
     assert_eq!(rt; election.len(), 104);
-    assert_upgraded(&rt, &log_of(&rt, 2, 0, true, &winner()), election);
+    let log = log_of(&rt, 2, 0, true, &winner());
     let terms = log_in(&rt, 2, 2, 0, true, &yielder());
-    assert_upgraded(&rt, &terms, SECOND_TERM[0]);
+    let are_upgraded = (
+        is_upgraded(rt.alloc(), &log, election),
+        is_upgraded(rt.alloc(), &terms, SECOND_TERM[0]),
+    );
+    assert!(rt; are_upgraded == (true, true));
+}
+
+/// Whether the logs are written as these texts.
+fn are_written_as(alloc: Global, logs: &Logs<Global>, texts: &[String]) -> bool {
+    for place in 0..logs.size().get() {
+        let Some(text) = texts.get(usize::from(place)) else {
+            return false;
+        };
+        if !is_written_as(alloc, logs.log(place), text.as_bytes()) {
+            return false;
+        }
+    }
+    texts.len() == usize::from(logs.size().get())
+}
+
+/// Whether the logs of the lone initiator's election in a ring of so many nodes, in this version, are upgraded to those
+/// in version 2.
+fn is_ring_upgraded(alloc: Global, version: u8, nodes: u8) -> Option<bool> {
+    let upgraded = lone_initiator_logs(alloc, version, nodes)?.upgrade().ok()?;
+    let texts = lone_initiator_texts(alloc, nodes).ok()?;
+    Some(are_written_as(alloc, &upgraded, &texts))
+}
+
+#[test]
+fn upgrade_of_rings(rt: HostRuntime) {
+    let are_upgraded = [
+        is_ring_upgraded(rt.alloc(), 1, 3),
+        is_ring_upgraded(rt.alloc(), 1, 5),
+        is_ring_upgraded(rt.alloc(), 1, 64),
+        is_ring_upgraded(rt.alloc(), 2, 65),
+    ];
+    assert!(rt;
+        are_upgraded == [Some(true), Some(true), Some(true), Some(true)],
+        "{are_upgraded:?}"
+    );
 }
 
 #[test]
@@ -90,22 +132,19 @@ impl Writer for LogText<'_> {
     }
 }
 
-/// Writes the log of node 0 of a ring of two to a sink that fails after each byte in turn.
-fn assert_each_byte_refused(
-    rt: &(impl Abort + AllocGlobal),
-    version: u8,
-    events: &[Event],
-    text: &[u8],
-) {
-    let log = log_in(rt, version, 2, 0, true, events);
-    let refused = each_byte_refused(rt.alloc(), &LogText(&log), text);
-    assert!(rt; refused == Ok(()), "{refused:?}");
+/// Writes the log of this text to a sink that fails after each byte in turn.
+fn is_each_byte_refused(alloc: Global, text: &[u8]) -> Option<bool> {
+    let log = read_log(alloc, text).ok()?;
+    Some(each_byte_refused(alloc, &LogText(&log), text) == Ok(()))
 }
 
 #[test]
 fn sink_fails_after_each_byte(rt: HostRuntime) {
-    assert_each_byte_refused(&rt, 1, &winner(), ELECTION_0);
-    assert_each_byte_refused(&rt, 2, &yielder(), SECOND_TERM[0]);
+    let are_refused = [
+        is_each_byte_refused(rt.alloc(), ELECTION_0),
+        is_each_byte_refused(rt.alloc(), SECOND_TERM[0]),
+    ];
+    assert!(rt; are_refused == [Some(true), Some(true)], "{are_refused:?}");
 }
 
 /// The question's text.
@@ -118,12 +157,16 @@ impl Writer for QuestionText<'_> {
     }
 }
 
+/// Writes the question of this text to a sink that fails after each byte in turn.
+fn is_question_refused(alloc: Global, text: &[u8]) -> Option<bool> {
+    let question = read_question(alloc, text).ok()?;
+    Some(each_byte_refused(alloc, &QuestionText(&question), text) == Ok(()))
+}
+
 #[test]
 fn sink_of_a_question_fails_after_each_byte(rt: HostRuntime) {
     let text = b"irask 1\nnodes 2\ncase\n0: leader\n1: (leader or (not active))\nend\n";
-    let question = read_question(rt.alloc(), text).expect(&rt, "a question");
-    let refused = each_byte_refused(rt.alloc(), &QuestionText(&question), text);
-    assert!(rt; refused == Ok(()), "{refused:?}");
+    assert!(rt; is_question_refused(rt.alloc(), text) == Some(true));
 }
 
 #[test]
@@ -145,21 +188,21 @@ fn sink_fails_after_ten_bytes(rt: HostRuntime) {
 
 /// What writing to the buffer of a writer with room for ten bytes answers, and then flushing it.
 fn write_after_a_buffer(
-    rt: &(impl Abort + AllocGlobal),
+    alloc: Global,
     log: &NodeLog<Global>,
-) -> (Result<(), WriteFault>, Result<(), WriteFault>) {
+) -> Option<(Result<(), WriteFault>, Result<(), WriteFault>)> {
     let mut room = [0; 10];
-    let buffer = BufWriter::new(rt.alloc(), room.as_mut_slice()).expect(rt, "memory");
+    let buffer = BufWriter::new(alloc, room.as_mut_slice()).ok()?;
     let mut sink = ToWriter::new(buffer);
-    (write_log(log, &mut sink), sink.flush())
+    Some((write_log(log, &mut sink), sink.flush()))
 }
 
 #[test]
 fn full_writer_after_a_buffer(rt: HostRuntime) {
     let log = log_of(&rt, 2, 0, true, &winner());
-    let written = write_after_a_buffer(&rt, &log);
+    let written = write_after_a_buffer(rt.alloc(), &log);
     assert!(rt;
-        written == (Ok(()), Err(WriteFault)),
+        written == Some((Ok(()), Err(WriteFault))),
         "all fits in the buffer"
     );
 }

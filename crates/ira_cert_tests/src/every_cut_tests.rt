@@ -70,35 +70,50 @@ fn least_of_three(first: &[u32], last: &[u32]) -> Option<[u32; 3]> {
     least
 }
 
-/// Compares what is found of the case that the first and the last node are as in these samples: that it is present at
-/// this cut, or else absent with a section that the checker takes.
-fn assert_found<const N: usize>(
+/// Whether the case that the first and the last node are as in these samples is found present at this cut, or else
+/// absent with a section that the checker takes.
+fn is_found(
+    alloc: Global,
+    logs: &Logs<Global>,
+    ordered: &Ordered<'_, Global>,
+    first: &str,
+    last: &str,
+    least: Option<&[u32]>,
+) -> Option<bool>
+    requires { ordered.now.logs ≡ logs.now }
+{
+    let nodes = logs.size().get();
+    let text = format!(in alloc;
+        "irask 1\nnodes {nodes}\ncase\n0: {first}\n{}: {last}\nend\n",
+        nodes - 1
+    )
+    .ok()?;
+    let question = read_question(alloc, text.as_bytes()).ok()?;
+    let case = first_case(&question, logs)?;
+    let found = decide(alloc, logs, ordered, case).ok()?;
+    let is_found = match (&found, least) {
+        (Found::Absent(section), None) => {
+            check_plain(alloc, logs, ordered, case, section) == Ok(Verdict::Yes)
+        }
+        (Found::Present(cut), Some(least)) => cut.positions() == least,
+        _ => false,
+    };
+    Some(is_found)
+}
+
+/// Compares what is found of that case.
+fn assert_found(
     rt: &(impl Abort + AllocGlobal),
     logs: &Logs<Global>,
     ordered: &Ordered<'_, Global>,
     first: &str,
     last: &str,
-    least: Option<[u32; N]>,
+    least: Option<&[u32]>,
 )
     requires { ordered.now.logs ≡ logs.now }
 {
-    let alloc = rt.alloc();
-    let text = format!(in alloc;
-        "irask 1\nnodes {N}\ncase\n0: {first}\n{}: {last}\nend\n",
-        logs.size().get() - 1
-    )
-    .expect(rt, "memory");
-    let question = read_question(alloc, text.as_bytes()).expect(rt, "a question");
-    let case = first_case(&question, logs).expect(rt, "a question of the same ring");
-    let found = decide(alloc, logs, ordered, case).expect(rt, "memory");
-    let is_found = match (&found, least) {
-        (Found::Absent(section), None) => {
-            check_plain(alloc, logs, ordered, case, section) == Ok(Verdict::Yes)
-        }
-        (Found::Present(cut), Some(least)) => cut.positions() == least.as_slice(),
-        _ => false,
-    };
-    assert!(rt; is_found, "{first} and {last}");
+    let is_found = is_found(rt.alloc(), logs, ordered, first, last, least);
+    assert!(rt; is_found == Some(true), "{first} and {last}");
 }
 
 #[test]
@@ -122,6 +137,7 @@ fn election_as_searched(rt: HostRuntime) {
     for a in &samples {
         for b in &samples {
             let least = least_of_two(a.first, b.last);
+            let least = least.as_ref().map(|cut| cut.as_slice());
             assert_found(&rt, &logs, &ordered, a.clause, b.clause, least);
         }
     }
@@ -144,6 +160,7 @@ fn lone_initiator_as_searched(rt: HostRuntime) {
     for a in &samples {
         for b in &samples {
             let least = least_of_three(a.first, b.last);
+            let least = least.as_ref().map(|cut| cut.as_slice());
             assert_found(&rt, &logs, &ordered, a.clause, b.clause, least);
         }
     }

@@ -10,27 +10,25 @@ use ira_fixtures::{
 use ira_order::{Ordered, order};
 use ira_pred::{Case, read_question};
 use std::alloc::Global;
-use std::process::Abort;
 
 /// Every step between the two nodes with positions 0 to 5.
-fn every_step(rt: &(impl Abort + AllocGlobal)) -> Vec<CertStep> {
-    let mut steps = Vec::new(rt.alloc());
+fn every_step(alloc: Global) -> Option<Vec<CertStep>> {
+    let mut steps = Vec::new(alloc);
     for node in 0..2 {
         for other in 0..2 {
             for pos in 0..6 {
                 for other_pos in 0..6 {
-                    let step = step(node, pos, other, other_pos);
-                    steps.push(step).expect(rt, "memory");
+                    steps.push(step(node, pos, other, other_pos)).ok()?;
                 }
             }
         }
     }
-    steps
+    Some(steps)
 }
 
 /// One where the section is sound for the case, and else none.
 fn count_if_sound(
-    rt: &(impl Abort + AllocGlobal),
+    alloc: Global,
     logs: &Logs<Global>,
     ordered: &Ordered<'_, Global>,
     case: &Case<Global>,
@@ -40,15 +38,16 @@ fn count_if_sound(
     requires order { ordered.now.logs ≡ logs.now }
     requires places { HasPlacesOf logs.now case.now }
 {
-    let steps = steps.to_vec(rt.alloc()).expect(rt, "memory");
+    let Ok(steps) = steps.to_vec(alloc) else {
+        return 0;
+    };
     let section = Section { steps, spent };
-    let verdict = check_plain(rt.alloc(), logs, ordered, case, &section).expect(rt, "memory");
-    u32::from(verdict == Verdict::Yes)
+    u32::from(check_plain(alloc, logs, ordered, case, &section) == Ok(Verdict::Yes))
 }
 
 /// How many sections of none, one or two of these steps are sound for the case.
 fn count_sound_of(
-    rt: &(impl Abort + AllocGlobal),
+    alloc: Global,
     logs: &Logs<Global>,
     ordered: &Ordered<'_, Global>,
     case: &Case<Global>,
@@ -58,12 +57,12 @@ fn count_sound_of(
     requires order { ordered.now.logs ≡ logs.now }
     requires places { HasPlacesOf logs.now case.now }
 {
-    let mut sound = count_if_sound(rt, logs, ordered, case, &[], spent);
+    let mut sound = count_if_sound(alloc, logs, ordered, case, &[], spent);
     for first in steps {
-        let one = count_if_sound(rt, logs, ordered, case, &[*first], spent);
+        let one = count_if_sound(alloc, logs, ordered, case, &[*first], spent);
         sound = sound.saturating_add(one);
         for second in steps {
-            let two = count_if_sound(rt, logs, ordered, case, &[*first, *second], spent);
+            let two = count_if_sound(alloc, logs, ordered, case, &[*first, *second], spent);
             sound = sound.saturating_add(two);
         }
     }
@@ -71,15 +70,14 @@ fn count_sound_of(
 }
 
 /// How many sections of at most two steps are sound for the question's case.
-fn count_sound(rt: &(impl Abort + AllocGlobal), question: &[u8]) -> u32 {
-    let alloc = rt.alloc();
-    let logs = logs_of(alloc, &ELECTION).expect(rt, "the logs of one ring");
-    let ordered = order(alloc, &logs).expect(rt, "an order");
-    let question = read_question(alloc, question).expect(rt, "a question");
-    let case = first_case(&question, &logs).expect(rt, "a question of the same ring");
-    let steps = every_step(rt);
-    let of_node_0 = count_sound_of(rt, &logs, &ordered, case, &steps, 0);
-    of_node_0.saturating_add(count_sound_of(rt, &logs, &ordered, case, &steps, 1))
+fn count_sound(alloc: Global, question: &[u8]) -> Option<u32> {
+    let logs = logs_of(alloc, &ELECTION)?;
+    let ordered = order(alloc, &logs).ok()?;
+    let question = read_question(alloc, question).ok()?;
+    let case = first_case(&question, &logs)?;
+    let steps = every_step(alloc)?;
+    let of_node_0 = count_sound_of(alloc, &logs, &ordered, case, &steps, 0);
+    Some(of_node_0.saturating_add(count_sound_of(alloc, &logs, &ordered, case, &steps, 1)))
 }
 
 /// Whether a cut of the election holds each message's sending where it holds the receipt. Node 0 sends
@@ -102,20 +100,30 @@ fn count_met(first: &[u32], second: &[u32]) -> u32 {
     met
 }
 
+// Where no cut meets the case, one section of so few steps is sound, and where one does, none is.
 #[test]
 fn sound_sections_leave_no_cut(rt: HostRuntime) {
     // Node 0 chooses in state 0, is active in states 1 to 3 and leads in state 4. Node 1 chooses in state
     // 0, is active in states 1 and 2 and passive in states 3 and 4.
     let active_0: &[u32] = &[1, 2, 3];
     let active_1: &[u32] = &[1, 2];
-    for (question, first, second) in [
-        (BOTH_LEAD, [4].as_slice(), [].as_slice()),
-        (LEADER_AND_ACTIVE, [4].as_slice(), active_1),
-        (ACTIVE_AND_PASSIVE, active_0, [3, 4].as_slice()),
-        (CHOOSING_AND_PASSIVE, [0].as_slice(), [3, 4].as_slice()),
+    for (question, first, second, wanted) in [
+        (BOTH_LEAD, [4].as_slice(), [].as_slice(), (Some(1), 0)),
+        (LEADER_AND_ACTIVE, [4].as_slice(), active_1, (Some(1), 0)),
+        (
+            ACTIVE_AND_PASSIVE,
+            active_0,
+            [3, 4].as_slice(),
+            (Some(0), 4),
+        ),
+        (
+            CHOOSING_AND_PASSIVE,
+            [0].as_slice(),
+            [3, 4].as_slice(),
+            (Some(1), 0),
+        ),
     ] {
-        let sound = count_sound(&rt, question);
-        let met = count_met(first, second);
-        assert!(rt; (sound > 0) != (met > 0));
+        let counts = (count_sound(rt.alloc(), question), count_met(first, second));
+        assert!(rt; counts == wanted, "{counts:?}");
     }
 }

@@ -1,25 +1,41 @@
-// What the gate of the ranges sees: that two of them are judged at once, and that each passes it once.
+// What the gate of the ranges sees: that all of them are judged at once, and that each passes it once.
 ghost use Rattle.std.specs.Prelude.{◌≤◌};
 
 use crate::verdicts::judge_split;
 use ira_cert::{CertStep, SectionFault, Verdict};
-use ira_fixtures::{ELECTION, LEADER_AND_ACTIVE, Meeting, Passes, step};
+use ira_fixtures::{ELECTION, LEADER_AND_ACTIVE, Meeting, Passes, two_steps};
 use std::process::Abort;
 use std::sync::Wait;
 use std::thread::Threads;
 use std::time::Clock;
 
-/// The steps of a sound section.
-const fn steps() -> [CertStep; 2] {
-    [step(1, 1, 0, 4), step(1, 2, 0, 4)]
+/// Compares that so many ranges meet where a sound section is judged at this depth.
+fn assert_met<R: Abort + AllocGlobal + Threads + Wait + Clock + Sync>(
+    rt: &R,
+    depth: u8,
+    ranges: u64,
+)
+    requires { depth ≤ 4 }
+{
+    let gate = Meeting::new(ranges);
+    let found = judge_split(
+        rt,
+        &ELECTION,
+        LEADER_AND_ACTIVE,
+        &two_steps(),
+        1,
+        depth,
+        &gate,
+    );
+    let seen = (found, gate.missed());
+    assert!(rt; seen == (Verdict::Yes, 0), "{seen:?} at depth {depth}");
 }
 
 #[test]
-fn two_ranges_are_judged_at_once(rt: HostRuntime) {
-    let gate = Meeting::new();
-    let verdict = judge_split(&rt, &ELECTION, LEADER_AND_ACTIVE, &steps(), 1, 1, &gate);
-    let seen = (verdict == Verdict::Yes, gate.missed(), gate.passes());
-    assert_eq!(rt; seen, (true, 0, (1, 1)));
+fn ranges_are_judged_at_once(rt: HostRuntime) {
+    for (depth, ranges) in [(1, 2), (2, 4), (3, 8), (4, 16)] {
+        assert_met(&rt, depth, ranges);
+    }
 }
 
 /// At each depth, that each range passes once: a digit for each.
@@ -49,7 +65,7 @@ fn assert_passed<R: Abort + AllocGlobal + Threads + Wait + Clock + Sync>(
 
 #[test]
 fn each_range_passes_once(rt: HostRuntime) {
-    let all = steps();
+    let all = two_steps();
     let not_spent = Verdict::No(SectionFault::NotSpent(1));
     for (depth, passes) in ONCE {
         assert_passed(&rt, &[], depth, not_spent, passes);

@@ -8,8 +8,8 @@ use ira_cert::{
 use ira_elim::{Found, decide};
 use ira_event::{Logs, OutOfMemory};
 use ira_fixtures::{
-    ACTIVE_AND_PASSIVE, ELECTION, LEADER_AND_ACTIVE, LEADER_AND_UNBEATEN, ONE_STEP, STEPS_SWAPPED,
-    TIE, TWO_STEPS, first_case, logs_of,
+    ACTIVE_AND_PASSIVE, ELECTION, LEADER_AND_ACTIVE, LEADER_AND_UNBEATEN, NOT_BEFORE, ONE_STEP,
+    STEPS_SWAPPED, TIE, TWO_STEPS, first_case, logs_of,
 };
 use ira_links::OpenGate;
 use ira_order::{Ordered, order};
@@ -28,11 +28,6 @@ type Memory = Refusing<Global>;
 
 /// `TWO_STEPS` without its last line.
 const CUT: &[u8] = b"ircert 1\nnodes 2\nsection\ndrop 1 1 by 0 4\ndrop 1 2 by 0 4\nspent 1\n";
-
-/// A certificate of the election whose second step is unsound: node 0 is active at the cut (2, 3), where node 1 is
-/// passive.
-const NOT_BEFORE: &[u8] =
-    b"ircert 1\nnodes 2\nsection\ndrop 0 1 by 1 3\ndrop 0 2 by 1 3\nspent 0\nend\n";
 
 /// That node 0 never leads in the tie unless node 1 is passive.
 const EIGHT_STEPS: &[u8] = b"ircert 1\nnodes 2\nsection\n\

@@ -6,7 +6,7 @@ use crate::found_tests::{is_absent_by, is_present_at};
 use ira_cert::CertStep;
 use ira_elim::decide;
 use ira_event::Logs;
-use ira_fixtures::{LONE_INITIATOR, bytes_of, first_case, logs_of, lone_initiator_texts, step};
+use ira_fixtures::{LONE_INITIATOR, first_case, logs_of, lone_initiator_logs, step};
 use ira_order::{Ordered, order};
 use ira_pred::read_question;
 use std::alloc::{AllocError, Global};
@@ -235,6 +235,28 @@ fn posed(
     Ok((text, asked))
 }
 
+/// Whether the maker finds of this question's case what a plain search finds among the nodes that it asks.
+fn is_as_searched(
+    alloc: Global,
+    logs: &Logs<Global>,
+    ordered: &Ordered<'_, Global>,
+    known: &[&[Receipt]],
+    question: &[u8],
+    asked: &mut [AskedNode],
+) -> Option<bool>
+    requires { ordered.now.logs ≡ logs.now }
+{
+    let question = read_question(alloc, question).ok()?;
+    let case = first_case(&question, logs)?;
+    let found = decide(alloc, logs, ordered, case).ok()?;
+    let steps = eliminations(alloc, known, asked).ok()?;
+    if let Some(spent) = least_spent(asked) {
+        return Some(is_absent_by(&found, &steps, spent));
+    }
+    let cut = least_cut(alloc, known, asked, logs.size().get()).ok()?;
+    Some(is_present_at(&found, &cut))
+}
+
 /// Compares what the maker finds with what a plain search finds.
 fn assert_as_searched(
     rt: &(impl Abort + AllocGlobal),
@@ -246,20 +268,9 @@ fn assert_as_searched(
     requires { ordered.now.logs ≡ logs.now }
 {
     let alloc = rt.alloc();
-    let nodes = logs.size().get();
-    let (text, mut asked) = posed(alloc, nodes, samples).expect(rt, "memory");
-    let question = read_question(alloc, text.as_bytes()).expect(rt, "a question");
-    let case = first_case(&question, logs).expect(rt, "a question of the same ring");
-    let found = decide(alloc, logs, ordered, case).expect(rt, "memory");
-    let steps = eliminations(alloc, known, &mut asked).expect(rt, "memory");
-    let is_found = match least_spent(&asked) {
-        Some(spent) => is_absent_by(&found, &steps, spent),
-        None => {
-            let cut = least_cut(alloc, known, &asked, nodes).expect(rt, "memory");
-            is_present_at(&found, &cut)
-        }
-    };
-    assert!(rt; is_found, "{}", text.as_str());
+    let (text, mut asked) = posed(alloc, logs.size().get(), samples).expect(rt, "memory");
+    let is_found = is_as_searched(alloc, logs, ordered, known, text.as_bytes(), &mut asked);
+    assert!(rt; is_found == Some(true), "{}", text.as_str());
 }
 
 #[test]
@@ -323,9 +334,7 @@ fn lone_initiator_of_four_as_searched(rt: HostRuntime) {
         holding("leader", &[3]),
     ];
     let others = [holding("owes", &[1]), holding("(not owes)", &[0, 2])];
-    let texts = lone_initiator_texts(rt.alloc(), 4).expect(&rt, "memory");
-    let texts = bytes_of(rt.alloc(), &texts).expect(&rt, "memory");
-    let logs = logs_of(rt.alloc(), &texts).expect(&rt, "the logs of one ring");
+    let logs = lone_initiator_logs(rt.alloc(), 2, 4).expect(&rt, "the logs of one ring");
     let ordered = order(rt.alloc(), &logs).expect(&rt, "an order");
     for a in &first {
         for b in &others {

@@ -6,12 +6,14 @@ use ira_cert::{
     eliminate,
 };
 use ira_fixtures::{
-    ACTIVE_AND_PASSIVE, BOTH_LEAD, ELECTION, LEADER_AND_ACTIVE, LEADER_AND_UNBEATEN, SECOND_TERM,
-    TIE, first_case, logs_of, step,
+    ACTIVE_AND_PASSIVE, BOTH_LEAD, ELECTION, FIVE_ASKED, LEADER, LEADER_AND_ACTIVE,
+    LEADER_AND_UNBEATEN, LONE_INITIATOR, SECOND_TERM, THREE_ASKED, TIE, bytes_of, first_case,
+    five_steps, logs_of, lone_initiator_texts, step, three_steps, two_steps,
 };
 use ira_links::OpenGate;
 use ira_order::order;
 use ira_pred::read_question;
+use std::alloc::Global;
 use std::process::Abort;
 use std::sync::Wait;
 use std::thread::Threads;
@@ -30,10 +32,11 @@ fn assert_verdict_of<R: Abort + AllocGlobal + Threads + Wait + Clock + Sync>(
     spent: u8,
     verdict: Verdict,
 ) {
-    assert_eq!(rt; judge(rt, texts, question, steps, spent), verdict);
+    let found = judge(rt, texts, question, steps, spent);
+    assert!(rt; found == verdict, "{found:?}");
     for depth in 0..5 {
         let found = judge_split(rt, texts, question, steps, spent, depth, &OpenGate);
-        assert!(rt; found == verdict, "depth {depth}");
+        assert!(rt; found == verdict, "{found:?} at depth {depth}");
     }
 }
 
@@ -57,33 +60,48 @@ fn section_without_steps(rt: HostRuntime) {
 
 #[test]
 fn two_step_section(rt: HostRuntime) {
-    let steps = [step(1, 1, 0, 4), step(1, 2, 0, 4)];
-    assert_verdict(&rt, LEADER_AND_ACTIVE, &steps, 1, Verdict::Yes);
+    assert_verdict(&rt, LEADER_AND_ACTIVE, &two_steps(), 1, Verdict::Yes);
+}
+
+#[test]
+fn steps_of_three_nodes(rt: HostRuntime) {
+    let steps = three_steps();
+    assert_verdict_of(&rt, &LONE_INITIATOR, THREE_ASKED, &steps, 2, Verdict::Yes);
+    let not_spent = Verdict::No(SectionFault::NotSpent(1));
+    assert_verdict_of(&rt, &LONE_INITIATOR, THREE_ASKED, &steps, 1, not_spent);
+    let [first, _, last] = steps;
+    // node 1 has received nothing at its first candidate
+    let early = [first, step(2, 1, 1, 0), last];
+    let not_before = no(1, Unsound::NotBefore);
+    assert_verdict_of(&rt, &LONE_INITIATOR, THREE_ASKED, &early, 2, not_before);
+}
+
+#[test]
+fn steps_of_five_nodes(rt: HostRuntime) {
+    let texts = lone_initiator_texts(rt.alloc(), 5).expect(&rt, "memory");
+    let texts = bytes_of(rt.alloc(), &texts).expect(&rt, "memory");
+    assert_verdict_of(&rt, &texts, FIVE_ASKED, &five_steps(), 4, Verdict::Yes);
 }
 
 /// Judges a section of these steps that spends node 1, for the queues that are left when node 1 lost its first one:
 /// what node 1 has first then, and the verdict.
-fn judge_after_an_elimination(
-    rt: &(impl Abort + AllocGlobal),
-    steps: &[CertStep],
-) -> (Option<u32>, Verdict) {
-    let alloc = rt.alloc();
-    let logs = logs_of(alloc, &ELECTION).expect(rt, "the logs of one ring");
-    let ordered = order(alloc, &logs).expect(rt, "an order");
-    let question = read_question(alloc, LEADER_AND_ACTIVE).expect(rt, "a question");
-    let case = first_case(&question, &logs).expect(rt, "a question of the same ring");
-    let mut queues = case_queues(alloc, &logs, case).expect(rt, "memory");
+fn judge_after_an_elimination(alloc: Global, steps: &[CertStep]) -> Option<(Option<u32>, Verdict)> {
+    let logs = logs_of(alloc, &ELECTION)?;
+    let ordered = order(alloc, &logs).ok()?;
+    let question = read_question(alloc, LEADER_AND_ACTIVE).ok()?;
+    let case = first_case(&question, &logs)?;
+    let steps = steps.to_vec(alloc).ok()?;
+    let section = Section { steps, spent: 1 };
+    let mut queues = case_queues(alloc, &logs, case).ok()?;
     eliminate(&mut queues, 1);
     let left = candidates_left(&queues, 1).and_then(|candidates| candidates.front());
-    let steps = steps.to_vec(alloc).expect(rt, "memory");
-    let section = Section { steps, spent: 1 };
-    (left, check_queues(&ordered, queues, &section))
+    Some((left, check_queues(&ordered, queues, &section)))
 }
 
 #[test]
 fn candidates_after_an_elimination(rt: HostRuntime) {
-    let judged = judge_after_an_elimination(&rt, &[step(1, 2, 0, 4)]);
-    assert!(rt; judged == (Some(2), Verdict::Yes));
+    let judged = judge_after_an_elimination(rt.alloc(), &[step(1, 2, 0, 4)]);
+    assert!(rt; judged == Some((Some(2), Verdict::Yes)), "{judged:?}");
 }
 
 #[test]
@@ -138,9 +156,8 @@ fn other_ring_sizes_and_asked_nodes(rt: HostRuntime) {
     let steps = [step(1, 1, 1, 2), step(1, 2, 0, 4)];
     let same = no(0, Unsound::SameNode);
     assert_verdict(&rt, LEADER_AND_ACTIVE, &steps, 1, same);
-    let one = b"irask 1\nnodes 2\ncase\n0: leader\nend\n";
     let not_asked = no(0, Unsound::NotAsked);
-    assert_verdict(&rt, one, &[step(0, 4, 1, 4)], 1, not_asked);
+    assert_verdict(&rt, LEADER, &[step(0, 4, 1, 4)], 1, not_asked);
 }
 
 #[test]

@@ -7,6 +7,7 @@ use ira_links::Gate;
 use ira_order::order;
 use ira_par::check_split;
 use ira_pred::read_question;
+use std::alloc::Global;
 use std::process::Abort;
 use std::sync::Wait;
 use std::thread::Threads;
@@ -20,14 +21,24 @@ pub(crate) fn judge(
     steps: &[CertStep],
     spent: u8,
 ) -> Verdict {
-    let alloc = rt.alloc();
-    let logs = logs_of(alloc, texts).expect(rt, "the logs of one ring");
-    let ordered = order(alloc, &logs).expect(rt, "an order");
-    let question = read_question(alloc, question).expect(rt, "a question");
-    let case = first_case(&question, &logs).expect(rt, "a question of the same ring");
-    let steps = steps.to_vec(alloc).expect(rt, "memory");
+    judged(rt.alloc(), texts, question, steps, spent).expect(rt, "a verdict")
+}
+
+/// The same, where the texts are those of a ring and of a question for it, and memory is left.
+fn judged(
+    alloc: Global,
+    texts: &[&[u8]],
+    question: &[u8],
+    steps: &[CertStep],
+    spent: u8,
+) -> Option<Verdict> {
+    let logs = logs_of(alloc, texts)?;
+    let ordered = order(alloc, &logs).ok()?;
+    let question = read_question(alloc, question).ok()?;
+    let case = first_case(&question, &logs)?;
+    let steps = steps.to_vec(alloc).ok()?;
     let section = Section { steps, spent };
-    check_plain(alloc, &logs, &ordered, case, &section).expect(rt, "memory")
+    check_plain(alloc, &logs, &ordered, case, &section).ok()
 }
 
 /// The verdict at this depth, where the ranges pass this gate.
@@ -42,12 +53,27 @@ pub(crate) fn judge_split<R: Abort + AllocGlobal + Threads + Wait + Clock + Sync
 ) -> Verdict
     requires { depth ≤ 4 }
 {
+    judged_split(rt, texts, question, steps, spent, depth, gate).expect(rt, "a verdict")
+}
+
+/// The same, where the texts are those of a ring and of a question for it, and memory is left.
+fn judged_split<R: AllocGlobal + Threads + Wait + Clock + Sync, G: Gate + Sync>(
+    rt: &R,
+    texts: &[&[u8]],
+    question: &[u8],
+    steps: &[CertStep],
+    spent: u8,
+    depth: u8,
+    gate: &G,
+) -> Option<Verdict>
+    requires { depth ≤ 4 }
+{
     let alloc = rt.alloc();
-    let logs = logs_of(alloc, texts).expect(rt, "the logs of one ring");
-    let ordered = order(alloc, &logs).expect(rt, "an order");
-    let question = read_question(alloc, question).expect(rt, "a question");
-    let case = first_case(&question, &logs).expect(rt, "a question of the same ring");
-    let steps = steps.to_vec(alloc).expect(rt, "memory");
+    let logs = logs_of(alloc, texts)?;
+    let ordered = order(alloc, &logs).ok()?;
+    let question = read_question(alloc, question).ok()?;
+    let case = first_case(&question, &logs)?;
+    let steps = steps.to_vec(alloc).ok()?;
     let section = Section { steps, spent };
-    check_split(rt, alloc, &logs, &ordered, case, &section, depth, gate).expect(rt, "memory")
+    check_split(rt, alloc, &logs, &ordered, case, &section, depth, gate).ok()
 }

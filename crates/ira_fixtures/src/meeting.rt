@@ -21,48 +21,35 @@ pub fn comes_to<R: Clock>(rt: &R, counter: &AtomicU64, least: u64) -> bool {
     false
 }
 
-/// A gate that holds threads 0 and 1 in their first pass until both have entered theirs.
+/// A gate that holds each thread that passes until so many have come.
 #[derive(Drop)]
 pub struct Meeting {
-    of_thread_0: AtomicU64,
-    of_thread_1: AtomicU64,
+    wanted: u64,
+    come: AtomicU64,
     missed: AtomicU64,
 }
 
 impl Meeting {
-    /// A gate that nobody has passed.
-    pub fn new() -> Meeting {
+    /// A gate for so many threads, to which nobody has come.
+    pub fn new(wanted: u64) -> Meeting {
         Meeting {
-            of_thread_0: AtomicU64::new(0),
-            of_thread_1: AtomicU64::new(0),
+            wanted,
+            come: AtomicU64::new(0),
             missed: AtomicU64::new(0),
         }
     }
 
-    /// How often threads 0 and 1 passed.
-    pub fn passes(&self) -> (u64, u64) {
-        let of_thread_0 = self.of_thread_0.load(Ordering::SeqCst);
-        (of_thread_0, self.of_thread_1.load(Ordering::SeqCst))
-    }
-
-    /// How many of the two were let go before the other one came.
+    /// How many passes were let go before so many had come.
     pub fn missed(&self) -> u64 {
         self.missed.load(Ordering::SeqCst)
-    }
-
-    fn hold<R: Clock>(&self, rt: &R, own: &AtomicU64, other: &AtomicU64) {
-        if own.fetch_add(1, Ordering::SeqCst) == 0 && !comes_to(rt, other, 1) {
-            self.missed.fetch_add(1, Ordering::SeqCst);
-        }
     }
 }
 
 impl Gate for Meeting {
-    fn pass<R: Wait + Clock>(&self, rt: &R, who: u32) {
-        match who {
-            0 => self.hold(rt, &self.of_thread_0, &self.of_thread_1),
-            1 => self.hold(rt, &self.of_thread_1, &self.of_thread_0),
-            _ => {}
+    fn pass<R: Wait + Clock>(&self, rt: &R, _who: u32) {
+        self.come.fetch_add(1, Ordering::SeqCst);
+        if !comes_to(rt, &self.come, self.wanted) {
+            self.missed.fetch_add(1, Ordering::SeqCst);
         }
     }
 

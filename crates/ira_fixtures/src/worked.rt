@@ -96,6 +96,12 @@ pub const SECOND_TERM: [&[u8]; 2] = [
     end 10\n",
 ];
 
+/// The text of a log of node 0 of two, an initiator, up to its records.
+pub const HEAD_0: &[u8] = b"irlog 1\nnodes 2\nplace 0\nstart initiator\n";
+
+/// The text of a log of node 1 of two that ends before its end line.
+pub const CUT_1: &[u8] = b"irlog 1\nnodes 2\nplace 1\nstart passive\n";
+
 /// Logs of two initiators that did nothing yet.
 pub const EMPTY: [&[u8]; 2] = [EMPTY_0, EMPTY_1];
 
@@ -166,6 +172,10 @@ pub const EQUAL_PAIR_PASSED_ON_CLEAN: [&[u8]; 2] = [
 
 pub const BOTH_LEAD: &[u8] = b"irask 1\nnodes 2\ncase\n0: leader\n1: leader\nend\n";
 
+pub const BOTH_LEAD_OF_THREE: &[u8] = b"irask 1\nnodes 3\ncase\n0: leader\n1: leader\nend\n";
+
+pub const LEADER: &[u8] = b"irask 1\nnodes 2\ncase\n0: leader\nend\n";
+
 pub const LEADER_AND_ACTIVE: &[u8] = b"irask 1\nnodes 2\ncase\n0: leader\n1: active\nend\n";
 
 pub const ACTIVE_AND_PASSIVE: &[u8] = b"irask 1\nnodes 2\ncase\n0: active\n1: passive\nend\n";
@@ -181,6 +191,26 @@ pub const TWO_CASES: &[u8] = b"irask 1\nnodes 2\n\
     case\n0: active\n1: passive\n\
     end\n";
 
+/// The case of `BOTH_LEAD`, and then that of `LEADER_AND_ACTIVE`.
+pub const LEADER_AND_OTHER: &[u8] = b"irask 1\nnodes 2\n\
+    case\n0: leader\n1: leader\n\
+    case\n0: leader\n1: active\n\
+    end\n";
+
+/// That of `LONE_INITIATOR` all three nodes are so at once.
+pub const THREE_ASKED: &[u8] =
+    b"irask 1\nnodes 3\ncase\n0: (choosing or leader)\n1: (not owes)\n2: owes\nend\n";
+
+/// Two cases that ask each node of the lone initiator's election in a ring of five: one that no cut meets, and one that
+/// is met where the message has come to node 2.
+pub const FIVE_ASKED: &[u8] = b"irask 1\nnodes 5\n\
+    case\n0: (choosing or leader)\n1: (not owes)\n2: (not owes)\n3: (not owes)\n4: owes\n\
+    case\n0: active\n1: passive\n2: owes\n3: passive\n4: passive\n\
+    end\n";
+
+/// A question that asks a place which the ring hasn't.
+pub const PLACE_2: &[u8] = b"irask 1\nnodes 2\ncase\n0: (leader and owes)\n2: true\nend\n";
+
 /// That the leader of `ELECTION` never leads while the other node is active.
 pub const TWO_STEPS: &[u8] =
     b"ircert 1\nnodes 2\nsection\ndrop 1 1 by 0 4\ndrop 1 2 by 0 4\nspent 1\nend\n";
@@ -192,8 +222,53 @@ pub const ONE_STEP: &[u8] = b"ircert 1\nnodes 2\nsection\ndrop 1 1 by 0 4\nspent
 pub const STEPS_SWAPPED: &[u8] =
     b"ircert 1\nnodes 2\nsection\ndrop 1 2 by 0 4\ndrop 1 1 by 0 4\nspent 1\nend\n";
 
+/// A section whose second step isn't sound: node 0 is active at the cut (2, 3), where node 1 is passive.
+pub const NOT_BEFORE: &[u8] =
+    b"ircert 1\nnodes 2\nsection\ndrop 0 1 by 1 3\ndrop 0 2 by 1 3\nspent 0\nend\n";
+
 /// One section without steps.
 pub const NODE_1_SPENT: &[u8] = b"ircert 1\nnodes 2\nsection\nspent 1\nend\n";
+
+/// The same of a ring of three.
+pub const NODE_1_SPENT_OF_THREE: &[u8] = b"ircert 1\nnodes 3\nsection\nspent 1\nend\n";
+
+/// The section of `NODE_1_SPENT`, and then that of `TWO_STEPS`.
+pub const TWO_SECTIONS: &[u8] = b"ircert 1\nnodes 2\n\
+    section\nspent 1\n\
+    section\ndrop 1 1 by 0 4\ndrop 1 2 by 0 4\nspent 1\n\
+    end\n";
+
+/// That no cut meets `THREE_ASKED`.
+pub const THREE_STEPS: &[u8] = b"ircert 1\nnodes 3\n\
+    section\ndrop 0 0 by 2 1\ndrop 1 0 by 0 3\ndrop 2 1 by 0 3\nspent 2\n\
+    end\n";
+
+/// That no cut meets the first case of `FIVE_ASKED`, and a section that isn't sound for the second.
+pub const FIVE_STEPS: &[u8] = b"ircert 1\nnodes 5\n\
+    section\ndrop 0 0 by 4 1\ndrop 1 0 by 0 3\ndrop 2 0 by 0 3\ndrop 3 0 by 0 3\ndrop 4 1 by 0 3\nspent 4\n\
+    section\nspent 0\n\
+    end\n";
+
+/// The steps of `TWO_STEPS`.
+pub const fn two_steps() -> [CertStep; 2] {
+    [step(1, 1, 0, 4), step(1, 2, 0, 4)]
+}
+
+/// The steps of `THREE_STEPS`: each node loses a candidate.
+pub const fn three_steps() -> [CertStep; 3] {
+    [step(0, 0, 2, 1), step(1, 0, 0, 3), step(2, 1, 0, 3)]
+}
+
+/// Those of the first section of `FIVE_STEPS`.
+pub const fn five_steps() -> [CertStep; 5] {
+    [
+        step(0, 0, 4, 1),
+        step(1, 0, 0, 3),
+        step(2, 0, 0, 3),
+        step(3, 0, 0, 3),
+        step(4, 1, 0, 3),
+    ]
+}
 
 /// State `pos` of `node` is ruled out by state `other_pos` of `other`.
 pub const fn step(node: u8, pos: u32, other: u8, other_pos: u32) -> CertStep {

@@ -1,11 +1,11 @@
 // What the gate of a ring's threads sees: that the nodes run at once, that a message comes after its sending, when
 // nodes pass, and that each started thread has ended.
-use crate::samples::{assert_run, clean, has_events, setup_of};
+use crate::samples::{assert_run, has_events, setup_of};
 use ira_event::{Event, NodeLog, RingSize};
-use ira_fixtures::{Meeting, Passes, TURN, comes_to, loser, winner};
+use ira_fixtures::{Meeting, Passes, TURN, clean, comes_to, loser, winner};
 use ira_links::{Gate, OpenGate};
 use ira_ring::{NodeEnd, Run, RunFault, Setup, run_ring};
-use std::alloc::Global;
+use std::alloc::{AllocError, Global};
 use std::process::Abort;
 use std::sync::Wait;
 use std::sync::atomic::{AtomicU64, Ordering};
@@ -30,10 +30,9 @@ fn assert_elected(rt: &impl Abort, run: &Run<Global>) {
 
 #[test]
 fn two_nodes_run_at_once(rt: HostRuntime) {
-    let gate = Meeting::new();
+    let gate = Meeting::new(2);
     assert_elected(&rt, &elect(&rt, &gate));
-    let (of_node_0, of_node_1) = gate.passes();
-    assert!(rt; gate.missed() == 0 && of_node_0 > 0 && of_node_1 > 0);
+    assert_eq!(rt; gate.missed(), 0);
 }
 
 /// Holds node 0 in its second pass until node 1 has entered its third, and then for `A_WHILE` turns more.
@@ -101,18 +100,36 @@ fn nothing_is_received_before_it_is_sent(rt: HostRuntime) {
     assert_eq!(rt; gate.counts(), [4, 5, 0, 0]);
 }
 
+/// Compares how often the nodes pass in a run, a digit for each.
+fn assert_passes<R: Abort + AllocGlobal + Threads + Wait + Clock + Sync>(
+    rt: &R,
+    setup: &Setup<Global>,
+    passes: u64,
+) {
+    let gate = Passes::new();
+    let has_run = run_ring(rt, rt.alloc(), setup, &gate).is_ok();
+    let found = gate.counts();
+    assert!(rt; has_run && found == passes, "{found:x}");
+}
+
 /// Both nodes draw 1 and pass once before each of their five events; for the draw that each lacks then they pass no
 /// gate.
 #[test]
 fn draws_spent_on_both(rt: HostRuntime) {
     let setup = setup_of(&rt, 2, &[true, true], &[&[1], &[1]], 100);
-    let gate = Passes::new();
-    let has_run = run_ring(&rt, rt.alloc(), &setup, &gate).is_ok();
-    let passes = gate.counts();
-    assert!(rt; has_run && passes == 0x55, "{passes:x}");
+    assert_passes(&rt, &setup, 0x55);
 }
 
-/// Holds node 1 in its first pass until node 0 has entered its fifth, after its second sending.
+/// Node 0 passes before each of its eleven events but its yield, and before it takes the end; node 1 before each of its
+/// ten events.
+#[test]
+fn a_yield_passes_no_gate(rt: HostRuntime) {
+    let mut setup = setup_of(&rt, 2, &[true, true], &[&[2, 1], &[1, 2]], 100);
+    setup.terms = 2;
+    assert_passes(&rt, &setup, 0xab);
+}
+
+/// Holds node 1 in its first pass until node 0 has entered its ninth, after its fourth sending.
 #[derive(Drop)]
 struct LateReader {
     of_node_0: AtomicU64,
@@ -126,7 +143,7 @@ impl Gate for LateReader {
             self.of_node_0.fetch_add(1, Ordering::SeqCst);
         } else if who == 1
             && self.of_node_1.fetch_add(1, Ordering::SeqCst) == 0
-            && !comes_to(rt, &self.of_node_0, 5)
+            && !comes_to(rt, &self.of_node_0, 9)
         {
             self.missed.fetch_add(1, Ordering::SeqCst);
         }
@@ -137,10 +154,12 @@ impl Gate for LateReader {
     }
 }
 
-// On a link that held one frame, node 0 would wait in its second sending until node 1 is let go.
+// Node 0 sends its own message, and passes on those of nodes 4, 3 and 2. On a link that held three frames, it would wait
+// in its fourth sending until node 1 is let go.
 #[test]
 fn a_link_holds_what_its_reader_is_late_for(rt: HostRuntime) {
-    let setup = setup_of(&rt, 3, &[true, true, true], &[&[1], &[2], &[3]], 100);
+    let draws: [&[u32]; 5] = [&[1], &[2], &[5], &[4], &[3]];
+    let setup = setup_of(&rt, 5, &[true; 5], &draws, 100);
     let gate = LateReader {
         of_node_0: AtomicU64::new(0),
         of_node_1: AtomicU64::new(0),
@@ -226,57 +245,71 @@ fn refused_start_ends_all(rt: HostRuntime) {
     }
 }
 
-/// The setup of a ring of 64 in which each node but the last draws less than the next one.
-fn rising_setup(rt: &(impl Abort + AllocGlobal)) -> Setup<Global> {
-    let mut draws = Vec::new(rt.alloc());
-    for id in 1..=64_u32 {
-        let list = vec![in rt.alloc(); id].expect(rt, "memory");
-        draws.push(list).expect(rt, "memory");
+/// The setup of a ring of so many in which each node but the last draws less than the next one.
+fn rising_setup(alloc: Global, size: RingSize) -> Result<Setup<Global>, AllocError> {
+    let nodes = size.get();
+    let mut draws = Vec::new(alloc);
+    for place in 0..nodes {
+        draws.push(vec![in alloc; u32::from(place) + 1]?)?;
     }
-    Setup {
-        nodes: RingSize::new(64).expect(rt, "a ring of 64"),
-        initiators: vec![in rt.alloc(); true; 64].expect(rt, "memory"),
+    Ok(Setup {
+        nodes: size,
+        initiators: vec![in alloc; true; usize::from(nodes)]?,
         draws,
         cap: 100,
         terms: 1,
-    }
+    })
 }
 
-/// Whether a node but the last passed on the message of the last one.
-fn has_passed_on(log: &NodeLog<Global>, place: u8) -> bool {
-    let id = u32::from(place) + 1;
+/// Whether this is the log of its node of so many, where the last one's message went round.
+fn has_passed_on(log: &NodeLog<Global>, place: u8, nodes: u8) -> bool {
+    let (id, greatest) = (u32::from(place) + 1, u32::from(nodes));
     let drawn = Event::Draw(id);
     let sent = Event::Sent(clean(1, id, 1));
-    let last = Event::Got(clean(1, 64, id));
-    let passed = Event::Sent(clean(1, 64, id + 1));
-    match place {
-        0 => has_events(log, &[drawn, sent, last, passed]),
-        63 => has_events(log, &[drawn, sent, Event::Got(clean(1, 63, 1)), last]),
-        _ => {
-            let less = Event::Got(clean(1, id - 1, 1));
-            has_events(log, &[drawn, sent, less, last, passed])
-        }
+    let less = Event::Got(clean(1, u32::from(place), 1));
+    let last = Event::Got(clean(1, greatest, id));
+    let passed = Event::Sent(clean(1, greatest, id + 1));
+    if place == 0 {
+        has_events(log, &[drawn, sent, last, passed])
+    } else if id == greatest {
+        has_events(log, &[drawn, sent, less, last])
+    } else {
+        has_events(log, &[drawn, sent, less, last, passed])
     }
 }
 
-/// Whether each node but the last of 64 passed on its message, and the last one leads.
-fn has_elected_last(run: &Run<Global>) -> bool {
+/// Whether each node but the last of so many passed on its message, and the last one leads.
+fn has_elected_last(run: &Run<Global>, nodes: u8) -> bool {
     for place in 0..run.logs().size().get() {
         let end = run.ends().get(usize::from(place)).copied();
-        let expected = match place {
-            63 => NodeEnd::Leader,
-            _ => NodeEnd::Stopped,
+        let expected = if u32::from(place) + 1 == u32::from(nodes) {
+            NodeEnd::Leader
+        } else {
+            NodeEnd::Stopped
         };
-        if end != Some(expected) || !has_passed_on(run.logs().log(place), place) {
+        if end != Some(expected) || !has_passed_on(run.logs().log(place), place, nodes) {
             return false;
         }
     }
-    run.logs().size().get() == 64
+    run.logs().size().get() == nodes
+}
+
+/// Whether a ring of so many elects its last node.
+fn elects_last<R: AllocGlobal + Threads + Wait + Clock + Sync>(rt: &R, nodes: u8) -> Option<bool> {
+    let setup = rising_setup(rt.alloc(), RingSize::new(nodes)?).ok()?;
+    let run = run_ring(rt, rt.alloc(), &setup, &OpenGate).ok()?;
+    Some(has_elected_last(&run, nodes))
 }
 
 #[test]
-fn sixty_four_nodes(rt: HostRuntime) {
-    let setup = rising_setup(&rt);
-    let run = run_ring(&rt, rt.alloc(), &setup, &OpenGate).expect(&rt, "a run");
-    assert!(rt; has_elected_last(&run));
+fn larger_rings(rt: HostRuntime) {
+    let elect_last = [
+        elects_last(&rt, 64),
+        elects_last(&rt, 65),
+        elects_last(&rt, 255),
+    ];
+    assert!(rt;
+        elect_last == [Some(true), Some(true), Some(true)],
+        "{elect_last:?}"
+    );
 }
