@@ -24,7 +24,8 @@ enum Subject<'a, A: Allocator, P: Allocator> {
 }
 
 impl<'a, A: Allocator + Copy> AskedFiles<'a, A> {
-    /// Adds what is found for the case of a number, or for the first ones: those that are present, or all where none is.
+    /// Adds what is found for the case of a number, or for the first ones: those that are present, or all where none
+    /// is.
     pub(crate) fn explain_findings<P: Allocator + Clone>(
         &self,
         draft: &mut ExplanationDraft<P>,

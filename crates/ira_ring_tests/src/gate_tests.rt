@@ -154,8 +154,8 @@ impl Gate for LateReader {
     }
 }
 
-// Node 0 sends its own message, and passes on those of nodes 4, 3 and 2. On a link that held three frames, it would wait
-// in its fourth sending until node 1 is let go.
+// Node 0 sends its own message, and passes on those of nodes 4, 3 and 2. On a link that held three frames, it would
+// wait in its fourth sending until node 1 is let go.
 #[test]
 fn a_link_holds_what_its_reader_is_late_for(rt: HostRuntime) {
     let draws: [&[u32]; 5] = [&[1], &[2], &[5], &[4], &[3]];

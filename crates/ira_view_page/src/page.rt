@@ -1,4 +1,4 @@
-ghost use Rattle.std.specs.Prelude.{◌≡◌, ◌++◌, [], ◌<◌, IfSome, MatchOption, MatchResult, None, Some};
+ghost use Rattle.std.specs.Prelude.{◌≡◌, ◌++◌, [], ◌<◌, ◌≤◌, IfSome, MatchOption, MatchResult, None, Some};
 ghost use Rattle.std.specs.Prelude.{codes, decimal, length};
 ghost use Rattle.ira_view_page.specs.Page.{Added, AddedBy, kept, mark_text};
 ghost use Rattle.ira_view_page.specs.Printable.{IsPrintable, hex_digit_of, shown, shown_byte};
@@ -149,7 +149,9 @@ impl<A: Allocator> Page<A> {
     }
 
     /// How many characters stand on the last line so far.
-    pub fn column(&self) -> usize {
+    pub fn column(&self) -> usize
+        ensures { IfSome self.now (λ text. result ≤ length text) }
+    {
         match self.text.iter().rposition(|c| *c == b'\n') {
             Some(feed) => self.text.len() - feed - 1,
             None => self.text.len(),

@@ -51,7 +51,8 @@ module _ (s : Shape) (once : s.args_override_self ≡ false) (all : AllFit s.rul
       by vs (Some a) fits fine = used_typed s.args_override_self once a (fits a refl) vs h.rows are fine
 
       go : (p : Option (Text × List Text))
-          → option_map_or (λ p. option_map_or (λ a. use_fault s.args_override_self a p.1 h.rows) (arg_by_id s.rules p.0) []) p [] ≡ []
+          → option_map_or (λ p. option_map_or (λ a. use_fault s.args_override_self a p.1 h.rows) (arg_by_id s.rules p.0) [])
+          p [] ≡ []
           → AreTyped (settled_rows s.rules p h.rows)
       go None fine = are
       go (Some p) fine = by p.1 (arg_by_id s.rules p.0) (fits_found s.rules all _) fine
@@ -88,7 +89,8 @@ module _ (s : Shape) (once : s.args_override_self ≡ false) (all : AllFit s.rul
   short_typed : (o : Option Rule) → ((a : Rule) → o ≡ Some a → Fits a)
       → (rest : Text) (h : Held) (after : Held → Kinds) (onward : Held → Held × Outcome)
       → ((g : Held) → AreTyped g.rows → after g ≡ [] → AreTyped (onward g).0.rows)
-      → AreTyped h.rows → short_fault s.rules s.args_override_self o rest h after ≡ [] → AreTyped (short_met s.rules o rest h onward).0.rows
+      → AreTyped h.rows → short_fault s.rules s.args_override_self o rest h after ≡ []
+      → AreTyped (short_met s.rules o rest h onward).0.rows
   short_typed None fits rest h after onward more are none = are
   short_typed (Some a) fits rest h after onward more are none = go (takes_values a) none
     where
@@ -108,7 +110,8 @@ module _ (s : Shape) (once : s.args_override_self ≡ false) (all : AllFit s.rul
       go (slice_get (chars flags) 0) skip (λ rest n so g are_so fine. bundle_typed k rest n so g are_so fine) none
     where
       go : (o : Option ℕ) (n : ℕ)
-          → ((rest : Text) (m : ℕ) (so : Outcome) (g : Held) → AreTyped g.rows → flags_fault s.rules s.args_override_self k rest m g ≡ []
+          → ((rest : Text) (m : ℕ) (so : Outcome) (g : Held) → AreTyped g.rows
+          → flags_fault s.rules s.args_override_self k rest m g ≡ []
           → AreTyped (bundle_met s.rules k rest m so g).0.rows)
           → bundle_step_fault s.rules s.args_override_self o flags n h (flags_fault s.rules s.args_override_self k) ≡ []
           → AreTyped (bundle_step s.rules o flags n so_far h (bundle_met s.rules k)).0.rows
@@ -139,7 +142,8 @@ module _ (s : Shape) (once : s.args_override_self ≡ false) (all : AllFit s.rul
 
   flag_typed : (l : Option (Text × Option Text)) (waiting : Waiting) (word : Text) (h : Held)
       → AreTyped h.rows
-      → flag_word_fault s.rules s.args_override_self l word h ≡ [] → AreTyped (long_or_other s.rules waiting word l h).0.rows
+      → flag_word_fault s.rules s.args_override_self l word h ≡ []
+      → AreTyped (long_or_other s.rules waiting word l h).0.rows
   flag_typed (Some p) waiting word h are none =
       after_typed waiting word (long_met s.rules (arg_by_long s.rules p.0) p.1 h).0 (long_met s.rules (arg_by_long s.rules p.0) p.1 h).1
       (long_typed (arg_by_long s.rules p.0) (fits_found s.rules all _) p.1 h are none)

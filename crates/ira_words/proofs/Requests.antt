@@ -69,7 +69,8 @@ logs_line words request line =
           (subst (λ found. HasLogs found request.logs) (ap rows apart ∙ dashes_rows front back are) here);
     }
 
-pub made : (words : List Text) (name : Text) (rows : List Row) → IsParsed words name rows → (request : Request) → Asks name rows request → IsMadeOf words request
+pub made : (words : List Text) (name : Text) (rows : List Row) → IsParsed words name rows
+    → (request : Request) → Asks name rows request → IsMadeOf words request
 made words name rows it request asks =
     go request (record {
       accepted = it.accepted;
