@@ -5,8 +5,8 @@ use Rattle.ira_order.specs.Circle.{HasOrder}
 use Rattle.ira_order.specs.Matching.{Matches}
 use Rattle.ira_order.specs.MatchFault.{IsMatchFault}
 use Rattle.ira_evidence.specs.CircleEvidence.{IsCircle}
-use Rattle.ira_evidence.specs.FaultyEvent.{IsFirstFaultyEvent}
-use Rattle.ira_evidence.specs.declared.faulty_event.FaultyEvent.{FaultyEvent}
+use Rattle.ira_order.specs.FaultyEvent.{IsFirstFaultyEvent}
+use Rattle.ira_order.specs.declared.faulty_event.FaultyEvent.{FaultyEvent}
 use Rattle.ira_draw.specs.declared.objection.Objection.{Objection}
 use Rattle.ira_draw.specs.declared.objection.Objection.TheVariants.{Link, Circle, Node}
 

@@ -1,16 +1,16 @@
 ghost use Rattle.std.specs.Prelude.{Some};
 ghost use Rattle.ira_order.specs.Circle.{HasOrder};
 ghost use Rattle.ira_order.specs.MatchFault.{IsMatchFault};
-ghost use Rattle.ira_evidence.specs.FaultyEvent.{IsFirstFaultyEvent};
+ghost use Rattle.ira_order.specs.FaultyEvent.{IsFirstFaultyEvent};
 ghost use Rattle.ira_draw.specs.Objection.{IsObjection};
 
 use crate::objection::Objection;
 use ira_event::{Logs, OutOfMemory};
 use ira_evidence::{
-    Beginning, CircleEvidence, FaultyEvent, LinkEvidence, beginnings, first_faulty_events,
+    Beginning, CircleEvidence, LinkEvidence, beginnings, first_faulty_events,
 };
 use ira_node::StepFault;
-use ira_order::{DirectDependencies, EventAt, MatchFault};
+use ira_order::{DirectDependencies, EventAt, FaultyEvent, MatchFault};
 use ira_view_page::Page;
 use std::alloc::Allocator;
 

@@ -4,8 +4,8 @@ ghost use Rattle.ira_order.specs.Matching.{Matches};
 ghost use Rattle.ira_draw.specs.Objection.{IsObjection};
 
 use ira_event::{Logs, OutOfMemory};
-use ira_evidence::{CircleEvidence, FaultyEvent, first_faulty_events};
-use ira_order::{MatchFault, match_links};
+use ira_evidence::{CircleEvidence, first_faulty_events};
+use ira_order::{FaultyEvent, MatchFault, match_links};
 use std::alloc::Allocator;
 
 /// What stands against the logs of a ring.

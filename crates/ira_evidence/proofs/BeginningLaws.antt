@@ -15,34 +15,15 @@ use Rattle.ira_order.specs.Matching.{Matches}
 use Rattle.ira_order.specs.Order.{IsOrder, StandsAt}
 use Rattle.ira_order.specs.Ring.{events_of, log_of}
 use Rattle.ira_order.proofs.Acyclic.{before_stands, before_within, place_of}
+use Rattle.ira_order.proofs.FaultyEvents.{is_stop, same_stop, stop_of}
 use Rattle.ira_order.proofs.HasCounts.{before_decided}
 use Rattle.ira_replay.specs.LocalRun.{IsFirstFault, IsLocalRun, LeadsTo}
 use Rattle.ira_replay.specs.declared.replay_fault.ReplayFault.{ReplayFault}
 use Rattle.ira_replay.proofs.Alike.{leads_split}
-use Rattle.ira_replay.proofs.FirstFaults.{one_stop, run_or_fault, run_or_stop}
-use Rattle.ira_evidence.specs.declared.faulty_event.FaultyEvent.{FaultyEvent}
+use Rattle.ira_replay.proofs.FirstFaults.{run_or_fault, run_or_stop}
+use Rattle.ira_order.specs.declared.faulty_event.FaultyEvent.{FaultyEvent}
 use Rattle.ira_evidence.specs.Beginning.{HappenedBefore, IsBeginning, IsEventAt}
-use Rattle.ira_evidence.specs.FaultyEvent.{IsFirstFaultyEvent}
-
--- the stop of node i where its log has this first fault
-abbrev pub stop_of : ℕ → ReplayFault → FaultyEvent
-stop_of i f = record { at = record { place = i; position = f.position }; fault = f.fault }
-
-pub is_stop : (logs : List Log) (i : ℕ) (log : Log) (f : ReplayFault) → slice_get logs i ≡ Some log → IsFirstFault log f
-    → IsFirstFaultyEvent logs (stop_of i f)
-is_stop logs i log f at fault = record { log = log; log_is = at; fault = fault }
-
--- a node has one
-pub same_stop : (logs : List Log) (i : ℕ) (log : Log) (f : ReplayFault) (s : FaultyEvent) → slice_get logs i ≡ Some log
-    → IsFirstFault log f → IsFirstFaultyEvent logs s → s.at.place ≡ i → stop_of i f ≡ s
-same_stop logs i log f s at fault is here =
-    let there : slice_get logs i ≡ Some is.log = subst (λ k. slice_get logs k ≡ Some is.log) here is.log_is in
-    let same : is.log ≡ log = cc in
-    let its : IsFirstFault log (record { position = s.at.position; fault = s.fault }) =
-    subst (λ l. IsFirstFault l (record { position = s.at.position; fault = s.fault })) same is.fault in
-    let one : f ≡ record { position = s.at.position; fault = s.fault } = one_stop log f _ fault its in
-    ap (stop_of i) one ∙ ap (λ k. record { at = record { place = k; position = s.at.position }; fault = s.fault })
-    (sym here)
+use Rattle.ira_order.specs.FaultyEvent.{IsFirstFaultyEvent}
 
 -- a stop is an event
 pub stop_event : (logs : List Log) (s : FaultyEvent) → IsFirstFaultyEvent logs s → IsEventAt logs s.at

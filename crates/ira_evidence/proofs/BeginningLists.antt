@@ -8,11 +8,11 @@ use Rattle.ira_event.specs.Log.{Log}
 use Rattle.ira_node.specs.declared.step_fault.StepFault.TheVariants.{Owes}
 use Rattle.ira_evidence.specs.declared.beginning.Beginning.{Beginning}
 use Rattle.ira_order.specs.declared.event_at.EventAt.{EventAt}
-use Rattle.ira_evidence.specs.declared.faulty_event.FaultyEvent.{FaultyEvent}
+use Rattle.ira_order.specs.declared.faulty_event.FaultyEvent.{FaultyEvent}
 use Rattle.ira_evidence.specs.Beginning.{AreBeginnings, HappenedBefore, IsBeginning, IsEventAt}
-use Rattle.ira_evidence.specs.FaultyEvent.{AreFirstFaultyEvents, IsFirstFaultyEvent}
+use Rattle.ira_order.specs.FaultyEvent.{AreFirstFaultyEvents, IsFirstFaultyEvent}
 use Rattle.ira_evidence.proofs.BeginningLaws.{stop_event}
-use Rattle.ira_evidence.proofs.Pushed.{pushed_cases, pushed_last, pushed_old}
+use Rattle.ira_order.proofs.Pushed.{pushed_cases, pushed_last, pushed_old}
 
 -- stop k of the list
 abbrev pub stop_at : List FaultyEvent → ℕ → FaultyEvent

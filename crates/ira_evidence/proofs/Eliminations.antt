@@ -22,7 +22,7 @@ use Rattle.ira_evidence.specs.declared.elimination.Elimination.{Elimination}
 use Rattle.ira_evidence.specs.Absence.{ShowsAbsence}
 use Rattle.ira_evidence.specs.Elimination.{AreEliminations, IsAdded, IsCandidate, IsEliminated, IsElimination}
 use Rattle.ira_evidence.specs.Elimination.{IsFurther, ending, of_step}
-use Rattle.ira_evidence.proofs.Pushed.{pushed_cases, pushed_last, pushed_old}
+use Rattle.ira_order.proofs.Pushed.{pushed_cases, pushed_last, pushed_old}
 
 -- an earlier event of the node happened before it too
 before_earlier : (logs : List Log) (i a b j c : ℕ) → 1 ≤ a → a ≤ b → Before logs i b j c → Before logs i a j c

@@ -5,8 +5,8 @@ use Rattle.ira_order.specs.Before.{Before}
 use Rattle.ira_order.specs.Ring.{log_of}
 use Rattle.ira_evidence.specs.declared.beginning.Beginning.{Beginning}
 use Rattle.ira_order.specs.declared.event_at.EventAt.{EventAt}
-use Rattle.ira_evidence.specs.declared.faulty_event.FaultyEvent.{FaultyEvent}
-use Rattle.ira_evidence.specs.FaultyEvent.{IsFirstFaultyEvent, Rises}
+use Rattle.ira_order.specs.declared.faulty_event.FaultyEvent.{FaultyEvent}
+use Rattle.ira_order.specs.FaultyEvent.{IsFirstFaultyEvent, Rises}
 
 -- there is such an event
 pub record IsEventAt (logs : List Log) (at : EventAt) : Type 0 where

@@ -9,10 +9,10 @@ use Rattle.ira_order.specs.Circle.{HasOrder}
 use Rattle.ira_order.specs.Matching.{Matches}
 use Rattle.ira_order.specs.Order.{IsOrder}
 use Rattle.ira_replay.specs.LocalRun.{LeadsTo}
-use Rattle.ira_evidence.specs.declared.faulty_event.FaultyEvent.{FaultyEvent}
+use Rattle.ira_order.specs.declared.faulty_event.FaultyEvent.{FaultyEvent}
 use Rattle.ira_evidence.specs.Beginning.{HappenedBefore, IsBeginning}
 use Rattle.ira_evidence.specs.CircleEvidence.{IsCircle, IsLongestPrefix}
-use Rattle.ira_evidence.specs.FaultyEvent.{IsFirstFaultyEvent}
+use Rattle.ira_order.specs.FaultyEvent.{IsFirstFaultyEvent}
 
 -- logs with a circle once round the ring have no order
 abbrev pub CirclesHaveNoOrder : Type 0

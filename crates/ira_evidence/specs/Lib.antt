@@ -8,5 +8,4 @@ pub mod LinkEvidence
 pub mod NodeEvidence
 pub mod Reach
 pub mod SectionEvidence
-pub mod FaultyEvent
 pub mod StuckNodes

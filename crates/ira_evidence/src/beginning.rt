@@ -1,12 +1,11 @@
 ghost use Rattle.std.specs.Prelude.{◌<◌, ◌≤◌, IfOk, MatchBool, length};
 ghost use Rattle.ira_order.specs.Ring.{log_of};
 ghost use Rattle.ira_evidence.specs.Beginning.{AreBeginnings, IsEventAt, HappenedBefore as Happened};
-ghost use Rattle.ira_evidence.specs.FaultyEvent.{AreFirstFaultyEvents, IsFirstFaultyEvent};
-ghost use Rattle.ira_evidence.specs.declared.faulty_event.FaultyEvent.{FaultyEvent};
+ghost use Rattle.ira_order.specs.FaultyEvent.{AreFirstFaultyEvents, IsFirstFaultyEvent};
+ghost use Rattle.ira_order.specs.declared.faulty_event.FaultyEvent.{FaultyEvent};
 
-use crate::faulty_event::FaultyEvent;
 use ira_event::OutOfMemory;
-use ira_order::{EventAt, HappenedBefore};
+use ira_order::{EventAt, FaultyEvent, HappenedBefore};
 use std::alloc::Allocator;
 
 /// Where to begin: a first event without a step before which no other such event happened, so that all that happened

@@ -1,19 +1,10 @@
 ghost use Rattle.std.specs.Prelude.{IfOk};
-ghost use Rattle.ira_evidence.specs.FaultyEvent.{AreFirstFaultyEvents};
+ghost use Rattle.ira_order.specs.FaultyEvent.{AreFirstFaultyEvents};
 
 use ira_event::{Logs, OutOfMemory};
-use ira_node::StepFault;
-use ira_order::EventAt;
+use ira_order::{EventAt, FaultyEvent};
 use ira_replay::replay;
 use std::alloc::Allocator;
-
-/// A node's first event without a step.
-#[derive(Clone, Copy, Debug, PartialEq, Eq)]
-pub struct FaultyEvent {
-    pub at: EventAt,
-    /// Why it has none.
-    pub fault: StepFault,
-}
 
 /// Each node's first event without a step, where it has one, in the order of places.
 pub fn first_faulty_events<A: Allocator>(

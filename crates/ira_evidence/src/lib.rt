@@ -19,7 +19,7 @@ pub use beginning::{Beginning, beginnings};
 pub use circle_evidence::CircleEvidence;
 pub use elimination::Elimination;
 pub use exchange::{Exchange, nth_receipt, nth_sending};
-pub use faulty_event::{FaultyEvent, first_faulty_events};
+pub use faulty_event::first_faulty_events;
 pub use laws::{some_faulty_event_is_a_beginning, stuck_receipts_are_a_circle};
 pub use link_evidence::LinkEvidence;
 pub use node_evidence::NodeEvidence;

@@ -1,7 +1,8 @@
 use crate::numbered::{numbered, numbered_page};
 use crate::ring_files::RingFiles;
 use ira_event::{Event, OutOfMemory};
-use ira_evidence::{CircleEvidence, FaultyEvent, StuckAt, first_faulty_events};
+use ira_evidence::{CircleEvidence, StuckAt, first_faulty_events};
+use ira_order::FaultyEvent;
 use ira_view_page::{ExplanationDraft, Mark, Page, Row, Table, file_of, line_of};
 use std::alloc::Allocator;
 

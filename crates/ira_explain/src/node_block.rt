@@ -1,14 +1,14 @@
 ghost use Rattle.ira_order.specs.Circle.{HasOrder};
-ghost use Rattle.ira_evidence.specs.FaultyEvent.{AreFirstFaultyEvents, IsFirstFaultyEvent};
+ghost use Rattle.ira_order.specs.FaultyEvent.{AreFirstFaultyEvents, IsFirstFaultyEvent};
 
 use crate::carets::{carets_at_end, carets_below, digits};
 use crate::numbered::numbered;
 use crate::ring_files::RingFiles;
 use crate::stopped::Stopped;
 use ira_event::{Event, NodeLog, OutOfMemory};
-use ira_evidence::{Beginning, FaultyEvent, NodeEvidence, beginnings};
+use ira_evidence::{Beginning, NodeEvidence, beginnings};
 use ira_node::StepFault;
-use ira_order::{DirectDependencies, EventAt, HappenedBefore};
+use ira_order::{DirectDependencies, EventAt, FaultyEvent, HappenedBefore};
 use ira_view_page::{
     ExplanationDraft, Mark, Page, Row, Table, event_at, event_of, file_of, log_at,
 };

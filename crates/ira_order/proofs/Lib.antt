@@ -6,6 +6,7 @@ pub mod CutLattice
 pub mod Cuts
 pub mod Dependencies
 pub mod Faults
+pub mod FaultyEvents
 pub mod Filling
 pub mod HasCounts
 pub mod MatchAnswered

@@ -3,6 +3,7 @@ pub mod Circle
 pub mod Counts
 pub mod Cut
 pub mod DirectDependencies
+pub mod FaultyEvent
 pub mod Laws
 pub mod MatchFault
 pub mod Matching

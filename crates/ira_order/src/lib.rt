@@ -4,6 +4,7 @@
 
 mod direct_dependencies;
 mod event_at;
+mod faulty_event;
 mod happened_before;
 mod laws;
 mod links;
@@ -20,6 +21,7 @@ mod tally;
 
 pub use direct_dependencies::DirectDependencies;
 pub use event_at::EventAt;
+pub use faulty_event::FaultyEvent;
 pub use happened_before::HappenedBefore;
 pub use laws::{
     counts_are_cuts, cuts_are_a_lattice, cuts_are_moments, events_have_counts, moments_are_cuts,

@@ -5,7 +5,7 @@ use Rattle.std.proofs.Common.{arith}
 use Rattle.std.specs.Prelude.{slice_get}
 use Rattle.std.proofs.lemmas.Bool.{cases_lt}
 use Rattle.std.proofs.lemmas.Option.{slice_get_within}
-use Rattle.ira_evidence.proofs.Pushed.{pushed_cases, pushed_last, pushed_old}
+use Rattle.ira_order.proofs.Pushed.{pushed_cases, pushed_last, pushed_old}
 use Rattle.ira_picture.specs.declared.after.After.{After}
 use Rattle.ira_picture.specs.declared.band.Band.{Band}
 use Rattle.ira_picture.specs.declared.band.BandKind.{BandKind}

@@ -4,7 +4,7 @@ use Rattle.std.proofs.Common.{subst}
 use Rattle.std.proofs.Common.{arith}
 use Rattle.std.specs.Prelude.{slice_get}
 use Rattle.std.proofs.lemmas.Bool.{cases_lt}
-use Rattle.ira_evidence.proofs.Pushed.{pushed_cases, pushed_last, pushed_old}
+use Rattle.ira_order.proofs.Pushed.{pushed_cases, pushed_last, pushed_old}
 use Rattle.ira_picture.specs.declared.after.After.{After}
 use Rattle.ira_picture.specs.declared.band.Span.{Span}
 use Rattle.ira_picture.specs.declared.mark.Mark.{Mark}

@@ -12,7 +12,7 @@ use Rattle.ira_order.specs.Matching.{got, sent}
 use Rattle.ira_order.specs.Ring.{log_of, next, numbered}
 use Rattle.ira_order.proofs.Pairing.{numbered-past}
 use Rattle.ira_evidence.specs.declared.exchange.Exchange.{Exchange}
-use Rattle.ira_evidence.proofs.Pushed.{pushed_cases, pushed_last, pushed_old}
+use Rattle.ira_order.proofs.Pushed.{pushed_cases, pushed_last, pushed_old}
 use Rattle.ira_picture.specs.declared.arrow.Arrow.{Arrow}
 use Rattle.ira_picture.specs.declared.window.Window.{Window}
 use Rattle.ira_picture.specs.Arrow.{AreArrows, AreArrowsBefore, IsArrow, IsBefore, IsBetween, IsDrawn, IsReceipt}

@@ -4,7 +4,7 @@ use Rattle.std.specs.Prelude.{nat_le, if◌then◌else◌, slice_get}
 use Rattle.std.proofs.lemmas.Bool.Decides.{nat_tests}
 use Rattle.ira_event.specs.declared.event.Event.TheVariants.{Draw}
 use Rattle.ira_node.specs.declared.phase.Phase.TheVariants.{Choosing}
-use Rattle.ira_evidence.specs.FaultyEvent.{Rises}
+use Rattle.ira_order.specs.FaultyEvent.{Rises}
 use Rattle.ira_picture.specs.declared.after.After.{After}
 use Rattle.ira_picture.specs.declared.after.After.TheVariants.{State}
 use Rattle.ira_picture.specs.declared.mark.Mark.{Mark}

@@ -2,7 +2,7 @@
 use Rattle.std.proofs.Common.{◌≡◌, ℕ, List, [], ◌∷◌, ◌++◌, Some, length, refl, sym, ◌∙◌, ap, subst, arith}
 use Rattle.std.specs.Prelude.{slice_get, slice_index_or}
 use Rattle.ira_event.specs.Log.{Log}
-use Rattle.ira_evidence.proofs.Pushed.{each_pushed}
+use Rattle.ira_order.proofs.Pushed.{each_pushed}
 use Rattle.ira_picture.specs.declared.window.Window.{Window}
 use Rattle.ira_picture.specs.Picture.{Drawn, IsDrawnOf}
 use Rattle.ira_picture.specs.Traffic.{IsTraffic, Traffic}

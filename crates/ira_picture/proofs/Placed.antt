@@ -11,7 +11,7 @@ use Rattle.ira_event.specs.Limits.{MAX_NODES, MAX_RECORDS}
 use Rattle.ira_event.specs.Log.{Log}
 use Rattle.ira_event.specs.Logs.{AreLogs}
 use Rattle.ira_order.specs.Ring.{log_of}
-use Rattle.ira_evidence.specs.FaultyEvent.{Rises}
+use Rattle.ira_order.specs.FaultyEvent.{Rises}
 use Rattle.ira_evidence.proofs.StuckNodes.{few_events}
 use Rattle.ira_picture.specs.Columns.{AreColumns, AreUnderWay, AreUpTo, IsUnderWay, PlacedEvents, number_placed}
 use Rattle.ira_picture.proofs.Rising.{rises_more, up_to_higher, up_to_more}

@@ -5,8 +5,8 @@ use Rattle.std.proofs.Common.{◌∙◌, ap, subst, arith, get_or}
 use Rattle.std.specs.Prelude.{slice_get, slice_index}
 use Rattle.std.proofs.lemmas.Bool.{cases_eq}
 use Rattle.std.proofs.lemmas.Option.{get_or_from_slice_get, slice_get-get_or, slice_get_within}
-use Rattle.ira_evidence.specs.FaultyEvent.{Rises}
-use Rattle.ira_evidence.proofs.Pushed.{each_pushed, pushed_cases}
+use Rattle.ira_order.specs.FaultyEvent.{Rises}
+use Rattle.ira_order.proofs.Pushed.{each_pushed, pushed_cases}
 use Rattle.ira_picture.specs.Columns.{AreUpTo}
 
 -- one more that is greater than all

@@ -3,7 +3,7 @@ use Rattle.std.proofs.Common.{◌≡◌, ℕ, ◌+◌, ◌<◌, ◌≤◌, inl, 
 use Rattle.std.specs.Prelude.{slice_index}
 use Rattle.std.proofs.lemmas.Bool.{cases_eq}
 use Rattle.ira_event.specs.Log.{Log}
-use Rattle.ira_evidence.specs.FaultyEvent.{Rises}
+use Rattle.ira_order.specs.FaultyEvent.{Rises}
 use Rattle.ira_picture.specs.declared.after.After.{After}
 use Rattle.ira_picture.specs.declared.window.Window.{Window}
 use Rattle.ira_picture.specs.Lane.{IsKnown, IsStart}

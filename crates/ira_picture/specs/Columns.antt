@@ -4,7 +4,7 @@ use Rattle.std.specs.Prelude.{slice_index_or, sum_by}
 use Rattle.ira_event.specs.declared.event.Event.{Event}
 use Rattle.ira_event.specs.Log.{Log}
 use Rattle.ira_order.specs.Ring.{log_of}
-use Rattle.ira_evidence.specs.FaultyEvent.{Rises}
+use Rattle.ira_order.specs.FaultyEvent.{Rises}
 
 -- those of each node, event by event, and that of the line of a moment
 pub record Columns : Type 0 where

@@ -3,7 +3,7 @@ ghost use Rattle.std.specs.Prelude.{length, map, replicate, slice_get, slice_ind
 ghost use Rattle.std.specs.Option.{ForSome};
 ghost use Rattle.ira_event.specs.Logs.{AreLogs};
 ghost use Rattle.ira_order.specs.Ring.{log_of};
-ghost use Rattle.ira_evidence.specs.FaultyEvent.{Rises};
+ghost use Rattle.ira_order.specs.FaultyEvent.{Rises};
 ghost use Rattle.ira_picture.specs.Columns.{AreColumns, AreColumnsOf, AreUnderWay, AreUpTo, IsLastColumn, PlacedEvents};
 ghost use Rattle.ira_picture.specs.Columns.{column_at, number_placed};
 

@@ -1,5 +1,5 @@
 ghost use Rattle.std.specs.Prelude.{◌≡◌, ◌↔◌, ◌+◌, ◌<◌, ◌≤◌, ◌^◌, ℕ, Some, Any, IfOk, IsTrue, OnOk, length, slice_get};
-ghost use Rattle.ira_evidence.specs.FaultyEvent.{Rises};
+ghost use Rattle.ira_order.specs.FaultyEvent.{Rises};
 ghost use Rattle.ira_picture.specs.Band.{AreBands, AreDebts, Owes};
 ghost use Rattle.ira_picture.specs.Columns.{AreColumnsOf};
 ghost use Rattle.ira_picture.specs.Lane.{AreMarks, IsKnown, IsReplayed, IsStart};

@@ -1,7 +1,7 @@
 use Rattle.std.proofs.Common.{◌≡◌, ◌<◌, ℕ, Some}
 use Rattle.std.specs.Prelude.{slice_get}
 use Rattle.ira_evidence.specs.Beginning.{HappenedBefore}
-use Rattle.ira_evidence.specs.declared.faulty_event.FaultyEvent.{FaultyEvent}
+use Rattle.ira_order.specs.declared.faulty_event.FaultyEvent.{FaultyEvent}
 use Rattle.ira_evidence.proofs.beginning.is_least.Given as goal
 
 abbrev pub invariant-loop-event : goal.invariant-loop-event

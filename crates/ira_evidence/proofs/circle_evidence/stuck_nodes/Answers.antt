@@ -5,7 +5,7 @@ use Rattle.ira_event.specs.Limits.{MAX_RECORDS}
 use Rattle.ira_evidence.specs.CircleEvidence.{IsStuckAt}
 use Rattle.ira_evidence.specs.Reach.{reach_of}
 use Rattle.ira_evidence.specs.declared.reach.Reach.{Reach}
-use Rattle.ira_evidence.proofs.Pushed.{each_pushed}
+use Rattle.ira_order.proofs.Pushed.{each_pushed}
 use Rattle.ira_evidence.proofs.Reaches.{no_events}
 use Rattle.ira_evidence.proofs.StuckNodes.{few_events}
 use Rattle.ira_evidence.proofs.circle_evidence.stuck_nodes.Goals as goal

@@ -1,5 +1,5 @@
 use Rattle.std.proofs.Common.{arith, refl}
-use Rattle.ira_evidence.proofs.FaultyEvents.{no_stops, stops_all, stops_more, stops_over}
+use Rattle.ira_order.proofs.FaultyEvents.{no_stops, stops_all, stops_more, stops_over}
 use Rattle.ira_evidence.proofs.faulty_event.first_faulty_events.Goals as goal
 use Rattle.ira_evidence.proofs.faulty_event.first_faulty_events.Goals.{in-Err+in_ok-push, in_default}
 

@@ -4,7 +4,7 @@ use Rattle.std.specs.Prelude.{slice_get}
 use Rattle.std.proofs.lemmas.List.{length-map}
 use Rattle.std.proofs.lemmas.Option.{slice_get_read, slice_get_within}
 use Rattle.ira_order.specs.Ring.{events_of, log_of}
-use Rattle.ira_evidence.specs.FaultyEvent.{Rises}
+use Rattle.ira_order.specs.FaultyEvent.{Rises}
 use Rattle.ira_evidence.proofs.StuckNodes.{few_events}
 use Rattle.ira_picture.specs.Columns.{AreColumnsOf, AreUpTo, PlacedEvents, number_placed}
 use Rattle.ira_picture.proofs.Placed.{few_placed, mapped_at, set_cases}

@@ -1,5 +1,5 @@
 use Rattle.std.proofs.Common.{◌≡◌, ◌+◌, length}
-use Rattle.ira_evidence.specs.FaultyEvent.{Rises}
+use Rattle.ira_order.specs.FaultyEvent.{Rises}
 use Rattle.ira_picture.specs.Columns.{AreUpTo}
 use Rattle.ira_picture.proofs.columns.add_stuck.Given as goal
 

@@ -1,6 +1,6 @@
 use Rattle.std.proofs.Common.{◌≡◌, ◌<◌, ◌≤◌, ℕ, Some}
 use Rattle.std.specs.Prelude.{slice_get}
-use Rattle.ira_evidence.specs.FaultyEvent.{Rises}
+use Rattle.ira_order.specs.FaultyEvent.{Rises}
 use Rattle.ira_picture.specs.Columns.{AreUpTo, PlacedEvents}
 use Rattle.ira_picture.proofs.columns.last_column.Given as goal
 

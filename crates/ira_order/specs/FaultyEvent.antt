@@ -2,7 +2,7 @@
 use Rattle.std.specs.Prelude.{◌≡◌, ℕ, ◌<◌, List, Some, slice_get}
 use Rattle.ira_event.specs.Log.{Log}
 use Rattle.ira_replay.specs.LocalRun.{IsFirstFault}
-use Rattle.ira_evidence.specs.declared.faulty_event.FaultyEvent.{FaultyEvent}
+use Rattle.ira_order.specs.declared.faulty_event.FaultyEvent.{FaultyEvent}
 
 -- the first event of its node's log that has no step, and why it has none
 pub record IsFirstFaultyEvent (logs : List Log) (s : FaultyEvent) : Type 0 where

@@ -1,15 +1,36 @@
--- The first stops of nodes, as they are listed.
-use Rattle.std.proofs.Common.{◌≡◌, ℕ, ◌+◌, ◌<◌, ◌≤◌, inl, inr, List, [], ◌∷◌, ◌++◌, Some, length, subst, arith}
+-- The first events without a step of the nodes of a ring, as they are listed node by node.
+use Rattle.std.proofs.Common.{◌≡◌, ℕ, ◌+◌, ◌<◌, ◌≤◌, inl, inr, List, [], ◌∷◌, ◌++◌, Some, length, sym, ◌∙◌, ap, subst}
+use Rattle.std.proofs.Common.{arith}
 use Rattle.std.specs.Prelude.{slice_get}
 use Rattle.std.proofs.lemmas.Bool.{cases_eq}
 use Rattle.std.proofs.lemmas.Option.{slice_get_within}
 use Rattle.ira_event.specs.Log.{Log}
 use Rattle.ira_replay.specs.LocalRun.{IsFirstFault}
 use Rattle.ira_replay.specs.declared.replay_fault.ReplayFault.{ReplayFault}
-use Rattle.ira_evidence.specs.declared.faulty_event.FaultyEvent.{FaultyEvent}
-use Rattle.ira_evidence.specs.FaultyEvent.{AreFirstFaultyEvents, IsFirstFaultyEvent}
-use Rattle.ira_evidence.proofs.BeginningLaws.{is_stop, same_stop, stop_event, stop_of}
-use Rattle.ira_evidence.proofs.Pushed.{pushed_cases, pushed_last, pushed_old}
+use Rattle.ira_replay.proofs.FirstFaults.{one_stop}
+use Rattle.ira_order.specs.declared.faulty_event.FaultyEvent.{FaultyEvent}
+use Rattle.ira_order.specs.FaultyEvent.{AreFirstFaultyEvents, IsFirstFaultyEvent}
+use Rattle.ira_order.proofs.Pushed.{pushed_cases, pushed_last, pushed_old}
+
+-- the stop of node i where its log has this first fault
+abbrev pub stop_of : ℕ → ReplayFault → FaultyEvent
+stop_of i f = record { at = record { place = i; position = f.position }; fault = f.fault }
+
+pub is_stop : (logs : List Log) (i : ℕ) (log : Log) (f : ReplayFault) → slice_get logs i ≡ Some log → IsFirstFault log f
+    → IsFirstFaultyEvent logs (stop_of i f)
+is_stop logs i log f at fault = record { log = log; log_is = at; fault = fault }
+
+-- a node has one
+pub same_stop : (logs : List Log) (i : ℕ) (log : Log) (f : ReplayFault) (s : FaultyEvent) → slice_get logs i ≡ Some log
+    → IsFirstFault log f → IsFirstFaultyEvent logs s → s.at.place ≡ i → stop_of i f ≡ s
+same_stop logs i log f s at fault is here =
+    let there : slice_get logs i ≡ Some is.log = subst (λ k. slice_get logs k ≡ Some is.log) here is.log_is in
+    let same : is.log ≡ log = cc in
+    let its : IsFirstFault log (record { position = s.at.position; fault = s.fault }) =
+    subst (λ l. IsFirstFault l (record { position = s.at.position; fault = s.fault })) same is.fault in
+    let one : f ≡ record { position = s.at.position; fault = s.fault } = one_stop log f _ fault its in
+    ap (stop_of i) one ∙ ap (λ k. record { at = record { place = k; position = s.at.position }; fault = s.fault })
+    (sym here)
 
 -- the stops of the first n nodes
 pub record StopsSoFar (logs : List Log) (stops : List FaultyEvent) (n : ℕ) : Type 0 where
@@ -80,6 +101,6 @@ pub stops_all : (logs : List Log) (stops : List FaultyEvent) (n : ℕ) → lengt
     → AreFirstFaultyEvents logs stops
 stops_all logs stops n whole so_far = record {
   each = λ k s at. (so_far.each k s at).0;
-  all = λ s is. so_far.all s is (omega (arith, whole, (stop_event logs s is).place));
+  all = λ s is. so_far.all s is (omega (arith, whole, slice_get_within logs s.at.place is.log is.log_is));
   rise = so_far.rise;
 }
