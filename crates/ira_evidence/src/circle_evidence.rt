@@ -7,10 +7,10 @@ ghost use Rattle.ira_evidence.specs.Reach.{AreReached, IsReach, reach_of};
 ghost use Rattle.ira_evidence.specs.StuckNodes.{AreStuckNodes, IsWaiting};
 
 use crate::exchange::nth_sending;
-use crate::reach::{Reach, is_whole, longest_reaches, writer_of};
+use crate::reach::{Reach, is_whole, longest_reaches};
 use crate::stuck_at::StuckAt;
 use ira_event::{Event, Logs, OutOfMemory};
-use ira_order::EventAt;
+use ira_order::{EventAt, predecessor};
 use std::alloc::Allocator;
 
 /// Logs that match and have no order: where each node is stuck when as many events as can be are put in order.
@@ -34,7 +34,7 @@ fn stuck_at<A: Allocator>(logs: &Logs<A>, place: u8, reach: Reach) -> StuckAt
     let Event::Got(load) = log.event(position) else {
         unreachable!()
     };
-    let writer = writer_of(logs.size().get(), place);
+    let writer = predecessor(logs.size().get(), place);
     let Some(sending) = nth_sending(logs, writer, reach.receipts + 1) else {
         unreachable!()
     };

@@ -4,7 +4,7 @@ ghost use Rattle.ira_order.specs.Matching.{sent, got};
 ghost use Rattle.ira_evidence.specs.Exchange.{IsNthGot, IsNthReceipt, IsNthSending, IsNthSent};
 
 use ira_event::{Event, Load, Logs, NodeLog};
-use ira_order::EventAt;
+use ira_order::{EventAt, successor};
 use std::alloc::Allocator;
 
 /// A load that an event sent or received.
@@ -52,14 +52,6 @@ fn nth_got<A: Allocator>(log: &NodeLog<A>, k: u32) -> Option<(u32, Load)>
     None
 }
 
-/// The place that a link leads to, in a ring of so many nodes.
-fn reader_of(nodes: u8, link: u8) -> u8
-    requires { link < nodes }
-    ensures { result ≡ next nodes link }
-{
-    if link + 1 < nodes { link + 1 } else { 0 }
-}
-
 /// Sending `k` of a link, counted from 1: an event of the node whose link it is.
 pub fn nth_sending<A: Allocator>(logs: &Logs<A>, link: u8, k: u32) -> Option<Exchange>
     requires { link < length logs.now }
@@ -82,7 +74,7 @@ pub fn nth_receipt<A: Allocator>(logs: &Logs<A>, link: u8, k: u32) -> Option<Exc
     ensures { MatchOption result (numbered (got (log_of logs.now (next (length logs.now) link))) k ≡ None)
         (IsNthReceipt logs.now link k) }
 {
-    let place = reader_of(logs.size().get(), link);
+    let place = successor(logs.size().get(), link);
     let (position, load) = nth_got(logs.log(place), k)?;
     Some(Exchange {
         at: EventAt { place, position },

@@ -1,8 +1,9 @@
 ghost use Rattle.std.specs.Prelude.{◌≡◌, ◌<◌, ◌≤◌, ℕ, IfOk, MatchBool, MatchOption, length};
-ghost use Rattle.ira_order.specs.Ring.{log_of, prev};
+ghost use Rattle.ira_order.specs.Ring.{log_of};
 ghost use Rattle.ira_evidence.specs.Reach.{IsReach, IsNextReach, IsHeldAt, AreReached, AreHeld, HasGoneOn, HaveGoneOn, reach_of};
 
 use ira_event::{Event, Logs, NodeLog, OutOfMemory};
+use ira_order::predecessor;
 use std::alloc::Allocator;
 
 /// How far a node has come: how many events it has made, and how many of them are sendings and receipts.
@@ -36,21 +37,13 @@ impl Reach {
     }
 }
 
-/// The place whose link leads to a place, in a ring of so many nodes.
-pub(crate) fn writer_of(nodes: u8, place: u8) -> u8
-    requires { place < nodes }
-    ensures { result ≡ prev nodes place }
-{
-    if place == 0 { nodes - 1 } else { place - 1 }
-}
-
 /// Adds a node's next event, where it may come, and says whether it did.
 fn advance<A: Allocator>(logs: &Logs<A>, reaches: &mut [Reach], place: u8) -> bool
     requires reached { AreReached logs.now reaches.old }
     requires place { place < length logs.now }
     ensures { HasGoneOn logs.now place reaches.old reaches.new result }
 {
-    let writer = writer_of(logs.size().get(), place);
+    let writer = predecessor(logs.size().get(), place);
     let sendings = reaches[usize::from(writer)].sendings;
     let node = usize::from(place);
     match reaches[node].next(logs.log(place), sendings) {

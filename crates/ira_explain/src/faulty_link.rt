@@ -5,8 +5,8 @@ use crate::link_sides::LinkSides;
 use crate::ring_files::RingFiles;
 use ira_event::{Logs, OutOfMemory};
 use ira_evidence::{Exchange, LinkEvidence};
-use ira_order::MatchFault;
-use ira_view_page::{file_of, next_place};
+use ira_order::{MatchFault, successor};
+use ira_view_page::file_of;
 use std::alloc::Allocator;
 
 /// A link with a receipt that doesn't match.
@@ -52,7 +52,7 @@ impl<'a, 'l, A: Allocator> FaultyLink<'a, 'l, A> {
         let logs = ring.logs;
         let LinkEvidence { receipt, sending } = LinkEvidence::of_fault(logs, fault);
         let (link, k) = receipt_of(logs, fault);
-        let reader = next_place(logs.size().get(), link);
+        let reader = successor(logs.size().get(), link);
         let sides = LinkSides::of(ring.alloc, logs.log(link), logs.log(reader))?;
         Ok(FaultyLink {
             alloc: ring.alloc,

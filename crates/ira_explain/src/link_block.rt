@@ -9,9 +9,9 @@ use crate::numbered::{numbered, numbered_page};
 use crate::ring_files::RingFiles;
 use ira_event::{Event, Load, Logs, NodeLog, OutOfMemory};
 use ira_node::{NodeState, Phase};
-use ira_order::{EventAt, MatchFault};
+use ira_order::{EventAt, MatchFault, successor};
 use ira_replay::{States, replay};
-use ira_view_page::{ExplanationDraft, Page, event_at, line_of, next_place};
+use ira_view_page::{ExplanationDraft, Page, event_at, line_of};
 use std::alloc::Allocator;
 
 /// Whether numbered the other way round all links match.
@@ -21,7 +21,7 @@ fn is_numbered_backwards<A: Allocator + Copy>(
 ) -> Result<bool, OutOfMemory> {
     let nodes = logs.size().get();
     for place in 0..nodes {
-        let writer = next_place(nodes, place);
+        let writer = successor(nodes, place);
         let sides = LinkSides::of(alloc, logs.log(writer), logs.log(place))?;
         if !sides.go_on_alike(0, 0) {
             return Ok(false);

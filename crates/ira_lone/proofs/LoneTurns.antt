@@ -1,5 +1,5 @@
 -- A turn of the lone runner, as the code makes it.
-use Rattle.std.proofs.Common.{◌≡◌, ◌≢◌, ℕ, suc, ◌+◌, ◌<◌, ◌≤◌, ◌⊎◌, inl, inr, Option, Some, None, List, [], ◌∷◌, ◌++◌}
+use Rattle.std.proofs.Common.{◌≡◌, ◌≢◌, ℕ, suc, ◌+◌, ◌<◌, ◌≤◌, Option, Some, None, List, [], ◌∷◌, ◌++◌}
 use Rattle.std.proofs.Common.{All, length, get_or, sym, ◌∙◌, subst, ap, arith}
 use Rattle.std.proofs.Math.ListN.{set}
 use Rattle.std.proofs.lemmas.List.{get_or_read, get_or-set_same, get_or-set_other, length-set}
@@ -47,17 +47,10 @@ ids_left s nodes i j n node rules reached l is size read =
 pub next_above : (n i : ℕ) → i + 1 < n → next n i ≡ i + 1
 next_above n i l = grind (arith, nat_tests)
 
-next_last : (n i : ℕ) → n ≡ i + 1 → next n i ≡ 0
-next_last n i e = grind (arith, nat_tests)
-
 pub next_not : (n i : ℕ) → 2 ≤ n → i < n → next n i ≡ i → ⊥
 next_not n i two l e = grind (arith, nat_tests)
 
 -- ---- a turn, as the code makes it
-
-next_is : (n i x : ℕ) → i < n → (((i + 1 < n) × (x ≡ i + 1)) ⊎ ((n ≤ i + 1) × (x ≡ 0))) → x ≡ next n i
-next_is n i x l (inl w) = w.1 ∙ sym (next_above n i w.0)
-next_is n i x l (inr w) = w.1 ∙ sym (next_last n i (omega (arith, w.0)))
 
 goes_from : (s : Setup) (nodes : List LoneNode) (i j n most terms : ℕ) (node new : LoneNode) (sent : Option Load)
     → i < length nodes → j ≡ i → n ≡ s.nodes → most ≡ s.cap → terms ≡ s.terms → node ≡ get_or nodes j node
@@ -110,15 +103,14 @@ pub turn_sent : (s : Setup) (nodes : List LoneNode) (i j n most terms : ℕ) (no
     (next_place second_place : ℕ) (second new2 : LoneNode) (m : Load) → KeepsRules s → IsReached s nodes
     → i < length nodes → j ≡ i → n ≡ s.nodes → most ≡ s.cap → terms ≡ s.terms → node ≡ get_or nodes j node
     → GoesToSending n most terms node new sent → sent ≡ Some m
-    → (((i + 1 < n) × (next_place ≡ i + 1)) ⊎ ((n ≤ i + 1) × (next_place ≡ 0))) → second_place ≡ next_place
+    → next_place ≡ next n i → second_place ≡ next_place
     → second ≡ get_or (set nodes j new) second_place second → new2 ≡ after_put second m
     → IsTurn s.nodes s.cap s.terms i nodes (set (set nodes j new) second_place new2) (Some m)
 turn_sent s nodes i j n most terms node new sent next_place second_place second new2 m rules reached l is size
     below_cap last
-    read goes some how second_is read2 put =
-    let N : ℕ → Type 0 = λ x. ((i + 1 < x) × (next_place ≡ i + 1)) ⊎ ((x ≤ i + 1) × (next_place ≡ 0)) in
+    read goes some to second_is read2 put =
     let here : i < s.nodes = omega (arith, l, reached.many) in
-    let place : second_place ≡ next s.nodes i = second_is ∙ next_is s.nodes i next_place here (subst N size how) in
+    let place : second_place ≡ next s.nodes i = second_is ∙ to ∙ ap (λ x. next x i) size in
     let P : ℕ → Type 0 = λ x. IsTurn s.nodes s.cap s.terms i nodes (set (set nodes x new) second_place new2) (Some m) in
     let Q : ℕ → Type 0 = λ x. second ≡ get_or (set nodes x new) second_place second in
     subst P (sym is) record {

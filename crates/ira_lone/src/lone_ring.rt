@@ -4,6 +4,7 @@ ghost use Rattle.ira_lone.specs.LoneRing.{IsTurn, IsLeastAfter, IsReached, AreAt
 
 use crate::lone_node::LoneNode;
 use ira_event::{Load, NodeLog};
+use ira_order::successor;
 use ira_run::{NodeEnd, Setup};
 use std::alloc::{AllocError, Allocator};
 
@@ -77,7 +78,7 @@ impl<'a, A: Allocator> LoneRing<'a, A> {
         let Some(load) = self.nodes[usize::from(i)].go_on(size, setup.cap, setup.terms)? else {
             return Ok(None);
         };
-        let next = if i + 1 < size.get() { i + 1 } else { 0 };
+        let next = successor(size.get(), i);
         self.nodes[usize::from(next)].put(load)?;
         Ok(Some(load))
     }

@@ -1,10 +1,10 @@
 ghost use Rattle.std.specs.Prelude.{◌≡◌, ◌<◌, IfOk, length};
-ghost use Rattle.ira_order.specs.Ring.{next};
 ghost use Rattle.ira_mend.specs.Beginning.{IsGreatestBeginning};
 ghost use Rattle.ira_mend.specs.Longest.{AreBeginnings, BoundsAll, IsSettled, events_kept};
 
 use crate::beginning::Beginning;
 use ira_event::{Logs, OutOfMemory};
+use ira_order::successor;
 use std::alloc::Allocator;
 
 /// All of each log.
@@ -19,21 +19,13 @@ fn whole_logs<A: Allocator>(alloc: A, logs: &Logs<A>) -> Result<Vec<Beginning, A
     Ok(kept)
 }
 
-/// The place that a link leads to, in a ring of so many nodes.
-fn reader_of(nodes: u8, link: u8) -> u8
-    requires { link < nodes }
-    ensures { result ≡ next nodes link }
-{
-    if link + 1 < nodes { link + 1 } else { 0 }
-}
-
 /// Shortens what is kept of the link's reader until each receipt has a sending, and says whether it had to.
 fn settle<A: Allocator>(logs: &Logs<A>, kept: &mut [Beginning], link: u8) -> bool
     requires kept { AreBeginnings logs.now kept.old }
     requires link { link < length logs.now }
     ensures { IsSettled logs.now link kept.old kept.new result }
 {
-    let reader = reader_of(logs.size().get(), link);
+    let reader = successor(logs.size().get(), link);
     let node = usize::from(reader);
     let sendings = kept[usize::from(link)].sendings;
     let old = kept[node];
@@ -59,7 +51,7 @@ pub(crate) fn longest_beginnings<A: Allocator>(
     }
     let mut link = 0;
     while settle(logs, &mut kept, link) {
-        link = reader_of(nodes, link);
+        link = successor(nodes, link);
     }
     Ok(kept)
 }

@@ -10,6 +10,7 @@ ghost use Rattle.ira_moment.specs.Moment.{whole_cut};
 use crate::cut_fault::CutFault;
 use ira_event::{Event, Logs, NodeLog, OutOfMemory};
 use ira_evidence::{Exchange, nth_receipt, nth_sending};
+use ira_order::predecessor;
 use std::alloc::Allocator;
 
 /// Whether there is a number for each node, at most as many as its events.
@@ -43,14 +44,6 @@ fn sendings_among<A: Allocator>(log: &NodeLog<A>, events: u32) -> u32
     sendings
 }
 
-/// The place whose link leads to a place, in a ring of so many nodes.
-fn writer_of(nodes: u8, place: u8) -> u8
-    requires { place < nodes }
-    ensures { result ≡ prev nodes place }
-{
-    if place == 0 { nodes - 1 } else { place - 1 }
-}
-
 /// Sending `k` of a link that has as many.
 fn known_sending<A: Allocator>(logs: &Logs<A>, link: u8, k: u32) -> Exchange
     requires link { link < length logs.now }
@@ -71,7 +64,7 @@ fn check_receipts<A: Allocator>(logs: &Logs<A>, cut: &[u32], reader: u8) -> Resu
     ensures ok { OnOk result (HoldsSendings logs.now cut.now (prev (length logs.now) reader)) }
     ensures err { IfErr result (IsLackOf logs.now cut.now reader) }
 {
-    let writer = writer_of(logs.size().get(), reader);
+    let writer = predecessor(logs.size().get(), reader);
     let k = sendings_among(logs.log(writer), cut[usize::from(writer)]) + 1;
     let held = cut[usize::from(reader)];
     match nth_receipt(logs, writer, k) {

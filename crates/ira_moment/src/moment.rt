@@ -4,7 +4,7 @@ ghost use Rattle.ira_event.specs.Logs.{EachLog};
 ghost use Rattle.ira_event.specs.RingSize.{IsRingSize};
 ghost use Rattle.ira_order.specs.Cut.{IsCut, IsConsistentCut};
 ghost use Rattle.ira_order.specs.Matching.{Matches, sent, got};
-ghost use Rattle.ira_order.specs.Ring.{log_of, next};
+ghost use Rattle.ira_order.specs.Ring.{log_of};
 ghost use Rattle.ira_order.specs.Run.{AreLocalRuns};
 ghost use Rattle.ira_moment.specs.NodeProgress.{IsProgress};
 ghost use Rattle.ira_moment.specs.Moment.{IsMoment, AreOnTheirWay, LeadsAt, whole_cut};
@@ -13,6 +13,7 @@ use crate::cuts::cut_at_end;
 use crate::node_progress::NodeProgress;
 use ira_event::{Event, Load, Logs, NodeLog, OutOfMemory};
 use ira_node::Phase;
+use ira_order::successor;
 use std::alloc::Allocator;
 use std::marker::Model;
 
@@ -34,14 +35,6 @@ impl<A: Allocator> Model for Moment<A> {
     ghost view = { λ a. record { nodes = a.nodes.items; links = map (λ loads. loads.items) a.links.items } };
 
     ghost invariant = { λ a. IsRingSize (length a.nodes.items) × (length a.links.items ≡ length a.nodes.items) };
-}
-
-/// The place that a link leads to, in a ring of so many nodes.
-fn reader_of(nodes: u8, link: u8) -> u8
-    requires { link < nodes }
-    ensures { result ≡ next nodes link }
-{
-    if link + 1 < nodes { link + 1 } else { 0 }
 }
 
 /// How far each node has come at the cut.
@@ -120,7 +113,7 @@ fn loads_of_links<A: Allocator + Clone>(
     let mut links = Vec::with_capacity(alloc.clone()?, usize::from(size))?;
     for link in 0..size {
         let events = cut[usize::from(link)];
-        let received = received_by(nodes, reader_of(size, link));
+        let received = received_by(nodes, successor(size, link));
         links.push(sendings_after(alloc.clone()?, logs.log(link), events, received)?)?;
     }
     Ok(links)

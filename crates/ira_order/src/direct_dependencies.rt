@@ -6,8 +6,8 @@ ghost use Rattle.ira_order.specs.Stamps.{receipts_by};
 ghost use Rattle.ira_order.specs.DirectDependencies.{IsSending};
 
 use crate::happened_before::HappenedBefore;
-use crate::links::writer_of;
 use crate::node_dependencies::{NodeDependencies, Sending};
+use crate::ring::predecessor;
 use ira_event::Logs;
 use std::alloc::{AllocError, Allocator};
 use std::marker::Model;
@@ -73,7 +73,7 @@ impl<'a, A: Allocator> DirectDependencies<'a, A> {
         if received == 0 {
             return None;
         }
-        let writer = writer_of(self.logs.size().get(), node);
+        let writer = predecessor(self.logs.size().get(), node);
         Some((writer, self.nodes[usize::from(writer)].sending(received)))
     }
 }

@@ -1,10 +1,10 @@
-ghost use Rattle.std.specs.Prelude.{◌≡◌, ◌<◌, ◌↔◌, ℕ, Err, IsOk, MatchResult, length};
+ghost use Rattle.std.specs.Prelude.{◌≡◌, ◌↔◌, ℕ, Err, IsOk, MatchResult};
 ghost use Rattle.ira_order.specs.declared.match_fault.MatchFault.{MatchFault};
-ghost use Rattle.ira_order.specs.Ring.{next, prev};
 ghost use Rattle.ira_order.specs.Matching.{IsPaired, Matches};
 ghost use Rattle.ira_order.specs.MatchFault.{IsLinkFault, IsMatchFault};
 
 use crate::match_fault::MatchFault;
+use crate::ring::successor;
 use ira_event::{Logs, NodeLog};
 use std::alloc::Allocator;
 
@@ -32,22 +32,6 @@ fn match_link<A: Allocator>(
     Ok(())
 }
 
-/// The place that a link leads to, in a ring of so many nodes.
-pub(crate) fn reader_of(nodes: u8, link: u8) -> u8
-    requires { link < nodes }
-    ensures { result ≡ next nodes link }
-{
-    if link + 1 < nodes { link + 1 } else { 0 }
-}
-
-/// The place whose link leads to a place, in a ring of so many nodes.
-pub(crate) fn writer_of(nodes: u8, place: u8) -> u8
-    requires { place < nodes }
-    ensures { result ≡ prev nodes place }
-{
-    if place == 0 { nodes - 1 } else { place - 1 }
-}
-
 /// Whether each receipt has its sending: the k-th receipt of a link the k-th sending, of the same
 /// message. It takes no memory.
 pub fn match_links<A: Allocator>(logs: &Logs<A>) -> Result<(), MatchFault>
@@ -56,7 +40,7 @@ pub fn match_links<A: Allocator>(logs: &Logs<A>) -> Result<(), MatchFault>
 {
     let nodes = logs.size().get();
     for link in 0..nodes {
-        let reader = reader_of(nodes, link);
+        let reader = successor(nodes, link);
         match_link(link, logs.log(link), logs.log(reader))?;
     }
     Ok(())

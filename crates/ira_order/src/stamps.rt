@@ -5,8 +5,8 @@ ghost use Rattle.ira_order.specs.VectorClock.{AreCountsOfOthers, receipt_count};
 ghost use Rattle.ira_order.specs.OrderPrefix.{IsOrderPrefix};
 ghost use Rattle.ira_order.specs.Stamps.{AreUnstamped, IsTable, AreStamps, IsStamping, IsStamp, counters_at};
 
-use crate::links::reader_of;
 use crate::node_stamps::NodeStamps;
+use crate::ring::successor;
 use crate::tally::Tally;
 use ira_event::{Event, Logs, MAX_NODES};
 use std::alloc::{AllocError, Allocator};
@@ -98,7 +98,7 @@ impl<A: Allocator> Stamps<A> {
         ensures { OnOk result (IsStamping logs.now self.old.nodes.items self.new.nodes.items k received sent a) }
     {
         let nodes = logs.size().get();
-        let reader = usize::from(reader_of(nodes, k));
+        let reader = usize::from(successor(nodes, k));
         if sent >= self.nodes[reader].receipts() {
             return Ok(());
         }

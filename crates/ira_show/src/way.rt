@@ -7,7 +7,8 @@ use crate::counts::number_on_the_way;
 use crate::listed::add_comma;
 use ira_event::Load;
 use ira_moment::Moment;
-use ira_view_page::{Mark, Page, next_place};
+use ira_order::successor;
+use ira_view_page::{Mark, Page};
 use std::alloc::Allocator;
 
 /// The most loads of a link that are shown.
@@ -79,6 +80,6 @@ pub(crate) fn show_way<A: Allocator, M: Allocator>(page: &mut Page<A>, moment: &
     page.line(Mark::Plain, "On their way, the next to be received first:");
     let size = moment.size();
     for link in 0..size {
-        show_link(page, link, next_place(size, link), moment.on_link(link));
+        show_link(page, link, successor(size, link), moment.on_link(link));
     }
 }

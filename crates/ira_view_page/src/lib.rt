@@ -36,7 +36,7 @@ pub use head_row::HeadRow;
 pub use named_text::NamedText;
 pub use page::{Mark, Page};
 pub use page_text::PageText;
-pub use places::{event_at, event_of, file_of, line_of, log_at, next_place};
+pub use places::{event_at, event_of, file_of, line_of, log_at};
 pub use quoted_line::{Carets, QuotedLine};
 pub use record_at::RecordAt;
 pub use remark::Remark;

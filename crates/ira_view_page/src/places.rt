@@ -1,5 +1,5 @@
 ghost use Rattle.std.specs.Prelude.{◌≡◌, ◌+◌, ◌<◌, MatchOption, codes, slice_get};
-ghost use Rattle.ira_order.specs.Ring.{log_of, next, numbered};
+ghost use Rattle.ira_order.specs.Ring.{log_of, numbered};
 ghost use Rattle.ira_view_page.specs.Places.{IsLineOfEvent};
 
 use crate::named_text::NamedText;
@@ -26,15 +26,6 @@ pub fn file_of<'a>(files: &[NamedText<'a>], place: u8) -> &'a str
         Some(file) => file.name,
         None => "-",
     }
-}
-
-/// The place that a node sends to, in a ring of so many nodes.
-pub fn next_place(nodes: u8, place: u8) -> u8
-    requires { place < nodes }
-    ensures value { result ≡ next nodes place }
-    ensures place { result < nodes }
-{
-    if place + 1 < nodes { place + 1 } else { 0 }
 }
 
 /// An event of a log, counted from 1, where it has so many.

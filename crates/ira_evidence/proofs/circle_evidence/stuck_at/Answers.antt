@@ -45,8 +45,8 @@ overflow_add-reach g c =
 
 pub unreachable-requires-in_default-nth_sending : goal.unreachable-requires-in_default-nth_sending
 unreachable-requires-in_default-nth_sending g c =
-    let writer : c.writer_of-writer.result ≡ prev (length c.args.logs.now) c.args.place =
-    c.writer_of-writer.ensures ∙ ap (λ n. prev n c.args.place) (c.get.ensures.value ∙ c.size.ensures.value) in
+    let writer : c.predecessor-writer.result ≡ prev (length c.args.logs.now) c.args.place =
+    c.predecessor-writer.ensures.value ∙ ap (λ n. prev n c.args.place) (c.get.ensures.value ∙ c.size.ensures.value) in
     let some = has_sending c.args.logs.now c.args.place c.args.reach c.requires.place c.requires.reach
     c.requires.waiting in
     let there : numbered (sent (log_of c.args.logs.now (prev (length c.args.logs.now) c.args.place)))
@@ -57,8 +57,8 @@ unreachable-requires-in_default-nth_sending g c =
 
 pub returns : goal.returns
 returns g c =
-    let writer : c.writer_of-writer.result ≡ prev (length c.args.logs.now) c.args.place =
-    c.writer_of-writer.ensures ∙ ap (λ n. prev n c.args.place) (c.get.ensures.value ∙ c.size.ensures.value) in
+    let writer : c.predecessor-writer.result ≡ prev (length c.args.logs.now) c.args.place =
+    c.predecessor-writer.ensures.value ∙ ap (λ n. prev n c.args.place) (c.get.ensures.value ∙ c.size.ensures.value) in
     let sends : IsNthSending c.args.logs.now (prev (length c.args.logs.now) c.args.place) (c.args.reach.receipts + 1)
     c.in-Some.sending = rw writer at c.in-Some.ensures in
     let back : c.args.reach.events + 1 - 1 ≡ c.args.reach.events = omega arith in

@@ -7,7 +7,7 @@ use Rattle.ira_evidence.proofs.reach.advance.Goals as goal
 pub returns-in-None : goal.returns-in-None
 returns-in-None g c =
     let writer : c.from.result ≡ prev (length c.args.logs.now) c.args.place =
-    c.from.ensures ∙ c.writer_of-writer.ensures
+    c.from.ensures ∙ c.predecessor-writer.ensures.value
     ∙ ap (λ n. prev n c.args.place) (c.get.ensures.value ∙ c.size.ensures.value) in
     let events : log_of c.args.logs.now c.args.place ≡ c.log.result.now.events = ap events_of c.log.ensures.value in
     let held = rw (c.from-node.ensures, writer) at c.in-None.ensures in
@@ -17,7 +17,7 @@ returns-in-None g c =
 pub returns-in-Some : goal.returns-in-Some
 returns-in-Some g c =
     let writer : c.from.result ≡ prev (length c.args.logs.now) c.args.place =
-    c.from.ensures ∙ c.writer_of-writer.ensures
+    c.from.ensures ∙ c.predecessor-writer.ensures.value
     ∙ ap (λ n. prev n c.args.place) (c.get.ensures.value ∙ c.size.ensures.value) in
     let events : log_of c.args.logs.now c.args.place ≡ c.log.result.now.events = ap events_of c.log.ensures.value in
     let next = rw (c.from-node.ensures, writer) at c.in-Some.ensures in

@@ -44,8 +44,8 @@ loop-link-2-preserved g c =
       c.deref_mut-in-loop-link-2.ensures.len,
       ap length c.deref_mut-in-loop-link-2.ensures.value,
     )) in
-    let to : c.reader_of-link.result ≡ next (length c.args.logs.now) c.loop-link-2.link =
-    c.reader_of-link.ensures ∙ ap (λ n. next n c.loop-link-2.link) (c.get-nodes.ensures.value ∙ c.size.ensures.value) in
+    let to : c.successor-link.result ≡ next (length c.args.logs.now) c.loop-link-2.link =
+    c.successor-link.ensures.value ∙ ap (λ n. next n c.loop-link-2.link) (c.get-nodes.ensures.value ∙ c.size.ensures.value) in
     rw (back, to) (record {
       are = s.kept;
       bounds = s.bounds h.bounds;

@@ -10,8 +10,8 @@ returns g c =
     let kept = c.args.kept.now in
     let link = c.args.link in
     let b = c.with_receipts.result in
-    let reader : c.reader_of-reader.result ≡ next (length c.args.logs.now) c.args.link =
-    c.reader_of-reader.ensures ∙ ap (λ n. next n c.args.link) (c.get.ensures.value ∙ c.size.ensures.value) in
+    let reader : c.successor-reader.result ≡ next (length c.args.logs.now) c.args.link =
+    c.successor-reader.ensures.value ∙ ap (λ n. next n c.args.link) (c.get.ensures.value ∙ c.size.ensures.value) in
     let to : c.from-node.result ≡ next (length c.args.logs.now) c.args.link = c.from-node.ensures ∙ reader in
     let same : log_of c.args.logs.now (next (length c.args.logs.now) c.args.link) ≡ c.log.result.now.events =
     ap (log_of c.args.logs.now) (sym reader) ∙ ap events_of c.log.ensures.value in

@@ -17,8 +17,8 @@ loop-link-preserved g c =
     let new = c.in_ok-sendings_after.field-0 in
     let n : c.get-size.result ≡ length c.args.logs.now = c.get-size.ensures.value ∙ c.size.ensures.value in
     let below : c.loop-link.link < length c.args.logs.now = omega (arith, c.loop-link-test.true, n) in
-    let to : c.reader_of.result ≡ next (length c.args.logs.now) c.loop-link.link =
-    c.reader_of.ensures ∙ ap (λ k. next k c.loop-link.link) n in
+    let to : c.successor.result ≡ next (length c.args.logs.now) c.loop-link.link =
+    c.successor.ensures.value ∙ ap (λ k. next k c.loop-link.link) n in
     let received = received_is logs cut c.args.nodes.now (next (length c.args.logs.now) c.loop-link.link)
     c.received_by-received.result c.requires.each c.requires.number (next_below (length c.args.logs.now) link below)
     (rw to at c.received_by-received.ensures) in

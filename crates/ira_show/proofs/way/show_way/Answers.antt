@@ -17,7 +17,7 @@ loop-link-preserved g c =
     let link = c.loop-link.link in
     let loads = c.on_link.result.now in
     let size = c.size-size.ensures.value ∙ sym c.size-size.ensures.links in
-    let reader = c.next_place.ensures.value ∙ ap (λ n. next n link) size in
+    let reader = c.successor.ensures.value ∙ ap (λ n. next n link) size in
     added_at (numbered_link_text (length links)) (enumerate_from 0 links) link (link, loads)
     (element_at links link loads c.on_link.ensures) c.loop-link.invariant
     (added_as (ap (λ r. link_text link r loads) reader) c.show_link.ensures)

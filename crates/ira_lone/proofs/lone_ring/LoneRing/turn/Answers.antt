@@ -1,8 +1,8 @@
-use Rattle.std.proofs.Common.{◌≡◌, ◌+◌, ◌<◌, ◌≤◌, ◌⊎◌, inl, inr, ap, arith}
+use Rattle.std.proofs.Common.{◌≡◌, ◌∙◌, ap, arith}
+use Rattle.ira_order.specs.Ring.{next}
 use Rattle.ira_run.specs.Setup.{Setup}
 use Rattle.ira_lone.proofs.LoneTurns.{ids_left, turn_ended, turn_sent}
 use Rattle.ira_lone.proofs.lone_ring.LoneRing.turn.Goals as goal
-use Rattle.ira_lone.proofs.lone_ring.LoneRing.turn.Goals.{then-i-get, else-i-get}
 
 pub go_on-requires : goal.go_on-requires
 go_on-requires g c = record {
@@ -21,14 +21,11 @@ returns-in_default-clause-turn g c =
 
 pub returns-clause-turn : goal.returns-clause-turn
 returns-clause-turn g c =
-    let how : ((c.args.i + 1 < c.setup.inside.nodes) × (c.if-i-get.next ≡ c.args.i + 1))
-    ⊎ ((c.setup.inside.nodes ≤ c.args.i + 1) × (c.if-i-get.next ≡ 0)) = elim c.if-i-get.branch [
-      | then-i-get w ↦ inl (omega (arith, w.if-i-get.true, c.get.ensures.value), w.next-is)
-      | else-i-get w ↦ inr (omega (arith, w.if-i-get.false, c.get.ensures.value), w.next-is)
-    ] in
+    let to : c.successor-next.result ≡ next c.setup.inside.nodes c.args.i =
+    c.successor-next.ensures.value ∙ ap (λ n. next n c.args.i) c.get.ensures.value in
     turn_sent c.args.self.now.setup.now c.args.self.now.nodes.items c.args.i _ c.setup.inside.nodes c.setup.inside.cap
-    c.setup.inside.terms _ _ _ c.if-i-get.next _ _ _ c.in-Some.load c.requires.rules c.requires.reached
+    c.setup.inside.terms _ _ _ c.successor-next.result _ _ _ c.in-Some.load c.requires.rules c.requires.reached
     c.requires.place c.from.ensures
     (ap (λ (s : Setup). s.nodes) c.setup.view_is) (ap (λ (s : Setup). s.cap) c.setup.view_is)
-    (ap (λ (s : Setup). s.terms) c.setup.view_is) c.index_mut.ensures.value c.in_ok-load.ensures c.in-Some.is how
+    (ap (λ (s : Setup). s.terms) c.setup.view_is) c.index_mut.ensures.value c.in_ok-load.ensures c.in-Some.is to
     c.from-2.ensures c.index_mut-2.ensures.value c.in_ok-put.ensures
