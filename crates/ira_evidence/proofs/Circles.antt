@@ -20,15 +20,14 @@ use Rattle.ira_order.specs.Ring.{log_of, next, numbered, prev}
 use Rattle.ira_order.proofs.Acyclic.{before_own}
 use Rattle.ira_order.proofs.Bridge.{SendingOf, kept_order, pair_of, sending_of}
 use Rattle.ira_order.proofs.OrderOrCircle.{order_or_circle}
-use Rattle.ira_order.proofs.OrderPrefixes.{schedule_push}
+use Rattle.ira_order.proofs.OrderPrefixes.{counted_more, occurrences_push_same, schedule_push}
 use Rattle.ira_order.proofs.Places.{Ranked, fewer_receipts, is_receipt}
 use Rattle.ira_order.proofs.Ranks.{next_below, rank_mono}
 use Rattle.ira_order.proofs.Runs.{next_prev, prev_below, prev_next}
 use Rattle.ira_evidence.specs.CircleEvidence.{IsCircle, IsLongestPrefix}
 use Rattle.ira_evidence.specs.StuckNodes.{IsWaiting}
 use Rattle.ira_evidence.proofs.Around.{around}
-use Rattle.ira_evidence.proofs.Counted.{at_number, counted_more}
-use Rattle.ira_evidence.proofs.Reaches.{once_more}
+use Rattle.ira_evidence.proofs.Counted.{at_number}
 
 -- the only link into the next node
 one_link : (n i j : ℕ) → i < n → j < n → next n j ≡ next n i → j ≡ i
@@ -46,7 +45,7 @@ module _ (logs : List Log) (cut : List ℕ) (are : AreLogs logs) (matches : Matc
   stuck : (i : ℕ) → i < length logs → IsReady logs (occurrences p.order) i → ⊥
   stuck i l can =
       let longer = p.longest (p.order ++ i ∷ []) (schedule_push logs p.order i are.ring.0 l p.ordered can) i l in
-      omega (arith, longer, once_more p.order i, p.holds i l)
+      omega (arith, longer, occurrences_push_same p.order i, p.holds i l)
 
   -- the events so far of node i
   abbrev at : ℕ → ℕ

@@ -3,23 +3,15 @@ use Rattle.std.proofs.Common.{◌≡◌, ℕ, zero, suc, ◌+◌, ◌<◌, List,
 use Rattle.std.proofs.Common.{ap, arith, take, add-one}
 use Rattle.std.specs.Prelude.{slice_get}
 use Rattle.std.specs.List.{filter_map, cons_option}
-use Rattle.std.proofs.lemmas.Option.{get_or_from_slice_get, slice_get_within}
 use Rattle.ira_event.specs.declared.event.Event.{Event}
 use Rattle.ira_event.specs.declared.event.Event.TheVariants.{Got, Sent}
 use Rattle.ira_event.specs.declared.load.Load.{Load}
 use Rattle.ira_order.specs.Matching.{got, receipt, sending, sent}
 use Rattle.ira_order.specs.Ring.{numbered}
-use Rattle.ira_order.proofs.OrderPrefixes.{rank_more}
+use Rattle.ira_order.proofs.OrderPrefixes.{counted_more}
 use Rattle.ira_order.proofs.Pairing.{numbered-past}
-use Rattle.ira_evidence.specs.Exchange.{IsNthGot, IsNthSent}
-
--- an event more, counted
-pub counted_more : (h : Event → Option Load) (es : List Event) (n : ℕ) (e : Event) → slice_get es n ≡ Some e
-    → length (filter_map h (take (n + 1) es)) ≡ length (filter_map h (take n es)) + length (cons_option (h e) [])
-counted_more h es n e is =
-    rank_more h es n e (slice_get_within es n e is)
-    ∙ ap (λ (x : Event). length (filter_map h (take n es)) + length (cons_option (h x) []))
-    (get_or_from_slice_get es n e e is)
+use Rattle.ira_order.proofs.Places.{is_receipt, is_sending}
+use Rattle.ira_evidence.specs.Exchange.{IsNth, IsNthGot, IsNthSent}
 
 -- the load of an event is the one after those before it
 pub counted_load : (h : Event → Option Load) (es : List Event) (n : ℕ) (e : Event) (x : Load) → slice_get es n ≡ Some e
@@ -46,28 +38,43 @@ none_numbered xs (suc k) fewer = numbered-past xs (suc k) (fewer (omega arith))
 pub at_number : (es : List Event) (n : ℕ) (e : Event) → slice_get es n ≡ Some e → numbered es (n + 1) ≡ Some e
 at_number es n e is = rw (add-one n) is
 
--- an event that sends, as the k-th
-pub nth_sent : (es : List Event) (n k : ℕ) (x : Load) → slice_get es n ≡ Some (Sent x)
-    → k ≡ length (sent (take n es)) + 1 → IsNthSent es k (n + 1) x
-nth_sent es n k x is number =
-    let at : numbered (sent es) (suc (length (sent (take n es)))) ≡ Some x =
-    counted_load sending es n (Sent x) x is refl in
-    let count : k ≡ suc (length (sent (take n es))) = omega (arith, number) in
+-- an event that has a load, as the k-th
+pub nth : (h : Event → Option Load) (es : List Event) (n k : ℕ) (e : Event) (x : Load) → slice_get es n ≡ Some e
+    → h e ≡ Some x → k ≡ length (filter_map h (take n es)) + 1 → IsNth h es k (n + 1) x
+nth h es n k e x is has number =
+    let at : numbered (filter_map h es) (suc (length (filter_map h (take n es)))) ≡ Some x =
+    counted_load h es n e x is has in
+    let count : k ≡ suc (length (filter_map h (take n es))) = omega (arith, number) in
+    let one : length (cons_option (h e) []) ≡ 1 = ap (λ o. length (cons_option o [])) has in
     record {
-      event = at_number es n (Sent x) is;
-      rank = counted_more sending es n (Sent x) is ∙ sym number;
-      load_is = ap (numbered (sent es)) count ∙ at;
+      event = e;
+      stands = at_number es n e is;
+      has = has;
+      rank = omega (arith, counted_more h es n e is, one, number);
+      load_is = ap (numbered (filter_map h es)) count ∙ at;
     }
 
--- and one that receives
+-- one that sends
+pub sends_nth : (es : List Event) (k position : ℕ) (x : Load) → IsNth sending es k position x
+    → IsNthSent es k position x
+sends_nth es k position x is = record {
+  event = is.stands ∙ ap Some (is_sending is.event x is.has);
+  rank = is.rank;
+  load_is = is.load_is;
+}
+
+pub nth_sent : (es : List Event) (n k : ℕ) (x : Load) → slice_get es n ≡ Some (Sent x)
+    → k ≡ length (sent (take n es)) + 1 → IsNthSent es k (n + 1) x
+nth_sent es n k x is number = sends_nth es k (n + 1) x (nth sending es n k (Sent x) x is refl number)
+
+-- one that receives
+pub gets_nth : (es : List Event) (k position : ℕ) (x : Load) → IsNth receipt es k position x → IsNthGot es k position x
+gets_nth es k position x is = record {
+  event = is.stands ∙ ap Some (is_receipt is.event x is.has);
+  rank = is.rank;
+  load_is = is.load_is;
+}
+
 pub nth_got : (es : List Event) (n k : ℕ) (x : Load) → slice_get es n ≡ Some (Got x) → k ≡ length (got (take n es)) + 1
     → IsNthGot es k (n + 1) x
-nth_got es n k x is number =
-    let at : numbered (got es) (suc (length (got (take n es)))) ≡ Some x =
-    counted_load receipt es n (Got x) x is refl in
-    let count : k ≡ suc (length (got (take n es))) = omega (arith, number) in
-    record {
-      event = at_number es n (Got x) is;
-      rank = counted_more receipt es n (Got x) is ∙ sym number;
-      load_is = ap (numbered (got es)) count ∙ at;
-    }
+nth_got es n k x is number = gets_nth es k (n + 1) x (nth receipt es n k (Got x) x is refl number)

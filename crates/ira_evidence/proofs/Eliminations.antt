@@ -96,17 +96,6 @@ pub record AreSoFar (logs : List Log) (case : List Conjunct) (steps : List CertS
       → slice_get positions x ≡ Some p → IsEliminated all i p
   pub last : (before : List Elimination) (e : Elimination) → all ≡ before ++ e ∷ [] → IsLastMade logs case steps e
 
--- before the first step there are none
-pub none_so_far : (logs : List Log) (case : List Conjunct) → AreSoFar logs case [] []
-none_so_far logs case = record {
-  each = λ h e at. absurd cc;
-  covered = λ i x p positions are l at. absurd (omega arith);
-  last = λ before e same. absurd (no_last before e same);
-} where
-  no_last : (before : List Elimination) (e : Elimination) → [] ≡ before ++ e ∷ [] → ⊥
-  no_last [] e same = cc
-  no_last (x ∷ xs) e same = cc
-
 module _ (logs : List Log) (case : List Conjunct) (differ : HasDifferentPlaces case) (steps : List CertStep) (k : ℕ)
     (s : CertStep) (at : slice_get steps k ≡ Some s) (sound : IsSoundStep logs case (take k steps) s)
     (all : List Elimination) (so_far : AreSoFar logs case (take k steps) all) where

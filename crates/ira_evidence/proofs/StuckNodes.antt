@@ -1,10 +1,8 @@
 -- The nodes that are stuck, and the evidence that they are.
-use Rattle.std.proofs.Common.{◌≡◌, ℕ, ◌+◌, ◌<◌, ◌≤◌, inl, inr, List, [], ◌∷◌, Some, length, refl, sym, ◌∙◌, ap, subst}
-use Rattle.std.proofs.Common.{arith, take, add-one, sum, false}
+use Rattle.std.proofs.Common.{◌≡◌, ℕ, ◌+◌, ◌<◌, ◌≤◌, inl, inr, List, Some, length, refl, sym, ◌∙◌, ap, subst}
+use Rattle.std.proofs.Common.{arith, take, add-one, false}
 use Rattle.std.specs.Prelude.{slice_get, slice_index}
-use Rattle.std.proofs.lemmas.Bool.{cases_lt}
-use Rattle.std.proofs.lemmas.List.{take_all}
-use Rattle.std.proofs.lemmas.List.Sums.{sum_by-cons}
+use Rattle.std.proofs.lemmas.List.Sums.{sum-map}
 use Rattle.std.proofs.lemmas.Option.{slice_get-get_or, slice_get_within}
 use Rattle.ira_event.specs.Limits.{MAX_RECORDS}
 use Rattle.ira_event.specs.declared.event.Event.{Event}
@@ -12,33 +10,22 @@ use Rattle.ira_event.specs.declared.event.Event.TheVariants.{Got}
 use Rattle.ira_event.specs.declared.load.Load.{Load}
 use Rattle.ira_event.specs.Log.{Log}
 use Rattle.ira_event.specs.Logs.{AreLogs}
-use Rattle.ira_order.specs.Circle.{HasOrder}
+use Rattle.ira_order.specs.declared.tally.Tally.{Tally}
+use Rattle.ira_order.specs.OrderPrefix.{IsLongest, IsOrderPrefix, IsShort, OrderPrefix, tally_at}
 use Rattle.ira_order.specs.Matching.{Matches, got, receipt, sending, sent}
 use Rattle.ira_order.specs.Ring.{events_of, log_of, next, numbered, prev}
+use Rattle.ira_order.proofs.OrderPrefixes.{counted_more}
 use Rattle.ira_order.proofs.Places.{numbered_some}
-use Rattle.ira_order.proofs.Ranks.{rank_mono}
+use Rattle.ira_order.proofs.Ranks.{rank_all}
 use Rattle.ira_order.proofs.Runs.{next_prev, prev_below}
 use Rattle.ira_evidence.specs.declared.exchange.Exchange.{Exchange}
-use Rattle.ira_evidence.specs.declared.reach.Reach.{Reach}
 use Rattle.ira_evidence.specs.declared.stuck_at.StuckAt.{StuckAt}
-use Rattle.ira_evidence.specs.CircleEvidence.{IsCircleEvidence, IsStuckAt}
+use Rattle.ira_evidence.specs.CircleEvidence.{IsCircleEvidence, IsLongestPrefix, IsStuckAt}
 use Rattle.ira_evidence.specs.Exchange.{IsNthSending}
-use Rattle.ira_evidence.specs.Reach.{AreHeld, AreReached, IsReach, reach_of, total_reached}
 use Rattle.ira_evidence.specs.StuckNodes.{AreStuckNodes, IsWaiting}
-use Rattle.ira_evidence.proofs.Circles.{all_short, circle, waiting, whole_order}
-use Rattle.ira_evidence.proofs.Counted.{at_number, counted_more}
-use Rattle.ira_evidence.proofs.Reaches.{events_at, events_reached, longest_reached}
-
--- a beginning has no more sendings than the whole log
-sendings_le : (es : List Event) (n : ℕ) → length (sent (take n es)) ≤ length (sent es)
-sendings_le es n = elim (cases_lt n (length es)) [
-  | inl below ↦
-      let whole : take (length es) es ≡ es = take_all (length es) es (omega arith) in
-      rw whole at (rank_mono sending es n (length es) (omega (arith, below)))
-  | inr past ↦
-      let whole : take n es ≡ es = take_all n es past in
-      rw whole (omega arith)
-]
+use Rattle.ira_evidence.proofs.Circles.{all_short, circle, waiting}
+use Rattle.ira_evidence.proofs.Counted.{at_number}
+use Rattle.ira_evidence.proofs.Prefixes.{events_at, events_made, longest_cut}
 
 -- no log has more events than a log may have
 pub few_events : (logs : List Log) (i : ℕ) → AreLogs logs → i < length logs → length (log_of logs i) ≤ MAX_RECORDS
@@ -48,11 +35,24 @@ few_events logs i are l =
     let same = ap (λ o. length (events_of o)) is in
     omega (arith, same, (are.valid i _ is).count)
 
+-- nor does a node make more
+pub few_made : (logs : List Log) (p : OrderPrefix) (i : ℕ) → IsOrderPrefix logs p → i < length logs
+    → (tally_at p.tallies i).events ≤ MAX_RECORDS
+few_made logs p i prefix l =
+    omega (arith, (prefix.each i l).made, prefix.schedule.within i l, few_events logs i prefix.logs_are l)
+
+pub received_by : (logs : List Log) (p : OrderPrefix) (i : ℕ) → IsOrderPrefix logs p → i < length logs
+    → (tally_at p.tallies i).receipts ≡ length (got (take (tally_at p.tallies i).events (log_of logs i)))
+received_by logs p i prefix l =
+    let is = prefix.each i l in
+    is.receipts ∙ ap (λ n. length (got (take n (log_of logs i)))) (sym is.made)
+
 -- node j, whose next event is a receipt that has a sending
-module _ (logs : List Log) (j : ℕ) (r : Reach) (lj : j
-    < length logs) (is : IsReach (log_of logs j) r) (w : IsWaiting logs j r.events) where
+module _ (logs : List Log) (j : ℕ) (r : Tally) (lj : j < length logs)
+    (received : r.receipts ≡ length (got (take r.events (log_of logs j))))
+    (w : IsWaiting logs j r.events) where
   received_here : length (got (take (r.events + 1) (log_of logs j))) ≡ r.receipts + 1
-  received_here = omega (arith, counted_more receipt (log_of logs j) r.events (Got w.load) w.receives, is.receipts)
+  received_here = omega (arith, counted_more receipt (log_of logs j) r.events (Got w.load) w.receives, received)
 
   sent_there : length (sent (take w.sending (log_of logs (prev (length logs) j)))) ≡ r.receipts + 1
   sent_there =
@@ -65,7 +65,7 @@ module _ (logs : List Log) (j : ℕ) (r : Reach) (lj : j
   pub has_sending : (m : Load) × (numbered (sent (log_of logs (prev (length logs) j))) (r.receipts + 1) ≡ Some m)
   has_sending =
       let m = numbered_some (sent (log_of logs (prev (length logs) j))) r.receipts
-      (omega (arith, sent_there, sendings_le (log_of logs (prev (length logs) j)) w.sending)) in
+      (omega (arith, sent_there, rank_all sending (log_of logs (prev (length logs) j)) w.sending)) in
       (m.0, rw (add-one r.receipts) m.1)
 
   pub stuck_here : (x : Exchange) (load : Load) → IsNthSending logs (prev (length logs) j) (r.receipts + 1) x
@@ -99,42 +99,34 @@ module _ (logs : List Log) (j : ℕ) (r : Reach) (lj : j
         };
       }
 
-sum_of_events : (reaches : List Reach) → total_reached reaches ≡ sum (events_reached reaches)
-sum_of_events [] = refl
-sum_of_events (x ∷ xs) =
-    sum_by-cons (λ (x : Reach). x.events) x xs ∙ ap (λ n. x.events + n) (sum_of_events xs)
-    ∙ sym (sum_by-cons (λ (n : ℕ). n) x.events (events_reached xs))
+module _ (logs : List Log) (p : OrderPrefix) (matches : Matches logs) (longest : IsLongest logs p)
+    (short : IsShort logs p.places) where
+  are : AreLogs logs
+  are = longest.prefix.logs_are
 
-module _ (logs : List Log) (reaches : List Reach) (matches : Matches logs) (r : AreReached logs reaches)
-    (held : AreHeld logs reaches) where
-  at_reach : (i : ℕ) → i < length logs → slice_index (events_reached reaches) i ≡ (reach_of reaches i).events
-  at_reach i l = events_at reaches i (omega (arith, r.places, l))
+  cut : IsLongestPrefix logs (events_made p.tallies)
+  cut = longest_cut logs p longest
 
-  pub order_reached : ((i : ℕ) → i < length logs → length (log_of logs i) ≤ (reach_of reaches i).events) → HasOrder logs
-  order_reached whole =
-      whole_order logs (events_reached reaches) r.logs_are matches (longest_reached logs reaches r held) (λ i l.
-      rw (at_reach i l) (whole i l))
+  at_cut : (i : ℕ) → i < length logs → slice_index (events_made p.tallies) i ≡ (tally_at p.tallies i).events
+  at_cut i l = events_at p.tallies i (omega (arith, longest.prefix.nodes, l))
 
-  module _ (i : ℕ) (l : i < length logs) (short : (reach_of reaches i).events < length (log_of logs i)) where
-    each_short : (j : ℕ) → j < length logs → slice_index (events_reached reaches) j < length (log_of logs j)
-    each_short = all_short logs (events_reached reaches) r.logs_are matches (longest_reached logs reaches r held) i l
-        (rw (at_reach i l) short)
+  each_short : (j : ℕ) → j < length logs → slice_index (events_made p.tallies) j < length (log_of logs j)
+  each_short = all_short logs (events_made p.tallies) are matches cut short.0 short.1
+      (rw (at_cut short.0 short.1, (longest.prefix.each short.0 short.1).made) short.2)
 
-    pub waiting_reached : (j : ℕ) → j < length logs → IsWaiting logs j (reach_of reaches j).events
-    waiting_reached j lj =
-        subst (IsWaiting logs j) (at_reach j lj)
-        (waiting logs (events_reached reaches) r.logs_are matches (longest_reached logs reaches r held) each_short j
-        lj)
+  pub waiting_at : (j : ℕ) → j < length logs → IsWaiting logs j (tally_at p.tallies j).events
+  waiting_at j l =
+      subst (IsWaiting logs j) (at_cut j l) (waiting logs (events_made p.tallies) are matches cut each_short j l)
 
-    pub circle_evidence : (ordered : ℕ) (stuck : List StuckAt) → AreStuckNodes logs reaches ordered stuck
-        → IsCircleEvidence logs ordered stuck
-    circle_evidence ordered stuck are = record {
-      places = are.places;
-      cut = events_reached reaches;
-      longest = longest_reached logs reaches r held;
-      total = are.total ∙ sum_of_events reaches;
-      circle = circle logs (events_reached reaches) r.logs_are matches (longest_reached logs reaches r held) each_short;
-      each = λ j s at.
-          let lj : j < length logs = omega (arith, are.places, slice_get_within stuck j s at) in
-          rw (at_reach j lj) (are.each j s at);
-    }
+  pub circle_evidence : (ordered : ℕ) (stuck : List StuckAt) → AreStuckNodes logs p.tallies ordered stuck
+      → IsCircleEvidence logs ordered stuck
+  circle_evidence ordered stuck nodes = record {
+    places = nodes.places;
+    cut = events_made p.tallies;
+    longest = cut;
+    total = nodes.total ∙ sym (sum-map (λ (t : Tally). t.events) p.tallies);
+    circle = circle logs (events_made p.tallies) are matches cut each_short;
+    each = λ j s at.
+        let l : j < length logs = omega (arith, nodes.places, slice_get_within stuck j s at) in
+        rw (at_cut j l) (nodes.each j s at);
+  }

@@ -1,5 +1,6 @@
 -- The sendings and receipts of a link, by their numbers.
-use Rattle.std.specs.Prelude.{◌≡◌, ℕ, List, Some, length, take}
+use Rattle.std.specs.Prelude.{◌≡◌, ℕ, List, Option, Some, length, take}
+use Rattle.std.specs.List.{filter_map}
 use Rattle.ira_event.specs.declared.event.Event.{Event}
 use Rattle.ira_event.specs.declared.event.Event.TheVariants.{Sent, Got}
 use Rattle.ira_event.specs.declared.load.Load.{Load}
@@ -7,6 +8,14 @@ use Rattle.ira_event.specs.Log.{Log}
 use Rattle.ira_order.specs.Ring.{next, log_of, numbered}
 use Rattle.ira_order.specs.Matching.{sent, got}
 use Rattle.ira_evidence.specs.declared.exchange.Exchange.{Exchange}
+
+-- a helper, no definition: the event at this position, counted from 1, has the load, and is the k-th that has one
+pub record IsNth (load_of : Event → Option Load) (events : List Event) (k position : ℕ) (load : Load) : Type 0 where
+  pub event : Event
+  pub stands : numbered events position ≡ Some event
+  pub has : load_of event ≡ Some load
+  pub rank : length (filter_map load_of (take position events)) ≡ k
+  pub load_is : numbered (filter_map load_of events) k ≡ Some load
 
 -- the event at this position, counted from 1, sends the load, and is the k-th that sends one
 pub record IsNthSent (events : List Event) (k position : ℕ) (load : Load) : Type 0 where

@@ -6,6 +6,6 @@ pub mod Exchange
 pub mod Laws
 pub mod LinkEvidence
 pub mod NodeEvidence
-pub mod Reach
 pub mod SectionEvidence
+pub mod Side
 pub mod StuckNodes

@@ -1,16 +1,15 @@
-ghost use Rattle.std.specs.Prelude.{◌<◌, ℕ, IfOk, MatchOption, length};
+ghost use Rattle.std.specs.Prelude.{◌≡◌, ◌<◌, ℕ, IfOk, MatchOption, length, take};
 ghost use Rattle.ira_order.specs.Circle.{HasOrder};
-ghost use Rattle.ira_order.specs.Matching.{Matches};
+ghost use Rattle.ira_order.specs.Matching.{Matches, got};
+ghost use Rattle.ira_order.specs.OrderPrefix.{IsOrderPrefix, tally_at};
 ghost use Rattle.ira_order.specs.Ring.{log_of};
 ghost use Rattle.ira_evidence.specs.CircleEvidence.{IsCircleEvidence, IsStuckAt};
-ghost use Rattle.ira_evidence.specs.Reach.{AreReached, IsReach, reach_of};
 ghost use Rattle.ira_evidence.specs.StuckNodes.{AreStuckNodes, IsWaiting};
 
 use crate::exchange::nth_sending;
-use crate::reach::{Reach, is_whole, longest_reaches};
 use crate::stuck_at::StuckAt;
 use ira_event::{Event, Logs, OutOfMemory};
-use ira_order::{EventAt, predecessor};
+use ira_order::{EventAt, OrderPrefix, Tally, predecessor};
 use std::alloc::Allocator;
 
 /// Logs that match and have no order: where each node is stuck when as many events as can be are put in order.
@@ -22,20 +21,20 @@ pub struct CircleEvidence<A: Allocator> {
     pub stuck: Vec<StuckAt, A>,
 }
 
-/// The receipt that follows so many events, and its sending.
-fn stuck_at<A: Allocator>(logs: &Logs<A>, place: u8, reach: Reach) -> StuckAt
+/// The receipt that follows what a node has made, and its sending.
+fn stuck_at<A: Allocator>(logs: &Logs<A>, place: u8, tally: Tally) -> StuckAt
     requires place { place < length logs.now }
-    requires reach { IsReach (log_of logs.now place) reach }
-    requires waiting { IsWaiting logs.now place reach.events }
-    ensures { IsStuckAt logs.now place reach.events result }
+    requires received { tally.receipts ≡ length (got (take tally.events (log_of logs.now place))) }
+    requires waiting { IsWaiting logs.now place tally.events }
+    ensures { IsStuckAt logs.now place tally.events result }
 {
     let log = logs.log(place);
-    let position = reach.events + 1;
+    let position = tally.events + 1;
     let Event::Got(load) = log.event(position) else {
         unreachable!()
     };
     let writer = predecessor(logs.size().get(), place);
-    let Some(sending) = nth_sending(logs, writer, reach.receipts + 1) else {
+    let Some(sending) = nth_sending(logs, writer, tally.receipts + 1) else {
         unreachable!()
     };
     StuckAt {
@@ -49,19 +48,20 @@ fn stuck_at<A: Allocator>(logs: &Logs<A>, place: u8, reach: Reach) -> StuckAt
 fn stuck_nodes<A: Allocator>(
     alloc: A,
     logs: &Logs<A>,
-    reaches: &[Reach],
+    prefix: &OrderPrefix<A>,
 ) -> Result<CircleEvidence<A>, OutOfMemory>
-    requires reached { AreReached logs.now reaches.now }
-    requires waiting { (i : ℕ) → i < length logs.now → IsWaiting logs.now i (reach_of reaches.now i).events }
-    ensures { IfOk result (λ e. AreStuckNodes logs.now reaches.now e.ordered e.stuck.items) }
+    requires prefix { IsOrderPrefix logs.now prefix.now }
+    requires waiting { (i : ℕ) → i < length logs.now
+        → IsWaiting logs.now i (tally_at prefix.now.tallies i).events }
+    ensures { IfOk result (λ e. AreStuckNodes logs.now prefix.now.tallies e.ordered e.stuck.items) }
 {
     let nodes = logs.size().get();
     let mut ordered = 0;
     let mut stuck = Vec::with_capacity(alloc, usize::from(nodes))?;
     for place in 0..nodes {
-        let reach = reaches[usize::from(place)];
-        ordered += reach.events;
-        stuck.push(stuck_at(logs, place, reach))?;
+        let tally = prefix.tally(place);
+        ordered += tally.events;
+        stuck.push(stuck_at(logs, place, tally))?;
     }
     Ok(CircleEvidence { ordered, stuck })
 }
@@ -73,10 +73,10 @@ impl<A: Allocator + Clone> CircleEvidence<A> {
         ensures { IfOk result
             (λ found. MatchOption found (HasOrder logs.now) (λ e. IsCircleEvidence logs.now e.ordered e.stuck.items)) }
     {
-        let reaches = longest_reaches(alloc.clone()?, logs)?;
-        if is_whole(logs, &reaches) {
+        let prefix = OrderPrefix::longest(alloc.clone()?, logs)?;
+        if prefix.is_whole(logs) {
             return Ok(None);
         }
-        Ok(Some(stuck_nodes(alloc, logs, &reaches)?))
+        Ok(Some(stuck_nodes(alloc, logs, &prefix)?))
     }
 }

@@ -1,7 +1,9 @@
 ghost use Rattle.std.specs.Prelude.{◌≡◌, ◌<◌, None, MatchOption, length};
+ghost use Rattle.std.specs.List.{filter_map};
 ghost use Rattle.ira_order.specs.Ring.{log_of, next, numbered};
 ghost use Rattle.ira_order.specs.Matching.{sent, got};
-ghost use Rattle.ira_evidence.specs.Exchange.{IsNthGot, IsNthReceipt, IsNthSending, IsNthSent};
+ghost use Rattle.ira_evidence.specs.Side.{load_on};
+ghost use Rattle.ira_evidence.specs.Exchange.{IsNth, IsNthReceipt, IsNthSending};
 
 use ira_event::{Event, Load, Logs, NodeLog};
 use ira_order::{EventAt, successor};
@@ -14,37 +16,38 @@ pub struct Exchange {
     pub load: Load,
 }
 
-/// The position of sending `k` in a log, and what it sent.
-fn nth_sent<A: Allocator>(log: &NodeLog<A>, k: u32) -> Option<(u32, Load)>
-    ensures { MatchOption result (numbered (sent log.now.events) k ≡ None)
-        (λ found. IsNthSent log.now.events k found.0 found.1) }
-{
-    let mut position = 0;
-    let mut sendings = 0;
-    for event in log.events() {
-        position += 1;
-        if let Event::Sent(load) = event {
-            sendings += 1;
-            if sendings == k {
-                return Some((position, load));
-            }
-        }
-    }
-    None
+/// A side of a link.
+#[derive(Clone, Copy)]
+enum Side {
+    Sendings,
+    Receipts,
 }
 
-/// The position of receipt `k` in a log, and what it received.
-fn nth_got<A: Allocator>(log: &NodeLog<A>, k: u32) -> Option<(u32, Load)>
-    ensures { MatchOption result (numbered (got log.now.events) k ≡ None)
-        (λ found. IsNthGot log.now.events k found.0 found.1) }
+impl Side {
+    /// The load of an event that is on this side of its link.
+    fn load(self, event: Event) -> Option<Load>
+        ensures { result ≡ load_on self event }
+    {
+        match (self, event) {
+            (Side::Sendings, Event::Sent(load)) => Some(load),
+            (Side::Receipts, Event::Got(load)) => Some(load),
+            _ => None,
+        }
+    }
+}
+
+/// The position in a log of its `k`-th event on this side of its link, and the load.
+fn nth<A: Allocator>(log: &NodeLog<A>, side: Side, k: u32) -> Option<(u32, Load)>
+    ensures { MatchOption result (numbered (filter_map (load_on side) log.now.events) k ≡ None)
+        (λ found. IsNth (load_on side) log.now.events k found.0 found.1) }
 {
     let mut position = 0;
-    let mut receipts = 0;
+    let mut rank = 0;
     for event in log.events() {
         position += 1;
-        if let Event::Got(load) = event {
-            receipts += 1;
-            if receipts == k {
+        if let Some(load) = side.load(event) {
+            rank += 1;
+            if rank == k {
                 return Some((position, load));
             }
         }
@@ -58,7 +61,7 @@ pub fn nth_sending<A: Allocator>(logs: &Logs<A>, link: u8, k: u32) -> Option<Exc
     ensures { MatchOption result (numbered (sent (log_of logs.now link)) k ≡ None)
         (IsNthSending logs.now link k) }
 {
-    let (position, load) = nth_sent(logs.log(link), k)?;
+    let (position, load) = nth(logs.log(link), Side::Sendings, k)?;
     Some(Exchange {
         at: EventAt {
             place: link,
@@ -75,7 +78,7 @@ pub fn nth_receipt<A: Allocator>(logs: &Logs<A>, link: u8, k: u32) -> Option<Exc
         (IsNthReceipt logs.now link k) }
 {
     let place = successor(logs.size().get(), link);
-    let (position, load) = nth_got(logs.log(place), k)?;
+    let (position, load) = nth(logs.log(place), Side::Receipts, k)?;
     Some(Exchange {
         at: EventAt { place, position },
         load,

@@ -10,7 +10,6 @@ mod faulty_event;
 mod laws;
 mod link_evidence;
 mod node_evidence;
-mod reach;
 mod section_evidence;
 mod stuck_at;
 

@@ -9,7 +9,7 @@ use Rattle.ira_event.specs.declared.event.Event.{Event}
 use Rattle.ira_event.specs.declared.event.Event.TheVariants.{Draw}
 use Rattle.ira_event.specs.declared.load.Load.{Load}
 use Rattle.ira_order.specs.Matching.{got, sent, receipt, sending}
-use Rattle.ira_order.specs.OrderPrefix.{sent_by, got_by}
+use Rattle.ira_order.specs.Tally.{sent_by, got_by}
 use Rattle.ira_order.proofs.OrderPrefixes.{rank_le, rank_more}
 use Rattle.ira_order.proofs.Receipts.{next_ahead}
 use Rattle.ira_mend.specs.Longest.{IsBeginning, IsLongestWith}

@@ -19,7 +19,7 @@ use Rattle.ira_node.specs.StepAnswer.{answer}
 use Rattle.ira_node.proofs.Answers.{fault_gives, step_gives}
 use Rattle.ira_replay.specs.LocalRun.{IsLocalRun, LeadsTo}
 use Rattle.ira_replay.proofs.Reached.{same_next}
-use Rattle.ira_order.specs.OrderPrefix.{sent_by, got_by}
+use Rattle.ira_order.specs.Tally.{sent_by, got_by}
 use Rattle.ira_order.proofs.OrderPrefixes.{rank_le, rank_more}
 use Rattle.ira_moment.specs.declared.node_progress.NodeProgress.{NodeProgress}
 use Rattle.ira_moment.specs.NodeProgress.{Reaches, IsDropped, IsNumberBelow, is_draw, IsProgress}

@@ -1,7 +1,8 @@
 -- A run of the ring: its places are an order, and its links match.
 use Rattle.std.proofs.Common.{◌≡◌, ◌≢◌, ℕ, ◌+◌, ◌<◌, ◌≤◌, inl, inr, List, [], ◌∷◌, ◌++◌, length, refl, sym, ◌∙◌, ap}
 use Rattle.std.proofs.Common.{arith, get_or, take, drop, Some, append-nil, append_assoc, length-append, subst}
-use Rattle.std.specs.Prelude.{slice_get}
+use Rattle.std.specs.Prelude.{slice_get, Option, None}
+use Rattle.std.specs.List.{cons_option, filter_map}
 use Rattle.ira_event.specs.declared.event.Event.{Event}
 use Rattle.ira_event.specs.declared.load.Load.{Load}
 use Rattle.ira_event.specs.Log.{Log}
@@ -28,14 +29,20 @@ module _ (n i : ℕ) (past past' : ℕ → List Event) (old new : ℕ → List L
     (here : i < n)
     (same : (j : ℕ) → j ≢ i → past' j ≡ past j)
     (balanced : Balanced n past old) where
+  -- an event without such a load leaves those loads as they were
+  quiet : (h : Event → Option Load) (e : Event) → past' i ≡ past i ++ e ∷ [] → h e ≡ None → (j : ℕ)
+      → filter_map h (past' j) ≡ filter_map h (past j)
+  quiet h e more none j = elim (cases_eq j i) [
+    | inl same_node ↦ rw same_node (ap (filter_map h) more ∙ filter_map-append h (past i) (e ∷ [])
+        ∙ ap (λ o. filter_map h (past i) ++ cons_option o []) none ∙ append-nil (filter_map h (past i)))
+    | inr ne ↦ ap (filter_map h) (same j ne)
+  ]
+
   pub balanced_step : (e : Event) → past' i ≡ past i ++ e ∷ [] → LinkStep n i e old new → Balanced n past' new
   balanced_step (Sent m) more step k lk =
+      let got_next = quiet receipt (Sent m) more refl (next n k) in
       let sent_i : sent (past' i) ≡ sent (past i) ++ m ∷ [] =
       ap sent more ∙ filter_map-append sending (past i) (Sent m ∷ []) in
-      let got_i : got (past' i) ≡ got (past i) =
-      ap got more ∙ filter_map-append receipt (past i) (Sent m ∷ []) ∙ append-nil (got (past i)) in
-      let got_next : got (past' (next n k)) ≡ got (past (next n k)) =
-      elim (cases_eq (next n k) i) [ inl e ↦ rw e got_i | inr ne ↦ ap got (same (next n k) ne) ] in
       elim (cases_eq k i) [
         | inl e ↦ rw (
           got_next,
@@ -47,12 +54,9 @@ module _ (n i : ℕ) (past past' : ℕ → List Event) (old new : ℕ → List L
         | inr ne ↦ rw (got_next, step.1 k lk ne, same k ne) (balanced k lk)
       ]
   balanced_step (Got m) more step k lk =
+      let sent_k = quiet sending (Got m) more refl k in
       let got_i : got (past' i) ≡ got (past i) ++ m ∷ [] =
       ap got more ∙ filter_map-append receipt (past i) (Got m ∷ []) in
-      let sent_i : sent (past' i) ≡ sent (past i) =
-      ap sent more ∙ filter_map-append sending (past i) (Got m ∷ []) ∙ append-nil (sent (past i)) in
-      let sent_k : sent (past' k) ≡ sent (past k) =
-      elim (cases_eq k i) [ inl e ↦ rw e sent_i | inr ne ↦ ap sent (same k ne) ] in
       elim (cases_eq (next n k) i) [
         | inl e ↦
             let q : k ≡ prev n i = prev_next n i k here lk e in
@@ -65,25 +69,9 @@ module _ (n i : ℕ) (past past' : ℕ → List Event) (old new : ℕ → List L
             rw (sent_k, step.1 k lk other, same (next n k) ne) (balanced k lk)
       ]
   balanced_step (Draw x) more step k lk =
-      let got_i : got (past' i) ≡ got (past i) =
-      ap got more ∙ filter_map-append receipt (past i) (Draw x ∷ []) ∙ append-nil (got (past i)) in
-      let sent_i : sent (past' i) ≡ sent (past i) =
-      ap sent more ∙ filter_map-append sending (past i) (Draw x ∷ []) ∙ append-nil (sent (past i)) in
-      let sent_k : sent (past' k) ≡ sent (past k) =
-      elim (cases_eq k i) [ inl e ↦ rw e sent_i | inr ne ↦ ap sent (same k ne) ] in
-      let got_next : got (past' (next n k)) ≡ got (past (next n k)) =
-      elim (cases_eq (next n k) i) [ inl e ↦ rw e got_i | inr ne ↦ ap got (same (next n k) ne) ] in
-      rw (got_next, sent_k, step k lk) (balanced k lk)
+      rw (quiet receipt (Draw x) more refl (next n k), quiet sending (Draw x) more refl k, step k lk) (balanced k lk)
   balanced_step Yield more step k lk =
-      let got_i : got (past' i) ≡ got (past i) =
-      ap got more ∙ filter_map-append receipt (past i) (Yield ∷ []) ∙ append-nil (got (past i)) in
-      let sent_i : sent (past' i) ≡ sent (past i) =
-      ap sent more ∙ filter_map-append sending (past i) (Yield ∷ []) ∙ append-nil (sent (past i)) in
-      let sent_k : sent (past' k) ≡ sent (past k) =
-      elim (cases_eq k i) [ inl e ↦ rw e sent_i | inr ne ↦ ap sent (same k ne) ] in
-      let got_next : got (past' (next n k)) ≡ got (past (next n k)) =
-      elim (cases_eq (next n k) i) [ inl e ↦ rw e got_i | inr ne ↦ ap got (same (next n k) ne) ] in
-      rw (got_next, sent_k, step k lk) (balanced k lk)
+      rw (quiet receipt Yield more refl (next n k), quiet sending Yield more refl k, step k lk) (balanced k lk)
 
 -- where received, then held, is sent, the logs match
 pub balanced_matches : (logs : List Log) (link : ℕ → List Load) → Balanced (length logs) (log_of logs) link

@@ -16,7 +16,7 @@ use Rattle.ira_order.specs.VectorClock.{AtOrBefore, IsCount}
 use Rattle.ira_order.specs.Stamps.{NodeStamps, receipts_by, CountsAt, CountsSent}
 use Rattle.ira_order.proofs.Ranks.{rank_mono, next_below}
 use Rattle.std.proofs.lemmas.Bool.{cases_lt, cases_eq}
-use Rattle.ira_order.proofs.OrderPrefixes.{rank_more}
+use Rattle.ira_order.proofs.OrderPrefixes.{counted_more, rank_more, receives_nothing}
 use Rattle.ira_order.proofs.Places.{Ranked}
 use Rattle.ira_order.proofs.Bridge.{SendingOf, sending_of, pair_of, covers_consistent}
 use Rattle.ira_order.proofs.Runs.{prev_next, prev_below, next_prev}
@@ -173,26 +173,12 @@ module _ (logs : List Log) (order : List ℕ) (o : IsOrder logs order) where
         → ((m : Load) → e ≡ Got m → ⊥) → CountsAt logs stamps j b → CountsAt logs stamps j (suc b)
     counts_other j b e lj is never before i li ne =
         let within : b < length (log_of logs j) = slice_get_within (log_of logs j) b e is in
+        let more = counted_more receipt (log_of logs j) b e is in
         let same : receipts_by logs j (suc b) ≡ receipts_by logs j b =
-        no_more e (get_or_from_slice_get (log_of logs j) b e (Draw 0) is) never within in
+        rw (← add-one b) (more ∙ ap (λ (x : ℕ). receipts_by logs j b + x) (receives_nothing e never)
+        ∙ add-zero (receipts_by logs j b)) in
         rw same (count_stays j b i _ lj ne (omega arith) (λ m q. never m (let z : Some e ≡ Some (Got m) = sym is ∙ q in
         cc)) (before i li ne))
-      where
-        no_more : (e : Event) → get_or (log_of logs j) b (Draw 0) ≡ e → ((m : Load) → e ≡ Got m → ⊥)
-            → b < length (log_of logs j) → receipts_by logs j (suc b) ≡ receipts_by logs j b
-        no_more (Got m) at_e never l = absurd (never m refl)
-        no_more (Sent m) at_e never l =
-            rw (← add-one b) (rank_more receipt (log_of logs j) b (Draw 0) l
-            ∙ ap (λ (x : Event). receipts_by logs j b + length (cons_option (receipt x) [])) at_e
-            ∙ add-zero (receipts_by logs j b))
-        no_more (Draw m) at_e never l =
-            rw (← add-one b) (rank_more receipt (log_of logs j) b (Draw 0) l
-            ∙ ap (λ (x : Event). receipts_by logs j b + length (cons_option (receipt x) [])) at_e
-            ∙ add-zero (receipts_by logs j b))
-        no_more Yield at_e never l =
-            rw (← add-one b) (rank_more receipt (log_of logs j) b (Draw 0) l
-            ∙ ap (λ (x : Event). receipts_by logs j b + length (cons_option (receipt x) [])) at_e
-            ∙ add-zero (receipts_by logs j b))
 
     -- where each receipt counts as its sending, each event's counters count
     pub counts_all : (j b : ℕ) → j < length logs → b ≤ at j → b ≤ length (log_of logs j) → CountsAt logs stamps j b

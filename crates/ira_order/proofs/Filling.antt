@@ -5,17 +5,21 @@ use Rattle.std.specs.Prelude.{slice_get}
 use Rattle.ira_event.specs.declared.event.Event.{Event}
 use Rattle.ira_event.specs.declared.event.Event.TheVariants.{Sent}
 use Rattle.ira_event.specs.declared.load.Load.{Load}
+use Rattle.ira_event.specs.Limits.{MAX_RECORDS}
 use Rattle.ira_event.specs.Log.{Log}
+use Rattle.ira_order.specs.declared.tally.Tally.{Tally}
 use Rattle.ira_order.specs.Ring.{log_of, next, prev, events_of}
 use Rattle.ira_order.specs.Matching.{sent, got, sending, receipt}
 use Rattle.ira_order.specs.Order.{occurrences}
 use Rattle.ira_order.specs.Counts.{Covers, IsReady}
-use Rattle.ira_order.specs.OrderPrefix.{IsOrderPrefix, sent_by, got_by}
+use Rattle.ira_order.specs.OrderPrefix.{IsOrderPrefix, tally_at}
+use Rattle.ira_order.specs.Tally.{IsTally, no_events, tallied}
 use Rattle.ira_order.specs.Ordered.{IsOrdered}
 use Rattle.ira_order.specs.Stamps.{NodeStamps, receipts_by, CountsSent, HaveStamps, IsTable, AreUnstamped, AreStamps}
 use Rattle.ira_order.specs.Stamps.{IsStamping, AreReceipts, stamps_at, numbers_at, counters_at}
 use Rattle.ira_order.proofs.Ranks.{occurrences_same, occurrences_other, occurrences-take-le, next_other, next_below}
-use Rattle.ira_order.proofs.OrderPrefixes.{prefix_step, rank_le}
+use Rattle.ira_order.proofs.OrderPrefixes.{rank_le}
+use Rattle.ira_order.proofs.Tallies.{prefix_step}
 use Rattle.ira_order.proofs.Bridge.{order_kept}
 use Rattle.ira_order.proofs.Counting.{counts_all}
 use Rattle.ira_order.specs.Before.{message}
@@ -26,7 +30,6 @@ use Rattle.ira_order.proofs.Receipts.{receipts_by_le}
 use Rattle.ira_order.proofs.Stamping.{sent_stays, sent_more, stamps_same, stamps_have}
 use Rattle.std.proofs.lemmas.Nat.{mul-le}
 use Rattle.std.proofs.lemmas.Bool.{cases_eq}
-use Rattle.std.proofs.lemmas.Option.{get_or_from_slice_get}
 use Rattle.std.proofs.lemmas.List.{take_all, take_more, get_or_read, get_or_push, length_push, get_or_append_left}
 use Rattle.std.proofs.lemmas.List.Elements.{All-get_or}
 
@@ -103,8 +106,8 @@ module _ (logs : List Log) (schedule : List ℕ) (ordered : IsOrdered (record { 
   pub counts_none : (stamps : List NodeStamps) → CountsSent logs stamps (occurrences (take 0 schedule))
   counts_none stamps k a b pair l = absurd (omega (arith, l, (before_within logs k a _ b (message refl pair)).0))
 
-  module _ (t : ℕ) (here : t < length schedule) (done sents gots : List ℕ)
-      (prefix : IsOrderPrefix logs done sents gots (take t schedule)) where
+  module _ (t : ℕ) (here : t < length schedule) (tallies : List Tally)
+      (prefix : IsOrderPrefix logs (record { places = take t schedule; tallies = tallies })) where
     pub in_ring : get_or schedule t 0 < length logs
     in_ring = All-get_or (λ p. p < length logs) schedule t 0 here ordered.order.places
 
@@ -138,28 +141,21 @@ module _ (logs : List Log) (schedule : List ℕ) (ordered : IsOrdered (record { 
           c',
     )
 
-    -- what is read of the counts
-    pub done_read : (v : ℕ) → v ≡ get_or done (get_or schedule t 0) v
-        → v ≡ occurrences (take t schedule) (get_or schedule t 0)
-    done_read v e = get_or_read done (get_or schedule t 0) v (omega (arith, in_ring, prefix.all_done)) e 0
-        ∙ prefix.done_is (get_or schedule t 0) in_ring
+    -- what is read of the node
+    pub node_read : (v : Tally) → v ≡ get_or tallies (get_or schedule t 0) v → v ≡ tally_at tallies (get_or schedule t 0)
+    node_read v e = get_or_read tallies (get_or schedule t 0) v (omega (arith, in_ring, prefix.nodes)) e no_events
 
-    pub sent_read : (v : ℕ) → v ≡ get_or sents (get_or schedule t 0) v
-        → v ≡ length (sent (take (occurrences (take t schedule) (get_or schedule t 0))
-        (log_of logs (get_or schedule t 0))))
-    sent_read v e = get_or_read sents (get_or schedule t 0) v (omega (arith, in_ring, prefix.all_sents)) e 0
-        ∙ prefix.sents_is (get_or schedule t 0) in_ring
+    pub tally_read : (v : Tally) → v ≡ get_or tallies (get_or schedule t 0) v
+        → IsTally (log_of logs (get_or schedule t 0)) (occurrences (take t schedule) (get_or schedule t 0)) v
+    tally_read v e =
+        subst (IsTally (log_of logs (get_or schedule t 0)) (occurrences (take t schedule) (get_or schedule t 0)))
+        (sym (node_read v e)) (prefix.each (get_or schedule t 0) in_ring)
 
-    pub got_read : (v : ℕ) → v ≡ get_or gots (get_or schedule t 0) v
-        → v ≡ receipts_by logs (get_or schedule t 0) (occurrences (take t schedule) (get_or schedule t 0))
-    got_read v e = get_or_read gots (get_or schedule t 0) v (omega (arith, in_ring, prefix.all_gots)) e 0
-        ∙ prefix.gots_is (get_or schedule t 0) in_ring
-
-    few_done : occurrences (take t schedule) (get_or schedule t 0) < 100000
+    few_done : occurrences (take t schedule) (get_or schedule t 0) < MAX_RECORDS
     few_done = by_log (slice_get logs (get_or schedule t 0)) refl
       where
         by_log : (log : Option Log) → slice_get logs (get_or schedule t 0) ≡ log
-            → occurrences (take t schedule) (get_or schedule t 0) < 100000
+            → occurrences (take t schedule) (get_or schedule t 0) < MAX_RECORDS
         by_log None is = (let e : length (log_of logs (get_or schedule t 0)) ≡ 0 = ap (λ o. length (events_of o)) is in
             absurd (omega (arith, e, goes_on)))
         by_log (Some log) is =
@@ -167,23 +163,24 @@ module _ (logs : List Log) (schedule : List ℕ) (ordered : IsOrdered (record { 
             ap (λ o. length (events_of o)) is in
             omega (arith, e, goes_on, (ordered.logs.valid (get_or schedule t 0) log is).count)
 
-    pub few : (get_or done (get_or schedule t 0) 0 < 100000) × (get_or sents (get_or schedule t 0) 0 < 100000)
-        × (get_or gots (get_or schedule t 0) 0 < 100000)
-    few = (
-      omega (arith, few_done, prefix.done_is (get_or schedule t 0) in_ring),
-      omega (
-        arith,
-        few_done,
-        prefix.sents_is (get_or schedule t 0) in_ring,
-        rank_le sending (log_of logs (get_or schedule t 0)) (occurrences (take t schedule) (get_or schedule t 0)),
-      ),
-      omega (
-        arith,
-        few_done,
-        prefix.gots_is (get_or schedule t 0) in_ring,
-        rank_le receipt (log_of logs (get_or schedule t 0)) (occurrences (take t schedule) (get_or schedule t 0)),
-      ),
-    )
+    pub few : (v : Tally) → v ≡ get_or tallies (get_or schedule t 0) v
+        → (v.events < MAX_RECORDS) × (v.sendings ≤ v.events) × (v.receipts ≤ v.events)
+    few v e =
+        let is = tally_read v e in (
+          omega (arith, few_done, is.made),
+          omega (
+            arith,
+            is.made,
+            is.sendings,
+            rank_le sending (log_of logs (get_or schedule t 0)) (occurrences (take t schedule) (get_or schedule t 0)),
+          ),
+          omega (
+            arith,
+            is.made,
+            is.receipts,
+            rank_le receipt (log_of logs (get_or schedule t 0)) (occurrences (take t schedule) (get_or schedule t 0)),
+          ),
+        )
 
     -- the event that is read
     pub event_read : (v : ℕ) (log : Log) (e : Event) → slice_get logs (get_or schedule t 0) ≡ Some log
@@ -196,17 +193,13 @@ module _ (logs : List Log) (schedule : List ℕ) (ordered : IsOrdered (record { 
 
     module _ (e : Event) (is : slice_get (log_of logs (get_or schedule t 0))
         (occurrences (take t schedule) (get_or schedule t 0)) ≡ Some e) where
-      pub next_prefix : IsOrderPrefix logs (set done (get_or schedule t 0) (get_or done (get_or schedule t 0) 0 + 1))
-          (set sents (get_or schedule t 0) (get_or sents (get_or schedule t 0) 0 + sent_by e))
-          (set gots (get_or schedule t 0) (get_or gots (get_or schedule t 0) 0 + got_by e)) (take (t + 1) schedule)
-      next_prefix =
-          subst (λ places. IsOrderPrefix logs (set done (get_or schedule t 0) (get_or done (get_or schedule t 0) 0 + 1))
-          (set sents (get_or schedule t 0) (get_or sents (get_or schedule t 0) 0 + sent_by e))
-          (set gots (get_or schedule t 0) (get_or gots (get_or schedule t 0) 0 + got_by e)) places)
-          (sym (take_more schedule t 0 here))
-          (prefix_step logs done sents gots (take t schedule) (get_or schedule t 0) e prefix ordered.logs.ring.0 in_ring
-          can_go (sym (get_or_from_slice_get (log_of logs (get_or schedule t 0))
-          (occurrences (take t schedule) (get_or schedule t 0)) e e is)))
+      pub next_prefix : IsOrderPrefix logs (record {
+        places = take (t + 1) schedule;
+        tallies = set tallies (get_or schedule t 0) (tallied (tally_at tallies (get_or schedule t 0)) e);
+      })
+      next_prefix = rw (take_more schedule t 0 here)
+          (prefix_step logs (record { places = take t schedule; tallies = tallies }) (get_or schedule t 0) e prefix
+          in_ring can_go is)
 
       -- an event that is no sending
       pub stamps_stay : (stamps : List NodeStamps) → ((m : Load) → e ≡ Sent m → ⊥)

@@ -26,5 +26,6 @@ pub mod SameEvents
 pub mod Sendings
 pub mod Stamping
 pub mod Stuck
+pub mod Tallies
 pub mod Upgraded
 pub mod WayBack

@@ -1,11 +1,10 @@
 -- Logs that match have an order or a circle.
-use Rattle.std.proofs.Common.{◌≡◌, ℕ, zero, suc, ◌+◌, ◌<◌, ◌≤◌, ◌⊎◌, inl, inr, List, [], ◌∷◌, ◌++◌, length, take}
-use Rattle.std.proofs.Common.{get_or, set, sym, subst, arith}
+use Rattle.std.proofs.Common.{◌≡◌, ℕ, zero, suc, ◌+◌, ◌<◌, ◌≤◌, ◌⊎◌, inl, inr, List, length, take}
+use Rattle.std.proofs.Common.{sym, subst, arith}
 use Rattle.std.specs.List.{sum_by}
 use Rattle.std.proofs.lemmas.Bool.{cases_eq, cases_lt}
 use Rattle.std.proofs.lemmas.List.{length_push}
 use Rattle.std.proofs.lemmas.Option.{slice_get_cases}
-use Rattle.ira_event.specs.declared.event.Event.{Event}
 use Rattle.ira_event.specs.Log.{Log}
 use Rattle.ira_event.specs.Logs.{AreLogs}
 use Rattle.ira_event.proofs.TextsAnswered.{Decided}
@@ -14,8 +13,8 @@ use Rattle.ira_order.specs.Matching.{sent, got, Matches}
 use Rattle.ira_order.specs.Circle.{HasCircle, HasOrder}
 use Rattle.ira_order.specs.Counts.{IsReady}
 use Rattle.ira_order.specs.Order.{occurrences}
-use Rattle.ira_order.specs.OrderPrefix.{IsOrderPrefix, IsStuckAt, sent_by, got_by}
-use Rattle.ira_order.proofs.OrderPrefixes.{prefix_step}
+use Rattle.ira_order.specs.OrderPrefix.{IsOrderPrefix, IsLongest, IsStuckAt, OrderPrefix}
+use Rattle.ira_order.proofs.Tallies.{prefix_step}
 use Rattle.ira_order.proofs.Rounds.{event_count, few_places, whole_order, no_order, no_step_yet}
 
 -- a fact holds below n, or somewhere it doesn't
@@ -60,42 +59,41 @@ can_step logs at i = elim (cases_lt (at i) (length (log_of logs i))) [
 stuck_at : (logs : List Log) (at : ℕ → ℕ) (i : ℕ) → Decided (IsStuckAt logs at i)
 stuck_at logs at i = elim (can_step logs at i) [ inl can ↦ inr (λ stuck. stuck can) | inr stuck ↦ inl stuck ]
 
-module _ (logs : List Log) (are : AreLogs logs) (matches : Matches logs) where
-  -- the beginning of an order that is stuck at each node
-  stuck_prefix : (done sents gots places : List ℕ) → IsOrderPrefix logs done sents gots places
-      → ((i : ℕ) → i < length logs → IsStuckAt logs (occurrences places) i) → HasOrder logs ⊎ HasCircle logs
-  stuck_prefix done sents gots places prefix stuck =
-      elim (below_or_other (λ i. length (log_of logs i) ≤ get_or done i 0) (λ i.
-      at_most (length (log_of logs i)) (get_or done i 0)) (length logs)) [
-        | inl whole ↦ inl (matches, places, whole_order logs done sents gots places are.ring.0 matches prefix whole)
-        | inr short ↦ inr (
-          matches,
-          no_order logs done sents gots places are.ring.0 matches prefix stuck short.0 short.1 (omega (arith, short.2)),
-        )
-      ]
-
-  go_on : (room : ℕ) (done sents gots places : List ℕ) → IsOrderPrefix logs done sents gots places
-      → sum_by event_count logs < room + length places → HasOrder logs ⊎ HasCircle logs
-  go_on zero done sents gots places prefix less =
-      absurd (omega (arith, few_places logs done sents gots places prefix, less))
-  go_on (suc room) done sents gots places prefix less =
-      elim (below_or_other (IsStuckAt logs (occurrences places)) (stuck_at logs (occurrences places)) (length logs)) [
-        | inl stuck ↦ stuck_prefix done sents gots places prefix stuck
-        | inr free ↦ elim (can_step logs (occurrences places) free.0) [
+module _ (logs : List Log) (are : AreLogs logs) where
+  go_on : (room : ℕ) (p : OrderPrefix) → IsOrderPrefix logs p → sum_by event_count logs < room + length p.places
+      → (q : OrderPrefix) × IsLongest logs q
+  go_on zero p prefix less = absurd (omega (arith, few_places logs p prefix, less))
+  go_on (suc room) p prefix less =
+      elim (below_or_other (IsStuckAt logs (occurrences p.places)) (stuck_at logs (occurrences p.places))
+      (length logs)) [
+        | inl stuck ↦ (p, record { prefix = prefix; stuck = stuck })
+        | inr free ↦ elim (can_step logs (occurrences p.places) free.0) [
           | inr stuck ↦ absurd (free.2 stuck)
-          | inl can ↦ elim (slice_get_cases (log_of logs free.0) (occurrences places free.0)).1 [
+          | inl can ↦ elim (slice_get_cases (log_of logs free.0) (occurrences p.places free.0)).1 [
             | inr past ↦ absurd (omega (arith, past.0, can.0))
-            | inl found ↦
-                let i : ℕ = free.0 in
-                let e : Event = found.0 in
-                let at_e : e ≡ get_or (log_of logs i) (occurrences places i) e = sym found.3 in
-                go_on room (set done i (get_or done i 0 + 1)) (set sents i (get_or sents i 0 + sent_by e))
-                (set gots i (get_or gots i 0 + got_by e)) (places ++ i ∷ [])
-                (prefix_step logs done sents gots places i e prefix are.ring.0 free.1 can at_e)
-                (omega (arith, length_push places i, less))
+            | inl found ↦ go_on room _ (prefix_step logs p free.0 found.0 prefix free.1 can found.2)
+                (omega (arith, length_push p.places free.0, less))
           ]
         ]
       ]
 
-  pub order_or_circle : HasOrder logs ⊎ HasCircle logs
-  order_or_circle = go_on (sum_by event_count logs + 1) _ _ _ [] (no_step_yet logs are) (omega arith)
+  -- logs have a beginning of an order that no event may come after
+  pub some_longest : (q : OrderPrefix) × IsLongest logs q
+  some_longest = go_on (sum_by event_count logs + 1) _ (no_step_yet logs are) (omega arith)
+
+  pub order_or_circle : Matches logs → HasOrder logs ⊎ HasCircle logs
+  order_or_circle matches =
+      let q : OrderPrefix = some_longest.0 in
+      let prefix : IsOrderPrefix logs some_longest.0 = some_longest.1.prefix in
+      elim (below_or_other (λ i. length (log_of logs i) ≤ occurrences some_longest.0.places i) (λ i.
+      at_most (length (log_of logs i)) (occurrences some_longest.0.places i)) (length logs)) [
+        | inl whole ↦ inl (
+          matches,
+          q.places,
+          whole_order logs q matches prefix (λ i l. omega (arith, whole i l, prefix.schedule.within i l)),
+        )
+        | inr short ↦ inr (
+          matches,
+          no_order logs q matches some_longest.1 (short.0, short.1, omega (arith, short.2)),
+        )
+      ]

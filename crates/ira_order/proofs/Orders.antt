@@ -1,19 +1,19 @@
 -- What the search for an order answers.
-use Rattle.std.proofs.Common.{◌≡◌, ◌≢◌, ℕ, ◌<◌, ◌≤◌, ◌↔◌, List, length, get_or, refl, ◌∙◌, ap, subst, Ok, Err, Result}
+use Rattle.std.proofs.Common.{◌≡◌, ◌≢◌, ℕ, ◌↔◌, List, refl, ◌∙◌, ap, subst, Ok, Err, Result}
 use Rattle.std.specs.Prelude.{IsOk}
 use Rattle.ira_event.specs.Log.{Log}
 use Rattle.ira_order.specs.declared.match_fault.MatchFault.{MatchFault}
 use Rattle.ira_order.specs.declared.order_fault.OrderFault.{OrderFault}
 use Rattle.ira_order.specs.declared.order_fault.OrderFault.TheVariants.{Match, Circle, OutOfMemory}
-use Rattle.ira_order.specs.Ring.{log_of}
 use Rattle.ira_order.specs.Matching.{Matches}
 use Rattle.ira_order.specs.MatchFault.{IsMatchFault}
-use Rattle.ira_order.specs.Order.{occurrences, IsOrder}
+use Rattle.ira_order.specs.Order.{IsOrder}
 use Rattle.ira_order.specs.Circle.{HasCircle}
+use Rattle.ira_order.specs.Counts.{IsWhole}
 use Rattle.ira_order.specs.Ordered.{IsOrdered}
-use Rattle.ira_order.specs.OrderPrefix.{IsOrderPrefix, IsStuckAt}
+use Rattle.ira_order.specs.OrderPrefix.{IsOrderPrefix, OrderPrefix}
 use Rattle.ira_order.proofs.Faults.{one_fault, unmatched}
-use Rattle.ira_order.proofs.Rounds.{no_order, whole_order}
+use Rattle.ira_order.proofs.Rounds.{whole_order}
 
 pub is_ok_of : {T E : Type 0} (r : Result T E) (v : T) → r ≡ Ok v → IsOk r
 is_ok_of r v e = rw e refl
@@ -61,19 +61,7 @@ module _ {S T : Type 0} (r : Result T OrderFault) (f : OrderFault) (is : r ≡ E
             let same : f ≡ Circle = cc in is ∙ ap Err same),
       )
 
-pub is_ordered : (logs : List Log) (done sents gots places : List ℕ) → Matches logs
-    → IsOrderPrefix logs done sents gots places → ((i : ℕ) → i < length logs → length (log_of logs i) ≤ get_or done i 0)
-    → IsOrdered (record { logs = logs; schedule = places })
-is_ordered logs done sents gots places matches prefix whole = record {
-  logs = prefix.logs_are;
-  matches = matches;
-  order = whole_order logs done sents gots places prefix.logs_are.ring.0 matches prefix whole;
-}
-
-pub has_circle : (logs : List Log) (done sents gots places : List ℕ) → Matches logs
-    → IsOrderPrefix logs done sents gots places → ((i : ℕ) → i < length logs → IsStuckAt logs (occurrences places) i)
-    → (i : ℕ) × (i < length logs) × (get_or done i 0 < length (log_of logs i)) → HasCircle logs
-has_circle logs done sents gots places matches prefix stuck short = (
-  matches,
-  no_order logs done sents gots places prefix.logs_are.ring.0 matches prefix stuck short.0 short.1 short.2,
-)
+pub is_ordered : (logs : List Log) (p : OrderPrefix) → Matches logs → IsOrderPrefix logs p → IsWhole logs p.places
+    → IsOrdered (record { logs = logs; schedule = p.places })
+is_ordered logs p matches prefix whole =
+    record { logs = prefix.logs_are; matches = matches; order = whole_order logs p matches prefix whole }

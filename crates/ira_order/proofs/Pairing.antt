@@ -138,11 +138,3 @@ other_at link writer reader ahead ahead' left left' m n k p taken found differ =
       (let P : ℕ → Type 0 = HasOther writer reader in
           subst P number (has_other writer reader p.messages (got left') (sent ahead') m n r s (λ q. differ (sym q)))),
     )
-
--- no more was received than there are events
-pub few_receipts : (events : List Event) → length (got events) ≤ length events
-few_receipts [] = omega arith
-few_receipts (Draw id ∷ events) = omega (arith, few_receipts events)
-few_receipts (Yield ∷ events) = omega (arith, few_receipts events)
-few_receipts (Sent m ∷ events) = omega (arith, few_receipts events)
-few_receipts (Got m ∷ events) = omega (arith, few_receipts events)

@@ -1,14 +1,14 @@
 -- How many receipts or sendings a beginning of a log has, and how often a beginning of an order names a place.
 use Rattle.std.proofs.Common.{◌≡◌, ◌≢◌, ℕ, zero, suc, ◌+◌, ◌<◌, ◌≤◌, List, [], ◌∷◌, ◌++◌, length, sym, ◌∙◌, ap, arith}
-use Rattle.std.proofs.Common.{drop, Option, Some, None, get_or, take, ◌==◌}
+use Rattle.std.proofs.Common.{drop, inl, inr, Option, Some, None, get_or, take, ◌==◌}
 use Rattle.ira_order.specs.Ring.{next}
 use Rattle.ira_order.specs.Order.{occurrences}
 use Rattle.ira_event.specs.declared.event.Event.{Event}
 use Rattle.ira_event.specs.declared.load.Load.{Load}
 use Rattle.std.specs.List.{filter_map, cons_option}
-use Rattle.std.proofs.lemmas.Bool.{ne_eqb}
+use Rattle.std.proofs.lemmas.Bool.{cases_lt, ne_eqb}
 use Rattle.std.proofs.lemmas.Bool.Decides.{nat_tests}
-use Rattle.std.proofs.lemmas.List.{take-take, take_more, drop_more, take-append-drop}
+use Rattle.std.proofs.lemmas.List.{take-take, take_all, take_more, drop_more, take-append-drop}
 use Rattle.std.proofs.lemmas.List.Elements.{filter_map-append}
 use Rattle.std.proofs.lemmas.List.Sums.{sum_by-take-le, count_by_more_yes, count_by_more_no}
 
@@ -38,6 +38,18 @@ rank_mono h (e ∷ es) (suc m) (suc n) l = longer (h e) _ _ (rank_mono h es m n 
         → length (cons_option o xs) ≤ length (cons_option o ys)
     longer None xs ys q = q
     longer (Some x) xs ys q = omega (arith, q)
+
+-- and none has more than all
+pub rank_all : (h : Event → Option Load) (es : List Event) (n : ℕ) → length (filter_map h (take n es))
+    ≤ length (filter_map h es)
+rank_all h es n = elim (cases_lt n (length es)) [
+  | inl below ↦
+      let whole : take (length es) es ≡ es = take_all (length es) es (omega arith) in
+      rw whole at (rank_mono h es n (length es) (omega arith))
+  | inr past ↦
+      let whole : take n es ≡ es = take_all n es past in
+      rw whole (omega arith)
+]
 
 -- one more standing
 pub occurrences_same : (order : List ℕ) (t i : ℕ) → t < length order → get_or order t 0 ≡ i

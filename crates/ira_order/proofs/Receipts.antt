@@ -11,8 +11,8 @@ use Rattle.ira_order.specs.Ring.{log_of, events_of}
 use Rattle.ira_order.specs.Matching.{got, receipt}
 use Rattle.ira_order.specs.VectorClock.{receipt_count}
 use Rattle.ira_order.specs.Stamps.{receipts_by, AreReceipts}
-use Rattle.ira_order.proofs.Ranks.{rank_mono}
-use Rattle.ira_order.proofs.OrderPrefixes.{rank_le, rank_more, receives_nothing}
+use Rattle.ira_order.proofs.Ranks.{rank_all, rank_mono}
+use Rattle.ira_order.proofs.OrderPrefixes.{counted_more, rank_le, receives_nothing}
 use Rattle.std.specs.Prelude.{slice_get}
 use Rattle.ira_event.specs.declared.load.Load.{Load}
 use Rattle.std.proofs.lemmas.Option.{slice_get-get_or, get_or_from_slice_get, slice_get_within}
@@ -40,14 +40,7 @@ receipts_le es =
     rw whole at (rank_le receipt es (length es))
 
 pub got_le : (es : List Event) (b : ℕ) → length (got (take b es)) ≤ length (got es)
-got_le es b = elim (cases_lt b (length es)) [
-  | inl below ↦
-      let whole : take (length es) es ≡ es = take_all (length es) es (omega arith) in
-      rw whole at (rank_mono receipt es b (length es) (omega arith))
-  | inr past ↦
-      let whole : take b es ≡ es = take_all b es past in
-      rw whole (omega arith)
-]
+got_le es b = rank_all receipt es b
 
 pub receipts_by_le : (logs : List Log) (j b : ℕ) → receipts_by logs j b ≤ length (got (log_of logs j))
 receipts_by_le logs j b = got_le (log_of logs j) b
@@ -77,14 +70,6 @@ few_receipts logs are =
 pub few_first : (logs : List Log) (j : ℕ) → AreLogs logs → first_receipt logs j ≤ MAX_NODES * MAX_RECORDS
 few_first logs j are = omega (arith, few_receipts logs are, sum_by-take-le received logs j)
 
--- a receipt more or none, after the first n events
-pub got_more : (es : List Event) (n : ℕ) (e : Event) → slice_get es n ≡ Some e
-    → length (got (take (n + 1) es)) ≡ length (got (take n es)) + length (cons_option (receipt e) [])
-got_more es n e is =
-    rank_more receipt es n (Draw 0) (slice_get_within es n e is)
-    ∙ ap (λ (x : Event). length (got (take n es)) + length (cons_option (receipt x) []))
-    (get_or_from_slice_get es n e (Draw 0) is)
-
 -- the numbers of the receipts among the first n events
 pub record HasNumbers (es : List Event) (n : ℕ) (numbers : List ℕ) : Type 0 where
   pub count : length numbers ≡ length (got (take n es))
@@ -93,7 +78,7 @@ pub record HasNumbers (es : List Event) (n : ℕ) (numbers : List ℕ) : Type 0 
 pub number_over : (es : List Event) (n : ℕ) (e : Event) (numbers : List ℕ) → slice_get es n ≡ Some e
     → ((m : Load) → e ≡ Got m → ⊥) → HasNumbers es n numbers → HasNumbers es (n + 1) numbers
 number_over es n e numbers is never h = record {
-  count = omega (arith, h.count, got_more es n e is, receives_nothing e never);
+  count = omega (arith, h.count, counted_more receipt es n e is, receives_nothing e never);
   upto = h.upto;
 }
 
@@ -120,7 +105,7 @@ number_more es n m numbers is h = record {
 }
   where
     one_more : length (got (take (n + 1) es)) ≡ length (got (take n es)) + 1
-    one_more = got_more es n (Got m) is
+    one_more = counted_more receipt es n (Got m) is
 
     nothing_over : get_or ((n + 1) ∷ []) (length numbers - length numbers) 0 ≡ n + 1
     nothing_over = (let z : length numbers - length numbers ≡ 0 = omega arith in rw z refl)

@@ -1,25 +1,23 @@
 -- Rounds that add events to the beginning of an order, and their end.
 use Rattle.std.proofs.Common.{◌≡◌, ℕ, zero, suc, ◌+◌, ◌<◌, ◌≤◌, inl, inr, List, [], ◌∷◌, ◌++◌, length, refl, sym, ◌∙◌}
-use Rattle.std.proofs.Common.{ap, arith, get_or, append_assoc, append-nil, length-append, sum, take, replicate, subst}
-use Rattle.std.proofs.Common.{zero-add}
+use Rattle.std.proofs.Common.{ap, arith, append_assoc, append-nil, length-append, take, replicate, subst}
 use Rattle.std.proofs.lemmas.List.{get_or-replicate, length-replicate}
 use Rattle.std.proofs.lemmas.List.Elements.{All-nil}
 use Rattle.std.specs.List.{sum_by}
 use Rattle.ira_event.specs.Log.{Log}
 use Rattle.ira_event.specs.Logs.{AreLogs}
+use Rattle.ira_order.specs.declared.tally.Tally.{Tally}
 use Rattle.ira_order.specs.Ring.{log_of, next}
 use Rattle.ira_order.specs.Matching.{sent, got, Matches}
 use Rattle.ira_order.specs.Order.{occurrences, IsOrder}
 use Rattle.ira_order.specs.Counts.{IsSchedule, IsWhole, IsWholeSchedule}
-use Rattle.ira_order.specs.OrderPrefix.{IsOrderPrefix, HasGrown, IsStuckAt}
+use Rattle.ira_order.specs.Tally.{no_events}
+use Rattle.ira_order.specs.OrderPrefix.{IsOrderPrefix, IsLongest, IsShort, HasGrown, IsStuckAt, OrderPrefix, tally_at}
 use Rattle.ira_order.proofs.Bridge.{kept_order, order_schedule}
 use Rattle.std.proofs.lemmas.Bool.{cases_lt}
 use Rattle.ira_order.proofs.Stuck.{all_below}
 use Rattle.std.proofs.lemmas.List.Sums.{sum_by-cons}
 use Rattle.std.proofs.lemmas.List.{nil_from_length}
-
-pub has_grown_refl : (a : List ℕ) → HasGrown a a
-has_grown_refl a = ([], sym (append-nil a))
 
 pub has_grown_trans : (a b d : List ℕ) → HasGrown a b → HasGrown b d → HasGrown a d
 has_grown_trans a b d f g = (f.0 ++ g.0, g.1 ∙ ap (λ (x : List ℕ). x ++ g.0) f.1 ∙ append_assoc a f.0 g.0)
@@ -52,91 +50,80 @@ stuck_more logs first old new i f g before here e j l =
 abbrev pub event_count : Log → ℕ
 event_count log = length log.events
 
--- no more steps than events
-sum_within : (done : List ℕ) (logs : List Log) → length done ≡ length logs
-    → ((i : ℕ) → i < length logs → get_or done i 0 ≤ length (log_of logs i)) → sum done ≤ sum_by event_count logs
-sum_within [] logs e w = omega arith
-sum_within (d ∷ done) [] e w = absurd (omega arith)
-sum_within (d ∷ done) (log ∷ logs) e w =
+-- no more events than the logs have
+events_within : (tallies : List Tally) (logs : List Log) → length tallies ≡ length logs
+    → ((i : ℕ) → i < length logs → (tally_at tallies i).events ≤ length (log_of logs i))
+    → sum_by (λ t. t.events) tallies ≤ sum_by event_count logs
+events_within [] logs e w = omega arith
+events_within (t ∷ tallies) [] e w = absurd (omega arith)
+events_within (t ∷ tallies) (log ∷ logs) e w =
     omega (
       arith,
-      sum_by-cons (λ (x : ℕ). x) d done,
+      sum_by-cons (λ (x : Tally). x.events) t tallies,
       sum_by-cons event_count log logs,
       w 0 (omega arith),
-      sum_within done logs (omega arith) (λ i l. w (suc i) (omega arith)),
+      events_within tallies logs (omega arith) (λ i l. w (suc i) (omega arith)),
     )
 
-pub few_places : (logs : List Log) (done sents gots places : List ℕ) → IsOrderPrefix logs done sents gots places
-    → length places ≤ sum_by event_count logs
-few_places logs done sents gots places prefix =
+pub few_places : (logs : List Log) (p : OrderPrefix) → IsOrderPrefix logs p → length p.places ≤ sum_by event_count logs
+few_places logs p prefix =
     omega (
       arith,
       prefix.total,
-      sum_within done logs prefix.all_done (λ i l. omega (arith, prefix.done_is i l, prefix.schedule.within i l)),
+      events_within p.tallies logs prefix.nodes (λ i l.
+          omega (arith, (prefix.each i l).made, prefix.schedule.within i l)),
     )
 
 -- the beginning of an order that holds every log whole
-pub whole_end : (logs : List Log) (done sents gots places : List ℕ) → IsOrderPrefix logs done sents gots places
-    → ((i : ℕ) → i < length logs → length (log_of logs i) ≤ get_or done i 0) → IsWhole logs places
-whole_end logs done sents gots places prefix w i l =
-    omega (arith, w i l, prefix.done_is i l, prefix.schedule.within i l)
-
--- the beginning of an order that is stuck before the end of a log
-pub circle_end : (logs : List Log) (done sents gots places : List ℕ) → 2 ≤ length logs
-    → IsOrderPrefix logs done sents gots places → ((i : ℕ) → i < length logs → IsStuckAt logs (occurrences places) i)
-    → (i : ℕ) → i < length logs → get_or done i 0 < length (log_of logs i) → (order : List ℕ) → IsSchedule logs order
-    → IsWhole logs order → ⊥
-circle_end logs done sents gots places two prefix stuck i l short order schedule whole =
-    omega (
-      arith,
-      all_below logs order (occurrences places) two schedule.places schedule.within schedule.kept stuck i l,
-      whole i l,
-      prefix.done_is i l,
-    )
-
--- the same of orders as the contract says them
-pub whole_order : (logs : List Log) (done sents gots places : List ℕ) → 2 ≤ length logs → Matches logs
-    → IsOrderPrefix logs done sents gots places → ((i : ℕ) → i < length logs → length (log_of logs i) ≤ get_or done i 0)
-    → IsOrder logs places
-whole_order logs done sents gots places two matches prefix w =
-    kept_order logs places two record {
+pub whole_order : (logs : List Log) (p : OrderPrefix) → Matches logs → IsOrderPrefix logs p → IsWhole logs p.places
+    → IsOrder logs p.places
+whole_order logs p matches prefix whole =
+    kept_order logs p.places prefix.logs_are.ring.0 record {
       matches = matches;
       schedule = prefix.schedule;
-      whole = whole_end logs done sents gots places prefix w;
+      whole = whole;
     }
 
-pub no_order : (logs : List Log) (done sents gots places : List ℕ) → 2 ≤ length logs → Matches logs
-    → IsOrderPrefix logs done sents gots places → ((i : ℕ) → i < length logs → IsStuckAt logs (occurrences places) i)
-    → (i : ℕ) → i < length logs → get_or done i 0 < length (log_of logs i) → (order : List ℕ) → IsOrder logs order → ⊥
-no_order logs done sents gots places two matches prefix stuck i l short order o =
-    (let w : IsWholeSchedule logs order = order_schedule logs order two matches o in
-    circle_end logs done sents gots places two prefix stuck i l short order w.schedule w.whole)
+-- one that no event may come after, before the end of a log
+pub no_order : (logs : List Log) (p : OrderPrefix) → Matches logs → IsLongest logs p → IsShort logs p.places
+    → (order : List ℕ) → IsOrder logs order → ⊥
+no_order logs p matches longest short order o =
+    let two : 2 ≤ length logs = longest.prefix.logs_are.ring.0 in
+    let w : IsWholeSchedule logs order = order_schedule logs order two matches o in
+    omega (
+      arith,
+      all_below logs order (occurrences p.places) two w.schedule.places w.schedule.within w.schedule.kept
+          longest.stuck short.0 short.1,
+      w.whole short.0 short.1,
+      short.2,
+    )
+
+-- no event
+pub no_places : (logs : List Log) → IsSchedule logs []
+no_places logs = record {
+  places = All-nil (λ p. p < length logs);
+  within = λ i l. omega arith;
+  kept = empty;
+}
+  where
+    empty : (t : ℕ) → t ≤ 0 → (i : ℕ) → i < length logs
+        → length (got (take (occurrences (take t []) (next (length logs) i)) (log_of logs (next (length logs) i))))
+        ≤ length (sent (take (occurrences (take t []) i) (log_of logs i)))
+    empty zero h i l = omega arith
+    empty (suc t) h i l = absurd (omega arith)
+
+pub sum_none : {X : Type 0} → (f : X → ℕ) (x : X) → f x ≡ 0 → (n : ℕ) → sum_by f (replicate n x) ≡ 0
+sum_none f x none zero = refl
+sum_none f x none (suc n) = sum_by-cons f x (replicate n x) ∙ omega (arith, none, sum_none f x none n)
 
 -- the beginning of an order without an event
 pub no_step_yet : (logs : List Log) → AreLogs logs
-    → IsOrderPrefix logs (replicate (length logs) 0) (replicate (length logs) 0) (replicate (length logs) 0) []
+    → IsOrderPrefix logs (record { places = []; tallies = replicate (length logs) no_events })
 no_step_yet logs are = record {
   logs_are = are;
-  all_done = length-replicate (length logs) 0;
-  all_sents = length-replicate (length logs) 0;
-  all_gots = length-replicate (length logs) 0;
-  done_is = λ i l. get_or-replicate (length logs) i 0 0 l;
-  sents_is = λ i l. get_or-replicate (length logs) i 0 0 l;
-  gots_is = λ i l. get_or-replicate (length logs) i 0 0 l;
-  total = none (length logs);
-  schedule = record {
-    places = All-nil (λ p. p < length logs);
-    within = λ i l. omega arith;
-    kept = λ t h i l. empty t h i;
-  };
+  schedule = no_places logs;
+  nodes = length-replicate (length logs) no_events;
+  each = λ i l. rw (get_or-replicate (length logs) i no_events no_events l)
+      (record { made = refl; sendings = refl; receipts = refl });
+  total = sum_none (λ (t : Tally). t.events) no_events refl (length logs);
 }
-  where
-    none : (n : ℕ) → sum (replicate n 0) ≡ 0
-    none zero = refl
-    none (suc n) = sum_by-cons (λ (x : ℕ). x) 0 (replicate n 0) ∙ zero-add (sum (replicate n 0)) ∙ none n
-
-    empty : (t : ℕ) → t ≤ 0 → (i : ℕ)
-        → length (got (take (occurrences (take t []) (next (length logs) i)) (log_of logs (next (length logs) i))))
-        ≤ length (sent (take (occurrences (take t []) i) (log_of logs i)))
-    empty zero h i = omega arith
-    empty (suc t) h i = absurd (omega arith)

@@ -1,9 +1,9 @@
 -- Each order of matched logs that are local runs is a run of the ring.
 use Rattle.std.proofs.Common.{◌≡◌, ◌≢◌, ℕ, zero, suc, ◌+◌, ◌<◌, ◌≤◌, ◌⊎◌, inl, inr, List, [], ◌∷◌, ◌++◌, length, refl}
 use Rattle.std.proofs.Common.{sym, ◌∙◌, ap, arith, get_or, take, drop, Option, Some, None, add-one, append-nil}
-use Rattle.std.proofs.Common.{add-zero}
+use Rattle.std.proofs.Common.{length-append}
 use Rattle.std.specs.Prelude.{slice_get}
-use Rattle.std.specs.List.{cons_option}
+use Rattle.std.specs.List.{cons_option, filter_map}
 use Rattle.ira_event.specs.declared.event.Event.{Event}
 use Rattle.ira_event.specs.declared.load.Load.{Load}
 use Rattle.ira_event.specs.Log.{Log}
@@ -15,7 +15,6 @@ use Rattle.ira_order.specs.Counts.{Covers, IsWholeSchedule}
 use Rattle.ira_order.specs.Run.{Configuration, LinkStep, RingStep, Chains}
 use Rattle.ira_order.proofs.Ranks.{filter_map_more, filter_map_split, occurrences_same, occurrences_other, next_other}
 use Rattle.std.proofs.lemmas.Bool.{cases_lt, cases_eq}
-use Rattle.ira_order.proofs.OrderPrefixes.{rank_more}
 use Rattle.ira_order.proofs.Pairing.{numbered-append, numbered-after}
 use Rattle.ira_node.specs.declared.node_state.NodeState.{NodeState}
 use Rattle.ira_node.specs.NodeStep.{NodeStep}
@@ -53,44 +52,34 @@ module _ (logs : List Log) (at at' : ℕ → ℕ) (i : ℕ) (e : Event)
   the_event : get_or (log_of logs i) (at i) (Draw 0) ≡ e
   the_event = get_or_from_slice_get (log_of logs i) (at i) e (Draw 0) is
 
-  sent_here : sent (take (at' i) (log_of logs i)) ≡ sent (take (at i) (log_of logs i)) ++ cons_option (sending e) []
-  sent_here = rw more (filter_map_more sending (log_of logs i) (at i) (Draw 0) within
-      ∙ ap (λ (x : Event). sent (take (at i) (log_of logs i)) ++ cons_option (sending x) []) the_event)
+  loads_here : (h : Event → Option Load) → filter_map h (take (at' i) (log_of logs i))
+      ≡ filter_map h (take (at i) (log_of logs i)) ++ cons_option (h e) []
+  loads_here h = rw more (filter_map_more h (log_of logs i) (at i) (Draw 0) within
+      ∙ ap (λ (x : Event). filter_map h (take (at i) (log_of logs i)) ++ cons_option (h x) []) the_event)
 
-  got_here : length (got (take (at' i) (log_of logs i)))
-      ≡ length (got (take (at i) (log_of logs i))) + length (cons_option (receipt e) [])
-  got_here = rw more (rank_more receipt (log_of logs i) (at i) (Draw 0) within
-      ∙ ap (λ (x : Event). length (got (take (at i) (log_of logs i))) + length (cons_option (receipt x) [])) the_event)
-
-  -- what a link's sender has sent stays the same
-  sent_same : (k : ℕ) → (k ≢ i) ⊎ (sending e ≡ None)
-      → sent (take (at' k) (log_of logs k)) ≡ sent (take (at k) (log_of logs k))
-  sent_same k (inl ne) = ap (λ (x : ℕ). sent (take x (log_of logs k))) (same k ne)
-  sent_same k (inr quiet) = elim (cases_eq k i) [
-    | inl e' ↦ rw e' (sent_here ∙ ap (λ (x : Option Load). sent (take (at i) (log_of logs i)) ++ cons_option x []) quiet
-        ∙ append-nil _)
-    | inr ne ↦ ap (λ (x : ℕ). sent (take x (log_of logs k))) (same k ne)
+  -- those of another node, and of an event without such a load, stay the same
+  loads_same : (h : Event → Option Load) (k : ℕ) → (k ≢ i) ⊎ (h e ≡ None)
+      → filter_map h (take (at' k) (log_of logs k)) ≡ filter_map h (take (at k) (log_of logs k))
+  loads_same h k (inl ne) = ap (λ (x : ℕ). filter_map h (take x (log_of logs k))) (same k ne)
+  loads_same h k (inr quiet) = elim (cases_eq k i) [
+    | inl e' ↦ rw e' (loads_here h
+        ∙ ap (λ (x : Option Load). filter_map h (take (at i) (log_of logs i)) ++ cons_option x []) quiet ∙ append-nil _)
+    | inr ne ↦ ap (λ (x : ℕ). filter_map h (take x (log_of logs k))) (same k ne)
   ]
 
   got_same : (j : ℕ) → (j ≢ i) ⊎ (receipt e ≡ None)
       → length (got (take (at' j) (log_of logs j))) ≡ length (got (take (at j) (log_of logs j)))
-  got_same j (inl ne) = ap (λ (x : ℕ). length (got (take x (log_of logs j)))) (same j ne)
-  got_same j (inr quiet) = elim (cases_eq j i) [
-    | inl e' ↦ rw e' (got_here
-        ∙ ap (λ (x : Option Load). length (got (take (at i) (log_of logs i))) + length (cons_option x [])) quiet
-        ∙ add-zero _)
-    | inr ne ↦ ap (λ (x : ℕ). length (got (take x (log_of logs j)))) (same j ne)
-  ]
+  got_same j quiet = ap length (loads_same receipt j quiet)
 
   link_same : (k : ℕ) → (k ≢ i) ⊎ (sending e ≡ None) → (next (length logs) k ≢ i) ⊎ (receipt e ≡ None)
       → on_link logs at' k ≡ on_link logs at k
-  link_same k s g = rw (sent_same k s, got_same (next (length logs) k) g) refl
+  link_same k s g = rw (loads_same sending k s, got_same (next (length logs) k) g) refl
 
   -- a sending puts its message last
   link_sent : (m : Load) → e ≡ Sent m → Covers logs at → on_link logs at' i ≡ on_link logs at i ++ m ∷ []
   link_sent m e_is covers =
       let s : sent (take (at' i) (log_of logs i)) ≡ sent (take (at i) (log_of logs i)) ++ m ∷ [] =
-      sent_here ∙ ap (λ (x : Event). sent (take (at i) (log_of logs i)) ++ cons_option (sending x) []) e_is in
+      loads_here sending ∙ ap (λ (x : Event). sent (take (at i) (log_of logs i)) ++ cons_option (sending x) []) e_is in
       rw (s, got_same (next (length logs) i) (inl (next_other (length logs) i two here)))
       (drop-append-le (length (got (take (at (next (length logs) i)) (log_of logs (next (length logs) i)))))
       (sent (take (at i) (log_of logs i))) (m ∷ []) (covers i here))
@@ -101,9 +90,13 @@ module _ (logs : List Log) (at at' : ℕ → ℕ) (i : ℕ) (e : Event)
   link_got m k e_is lk into matches covers =
       let ne : k ≢ i = λ q. next_other (length logs) k two lk (into ∙ sym q) in
       let g' : length (got (take (at' i) (log_of logs i))) ≡ length (got (take (at i) (log_of logs i))) + 1 =
-      got_here ∙ ap (λ (x : Event). length (got (take (at i) (log_of logs i))) + length
-      (cons_option (receipt x) [])) e_is in
-      let s : sent (take (at' k) (log_of logs k)) ≡ sent (take (at k) (log_of logs k)) = sent_same k (inl ne) in
+      omega (
+        arith,
+        ap length (loads_here receipt ∙ ap (λ (x : Event). got (take (at i) (log_of logs i))
+            ++ cons_option (receipt x) []) e_is),
+        length-append (got (take (at i) (log_of logs i))) (m ∷ []),
+      ) in
+      let s : sent (take (at' k) (log_of logs k)) ≡ sent (take (at k) (log_of logs k)) = loads_same sending k (inl ne) in
       let room : length (got (take (at i) (log_of logs i))) < length (sent (take (at k) (log_of logs k))) =
       omega (arith, rw (into, s, g') at (covers k lk)) in
       let whole_got : got (log_of logs i) ≡ got (take (at i) (log_of logs i))

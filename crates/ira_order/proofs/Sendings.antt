@@ -10,28 +10,20 @@ use Rattle.ira_event.specs.declared.event.Event.TheVariants.{Got, Sent, Draw}
 use Rattle.ira_event.specs.declared.load.Load.{Load}
 use Rattle.ira_order.specs.declared.node_dependencies.Sending.{Sending}
 use Rattle.ira_order.specs.Ring.{numbered}
-use Rattle.ira_order.specs.Matching.{sent, got, sending}
+use Rattle.ira_order.specs.Matching.{sent, got, sending, receipt}
 use Rattle.ira_order.specs.DirectDependencies.{IsSending, AreSendings}
-use Rattle.ira_order.proofs.OrderPrefixes.{rank_more, sends_nothing}
+use Rattle.ira_order.proofs.OrderPrefixes.{counted_more, sends_nothing}
 use Rattle.ira_order.proofs.Pushed.{found_in_push}
-use Rattle.ira_order.proofs.Receipts.{got_more}
 
 -- the sendings among the first n events
 pub record HasSendings (es : List Event) (n : ℕ) (sendings : List Sending) : Type 0 where
   pub count : length sendings ≡ length (sent (take n es))
   pub each : (r : ℕ) (s : Sending) → slice_get sendings r ≡ Some s → IsSending es r s
 
-sent_more : (es : List Event) (n : ℕ) (e : Event) → slice_get es n ≡ Some e
-    → length (sent (take (n + 1) es)) ≡ length (sent (take n es)) + length (cons_option (sending e) [])
-sent_more es n e is =
-    rank_more sending es n (Draw 0) (slice_get_within es n e is)
-    ∙ ap (λ (x : Event). length (sent (take n es)) + length (cons_option (sending x) []))
-    (get_or_from_slice_get es n e (Draw 0) is)
-
 pub sending_over : (es : List Event) (n : ℕ) (e : Event) (sendings : List Sending) → slice_get es n ≡ Some e
     → ((m : Load) → e ≡ Sent m → ⊥) → HasSendings es n sendings → HasSendings es (n + 1) sendings
 sending_over es n e sendings is never h = record {
-  count = omega (arith, h.count, sent_more es n e is, sends_nothing e never);
+  count = omega (arith, h.count, counted_more sending es n e is, sends_nothing e never);
   each = h.each;
 }
 
@@ -48,13 +40,13 @@ sending_more es n m s sendings is number received h = record {
           message = m;
           sends = rw (number, add-one) is;
           rank = rw number (omega (arith, one_more, here, h.count));
-          received = rw number (omega (arith, received, got_more es n (Sent m) is));
+          received = rw number (omega (arith, received, counted_more receipt es n (Sent m) is));
         }
   ];
 }
   where
     one_more : length (sent (take (n + 1) es)) ≡ length (sent (take n es)) + 1
-    one_more = sent_more es n (Sent m) is
+    one_more = counted_more sending es n (Sent m) is
 
 pub sendings_end : (es : List Event) (n : ℕ) (sendings : List Sending) → length es ≤ n → HasSendings es n sendings
     → AreSendings es sendings

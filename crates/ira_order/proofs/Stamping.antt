@@ -16,7 +16,7 @@ use Rattle.ira_order.specs.Stamps.{NodeStamps, receipts_by, counter, counters_at
 use Rattle.ira_order.specs.Stamps.{IsStamp, IsStamping}
 use Rattle.ira_order.proofs.Ranks.{rank_mono, next_below}
 use Rattle.std.proofs.lemmas.Bool.{cases_lt, cases_eq}
-use Rattle.ira_order.proofs.OrderPrefixes.{rank_more}
+use Rattle.ira_order.proofs.OrderPrefixes.{counted_more, sends_nothing}
 use Rattle.ira_order.proofs.Runs.{prev_next}
 use Rattle.ira_order.proofs.Counting.{count_own, count_stays, count_taken, counts_all}
 use Rattle.ira_order.proofs.Receipts.{receipts_by_le}
@@ -77,24 +77,16 @@ module _ (logs : List Log) (order : List ℕ) (o : IsOrder logs order) (matches 
       ≡ length (sent (take (at k) (log_of logs k))) + length (cons_option (sending e) [])
   sent_then e is =
       ap (λ (x : ℕ). length (sent (take x (log_of logs k)))) one
-      ∙ rank_more sending (log_of logs k) (at k) (Draw 0) (slice_get_within (log_of logs k) (at k) e is)
-      ∙ ap (λ (x : Event). length (sent (take (at k) (log_of logs k))) + length (cons_option (sending x) []))
-      (get_or_from_slice_get (log_of logs k) (at k) e (Draw 0) is)
+      ∙ counted_more sending (log_of logs k) (at k) e is
 
   pub stamps_same : (e : Event) → slice_get (log_of logs k) (at k) ≡ Some e → ((m : Load) → e ≡ Sent m → ⊥)
       → HaveStamps logs old at → HaveStamps logs old at'
   stamps_same e is never have l ll =
       rw (sent_as l) (have l ll)
     where
-      none : (e : Event) → ((m : Load) → e ≡ Sent m → ⊥) → length (cons_option (sending e) []) ≡ 0
-      none (Sent m) never = absurd (never m refl)
-      none (Got m) never = refl
-      none (Draw m) never = refl
-      none Yield never = refl
-
       sent_as : (l : ℕ) → length (sent (take (at' l) (log_of logs l))) ≡ length (sent (take (at l) (log_of logs l)))
       sent_as l = elim (cases_eq l k) [
-        | inl e' ↦ rw e' (omega (arith, sent_then e is, none e never))
+        | inl e' ↦ rw e' (omega (arith, sent_then e is, sends_nothing e never))
         | inr ne ↦ sent_same l ne
       ]
 
@@ -181,9 +173,7 @@ module _ (logs : List Log) (order : List ℕ) (o : IsOrder logs order) (matches 
     rank : length (sent (take (suc (at k)) (log_of logs k))) ≡ suc s
     rank =
         let more : length (sent (take (at k + 1) (log_of logs k))) ≡ length (sent (take (at k) (log_of logs k))) + 1 =
-        rank_more sending (log_of logs k) (at k) (Draw 0) within
-        ∙ ap (λ (x : Event). length (sent (take (at k) (log_of logs k))) + length (cons_option (sending x) []))
-        (get_or_from_slice_get (log_of logs k) (at k) (Sent m) (Draw 0) is) in
+        counted_more sending (log_of logs k) (at k) (Sent m) is in
         rw (← add-one (at k)) (omega (arith, more, s_is))
 
     -- the sending counts as its stamp says

@@ -12,15 +12,15 @@ use Rattle.ira_event.specs.declared.load.Load.{Load}
 use Rattle.ira_event.specs.Log.{Log}
 use Rattle.ira_order.specs.declared.node_dependencies.Sending.{Sending}
 use Rattle.ira_order.specs.Ring.{log_of, next, prev}
-use Rattle.ira_order.specs.Matching.{got}
+use Rattle.ira_order.specs.Matching.{got, receipt}
 use Rattle.ira_order.specs.Order.{IsOrder, IsPair}
 use Rattle.ira_order.specs.Circle.{HasOrder}
 use Rattle.ira_order.specs.VectorClock.{IsCount, AreCountsOfOthers}
 use Rattle.ira_order.specs.Stamps.{receipts_by}
 use Rattle.ira_order.specs.DirectDependencies.{IsSending, IsWayBack, AreCountsSoFar, distance}
-use Rattle.ira_order.proofs.OrderPrefixes.{receives_nothing}
+use Rattle.ira_order.proofs.OrderPrefixes.{counted_more, receives_nothing}
 use Rattle.ira_order.proofs.Counting.{one_of, count_first, count_own, count_stays, count_taken}
-use Rattle.ira_order.proofs.Receipts.{got_more, receipts_by_le}
+use Rattle.ira_order.proofs.Receipts.{receipts_by_le}
 use Rattle.ira_order.proofs.Runs.{prev_below, next_prev}
 
 -- up to event b of node j there is no receipt, and so the event counts nothing of other nodes
@@ -70,7 +70,7 @@ module _ (logs : List Log) (has : HasOrder logs) where
           ⊎ HasLastReceipt logs j b → HasNoReceipt logs j (suc b) ⊎ HasLastReceipt logs j (suc b)
       quiet e is never before =
           let same : receipts_by logs j (suc b) ≡ receipts_by logs j b =
-          rw (← add-one b) (omega (arith, got_more (log_of logs j) b e is, receives_nothing e never)) in
+          rw (← add-one b) (omega (arith, counted_more receipt (log_of logs j) b e is, receives_nothing e never)) in
           let stays : (i n : ℕ) → i ≢ j → IsCount logs j b i n → IsCount logs j (suc b) i n =
           λ i n ne count. count_stays logs has.1 has.2 j b i n lj ne l (λ m q.
           never m (let z : Some e ≡ Some (Got m) = sym is ∙ q in cc)) count in
@@ -93,7 +93,7 @@ module _ (logs : List Log) (has : HasOrder logs) where
         message = m;
         is = is;
         rank = refl;
-        some = (let more : 1 ≤ receipts_by logs j (b + 1) = omega (arith, got_more (log_of logs j) b (Got m) is) in
+        some = (let more : 1 ≤ receipts_by logs j (b + 1) = omega (arith, counted_more receipt (log_of logs j) b (Got m) is) in
             rw add-one at more);
         counts = λ i n ne count. count;
       })

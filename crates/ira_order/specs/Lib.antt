@@ -14,5 +14,6 @@ pub mod Run
 pub mod RunsOfLogs
 pub mod OrderPrefix
 pub mod Stamps
+pub mod Tally
 pub mod Upgrade
 pub mod VectorClock

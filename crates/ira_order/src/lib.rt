@@ -32,6 +32,8 @@ pub use laws::{
 pub use links::match_links;
 pub use match_fault::MatchFault;
 pub use order_fault::OrderFault;
+pub use order_prefix::OrderPrefix;
 pub use ordered::Ordered;
 pub use ring::{predecessor, successor};
 pub use search::{find_order, find_order_on_threads, order};
+pub use tally::Tally;

@@ -7,7 +7,7 @@ ghost use Rattle.ira_order.specs.Stamps.{AreUnstamped, IsTable, AreStamps, IsSta
 
 use crate::node_stamps::NodeStamps;
 use crate::ring::successor;
-use crate::tally::Tally;
+use crate::tally::{Tally, first_tallies};
 use ira_event::{Event, Logs, MAX_NODES};
 use std::alloc::{AllocError, Allocator};
 
@@ -32,9 +32,9 @@ impl<A: Allocator> Stamps<A> {
         requires { IsOrdered (record { logs = logs.now; schedule = schedule.now }) }
         ensures { IfOk result (λ s. AreStamps logs.now s.nodes.items) }
     {
-        let tally = Tally::start(alloc.clone()?, logs)?;
+        let tallies = first_tallies(alloc.clone()?, logs)?;
         let mut stamps = Stamps::start(alloc, logs)?;
-        stamps.fill(logs, schedule, tally)?;
+        stamps.fill(logs, schedule, tallies)?;
         Ok(stamps)
     }
 
@@ -57,25 +57,27 @@ impl<A: Allocator> Stamps<A> {
         &mut self,
         logs: &Logs<A>,
         schedule: &[u8],
-        mut tally: Tally<A>,
+        mut tallies: Vec<Tally, A>,
     ) -> Result<(), AllocError>
         requires unstamped { AreUnstamped logs.now self.old.nodes.items }
         requires ordered { IsOrdered (record { logs = logs.now; schedule = schedule.now }) }
-        requires start { IsOrderPrefix logs.now tally.done.items tally.sent.items tally.got.items [] }
+        requires start { IsOrderPrefix logs.now (record { places = []; tallies = tallies.items }) }
         ensures { OnOk result (AreStamps logs.now self.new.nodes.items) }
     {
         let mut row = [0; MAX_NODES];
         for place in schedule {
             let i = *place;
             let node = usize::from(i);
-            let number = tally.done[node] + 1;
+            let mut tally = tallies[node];
+            let number = tally.events + 1;
             let event = logs.log(i).event(number);
             if let Event::Sent(_) = event {
-                let received = tally.got[node] as usize;
-                let sent = tally.sent[node] as usize;
+                let received = tally.receipts as usize;
+                let sent = tally.sendings as usize;
                 self.stamp(logs, &mut row, i, number, received, sent)?;
             }
-            tally.add(i, event);
+            tally.add(event);
+            tallies[node] = tally;
         }
         Ok(())
     }

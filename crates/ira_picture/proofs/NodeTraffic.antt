@@ -10,8 +10,9 @@ use Rattle.ira_event.specs.declared.load.Load.{Load}
 use Rattle.ira_event.specs.Log.{Log}
 use Rattle.ira_order.specs.Matching.{receipt, sending}
 use Rattle.ira_evidence.specs.Exchange.{IsNthGot, IsNthSent}
-use Rattle.ira_evidence.proofs.Counted.{counted_more, nth_got, nth_sent}
+use Rattle.ira_order.proofs.OrderPrefixes.{counted_more}
 use Rattle.ira_order.proofs.Pushed.{each_pushed}
+use Rattle.ira_evidence.proofs.Counted.{nth_got, nth_sent}
 use Rattle.ira_picture.specs.declared.traffic.Receipt.{Receipt}
 use Rattle.ira_picture.specs.Traffic.{IsEffect, IsTraffic, Traffic}
 

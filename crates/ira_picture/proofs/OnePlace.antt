@@ -15,7 +15,7 @@ use Rattle.ira_order.specs.Ring.{log_of, next, numbered}
 use Rattle.ira_order.proofs.Ranks.{rank_mono}
 use Rattle.ira_evidence.specs.declared.exchange.Exchange.{Exchange}
 use Rattle.ira_evidence.specs.Exchange.{IsNthGot, IsNthSent}
-use Rattle.ira_evidence.proofs.Counted.{counted_more}
+use Rattle.ira_order.proofs.OrderPrefixes.{counted_more}
 use Rattle.ira_picture.specs.Arrow.{IsReceipt, IsSending, column_of}
 
 -- an event that is counted has more up to it than an earlier one

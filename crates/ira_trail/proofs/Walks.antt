@@ -23,7 +23,7 @@ use Rattle.ira_order.proofs.Cuts.{cut_moment}
 use Rattle.ira_order.proofs.OrderPrefixes.{raised}
 use Rattle.ira_order.proofs.Pushed.{found_in_push}
 use Rattle.ira_order.proofs.Ranks.{occurrences-take-le, occurrences_mono, occurrences_same}
-use Rattle.ira_order.proofs.Rounds.{no_step_yet}
+use Rattle.ira_order.proofs.Rounds.{no_places, sum_none}
 use Rattle.ira_order.proofs.Stuck.{all_below}
 use Rattle.ira_trail.specs.declared.sending.Sending.{Sending}
 use Rattle.ira_trail.specs.declared.trail_step.TrailStep.{TrailStep}
@@ -621,13 +621,12 @@ pub none_given : (logs : List Log) (cut : List ℕ) → AreLogs logs → HasOrde
       is_past_cut = false;
     }) []
 none_given logs cut are order consistent =
-    let prefix = no_step_yet logs are in
     record {
       are_first = record {
         logs_are = are;
         order = order;
         consistent = consistent;
-        schedule = prefix.schedule;
+        schedule = no_places logs;
         each = λ t step at. (let z : ⊥ = cc in absurd z);
         sorted = λ s t a b less at_a at_b. (let z : ⊥ = cc in absurd z);
         greater = λ s t a b less at_a at_b follows. (let z : ⊥ = cc in absurd z);
@@ -638,7 +637,7 @@ none_given logs cut are order consistent =
       place = omega arith;
       first = omega arith;
       done = λ i l. get_or-replicate (length logs) i 0 0 l;
-      total = prefix.total;
+      total = sum_none (λ (x : ℕ). x) 0 refl (length logs);
       number = refl;
       on_their_way = λ i sendings at. (
           let within : i < length logs =

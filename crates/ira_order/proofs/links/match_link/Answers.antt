@@ -1,10 +1,11 @@
 use Rattle.std.proofs.Common.{◌≡◌, ◌≢◌, arith, rules}
-use Rattle.ira_order.proofs.Pairing.{paired_at_first, paired_more, paired_all, missing_at, other_at, few_receipts}
+use Rattle.ira_order.proofs.Pairing.{paired_at_first, paired_more, paired_all, missing_at, other_at}
+use Rattle.ira_order.proofs.Receipts.{receipts_le}
 use Rattle.ira_order.proofs.links.match_link.Goals as goal
 
 pub loop-receipt-init : goal.loop-receipt-init
 loop-receipt-init g c = rw (c.events-sendings.ensures.list, c.events-receipts.ensures.list) (record {
-  room = omega (arith, few_receipts c.args.reader.now.events, c.events-receipts.ensures.valid.count);
+  room = omega (arith, receipts_le c.args.reader.now.events, c.events-receipts.ensures.valid.count);
   paired = paired_at_first c.args.writer.now.events c.args.reader.now.events;
 })
 

@@ -1,8 +1,9 @@
 use Rattle.std.proofs.Common.{◌≡◌, ◌∷◌, ◌∙◌, [], sym, arith, rules}
 use Rattle.ira_event.specs.declared.event.Event.TheVariants.{Got, Sent}
 use Rattle.std.proofs.lemmas.Option.{slice_get_within}
-use Rattle.ira_order.proofs.OrderPrefixes.{receives_nothing}
-use Rattle.ira_order.proofs.Receipts.{got_le, got_more, receipts_le, next_ahead, none_ahead}
+use Rattle.ira_order.specs.Matching.{receipt}
+use Rattle.ira_order.proofs.OrderPrefixes.{counted_more, receives_nothing}
+use Rattle.ira_order.proofs.Receipts.{got_le, receipts_le, next_ahead, none_ahead}
 use Rattle.ira_order.proofs.Sendings.{sending_more, sending_over, sendings_end}
 use Rattle.ira_order.proofs.node_dependencies.sendings_of.Goals as goal
 
@@ -27,7 +28,7 @@ loop-event-preserved-in-Got g c =
       received = omega (
         arith,
         c.loop-event.invariant.received,
-        got_more c.args.log.now.events c.loop-event.number (Got c.in-Got.field-0) at.0,
+        counted_more receipt c.args.log.now.events c.loop-event.number (Got c.in-Got.field-0) at.0,
       );
       sendings = sending_over c.args.log.now.events c.loop-event.number (Got c.in-Got.field-0) _ at.0 (λ m q.
           cc) c.loop-event.invariant.sendings;
@@ -44,7 +45,7 @@ loop-event-preserved-in-Continue-branch-2 g c =
       received = omega (
         arith,
         c.loop-event.invariant.received,
-        got_more c.args.log.now.events c.loop-event.number (Sent c.in-Sent.field-0) at.0,
+        counted_more receipt c.args.log.now.events c.loop-event.number (Sent c.in-Sent.field-0) at.0,
       );
       sendings = rw c.in_ok-push-in-Sent.ensures.items
           (sending_more c.args.log.now.events c.loop-event.number c.in-Sent.field-0 _ _ at.0 (omega arith)
@@ -62,7 +63,7 @@ loop-event-preserved g c =
       received = omega (
         arith,
         c.loop-event.invariant.received,
-        got_more c.args.log.now.events c.loop-event.number c.in-Some.event at.0,
+        counted_more receipt c.args.log.now.events c.loop-event.number c.in-Some.event at.0,
         receives_nothing c.in-Some.event (search rules),
       );
       sendings = sending_over c.args.log.now.events c.loop-event.number c.in-Some.event _ at.0 (search rules)

@@ -1,6 +1,7 @@
-use Rattle.std.proofs.Common.{ℕ, ◌<◌, ◌≤◌, length, get_or}
+use Rattle.std.proofs.Common.{ℕ, ◌<◌, ◌≤◌, length}
 use Rattle.ira_order.specs.Ring.{log_of}
+use Rattle.ira_order.specs.OrderPrefix.{tally_at}
 use Rattle.ira_order.proofs.order_prefix.OrderPrefix.is_whole.Given as goal
 
-abbrev pub invariant-loop-i : goal.invariant-loop-i
-invariant-loop-i g l = (j : ℕ) → j < l.i → length (log_of l.logs j) ≤ get_or l.self.tally.done.items j 0
+abbrev pub invariant-loop-place : goal.invariant-loop-place
+invariant-loop-place g l = (j : ℕ) → j < l.place → length (log_of l.logs j) ≤ (tally_at l.self.tallies j).events

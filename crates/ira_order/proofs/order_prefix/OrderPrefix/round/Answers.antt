@@ -4,10 +4,7 @@ use Rattle.ira_order.proofs.order_prefix.OrderPrefix.round.Goals as goal
 pub loop-i-preserved : goal.loop-i-preserved
 loop-i-preserved g c = record {
   prefix = c.in_ok-advance_node.ensures.prefix;
-  further = has_grown_trans c.args.self.now.places.items c.loop-i.self.places.items c.advance_node.new.self.places.items
-      c.loop-i.invariant.further c.in_ok-advance_node.ensures.further;
-  stuck = stuck_more c.args.logs.now c.args.self.now.places.items c.loop-i.self.places.items
-      c.advance_node.new.self.places.items
-      c.loop-i.i c.loop-i.invariant.further c.in_ok-advance_node.ensures.further c.loop-i.invariant.stuck
-      c.in_ok-advance_node.ensures.stuck;
+  further = has_grown_trans _ _ _ c.loop-i.invariant.further c.in_ok-advance_node.ensures.further;
+  stuck = stuck_more _ _ _ _ c.loop-i.i c.loop-i.invariant.further c.in_ok-advance_node.ensures.further
+      c.loop-i.invariant.stuck c.in_ok-advance_node.ensures.stuck;
 }

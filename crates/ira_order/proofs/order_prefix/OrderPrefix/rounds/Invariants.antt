@@ -5,8 +5,7 @@ use Rattle.ira_order.proofs.Rounds.{event_count}
 use Rattle.ira_order.proofs.order_prefix.OrderPrefix.rounds.Given as goal
 
 abbrev pub invariant-loop-self : goal.invariant-loop-self
-invariant-loop-self g l =
-    IsOrderPrefix l.logs l.self.tally.done.items l.self.tally.sent.items l.self.tally.got.items l.self.places.items
+invariant-loop-self g l = IsOrderPrefix l.logs l.self
 
 abbrev pub decreases-loop-self : goal.decreases-loop-self
-decreases-loop-self g l = sum_by event_count l.logs - length l.self.places.items
+decreases-loop-self g l = sum_by event_count l.logs - length l.self.places

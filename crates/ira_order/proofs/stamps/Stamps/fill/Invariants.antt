@@ -7,7 +7,7 @@ use Rattle.ira_order.proofs.stamps.Stamps.fill.Given as goal
 abbrev pub invariant-loop-place : goal.invariant-loop-place
 invariant-loop-place g l = record {
   table : IsTable l.logs l.self.nodes.items;
-  prefix : IsOrderPrefix l.logs l.tally.done.items l.tally.sent.items l.tally.got.items (take l.place-index l.schedule);
+  prefix : IsOrderPrefix l.logs (record { places = take l.place-index l.schedule; tallies = l.tallies.items });
   have : HaveStamps l.logs l.self.nodes.items (occurrences (take l.place-index l.schedule));
   stamped : CountsSent l.logs l.self.nodes.items (occurrences (take l.place-index l.schedule));
 }

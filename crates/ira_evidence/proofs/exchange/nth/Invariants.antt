@@ -1,11 +1,12 @@
 use Rattle.std.proofs.Common.{◌≡◌, ◌<◌, ◌≤◌, drop, length, take}
-use Rattle.ira_order.specs.Matching.{sent}
-use Rattle.ira_evidence.proofs.exchange.nth_sent.Given as goal
+use Rattle.std.specs.List.{filter_map}
+use Rattle.ira_evidence.specs.Side.{load_on}
+use Rattle.ira_evidence.proofs.exchange.nth.Given as goal
 
 abbrev pub invariant-loop-event : goal.invariant-loop-event
 invariant-loop-event g l = record {
   ahead : l.event-iterator ≡ drop l.position l.log.events;
   within : l.position ≤ length l.log.events;
-  sendings : l.sendings ≡ length (sent (take l.position l.log.events));
-  fewer : 0 < l.k → l.sendings < l.k;
+  rank : l.rank ≡ length (filter_map (load_on l.side) (take l.position l.log.events));
+  fewer : 0 < l.k → l.rank < l.k;
 }
