@@ -14,7 +14,6 @@ ghost use Rattle.ira_audit.specs.declared.reason.Reason.{Reason};
 use crate::answer::Answer;
 use crate::findings::Findings;
 use crate::log_audit::LogAudit;
-use crate::refusal::answer_of;
 use crate::ring_audit::RingAudit;
 use ira_event::OutOfMemory;
 use ira_links::Gate;
@@ -50,7 +49,7 @@ pub fn audit_logs<A: Allocator + Clone>(alloc: A, texts: &[&[u8]]) -> Result<Ans
     ensures no_run { (r : Reason) → IsOfRing r → result ≡ Ok (Answer.No r)
         → AreTextsWithoutRun (map (λ text. text.now) texts.now) }
 {
-    answer_of(RingAudit::of_texts(alloc, texts)?.good_logs())
+    Ok(RingAudit::of_texts(alloc, texts)?.judge()?.answer())
 }
 
 /// Judges the texts of a ring's logs, given in the order of its places, the text of a question, and that
@@ -91,7 +90,8 @@ where
     ensures yes { result ≡ Ok Answer.Yes
         → NoCaseIsMet (map (λ text. text.now) texts.now) question.now certificate.now }
 {
-    RingAudit::of_texts(alloc, texts)?.finish_check(rt, question, certificate, depth, gate)
+    let judged = RingAudit::of_texts(alloc, texts)?.judge_on_threads(rt)?;
+    judged.check(rt, question, certificate, depth, gate)
 }
 
 /// Finds, for each case of a question about the logs of a ring, whether a consistent cut of them meets it: a
@@ -112,5 +112,5 @@ pub fn decide_all<A: Allocator + Clone>(
     ensures found { IfOk result (AreFindings (map (λ text. text.now) texts.now) question.now) }
     ensures reportable { IfOk result AreReportable }
 {
-    RingAudit::of_texts(alloc, texts)?.decide(question)
+    RingAudit::of_texts(alloc, texts)?.judge()?.decide(question)
 }

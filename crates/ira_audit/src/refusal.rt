@@ -1,12 +1,10 @@
 ghost use Rattle.std.specs.Prelude.{◌≡◌};
-ghost use Rattle.ira_audit.specs.Refusal.{answered, decided_findings};
+ghost use Rattle.ira_audit.specs.Refusal.{answered};
 
 use crate::answer::Answer;
-use crate::findings::Findings;
 use crate::reason::Reason;
 use ira_cert_text::CertFault;
 use ira_event::{HeadFault, OutOfMemory};
-use ira_order::OrderFault;
 use ira_pred::AskFault;
 use std::alloc::{AllocError, AllocFailed, Allocator};
 
@@ -28,30 +26,6 @@ pub(crate) fn answer_of<T: Drop>(judged: Result<T, Refusal>) -> Result<Answer, O
     }
 }
 
-/// The findings of a question, or the reason for which it was refused.
-pub(crate) fn findings_of<A: Allocator>(
-    decided: Result<Findings<A>, Refusal>,
-) -> Result<Findings<A>, OutOfMemory>
-    ensures { result ≡ decided_findings decided }
-{
-    match decided {
-        Ok(findings) => Ok(findings),
-        Err(Refusal::No(reason)) => Ok(Findings::Refused(reason)),
-        Err(Refusal::OutOfMemory) => Err(OutOfMemory),
-    }
-}
-
-impl From<Reason> for Refusal {
-    ghost use Rattle.std.specs.Prelude.{◌≡◌};
-    ghost use Rattle.ira_audit.specs.declared.refusal.Refusal.TheVariants.{No};
-
-    ghost from_gives = { λ reason r. r ≡ No reason };
-
-    fn from(reason: Reason) -> Refusal {
-        Refusal::No(reason)
-    }
-}
-
 impl From<HeadFault> for Refusal {
     ghost use Rattle.std.specs.Prelude.{◌≡◌};
     ghost use Rattle.ira_audit.specs.declared.reason.Reason.TheVariants.{Heads};
@@ -61,21 +35,6 @@ impl From<HeadFault> for Refusal {
 
     fn from(fault: HeadFault) -> Refusal {
         Refusal::No(Reason::Heads(fault))
-    }
-}
-
-impl From<OrderFault> for Refusal {
-    ghost use Rattle.std.specs.Prelude.{◌≡◌};
-    ghost use Rattle.ira_audit.specs.Refusal.{order_refusal};
-
-    ghost from_gives = { λ fault r. r ≡ order_refusal fault };
-
-    fn from(fault: OrderFault) -> Refusal {
-        match fault {
-            OrderFault::Match(fault) => Refusal::No(Reason::Match(fault)),
-            OrderFault::Circle => Refusal::No(Reason::Circle),
-            OrderFault::OutOfMemory => Refusal::OutOfMemory,
-        }
     }
 }
 

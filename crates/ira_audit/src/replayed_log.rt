@@ -1,22 +1,23 @@
 ghost use Rattle.std.specs.Prelude.{◌≡◌, IfOk};
 ghost use Rattle.ira_event.specs.LogText.{head_of};
 ghost use Rattle.ira_event.specs.LogTextFault.{RecordsRead};
-ghost use Rattle.ira_audit.specs.ReplayedLogs.{IsReplayed, AreReplayed};
+ghost use Rattle.ira_event.specs.Logs.{AreLogs};
+ghost use Rattle.ira_order.specs.FaultyEvent.{AreFirstFaultyEvents};
 ghost use Rattle.ira_audit.specs.Replaying.{ReplayGives};
 ghost use Rattle.ira_audit.specs.RingAudit.{IsReading};
 
-use crate::reason::Reason;
 use ira_event::{LogFault, NodeLog, OutOfMemory, PackedEvents, Records, RingSize, open_log};
 use ira_node::NodeState;
+use ira_order::{EventAt, FaultyEvent};
 use ira_replay::ReplayFault;
 use std::alloc::Allocator;
 use std::marker::Model;
 
-/// A log, and whether each of its events has a step. Contracts see the log.
+/// A log, and its first event without a step, if it has one. Contracts see the log.
 #[derive(Drop)]
 pub(crate) struct ReplayedLog<A: Allocator> {
     log: NodeLog<A>,
-    steps: Result<(), Reason>,
+    first_fault: Option<ReplayFault>,
 }
 
 impl<A: Allocator> Model for ReplayedLog<A> {
@@ -27,7 +28,7 @@ impl<A: Allocator> Model for ReplayedLog<A> {
 
     ghost view = { λ r. r.log };
 
-    ghost invariant = { λ r. IsReplayed r.log r.steps };
+    ghost invariant = { λ r. IsReplayed r.log r.first_fault };
 }
 
 impl<A: Allocator> ReplayedLog<A> {
@@ -37,17 +38,8 @@ impl<A: Allocator> ReplayedLog<A> {
     {
         let (head, records) = open_log(text)?;
         let (events, first_fault) = read_and_replay(alloc, head.nodes, head.initiator, records)?;
-        let place = head.place;
-        let steps = match first_fault {
-            None => Ok(()),
-            Some(ReplayFault { position, fault }) => Err(Reason::Replay {
-                place,
-                position,
-                fault,
-            }),
-        };
         let log = NodeLog::of_records(head, events);
-        Ok(ReplayedLog { log, steps })
+        Ok(ReplayedLog { log, first_fault })
     }
 
     /// How many nodes the ring of the log has.
@@ -61,7 +53,7 @@ impl<A: Allocator> ReplayedLog<A> {
     pub(crate) fn without_events(self, alloc: A) -> ReplayedLog<A>
         ensures { head_of result ≡ head_of self }
     {
-        let ReplayedLog { log, steps: _ } = self;
+        let ReplayedLog { log, .. } = self;
         let events = Vec::new(alloc);
         let head = NodeLog::of_parts(
             log.version(),
@@ -72,7 +64,7 @@ impl<A: Allocator> ReplayedLog<A> {
         );
         ReplayedLog {
             log: head,
-            steps: Ok(()),
+            first_fault: None,
         }
     }
 }
@@ -108,20 +100,24 @@ fn read_and_replay<A: Allocator>(
     Ok((events, first_fault))
 }
 
-/// The logs, and whether each event of each of them has a step.
-pub(crate) fn split_steps<A: Allocator + Clone>(
+/// The logs, and, where they are those of a ring, their first events without a step.
+pub(crate) fn split_replayed<A: Allocator + Clone>(
     replayed: Vec<ReplayedLog<A>, A>,
-) -> Result<(Vec<NodeLog<A>, A>, Result<(), Reason>), OutOfMemory>
-    ensures { IfOk result (λ found. (found.0.items ≡ replayed.items) × AreReplayed found.0.items found.1) }
+) -> Result<(Vec<NodeLog<A>, A>, Vec<FaultyEvent, A>), OutOfMemory>
+    ensures { IfOk result (λ found. (found.0.items ≡ replayed.items)
+        × (AreLogs replayed.items → AreFirstFaultyEvents replayed.items found.1.items)) }
 {
-    let mut logs = Vec::with_capacity(replayed.allocator().clone()?, replayed.len())?;
-    let mut steps = Ok(());
+    let alloc = replayed.allocator().clone()?;
+    let mut logs = Vec::with_capacity(alloc.clone()?, replayed.len())?;
+    let mut faulty_events = Vec::new(alloc);
     for read in replayed {
-        let ReplayedLog { log, steps: own } = read;
-        logs.push(log)?;
-        if steps.is_ok() {
-            steps = own;
+        let ReplayedLog { log, first_fault } = read;
+        if let Some(ReplayFault { position, fault }) = first_fault {
+            let place = log.place();
+            let at = EventAt { place, position };
+            faulty_events.push(FaultyEvent { at, fault })?;
         }
+        logs.push(log)?;
     }
-    Ok((logs, steps))
+    Ok((logs, faulty_events))
 }

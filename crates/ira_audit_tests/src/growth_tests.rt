@@ -186,9 +186,11 @@ fn takes_again(rt: &(impl Abort + Threads), alloc: Memory) -> bool {
     for text in ELECTION {
         are_taken &= audit.take(text).is_ok() || audit.take(text).is_ok();
     }
-    let found = audit.finish(rt);
     assert!(rt; are_taken);
-    is_answer(rt, found, Answer::Yes)
+    match audit.judge_on_threads(rt) {
+        Ok(judged) => is_answer(rt, Ok(judged.answer()), Answer::Yes),
+        Err(_) => false,
+    }
 }
 
 fn checks<R: Abort + Threads + Wait + Clock + Sync>(

@@ -1,0 +1,218 @@
+ghost use Rattle.std.specs.Prelude.{◌≡◌, ◌<◌, ◌≤◌, ℕ, List, Some, IfOk, MatchOption, length, slice_get};
+ghost use Rattle.ira_pred.specs.Case.{Conjunct};
+ghost use Rattle.ira_cert_text.specs.CertText.{IsCertText};
+ghost use Rattle.ira_cert.specs.Conjuncts.{HasPlacesOf};
+ghost use Rattle.ira_elim.specs.Found.{IsFound};
+ghost use Rattle.ira_audit.specs.AskedQuestion.{AreFoundOf, IsFirstPresent};
+ghost use Rattle.ira_audit.specs.CheckAnswer.{AreSound};
+ghost use Rattle.ira_audit.specs.GoodLogs.{AreGood};
+ghost use Rattle.ira_audit.specs.Never.{NoCutMeetsAny};
+ghost use Rattle.ira_audit.specs.Refusal.{IsCertificateRefusal, IsSectionsRefusal, MatchRefusal};
+ghost use Rattle.ira_audit.specs.WrittenFindings.{AreWritten};
+ghost use Rattle.ira_audit.specs.declared.findings.Findings.{Findings};
+
+use crate::findings::Findings;
+use crate::findings_draft::FindingsDraft;
+use crate::reason::Reason;
+use crate::refusal::Refusal;
+use crate::written_findings::WrittenFindings;
+use ira_cert::Profiles;
+use ira_cert_text::{Certificate, read_cert};
+use ira_elim::{Cut, Found, decide_profiled};
+use ira_event::{Logs, OutOfMemory};
+use ira_links::Gate;
+use ira_order::{DirectDependencies, HappenedBefore};
+use ira_par::split_sections;
+use ira_pred::{Case, Question};
+use std::alloc::Allocator;
+use std::marker::Model;
+use std::sync::Wait;
+use std::thread::Threads;
+use std::time::Clock;
+
+/// A question that is asked of the ring of good logs, and which of their events happened before which.
+#[derive(Drop)]
+pub struct AskedQuestion<'a, A: Allocator> {
+    /// Where memory is taken from.
+    pub(crate) alloc: A,
+    pub(crate) question: Question<A>,
+    pub(crate) dependencies: DirectDependencies<'a, A>,
+}
+
+impl<'a, A: Allocator> Model for AskedQuestion<'a, A> {
+    ghost use Rattle.std.specs.Prelude.{◌≡◌, length};
+    ghost use Rattle.ira_audit.specs.AskedQuestion.{AskedQuestion};
+    ghost use Rattle.ira_audit.specs.GoodLogs.{AreGood};
+
+    ghost Value = { AskedQuestion };
+
+    ghost view = { λ a. record { logs = a.dependencies; question = a.question } };
+
+    ghost invariant = { λ a. AreGood a.dependencies × (a.question.nodes ≡ length a.dependencies) };
+}
+
+impl<'a, A: Allocator + Clone> AskedQuestion<'a, A> {
+    /// The logs of the ring.
+    pub fn logs(&self) -> &Logs<A>
+        ensures value { result.now ≡ self.now.logs }
+        ensures good { AreGood self.now.logs }
+    {
+        self.dependencies.logs()
+    }
+
+    /// The question.
+    pub fn question(&self) -> &Question<A>
+        ensures value { result.now ≡ self.now.question }
+        ensures ring { self.now.question.nodes ≡ length self.now.logs }
+    {
+        &self.question
+    }
+
+    /// The question, for which the rest is let go.
+    pub fn into_question(self) -> Question<A>
+        ensures { result ≡ self.question }
+    {
+        let AskedQuestion { question, .. } = self;
+        question
+    }
+
+    /// The cases of the question.
+    pub fn cases(&self) -> &[Case<A>]
+        ensures value { result.now ≡ self.now.question.cases }
+        ensures places { (i : ℕ) (case : List Conjunct) → slice_get self.now.question.cases i ≡ Some case
+            → HasPlacesOf self.now.logs case }
+    {
+        self.question.cases()
+    }
+
+    /// Which event of the logs happened before which.
+    pub fn dependencies(&self) -> &DirectDependencies<'a, A>
+        ensures { result.now ≡ self.now.logs }
+    {
+        &self.dependencies
+    }
+
+    /// What is found for each case. The states of each log are computed once, however many cases there are, and so are,
+    /// as far as `Profiles` has room, candidates that several of them ask for.
+    pub fn decide(&self) -> Result<Findings<A>, OutOfMemory>
+        ensures { IfOk result (AreFoundOf self.now) }
+    {
+        let cases = self.cases();
+        let profiles = Profiles::new(self.alloc.clone()?, self.logs(), cases)?;
+        let mut found = Vec::with_capacity(self.alloc.clone()?, cases.len())?;
+        for case in cases {
+            let alloc = self.alloc.clone()?;
+            found.push(decide_profiled(alloc, &profiles, &self.dependencies, case)?)?;
+        }
+        Ok(Findings::Cases {
+            nodes: self.logs().size(),
+            found,
+        })
+    }
+
+    /// What is found for the case of a number, counted from 0. No other case is looked at.
+    pub fn decide_case(&self, number: usize) -> Result<Found<A>, OutOfMemory>
+        requires { number < length self.now.question.cases }
+        ensures { (case : List Conjunct) → slice_get self.now.question.cases number ≡ Some case
+            → IfOk result (IsFound self.now.logs case) }
+    {
+        let case = &self.cases()[number];
+        let profiles = Profiles::new(self.alloc.clone()?, self.logs(), &[])?;
+        decide_profiled(self.alloc.clone()?, &profiles, &self.dependencies, case)
+    }
+
+    /// The number of the first case that a consistent cut meets, and the least cut that does, if there is such a case. The
+    /// cases after it aren't looked at.
+    pub fn first_present(&self) -> Result<Option<(usize, Cut<A>)>, OutOfMemory>
+        ensures { IfOk result (λ present. MatchOption present
+            (NoCutMeetsAny self.now.logs self.now.question.cases)
+            (λ first. IsFirstPresent self.now.logs self.now.question.cases first.0 first.1)) }
+    {
+        let cases = self.cases();
+        let profiles = Profiles::new(self.alloc.clone()?, self.logs(), cases)?;
+        for (number, case) in cases.iter().enumerate() {
+            let alloc = self.alloc.clone()?;
+            let found = decide_profiled(alloc, &profiles, &self.dependencies, case)?;
+            if let Found::Present(cut) = found {
+                return Ok(Some((number, cut)));
+            }
+        }
+        Ok(None)
+    }
+
+    /// What `decide` finds, written down case by case: no section is kept, but for the text of the certificate, if it
+    /// is asked for and as long as each case is absent.
+    pub fn decide_in_writing(&self, certify: bool) -> Result<WrittenFindings<A>, OutOfMemory>
+        ensures { IfOk result (λ written. (findings : Findings A) × AreFoundOf self.now findings
+            × AreWritten certify findings written) }
+    {
+        let cases = self.cases();
+        let profiles = Profiles::new(self.alloc.clone()?, self.logs(), cases)?;
+        let mut draft = FindingsDraft::new(self.alloc.clone()?, self.logs().size(), certify)?;
+        for (number, case) in cases.iter().enumerate() {
+            let alloc = self.alloc.clone()?;
+            draft.decide_next(alloc, &profiles, &self.dependencies, number as u64, case)?;
+        }
+        draft.finish()
+    }
+
+    /// The certificate of the text, if it is for this ring. How many sections it has isn't looked at.
+    pub fn read_certificate(&self, text: &[u8]) -> Result<Certificate<A>, Refusal>
+        ensures { MatchRefusal result
+            (λ certificate. IsCertText text.now certificate × (certificate.nodes ≡ length self.now.logs))
+            (IsCertificateRefusal text.now (length self.now.logs)) }
+    {
+        let certificate = read_cert(self.alloc.clone()?, text)?;
+        if certificate.nodes.get() != self.logs().size().get() {
+            return Err(Refusal::No(Reason::CertificateSize));
+        }
+        Ok(certificate)
+    }
+
+    /// Whether the certificate has a section for each case that is sound for it. The steps of each section are cut into
+    /// `2^depth` parts, which are judged on up to as many threads, each after the gate, which it passes with its number from
+    /// the left. It may wait for them.
+    pub fn check<R, G>(
+        &self,
+        rt: &R,
+        certificate: &Certificate<A>,
+        depth: u8,
+        gate: &G,
+    ) -> Result<(), Refusal>
+    where
+        R: Threads + Wait + Clock + Sync,
+        G: Gate + Sync,
+        A: Send + Sync,
+        requires { depth ≤ 4 }
+        ensures { MatchRefusal result
+            (λ _. AreSound self.now.logs self.now.question.cases certificate.now.sections)
+            (IsSectionsRefusal self.now.logs self.now.question.cases certificate.now.sections) }
+    {
+        let cases = self.cases();
+        let sections = &certificate.sections;
+        if sections.len() != cases.len() {
+            return Err(Refusal::No(Reason::Sections {
+                wanted: cases.len(),
+                found: sections.len(),
+            }));
+        }
+        let profiles = Profiles::new(self.alloc.clone()?, self.logs(), cases)?;
+        let unsound = split_sections(
+            rt,
+            self.alloc.clone()?,
+            &profiles,
+            &self.dependencies,
+            cases,
+            sections,
+            depth,
+            gate,
+        )?;
+        match unsound {
+            None => Ok(()),
+            Some(unsound) => Err(Refusal::No(Reason::Section {
+                case: unsound.section,
+                fault: unsound.fault,
+            })),
+        }
+    }
+}
