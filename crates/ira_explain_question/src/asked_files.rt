@@ -1,7 +1,7 @@
 ghost use Rattle.std.specs.Prelude.{◌≡◌, IfOk, IfSome};
 ghost use Rattle.ira_pred.specs.Question.{IsQuestion};
 
-use ira_audit::{GoodLogs, Refusal, RingAudit};
+use ira_audit::{GoodLogs, Judged, RingAudit};
 use ira_cert::{CertFault, Certificate, read_cert};
 use ira_event::OutOfMemory;
 use ira_pred::{AskFault, Question, read_question};
@@ -35,10 +35,9 @@ impl<'a, A: Allocator + Copy> AskedFiles<'a, A> {
         for file in self.logs {
             audit.take(file.text)?;
         }
-        match audit.good_logs() {
-            Ok(logs) => Ok(Some(logs)),
-            Err(Refusal::OutOfMemory) => Err(OutOfMemory),
-            Err(Refusal::No(_)) => Ok(None),
+        match audit.judge()? {
+            Judged::Good(logs) => Ok(Some(logs)),
+            Judged::Refused(_) | Judged::NoRing(_) => Ok(None),
         }
     }
 

@@ -12,10 +12,10 @@ use crate::cert_file::{keep, keep_written};
 use crate::overwriting::keep_inputs;
 use crate::program_fault::ProgramFault;
 use crate::read_files::{read_file, read_logs};
-use crate::report::print_text;
+use crate::report::{print_text, report};
 use crate::source_names::source_names;
 use crate::status::Status;
-use ira_audit::{Findings, WrittenFindings};
+use ira_audit::{Answer, Findings, Refusal, WrittenFindings};
 use ira_event::{Sink, WriteFault, write_bytes};
 use ira_files::{FileName, Shelf};
 use ira_json::findings_lines;
@@ -90,11 +90,17 @@ where
     keep_inputs(&alloc, decide.certificate, Some(decide.question), &names)?;
     let question = read_file(&alloc, FileName::Given(decide.question), shelf)?;
     let audit = read_logs(rt, alloc.clone()?, &names, shelf)?;
+    let judged = audit.judge()?;
     if decide.is_json {
-        let findings = audit.decide(question.bytes())?;
+        let findings = judged.decide(question.bytes())?;
         return print_json(rt.alloc(), findings, decide.certificate, shelf, out);
     }
-    let written = audit.decide_in_writing(question.bytes(), decide.certificate.is_some())?;
+    let asked = match judged.ask(question.bytes()) {
+        Ok(asked) => asked,
+        Err(Refusal::No(reason)) => return report(&Answer::No(reason), out),
+        Err(Refusal::OutOfMemory) => return Err(ProgramFault::OutOfMemory),
+    };
+    let written = asked.decide_in_writing(decide.certificate.is_some())?;
     match write_bytes(written.lines(), out) {
         Ok(()) => keep_findings(&written, decide.certificate, shelf),
         Err(WriteFault) => Err(ProgramFault::CannotWriteAnswer),

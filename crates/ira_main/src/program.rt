@@ -64,7 +64,7 @@ where
 {
     let names = source_names(&alloc, &asked.logs, shelf)?;
     let audit = read_logs(rt, alloc, &names, shelf)?;
-    let answer = audit.finish(rt)?;
+    let answer = audit.judge_on_threads(rt)?.answer();
     report_as(rt.alloc(), asked.is_json, &answer, out)
 }
 
@@ -91,7 +91,8 @@ where
     let certificate = read_file(&alloc, FileName::Given(check.certificate), shelf)?;
     let audit = read_logs(rt, alloc, &names, shelf)?;
     let (question, certificate) = (question.bytes(), certificate.bytes());
-    let answer = audit.finish_check(rt, question, certificate, check.depth, &OpenGate)?;
+    let judged = audit.judge_on_threads(rt)?;
+    let answer = judged.check(rt, question, certificate, check.depth, &OpenGate)?;
     report_as(rt.alloc(), check.is_json, &answer, out)
 }
 

@@ -133,9 +133,11 @@ pub fn draw_texts<R: Threads, A: Allocator + Clone + Sync>(
         (IsPictureFault (texts_of texts.now) moment.entry) }
     ensures reportable { IfOk result (λ ring. IsReportable ring.answer) }
 {
-    match take_texts(alloc.clone()?, texts)?.good_logs_on_threads(rt) {
+    match take_texts(alloc.clone()?, texts)?
+        .judge_on_threads(rt)?
+        .into_good()
+    {
         Ok(logs) => draw_good(alloc, &logs, moment, columns),
-        Err(Refusal::No(reason)) => draw_refused(alloc, texts, reason, columns),
-        Err(Refusal::OutOfMemory) => Err(PictureFault::OutOfMemory),
+        Err(reason) => draw_refused(alloc, texts, reason, columns),
     }
 }

@@ -22,7 +22,9 @@ pub fn explain_texts<R: Threads, A: Allocator + Clone + Sync>(
     ensures answer { IfOk result (λ view. IsRingAnswer (texts_of texts.now) view.answer) }
     ensures reportable { IfOk result (λ view. IsReportable view.answer) }
 {
-    let answer = take_texts(alloc.clone()?, texts)?.finish(rt)?;
+    let answer = take_texts(alloc.clone()?, texts)?
+        .judge_on_threads(rt)?
+        .answer();
     let explanation = explain_logs(alloc, texts, &answer)?;
     Ok(View {
         answer,

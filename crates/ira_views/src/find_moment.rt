@@ -95,7 +95,7 @@ pub(crate) fn find_moment<A: Allocator + Clone>(
     match moment {
         ShownMoment::AtEnd => Ok(FoundMoment::AtEnd),
         ShownMoment::AtCut(events) => Ok(FoundMoment::AtCut(asked_cut(alloc, logs, events)?)),
-        ShownMoment::Of { question, case } => match logs.decide(question)? {
+        ShownMoment::Of { question, case } => match logs.ask(question)?.decide()? {
             Findings::Refused(reason) => Err(RingFault::No(reason)),
             Findings::Cases { found, .. } => Ok(first_met(alloc, question, &found, case)?),
         },

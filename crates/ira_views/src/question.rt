@@ -32,7 +32,9 @@ pub fn explain_findings<A: Allocator + Clone>(
     ensures found { IfOk result (λ view. AreFindings (texts_of texts.now) question.now.text.now view.findings) }
     ensures reportable { IfOk result (λ view. AreReportable view.findings) }
 {
-    let findings = take_texts(alloc.clone()?, texts)?.decide(question.text)?;
+    let findings = take_texts(alloc.clone()?, texts)?
+        .judge()?
+        .decide(question.text)?;
     let explanation = explain_question_answer(alloc, texts, question, &findings, case)?;
     Ok(FindingsView {
         findings,
@@ -59,7 +61,8 @@ where
         → NoCaseIsMet (texts_of texts.now) question.now.text.now certificate.now.text.now) }
 {
     let audit = take_texts(alloc.clone()?, texts)?;
-    let answer = audit.finish_check(rt, question.text, certificate.text, DEPTH, &OpenGate)?;
+    let judged = audit.judge_on_threads(rt)?;
+    let answer = judged.check(rt, question.text, certificate.text, DEPTH, &OpenGate)?;
     let explanation = explain_check_answer(alloc, texts, question, certificate, &answer)?;
     Ok(View {
         answer,

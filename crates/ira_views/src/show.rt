@@ -68,7 +68,11 @@ pub fn show_texts<R: Threads, A: Allocator + Clone + Sync>(
         (IsShown (texts_of texts.now) moment.entry (option_map (λ named. named.now) leads.entry))
         (IsRingFault (texts_of texts.now) moment.entry (option_map (λ named. named.now) leads.entry)) }
 {
-    let logs = take_texts(alloc.clone()?, texts)?.good_logs_on_threads(rt)?;
+    let judged = take_texts(alloc.clone()?, texts)?.judge_on_threads(rt)?;
+    let logs = match judged.into_good() {
+        Ok(logs) => logs,
+        Err(reason) => return Err(RingFault::No(reason)),
+    };
     let differences = differences(alloc.clone()?, &logs, leads)?;
     let moment = find_moment(alloc, &logs, moment)?;
     Ok(ShownRing::new(logs, moment, differences))
