@@ -1,8 +1,16 @@
--- How many ranges there are where each is halved so many times.
-use Rattle.std.proofs.Common.{ℕ, zero, suc, ◌*◌, ◌%◌, ◌^◌, ◌<◌, ◌≤◌, arith}
+-- How many ranges there are where steps are halved so many times.
+use Rattle.std.proofs.Common.{◌≡◌, ℕ, zero, suc, ◌+◌, ◌*◌, ◌%◌, ◌^◌, ◌<◌, ◌≤◌, arith}
+use Rattle.std.proofs.Math.Nat.{pow-suc}
 
--- at least one and at most 16, as a machine shifts
-pub shifted : (depth : ℕ) → depth ≤ 4 → (0 < 1 * 2 ^ depth % 2 ^ 64) × (1 * 2 ^ depth % 2 ^ 64 ≤ 16)
+pub twice : (depth : ℕ) → 2 ^ suc depth ≡ 2 ^ depth + 2 ^ depth
+twice depth = omega (arith, pow-suc 2 depth)
+
+pub some_range : (depth : ℕ) → 0 < 2 ^ depth
+some_range zero = omega arith
+some_range (suc depth) = omega (arith, some_range depth, twice depth)
+
+-- at most 16; and as a machine shifts
+pub shifted : (depth : ℕ) → depth ≤ 4 → (2 ^ depth ≤ 16) × (1 * 2 ^ depth % 2 ^ 64 ≡ 2 ^ depth)
 shifted zero l = (omega arith, omega arith)
 shifted (suc zero) l = (omega arith, omega arith)
 shifted (suc (suc zero)) l = (omega arith, omega arith)

@@ -1,5 +1,5 @@
 -- What is found in a range, by its first unsound step and by what is left of the node that should be spent.
-use Rattle.std.proofs.Common.{◌≡◌, ◌≢◌, ℕ, ◌+◌, ◌<◌, List, Option, Some, None, length, take, refl, sym, ap, subst}
+use Rattle.std.proofs.Common.{◌≡◌, ◌≢◌, ℕ, ◌+◌, ◌^◌, ◌<◌, List, Option, Some, None, length, take, refl, sym, ap, subst}
 use Rattle.std.proofs.Common.{arith}
 use Rattle.std.proofs.lemmas.List.{take_all}
 use Rattle.ira_event.specs.Log.{Log}
@@ -16,68 +16,69 @@ use Rattle.ira_cert.specs.QueueHead.{IsQueueHead}
 use Rattle.ira_cert.specs.SoundSection.{AreSoundSteps}
 use Rattle.ira_cert.specs.SectionFault.{unsound, not_spent}
 use Rattle.ira_cert.proofs.OneVerdict.{front_unspent}
-use Rattle.ira_par.specs.Ranges.{begin_of, IsRangeFault}
+use Rattle.ira_par.specs.Halves.{begin_of}
+use Rattle.ira_par.specs.Ranges.{IsRangeFault}
 use Rattle.ira_par.specs.Task.{IsFoundInRange}
 use Rattle.ira_par.proofs.Begins.{begin_last}
 
 -- the steps before range r
 abbrev pub before_range : Section → ℕ → ℕ → List CertStep
-before_range section n r = take (begin_of (length section.steps) n r) section.steps
+before_range section depth r = take (begin_of (length section.steps) depth r) section.steps
 
 -- a range of the section's steps
-pub range_of : (logs : List Log) (case : List Conjunct) (steps others : List CertStep) (n r from to : ℕ)
-    → steps ≡ others → from ≡ begin_of (length steps) n r → to ≡ begin_of (length steps) n (r + 1)
+pub range_of : (logs : List Log) (case : List Conjunct) (steps others : List CertStep) (depth r from to : ℕ)
+    → steps ≡ others → from ≡ begin_of (length steps) depth r → to ≡ begin_of (length steps) depth (r + 1)
     → (found : Option SectionFault)
     → IsRangeFault logs case steps from to found
-    → IsRangeFault logs case others (begin_of (length others) n r) (begin_of (length others) n (r + 1)) found
-range_of logs case steps others n r from to same first last found h =
-    subst (λ (ss : List CertStep). IsRangeFault logs case ss (begin_of (length ss) n r) (begin_of (length ss) n (r + 1))
+    → IsRangeFault logs case others (begin_of (length others) depth r) (begin_of (length others) depth (r + 1)) found
+range_of logs case steps others depth r from to same first last found h =
+    subst (λ (ss : List CertStep). IsRangeFault logs case ss (begin_of (length ss) depth r) (begin_of (length ss) depth (r + 1))
     found) same
-    (subst (λ (k : ℕ). IsRangeFault logs case steps k (begin_of (length steps) n (r + 1)) found) first
+    (subst (λ (k : ℕ). IsRangeFault logs case steps k (begin_of (length steps) depth (r + 1)) found) first
     (subst (λ (k : ℕ). IsRangeFault logs case steps from k found) last h))
 
-module _ (logs : List Log) (case : List Conjunct) (section : Section) (n r : ℕ) where
+module _ (logs : List Log) (case : List Conjunct) (section : Section) (depth r : ℕ) where
   -- a step that isn't sound
   pub step_found : (fault : SectionFault)
-      → IsRangeFault logs case section.steps (begin_of (length section.steps) n r)
-      (begin_of (length section.steps) n (r + 1)) (Some fault) → IsFoundInRange logs case section n r (Some fault)
+      → IsRangeFault logs case section.steps (begin_of (length section.steps) depth r)
+      (begin_of (length section.steps) depth (r + 1)) (Some fault) → IsFoundInRange logs case section depth r (Some fault)
   step_found fault h before = unsound h.0 h.1 (h.3 before.0) h.2
 
-  module _ (clear : IsRangeFault logs case section.steps (begin_of (length section.steps) n r)
-      (begin_of (length section.steps) n (r + 1)) None) where
+  module _ (clear : IsRangeFault logs case section.steps (begin_of (length section.steps) depth r)
+      (begin_of (length section.steps) depth (r + 1)) None) where
     -- none, and another range follows
-    pub none_found : r + 1 < n → IsFoundInRange logs case section n r None
+    pub none_found : r + 1 < 2 ^ depth → IsFoundInRange logs case section depth r None
     none_found more before = (clear before.0, λ last. absurd (omega (arith, more, last)))
 
-    module _ (some : 0 < n) (last : r + 1 ≡ n) (left : QueueHead)
-        (is_left : AreSoundSteps logs case (before_range section n (r + 1))
-        → IsQueueHead logs case (before_range section n (r + 1)) section.spent left) where
-      all : before_range section n (r + 1) ≡ section.steps
-      all = let end = begin_last (length section.steps) n some in
-          take_all (begin_of (length section.steps) n (r + 1)) section.steps
-          (let e = ap (λ (k : ℕ). begin_of (length section.steps) n k) last in omega (arith, end, e))
+    module _ (last : r + 1 ≡ 2 ^ depth) (left : QueueHead)
+        (is_left : AreSoundSteps logs case (before_range section depth (r + 1))
+        → IsQueueHead logs case (before_range section depth (r + 1)) section.spent left) where
+      all : before_range section depth (r + 1) ≡ section.steps
+      all = let end = begin_last (length section.steps) depth in
+          take_all (begin_of (length section.steps) depth (r + 1)) section.steps
+          (let e = ap (λ (k : ℕ). begin_of (length section.steps) depth k) last in omega (arith, end, e))
 
       -- the node is spent at the end
-      pub spent_found : left ≡ Spent → IsFoundInRange logs case section n r None
+      pub spent_found : left ≡ Spent → IsFoundInRange logs case section depth r None
       spent_found is before =
           let sound = clear before.0 in (
             sound,
             λ _. subst (λ (steps : List CertStep). IsSpent logs case steps section.spent) all
-                (subst (λ (l : QueueHead). IsQueueHead logs case (before_range section n (r + 1)) section.spent l) is
+                (subst (λ (l : QueueHead). IsQueueHead logs case (before_range section depth (r + 1)) section.spent l) is
                 (is_left sound)),
           )
 
       unspent : HasDifferentPlaces case → (other : QueueHead) → other ≢ Spent
-          → IsQueueHead logs case (before_range section n (r + 1)) section.spent other
-          → ¬ (IsSpent logs case (before_range section n (r + 1)) section.spent)
+          → IsQueueHead logs case (before_range section depth (r + 1)) section.spent other
+          → ¬ (IsSpent logs case (before_range section depth (r + 1)) section.spent)
       unspent differ NotAsked not none = λ spent. none (spent.1.formula, spent.1.asked)
       unspent differ Spent not spent = absurd (not refl)
       unspent differ (First p) not front =
-          front_unspent logs case differ (before_range section n (r + 1)) section.spent p front
+          front_unspent logs case differ (before_range section depth (r + 1)) section.spent p front
 
       -- or it isn't
       pub unspent_found : HasDifferentPlaces case → left ≢ Spent
-          → IsFoundInRange logs case section n r (Some (NotSpent section.spent))
+          → IsFoundInRange logs case section depth r (Some (NotSpent section.spent))
       unspent_found differ not before =
           let sound = clear before.0 in
           not_spent (subst (λ (steps : List CertStep). AreSoundSteps logs case steps) all sound)

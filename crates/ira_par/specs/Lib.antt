@@ -2,4 +2,5 @@ pub mod Ranges
 pub mod Sections
 pub mod Share
 pub mod CandidateTable
+pub mod Halves
 pub mod Task

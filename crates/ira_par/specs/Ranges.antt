@@ -1,5 +1,5 @@
--- Helpers, no definitions: the ranges of a section's steps, and how many steps of each node come before one.
-use Rattle.std.specs.Prelude.{◌≡◌, ℕ, ◌*◌, ◌/◌, ◌<◌, List, Option, Some, None, length, slice_index, take}
+-- Helpers, no definitions: what is found in a range of steps, and how many steps of each node come before one.
+use Rattle.std.specs.Prelude.{◌≡◌, ℕ, ◌<◌, List, Option, Some, None, length, slice_index, take}
 use Rattle.ira_event.specs.Log.{Log}
 use Rattle.ira_pred.specs.Case.{Conjunct}
 use Rattle.ira_cert_text.specs.declared.cert_step.CertStep.{CertStep}
@@ -9,10 +9,6 @@ use Rattle.ira_cert.specs.declared.unsound.Unsound.{Unsound}
 use Rattle.ira_cert.specs.Front.{made}
 use Rattle.ira_cert.specs.SoundSection.{AreSoundSteps}
 use Rattle.ira_cert.specs.SectionFault.{IsFirstUnsoundStep}
-
--- the step with which range r begins where so many steps are cut into n ranges; it is the last one's end for r = n
-abbrev pub begin_of : ℕ → ℕ → ℕ → ℕ
-begin_of steps n r = steps * r / n
 
 -- the counts say of each place how many of the steps eliminate a state of the node there
 abbrev pub AreMade : List CertStep → List ℕ → Type 0

@@ -15,21 +15,22 @@ pub record Share : Type 0 where
 abbrev pub HavePlaces : ℕ → List Task → Type 0
 HavePlaces places tasks = (k : ℕ) (task : Task) → slice_get tasks k ≡ Some task → AreBelow places task.tables
 
--- nothing is found in range r of n of the first k sections
+-- nothing is found in range r of 2 ^ depth of the first k sections
 abbrev pub AreClear : List Log → ℕ → ℕ → ℕ → List Task → Type 0
-AreClear logs n r k tasks =
-    (j : ℕ) (task : Task) → j < k → slice_get tasks j ≡ Some task → IsFoundFor logs n r task None
+AreClear logs depth r k tasks =
+    (j : ℕ) (task : Task) → j < k → slice_get tasks j ≡ Some task → IsFoundFor logs depth r task None
 
--- this is found in range r of n of section k
+-- this is found in range r of 2 ^ depth of section k
 abbrev pub IsFoundAt : List Log → ℕ → ℕ → ℕ → SectionFault → List Task → Type 0
-IsFoundAt logs n r k fault tasks =
-    (task : Task) × (slice_get tasks k ≡ Some task) × IsFoundFor logs n r task (Some fault)
+IsFoundAt logs depth r k fault tasks =
+    (task : Task) × (slice_get tasks k ≡ Some task) × IsFoundFor logs depth r task (Some fault)
 
--- what is found in range r of n of the first k sections: nothing in any, or this in the first in which something is
+-- what is found in range r of 2 ^ depth of the first k sections: nothing in any, or this in the first in which
+-- something is
 abbrev pub IsFoundBy : List Log → ℕ → ℕ → ℕ → List Task → Option UnsoundSection → Type 0
-IsFoundBy logs n r k tasks None = AreClear logs n r k tasks
-IsFoundBy logs n r k tasks (Some found) =
-    AreClear logs n r found.section tasks × IsFoundAt logs n r found.section found.fault tasks
+IsFoundBy logs depth r k tasks None = AreClear logs depth r k tasks
+IsFoundBy logs depth r k tasks (Some found) =
+    AreClear logs depth r found.section tasks × IsFoundAt logs depth r found.section found.fault tasks
 
 -- of what two shares found this is what the earlier section has, and of the same section the left share
 abbrev pub IsEarlier : Option UnsoundSection → Option UnsoundSection → Option UnsoundSection → Type 0

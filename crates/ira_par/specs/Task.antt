@@ -1,5 +1,5 @@
 -- Helpers, no definitions: sections that are judged range by range, and what is found of them.
-use Rattle.std.specs.Prelude.{◌≡◌, ℕ, ◌+◌, ◌<◌, List, Option, Some, None, length, slice_get, take}
+use Rattle.std.specs.Prelude.{◌≡◌, ℕ, ◌+◌, ◌^◌, ◌<◌, List, Option, Some, None, length, slice_get, take}
 use Rattle.ira_event.specs.Log.{Log}
 use Rattle.ira_pred.specs.Case.{Conjunct}
 use Rattle.ira_cert_text.specs.Certificate.{Section}
@@ -12,7 +12,7 @@ use Rattle.ira_cert.specs.SectionFault.{IsSectionFault}
 use Rattle.ira_cert.specs.SoundSection.{AreSoundSteps}
 use Rattle.ira_cert.specs.Verdict.{IsVerdict}
 use Rattle.ira_par.specs.declared.unsound_section.UnsoundSection.{UnsoundSection}
-use Rattle.ira_par.specs.Ranges.{begin_of}
+use Rattle.ira_par.specs.Halves.{begin_of}
 use Rattle.ira_par.specs.CandidateTable.{CandidateTable, AreTables, AreBelow}
 
 -- a section, and the candidates of each node that its case asks
@@ -20,24 +20,26 @@ pub record Task : Type 0 where
   pub tables : List CandidateTable
   pub section : Section
 
--- the section is sound as far as range r of n begins: the steps before it are, and at the end the node is spent
+-- the section is sound as far as range r of 2 ^ depth begins: the steps before it are, and at the end the node is
+-- spent
 abbrev pub IsSoundUpTo : List Log → List Conjunct → Section → ℕ → ℕ → Type 0
-IsSoundUpTo logs case section n r =
-    AreSoundSteps logs case (take (begin_of (length section.steps) n r) section.steps)
-    × (r ≡ n → IsSpent logs case section.steps section.spent)
+IsSoundUpTo logs case section depth r =
+    AreSoundSteps logs case (take (begin_of (length section.steps) depth r) section.steps)
+    × (r ≡ 2 ^ depth → IsSpent logs case section.steps section.spent)
 
--- what is found in range r of n of a section that is sound up to there: nothing where it is sound up to the next, else
--- its fault
+-- what is found in range r of 2 ^ depth of a section that is sound up to there: nothing where it is sound up to the
+-- next, else its fault
 abbrev pub IsFoundInRange : List Log → List Conjunct → Section → ℕ → ℕ → Option SectionFault → Type 0
-IsFoundInRange logs case section n r None = IsSoundUpTo logs case section n r → IsSoundUpTo logs case section n (r + 1)
-IsFoundInRange logs case section n r (Some fault) =
-    IsSoundUpTo logs case section n r → IsSectionFault logs case section fault
+IsFoundInRange logs case section depth r None =
+    IsSoundUpTo logs case section depth r → IsSoundUpTo logs case section depth (r + 1)
+IsFoundInRange logs case section depth r (Some fault) =
+    IsSoundUpTo logs case section depth r → IsSectionFault logs case section fault
 
 -- so it is for each case that the tables belong to
 abbrev pub IsFoundFor : List Log → ℕ → ℕ → Task → Option SectionFault → Type 0
-IsFoundFor logs n r task found =
+IsFoundFor logs depth r task found =
     (case : List Conjunct) → HasDifferentPlaces case → AreTables logs case task.tables
-    → IsFoundInRange logs case task.section n r found
+    → IsFoundInRange logs case task.section depth r found
 
 -- this is the verdict on the section, for each case that the tables belong to
 abbrev pub IsVerdictOf : List Log → Task → Verdict → Type 0

@@ -1,5 +1,5 @@
 // What is done of a range of steps: those before it are counted, node by node, and the first that isn't sound is found.
-ghost use Rattle.std.specs.Prelude.{◌≡◌, ◌≢◌, ◌<◌, ◌≤◌, List, None, length, take};
+ghost use Rattle.std.specs.Prelude.{◌≡◌, ◌≢◌, ◌^◌, ◌<◌, ◌≤◌, List, None, get_or, length, take};
 ghost use Rattle.ira_event.specs.Log.{Log};
 ghost use Rattle.ira_pred.specs.Case.{Conjunct};
 ghost use Rattle.ira_cert_text.specs.declared.cert_step.CertStep.{CertStep};
@@ -8,7 +8,8 @@ ghost use Rattle.ira_cert.specs.Conjuncts.{HasDifferentPlaces};
 ghost use Rattle.ira_cert.specs.QueueHead.{IsQueueHead};
 ghost use Rattle.ira_cert.specs.SoundSection.{AreSoundSteps};
 ghost use Rattle.ira_par.specs.CandidateTable.{AreTables, AreBelow};
-ghost use Rattle.ira_par.specs.Ranges.{AreMade, IsRangeFault, begin_of as begin_of_range};
+ghost use Rattle.ira_par.specs.Halves.{halved};
+ghost use Rattle.ira_par.specs.Ranges.{AreMade, IsRangeFault};
 
 use crate::candidate_table::CandidateTable;
 use crate::tables::table_at;
@@ -16,15 +17,31 @@ use ira_cert::{CertStep, QueueHead, SectionFault, judge_step};
 use ira_order::HappenedBefore;
 use std::alloc::Allocator;
 
-/// The step with which a range of this number begins, where so many steps are cut into ranges of about the same length.
-/// For the number of the ranges it is the end of the last one.
-pub(crate) fn begin_of(steps: usize, ranges: usize, number: usize) -> usize
-    requires some { 0 < ranges }
-    requires few { ranges ≤ 16 }
-    requires number { number ≤ ranges }
-    ensures { result ≡ begin_of_range steps ranges number }
+/// How many ranges there are where steps are halved so many times.
+pub(crate) fn range_count(depth: u8) -> usize
+    requires { depth ≤ 4 }
+    ensures { result ≡ 2 ^ depth }
 {
-    steps / ranges * number + steps % ranges * number / ranges
+    1 << depth
+}
+
+/// The step with which the range of this number begins, where the steps `from..to` are halved so many times. For the
+/// number of the ranges it is the end of the last one.
+pub(crate) fn begin_of(from: usize, to: usize, depth: u8, number: usize) -> usize
+    requires order { from ≤ to }
+    requires depth { depth ≤ 4 }
+    ensures { result ≡ get_or (halved depth from to) number to }
+{
+    if depth == 0 {
+        return if number == 0 { from } else { to };
+    }
+    let middle = from + (to - from) / 2;
+    let half = range_count(depth - 1);
+    if number < half {
+        begin_of(from, middle, depth - 1, number)
+    } else {
+        begin_of(middle, to, depth - 1, number - half)
+    }
 }
 
 /// Counts for each place the first steps, up to this one, that eliminate a state of it.

@@ -1,4 +1,4 @@
-ghost use Rattle.std.specs.Prelude.{◌≡◌, ◌<◌, ◌≤◌, IfOk, length};
+ghost use Rattle.std.specs.Prelude.{◌≡◌, ◌^◌, ◌<◌, ◌≤◌, IfOk, length};
 ghost use Rattle.ira_par.specs.Share.{HavePlaces, IsFoundBy};
 
 use crate::task::Task;
@@ -44,15 +44,15 @@ impl<A: Allocator> Share<A> {
         rt: &R,
         gate: &G,
         number: usize,
-        ranges: usize,
+        depth: u8,
         ordered: &C,
         tasks: &[Task<'_, '_, A>],
     )
-        requires number { number < ranges }
-        requires few { ranges ≤ 16 }
+        requires number { number < 2 ^ depth }
+        requires depth { depth ≤ 4 }
         requires room { self.old.places ≡ length (C.logs_of ordered.now) }
         requires places { HavePlaces (length (C.logs_of ordered.now)) tasks.now }
-        ensures { IsFoundBy (C.logs_of ordered.now) ranges number (length tasks.now) tasks.now self.new.found }
+        ensures { IsFoundBy (C.logs_of ordered.now) depth number (length tasks.now) tasks.now self.new.found }
     {
         self.found = None;
         for section in 0..tasks.len() {
@@ -60,7 +60,7 @@ impl<A: Allocator> Share<A> {
             if self.found.is_some() {
                 continue;
             }
-            if let Some(fault) = tasks[section].judge(ordered, number, ranges, &mut self.counts) {
+            if let Some(fault) = tasks[section].judge(ordered, number, depth, &mut self.counts) {
                 self.found = Some(UnsoundSection { section, fault });
             }
         }

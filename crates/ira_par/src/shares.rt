@@ -3,6 +3,7 @@ ghost use Rattle.std.specs.Prelude.{◌≡◌, ◌^◌, ◌<◌, ◌≤◌, All,
 ghost use Rattle.ira_par.specs.Task.{IsFoundIn};
 ghost use Rattle.ira_par.specs.Share.{HavePlaces, IsFoundBy, IsEarlier, IsFirstFound};
 
+use crate::ranges::range_count;
 use crate::share::Share;
 use crate::task::Task;
 use crate::unsound_section::UnsoundSection;
@@ -37,7 +38,7 @@ where
 {
     let places = usize::from(ordered.logs().size().get());
     let mut shares = new_shares(alloc, places, depth)?;
-    Ok(judge_tasks(rt, gate, ordered, tasks, &mut shares))
+    Ok(judge_tasks(rt, gate, ordered, tasks, depth, &mut shares))
 }
 
 /// A share for each of `2^depth` ranges.
@@ -47,11 +48,10 @@ fn new_shares<A: Allocator + Clone>(
     depth: u8,
 ) -> Result<Vec<Share<A>, A>, OutOfMemory>
     requires { depth ≤ 4 }
-    ensures some { IfOk result (λ shares. 0 < length shares.items) }
-    ensures few { IfOk result (λ shares. length shares.items ≤ 16) }
+    ensures count { IfOk result (λ shares. length shares.items ≡ 2 ^ depth) }
     ensures room { IfOk result (λ shares. All (λ share. share.places ≡ places) shares.items) }
 {
-    let count = 1usize << depth;
+    let count = range_count(depth);
     let mut shares = Vec::with_capacity(alloc.clone()?, count)?;
     for _ in 0..count {
         shares.push(Share::new(alloc.clone()?, places)?)?;
@@ -65,6 +65,7 @@ fn judge_tasks<R, G, C, A>(
     gate: &G,
     ordered: &C,
     tasks: &[Task<'_, '_, A>],
+    depth: u8,
     shares: &mut [Share<A>],
 ) -> Option<UnsoundSection>
 where
@@ -73,20 +74,20 @@ where
     C: HappenedBefore + Sync,
     C::Alloc: Send + Sync,
     A: Allocator + Send + Sync,
-    requires some { 0 < length shares.old }
-    requires few { length shares.old ≤ 16 }
+    requires depth { depth ≤ 4 }
+    requires count { length shares.old ≡ 2 ^ depth }
     requires room { All (λ share. share.places ≡ length (C.logs_of ordered.now)) shares.old }
     requires places { HavePlaces (length (C.logs_of ordered.now)) tasks.now }
     ensures { IsFoundIn (C.logs_of ordered.now) tasks.now result }
 {
     let ranges = shares.len();
     let judge = |number: usize, share: &mut Share<A>|
-        requires { (number < ranges) × (ranges ≤ 16)
+        requires { (number < 2 ^ depth) × (depth ≤ 4)
             × (share.old.places ≡ length (C.logs_of ordered.now))
             × HavePlaces (length (C.logs_of ordered.now)) tasks.now }
-        ensures { IsFoundBy (C.logs_of ordered.entry.now) ranges number (length tasks.entry.now)
+        ensures { IsFoundBy (C.logs_of ordered.entry.now) depth number (length tasks.entry.now)
             tasks.entry.now share.new.found }
-    { share.judge(rt, gate, number, ranges, ordered, tasks) };
+    { share.judge(rt, gate, number, depth, ordered, tasks) };
     thread::for_each_mut(rt, shares, ranges, &judge);
     first_found(shares)
 }

@@ -30,9 +30,9 @@ const FULL: usize = 1 << 20;
 /// does, on up to `2^depth` threads. The verdict is the same at every depth, with every gate, and however
 /// the threads are scheduled.
 ///
-/// The steps are cut into `2^depth` ranges. Each is judged by itself, after the gate, which it passes with its
-/// number from the left, by a thread that first counts the steps before it, node by node: so it knows how many
-/// candidates of each node are eliminated there. At depth 0 there is one range, which is judged as `check_plain`
+/// The steps are halved `depth` times, into `2^depth` ranges. Each is judged by itself, after the gate, which it
+/// passes with its number from the left, by a thread that first counts the steps before it, node by node: so it
+/// knows how many candidates of each node are eliminated there. At depth 0 there is one range, which is judged as `check_plain`
 /// does. All memory is taken before the gate is passed and before the first thread starts: the list of the
 /// candidates of each node that is asked, and a counter of each node for each range. Where a thread can't be
 /// started, the one that asked for it does the work.

@@ -1,9 +1,9 @@
-ghost use Rattle.std.specs.Prelude.{◌≡◌, ◌<◌, ◌≤◌, length};
+ghost use Rattle.std.specs.Prelude.{◌≡◌, ◌^◌, ◌<◌, ◌≤◌, length};
 ghost use Rattle.ira_par.specs.CandidateTable.{AreBelow};
 ghost use Rattle.ira_par.specs.Task.{IsFoundFor};
 
 use crate::candidate_table::CandidateTable;
-use crate::ranges::{begin_of, count_before, judge_range, queue_head_at};
+use crate::ranges::{begin_of, count_before, judge_range, queue_head_at, range_count};
 use ira_cert::{QueueHead, Section, SectionFault};
 use ira_order::HappenedBefore;
 use std::alloc::Allocator;
@@ -25,33 +25,33 @@ impl<'t, 's, A: Allocator> Model for Task<'t, 's, A> {
 }
 
 impl<'t, 's, A: Allocator> Task<'t, 's, A> {
-    /// What is found in the range of this number: its first step that isn't sound, or at the end of the last
-    /// one that the node isn't spent. The steps before the range, which are taken for sound, are counted in
-    /// the room for counts.
+    /// What is found in the range of this number, of `2^depth`: its first step that isn't sound, or at the end of
+    /// the last one that the node isn't spent. The steps before the range, which are taken for sound, are counted
+    /// in the room for counts.
     pub(crate) fn judge<C: HappenedBefore>(
         &self,
         ordered: &C,
         number: usize,
-        ranges: usize,
+        depth: u8,
         counts: &mut [usize],
     ) -> Option<SectionFault>
-        requires number { number < ranges }
-        requires few { ranges ≤ 16 }
+        requires number { number < 2 ^ depth }
+        requires depth { depth ≤ 4 }
         requires places { AreBelow (length (C.logs_of ordered.now)) self.now.tables }
         requires room { length counts.old ≡ length (C.logs_of ordered.now) }
         ensures places { length counts.new ≡ length counts.old }
-        ensures found { IsFoundFor (C.logs_of ordered.now) ranges number self.now result }
+        ensures found { IsFoundFor (C.logs_of ordered.now) depth number self.now result }
     {
         let section = self.section;
         let steps = section.steps.as_slice();
         let tables = self.tables.as_slice();
-        let from = begin_of(steps.len(), ranges, number);
-        let to = begin_of(steps.len(), ranges, number + 1);
+        let from = begin_of(0, steps.len(), depth, number);
+        let to = begin_of(0, steps.len(), depth, number + 1);
         count_before(steps, from, counts);
         if let Some(fault) = judge_range(ordered, tables, steps, from, to, counts) {
             return Some(fault);
         }
-        if number + 1 < ranges {
+        if number + 1 < range_count(depth) {
             return None;
         }
         let QueueHead::Spent = queue_head_at(tables, counts, section.spent) else {

@@ -15,8 +15,8 @@ loop-section-preserved g c =
     let task = c.index-tasks-section.result in
     let at = slice_get_read tasks _ k task refl (search rules) c.index-tasks-section.is in
     let none : c.loop-section.self-inside.found ≡ None = search rules in
-    let clear : IsFoundBy logs c.args.ranges c.args.number k tasks None =
-    subst (λ (f : Option UnsoundSection). IsFoundBy logs c.args.ranges c.args.number k tasks f) none
+    let clear : IsFoundBy logs c.args.depth c.args.number k tasks None =
+    subst (λ (f : Option UnsoundSection). IsFoundBy logs c.args.depth c.args.number k tasks f) none
     c.loop-section.invariant.found in
     elim c.match-judge.branch [
       | in-Some w ↦
@@ -30,13 +30,13 @@ loop-section-preserved g c =
               c.loop-section.self-inside.counts.ok.0,
               c.loop-section.invariant.places,
             );
-            found = subst (λ s. IsFoundBy logs c.args.ranges c.args.number (k + 1) tasks s.found)
+            found = subst (λ s. IsFoundBy logs c.args.depth c.args.number (k + 1) tasks s.found)
                 (sym w.self-inside-is) (
                   clear,
                   (
                     task,
                     at,
-                    subst (λ (f : Option SectionFault). IsFoundFor logs c.args.ranges c.args.number task
+                    subst (λ (f : Option SectionFault). IsFoundFor logs c.args.depth c.args.number task
                         f) w.in-Some.is c.judge.ensures.found,
                   ),
                 );
@@ -52,11 +52,11 @@ loop-section-preserved g c =
               c.loop-section.self-inside.counts.ok.0,
               c.loop-section.invariant.places,
             );
-            found = subst (λ s. IsFoundBy logs c.args.ranges c.args.number (k + 1) tasks s.found) (sym w.self-inside-is)
-                (subst (λ (f : Option UnsoundSection). IsFoundBy logs c.args.ranges c.args.number (k + 1) tasks f)
+            found = subst (λ s. IsFoundBy logs c.args.depth c.args.number (k + 1) tasks s.found) (sym w.self-inside-is)
+                (subst (λ (f : Option UnsoundSection). IsFoundBy logs c.args.depth c.args.number (k + 1) tasks f)
                 (sym none)
-                (clear_more logs c.args.ranges c.args.number k tasks clear task at
-                (subst (λ (f : Option SectionFault). IsFoundFor logs c.args.ranges c.args.number task f)
+                (clear_more logs c.args.depth c.args.number k tasks clear task at
+                (subst (λ (f : Option SectionFault). IsFoundFor logs c.args.depth c.args.number task f)
                 w.in_default.is c.judge.ensures.found)));
           }
     ]
@@ -65,5 +65,5 @@ pub returns : goal.returns
 returns g c =
     let end : c.loop-section.section ≡ length c.args.tasks.now =
     omega (arith, c.loop-section-test.false, c.loop-section.auto.section-end) in
-    subst (λ (n : ℕ). IsFoundBy (g.C.HappenedBefore.logs_of c.args.ordered.now) c.args.ranges c.args.number n
+    subst (λ (n : ℕ). IsFoundBy (g.C.HappenedBefore.logs_of c.args.ordered.now) c.args.depth c.args.number n
     c.args.tasks.now c.loop-section.self-inside.found) end c.loop-section.invariant.found
