@@ -19,7 +19,7 @@ use Rattle.ira_cert_text.specs.Certificate.{Section}
 use Rattle.ira_cert.specs.SoundSection.{IsSoundSection}
 use Rattle.ira_cert.proofs.NoCut.{sound_leaves_no_cut}
 use Rattle.ira_cand.specs.Meets.{Meets}
-use Rattle.ira_safety.specs.OneLeader.{Leads as LeadsAfter}
+use Rattle.ira_safety.specs.OneLeader.{Leads}
 use Rattle.ira_safety.proofs.Leaders.{one_leader_at_a_cut}
 use Rattle.ira_audit.specs.declared.answer.Answer.{Answer}
 use Rattle.ira_audit.specs.declared.answer.Answer.TheVariants.{Yes}
@@ -29,7 +29,8 @@ use Rattle.ira_audit.specs.CheckAnswer.{unsound, yes}
 use Rattle.ira_audit.specs.QuestionFitsLogs.{QuestionFitsLogs}
 use Rattle.ira_audit.specs.GoodLogs.{AreGood, AreGoodLogs}
 use Rattle.ira_audit.specs.RingAnswer.{IsRingAnswer, no_log, no_ring, unmatched, circled, stopped, yes as logs_yes}
-use Rattle.ira_audit.specs.Never.{Leads, NeverTwoLeaders, NoCaseIsMet, NoCutMeetsAPair, NoCutMeetsAny, NoMomentMeetsAny}
+use Rattle.ira_audit.specs.Never.{LeadsAtCut, NeverTwoLeaders, NoCaseIsMet, NoCutMeetsAPair, NoCutMeetsAny}
+use Rattle.ira_audit.specs.Never.{NoMomentMeetsAny}
 use Rattle.ira_audit.specs.Never.{YesMeansNoCaseIsMet, YesWithoutQuestion}
 use Rattle.ira_audit.proofs.LogTexts.{one_list}
 use Rattle.ira_audit.proofs.Places.{different_places}
@@ -126,7 +127,7 @@ good_logs texts logs a (stopped ls place f t r o h e) is texts_are = absurd cc
 good_logs texts logs a (logs_yes ls good e) is texts_are =
     subst AreGood (one_list texts ls logs good.texts_are texts_are) good.are_good
 
-leads_there : (logs : List Log) (cut : List ℕ) (i : ℕ) → Leads logs cut i → LeadsAfter logs i (slice_index cut i)
+leads_there : (logs : List Log) (cut : List ℕ) (i : ℕ) → LeadsAtCut logs cut i → Leads logs i (slice_index cut i)
 leads_there logs cut i (log, at, holds) =
     let phase : holds.state.phase ≡ Leader holds.holds.0 holds.holds.1 = holds.holds.2 in
     record {

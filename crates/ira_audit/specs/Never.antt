@@ -51,7 +51,7 @@ YesMeansNoCaseIsMet =
     → NoCaseIsMet texts question certificate
 
 -- the cut says how many events each node has made after t places of the order
-pub record IsMoment (logs : List Log) (order : List ℕ) (t : ℕ) (cut : List ℕ) : Type 0 where
+pub record IsCutAfter (logs : List Log) (order : List ℕ) (t : ℕ) (cut : List ℕ) : Type 0 where
   pub within : t ≤ length order
   pub places : length cut ≡ length logs
   pub made : (i : ℕ) → i < length logs → slice_index cut i ≡ occurrences (take t order) i
@@ -61,18 +61,19 @@ abbrev pub NoMomentMeetsAny : Type 0
 NoMomentMeetsAny =
     (texts : List (List ℕ)) (question certificate : List ℕ) (logs : List Log) (asked : QuestionCases)
     → IsCheckAnswer texts question certificate Yes → AreLogTexts texts logs → IsQuestionText question asked
-    → (order cut : List ℕ) (t : ℕ) (case : List Conjunct) → IsOrder logs order → IsMoment logs order t cut
+    → (order cut : List ℕ) (t : ℕ) (case : List Conjunct) → IsOrder logs order → IsCutAfter logs order t cut
     → Contains asked.cases case → ¬ (Meets logs case cut)
 
 -- the node is a leader at the cut
-abbrev pub Leads : List Log → List ℕ → ℕ → Type 0
-Leads logs cut i = (log : Log) × (slice_get logs i ≡ Some log) × HoldsAt log leader (slice_index cut i)
+abbrev pub LeadsAtCut : List Log → List ℕ → ℕ → Type 0
+LeadsAtCut logs cut i = (log : Log) × (slice_get logs i ≡ Some log) × HoldsAt log leader (slice_index cut i)
 
 -- after a yes no consistent cut has two nodes that lead
 abbrev pub NeverTwoLeaders : Type 0
 NeverTwoLeaders =
     (texts : List (List ℕ)) (logs : List Log) → IsRingAnswer texts Yes → AreLogTexts texts logs
-    → (cut : List ℕ) (i j : ℕ) → IsConsistentCut logs cut → i ≢ j → Leads logs cut i → ¬ (Leads logs cut j)
+    → (cut : List ℕ) (i j : ℕ) → IsConsistentCut logs cut → i ≢ j → LeadsAtCut logs cut i
+    → ¬ (LeadsAtCut logs cut j)
 
 -- so none meets a case of the question of all pairs
 abbrev pub NoCutMeetsAPair : Type 0

@@ -1,4 +1,4 @@
--- Helpers, no definitions: the positions of the states that pass a test.
+-- The positions of the states that pass a test.
 use Rattle.std.specs.Prelude.{ℕ, Bool, List, map, filter}
 use Rattle.ira_node.specs.declared.node_state.NodeState.{NodeState}
 

@@ -17,7 +17,7 @@ use Rattle.ira_cert_text.specs.CertTextFault.{BeginsAsStep, OutsideFault, too_ma
 use Rattle.ira_cert_text.specs.CertTextFault.{trailing, InsideFault, too_many_steps, no_step_or_spent, step_range}
 use Rattle.ira_cert_text.specs.CertTextFault.{spent_range, RestOutsideFault, RestInsideFault, BeginsWithSections}
 use Rattle.ira_cert_text.specs.CertTextFault.{BeginsWithSteps, lines_of, SectionsFault, outside, inside}
-use Rattle.ira_cert_text.proofs.Turns.{step_no_spent, step_good, spent_good, Stage, Turn, opens, drops, closes, Leads}
+use Rattle.ira_cert_text.proofs.Turns.{step_no_spent, step_good, spent_good, Stage, Turn, opens, drops, closes, TurnsTo}
 use Rattle.ira_cert_text.proofs.Turns.{Stops, stops_same, turn_is_one_line, leads_on, steps_lead, sections_lead}
 
 step_begins : (line : List ℕ) (s : CertStep) → IsStepLine line s → BeginsAsStep line
@@ -121,19 +121,19 @@ module _ (nodes : ℕ) (small : nodes ≤ MAX_NODES) where
   -- ---- what a text begins with is where its good lines lead
 
   sections_reached : (text : List ℕ) (ss : List Section) (rest : List ℕ) → BeginsWithSections nodes text ss rest
-      → (k : ℕ) × Leads nodes small k ([], None) text (ss, None) rest
+      → (k : ℕ) × TurnsTo nodes small k ([], None) text (ss, None) rest
   sections_reached text ss rest h =
       let l = sections_lead nodes small [] ss h.front rest h.sections_are (omega (arith, h.count)) h.valid in
-      (l.0, subst (λ w. Leads nodes small l.0 ([], None) w (ss, None) rest) (sym h.parts) l.1)
+      (l.0, subst (λ w. TurnsTo nodes small l.0 ([], None) w (ss, None) rest) (sym h.parts) l.1)
 
   steps_reached : (text : List ℕ) (ss : List Section) (steps : List CertStep) (body rest : List ℕ)
       → BeginsWithSections nodes text ss (codes "section\n" ++ body) → length ss < MAX_SECTIONS
       → BeginsWithSteps nodes body steps rest
-      → (k : ℕ) × Leads nodes small k ([], None) text (ss, Some steps) rest
+      → (k : ℕ) × TurnsTo nodes small k ([], None) text (ss, Some steps) rest
   steps_reached text ss steps body rest h few b =
       let first = sections_reached text ss (codes "section\n" ++ body) h in
       let lines = steps_lead nodes small ss [] steps b.lines rest b.steps_are (omega (arith, b.count)) b.valid in
-      let inner : (k : ℕ) × Leads nodes small k (ss, None) (codes "section\n" ++ body) (ss, Some steps) rest = (
+      let inner : (k : ℕ) × TurnsTo nodes small k (ss, None) (codes "section\n" ++ body) (ss, Some steps) rest = (
         suc lines.0,
         (
           codes "section",

@@ -104,17 +104,18 @@ module _ (nodes : ℕ) (small : nodes ≤ MAX_NODES) where
       ∙ sym s'
 
   -- so many good lines lead from this stage and text to that stage and what is left of the text
-  abbrev pub Leads : ℕ → Stage → List ℕ → Stage → List ℕ → Type 0
-  Leads zero a text b rest = (a ≡ b) × (text ≡ rest)
-  Leads (suc k) a text b rest =
+  abbrev pub TurnsTo : ℕ → Stage → List ℕ → Stage → List ℕ → Type 0
+  TurnsTo zero a text b rest = (a ≡ b) × (text ≡ rest)
+  TurnsTo (suc k) a text b rest =
       (line : List ℕ) × (more : List ℕ) × (c : Stage) × (text ≡ line ++ codes "\n" ++ more) × Turn a line c
-      × Leads k c more b rest
+      × TurnsTo k c more b rest
 
   -- no good line stands in front
   abbrev pub Stops : Stage → List ℕ → Type 0
   Stops a text = (line more : List ℕ) (b : Stage) → text ≡ line ++ codes "\n" ++ more → Turn a line b → ⊥
 
-  pub stops_same : (j k : ℕ) (a b c : Stage) (text r s : List ℕ) → Leads j a text b r → Leads k a text c s → Stops b r
+  pub stops_same : (j k : ℕ) (a b c : Stage) (text r s : List ℕ) → TurnsTo j a text b r → TurnsTo k a text c s
+      → Stops b r
       → Stops c s → (b ≡ c) × (r ≡ s)
   stops_same zero zero a b c text r s h l p q = (sym h.0 ∙ l.0, sym h.1 ∙ l.1)
   stops_same zero (suc k) a b c text r s h l p q =
@@ -125,13 +126,15 @@ module _ (nodes : ℕ) (small : nodes ≤ MAX_NODES) where
       let lines = line_same h.0 l.0 h.1 l.1 (turn_is_one_line a h.0 h.2 h.4) (turn_is_one_line a l.0 l.2 l.4) (sym h.3
       ∙ l.3) in
       let stage : h.2 ≡ l.2 = turns_same a l.0 h.2 l.2 (subst (λ x. Turn a x h.2) lines.0 h.4) l.4 in
-      stops_same j k l.2 b c l.1 r s (subst (λ x. Leads j l.2 x b r) lines.1 (subst (λ x. Leads j x h.1 b r) stage h.5))
+      stops_same j k l.2 b c l.1 r s
+      (subst (λ x. TurnsTo j l.2 x b r) lines.1 (subst (λ x. TurnsTo j x h.1 b r) stage h.5))
       l.5 p q
 
-  pub leads_on : (j : ℕ) (a b c : Stage) (text r : List ℕ) (s : List ℕ) → Leads j a text b r → (k : ℕ) × Leads k b r c s
-      → (k : ℕ) × Leads k a text c s
+  pub leads_on : (j : ℕ) (a b c : Stage) (text r : List ℕ) (s : List ℕ) → TurnsTo j a text b r
+      → (k : ℕ) × TurnsTo k b r c s
+      → (k : ℕ) × TurnsTo k a text c s
   leads_on zero a b c text r s h l =
-      (l.0, subst (λ x. Leads l.0 a x c s) (sym h.1) (subst (λ x. Leads l.0 x r c s) (sym h.0) l.1))
+      (l.0, subst (λ x. TurnsTo l.0 a x c s) (sym h.1) (subst (λ x. TurnsTo l.0 x r c s) (sym h.0) l.1))
   leads_on (suc j) a b c text r s h l =
       let later = leads_on j h.2 b c h.1 r s h.5 l in
       (suc later.0, (h.0, h.1, h.2, h.3, h.4, later.1))
@@ -140,7 +143,7 @@ module _ (nodes : ℕ) (small : nodes ≤ MAX_NODES) where
 
   pub steps_lead : (closed : List Section) (done steps : List CertStep) (lines rest : List ℕ) → AreStepLines lines steps
       → length done + length steps ≤ MAX_STEPS → All (IsStep nodes) steps
-      → (k : ℕ) × Leads k (closed, Some done) (lines ++ rest) (closed, Some (done ++ steps)) rest
+      → (k : ℕ) × TurnsTo k (closed, Some done) (lines ++ rest) (closed, Some (done ++ steps)) rest
   steps_lead closed done [] lines rest h few good =
       (zero, (ap (λ x. (closed, Some x)) (sym (append-nil done)), ap (λ w. w ++ rest) h))
   steps_lead closed done (s ∷ ss) lines rest h few good =
@@ -154,17 +157,17 @@ module _ (nodes : ℕ) (small : nodes ≤ MAX_NODES) where
           (closed, Some (done ++ s ∷ [])),
           ap (λ w. w ++ rest) h.2 ∙ simp append_assoc,
           drops done s refl h.3 (omega (arith, few)) (All-head (IsStep nodes) s ss good) refl,
-          subst (λ x. Leads later.0 (closed, Some (done ++ s ∷ [])) (h.1 ++ rest) (closed, Some x) rest) next later.1,
+          subst (λ x. TurnsTo later.0 (closed, Some (done ++ s ∷ [])) (h.1 ++ rest) (closed, Some x) rest) next later.1,
         ),
       )
 
   section_leads : (closed : List Section) (s : Section) (text rest : List ℕ) → IsSectionText text s
       → length closed ≢ MAX_SECTIONS → IsSection nodes s
-      → (k : ℕ) × Leads k (closed, None) (text ++ rest) (closed ++ s ∷ [], None) rest
+      → (k : ℕ) × TurnsTo k (closed, None) (text ++ rest) (closed ++ s ∷ [], None) rest
   section_leads closed s text rest h few good =
       let spent = h.spent ++ codes "\n" ++ rest in
       let steps = steps_lead closed [] s.steps h.steps spent h.steps_are (omega (arith, good.count)) good.steps in
-      let last : (k : ℕ) × Leads k (closed, Some s.steps) spent (closed ++ s ∷ [], None) rest = (
+      let last : (k : ℕ) × TurnsTo k (closed, Some s.steps) spent (closed ++ s ∷ [], None) rest = (
         suc zero,
         (
           h.spent,
@@ -192,7 +195,7 @@ module _ (nodes : ℕ) (small : nodes ≤ MAX_NODES) where
 
   pub sections_lead : (closed ss : List Section) (text rest : List ℕ) → AreSectionTexts text ss
       → length closed + length ss ≤ MAX_SECTIONS → All (IsSection nodes) ss
-      → (k : ℕ) × Leads k (closed, None) (text ++ rest) (closed ++ ss, None) rest
+      → (k : ℕ) × TurnsTo k (closed, None) (text ++ rest) (closed ++ ss, None) rest
   sections_lead closed [] text rest h few good =
       (zero, (ap (λ x. (x, None)) (sym (append-nil closed)), ap (λ w. w ++ rest) h))
   sections_lead closed (s ∷ ss) text rest h few good =
@@ -207,6 +210,6 @@ module _ (nodes : ℕ) (small : nodes ≤ MAX_NODES) where
       ) (h.0 ++ (h.1 ++ rest)) (h.1 ++ rest) rest first.1 later in
       let whole : text ++ rest ≡ h.0 ++ (h.1 ++ rest) = ap (λ w. w ++ rest) h.2 ∙ append_assoc h.0 h.1 rest in (
         both.0,
-        subst (λ x. Leads both.0 (closed, None) (text ++ rest) (x, None) rest) next
-            (subst (λ w. Leads both.0 (closed, None) w (closed ++ s ∷ [] ++ ss, None) rest) (sym whole) both.1),
+        subst (λ x. TurnsTo both.0 (closed, None) (text ++ rest) (x, None) rest) next
+            (subst (λ w. TurnsTo both.0 (closed, None) w (closed ++ s ∷ [] ++ ss, None) rest) (sym whole) both.1),
       )

@@ -24,3 +24,7 @@ MAX_RECORDS = 100000
 -- the most bytes that a text has: 64 MiB
 abbrev pub MAX_TEXT : ℕ
 MAX_TEXT = 67108864
+
+-- the most bytes that a piece of a text has which is put together before it is written
+abbrev pub MAX_LINE : ℕ
+MAX_LINE = 128

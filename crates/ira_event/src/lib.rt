@@ -36,7 +36,7 @@ pub use events::Events;
 pub use head_fault::HeadFault;
 pub use laws::{a_text_has_one_answer, each_log_has_one_text, no_text_is_two_logs};
 pub use limits::{MAX_NODES, MAX_NUMBER, MAX_RECORDS, MAX_TEXT, MAX_VERSION, MAX_VERSION_1_NODES};
-pub use line::{Line, MAX_LINE};
+pub use line::Line;
 pub use listed::Listed;
 pub use load::Load;
 pub use log_fault::LogFault;

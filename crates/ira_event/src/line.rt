@@ -1,6 +1,6 @@
 ghost use Rattle.std.specs.Prelude.{◌≡◌, ◌+◌, ◌≤◌, [], ◌++◌, length, decimal};
+ghost use Rattle.ira_event.specs.Limits.{MAX_LINE};
 ghost use Rattle.ira_event.specs.Sink.{Wrote};
-ghost use Rattle.ira_event.specs.declared.line.TheConstants.{MAX_LINE};
 
 use crate::sink::Sink;
 use crate::write::{WriteFault, write_bytes};
@@ -8,7 +8,7 @@ use itoa::Buffer;
 use std::marker::Model;
 
 /// The most bytes that a line on the stack has.
-pub const MAX_LINE: usize = 128;
+const MAX_LINE: usize = 128;
 
 /// A short piece of a text, as one line, that is put together on the stack and then written at once:
 /// one push where the sink takes it whole. Contracts see it as the list of its bytes.
@@ -20,7 +20,7 @@ pub struct Line {
 
 impl Model for Line {
     ghost use Rattle.std.specs.Prelude.{ℕ, ◌≤◌, List, take};
-    ghost use Rattle.ira_event.specs.declared.line.TheConstants.{MAX_LINE};
+    ghost use Rattle.ira_event.specs.Limits.{MAX_LINE};
 
     ghost Value = { List ℕ };
 

@@ -18,7 +18,7 @@ abbrev pub AnswersFaults : Result QuestionCases AskFault → List ℕ → Type 0
 AnswersFaults result text = (f : AskFault) → UnlessErr result OutOfMemory ((result ≡ Err f) ↔ QuestionTextFault text f)
 
 -- whatever memory does, a text that is too long, or else has no head, is answered so
-pub record AnswersBadQueues (result : Result QuestionCases AskFault) (text : List ℕ) : Type 0 where
+pub record AnswersEarlyFaults (result : Result QuestionCases AskFault) (text : List ℕ) : Type 0 where
   pub too_long : MAX_TEXT < length text → result ≡ Err TooLong
   pub no_head : length text ≤ MAX_TEXT → ((nodes : ℕ) (rest : List ℕ) → ¬ (BeginsWithQuestionHead text nodes rest))
       → result ≡ Err Head

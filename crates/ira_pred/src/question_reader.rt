@@ -1,6 +1,6 @@
 ghost use Rattle.std.specs.Prelude.{◌≡◌};
 ghost use Rattle.ira_event.specs.RingSize.{IsRingSize};
-ghost use Rattle.ira_pred.specs.QuestionAnswer.{AnswersQuestions, AnswersFaults, AnswersBadQueues};
+ghost use Rattle.ira_pred.specs.QuestionAnswer.{AnswersQuestions, AnswersFaults, AnswersEarlyFaults};
 ghost use Rattle.ira_pred.specs.QuestionLines.{CasesRead};
 
 use crate::ask_fault::AskFault;
@@ -17,7 +17,7 @@ use std::mem;
 pub fn read_question<A: Allocator + Clone>(alloc: A, text: &[u8]) -> Result<Question<A>, AskFault>
     ensures ok { AnswersQuestions result text.now }
     ensures err { AnswersFaults result text.now }
-    ensures queues { AnswersBadQueues result text.now }
+    ensures early { AnswersEarlyFaults result text.now }
 {
     if text.len() > MAX_TEXT {
         return Err(AskFault::TooLong);
