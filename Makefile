@@ -42,6 +42,8 @@ help:
 	@echo '    version     the logic that the version, README.md and the toolchain name'
 	@echo '    pictures    pictures of the examples and of recorded rings, read back and held against the logs'
 	@echo '    json        lines of JSON, in the same way'
+	@echo '    plain       plain pages of show and explain, in the same way'
+	@echo '    refusals    the first growths of memory and each start of a thread refused in turn, of a few command lines'
 	@echo '    recorders   elections by each recorder of examples/recorders'
 	@echo '    sweep       each growth of memory and each start of a thread refused in turn, each read and write of a file'
 	@echo '                interrupted, one open file at a time'
@@ -113,7 +115,7 @@ dist: ira
 test:
 	@$(needs_kit)
 	rt ci
-	@sh checks/all.sh crates/ira/out/ira definitions names examples limits pages completions version pictures json
+	@sh checks/all.sh crates/ira/out/ira definitions names examples limits pages completions version pictures json plain refusals
 
 # What holds the program from outside: all of it, or what CHECKS names.
 checks: ira

@@ -9,7 +9,7 @@ ira=$(realpath "$1") || exit 2
 [ -x "$ira" ] || { echo "checks: no program at $1"; exit 2; }
 cd "$(dirname "$0")" || exit 2
 shift
-all='definitions names examples limits pages completions version pictures json recorders sweep'
+all='definitions names examples limits pages completions version pictures json plain refusals recorders sweep'
 said=$(mktemp) || exit 2
 trap 'rm -f "$said"' EXIT
 
@@ -23,14 +23,19 @@ done
 # What a check needs and isn't there.
 lacks() {
     case $1 in
-    pictures | json | sweep) command -v python3 > /dev/null || { echo 'no python3'; return; } ;;
+    pictures | json | plain | refusals | sweep) command -v python3 > /dev/null || { echo 'no python3'; return; } ;;
     esac
     case $1 in
-    sweep)
-        [ -f "$ira.o" ] || { echo 'no object file beside the program, as make ira leaves it'; return; }
+    refusals | sweep)
+        [ -f "$ira.o" ] || ldd "$ira" > /dev/null 2>&1 || { echo 'a static program, without the object file that make ira leaves'; return; }
         command -v rt > /dev/null || echo 'no Rattle kit'
         ;;
     esac
+}
+
+# The object file of the program, where it is there, else the program.
+of_ira() {
+    if [ -f "$ira.o" ]; then echo "$ira.o"; else echo "$ira"; fi
 }
 
 check() {
@@ -39,7 +44,9 @@ check() {
     examples | limits | pages | completions | version | recorders) sh "$1.sh" "$ira" ;;
     pictures) python3 -B pictures.py "$ira" ;;
     json) python3 -B json_lines.py "$ira" ;;
-    sweep) python3 -B sweep.py "$ira.o" ;;
+    plain) python3 -B plain_pages.py "$ira" ;;
+    refusals) python3 -B sweep.py --short "$(of_ira)" ;;
+    sweep) python3 -B sweep.py "$(of_ira)" ;;
     esac
 }
 

@@ -2,15 +2,16 @@
 then each start of a thread. Then it interrupts each read and write of a file in turn, and lets the program have but one
 file open at a time.
 
-python3 checks/sweep.py IRA.o: links this object, and runs each command line with its first growth refused, then with
-its second, and so on until no run meets a refusal. Each run must answer as with ample memory, or with status 3 and
+python3 checks/sweep.py [--short] IRA: IRA is a dynamically linked program, or the object file of one (IRA.o), which is
+linked first. Each command line runs with its first growth refused, then with its second, and so on until no run meets a
+refusal; with --short few command lines run, each with few of its growths refused, but each start of a thread. Each run must answer as with ample memory, or with status 3 and
 `ira: out of memory`, or with status 2 and `ira: run refused 3`, which says that a thread couldn't be started. Where
 it gives up it has printed nothing, or all (`decide` makes the certificate after its findings, `draw` the picture after its
 line), or where it prints lines block by block, as `show --events`, a first part of them; and each file that it wrote is a
 first part of what it should be. An interrupted read or write is tried again, and a file that can't be opened
 while others are is opened later, so these runs answer as with ample memory.
 
-The program is linked as the kit does, over the C library of the machine, whose calls a preloaded library can stand
+An object is linked as the kit does, over the C library of the machine, whose calls a preloaded library can stand
 before. It needs glibc, and the clang of the Rattle kit."""
 
 import os, resource, shutil, subprocess, sys, tempfile
@@ -68,6 +69,9 @@ LINES = [
     ["frob"],
     ["--help"],
 ]
+# Those of --short, and which of their growths are refused: the first ones, some of which are the command line library's.
+SHORT = [["logs", "0.log", "1.log"], [*CHECK, "0.log", "1.log"], RUN, ["frob"]]
+FEW = 40
 
 
 def contents(folder):
@@ -131,11 +135,11 @@ def has_given_up(words, found, ample):
     )
 
 
-def swept(ira, words, refused, shim):
-    """How many runs of a command line told of a refusal, and how many gave a wrong answer."""
+def swept(ira, words, refused, shim, most):
+    """How many runs of a command line told of a refusal, and how many gave a wrong answer, of so many runs at most."""
     ample = served(ira, words, refused, 0, shim)
     number = told = wrong = untouched = 0
-    while untouched < UNTOUCHED:
+    while untouched < UNTOUCHED and number < most:
         number += 1
         found = served(ira, words, refused, number, shim)
         if found == ample:
@@ -159,16 +163,20 @@ def linked(program, folder):
     return ira
 
 
-def main(program):
+def main(program, is_short):
     all_told = all_moves = all_wrong = 0
+    lines, most = (SHORT, FEW) if is_short else (LINES, float("inf"))
     with tempfile.TemporaryDirectory() as folder:
-        ira = linked(program, folder)
+        ira = linked(program, folder) if program.endswith(".o") else program
         shim = f"{folder}/refuse_nth.so"
         clang = [f"{KIT}/toolchain/bin/clang", "-shared", "-fPIC", "-nostdlib", "-fuse-ld=lld"]
         subprocess.run([*clang, "-o", shim, f"{HERE}/refuse_nth.c"], check=True)
-        for words in LINES:
-            growths, wrong = swept(ira, words, "REFUSE", shim)
-            starts, also_wrong = swept(ira, words, "REFUSE_THREAD", shim)
+        for words in lines:
+            growths, wrong = swept(ira, words, "REFUSE", shim, most)
+            starts, also_wrong = swept(ira, words, "REFUSE_THREAD", shim, most)
+            if is_short and not growths:
+                wrong += 1
+                print(f"WRONG: ira {' '.join(words)}: no growth is refused")
             ample = served(ira, words, "REFUSE", 0, shim)
             moves, other = interrupted(ira, words, ample, shim)
             all_told += growths + starts
@@ -180,4 +188,4 @@ def main(program):
     return min(all_wrong, 1)
 
 
-sys.exit(main(os.path.abspath(sys.argv[1])))
+sys.exit(main(os.path.abspath(sys.argv[-1]), "--short" in sys.argv))
