@@ -6,8 +6,8 @@
 # A row that names a folder is judged by `ira logs` on its logs, one that names a file by `ira` alone, one that names
 # a question and its certificate by `ira check` on these and the logs of their folder, and one that names a question alone
 # by `ira decide` on it and these logs. The commands of from_run_to_check.txt, explain.txt,
-# explain_ring.txt, explain_question.txt, explain_json.txt, show.txt, show_json.txt and five_nodes.txt run in a folder of
-# their own.
+# explain_ring.txt, explain_question.txt, explain_json.txt, show.txt, show_json.txt, five_nodes.txt and commands.txt run in a
+# folder of their own.
 
 ira=$(realpath "$1") || exit 2
 [ -x "$ira" ] || { echo "examples: no program at $1"; exit 2; }
@@ -116,6 +116,26 @@ cert() {
     text 'ircert 1' "$1" "$2" > c.cert
 }
 
+# Runs ira, which must refuse its words, and prints why. The usage after it, where that is the one in file usage, is left out.
+refused() {
+    ira "$@" > printed 2> said
+    [ "$?" = 2 ] && [ ! -s printed ] || echo 'not refused'
+    if [ -f usage ] && tail -n "$(wc -l < usage)" said | cmp -s - usage; then
+        head -n "-$(wc -l < usage)" said | sed '$d'
+        echo '(the usage)'
+    else
+        cat said
+    fi
+}
+
+# Runs ira, and prints after its output what it says on standard error, each line after `!`, and its status.
+answer() {
+    ira "$@" 2> said
+    set -- $?
+    sed 's/^/! /' said
+    echo "= $1"
+}
+
 # Runs each line after `$`, and prints it, what it prints and its status; a line after `#` is printed alone.
 replay() {
     ira() { "$ira" "$@" < /dev/null; }
@@ -133,7 +153,7 @@ replay() {
 
 examples=$PWD
 for talk in from_run_to_check.txt explain.txt explain_ring.txt explain_question.txt explain_json.txt \
-    show.txt show_json.txt five_nodes.txt; do
+    show.txt show_json.txt five_nodes.txt commands.txt; do
     folder=$(mktemp -d)
     if (cd "$folder" && replay < "$examples/$talk") | diff "$examples/$talk" -; then
         passed=$((passed + 1))

@@ -41,33 +41,6 @@ module _ {X : Type 0} (h : X → File) (xs : List X) (i : ℕ) (d : X) (name : L
   pub none_of_more : (h (get_or xs i d)).name ≢ name → All (λ file. file.name ≢ name) (take (i + 1) (map h xs))
   none_of_more other = All-more (λ file. file.name ≢ name) (map h xs) i (h d) within none (rw at_i other)
 
-module _ {X : Type 0} (h : X → Option File) (xs : List X) (i : ℕ) (d : X) (name : List ℕ) (l : i < length xs)
-    (none : All (λ file. file.name ≢ name) (filter_map h (take i xs))) where
-  pub first_of_some : (bytes : List ℕ) → h (get_or xs i d) ≡ Some (record { name = name; bytes = bytes })
-      → HasFirst (filter_map h xs) name bytes
-  first_of_some bytes is = record {
-    before = filter_map h (take i xs);
-    after = filter_map h (drop (i + 1) xs);
-    parts =
-        ap (filter_map h) (parts_at xs i d l)
-        ∙ filter_map-append h (take i xs) (get_or xs i d ∷ drop (i + 1) xs)
-        ∙ ap (λ (o : Option File). filter_map h (take i xs) ++ cons_option o (filter_map h (drop (i + 1) xs))) is;
-    others = none;
-  }
-
-  one : (o : Option File) → ((file : File) → o ≡ Some file → file.name ≢ name)
-      → All (λ file. file.name ≢ name) (cons_option o [])
-  one None other = All-nil (λ file. file.name ≢ name)
-  one (Some file) other = All-cons (λ file. file.name ≢ name) file [] (other file refl)
-      (All-nil (λ file. file.name ≢ name))
-
-  pub none_of_some_more : ((file : File) → h (get_or xs i d) ≡ Some file → file.name ≢ name)
-      → All (λ file. file.name ≢ name) (filter_map h (take (i + 1) xs))
-  none_of_some_more other =
-      rw (take_more xs i d l, filter_map-append h (take i xs) (get_or xs i d ∷ []))
-      (All-append (λ file. file.name ≢ name) (filter_map h (take i xs)) (cons_option (h (get_or xs i d)) []) none
-      (one (h (get_or xs i d)) other))
-
 -- the first of a list is the first after files of other names
 pub first_after : (a b : List File) (name bytes : List ℕ) → All (λ file. file.name ≢ name) a → HasFirst b name bytes
     → HasFirst (a ++ b) name bytes

@@ -15,29 +15,11 @@ use std::sync::Wait;
 use std::thread::Threads;
 use std::time::Clock;
 
-/// A file in memory.
-#[derive(Clone, Copy)]
-pub(crate) enum File<'a> {
-    Text(&'a str),
-    /// It can't be opened, or a read of it fails.
-    Unreadable,
-    /// It can't be made.
-    Locked,
-    /// It is made, and takes no byte.
-    Full,
-    /// There is no memory to make it.
-    NoMemory,
-    /// It takes its bytes into a buffer, and fails when it is closed.
-    Unflushed,
-}
-
 /// A file that is being written.
 #[derive(Drop)]
 pub(crate) struct NewFile {
     name: String,
     bytes: Vec<u8>,
-    is_full: bool,
-    is_unflushed: bool,
     failures: u64,
 }
 
@@ -47,7 +29,7 @@ impl Sink for NewFile {
     ghost state = { λ s. record { taken = Some s.bytes.items; failures = s.failures } };
 
     fn push(&mut self, bytes: &[u8]) -> Result<usize, SinkFault> {
-        if self.is_full || self.bytes.extend_from_slice(bytes).is_err() {
+        if self.bytes.extend_from_slice(bytes).is_err() {
             self.failures = self.failures.saturating_add(1);
             return Err(SinkFault);
         }
@@ -55,44 +37,34 @@ impl Sink for NewFile {
     }
 }
 
-/// Files under their names, and those that were written, each when it was closed. A file that was written
+/// Texts under their names, and the files that were written, each when it was closed. A file that was written
 /// is read back.
 #[derive(Drop)]
 pub(crate) struct MemoryShelf<'a> {
     alloc: Global,
-    files: &'a [(&'a str, File<'a>)],
+    files: &'a [(&'a str, &'a str)],
     written: Vec<NewFile>,
 }
 
 impl<'a> Model for MemoryShelf<'a> {
-    ghost use Rattle.std.specs.Prelude.{None, Some, filter_map, map, string_bytes};
+    ghost use Rattle.std.specs.Prelude.{map, string_bytes};
     ghost use Rattle.ira_main_tests.specs.MemoryFiles.{MemoryFiles};
-    ghost use Rattle.ira_main_tests.specs.declared.fakes.File.TheVariants as file;
 
     ghost Value = { MemoryFiles };
 
     ghost view = { λ s. record {
       written = map (λ f. record { name = string_bytes f.name; bytes = f.bytes.items }) s.written.items;
-      given = filter_map
-          (λ f. elim f.1 [
-            | file.Text text ↦ Some (record { name = f.0.now; bytes = text.now })
-            | _ ↦ None
-          ]) s.files.now;
+      given = map (λ f. record { name = f.0.now; bytes = f.1.now }) s.files.now;
     } };
 }
 
 impl<'a> MemoryShelf<'a> {
-    pub(crate) fn new(alloc: Global, files: &'a [(&'a str, File<'a>)]) -> MemoryShelf<'a> {
+    pub(crate) fn new(alloc: Global, files: &'a [(&'a str, &'a str)]) -> MemoryShelf<'a> {
         MemoryShelf {
             alloc,
             files,
             written: Vec::new(alloc),
         }
-    }
-
-    fn file(&self, name: &str) -> Option<File<'a>> {
-        let (_, file) = self.files.iter().find(|file| file.0 == name)?;
-        Some(*file)
     }
 
     /// The bytes of the first file of this name that was written.
@@ -109,17 +81,14 @@ impl<'a> MemoryShelf<'a> {
         None
     }
 
-    /// The bytes of the first file of this name that is given, where it has a text.
+    /// The bytes of the first file of this name that is given.
     fn bytes_given(&self, name: &str) -> Option<&[u8]>
         ensures { IfSome result (λ bytes. HasFirst self.now.given name.now bytes.now) }
     {
         for i in 0..self.files.len() {
-            let (given, file) = self.files[i];
+            let (given, text) = self.files[i];
             if given == name {
-                return match file {
-                    File::Text(text) => Some(text.as_bytes()),
-                    _ => None,
-                };
+                return Some(text.as_bytes());
             }
         }
         None
@@ -143,13 +112,6 @@ impl<'a> MemoryShelf<'a> {
             })
     }
 
-    /// Whether all files that were written begin so.
-    pub(crate) fn written_begin(&self, first: &[u8]) -> bool {
-        self.written
-            .iter()
-            .all(|file| file.bytes.starts_with(first))
-    }
-
     /// Whether one file was written, a picture of this name that has these words.
     pub(crate) fn has_drawn(&self, name: &str, words: &[&str]) -> bool {
         let Some(Ok(picture)) = self.bytes_written(name).map(str::from_utf8) else {
@@ -159,11 +121,6 @@ impl<'a> MemoryShelf<'a> {
             && picture.starts_with("<svg ")
             && picture.ends_with("</svg>\n")
             && words.iter().all(|held| picture.contains(*held))
-    }
-
-    /// Compares the files that were written, in their order.
-    pub(crate) fn assert_written(&self, rt: &impl Abort, files: &[(&str, &str)]) {
-        assert!(rt; self.has_written(files));
     }
 }
 
@@ -202,25 +159,14 @@ impl Shelf for MemoryShelf<'_> {
         (λ _. new.written ≡ old.written) };
 
     fn create(&mut self, name: &str) -> Result<NewFile, ShelfFault> {
-        let file = self.file(name);
-        match file {
-            Some(File::Locked) => return Err(ShelfFault::Device),
-            Some(File::NoMemory) => return Err(ShelfFault::OutOfMemory),
-            _ => {}
-        }
         Ok(NewFile {
             name: String::from_str(self.alloc, name)?,
             bytes: Vec::new(self.alloc),
-            is_full: matches!(file, Some(File::Full)),
-            is_unflushed: matches!(file, Some(File::Unflushed)),
             failures: 0,
         })
     }
 
     fn close(&mut self, file: NewFile) -> Result<(), ShelfFault> {
-        if file.is_unflushed {
-            return Err(ShelfFault::Device);
-        }
         match self.written.push(file) {
             Ok(()) => Ok(()),
             Err(_) => Err(ShelfFault::OutOfMemory),
@@ -319,50 +265,19 @@ where
     served(rt, memory, words, shelf, input, fails)
 }
 
-/// Serves these words over this shelf and input, and compares the status and what was written to both
-/// streams.
-pub(crate) fn assert_served_on(
-    rt: &(impl Abort + AllocGlobal + Threads + Wait + Clock + Sync),
-    words: &[&str],
-    shelf: &mut MemoryShelf<'_>,
-    input: &mut CountingReader<Input<'_>>,
-    status: u8,
-    out: &str,
-    err: &str,
-) {
-    let found = served_amply(rt, words, shelf, input, [NEVER, NEVER]);
-    assert_eq!(rt; found.out.bytes(), out.as_bytes());
-    assert_eq!(rt; found.err.bytes(), err.as_bytes());
-    assert_eq!(rt; found.status, status);
-}
-
-/// The same on a shelf with these files, where no file is written.
+/// Serves these words over this input, where no file is given and none is written, and compares the status and what was
+/// written to both streams.
 pub(crate) fn assert_served(
     rt: &(impl Abort + AllocGlobal + Threads + Wait + Clock + Sync),
     words: &[&str],
-    files: &[(&str, File<'_>)],
     input: &mut CountingReader<Input<'_>>,
     status: u8,
     out: &str,
     err: &str,
 ) {
-    let mut shelf = MemoryShelf::new(rt.alloc(), files);
-    assert_served_on(rt, words, &mut shelf, input, status, out, err);
-    shelf.assert_written(rt, &[]);
-}
-
-/// The same on a shelf with these files, where these are written and the input isn't read.
-pub(crate) fn assert_written(
-    rt: &(impl Abort + AllocGlobal + Threads + Wait + Clock + Sync),
-    words: &[&str],
-    files: &[(&str, File<'_>)],
-    status: u8,
-    out: &str,
-    err: &str,
-    written: &[(&str, &str)],
-) {
-    let mut input = CountingReader::new(Input::empty());
-    let mut shelf = MemoryShelf::new(rt.alloc(), files);
-    assert_served_on(rt, words, &mut shelf, &mut input, status, out, err);
-    assert!(rt; input.reads() == 0 && shelf.has_written(written));
+    let mut shelf = MemoryShelf::new(rt.alloc(), &[]);
+    let found = served_amply(rt, words, &mut shelf, input, [NEVER, NEVER]);
+    assert_eq!(rt; found.out.bytes(), out.as_bytes());
+    assert_eq!(rt; found.err.bytes(), err.as_bytes());
+    assert!(rt; found.status == status && shelf.has_written(&[]));
 }

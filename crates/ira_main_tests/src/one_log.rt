@@ -1,7 +1,6 @@
 //! The program without words: one log on its input.
 
 use crate::fakes::{Input, assert_served};
-use crate::full_device::assert_unanswered;
 use crate::samples::SECOND_TERM_0;
 use ira_files::CountingReader;
 use std::alloc::Global;
@@ -25,7 +24,7 @@ fn assert_read(
 ) {
     let status = if line == "yes\n" { 0 } else { 1 };
     let mut input = CountingReader::new(Input::new(text));
-    assert_served(rt, &[], &[], &mut input, status, line, "");
+    assert_served(rt, &[], &mut input, status, line, "");
     assert!(rt; input.reads() == reads && !input.has_failed());
 }
 
@@ -90,14 +89,14 @@ fn second_term(rt: HostRuntime) {
 #[test]
 fn no_bytes(rt: HostRuntime) {
     let mut input = CountingReader::new(Input::empty());
-    assert_served(&rt, &[], &[], &mut input, 1, "no: log 0: head\n", "");
+    assert_served(&rt, &[], &mut input, 1, "no: log 0: head\n", "");
     assert_eq!(rt; input.reads(), 1);
 }
 
 #[test]
 fn reader_fails_in_mid_text(rt: HostRuntime) {
     let mut input = CountingReader::new(Input::failing(EMPTY_HEAD.as_bytes()));
-    assert_served(&rt, &[], &[], &mut input, 2, "", "ira: cannot read -\n");
+    assert_served(&rt, &[], &mut input, 2, "", "ira: cannot read -\n");
     assert_eq!(rt; input.reads(), 21);
     assert!(rt; input.has_failed());
 }
@@ -127,16 +126,4 @@ fn input_of_several_reads(rt: HostRuntime) -> Result<(), Fail> {
         assert_read(&rt, &text, line, reads);
     }
     Ok(())
-}
-
-#[test]
-fn answer_on_a_full_device(rt: HostRuntime) {
-    let text = "irlog 1\nnodes 2\nplace 0\nstart initiator\nend 0\n".as_bytes();
-    assert_unanswered(
-        &rt,
-        &[],
-        &[],
-        &mut CountingReader::new(Input::new(text)),
-        &[],
-    );
 }

@@ -2,7 +2,7 @@
 //! library of its command line allocates comes from the system's allocator alone, and is never refused here. What a
 //! shelf gives to be read is in no contract, so that answers are compared.
 
-use crate::fakes::{File, Input, Memory, MemoryShelf, NEVER, Output, served, served_amply};
+use crate::fakes::{Input, Memory, MemoryShelf, NEVER, Output, served, served_amply};
 use crate::samples::{
     ELECTED_0, ELECTED_1, EXCHANGED_0, EXPLAINED, LEADER_AND_ACTIVE, PAIRS_OF_THREE, TWO_CASES,
     TWO_STEPS, UPGRADED_0, UPGRADED_1,
@@ -23,16 +23,16 @@ struct Case {
     written: &'static [(&'static str, &'static str)],
 }
 
-const FILES: &[(&str, File<'static>)] = &[
-    ("0.log", File::Text(ELECTED_0)),
-    ("1.log", File::Text(ELECTED_1)),
-    ("ring/0.log", File::Text(ELECTED_0)),
-    ("ring/1.log", File::Text(ELECTED_1)),
-    ("exchanged/0.log", File::Text(EXCHANGED_0)),
-    ("exchanged/1.log", File::Text(ELECTED_1)),
-    ("one", File::Text(LEADER_AND_ACTIVE)),
-    ("two", File::Text(TWO_CASES)),
-    ("c", File::Text(TWO_STEPS)),
+const FILES: &[(&str, &str)] = &[
+    ("0.log", ELECTED_0),
+    ("1.log", ELECTED_1),
+    ("ring/0.log", ELECTED_0),
+    ("ring/1.log", ELECTED_1),
+    ("exchanged/0.log", EXCHANGED_0),
+    ("exchanged/1.log", ELECTED_1),
+    ("one", LEADER_AND_ACTIVE),
+    ("two", TWO_CASES),
+    ("c", TWO_STEPS),
 ];
 
 const ELECTION: &[(&str, &str)] = &[("d/0.log", ELECTED_0), ("d/1.log", ELECTED_1)];

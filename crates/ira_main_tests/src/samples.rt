@@ -23,40 +23,12 @@ pub(crate) const UPGRADED_1: &str =
     "irlog 2\nnodes 2\nplace 1\nstart initiator\ndraw 1\nsend 1 1 1 clean\n\
                           recv 1 2 1 clean\nsend 1 2 2 clean\nend 4\n";
 
-/// Both draw 1, and again in round 2: node 0 is elected.
-pub(crate) const TIED_0: &str =
-    "irlog 1\nnodes 2\nplace 0\nstart initiator\ndraw 1\nsend 1 1 1 clean\n\
-                      recv 1 1 1 clean\nsend 1 1 2 dirty\nrecv 1 1 2 dirty\ndraw 2\n\
-                      send 2 2 1 clean\nrecv 2 1 1 clean\nrecv 2 2 2 clean\nend 9\n";
-
-pub(crate) const TIED_1: &str =
-    "irlog 1\nnodes 2\nplace 1\nstart initiator\ndraw 1\nsend 1 1 1 clean\n\
-                      recv 1 1 1 clean\nsend 1 1 2 dirty\nrecv 1 1 2 dirty\ndraw 1\n\
-                      send 2 1 1 clean\nrecv 2 2 1 clean\nsend 2 2 2 clean\nend 9\n";
-
-/// Node 0 alone initiates in a ring of three.
-pub(crate) const LONE_0: &str =
-    "irlog 1\nnodes 3\nplace 0\nstart initiator\ndraw 1\nsend 1 1 1 clean\n\
-                      recv 1 1 3 clean\nend 3\n";
-
-pub(crate) const LONE_1: &str = "irlog 1\nnodes 3\nplace 1\nstart passive\nrecv 1 1 1 clean\n\
-                      send 1 1 2 clean\nend 2\n";
-
-pub(crate) const LONE_2: &str = "irlog 1\nnodes 3\nplace 2\nstart passive\nrecv 1 1 2 clean\n\
-                      send 1 1 3 clean\nend 2\n";
-
-/// Node 0 is elected and yields; in the second term node 1 is elected.
+/// The log of a node that is elected, yields, and is passive in the second term.
 pub(crate) const SECOND_TERM_0: &str =
     "irlog 2\nnodes 2\nplace 0\nstart initiator\ndraw 2\nsend 1 2 1 clean\n\
                          recv 1 1 1 clean\nrecv 1 2 2 clean\nyield\nsend reset 1\n\
                          recv reset 2\ndraw 1\nsend 1 1 1 clean\nrecv 1 2 1 clean\n\
                          send 1 2 2 clean\nend 11\n";
-
-pub(crate) const SECOND_TERM_1: &str =
-    "irlog 2\nnodes 2\nplace 1\nstart initiator\ndraw 1\nsend 1 1 1 clean\n\
-                         recv 1 2 1 clean\nsend 1 2 2 clean\nrecv reset 1\nsend reset 2\n\
-                         draw 2\nsend 1 2 1 clean\nrecv 1 1 1 clean\nrecv 1 2 2 clean\n\
-                         end 10\n";
 
 /// The question whether node 1 is active while node 0 leads.
 pub(crate) const LEADER_AND_ACTIVE: &str = "irask 1\nnodes 2\ncase\n0: leader\n1: active\nend\n";
@@ -73,10 +45,6 @@ pub(crate) const TWO_STEPS: &str =
 pub(crate) const PAIRS_OF_THREE: &str =
     "irask 1\nnodes 3\ncase\n0: leader\n1: leader\ncase\n0: leader\n2: leader\n\
                       case\n1: leader\n2: leader\nend\n";
-
-/// The certificate that they didn't where node 0 alone initiated.
-pub(crate) const NO_PAIR_OF_THREE: &str =
-    "ircert 1\nnodes 3\nsection\nspent 1\nsection\nspent 2\nsection\nspent 1\nend\n";
 
 /// What `explain` prints of the first two.
 pub(crate) const EXPLAINED: &str =
