@@ -106,6 +106,7 @@ impl<'a> Iterator for Events<'a> {
 
     ghost remaining = { item_count (λ s. s) };
 
+    #[inline(always)]
     fn next(&mut self) -> Option<Event> {
         if let Some((first, others)) = self.packed.split_first() {
             self.packed = others;

@@ -57,6 +57,7 @@ impl<E: Iterator<Item = Event> + Listed> Iterator for States<E> {
 
     ghost remaining = { item_count (λ s. s) };
 
+    #[inline(always)]
     fn next(&mut self) -> Option<(u32, NodeState)> {
         if self.has_ended {
             return None;
