@@ -1,7 +1,8 @@
 -- The k-th event of its kind in a log, counted along it.
 use Rattle.std.proofs.Common.{◌≡◌, ℕ, zero, suc, ◌+◌, ◌<◌, List, [], ◌∷◌, Option, Some, None, length, refl, sym, ◌∙◌}
-use Rattle.std.proofs.Common.{ap, arith, take, add-one}
+use Rattle.std.proofs.Common.{ap, arith, take, drop, add-one}
 use Rattle.std.specs.Prelude.{slice_get}
+use Rattle.std.proofs.lemmas.List.{take_all}
 use Rattle.std.specs.List.{filter_map, cons_option}
 use Rattle.ira_event.specs.declared.event.Event.{Event}
 use Rattle.ira_event.specs.declared.event.Event.TheVariants.{Got, Sent}
@@ -10,6 +11,7 @@ use Rattle.ira_order.specs.Matching.{got, receipt, sending, sent}
 use Rattle.ira_order.specs.Ring.{numbered}
 use Rattle.ira_order.proofs.OrderPrefixes.{counted_more}
 use Rattle.ira_order.proofs.Pairing.{numbered-past}
+use Rattle.ira_order.proofs.Receipts.{none_ahead}
 use Rattle.ira_order.proofs.Places.{is_receipt, is_sending}
 use Rattle.ira_evidence.specs.Exchange.{IsNth, IsNthGot, IsNthSent}
 
@@ -30,9 +32,17 @@ counted_load h (d ∷ es) (suc n) e x is has =
     rest (Some y) xs ys at = at
 
 -- there is no k-th of fewer
-pub none_numbered : (xs : List Load) (k : ℕ) → (0 < k → length xs < k) → numbered xs k ≡ None
+none_numbered : (xs : List Load) (k : ℕ) → (0 < k → length xs < k) → numbered xs k ≡ None
 none_numbered xs zero fewer = refl
 none_numbered xs (suc k) fewer = numbered-past xs (suc k) (fewer (omega arith))
+
+-- nor after all events
+pub none_left : (h : Event → Option Load) (es : List Event) (n k rank : ℕ) → [] ≡ drop n es
+    → rank ≡ length (filter_map h (take n es)) → (0 < k → rank < k) → numbered (filter_map h es) k ≡ None
+none_left h es n k rank end is fewer =
+    let all : length (filter_map h (take n es)) ≡ length (filter_map h es) =
+    ap (λ xs. length (filter_map h xs)) (take_all n es (none_ahead es n end)) in
+    none_numbered (filter_map h es) k (λ some. omega (arith, all, is, fewer some))
 
 -- an event with its number, counted from 1
 pub at_number : (es : List Event) (n : ℕ) (e : Event) → slice_get es n ≡ Some e → numbered es (n + 1) ≡ Some e

@@ -1,11 +1,10 @@
-use Rattle.std.proofs.Common.{◌≡◌, ◌∷◌, ◌∙◌, [], None, Some, ap, sym, arith, rules, take, length}
-use Rattle.std.specs.List.{cons_option, filter_map}
-use Rattle.std.proofs.lemmas.List.{take_all}
+use Rattle.std.proofs.Common.{◌≡◌, ◌∷◌, ◌∙◌, [], None, Some, ap, sym, arith, rules, length}
+use Rattle.std.specs.List.{cons_option}
 use Rattle.std.proofs.lemmas.Option.{slice_get_within}
 use Rattle.ira_evidence.specs.Side.{load_on}
 use Rattle.ira_order.proofs.OrderPrefixes.{counted_more, rank_le}
-use Rattle.ira_order.proofs.Receipts.{next_ahead, none_ahead}
-use Rattle.ira_evidence.proofs.Counted.{none_numbered, nth}
+use Rattle.ira_order.proofs.Receipts.{next_ahead}
+use Rattle.ira_evidence.proofs.Counted.{none_left, nth}
 use Rattle.ira_evidence.proofs.exchange.nth.Goals as goal
 
 pub overflow_add-position : goal.overflow_add-position
@@ -69,13 +68,5 @@ loop-event-preserved g c =
 pub returns : goal.returns
 returns g c =
     let front : c.loop-event.event-iterator ≡ [] = search rules in
-    let past = none_ahead c.args.log.now.events c.loop-event.position (sym front ∙ c.loop-event.invariant.ahead) in
-    let whole : take c.loop-event.position c.args.log.now.events ≡ c.args.log.now.events =
-    take_all c.loop-event.position c.args.log.now.events past in
-    let all : c.loop-event.rank ≡ length (filter_map (load_on c.args.side) c.args.log.now.events) =
-    c.loop-event.invariant.rank ∙ ap (λ es. length (filter_map (load_on c.args.side) es)) whole in
-    none_numbered (filter_map (load_on c.args.side) c.args.log.now.events) c.args.k (λ some. omega (
-      arith,
-      all,
-      c.loop-event.invariant.fewer some,
-    ))
+    none_left (load_on c.args.side) c.args.log.now.events c.loop-event.position c.args.k c.loop-event.rank (sym front
+    ∙ c.loop-event.invariant.ahead) c.loop-event.invariant.rank c.loop-event.invariant.fewer
