@@ -10,10 +10,18 @@ ghost use Rattle.ira_audit.specs.Report.{numbered};
 
 use crate::answer::Answer;
 use crate::findings::Findings;
-use crate::report::{write_numbered, write_report};
+use crate::report::write_report;
 use ira_elim::{Cut, Decided, Found, StepCount};
-use ira_event::{Sink, WriteFault, write_bytes};
+use ira_event::{Sink, WriteFault, write_bytes, write_number};
 use std::alloc::Allocator;
+
+#[tactic(auto, using(ira_event::proofs::Writing::writes))]
+fn write_numbered<W: Sink>(words: &[u8], n: u64, sink: &mut W) -> Result<(), WriteFault>
+    ensures { Wrote result (numbered words.now n) (W.state sink.old) (W.state sink.new) }
+{
+    write_bytes(words, sink)?;
+    write_number(n, sink)
+}
 
 #[tactic(auto, using(ira_event::proofs::Writing::writes))]
 fn write_absent<W: Sink>(steps: u64, spent: u8, sink: &mut W) -> Result<(), WriteFault>

@@ -8,5 +8,6 @@ pub mod QueueHead
 pub mod SectionFault
 pub mod SharedTable
 pub mod SoundSection
+pub mod Unsound
 pub mod Verdict
 pub use Rattle.ira_cert_text.specs.Certificate.{Section, Certificate}

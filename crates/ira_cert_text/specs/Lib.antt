@@ -1,3 +1,4 @@
+pub mod CertFault
 pub mod CertAnswer
 pub mod CertDraft
 pub mod CertLaws

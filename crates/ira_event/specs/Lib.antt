@@ -1,5 +1,8 @@
 pub mod Event
+pub mod FaultWords
+pub mod HeadFault
 pub mod Limits
+pub mod LogFault
 pub mod Log
 pub mod LogHead
 pub mod LogLaws

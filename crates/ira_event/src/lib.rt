@@ -3,6 +3,7 @@
 
 mod event;
 mod events;
+mod fault_words;
 mod head_fault;
 mod laws;
 mod limits;
@@ -33,6 +34,7 @@ mod write;
 
 pub use event::Event;
 pub use events::Events;
+pub use fault_words::FaultWords;
 pub use head_fault::HeadFault;
 pub use laws::{a_text_has_one_answer, each_log_has_one_text, no_text_is_two_logs};
 pub use limits::{MAX_NODES, MAX_NUMBER, MAX_RECORDS, MAX_TEXT, MAX_VERSION, MAX_VERSION_1_NODES};

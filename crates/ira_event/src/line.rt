@@ -66,6 +66,15 @@ impl Line {
         self.add(Buffer::new().format(n).as_bytes());
     }
 
+    /// Adds a count in plain decimal at the end.
+    pub fn add_count(&mut self, n: u64)
+        requires { length self.old + 20 ≤ MAX_LINE }
+        ensures text { self.new ≡ self.old ++ decimal n }
+        ensures len { length self.new ≤ length self.old + 20 }
+    {
+        self.add(Buffer::new().format(n).as_bytes());
+    }
+
     /// Writes the line.
     pub fn write<W: Sink>(&self, sink: &mut W) -> Result<(), WriteFault>
         ensures { Wrote result self.now (W.state sink.old) (W.state sink.new) }

@@ -23,10 +23,15 @@ use Rattle.ira_cert.specs.declared.section_fault.SectionFault.{SectionFault}
 use Rattle.ira_cert.specs.declared.section_fault.SectionFault.TheVariants.{Step, NotSpent}
 use Rattle.ira_cert.specs.declared.unsound.Unsound.{Unsound}
 use Rattle.ira_cert.specs.declared.unsound.Unsound.TheVariants.{NotAsked, SameNode, NodeSpent, NotFront, NotBefore}
-use Rattle.ira_audit.specs.Report.{ask_fault_words, cert_fault_words, head_fault_words, log_fault_words, numbered}
-use Rattle.ira_audit.specs.Report.{match_reason_words, reason_words, receipt_words, report_line, section_fault_words}
+use Rattle.ira_event.specs.FaultWords.{said_text}
+use Rattle.ira_event.specs.HeadFault.{head_fault_words}
+use Rattle.ira_event.specs.LogFault.{log_fault_words}
 use Rattle.ira_node.specs.StepFault.{step_fault_words}
-use Rattle.ira_audit.specs.Report.{unsound_words}
+use Rattle.ira_pred.specs.AskFault.{ask_fault_words}
+use Rattle.ira_cert_text.specs.CertFault.{cert_fault_words}
+use Rattle.ira_cert.specs.Unsound.{unsound_words}
+use Rattle.ira_audit.specs.Report.{match_reason_words, numbered, reason_words, receipt_words, report_line}
+use Rattle.ira_audit.specs.Report.{section_reason_words}
 use Rattle.ira_audit.specs.declared.answer.Answer.{Answer}
 use Rattle.ira_audit.specs.declared.answer.Answer.TheVariants.{Yes, No}
 use Rattle.ira_audit.specs.declared.reason.Reason.{Reason}
@@ -88,7 +93,7 @@ both {a} {b} first second = IsUtf8-append a b first second
 numbers : (words : List ℕ) (n : ℕ) → IsUtf8 words → IsUtf8 (numbered words n)
 numbers words n is = IsUtf8-append words (decimal n) is (decimals n)
 
-of_log : (fault : LogFault) → IsUtf8 (log_fault_words fault)
+of_log : (fault : LogFault) → IsUtf8 (said_text (log_fault_words fault))
 of_log log.TooLong = written (codes "too long") refl
 of_log log.Head = written (codes "head") refl
 of_log (log.Line k) = numbers (codes "line ") k (written (codes "line ") refl)
@@ -97,22 +102,26 @@ of_log log.TooMany = written (codes "too many records") refl
 of_log log.Cut = written (codes "cut") refl
 of_log log.Count = written (codes "count") refl
 of_log log.Trailing = written (codes "trailing") refl
-of_log log.OutOfMemory = IsUtf8-nil
+of_log log.OutOfMemory = written (codes "out of memory") refl
 
-of_heads : (fault : HeadFault) → IsUtf8 (head_fault_words fault)
+of_heads : (fault : HeadFault) → IsUtf8 (said_text (head_fault_words fault))
 of_heads Number = written (codes "number") refl
 of_heads (Size i) = numbers (codes "size ") i (written (codes "size ") refl)
 of_heads (Place i) = numbers (codes "place ") i (written (codes "place ") refl)
 of_heads (Version i) = numbers (codes "version ") i (written (codes "version ") refl)
 
-of_receipt : (link k : ℕ) → IsUtf8 (receipt_words link k)
-of_receipt link k =
-    both (numbers (codes "no: link ") link (written (codes "no: link ") refl))
-    (numbers (codes ": receipt ") k (written (codes ": receipt ") refl))
+of_receipt : (link k : ℕ) (words : List ℕ) → IsUtf8 words → IsUtf8 (receipt_words link k words)
+of_receipt link k words is =
+    both
+    (both
+    (both (numbers (codes "no: link ") link (written (codes "no: link ") refl))
+    (numbers (codes ": receipt ") k (written (codes ": receipt ") refl)))
+    (written (codes " ") refl))
+    is
 
 of_match : (fault : MatchFault) → IsUtf8 (match_reason_words fault)
-of_match (NoSending link k) = both (of_receipt link k) (written (codes " has no sending") refl)
-of_match (Differs link k) = both (of_receipt link k) (written (codes " differs") refl)
+of_match (NoSending link k) = of_receipt link k (codes "has no sending") (written (codes "has no sending") refl)
+of_match (Differs link k) = of_receipt link k (codes "differs") (written (codes "differs") refl)
 
 of_step : (fault : StepFault) → IsUtf8 (step_fault_words fault)
 of_step step.Owes = written (codes "owes") refl
@@ -129,7 +138,7 @@ of_step step.WrongReset = written (codes "wrong reset") refl
 of_step step.NotReset = written (codes "not a reset") refl
 of_step step.TermLimit = written (codes "term limit") refl
 
-of_question : (fault : AskFault) → IsUtf8 (ask_fault_words fault)
+of_question : (fault : AskFault) → IsUtf8 (said_text (ask_fault_words fault))
 of_question ask.TooLong = written (codes "too long") refl
 of_question ask.Head = written (codes "head") refl
 of_question (ask.Line k) = numbers (codes "line ") k (written (codes "line ") refl)
@@ -139,9 +148,9 @@ of_question (ask.Empty k) = numbers (codes "empty ") k (written (codes "empty ")
 of_question ask.Cases = written (codes "cases") refl
 of_question ask.Cut = written (codes "cut") refl
 of_question ask.Trailing = written (codes "trailing") refl
-of_question ask.OutOfMemory = IsUtf8-nil
+of_question ask.OutOfMemory = written (codes "out of memory") refl
 
-of_certificate : (fault : CertFault) → IsUtf8 (cert_fault_words fault)
+of_certificate : (fault : CertFault) → IsUtf8 (said_text (cert_fault_words fault))
 of_certificate cert.TooLong = written (codes "too long") refl
 of_certificate cert.Head = written (codes "head") refl
 of_certificate (cert.Line k) = numbers (codes "line ") k (written (codes "line ") refl)
@@ -149,7 +158,7 @@ of_certificate (cert.Range k) = numbers (codes "range ") k (written (codes "rang
 of_certificate cert.TooMany = written (codes "too many") refl
 of_certificate cert.Cut = written (codes "cut") refl
 of_certificate cert.Trailing = written (codes "trailing") refl
-of_certificate cert.OutOfMemory = IsUtf8-nil
+of_certificate cert.OutOfMemory = written (codes "out of memory") refl
 
 of_unsound : (why : Unsound) → IsUtf8 (unsound_words why)
 of_unsound NotAsked = written (codes "not asked") refl
@@ -158,11 +167,19 @@ of_unsound NodeSpent = written (codes "node spent") refl
 of_unsound NotFront = written (codes "not front") refl
 of_unsound NotBefore = written (codes "not before") refl
 
-of_section : (fault : SectionFault) → IsUtf8 (section_fault_words fault)
-of_section (Step k why) =
-    both (both (numbers (codes "step ") k (written (codes "step ") refl)) (written (codes ": ") refl)) (of_unsound why)
-of_section (NotSpent node) =
-    both (numbers (codes "node ") node (written (codes "node ") refl)) (written (codes " not spent") refl)
+of_section : (case : ℕ) (fault : SectionFault) → IsUtf8 (section_reason_words case fault)
+of_section case (Step k why) =
+    both
+    (both
+    (both (numbers (codes "no: case ") case (written (codes "no: case ") refl))
+    (numbers (codes ": step ") k (written (codes ": step ") refl)))
+    (written (codes ": ") refl))
+    (of_unsound why)
+of_section case (NotSpent node) =
+    both
+    (both (numbers (codes "no: case ") case (written (codes "no: case ") refl))
+    (numbers (codes ": node ") node (written (codes ": node ") refl)))
+    (written (codes " not spent") refl)
 
 of_reason : (reason : Reason) → IsUtf8 (reason_words reason)
 of_reason (Log number fault) =
@@ -187,9 +204,7 @@ of_reason (Sections wanted found) =
     (both (numbers (codes "no: sections: ") wanted (written (codes "no: sections: ") refl))
     (numbers (codes " wanted, ") found (written (codes " wanted, ") refl)))
     (written (codes " found") refl)
-of_reason (Section case fault) =
-    both (both (numbers (codes "no: case ") case (written (codes "no: case ") refl)) (written (codes ": ") refl))
-    (of_section fault)
+of_reason (Section case fault) = of_section case fault
 
 pub words_are_text : (answer : Answer) → IsUtf8 (answer_words answer)
 words_are_text Yes = written (codes "yes") refl

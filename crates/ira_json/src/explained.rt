@@ -1,35 +1,21 @@
-ghost use Rattle.std.specs.Prelude.{◌≡◌, ◌≢◌, IfOk, map};
+ghost use Rattle.std.specs.Prelude.{◌≡◌, IfOk, map};
 ghost use Rattle.serde_json.specs.Data.{array};
 ghost use Rattle.serde_json.specs.View.{items_of, view};
-ghost use Rattle.ira_audit.specs.Report.{IsReportable, IsReportableReason, unsound_words};
-ghost use Rattle.ira_json.specs.ExplainedValue.{explained_value, hint_value, with_ask_fault, with_cert_fault, with_evidence, with_explanation, with_fault, with_head_fault, with_hints, with_log_fault, with_match_fault, with_numbered, with_reason, with_reason_of, with_receipt, with_ring, with_section_fault, with_sections, with_state_before, with_step_fault};
+ghost use Rattle.ira_audit.specs.Report.{IsReportable, IsReportableReason};
+ghost use Rattle.ira_json.specs.ExplainedValue.{explained_value, hint_value, with_evidence, with_explanation, with_fault, with_hints, with_match_fault, with_numbered, with_reason, with_reason_of, with_receipt, with_ring, with_said, with_section_fault, with_sections, with_state_before, with_step_fault};
 ghost use Rattle.ira_json.specs.Object.{Puts};
 
 use crate::answer_values::answered;
 use crate::evidence_values::evidence_list;
 use crate::object::Object;
 use ira_audit::{Answer, Reason};
-use ira_cert::{SectionFault, Unsound};
-use ira_cert_text::CertFault;
-use ira_event::{HeadFault, LogFault, OutOfMemory};
+use ira_cert::SectionFault;
+use ira_event::{FaultWords, OutOfMemory};
 use ira_node::{NodeState, StepFault};
 use ira_order::MatchFault;
-use ira_pred::AskFault;
 use ira_view_page::{Evidence, Explanation, RingCounts};
 use serde_json::Value;
 use std::alloc::{Allocator, Global};
-
-fn unsound_word(why: Unsound) -> &'static str
-    ensures { result.now ≡ unsound_words why }
-{
-    match why {
-        Unsound::NotAsked => "not asked",
-        Unsound::SameNode => "same node",
-        Unsound::NodeSpent => "node spent",
-        Unsound::NotFront => "not front",
-        Unsound::NotBefore => "not before",
-    }
-}
 
 impl Object {
     /// Puts of which kind the reason is, and what is wrong.
@@ -48,31 +34,13 @@ impl Object {
         self.number(key, number);
     }
 
-    fn log_fault(&mut self, fault: LogFault)
-        requires { fault ≢ LogFault.OutOfMemory }
-        ensures { Puts (with_log_fault fault) self.old self.new }
+    /// Puts of which kind the reason is, and what is said of a fault; its number by this key.
+    fn said(&mut self, reason: &str, key: &str, said: FaultWords)
+        ensures { Puts (with_said reason.now key.now said) self.old self.new }
     {
-        match fault {
-            LogFault::TooLong => self.fault("log", "too long"),
-            LogFault::Head => self.fault("log", "head"),
-            LogFault::Line(k) => self.numbered("log", "line", "line", k as u64),
-            LogFault::Range(k) => self.numbered("log", "range", "line", k as u64),
-            LogFault::TooMany => self.fault("log", "too many records"),
-            LogFault::Cut => self.fault("log", "cut"),
-            LogFault::Count => self.fault("log", "count"),
-            LogFault::Trailing => self.fault("log", "trailing"),
-            LogFault::OutOfMemory => unreachable!(),
-        }
-    }
-
-    fn head_fault(&mut self, fault: HeadFault)
-        ensures { Puts (with_head_fault fault) self.old self.new }
-    {
-        match fault {
-            HeadFault::Number => self.fault("heads", "number"),
-            HeadFault::Size(i) => self.numbered("heads", "size", "log", i as u64),
-            HeadFault::Place(i) => self.numbered("heads", "place", "log", i as u64),
-            HeadFault::Version(i) => self.numbered("heads", "version", "log", i as u64),
+        match said.number {
+            None => self.fault(reason, said.words),
+            Some(number) => self.numbered(reason, said.words, key, number as u64),
         }
     }
 
@@ -87,10 +55,8 @@ impl Object {
         ensures { Puts (with_match_fault fault) self.old self.new }
     {
         match fault {
-            MatchFault::NoSending { link, k } => {
-                self.receipt(link as u64, k as u64, "has no sending");
-            }
-            MatchFault::Differs { link, k } => self.receipt(link as u64, k as u64, "differs"),
+            MatchFault::NoSending { link, k } => self.receipt(link as u64, k as u64, fault.words()),
+            MatchFault::Differs { link, k } => self.receipt(link as u64, k as u64, fault.words()),
         }
     }
 
@@ -101,46 +67,12 @@ impl Object {
         self.numbered("node", fault.words(), "event", position);
     }
 
-    fn ask_fault(&mut self, fault: AskFault)
-        requires { fault ≢ AskFault.OutOfMemory }
-        ensures { Puts (with_ask_fault fault) self.old self.new }
-    {
-        match fault {
-            AskFault::TooLong => self.fault("question", "too long"),
-            AskFault::Head => self.fault("question", "head"),
-            AskFault::Line(k) => self.numbered("question", "line", "line", k as u64),
-            AskFault::Place(k) => self.numbered("question", "place", "line", k as u64),
-            AskFault::Depth(k) => self.numbered("question", "depth", "line", k as u64),
-            AskFault::Empty(k) => self.numbered("question", "empty", "line", k as u64),
-            AskFault::Cases => self.fault("question", "cases"),
-            AskFault::Cut => self.fault("question", "cut"),
-            AskFault::Trailing => self.fault("question", "trailing"),
-            AskFault::OutOfMemory => unreachable!(),
-        }
-    }
-
-    fn cert_fault(&mut self, fault: CertFault)
-        requires { fault ≢ CertFault.OutOfMemory }
-        ensures { Puts (with_cert_fault fault) self.old self.new }
-    {
-        match fault {
-            CertFault::TooLong => self.fault("certificate", "too long"),
-            CertFault::Head => self.fault("certificate", "head"),
-            CertFault::Line(k) => self.numbered("certificate", "line", "line", k as u64),
-            CertFault::Range(k) => self.numbered("certificate", "range", "line", k as u64),
-            CertFault::TooMany => self.fault("certificate", "too many"),
-            CertFault::Cut => self.fault("certificate", "cut"),
-            CertFault::Trailing => self.fault("certificate", "trailing"),
-            CertFault::OutOfMemory => unreachable!(),
-        }
-    }
-
     fn section_fault(&mut self, fault: SectionFault)
         ensures { Puts (with_section_fault fault) self.old self.new }
     {
         match fault {
             SectionFault::Step(k, why) => {
-                self.numbered("case", unsound_word(why), "step", k as u64);
+                self.numbered("case", why.words(), "step", k as u64);
             }
             SectionFault::NotSpent(node) => {
                 self.numbered("case", "not spent", "node", node as u64);
@@ -163,9 +95,9 @@ impl Object {
         match *reason {
             Reason::Log { number, fault } => {
                 self.number("log", number as u64);
-                self.log_fault(fault);
+                self.said("log", "line", fault.words());
             }
-            Reason::Heads(fault) => self.head_fault(fault),
+            Reason::Heads(fault) => self.said("heads", "log", fault.words()),
             Reason::Match(fault) => self.match_fault(fault),
             Reason::Circle => self.fault("circle", "circle"),
             Reason::Replay {
@@ -173,9 +105,9 @@ impl Object {
                 position,
                 fault,
             } => self.step_fault(place as u64, position as u64, fault),
-            Reason::Question(fault) => self.ask_fault(fault),
+            Reason::Question(fault) => self.said("question", "line", fault.words()),
             Reason::QuestionSize => self.fault("question", "other ring size"),
-            Reason::Certificate(fault) => self.cert_fault(fault),
+            Reason::Certificate(fault) => self.said("certificate", "line", fault.words()),
             Reason::CertificateSize => self.fault("certificate", "other ring size"),
             Reason::Sections { wanted, found } => self.sections(wanted as u64, found as u64),
             Reason::Section { case, fault } => {

@@ -6,6 +6,7 @@ pub mod DirectDependencies
 pub mod FaultyEvent
 pub mod Laws
 pub mod MatchFault
+pub mod MatchWords
 pub mod Matching
 pub mod Order
 pub mod Ordered

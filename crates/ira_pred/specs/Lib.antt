@@ -1,3 +1,4 @@
+pub mod AskFault
 pub mod Case
 pub mod Clause
 pub mod ClauseAnswer
