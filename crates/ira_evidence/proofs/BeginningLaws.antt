@@ -17,8 +17,7 @@ use Rattle.ira_order.specs.Ring.{events_of, log_of}
 use Rattle.ira_order.proofs.Acyclic.{before_stands, before_within, place_of}
 use Rattle.ira_order.proofs.FaultyEvents.{is_stop, same_stop, stop_of}
 use Rattle.ira_order.proofs.HasCounts.{before_decided}
-use Rattle.ira_replay.specs.LocalRun.{IsFirstFault, IsLocalRun, LeadsTo}
-use Rattle.ira_replay.specs.declared.replay_fault.ReplayFault.{ReplayFault}
+use Rattle.ira_replay.specs.LocalRun.{IsLocalRun, LeadsTo}
 use Rattle.ira_replay.proofs.Alike.{leads_split}
 use Rattle.ira_replay.proofs.FirstFaults.{run_or_fault, run_or_stop}
 use Rattle.ira_order.specs.declared.faulty_event.FaultyEvent.{FaultyEvent}

@@ -1,6 +1,6 @@
 -- The stops to begin with, as they are listed.
 use Rattle.std.proofs.Common.{◌≡◌, ◌↔◌, ℕ, ◌+◌, ◌<◌, ◌≤◌, inl, inr, IsTrue, List, [], ◌∷◌, ◌++◌, Some, length, sym, ◌∙◌}
-use Rattle.std.proofs.Common.{ap, subst, arith, get_or}
+use Rattle.std.proofs.Common.{ap, subst, arith, get_or, refl}
 use Rattle.std.specs.Prelude.{slice_get}
 use Rattle.std.proofs.lemmas.Bool.{cases_eq}
 use Rattle.std.proofs.lemmas.Option.{slice_get-get_or, slice_get_within}
@@ -12,7 +12,7 @@ use Rattle.ira_order.specs.declared.faulty_event.FaultyEvent.{FaultyEvent}
 use Rattle.ira_evidence.specs.Beginning.{AreBeginnings, HappenedBefore, IsBeginning, IsEventAt}
 use Rattle.ira_order.specs.FaultyEvent.{AreFirstFaultyEvents, IsFirstFaultyEvent}
 use Rattle.ira_evidence.proofs.BeginningLaws.{stop_event}
-use Rattle.ira_order.proofs.Pushed.{pushed_cases, pushed_last, pushed_old}
+use Rattle.ira_order.proofs.Pushed.{each_pushed, pushed_last, pushed_old, rises_pushed}
 
 -- stop k of the list
 abbrev pub stop_at : List FaultyEvent → ℕ → FaultyEvent
@@ -92,38 +92,21 @@ module _ (logs : List Log) (named : EventAt) (stops : List FaultyEvent) (h : ℕ
         let before' : IsTrue b.happened_before ↔ HappenedBefore logs b.event.at named = rw same before in
         let here : slice_get stops h ≡ Some b.event = listed stops h l ∙ ap Some (sym same) in
         record {
-          each = λ k c at. elim (pushed_cases bs b c k at) [
-            | inl old ↦ so_far.each k c old
-            | inr new ↦ subst (λ (x : Beginning). IsBeginning logs x.event
-                × (IsTrue x.happened_before ↔ HappenedBefore logs x.event.at named)) new.1 (is, before')
-          ];
-          listed_in = λ k c at. elim (pushed_cases bs b c k at) [
-            | inl old ↦ (let found = so_far.listed_in k c old in (found.0, omega (arith, found.1), found.2))
-            | inr new ↦ subst (λ (x : Beginning). (i : ℕ) × (i < h + 1) × (slice_get stops i ≡ Some x.event)) new.1 (
-              h,
-              omega arith,
-              here,
-            )
-          ];
+          each = each_pushed (λ _ x. IsBeginning logs x.event
+              × (IsTrue x.happened_before ↔ HappenedBefore logs x.event.at named)) bs (length bs) b refl so_far.each
+              (is, before');
+          listed_in = each_pushed (λ _ x. (i : ℕ) × (i < h + 1) × (slice_get stops i ≡ Some x.event)) bs (length bs) b
+              refl
+              (λ k c old. (let found = so_far.listed_in k c old in (found.0, omega (arith, found.1), found.2)))
+              (h, omega arith, here);
           all = stops_below stops (λ s. IsBeginning logs s → (k : ℕ) × (c : Beginning)
               × (slice_get (bs ++ b ∷ []) k ≡ Some c) × (c.event ≡ s)) h l
               (λ i s below at begins. (let found = so_far.all i s below at begins in
               (found.0, found.1, pushed_old bs b found.1 found.0 found.2, found.3)))
               (λ begins. (length bs, b, pushed_last bs b, same));
-          rise = λ k j a c less at there. elim (pushed_cases bs b c j there) [
-            | inl old ↦ elim (pushed_cases bs b a k at) [
-              | inl early ↦ so_far.rise k j a c less early old
-              | inr new ↦ absurd (omega (arith, less, new.0, slice_get_within bs j c old))
-            ]
-            | inr new ↦ elim (pushed_cases bs b a k at) [
-              | inl early ↦
-                  let found = so_far.listed_in k a early in
-                  let lower : a.event.at.place < b.event.at.place = are.rise found.0 h a.event b.event found.1 found.2
-                  here in
-                  subst (λ (x : Beginning). a.event.at.place < x.event.at.place) new.1 lower
-              | inr twice ↦ absurd (omega (arith, less, new.0, twice.0))
-            ]
-          ];
+          rise = rises_pushed (λ x. x.event.at.place) bs b so_far.rise (λ k a old.
+              (let found = so_far.listed_in k a old in
+              are.rise found.0 h a.event b.event found.1 found.2 here));
         }
 
 pub beginnings_all : (logs : List Log) (named : EventAt) (stops : List FaultyEvent) (h : ℕ) (bs : List Beginning)

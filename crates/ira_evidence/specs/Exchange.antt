@@ -9,14 +9,6 @@ use Rattle.ira_order.specs.Ring.{next, log_of, numbered}
 use Rattle.ira_order.specs.Matching.{sent, got}
 use Rattle.ira_evidence.specs.declared.exchange.Exchange.{Exchange}
 
--- a helper, no definition: the event at this position, counted from 1, has the load, and is the k-th that has one
-pub record IsNth (load_of : Event → Option Load) (events : List Event) (k position : ℕ) (load : Load) : Type 0 where
-  pub event : Event
-  pub stands : numbered events position ≡ Some event
-  pub has : load_of event ≡ Some load
-  pub rank : length (filter_map load_of (take position events)) ≡ k
-  pub load_is : numbered (filter_map load_of events) k ≡ Some load
-
 -- the event at this position, counted from 1, sends the load, and is the k-th that sends one
 pub record IsNthSent (events : List Event) (k position : ℕ) (load : Load) : Type 0 where
   pub event : numbered events position ≡ Some (Sent load)
@@ -37,3 +29,12 @@ IsNthSending logs link k x = (x.at.place ≡ link) × IsNthSent (log_of logs lin
 abbrev pub IsNthReceipt : List Log → ℕ → ℕ → Exchange → Type 0
 IsNthReceipt logs link k x =
     (x.at.place ≡ next (length logs) link) × IsNthGot (log_of logs (next (length logs) link)) k x.at.position x.load
+
+-- a helper, no definition: node i's k-th event that has a load
+pub record IsNth (load_of : Event → Option Load) (i : ℕ) (events : List Event) (k : ℕ) (x : Exchange) : Type 0 where
+  pub place : x.at.place ≡ i
+  pub event : Event
+  pub stands : numbered events x.at.position ≡ Some event
+  pub has : load_of event ≡ Some x.load
+  pub rank : length (filter_map load_of (take x.at.position events)) ≡ k
+  pub load_is : numbered (filter_map load_of events) k ≡ Some x.load

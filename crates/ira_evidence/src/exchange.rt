@@ -36,10 +36,10 @@ impl Side {
     }
 }
 
-/// The position in a log of its `k`-th event on this side of its link, and the load.
-fn nth<A: Allocator>(log: &NodeLog<A>, side: Side, k: u32) -> Option<(u32, Load)>
+/// The `k`-th event of a node's log on this side of its link.
+fn nth<A: Allocator>(place: u8, log: &NodeLog<A>, side: Side, k: u32) -> Option<Exchange>
     ensures { MatchOption result (numbered (filter_map (load_on side) log.now.events) k ≡ None)
-        (λ found. IsNth (load_on side) log.now.events k found.0 found.1) }
+        (IsNth (load_on side) place log.now.events k) }
 {
     let mut position = 0;
     let mut rank = 0;
@@ -48,7 +48,10 @@ fn nth<A: Allocator>(log: &NodeLog<A>, side: Side, k: u32) -> Option<(u32, Load)
         if let Some(load) = side.load(event) {
             rank += 1;
             if rank == k {
-                return Some((position, load));
+                return Some(Exchange {
+                    at: EventAt { place, position },
+                    load,
+                });
             }
         }
     }
@@ -61,14 +64,7 @@ pub fn nth_sending<A: Allocator>(logs: &Logs<A>, link: u8, k: u32) -> Option<Exc
     ensures { MatchOption result (numbered (sent (log_of logs.now link)) k ≡ None)
         (IsNthSending logs.now link k) }
 {
-    let (position, load) = nth(logs.log(link), Side::Sendings, k)?;
-    Some(Exchange {
-        at: EventAt {
-            place: link,
-            position,
-        },
-        load,
-    })
+    nth(link, logs.log(link), Side::Sendings, k)
 }
 
 /// Receipt `k` of a link, counted from 1: an event of the node that the link leads to.
@@ -78,9 +74,5 @@ pub fn nth_receipt<A: Allocator>(logs: &Logs<A>, link: u8, k: u32) -> Option<Exc
         (IsNthReceipt logs.now link k) }
 {
     let place = successor(logs.size().get(), link);
-    let (position, load) = nth(logs.log(place), Side::Receipts, k)?;
-    Some(Exchange {
-        at: EventAt { place, position },
-        load,
-    })
+    nth(place, logs.log(place), Side::Receipts, k)
 }

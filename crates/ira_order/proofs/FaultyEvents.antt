@@ -1,6 +1,6 @@
 -- The first events without a step of the nodes of a ring, as they are listed node by node.
 use Rattle.std.proofs.Common.{◌≡◌, ℕ, ◌+◌, ◌<◌, ◌≤◌, inl, inr, List, [], ◌∷◌, ◌++◌, Some, length, sym, ◌∙◌, ap, subst}
-use Rattle.std.proofs.Common.{arith}
+use Rattle.std.proofs.Common.{arith, refl}
 use Rattle.std.specs.Prelude.{slice_get}
 use Rattle.std.proofs.lemmas.Bool.{cases_eq}
 use Rattle.std.proofs.lemmas.Option.{slice_get_within}
@@ -10,7 +10,7 @@ use Rattle.ira_replay.specs.declared.replay_fault.ReplayFault.{ReplayFault}
 use Rattle.ira_replay.proofs.FirstFaults.{one_stop}
 use Rattle.ira_order.specs.declared.faulty_event.FaultyEvent.{FaultyEvent}
 use Rattle.ira_order.specs.FaultyEvent.{AreFirstFaultyEvents, IsFirstFaultyEvent}
-use Rattle.ira_order.proofs.Pushed.{pushed_cases, pushed_last, pushed_old}
+use Rattle.ira_order.proofs.Pushed.{each_pushed, pushed_last, pushed_old, rises_pushed}
 
 -- the stop of node i where its log has this first fault
 abbrev pub stop_of : ℕ → ReplayFault → FaultyEvent
@@ -67,13 +67,9 @@ pub stops_more : (logs : List Log) (stops : List FaultyEvent) (n : ℕ) (log : L
     → slice_get logs n ≡ Some log → IsFirstFault log f → StopsSoFar logs stops n
     → StopsSoFar logs (stops ++ stop_of n f ∷ []) (n + 1)
 stops_more logs stops n log f at fault so_far = record {
-  each = λ k s there. elim (pushed_cases stops (stop_of n f) s k there) [
-    | inl old ↦ ((so_far.each k s old).0, omega (arith, (so_far.each k s old).1))
-    | inr new ↦ subst (λ (x : FaultyEvent). IsFirstFaultyEvent logs x × (x.at.place < n + 1)) new.1 (
-      is_stop logs n log f at fault,
-      omega arith,
-    )
-  ];
+  each = each_pushed (λ _ s. IsFirstFaultyEvent logs s × (s.at.place < n + 1)) stops (length stops) (stop_of n f) refl
+      (λ k s old. ((so_far.each k s old).0, omega (arith, (so_far.each k s old).1)))
+      (is_stop logs n log f at fault, omega arith);
   all = λ s is below. elim (cases_eq s.at.place n) [
     | inr ne ↦
         let found = so_far.all s is (omega (arith, below, ne)) in
@@ -85,16 +81,7 @@ stops_more logs stops n log f at fault so_far = record {
               ≡ Some x) same (pushed_last stops (stop_of n f)),
         )
   ];
-  rise = λ k h s t less there further. elim (pushed_cases stops (stop_of n f) t h further) [
-    | inl old ↦ elim (pushed_cases stops (stop_of n f) s k there) [
-      | inl early ↦ so_far.rise k h s t less early old
-      | inr new ↦ absurd (omega (arith, less, new.0, slice_get_within stops h t old))
-    ]
-    | inr new ↦ elim (pushed_cases stops (stop_of n f) s k there) [
-      | inl early ↦ subst (λ (x : FaultyEvent). s.at.place < x.at.place) new.1 ((so_far.each k s early).1)
-      | inr same ↦ absurd (omega (arith, less, new.0, same.0))
-    ]
-  ];
+  rise = rises_pushed (λ s. s.at.place) stops (stop_of n f) so_far.rise (λ k s old. (so_far.each k s old).1);
 }
 
 pub stops_all : (logs : List Log) (stops : List FaultyEvent) (n : ℕ) → length logs ≤ n → StopsSoFar logs stops n

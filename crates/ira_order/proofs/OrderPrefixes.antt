@@ -1,26 +1,24 @@
 -- One more event at the end of the beginning of an order.
-use Rattle.std.proofs.Common.{◌≡◌, ◌≢◌, ℕ, zero, suc, ◌+◌, ◌-◌, ◌<◌, ◌≤◌, inl, inr, ◌↔◌, List, [], ◌∷◌, ◌++◌, length}
-use Rattle.std.proofs.Common.{refl, sym, ◌∙◌, ap, arith, get_or, set, take, IsTrue, Option, Some, None, length-append}
-use Rattle.std.proofs.Common.{get_or-set_same, get_or-set_other, length-set, leb, replicate, append_assoc}
+use Rattle.std.proofs.Common.{◌≡◌, ◌≢◌, ℕ, zero, suc, ◌+◌, ◌-◌, ◌<◌, ◌≤◌, inl, inr, List, [], ◌∷◌, ◌++◌, length}
+use Rattle.std.proofs.Common.{refl, sym, ◌∙◌, ap, arith, get_or, set, take, Option, Some, None, length-append}
+use Rattle.std.proofs.Common.{get_or-set_same, get_or-set_other}
 use Rattle.ira_event.specs.declared.event.Event.{Event}
 use Rattle.ira_event.specs.declared.load.Load.{Load}
 use Rattle.ira_event.specs.Log.{Log}
 use Rattle.ira_event.specs.declared.event.Event.TheVariants.{Sent, Got, Draw, Yield}
 use Rattle.std.specs.List.{filter_map, cons_option}
-use Rattle.ira_order.specs.Ring.{log_of, next, events_of}
-use Rattle.ira_order.specs.Matching.{sent, got, sending, receipt}
+use Rattle.ira_order.specs.Ring.{log_of, next}
+use Rattle.ira_order.specs.Matching.{sent, got, sending}
 use Rattle.ira_order.specs.Order.{occurrences}
 use Rattle.ira_order.specs.Counts.{IsReady, Covers, IsSchedule}
 use Rattle.ira_order.specs.Tally.{sent_by, got_by}
 use Rattle.ira_order.proofs.Ranks.{filter_map_more, rank_mono, next_other}
-use Rattle.ira_event.specs.Limits.{MAX_RECORDS}
 use Rattle.std.specs.Prelude.{slice_get}
-use Rattle.std.proofs.lemmas.Option.{get_or_from_slice_get, slice_get_cases, slice_get_within}
-use Rattle.std.proofs.lemmas.List.{take_all, take-append-le, length_push, get_or_read, set-get_or, set-set}
-use Rattle.std.proofs.lemmas.List.{replicate-append-replicate}
+use Rattle.std.proofs.lemmas.Option.{get_or_from_slice_get, slice_get_within}
+use Rattle.std.proofs.lemmas.List.{take_all, take-append-le, length_push}
 use Rattle.std.proofs.lemmas.List.Elements.{All-push}
-use Rattle.std.proofs.lemmas.List.Sums.{sum_by_push, sum_by-set}
-use Rattle.std.proofs.lemmas.Bool.{leb-true, le-leb, ne_eqb, eq-eqb, cases_lt, cases_eq}
+use Rattle.std.proofs.lemmas.List.Sums.{sum_by_push}
+use Rattle.std.proofs.lemmas.Bool.{ne_eqb, eq-eqb, cases_lt, cases_eq}
 use Rattle.std.proofs.lemmas.Bool.Decides.{nat_tests}
 
 pub rank_le : (h : Event → Option Load) (es : List Event) (n : ℕ) → length (filter_map h (take n es)) ≤ n

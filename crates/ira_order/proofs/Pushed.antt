@@ -1,7 +1,9 @@
 -- Members of a list with one more at its end.
 use Rattle.std.proofs.Common.{◌≡◌, ℕ, zero, suc, ◌⊎◌, inl, inr, List, [], ◌∷◌, ◌++◌, Some, length, refl, ap, arith}
-use Rattle.std.proofs.Common.{subst, sym}
+use Rattle.std.proofs.Common.{◌<◌, subst, sym}
 use Rattle.std.specs.Prelude.{slice_get}
+use Rattle.std.proofs.lemmas.Option.{slice_get_within}
+use Rattle.ira_order.specs.FaultyEvent.{Rises}
 
 pub pushed_cases : {X : Type 0} → (xs : List X) (x y : X) (j : ℕ) → slice_get (xs ++ x ∷ []) j ≡ Some y
     → (slice_get xs j ≡ Some y) ⊎ ((j ≡ length xs) × (x ≡ y))
@@ -32,6 +34,20 @@ each_pushed P xs n x many before here j y h = elim (pushed_cases xs x y j h) [
   | inr new ↦
       let same : n ≡ j = omega (arith, many, new.0) in
       subst (λ k. P k y) same (subst (P n) new.1 here)
+]
+
+-- numbers that rise go on rising where each is below that of the new one
+pub rises_pushed : {X : Type 0} → (number : X → ℕ) (xs : List X) (x : X) → Rises number xs
+    → ((k : ℕ) (y : X) → slice_get xs k ≡ Some y → number y < number x) → Rises number (xs ++ x ∷ [])
+rises_pushed number xs x rise below k h y z less at there = elim (pushed_cases xs x z h there) [
+  | inl old ↦ elim (pushed_cases xs x y k at) [
+    | inl early ↦ rise k h y z less early old
+    | inr new ↦ absurd (omega (arith, less, new.0, slice_get_within xs h z old))
+  ]
+  | inr new ↦ elim (pushed_cases xs x y k at) [
+    | inl early ↦ subst (λ v. number y < number v) new.1 (below k y early)
+    | inr same ↦ absurd (omega (arith, less, new.0, same.0))
+  ]
 ]
 
 -- the same as pushed_cases, the other way round

@@ -2,9 +2,9 @@
 use Rattle.std.proofs.Common.{◌≡◌, ℕ, zero, suc, ◌+◌, ◌-◌, ◌*◌, ◌<◌, ◌≤◌, ◌↔◌, inl, inr, List, false, [], ◌∷◌, ◌++◌}
 use Rattle.std.proofs.Common.{length, refl, sym, ◌∙◌, ap, arith, take, get_or, Some, length-append, slice_index, drop}
 use Rattle.std.proofs.Common.{add-one, leb, true}
-use Rattle.std.specs.List.{cons_option, All}
+use Rattle.std.specs.List.{All}
 use Rattle.ira_event.specs.declared.event.Event.{Event}
-use Rattle.ira_event.specs.declared.event.Event.TheVariants.{Got, Draw}
+use Rattle.ira_event.specs.declared.event.Event.TheVariants.{Got}
 use Rattle.ira_event.specs.Log.{Log}
 use Rattle.ira_event.specs.Logs.{AreLogs}
 use Rattle.ira_order.specs.Ring.{log_of, events_of}
@@ -15,7 +15,7 @@ use Rattle.ira_order.proofs.Ranks.{rank_all, rank_mono}
 use Rattle.ira_order.proofs.OrderPrefixes.{counted_more, rank_le, receives_nothing}
 use Rattle.std.specs.Prelude.{slice_get}
 use Rattle.ira_event.specs.declared.load.Load.{Load}
-use Rattle.std.proofs.lemmas.Option.{slice_get-get_or, get_or_from_slice_get, slice_get_within}
+use Rattle.std.proofs.lemmas.Option.{slice_get-get_or}
 use Rattle.std.proofs.lemmas.List.{take_all, get_or_append_left, get_or-append_right, get_or_default}
 use Rattle.std.proofs.lemmas.Bool.{leb-true, le-leb, cases_lt, cases_eq}
 use Rattle.std.specs.List.Sorted.{IsPartitionPoint, IsPartitionedBy}

@@ -1,10 +1,9 @@
 -- Lists of logs that have the same events at each place: what is said of pairs, orders and cuts looks at nothing else.
 use Rattle.std.proofs.Common.{◌≡◌, ℕ, ◌<◌, ◌≤◌, List, length, sym, ap, subst, ◌∙◌}
-use Rattle.std.specs.Prelude.{All, Some, map, take, slice_index}
+use Rattle.std.specs.Prelude.{All, Some, take, slice_index}
 use Rattle.ira_event.specs.declared.event.Event.{Event}
 use Rattle.ira_event.specs.declared.event.Event.TheVariants.{Sent, Got}
 use Rattle.ira_event.specs.Log.{Log}
-use Rattle.ira_event.specs.Upgrade.{upgraded}
 use Rattle.ira_order.specs.declared.match_fault.MatchFault.{MatchFault}
 use Rattle.ira_order.specs.Ring.{next, log_of, numbered}
 use Rattle.ira_order.specs.Matching.{sent, got, IsPaired, LinkMatches, Matches}

@@ -1,15 +1,12 @@
 -- The sendings of a log, gathered from its front.
-use Rattle.std.proofs.Common.{◌≡◌, ◌≢◌, ℕ, suc, ◌+◌, ◌<◌, ◌≤◌, inl, inr, List, [], ◌∷◌, ◌++◌, length, refl, sym, ◌∙◌}
+use Rattle.std.proofs.Common.{◌≡◌, ℕ, ◌+◌, ◌≤◌, inl, inr, List, [], ◌∷◌, ◌++◌, length, ◌∙◌}
 use Rattle.std.proofs.Common.{ap, subst, arith, take, Some, add-one, length-append}
 use Rattle.std.specs.Prelude.{slice_get}
-use Rattle.std.specs.List.{cons_option}
 use Rattle.std.proofs.lemmas.List.{take_all}
-use Rattle.std.proofs.lemmas.Option.{get_or_from_slice_get, slice_get_within}
 use Rattle.ira_event.specs.declared.event.Event.{Event}
-use Rattle.ira_event.specs.declared.event.Event.TheVariants.{Got, Sent, Draw}
+use Rattle.ira_event.specs.declared.event.Event.TheVariants.{Sent}
 use Rattle.ira_event.specs.declared.load.Load.{Load}
 use Rattle.ira_order.specs.declared.node_dependencies.Sending.{Sending}
-use Rattle.ira_order.specs.Ring.{numbered}
 use Rattle.ira_order.specs.Matching.{sent, got, sending, receipt}
 use Rattle.ira_order.specs.DirectDependencies.{IsSending, AreSendings}
 use Rattle.ira_order.proofs.OrderPrefixes.{counted_more, sends_nothing}

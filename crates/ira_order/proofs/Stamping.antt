@@ -4,7 +4,7 @@ use Rattle.std.proofs.Common.{refl, sym, ◌∙◌, ap, arith, take, get_or, Som
 use Rattle.std.specs.Prelude.{slice_get, slice_index}
 use Rattle.std.specs.List.{cons_option}
 use Rattle.ira_event.specs.declared.event.Event.{Event}
-use Rattle.ira_event.specs.declared.event.Event.TheVariants.{Got, Sent, Draw, Yield}
+use Rattle.ira_event.specs.declared.event.Event.TheVariants.{Got, Sent}
 use Rattle.ira_event.specs.declared.load.Load.{Load}
 use Rattle.ira_event.specs.Log.{Log}
 use Rattle.ira_order.specs.Ring.{log_of, next, numbered}
@@ -21,7 +21,7 @@ use Rattle.ira_order.proofs.Runs.{prev_next}
 use Rattle.ira_order.proofs.Counting.{count_own, count_stays, count_taken, counts_all}
 use Rattle.ira_order.proofs.Receipts.{receipts_by_le}
 use Rattle.std.proofs.lemmas.List.{get_or-take, get_or-append_right, get_or_append_left, get_or_past, length-take-le}
-use Rattle.std.proofs.lemmas.Option.{get_or_from_slice_get, slice_get_within}
+use Rattle.std.proofs.lemmas.Option.{slice_get_within}
 use Rattle.std.proofs.lemmas.Nat.{mul-add-lt, mul-le}
 
 -- a stamp is put after s others

@@ -1,5 +1,5 @@
 -- An event more at the end of the beginning of an order, and how far its nodes have come.
-use Rattle.std.proofs.Common.{◌≡◌, ◌≢◌, ℕ, ◌+◌, ◌-◌, ◌<◌, ◌≤◌, inl, inr, ◌↔◌, List, [], ◌∷◌, ◌++◌, length, refl, sym, ◌∙◌}
+use Rattle.std.proofs.Common.{◌≡◌, ◌≢◌, ℕ, ◌+◌, ◌-◌, ◌<◌, ◌≤◌, inl, inr, ◌↔◌, List, [], ◌∷◌, ◌++◌, length, sym, ◌∙◌}
 use Rattle.std.proofs.Common.{ap, arith, append_assoc, get_or, get_or-set_same, get_or-set_other, length-set, replicate}
 use Rattle.std.proofs.Common.{set, take, Some}
 use Rattle.std.specs.Prelude.{slice_get}

@@ -1,6 +1,6 @@
 -- The way back along direct dependencies: what an event counts of a node, link by link.
 use Rattle.std.proofs.Common.{◌≡◌, ◌≢◌, ℕ, zero, suc, ◌+◌, ◌-◌, ◌<◌, ◌≤◌, ◌⊎◌, inl, inr, List, length, refl, sym, ◌∙◌}
-use Rattle.std.proofs.Common.{ap, subst, arith, take, get_or, Some, add-one, set}
+use Rattle.std.proofs.Common.{ap, subst, arith, get_or, Some, add-one, set}
 use Rattle.std.specs.Prelude.{slice_get, slice_index}
 use Rattle.std.proofs.lemmas.Bool.{cases_lt, cases_eq}
 use Rattle.std.proofs.lemmas.Bool.Decides.{nat_tests}
@@ -13,7 +13,7 @@ use Rattle.ira_event.specs.Log.{Log}
 use Rattle.ira_order.specs.declared.node_dependencies.Sending.{Sending}
 use Rattle.ira_order.specs.Ring.{log_of, next, prev}
 use Rattle.ira_order.specs.Matching.{got, receipt}
-use Rattle.ira_order.specs.Order.{IsOrder, IsPair}
+use Rattle.ira_order.specs.Order.{IsPair}
 use Rattle.ira_order.specs.Circle.{HasOrder}
 use Rattle.ira_order.specs.VectorClock.{IsCount, AreCountsOfOthers}
 use Rattle.ira_order.specs.Stamps.{receipts_by}

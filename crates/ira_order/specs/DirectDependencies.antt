@@ -5,9 +5,7 @@ use Rattle.ira_event.specs.declared.event.Event.{Event}
 use Rattle.ira_event.specs.declared.event.Event.TheVariants.{Sent}
 use Rattle.ira_event.specs.declared.load.Load.{Load}
 use Rattle.ira_event.specs.Log.{Log}
-use Rattle.ira_event.specs.Logs.{AreLogs}
 use Rattle.ira_order.specs.declared.node_dependencies.Sending.{Sending}
-use Rattle.ira_order.specs.Circle.{HasOrder}
 use Rattle.ira_order.specs.Ring.{log_of, numbered}
 use Rattle.ira_order.specs.Matching.{sent, got}
 use Rattle.ira_order.specs.Stamps.{AreReceipts, receipts_by}

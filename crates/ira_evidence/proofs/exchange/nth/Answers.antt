@@ -26,8 +26,8 @@ returns-then-rank-k g c =
     let at = next_ahead c.args.log.now.events c.loop-event.position c.in-Some.event c.next.new.self (sym front
     ∙ c.loop-event.invariant.ahead) in
     let has : load_on c.args.side c.in-Some.event ≡ Some c.in-Some-load.load = search rules in
-    nth (load_on c.args.side) c.args.log.now.events c.loop-event.position c.args.k c.in-Some.event c.in-Some-load.load
-    at.0 has (omega (arith, c.loop-event.invariant.rank, c.if-rank-k.true))
+    nth (load_on c.args.side) c.args.place c.args.log.now.events c.loop-event.position c.args.k c.in-Some.event
+    c.in-Some-load.load at.0 has (omega (arith, c.loop-event.invariant.rank, c.if-rank-k.true))
 
 pub loop-event-preserved-else-rank-k : goal.loop-event-preserved-else-rank-k
 loop-event-preserved-else-rank-k g c =
