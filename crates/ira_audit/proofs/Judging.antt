@@ -1,55 +1,57 @@
--- What an audit that has judged by a definition of answers has answered.
+-- What texts that were judged by a definition of answers have been answered.
 use Rattle.std.proofs.Common.{◌≡◌, ◌≢◌, ◌↔◌, ℕ, List, IfOk, Result, Ok, Err, inl, inr, refl, subst, ap}
 use Rattle.ira_event.specs.Result.{UnlessErr}
 use Rattle.ira_event.specs.declared.out_of_memory.OutOfMemory.{OutOfMemory}
-use Rattle.ira_event.specs.Log.{Log}
-use Rattle.ira_replay.specs.declared.replay_fault.ReplayFault.{ReplayFault}
-use Rattle.ira_audit.specs.declared.reason.Reason.{Reason}
-use Rattle.ira_audit.specs.declared.reason.Reason.TheVariants as reason
-use Rattle.ira_audit.specs.declared.refusal.Refusal.{Refusal}
-use Rattle.ira_audit.specs.declared.refusal.Refusal.TheVariants as refusal
-use Rattle.ira_audit.specs.declared.answer.Answer.{Answer}
-use Rattle.ira_audit.specs.declared.answer.Answer.TheVariants.{Yes, No}
-use Rattle.ira_audit.specs.Refusal.{IsLogsReason, Judged, MatchRefusal, answered, order_refusal}
-use Rattle.ira_audit.specs.ReplayedLogs.{IsSearched, WhyNoOrder}
-use Rattle.ira_audit.specs.Report.{IsReportable}
+use Rattle.ira_event.specs.Log as log
 use Rattle.ira_event.specs.Logs.{AreLogs}
+use Rattle.ira_event.proofs.Unless.{ok_same}
 use Rattle.ira_order.specs.declared.match_fault.MatchFault.{MatchFault}
 use Rattle.ira_order.specs.declared.order_fault.OrderFault.{OrderFault}
 use Rattle.ira_order.specs.declared.order_fault.OrderFault.TheVariants as order
-use Rattle.ira_order.specs.Circle.{HasCircle, HasOrder}
+use Rattle.ira_order.specs.Circle.{HasCircle}
 use Rattle.ira_order.specs.MatchFault.{IsMatchFault}
 use Rattle.ira_order.specs.Ordered.{IsOrdered}
-use Rattle.ira_audit.specs.GoodLogs.{AreGoodLogs}
+use Rattle.ira_audit.specs.declared.reason.Reason.{Reason}
+use Rattle.ira_audit.specs.declared.reason.Reason.TheVariants.{Log, Heads, Match, Circle, Replay, Question, QuestionSize}
+use Rattle.ira_audit.specs.declared.reason.Reason.TheVariants.{Certificate, CertificateSize, Sections, Section}
+use Rattle.ira_audit.specs.declared.answer.Answer.{Answer}
+use Rattle.ira_audit.specs.declared.answer.Answer.TheVariants.{Yes, No}
+use Rattle.ira_audit.specs.declared.judged.Judged.{Judged}
+use Rattle.ira_audit.specs.declared.judged.Judged.TheVariants.{Refused, NoRing}
+use Rattle.ira_audit.specs.Judged.{IsJudged}
 use Rattle.ira_audit.specs.LogTexts.{AreLogTexts}
-use Rattle.ira_audit.specs.RingAnswer.{IsRingAnswer, IsFirstReplayFault, unmatched, circled, stopped, yes}
-use Rattle.ira_event.proofs.Unless.{ok_same}
+use Rattle.ira_audit.specs.Refusal.{IsLogsReason}
+use Rattle.ira_audit.specs.RefusedLogs.{AreRefused, IsReasonOf, RefusedLogs}
+use Rattle.ira_audit.specs.ReplayedLogs.{IsSearched}
+use Rattle.ira_audit.specs.RingAnswer.{IsRingAnswer, unmatched, circled, stopped}
+use Rattle.ira_audit.specs.TextRuns.{AreTextsOfRuns, AreTextsWithoutRun, IsOfRing}
+use Rattle.ira_audit.proofs.OneAnswer.{one_logs_answer}
+use Rattle.ira_audit.proofs.TextRuns.{no_means_no_run, yes_means_runs}
 
--- an answer that is right is the only one
-pub answered_exactly : {T : Type 0} (P : Answer → Type 0) → ((a b : Answer) → P a → P b → a ≡ b)
-    → (r : Result T Refusal) → Judged r P → (a : Answer)
-    → UnlessErr {T = Answer} {E = OutOfMemory} (answered r) (record {}) ((answered r ≡ Ok a) ↔ P a)
-answered_exactly P one (Ok done) h a = inr (λ e. subst P (ok_same Yes a e) h, λ k. ap Ok (one Yes a h k))
-answered_exactly P one (Err (refusal.No s)) h a =
-    inr (λ e. subst P (ok_same (No s) a e) h.0, λ k. ap Ok (one (No s) a h.0 k))
-answered_exactly P one (Err refusal.OutOfMemory) h a = inl refl
+-- what is right is what is said, where one thing alone is right
+pub said_exactly : {X : Type 0} (P : X → Type 0) → ((x y : X) → P x → P y → x ≡ y) → (x : X) → P x → (y : X)
+    → (x ≡ y) ↔ P y
+said_exactly P one x h y = (λ e. subst P e h, λ k. one x y h k)
 
-pub answered_holds : {T : Type 0} (P : Answer → Type 0) (r : Result T Refusal) → Judged r P → (a : Answer)
-    → answered r ≡ Ok a → P a
-answered_holds P (Ok done) h a e = subst P (ok_same Yes a e) h
-answered_holds P (Err (refusal.No s)) h a e = subst P (ok_same (No s) a e) h.0
-answered_holds P (Err refusal.OutOfMemory) h a e = absurd cc
+-- the same of a result
+pub exactly_unless : {X : Type 0} (P Q : X → Type 0) → ((x y : X) → P x → P y → x ≡ y) → (r : Result X OutOfMemory)
+    → IfOk r (λ x. P x × Q x) → (y : X) → UnlessErr {T = X} {E = OutOfMemory} r (record {}) ((r ≡ Ok y) ↔ P y)
+exactly_unless P Q one (Ok x) h y = inr (λ e. subst P (ok_same x y e) h.0, λ k. ap Ok (one x y h.0 k))
+exactly_unless P Q one (Err e) h y = inl refl
 
-pub answered_reportable : {T : Type 0} (P : Answer → Type 0) (r : Result T Refusal) → Judged r P
-    → IfOk (answered r) IsReportable
-answered_reportable P (Ok done) h = tt
-answered_reportable P (Err (refusal.No s)) h = h.1
-answered_reportable P (Err refusal.OutOfMemory) h = tt
+pub ok_holds : {X : Type 0} (P Q : X → Type 0) (r : Result X OutOfMemory) → IfOk r (λ x. P x × Q x) → (x : X)
+    → r ≡ Ok x → P x
+ok_holds P Q (Ok y) h x e = subst P (ok_same y x e) h.0
+ok_holds P Q (Err f) h x e = absurd cc
+
+pub ok_also : {X : Type 0} (P Q : X → Type 0) (r : Result X OutOfMemory) → IfOk r (λ x. P x × Q x) → IfOk r Q
+ok_also P Q (Ok x) h = h.1
+ok_also P Q (Err f) h = tt
 
 -- ---- texts of several logs
 
 -- what a search for an order gave
-pub searched : {V : Type 0} (logs : List Log) (items : V → List ℕ) (r : Result V OrderFault)
+pub searched : {V : Type 0} (logs : List log.Log) (items : V → List ℕ) (r : Result V OrderFault)
     → IfOk r (λ v. IsOrdered (record { logs = logs; schedule = items v }))
     → ((f : MatchFault) → (r ≡ Err (order.Match f)) ↔ IsMatchFault logs f)
     → (r ≢ Err order.OutOfMemory → (r ≡ Err order.Circle) ↔ HasCircle logs)
@@ -59,27 +61,40 @@ searched logs items (Err (order.Match f)) ok matching circle = (matching f).0 re
 searched logs items (Err order.Circle) ok matching circle = (circle (λ e. cc)).0 refl
 searched logs items (Err order.OutOfMemory) ok matching circle = tt
 
-module _ (texts : List (List ℕ)) (logs : List Log) (are : AreLogTexts texts logs) {U : Type 0} (P : U → Type 0)
-    (r : Result U Refusal) where
-  pub order_refused : (f : OrderFault) → r ≡ Err (order_refusal f) → AreLogs logs → WhyNoOrder logs f
-      → MatchRefusal r P (IsLogsReason texts)
-  order_refused (order.Match g) is ring h = rw is (unmatched logs g are ring h refl, tt)
-  order_refused order.Circle is ring h = rw is (circled logs are ring h refl, tt)
-  order_refused order.OutOfMemory is ring h = rw is tt
+-- the reason against the logs is the one against their texts
+reason_of_texts : (texts : List (List ℕ)) (logs : List log.Log) (r : Reason) → AreLogTexts texts logs → AreLogs logs
+    → IsReasonOf logs r → IsLogsReason texts r
+reason_of_texts texts logs (Match f) are ring h = (unmatched logs f are ring h refl, tt)
+reason_of_texts texts logs Circle are ring h = (circled logs are ring h refl, tt)
+reason_of_texts texts logs (Replay place position fault) are ring h =
+    (stopped logs place (record { position = position; fault = fault }) are ring h.0 h.1 refl, tt)
+reason_of_texts texts logs (Log number f) are ring h = absurd h
+reason_of_texts texts logs (Heads f) are ring h = absurd h
+reason_of_texts texts logs (Question f) are ring h = absurd h
+reason_of_texts texts logs QuestionSize are ring h = absurd h
+reason_of_texts texts logs (Certificate f) are ring h = absurd h
+reason_of_texts texts logs CertificateSize are ring h = absurd h
+reason_of_texts texts logs (Sections wanted found) are ring h = absurd h
+reason_of_texts texts logs (Section case f) are ring h = absurd h
 
-  pub stop_refused : (s : Reason) → r ≡ Err (refusal.No s) → AreLogs logs → HasOrder logs
-      → (place : ℕ) × (f : ReplayFault) × (s ≡ reason.Replay place f.position f.fault) × IsFirstReplayFault logs place f
-      → MatchRefusal r P (IsLogsReason texts)
-  stop_refused s is ring has h = rw (is, h.2) (stopped logs h.0 h.1 are ring has h.3 refl, tt)
+pub refused_reason : (texts : List (List ℕ)) (refused : RefusedLogs) → AreLogTexts texts refused.logs
+    → AreRefused refused → IsLogsReason texts refused.reason
+refused_reason texts refused are h = reason_of_texts texts refused.logs refused.reason are h.ring h.reason
 
--- ---- good logs, or why there are none
+module _ {A : Type 0} (texts : List (List ℕ)) (j : Judged A) (is : IsJudged texts j) where
+  pub refused_judged : (refused : RefusedLogs) → j ≡ Refused refused → IsLogsReason texts refused.reason
+  refused_judged refused e = let h = subst (IsJudged texts) e is in refused_reason texts refused h.0 h.1
 
-module _ (texts : List (List ℕ)) where
-  -- the logs are good, or this is the reason against them
-  abbrev pub AreFoundGood : Result (List Log) Refusal → Type 0
-  AreFoundGood found = MatchRefusal found (AreGoodLogs texts) (IsLogsReason texts)
+  pub no_ring_judged : (r : Reason) → j ≡ NoRing r → IsLogsReason texts r
+  no_ring_judged r e = let h = subst (IsJudged texts) e is in (h.0, h.2)
 
-  pub judged_logs : (found : Result (List Log) Refusal) → AreFoundGood found → Judged found (IsRingAnswer texts)
-  judged_logs (Ok logs) h = yes logs h refl
-  judged_logs (Err (refusal.No r)) h = h
-  judged_logs (Err refusal.OutOfMemory) h = tt
+-- what the answer of the texts says of them
+module _ (texts : List (List ℕ)) (x : Answer) (is : IsRingAnswer texts x) where
+  pub answer_exactly : (a : Answer) → (x ≡ a) ↔ IsRingAnswer texts a
+  answer_exactly a = said_exactly (IsRingAnswer texts) (one_logs_answer texts) x is a
+
+  pub answer_of_runs : x ≡ Yes → AreTextsOfRuns texts
+  answer_of_runs e = yes_means_runs texts (subst (IsRingAnswer texts) e is)
+
+  pub answer_without_run : (r : Reason) → IsOfRing r → x ≡ No r → AreTextsWithoutRun texts
+  answer_without_run r of e = no_means_no_run texts r (subst (IsRingAnswer texts) e is) of

@@ -3,7 +3,6 @@ pub mod Judging
 pub mod KeptHeads
 pub mod LogAudits
 pub mod LogTexts
-pub mod LogsAnswered
 pub mod MadeCertificates
 pub mod NeverMet
 pub mod OneAnswer

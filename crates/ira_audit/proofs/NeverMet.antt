@@ -1,9 +1,11 @@
 -- What a yes says: that no consistent cut of the logs meets any case.
-use Rattle.std.proofs.Common.{◌≡◌, ℕ, List, length, refl, sym, subst, arith}
+use Rattle.std.proofs.Common.{◌≡◌, ℕ, List, [], ◌∷◌, ◌++◌, inl, inr, length, refl, sym, subst, arith}
 use Rattle.std.specs.Prelude.{slice_index}
+use Rattle.std.proofs.lemmas.List.Elements.{Contains-push_cases}
 use Rattle.std.proofs.lemmas.Option.{slice_get_read}
 use Rattle.ira_event.specs.Log.{Log}
 use Rattle.ira_event.specs.Logs.{AreLogs}
+use Rattle.ira_pred.specs.Case.{Conjunct}
 use Rattle.ira_pred.specs.Formula.{leader}
 use Rattle.ira_pred.specs.Question.{QuestionCases}
 use Rattle.ira_pred.specs.QuestionText.{IsQuestionText}
@@ -16,9 +18,11 @@ use Rattle.ira_order.specs.Circle.{HasOrder}
 use Rattle.ira_order.proofs.Cuts.{moment_cut}
 use Rattle.ira_order.proofs.RunsOfLogs.{every_order_is_run}
 use Rattle.ira_cert_text.specs.Certificate.{Section}
+use Rattle.ira_cert.specs.Conjuncts.{HasDifferentPlaces}
 use Rattle.ira_cert.specs.SoundSection.{IsSoundSection}
 use Rattle.ira_cert.proofs.NoCut.{sound_leaves_no_cut}
 use Rattle.ira_cand.specs.Meets.{Meets}
+use Rattle.ira_elim.specs.Found.{IsAbsence}
 use Rattle.ira_safety.specs.OneLeader.{Leads}
 use Rattle.ira_safety.proofs.Leaders.{one_leader_at_a_cut}
 use Rattle.ira_audit.specs.declared.answer.Answer.{Answer}
@@ -44,6 +48,17 @@ no_cut texts question logs asked sections posed sound = λ case cut has consiste
     let section = partner_at asked.cases sections has.0 case (IsSoundSection logs) sound at in
     sound_leaves_no_cut logs case section.0 cut (different_places asked posed.question_is.valid has.0 case at)
     (zipped_at (IsSoundSection logs) asked.cases sections has.0 case section.0 sound at section.1) consistent
+
+-- one case more that is absent
+pub absent_more : (logs : List Log) (cases : List (List Conjunct)) (case : List Conjunct) (section : Section)
+    → HasDifferentPlaces case → NoCutMeetsAny logs cases → IsAbsence logs case section
+    → NoCutMeetsAny logs (cases ++ case ∷ [])
+absent_more logs cases case section differ never is = λ other cut has consistent.
+    elim (Contains-push_cases cases case other has) [
+      | inl old ↦ never other cut old consistent
+      | inr new ↦ subst (λ x. ¬ (Meets logs x cut)) new
+          (sound_leaves_no_cut logs case section cut differ is.sound consistent)
+    ]
 
 -- the texts are answered yes
 pub yes_never : (texts : List (List ℕ)) (question certificate : List ℕ) (a : Answer)

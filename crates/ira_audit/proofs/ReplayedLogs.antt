@@ -1,70 +1,54 @@
--- What the replay of some logs, and of one more, gave.
-use Rattle.std.proofs.Common.{◌≡◌, ℕ, zero, suc, ◌<◌, List, [], ◌∷◌, ◌++◌, true, false, Result, Ok, Err, Some, length}
-use Rattle.std.proofs.Common.{refl, sym, ◌∙◌, subst, arith}
-use Rattle.std.specs.Prelude.{slice_get, is_ok}
-use Rattle.std.proofs.lemmas.Option.{slice_get_within, same_Some}
+-- What the first events without a step of a ring's logs say of the logs.
+use Rattle.std.proofs.Common.{◌≡◌, ℕ, zero, suc, ◌<◌, ◌+◌, List, [], ◌∷◌, ◌++◌, Some, None, inl, inr, length, refl, ap}
+use Rattle.std.proofs.Common.{arith}
+use Rattle.std.specs.Prelude.{slice_get}
 use Rattle.ira_event.specs.Log.{Log}
-use Rattle.ira_event.specs.Logs.{AreLogs}
-use Rattle.ira_replay.specs.declared.replay_fault.ReplayFault.{ReplayFault}
 use Rattle.ira_replay.specs.LocalRun.{IsLocalRun}
+use Rattle.ira_replay.proofs.FirstFaults.{run_or_stop}
+use Rattle.ira_order.specs.declared.faulty_event.FaultyEvent.{FaultyEvent}
+use Rattle.ira_order.specs.FaultyEvent.{AreFirstFaultyEvents}
 use Rattle.ira_order.specs.Run.{AreLocalRuns}
-use Rattle.ira_audit.specs.declared.reason.Reason.{Reason}
-use Rattle.ira_audit.specs.declared.reason.Reason.TheVariants.{Replay}
+use Rattle.ira_order.proofs.FaultyEvents.{is_stop, stop_of}
 use Rattle.ira_audit.specs.RingAnswer.{IsFirstReplayFault}
-use Rattle.ira_audit.specs.ReplayedLogs.{IsReplayed, AreReplayed}
 
--- a member before the last one
-before_last : (logs : List Log) (last : Log) (i : ℕ) → i < length logs
-    → slice_get (logs ++ last ∷ []) i ≡ slice_get logs i
-before_last [] last i lt = absurd (omega (arith, lt))
-before_last (l ∷ ls) last zero lt = refl
-before_last (l ∷ ls) last (suc i) lt = before_last ls last i (omega (arith, lt))
+-- the member after some
+pub member_after : {X : Type 0} (xs ys : List X) (x : X) → slice_get (xs ++ x ∷ ys) (length xs) ≡ Some x
+member_after [] ys x = refl
+member_after (z ∷ xs) ys x = member_after xs ys x
 
--- the last member
-at_last : (logs : List Log) (last : Log) → slice_get (logs ++ last ∷ []) (length logs) ≡ Some last
-at_last [] last = refl
-at_last (l ∷ ls) last = at_last ls last
+none_at : {X : Type 0} (xs : List X) (k : ℕ) (x : X) → slice_get xs 0 ≡ None → slice_get xs k ≡ Some x → ⊥
+none_at [] k x none at = cc
+none_at (y ∷ xs) k x none at = cc
 
--- one local run more
-runs_more : (logs : List Log) (log : Log) → AreLocalRuns logs → IsLocalRun log → AreLocalRuns (logs ++ log ∷ [])
-runs_more [] log all own zero x e = subst IsLocalRun (same_Some log x e) own
-runs_more [] log all own (suc i) x e = absurd cc
-runs_more (l ∷ ls) log all own zero x e = all 0 x e
-runs_more (l ∷ ls) log all own (suc i) x e = runs_more ls log (λ j y h. all (suc j) y h) own i x e
+module _ (logs : List Log) (stops : List FaultyEvent) (are : AreFirstFaultyEvents logs stops) where
+  -- where there is none, all are local runs
+  pub all_run : slice_get stops 0 ≡ None → AreLocalRuns logs
+  all_run none i log at = elim (run_or_stop log) [
+    | inl run ↦ run
+    | inr stop ↦
+        let found = are.all (stop_of i stop.0) (is_stop logs i log stop.0 at stop.1) in
+        absurd (none_at stops found.0 (stop_of i stop.0) none found.1)
+  ]
 
--- one log more after local runs
-pub more_runs : (logs : List Log) (log : Log) (steps own : Result (Unit {0}) Reason) → true ≡ is_ok steps
-    → AreReplayed logs steps → IsReplayed log own → AreReplayed (logs ++ log ∷ []) own
-more_runs logs log (Ok done) (Ok own) good all is = runs_more logs log all is
-more_runs logs log (Ok done) (Err r) good all is =
-    let stop : IsFirstReplayFault (logs ++ log ∷ []) (length logs) is.0 = record {
-      before = λ i earlier lt at. all i earlier (sym (before_last logs log i lt) ∙ at);
-      log = log;
-      at = at_last logs log;
-      fault = is.2;
-    } in
-    (length logs, is.0, stop, is.1)
-more_runs logs log (Err r) own good all is = absurd cc
+  -- a stop is the first one or comes after it
+  not_before : (s t : FaultyEvent) (k : ℕ) → slice_get stops 0 ≡ Some s → slice_get stops k ≡ Some t
+      → t.at.place < s.at.place → ⊥
+  not_before s t zero first at less = let same : s ≡ t = cc in omega (arith, less, ap (λ x. x.at.place) same)
+  not_before s t (suc k) first at less = omega (arith, less, are.rise 0 (suc k) s t (omega arith) first at)
 
--- one log more after an event without a step
-pub more_stopped : (logs : List Log) (log : Log) (steps : Result (Unit {0}) Reason) → false ≡ is_ok steps
-    → AreReplayed logs steps → AreReplayed (logs ++ log ∷ []) steps
-more_stopped logs log (Ok done) bad h = absurd cc
-more_stopped logs log (Err r) bad h =
-    let place = h.0 in
-    let old = h.2 in
-    let low : place < length logs = slice_get_within logs place old.log old.at in
-    let stop : IsFirstReplayFault (logs ++ log ∷ []) place h.1 = record {
-      before = λ i earlier lt at. old.before i earlier lt (sym (before_last logs log i (omega (arith, lt, low))) ∙ at);
-      log = old.log;
-      at = before_last logs log place low ∙ old.at;
-      fault = old.fault;
-    } in
-    (place, h.1, stop, h.3)
-
--- the reason names the place of the log in its ring
-pub stop_placed : (logs : List Log) (r : Reason) → AreLogs logs → AreReplayed logs (Err r) → (place : ℕ)
-    × (f : ReplayFault) × (r ≡ Replay place f.position f.fault) × IsFirstReplayFault logs place f
-stop_placed logs r are h =
-    let named : h.2.log.place ≡ h.0 = are.places h.0 h.2.log h.2.at in
-    (h.0, h.1, subst (λ place. r ≡ Replay place h.1.position h.1.fault) named h.3, h.2)
+  -- the first is that of the first log that is no local run
+  pub first_stop : (s : FaultyEvent) → slice_get stops 0 ≡ Some s
+      → IsFirstReplayFault logs s.at.place (record { position = s.at.position; fault = s.fault })
+  first_stop s first =
+      let is = are.each 0 s first in
+      record {
+        before = λ i earlier less at. elim (run_or_stop earlier) [
+          | inl run ↦ run
+          | inr stop ↦
+              let found = are.all (stop_of i stop.0) (is_stop logs i earlier stop.0 at stop.1) in
+              absurd (not_before s (stop_of i stop.0) found.0 first found.1 less)
+        ];
+        log = is.log;
+        at = is.log_is;
+        fault = is.fault;
+      }

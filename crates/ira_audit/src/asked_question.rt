@@ -1,5 +1,6 @@
 ghost use Rattle.std.specs.Prelude.{◌≡◌, ◌<◌, ◌≤◌, ℕ, List, Some, IfOk, MatchOption, length, slice_get};
 ghost use Rattle.ira_pred.specs.Case.{Conjunct};
+ghost use Rattle.ira_pred.specs.Question.{IsQuestion};
 ghost use Rattle.ira_cert_text.specs.CertText.{IsCertText};
 ghost use Rattle.ira_cert.specs.Conjuncts.{HasPlacesOf};
 ghost use Rattle.ira_elim.specs.Found.{IsFound};
@@ -40,11 +41,15 @@ pub struct AskedQuestion<'a, A: Allocator> {
 }
 
 impl<'a, A: Allocator> Model for AskedQuestion<'a, A> {
+    ghost use Rattle.std.specs.Coded.{codes};
     ghost use Rattle.std.specs.Prelude.{◌≡◌, length};
+    ghost use Rattle.ira_pred.specs.FormulaCode.{formula_code};
     ghost use Rattle.ira_audit.specs.AskedQuestion.{AskedQuestion};
     ghost use Rattle.ira_audit.specs.GoodLogs.{AreGood};
 
     ghost Value = { AskedQuestion };
+
+    ghost coded = { Prim.hlevel (codes, formula_code) };
 
     ghost view = { λ a. record { logs = a.dependencies; question = a.question } };
 
@@ -70,7 +75,7 @@ impl<'a, A: Allocator + Clone> AskedQuestion<'a, A> {
 
     /// The question, for which the rest is let go.
     pub fn into_question(self) -> Question<A>
-        ensures { result ≡ self.question }
+        ensures { result ≡ self.entry.question }
     {
         let AskedQuestion { question, .. } = self;
         question
@@ -81,6 +86,7 @@ impl<'a, A: Allocator + Clone> AskedQuestion<'a, A> {
         ensures value { result.now ≡ self.now.question.cases }
         ensures places { (i : ℕ) (case : List Conjunct) → slice_get self.now.question.cases i ≡ Some case
             → HasPlacesOf self.now.logs case }
+        ensures valid { IsQuestion self.now.question }
     {
         self.question.cases()
     }
@@ -116,8 +122,9 @@ impl<'a, A: Allocator + Clone> AskedQuestion<'a, A> {
         ensures { (case : List Conjunct) → slice_get self.now.question.cases number ≡ Some case
             → IfOk result (IsFound self.now.logs case) }
     {
-        let case = &self.cases()[number];
-        let profiles = Profiles::new(self.alloc.clone()?, self.logs(), &[])?;
+        let cases = self.cases();
+        let case = &cases[number];
+        let profiles = Profiles::new(self.alloc.clone()?, self.logs(), &cases[..0])?;
         decide_profiled(self.alloc.clone()?, &profiles, &self.dependencies, case)
     }
 

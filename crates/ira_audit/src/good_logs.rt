@@ -43,11 +43,10 @@ impl<A: Allocator + Clone> GoodLogs<A> {
 
     /// The question of the text, if it is asked of this ring. Which event happened before which is found for it, once.
     pub fn ask(&self, text: &[u8]) -> Result<AskedQuestion<'_, A>, Refusal>
-        ensures asked { MatchRefusal result
+        ensures { MatchRefusal result
             (λ asked. (asked.logs ≡ self.now) × IsQuestionText text.now asked.question
             × (asked.question.nodes ≡ length self.now))
             (IsQuestionRefusal text.now (length self.now)) }
-        ensures good { AreGood self.now }
     {
         let question = read_question(self.alloc.clone()?, text)?;
         if question.nodes().get() != self.logs.size().get() {

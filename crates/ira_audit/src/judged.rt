@@ -1,4 +1,4 @@
-ghost use Rattle.std.specs.Prelude.{◌≡◌, ◌↔◌, ℕ, List, Ok, IfOk, MatchOption, MatchResult};
+ghost use Rattle.std.specs.Prelude.{◌≡◌, ◌↔◌, ◌≤◌, ℕ, List, Ok, IfOk, MatchOption, MatchResult};
 ghost use Rattle.ira_event.specs.Log.{Log};
 ghost use Rattle.ira_event.specs.Logs.{AreLogs};
 ghost use Rattle.ira_event.specs.Result.{UnlessErr};
@@ -15,6 +15,7 @@ ghost use Rattle.ira_audit.specs.RefusedLogs.{IsReasonOf};
 ghost use Rattle.ira_audit.specs.ReplayedLogs.{IsSearched};
 ghost use Rattle.ira_audit.specs.Report.{IsReportable};
 ghost use Rattle.ira_audit.specs.RingAnswer.{IsRingAnswer};
+ghost use Rattle.ira_audit.specs.TextRuns.{AreTextsOfRuns, AreTextsWithoutRun, IsOfRing};
 ghost use Rattle.ira_audit.specs.declared.answer.Answer.{Answer};
 ghost use Rattle.ira_audit.specs.declared.reason.Reason.{Reason};
 
@@ -54,6 +55,11 @@ fn first_reason<A: Allocator>(
         → IfOk result (λ reason. MatchOption reason (AreGood logs) (IsReasonOf logs)) }
 {
     match order {
+        Err(fault) => match fault {
+            OrderFault::Match(fault) => Ok(Some(Reason::Match(fault))),
+            OrderFault::Circle => Ok(Some(Reason::Circle)),
+            OrderFault::OutOfMemory => Err(OutOfMemory),
+        },
         Ok(_) => match faulty_events.first() {
             None => Ok(None),
             Some(event) => Ok(Some(Reason::Replay {
@@ -62,9 +68,6 @@ fn first_reason<A: Allocator>(
                 fault: event.fault,
             })),
         },
-        Err(OrderFault::Match(fault)) => Ok(Some(Reason::Match(fault))),
-        Err(OrderFault::Circle) => Ok(Some(Reason::Circle)),
-        Err(OrderFault::OutOfMemory) => Err(OutOfMemory),
     }
 }
 
@@ -94,11 +97,15 @@ impl<A: Allocator + Clone> Judged<A> {
         }
     }
 
-    /// The answer of the texts: the first reason against them, or yes.
+    /// The answer of the texts: the first reason against them, or yes. It says of them what `audit_logs` says.
     pub fn answer(&self) -> Answer
         ensures answer { (texts : List (List ℕ)) (a : Answer) → IsJudged texts self.now
             → (result ≡ a) ↔ IsRingAnswer texts a }
         ensures reportable { (texts : List (List ℕ)) → IsJudged texts self.now → IsReportable result }
+        ensures runs { (texts : List (List ℕ)) → IsJudged texts self.now → result ≡ Answer.Yes
+            → AreTextsOfRuns texts }
+        ensures no_run { (texts : List (List ℕ)) (r : Reason) → IsJudged texts self.now → IsOfRing r
+            → result ≡ Answer.No r → AreTextsWithoutRun texts }
     {
         match self {
             Judged::Good(_) => Answer::Yes,

@@ -112,12 +112,12 @@ pub(crate) fn split_replayed<A: Allocator + Clone>(
     let mut faulty_events = Vec::new(alloc);
     for read in replayed {
         let ReplayedLog { log, first_fault } = read;
+        let place = log.place();
+        logs.push(log)?;
         if let Some(ReplayFault { position, fault }) = first_fault {
-            let place = log.place();
             let at = EventAt { place, position };
             faulty_events.push(FaultyEvent { at, fault })?;
         }
-        logs.push(log)?;
     }
     Ok((logs, faulty_events))
 }

@@ -2,7 +2,7 @@ use Rattle.std.proofs.Common.{◌≡◌, Err, None, ap, length, refl, sym, subst
 use Rattle.std.proofs.lemmas.Result.{err_from_is_err_and}
 use Rattle.ira_event.specs.Logs.{AreLogs}
 use Rattle.ira_audit.specs.LogTexts.{AreLogTexts}
-use Rattle.ira_audit.specs.ReplayedLogs.{AreReplayed}
+use Rattle.ira_order.specs.FaultyEvent.{AreFirstFaultyEvents}
 use Rattle.ira_audit.specs.RingAudit.{AreKept, HasTaken, StandFor}
 use Rattle.ira_audit.proofs.KeptHeads.{as_many, fault_stands, ring_stands}
 use Rattle.ira_audit.proofs.LogTexts.{first_fault}
@@ -33,7 +33,12 @@ returns-in_err-gather-clause-texts g c = λ texts taken.
 pub returns-clause-replayed : goal.returns-clause-replayed
 returns-clause-replayed g c =
     let gathered = (c.in_ok-gather.ensures.ok c.in_ok-gather.field-0).0 refl in
-    (gathered.1, subst (λ logs. AreReplayed logs c.in_ok-logs.steps) (sym gathered.0) c.in_ok-logs.ensures.1)
+    let there = gathered.0 ∙ c.in_ok-logs.ensures.0 in
+    let stops = c.in_ok-logs.faulty_events.items in (
+      gathered.1,
+      subst (λ logs. AreFirstFaultyEvents logs stops) (sym there)
+          (c.in_ok-logs.ensures.1 (subst AreLogs there gathered.1)),
+    )
 
 pub returns-clause-texts : goal.returns-clause-texts
 returns-clause-texts g c = λ texts taken.

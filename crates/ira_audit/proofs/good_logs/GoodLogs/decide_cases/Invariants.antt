@@ -1,7 +1,0 @@
-use Rattle.std.proofs.Common.{take}
-use Rattle.std.specs.List.{AllZip}
-use Rattle.ira_elim.specs.Found.{IsFound}
-use Rattle.ira_audit.proofs.good_logs.GoodLogs.decide_cases.Given as goal
-
-abbrev pub invariant-loop-case : goal.invariant-loop-case
-invariant-loop-case g l = AllZip (IsFound l.self) (take l.case-index l.cases) l.found.items
