@@ -36,6 +36,6 @@ pub use log_audit::LogAudit;
 pub use reason::Reason;
 pub use refusal::Refusal;
 pub use refused_logs::RefusedLogs;
-pub use report::write_report;
+pub use report::{reason_line, write_report};
 pub use ring_audit::RingAudit;
 pub use written_findings::WrittenFindings;

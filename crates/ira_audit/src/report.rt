@@ -133,8 +133,8 @@ fn section_line(case: u64, fault: SectionFault) -> Line
     }
 }
 
-/// The words of a reason.
-fn reason_line(reason: &Reason) -> Line
+/// The words of a reason: the line of its answer, without the line feed.
+pub fn reason_line(reason: &Reason) -> Line
     ensures text { result ≡ reason_words reason.now }
     ensures room { length result < MAX_LINE }
 {
