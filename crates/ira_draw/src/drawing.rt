@@ -1,5 +1,5 @@
-ghost use Rattle.std.specs.Prelude.{◌≡◌, ℕ, Err, IfErr, IfOk, length};
-ghost use Rattle.std.specs.Option.{ForSome};
+ghost use Rattle.std.specs.Prelude.{◌≡◌, ℕ, Err, IfErr, IfOk};
+ghost use Rattle.ira_moment.specs.ChosenMoment.{IsMomentOf};
 ghost use Rattle.ira_view_page.specs.Printable.{IsPrintable};
 ghost use Rattle.ira_picture.specs.DrawFault.{HasTooManyEvents, IsDrawFault};
 
@@ -7,19 +7,20 @@ use crate::arrows::write_arrows;
 use crate::class;
 use crate::frame::{write_columns, write_head};
 use crate::grid::Grid;
+use crate::headline::{ToldReason, reason_words};
 use crate::highlight::{Cause, Highlight, highlights};
 use crate::labels::write_labels;
 use crate::lanes::write_lanes;
 use crate::legend::{legend_foot, write_legend};
 use crate::marks::write_marks;
-use crate::moment_line::write_moment;
-use crate::objection::Objection;
+use crate::moment_line::{moment_words, write_moment};
 use crate::svg::Svg;
-use crate::view::View;
-use ira_event::Logs;
+use ira_audit::RefusedLogs;
+use ira_event::{Logs, OutOfMemory};
+use ira_moment::ChosenMoment;
 use ira_order::EventAt;
-use ira_picture::{DrawFault, Picture};
-use ira_view_page::{Page, PageText};
+use ira_picture::{ColumnRange, DrawFault, Picture};
+use ira_view_page::PageText;
 use std::alloc::Allocator;
 
 /// The column of an event that is drawn.
@@ -84,56 +85,86 @@ fn is_ringed<A: Allocator>(picture: &Picture<A>, events: &[Highlight]) -> bool {
         .any(|event| column_of(picture, event.at).is_some())
 }
 
-/// Writes a picture.
-fn write_picture<A: Allocator>(
+/// Writes what all pictures have below the marks that are particular to one: the frame, the lanes and what is on them. It
+/// gives where columns and lanes stand.
+fn write_run<A: Allocator>(
     out: &mut Svg<A>,
     nodes: u8,
     picture: &Picture<A>,
-    view: &View<'_>,
-    objection: Option<Objection>,
-    events: &[Highlight],
-) {
+    told: Option<ToldReason<'_>>,
+) -> Grid {
     let grid = Grid::new(nodes, picture.window.first, picture.window.last);
     let height = legend_foot(picture, &grid).saturating_add(20);
-    let is_ringed = is_ringed(picture, events);
-    write_head(out, picture, &grid, objection, is_ringed, height);
+    write_head(out, picture, &grid, told, height);
     write_columns(out, &grid);
     write_lanes(out, picture, &grid);
     write_arrows(out, picture, &grid);
     write_marks(out, picture, &grid);
     write_labels(out, picture, &grid);
-    write_highlights(out, picture, &grid, events);
-    if let (Some(moment), Some(column)) = (&view.moment, picture.line) {
-        write_moment(out, &grid, column, moment);
-    }
-    write_legend(out, picture, &grid);
-    out.page.words("</svg>\n");
+    grid
 }
 
-/// The text of an SVG file: a space-time diagram of the logs of a ring, also of logs that aren't those of a run, whose
-/// fault is marked. These have no moment.
+/// Writes the legend, and ends the picture.
+fn finish<A: Allocator>(
+    mut out: Svg<A>,
+    picture: &Picture<A>,
+    grid: &Grid,
+) -> Result<PageText<A>, OutOfMemory>
+    ensures { IfOk result IsPrintable }
+{
+    write_legend(&mut out, picture, grid);
+    out.page.words("</svg>\n");
+    out.page.finish()
+}
+
+/// The text of an SVG file: a space-time diagram of the logs of a run at the columns that are asked for, with a line at the
+/// moment.
 pub fn draw<A: Allocator + Clone>(
     alloc: A,
     logs: &Logs<A>,
-    view: &View<'_>,
+    moment: &ChosenMoment<A>,
+    columns: ColumnRange,
 ) -> Result<PageText<A>, DrawFault>
-    requires { ForSome view.now.moment (λ m. length m.cut.now ≡ length logs.now) }
+    requires { IsMomentOf logs.now moment.now }
     ensures printable { IfOk result IsPrintable }
     ensures fault { IfErr result IsDrawFault }
     ensures events { (events : ℕ) → result ≡ Err (DrawFault.TooManyEvents events)
-        → HasTooManyEvents logs.now view.now.from view.now.to events }
+        → HasTooManyEvents logs.now columns.from columns.to events }
 {
-    let objection = Objection::find(alloc.clone()?, logs)?;
-    let events = highlights(alloc.clone()?, logs, objection)?;
-    let cut = match &view.moment {
-        Some(moment) if objection.is_none() => Some(moment.cut),
-        _ => None,
+    let ColumnRange { from, to } = columns;
+    let picture = Picture::of(alloc.clone()?, logs, moment.cut(), from, to)?;
+    let words = moment_words(alloc.clone()?, moment)?;
+    let mut out = Svg::new(alloc);
+    let grid = write_run(&mut out, logs.size().get(), &picture, None);
+    if let Some(column) = picture.line {
+        write_moment(&mut out, &grid, column, words.bytes(), moment.case());
+    }
+    Ok(finish(out, &picture, &grid)?)
+}
+
+/// The same of the logs of no run: what the reason against them speaks of is marked.
+pub fn draw_refused<A: Allocator + Clone>(
+    alloc: A,
+    refused: &RefusedLogs<A>,
+    columns: ColumnRange,
+) -> Result<PageText<A>, DrawFault>
+    ensures printable { IfOk result IsPrintable }
+    ensures fault { IfErr result IsDrawFault }
+    ensures events { (events : ℕ) → result ≡ Err (DrawFault.TooManyEvents events)
+        → HasTooManyEvents refused.now.logs columns.from columns.to events }
+{
+    let ColumnRange { from, to } = columns;
+    let logs = refused.logs();
+    let picture = Picture::of(alloc.clone()?, logs, None, from, to)?;
+    let events = highlights(alloc.clone()?, refused)?;
+    let words = reason_words(alloc.clone()?, refused.reason())?;
+    let told = ToldReason {
+        reason: refused.reason(),
+        words: words.bytes(),
+        is_ringed: is_ringed(&picture, &events),
     };
-    let picture = Picture::of(alloc.clone()?, logs, cut, view.from, view.to)?;
-    let mut out = Svg {
-        page: Page::new(alloc),
-    };
-    let nodes = logs.size().get();
-    write_picture(&mut out, nodes, &picture, view, objection, &events);
-    Ok(out.page.finish()?)
+    let mut out = Svg::new(alloc);
+    let grid = write_run(&mut out, logs.size().get(), &picture, Some(told));
+    write_highlights(&mut out, &picture, &grid, &events);
+    Ok(finish(out, &picture, &grid)?)
 }

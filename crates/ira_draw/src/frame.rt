@@ -2,8 +2,7 @@ ghost use Rattle.std.specs.Prelude.{◌<◌};
 
 use crate::class;
 use crate::grid::{Grid, LEFT, TOP};
-use crate::headline::{write_description, write_heading, write_summary};
-use crate::objection::Objection;
+use crate::headline::{ToldReason, write_description, write_heading, write_summary};
 use crate::style::{MARKERS, write_style};
 use crate::svg::Svg;
 use ira_picture::Picture;
@@ -13,16 +12,11 @@ use std::alloc::Allocator;
 const MOST_LINES: usize = 64;
 
 /// What is read out in place of the picture.
-fn write_words<A: Allocator>(
-    out: &mut Svg<A>,
-    picture: &Picture<A>,
-    objection: Option<Objection>,
-    is_ringed: bool,
-) {
+fn write_words<A: Allocator>(out: &mut Svg<A>, picture: &Picture<A>, told: Option<ToldReason<'_>>) {
     out.page.words("<title id=\"t\">");
-    write_heading(&mut out.page, picture, objection);
+    write_heading(out, picture, told);
     out.page.words("</title>\n<desc id=\"d\">");
-    write_summary(&mut out.page, picture, objection, is_ringed);
+    write_summary(&mut out.page, picture, told);
     for (place, lane) in picture.lanes.iter().enumerate() {
         if place < MOST_LINES {
             write_description(&mut out.page, place, lane);
@@ -34,13 +28,12 @@ fn write_words<A: Allocator>(
     out.page.words("</desc>\n");
 }
 
-/// The beginning of the picture: its size, words, colours and heading.
+/// The beginning of the picture: its size, words, colours and heading; of refused logs what is told of the reason.
 pub(crate) fn write_head<A: Allocator>(
     out: &mut Svg<A>,
     picture: &Picture<A>,
     grid: &Grid,
-    objection: Option<Objection>,
-    is_ringed: bool,
+    told: Option<ToldReason<'_>>,
     height: u64,
 ) {
     let width = grid.width();
@@ -53,7 +46,7 @@ pub(crate) fn write_head<A: Allocator>(
     out.number("width", width);
     out.number("height", height);
     out.page.words(" role=\"img\" aria-labelledby=\"t d\">\n");
-    write_words(out, picture, objection, is_ringed);
+    write_words(out, picture, told);
     write_style(out, picture.has_terms());
     out.page.words("<defs>");
     out.page.words(MARKERS);
@@ -63,15 +56,15 @@ pub(crate) fn write_head<A: Allocator>(
     out.number("height", height);
     out.number("rx", 6);
     out.page.words("/>\n");
-    if objection.is_some() {
+    if told.is_some() {
         out.begin_text(class::NAMED_TITLE, 16, 28);
     } else {
         out.begin_text(class::TITLE, 16, 28);
     }
-    write_heading(&mut out.page, picture, objection);
+    write_heading(out, picture, told);
     out.page.words("</text>");
     out.begin_text(class::ASIDE, 16, 48);
-    write_summary(&mut out.page, picture, objection, is_ringed);
+    write_summary(&mut out.page, picture, told);
     out.page.words("</text>\n");
 }
 

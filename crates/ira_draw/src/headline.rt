@@ -1,10 +1,40 @@
-use crate::highlight::write_receipt;
-use crate::objection::Objection;
+ghost use Rattle.std.specs.Option.{ForSome};
+ghost use Rattle.std.specs.Prelude.{◌≡◌, IfOk};
+ghost use Rattle.ira_audit.specs.Report.{reason_words};
+ghost use Rattle.ira_view_page.specs.Page.{Added};
+ghost use Rattle.ira_draw.specs.Escaped.{escaped};
+
+use crate::svg::Svg;
+use ira_audit::{Reason, reason_line};
+use ira_event::{MemorySink, OutOfMemory, WriteFault};
 use ira_node::Phase;
-use ira_order::MatchFault;
 use ira_picture::{Lane, Picture};
 use ira_view_page::Page;
 use std::alloc::Allocator;
+
+/// The words of a reason against logs: the line of their answer, without its line feed.
+pub(crate) fn reason_words<A: Allocator>(
+    alloc: A,
+    reason: Reason,
+) -> Result<MemorySink<A>, OutOfMemory>
+    ensures { IfOk result (λ words. words.bytes ≡ reason_words reason) }
+{
+    let mut words = MemorySink::new(alloc);
+    match reason_line(&reason).write(&mut words) {
+        Ok(()) => Ok(words),
+        Err(WriteFault) => Err(OutOfMemory),
+    }
+}
+
+/// The reason against the logs that are drawn.
+#[derive(Clone, Copy)]
+pub(crate) struct ToldReason<'a> {
+    pub(crate) reason: Reason,
+    /// The line of the answer, without its line feed.
+    pub(crate) words: &'a [u8],
+    /// Whether an event that it speaks of is drawn.
+    pub(crate) is_ringed: bool,
+}
 
 /// Adds who leads in the end.
 fn write_leaders<A: Allocator>(page: &mut Page<A>, picture: &Picture<A>) {
@@ -28,37 +58,17 @@ fn write_leaders<A: Allocator>(page: &mut Page<A>, picture: &Picture<A>) {
     }
 }
 
-/// Adds the answer to logs that something stands against.
-fn write_answer<A: Allocator>(page: &mut Page<A>, objection: Objection) {
-    match objection {
-        Objection::Link(fault) => {
-            let (MatchFault::NoSending { link, .. } | MatchFault::Differs { link, .. }) = fault;
-            page.words("no: link ");
-            page.number(link as u64);
-            page.words(": ");
-            write_receipt(page, fault);
-        }
-        Objection::Circle => page.words("no: circle"),
-        Objection::Node(named) => {
-            page.words("no: node ");
-            page.number(named.at.place as u64);
-            page.words(": event ");
-            page.number(named.at.position as u64);
-            page.words(": ");
-            page.fault(named.fault);
-        }
-    }
-}
-
-/// Adds what the picture shows: the answer that the logs have, or who leads.
+/// Adds what the picture shows: the reason against the logs, or who leads.
 pub(crate) fn write_heading<A: Allocator>(
-    page: &mut Page<A>,
+    out: &mut Svg<A>,
     picture: &Picture<A>,
-    objection: Option<Objection>,
-) {
-    match objection {
-        Some(objection) => write_answer(page, objection),
-        None => write_leaders(page, picture),
+    told: Option<ToldReason<'_>>,
+)
+    ensures { ForSome told.entry (λ t. Added out.old.page (escaped t.words.now) out.new.page) }
+{
+    match told {
+        Some(told) => out.text(told.words),
+        None => write_leaders(&mut out.page, picture),
     }
 }
 
@@ -71,31 +81,29 @@ fn number_of_events<A: Allocator>(picture: &Picture<A>) -> usize {
     events
 }
 
-/// Adds how to read the picture, in which what the answer speaks of is ringed, or isn't drawn.
-fn write_sentence<A: Allocator>(page: &mut Page<A>, objection: Option<Objection>, is_ringed: bool) {
-    match objection {
-        None => page.words(
-            ". Each event stands right of all that happened before it; this is no clock.",
-        ),
-        Some(_) if !is_ringed => page.words(". What the answer speaks of stands at other columns."),
-        Some(Objection::Link(_)) => page.words(
-            ". Thick broken arrows join what is not the same message; the ringed receipt is the first such.",
-        ),
-        Some(Objection::Circle) => page.words(
-            ". Each ringed receipt waits for a sending that comes after the ringed receipt of its sender.",
-        ),
-        Some(Objection::Node(_)) => {
-            page.words(". The ringed event has no step; after it the states are unknown.");
+/// Adds how to read the picture, in which what the reason speaks of is ringed, or isn't drawn.
+fn write_sentence<A: Allocator>(page: &mut Page<A>, told: Option<ToldReason<'_>>) {
+    let Some(told) = told else {
+        page.words(". Each event stands right of all that happened before it; this is no clock.");
+        return;
+    };
+    page.words(match told.reason {
+        _ if !told.is_ringed => ". What the answer speaks of stands at other columns.",
+        Reason::Match(_) => {
+            ". Thick broken arrows join what is not the same message; the ringed receipt is the first such."
         }
-    }
+        Reason::Circle => {
+            ". Each ringed receipt waits for a sending that comes after the ringed receipt of its sender."
+        }
+        _ => ". The ringed event has no step; after it the states are unknown.",
+    });
 }
 
 /// Adds how much the picture shows, and how to read it.
 pub(crate) fn write_summary<A: Allocator>(
     page: &mut Page<A>,
     picture: &Picture<A>,
-    objection: Option<Objection>,
-    is_ringed: bool,
+    told: Option<ToldReason<'_>>,
 ) {
     page.number_of(picture.lanes.len(), "node");
     page.words(", ");
@@ -109,7 +117,7 @@ pub(crate) fn write_summary<A: Allocator>(
         page.words(" of ");
         page.number(all as u64);
     }
-    write_sentence(page, objection, is_ringed);
+    write_sentence(page, told);
 }
 
 /// Adds a line on a node for those who don't see the picture.

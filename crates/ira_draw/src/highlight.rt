@@ -1,14 +1,10 @@
-ghost use Rattle.std.specs.Prelude.{Some};
 ghost use Rattle.ira_order.specs.Circle.{HasOrder};
 ghost use Rattle.ira_order.specs.MatchFault.{IsMatchFault};
 ghost use Rattle.ira_order.specs.FaultyEvent.{IsFirstFaultyEvent};
-ghost use Rattle.ira_draw.specs.Objection.{IsObjection};
 
-use crate::objection::Objection;
+use ira_audit::{Reason, RefusedLogs};
 use ira_event::{Logs, OutOfMemory};
-use ira_evidence::{
-    Beginning, CircleEvidence, LinkEvidence, beginnings, first_faulty_events,
-};
+use ira_evidence::{Beginning, CircleEvidence, LinkEvidence, beginnings};
 use ira_node::StepFault;
 use ira_order::{DirectDependencies, EventAt, FaultyEvent, MatchFault};
 use ira_view_page::Page;
@@ -29,7 +25,7 @@ pub(crate) enum Cause {
     Begin(StepFault),
 }
 
-/// An event that the answer speaks of.
+/// An event that the reason speaks of.
 #[derive(Clone, Copy)]
 pub(crate) struct Highlight {
     pub(crate) at: EventAt,
@@ -127,36 +123,39 @@ fn named_events<A: Allocator>(
     Ok(events)
 }
 
-/// The event without a step, and those to begin with.
+/// The event without a step, which is the first that a node has, and those to begin with.
 fn highlights_of_node<A: Allocator + Clone>(
     alloc: A,
-    logs: &Logs<A>,
+    refused: &RefusedLogs<A>,
     named: FaultyEvent,
 ) -> Result<Vec<Highlight, A>, OutOfMemory>
-    requires order { HasOrder logs.now }
-    requires named { IsFirstFaultyEvent logs.now named }
+    requires order { HasOrder refused.now.logs }
+    requires named { IsFirstFaultyEvent refused.now.logs named }
 {
-    let faulty = first_faulty_events(alloc.clone()?, logs)?;
-    let ordered = DirectDependencies::new(alloc.clone()?, logs)?;
-    let beginnings = beginnings(alloc.clone()?, &ordered, &faulty, named)?;
+    let ordered = DirectDependencies::new(alloc.clone()?, refused.logs())?;
+    let beginnings = beginnings(alloc.clone()?, &ordered, refused.faulty_events(), named)?;
     named_events(alloc, named, &beginnings)
 }
 
-/// The events that an objection speaks of.
+/// The events that the reason against logs speaks of.
 pub(crate) fn highlights<A: Allocator + Clone>(
     alloc: A,
-    logs: &Logs<A>,
-    objection: Option<Objection>,
-) -> Result<Vec<Highlight, A>, OutOfMemory>
-    requires { IsObjection logs.now objection }
-{
-    match objection {
-        None => Ok(Vec::new(alloc)),
-        Some(Objection::Link(fault)) => sides_of_fault(alloc, logs, fault),
-        Some(Objection::Circle) => match CircleEvidence::find(alloc.clone()?, logs)? {
+    refused: &RefusedLogs<A>,
+) -> Result<Vec<Highlight, A>, OutOfMemory> {
+    match refused.reason() {
+        Reason::Match(fault) => sides_of_fault(alloc, refused.logs(), fault),
+        Reason::Circle => match CircleEvidence::find(alloc.clone()?, refused.logs())? {
             Some(evidence) => stuck_receipts(alloc, &evidence),
             None => Ok(Vec::new(alloc)),
         },
-        Some(Objection::Node(named)) => highlights_of_node(alloc, logs, named),
+        Reason::Replay {
+            place,
+            position,
+            fault,
+        } => {
+            let at = EventAt { place, position };
+            highlights_of_node(alloc, refused, FaultyEvent { at, fault })
+        }
+        _ => Ok(Vec::new(alloc)),
     }
 }

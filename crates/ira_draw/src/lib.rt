@@ -13,12 +13,8 @@ mod lanes;
 mod legend;
 mod marks;
 mod moment_line;
-mod objection;
 mod stroke;
 mod style;
 mod svg;
-mod view;
 
-pub use drawing::draw;
-pub use objection::Objection;
-pub use view::{Asked, View};
+pub use drawing::{draw, draw_refused};

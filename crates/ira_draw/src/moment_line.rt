@@ -1,14 +1,48 @@
+ghost use Rattle.ira_moment.specs.ChosenMoment.{HasItsCase};
 ghost use Rattle.ira_view_page.specs.Page.{Added};
 ghost use Rattle.ira_draw.specs.Escaped.{told_words};
 
 use crate::class;
 use crate::grid::{Grid, LEFT, TOP};
 use crate::svg::Svg;
-use crate::view::Asked;
+use ira_event::OutOfMemory;
+use ira_moment::ChosenMoment;
+use ira_pred::Case;
+use ira_view_page::{Page, PageText};
 use std::alloc::Allocator;
 
 /// The most bytes of what is said of a moment.
 const MOST: usize = 100;
+
+/// What is said of a moment: that it is here; of the first that meets a case its number, and what it asks of each node.
+pub(crate) fn moment_words<A: Allocator, Q: Allocator>(
+    alloc: A,
+    moment: &ChosenMoment<Q>,
+) -> Result<PageText<A>, OutOfMemory>
+    requires { HasItsCase moment.now }
+{
+    let mut page = Page::new(alloc);
+    let ChosenMoment::OfCase {
+        question,
+        number,
+        ..
+    } = moment
+    else {
+        page.words("here");
+        return page.finish();
+    };
+    page.words("case ");
+    page.number(*number as u64);
+    page.words(" is met here: ");
+    let case = &question.cases()[*number];
+    for n in 0..case.len() {
+        page.words(if n > 0 { ", node " } else { "node " });
+        page.number(u64::from(case.place(n)));
+        page.words(" ");
+        page.clause(case.clause(n));
+    }
+    page.finish()
+}
 
 /// The words of a moment, of which no more stand than there is room for.
 fn write_words<A: Allocator>(out: &mut Svg<A>, words: &[u8])
@@ -22,12 +56,14 @@ fn write_words<A: Allocator>(out: &mut Svg<A>, words: &[u8])
     }
 }
 
-/// The line of the moment, right of which all is pale that hasn't happened, with a ring at each asked node.
-pub(crate) fn write_moment<A: Allocator>(
+/// The line of a moment of which these words are said, right of which all is pale that hasn't happened, with a ring at
+/// each node that its case asks.
+pub(crate) fn write_moment<A: Allocator, Q: Allocator>(
     out: &mut Svg<A>,
     grid: &Grid,
     column: u32,
-    moment: &Asked<'_>,
+    words: &[u8],
+    case: Option<&Case<Q>>,
 ) {
     if !grid.contains(column) {
         return;
@@ -48,13 +84,15 @@ pub(crate) fn write_moment<A: Allocator>(
     out.number("y", top - 5);
     out.attribute("text-anchor", anchor);
     out.page.words(">");
-    write_words(out, moment.words);
+    write_words(out, words);
     out.page.words("</text>\n");
-    for place in moment.places {
-        out.open("circle", class::MOMENT_NODE);
-        out.number("cx", x);
-        out.number("cy", grid.y(usize::from(*place)));
-        out.number("r", 5);
-        out.page.words("/>\n");
+    if let Some(case) = case {
+        for n in 0..case.len() {
+            out.open("circle", class::MOMENT_NODE);
+            out.number("cx", x);
+            out.number("cy", grid.y(usize::from(case.place(n))));
+            out.number("r", 5);
+            out.page.words("/>\n");
+        }
     }
 }

@@ -14,6 +14,13 @@ pub(crate) struct Svg<A: Allocator> {
 }
 
 impl<A: Allocator> Svg<A> {
+    /// A text that is empty yet.
+    pub(crate) fn new(alloc: A) -> Svg<A> {
+        Svg {
+            page: Page::new(alloc),
+        }
+    }
+
     /// Adds words as XML spells them between tags and in attributes.
     pub(crate) fn text(&mut self, words: &[u8])
         ensures { Added self.old.page (escaped words.now) self.new.page }

@@ -1,5 +1,4 @@
 pub mod AnswerValue
-pub mod Asked
 pub mod EvidenceValue
 pub mod ExplainedFindings
 pub mod ExplainedValue

@@ -3,7 +3,6 @@
 
 mod answer_lines;
 mod answer_values;
-mod asked;
 mod event_lines;
 mod evidence_values;
 mod explained;
@@ -17,7 +16,6 @@ mod shown_answer;
 mod values;
 
 pub use answer_lines::{answer_line, explained_findings_lines, explained_line, findings_lines};
-pub use asked::Asked;
 pub use line::write_line;
 pub use ring_lines::write_ring;
 pub use shown_answer::ShownAnswer;

@@ -4,13 +4,12 @@ ghost use Rattle.ira_order.specs.Matching.{Matches};
 ghost use Rattle.ira_order.specs.Run.{AreLocalRuns};
 ghost use Rattle.ira_json.specs.ShownAnswer.{IsYes, WroteRing};
 
-use crate::asked::Asked;
 use crate::line::write_line;
 use crate::object::Object;
 use crate::shown_answer::ShownAnswer;
 use crate::values::{numbers_value, places_value};
 use ira_event::{Logs, OutOfMemory, Sink};
-use ira_moment::Moment;
+use ira_moment::{ChosenMoment, Moment};
 use ira_view_page::ShowFault;
 use serde_json::Value;
 use std::alloc::{Allocator, Global};
@@ -46,15 +45,15 @@ impl Object {
     }
 
     /// Puts which moment is told; nothing at the end of the logs.
-    fn asked(&mut self, asked: Asked<'_>) {
-        match asked {
-            Asked::End => {}
-            Asked::Cut(cut) => self.value("cut", numbers_value(self.alloc(), cut)),
-            Asked::Case { number, cut } => {
-                self.number("case", number as u64);
+    fn moment<A: Allocator>(&mut self, chosen: &ChosenMoment<A>) {
+        match chosen {
+            ChosenMoment::AtEnd => {}
+            ChosenMoment::AtCut(cut) => self.value("cut", numbers_value(self.alloc(), cut)),
+            ChosenMoment::OfCase { number, cut, .. } => {
+                self.number("case", *number as u64);
                 self.value("cut", numbers_value(self.alloc(), cut));
             }
-            Asked::NoMoment => self.null("cut"),
+            ChosenMoment::Unmet(_) => self.null("cut"),
         }
     }
 }
@@ -63,14 +62,14 @@ impl Object {
 fn shown_value<A: Allocator>(
     alloc: Global,
     end: &Moment<A>,
-    asked: Asked<'_>,
+    chosen: &ChosenMoment<A>,
     answer: ShownAnswer<'_>,
 ) -> Result<Value, OutOfMemory>
     ensures { IfOk result (λ value. IsYes answer.entry.status (view value)) }
 {
     let mut object = Object::of(alloc, "answer");
     object.totals(end);
-    object.asked(asked);
+    object.moment(chosen);
     if let Some(named) = answer.named {
         object.value("named", places_value(alloc, named));
     }
@@ -84,7 +83,7 @@ pub(crate) fn write_answer<A: Allocator + Clone, W: Sink>(
     text: Global,
     alloc: A,
     logs: &Logs<A>,
-    asked: Asked<'_>,
+    chosen: &ChosenMoment<A>,
     answer: ShownAnswer<'_>,
     sink: &mut W,
 ) -> Result<(), ShowFault>
@@ -93,5 +92,5 @@ pub(crate) fn write_answer<A: Allocator + Clone, W: Sink>(
     ensures { WroteRing answer.entry.status result (W.state sink.old) (W.state sink.new) }
 {
     let end = Moment::at_end(alloc, logs)?;
-    write_line(text, &shown_value(text, &end, asked, answer)?, sink)
+    write_line(text, &shown_value(text, &end, chosen, answer)?, sink)
 }

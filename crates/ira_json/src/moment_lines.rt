@@ -9,7 +9,7 @@ use crate::object::Object;
 use crate::values::places_value;
 use ira_event::{Event, Logs, NodeLog, OutOfMemory, Sink};
 use ira_moment::{Moment, NodeProgress, Round, Rounds};
-use ira_view_page::{NamedText, ShowFault};
+use ira_view_page::ShowFault;
 use serde_json::Value;
 use std::alloc::{Allocator, Global};
 
@@ -103,11 +103,11 @@ fn write_rounds<W: Sink>(
     Ok(())
 }
 
-/// Writes a line for each node, whose log stands in the file of its place.
+/// Writes a line for each node, whose log stands in the file of this name at its place.
 fn write_nodes<A: Allocator, W: Sink>(
     text: Global,
     logs: &Logs<A>,
-    files: &[NamedText<'_>],
+    files: &[String<A>],
     moment: &Moment<A>,
     lines: &mut LineBlock,
     sink: &mut W,
@@ -117,7 +117,7 @@ fn write_nodes<A: Allocator, W: Sink>(
     ensures { WroteLines result (W.state sink.old) (W.state sink.new) }
 {
     for place in 0..moment.size() {
-        let file = files[usize::from(place)].name;
+        let file = files[usize::from(place)].as_str();
         let node = node_value(text, logs.log(place), file, moment.node(place))?;
         lines.add(&node, sink)?;
     }
@@ -162,13 +162,13 @@ fn write_links<A: Allocator, W: Sink>(
     Ok(())
 }
 
-/// Writes, of the moment of a cut, a line for each round, each node, and each link that holds something. The files are
-/// those of the logs, in their order.
+/// Writes, of the moment of a cut, a line for each round, each node, and each link that holds something. These
+/// are the names of the files of the logs, in their order.
 pub(crate) fn write_moment<A: Allocator + Clone, W: Sink>(
     text: Global,
     alloc: A,
     logs: &Logs<A>,
-    files: &[NamedText<'_>],
+    files: &[String<A>],
     cut: &[u32],
     sink: &mut W,
 ) -> Result<(), ShowFault>

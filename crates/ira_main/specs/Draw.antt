@@ -1,65 +1,77 @@
 -- What the program does that is asked to draw a ring.
-use Rattle.std.specs.Prelude.{◌≡◌, ◌⊎◌, ℕ, List, ◌++◌, Option, Some, None, Ok, Err}
+use Rattle.std.specs.Prelude.{◌≡◌, ◌⊎◌, ℕ, List, ◌++◌, Some, Ok, Err}
 use Rattle.std.specs.Borrow.{Bor}
 use Rattle.ira_event.specs.Log.{Log}
+use Rattle.ira_event.specs.Logs.{AreLogs}
 use Rattle.ira_event.specs.Sink.{SinkState, StopsIn, Takes}
 use Rattle.ira_audit.specs.GoodLogs.{AreGoodLogs}
+use Rattle.ira_audit.specs.LogTexts.{AreLogTexts}
+use Rattle.ira_audit.specs.Refusal.{IsLogsReason, IsRingReason}
 use Rattle.ira_audit.specs.Report.{report_line}
 use Rattle.ira_audit.specs.declared.answer.Answer.{Answer}
+use Rattle.ira_audit.specs.declared.answer.Answer.TheVariants.{Yes, No}
+use Rattle.ira_audit.specs.declared.reason.Reason.{Reason}
 use Rattle.ira_view_page.specs.Printable.{IsPrintable}
 use Rattle.ira_moment.specs.declared.cut_fault.CutFault.{CutFault}
-use Rattle.ira_views.specs.Draw.{HasTooManyEvents, IsDrawn}
-use Rattle.ira_views.specs.Show.{IsCutFaultOf}
-use Rattle.ira_views.specs.declared.shown_moment.ShownMoment.{ShownMoment}
+use Rattle.ira_picture.specs.DrawFault.{HasTooManyEvents}
+use Rattle.ira_views.specs.ShownRing.{ShownRing}
 use Rattle.ira_words.specs.declared.draw_request.DrawRequest.{DrawRequest}
 use Rattle.ira_files.specs.Shelf.{Reading, Writing}
 use Rattle.ira_files.specs.declared.file_name.FileName.{FileName}
 use Rattle.ira_files.specs.declared.shelf_fault.ShelfFault.{ShelfFault}
 use Rattle.ira_main.specs.FilesRead.{IsFilesFault, ReadsFiles, names_of}
-use Rattle.ira_main.specs.Outcome.{GivesNoAnswer, Outcome}
+use Rattle.ira_main.specs.Outcome.{GivesNoAnswer, Outcome, Reports}
 use Rattle.ira_main.specs.Overwriting.{IsReplacing, KeepsFiles}
 use Rattle.ira_main.specs.ProgramFault.{write_fault}
-use Rattle.ira_main.specs.Show.{IsAskedMoment, moment_names, moment_texts}
+use Rattle.ira_main.specs.Show.{IsAskedRing, IsCutFaultOf, IsReasonAgainst, moment_names, moment_texts}
 use Rattle.ira_main.specs.SourceNames.{OfSource}
 use Rattle.ira_main.specs.Status.{answer_status}
 use Rattle.ira_main.specs.declared.program_fault.ProgramFault.{ProgramFault}
 use Rattle.ira_main.specs.declared.program_fault.ProgramFault.TheVariants.{CannotWriteAnswer, NoMoment, TooManyEvents}
 
--- what comes of a picture on a shelf: the status of the answer, where there is none, and the shelf is as it was; else
--- the picture, a printable text, is written to a new file of this name, and a fault of that is the outcome
-pub data KeepsPicture {S : Type 0} (writes : Writing S) (answer : Answer) (picture : Option (List ℕ))
-    (name : Bor (List ℕ))
+-- what comes of a picture on a shelf: it is written to a new file of this name, and the status is that of the answer; or
+-- a fault of that is the outcome
+pub data KeepsPicture {S : Type 0} (writes : Writing S) (answer : Answer) (picture : List ℕ) (name : Bor (List ℕ))
     (old new : S) (outcome : Outcome) : Type 0 where
-  no_picture : picture ≡ None → new ≡ old → outcome ≡ Ok (answer_status answer)
+  kept : writes name.now picture old new (Ok tt) → outcome ≡ Ok (answer_status answer)
       → KeepsPicture writes answer picture name old new outcome
-  kept : (page : List ℕ) → picture ≡ Some page → IsPrintable page → writes name.now page old new (Ok tt)
-      → outcome ≡ Ok (answer_status answer) → KeepsPicture writes answer picture name old new outcome
-  unwritten : (page : List ℕ) (fault : ShelfFault) → picture ≡ Some page → IsPrintable page
-      → writes name.now page old new (Err fault) → outcome ≡ Err (write_fault name fault)
-      → KeepsPicture writes answer picture name old new outcome
+  unwritten : (fault : ShelfFault) → writes name.now picture old new (Err fault)
+      → outcome ≡ Err (write_fault name fault) → KeepsPicture writes answer picture name old new outcome
 
 -- the line of the answer was printed whole, and what comes of the picture is the outcome; or the output stopped
 -- within it, and the shelf is as it was
-abbrev pub PrintsDrawn : {S : Type 0} → Writing S → Answer → Option (List ℕ) → Bor (List ℕ) → S → S → SinkState
-    → SinkState → Outcome → Type 0
+abbrev pub PrintsDrawn : {S : Type 0} → Writing S → Answer → List ℕ → Bor (List ℕ) → S → S → SinkState → SinkState
+    → Outcome → Type 0
 PrintsDrawn writes answer picture name shelf shelf' out out' outcome =
     (Takes (report_line answer) out out' × KeepsPicture writes answer picture name shelf shelf' outcome)
     ⊎ (StopsIn (report_line answer) out out' × (shelf' ≡ shelf) × (outcome ≡ Err CannotWriteAnswer))
 
--- what comes of texts: the line of what is drawn of them is printed, and the picture is kept, if there is one; or the
--- moment that is asked for is none of theirs, or they have too many events for a picture, and nothing is printed or
--- kept
-pub data TellsDrawn {S : Type 0} (writes : Writing S) (texts : List (List ℕ)) (moment : ShownMoment)
-    (name : Bor (List ℕ)) (shelf shelf' : S) (out out' : SinkState) (outcome : Outcome) : Type 0 where
-  drawn : (answer : Answer) (picture : Option (List ℕ)) → IsDrawn texts moment answer picture
-      → PrintsDrawn writes answer picture name shelf shelf' out out' outcome
-      → TellsDrawn writes texts moment name shelf shelf' out out' outcome
-  no_moment : (logs : List Log) (f : CutFault) → AreGoodLogs texts logs → IsCutFaultOf logs moment f → shelf' ≡ shelf
-      → out' ≡ out → outcome ≡ Err (NoMoment f)
-      → TellsDrawn writes texts moment name shelf shelf' out out' outcome
-  too_many : (events : ℕ) → HasTooManyEvents texts events → shelf' ≡ shelf → out' ≡ out
-      → outcome ≡ Err (TooManyEvents events)
-      → TellsDrawn writes texts moment name shelf shelf' out out' outcome
+-- what comes of texts and of the text of a question. They are those of good logs, and a picture is kept of the ring at
+-- the moment that is asked for, after the line of a yes; or of other logs of one ring, after the line of the reason against
+-- them. Where the question isn't one of this ring, or they aren't those of the logs of one, the line of the reason is printed
+-- alone. Or nothing is printed or kept: the moment is none of theirs, or the events at the columns that are asked for are
+-- too many for a picture
+pub data TellsDrawn {S : Type 0} (writes : Writing S) (texts : List (List ℕ)) (draw : DrawRequest) (question : List ℕ)
+    (shelf shelf' : S) (out out' : SinkState) (outcome : Outcome) : Type 0 where
+  good : (logs : List Log) (ring : ShownRing) (page : List ℕ) → AreGoodLogs texts logs
+      → IsAskedRing logs draw.moment question ring → IsPrintable page
+      → PrintsDrawn writes Yes page draw.picture shelf shelf' out out' outcome
+      → TellsDrawn writes texts draw question shelf shelf' out out' outcome
+  refused : (logs : List Log) (r : Reason) (page : List ℕ) → AreLogTexts texts logs → AreLogs logs
+      → IsLogsReason texts r → IsPrintable page
+      → PrintsDrawn writes (No r) page draw.picture shelf shelf' out out' outcome
+      → TellsDrawn writes texts draw question shelf shelf' out out' outcome
+  no_question : (logs : List Log) (r : Reason) → AreGoodLogs texts logs → IsReasonAgainst texts draw.moment question r
+      → shelf' ≡ shelf → Reports (No r) out out' outcome
+      → TellsDrawn writes texts draw question shelf shelf' out out' outcome
+  no_ring : (r : Reason) → IsRingReason texts r → shelf' ≡ shelf → Reports (No r) out out' outcome
+      → TellsDrawn writes texts draw question shelf shelf' out out' outcome
+  no_moment : (logs : List Log) (f : CutFault) → AreGoodLogs texts logs → IsCutFaultOf logs draw.moment f
+      → shelf' ≡ shelf → out' ≡ out → outcome ≡ Err (NoMoment f)
+      → TellsDrawn writes texts draw question shelf shelf' out out' outcome
+  too_many : (logs : List Log) (events : ℕ) → AreLogTexts texts logs → AreLogs logs
+      → HasTooManyEvents logs draw.from draw.to events → shelf' ≡ shelf → out' ≡ out
+      → outcome ≡ Err (TooManyEvents events) → TellsDrawn writes texts draw question shelf shelf' out out' outcome
 
 -- the names of the files to draw: that of a question first, if the moment is the first that meets one
 abbrev pub draw_names : DrawRequest → List FileName → List (List ℕ)
@@ -79,9 +91,7 @@ pub record DrawsTogether {S : Type 0} (reads : Reading S) (writes : Writing S) (
   pub question : List ℕ
   pub texts : List (List ℕ)
   pub given : ReadsFiles reads (draw_names draw names) shelf (moment_texts draw.moment question ++ texts)
-  pub moment : ShownMoment
-  pub asked : IsAskedMoment draw.moment question moment
-  pub told : TellsDrawn writes texts moment draw.picture shelf shelf' out out' outcome
+  pub told : TellsDrawn writes texts draw question shelf shelf' out out' outcome
 
 -- the logs of a source were drawn; or no answer is given, and the shelf is as it was
 abbrev pub DrawsLogs : {S : Type 0} → Reading S → Writing S → DrawRequest → S → S → SinkState → SinkState → Outcome

@@ -5,6 +5,8 @@ use Rattle.std.specs.String.{string_bytes}
 use Rattle.ira_order.specs.declared.event_at.EventAt.{EventAt}
 use Rattle.ira_moment.specs.declared.cut_fault.CutFault.{CutFault}
 use Rattle.ira_moment.specs.declared.cut_fault.CutFault.TheVariants as cut
+use Rattle.ira_picture.specs.declared.draw_fault.DrawFault.{DrawFault}
+use Rattle.ira_picture.specs.declared.draw_fault.DrawFault.TheVariants as draw
 use Rattle.ira_run.specs.RunFault.{run_fault_number}
 use Rattle.ira_run.specs.declared.run_fault.RunFault.{RunFault}
 use Rattle.ira_run.specs.declared.run_fault.RunFault.TheVariants as run
@@ -36,6 +38,11 @@ write_log_fault folder place shelf.OutOfMemory = OutOfMemory
 abbrev pub run_fault : RunFault → ProgramFault
 run_fault run.OutOfMemory = OutOfMemory
 run_fault f = RunRefused f
+
+-- the fault where there is no picture
+abbrev pub draw_fault : DrawFault → ProgramFault
+draw_fault (draw.TooManyEvents events) = TooManyEvents events
+draw_fault draw.OutOfMemory = OutOfMemory
 
 -- the fault of words that ask for nothing: their refusal, or out of memory
 abbrev pub words_fault : WordsFault → ProgramFault

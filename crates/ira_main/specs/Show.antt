@@ -1,19 +1,21 @@
 -- What the program does that is asked to show a ring.
 use Rattle.std.specs.Prelude.{◌≡◌, ◌⊎◌, ℕ, Bool, true, false, List, [], ◌∷◌, ◌++◌, Option, Some, Ok, Err, option_map}
-use Rattle.std.specs.Borrow.{Bor}
 use Rattle.ira_event.specs.Log.{Log}
 use Rattle.ira_event.specs.Sink.{SinkState, StopsIn, Takes}
 use Rattle.ira_audit.specs.GoodLogs.{AreGoodLogs}
-use Rattle.ira_audit.specs.Report.{report_line}
+use Rattle.ira_audit.specs.QuestionFitsLogs.{WhyNoQuestion}
+use Rattle.ira_audit.specs.Report.{IsReportableReason, report_line}
+use Rattle.ira_audit.specs.RingAnswer.{IsRingAnswer}
 use Rattle.ira_audit.specs.declared.answer.Answer.TheVariants as audit
 use Rattle.ira_audit.specs.declared.reason.Reason.{Reason}
 use Rattle.ira_view_page.specs.Printable.{IsPrintable}
 use Rattle.ira_json.specs.ShownAnswer.{IsRingText}
+use Rattle.ira_moment.specs.CutFault.{IsCutFault}
+use Rattle.ira_moment.specs.Moment.{whole_cut}
 use Rattle.ira_moment.specs.declared.cut_fault.CutFault.{CutFault}
-use Rattle.ira_views.specs.Show.{ArePlaces, IsCutFaultOf, IsReasonAgainst, IsShown}
-use Rattle.ira_views.specs.ShownRing.{ShownRing}
-use Rattle.ira_views.specs.declared.shown_moment.ShownMoment.{ShownMoment}
-use Rattle.ira_views.specs.declared.shown_moment.ShownMoment.TheVariants as moments
+use Rattle.ira_views.specs.Differences.{AreDifferences, AreNoPlaces}
+use Rattle.ira_views.specs.ShownRing.{IsAtCut, IsNoCut, IsNoQuestion, IsOfQuestion, IsPageOf, ShownRing}
+use Rattle.ira_views.specs.declared.ring_fault.RingFault.{RingFault}
 use Rattle.ira_words.specs.declared.asked_moment.AskedMoment.{AskedMoment}
 use Rattle.ira_words.specs.declared.asked_moment.AskedMoment.TheVariants.{AtEnd, AtCut, OfQuestion}
 use Rattle.ira_words.specs.declared.show_request.ShowRequest.{ShowRequest}
@@ -37,29 +39,50 @@ abbrev pub moment_texts : AskedMoment → List ℕ → List (List ℕ)
 moment_texts (OfQuestion asked) question = question ∷ []
 moment_texts _ question = []
 
--- the moment that the words name, by its numbers, or by a question of this text
-abbrev pub IsAskedMoment : AskedMoment → List ℕ → ShownMoment → Type 0
-IsAskedMoment AtEnd question moment = moment ≡ moments.AtEnd
-IsAskedMoment (AtCut events) question moment =
-    (numbers : Bor (List ℕ)) × (numbers.now ≡ events.items) × (moment ≡ moments.AtCut numbers)
-IsAskedMoment (OfQuestion asked) question moment =
-    (text : Bor (List ℕ)) × (text.now ≡ question) × (moment ≡ moments.Of text asked.case)
+-- the places of the nodes that are to lead, if some are named
+abbrev pub leads_of : ShowRequest → Option (List ℕ)
+leads_of show = option_map (λ places. places.items) show.leads
+
+-- the ring of these logs at the moment that the words name: their end; when each node has made so many events, which are
+-- a consistent cut; or the first that meets a case of the question of this text, of the case of a number or of any
+abbrev pub IsAskedRing : List Log → AskedMoment → List ℕ → ShownRing → Type 0
+IsAskedRing logs AtEnd question ring = (ring.logs ≡ logs) × (ring.cut ≡ Some (whole_cut logs))
+IsAskedRing logs (AtCut events) question ring = IsAtCut logs events.items ring
+IsAskedRing logs (OfQuestion asked) question ring = IsOfQuestion logs question asked.case ring
+
+-- why there is none: the numbers are no such cut, or the question isn't one of their ring, or memory ran out
+abbrev pub IsNoAskedRing : List Log → AskedMoment → List ℕ → RingFault → Type 0
+IsNoAskedRing logs AtEnd question f = ⊥
+IsNoAskedRing logs (AtCut events) question f = IsNoCut logs events.items f
+IsNoAskedRing logs (OfQuestion asked) question f = IsNoQuestion logs question f
+
+-- why the numbers that the words name are no consistent cut
+abbrev pub IsCutFaultOf : List Log → AskedMoment → CutFault → Type 0
+IsCutFaultOf logs (AtCut events) f = IsCutFault logs events.items f
+IsCutFaultOf logs _ f = ⊥
+
+-- the reason stands against the texts, or against the question of the moment, and doesn't say that memory ran out
+abbrev pub IsReasonAgainst : List (List ℕ) → AskedMoment → List ℕ → Reason → Type 0
+IsReasonAgainst texts (OfQuestion asked) question r = WhyNoQuestion texts question r × IsReportableReason r
+IsReasonAgainst texts _ question r = IsRingAnswer texts (audit.No r) × IsReportableReason r
 
 -- what is printed of a ring: the line of a yes, the differences, and a text after them
 abbrev pub ring_text : List ℕ → List ℕ → List ℕ
 ring_text differences text = report_line audit.Yes ++ differences ++ text
 
--- a printable text was printed after the differences, which are printable too, and the status says whether there are
--- some; or the output stopped within it; or, of an order of events, memory ran out after a first part of it
-pub data PrintsRing (differences : List ℕ) (has_events : Bool) (out out' : SinkState) (outcome : Outcome) : Type 0 where
+-- a printable text was printed after the differences, which are printable too: an order of events, or else what the ring
+-- looks like at its moment. The status says whether there are differences. Or the output stopped within it; or, of an
+-- order of events, memory ran out after a first part of it
+pub data PrintsRing (ring : ShownRing) (differences : List ℕ) (has_events : Bool) (out out' : SinkState)
+    (outcome : Outcome) : Type 0 where
   printed : (text : List ℕ) (status : Status) → IsPrintable (differences ++ text)
-      → Takes (ring_text differences text) out out'
-      → IsLeadsStatus differences status → outcome ≡ Ok status → PrintsRing differences has_events out out' outcome
+      → (has_events ≡ true) ⊎ IsPageOf ring text → Takes (ring_text differences text) out out'
+      → IsLeadsStatus differences status → outcome ≡ Ok status → PrintsRing ring differences has_events out out' outcome
   stopped : (text : List ℕ) → IsPrintable (differences ++ text) → StopsIn (ring_text differences text) out out'
-      → outcome ≡ Err CannotWriteAnswer → PrintsRing differences has_events out out' outcome
+      → outcome ≡ Err CannotWriteAnswer → PrintsRing ring differences has_events out out' outcome
   no_memory : (text : List ℕ) → has_events ≡ true → IsPrintable (differences ++ text)
       → Takes (ring_text differences text) out out' → outcome ≡ Err OutOfMemory
-      → PrintsRing differences has_events out out' outcome
+      → PrintsRing ring differences has_events out out' outcome
 
 -- the line of a yes with a status, and more lines of JSON were printed, and the status says whether there are
 -- differences; or the output stopped within them; or memory ran out after a first part of them
@@ -75,24 +98,25 @@ pub data PrintsRingLines (differences : List ℕ) (out out' : SinkState) (outcom
       → Takes text out out' → outcome ≡ Err OutOfMemory → PrintsRingLines differences out out' outcome
 
 -- a ring is printed as JSON, where that is wanted, or else for a person
-abbrev pub PrintsRingAs : Bool → List ℕ → Bool → SinkState → SinkState → Outcome → Type 0
-PrintsRingAs true differences has_events = PrintsRingLines differences
-PrintsRingAs false differences has_events = PrintsRing differences has_events
+abbrev pub PrintsRingAs : Bool → ShownRing → List ℕ → Bool → SinkState → SinkState → Outcome → Type 0
+PrintsRingAs true ring differences has_events = PrintsRingLines differences
+PrintsRingAs false ring differences has_events = PrintsRing ring differences has_events
 
--- what comes of texts: they are those of good logs, and the ring is printed after the line of a yes; or the line of the
--- reason against them or the question is; or the moment that is asked for is none of theirs, or a node that is to lead
--- is none of the ring, and nothing is printed
-pub data TellsRing (texts : List (List ℕ)) (moment : ShownMoment) (leads : Option (List ℕ)) (is_json has_events : Bool)
-    (out out' : SinkState) (outcome : Outcome) : Type 0 where
-  shown : (ring : ShownRing) → IsShown texts moment leads ring
-      → PrintsRingAs is_json ring.differences has_events out out' outcome
-      → TellsRing texts moment leads is_json has_events out out' outcome
-  refused : (r : Reason) → IsReasonAgainst texts moment r → ReportsAs is_json (audit.No r) out out' outcome
-      → TellsRing texts moment leads is_json has_events out out' outcome
-  no_moment : (logs : List Log) (f : CutFault) → AreGoodLogs texts logs → IsCutFaultOf logs moment f → out' ≡ out
-      → outcome ≡ Err (NoMoment f) → TellsRing texts moment leads is_json has_events out out' outcome
-  no_place : (logs : List Log) (named : List ℕ) → AreGoodLogs texts logs → leads ≡ Some named → ¬ (ArePlaces logs named)
-      → out' ≡ out → outcome ≡ Err NoPlace → TellsRing texts moment leads is_json has_events out out' outcome
+-- what comes of texts and of the text of a question: they are those of good logs, and the ring is printed at the moment
+-- that is asked for, after the line of a yes; or the line of the reason against them or the question is; or the moment is
+-- none of theirs, or a node that is to lead is none of the ring, and nothing is printed
+pub data TellsRing (texts : List (List ℕ)) (show : ShowRequest) (question : List ℕ) (out out' : SinkState)
+    (outcome : Outcome) : Type 0 where
+  shown : (logs : List Log) (ring : ShownRing) (differences : List ℕ) → AreGoodLogs texts logs
+      → IsAskedRing logs show.moment question ring → AreDifferences logs (leads_of show) differences
+      → PrintsRingAs show.is_json ring differences show.has_events out out' outcome
+      → TellsRing texts show question out out' outcome
+  refused : (r : Reason) → IsReasonAgainst texts show.moment question r
+      → ReportsAs show.is_json (audit.No r) out out' outcome → TellsRing texts show question out out' outcome
+  no_moment : (logs : List Log) (f : CutFault) → AreGoodLogs texts logs → IsCutFaultOf logs show.moment f → out' ≡ out
+      → outcome ≡ Err (NoMoment f) → TellsRing texts show question out out' outcome
+  no_place : (logs : List Log) → AreGoodLogs texts logs → AreNoPlaces logs (leads_of show) → out' ≡ out
+      → outcome ≡ Err NoPlace → TellsRing texts show question out out' outcome
 
 -- the files that are named were read, that of a question first, and the ring was shown by their texts
 pub record ShowsTogether {S : Type 0} (reads : Reading S) (show : ShowRequest) (names : List FileName) (shelf : S)
@@ -101,10 +125,7 @@ pub record ShowsTogether {S : Type 0} (reads : Reading S) (show : ShowRequest) (
   pub texts : List (List ℕ)
   pub given : ReadsFiles reads (moment_names show.moment ++ names_of names) shelf
       (moment_texts show.moment question ++ texts)
-  pub moment : ShownMoment
-  pub asked : IsAskedMoment show.moment question moment
-  pub told : TellsRing texts moment (option_map (λ places. places.items) show.leads) show.is_json show.has_events out
-      out' outcome
+  pub told : TellsRing texts show question out out' outcome
 
 -- the logs of a source were shown; or no answer is given
 abbrev pub ShowsLogs : {S : Type 0} → Reading S → ShowRequest → S → SinkState → SinkState → Outcome → Type 0

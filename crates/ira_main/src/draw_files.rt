@@ -1,23 +1,30 @@
-ghost use Rattle.std.specs.Prelude.{◌≡◌, ◌++◌, ◌⊎◌, List, Some};
+ghost use Rattle.std.specs.Prelude.{◌≡◌, ◌++◌, ◌⊎◌, ℕ, Err, List};
+ghost use Rattle.ira_audit.specs.GoodLogs.{AreGoodLogs};
+ghost use Rattle.ira_audit.specs.Judged.{IsJudged};
 ghost use Rattle.ira_audit.specs.Report.{IsReportable};
 ghost use Rattle.ira_files.specs.Shelf.{WritesFile};
 ghost use Rattle.ira_files.specs.declared.file_name.FileName.{FileName};
-ghost use Rattle.ira_main.specs.Draw.{DrawsLogs, KeepsPicture, PrintsDrawn};
+ghost use Rattle.ira_main.specs.Draw.{DrawsLogs, KeepsPicture, PrintsDrawn, TellsDrawn};
 ghost use Rattle.ira_main.specs.FilesRead.{names_of};
 ghost use Rattle.ira_main.specs.Overwriting.{input_names};
 ghost use Rattle.ira_main.specs.Show.{moment_names};
+ghost use Rattle.ira_main.specs.declared.program_fault.ProgramFault.TheVariants.{OutOfMemory};
 
-use crate::named_file::{named_texts, read_named};
 use crate::overwriting::keep_inputs;
 use crate::program_fault::ProgramFault;
-use crate::show_files::{read_asked, shown_moment};
+use crate::read_files::read_logs;
+use crate::report::report;
+use crate::show_files::{read_asked, ring_at};
 use crate::source_names::source_names;
 use crate::status::Status;
 use crate::text_file::write_text;
-use ira_audit::write_report;
+use ira_audit::{Answer, GoodLogs, Judged, write_report};
+use ira_draw::draw_refused;
 use ira_event::{Sink, WriteFault};
 use ira_files::Shelf;
-use ira_views::{DrawnColumns, DrawnRing, PictureFault, draw_texts};
+use ira_picture::ColumnRange;
+use ira_view_page::PageText;
+use ira_views::RingFault;
 use ira_words::{AskedMoment, DrawRequest};
 use std::alloc::Allocator;
 use std::thread::Threads;
@@ -32,39 +39,98 @@ fn asked_name<'a>(moment: &AskedMoment<'a>) -> Option<&'a str>
     }
 }
 
-// Keeps the picture, if there is one, in a new file of this name. The status is that of the answer.
+// The columns that are asked for.
+fn columns_of(draw: &DrawRequest<'_>) -> ColumnRange
+    ensures { (result.from ≡ draw.now.from) × (result.to ≡ draw.now.to) }
+{
+    ColumnRange {
+        from: draw.from,
+        to: draw.to,
+    }
+}
+
+// Keeps the picture in a new file of this name. The status is that of the answer.
 fn keep_picture<'a, A: Allocator, F: Shelf>(
-    ring: &DrawnRing<A>,
+    answer: &Answer,
+    picture: &PageText<A>,
     name: &'a str,
     shelf: &mut F,
 ) -> Result<Status, ProgramFault<'a>>
-    ensures { KeepsPicture (WritesFile F.creates F.closes F.Out.state) ring.now.answer ring.now.picture name.entry
+    ensures { KeepsPicture (WritesFile F.creates F.closes F.Out.state) answer.now picture.now name.entry
         shelf.old shelf.new result }
 {
-    let status = Status::of_answer(&ring.answer);
-    let Some(picture) = &ring.picture else {
-        return Ok(status);
-    };
     match write_text(picture.bytes(), name, shelf) {
-        Ok(()) => Ok(status),
+        Ok(()) => Ok(Status::of_answer(answer)),
         Err(fault) => Err(ProgramFault::cannot_write(name, fault)),
     }
 }
 
 // Prints the line of the answer, and then keeps the picture.
 fn print_drawn<'a, A: Allocator, F: Shelf, W: Sink>(
-    ring: &DrawnRing<A>,
+    answer: &Answer,
+    picture: &PageText<A>,
     name: &'a str,
     shelf: &mut F,
     out: &mut W,
 ) -> Result<Status, ProgramFault<'a>>
-    requires { IsReportable ring.now.answer }
-    ensures { PrintsDrawn (WritesFile F.creates F.closes F.Out.state) ring.now.answer ring.now.picture name.entry
+    requires { IsReportable answer.now }
+    ensures { PrintsDrawn (WritesFile F.creates F.closes F.Out.state) answer.now picture.now name.entry
         shelf.old shelf.new (W.state out.old) (W.state out.new) result }
 {
-    match write_report(&ring.answer, out) {
-        Ok(()) => keep_picture(ring, name, shelf),
+    match write_report(answer, out) {
+        Ok(()) => keep_picture(answer, picture, name, shelf),
         Err(WriteFault) => Err(ProgramFault::CannotWriteAnswer),
+    }
+}
+
+// Draws good logs at the moment that is asked for; where a question isn't one of their ring, its line is printed alone.
+fn draw_good<'a, A: Allocator + Clone, F: Shelf, W: Sink>(
+    alloc: A,
+    logs: GoodLogs<A>,
+    draw: &DrawRequest<'a>,
+    question: &[u8],
+    shelf: &mut F,
+    out: &mut W,
+) -> Result<Status, ProgramFault<'a>>
+    ensures { (texts : List (List ℕ)) → AreGoodLogs texts logs
+        → TellsDrawn (WritesFile F.creates F.closes F.Out.state) texts draw.now question.now shelf.old shelf.new
+        (W.state out.old) (W.state out.new) result
+        ⊎ ((shelf.new ≡ shelf.old) × (W.state out.new ≡ W.state out.old) × (result ≡ Err OutOfMemory)) }
+{
+    match ring_at(alloc.clone()?, logs, &draw.moment, question) {
+        Ok(ring) => {
+            let picture = ring.picture(alloc, columns_of(draw))?;
+            print_drawn(&Answer::Yes, &picture, draw.picture, shelf, out)
+        }
+        Err(RingFault::No(reason)) => report(&Answer::No(reason), out),
+        Err(RingFault::Cut(fault)) => Err(ProgramFault::NoMoment(fault)),
+        Err(RingFault::OutOfMemory) => Err(ProgramFault::OutOfMemory),
+    }
+}
+
+// Draws what was judged; where the texts aren't those of the logs of one ring, the line of the reason is printed alone.
+fn draw_judged<'a, A: Allocator + Clone, F: Shelf, W: Sink>(
+    alloc: A,
+    judged: Judged<A>,
+    draw: &DrawRequest<'a>,
+    question: &[u8],
+    shelf: &mut F,
+    out: &mut W,
+) -> Result<Status, ProgramFault<'a>>
+    requires { (texts : List (List ℕ)) × IsJudged texts judged }
+    ensures { (texts : List (List ℕ)) → IsJudged texts judged
+        → TellsDrawn (WritesFile F.creates F.closes F.Out.state) texts draw.now question.now shelf.old shelf.new
+        (W.state out.old) (W.state out.new) result
+        ⊎ ((shelf.new ≡ shelf.old) × (W.state out.new ≡ W.state out.old) × (result ≡ Err OutOfMemory)) }
+{
+    match judged {
+        Judged::Good(logs) => draw_good(alloc, logs, draw, question, shelf, out),
+        Judged::Refused(refused) => {
+            let picture = draw_refused(alloc, &refused, columns_of(draw))?;
+            let answer = Answer::No(refused.reason());
+            print_drawn(&answer, &picture, draw.picture, shelf, out)
+        }
+        Judged::NoRing(reason) => report(&Answer::No(reason), out),
     }
 }
 
@@ -79,9 +145,9 @@ pub(crate) fn draw_files<'a, R, A, F, W>(
     out: &mut W,
 ) -> Result<Status, ProgramFault<'a>>
 where
-    R: Threads,
-    A: Allocator + Clone + Sync,
-    F: Shelf,
+    R: Threads + Sync,
+    A: Allocator + Clone + Send + Sync,
+    F: Shelf + Sync,
     W: Sink,
     ensures { DrawsLogs F.reads (WritesFile F.creates F.closes F.Out.state) draw.now shelf.old shelf.new
         (W.state out.old) (W.state out.new) result }
@@ -89,17 +155,7 @@ where
     let names = source_names(&alloc, &draw.logs, shelf)?;
     keep_inputs(&alloc, Some(draw.picture), asked_name(&draw.moment), &names)?;
     let question = read_asked(&alloc, &draw.moment, shelf)?;
-    let files = read_named(&alloc, &names, shelf)?;
-    let named = named_texts(alloc.clone()?, &files)?;
-    let moment = shown_moment(&draw.moment, &question);
-    let columns = DrawnColumns {
-        from: draw.from,
-        to: draw.to,
-    };
-    match draw_texts(rt, alloc, &named, moment, columns) {
-        Ok(ring) => print_drawn(&ring, draw.picture, shelf, out),
-        Err(PictureFault::Cut(fault)) => Err(ProgramFault::NoMoment(fault)),
-        Err(PictureFault::TooManyEvents(events)) => Err(ProgramFault::TooManyEvents(events)),
-        Err(PictureFault::OutOfMemory) => Err(ProgramFault::OutOfMemory),
-    }
+    let audit = read_logs(rt, alloc.clone()?, &names, shelf)?;
+    let judged = audit.judge_on_threads(rt)?;
+    draw_judged(alloc, judged, draw, question.bytes(), shelf, out)
 }

@@ -11,6 +11,7 @@ use crate::status::Status;
 use ira_event::{Line, OutOfMemory, Sink, WriteFault, write_bytes};
 use ira_files::{FileName, ShelfFault};
 use ira_moment::CutFault;
+use ira_picture::DrawFault;
 use ira_ring::RunFault;
 use ira_words::WordsFault;
 use std::alloc::{AllocError, AllocFailed};
@@ -243,6 +244,20 @@ impl<'a, T: Drop> From<AllocFailed<T>> for ProgramFault<'a> {
 
     fn from(_refused: AllocFailed<T>) -> ProgramFault<'a> {
         ProgramFault::OutOfMemory
+    }
+}
+
+impl<'a> From<DrawFault> for ProgramFault<'a> {
+    ghost use Rattle.std.specs.Prelude.{◌≡◌};
+    ghost use Rattle.ira_main.specs.ProgramFault.{draw_fault};
+
+    ghost from_gives = { λ f c. c ≡ draw_fault f };
+
+    fn from(fault: DrawFault) -> ProgramFault<'a> {
+        match fault {
+            DrawFault::TooManyEvents { events } => ProgramFault::TooManyEvents(events),
+            DrawFault::OutOfMemory => ProgramFault::OutOfMemory,
+        }
     }
 }
 

@@ -1,4 +1,4 @@
-ghost use Rattle.std.specs.Prelude.{◌≡◌, ◌⊎◌, Err, false, length, true};
+ghost use Rattle.std.specs.Prelude.{◌≡◌, ◌⊎◌, Err, IfOk, false, length, true};
 ghost use Rattle.ira_main.specs.Show.{PrintsRing, PrintsRingAs, PrintsRingLines};
 ghost use Rattle.ira_main.specs.declared.program_fault.ProgramFault.TheVariants.{OutOfMemory};
 
@@ -8,23 +8,25 @@ use crate::status::Status;
 use crate::view_printer::write_view;
 use ira_audit::Answer;
 use ira_event::{Sink, WriteFault};
+use ira_files::FileName;
 use ira_json::ShownAnswer;
-use ira_view_page::{NamedText, ShowFault};
+use ira_view_page::{PageText, ShowFault};
 use ira_views::ShownRing;
 use ira_words::ShowRequest;
-use std::alloc::{Allocator, Global};
+use std::alloc::{AllocError, Allocator, Global};
 
 // The status of a ring of which the tables were printed. They are put together before anything is printed.
 fn print_tables<'a, A: Allocator + Clone, W: Sink>(
     alloc: A,
     ring: &ShownRing<A>,
+    differences: &PageText<A>,
     out: &mut W,
 ) -> Result<Status, ProgramFault<'a>>
-    ensures { PrintsRing ring.now.differences false (W.state out.old) (W.state out.new) result
+    ensures { PrintsRing ring.now differences.now false (W.state out.old) (W.state out.new) result
         ⊎ ((W.state out.new ≡ W.state out.old) × (result ≡ Err OutOfMemory)) }
 {
     let page = ring.page(alloc)?;
-    let differences = ring.differences().bytes();
+    let differences = differences.bytes();
     if write_view(&Answer::Yes, differences, out).is_err() {
         return Err(ProgramFault::CannotWriteAnswer);
     }
@@ -38,11 +40,12 @@ fn print_tables<'a, A: Allocator + Clone, W: Sink>(
 fn print_events<'a, A: Allocator + Clone, W: Sink>(
     alloc: A,
     ring: &ShownRing<A>,
+    differences: &PageText<A>,
     out: &mut W,
 ) -> Result<Status, ProgramFault<'a>>
-    ensures { PrintsRing ring.now.differences true (W.state out.old) (W.state out.new) result }
+    ensures { PrintsRing ring.now differences.now true (W.state out.old) (W.state out.new) result }
 {
-    let differences = ring.differences().bytes();
+    let differences = differences.bytes();
     if write_view(&Answer::Yes, differences, out).is_err() {
         return Err(ProgramFault::CannotWriteAnswer);
     }
@@ -53,25 +56,41 @@ fn print_events<'a, A: Allocator + Clone, W: Sink>(
     }
 }
 
+// The names, whole.
+fn paths<A: Allocator + Clone>(
+    alloc: &A,
+    names: &[FileName<'_>],
+) -> Result<Vec<String<A>, A>, AllocError>
+    ensures { IfOk result (λ paths. length paths.items ≡ length names.now) }
+{
+    let mut paths = Vec::with_capacity(alloc.clone()?, names.len())?;
+    for name in names {
+        paths.push(name.path(alloc.clone()?)?)?;
+    }
+    Ok(paths)
+}
+
 // The status of a ring that was printed as lines of JSON, block by block.
 fn print_json<'a, A: Allocator + Clone, W: Sink>(
     global: Global,
     alloc: A,
     ring: &ShownRing<A>,
-    files: &[NamedText<'_>],
+    differences: &PageText<A>,
+    names: &[FileName<'_>],
     show: &ShowRequest<'_>,
     out: &mut W,
 ) -> Result<Status, ProgramFault<'a>>
-    requires { length files.now ≡ length ring.now.logs }
-    ensures { PrintsRingLines ring.now.differences (W.state out.old) (W.state out.new) result
+    requires { length names.now ≡ length ring.now.logs }
+    ensures { PrintsRingLines differences.now (W.state out.old) (W.state out.new) result
         ⊎ ((W.state out.new ≡ W.state out.old) × (result ≡ Err OutOfMemory)) }
 {
-    let status = Status::of_differences(ring.differences().bytes());
+    let files = paths(&alloc, names)?;
+    let status = Status::of_differences(differences.bytes());
     let answer = ShownAnswer {
         status: status.number(),
         named: named_leaders(show),
     };
-    match ring.write_json(global, alloc, files, answer, show.has_events, out) {
+    match ring.write_json(global, alloc, &files, answer, show.has_events, out) {
         Ok(()) => Ok(status),
         Err(ShowFault::Write) => Err(ProgramFault::CannotWriteAnswer),
         Err(ShowFault::OutOfMemory) => Err(ProgramFault::OutOfMemory),
@@ -79,24 +98,25 @@ fn print_json<'a, A: Allocator + Clone, W: Sink>(
 }
 
 /// The status of a ring that was printed as is asked for: as JSON; or an order of all events, or else the tables. The
-/// files are those of its logs.
+/// names are those of the files of its logs.
 pub(crate) fn print_ring<'a, A: Allocator + Clone, W: Sink>(
     global: Global,
     alloc: A,
     ring: &ShownRing<A>,
-    files: &[NamedText<'_>],
+    differences: &PageText<A>,
+    names: &[FileName<'_>],
     show: &ShowRequest<'_>,
     out: &mut W,
 ) -> Result<Status, ProgramFault<'a>>
-    requires { length files.now ≡ length ring.now.logs }
-    ensures { PrintsRingAs show.now.is_json ring.now.differences show.now.has_events (W.state out.old) (W.state out.new) result
+    requires { length names.now ≡ length ring.now.logs }
+    ensures { PrintsRingAs show.now.is_json ring.now differences.now show.now.has_events (W.state out.old) (W.state out.new) result
         ⊎ ((W.state out.new ≡ W.state out.old) × (result ≡ Err OutOfMemory)) }
 {
     if show.is_json {
-        print_json(global, alloc, ring, files, show, out)
+        print_json(global, alloc, ring, differences, names, show, out)
     } else if show.has_events {
-        print_events(alloc, ring, out)
+        print_events(alloc, ring, differences, out)
     } else {
-        print_tables(alloc, ring, out)
+        print_tables(alloc, ring, differences, out)
     }
 }

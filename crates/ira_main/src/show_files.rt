@@ -1,20 +1,21 @@
-ghost use Rattle.std.specs.Prelude.{◌≡◌, MatchResult, option_map};
+ghost use Rattle.std.specs.Prelude.{◌≡◌, ◌⊎◌, ℕ, Err, List, MatchResult, length, option_map};
+ghost use Rattle.ira_audit.specs.GoodLogs.{AreGoodLogs};
 ghost use Rattle.ira_main.specs.FilesRead.{IsFilesFault, ReadsFiles};
-ghost use Rattle.ira_main.specs.Show.{IsAskedMoment, ShowsLogs, moment_names, moment_texts};
+ghost use Rattle.ira_main.specs.Show.{IsAskedRing, IsNoAskedRing, ShowsLogs, TellsRing, leads_of, moment_names, moment_texts};
+ghost use Rattle.ira_main.specs.declared.program_fault.ProgramFault.TheVariants.{OutOfMemory};
 
-use crate::named_file::{named_texts, read_named};
 use crate::program_fault::ProgramFault;
-use crate::read_files::read_file;
+use crate::read_files::{read_file, read_logs};
 use crate::report::report_as;
 use crate::ring_printer::print_ring;
 use crate::source_names::source_names;
 use crate::status::Status;
-use ira_audit::Answer;
+use ira_audit::{Answer, GoodLogs};
 use ira_event::Sink;
 use ira_files::{FileName, TextBuffer, TextSource};
-use ira_views::{RingFault, ShownMoment, show_texts};
+use ira_views::{RingFault, ShownRing, differences};
 use ira_words::{AskedMoment, ShowRequest};
-use std::alloc::Allocator;
+use std::alloc::{Allocator, Global};
 use std::thread::Threads;
 
 /// The text of the question whose first moment is asked for; no bytes where none is.
@@ -35,30 +36,57 @@ pub(crate) fn read_asked<'a, A: Allocator + Clone, F: TextSource>(
     }
 }
 
-/// The moment that is asked for, with the text of its question.
-pub(crate) fn shown_moment<'t, A: Allocator>(
-    moment: &'t AskedMoment<'_>,
-    question: &'t TextBuffer<A>,
-) -> ShownMoment<'t>
-    ensures { IsAskedMoment moment.now question.now result }
+/// The ring of good logs at the moment that the words name, by its numbers or by a question of this text.
+pub(crate) fn ring_at<A: Allocator + Clone>(
+    alloc: A,
+    logs: GoodLogs<A>,
+    moment: &AskedMoment<'_>,
+    question: &[u8],
+) -> Result<ShownRing<A>, RingFault>
+    ensures { MatchResult result (IsAskedRing logs moment.now question.now) (IsNoAskedRing logs moment.now question.now) }
 {
     match moment {
-        AskedMoment::AtEnd => ShownMoment::AtEnd,
-        AskedMoment::AtCut(events) => ShownMoment::AtCut(events),
-        AskedMoment::OfQuestion(asked) => ShownMoment::Of {
-            question: question.bytes(),
-            case: asked.case,
-        },
+        AskedMoment::AtEnd => Ok(ShownRing::at_end(logs)),
+        AskedMoment::AtCut(events) => ShownRing::at_cut(alloc, logs, events),
+        AskedMoment::OfQuestion(asked) => {
+            ShownRing::of_question(alloc, logs, question, asked.case)
+        }
     }
 }
 
 /// The places of the nodes that are to lead, if some are named.
 pub(crate) fn named_leaders<'t>(show: &'t ShowRequest<'_>) -> Option<&'t [u64]>
-    ensures { option_map (λ named. named.now) result ≡ option_map (λ places. places.items) show.now.leads }
+    ensures { option_map (λ named. named.now) result ≡ leads_of show.now }
 {
     match &show.leads {
         Some(places) => Some(places.as_slice()),
         None => None,
+    }
+}
+
+// Shows the ring of good logs, in the files of these names, at the moment that is asked for.
+fn show_good<'a, A: Allocator + Clone, W: Sink>(
+    global: Global,
+    alloc: A,
+    logs: GoodLogs<A>,
+    show: &ShowRequest<'a>,
+    question: &[u8],
+    names: &[FileName<'a>],
+    out: &mut W,
+) -> Result<Status, ProgramFault<'a>>
+    requires { length names.now ≡ length logs }
+    ensures { (texts : List (List ℕ)) → AreGoodLogs texts logs
+        → TellsRing texts show.now question.now (W.state out.old) (W.state out.new) result
+        ⊎ ((W.state out.new ≡ W.state out.old) × (result ≡ Err OutOfMemory)) }
+{
+    let Some(differences) = differences(alloc.clone()?, &logs, named_leaders(show))? else {
+        return Err(ProgramFault::NoPlace);
+    };
+    match ring_at(alloc.clone()?, logs, &show.moment, question) {
+        Ok(ring) => print_ring(global, alloc, &ring, &differences, names, show, out),
+        Err(RingFault::No(reason)) => report_as(global, show.is_json, &Answer::No(reason), out),
+        Err(RingFault::Cut(fault)) => Err(ProgramFault::NoMoment(fault)),
+        Err(RingFault::OutOfMemory) => Err(ProgramFault::OutOfMemory),
     }
 }
 
@@ -72,22 +100,17 @@ pub(crate) fn show_files<'a, R, A, F, W>(
     out: &mut W,
 ) -> Result<Status, ProgramFault<'a>>
 where
-    R: AllocGlobal + Threads,
-    A: Allocator + Clone + Sync,
-    F: TextSource,
+    R: AllocGlobal + Threads + Sync,
+    A: Allocator + Clone + Send + Sync,
+    F: TextSource + Sync,
     W: Sink,
     ensures { ShowsLogs F.reads show.now shelf.now (W.state out.old) (W.state out.new) result }
 {
     let names = source_names(&alloc, &show.logs, shelf)?;
     let question = read_asked(&alloc, &show.moment, shelf)?;
-    let files = read_named(&alloc, &names, shelf)?;
-    let named = named_texts(alloc.clone()?, &files)?;
-    let moment = shown_moment(&show.moment, &question);
-    match show_texts(rt, alloc.clone()?, &named, moment, named_leaders(show)) {
-        Ok(ring) => print_ring(rt.alloc(), alloc, &ring, &named, show, out),
-        Err(RingFault::No(reason)) => report_as(rt.alloc(), show.is_json, &Answer::No(reason), out),
-        Err(RingFault::Cut(fault)) => Err(ProgramFault::NoMoment(fault)),
-        Err(RingFault::Place) => Err(ProgramFault::NoPlace),
-        Err(RingFault::OutOfMemory) => Err(ProgramFault::OutOfMemory),
+    let audit = read_logs(rt, alloc.clone()?, &names, shelf)?;
+    match audit.judge_on_threads(rt)?.into_good() {
+        Ok(logs) => show_good(rt.alloc(), alloc, logs, show, question.bytes(), &names, out),
+        Err(reason) => report_as(rt.alloc(), show.is_json, &Answer::No(reason), out),
     }
 }

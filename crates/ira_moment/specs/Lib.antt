@@ -1,3 +1,4 @@
+pub mod ChosenMoment
 pub mod CutFault
 pub mod Laws
 pub mod Moment

@@ -1,6 +1,7 @@
 //! A ring at a moment: the state of each node at a consistent cut of its logs, and the loads on the links.
 #![tactic(auto)]
 
+mod chosen_moment;
 mod cut_fault;
 mod cuts;
 mod laws;
@@ -8,6 +9,7 @@ mod moment;
 mod node_progress;
 mod rounds;
 
+pub use chosen_moment::ChosenMoment;
 pub use cut_fault::CutFault;
 pub use cuts::{check_cut, cut_at_end};
 pub use laws::moments_are_configurations;

@@ -4,6 +4,7 @@
 mod after;
 mod arrow;
 mod band;
+mod column_range;
 mod columns;
 mod draw_fault;
 mod lane;
@@ -18,6 +19,7 @@ mod window;
 pub use after::After;
 pub use arrow::{Arrow, Passage};
 pub use band::{Band, BandKind, Span};
+pub use column_range::ColumnRange;
 pub use draw_fault::DrawFault;
 pub use lane::Lane;
 pub use mark::Mark;

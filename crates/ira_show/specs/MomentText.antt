@@ -1,10 +1,14 @@
 -- Pages on a moment.
-use Rattle.std.specs.Prelude.{◌≡◌, ℕ, List, ◌++◌, Bool, Option, Some, None, codes, decimal}
+use Rattle.std.specs.Prelude.{◌≡◌, ℕ, List, ◌++◌, Bool, true, false, codes}
 use Rattle.ira_event.specs.Log.{Log}
-use Rattle.ira_moment.specs.Moment.{IsMoment, Moment}
+use Rattle.ira_moment.specs.Moment.{IsMoment, Moment, whole_cut}
 use Rattle.ira_moment.specs.Rounds.{DrawnRound}
+use Rattle.ira_moment.specs.declared.chosen_moment.ChosenMoment.{ChosenMoment}
+use Rattle.ira_moment.specs.declared.chosen_moment.ChosenMoment.TheVariants.{AtEnd, AtCut, OfCase, Unmet}
+use Rattle.ira_show.specs.Heading.{heading_text}
 use Rattle.ira_show.specs.NodeLines.{nodes_text}
 use Rattle.ira_show.specs.RoundLines.{rounds_text}
+use Rattle.ira_show.specs.Summary.{summary_text}
 use Rattle.ira_show.specs.Way.{way_text}
 
 -- an empty line, rounds, nodes, an empty line, and what is on its way
@@ -20,10 +24,11 @@ pub record TellsMoment (logs : List Log) (cut : List ℕ) (has_all : Bool) (firs
   pub rounds : List DrawnRound
   pub lines : text ≡ codes "\n" ++ first moment ++ tables_text has_all logs moment rounds
 
--- that no moment meets any case, or the one case
-abbrev pub no_moment_words : Option ℕ → List ℕ
-no_moment_words None = codes "No moment meets any case."
-no_moment_words (Some number) = codes "No moment meets case " ++ decimal number ++ codes "."
-
-abbrev pub no_moment_text : Option ℕ → List ℕ
-no_moment_text case = codes "\n" ++ no_moment_words case ++ codes "\n"
+-- the text is the page of the moment: at the end of the logs with a summary, else with which moment it is and with how
+-- many events each log has in all; where there is no moment that alone
+abbrev pub TellsChosen : {A : Type 0} → List Log → ChosenMoment A → List ℕ → Type 0
+TellsChosen logs AtEnd text = TellsMoment logs (whole_cut logs) false summary_text text
+TellsChosen logs (AtCut cut) text = TellsMoment logs cut.items true (λ _. heading_text (AtCut cut)) text
+TellsChosen logs (OfCase question number cut) text =
+    TellsMoment logs cut.items true (λ _. heading_text (OfCase question number cut)) text
+TellsChosen {A} logs (Unmet case) text = text ≡ codes "\n" ++ heading_text {A = A} (Unmet case)

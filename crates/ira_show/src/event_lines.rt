@@ -1,18 +1,18 @@
 ghost use Rattle.std.specs.Prelude.{OnOk};
 ghost use Rattle.ira_order.specs.Circle.{HasOrder};
 ghost use Rattle.ira_order.specs.Cut.{IsConsistentCut};
-ghost use Rattle.ira_order.specs.Matching.{Matches};
 ghost use Rattle.ira_order.specs.Run.{AreLocalRuns};
+ghost use Rattle.ira_moment.specs.ChosenMoment.{IsMomentOf};
 ghost use Rattle.ira_show.specs.Asked.{line_of_cut};
 ghost use Rattle.ira_show.specs.Showed.{GoesOn, Showed, TookPage};
 ghost use Rattle.ira_view_page.specs.Page.{Added};
 
 use crate::change::Change;
 use crate::event_line::EventColumns;
-use crate::heading::{Heading, print_positions};
+use crate::heading::{print_heading, print_positions};
 use crate::summary::show_summary;
 use ira_event::{Event, Logs, NodeLog, OutOfMemory, Sink};
-use ira_moment::{Moment, cut_at_end};
+use ira_moment::{ChosenMoment, Moment, cut_at_end};
 use ira_node::NodeState;
 use ira_trail::Trail;
 use ira_view_page::{Mark, Page, ShowFault};
@@ -105,51 +105,39 @@ fn write_lines<A: Allocator + Clone, W: Sink>(
     write_page(page, sink)
 }
 
-/// A page that says who leads at the end of logs.
-fn summary_page<A: Allocator + Clone>(alloc: A, logs: &Logs<A>) -> Result<Page<A>, OutOfMemory>
-    requires matches { Matches logs.now }
-    requires local { AreLocalRuns logs.now }
-{
-    let moment = Moment::at_end(alloc.clone()?, logs)?;
-    let mut page = Page::new(alloc);
-    page.blank();
-    show_summary(&mut page, &moment);
-    page.blank();
-    Ok(page)
-}
-
-/// Writes, as the lines that follow the answer for logs, who leads at their end, and then a line for each event, in
-/// one order of them all: by their columns (Lamport's clock) and then by place. Nothing is cut short; beside the logs
-/// it takes memory for a block of lines, and for what is on its way.
+/// Writes, as the lines that follow the answer for logs, who leads at their end, or else which moment it is, and then a
+/// line for each event, in one order of them all: those of the moment's cut first, with a line after them; by their columns
+/// (Lamport's clock) and then by place. Where no moment meets a case it is said alone. Nothing is cut short; beside the
+/// logs it takes memory for a block of lines, and for what is on its way.
 pub fn show_events<A: Allocator + Clone, W: Sink>(
     alloc: A,
     logs: &Logs<A>,
+    chosen: &ChosenMoment<A>,
     sink: &mut W,
 ) -> Result<(), ShowFault>
     requires order { HasOrder logs.now }
     requires local { AreLocalRuns logs.now }
-    ensures { Showed result (W.state sink.old) (W.state sink.new) }
-{
-    let cut = cut_at_end(alloc.clone()?, logs)?;
-    let page = summary_page(alloc.clone()?, logs)?;
-    write_lines(alloc, logs, &cut, false, page, sink)
-}
-
-/// The same below the heading of a cut, whose events come first, with a line after them.
-pub fn show_events_of_cut<A: Allocator + Clone, Q: Allocator, W: Sink>(
-    alloc: A,
-    logs: &Logs<A>,
-    cut: &[u32],
-    heading: &Heading<'_, Q>,
-    sink: &mut W,
-) -> Result<(), ShowFault>
-    requires order { HasOrder logs.now }
-    requires cut { IsConsistentCut logs.now cut.now }
+    requires moment { IsMomentOf logs.now chosen.now }
     ensures { Showed result (W.state sink.old) (W.state sink.new) }
 {
     let mut page = Page::new(alloc.clone()?);
     page.blank();
-    heading.print(&mut page, cut);
-    page.blank();
-    write_lines(alloc, logs, cut, true, page, sink)
+    match chosen {
+        ChosenMoment::AtEnd => {
+            let cut = cut_at_end(alloc.clone()?, logs)?;
+            let moment = Moment::at_end(alloc.clone()?, logs)?;
+            show_summary(&mut page, &moment);
+            page.blank();
+            write_lines(alloc, logs, &cut, false, page, sink)
+        }
+        ChosenMoment::AtCut(cut) | ChosenMoment::OfCase { cut, .. } => {
+            print_heading(&mut page, chosen);
+            page.blank();
+            write_lines(alloc, logs, cut, true, page, sink)
+        }
+        ChosenMoment::Unmet(_) => {
+            print_heading(&mut page, chosen);
+            write_page(page, sink)
+        }
+    }
 }

@@ -1,53 +1,64 @@
 ghost use Rattle.std.specs.List.{flat_map};
+ghost use Rattle.ira_moment.specs.ChosenMoment.{HasItsCase};
 ghost use Rattle.ira_pred.specs.Clause.{formula};
 ghost use Rattle.ira_view_page.specs.Page.{Added};
 ghost use Rattle.ira_show.specs.Asked.{case_text, conjunct_text, position_text};
+ghost use Rattle.ira_show.specs.Heading.{heading_text, heading_words, no_moment_words};
 
 use crate::listed::add_comma;
+use ira_moment::ChosenMoment;
 use ira_pred::{Case, Clause};
 use ira_view_page::Page;
 use std::alloc::Allocator;
 
-/// Which moment is shown, where it is not the end.
-#[derive(Drop)]
-pub enum Heading<'a, A: Allocator> {
-    /// That of a cut which was asked for.
-    Cut,
-    /// The first one at which a case of a question is met.
-    Case {
-        /// The case's number in the question, from 0.
-        number: usize,
-        case: &'a Case<A>,
-    },
+/// Adds the sentence on which moment it is. The end of the logs has none, since its summary tells it.
+pub(crate) fn print_heading<A: Allocator, P: Allocator>(
+    page: &mut Page<P>,
+    moment: &ChosenMoment<A>,
+)
+    requires { HasItsCase moment.now }
+    ensures { Added page.old (heading_text moment.now) page.new }
+{
+    print_words(page, moment);
+    page.end();
 }
 
-impl<A: Allocator> Heading<'_, A> {
-    ghost use Rattle.ira_show.specs.Heading.{heading_text, heading_words};
-
-    /// Adds its sentence.
-    pub(crate) fn print<P: Allocator>(&self, page: &mut Page<P>, cut: &[u32])
-        ensures { Added page.old (heading_text self.now cut.now) page.new }
-    {
-        self.print_words(page, cut);
-        page.end();
+fn print_words<A: Allocator, P: Allocator>(page: &mut Page<P>, moment: &ChosenMoment<A>)
+    requires { HasItsCase moment.now }
+    ensures { Added page.old (heading_words moment.now) page.new }
+{
+    match moment {
+        ChosenMoment::AtEnd => {}
+        ChosenMoment::AtCut(cut) => {
+            page.words("At the cut");
+            print_positions(page, cut);
+            page.words(":");
+        }
+        ChosenMoment::OfCase {
+            question,
+            number,
+            ..
+        } => {
+            page.words("The first moment of case ");
+            page.number(*number as u64);
+            page.words(" (");
+            print_case(page, &question.cases()[*number]);
+            page.words("):");
+        }
+        ChosenMoment::Unmet(case) => print_no_moment(page, *case),
     }
+}
 
-    fn print_words<P: Allocator>(&self, page: &mut Page<P>, cut: &[u32])
-        ensures { Added page.old (heading_words self.now cut.now) page.new }
-    {
-        match self {
-            Heading::Cut => {
-                page.words("At the cut");
-                print_positions(page, cut);
-                page.words(":");
-            }
-            Heading::Case { number, case } => {
-                page.words("The first moment of case ");
-                page.number(*number as u64);
-                page.words(" (");
-                print_case(page, case);
-                page.words("):");
-            }
+/// Adds that no moment meets any case, or the one of a number.
+fn print_no_moment<P: Allocator>(page: &mut Page<P>, case: Option<u64>)
+    ensures { Added page.old (no_moment_words case) page.new }
+{
+    match case {
+        None => page.words("No moment meets any case."),
+        Some(number) => {
+            page.words("No moment meets case ");
+            page.number(number);
+            page.words(".");
         }
     }
 }

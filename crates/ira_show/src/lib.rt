@@ -16,7 +16,6 @@ mod rounds;
 mod summary;
 mod way;
 
-pub use event_lines::{show_events, show_events_of_cut};
-pub use heading::Heading;
+pub use event_lines::show_events;
 pub use leaders::leads_differ;
-pub use moment_page::{show_cut, show_end, show_no_moment};
+pub use moment_page::show_moment;

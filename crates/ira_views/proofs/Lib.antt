@@ -1,3 +1,2 @@
-pub mod Drawn
-pub mod Shown
+pub mod Moments
 pub mod Texts

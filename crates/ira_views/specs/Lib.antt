@@ -1,5 +1,4 @@
-pub mod Draw
-pub mod FoundMoment
-pub mod Show
+pub mod Differences
+pub mod FirstCut
 pub mod ShownRing
 pub mod Texts

@@ -1,24 +1,18 @@
-ghost use Rattle.std.specs.Prelude.{◌≡◌, ◌⊎◌, ℕ, List, Some, IfErr, IfOk, MatchOption, MatchResult, slice_get};
+ghost use Rattle.std.specs.Prelude.{◌≡◌, ◌⊎◌, List, IfErr, IfOk, MatchOption};
 ghost use Rattle.ira_event.specs.Log.{Log};
 ghost use Rattle.ira_event.specs.Logs.{AreLogs};
-ghost use Rattle.ira_elim.specs.declared.found.Found.TheVariants.{Present};
-ghost use Rattle.ira_audit.specs.LogTexts.{AreLogTexts};
 ghost use Rattle.ira_order.specs.Cut.{IsConsistentCut, IsCut};
+ghost use Rattle.ira_moment.specs.ChosenMoment.{IsMomentOf, cut_of};
 ghost use Rattle.ira_moment.specs.CutFault.{IsCutFault};
 ghost use Rattle.ira_moment.specs.declared.cut_fault.CutFault.{CutFault};
-ghost use Rattle.ira_views.specs.FoundMoment.{IsMomentOf};
-ghost use Rattle.ira_views.specs.Show.{IsAskedMomentOf, IsMomentFault};
+ghost use Rattle.ira_views.specs.FirstCut.{IsFirstCut, IsPresentCase};
 ghost use Rattle.ira_views.specs.declared.ring_fault.RingFault.TheVariants as fault;
 
-use crate::found_moment::FoundMoment;
-use crate::met_case::MetCase;
 use crate::ring_fault::RingFault;
-use crate::shown_moment::ShownMoment;
-use ira_audit::{Findings, GoodLogs};
-use ira_elim::Found;
+use ira_audit::{AskedQuestion, GoodLogs};
+use ira_elim::{Cut, Found};
 use ira_event::{MAX_RECORDS, OutOfMemory};
-use ira_moment::{CutFault, check_cut};
-use ira_pred::read_question;
+use ira_moment::{ChosenMoment, CutFault, check_cut};
 use std::alloc::{AllocError, Allocator};
 
 /// The numbers as those of a cut; none where one is of more events than a log may have.
@@ -38,7 +32,7 @@ fn cut_numbers<A: Allocator>(alloc: A, events: &[u64]) -> Result<Option<Vec<u32,
 }
 
 /// The cut that is asked for by its numbers.
-fn asked_cut<A: Allocator + Clone>(
+pub(crate) fn asked_cut<A: Allocator + Clone>(
     alloc: A,
     logs: &GoodLogs<A>,
     events: &[u64],
@@ -55,49 +49,41 @@ fn asked_cut<A: Allocator + Clone>(
     Ok(cut)
 }
 
-/// The first moment that meets a case of a question, by what is found of its cases: of the case of a number, or of any.
-fn first_met<A: Allocator + Clone>(
-    alloc: A,
-    question: &[u8],
-    found: &[Found<A>],
-    case: Option<u64>,
-) -> Result<FoundMoment<A>, OutOfMemory>
-    ensures { (logs : List Log)
-        → ((i : ℕ) (cut : List ℕ) → slice_get found.now i ≡ Some (Present cut) → IsConsistentCut logs cut)
-        → IfOk result (IsMomentOf logs) }
+/// The case of a number and the least cut that meets it, if there is such a case and such a cut. No other case is decided.
+fn present_case<A: Allocator + Clone>(
+    asked: &AskedQuestion<'_, A>,
+    number: u64,
+) -> Result<Option<(usize, Cut<A>)>, OutOfMemory>
+    ensures { IfOk result (IsPresentCase asked.now number) }
 {
-    // the question was read before, so only memory can fail
-    let Ok(question) = read_question(alloc.clone()?, question) else {
-        return Err(OutOfMemory);
-    };
-    for number in 0..found.len().min(question.cases().len()) {
-        if case.is_some_and(|case| case != number as u64) {
-            continue;
-        }
-        if let Found::Present(cut) = &found[number] {
-            let cut = cut.positions().to_vec(alloc)?;
-            return Ok(FoundMoment::Met(MetCase::new(question, number, cut)));
-        }
+    if number >= asked.cases().len() as u64 {
+        return Ok(None);
     }
-    Ok(FoundMoment::Unmet(case))
+    match asked.decide_case(number as usize)? {
+        Found::Present(cut) => Ok(Some((number as usize, cut))),
+        Found::Absent(_) => Ok(None),
+    }
 }
 
-/// The moment of the logs that is asked for.
-pub(crate) fn find_moment<A: Allocator + Clone>(
+/// The first moment that meets a case of a question: the case of a number, or any.
+pub(crate) fn first_moment<A: Allocator + Clone>(
     alloc: A,
-    logs: &GoodLogs<A>,
-    moment: ShownMoment<'_>,
-) -> Result<FoundMoment<A>, RingFault>
-    requires { (texts : List (List ℕ)) × AreLogTexts texts logs.now }
-    ensures asked { MatchResult result (λ _. IsAskedMomentOf logs.now moment.entry) (IsMomentFault logs.now moment.entry) }
-    ensures found { IfOk result (IsMomentOf logs.now) }
+    asked: AskedQuestion<'_, A>,
+    case: Option<u64>,
+) -> Result<ChosenMoment<A>, OutOfMemory>
+    ensures first { IfOk result (λ moment. IsFirstCut asked.logs asked.question.cases case (cut_of asked.logs moment)) }
+    ensures moment { IfOk result (IsMomentOf asked.logs) }
 {
-    match moment {
-        ShownMoment::AtEnd => Ok(FoundMoment::AtEnd),
-        ShownMoment::AtCut(events) => Ok(FoundMoment::AtCut(asked_cut(alloc, logs, events)?)),
-        ShownMoment::Of { question, case } => match logs.ask(question)?.decide()? {
-            Findings::Refused(reason) => Err(RingFault::No(reason)),
-            Findings::Cases { found, .. } => Ok(first_met(alloc, question, &found, case)?),
-        },
-    }
+    let present = match case {
+        None => asked.first_present()?,
+        Some(number) => present_case(&asked, number)?,
+    };
+    let Some((number, cut)) = present else {
+        return Ok(ChosenMoment::Unmet(case));
+    };
+    Ok(ChosenMoment::OfCase {
+        question: asked.into_question(),
+        number,
+        cut: cut.positions().to_vec(alloc)?,
+    })
 }

@@ -1,32 +1,21 @@
-//! From the texts of logs to what a person is told of them: their answer, and a page after its line.
+//! From what was judged to what a person is told: the answer and a page after its line, or a ring at a moment, as a page, as
+//! lines of JSON or as a picture.
 #![tactic(auto)]
 
-mod draw;
-mod drawn_columns;
-mod drawn_ring;
+mod differences;
 mod explain;
 mod find_moment;
 mod findings_view;
-mod found_moment;
-mod met_case;
-mod picture_fault;
 mod question;
 mod ring_fault;
-mod show;
-mod shown_moment;
 mod shown_ring;
 mod taken;
 mod view;
 
-pub use draw::draw_texts;
-pub use drawn_columns::DrawnColumns;
-pub use drawn_ring::DrawnRing;
+pub use differences::differences;
 pub use explain::{explain_text, explain_texts};
 pub use findings_view::FindingsView;
-pub use picture_fault::PictureFault;
 pub use question::{explain_certified, explain_findings};
 pub use ring_fault::RingFault;
-pub use show::show_texts;
-pub use shown_moment::ShownMoment;
 pub use shown_ring::ShownRing;
 pub use view::View;

@@ -3,20 +3,18 @@ use ira_event::OutOfMemory;
 use ira_moment::CutFault;
 use std::alloc::AllocError;
 
-/// Why a ring isn't shown.
+/// Why there is no such moment of good logs.
 #[derive(Clone, Copy)]
 pub enum RingFault {
-    /// Something stands against the logs or the question.
+    /// Something stands against the question.
     No(Reason),
     /// The numbers that are asked for are no consistent cut of the logs.
     Cut(CutFault),
-    /// A node that is to lead is none of the ring.
-    Place,
     OutOfMemory,
 }
 
 impl From<Refusal> for RingFault {
-    ghost use Rattle.ira_views.specs.Show.{refusal_fault};
+    ghost use Rattle.ira_views.specs.ShownRing.{refusal_fault};
     ghost use Rattle.std.specs.Prelude.{◌≡◌};
 
     ghost from_gives = { λ refusal f. f ≡ refusal_fault refusal };

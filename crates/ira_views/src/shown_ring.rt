@@ -1,102 +1,99 @@
-ghost use Rattle.std.specs.Prelude.{◌≡◌, length};
+ghost use Rattle.std.specs.Prelude.{◌≡◌, ℕ, Err, IfErr, IfOk, MatchResult, Some, length};
+ghost use Rattle.ira_moment.specs.Moment.{whole_cut};
 ghost use Rattle.ira_json.specs.ShownAnswer.{WroteRing};
+ghost use Rattle.ira_picture.specs.DrawFault.{HasTooManyEvents, IsDrawFault};
 ghost use Rattle.ira_show.specs.Showed.{Showed};
-ghost use Rattle.ira_views.specs.FoundMoment.{IsMomentOf};
+ghost use Rattle.ira_view_page.specs.Printable.{IsPrintable};
+ghost use Rattle.ira_views.specs.ShownRing.{IsAtCut, IsNoCut, IsNoQuestion, IsOfQuestion, IsPageOf};
 
-use crate::found_moment::FoundMoment;
+use crate::find_moment::{asked_cut, first_moment};
+use crate::ring_fault::RingFault;
 use ira_audit::GoodLogs;
+use ira_draw::draw;
 use ira_event::{OutOfMemory, Sink};
 use ira_json::{ShownAnswer, write_ring};
-use ira_show::{Heading, show_cut, show_end, show_events, show_events_of_cut, show_no_moment};
-use ira_view_page::{NamedText, PageText, ShowFault};
+use ira_moment::ChosenMoment;
+use ira_picture::{ColumnRange, DrawFault};
+use ira_show::{show_events, show_moment};
+use ira_view_page::{PageText, ShowFault};
 use std::alloc::{Allocator, Global};
 use std::marker::Model;
 
-/// A ring against whose logs nothing stands, to be shown at a moment, and where the nodes that lead when the logs end
-/// differ from those that are to.
+/// A ring against whose logs nothing stands, at a moment. Contracts see how many events each node has made by then, if
+/// there is such a moment.
 #[derive(Drop)]
 pub struct ShownRing<A: Allocator> {
     logs: GoodLogs<A>,
-    moment: FoundMoment<A>,
-    differences: PageText<A>,
+    moment: ChosenMoment<A>,
 }
 
 impl<A: Allocator> Model for ShownRing<A> {
-    ghost use Rattle.ira_views.specs.FoundMoment.{IsMomentOf};
+    ghost use Rattle.ira_moment.specs.ChosenMoment.{IsMomentOf, cut_of};
     ghost use Rattle.ira_views.specs.ShownRing.{ShownRing};
 
     ghost Value = { ShownRing };
 
-    ghost view = { λ r. record { logs = r.logs; differences = r.differences } };
+    ghost view = { λ r. record { logs = r.logs; cut = cut_of r.logs r.moment } };
 
     ghost invariant = { λ r. IsMomentOf r.logs r.moment };
 }
 
 impl<A: Allocator + Clone> ShownRing<A> {
-    /// The ring of these logs, at a moment of theirs.
-    pub(crate) fn new(
-        logs: GoodLogs<A>,
-        moment: FoundMoment<A>,
-        differences: PageText<A>,
-    ) -> ShownRing<A>
-        requires { IsMomentOf logs moment }
-        ensures { result ≡ record { logs = logs; differences = differences } }
+    /// The ring at the end of its logs.
+    pub fn at_end(logs: GoodLogs<A>) -> ShownRing<A>
+        ensures { result ≡ record { logs = logs; cut = Some (whole_cut logs) } }
     {
         ShownRing {
             logs,
-            moment,
-            differences,
+            moment: ChosenMoment::AtEnd,
         }
     }
 
-    /// A line for each node that leads and isn't to, or is to lead and doesn't.
-    pub fn differences(&self) -> &PageText<A>
-        ensures { result.now ≡ self.now.differences }
+    /// The ring when each node has made so many of its events, in the order of the ring's places; any numbers.
+    pub fn at_cut(alloc: A, logs: GoodLogs<A>, events: &[u64]) -> Result<ShownRing<A>, RingFault>
+        ensures { MatchResult result (IsAtCut logs events.now) (IsNoCut logs events.now) }
     {
-        &self.differences
+        let moment = ChosenMoment::AtCut(asked_cut(alloc, &logs, events)?);
+        Ok(ShownRing { logs, moment })
     }
 
-    /// What the ring looks like at the moment, as the lines that follow the differences.
-    pub fn page(&self, alloc: A) -> Result<PageText<A>, OutOfMemory> {
-        let logs = self.logs.logs();
-        match &self.moment {
-            FoundMoment::AtEnd => show_end(alloc, logs),
-            FoundMoment::AtCut(cut) => show_cut(alloc, logs, cut, &Heading::<A>::Cut),
-            FoundMoment::Met(met) => show_cut(alloc, logs, met.cut(), &met.heading()),
-            FoundMoment::Unmet(case) => show_no_moment(alloc, case.map(|case| case as usize)),
-        }
+    /// The ring at the first moment that meets a case of the question of this text: the case of a number, counted from
+    /// 0, or any. Cases are decided one after the other until one is met, and with a number that case alone.
+    pub fn of_question(
+        alloc: A,
+        logs: GoodLogs<A>,
+        question: &[u8],
+        case: Option<u64>,
+    ) -> Result<ShownRing<A>, RingFault>
+        ensures { MatchResult result (IsOfQuestion logs question.now case) (IsNoQuestion logs question.now) }
+    {
+        let moment = first_moment(alloc, logs.ask(question)?, case)?;
+        Ok(ShownRing { logs, moment })
     }
 
-    /// Writes, as the lines that follow the differences, an order of all events through the moment. Nothing is cut
-    /// short: it is written block by block.
+    /// What the ring looks like at the moment, as the lines that follow its answer.
+    pub fn page(&self, alloc: A) -> Result<PageText<A>, OutOfMemory>
+        ensures { IfOk result (IsPageOf self.now) }
+    {
+        show_moment(alloc, self.logs.logs(), &self.moment)
+    }
+
+    /// Writes, as the lines that follow its answer, an order of all events through the moment. Nothing is cut short: it is
+    /// written block by block.
     pub fn write_events<W: Sink>(&self, alloc: A, sink: &mut W) -> Result<(), ShowFault>
         ensures { Showed result (W.state sink.old) (W.state sink.new) }
     {
-        let logs = self.logs.logs();
-        match &self.moment {
-            FoundMoment::AtEnd => show_events(alloc, logs, sink),
-            FoundMoment::AtCut(cut) => {
-                show_events_of_cut(alloc, logs, cut, &Heading::<A>::Cut, sink)
-            }
-            FoundMoment::Met(met) => {
-                show_events_of_cut(alloc, logs, met.cut(), &met.heading(), sink)
-            }
-            FoundMoment::Unmet(case) => {
-                let page = show_no_moment(alloc, case.map(|case| case as usize))?;
-                page.write(sink)?;
-                Ok(())
-            }
-        }
+        show_events(alloc, self.logs.logs(), &self.moment, sink)
     }
 
     /// Writes, as lines of JSON, the answer and what is told of the moment: an order of all events through it, or else
-    /// its rounds, its nodes and what is on its way. These are the files of the logs, in their order; the differences
-    /// aren't told. It is written block by block.
+    /// its rounds, its nodes and what is on its way. These are the names of the files of the logs, in their order. It is
+    /// written block by block.
     pub fn write_json<W: Sink>(
         &self,
         text: Global,
         alloc: A,
-        files: &[NamedText<'_>],
+        files: &[String<A>],
         answer: ShownAnswer<'_>,
         has_events: bool,
         sink: &mut W,
@@ -104,7 +101,26 @@ impl<A: Allocator + Clone> ShownRing<A> {
         requires { length files.now ≡ length self.now.logs }
         ensures { WroteRing answer.entry.status result (W.state sink.old) (W.state sink.new) }
     {
-        let (logs, asked) = (self.logs.logs(), self.moment.asked());
-        write_ring(text, alloc, logs, files, asked, answer, has_events, sink)
+        let logs = self.logs.logs();
+        write_ring(
+            text,
+            alloc,
+            logs,
+            files,
+            &self.moment,
+            answer,
+            has_events,
+            sink,
+        )
+    }
+
+    /// A picture of what happened at these columns, with a line at the moment where it isn't the end of the logs.
+    pub fn picture(&self, alloc: A, columns: ColumnRange) -> Result<PageText<A>, DrawFault>
+        ensures printable { IfOk result IsPrintable }
+        ensures fault { IfErr result IsDrawFault }
+        ensures events { (events : ℕ) → result ≡ Err (DrawFault.TooManyEvents events)
+            → HasTooManyEvents self.now.logs columns.from columns.to events }
+    {
+        draw(alloc, self.logs.logs(), &self.moment, columns)
     }
 }

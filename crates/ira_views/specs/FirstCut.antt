@@ -1,0 +1,30 @@
+-- The first moment that meets a case of a question.
+use Rattle.std.specs.Prelude.{◌≡◌, ℕ, List, [], ◌∷◌, Option, Some, None, slice_get}
+use Rattle.ira_event.specs.Log.{Log}
+use Rattle.ira_pred.specs.Case.{Conjunct}
+use Rattle.ira_elim.specs.LeastCut.{IsLeastCut}
+use Rattle.ira_audit.specs.AskedQuestion.{AskedQuestion, IsFirstPresent}
+use Rattle.ira_audit.specs.Never.{NoCutMeetsAny}
+
+-- of the case of a number: the least consistent cut that meets it; or there is none, since no consistent cut does, or
+-- there is no such case
+abbrev pub IsCutOfCase : List Log → List (List Conjunct) → ℕ → Option (List ℕ) → Type 0
+IsCutOfCase logs cases number (Some cut) =
+    (case : List Conjunct) × (slice_get cases number ≡ Some case) × IsLeastCut logs case cut
+IsCutOfCase logs cases number None =
+    (case : List Conjunct) → slice_get cases number ≡ Some case → NoCutMeetsAny logs (case ∷ [])
+
+-- the cut of the case of a number, if one is asked for; else the least cut that meets the first case that a consistent
+-- cut meets, or none, since no consistent cut meets any case
+abbrev pub IsFirstCut : List Log → List (List Conjunct) → Option ℕ → Option (List ℕ) → Type 0
+IsFirstCut logs cases (Some number) cut = IsCutOfCase logs cases number cut
+IsFirstCut logs cases None (Some cut) = (number : ℕ) × IsFirstPresent logs cases number cut
+IsFirstCut logs cases None None = NoCutMeetsAny logs cases
+
+-- ---- Helpers, no definitions.
+
+-- that case with its number, and its cut
+abbrev pub IsPresentCase : AskedQuestion → ℕ → Option (ℕ × List ℕ) → Type 0
+IsPresentCase asked number (Some found) =
+    (found.0 ≡ number) × IsCutOfCase asked.logs asked.question.cases number (Some found.1)
+IsPresentCase asked number None = IsCutOfCase asked.logs asked.question.cases number None
