@@ -168,23 +168,27 @@ class Drawn:
         self.marks, self.titles = {}, {}
         for g in self.groups('e'):
             for p in g:
-                x, y = map(int, re.fullmatch(r'M(\d+) (\d+)h0', p.get('d')).groups())
+                x, y, length = re.fullmatch(r'M(\d+) (\d+)h(8|\.1)', p.get('d')).groups()
                 title = p.find(S + 'title').text
                 i, k, record, after = re.fullmatch(r'node (\d+) event (\d+): (.*)\n(.*)', title).groups()
-                assert self.rows.index(y) == int(i)
-                self.marks[int(i), int(k)] = x
-                self.titles[int(i), int(k)] = record, after, p.get('class') == 'd'
+                assert self.rows.index(int(y)) == int(i) and p.get('data-at') == f'{i}.{k}'
+                # a draw is a line as long as it is wide, with its middle at its column
+                is_square = length == '8'
+                assert (p.get('class') == 'd') == is_square
+                self.marks[int(i), int(k)] = int(x) + 4 * is_square
+                self.titles[int(i), int(k)] = record, after, is_square
 
     def groups(self, name):
         return [g for g in self.root.iter(S + 'g') if (g.get('class') or '').split()[:1] == [name]]
 
     def arrows(self):
-        """The lines between lanes: class, marker and ends."""
+        """The lines between lanes: class, marker, the events that they name, and ends."""
         for name in 'mzb':
             for g in self.groups(name):
                 marker = (g.get('marker-end') or '')[5:-1]
                 for p in g:
-                    yield g.get('class'), marker, tuple(map(int, re.fullmatch(r'M(\d+) (\d+)L(\d+) (\d+)', p.get('d')).groups()))
+                    ends = tuple(map(int, re.fullmatch(r'M(\d+) (\d+)L(\d+) (\d+)', p.get('d')).groups()))
+                    yield g.get('class'), marker, (p.get('data-from'), p.get('data-to')), ends
 
     def spans(self, name):
         """From where to where each lane has a band of a class."""
@@ -227,7 +231,7 @@ def check(text, ring, cut=None, first=None, last=None):
         assert record == ' '.join(ring.events[i][p - 1]) and is_square == (ring.events[i][p - 1][0] == 'draw')
         assert after == (words(states[p]) if p < len(states) else 'no step' if p == len(states) else 'no state')
     # Arrows are exactly the matching, in the lanes of their link; stubs exactly the sendings without a receipt.
-    whole, partial, stubs, strays, laps, bad = {}, 0, set(), set(), ring.laps(), ring.mismatch() is not None
+    whole, partial, stubs, strays, laps, bad = {}, 0, {}, {}, ring.laps(), ring.mismatch() is not None
     for i in range(n):
         j = (i + 1) % n
         row = i + 1 if n > 2 else j
@@ -236,11 +240,11 @@ def check(text, ring, cut=None, first=None, last=None):
             g = ring.got[i][k] if k < len(ring.got[i]) else None
             if g is None:
                 if inside(ring.column[i, s]):
-                    stubs.add((drawn.rows[i], drawn.marks[i, s]))
+                    stubs[drawn.rows[i], drawn.marks[i, s]] = f'{i}.{s}', None
                 continue
             if s is None:
                 if inside(ring.column[j, g]):
-                    strays.add((drawn.rows[row], drawn.marks[j, g]))
+                    strays[drawn.rows[row], drawn.marks[j, g]] = None, f'{j}.{g}'
                 continue
             ca, cz = ring.column[i, s], ring.column[j, g]
             if not (inside(ca) and inside(cz)):
@@ -251,22 +255,20 @@ def check(text, ring, cut=None, first=None, last=None):
             dropped = g < len(states) and states[g] == states[g - 1]
             kind = ('b y', 'B') if sent != got else ('b', 'B') if cz <= ca else ('z', 'Z') if (i, s) in laps else (
                 'm x' if sent[0] == 'reset' else 'm y' if sent[3] == 'dirty' else 'm', 'X' if dropped else 'A')
-            whole[drawn.rows[i], drawn.marks[i, s], drawn.rows[row], drawn.marks[j, g]] = kind
+            whole[drawn.rows[i], drawn.marks[i, s], drawn.rows[row], drawn.marks[j, g]] = *kind, (f'{i}.{s}', f'{j}.{g}')
     seen, others = {}, 0
     places = {(y, x) for (i, _), x in drawn.marks.items() for y in [drawn.rows[i]]}
     places |= {(drawn.rows[n], x) for (i, _), x in drawn.marks.items() if i == 0 and n > 2}
     inner = {tuple(map(int, re.findall(r'\d+', p.get('d')))): (g.get('marker-end') or '')[5:-1] for g in drawn.groups('i') for p in g}
-    for name, marker, (x, y, x2, y2) in drawn.arrows():
+    for name, marker, named, (x, y, x2, y2) in drawn.arrows():
         if name == 'm x':
             marker = inner.pop((x, y, x2, y2))
         if marker == 'F':
-            assert (y, x) in stubs
-            stubs.remove((y, x))
+            assert stubs.pop((y, x)) == named
         elif (y, x) in places and (y2, x2) in places and (y, x, y2, x2) in whole:
-            seen[y, x, y2, x2] = name, marker
+            seen[y, x, y2, x2] = name, marker, named
         elif (y2, x2) in strays:
-            strays.remove((y2, x2))
-            assert name == 'b y'
+            assert strays.pop((y2, x2)) == named and name == 'b y'
         else:
             others += 1
     assert seen == whole, set(seen.items()) ^ set(whole.items())

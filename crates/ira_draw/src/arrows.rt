@@ -1,11 +1,12 @@
 ghost use Rattle.std.specs.Prelude.{◌≤◌};
+ghost use Rattle.ira_view_page.specs.Printable.{IsPrintable};
 
 use crate::class;
 use crate::grid::{Grid, Point};
 use crate::stroke::{LINES, Line, Stroke, TIPS};
 use crate::svg::Svg;
 use ira_event::Load;
-use ira_picture::{Arrow, Passage, Picture};
+use ira_picture::{Arrow, Mark, Passage, Picture};
 use ira_view_page::Page;
 use std::alloc::Allocator;
 
@@ -51,12 +52,47 @@ fn ends_of(arrow: &Arrow, grid: &Grid) -> (Point, Point) {
     }
 }
 
+/// The event of a node at a column, where it is drawn.
+fn mark_at<A: Allocator>(picture: &Picture<A>, place: usize, column: Option<u32>) -> Option<Mark> {
+    let (lane, column) = (picture.lanes.get(place)?, column?);
+    let k = lane
+        .marks
+        .binary_search_by_key(&column, |mark| mark.column)
+        .ok()?;
+    lane.marks.get(k).copied()
+}
+
+/// Adds which event of a node an arrow begins or ends with, where there is one and it is drawn.
+fn write_event<A: Allocator>(
+    out: &mut Svg<A>,
+    picture: &Picture<A>,
+    name: &str,
+    place: usize,
+    column: Option<u32>,
+)
+    requires { IsPrintable name.now }
+{
+    if let Some(mark) = mark_at(picture, place, column) {
+        out.event(name, place, mark.position);
+    }
+}
+
 /// The lines of all arrows that are drawn so.
 fn write_paths<A: Allocator>(out: &mut Svg<A>, picture: &Picture<A>, grid: &Grid, stroke: Stroke) {
     for arrow in &picture.arrows {
         if Stroke::of(arrow, grid.last) == stroke {
             let (begin, end) = ends_of(arrow, grid);
-            out.begin_lines("");
+            let reader = grid.row_of_reader(arrow.link) % picture.lanes.len().max(1);
+            out.open("path", "");
+            write_event(
+                out,
+                picture,
+                "data-from",
+                usize::from(arrow.link),
+                arrow.sent,
+            );
+            write_event(out, picture, "data-to", reader, arrow.received);
+            out.page.words(" d=\"");
             out.move_to(begin.x, begin.y);
             out.page.words("L");
             out.page.number(end.x);

@@ -150,10 +150,17 @@ fn write_bar<A: Allocator>(out: &mut Svg<A>, class: &str, marker: Option<&str>, 
     out.page.words("\"/>");
 }
 
-/// A mark of a class.
-fn write_dot<A: Allocator>(out: &mut Svg<A>, class: &str, x: u64, y: u64) {
-    out.begin_lines(class);
+/// A mark of an event that isn't a draw.
+fn write_dot<A: Allocator>(out: &mut Svg<A>, x: u64, y: u64) {
+    out.begin_lines(class::SAMPLE_MARK);
     out.dot(x.saturating_add(15), y);
+    out.page.words("\"/>");
+}
+
+/// A mark of a draw.
+fn write_square<A: Allocator>(out: &mut Svg<A>, x: u64, y: u64) {
+    out.begin_lines(class::SAMPLE_DRAW);
+    out.square(x.saturating_add(15), y);
     out.page.words("\"/>");
 }
 
@@ -167,8 +174,8 @@ fn write_arrow<A: Allocator>(out: &mut Svg<A>, line: Line, tip: Tip, x: u64, y: 
 
 fn write_sample<A: Allocator>(out: &mut Svg<A>, sample: Sample, x: u64, y: u64) {
     match sample {
-        Sample::Dot => write_dot(out, class::SAMPLE_MARK, x, y),
-        Sample::Square => write_dot(out, class::SAMPLE_DRAW, x, y),
+        Sample::Dot => write_dot(out, x, y),
+        Sample::Square => write_square(out, x, y),
         Sample::Band(kind) => write_bar(out, Shown::Band(kind).class(), None, x, y),
         Sample::Debt => write_bar(out, class::DEBT, None, x, y),
         Sample::Message => write_arrow(out, Line::Clean, Tip::Head, x, y),
@@ -177,7 +184,7 @@ fn write_sample<A: Allocator>(out: &mut Svg<A>, sample: Sample, x: u64, y: u64) 
         Sample::SecondLane => {
             out.page.words("<g opacity=\".4\">");
             write_bar(out, class::PASSIVE, None, x, y);
-            write_dot(out, class::SAMPLE_MARK, x, y);
+            write_dot(out, x, y);
             out.page.words("</g>");
         }
     }

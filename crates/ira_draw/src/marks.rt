@@ -17,11 +17,16 @@ fn write_after<A: Allocator>(page: &mut Page<A>, after: After) {
 
 /// An event, with what it is for those who point at it.
 fn write_mark<A: Allocator>(out: &mut Svg<A>, grid: &Grid, place: usize, mark: &Mark) {
-    out.begin_lines(match mark.event {
-        Event::Draw(_) => class::DRAW,
-        Event::Sent(_) | Event::Got(_) | Event::Yield => "",
-    });
-    out.dot(grid.x(mark.column), grid.y(place));
+    let is_draw = matches!(mark.event, Event::Draw(_));
+    out.open("path", if is_draw { class::DRAW } else { "" });
+    out.event("data-at", place, mark.position);
+    out.page.words(" d=\"");
+    let (x, y) = (grid.x(mark.column), grid.y(place));
+    if is_draw {
+        out.square(x, y);
+    } else {
+        out.dot(x, y);
+    }
     out.page.words("\"><title>node ");
     out.page.number(place as u64);
     out.page.words(" event ");

@@ -75,6 +75,19 @@ impl<A: Allocator> Svg<A> {
         self.page.words("\"");
     }
 
+    /// Adds an attribute that names an event: its node, and its number in the log.
+    pub(crate) fn event(&mut self, name: &str, place: usize, position: u32)
+        requires { IsPrintable name.now }
+    {
+        self.page.words(" ");
+        self.page.words(name);
+        self.page.words("=\"");
+        self.page.number(place as u64);
+        self.page.words(".");
+        self.page.number(position as u64);
+        self.page.words("\"");
+    }
+
     /// Adds what lines end with, if that is anything.
     pub(crate) fn marker(&mut self, marker: Option<&str>) {
         if let Some(marker) = marker {
@@ -120,10 +133,16 @@ impl<A: Allocator> Svg<A> {
         self.page.number(to);
     }
 
-    /// Adds a line to a path of which only its ends are seen.
+    /// Adds a line to a path of which only its round ends are seen. It has a length, since some renderers draw no other.
     pub(crate) fn dot(&mut self, x: u64, y: u64) {
         self.move_to(x, y);
-        self.page.words("h0");
+        self.page.words("h.1");
+    }
+
+    /// Adds a line to a path that is as long as it is wide, with its middle at a place.
+    pub(crate) fn square(&mut self, x: u64, y: u64) {
+        self.move_to(x.saturating_sub(4), y);
+        self.page.words("h8");
     }
 
     /// Draws an element once more, so much lower and paler.
@@ -131,7 +150,7 @@ impl<A: Allocator> Svg<A> {
         self.page.words("<use");
         self.attribute("href", element);
         self.number("y", below);
-        self.attribute("opacity", opacity);
+        self.attribute("stroke-opacity", opacity);
         self.page.words("/>\n");
     }
 }
