@@ -1,7 +1,9 @@
+ghost use Rattle.ira_order.specs.Matching.{Matches};
+
 use crate::numbered::{numbered, numbered_page};
 use crate::ring_files::RingFiles;
 use ira_event::{Event, OutOfMemory};
-use ira_evidence::{CircleEvidence, StuckAt, first_faulty_events};
+use ira_evidence::{CircleEvidence, StuckAt};
 use ira_order::FaultyEvent;
 use ira_view_page::{ExplanationDraft, Mark, Page, Row, Table, file_of, line_of};
 use std::alloc::Allocator;
@@ -68,13 +70,17 @@ impl<'l, A: Allocator + Clone> RingFiles<'_, 'l, A> {
     }
 }
 
-/// Adds the receipts that wait for one another.
+/// Adds the receipts that wait for one another, and an event without a step, if there is one.
 pub(crate) fn explain_circle<A: Allocator + Clone>(
     ring: &RingFiles<'_, '_, A>,
     draft: &mut ExplanationDraft<A>,
-    evidence: &CircleEvidence<&A>,
-) -> Result<(), OutOfMemory> {
-    let faulty = first_faulty_events(ring.alloc, ring.logs)?;
+    faulty: Option<FaultyEvent>,
+) -> Result<(), OutOfMemory>
+    requires { Matches ring.now.logs.now }
+{
+    let Some(evidence) = CircleEvidence::find(ring.alloc.clone()?, ring.logs)? else {
+        return Ok(());
+    };
     draft.page.paragraph(
         "Each of these receipts waits for a sending that its sender made only after its own such receipt:",
     );
@@ -84,9 +90,9 @@ pub(crate) fn explain_circle<A: Allocator + Clone>(
     let mut text = Page::new(ring.alloc);
     add_ordered(&mut text, evidence.ordered, ring.logs.number_of_events());
     draft.page.paragraph_of(&text);
-    if let Some(event) = faulty.first() {
+    if let Some(event) = faulty {
         let mut text = Page::new(ring.alloc);
-        add_faulty(&mut text, *event);
+        add_faulty(&mut text, event);
         draft.page.paragraph_of(&text);
     }
     draft.hint(

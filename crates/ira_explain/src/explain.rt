@@ -1,77 +1,138 @@
-ghost use Rattle.std.specs.Prelude.{◌≢◌, map};
+ghost use Rattle.std.specs.Prelude.{IfOk, map};
+ghost use Rattle.ira_audit.specs.Judged.{IsJudged};
 ghost use Rattle.ira_audit.specs.LogTextAnswer.{IsLogTextAnswer};
-ghost use Rattle.ira_audit.specs.RingAnswer.{IsRingAnswer};
+ghost use Rattle.ira_audit.specs.Refusal.{IsRingReason};
+ghost use Rattle.ira_audit.specs.RefusedLogs.{AreRefused};
 ghost use Rattle.ira_audit.specs.Report.{IsReportable};
 
+use crate::circle_block::explain_circle;
+use crate::good_block::{explain_end_alone, explain_run};
 use crate::heads_block::explain_heads;
-use crate::ring_block::{explain_alone, explain_ring};
+use crate::link_block::explain_link;
+use crate::node_block::{explain_log_alone, explain_node};
+use crate::ring_files::RingFiles;
 use crate::text_block::NoLog;
-use ira_audit::{Answer, Reason};
-use ira_event::{LogFault, OutOfMemory};
+use ira_audit::{Answer, Judged, Reason, RefusedLogs};
+use ira_event::{LogFault, Logs, OutOfMemory, read_log};
+use ira_replay::{ReplayFault, replay};
 use ira_view_page::{Explanation, ExplanationDraft, NamedText, RingCounts};
 use std::alloc::Allocator;
 
-/// Why a text is no log's.
-fn draft_no_log<A: Allocator + Clone>(
+/// What follows an answer about these logs of a ring.
+pub fn draft_of_ring<A: Allocator + Clone>(
     alloc: A,
-    file: &NamedText<'_>,
-    fault: LogFault,
-) -> Result<ExplanationDraft<A>, OutOfMemory>
-    requires { fault ≢ LogFault.OutOfMemory }
-{
-    let mut draft = ExplanationDraft::after_answer(alloc.clone()?)?;
-    NoLog::new(&alloc, file).explain(&mut draft, fault);
+    logs: &Logs<A>,
+) -> Result<ExplanationDraft<A>, OutOfMemory> {
+    let mut draft = ExplanationDraft::after_answer(alloc)?;
+    draft.ring = Some(RingCounts::of(logs));
     Ok(draft)
 }
 
-/// What `explain_logs` says, while it is put together: for whoever has more to say.
-pub fn draft_logs<A: Allocator + Clone>(
+/// How the run of logs stands against which there is no reason.
+pub fn draft_run<A: Allocator + Clone>(
+    alloc: A,
+    logs: &Logs<A>,
+) -> Result<ExplanationDraft<A>, OutOfMemory> {
+    let mut draft = draft_of_ring(alloc.clone()?, logs)?;
+    explain_run(&alloc, &mut draft.page, logs);
+    Ok(draft)
+}
+
+/// What stands against the logs of a ring.
+fn draft_refused<A: Allocator + Clone>(
     alloc: A,
     files: &[NamedText<'_>],
-    answer: &Answer,
+    refused: &RefusedLogs<A>,
 ) -> Result<ExplanationDraft<A>, OutOfMemory>
-    requires answered { IsRingAnswer (map (λ file. file.text.now) files.now) answer.now }
-    requires reportable { IsReportable answer.now }
+    requires { AreRefused refused.now }
 {
-    if let Answer::No(Reason::Log { number, fault }) = *answer {
-        return draft_no_log(alloc, &files[number], fault);
-    }
-    let mut draft = ExplanationDraft::after_answer(alloc.clone()?)?;
-    if let Answer::No(Reason::Heads(fault)) = *answer {
-        explain_heads(&alloc, &mut draft, files, fault)?;
-    } else {
-        draft.ring = Some(RingCounts::of(files));
-        explain_ring(&alloc, &mut draft, files)?;
+    let (logs, faulty) = (refused.logs(), refused.faulty_events());
+    let mut draft = draft_of_ring(alloc.clone()?, logs)?;
+    let ring = RingFiles {
+        alloc: &alloc,
+        files,
+        logs,
+    };
+    match (refused.reason(), faulty.first()) {
+        (Reason::Match(fault), _) => explain_link(&ring, &mut draft, fault)?,
+        (Reason::Circle, first) => explain_circle(&ring, &mut draft, first.copied())?,
+        (Reason::Replay { .. }, Some(named)) => explain_node(&ring, &mut draft, faulty, *named)?,
+        _ => {}
     }
     Ok(draft)
 }
 
-/// Why the answer of the logs of a ring, or of texts that should be them, is as it is: an empty line, and what stands
-/// in which lines of which files, what is due there, the rule, and usual causes that the files point to.
+/// Why texts aren't those of the logs of one ring.
+fn draft_no_ring<A: Allocator + Clone>(
+    alloc: A,
+    files: &[NamedText<'_>],
+    reason: Reason,
+) -> Result<ExplanationDraft<A>, OutOfMemory>
+    requires { IsRingReason (map (λ file. file.text.now) files.now) reason }
+{
+    let mut draft = ExplanationDraft::after_answer(alloc.clone()?)?;
+    match reason {
+        Reason::Log { number, fault } => {
+            if let Some(file) = files.get(number) {
+                NoLog::new(&alloc, file).explain(&mut draft, fault);
+            }
+        }
+        Reason::Heads(fault) => explain_heads(&alloc, &mut draft, files, fault)?,
+        _ => {}
+    }
+    Ok(draft)
+}
+
+/// Why the logs of a ring, or texts that should be them, are judged as they are: an empty line, and what stands in which
+/// lines of which files, what is due there, the rule, and usual causes that the files point to.
 pub fn explain_logs<A: Allocator + Clone>(
     alloc: A,
     files: &[NamedText<'_>],
-    answer: &Answer,
+    judged: &Judged<A>,
 ) -> Result<Explanation<A>, OutOfMemory>
-    requires answered { IsRingAnswer (map (λ file. file.text.now) files.now) answer.now }
-    requires reportable { IsReportable answer.now }
+    requires { IsJudged (map (λ file. file.text.now) files.now) judged.now }
 {
-    draft_logs(alloc, files, answer)?.finish()
+    let draft = match judged {
+        Judged::Good(logs) => draft_run(alloc, logs.logs())?,
+        Judged::Refused(refused) => draft_refused(alloc, files, refused)?,
+        Judged::NoRing(reason) => draft_no_ring(alloc, files, *reason)?,
+    };
+    draft.finish()
 }
 
-/// The same of the text of one log that is judged alone.
+/// Judges the text of one log alone, and says why the answer is as it is.
 pub fn explain_log<A: Allocator + Clone>(
     alloc: A,
     file: &NamedText<'_>,
-    answer: &Answer,
-) -> Result<Explanation<A>, OutOfMemory>
-    requires answered { IsLogTextAnswer file.now.text.now answer.now }
-    requires reportable { IsReportable answer.now }
+) -> Result<(Answer, Explanation<A>), OutOfMemory>
+    ensures answer { IfOk result (λ explained. IsLogTextAnswer file.now.text.now explained.0) }
+    ensures reportable { IfOk result (λ explained. IsReportable explained.0) }
 {
-    if let Answer::No(Reason::Log { fault, .. }) = *answer {
-        return draft_no_log(alloc, file, fault)?.finish();
-    }
     let mut draft = ExplanationDraft::after_answer(alloc.clone()?)?;
-    explain_alone(&alloc, &mut draft, file)?;
-    draft.finish()
+    let log = match read_log(alloc.clone()?, file.text) {
+        Ok(log) => log,
+        Err(LogFault::OutOfMemory) => return Err(OutOfMemory),
+        Err(fault) => {
+            NoLog::new(&alloc, file).explain(&mut draft, fault);
+            return Ok((
+                Answer::No(Reason::Log { number: 0, fault }),
+                draft.finish()?,
+            ));
+        }
+    };
+    let answer = match replay(&log) {
+        Ok(end) => {
+            explain_end_alone(&alloc, &mut draft.page, &log, end);
+            Answer::Yes
+        }
+        Err(ReplayFault { position, fault }) => {
+            explain_log_alone(&alloc, &mut draft, file.name, &log)?;
+            Answer::No(Reason::Replay {
+                place: log.place(),
+                position,
+                fault,
+            })
+        }
+    };
+    Ok((answer, draft.finish()?))
 }

@@ -13,7 +13,7 @@ use std::alloc::Allocator;
 #[derive(Drop)]
 pub(crate) struct FaultyLink<'a, 'l, A: Allocator> {
     pub(crate) alloc: &'l A,
-    pub(crate) logs: &'a Logs<&'l A>,
+    pub(crate) logs: &'a Logs<A>,
     /// Its writer's place.
     pub(crate) link: u8,
     /// Its reader's place.

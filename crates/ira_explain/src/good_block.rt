@@ -2,7 +2,7 @@ use crate::numbered::{numbered, numbered_page};
 use ira_event::{Event, Load, Logs, NodeLog};
 use ira_node::{NodeState, Phase};
 use ira_replay::replay;
-use ira_view_page::Page;
+use ira_view_page::{Page, event_of};
 use std::alloc::Allocator;
 
 /// How many loads crossed the links of a ring.
@@ -57,10 +57,22 @@ impl Traffic {
     }
 }
 
+/// Whether the last event of a log is one by which a node may lead, the receipt of a clean message that went around the
+/// ring: a node that leads has made no event since.
+fn may_lead<A: Allocator>(log: &NodeLog<A>) -> bool {
+    let nodes = u32::from(log.nodes().get());
+    match event_of(log, log.len() as u32) {
+        Some(Event::Got(Load::Msg(message))) => message.hop == nodes && !message.dirty,
+        _ => false,
+    }
+}
+
 /// Adds who leads where the logs end: the least place.
-fn add_leader<A: Allocator>(text: &mut Page<A>, logs: &Logs<A>) {
+fn add_leader<A: Allocator>(text: &mut Page<&A>, logs: &Logs<A>) {
     for place in 0..logs.size().get() {
-        if let Ok(end) = replay(logs.log(place))
+        let log = logs.log(place);
+        if may_lead(log)
+            && let Ok(end) = replay(log)
             && let Phase::Leader { round, id } = end.phase
         {
             numbered(text, "Node ", u32::from(place));
@@ -75,7 +87,7 @@ fn add_leader<A: Allocator>(text: &mut Page<A>, logs: &Logs<A>) {
 }
 
 /// Adds how a run that has nothing against it stands.
-pub(crate) fn explain_run<'l, A: Allocator>(alloc: &'l A, page: &mut Page<A>, logs: &Logs<&'l A>) {
+pub(crate) fn explain_run<A: Allocator>(alloc: &A, page: &mut Page<A>, logs: &Logs<A>) {
     let traffic = Traffic::of(logs);
     let mut text = Page::new(alloc);
     add_leader(&mut text, logs);
@@ -92,7 +104,7 @@ pub(crate) fn explain_run<'l, A: Allocator>(alloc: &'l A, page: &mut Page<A>, lo
 pub(crate) fn explain_end_alone<A: Allocator>(
     alloc: &A,
     page: &mut Page<A>,
-    log: &NodeLog<&A>,
+    log: &NodeLog<A>,
     end: NodeState,
 ) {
     let mut text = numbered_page(alloc, "The log of place ", u32::from(log.place()));

@@ -17,7 +17,6 @@ mod link_cause;
 mod link_sides;
 mod node_block;
 mod numbered;
-mod ring_block;
 mod ring_files;
 mod rule;
 mod slip;
@@ -25,5 +24,5 @@ mod stopped;
 mod text_block;
 mod text_head;
 
-pub use explain::{draft_logs, explain_log, explain_logs};
+pub use explain::{draft_of_ring, draft_run, explain_log, explain_logs};
 pub use slip::Slip;

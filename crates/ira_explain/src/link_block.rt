@@ -15,10 +15,7 @@ use ira_view_page::{ExplanationDraft, Page, event_at, line_of};
 use std::alloc::Allocator;
 
 /// Whether numbered the other way round all links match.
-fn is_numbered_backwards<A: Allocator + Copy>(
-    alloc: A,
-    logs: &Logs<A>,
-) -> Result<bool, OutOfMemory> {
+fn is_numbered_backwards<A: Allocator>(alloc: &A, logs: &Logs<A>) -> Result<bool, OutOfMemory> {
     let nodes = logs.size().get();
     for place in 0..nodes {
         let writer = successor(nodes, place);

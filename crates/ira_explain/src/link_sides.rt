@@ -29,10 +29,10 @@ fn load_received(event: Event) -> Option<Load> {
 
 impl<A: Allocator + Copy> LinkSides<A> {
     /// The sides of a link that leads from the node of one log to that of the other.
-    pub(crate) fn of(
+    pub(crate) fn of<L: Allocator>(
         alloc: A,
-        writer: &NodeLog<A>,
-        reader: &NodeLog<A>,
+        writer: &NodeLog<L>,
+        reader: &NodeLog<L>,
     ) -> Result<LinkSides<A>, OutOfMemory> {
         Ok(LinkSides {
             sent: writer.events().filter_map(load_sent).collect(alloc)?,

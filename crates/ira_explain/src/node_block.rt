@@ -9,9 +9,7 @@ use ira_event::{Event, NodeLog, OutOfMemory};
 use ira_evidence::{Beginning, NodeEvidence, beginnings};
 use ira_node::StepFault;
 use ira_order::{DirectDependencies, EventAt, FaultyEvent, HappenedBefore};
-use ira_view_page::{
-    ExplanationDraft, Mark, Page, Row, Table, event_at, event_of, file_of, log_at,
-};
+use ira_view_page::{ExplanationDraft, Mark, Page, Row, Table, event_at, event_of, file_of};
 use std::alloc::Allocator;
 
 /// So many events are shown before the one that has no step, and how the node starts where these are all.
@@ -25,12 +23,33 @@ const MOST_OTHERS: usize = 4;
 struct StoppedLog<'a, 'l, A: Allocator> {
     alloc: &'l A,
     file: &'a str,
-    log: &'a NodeLog<&'l A>,
-    evidence: &'a NodeEvidence<&'l A>,
+    log: &'a NodeLog<A>,
+    evidence: NodeEvidence<A>,
     stopped: Stopped,
 }
 
-impl<'l, A: Allocator + Clone> StoppedLog<'_, 'l, A> {
+impl<'a, 'l, A: Allocator + Clone> StoppedLog<'a, 'l, A> {
+    /// Nothing where each event of the log has a step.
+    fn find(
+        alloc: &'l A,
+        file: &'a str,
+        log: &'a NodeLog<A>,
+    ) -> Result<Option<StoppedLog<'a, 'l, A>>, OutOfMemory> {
+        let Some(evidence) = NodeEvidence::find(alloc.clone()?, log)? else {
+            return Ok(None);
+        };
+        let Some(stopped) = Stopped::of(log, &evidence) else {
+            return Ok(None);
+        };
+        Ok(Some(StoppedLog {
+            alloc,
+            file,
+            log,
+            evidence,
+            stopped,
+        }))
+    }
+
     /// The line of a record, or of how the node starts, for a state after so many events.
     fn state_cell(&self, events: u32) -> Page<&'l A> {
         let mut cell = Page::new(self.alloc);
@@ -231,7 +250,7 @@ fn explain_others<A: Allocator + Clone>(
     if faulty.len() < 2 {
         return Ok(());
     }
-    let ordered = DirectDependencies::new(ring.alloc, ring.logs)?;
+    let ordered = DirectDependencies::new(ring.alloc.clone()?, ring.logs)?;
     let found = beginnings(ring.alloc, &ordered, faulty, named)?;
     for event in faulty {
         if *event != named {
@@ -258,46 +277,28 @@ pub(crate) fn explain_node<A: Allocator + Clone>(
     requires faulty { AreFirstFaultyEvents ring.now.logs.now faulty.now }
     requires named { IsFirstFaultyEvent ring.now.logs.now named }
 {
-    let alloc = ring.alloc;
-    let Some(log) = log_at(ring.logs, named.at.place) else {
-        return Ok(());
-    };
-    let Some(evidence) = NodeEvidence::find(alloc, log)? else {
-        return Ok(());
-    };
-    let Some(stopped) = Stopped::of(log, &evidence) else {
-        return Ok(());
-    };
-    let stopped_log = StoppedLog {
-        alloc,
-        file: file_of(ring.files, named.at.place),
-        log,
-        evidence: &evidence,
-        stopped,
-    };
-    stopped_log.explain_states(draft);
-    explain_others(ring, draft, faulty, named)?;
-    stopped_log.explain_cause(draft);
+    let (file, log) = (
+        file_of(ring.files, named.at.place),
+        ring.logs.log(named.at.place),
+    );
+    if let Some(stopped) = StoppedLog::find(ring.alloc, file, log)? {
+        stopped.explain_states(draft);
+        explain_others(ring, draft, faulty, named)?;
+        stopped.explain_cause(draft);
+    }
     Ok(())
 }
 
 /// Adds why an event of a log that is judged alone has no step.
-pub(crate) fn explain_log_alone<'l, A: Allocator + Clone>(
-    alloc: &'l A,
+pub(crate) fn explain_log_alone<A: Allocator + Clone>(
+    alloc: &A,
     draft: &mut ExplanationDraft<A>,
     file: &str,
-    log: &NodeLog<&'l A>,
-    evidence: &NodeEvidence<&'l A>,
-) {
-    if let Some(stopped) = Stopped::of(log, evidence) {
-        let stopped_log = StoppedLog {
-            alloc,
-            file,
-            log,
-            evidence,
-            stopped,
-        };
-        stopped_log.explain_states(draft);
-        stopped_log.explain_cause(draft);
+    log: &NodeLog<A>,
+) -> Result<(), OutOfMemory> {
+    if let Some(stopped) = StoppedLog::find(alloc, file, log)? {
+        stopped.explain_states(draft);
+        stopped.explain_cause(draft);
     }
+    Ok(())
 }

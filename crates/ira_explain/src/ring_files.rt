@@ -7,5 +7,5 @@ use std::alloc::Allocator;
 pub(crate) struct RingFiles<'a, 'l, A: Allocator> {
     pub(crate) alloc: &'l A,
     pub(crate) files: &'a [NamedText<'a>],
-    pub(crate) logs: &'a Logs<&'l A>,
+    pub(crate) logs: &'a Logs<A>,
 }

@@ -1,14 +1,9 @@
-ghost use Rattle.std.specs.Prelude.{IfOk};
-ghost use Rattle.ira_audit.specs.GoodLogs.{AreGood};
-ghost use Rattle.ira_cert.specs.Conjuncts.{HasPlacesOf};
 ghost use Rattle.ira_elim.specs.Found.{IsFound};
 
 use crate::asked_lines::AskedLines;
 use crate::ring_block::AskedRing;
-use ira_cert::{Section, case_queues};
-use ira_elim::{Decided, Found, decide_queues};
+use ira_elim::Found;
 use ira_event::OutOfMemory;
-use ira_order::HappenedBefore;
 use ira_pred::Case;
 use ira_view_page::{ExplanationDraft, Mark, file_of};
 use std::alloc::Allocator;
@@ -22,30 +17,29 @@ pub(crate) struct ExplainedCase<'a, A: Allocator> {
     pub(crate) lines: AskedLines<'a>,
 }
 
-impl<A: Allocator + Copy> ExplainedCase<'_, A> {
+impl<A: Allocator + Clone> ExplainedCase<'_, A> {
     /// The name of the file of a node's log.
     pub(crate) fn file_of(&self, place: u8) -> &str {
-        let logs = self.ring.logs;
-        file_of(logs, place)
+        file_of(self.ring.files.logs, place)
     }
 
-    /// Adds what is found for it.
-    pub(crate) fn explain<P: Allocator + Clone>(
+    /// Adds what was found for it.
+    pub(crate) fn explain(
         &self,
-        draft: &mut ExplanationDraft<P>,
+        draft: &mut ExplanationDraft<A>,
+        found: &Found<A>,
     ) -> Result<(), OutOfMemory>
-        requires good { AreGood self.now.ring.now.dependencies.now }
-        requires places { HasPlacesOf self.now.ring.now.dependencies.now self.now.case.now }
+        requires { IsFound self.now.ring.now.asked.now.logs self.now.case.now found.now }
     {
         self.add_case(draft);
-        match self.decide()? {
+        match found {
             Found::Present(cut) => self.add_moment(&mut draft.page, cut.positions()),
-            Found::Absent(section) => self.add_absence(&mut draft.page, &section),
+            Found::Absent(section) => self.add_absence(&mut draft.page, section),
         }
     }
 
     /// Adds its number and what it asks.
-    fn add_case<P: Allocator + Clone>(&self, draft: &mut ExplanationDraft<P>) {
+    fn add_case(&self, draft: &mut ExplanationDraft<A>) {
         let page = &mut draft.page;
         page.blank();
         page.begin(Mark::Plain);
@@ -58,20 +52,6 @@ impl<A: Allocator + Copy> ExplainedCase<'_, A> {
         draft.case(self.number);
         for n in 0..self.case.len() {
             draft.asks(self.case.place(n), self.lines.clause(n), self.lines.line(n));
-        }
-    }
-
-    /// What is found for it.
-    pub(crate) fn decide(&self) -> Result<Found<A>, OutOfMemory>
-        requires { HasPlacesOf self.now.ring.now.dependencies.now self.now.case.now }
-        ensures { IfOk result (IsFound self.now.ring.now.dependencies.now self.now.case.now) }
-    {
-        let alloc = self.ring.alloc;
-        let dependencies = self.ring.dependencies;
-        let queues = case_queues(alloc, dependencies.logs(), self.case)?;
-        match decide_queues(alloc, dependencies, queues, Vec::new(alloc))? {
-            Decided::Absent { steps, spent } => Ok(Found::Absent(Section { steps, spent })),
-            Decided::Present(cut) => Ok(Found::Present(cut)),
         }
     }
 }

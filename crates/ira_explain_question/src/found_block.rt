@@ -1,4 +1,3 @@
-ghost use Rattle.ira_audit.specs.GoodLogs.{AreGood};
 ghost use Rattle.ira_order.specs.Cut.{IsConsistentCut};
 
 use crate::asked_lines::{clause_at, last_place};
@@ -18,7 +17,7 @@ const MOST_LOADS: usize = 6;
 const MOST_ELIMINATIONS: usize = 12;
 
 /// Begins a line that belongs to a case.
-fn begin_inner<P: Allocator>(page: &mut Page<P>) {
+fn begin_inner<A: Allocator>(page: &mut Page<A>) {
     page.begin(Mark::Plain);
     page.words("  ");
 }
@@ -42,7 +41,7 @@ fn links_between(nodes: u8, from: u8, to: u8) -> usize {
 }
 
 /// Adds what is on its way at a moment.
-fn add_loads<A: Allocator, P: Allocator>(page: &mut Page<P>, moment: &Moment<A>) {
+fn add_loads<A: Allocator>(page: &mut Page<A>, moment: &Moment<A>) {
     begin_inner(page);
     let mut told = 0usize;
     for link in 0..moment.size() {
@@ -71,21 +70,16 @@ fn add_loads<A: Allocator, P: Allocator>(page: &mut Page<P>, moment: &Moment<A>)
     page.end();
 }
 
-impl<A: Allocator + Copy> ExplainedCase<'_, A> {
+impl<A: Allocator + Clone> ExplainedCase<'_, A> {
     /// Adds the first moment that meets it.
-    pub(crate) fn add_moment<P: Allocator>(
-        &self,
-        page: &mut Page<P>,
-        cut: &[u32],
-    ) -> Result<(), OutOfMemory>
-        requires good { AreGood self.now.ring.now.dependencies.now }
-        requires cut { IsConsistentCut self.now.ring.now.dependencies.now cut.now }
+    pub(crate) fn add_moment(&self, page: &mut Page<A>, cut: &[u32]) -> Result<(), OutOfMemory>
+        requires { IsConsistentCut self.now.ring.now.asked.now.logs cut.now }
     {
         page.line(
             Mark::Plain,
             "  Of the moments that meet it this is the first: each other is there or later at every node.",
         );
-        let moment = Moment::at_cut(self.ring.alloc, self.ring.dependencies.logs(), cut)?;
+        let moment = Moment::at_cut(self.ring.alloc.clone()?, self.ring.logs(), cut)?;
         self.add_nodes(page, &moment);
         add_loads(page, &moment);
         begin_inner(page);
@@ -99,7 +93,7 @@ impl<A: Allocator + Copy> ExplainedCase<'_, A> {
     }
 
     /// Adds what the nodes that it asks are at a moment.
-    fn add_nodes<P: Allocator>(&self, page: &mut Page<P>, moment: &Moment<A>) {
+    fn add_nodes(&self, page: &mut Page<A>, moment: &Moment<A>) {
         let alloc = self.ring.alloc;
         let mut table = Table::new(alloc);
         for n in 0..self.case.len() {
@@ -116,7 +110,7 @@ impl<A: Allocator + Copy> ExplainedCase<'_, A> {
     }
 
     /// A node.
-    fn node_cell(&self, place: u8) -> Page<A> {
+    fn node_cell(&self, place: u8) -> Page<&A> {
         let mut cell = Page::new(self.ring.alloc);
         cell.words("  node ");
         let column = cell.column().saturating_add(digits(last_place(self.case)));
@@ -125,7 +119,7 @@ impl<A: Allocator + Copy> ExplainedCase<'_, A> {
     }
 
     /// What clause `n` asks.
-    fn asked_cell(&self, n: usize) -> Page<A> {
+    fn asked_cell(&self, n: usize) -> Page<&A> {
         let mut cell = Page::new(self.ring.alloc);
         cell.words("asked ");
         cell.quote(self.lines.clause(n));
@@ -133,12 +127,12 @@ impl<A: Allocator + Copy> ExplainedCase<'_, A> {
     }
 
     /// What a node is after its events, and the last of them.
-    fn state_cell(&self, place: u8, progress: NodeProgress) -> Page<A> {
+    fn state_cell(&self, place: u8, progress: NodeProgress) -> Page<&A> {
         let mut cell = Page::new(self.ring.alloc);
         cell.words("is ");
         cell.state(&progress.state);
         let position = progress.events;
-        match event_at(self.ring.dependencies.logs(), EventAt { place, position }) {
+        match event_at(self.ring.logs(), EventAt { place, position }) {
             Some(event) => {
                 cell.words(", after ");
                 cell.record(self.file_of(place), position, event);
@@ -149,12 +143,12 @@ impl<A: Allocator + Copy> ExplainedCase<'_, A> {
     }
 
     /// Adds why no moment meets it.
-    pub(crate) fn add_absence<P: Allocator>(
+    pub(crate) fn add_absence(
         &self,
-        page: &mut Page<P>,
+        page: &mut Page<A>,
         section: &Section<A>,
     ) -> Result<(), OutOfMemory> {
-        let absence = Absence::of_section(self.ring.alloc, section)?;
+        let absence = Absence::of_section(self.ring.alloc.clone()?, section)?;
         self.add_spent(page, &absence);
         for elimination in absence.eliminations.iter().take(MOST_ELIMINATIONS) {
             self.add_elimination(page, *elimination);
@@ -171,7 +165,7 @@ impl<A: Allocator + Copy> ExplainedCase<'_, A> {
     }
 
     /// Adds which node has no state left that it asks for, and whether it ever had one.
-    fn add_spent<P: Allocator>(&self, page: &mut Page<P>, absence: &Absence<A>) {
+    fn add_spent(&self, page: &mut Page<A>, absence: &Absence<A>) {
         let spent = absence.spent;
         let had_states = absence.eliminations.iter().any(|e| e.node == spent);
         begin_inner(page);
@@ -192,14 +186,14 @@ impl<A: Allocator + Copy> ExplainedCase<'_, A> {
     }
 
     /// Adds what it asks of a node.
-    fn add_clause<P: Allocator>(&self, page: &mut Page<P>, place: u8) {
+    fn add_clause(&self, page: &mut Page<A>, place: u8) {
         if let Some(n) = clause_at(self.case, place) {
             page.quote(self.lines.clause(n));
         }
     }
 
     /// Adds which states of a node are ruled out, and why.
-    fn add_elimination<P: Allocator>(&self, page: &mut Page<P>, elimination: Elimination) {
+    fn add_elimination(&self, page: &mut Page<A>, elimination: Elimination) {
         let Elimination {
             node,
             first,
@@ -238,16 +232,16 @@ impl<A: Allocator + Copy> ExplainedCase<'_, A> {
         };
         self.add_event(page, by);
         page.words(", by ");
-        let nodes = self.ring.dependencies.logs().size().get();
+        let nodes = self.ring.logs().size().get();
         page.number_of(links_between(nodes, node, other), "message");
         page.end();
     }
 
     /// Adds `FILE:LINE: RECORD` of an event.
-    fn add_event<P: Allocator>(&self, page: &mut Page<P>, at: EventAt) {
+    fn add_event(&self, page: &mut Page<A>, at: EventAt) {
         let file = self.file_of(at.place);
         page.words(" (");
-        match event_at(self.ring.dependencies.logs(), at) {
+        match event_at(self.ring.logs(), at) {
             Some(event) => page.record(file, at.position, event),
             None => page.place(file, line_of(at.position)),
         }

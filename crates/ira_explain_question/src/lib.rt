@@ -9,10 +9,12 @@ mod clause_stop;
 mod explain;
 mod explained_case;
 mod found_block;
-mod named_sections;
 mod question_block;
 mod ring_block;
 mod step_block;
 mod text_block;
 
-pub use explain::{explain_check_answer, explain_question_answer};
+pub use asked_files::AskedFiles;
+pub use explain::{
+    explain_found, explain_no_certificate, explain_not_asked, explain_sound, explain_unsound,
+};

@@ -1,127 +1,41 @@
-ghost use Rattle.std.specs.Prelude.{◌≡◌, IfSome, length};
-ghost use Rattle.ira_audit.specs.GoodLogs.{AreGood};
-ghost use Rattle.ira_cert.specs.Conjuncts.{HasPlacesOf};
+ghost use Rattle.std.specs.Prelude.{◌≡◌};
+ghost use Rattle.std.specs.List.{AllZip};
+ghost use Rattle.ira_elim.specs.Found.{IsFound};
 
-use crate::asked_files::{AskedFiles, read_certificate};
+use crate::asked_files::AskedFiles;
 use crate::asked_lines::AskedLines;
 use crate::explained_case::ExplainedCase;
-use crate::named_sections::NamedSections;
+use ira_audit::AskedQuestion;
+use ira_cert::Section;
 use ira_elim::Found;
 use ira_event::{Logs, OutOfMemory};
-use ira_order::DirectDependencies;
-use ira_pred::Question;
-use ira_view_page::{ExplanationDraft, Mark, NamedText, Page};
+use ira_view_page::{ExplanationDraft, Mark, Page};
 use std::alloc::Allocator;
 
 /// At most so many cases are told, where none is named.
 const MOST_CASES: usize = 8;
 
-/// What is explained: what was found for the cases of a question, or the sections of a certificate.
-#[derive(Drop)]
-enum Subject<'a, A: Allocator, P: Allocator> {
-    Findings(&'a [Found<P>]),
-    Sections(NamedSections<'a, A>),
-}
-
-impl<'a, A: Allocator + Copy> AskedFiles<'a, A> {
-    /// Adds what is found for the case of a number, or for the first ones: those that are present, or all where none
-    /// is.
-    pub(crate) fn explain_findings<P: Allocator + Clone>(
-        &self,
-        draft: &mut ExplanationDraft<P>,
-        found: &[Found<P>],
-        case: Option<usize>,
-    ) -> Result<(), OutOfMemory> {
-        self.explain(draft, Subject::Findings(found), case)
-    }
-
-    /// Adds what stands against a certificate: the section of the case of a number, or how many sections there are.
-    pub(crate) fn explain_certificate<P: Allocator + Clone>(
-        &self,
-        draft: &mut ExplanationDraft<P>,
-        certificate: &NamedText<'_>,
-        case: Option<usize>,
-    ) -> Result<(), OutOfMemory> {
-        let Some(read) = read_certificate(self.alloc, certificate)? else {
-            return Ok(());
-        };
-        let sections = NamedSections {
-            file: certificate.name,
-            sections: &read.sections,
-        };
-        self.explain(draft, Subject::Sections(sections), case)
-    }
-
-    fn explain<P: Allocator + Clone>(
-        &self,
-        draft: &mut ExplanationDraft<P>,
-        subject: Subject<'_, A, P>,
-        case: Option<usize>,
-    ) -> Result<(), OutOfMemory> {
-        match self.good_logs()? {
-            Some(logs) => self.explain_logs(draft, logs.logs(), subject, case),
-            None => Ok(()),
-        }
-    }
-
-    fn explain_logs<P: Allocator + Clone>(
-        &self,
-        draft: &mut ExplanationDraft<P>,
-        logs: &'a Logs<A>,
-        subject: Subject<'_, A, P>,
-        case: Option<usize>,
-    ) -> Result<(), OutOfMemory>
-        requires { AreGood logs.now }
-    {
-        let Some(question) = self.question_of(logs.size().get())? else {
-            return Ok(());
-        };
-        let dependencies = DirectDependencies::new(self.alloc, logs)?;
-        let ring = AskedRing {
-            alloc: self.alloc,
-            logs: self.logs,
-            file: self.question,
-            dependencies: &dependencies,
-            question: &question,
-        };
-        match (subject, case) {
-            (Subject::Findings(_), Some(number)) => ring.explain_case(draft, number),
-            (Subject::Findings(found), None) => ring.explain_first(draft, found),
-            (Subject::Sections(sections), Some(number)) => match ring.case(number) {
-                Some(case) => case.explain_section(draft, sections),
-                None => Ok(()),
-            },
-            (Subject::Sections(sections), None) => {
-                ring.count_sections(draft, sections);
-                Ok(())
-            }
-        }
-    }
-}
-
 /// A question about the logs of a ring, and the files of both.
 #[derive(Drop)]
 pub(crate) struct AskedRing<'a, A: Allocator> {
-    pub(crate) alloc: A,
-    /// The files of the logs, by place.
-    pub(crate) logs: &'a [NamedText<'a>],
-    /// The file of the question.
-    file: &'a NamedText<'a>,
-    pub(crate) dependencies: &'a DirectDependencies<'a, A>,
-    question: &'a Question<A>,
+    pub(crate) alloc: &'a A,
+    pub(crate) files: AskedFiles<'a>,
+    pub(crate) asked: &'a AskedQuestion<'a, A>,
 }
 
-impl<'a, A: Allocator + Copy> AskedRing<'a, A> {
-    /// The case of a number, where there is one.
-    fn case(&'a self, number: usize) -> Option<ExplainedCase<'a, A>>
-        requires { self.now.question.now.nodes ≡ length self.now.dependencies.now }
-        ensures ring { IfSome result (λ case. case.ring.now.dependencies.now ≡ self.now.dependencies.now) }
-        ensures places { IfSome result (λ case. HasPlacesOf self.now.dependencies.now case.case.now) }
+impl<'a, A: Allocator + Clone> AskedRing<'a, A> {
+    /// The logs.
+    pub(crate) fn logs(&self) -> &Logs<A>
+        ensures { result.now ≡ self.now.asked.now.logs }
     {
-        let file = self.file;
-        let cases = self.question.cases();
+        self.asked.logs()
+    }
+
+    /// The case of a number, where there is one.
+    fn case(&'a self, number: usize) -> Option<ExplainedCase<'a, A>> {
+        let cases = self.asked.cases();
         let case = cases.get(number)?;
-        let lines = AskedLines::of(file, cases, number);
+        let lines = AskedLines::of(self.files.question, cases, number);
         Some(ExplainedCase {
             ring: self,
             case,
@@ -130,21 +44,36 @@ impl<'a, A: Allocator + Copy> AskedRing<'a, A> {
         })
     }
 
-    /// Adds what is found for the first cases.
-    fn explain_first<P: Allocator + Clone>(
+    /// Adds what was found for the case of a number, or for the first ones: those that are present, or all where none
+    /// is.
+    pub(crate) fn explain_found(
         &self,
-        draft: &mut ExplanationDraft<P>,
-        found: &[Found<P>],
+        draft: &mut ExplanationDraft<A>,
+        found: &[Found<A>],
+        case: Option<usize>,
     ) -> Result<(), OutOfMemory>
-        requires good { AreGood self.now.dependencies.now }
-        requires ring { self.now.question.now.nodes ≡ length self.now.dependencies.now }
+        requires { AllZip (IsFound self.now.asked.now.logs) self.now.asked.now.question.cases found.now }
+    {
+        match case {
+            Some(number) => self.explain_case(draft, found, number),
+            None => self.explain_first(draft, found),
+        }
+    }
+
+    /// Adds what was found for the first cases.
+    fn explain_first(
+        &self,
+        draft: &mut ExplanationDraft<A>,
+        found: &[Found<A>],
+    ) -> Result<(), OutOfMemory>
+        requires { AllZip (IsFound self.now.asked.now.logs) self.now.asked.now.question.cases found.now }
     {
         let some_present = found.iter().any(|found| matches!(found, Found::Present(_)));
         let mut told = 0usize;
-        for (number, found) in found.iter().enumerate() {
-            if matches!(found, Found::Present(_)) == some_present {
+        for number in 0..found.len() {
+            if matches!(found[number], Found::Present(_)) == some_present {
                 if told < MOST_CASES {
-                    self.explain_case(draft, number)?;
+                    self.explain_case(draft, found, number)?;
                 }
                 told = told.saturating_add(1);
             }
@@ -161,18 +90,18 @@ impl<'a, A: Allocator + Copy> AskedRing<'a, A> {
         Ok(())
     }
 
-    /// Adds what is found for the case of a number, where there is one.
-    fn explain_case<P: Allocator + Clone>(
+    /// Adds what was found for the case of a number, where there is one.
+    fn explain_case(
         &self,
-        draft: &mut ExplanationDraft<P>,
+        draft: &mut ExplanationDraft<A>,
+        found: &[Found<A>],
         number: usize,
     ) -> Result<(), OutOfMemory>
-        requires good { AreGood self.now.dependencies.now }
-        requires ring { self.now.question.now.nodes ≡ length self.now.dependencies.now }
+        requires { AllZip (IsFound self.now.asked.now.logs) self.now.asked.now.question.cases found.now }
     {
-        match self.case(number) {
-            Some(case) => case.explain(draft),
-            None => {
+        match (self.case(number), found.get(number)) {
+            (Some(case), Some(found)) => case.explain(draft, found),
+            _ => {
                 self.add_no_case(&mut draft.page, number);
                 Ok(())
             }
@@ -180,25 +109,39 @@ impl<'a, A: Allocator + Copy> AskedRing<'a, A> {
     }
 
     /// Adds that there is no case of this number.
-    fn add_no_case<P: Allocator>(&self, page: &mut Page<P>, number: usize) {
+    fn add_no_case(&self, page: &mut Page<A>, number: usize) {
         page.blank();
         page.begin(Mark::Plain);
         page.words("There is no case ");
         page.number(number as u64);
         page.words(": the question has ");
-        page.number_of(self.question.cases().len(), "case");
+        page.number_of(self.asked.cases().len(), "case");
         page.words(", counted from 0.");
         page.end();
     }
 
-    /// Adds how many sections a certificate has, and how many are due.
-    fn count_sections<P: Allocator + Clone>(
+    /// Adds why the section of a certificate for the case of a number isn't sound.
+    pub(crate) fn explain_section(
         &self,
-        draft: &mut ExplanationDraft<P>,
-        certificate: NamedSections<'_, A>,
+        draft: &mut ExplanationDraft<A>,
+        certificate: &str,
+        sections: &[Section<A>],
+        number: usize,
+    ) -> Result<(), OutOfMemory> {
+        match self.case(number) {
+            Some(case) => case.explain_section(draft, certificate, sections),
+            None => Ok(()),
+        }
+    }
+
+    /// Adds that a certificate has so many sections, and how many are due.
+    pub(crate) fn count_sections(
+        &self,
+        draft: &mut ExplanationDraft<A>,
+        certificate: &str,
+        found: usize,
     ) {
-        let (file, cases) = (self.file, self.question.cases());
-        let found = certificate.sections.len();
+        let (file, cases) = (self.files.question, self.asked.cases());
         let page = &mut draft.page;
         page.begin(Mark::Plain);
         page.show(file.name.as_bytes());
@@ -207,7 +150,7 @@ impl<'a, A: Allocator + Copy> AskedRing<'a, A> {
         page.words(", so as many sections are due, in their order.");
         page.end();
         page.begin(Mark::Plain);
-        page.show(certificate.file.as_bytes());
+        page.show(certificate.as_bytes());
         page.words(": ");
         page.number_of(found, "section");
         match cases.get(found) {

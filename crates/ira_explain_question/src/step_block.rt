@@ -2,9 +2,9 @@ ghost use Rattle.ira_cert.specs.Conjuncts.{HasPlacesOf};
 
 use crate::asked_lines::clause_at;
 use crate::explained_case::ExplainedCase;
-use crate::named_sections::NamedSections;
+use crate::text_block::HEAD_LINES;
 use ira_cand::Ahead;
-use ira_cert::{CertStep, QueueHead, Unsound, case_queues};
+use ira_cert::{CertStep, QueueHead, Section, Unsound, case_queues};
 use ira_elim::Found;
 use ira_event::{Listed, OutOfMemory};
 use ira_evidence::{SectionEvidence, UnsoundStep, Unspent};
@@ -18,15 +18,15 @@ use std::alloc::Allocator;
 const MOST_LEFT: usize = 5;
 
 /// Begins a line of a certificate, as the one that the answer speaks of.
-fn begin_named<P: Allocator>(page: &mut Page<P>, file: &str, line: usize) {
+fn begin_named<A: Allocator>(page: &mut Page<A>, file: &str, line: usize) {
     page.begin(Mark::Named);
     page.place(file, line);
     page.words(": ");
 }
 
 /// Adds the line of a certificate that has this step.
-fn add_step<P: Allocator + Clone>(
-    draft: &mut ExplanationDraft<P>,
+fn add_step<A: Allocator + Clone>(
+    draft: &mut ExplanationDraft<A>,
     file: &str,
     line: usize,
     step: CertStep,
@@ -47,8 +47,8 @@ fn add_step<P: Allocator + Clone>(
 }
 
 /// Adds the line of a certificate that says that a node is spent.
-fn add_spent<P: Allocator + Clone>(
-    draft: &mut ExplanationDraft<P>,
+fn add_spent<A: Allocator + Clone>(
+    draft: &mut ExplanationDraft<A>,
     file: &str,
     line: usize,
     node: u8,
@@ -62,40 +62,49 @@ fn add_spent<P: Allocator + Clone>(
     draft.spent(file, line, node);
 }
 
+/// The line of a certificate on which the steps of its section of a number begin.
+fn first_step<A: Allocator>(sections: &[Section<A>], number: usize) -> usize {
+    sections
+        .iter()
+        .take(number)
+        .fold(HEAD_LINES + 2, |line, section| {
+            line.saturating_add(section.steps.len()).saturating_add(2)
+        })
+}
+
 /// Adds the state of a node after so many events.
-fn add_position<P: Allocator>(page: &mut Page<P>, position: u32, node: u8) {
+fn add_position<A: Allocator>(page: &mut Page<A>, position: u32, node: u8) {
     page.number(u64::from(position));
     page.words(" of node ");
     page.number(u64::from(node));
 }
 
-impl<A: Allocator + Copy> ExplainedCase<'_, A> {
+impl<A: Allocator + Clone> ExplainedCase<'_, A> {
     /// Adds why its section of a certificate isn't sound, where it has one.
-    pub(crate) fn explain_section<P: Allocator + Clone>(
+    pub(crate) fn explain_section(
         &self,
-        draft: &mut ExplanationDraft<P>,
-        certificate: NamedSections<'_, A>,
-    ) -> Result<(), OutOfMemory>
-        requires { HasPlacesOf self.now.ring.now.dependencies.now self.now.case.now }
-    {
-        let Some(section) = certificate.sections.get(self.number) else {
+        draft: &mut ExplanationDraft<A>,
+        file: &str,
+        sections: &[Section<A>],
+    ) -> Result<(), OutOfMemory> {
+        let Some(section) = sections.get(self.number) else {
             return Ok(());
         };
-        let (alloc, dependencies) = (self.ring.alloc, self.ring.dependencies);
-        let first = certificate.first_step(self.number);
+        let (alloc, dependencies) = (self.ring.alloc, self.ring.asked.dependencies());
+        let first = first_step(sections, self.number);
         let steps = section.steps.len();
-        let mut queues = case_queues(alloc, dependencies.logs(), self.case)?;
-        match SectionEvidence::find(alloc, dependencies, &mut queues, section)? {
+        let mut queues = case_queues(alloc.clone()?, dependencies.logs(), self.case)?;
+        match SectionEvidence::find(alloc.clone()?, dependencies, &mut queues, section)? {
             Some(SectionEvidence::Unsound(unsound)) => {
                 let line = first.saturating_add(unsound.number);
-                add_step(draft, certificate.file, line, unsound.step);
+                add_step(draft, file, line, unsound.step);
                 self.add_fronts(draft, &mut queues, unsound);
                 self.add_fault(&mut draft.page, unsound);
                 self.add_outcome(&mut draft.page, false)
             }
             Some(SectionEvidence::NotSpent(unspent)) => {
                 let line = first.saturating_add(steps);
-                add_spent(draft, certificate.file, line, unspent.place);
+                add_spent(draft, file, line, unspent.place);
                 self.add_unspent(draft, steps, &unspent);
                 self.add_outcome(&mut draft.page, true)
             }
@@ -105,7 +114,7 @@ impl<A: Allocator + Copy> ExplainedCase<'_, A> {
 
     /// A number of events of a node, and its state after them, where it has so many.
     fn state_at(&self, node: u8, events: u32) -> Option<(u32, NodeState)> {
-        let log = log_at(self.ring.dependencies.logs(), node)?;
+        let log = log_at(self.ring.logs(), node)?;
         for (position, state) in States::new(log.nodes(), log.initiator(), log.events()) {
             if position == events {
                 return Some((position, state));
@@ -138,9 +147,9 @@ impl<A: Allocator + Copy> ExplainedCase<'_, A> {
     }
 
     /// Adds what is left of the two nodes of a step.
-    fn add_fronts<P: Allocator + Clone, I: Iterator<Item = u32> + Listed>(
+    fn add_fronts<I: Iterator<Item = u32> + Listed>(
         &self,
-        draft: &mut ExplanationDraft<P>,
+        draft: &mut ExplanationDraft<A>,
         queues: &mut [Option<Ahead<I>>],
         unsound: UnsoundStep,
     ) {
@@ -153,12 +162,7 @@ impl<A: Allocator + Copy> ExplainedCase<'_, A> {
     }
 
     /// Adds what it asks of a node, and what the steps before left of its candidates.
-    fn add_front<P: Allocator + Clone>(
-        &self,
-        draft: &mut ExplanationDraft<P>,
-        node: u8,
-        front: Option<Front>,
-    ) {
+    fn add_front(&self, draft: &mut ExplanationDraft<A>, node: u8, front: Option<Front>) {
         let page = &mut draft.page;
         page.begin(Mark::Plain);
         page.words("node ");
@@ -193,7 +197,7 @@ impl<A: Allocator + Copy> ExplainedCase<'_, A> {
     }
 
     /// Adds why a step isn't sound.
-    fn add_fault<P: Allocator>(&self, page: &mut Page<P>, unsound: UnsoundStep) {
+    fn add_fault(&self, page: &mut Page<A>, unsound: UnsoundStep) {
         match unsound.why {
             Unsound::NotAsked => {
                 page.paragraph("A step speaks of two nodes of which the case asks something.");
@@ -210,7 +214,7 @@ impl<A: Allocator + Copy> ExplainedCase<'_, A> {
     }
 
     /// Adds which of the two states of a step isn't its node's first candidate left.
-    fn add_not_first<P: Allocator>(&self, page: &mut Page<P>, unsound: UnsoundStep) {
+    fn add_not_first(&self, page: &mut Page<A>, unsound: UnsoundStep) {
         let step = unsound.step;
         let mut text = Page::new(self.ring.alloc);
         text.words("A step speaks of the first candidate left of each node; ");
@@ -230,9 +234,9 @@ impl<A: Allocator + Copy> ExplainedCase<'_, A> {
     }
 
     /// Adds why the event that leads on from the state of a step didn't happen before the one that led to the other.
-    fn add_not_before<P: Allocator>(&self, page: &mut Page<P>, step: CertStep) {
+    fn add_not_before(&self, page: &mut Page<A>, step: CertStep) {
         let (pos, node, other_pos, other) = (step.pos, step.node, step.other_pos, step.other);
-        let dependencies = self.ring.dependencies;
+        let dependencies = self.ring.asked.dependencies();
         let logs = dependencies.logs();
         let nodes = logs.size().get();
         if node >= nodes || other >= nodes || other_pos as usize > logs.log(other).len() {
@@ -266,7 +270,7 @@ impl<A: Allocator + Copy> ExplainedCase<'_, A> {
     }
 
     /// Adds an event of a node, and the line that it stands on.
-    fn add_event_of<P: Allocator>(&self, page: &mut Page<P>, position: u32, node: u8) {
+    fn add_event_of(&self, page: &mut Page<&A>, position: u32, node: u8) {
         add_position(page, position, node);
         page.words(" (");
         page.place(self.file_of(node), line_of(position));
@@ -274,12 +278,7 @@ impl<A: Allocator + Copy> ExplainedCase<'_, A> {
     }
 
     /// Adds what so many steps left of a node's candidates, or that it asks nothing of the node.
-    fn add_unspent<P: Allocator + Clone>(
-        &self,
-        draft: &mut ExplanationDraft<P>,
-        steps: usize,
-        unspent: &Unspent<A>,
-    ) {
+    fn add_unspent(&self, draft: &mut ExplanationDraft<A>, steps: usize, unspent: &Unspent<A>) {
         let node = unspent.place;
         let page = &mut draft.page;
         page.begin(Mark::Plain);
@@ -316,7 +315,7 @@ impl<A: Allocator + Copy> ExplainedCase<'_, A> {
     }
 
     /// Adds the first of these states of a node.
-    fn add_states<P: Allocator>(&self, page: &mut Page<P>, node: u8, states: &[u32]) {
+    fn add_states(&self, page: &mut Page<A>, node: u8, states: &[u32]) {
         for position in states.iter().take(MOST_LEFT) {
             page.begin(Mark::Plain);
             page.words("  state ");
@@ -335,15 +334,9 @@ impl<A: Allocator + Copy> ExplainedCase<'_, A> {
     }
 
     /// Adds whether it is absent all the same; where it is, perhaps by how many steps.
-    fn add_outcome<P: Allocator>(
-        &self,
-        page: &mut Page<P>,
-        with_steps: bool,
-    ) -> Result<(), OutOfMemory>
-        requires { HasPlacesOf self.now.ring.now.dependencies.now self.now.case.now }
-    {
+    fn add_outcome(&self, page: &mut Page<A>, with_steps: bool) -> Result<(), OutOfMemory> {
         let mut text = Page::new(self.ring.alloc);
-        match self.decide()? {
+        match self.ring.asked.decide_case(self.number)? {
             Found::Present(_) => {
                 text.words(
                     "The case is met: no certificate shows it absent. See `ira explain --question ",

@@ -10,7 +10,7 @@ use crate::view_printer::print_view;
 use ira_event::{MAX_TEXT, Sink};
 use ira_files::{CountingReader, FileName, TextBuffer, TextSource};
 use ira_view_page::NamedText;
-use ira_views::{explain_text, explain_texts};
+use ira_views::{explain_text, explain_texts, judge_texts};
 use ira_words::LogSource;
 use std::alloc::{Allocator, Global};
 use std::io::Read;
@@ -36,7 +36,8 @@ where
     let names = source_names(&alloc, source, shelf)?;
     let files = read_named(&alloc, &names, shelf)?;
     let named = named_texts(alloc.clone()?, &files)?;
-    let view = explain_texts(rt, alloc, &named)?;
+    let judged = judge_texts(rt, alloc.clone()?, &named)?;
+    let view = explain_texts(alloc, &named, &judged)?;
     print_view(rt.alloc(), is_json, &view, out)
 }
 

@@ -8,16 +8,16 @@ use crate::status::Status;
 use crate::view_printer::{print_findings_view, print_view};
 use ira_event::Sink;
 use ira_files::{FileName, TextSource};
-use ira_views::{explain_certified, explain_findings};
+use ira_views::{AskedFiles, explain_certified, explain_findings, judge_texts};
 use ira_words::{AskedQuestion, LogSource};
-use std::alloc::{Allocator, Global};
+use std::alloc::Allocator;
 use std::sync::Wait;
 use std::thread::Threads;
 use std::time::Clock;
 
 /// Decides a question of the logs of this source, and says why what is found is so. The question is read first.
-pub(crate) fn explain_question_files<'a, A, F, W>(
-    global: Global,
+pub(crate) fn explain_question_files<'a, R, A, F, W>(
+    rt: &R,
     alloc: A,
     is_json: bool,
     asked: AskedQuestion<'a>,
@@ -26,7 +26,8 @@ pub(crate) fn explain_question_files<'a, A, F, W>(
     out: &mut W,
 ) -> Result<Status, ProgramFault<'a>>
 where
-    A: Allocator + Clone,
+    R: AllocGlobal + Threads,
+    A: Allocator + Clone + Sync,
     F: TextSource,
     W: Sink,
     ensures { ExplainsQuestion A is_json F.reads asked.entry.question.now source.now shelf.now
@@ -36,8 +37,13 @@ where
     let question = NamedFile::read(&alloc, FileName::Given(asked.question), shelf)?;
     let files = read_named(&alloc, &names, shelf)?;
     let named = named_texts(alloc.clone()?, &files)?;
-    let view = explain_findings(alloc.clone()?, &named, &question.named(), asked.case)?;
-    print_findings_view(global, alloc, is_json, &view, out)
+    let judged = judge_texts(rt, alloc.clone()?, &named)?;
+    let files = AskedFiles {
+        logs: &named,
+        question: &question.named(),
+    };
+    let view = explain_findings(alloc.clone()?, files, &judged, asked.case)?;
+    print_findings_view(rt.alloc(), alloc, is_json, &view, out)
 }
 
 /// Judges the logs of this source with the question and the certificate of these files, and says why the answer is as
@@ -65,7 +71,11 @@ where
     let certificate = NamedFile::read(&alloc, FileName::Given(certificate), shelf)?;
     let files = read_named(&alloc, &names, shelf)?;
     let named = named_texts(alloc.clone()?, &files)?;
-    let (question, certificate) = (question.named(), certificate.named());
-    let view = explain_certified(rt, alloc, &named, &question, &certificate)?;
+    let judged = judge_texts(rt, alloc.clone()?, &named)?;
+    let files = AskedFiles {
+        logs: &named,
+        question: &question.named(),
+    };
+    let view = explain_certified(rt, alloc, files, &certificate.named(), &judged)?;
     print_view(rt.alloc(), is_json, &view, out)
 }

@@ -4,7 +4,7 @@ ghost use Rattle.ira_main.specs.FilesRead.{IsFilesFault, ReadsFiles, names_of};
 ghost use Rattle.ira_views.specs.Texts.{texts_of};
 
 use crate::program_fault::ProgramFault;
-use crate::read_files::read_file;
+use crate::read_files::read_into;
 use ira_files::{FileName, TextBuffer, TextSource};
 use ira_view_page::NamedText;
 use std::alloc::{AllocError, Allocator};
@@ -14,7 +14,8 @@ use std::marker::Model;
 #[derive(Drop)]
 pub(crate) struct NamedFile<A: Allocator> {
     name: String<A>,
-    text: TextBuffer<A>,
+    /// At its own size.
+    text: Vec<u8, A>,
 }
 
 impl<A: Allocator> Model for NamedFile<A> {
@@ -22,7 +23,7 @@ impl<A: Allocator> Model for NamedFile<A> {
 
     ghost Value = { List ℕ };
 
-    ghost view = { λ f. f.text };
+    ghost view = { λ f. f.text.items };
 }
 
 impl<A: Allocator> NamedFile<A> {
@@ -37,16 +38,34 @@ impl<A: Allocator> NamedFile<A> {
         ensures read { IfOk result (λ file. F.reads shelf.now (file_name name.entry) (Ok file)) }
         ensures fault { IfErr result (IsFilesFault F.reads (file_name name.entry ∷ []) shelf.now) }
     {
-        let text = read_file(alloc, name, shelf)?;
-        let path = name.path(alloc.clone()?)?;
-        Ok(NamedFile { name: path, text })
+        let mut buffer = TextBuffer::new(alloc.clone()?);
+        NamedFile::read_by(alloc, &mut buffer, name, shelf)
+    }
+
+    /// Reads the file of this name through a buffer.
+    fn read_by<'a, F: TextSource>(
+        alloc: &A,
+        buffer: &mut TextBuffer<A>,
+        name: FileName<'a>,
+        shelf: &F,
+    ) -> Result<NamedFile<A>, ProgramFault<'a>>
+    where
+        A: Clone,
+        ensures read { IfOk result (λ file. F.reads shelf.now (file_name name.entry) (Ok file)) }
+        ensures fault { IfErr result (IsFilesFault F.reads (file_name name.entry ∷ []) shelf.now) }
+    {
+        read_into(alloc, name, buffer, shelf)?;
+        Ok(NamedFile {
+            name: name.path(alloc.clone()?)?,
+            text: buffer.bytes().to_vec(alloc.clone()?)?,
+        })
     }
 
     /// Its text.
     pub(crate) fn bytes(&self) -> &[u8]
         ensures { result.now ≡ self.now }
     {
-        self.text.bytes()
+        &self.text
     }
 
     /// Its text with its name.
@@ -55,7 +74,7 @@ impl<A: Allocator> NamedFile<A> {
     {
         NamedText {
             name: self.name.as_str(),
-            text: self.text.bytes(),
+            text: &self.text,
         }
     }
 }
@@ -70,9 +89,10 @@ pub(crate) fn read_named<'a, A: Allocator + Clone, F: TextSource>(
         (λ files. ReadsFiles F.reads (names_of names.now) shelf.now files.items)
         (IsFilesFault F.reads (names_of names.now) shelf.now) }
 {
+    let mut buffer = TextBuffer::new(alloc.clone()?);
     let mut files = Vec::with_capacity(alloc.clone()?, names.len())?;
     for name in names {
-        files.push(NamedFile::read(alloc, *name, shelf)?)?;
+        files.push(NamedFile::read_by(alloc, &mut buffer, *name, shelf)?)?;
     }
     Ok(files)
 }

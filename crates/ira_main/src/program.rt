@@ -132,13 +132,7 @@ where
                 Progress::Ended(explain_files(rt, alloc, is_json, &logs, shelf, out))
             }
             ExplainedAnswer::Findings { asked, logs } => Progress::Ended(explain_question_files(
-                rt.alloc(),
-                alloc,
-                is_json,
-                asked,
-                &logs,
-                shelf,
-                out,
+                rt, alloc, is_json, asked, &logs, shelf, out,
             )),
             ExplainedAnswer::Certificate {
                 question,

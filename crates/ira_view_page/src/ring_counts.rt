@@ -1,7 +1,7 @@
-use crate::named_text::NamedText;
+ghost use Rattle.std.specs.Prelude.{◌≡◌, length, sum_by};
 
-/// How many lines of a log's text are no records: the four of its head, and the last one.
-const OTHER_LINES: usize = 5;
+use ira_event::Logs;
+use std::alloc::Allocator;
 
 /// How many nodes a ring has, and how many events the logs of all of them have.
 #[derive(Clone, Copy, Debug, PartialEq, Eq)]
@@ -11,15 +11,13 @@ pub struct RingCounts {
 }
 
 impl RingCounts {
-    /// Those of a ring whose logs have these texts.
-    pub fn of(logs: &[NamedText<'_>]) -> RingCounts {
-        let mut events = 0usize;
-        for log in logs {
-            events = events.saturating_add(log.whole_lines().saturating_sub(OTHER_LINES));
-        }
+    /// Those of the ring of these logs.
+    pub fn of<A: Allocator>(logs: &Logs<A>) -> RingCounts
+        ensures { result ≡ record { nodes = length logs.now; events = sum_by (λ log. length log.events) logs.now } }
+    {
         RingCounts {
-            nodes: logs.len(),
-            events,
+            nodes: usize::from(logs.size().get()),
+            events: logs.number_of_events(),
         }
     }
 }

@@ -1,16 +1,21 @@
 ghost use Rattle.std.specs.Prelude.{◌≡◌, IfOk};
 ghost use Rattle.ira_audit.specs.CheckAnswer.{IsCheckAnswer};
 ghost use Rattle.ira_audit.specs.Findings.{AreFindings, AreReportable};
+ghost use Rattle.ira_audit.specs.Judged.{IsJudged};
 ghost use Rattle.ira_audit.specs.Never.{NoCaseIsMet};
+ghost use Rattle.ira_audit.specs.QuestionFitsLogs.{QuestionFitsLogs};
 ghost use Rattle.ira_audit.specs.Report.{IsReportable};
 ghost use Rattle.ira_audit.specs.declared.answer.Answer.TheVariants.{Yes};
 ghost use Rattle.ira_views.specs.Texts.{texts_of};
 
 use crate::findings_view::FindingsView;
-use crate::taken::take_texts;
 use crate::view::View;
+use ira_audit::{Answer, AskedQuestion, Findings, Judged, Refusal};
 use ira_event::OutOfMemory;
-use ira_explain_question::{explain_check_answer, explain_question_answer};
+use ira_explain_question::{
+    AskedFiles, explain_found, explain_no_certificate, explain_not_asked, explain_sound,
+    explain_unsound,
+};
 use ira_links::OpenGate;
 use ira_view_page::NamedText;
 use std::alloc::Allocator;
@@ -21,51 +26,100 @@ use std::time::Clock;
 /// How often the steps of a section are halved among threads. The answer is the same at every depth.
 const DEPTH: u8 = 2;
 
-/// Decides a question of the texts of a ring's logs, and says why what is found is so: of the case of a number, counted from
+/// Decides a question of logs that were judged, and says why what is found is so: of the case of a number, counted from
 /// 0, or of the first ones.
 pub fn explain_findings<A: Allocator + Clone>(
     alloc: A,
-    texts: &[NamedText<'_>],
-    question: &NamedText<'_>,
+    files: AskedFiles<'_>,
+    judged: &Judged<A>,
     case: Option<u64>,
 ) -> Result<FindingsView<A>, OutOfMemory>
-    ensures found { IfOk result (λ view. AreFindings (texts_of texts.now) question.now.text.now view.findings) }
+    requires { IsJudged (texts_of files.entry.logs.now) judged.now }
+    ensures found { IfOk result (λ view.
+        AreFindings (texts_of files.entry.logs.now) files.entry.question.now.text.now view.findings) }
     ensures reportable { IfOk result (λ view. AreReportable view.findings) }
 {
-    let findings = take_texts(alloc.clone()?, texts)?
-        .judge()?
-        .decide(question.text)?;
-    let explanation = explain_question_answer(alloc, texts, question, &findings, case)?;
-    Ok(FindingsView {
-        findings,
-        explanation,
-    })
+    match judged.ask(files.question.text) {
+        Ok(asked) => {
+            let findings = asked.decide()?;
+            let explanation = explain_found(alloc, files, &asked, &findings, case)?;
+            Ok(FindingsView {
+                findings,
+                explanation,
+            })
+        }
+        Err(Refusal::No(reason)) => Ok(FindingsView {
+            findings: Findings::Refused(reason),
+            explanation: explain_not_asked(alloc, files, judged, reason)?,
+        }),
+        Err(Refusal::OutOfMemory) => Err(OutOfMemory),
+    }
 }
 
-/// Judges the texts of a ring's logs together with those of a question and of a certificate, and says why the answer is as it
-/// is.
+/// Judges a certificate for a question about logs that were judged, and says why the answer is as it is.
 pub fn explain_certified<R, A>(
     rt: &R,
     alloc: A,
-    texts: &[NamedText<'_>],
-    question: &NamedText<'_>,
+    files: AskedFiles<'_>,
     certificate: &NamedText<'_>,
+    judged: &Judged<A>,
 ) -> Result<View<A>, OutOfMemory>
 where
     R: Threads + Wait + Clock + Sync,
     A: Allocator + Clone + Send + Sync,
-    ensures answer { IfOk result (λ view.
-        IsCheckAnswer (texts_of texts.now) question.now.text.now certificate.now.text.now view.answer) }
+    requires { IsJudged (texts_of files.entry.logs.now) judged.now }
+    ensures answer { IfOk result (λ view. IsCheckAnswer (texts_of files.entry.logs.now)
+        files.entry.question.now.text.now certificate.now.text.now view.answer) }
     ensures reportable { IfOk result (λ view. IsReportable view.answer) }
-    ensures never { IfOk result (λ view. view.answer ≡ Yes
-        → NoCaseIsMet (texts_of texts.now) question.now.text.now certificate.now.text.now) }
+    ensures never { IfOk result (λ view. view.answer ≡ Yes → NoCaseIsMet (texts_of files.entry.logs.now)
+        files.entry.question.now.text.now certificate.now.text.now) }
 {
-    let audit = take_texts(alloc.clone()?, texts)?;
-    let judged = audit.judge_on_threads(rt)?;
-    let answer = judged.check(rt, question.text, certificate.text, DEPTH, &OpenGate)?;
-    let explanation = explain_check_answer(alloc, texts, question, certificate, &answer)?;
-    Ok(View {
-        answer,
-        explanation,
-    })
+    match judged.ask(files.question.text) {
+        Ok(asked) => explain_check(rt, alloc, files, certificate, &asked),
+        Err(Refusal::No(reason)) => Ok(View {
+            answer: Answer::No(reason),
+            explanation: explain_not_asked(alloc, files, judged, reason)?,
+        }),
+        Err(Refusal::OutOfMemory) => Err(OutOfMemory),
+    }
+}
+
+/// Whether a certificate answers a question that is asked of good logs, and why.
+fn explain_check<R, A>(
+    rt: &R,
+    alloc: A,
+    files: AskedFiles<'_>,
+    certificate: &NamedText<'_>,
+    asked: &AskedQuestion<'_, A>,
+) -> Result<View<A>, OutOfMemory>
+where
+    R: Threads + Wait + Clock + Sync,
+    A: Allocator + Clone + Send + Sync,
+    requires { QuestionFitsLogs (texts_of files.entry.logs.now) files.entry.question.now.text.now asked.now.logs
+        asked.now.question }
+    ensures answer { IfOk result (λ view. IsCheckAnswer (texts_of files.entry.logs.now)
+        files.entry.question.now.text.now certificate.now.text.now view.answer) }
+    ensures reportable { IfOk result (λ view. IsReportable view.answer) }
+{
+    let read = match asked.read_certificate(certificate.text) {
+        Ok(read) => read,
+        Err(Refusal::No(reason)) => {
+            return Ok(View {
+                answer: Answer::No(reason),
+                explanation: explain_no_certificate(alloc, files, asked, certificate, reason)?,
+            });
+        }
+        Err(Refusal::OutOfMemory) => return Err(OutOfMemory),
+    };
+    match asked.check(rt, &read, DEPTH, &OpenGate) {
+        Ok(()) => Ok(View {
+            answer: Answer::Yes,
+            explanation: explain_sound(alloc, asked, &read.sections)?,
+        }),
+        Err(Refusal::No(reason)) => Ok(View {
+            answer: Answer::No(reason),
+            explanation: explain_unsound(alloc, files, asked, certificate, &read.sections, reason)?,
+        }),
+        Err(Refusal::OutOfMemory) => Err(OutOfMemory),
+    }
 }

@@ -1,17 +1,21 @@
 use Rattle.ira_views.specs.Texts.{texts_of}
+use Rattle.ira_views.proofs.Asked.{found_of_asked}
 use Rattle.ira_views.proofs.question.explain_findings.Goals as goal
 
-pub returns-clause-found : goal.returns-clause-found
-returns-clause-found g c = c.in_ok-findings.ensures.found (texts_of c.args.texts.now) c.in_ok-take_texts.ensures
+pub explain_found-requires-clause-asked : goal.explain_found-requires-clause-asked
+explain_found-requires-clause-asked g c = c.in-Ok.ensures (texts_of c.args.files.logs.now) c.requires
 
-pub returns-clause-reportable : goal.returns-clause-reportable
-returns-clause-reportable g c = c.in_ok-findings.ensures.reportable (texts_of c.args.texts.now)
-    c.in_ok-take_texts.ensures
+pub returns-in-Ok : goal.returns-in-Ok
+returns-in-Ok g c =
+    let both = found_of_asked (texts_of c.args.files.logs.now) c.args.files.question.now.text.now c.in-Ok.asked
+    c.in_ok-findings.findings (c.in-Ok.ensures (texts_of c.args.files.logs.now) c.requires) c.in_ok-findings.ensures in
+    record { found = both.0; reportable = both.1 }
 
-pub explain_question_answer-requires-clause-found : goal.explain_question_answer-requires-clause-found
-explain_question_answer-requires-clause-found g c =
-    c.in_ok-findings.ensures.found (texts_of c.args.texts.now) c.in_ok-take_texts.ensures
+pub explain_not_asked-requires-clause-reason : goal.explain_not_asked-requires-clause-reason
+explain_not_asked-requires-clause-reason g c =
+    rw c.in-Err-No.field-0-is at (c.in-Err-No.ensures (texts_of c.args.files.logs.now) c.requires)
 
-pub explain_question_answer-requires-clause-reportable : goal.explain_question_answer-requires-clause-reportable
-explain_question_answer-requires-clause-reportable g c =
-    c.in_ok-findings.ensures.reportable (texts_of c.args.texts.now) c.in_ok-take_texts.ensures
+pub returns-in-Err-No : goal.returns-in-Err-No
+returns-in-Err-No g c =
+    let why = rw c.in-Err-No.field-0-is at (c.in-Err-No.ensures (texts_of c.args.files.logs.now) c.requires) in
+    record { found = why.0; reportable = why.1 }
