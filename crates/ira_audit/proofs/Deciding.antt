@@ -20,10 +20,14 @@ reason_same r s e = cc
 
 module _ {A : Type 0} (texts : List (List ℕ)) (question : List ℕ) where
   -- what is found for a question that is posed
+  pub found_asked : (asked : AskedQuestion) → QuestionFitsLogs texts question asked.logs asked.question
+      → (findings : Findings A) → AreFoundOf asked findings → AreFindings texts question findings × AreReportable findings
+  found_asked asked posed (Refused r) h = absurd h
+  found_asked asked posed (Cases nodes found) h = ((asked.logs, asked.question, posed, h.0, h.1), tt)
+
   pub posed_decided : (asked : AskedQuestion) → QuestionFitsLogs texts question asked.logs asked.question
       → (d : Result (Findings A) OutOfMemory) → IfOk d (AreFoundOf asked) → IsDecided texts question d
-  posed_decided asked posed (Ok (Refused r)) h = absurd h
-  posed_decided asked posed (Ok (Cases nodes found)) h = ((asked.logs, asked.question, posed, h.0, h.1), tt)
+  posed_decided asked posed (Ok findings) h = found_asked asked posed findings h
   posed_decided asked posed (Err e) h = tt
 
   -- findings are a refusal by exactly the reason that there is

@@ -23,10 +23,8 @@ use Rattle.ira_elim.specs.declared.found.Found.{Found}
 use Rattle.ira_elim.specs.declared.found.Found.TheVariants.{Absent, Present}
 use Rattle.ira_audit.specs.Findings.{HasPresent}
 use Rattle.ira_audit.specs.FindingsText.{absent_words, case_line, found_words}
-use Rattle.ira_audit.specs.WrittenFindings.{AreDrafted, AreOfCases, AreWritten, AreWrittenFindings, IsAdded}
+use Rattle.ira_audit.specs.WrittenFindings.{AreDrafted, AreOfCases, AreWritten, IsAdded}
 use Rattle.ira_audit.specs.WrittenFindings.{IsCertifying, IsCounted, Written}
-use Rattle.ira_audit.specs.QuestionFitsLogs.{WhyNoQuestion}
-use Rattle.ira_audit.specs.declared.reason.Reason.{Reason}
 use Rattle.ira_audit.specs.declared.findings.Findings.{Findings}
 use Rattle.ira_audit.specs.declared.findings.Findings.TheVariants.{Refused, Cases}
 use Rattle.ira_audit.specs.declared.findings_draft.FindingsDraft.{FindingsDraft}
@@ -201,10 +199,3 @@ pub match_map : {X Y : Type 0} (f : X → Y) (r : Option X) (P : Type 0) (Q : Y 
     → MatchOption (option_map f r) P Q
 match_map f None P Q h = h
 match_map f (Some x) P Q h = h
-
--- the line of a reason
-pub refused_written : (A : Type 0) (texts : List (List ℕ)) (question : List ℕ) (certify : Bool) (reason : Reason)
-    (r : Result Written OutOfMemory) → WhyNoQuestion texts question reason
-    → IfOk r (AreWritten {A = A} certify (Refused reason)) → IfOk r (AreWrittenFindings A texts question certify)
-refused_written A texts question certify reason (Ok w) why h = (Refused reason, why, h)
-refused_written A texts question certify reason (Err e) why h = tt

@@ -13,7 +13,7 @@ use Rattle.ira_elim.specs.declared.decided.Decided.TheVariants as decided
 use Rattle.ira_elim.specs.Found.{IsFound}
 use Rattle.ira_elim.specs.declared.found.Found.{Found}
 use Rattle.ira_elim.specs.declared.found.Found.TheVariants.{Absent, Present}
-use Rattle.ira_audit.specs.Findings.{AreFindings, HasPresent, IsCertificateOf, MakeNoCertificate}
+use Rattle.ira_audit.specs.Findings.{HasPresent, IsCertificateOf, MakeNoCertificate}
 use Rattle.ira_audit.specs.FindingsText.{case_line, findings_text}
 use Rattle.ira_audit.specs.declared.findings.Findings.{Findings}
 use Rattle.ira_audit.specs.declared.findings.Findings.TheVariants.{Refused, Cases}
@@ -36,11 +36,6 @@ pub record AreWritten {A : Type 0} (certify : Bool) (findings : Findings A) (w :
       → (c : Certificate) × IsCertificateOf findings c
       × MatchOption w.certificate (¬ (IsCertText (cert_text c) c)) (λ text. (text ≡ cert_text c)
       × IsCertText (cert_text c) c)
-
--- this is written of the findings of these texts
-abbrev pub AreWrittenFindings : (A : Type 0) → List (List ℕ) → List ℕ → Bool → Written → Type 0
-AreWrittenFindings A texts question certify w =
-    (findings : Findings A) × AreFindings texts question findings × AreWritten certify findings w
 
 -- they are what is found for each case of a ring of so many nodes, and this is their list
 abbrev pub AreOfCases : {A : Type 0} → ℕ → List (Found A) → Findings A → Type 0

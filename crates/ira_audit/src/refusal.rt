@@ -6,7 +6,7 @@ use crate::reason::Reason;
 use ira_cert_text::CertFault;
 use ira_event::{HeadFault, OutOfMemory};
 use ira_pred::AskFault;
-use std::alloc::{AllocError, AllocFailed, Allocator};
+use std::alloc::AllocError;
 
 /// Why there is no yes: a reason, which never says that memory ran out, or a growth that was refused.
 #[derive(Clone, Copy)]
@@ -82,17 +82,6 @@ impl From<AllocError> for Refusal {
     ghost from_gives = { λ _ r. r ≡ OutOfMemory };
 
     fn from(_refused: AllocError) -> Refusal {
-        Refusal::OutOfMemory
-    }
-}
-
-impl<T: Drop> From<AllocFailed<T>> for Refusal {
-    ghost use Rattle.std.specs.Prelude.{◌≡◌};
-    ghost use Rattle.ira_audit.specs.declared.refusal.Refusal.TheVariants.{OutOfMemory};
-
-    ghost from_gives = { λ _ r. r ≡ OutOfMemory };
-
-    fn from(_refused: AllocFailed<T>) -> Refusal {
         Refusal::OutOfMemory
     }
 }

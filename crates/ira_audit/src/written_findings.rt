@@ -1,13 +1,7 @@
-ghost use Rattle.std.specs.Prelude.{◌≡◌, Bool, IfOk};
+ghost use Rattle.std.specs.Prelude.{◌≡◌};
 ghost use Rattle.std.specs.Option.{option_map};
-ghost use Rattle.ira_audit.specs.Report.{IsReportableReason};
-ghost use Rattle.ira_audit.specs.WrittenFindings.{AreWritten};
-ghost use Rattle.ira_audit.specs.declared.findings.Findings.TheVariants.{Refused};
 
-use crate::answer::Answer;
-use crate::reason::Reason;
-use crate::report::write_report;
-use ira_event::{MemorySink, OutOfMemory};
+use ira_event::MemorySink;
 use std::alloc::Allocator;
 use std::marker::Model;
 
@@ -34,22 +28,6 @@ impl<A: Allocator> Model for WrittenFindings<A> {
 }
 
 impl<A: Allocator> WrittenFindings<A> {
-    /// What is written where the question isn't posed: the line of the reason.
-    pub(crate) fn of_reason(alloc: A, reason: Reason) -> Result<WrittenFindings<A>, OutOfMemory>
-        requires { IsReportableReason reason }
-        ensures { (certify : Bool) → IfOk result (AreWritten {A = A} certify (Refused reason)) }
-    {
-        let mut lines = MemorySink::new(alloc);
-        let Ok(()) = write_report(&Answer::No(reason), &mut lines) else {
-            return Err(OutOfMemory);
-        };
-        Ok(WrittenFindings {
-            lines,
-            are_absent: false,
-            certificate: None,
-        })
-    }
-
     /// The text that `write_findings` writes of the findings.
     pub fn lines(&self) -> &[u8]
         ensures { result.now ≡ self.now.lines }

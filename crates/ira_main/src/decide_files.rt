@@ -1,5 +1,6 @@
-ghost use Rattle.std.specs.Prelude.{◌≡◌, ◌⊎◌, true, Err};
+ghost use Rattle.std.specs.Prelude.{◌≡◌, ◌⊎◌, false, true, Err};
 ghost use Rattle.std.specs.Option.{is_some};
+ghost use Rattle.ira_audit.specs.AskedQuestion.{AreFoundOf};
 ghost use Rattle.ira_audit.specs.Findings.{AreReportable};
 ghost use Rattle.ira_audit.specs.WrittenFindings.{AreWritten};
 ghost use Rattle.ira_audit.specs.declared.findings.Findings.{Findings};
@@ -15,7 +16,7 @@ use crate::read_files::{read_file, read_logs};
 use crate::report::{print_text, report};
 use crate::source_names::source_names;
 use crate::status::Status;
-use ira_audit::{Answer, Findings, Refusal, WrittenFindings};
+use ira_audit::{Answer, AskedQuestion, Findings, Refusal, WrittenFindings};
 use ira_event::{Sink, WriteFault, write_bytes};
 use ira_files::{FileName, Shelf};
 use ira_json::findings_lines;
@@ -67,10 +68,29 @@ fn print_json<'a, A: Allocator + Clone, F: Shelf, W: Sink>(
     }
 }
 
+// Prints the lines of what is found for the question, and then keeps the certificate, where it is named. The lines are
+// put together first, since the output isn't buffered, and with them the text of the certificate.
+fn print_lines<'a, A: Allocator + Clone, F: Shelf, W: Sink>(
+    asked: &AskedQuestion<'_, A>,
+    name: Option<&'a str>,
+    shelf: &mut F,
+    out: &mut W,
+) -> Result<Status, ProgramFault<'a>>
+    ensures { ((findings : Findings A) × AreFoundOf asked.now findings
+        × PrintsFindings (WritesFile F.creates F.closes F.Out.state) false name.entry shelf.old shelf.new
+        (W.state out.old) (W.state out.new) result findings)
+        ⊎ ((shelf.new ≡ shelf.old) × (W.state out.new ≡ W.state out.old) × (result ≡ Err OutOfMemory)) }
+{
+    let written = asked.decide_in_writing(name.is_some())?;
+    match write_bytes(written.lines(), out) {
+        Ok(()) => keep_findings(&written, name, shelf),
+        Err(WriteFault) => Err(ProgramFault::CannotWriteAnswer),
+    }
+}
+
 /// Reads the question and then the logs, all before one is judged, decides the question, and prints what is found. A
-/// certificate is kept only once that is printed, and never over one of these files. The lines are put together first,
-/// since the output isn't buffered; with them the text of the certificate, where one is asked for, so that the steps
-/// of no case need be kept. For JSON they are kept, and the certificate is made of them.
+/// certificate is kept only once that is printed, and never over one of these files. The steps of no case are kept, but
+/// for JSON, where the certificate is made of them.
 pub(crate) fn decide_files<'a, R, A, F, W>(
     rt: &R,
     alloc: A,
@@ -95,14 +115,9 @@ where
         let findings = judged.decide(question.bytes())?;
         return print_json(rt.alloc(), findings, decide.certificate, shelf, out);
     }
-    let asked = match judged.ask(question.bytes()) {
-        Ok(asked) => asked,
-        Err(Refusal::No(reason)) => return report(&Answer::No(reason), out),
-        Err(Refusal::OutOfMemory) => return Err(ProgramFault::OutOfMemory),
-    };
-    let written = asked.decide_in_writing(decide.certificate.is_some())?;
-    match write_bytes(written.lines(), out) {
-        Ok(()) => keep_findings(&written, decide.certificate, shelf),
-        Err(WriteFault) => Err(ProgramFault::CannotWriteAnswer),
+    match judged.ask(question.bytes()) {
+        Ok(asked) => print_lines(&asked, decide.certificate, shelf, out),
+        Err(Refusal::No(reason)) => report(&Answer::No(reason), out),
+        Err(Refusal::OutOfMemory) => Err(ProgramFault::OutOfMemory),
     }
 }

@@ -8,13 +8,14 @@ use Rattle.ira_main.proofs.program.check_files.Goals as goal
 pub report_as-requires : goal.report_as-requires
 report_as-requires g c =
     let taken = c.in_ok-audit.ensures in
-    c.in_ok-answer.ensures.reportable taken.0 taken.1
+    c.in_ok-answer.ensures.reportable taken.0 (c.in_ok-judged.ensures taken.0 taken.1)
 
 pub returns : goal.returns
 returns g c =
     let taken = c.in_ok-audit.ensures in
     let answer = c.in_ok-answer.answer in
-    let exact = unless_ok answer _ _ (c.in_ok-answer.ensures.answer taken.0 answer taken.1) in
+    let texts_are = c.in_ok-judged.ensures taken.0 taken.1 in
+    let exact = unless_ok answer _ _ (c.in_ok-answer.ensures.answer taken.0 answer texts_are) in
     let is = exact.0 refl in
     elim c.report_as.ensures [
       | inl told ↦
@@ -32,7 +33,7 @@ returns g c =
               answer = answer;
               judged = rw (c.bytes-question.ensures, c.bytes-certificate.ensures) at is;
               never = λ e.
-                  let never = c.in_ok-answer.ensures.yes taken.0 taken.1 (ap Ok e) in
+                  let never = c.in_ok-answer.ensures.yes taken.0 texts_are (ap Ok e) in
                   rw (c.bytes-question.ensures, c.bytes-certificate.ensures) at never;
               told = told;
             }),
@@ -94,6 +95,9 @@ returns-in_err-audit g c =
         search rules,
       ),
     )
+
+pub returns-in_err-judged : goal.returns-in_err-judged
+returns-in_err-judged g c = inl (_, c.in_ok-names.ensures, inr (OutOfMemory, inr refl, refl, search rules))
 
 pub returns-in_err-answer : goal.returns-in_err-answer
 returns-in_err-answer g c = inl (_, c.in_ok-names.ensures, inr (OutOfMemory, inr refl, refl, search rules))
