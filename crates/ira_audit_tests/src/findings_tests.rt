@@ -1,13 +1,13 @@
 use crate::certified_tests::is_answered;
 use crate::lines::has_lines;
 use crate::pairs::pairs_text;
-use ira_audit::{Findings, decide_all};
+use ira_audit::{Findings, RingAudit, decide_all};
 use ira_cert_text::{Certificate, write_cert};
-use ira_event::MemorySink;
+use ira_elim::Found;
+use ira_event::{MemorySink, OutOfMemory};
 use ira_fixtures::{
-    ACTIVE_AND_PASSIVE, BOTH_LEAD_OF_THREE, CUT_1, ELECTION, ELECTION_0, FIVE_ASKED,
-    LEADER_AND_ACTIVE, LONE_INITIATOR, SECOND_TERM, THREE_ASKED, THREE_STEPS, bytes_of,
-    lone_initiator_texts,
+    BOTH_LEAD_OF_THREE, CUT_1, ELECTION, ELECTION_0, FIVE_ASKED, LEADER_AND_ACTIVE, LONE_INITIATOR,
+    SECOND_TERM, THREE_ASKED, THREE_STEPS, TWO_CASES, bytes_of, lone_initiator_texts,
 };
 use std::alloc::Global;
 use std::process::Abort;
@@ -76,10 +76,27 @@ fn absences_with_and_without_steps(rt: HostRuntime) {
     assert_uncertified(&rt, &ELECTION, question, lines);
 }
 
+/// Whether the second of two cases is the first that a cut meets, and is so where it is decided alone.
+fn second_is_met(alloc: Global) -> Result<bool, OutOfMemory> {
+    let mut audit = RingAudit::new(alloc);
+    for text in ELECTION {
+        audit.take(text)?;
+    }
+    let judged = audit.judge()?;
+    let Ok(asked) = judged.ask(TWO_CASES) else {
+        return Ok(false);
+    };
+    match (asked.first_present()?, asked.decide_case(1)?) {
+        (Some((1, first)), Found::Present(alone)) => {
+            Ok(first.positions() == [2, 3] && alone.positions() == [2, 3])
+        }
+        _ => Ok(false),
+    }
+}
+
 #[test]
 fn case_that_is_met(rt: HostRuntime) {
-    let lines = "case 0: present at 2 3\n";
-    assert_uncertified(&rt, &ELECTION, ACTIVE_AND_PASSIVE, lines);
+    assert!(rt; second_is_met(rt.alloc()) == Ok(true));
 }
 
 #[test]
