@@ -110,7 +110,7 @@ where
     keep_inputs(&alloc, decide.certificate, Some(decide.question), &names)?;
     let question = read_file(&alloc, FileName::Given(decide.question), shelf)?;
     let audit = read_logs(rt, alloc.clone()?, &names, shelf)?;
-    let judged = audit.judge()?;
+    let judged = audit.judge_on_threads(rt)?;
     if decide.is_json {
         let findings = judged.decide(question.bytes())?;
         return print_json(rt.alloc(), findings, decide.certificate, shelf, out);
