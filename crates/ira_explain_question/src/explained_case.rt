@@ -1,3 +1,4 @@
+ghost use Rattle.std.specs.Prelude.{◌<◌, length};
 ghost use Rattle.ira_elim.specs.Found.{IsFound};
 
 use crate::asked_lines::AskedLines;
@@ -15,12 +16,14 @@ pub(crate) struct ExplainedCase<'a, A: Allocator> {
     pub(crate) case: &'a Case<A>,
     pub(crate) number: usize,
     pub(crate) lines: AskedLines<'a>,
+    ghost is_there: { number < length ring.now.asked.now.question.cases },
 }
 
 impl<A: Allocator + Clone> ExplainedCase<'_, A> {
     /// The name of the file of a node's log.
     pub(crate) fn file_of(&self, place: u8) -> &str {
-        file_of(self.ring.files.logs, place)
+        let files = self.ring.files;
+        file_of(files.logs, place)
     }
 
     /// Adds what was found for it.

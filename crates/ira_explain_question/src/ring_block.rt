@@ -1,4 +1,4 @@
-ghost use Rattle.std.specs.Prelude.{◌≡◌};
+ghost use Rattle.std.specs.Prelude.{◌≡◌, IfSome, Some, slice_get};
 ghost use Rattle.std.specs.List.{AllZip};
 ghost use Rattle.ira_elim.specs.Found.{IsFound};
 
@@ -32,7 +32,11 @@ impl<'a, A: Allocator + Clone> AskedRing<'a, A> {
     }
 
     /// The case of a number, where there is one.
-    fn case(&'a self, number: usize) -> Option<ExplainedCase<'a, A>> {
+    fn case(&'a self, number: usize) -> Option<ExplainedCase<'a, A>>
+        ensures ring { IfSome result (λ case. case.ring.now.asked.now ≡ self.now.asked.now) }
+        ensures case { IfSome result
+            (λ case. slice_get self.now.asked.now.question.cases number ≡ Some case.case.now) }
+    {
         let cases = self.asked.cases();
         let case = cases.get(number)?;
         let lines = AskedLines::of(self.files.question, cases, number);
@@ -99,13 +103,13 @@ impl<'a, A: Allocator + Clone> AskedRing<'a, A> {
     ) -> Result<(), OutOfMemory>
         requires { AllZip (IsFound self.now.asked.now.logs) self.now.asked.now.question.cases found.now }
     {
-        match (self.case(number), found.get(number)) {
-            (Some(case), Some(found)) => case.explain(draft, found),
-            _ => {
-                self.add_no_case(&mut draft.page, number);
-                Ok(())
-            }
+        if let Some(found) = found.get(number)
+            && let Some(case) = self.case(number)
+        {
+            return case.explain(draft, found);
         }
+        self.add_no_case(&mut draft.page, number);
+        Ok(())
     }
 
     /// Adds that there is no case of this number.
