@@ -6,8 +6,8 @@
 # A row that names a folder is judged by `ira logs` on its logs, one that names a file by `ira` alone, one that names
 # a question and its certificate by `ira check` on these and the logs of their folder, and one that names a question alone
 # by `ira decide` on it and these logs. The commands of from_run_to_check.txt, explain.txt,
-# explain_ring.txt, explain_question.txt, explain_json.txt, show.txt, show_json.txt, five_nodes.txt and commands.txt run in a
-# folder of their own.
+# explain_ring.txt, explain_question.txt, explain_json.txt, show.txt, show_json.txt, five_nodes.txt, commands.txt and
+# crashes_and_folders.txt run in a folder of their own.
 
 ira=$(realpath "$1") || exit 2
 [ -x "$ira" ] || { echo "examples: no program at $1"; exit 2; }
@@ -153,7 +153,7 @@ replay() {
 
 examples=$PWD
 for talk in from_run_to_check.txt explain.txt explain_ring.txt explain_question.txt explain_json.txt \
-    show.txt show_json.txt five_nodes.txt commands.txt; do
+    show.txt show_json.txt five_nodes.txt commands.txt crashes_and_folders.txt; do
     folder=$(mktemp -d)
     if (cd "$folder" && replay < "$examples/$talk") | diff "$examples/$talk" -; then
         passed=$((passed + 1))

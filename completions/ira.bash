@@ -11,8 +11,9 @@ _ira_options() {
         check) echo --question --cert --depth --json --dir --help ;;
         decide) echo --question --out --json --dir --help ;;
         run) echo --nodes --seed --out --initiators --draws --cap --terms --alone --help ;;
-        upgrade | mend) echo --out --dir --help ;;
-        logs) echo --json --dir --help ;;
+        upgrade) echo --out --dir --help ;;
+        mend) echo --out --start --dir --help ;;
+        logs) echo --each --json --dir --help ;;
         pairs | version) echo --help ;;
     esac
 }
@@ -31,6 +32,7 @@ _ira() {
     case $command:$before in
         help:*) mapfile -t COMPREPLY < <(compgen -W "${_ira_commands% help}" -- "$word") ;;
         *:--case | *:--at | show:--leads | draw:--from | draw:--to) COMPREPLY=() ;;
+        mend:--start) mapfile -t COMPREPLY < <(compgen -W 'initiator passive' -- "$word") ;;
         check:--depth) mapfile -t COMPREPLY < <(compgen -W '0 1 2 3 4' -- "$word") ;;
         *:--dir | run:--out | upgrade:--out | mend:--out) mapfile -t COMPREPLY < <(compgen -d -- "$word") ;;
         pairs:* | run:* | version:*) COMPREPLY=() ;;

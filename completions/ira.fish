@@ -52,6 +52,8 @@ complete -c ira -f -n '__fish_seen_subcommand_from run' -l alone -d 'Run all nod
 
 complete -c ira -n '__fish_seen_subcommand_from upgrade' -l out -x -a '(__fish_complete_directories)' -d 'The folder for the logs'
 
+complete -c ira -n '__fish_seen_subcommand_from logs' -l each -d 'The names are those of folders'
+complete -c ira -n '__fish_seen_subcommand_from mend' -l start -x -a 'initiator passive' -d 'What a node without a log is taken for'
 complete -c ira -n '__fish_seen_subcommand_from mend' -l out -x -a '(__fish_complete_directories)' -d 'The folder for the logs'
 
 complete -c ira -n '__fish_seen_subcommand_from logs explain show draw check decide upgrade mend' -l dir -x -a '(__fish_complete_directories)' -d 'The folder with the logs'

@@ -1,11 +1,16 @@
 -- The names of files.
-use Rattle.std.specs.Prelude.{ℕ, List, ◌++◌, codes, decimal}
+use Rattle.std.specs.Prelude.{ℕ, ◌==◌, List, [], ◌++◌, codes, decimal, if◌then◌else◌}
+use Rattle.std.specs.List.{ends_with}
 use Rattle.ira_files.specs.declared.file_name.FileName.{FileName}
 use Rattle.ira_files.specs.declared.file_name.FileName.TheVariants.{Given, Log}
 
+-- what stands between the name of a folder and that of a file in it: a slash, where the folder's doesn't end in one
+abbrev pub slash_after : List ℕ → List ℕ
+slash_after folder = if ends_with (λ a b. a == b) folder (codes "/") then [] else codes "/"
+
 -- the name of the file for the log of the node at this place
 abbrev pub log_name : List ℕ → ℕ → List ℕ
-log_name folder place = folder ++ codes "/" ++ decimal place ++ codes ".log"
+log_name folder place = folder ++ slash_after folder ++ decimal place ++ codes ".log"
 
 -- a name, whole
 abbrev pub file_name : FileName → List ℕ

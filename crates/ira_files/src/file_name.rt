@@ -1,5 +1,5 @@
-ghost use Rattle.std.specs.Prelude.{◌≡◌, IfOk, string_bytes};
-ghost use Rattle.ira_files.specs.FileName.{file_name};
+ghost use Rattle.std.specs.Prelude.{◌≡◌, ◌≤◌, IfOk, length, string_bytes};
+ghost use Rattle.ira_files.specs.FileName.{file_name, slash_after};
 
 use std::alloc::{AllocError, Allocator};
 
@@ -12,6 +12,18 @@ pub enum FileName<'a> {
     Log(&'a str, u8),
 }
 
+/// What stands between the name of a folder and that of a file in it.
+pub fn slash_after(folder: &str) -> &'static str
+    ensures value { result.now ≡ slash_after folder.now }
+    ensures short { length result.now ≤ 1 }
+{
+    if folder.as_bytes().ends_with(b"/") {
+        ""
+    } else {
+        "/"
+    }
+}
+
 impl FileName<'_> {
     /// The name, whole.
     pub fn path<A: Allocator>(&self, alloc: A) -> Result<String<A>, AllocError>
@@ -19,7 +31,10 @@ impl FileName<'_> {
     {
         match self {
             FileName::Given(name) => String::from_str(alloc, name),
-            FileName::Log(folder, place) => format!(in alloc; "{folder}/{place}.log"),
+            FileName::Log(folder, place) => {
+                let slash = slash_after(folder);
+                format!(in alloc; "{folder}{slash}{place}.log")
+            }
         }
     }
 }

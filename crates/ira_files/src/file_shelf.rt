@@ -8,8 +8,8 @@ use crate::text_buffer::TextBuffer;
 use crate::text_source::TextSource;
 use ira_event::ToWriter;
 use std::alloc::Allocator;
-use std::fs::{self, Files};
-use std::io::BufWriter;
+use std::fs::{self, Files, OpenFile, OpenOptions};
+use std::io::{self, BufWriter};
 
 /// The files of the system. They are written through a buffer. A read that a signal interrupted is made once more, and
 /// so the buffer does with a write. No clause tells what they hold, nor what a read of one gives, since others may
@@ -28,6 +28,14 @@ impl<'a, R: Files, A: Allocator> FileShelf<'a, R, A> {
     {
         FileShelf { rt, alloc }
     }
+}
+
+// Takes its bytes away from a file, and nothing from a device.
+fn empty(file: &impl OpenFile) -> io::Result<()> {
+    if file.metadata()?.is_file() {
+        file.set_len(0)?;
+    }
+    Ok(())
 }
 
 impl<R: Files, A: Allocator> TextSource for FileShelf<'_, R, A> {
@@ -53,9 +61,14 @@ impl<R: Files, A: Allocator + Clone> Shelf for FileShelf<'_, R, A> {
     ghost closes = { λ _ _ _ _. ⊤ };
 
     fn create(&mut self, name: &str) -> Result<Self::Out, ShelfFault> {
-        let alloc = self.alloc.clone()?;
-        let file = fs::create(self.rt, name)?;
-        Ok(ToWriter::new(BufWriter::new(alloc, file)?))
+        let file = OpenOptions::new()
+            .write(true)
+            .create(true)
+            .open(self.rt, name)?;
+        let file = BufWriter::new(self.alloc.clone()?, file)?;
+        // Only now, since what is there stays where memory is refused.
+        empty(file.get_ref())?;
+        Ok(ToWriter::new(file))
     }
 
     fn close(&mut self, mut file: Self::Out) -> Result<(), ShelfFault> {

@@ -12,7 +12,7 @@ mod text_buffer;
 mod text_source;
 
 pub use counting_reader::CountingReader;
-pub use file_name::FileName;
+pub use file_name::{FileName, slash_after};
 pub use file_shelf::FileShelf;
 pub use read_text::read_after;
 pub use retrying_reader::RetryingReader;

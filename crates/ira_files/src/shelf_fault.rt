@@ -5,6 +5,9 @@ use std::io::{Error, ErrorKind};
 /// Why a file could not be read, made or written.
 #[derive(Clone, Copy, Debug, PartialEq, Eq, thiserror::Error)]
 pub enum ShelfFault {
+    /// There is no such file.
+    #[error("no such file")]
+    NotFound,
     /// The file, or the device that it lies on, refused.
     #[error("the file can't be used")]
     Device,
@@ -22,6 +25,7 @@ impl From<Error> for ShelfFault {
 
     fn from(error: Error) -> ShelfFault {
         match error.kind() {
+            ErrorKind::NotFound => ShelfFault::NotFound,
             ErrorKind::OutOfMemory => ShelfFault::OutOfMemory,
             _ => ShelfFault::Device,
         }

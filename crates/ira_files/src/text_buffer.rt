@@ -47,6 +47,13 @@ impl<A: Allocator> TextBuffer<A> {
         &self.buffer[..self.filled]
     }
 
+    /// Takes all bytes of the text away.
+    pub fn clear(&mut self)
+        ensures { self.new ≡ [] }
+    {
+        self.filled = 0;
+    }
+
     /// Reads what the input has left, to its end or to one more than `MAX_TEXT`, whichever comes first. That is
     /// the text then; where a read fails, or memory runs out, the text has no bytes.
     pub fn fill<I: Read>(&mut self, input: &mut CountingReader<I>) -> Result<(), ShelfFault>

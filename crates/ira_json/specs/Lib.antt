@@ -2,6 +2,7 @@ pub mod AnswerValue
 pub mod EvidenceValue
 pub mod ExplainedFindings
 pub mod ExplainedValue
+pub mod FolderValue
 pub mod Line
 pub mod Members
 pub mod Object

@@ -6,6 +6,7 @@ mod answer_values;
 mod event_lines;
 mod evidence_values;
 mod explained;
+mod folder_lines;
 mod line;
 mod line_block;
 mod moment_answer;
@@ -16,6 +17,7 @@ mod shown_answer;
 mod values;
 
 pub use answer_lines::{answer_line, explained_findings_lines, explained_line, findings_lines};
+pub use folder_lines::{folder_answer_line, unread_line};
 pub use line::write_line;
 pub use ring_lines::write_ring;
 pub use shown_answer::ShownAnswer;

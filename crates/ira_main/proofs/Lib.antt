@@ -1,5 +1,6 @@
 pub mod Asking
 pub mod FilesRead
+pub mod Folders
 pub mod InputAudits
 pub mod LogFiles
 pub mod PartsAt

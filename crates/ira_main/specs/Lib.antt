@@ -3,8 +3,10 @@ pub mod CertFile
 pub mod ProgramFault
 pub mod Decide
 pub mod Draw
+pub mod Each
 pub mod FilesRead
 pub mod InputAudit
+pub mod LeftFiles
 pub mod LogFiles
 pub mod Mend
 pub mod MendedLines
@@ -15,5 +17,6 @@ pub mod Serve
 pub mod Show
 pub mod SourceNames
 pub mod Status
+pub mod Unread
 pub mod Upgrade
 pub mod Version

@@ -1,6 +1,7 @@
 -- Why the program ends with neither yes nor no.
 use Rattle.std.specs.Prelude.{ℕ, List, ◌++◌, codes, decimal}
 use Rattle.std.specs.Borrow.{Bor}
+use Rattle.std.specs.List.{flat_map}
 use Rattle.std.specs.String.{string_bytes}
 use Rattle.ira_order.specs.declared.event_at.EventAt.{EventAt}
 use Rattle.ira_moment.specs.declared.cut_fault.CutFault.{CutFault}
@@ -12,12 +13,12 @@ use Rattle.ira_run.specs.declared.run_fault.RunFault.{RunFault}
 use Rattle.ira_run.specs.declared.run_fault.RunFault.TheVariants as run
 use Rattle.ira_words.specs.declared.words_fault.WordsFault.{WordsFault}
 use Rattle.ira_words.specs.declared.words_fault.WordsFault.TheVariants as words
-use Rattle.ira_files.specs.FileName.{file_name}
+use Rattle.ira_files.specs.FileName.{file_name, log_name}
 use Rattle.ira_files.specs.declared.file_name.FileName.{FileName}
 use Rattle.ira_files.specs.declared.shelf_fault.ShelfFault.{ShelfFault}
 use Rattle.ira_files.specs.declared.shelf_fault.ShelfFault.TheVariants as shelf
 use Rattle.ira_main.specs.declared.program_fault.ProgramFault.{ProgramFault}
-use Rattle.ira_main.specs.declared.program_fault.ProgramFault.TheVariants.{CannotRead, CannotWrite, CannotWriteAnswer}
+use Rattle.ira_main.specs.declared.program_fault.ProgramFault.TheVariants.{CannotRead, CannotReadSome, CannotWrite, CannotWriteAnswer}
 use Rattle.ira_main.specs.declared.program_fault.ProgramFault.TheVariants.{CannotWriteLog, CertificatePastLimits}
 use Rattle.ira_main.specs.declared.program_fault.ProgramFault.TheVariants.{NoMoment, NoPlace, OutOfMemory, RingSize}
 use Rattle.ira_main.specs.declared.program_fault.ProgramFault.TheVariants.{RunRefused, TooManyEvents, WordIsNoText}
@@ -26,13 +27,13 @@ use Rattle.ira_main.specs.declared.program_fault.ProgramFault.TheVariants.{Would
 
 -- the fault where the file of this name wasn't read
 abbrev pub read_fault : FileName → ShelfFault → ProgramFault
-read_fault name shelf.Device = CannotRead name
 read_fault name shelf.OutOfMemory = OutOfMemory
+read_fault name other = CannotRead name
 
 -- the fault where a log wasn't written to the file of its place in this folder
 abbrev pub write_log_fault : Bor (List ℕ) → ℕ → ShelfFault → ProgramFault
-write_log_fault folder place shelf.Device = CannotWriteLog folder place
 write_log_fault folder place shelf.OutOfMemory = OutOfMemory
+write_log_fault folder place other = CannotWriteLog folder place
 
 -- the fault where a ring wasn't run: out of memory, or why the run was refused
 abbrev pub run_fault : RunFault → ProgramFault
@@ -51,8 +52,8 @@ words_fault words.OutOfMemory = OutOfMemory
 
 -- the fault where a certificate or a picture wasn't written to the file of this name
 abbrev pub write_fault : Bor (List ℕ) → ShelfFault → ProgramFault
-write_fault name shelf.Device = CannotWrite name
 write_fault name shelf.OutOfMemory = OutOfMemory
+write_fault name other = CannotWrite name
 
 -- the line of a receipt that is in the numbers of a moment, and whose sending isn't: of the one, and of the other
 abbrev pub held_text : EventAt → List ℕ
@@ -70,11 +71,16 @@ abbrev pub cut_fault_text : CutFault → List ℕ
 cut_fault_text cut.NoCut = codes "ira: --at is no cut: one number for each node, at most as many as its events\n"
 cut_fault_text (cut.LacksSending receipt sending) = held_text receipt ++ lacking_text sending
 
+-- the line of a file that wasn't read
+abbrev pub unread_text : FileName → List ℕ
+unread_text name = codes "ira: cannot read " ++ file_name name ++ codes "\n"
+
 -- what is written to standard error
 abbrev pub program_fault_text : ProgramFault → List ℕ
 program_fault_text (Words text) = string_bytes text
 program_fault_text WordIsNoText = codes "ira: a word is not UTF-8\n"
-program_fault_text (CannotRead name) = codes "ira: cannot read " ++ file_name name ++ codes "\n"
+program_fault_text (CannotRead name) = unread_text name
+program_fault_text (CannotReadSome names) = flat_map unread_text names.items
 program_fault_text RingSize = codes "ira: ring size\n"
 program_fault_text (NoMoment fault) = cut_fault_text fault
 program_fault_text NoPlace = codes "ira: --leads names a node that the ring has not\n"
@@ -83,7 +89,7 @@ program_fault_text (TooManyEvents events) =
     ++ codes " events are too many for one picture, which holds 20000: give --from and --to\n"
 program_fault_text (RunRefused fault) = codes "ira: run refused " ++ decimal (run_fault_number fault) ++ codes "\n"
 program_fault_text (CannotWriteLog folder place) =
-    codes "ira: cannot write " ++ folder.now ++ (codes "/" ++ decimal place ++ codes ".log\n")
+    codes "ira: cannot write " ++ log_name folder.now place ++ codes "\n"
 program_fault_text (WouldOverwrite name) = codes "ira: would overwrite " ++ file_name name ++ codes "\n"
 program_fault_text (CannotWrite name) = codes "ira: cannot write " ++ name.now ++ codes "\n"
 program_fault_text CertificatePastLimits = codes "ira: certificate past the limits\n"

@@ -16,16 +16,18 @@ use Rattle.ira_audit.specs.declared.answer.Answer.TheVariants as audit
 use Rattle.ira_ring.specs.EndsWriter.{ends_text}
 use Rattle.ira_ring.specs.Run.{Run}
 use Rattle.ira_run.specs.declared.run_fault.RunFault.{RunFault}
-use Rattle.ira_words.specs.Request.{IsCheckLine, IsDecideLine, IsDrawLine, IsExplainLine, IsLogsLine, IsMendLine}
+use Rattle.ira_words.specs.Request.{IsCheckLine, IsDecideLine, IsDrawLine, IsEachLine, IsExplainLine, IsLogsLine, IsMendLine}
 use Rattle.ira_words.specs.Request.{IsPairsLine, IsRunLine, IsShowLine, IsUpgradeLine, IsVersionLine, MayBeRefused}
 use Rattle.ira_words.specs.declared.check_request.CheckRequest.{CheckRequest}
 use Rattle.ira_words.specs.declared.decide_request.DecideRequest.{DecideRequest}
 use Rattle.ira_words.specs.declared.draw_request.DrawRequest.{DrawRequest}
+use Rattle.ira_words.specs.declared.each_request.EachRequest.{EachRequest}
 use Rattle.ira_words.specs.declared.explain_request.ExplainRequest.{ExplainRequest}
 use Rattle.ira_words.specs.declared.explained_answer.ExplainedAnswer.{ExplainedAnswer}
 use Rattle.ira_words.specs.declared.explained_answer.ExplainedAnswer.TheVariants.{OneLog, Logs, Findings, Certificate}
 use Rattle.ira_words.specs.declared.log_source.LogSource.{LogSource}
 use Rattle.ira_words.specs.declared.logs_request.LogsRequest.{LogsRequest}
+use Rattle.ira_words.specs.declared.mend_request.MendRequest.{MendRequest}
 use Rattle.ira_words.specs.declared.rewrite_request.RewriteRequest.{RewriteRequest}
 use Rattle.ira_words.specs.declared.run_request.RunRequest.{RunRequest}
 use Rattle.ira_words.specs.declared.show_request.ShowRequest.{ShowRequest}
@@ -38,9 +40,10 @@ use Rattle.ira_files.specs.declared.file_name.FileName.{FileName}
 use Rattle.ira_main.specs.AskedRun.{IsAskedRun, IsAskedRunFault}
 use Rattle.ira_main.specs.Decide.{Decides, DecidesTogether, ExplainsFindings, IsUndecided}
 use Rattle.ira_main.specs.Draw.{DrawsLogs}
+use Rattle.ira_main.specs.Each.{JudgesEach}
 use Rattle.ira_main.specs.FilesRead.{IsFilesFault, ReadsFiles, names_of}
 use Rattle.ira_main.specs.LogFiles.{StopsInLogs, WritesLogs}
-use Rattle.ira_main.specs.Mend.{Mends}
+use Rattle.ira_main.specs.Mend.{MendsLogs}
 use Rattle.ira_main.specs.Outcome.{ExplainsAs, GivesNoAnswer, Outcome, Prints, Reports, ReportsAs, Telling}
 use Rattle.ira_main.specs.ProgramFault.{run_fault, words_fault}
 use Rattle.ira_main.specs.Show.{ShowsLogs}
@@ -171,7 +174,7 @@ pub data RunOutcome {S : Type 0} (writes : Writing S) (request : RunRequest) (sh
       → RunOutcome writes request shelf shelf' out out' outcome
 
 -- what is done for words: they are refused; or they ask for logs, or for the evidence of an answer, and their texts
--- are judged together; or to show logs, and what happened by them is printed; or to draw them, and a picture is kept;
+-- are judged together, or those of each of some folders; or to show logs, and what happened by them is printed; or to draw them, and a picture is kept;
 -- or to check logs, and their texts are judged with those of a question and of a certificate; or to decide a question
 -- of them, and it is decided of their texts; or for the question of all pairs, and it is printed; or for a ring, and
 -- it is run; or to upgrade logs, or to mend them, and it is done; or for the version, and it is printed. Or no answer
@@ -185,6 +188,8 @@ pub data CommandOutcome (A : Type 0) {S : Type 0} (reads : Reading S) (writes : 
       → CommandOutcome A reads writes words shelf shelf' out out' outcome
   judged : (logs : LogsRequest) → IsLogsLine words logs → shelf' ≡ shelf
       → JudgesLogs (ReportsAs logs.is_json) reads logs.logs shelf out out' outcome
+      → CommandOutcome A reads writes words shelf shelf' out out' outcome
+  each : (asked : EachRequest) → IsEachLine words asked → shelf' ≡ shelf → JudgesEach reads asked shelf out out' outcome
       → CommandOutcome A reads writes words shelf shelf' out out' outcome
   explained : (explain : ExplainRequest) → IsExplainLine words explain → shelf' ≡ shelf
       → ExplainsAnswer A explain.is_json reads explain.answer shelf out out' outcome
@@ -210,9 +215,8 @@ pub data CommandOutcome (A : Type 0) {S : Type 0} (reads : Reading S) (writes : 
       → OfSource reads upgrade.logs shelf shelf' out out' outcome
       (λ names. Upgrades reads writes upgrade (names_of names) shelf shelf' out out' outcome)
       → CommandOutcome A reads writes words shelf shelf' out out' outcome
-  mended : (mend : RewriteRequest) → IsMendLine words mend
-      → OfSource reads mend.logs shelf shelf' out out' outcome
-      (λ names. Mends reads writes mend names shelf shelf' out out' outcome)
+  mended : (mend : MendRequest) → IsMendLine words mend
+      → MendsLogs reads writes mend shelf shelf' out out' outcome
       → CommandOutcome A reads writes words shelf shelf' out out' outcome
   versioned : IsVersionLine words → shelf' ≡ shelf → Prints version_line Yes out out' outcome
       → CommandOutcome A reads writes words shelf shelf' out out' outcome

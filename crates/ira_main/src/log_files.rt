@@ -6,7 +6,7 @@ ghost use Rattle.ira_main.specs.LogFiles.{StopsInLogs, WritesLogs};
 
 use crate::program_fault::ProgramFault;
 use ira_event::{Logs, NodeLog, write_log};
-use ira_files::{Shelf, ShelfFault};
+use ira_files::{FileName, Shelf, ShelfFault};
 use std::alloc::Allocator;
 
 // Writes a log to the file of its place.
@@ -20,8 +20,7 @@ fn write_file<A: Allocator, B: Allocator, F: Shelf>(
         (log_text log.now) shelf.old shelf.new result
         ⊎ ((shelf.new ≡ shelf.old) × (result ≡ Err ShelfFault.OutOfMemory)) }
 {
-    let place = log.place();
-    let name = format!(in alloc; "{folder}/{place}.log")?;
+    let name = FileName::Log(folder, log.place()).path(alloc)?;
     let mut file = shelf.create(name.as_str())?;
     write_log(log, &mut file)?;
     shelf.close(file)

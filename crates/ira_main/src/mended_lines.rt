@@ -5,9 +5,9 @@ ghost use Rattle.ira_main.specs.MendedLines.{mended_line, mended_lines};
 use ira_event::{Line, Logs, NodeLog, Sink, WriteFault};
 use std::alloc::Allocator;
 
-/// How many of a node's events are kept, of how many where not all are.
-fn mended_line<A: Allocator>(log: &NodeLog<A>, mended: &NodeLog<A>) -> Line
-    ensures { result ≡ mended_line (log.now, mended.now) }
+/// How many of a node's events are kept, of how many where not all are; and where nothing was left of its log, that.
+fn mended_line<A: Allocator>(log: &NodeLog<A>, mended: &NodeLog<A>, is_lost: bool) -> Line
+    ensures { result ≡ mended_line ((log.now, mended.now), is_lost) }
 {
     let (all, kept) = (log.len(), mended.len());
     let mut line = Line::new();
@@ -19,21 +19,28 @@ fn mended_line<A: Allocator>(log: &NodeLog<A>, mended: &NodeLog<A>) -> Line
         line.add(b" of ");
     }
     line.add_number(all as u32);
-    line.add(b" events\n");
+    line.add(if is_lost {
+        b" events, no log was left\n"
+    } else {
+        b" events\n"
+    });
     line
 }
 
-/// Writes a line for each node, in the order of the places.
+/// Writes a line for each node, in the order of the places. Of which nothing was left is said by `lost`.
 pub(crate) fn write_mended<A: Allocator, W: Sink>(
     logs: &Logs<A>,
     mended: &Logs<A>,
+    lost: &[bool],
     sink: &mut W,
 ) -> Result<(), WriteFault>
-    requires { length mended.now ≡ length logs.now }
-    ensures { Wrote result (mended_lines logs.now mended.now) (W.state sink.old) (W.state sink.new) }
+    requires mended { length mended.now ≡ length logs.now }
+    requires lost { length lost.now ≡ length logs.now }
+    ensures { Wrote result (mended_lines logs.now mended.now lost.now) (W.state sink.old) (W.state sink.new) }
 {
     for place in 0..logs.size().get() {
-        mended_line(logs.log(place), mended.log(place)).write(sink)?;
+        let is_lost = lost[usize::from(place)];
+        mended_line(logs.log(place), mended.log(place), is_lost).write(sink)?;
     }
     Ok(())
 }

@@ -45,7 +45,7 @@ pub(crate) fn overwritten<'a, A: Allocator>(
     for name in names {
         let path = name.path(alloc)?;
         for place in 0..places {
-            let log = format!(in alloc; "{folder}/{place}.log")?;
+            let log = FileName::Log(folder, place as u8).path(alloc)?;
             if are_same_path(alloc, path.as_str(), log.as_str())? {
                 return Ok(Some(*name));
             }

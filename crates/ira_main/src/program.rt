@@ -1,7 +1,9 @@
 ghost use Rattle.std.specs.Prelude.{◌≡◌, ◌≤◌, ◌+◌, map};
+ghost use Rattle.ira_event.specs.Sink.{SinkState};
 ghost use Rattle.ira_files.specs.Shelf.{WritesFile};
 ghost use Rattle.ira_main.specs.Outcome.{Outcome, Reports, ReportsAs, ReportsOutcome, outcome_number};
 ghost use Rattle.ira_main.specs.Progress.{ServesOrLeaves};
+ghost use Rattle.ira_main.specs.Unread.{TellsUnread, wants_json};
 ghost use Rattle.ira_main.specs.Serve.{OneLogOutcome, JudgesCheck, JudgesLogs, Serves};
 
 use crate::decide_files::decide_files;
@@ -9,6 +11,7 @@ use crate::draw_files::draw_files;
 use crate::explain_files::{explain_files, explain_input};
 use crate::explain_question::{explain_check_files, explain_question_files};
 use crate::input_audit::audit_input;
+use crate::judge_each::judge_each;
 use crate::mend_files::mend_files;
 use crate::print_pairs::print_pairs;
 use crate::program_fault::{ProgramFault, report_outcome};
@@ -19,6 +22,7 @@ use crate::report::{report, report_as};
 use crate::show_files::show_files;
 use crate::source_names::source_names;
 use crate::status::Status;
+use crate::tell_unread::tell_unread;
 use crate::upgrade_files::upgrade_files;
 use crate::version::print_version;
 use ira_event::{MAX_TEXT, Sink};
@@ -124,6 +128,7 @@ where
     match request {
         Request::OneLog => Progress::Ended(judge_input(alloc, input, out)),
         Request::Logs(logs) => Progress::Ended(judge_files(rt, alloc, &logs, shelf, out)),
+        Request::Each(each) => Progress::Ended(judge_each(rt, alloc, &each, shelf, out)),
         Request::Explain(ExplainRequest { answer, is_json }) => match answer {
             ExplainedAnswer::OneLog => {
                 Progress::Ended(explain_input(rt.alloc(), alloc, is_json, input, out))
@@ -211,7 +216,8 @@ where
 /// Without words it judges the log on `input`, of which it reads at most one byte more than `MAX_TEXT`, and so it does
 /// for `explain` without logs. With other words it reads nothing of `input`:
 ///
-/// * `logs` judges the logs of a ring together, in the files that are named or in a folder; `explain` does so too, and says why
+/// * `logs` judges the logs of a ring together, in the files that are named or in a folder, or those in each of some folders;
+///   `explain` does so too, and says why
 ///   the answer is as it is, also with a question or a certificate;
 /// * `show` says what happened by the logs, and `draw` keeps a picture of it in a file;
 /// * `check` judges logs with the question and the certificate in the files of its options; `decide` decides the question of
@@ -222,7 +228,8 @@ where
 ///   of a folder;
 /// * `version` prints the version; all other words are refused.
 ///
-/// With `--json` answers, what is found for a question, and what is shown are printed as JSON Lines.
+/// With `--json` answers, what is found for a question, what is shown, and a file that can't be read are printed as JSON
+/// Lines.
 ///
 /// Logs are read on threads, `check` judges a section on some, and a run without `--alone` has a thread for each node;
 /// all of them are waited for.
@@ -244,12 +251,14 @@ where
     V: Sink,
     ensures status { result ≤ 3 }
     ensures reads { input.new.reads ≤ input.old.reads + (MAX_TEXT + 1) }
-    ensures served { (outcome : Outcome)
+    ensures served { (outcome : Outcome) × (told : SinkState)
         × Serves A F.reads (WritesFile F.creates F.closes F.Out.state)
         (map (λ word. word.now) words.now) input.old input.new shelf.old shelf.new
-        (W.state out.old) (W.state out.new) outcome
+        (W.state out.old) told outcome
+        × TellsUnread (wants_json (map (λ word. word.now) words.now)) outcome told (W.state out.new)
         × (result ≡ outcome_number outcome) × ReportsOutcome outcome (V.state err.old) (V.state err.new) }
 {
     let outcome = execute(rt, alloc, words, input, shelf, out);
+    tell_unread(rt.alloc(), words, &outcome, out);
     report_outcome(outcome, err)
 }

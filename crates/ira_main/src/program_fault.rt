@@ -1,15 +1,16 @@
 ghost use Rattle.std.specs.Prelude.{◌≡◌, ◌++◌, codes, decimal};
+ghost use Rattle.std.specs.List.{flat_map};
 ghost use Rattle.ira_event.specs.Sink.{Wrote};
 ghost use Rattle.ira_run.specs.RunFault.{run_fault_number};
-ghost use Rattle.ira_files.specs.FileName.{file_name};
-ghost use Rattle.ira_main.specs.ProgramFault.{program_fault_text, read_fault, write_fault, write_log_fault};
+ghost use Rattle.ira_files.specs.FileName.{file_name, slash_after};
+ghost use Rattle.ira_main.specs.ProgramFault.{program_fault_text, unread_text, read_fault, write_fault, write_log_fault};
 ghost use Rattle.ira_main.specs.Outcome.{ReportsOutcome, outcome_number};
 ghost use Rattle.ira_main.specs.Status.{program_fault_status};
 
 use crate::cut_fault_line::write_cut_fault;
 use crate::status::Status;
 use ira_event::{Line, OutOfMemory, Sink, WriteFault, write_bytes};
-use ira_files::{FileName, ShelfFault};
+use ira_files::{FileName, ShelfFault, slash_after};
 use ira_moment::CutFault;
 use ira_picture::DrawFault;
 use ira_ring::RunFault;
@@ -25,6 +26,8 @@ pub enum ProgramFault<'a> {
     WordIsNoText,
     /// The file of this name can't be read.
     CannotRead(FileName<'a>),
+    /// These files can't be read, each of a folder whose logs were to be judged.
+    CannotReadSome(Vec<FileName<'a>>),
     /// A ring of so many nodes is none.
     RingSize,
     /// The numbers of events that are asked for are no consistent cut of the logs.
@@ -53,7 +56,7 @@ impl<'a> ProgramFault<'a> {
         ensures { result ≡ read_fault name.entry fault }
     {
         match fault {
-            ShelfFault::Device => ProgramFault::CannotRead(name),
+            ShelfFault::Device | ShelfFault::NotFound => ProgramFault::CannotRead(name),
             ShelfFault::OutOfMemory => ProgramFault::OutOfMemory,
         }
     }
@@ -67,7 +70,9 @@ impl<'a> ProgramFault<'a> {
         ensures { result ≡ write_log_fault folder.entry place fault }
     {
         match fault {
-            ShelfFault::Device => ProgramFault::CannotWriteLog(folder, place),
+            ShelfFault::Device | ShelfFault::NotFound => ProgramFault::CannotWriteLog(
+                folder, place,
+            ),
             ShelfFault::OutOfMemory => ProgramFault::OutOfMemory,
         }
     }
@@ -77,7 +82,7 @@ impl<'a> ProgramFault<'a> {
         ensures { result ≡ write_fault name.entry fault }
     {
         match fault {
-            ShelfFault::Device => ProgramFault::CannotWrite(name),
+            ShelfFault::Device | ShelfFault::NotFound => ProgramFault::CannotWrite(name),
             ShelfFault::OutOfMemory => ProgramFault::OutOfMemory,
         }
     }
@@ -100,6 +105,7 @@ impl<'a> ProgramFault<'a> {
             ProgramFault::Words(text) => write_bytes(text.as_bytes(), err),
             ProgramFault::WordIsNoText => write_bytes(b"ira: a word is not UTF-8\n", err),
             ProgramFault::CannotRead(name) => write_file_named(b"ira: cannot read ", *name, err),
+            ProgramFault::CannotReadSome(names) => write_unread(names, err),
             ProgramFault::RingSize => write_bytes(b"ira: ring size\n", err),
             ProgramFault::NoMoment(fault) => write_cut_fault(*fault, err),
             ProgramFault::NoPlace => {
@@ -107,12 +113,9 @@ impl<'a> ProgramFault<'a> {
             }
             ProgramFault::TooManyEvents(events) => too_many_events(*events).write(err),
             ProgramFault::RunRefused(fault) => refused_run(*fault).write(err),
-            ProgramFault::CannotWriteLog(folder, place) => write_named(
-                b"ira: cannot write ",
-                folder.as_bytes(),
-                &log_in_folder(*place),
-                err,
-            ),
+            ProgramFault::CannotWriteLog(folder, place) => {
+                write_file_named(b"ira: cannot write ", FileName::Log(folder, *place), err)
+            }
             ProgramFault::WouldOverwrite(name) => {
                 write_file_named(b"ira: would overwrite ", *name, err)
             }
@@ -138,11 +141,11 @@ fn line_feed() -> Line
 }
 
 // The end of a line that names a folder: the name of the log of a place in it.
-fn log_in_folder(place: u8) -> Line
-    ensures { result ≡ codes "/" ++ decimal place ++ codes ".log\n" }
+fn log_in_folder(folder: &str, place: u8) -> Line
+    ensures { result ≡ slash_after folder.now ++ decimal place ++ codes ".log\n" }
 {
     let mut line = Line::new();
-    line.add(b"/");
+    line.add(slash_after(folder).as_bytes());
     line.add_number(u32::from(place));
     line.add(b".log\n");
     line
@@ -179,9 +182,24 @@ fn write_file_named<V: Sink>(
     match name {
         FileName::Given(name) => write_named(before, name.as_bytes(), &line_feed(), err),
         FileName::Log(folder, place) => {
-            write_named(before, folder.as_bytes(), &log_in_folder(place), err)
+            write_named(
+                before,
+                folder.as_bytes(),
+                &log_in_folder(folder, place),
+                err,
+            )
         }
     }
+}
+
+// A line for each file that isn't read.
+fn write_unread<V: Sink>(names: &[FileName<'_>], err: &mut V) -> Result<(), WriteFault>
+    ensures { Wrote result (flat_map unread_text names.now) (V.state err.old) (V.state err.new) }
+{
+    for name in names {
+        write_file_named(b"ira: cannot read ", *name, err)?;
+    }
+    Ok(())
 }
 
 #[tactic(auto, using(ira_event::proofs::Writing::writes))]

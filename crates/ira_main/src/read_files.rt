@@ -110,6 +110,22 @@ fn finish_share<'a, A: Allocator + Clone, F: TextSource>(
     Ok(audit)
 }
 
+/// The logs in the files of these names, which are read in turn.
+pub(crate) fn read_in_turn<'a, A: Allocator + Clone, F: TextSource>(
+    alloc: &A,
+    names: &[FileName<'a>],
+    shelf: &F,
+) -> Result<RingAudit<A>, ProgramFault<'a>>
+    ensures { IsFilesAudit F.reads (names_of names.now) shelf.now result }
+{
+    let share = Share {
+        audit: RingAudit::new(alloc.clone()?),
+        text: TextBuffer::new(alloc.clone()?),
+        read: 0,
+    };
+    finish_share(alloc, share, names, shelf)
+}
+
 /// The names of the share that begins there.
 fn chunk_from<'n, 'a>(names: &'n [FileName<'a>], start: usize, size: usize) -> &'n [FileName<'a>]
     requires { start ≤ length names.now }
@@ -120,7 +136,7 @@ fn chunk_from<'n, 'a>(names: &'n [FileName<'a>], start: usize, size: usize) -> &
 }
 
 /// How many threads the machine runs at a time, or 1 where that isn't known.
-fn thread_count(rt: &impl Threads) -> usize
+pub(crate) fn thread_count(rt: &impl Threads) -> usize
     ensures { 0 < result }
 {
     thread::available_parallelism(rt).map_or(1, NonZeroUsize::get)

@@ -10,8 +10,8 @@ use ira_files::{FileName, TextSource};
 use ira_words::LogSource;
 use std::alloc::{AllocError, Allocator};
 
-// How many logs there are, by the text of the first.
-fn number_of_logs(text: &[u8]) -> u8
+/// How many logs there are, by the text of one; one where it has no head.
+pub(crate) fn number_of_logs(text: &[u8]) -> u8
     ensures { SaysLogs text.now result }
 {
     match open_log(text) {
@@ -20,8 +20,8 @@ fn number_of_logs(text: &[u8]) -> u8
     }
 }
 
-// The names that words give.
-fn given_names<'a, A: Allocator>(
+/// The names that words give.
+pub(crate) fn given_names<'a, A: Allocator>(
     alloc: A,
     words: &[&'a str],
 ) -> Result<Vec<FileName<'a>, A>, AllocError>
@@ -33,8 +33,8 @@ fn given_names<'a, A: Allocator>(
         .collect(alloc)
 }
 
-// The names of the first logs in a folder.
-fn names_in_folder<'a, A: Allocator>(
+/// The names of the first logs in a folder.
+pub(crate) fn names_in_folder<'a, A: Allocator>(
     alloc: A,
     folder: &'a str,
     number: u8,

@@ -36,7 +36,7 @@ fn file_written_and_read(rt: HostRuntime) {
     let name = "file_written_and_read.log";
     let mut shelf = FileShelf::new(&rt, rt.alloc());
     let mut found = TextBuffer::new(rt.alloc());
-    assert!(rt; shelf.read(name, &mut found) == Err(ShelfFault::Device));
+    assert!(rt; shelf.read(name, &mut found) == Err(ShelfFault::NotFound));
     let texts: [&[u8]; 3] = [b"irlog 1\nnodes 2\n", b"", b"end 0\n"];
     for text in texts {
         let read = write_and_read(&mut shelf, name, text, &mut found);
@@ -67,27 +67,35 @@ fn files_that_cannot_be_used(rt: HostRuntime) {
     let mut shelf = FileShelf::new(&rt, rt.alloc());
     let mut found = TextBuffer::new(rt.alloc());
     assert!(rt; shelf.read(".", &mut found) == Err(ShelfFault::Device));
-    for name in ["nowhere/0.log", ".", "/dev/full"] {
+    for (name, fault) in [
+        ("nowhere/0.log", ShelfFault::NotFound),
+        (".", ShelfFault::Device),
+        ("/dev/full", ShelfFault::Device),
+    ] {
         assert!(rt;
-            write(&mut shelf, name, b"end 0\n") == Err(ShelfFault::Device),
+            write(&mut shelf, name, b"end 0\n") == Err(fault),
             "{name}"
         );
     }
 }
 
-/// Whether a file of this name is written and read back with this memory, or memory runs out. `None` where neither is so.
-fn kept(rt: &impl Files, alloc: &Memory, name: &str) -> Option<bool> {
+/// Whether a file of this name, which has another text before, is written and read back with this memory. Where memory
+/// runs out before it is made anew, it is as it was. `None` where neither is so.
+fn kept(rt: &(impl AllocGlobal + Files), alloc: &Memory, name: &str) -> Option<bool> {
+    let old: &[u8] = b"irlog 1\nnodes 2\n";
     let text: &[u8] = b"irlog 1\n";
-    let mut shelf = FileShelf::new(rt, alloc);
-    let mut found = TextBuffer::new(alloc);
-    match write_and_read(&mut shelf, name, text, &mut found) {
+    let mut found = TextBuffer::new(rt.alloc());
+    write(&mut FileShelf::new(rt, rt.alloc()), name, old).ok()?;
+    let written = write(&mut FileShelf::new(rt, alloc), name, text);
+    FileShelf::new(rt, rt.alloc()).read(name, &mut found).ok()?;
+    match written {
         Ok(()) if found.bytes() == text => Some(true),
-        Err(ShelfFault::OutOfMemory) => Some(false),
+        Err(ShelfFault::OutOfMemory) if found.bytes() == old => Some(false),
         _ => None,
     }
 }
 
-fn is_kept(rt: &(impl Abort + Files), alloc: &Memory, name: &str) -> bool {
+fn is_kept(rt: &(impl Abort + AllocGlobal + Files), alloc: &Memory, name: &str) -> bool {
     kept(rt, alloc, name).expect(rt, "the text, or that memory ran out")
 }
 

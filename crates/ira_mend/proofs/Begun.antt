@@ -1,10 +1,10 @@
 -- Logs of which a beginning was kept.
 use Rattle.std.proofs.Common.{◌≡◌, ℕ, zero, suc, ◌+◌, ◌<◌, ◌≤◌, inl, inr, List, [], ◌∷◌, ◌++◌, length, refl, sym, ◌∙◌}
-use Rattle.std.proofs.Common.{ap, arith, take, drop, true, false, ◌&&◌, Bool, Option, Some, None, get_or}
+use Rattle.std.proofs.Common.{ap, arith, subst, take, drop, true, false, ◌&&◌, Bool, Option, Some, None, get_or}
 use Rattle.std.specs.Prelude.{slice_index, slice_get}
 use Rattle.std.specs.List.{list_all}
 use Rattle.std.proofs.lemmas.Bool.{cases_eq}
-use Rattle.std.proofs.lemmas.List.{length-take, length_push, take-append-drop, take_more}
+use Rattle.std.proofs.lemmas.List.{length-take, length_push, take-append-drop, take-take, take_more}
 use Rattle.std.proofs.lemmas.List.Folds.{list_all-append}
 use Rattle.std.proofs.lemmas.Option.{get_or_from_slice_get, slice_get-get_or, slice_get_within}
 use Rattle.ira_event.specs.Event.{is_event, is_of_version}
@@ -20,6 +20,7 @@ use Rattle.ira_order.proofs.Pairing.{numbered-within}
 use Rattle.ira_order.proofs.Places.{numbered_some}
 use Rattle.ira_order.proofs.Ranks.{next_below}
 use Rattle.ira_mend.specs.Beginning.{AreBegun, IsGreatestBeginning, begun}
+use Rattle.ira_mend.specs.Laws.{AreLeft, IsLeft}
 use Rattle.ira_mend.specs.Mended.{HasDifference}
 
 left_true : (a b : Bool) → (a && b) ≡ true → a ≡ true
@@ -97,38 +98,6 @@ begun_all logs cut news place so_far all = record {
 no_log : Log
 no_log = record { version = 0; nodes = 0; place = 0; initiator = false; events = [] }
 
--- whose beginning a log is
-pub record IsBegunOf (logs : List Log) (cut : List ℕ) (i : ℕ) (new : Log) : Type 0 where
-  pub log : Log
-  pub at : slice_get logs i ≡ Some log
-  pub is : new ≡ begun log (slice_index cut i)
-
-pub begun_of : (logs : List Log) (cut : List ℕ) (news : List Log) (i : ℕ) (new : Log) → AreBegun logs cut news
-    → slice_get news i ≡ Some new → IsBegunOf logs cut i new
-begun_of logs cut news i new are at =
-    let within : i < length logs = omega (arith, slice_get_within news i new at, are.places) in
-    let found = slice_get-get_or logs i no_log within in
-    let one : Some new ≡ Some (begun (slice_get-log logs i) (slice_index cut i)) =
-    sym at ∙ are.each i (slice_get-log logs i) found in
-    record { log = slice_get-log logs i; at = found; is = cc }
-  where
-    slice_get-log : List Log → ℕ → Log
-    slice_get-log logs i = get_or logs i no_log
-
--- beginnings of the logs of a ring are logs of a ring
-pub begun_are_logs : (logs : List Log) (cut : List ℕ) (news : List Log) → AreLogs logs → AreBegun logs cut news
-    → AreLogs news
-begun_are_logs logs cut news are begun_are = record {
-  ring = rw begun_are.places are.ring;
-  sizes = λ i new at. (let of = begun_of logs cut news i new begun_are at in
-      rw of.is (are.sizes i of.log of.at ∙ sym begun_are.places));
-  places = λ i new at. (let of = begun_of logs cut news i new begun_are at in rw of.is (are.places i of.log of.at));
-  valid = λ i new at. (let of = begun_of logs cut news i new begun_are at in
-      rw of.is (begun_is_log of.log (slice_index cut i) (are.valid i of.log of.at)));
-  version = are.version;
-  versions = λ i new at. (let of = begun_of logs cut news i new begun_are at in rw of.is (are.versions i of.log of.at));
-}
-
 -- the events that are left of node i
 pub begun_events : (logs : List Log) (cut : List ℕ) (news : List Log) (i : ℕ) → AreBegun logs cut news → i < length logs
     → log_of news i ≡ take (slice_index cut i) (log_of logs i)
@@ -136,6 +105,88 @@ begun_events logs cut news i are l =
     let found = slice_get-get_or logs i no_log l in
     ap events_of (are.each i (get_or logs i no_log) found)
     ∙ ap (λ (o : Option Log). take (slice_index cut i) (events_of o)) (sym found)
+
+-- ---- what a crash left
+
+-- beginnings of logs are left of them
+pub begun_left : (logs : List Log) (cut : List ℕ) (news : List Log) → AreBegun logs cut news → AreLeft logs cut news
+begun_left logs cut news are = record {
+  places = are.places;
+  each = λ i log at. (
+    begun log (slice_index cut i),
+    are.each i log at,
+    record { begun_is = refl; start = λ some. refl },
+  );
+}
+
+-- whose rest a log is
+pub record IsLeftOf (whole : List Log) (cut : List ℕ) (i : ℕ) (rest : Log) : Type 0 where
+  pub log : Log
+  pub at : slice_get whole i ≡ Some log
+  pub is : IsLeft log (slice_index cut i) rest
+
+pub left_of : (whole : List Log) (cut : List ℕ) (left : List Log) (i : ℕ) (rest : Log) → AreLeft whole cut left
+    → slice_get left i ≡ Some rest → IsLeftOf whole cut i rest
+left_of whole cut left i rest are at =
+    let within : i < length whole = omega (arith, slice_get_within left i rest at, are.places) in
+    let log : Log = get_or whole i no_log in
+    let found : slice_get whole i ≡ Some log = slice_get-get_or whole i no_log within in
+    let it = are.each i log found in
+    let one : Some it.0 ≡ Some rest = sym it.1 ∙ at in
+    let same : it.0 ≡ rest = cc in
+    record { log = log; at = found; is = subst (λ x. IsLeft log (slice_index cut i) x) same it.2 }
+
+-- what is left of the logs of a ring are logs of a ring
+pub left_are_logs : (whole : List Log) (cut : List ℕ) (left : List Log) → AreLogs whole → AreLeft whole cut left
+    → AreLogs left
+left_are_logs whole cut left are rest_are = record {
+  ring = rw rest_are.places are.ring;
+  sizes = λ i rest at. (let of = left_of whole cut left i rest rest_are at in
+      ap (λ (l : Log). l.nodes) of.is.begun_is ∙ are.sizes i of.log of.at ∙ sym rest_are.places);
+  places = λ i rest at. (let of = left_of whole cut left i rest rest_are at in
+      ap (λ (l : Log). l.place) of.is.begun_is ∙ are.places i of.log of.at);
+  valid = λ i rest at. (let of = left_of whole cut left i rest rest_are at in
+      let is = begun_is_log of.log (slice_index cut i) (are.valid i of.log of.at) in
+      subst IsLog (sym of.is.begun_is) (record {
+        version = is.version;
+        size = is.size;
+        fits = is.fits;
+        place = is.place;
+        count = is.count;
+        numbers = is.numbers;
+        held = is.held;
+      }));
+  version = are.version;
+  versions = λ i rest at. (let of = left_of whole cut left i rest rest_are at in
+      ap (λ (l : Log). l.version) of.is.begun_is ∙ are.versions i of.log of.at);
+}
+
+-- the events that are left of node i
+pub left_events : (whole : List Log) (cut : List ℕ) (left : List Log) (i : ℕ) → AreLeft whole cut left
+    → i < length whole → log_of left i ≡ take (slice_index cut i) (log_of whole i)
+left_events whole cut left i are l =
+    let log : Log = get_or whole i no_log in
+    let found : slice_get whole i ≡ Some log = slice_get-get_or whole i no_log l in
+    let it = are.each i log found in
+    ap events_of it.1 ∙ ap (λ (x : Log). x.events) it.2.begun_is
+    ∙ ap (λ (o : Option Log). take (slice_index cut i) (events_of o)) (sym found)
+
+-- a beginning of what is left is left
+pub left_again : (log rest : Log) (n m : ℕ) → IsLeft log n rest → m ≤ n → IsLeft log m (begun rest m)
+left_again log rest n m is le =
+    let events : rest.events ≡ take n log.events = ap (λ (x : Log). x.events) is.begun_is in
+    let all : take m rest.events ≡ take m log.events = ap (take m) events ∙ take-take m n log.events le in
+    let none : rest.events ≡ [] → take m rest.events ≡ [] = λ e. ap (take m) e ∙ take_none m in
+    record {
+      begun_is =
+          ap (λ (x : Log). record x { events = take m rest.events }) is.begun_is
+          ∙ ap (λ (es : List Event). record (begun log m) { initiator = rest.initiator; events = es }) all;
+      start = λ some. is.start (λ e. some (none e));
+    }
+  where
+    take_none : (m : ℕ) → ◌≡◌ {A = List Event} (take m []) []
+    take_none zero = refl
+    take_none (suc m) = refl
 
 -- fewer sendings than receipts have no sending
 too_few : (writer reader : List Event) (k : ℕ) → length (got reader) ≤ length (sent writer)

@@ -13,6 +13,8 @@ use Rattle.ira_event.specs.declared.load.Load.{Load}
 use Rattle.ira_event.specs.Log.{Log}
 use Rattle.ira_event.specs.Logs.{AreLogs}
 use Rattle.ira_node.specs.NodeState.{first_state}
+use Rattle.ira_node.specs.declared.node_state.NodeState.{NodeState}
+use Rattle.ira_replay.specs.LocalRun.{IsLocalRun, LeadsTo}
 use Rattle.ira_replay.proofs.Alike.{leads_split}
 use Rattle.ira_order.specs.declared.match_fault.MatchFault.{MatchFault}
 use Rattle.ira_order.specs.Circle.{HasOrder}
@@ -27,10 +29,10 @@ use Rattle.ira_order.proofs.Cuts.{cut_moment}
 use Rattle.ira_order.proofs.Faults.{unmatched}
 use Rattle.ira_order.proofs.Pairing.{numbered-append, numbered-within}
 use Rattle.ira_order.proofs.Ranks.{next_below}
-use Rattle.ira_mend.specs.Beginning.{AreBegun, begun}
-use Rattle.ira_mend.specs.Laws.{HasItsPast}
+use Rattle.ira_mend.specs.Beginning.{begun}
+use Rattle.ira_mend.specs.Laws.{AreLeft, HasItsPast, IsLeft}
 use Rattle.ira_mend.specs.Mended.{HasDifference, IsGreatestOf}
-use Rattle.ira_mend.proofs.Begun.{begun_are_logs, begun_events, begun_of}
+use Rattle.ira_mend.proofs.Begun.{begun_events, left_again, left_are_logs, left_events, left_of}
 use Rattle.ira_mend.proofs.Pasts.{beginning_covers, covers_beginning, kept_has_past, left_count, no_events}
 use Rattle.ira_mend.proofs.Pasts.{past_is_kept}
 
@@ -56,15 +58,32 @@ first_numbered : (n : ℕ) (es : List Event) (a : ℕ) (e : Event) → numbered 
 first_numbered n es zero e h = cc
 first_numbered n es (suc a) e h = (let r = first_slice n es a e h in (r.0, omega (arith, r.1)))
 
+-- what is left of a log has the steps of the whole one
+first_steps : (log rest : Log) (n : ℕ) → IsLeft log n rest → (u : NodeState)
+    → LeadsTo log.nodes (first_state log.initiator) (take n log.events) u → IsLocalRun rest
+first_steps log rest n is u leads = go rest.events refl
+  where
+    nodes : rest.nodes ≡ log.nodes
+    nodes = ap (λ (x : Log). x.nodes) is.begun_is
+
+    events : rest.events ≡ take n log.events
+    events = ap (λ (x : Log). x.events) is.begun_is
+
+    go : (es : List Event) → rest.events ≡ es → IsLocalRun rest
+    go [] none = (first_state rest.initiator, rw none refl)
+    go (e ∷ es) some =
+        let same : rest.initiator ≡ log.initiator = is.start (λ empty. (let bad = sym empty ∙ some in cc)) in
+        (u, rw (same, nodes, events) leads)
+
 -- the logs at a consistent beginning
-module _ (whole mended : List Log) (at : List ℕ) (are : AreBegun whole at mended)
+module _ (whole mended : List Log) (at : List ℕ) (are : AreLeft whole at mended)
     (within : (i : ℕ) → i < length whole → slice_index at i ≤ length (log_of whole i))
     (covers : Covers whole (slice_index at)) where
   n : length mended ≡ length whole
   n = are.places
 
   events : (i : ℕ) → i < length whole → log_of mended i ≡ take (slice_index at i) (log_of whole i)
-  events i l = begun_events whole at mended i are l
+  events i l = left_events whole at mended i are l
 
   module _ (matches : Matches whole) (i : ℕ) (l' : i < length mended) where
     l : i < length whole
@@ -148,17 +167,18 @@ module _ (whole mended : List Log) (at : List ℕ) (are : AreBegun whole at mend
 
   mended_local : AreLocalRuns whole → AreLocalRuns mended
   mended_local runs i new is =
-      let of = begun_of whole at mended i new are is in
+      let of = left_of whole at mended i new are is in
       let run = runs i of.log of.at in
+      let n : ℕ = slice_index at i in
       let es : List Event = of.log.events in
       let split =
-      leads_split of.log.nodes (first_state of.log.initiator) (take (slice_index at i) es) (drop (slice_index at i) es)
-      run.0 (rw (take-append-drop (slice_index at i) es) run.1) in
-      rw of.is (split.0, split.1)
+      leads_split of.log.nodes (first_state of.log.initiator) (take n es) (drop n es)
+      run.0 (rw (take-append-drop n es) run.1) in
+      first_steps of.log new n of.is split.0 split.1
 
 -- ---- what is mended, of what is left of the whole logs
 
-module _ (whole left mended : List Log) (cut : List ℕ) (are : AreBegun whole cut left)
+module _ (whole left mended : List Log) (cut : List ℕ) (are : AreLeft whole cut left)
     (is : IsGreatestOf left mended) where
   size : length left ≡ length whole
   size = are.places
@@ -172,24 +192,16 @@ module _ (whole left mended : List Log) (cut : List ℕ) (are : AreBegun whole c
   kept_whole : (i : ℕ) → i < length whole → kept i ≤ length (log_of whole i)
   kept_whole i l = omega (arith, kept_left i l, (left_count whole left cut are i l).1)
 
-  -- the mended logs are beginnings of the whole ones
-  module _ (i : ℕ) (log : Log) (at : slice_get whole i ≡ Some log) where
-    here : slice_get left i ≡ Some (begun log (slice_index cut i))
-    here = are.each i log at
-
-    begun_within : kept i ≤ slice_index cut i
-    begun_within =
+  -- the mended logs are left of the whole ones
+  mended_left : AreLeft whole is.cut mended
+  mended_left = record {
+    places = is.begun.places ∙ size;
+    each = λ i log at.
+        let it = are.each i log at in
         let l = slice_get_within whole i log at in
-        omega (arith, kept_left i l, (left_count whole left cut are i l).0)
-
-    begun_again : slice_get mended i ≡ Some (begun log (kept i))
-    begun_again =
-        is.begun.each i (begun log (slice_index cut i)) here
-        ∙ ap (λ (es : List Event). Some (record log { events = es }))
-        (take-take (kept i) (slice_index cut i) log.events begun_within)
-
-  mended_begun : AreBegun whole is.cut mended
-  mended_begun = record { places = is.begun.places ∙ size; each = begun_again }
+        let least : kept i ≤ slice_index cut i = omega (arith, kept_left i l, (left_count whole left cut are i l).0) in
+        (begun it.0 (kept i), is.begun.each i it.0 it.1, left_again log it.0 (slice_index cut i) (kept i) it.2 least);
+  }
 
   mended_covers : Covers whole kept
   mended_covers = beginning_covers whole left cut are is.cut is.greatest.consistent
@@ -222,7 +234,7 @@ module _ (whole left mended : List Log) (cut : List ℕ) (are : AreBegun whole c
   module _ (matches : Matches whole) (consistent : IsConsistentCut whole cut) where
     left_all : (i : ℕ) → i < length whole → length (log_of left i) ≡ slice_index cut i
     left_all i l =
-        let all = ap (λ (es : List Event). length es) (begun_events whole cut left i are l) in
+        let all = ap (λ (es : List Event). length es) (left_events whole cut left i are l) in
         omega (arith, all, length-take (slice_index cut i) (log_of whole i), consistent.0.within i l)
 
     left_cut : IsCut left cut
@@ -255,15 +267,15 @@ module _ (whole left mended : List Log) (cut : List ℕ) (are : AreBegun whole c
       → AreLogs mended × HasOrder mended × AreLocalRuns mended
   runs_mended logs order runs =
       let places = is.greatest.consistent.cut_is.places ∙ size in (
-        begun_are_logs whole is.cut mended logs mended_begun,
-        mended_order whole mended is.cut mended_begun kept_whole mended_covers logs.ring.0 places order,
-        mended_local whole mended is.cut mended_begun kept_whole mended_covers runs,
+        left_are_logs whole is.cut mended logs mended_left,
+        mended_order whole mended is.cut mended_left kept_whole mended_covers logs.ring.0 places order,
+        mended_local whole mended is.cut mended_left kept_whole mended_covers runs,
       )
 
   matched_mended : Matches whole → Matches mended
-  matched_mended matches = link_matches whole mended is.cut mended_begun kept_whole mended_covers matches
+  matched_mended matches = link_matches whole mended is.cut mended_left kept_whole mended_covers matches
 
-pub dont_differ : (whole left : List Log) (cut : List ℕ) (f : MatchFault) → Matches whole → AreBegun whole cut left
+pub dont_differ : (whole left : List Log) (cut : List ℕ) (f : MatchFault) → Matches whole → AreLeft whole cut left
     → ¬ (HasDifference left f)
 dont_differ whole left cut f matches are differ =
     unmatched differ.beginnings f differ.fault

@@ -17,9 +17,9 @@ use Rattle.ira_order.proofs.Acyclic.{before_within}
 use Rattle.ira_order.proofs.Bridge.{before_places, covers_consistent, pair_of}
 use Rattle.ira_order.proofs.Places.{Ranked, ranked}
 use Rattle.ira_order.proofs.Ranks.{next_below, rank_mono}
-use Rattle.ira_mend.specs.Beginning.{AreBegun, IsConsistentBeginning, IsGreatestBeginning, receipts_in, sendings_in}
-use Rattle.ira_mend.specs.Laws.{HasItsPast}
-use Rattle.ira_mend.proofs.Begun.{begun_events}
+use Rattle.ira_mend.specs.Beginning.{IsConsistentBeginning, IsGreatestBeginning, receipts_in, sendings_in}
+use Rattle.ira_mend.specs.Laws.{AreLeft, HasItsPast}
+use Rattle.ira_mend.proofs.Begun.{left_events}
 use Rattle.ira_mend.proofs.Lattice.{Lacks, lowered, lowered_within, settled, whole_at, whole_cut, whole_is_cut}
 
 pub no_events : (logs : List Log) (i : ℕ) → length logs ≤ i → log_of logs i ≡ []
@@ -37,7 +37,7 @@ before_later logs i a j b c before le within = elim (cases_eq b c) [
       onward before (own refl (before_places logs i a j b before).1 there.2 (omega (arith, le, other)) within)
 ]
 
-module _ (whole left : List Log) (cut : List ℕ) (are : AreBegun whole cut left) where
+module _ (whole left : List Log) (cut : List ℕ) (are : AreLeft whole cut left) where
   n : length left ≡ length whole
   n = are.places
 
@@ -45,7 +45,7 @@ module _ (whole left : List Log) (cut : List ℕ) (are : AreBegun whole cut left
   pub left_count : (i : ℕ) → i < length whole
       → (length (log_of left i) ≤ slice_index cut i) × (length (log_of left i) ≤ length (log_of whole i))
   left_count i l =
-      let events = ap (λ (es : List Event). length es) (begun_events whole cut left i are l) in
+      let events = ap (λ (es : List Event). length es) (left_events whole cut left i are l) in
       let least = length-take (slice_index cut i) (log_of whole i) in
       (omega (arith, events, least), omega (arith, events, least))
 
@@ -53,7 +53,7 @@ module _ (whole left : List Log) (cut : List ℕ) (are : AreBegun whole cut left
   first_left : (i m : ℕ) → i < length whole → m ≤ length (log_of left i)
       → take m (log_of left i) ≡ take m (log_of whole i)
   first_left i m l le =
-      ap (take m) (begun_events whole cut left i are l)
+      ap (take m) (left_events whole cut left i are l)
       ∙ take-take m (slice_index cut i) (log_of whole i) (omega (arith, le, (left_count i l).0))
 
   -- the node that link i leads to

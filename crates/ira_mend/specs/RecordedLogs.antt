@@ -1,20 +1,24 @@
--- Texts of logs that may have been cut off.
-use Rattle.std.specs.Prelude.{◌≡◌, ◌≢◌, ◌≤◌, ◌⊎◌, ℕ, List, ◌++◌, Option, Some, None, Result, Ok, Err, codes, length}
-use Rattle.std.specs.Prelude.{slice_get, take}
+-- What a crash left of the texts of a ring's logs.
+use Rattle.std.specs.Prelude.{◌≡◌, ◌≢◌, ◌<◌, ◌≤◌, ◌↔◌, ◌⊎◌, ℕ, suc, Bool, true, false, IsTrue, List, [], ◌∷◌, ◌++◌, Option, Some, None}
+use Rattle.std.specs.Prelude.{Result, Ok, Err, codes, length, slice_get, take, ⊤}
 use Rattle.std.specs.List.{AllZip}
 use Rattle.ira_event.specs.Limits.{MAX_TEXT}
 use Rattle.ira_event.specs.declared.event.Event.{Event}
 use Rattle.ira_event.specs.declared.head_fault.HeadFault.{HeadFault}
+use Rattle.ira_event.specs.declared.head_fault.HeadFault.TheVariants.{Number}
 use Rattle.ira_event.specs.declared.log_fault.LogFault.{LogFault}
-use Rattle.ira_event.specs.declared.log_fault.LogFault.TheVariants.{Cut, OutOfMemory}
-use Rattle.ira_event.specs.Log.{Log}
-use Rattle.ira_event.specs.LogText.{IsEnd, IsLogText, head_of}
-use Rattle.ira_event.specs.LogTextFault.{BeginsWithHead, BeginsWithRecords, HasNoLineFeed, LogTextFault, RecordsFault}
-use Rattle.ira_event.specs.LogTextFault.{RestFault}
+use Rattle.ira_event.specs.declared.log_fault.LogFault.TheVariants.{Cut, Head, OutOfMemory}
+use Rattle.ira_event.specs.declared.log_head.LogHead.{LogHead}
+use Rattle.ira_event.specs.Log.{Log, IsLog}
+use Rattle.ira_event.specs.LogText.{IsEnd, IsLogText, head_of, log_text}
+use Rattle.ira_event.specs.LogTextFault.{BeginsWithHead, BeginsWithNoHead, BeginsWithRecords, HasNoLineFeed}
+use Rattle.ira_event.specs.LogTextFault.{LogTextFault, RecordsFault, RestFault}
 use Rattle.ira_event.specs.Logs.{HeadFaultOf}
 use Rattle.ira_event.specs.Records.{IsAtEnd, ReadsRecord, RecordsLeft}
 use Rattle.ira_audit.specs.declared.reason.Reason.{Reason}
 use Rattle.ira_audit.specs.declared.reason.Reason.TheVariants as reason
+use Rattle.ira_mend.specs.declared.recorded_log.RecordedLog.{RecordedLog}
+use Rattle.ira_mend.specs.declared.recorded_log.RecordedLog.TheVariants as taken
 
 -- the text is the log's head and the lines of its records, all within the limits, and nothing more or a piece of a line
 pub record IsCutText (text : List ℕ) (log : Log) : Type 0 where
@@ -29,25 +33,86 @@ pub record IsCutText (text : List ℕ) (log : Log) : Type 0 where
 abbrev pub IsRecordedText : List ℕ → Log → Type 0
 IsRecordedText text log = IsLogText text log ⊎ IsCutText text log
 
--- there are as many texts as logs, and each text is that of its log or begins so and is cut
-abbrev pub AreRecordedTexts : List (List ℕ) → List Log → Type 0
-AreRecordedTexts texts logs = AllZip IsRecordedText texts logs
+-- one of the texts is that of this log, or begins so and is cut
+pub record RecordsLog (texts : List (List ℕ)) (log : Log) : Type 0 where
+  pub number : ℕ
+  pub text : List ℕ
+  pub at : slice_get texts number ≡ Some text
+  pub recorded : IsRecordedText text log
 
--- text i, counted from 0, is the first with a fault other than that it is cut, and this is its fault
-pub record IsFirstOtherFault (texts : List (List ℕ)) (i : ℕ) (f : LogFault) : Type 0 where
+-- the log without events of the node at this place of the ring that a head names
+abbrev pub empty_log : LogHead → ℕ → Bool → Log
+empty_log head place initiator = record {
+  version = head.version;
+  nodes = head.nodes;
+  place = place;
+  initiator = initiator;
+  events = [];
+}
+
+-- the text ends within its head, and begins as that of the log does
+pub record IsCutHead (text : List ℕ) (log : Log) : Type 0 where
+  pub rest : List ℕ
+  pub parts : text ++ rest ≡ log_text log
+  pub within : BeginsWithNoHead text
+
+-- no event is left of the log of the node at this place, and its head is cut: the log is one of the same ring, and of
+-- the start that is guessed, but where the text is of the other
+pub record IsLost (ring : LogHead) (guess : Bool) (place : ℕ) (text : List ℕ) (log : Log) : Type 0 where
+  pub in_ring : place < ring.nodes
+  pub start : Bool
+  pub empty : log ≡ empty_log ring place start
+  pub piece : IsCutHead text log
+  pub guessed : IsCutHead text (empty_log ring place guess) → start ≡ guess
+
+-- what is left of the log of the node at this place is this text
+abbrev pub IsLeftText : LogHead → Bool → ℕ → List ℕ → Log → Type 0
+IsLeftText ring guess place text log = IsRecordedText text log ⊎ IsLost ring guess place text log
+
+-- what is left of the logs from this place on are these texts, as many as there are logs
+abbrev pub LeftTextsFrom : ℕ → LogHead → Bool → List (List ℕ) → List Log → Type 0
+LeftTextsFrom place ring guess [] [] = ⊤
+LeftTextsFrom place ring guess (text ∷ texts) (log ∷ logs) =
+    IsLeftText ring guess place text log × LeftTextsFrom (suc place) ring guess texts logs
+LeftTextsFrom place ring guess texts logs = ⊥
+
+-- what is left of these logs are these texts, one of which at least is a log's of the ring, cut or not; the start of a
+-- node of whose log no head is left is guessed
+pub record AreLeftTexts (guess : Bool) (texts : List (List ℕ)) (logs : List Log) : Type 0 where
+  pub ring : Log
+  pub recorded : RecordsLog texts ring
+  pub each : LeftTextsFrom 0 (head_of ring) guess texts logs
+
+-- the text isn't what is left of the log of the node at this place, and its fault is the reason
+abbrev pub IsNotLeft : LogHead → Bool → ℕ → List ℕ → Reason → Type 0
+IsNotLeft ring guess place text r = (f : LogFault) × (r ≡ reason.Log place f) × LogTextFault text f
+    × ((log : Log) → ¬ (IsLeftText ring guess place text log))
+
+-- text i, counted from 0, is the first that isn't what is left of the log of its node, which is the reason
+pub record IsFirstNotLeft (guess : Bool) (texts : List (List ℕ)) (i : ℕ) (r : Reason) : Type 0 where
+  pub ring : Log
+  pub recorded : RecordsLog texts ring
   pub before : List Log
-  pub before_are : AreRecordedTexts (take i texts) before
+  pub before_are : LeftTextsFrom 0 (head_of ring) guess (take i texts) before
   pub text : List ℕ
   pub at : slice_get texts i ≡ Some text
-  pub fault : LogTextFault text f
-  pub other : f ≢ Cut
+  pub why : IsNotLeft (head_of ring) guess i text r
 
--- why the texts, cut or not, aren't those of the logs of one ring
-pub data IsRecordedReason (texts : List (List ℕ)) (r : Reason) : Type 0 where
-  no_log : (number : ℕ) (f : LogFault) → IsFirstOtherFault texts number f → r ≡ reason.Log number f
-      → IsRecordedReason texts r
-  no_ring : (logs : List Log) (f : HeadFault) → AreRecordedTexts texts logs → HeadFaultOf logs f → r ≡ reason.Heads f
-      → IsRecordedReason texts r
+-- no text is a log's, cut or not: what is wrong with the first, or that there is none, is the reason
+abbrev pub IsFirstFault : List (List ℕ) → Reason → Type 0
+IsFirstFault [] r = r ≡ reason.Heads Number
+IsFirstFault (text ∷ texts) r = (f : LogFault) × (r ≡ reason.Log 0 f) × LogTextFault text f
+
+-- why the texts aren't what is left of the logs of one ring
+pub data IsRecordedReason (guess : Bool) (texts : List (List ℕ)) (r : Reason) : Type 0 where
+  no_log : (number : ℕ) → IsFirstNotLeft guess texts number r → IsRecordedReason guess texts r
+  no_ring : (logs : List Log) (f : HeadFault) → AreLeftTexts guess texts logs → HeadFaultOf logs f
+      → r ≡ reason.Heads f → IsRecordedReason guess texts r
+  none : ((log : Log) → ¬ (RecordsLog texts log)) → IsFirstFault texts r → IsRecordedReason guess texts r
+
+-- it is said of a text whether it begins with no head
+abbrev pub SaysLost : List ℕ → Bool → Type 0
+SaysLost text is_lost = IsTrue is_lost ↔ LogTextFault text Head
 
 -- What follows helps to say what was taken.
 
@@ -75,20 +140,31 @@ abbrev pub IsRecordedReading : List ℕ → Result Log LogFault → Type 0
 IsRecordedReading text (Ok log) = IsRecordedText text log
 IsRecordedReading text (Err f) = (f ≡ OutOfMemory) ⊎ (LogTextFault text f × (f ≢ Cut))
 
--- some logs, and what is wrong with the text after theirs, if something is
-pub record RecordedLogs : Type 0 where
-  pub logs : List Log
-  pub fault : Option LogFault
+-- what was taken of a text: its log, cut or not; its bytes, where it is short and begins with no head; or its fault, which
+-- isn't that it is cut, and where it begins with no head it is longer than any
+abbrev pub IsRecordOf : {A : Type 0} → List ℕ → RecordedLog A → Type 0
+IsRecordOf text (taken.Log log) = IsRecordedText text log
+IsRecordOf text (taken.Short bytes) = (text ≡ bytes.items) × LogTextFault text Head
+IsRecordOf text (taken.Faulty f) = LogTextFault text f × (f ≢ Cut) × (f ≡ Head → 100 < length text)
 
--- without a fault the texts are those of the logs; with one the first texts, as many as there are logs, are those of
--- the
--- logs, and the text after these has the fault
-abbrev pub AreRecorded : List (List ℕ) → List Log → Option LogFault → Type 0
-AreRecorded texts logs None = AreRecordedTexts texts logs
-AreRecorded texts logs (Some f) =
-    AreRecordedTexts (take (length logs) texts) logs
-    × ((text : List ℕ) × (slice_get texts (length logs) ≡ Some text) × LogTextFault text f × (f ≢ Cut))
+-- whether that text begins with no head
+abbrev pub is_lost : {A : Type 0} → RecordedLog A → Bool
+is_lost (taken.Short bytes) = true
+is_lost (taken.Faulty Head) = true
+is_lost other = false
 
 -- these texts were taken, in this order
-abbrev pub HasRecorded : RecordedLogs → List (List ℕ) → Type 0
-HasRecorded recorded texts = AreRecorded texts recorded.logs recorded.fault
+abbrev pub HasRecorded : {A : Type 0} → List (RecordedLog A) → List (List ℕ) → Type 0
+HasRecorded recorded texts = AllZip IsRecordOf texts recorded
+
+-- no log was taken
+abbrev pub HasNoLog : {A : Type 0} → List (RecordedLog A) → Type 0
+HasNoLog recorded = (i : ℕ) (log : Log) → slice_get recorded i ≡ Some (taken.Log log) → ⊥
+
+-- this is the head of a log that was taken
+pub record HasHeadOfLog {A : Type 0} (recorded : List (RecordedLog A)) (head : LogHead) : Type 0 where
+  pub number : ℕ
+  pub log : Log
+  pub at : slice_get recorded number ≡ Some (taken.Log log)
+  pub valid : IsLog log
+  pub is : head ≡ head_of log

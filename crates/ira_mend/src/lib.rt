@@ -6,6 +6,7 @@ mod laws;
 mod longest;
 mod mend_fault;
 mod mending;
+mod recorded_log;
 mod recorded_logs;
 
 pub use laws::{beginnings_are_a_lattice, mended_runs_are_runs, mending_keeps_whole_pasts};

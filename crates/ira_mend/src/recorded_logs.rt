@@ -1,64 +1,40 @@
-ghost use Rattle.std.specs.Prelude.{◌≡◌, ◌++◌, ◌∷◌, [], ℕ, List, OnOk, OnErr};
-ghost use Rattle.ira_event.specs.Logs.{AreLogs};
-ghost use Rattle.ira_mend.specs.RecordedLogs.{AreReadLines, AreRecordedTexts, HasRecorded, IsRecordedReading, IsRecordedReason, ReadsWholeLine};
+ghost use Rattle.std.specs.Prelude.{◌≡◌, ◌++◌, ◌∷◌, [], ℕ, ◌↔◌, IfOk, IsTrue, List, MatchOption, OnOk, OnErr, map};
+ghost use Rattle.std.specs.List.{AllZip};
 ghost use Rattle.ira_audit.specs.Refusal.{MatchRefusal};
 ghost use Rattle.ira_audit.specs.Report.{IsReportableReason};
+ghost use Rattle.ira_event.specs.Log.{Log};
+ghost use Rattle.ira_event.specs.Logs.{AreLogs};
+ghost use Rattle.ira_mend.specs.RecordedLogs.{AreLeftTexts, HasHeadOfLog, HasNoLog, HasRecorded, IsFirstFault, IsRecordedReason, RecordsLog, SaysLost, is_lost};
 
+use crate::recorded_log::RecordedLog;
 use ira_audit::{Reason, Refusal};
-use ira_event::{Event, LogFault, Logs, NodeLog, OutOfMemory, PackedEvents, Records, open_log};
-use std::alloc::Allocator;
+use ira_event::{HeadFault, LogFault, LogHead, Logs, OutOfMemory};
+use std::alloc::{AllocError, Allocator};
 use std::marker::Model;
 
-/// The event of the next record, `None` where the end line follows and ends the text or the text is cut, or another fault
-/// of what follows.
-fn next_whole_line(records: &mut Records<'_>) -> Result<Option<Event>, LogFault>
-    ensures { ReadsWholeLine records.old records.new result }
+/// Of which texts it is said that they begin with no head.
+fn lost_of<A: Allocator>(alloc: A, recorded: &[RecordedLog<A>]) -> Result<Vec<bool, A>, AllocError>
+    ensures { IfOk result (λ lost. lost.items ≡ map is_lost recorded.now) }
 {
-    match records.next_event() {
-        Ok(read) => Ok(read),
-        Err(LogFault::Cut) => Ok(None),
-        Err(fault) => Err(fault),
-    }
+    recorded
+        .iter()
+        .map(|recorded| recorded.is_lost())
+        .collect(alloc)
 }
 
-/// The events of all complete record lines, none of which was read yet, where an end line follows or the text is cut.
-fn read_lines<A: Allocator>(alloc: A, records: Records<'_>) -> Result<PackedEvents<A>, LogFault>
-    requires { records.count ≡ 0 }
-    ensures { AreReadLines records.entry.version (λ events. events) result records.entry.rest }
-{
-    let mut records = records;
-    let mut events = PackedEvents::with_room_for(alloc, &records)?;
-    while let Some(event) = next_whole_line(&mut records)? {
-        events.push(event)?;
-    }
-    Ok(events)
-}
-
-/// The log of a text, or of the complete lines of one that is cut; or the text's fault.
-fn read_recorded<A: Allocator>(alloc: A, text: &[u8]) -> Result<NodeLog<A>, LogFault>
-    ensures { IsRecordedReading text.now result }
-{
-    let (head, records) = open_log(text)?;
-    let events = read_lines(alloc, records)?;
-    Ok(NodeLog::of_records(head, events))
-}
-
-/// The logs of a ring's texts, which it takes one by one in the order of the ring's places. A text that is cut counts as
-/// far as its complete lines go.
+/// What a crash left of the logs of a ring: their texts, which are taken one by one in the order of the ring's places.
 #[derive(Drop)]
 pub struct RecordedLogs<A: Allocator> {
-    /// The logs of the texts, up to the first with another fault.
-    logs: Vec<NodeLog<A>, A>,
-    /// What is wrong with the text after these.
-    fault: Option<LogFault>,
+    recorded: Vec<RecordedLog<A>, A>,
 }
 
 impl<A: Allocator> Model for RecordedLogs<A> {
-    ghost use Rattle.ira_mend.specs.RecordedLogs.{RecordedLogs};
+    ghost use Rattle.std.specs.Prelude.{List};
+    ghost use Rattle.ira_mend.specs.declared.recorded_log.RecordedLog.{RecordedLog};
 
-    ghost Value = { RecordedLogs };
+    ghost Value = { List (RecordedLog A) };
 
-    ghost view = { λ r. record { logs = r.logs.items; fault = r.fault } };
+    ghost view = { λ r. r.recorded.items };
 }
 
 impl<A: Allocator + Clone> RecordedLogs<A> {
@@ -67,42 +43,94 @@ impl<A: Allocator + Clone> RecordedLogs<A> {
         ensures { HasRecorded result [] }
     {
         RecordedLogs {
-            logs: Vec::new(alloc),
-            fault: None,
+            recorded: Vec::new(alloc),
         }
     }
 
-    /// Takes the text that comes next. Where memory runs out all is as it was.
+    /// Takes the text that comes next; one without bytes where there is no file. Where memory runs out all is as it was.
     pub fn take(&mut self, text: &[u8]) -> Result<(), OutOfMemory>
         ensures ok { OnOk result
             ((texts : List (List ℕ)) → HasRecorded self.old texts
             → HasRecorded self.new (texts ++ text.now ∷ [])) }
         ensures err { OnErr result (self.new ≡ self.old) }
     {
-        if self.fault.is_some() {
-            return Ok(());
-        }
-        match read_recorded(self.logs.allocator().clone()?, text) {
-            Ok(log) => self.logs.push(log)?,
-            Err(LogFault::OutOfMemory) => return Err(OutOfMemory),
-            Err(fault) => self.fault = Some(fault),
-        }
+        let alloc = self.recorded.allocator().clone()?;
+        self.recorded.push(RecordedLog::of_text(alloc, text)?)?;
         Ok(())
     }
 
-    /// The logs of the texts that were taken, if they are those of one ring.
-    pub fn gather(self) -> Result<Logs<A>, Refusal>
-        ensures { (texts : List (List ℕ)) → HasRecorded self texts
-            → MatchRefusal result (λ logs. AreRecordedTexts texts logs × AreLogs logs)
-            (λ r. IsRecordedReason texts r × IsReportableReason r) }
+    /// The head of the first log.
+    fn ring(&self) -> Option<LogHead>
+        ensures { MatchOption result (HasNoLog self.now) (HasHeadOfLog self.now) }
     {
-        let RecordedLogs { logs, fault } = self;
-        match fault {
-            None => Ok(Logs::gather(logs)?),
-            Some(fault) => Err(Refusal::No(Reason::Log {
-                number: logs.len(),
-                fault,
-            })),
+        for recorded in &self.recorded {
+            if let RecordedLog::Log(log) = recorded {
+                return Some(LogHead {
+                    version: log.version(),
+                    nodes: log.nodes(),
+                    place: log.place(),
+                    initiator: log.initiator(),
+                });
+            }
         }
+        None
+    }
+
+    /// Whether a text is a log's, cut or not: without one nothing is known of the ring.
+    pub fn has_log(&self) -> bool
+        ensures { (texts : List (List ℕ)) → HasRecorded self.now texts
+            → IsTrue result ↔ ((log : Log) × RecordsLog texts log) }
+    {
+        self.ring().is_some()
+    }
+
+    /// Which texts begin with no head.
+    pub fn lost(&self) -> Result<Vec<bool, A>, AllocError>
+        ensures { IfOk result (λ lost. (texts : List (List ℕ)) → HasRecorded self.now texts
+            → AllZip SaysLost texts lost.items) }
+    {
+        lost_of(self.recorded.allocator().clone()?, &self.recorded)
+    }
+
+    /// What is wrong with the first text, where none is a log's.
+    fn first_fault(&self) -> Reason
+        requires { HasNoLog self.now }
+        ensures { (texts : List (List ℕ)) → HasRecorded self.now texts → IsFirstFault texts result }
+    {
+        match self.recorded.first() {
+            None => Reason::Heads(HeadFault::Number),
+            Some(RecordedLog::Faulty(fault)) => Reason::Log {
+                number: 0,
+                fault: *fault,
+            },
+            Some(RecordedLog::Short(_)) => Reason::Log {
+                number: 0,
+                fault: LogFault::Head,
+            },
+            Some(RecordedLog::Log(_)) => unreachable!(),
+        }
+    }
+
+    /// The logs of which the texts are left, if they are those of one ring. A node of which not even a whole head is left
+    /// gets a log without events: an initiator's if `guess` says so, but where its text is of the other start.
+    pub fn gather(self, guess: bool) -> Result<Logs<A>, Refusal>
+        ensures { (texts : List (List ℕ)) → HasRecorded self texts
+            → MatchRefusal result (λ logs. AreLeftTexts guess texts logs × AreLogs logs)
+            (λ r. IsRecordedReason guess texts r × IsReportableReason r) }
+    {
+        let Some(ring) = self.ring() else {
+            return Err(Refusal::No(self.first_fault()));
+        };
+        let RecordedLogs { recorded } = self;
+        let alloc = recorded.allocator().clone()?;
+        let mut logs = Vec::with_capacity(alloc.clone()?, recorded.len())?;
+        for it in recorded {
+            let log = it.into_log(alloc.clone()?, ring, logs.len(), guess)?;
+            match logs.push(log) {
+                Ok(()) => {}
+                Err(_) => return Err(Refusal::OutOfMemory),
+            }
+        }
+        Ok(Logs::gather(logs)?)
     }
 }

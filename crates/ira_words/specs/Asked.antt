@@ -1,7 +1,9 @@
 -- What words ask for, by the options and names that are given after a command.
-use Rattle.std.specs.Prelude.{List, None, Option, Some, [], codes, is_some, map, option_map, ℕ, ◌≡◌, ◌≢◌, ◌≤◌, ◌⊎◌}
+use Rattle.std.specs.Prelude.{ℕ, Bool, List, None, Option, Some, [], codes, false, is_some, map, option_map, true}
+use Rattle.std.specs.Prelude.{◌≡◌, ◌≢◌, ◌≤◌, ◌⊎◌}
+use Rattle.std.specs.Borrow.{Bor}
 use Rattle.clap.specs.Takes.{is_given}
-use Rattle.clap.specs.Walk.{Row, all_of, first_of}
+use Rattle.clap.specs.Walk.{Row, Text, all_of, first_of}
 use Rattle.ira_words.specs.Options.{HasNumber, HasNumbers, IsLeftOut, ListsNumbers, MayHaveNumber, MayHaveNumbers}
 use Rattle.ira_words.specs.declared.asked_moment.AskedMoment.{AskedMoment}
 use Rattle.ira_words.specs.declared.asked_moment.AskedMoment.TheVariants.{AtCut, AtEnd, OfQuestion}
@@ -9,12 +11,16 @@ use Rattle.ira_words.specs.declared.asked_question.AskedQuestion.{AskedQuestion}
 use Rattle.ira_words.specs.declared.check_request.CheckRequest.{CheckRequest}
 use Rattle.ira_words.specs.declared.decide_request.DecideRequest.{DecideRequest}
 use Rattle.ira_words.specs.declared.draw_request.DrawRequest.{DrawRequest}
+use Rattle.ira_words.specs.declared.each_request.EachRequest.{EachRequest}
 use Rattle.ira_words.specs.declared.explain_request.ExplainRequest.{ExplainRequest}
 use Rattle.ira_words.specs.declared.explained_answer.ExplainedAnswer.{ExplainedAnswer}
-use Rattle.ira_words.specs.declared.explained_answer.ExplainedAnswer.TheVariants.{Certificate, Findings, Logs, OneLog}
+use Rattle.ira_words.specs.declared.explained_answer.ExplainedAnswer.TheVariants as explained
 use Rattle.ira_words.specs.declared.log_source.LogSource.{LogSource}
 use Rattle.ira_words.specs.declared.log_source.LogSource.TheVariants.{Files, Folder}
 use Rattle.ira_words.specs.declared.logs_request.LogsRequest.{LogsRequest}
+use Rattle.ira_words.specs.declared.mend_request.MendRequest.{MendRequest}
+use Rattle.ira_words.specs.declared.request.Request.{Request}
+use Rattle.ira_words.specs.declared.request.Request.TheVariants.{Each, Logs}
 use Rattle.ira_words.specs.declared.rewrite_request.RewriteRequest.{RewriteRequest}
 use Rattle.ira_words.specs.declared.run_request.RunRequest.{RunRequest}
 use Rattle.ira_words.specs.declared.show_request.ShowRequest.{ShowRequest}
@@ -94,10 +100,10 @@ pub record HasCertificate (rows : List Row) (question certificate : List ℕ) (l
 
 -- the answer is that of what is named
 abbrev pub HasAnswer : List Row → ExplainedAnswer → Type 0
-HasAnswer rows OneLog = AsksNothing rows × IsLeftOut (codes "dir") rows × (all_of (codes "LOG") rows ≡ None)
-HasAnswer rows (Logs source) = AsksNothing rows × HasLogs rows source
-HasAnswer rows (Findings asked logs) = HasFindings rows asked logs
-HasAnswer rows (Certificate question certificate logs) = HasCertificate rows question.now certificate.now logs
+HasAnswer rows explained.OneLog = AsksNothing rows × IsLeftOut (codes "dir") rows × (all_of (codes "LOG") rows ≡ None)
+HasAnswer rows (explained.Logs source) = AsksNothing rows × HasLogs rows source
+HasAnswer rows (explained.Findings asked logs) = HasFindings rows asked logs
+HasAnswer rows (explained.Certificate question certificate logs) = HasCertificate rows question.now certificate.now logs
 
 -- options and names that go together: the logs aren't named by both, a case or a certificate, and not both, is named
 -- with a question alone, and a question with logs alone
@@ -117,7 +123,28 @@ pub record HasAnswerToExplain (rows : List Row) (explain : ExplainRequest) : Typ
 -- the logs come from what is named, and JSON is wanted exactly where `--json` is given
 pub record HasLogsToJudge (rows : List Row) (request : LogsRequest) : Type 0 where
   pub json : request.is_json ≡ is_given (codes "json") rows
+  pub together : is_given (codes "each") rows ≡ false
   pub logs : HasLogs rows request.logs
+
+-- the names are those of the folders
+pub record HasFolders (rows : List Row) (folders : List (Bor Text)) : Type 0 where
+  pub names : all_of (codes "LOG") rows ≡ Some (map (λ name. name.now) folders)
+  pub folder : IsLeftOut (codes "dir") rows
+
+-- the same where `--each` is given
+pub record HasFoldersToJudge (rows : List Row) (request : EachRequest) : Type 0 where
+  pub json : request.is_json ≡ is_given (codes "json") rows
+  pub each : is_given (codes "each") rows ≡ true
+  pub folders : HasFolders rows request.folders.items
+
+-- names are given, and no folder of one ring's logs
+abbrev pub NamesFolders : List Row → Type 0
+NamesFolders rows = IsLeftOut (codes "dir") rows × (is_some (all_of (codes "LOG") rows) ≡ true)
+
+-- where each folder is to be judged folders are named, and else logs
+pub record NamesLogsToJudge (rows : List Row) : Type 0 where
+  pub logs : NamesLogs rows
+  pub folders : is_given (codes "each") rows ≡ true → NamesFolders rows
 
 -- the request has the values of these options, and the logs that are named beside them; leaders are left out only where
 -- the option is, and events and JSON are wanted exactly where `--events` and `--json` are given
@@ -171,6 +198,26 @@ pub record HasFilesToRewrite (rows : List Row) (rewrite : RewriteRequest) : Type
   pub folder : first_of (codes "out") rows ≡ Some rewrite.folder.now
   pub logs : HasLogs rows rewrite.logs
 
+-- a node is taken for an initiator: the option says so or is left out; or for a passive one, where it says so
+abbrev pub SaysStart : List Row → Bool → Type 0
+SaysStart rows true = IsLeftOut (codes "start") rows ⊎ (first_of (codes "start") rows ≡ Some (codes "initiator"))
+SaysStart rows false = first_of (codes "start") rows ≡ Some (codes "passive")
+
+-- it says one of these
+abbrev pub NamesStart : List Row → Type 0
+NamesStart rows = SaysStart rows true ⊎ SaysStart rows false
+
+-- the folder and the start are the values of these options, and the logs come from what is named beside them
+pub record HasLogsToMend (rows : List Row) (mend : MendRequest) : Type 0 where
+  pub folder : first_of (codes "out") rows ≡ Some mend.folder.now
+  pub start : SaysStart rows mend.is_initiator
+  pub logs : HasLogs rows mend.logs
+
+-- options and names that go together: the start is one of two, and logs are named in one way
+pub record NamesLogsToMend (rows : List Row) : Type 0 where
+  pub start : NamesStart rows
+  pub logs : NamesLogs rows
+
 -- the ring has the values of these options, at most 100,000 draws, and one thread exactly where `--alone` is given
 pub record HasOptions (rows : List Row) (ring : RunRequest) : Type 0 where
   pub nodes : HasNumber rows (codes "nodes") ring.nodes
@@ -182,3 +229,9 @@ pub record HasOptions (rows : List Row) (ring : RunRequest) : Type 0 where
   pub cap : HasNumber rows (codes "cap") ring.cap
   pub terms : HasNumber rows (codes "terms") ring.terms
   pub alone : ring.is_alone ≡ is_given (codes "alone") rows
+
+-- logs are to be judged together, or those of each folder
+abbrev pub AsksLogs : List Row → Request → Type 0
+AsksLogs rows (Logs request) = HasLogsToJudge rows request
+AsksLogs rows (Each request) = HasFoldersToJudge rows request
+AsksLogs rows other = ⊥

@@ -69,7 +69,7 @@ abbrev pub command_app : Text → List Rule → App
 command_app name rules = on_top (λ s. record s { rules = rules }) (new_app name)
 
 abbrev pub logs_app : App
-logs_app = command_app (codes "logs") (json_rule ∷ source_rules)
+logs_app = command_app (codes "logs") (flag_rule (codes "each") ∷ json_rule ∷ source_rules)
 
 abbrev pub explain_app : App
 explain_app =
@@ -110,15 +110,12 @@ run_app =
     ∷ default_to (codes "10000") (number_rule (codes "cap")) ∷ default_to (codes "1") (number_rule (codes "terms"))
     ∷ flag_rule (codes "alone") ∷ [])
 
--- a command that writes logs anew
-abbrev pub rewrite_app : Text → App
-rewrite_app name = command_app name (required (folder_rule (codes "out")) ∷ source_rules)
-
 abbrev pub upgrade_app : App
-upgrade_app = rewrite_app (codes "upgrade")
+upgrade_app = command_app (codes "upgrade") (required (folder_rule (codes "out")) ∷ source_rules)
 
 abbrev pub mend_app : App
-mend_app = rewrite_app (codes "mend")
+mend_app =
+    command_app (codes "mend") (required (folder_rule (codes "out")) ∷ text_rule (codes "start") ∷ source_rules)
 
 abbrev pub version_app : App
 version_app = command_app (codes "version") []

@@ -32,6 +32,7 @@ kinds =
     ∷ (codes "draws", number 100000)
     ∷ (codes "cap", number 18446744073709551615)
     ∷ (codes "terms", number 18446744073709551615)
+    ∷ (codes "each", flag)
     ∷ (codes "json", flag)
     ∷ (codes "events", flag)
     ∷ (codes "alone", flag)

@@ -4,21 +4,24 @@ use Rattle.clap.specs.Faults.{fault_of}
 use Rattle.clap.specs.Simple.{HasMatchesOf}
 use Rattle.clap.specs.Walk.{Row, Text, rows_after}
 use Rattle.clap.specs.declared.parser.matches.ArgMatches.{ArgMatches}
-use Rattle.ira_words.specs.Asked.{HasAnswerToExplain, HasFiles, HasFilesToDecide, HasFilesToRewrite, HasLogsToDraw}
-use Rattle.ira_words.specs.Asked.{HasLogsToJudge, HasLogsToShow, HasOptions, IsOfFiles, NamesAnswer, NamesLogs}
-use Rattle.ira_words.specs.Asked.{NamesLogsToDraw, NamesLogsToShow}
+use Rattle.ira_words.specs.Asked.{HasAnswerToExplain, HasFiles, HasFilesToDecide, HasFilesToRewrite, HasFoldersToJudge}
+use Rattle.ira_words.specs.Asked.{HasLogsToDraw, HasLogsToJudge, HasLogsToMend, HasLogsToShow, HasOptions, IsOfFiles}
+use Rattle.ira_words.specs.Asked.{NamesAnswer, NamesLogs, NamesLogsToDraw, NamesLogsToJudge, NamesLogsToMend}
+use Rattle.ira_words.specs.Asked.{NamesLogsToShow}
 use Rattle.ira_words.specs.CommandLine.{ira_app, rules_named}
 use Rattle.ira_words.specs.Options.{HasNumber}
 use Rattle.ira_words.specs.declared.check_request.CheckRequest.{CheckRequest}
 use Rattle.ira_words.specs.declared.decide_request.DecideRequest.{DecideRequest}
 use Rattle.ira_words.specs.declared.draw_request.DrawRequest.{DrawRequest}
+use Rattle.ira_words.specs.declared.each_request.EachRequest.{EachRequest}
 use Rattle.ira_words.specs.declared.explain_request.ExplainRequest.{ExplainRequest}
 use Rattle.ira_words.specs.declared.logs_request.LogsRequest.{LogsRequest}
+use Rattle.ira_words.specs.declared.mend_request.MendRequest.{MendRequest}
 use Rattle.ira_words.specs.declared.rewrite_request.RewriteRequest.{RewriteRequest}
 use Rattle.ira_words.specs.declared.run_request.RunRequest.{RunRequest}
 use Rattle.ira_words.specs.declared.show_request.ShowRequest.{ShowRequest}
 use Rattle.ira_words.specs.declared.request.Request.{Request}
-use Rattle.ira_words.specs.declared.request.Request.TheVariants.{OneLog, Logs, Explain, Show, Draw, Check, Decide}
+use Rattle.ira_words.specs.declared.request.Request.TheVariants.{OneLog, Logs, Each, Explain, Show, Draw, Check, Decide}
 use Rattle.ira_words.specs.declared.request.Request.TheVariants.{Pairs, Run, Upgrade, Mend, Version}
 use Rattle.ira_words.specs.declared.words_fault.WordsFault.{WordsFault}
 use Rattle.ira_words.specs.declared.words_fault.WordsFault.TheVariants.{OutOfMemory, Refused}
@@ -34,14 +37,14 @@ found_after name others = rows_after (rules_named name) [] others
 -- the options and names that are found after a command go together: logs are named in one way, by names or by a folder,
 -- where the command takes logs; after `explain` there may be none, where no question is named
 pub record GoTogetherAfter (name : Text) (rows : List Row) : Type 0 where
-  pub logs : name ≡ codes "logs" → NamesLogs rows
+  pub logs : name ≡ codes "logs" → NamesLogsToJudge rows
   pub explain : name ≡ codes "explain" → NamesAnswer rows
   pub show : name ≡ codes "show" → NamesLogsToShow rows
   pub draw : name ≡ codes "draw" → NamesLogsToDraw rows
   pub check : name ≡ codes "check" → NamesLogs rows
   pub decide : name ≡ codes "decide" → NamesLogs rows
   pub upgrade : name ≡ codes "upgrade" → NamesLogs rows
-  pub mend : name ≡ codes "mend" → NamesLogs rows
+  pub mend : name ≡ codes "mend" → NamesLogsToMend rows
 
 -- so do those of the words, of which the first names the command
 abbrev pub GoTogether : List Text → Type 0
@@ -52,6 +55,7 @@ GoTogether words =
 abbrev pub Asks : Text → List Row → Request → Type 0
 Asks name rows OneLog = ⊥
 Asks name rows (Logs request) = (name ≡ codes "logs") × HasLogsToJudge rows request
+Asks name rows (Each request) = (name ≡ codes "logs") × HasFoldersToJudge rows request
 Asks name rows (Explain explain) = (name ≡ codes "explain") × HasAnswerToExplain rows explain
 Asks name rows (Show show) = (name ≡ codes "show") × HasLogsToShow rows show
 Asks name rows (Draw draw) = (name ≡ codes "draw") × HasLogsToDraw rows draw
@@ -60,7 +64,7 @@ Asks name rows (Decide decide) = (name ≡ codes "decide") × HasFilesToDecide r
 Asks name rows (Pairs nodes) = (name ≡ codes "pairs") × HasNumber rows (codes "N") nodes
 Asks name rows (Run ring) = (name ≡ codes "run") × HasOptions rows ring
 Asks name rows (Upgrade upgrade) = (name ≡ codes "upgrade") × HasFilesToRewrite rows upgrade
-Asks name rows (Mend mend) = (name ≡ codes "mend") × HasFilesToRewrite rows mend
+Asks name rows (Mend mend) = (name ≡ codes "mend") × HasLogsToMend rows mend
 Asks name rows Version = name ≡ codes "version"
 
 -- the command line accepts the words: the name of a command and others, and what is found of these asks for the request
@@ -76,13 +80,17 @@ abbrev pub IsFileName : Text → Type 0
 IsFileName [] = Unit {0}
 IsFileName (b ∷ bs) = b ≢ 45
 
--- `logs` and others, which name the source of logs, and `--json` perhaps. Where none of the others begins with a dash,
+-- `logs` and others without `--each`, which name the source of logs, and `--json` perhaps. Where none of the others begins with a dash,
 -- these are names of files; where one is the first that does, and is `--`, the words after it are names too
 pub record IsLogsLine (words : List Text) (request : LogsRequest) : Type 0 where
   pub line : IsCommandLine words (Logs request)
   pub plain : All IsFileName line.others → IsOfFiles request.logs line.others
   pub marked : (front back : List Text) → All IsFileName front → line.others ≡ front ++ codes "--" ∷ back
       → IsOfFiles request.logs (front ++ back)
+
+-- `logs`, `--each`, and folders, which ask for each of these to be judged
+abbrev pub IsEachLine : List Text → EachRequest → Type 0
+IsEachLine words request = IsCommandLine words (Each request)
 
 -- `explain`, options and logs, or `explain` alone, which ask for this answer
 abbrev pub IsExplainLine : List Text → ExplainRequest → Type 0
@@ -116,8 +124,8 @@ IsRunLine words ring = IsCommandLine words (Run ring)
 abbrev pub IsUpgradeLine : List Text → RewriteRequest → Type 0
 IsUpgradeLine words upgrade = IsCommandLine words (Upgrade upgrade)
 
--- `mend`, an option and logs, which ask for these files
-abbrev pub IsMendLine : List Text → RewriteRequest → Type 0
+-- `mend`, options and logs, which ask for these files
+abbrev pub IsMendLine : List Text → MendRequest → Type 0
 IsMendLine words mend = IsCommandLine words (Mend mend)
 
 -- the option `--version` or `-V` alone

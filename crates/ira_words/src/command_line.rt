@@ -1,10 +1,11 @@
 ghost use Rattle.std.specs.Prelude.{◌≡◌, ◌↔◌, [], IfErr, IfOk, IsTrue, Ok, codes, fold, map, option_map};
 ghost use Rattle.clap.specs.Words.{app_of, found_of, kind_of, rows_of};
 ghost use Rattle.clap.specs.declared.error.kind.ErrorKind.TheVariants as kind;
-ghost use Rattle.ira_words.specs.Asked.{HasAnswer, HasAnswerToExplain, HasFiles, HasFilesToDecide, HasFilesToRewrite};
-ghost use Rattle.ira_words.specs.Asked.{HasLogs, HasLogsToDraw, HasLogsToJudge, HasLogsToShow, HasMoment, HasOptions};
-ghost use Rattle.ira_words.specs.Asked.{MayHaveLogs, MayNameLogs, NamesAnswer, NamesLogs, NamesLogsToDraw};
-ghost use Rattle.ira_words.specs.Asked.{NamesLogsToShow, NamesMoment};
+ghost use Rattle.ira_words.specs.Asked.{AsksLogs, HasAnswer, HasAnswerToExplain, HasFiles, HasFilesToDecide, HasFilesToRewrite};
+ghost use Rattle.ira_words.specs.Asked.{HasFolders, HasLogs, HasLogsToDraw, HasLogsToMend, HasLogsToShow, HasMoment, HasOptions};
+ghost use Rattle.ira_words.specs.Asked.{MayHaveLogs, MayNameLogs, NamesAnswer, NamesFolders};
+ghost use Rattle.ira_words.specs.Asked.{NamesLogs, NamesLogsToDraw, NamesLogsToJudge, NamesLogsToMend, NamesLogsToShow};
+ghost use Rattle.ira_words.specs.Asked.{NamesMoment, NamesStart, SaysStart};
 ghost use Rattle.ira_words.specs.CommandEntry.{with_entry};
 ghost use Rattle.ira_words.specs.CommandLine.{commands, ira_app, ira_top};
 ghost use Rattle.ira_words.specs.FoundOptions.{AreFoundAfter, AreTyped, IsOneOf};
@@ -23,10 +24,12 @@ use crate::check_request::CheckRequest;
 use crate::command_entry::CommandEntry;
 use crate::decide_request::DecideRequest;
 use crate::draw_request::DrawRequest;
+use crate::each_request::EachRequest;
 use crate::explain_request::ExplainRequest;
 use crate::explained_answer::ExplainedAnswer;
 use crate::log_source::LogSource;
 use crate::logs_request::LogsRequest;
+use crate::mend_request::MendRequest;
 use crate::options::{flag, given_number, given_text, names, number, text};
 use crate::options_fault::OptionsFault;
 use crate::request::Request;
@@ -40,6 +43,7 @@ use clap::{ArgMatches, Command, Error};
 use std::alloc::{AllocError, Global};
 
 const USAGE: &str = "ira < LOG\n       ira logs [--json] <LOGS>\n       \
+    ira logs --each [--json] <DIR>...\n       \
     ira explain [--json] [<LOGS>]\n       \
     ira explain --question <Q> [--case <K> | --cert <C>] [--json] <LOGS>\n       \
     ira show [OPTIONS] <LOGS>\n       \
@@ -49,7 +53,7 @@ const USAGE: &str = "ira < LOG\n       ira logs [--json] <LOGS>\n       \
     ira pairs <N>\n       \
     ira run --nodes <N> --seed <S> --out <DIR> [OPTIONS]\n       \
     ira upgrade --out <DIR> <LOGS>\n       \
-    ira mend --out <DIR> <LOGS>\n       \
+    ira mend --out <DIR> [--start <S>] <LOGS>\n       \
     ira version\n\n\
     LOGS is either <LOG>... or --dir <DIR>";
 
@@ -80,6 +84,12 @@ const WHY_QUESTION_HELP: &str = "The file with a question: what `decide` finds i
 const WHY_CASE_HELP: &str = "The case of the question to explain, from 0; the first 8 if not given";
 
 const WHY_CERT_HELP: &str = "The file with a certificate: the answer of `check` is explained";
+
+const EACH_HELP: &str =
+    "The names are those of folders, each with the logs of a ring, and each is judged";
+
+const START_HELP: &str =
+    "initiator or passive: what a node is taken for of whose log not even the head is left";
 
 const LEADS_HELP: &str =
     "The places of the nodes that are to lead at the end, and no other, as 1,2";
@@ -143,7 +153,7 @@ const COMMANDS: &[CommandEntry] = &[
     CommandEntry {
         name: "logs",
         about: "Judges the logs of all nodes of a ring together",
-        arguments: &[JSON, DIR, LOG],
+        arguments: &[Argument("each", Flag, Optional, EACH_HELP), JSON, DIR, LOG],
     },
     CommandEntry {
         name: "explain",
@@ -235,7 +245,12 @@ const COMMANDS: &[CommandEntry] = &[
     CommandEntry {
         name: "mend",
         about: "Writes of each log of a ring the longest beginning such that all are consistent",
-        arguments: &[OUT, DIR, LOG],
+        arguments: &[
+            OUT,
+            Argument("start", Value("S", TEXT), Optional, START_HELP),
+            DIR,
+            LOG,
+        ],
     },
     CommandEntry {
         name: "version",
@@ -314,16 +329,35 @@ fn log_source<'a>(alloc: Global, matches: &ArgMatches<'a>) -> Result<LogSource<'
     }
 }
 
-/// The logs to judge together.
-fn logs<'a>(alloc: Global, matches: &ArgMatches<'a>) -> Result<LogsRequest<'a>, OptionsFault>
+/// The folders with the logs to judge, which are named.
+fn folders<'a>(alloc: Global, matches: &ArgMatches<'a>) -> Result<Vec<&'a str>, OptionsFault>
     requires { AreTyped (rows_of (found_of matches.now)) }
-    ensures asked { IfOk result (HasLogsToJudge (rows_of (found_of matches.now))) }
-    ensures refused { IfErr result (λ why. NamesLogs (rows_of (found_of matches.now)) → why ≡ options.OutOfMemory) }
+    ensures found { IfOk result (λ folders. HasFolders (rows_of (found_of matches.now)) folders.items) }
+    ensures refused { IfErr result (λ why. NamesFolders (rows_of (found_of matches.now)) → why ≡ options.OutOfMemory) }
 {
-    Ok(LogsRequest {
-        is_json: flag(matches, "json"),
-        logs: log_source(alloc, matches)?,
-    })
+    match text(matches, "dir") {
+        None => match names(matches, "LOG") {
+            None => Err(OptionsFault::Folders),
+            Some(names) => Ok(names.to_vec(alloc)?),
+        },
+        Some(_) => Err(OptionsFault::Folders),
+    }
+}
+
+/// The logs to judge, together or those of each folder.
+fn logs<'a>(alloc: Global, matches: &ArgMatches<'a>) -> Result<Request<'a>, OptionsFault>
+    requires { AreTyped (rows_of (found_of matches.now)) }
+    ensures asked { IfOk result (AsksLogs (rows_of (found_of matches.now))) }
+    ensures refused { IfErr result
+        (λ why. NamesLogsToJudge (rows_of (found_of matches.now)) → why ≡ options.OutOfMemory) }
+{
+    let is_json = flag(matches, "json");
+    if flag(matches, "each") {
+        let folders = folders(alloc, matches)?;
+        return Ok(Request::Each(EachRequest { is_json, folders }));
+    }
+    let logs = log_source(alloc, matches)?;
+    Ok(Request::Logs(LogsRequest { is_json, logs }))
 }
 
 /// The answer to explain, and how.
@@ -538,6 +572,34 @@ fn rewrite<'a>(alloc: Global, matches: &ArgMatches<'a>) -> Result<RewriteRequest
     })
 }
 
+/// Whether a node of whose log no head is left is taken for an initiator.
+fn is_initiator(matches: &ArgMatches) -> Result<bool, OptionsFault>
+    ensures found { IfOk result (SaysStart (rows_of (found_of matches.now))) }
+    ensures refused { IfErr result (λ why. NamesStart (rows_of (found_of matches.now)) → ⊥) }
+{
+    match text(matches, "start") {
+        None | Some("initiator") => Ok(true),
+        Some("passive") => Ok(false),
+        Some(_) => Err(OptionsFault::Start),
+    }
+}
+
+/// The logs to mend.
+fn mend<'a>(alloc: Global, matches: &ArgMatches<'a>) -> Result<MendRequest<'a>, OptionsFault>
+    requires { AreFoundAfter (codes "mend") (rows_of (found_of matches.now)) }
+    ensures asked { IfOk result (HasLogsToMend (rows_of (found_of matches.now))) }
+    ensures refused { IfErr result
+        (λ why. NamesLogsToMend (rows_of (found_of matches.now)) → why ≡ options.OutOfMemory) }
+{
+    let is_initiator = is_initiator(matches)?;
+    let logs = log_source(alloc, matches)?;
+    Ok(MendRequest {
+        folder: given_text(matches, "out"),
+        is_initiator,
+        logs,
+    })
+}
+
 // What is asked for after the command of this name, by what was found of the words.
 fn found_request<'a>(
     alloc: Global,
@@ -551,7 +613,7 @@ fn found_request<'a>(
         (λ why. GoTogetherAfter name.now (rows_of (found_of matches.now)) → why ≡ options.OutOfMemory) }
 {
     match name {
-        "logs" => Ok(Request::Logs(logs(alloc, matches)?)),
+        "logs" => logs(alloc, matches),
         "explain" => Ok(Request::Explain(explain(alloc, matches)?)),
         "show" => Ok(Request::Show(show(alloc, matches)?)),
         "draw" => Ok(Request::Draw(draw(alloc, matches)?)),
@@ -560,7 +622,7 @@ fn found_request<'a>(
         "pairs" => Ok(Request::Pairs(given_number(matches, "N"))),
         "run" => Ok(Request::Run(run(matches))),
         "upgrade" => Ok(Request::Upgrade(rewrite(alloc, matches)?)),
-        "mend" => Ok(Request::Mend(rewrite(alloc, matches)?)),
+        "mend" => Ok(Request::Mend(mend(alloc, matches)?)),
         "version" => Ok(Request::Version),
         _ => unreachable!(),
     }

@@ -9,6 +9,8 @@ use std::alloc::AllocError;
 pub enum OptionsFault {
     /// The logs are named both by files and by a folder, or by neither.
     Sources,
+    /// Folders are to be judged each, and none are named, or one as that of a ring's logs.
+    Folders,
     /// A case is named, and no question.
     CaseWithoutQuestion,
     /// A certificate is named, and no question.
@@ -19,6 +21,8 @@ pub enum OptionsFault {
     CutAndQuestion,
     /// A value isn't a list of numbers with commas between them, each below 2^64.
     NoNumbers,
+    /// A value is neither of the two kinds of start.
+    Start,
     /// A growth was refused.
     OutOfMemory,
 }
@@ -31,12 +35,13 @@ impl OptionsFault {
     {
         match self {
             OptionsFault::Sources
+            | OptionsFault::Folders
             | OptionsFault::CaseAndCertificate
             | OptionsFault::CutAndQuestion => ErrorKind::ArgumentConflict,
             OptionsFault::CaseWithoutQuestion | OptionsFault::CertificateWithoutQuestion => {
                 ErrorKind::MissingRequiredArgument
             }
-            OptionsFault::NoNumbers => ErrorKind::ValueValidation,
+            OptionsFault::NoNumbers | OptionsFault::Start => ErrorKind::ValueValidation,
             OptionsFault::OutOfMemory => ErrorKind::OutOfMemory,
         }
     }
@@ -44,6 +49,7 @@ impl OptionsFault {
     pub fn text(self) -> &'static str {
         match self {
             OptionsFault::Sources => "the logs are named either by <LOG>... or by --dir <DIR>",
+            OptionsFault::Folders => "--each takes the names of folders alone: --each <DIR>...",
             OptionsFault::CaseWithoutQuestion => "--case <K> needs --question <Q>",
             OptionsFault::CertificateWithoutQuestion => "--cert <C> needs --question <Q>",
             OptionsFault::CaseAndCertificate => "--case <K> and --cert <C> exclude one another",
@@ -52,6 +58,7 @@ impl OptionsFault {
             OptionsFault::NoNumbers => {
                 "--leads <P,..> and --at <N0,N1,..> are numbers with commas between them, as 2,3"
             }
+            OptionsFault::Start => "--start <S> is initiator or passive",
             OptionsFault::OutOfMemory => "out of memory",
         }
     }

@@ -1,8 +1,10 @@
 use crate::check_request::CheckRequest;
 use crate::decide_request::DecideRequest;
 use crate::draw_request::DrawRequest;
+use crate::each_request::EachRequest;
 use crate::explain_request::ExplainRequest;
 use crate::logs_request::LogsRequest;
+use crate::mend_request::MendRequest;
 use crate::rewrite_request::RewriteRequest;
 use crate::run_request::RunRequest;
 use crate::show_request::ShowRequest;
@@ -14,6 +16,8 @@ pub enum Request<'a> {
     OneLog,
     /// To judge the logs of a ring together.
     Logs(LogsRequest<'a>),
+    /// To judge the logs of a ring in each of some folders.
+    Each(EachRequest<'a>),
     /// To judge logs as `OneLog` and `Logs` do, and to say why the answer is what it is.
     Explain(ExplainRequest<'a>),
     /// To show what happened by the logs of a ring, at their end or at another moment.
@@ -32,7 +36,7 @@ pub enum Request<'a> {
     /// To write the logs of a ring in version 2, each to a file.
     Upgrade(RewriteRequest<'a>),
     /// To write of each log of a ring the longest beginning such that all are consistent.
-    Mend(RewriteRequest<'a>),
+    Mend(MendRequest<'a>),
     /// To say which version of the program this is.
     Version,
 }

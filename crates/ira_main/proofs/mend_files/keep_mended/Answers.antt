@@ -19,7 +19,7 @@ returns-in_err-write_files g c =
 
 pub returns-in-Ok-write_bytes : goal.returns-in-Ok-write_bytes
 returns-in-Ok-write_bytes g c =
-    let text = mended_lines c.args.logs.now c.args.mended.now in
+    let text = mended_lines c.args.logs.now c.args.mended.now c.args.lost.now in
     let text_is : c.bytes.result.now ≡ text = c.bytes.ensures ∙ c.in-Ok.ensures.took
     ∙ ap (λ (m : Memory). m.bytes ++ text) c.new-text.ensures in
     let printed = subst (λ t. Takes t (g.W.Sink.state c.args.out.now) (g.W.Sink.state c.write_bytes.new.sink)) text_is
@@ -28,7 +28,7 @@ returns-in-Ok-write_bytes g c =
 
 pub returns : goal.returns
 returns g c =
-    let text = mended_lines c.args.logs.now c.args.mended.now in
+    let text = mended_lines c.args.logs.now c.args.mended.now c.args.lost.now in
     let text_is : c.bytes.result.now ≡ text = c.bytes.ensures ∙ c.in-Ok.ensures.took
     ∙ ap (λ (m : Memory). m.bytes ++ text) c.new-text.ensures in
     let stopped = subst (λ t. StopsIn t (g.W.Sink.state c.args.out.now) (g.W.Sink.state c.write_bytes.new.sink))

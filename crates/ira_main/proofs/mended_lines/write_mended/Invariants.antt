@@ -6,5 +6,6 @@ use Rattle.ira_main.proofs.mended_lines.write_mended.Given as goal
 
 abbrev pub invariant-loop-place : goal.invariant-loop-place
 invariant-loop-place g l =
-    HasWritten (mended_lines l.logs l.mended) (flat_map mended_line (drop l.place (zip l.logs l.mended)))
+    HasWritten (mended_lines l.logs l.mended l.lost)
+    (flat_map mended_line (drop l.place (zip (zip l.logs l.mended) l.lost)))
     (g.W.Sink.state l.fn.sink) (g.W.Sink.state l.sink)

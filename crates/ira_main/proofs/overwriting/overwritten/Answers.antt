@@ -1,4 +1,4 @@
-use Rattle.std.proofs.Common.{◌≡◌, ◌∙◌, ◌+◌, ◌<◌, ℕ, List, Some, append_assoc, ap, arith, inl, inr, length, min}
+use Rattle.std.proofs.Common.{◌≡◌, ◌∙◌, ◌+◌, ◌<◌, ℕ, List, Some, ap, arith, inl, inr, length, min}
 use Rattle.std.proofs.Common.{rules, slice_get, string_bytes, subst, sym}
 use Rattle.std.specs.Prelude.{slice_index_or}
 use Rattle.std.proofs.lemmas.Bool.{cases_eq}
@@ -34,7 +34,7 @@ returns-then-branch g c =
     let text : c.as_str.result.now ≡ string_bytes c.in_ok-path.path = search rules in
     let whole = text ∙ c.in_ok-path.ensures in
     let named : c.as_str-in-loop-place.result.now ≡ log_name c.args.folder.now c.loop-place.place-counter =
-    search (rules, append_assoc) in
+    search rules in
     let many = length-map c.args.names.now file_name in
     record {
       index = c.loop-name.name-index;
@@ -52,7 +52,7 @@ loop-place-preserved g c = λ place l same.
     let text : c.as_str.result.now ≡ string_bytes c.in_ok-path.path = search rules in
     let whole = text ∙ c.in_ok-path.ensures in
     let named : c.as_str-in-loop-place.result.now ≡ log_name c.args.folder.now c.loop-place.place-counter =
-    search (rules, append_assoc) in
+    search rules in
     elim (cases_eq place c.loop-place.place-counter) [
       | inl e ↦
           let here = rw e at same in

@@ -1,5 +1,6 @@
 use Rattle.std.proofs.Common.{◌≡◌, ◌∙◌, ◌++◌, List, ℕ, ap, append_assoc, codes, decimal, subst, sym}
 use Rattle.ira_event.specs.Sink.{Wrote}
+use Rattle.ira_files.specs.FileName.{slash_after}
 use Rattle.ira_main.proofs.program_fault.write_file_named.Goals as goal
 
 -- what stands before a name of four parts and after it
@@ -20,7 +21,7 @@ returns-in-Given g c =
 pub returns-in-Log : goal.returns-in-Log
 returns-in-Log g c =
     let said = rw (c.as_bytes-in-Log.ensures.value, c.log_in_folder.ensures) at c.write_named-in-Log.ensures in
-    let whole = regrouped c.args.before.now c.in-Log.folder.now (codes "/") (decimal c.in-Log.place) (codes ".log")
+    let whole = regrouped c.args.before.now c.in-Log.folder.now (slash_after c.in-Log.folder.now) (decimal c.in-Log.place) (codes ".log")
     (codes "\n") in
     let Says : List ℕ → Type 0 = λ t.
     Wrote c.write_named-in-Log.result t (g.V.Sink.state c.args.err.now) (g.V.Sink.state c.write_named-in-Log.new.err) in

@@ -4,7 +4,7 @@ use Rattle.std.proofs.lemmas.List.{length-map}
 use Rattle.ira_mend.specs.Beginning.{AreBegun, begun}
 use Rattle.ira_mend.specs.Longest.{events_kept, kept_of}
 use Rattle.ira_mend.specs.declared.beginning.Beginning.{Beginning}
-use Rattle.ira_mend.proofs.Begun.{begun_all, begun_are_logs, begun_more}
+use Rattle.ira_mend.proofs.Begun.{begun_all, begun_left, begun_more, left_are_logs}
 use Rattle.ira_mend.proofs.Settling.{events_at}
 use Rattle.ira_mend.proofs.mending.begin_logs.Goals as goal
 
@@ -43,7 +43,8 @@ unreachable-requires g c =
     ) in
     let are_begun = begun_all logs (events_kept c.args.kept.now) c.loop-place.begun.items c.loop-place.place
     c.loop-place.invariant all in
-    let are = begun_are_logs logs (events_kept c.args.kept.now) c.loop-place.begun.items c.size.ensures.valid are_begun
+    let are = left_are_logs logs (events_kept c.args.kept.now) c.loop-place.begun.items c.size.ensures.valid
+    (begun_left logs (events_kept c.args.kept.now) c.loop-place.begun.items are_begun)
     in
     let ok = (c.gather.ensures.ok c.loop-place.begun.items).1 (refl, are) in
     let bad = c.in-Err.is in

@@ -6,13 +6,12 @@ returns-in-CannotRead g c =
 
 pub returns-in-CannotWriteLog : goal.returns-in-CannotWriteLog
 returns-in-CannotWriteLog g c =
-    rw c.in-CannotWriteLog.is (rw (c.as_bytes-in-CannotWriteLog.ensures.value, c.log_in_folder.ensures) at
-    c.write_named.ensures)
+    rw c.in-CannotWriteLog.is c.write_file_named-in-CannotWriteLog.ensures
 
 pub returns-in-CannotWrite : goal.returns-in-CannotWrite
 returns-in-CannotWrite g c =
     rw c.in-CannotWrite.is (rw (c.as_bytes-in-CannotWrite.ensures.value, c.line_feed.ensures) at
-    c.write_named-in-CannotWrite.ensures)
+    c.write_named.ensures)
 
 pub returns-in-WouldOverwrite : goal.returns-in-WouldOverwrite
 returns-in-WouldOverwrite g c =

@@ -2,7 +2,7 @@ use Rattle.std.proofs.Common.{◌≡◌, ℕ, inr, subst}
 use Rattle.std.proofs.lemmas.Result.{err_from_is_err_and}
 use Rattle.ira_mend.specs.RecordedLogs.{HasReadLines}
 use Rattle.ira_mend.proofs.RecordedTexts.{lines_are_log, lines_not_recorded, lines_recorded, opening_recorded}
-use Rattle.ira_mend.proofs.recorded_logs.read_recorded.Goals as goal
+use Rattle.ira_mend.proofs.recorded_log.read_recorded.Goals as goal
 
 pub returns-in_err-head : goal.returns-in_err-head
 returns-in_err-head g c =

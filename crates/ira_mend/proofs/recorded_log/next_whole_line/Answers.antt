@@ -1,7 +1,7 @@
 use Rattle.std.proofs.Common.{◌≢◌, rules}
 use Rattle.ira_event.specs.declared.log_fault.LogFault.TheVariants.{Cut}
 use Rattle.ira_mend.proofs.RecordedTexts.{reads_on, reads_to_cut}
-use Rattle.ira_mend.proofs.recorded_logs.next_whole_line.Goals as goal
+use Rattle.ira_mend.proofs.recorded_log.next_whole_line.Goals as goal
 
 pub returns-in-Ok : goal.returns-in-Ok
 returns-in-Ok c = reads_on _ _ c.in-Ok.read c.in-Ok.ensures

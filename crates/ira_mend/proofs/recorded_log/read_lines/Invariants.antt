@@ -1,6 +1,6 @@
 use Rattle.std.proofs.Common.{◌≡◌, length}
 use Rattle.ira_event.specs.Records.{HasRead}
-use Rattle.ira_mend.proofs.recorded_logs.read_lines.Given as goal
+use Rattle.ira_mend.proofs.recorded_log.read_lines.Given as goal
 
 abbrev pub invariant-loop-events : goal.invariant-loop-events
 invariant-loop-events g l = record {

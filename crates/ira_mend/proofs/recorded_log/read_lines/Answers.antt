@@ -5,7 +5,7 @@ use Rattle.ira_event.specs.Records.{HasRead}
 use Rattle.ira_event.proofs.LogReading.{after_nothing, after_more, after_fault, record_shorter}
 use Rattle.ira_mend.specs.RecordedLogs.{HasReadLines}
 use Rattle.ira_mend.proofs.RecordedTexts.{lines_read, read_whole}
-use Rattle.ira_mend.proofs.recorded_logs.read_lines.Goals as goal
+use Rattle.ira_mend.proofs.recorded_log.read_lines.Goals as goal
 
 pub loop-events-init : goal.loop-events-init
 loop-events-init g c =

@@ -1,0 +1,65 @@
+-- What comes of some folders, one after another.
+use Rattle.std.proofs.Common.{◌≡◌, ◌∙◌, ◌<◌, ◌+◌, ℕ, zero, suc, Bool, List, [], ◌∷◌, ◌++◌, ap, append-nil}
+use Rattle.std.proofs.Common.{append_assoc, arith, length, refl, subst, sym}
+use Rattle.std.specs.Borrow.{Bor}
+use Rattle.std.specs.List.{AllZip}
+use Rattle.std.specs.Prelude.{IfOk, IfSome, Result, slice_get, slice_index_or}
+use Rattle.ira_files.specs.Shelf.{Reading}
+use Rattle.ira_main.specs.Each.{AreFolderTexts, AreTellable, IsFolderAnswer, IsFolderText, IsTellable}
+use Rattle.ira_main.specs.declared.folder_answer.FolderAnswer.{FolderAnswer}
+use Rattle.ira_main.specs.declared.folder_answer.FolderAnswer.TheVariants.{Judged, Unread}
+
+-- two lists after two others
+pub both_zipped : {X Y : Type 0} (R : X → Y → Type 0) (xs : List X) (ys : List Y) (vs : List X) (ws : List Y)
+    → AllZip R xs ys → AllZip R vs ws → AllZip R (xs ++ vs) (ys ++ ws)
+both_zipped R [] [] vs ws p q = q
+both_zipped R [] (y ∷ ys) vs ws p q = absurd p
+both_zipped R (x ∷ xs) [] vs ws p q = absurd p
+both_zipped R (x ∷ xs) (y ∷ ys) vs ws p q = (p.0, both_zipped R xs ys vs ws p.1 q)
+
+-- what came of each by its number
+pub each_zipped : {X Y E : Type 0} (R : X → Y → Type 0) (xs : List X) (rs : List (Result Y E))
+    → length rs ≡ length xs
+    → ((i : ℕ) (d : Result Y E) → i < length xs → IfOk (slice_index_or rs i d) (λ y. IfSome (slice_get xs i) (λ x. R x y)))
+    → AllZip (λ x r. IfOk r (R x)) xs rs
+each_zipped R [] [] many each = tt
+each_zipped R [] (r ∷ rs) many each = absurd (omega (arith, many))
+each_zipped R (x ∷ xs) [] many each = absurd (omega (arith, many))
+each_zipped R (x ∷ xs) (r ∷ rs) many each = (
+  each 0 r (omega arith),
+  each_zipped R xs rs (omega (arith, many)) (λ i d lt. each (suc i) d (omega (arith, lt))),
+)
+
+-- the text of one folder more
+pub text_more : (is_json : Bool) (folders : List (Bor (List ℕ))) (answers : List FolderAnswer) (text line : List ℕ)
+    (folder : Bor (List ℕ)) (answer : FolderAnswer) → AreFolderTexts is_json folders answers text
+    → IsFolderText is_json folder.now answer line
+    → AreFolderTexts is_json (folders ++ folder ∷ []) (answers ++ answer ∷ []) (text ++ line)
+text_more is_json [] [] text line folder answer are is =
+    (line, [], ap (λ t. t ++ line) are ∙ sym (append-nil line), is, refl)
+text_more is_json [] (a ∷ answers) text line folder answer are is = absurd are
+text_more is_json (f ∷ folders) [] text line folder answer are is = absurd are
+text_more is_json (f ∷ folders) (a ∷ answers) text line folder answer are is = (
+  are.0,
+  are.1 ++ line,
+  ap (λ t. t ++ line) are.2 ∙ append_assoc are.0 are.1 line,
+  are.3,
+  text_more is_json folders answers are.1 line folder answer are.4 is,
+)
+
+-- answers that were given can be told
+tellable : {S : Type 0} (reads : Reading S) (shelf : S) (folder : Bor (List ℕ)) (answer : FolderAnswer)
+    → IsFolderAnswer reads shelf folder answer → IsTellable answer
+tellable reads shelf folder (Judged answer) is = is.reportable
+tellable reads shelf folder (Unread name) is = tt
+
+pub all_tellable : {S : Type 0} (reads : Reading S) (shelf : S) (folders : List (Bor (List ℕ)))
+    (answers : List FolderAnswer) → AllZip (IsFolderAnswer reads shelf) folders answers → AreTellable answers
+all_tellable reads shelf [] [] are i answer at = absurd cc
+all_tellable reads shelf [] (a ∷ answers) are i answer at = absurd are
+all_tellable reads shelf (f ∷ folders) [] are i answer at = absurd are
+all_tellable reads shelf (f ∷ folders) (a ∷ answers) are zero answer at =
+    let same : a ≡ answer = cc in
+    subst IsTellable same (tellable reads shelf f a are.0)
+all_tellable reads shelf (f ∷ folders) (a ∷ answers) are (suc i) answer at =
+    all_tellable reads shelf folders answers are.1 i answer at

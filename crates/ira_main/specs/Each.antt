@@ -1,0 +1,122 @@
+-- What the program does that is asked to judge the logs in each of some folders.
+use Rattle.std.specs.Prelude.{◌≡◌, ◌≢◌, ◌⊎◌, ℕ, Bool, true, false, List, [], ◌∷◌, ◌++◌, Option, Some, None, Result, Ok, Err, codes, slice_get}
+use Rattle.std.specs.Borrow.{Bor}
+use Rattle.std.specs.List.{AllZip, filter_map}
+use Rattle.ira_event.specs.Sink.{SinkState, StopsIn, Takes}
+use Rattle.ira_audit.specs.Report.{IsReportable, report_line}
+use Rattle.ira_audit.specs.RingAnswer.{IsRingAnswer}
+use Rattle.ira_audit.specs.RingAudit.{RingAudit}
+use Rattle.ira_audit.specs.TextRuns.{AreTextsOfRuns}
+use Rattle.ira_audit.specs.declared.answer.Answer.{Answer}
+use Rattle.ira_audit.specs.declared.answer.Answer.TheVariants as audit
+use Rattle.ira_json.specs.FolderValue.{folder_answer_value, unread_value}
+use Rattle.ira_json.specs.Line.{IsLineOf}
+use Rattle.ira_words.specs.declared.each_request.EachRequest.{EachRequest}
+use Rattle.ira_words.specs.declared.log_source.LogSource.TheVariants.{Folder}
+use Rattle.ira_files.specs.FileName.{file_name}
+use Rattle.ira_files.specs.Shelf.{Reading}
+use Rattle.ira_files.specs.declared.file_name.FileName.{FileName}
+use Rattle.ira_main.specs.FilesRead.{HasTakenFiles, IsFilesFault, ReadsFiles, names_of}
+use Rattle.ira_main.specs.Outcome.{Outcome}
+use Rattle.ira_main.specs.SourceNames.{HasNames, IsNamesFault}
+use Rattle.ira_main.specs.Status.{answer_status, status_number}
+use Rattle.ira_main.specs.declared.folder_answer.FolderAnswer.{FolderAnswer}
+use Rattle.ira_main.specs.declared.folder_answer.FolderAnswer.TheVariants.{Judged, Unread}
+use Rattle.ira_main.specs.declared.program_fault.ProgramFault.{ProgramFault}
+use Rattle.ira_main.specs.declared.program_fault.ProgramFault.TheVariants.{CannotRead, CannotReadSome, CannotWriteAnswer}
+use Rattle.ira_main.specs.declared.program_fault.ProgramFault.TheVariants.{OutOfMemory}
+use Rattle.ira_main.specs.declared.status.Status.{Status}
+use Rattle.ira_main.specs.declared.status.Status.TheVariants as status
+
+-- why the texts of a folder aren't judged: the first log of it wasn't read, or one of those that it names, or memory ran
+-- out
+abbrev pub IsFolderFault : {S : Type 0} → Reading S → S → Bor (List ℕ) → ProgramFault → Type 0
+IsFolderFault reads shelf folder f =
+    IsNamesFault reads shelf (Folder folder) f
+    ⊎ ((names : List FileName) × HasNames reads shelf (Folder folder) names × IsFilesFault reads (names_of names) shelf f)
+
+-- the texts of a folder's logs were taken, or why they weren't
+abbrev pub IsFolderAudit : {S : Type 0} → Reading S → S → Bor (List ℕ) → Result RingAudit ProgramFault → Type 0
+IsFolderAudit reads shelf folder (Ok audit) =
+    (names : List FileName) × HasNames reads shelf (Folder folder) names × HasTakenFiles reads (names_of names) shelf audit
+IsFolderAudit reads shelf folder (Err f) = IsFolderFault reads shelf folder f
+
+-- the files of a folder's logs were read, and this is the answer of their texts; after a yes they are the texts of runs
+pub record IsAnswerOf {S : Type 0} (reads : Reading S) (shelf : S) (folder : Bor (List ℕ)) (answer : Answer) : Type 0 where
+  pub names : List FileName
+  pub names_are : HasNames reads shelf (Folder folder) names
+  pub texts : List (List ℕ)
+  pub given : ReadsFiles reads (names_of names) shelf texts
+  pub judged : IsRingAnswer texts answer
+  pub runs : answer ≡ audit.Yes → AreTextsOfRuns texts
+  pub reportable : IsReportable answer
+
+-- what comes of a folder: the answer of the texts of its logs, or a file of theirs that wasn't read
+abbrev pub IsFolderAnswer : {S : Type 0} → Reading S → S → Bor (List ℕ) → FolderAnswer → Type 0
+IsFolderAnswer reads shelf folder (Judged answer) = IsAnswerOf reads shelf folder answer
+IsFolderAnswer reads shelf folder (Unread name) = IsFolderFault reads shelf folder (CannotRead name)
+
+-- the answer, if there is one, doesn't say that memory ran out
+abbrev pub IsTellable : FolderAnswer → Type 0
+IsTellable (Judged answer) = IsReportable answer
+IsTellable (Unread name) = ⊤
+
+-- and so it is with each
+abbrev pub AreTellable : List FolderAnswer → Type 0
+AreTellable answers = (i : ℕ) (answer : FolderAnswer) → slice_get answers i ≡ Some answer → IsTellable answer
+
+-- the line of a folder: its name and the answer's line; none where a file wasn't read
+abbrev pub folder_line : List ℕ → FolderAnswer → List ℕ
+folder_line folder (Judged answer) = folder ++ codes ": " ++ report_line answer
+folder_line folder (Unread name) = []
+
+-- the same as a line of JSON, which there is of a file that wasn't read too
+abbrev pub IsFolderObject : List ℕ → FolderAnswer → List ℕ → Type 0
+IsFolderObject folder (Judged answer) line =
+    IsLineOf (folder_answer_value folder (status_number (answer_status answer)) answer) line
+IsFolderObject folder (Unread name) line = IsLineOf (unread_value (Some folder) (file_name name) 2) line
+
+-- what is printed of a folder, as JSON or not
+abbrev pub IsFolderText : Bool → List ℕ → FolderAnswer → List ℕ → Type 0
+IsFolderText true folder answer line = IsFolderObject folder answer line
+IsFolderText false folder answer line = line ≡ folder_line folder answer
+
+-- what is printed of the folders, one after another
+abbrev pub AreFolderTexts : Bool → List (Bor (List ℕ)) → List FolderAnswer → List ℕ → Type 0
+AreFolderTexts is_json [] [] text = text ≡ []
+AreFolderTexts is_json (folder ∷ folders) (answer ∷ answers) text =
+    (line : List ℕ) × (rest : List ℕ) × (text ≡ line ++ rest) × IsFolderText is_json folder.now answer line
+    × AreFolderTexts is_json folders answers rest
+AreFolderTexts is_json folders answers text = ⊥
+
+-- the file that wasn't read, if there is one
+abbrev pub unread_name : FolderAnswer → Option FileName
+unread_name (Unread name) = Some name
+unread_name (Judged answer) = None
+
+abbrev pub unread_names : List FolderAnswer → List FileName
+unread_names answers = filter_map unread_name answers
+
+-- the status of answers: no where one is no, else yes
+abbrev pub each_status : List FolderAnswer → Status
+each_status [] = status.Yes
+each_status (Judged (audit.No reason) ∷ rest) = status.No
+each_status (other ∷ rest) = each_status rest
+
+-- what the program ends with: where files weren't read these, else the status of the answers
+abbrev pub IsEachOutcome : List FolderAnswer → Outcome → Type 0
+IsEachOutcome answers (Ok s) = (unread_names answers ≡ []) × (s ≡ each_status answers)
+IsEachOutcome answers (Err (CannotReadSome names)) = (names.items ≡ unread_names answers) × (names.items ≢ [])
+IsEachOutcome answers (Err other) = ⊥
+
+-- each folder was judged for itself, and what comes of them was printed in their order; or the output stopped within it;
+-- or memory ran out, and nothing was printed
+pub data JudgesEach {S : Type 0} (reads : Reading S) (asked : EachRequest) (shelf : S) (out out' : SinkState)
+    (outcome : Outcome) : Type 0 where
+  told : (answers : List FolderAnswer) (text : List ℕ) → AllZip (IsFolderAnswer reads shelf) asked.folders.items answers
+      → AreFolderTexts asked.is_json asked.folders.items answers text → Takes text out out'
+      → IsEachOutcome answers outcome → JudgesEach reads asked shelf out out' outcome
+  stopped : (answers : List FolderAnswer) (text : List ℕ) → AllZip (IsFolderAnswer reads shelf) asked.folders.items answers
+      → AreFolderTexts asked.is_json asked.folders.items answers text → StopsIn text out out'
+      → outcome ≡ Err CannotWriteAnswer → JudgesEach reads asked shelf out out' outcome
+  no_memory : out' ≡ out → outcome ≡ Err OutOfMemory → JudgesEach reads asked shelf out out' outcome

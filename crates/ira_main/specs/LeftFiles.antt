@@ -1,0 +1,70 @@
+-- What a crash left of the files of a ring's logs.
+use Rattle.std.specs.Prelude.{◌≡◌, ◌<◌, ◌⊎◌, ℕ, List, [], ◌∷◌, Ok, Err, map}
+use Rattle.std.specs.Borrow.{Bor}
+use Rattle.std.specs.List.{range_with_len}
+use Rattle.ira_event.specs.Limits.{MAX_NODES}
+use Rattle.ira_event.specs.Log.{Log}
+use Rattle.ira_mend.specs.RecordedLogs.{HasRecorded, RecordsLog}
+use Rattle.ira_mend.specs.declared.recorded_log.RecordedLog.{RecordedLog}
+use Rattle.ira_words.specs.declared.log_source.LogSource.{LogSource}
+use Rattle.ira_words.specs.declared.log_source.LogSource.TheVariants as source
+use Rattle.ira_files.specs.FileName.{log_name}
+use Rattle.ira_files.specs.Shelf.{Reading}
+use Rattle.ira_files.specs.declared.file_name.FileName.{FileName}
+use Rattle.ira_files.specs.declared.file_name.FileName.TheVariants.{Given, Log as InFolder}
+use Rattle.ira_files.specs.declared.shelf_fault.ShelfFault.TheVariants.{NotFound}
+use Rattle.ira_main.specs.FilesRead.{IsFilesFault, ReadsFiles}
+use Rattle.ira_main.specs.SourceNames.{SaysLogs}
+use Rattle.ira_main.specs.declared.program_fault.ProgramFault.{ProgramFault}
+use Rattle.ira_main.specs.declared.program_fault.ProgramFault.TheVariants.{OutOfMemory}
+
+-- what the file of a name left: its text, or no bytes where there is no such file
+abbrev pub left_by : {S : Type 0} → Reading S → Reading S
+left_by reads shelf name (Ok text) = reads shelf name (Ok text) ⊎ (reads shelf name (Err NotFound) × (text ≡ []))
+left_by reads shelf name (Err NotFound) = ⊥
+left_by reads shelf name (Err why) = reads shelf name (Err why)
+
+-- the file of the log at this place in a folder left a text which says that there are so many logs
+abbrev pub LeavesNumber : {S : Type 0} → Reading S → S → List ℕ → ℕ → ℕ → Type 0
+LeavesNumber reads shelf folder place number =
+    (text : List ℕ) × left_by reads shelf (log_name folder place) (Ok text) × SaysLogs text number
+
+-- how many logs were in a folder: as many as the first text says of which a whole head is left, or one
+pub data SaysLeft {S : Type 0} (reads : Reading S) (shelf : S) (folder : List ℕ) (number : ℕ) : Type 0 where
+  said : (place : ℕ) → place < MAX_NODES → LeavesNumber reads shelf folder place number → 1 < number
+      → ((i : ℕ) → i < place → LeavesNumber reads shelf folder i 1) → SaysLeft reads shelf folder number
+  none : number ≡ 1 → ((i : ℕ) → i < MAX_NODES → LeavesNumber reads shelf folder i 1)
+      → SaysLeft reads shelf folder number
+
+-- the names of the files of the logs: those that are given, or of a folder those of as many logs as were in it
+abbrev pub HasLeftNames : {S : Type 0} → Reading S → S → LogSource → List FileName → Type 0
+HasLeftNames reads shelf (source.Files words) names = names ≡ map (λ word. Given word) words.items
+HasLeftNames reads shelf (source.Folder folder) names =
+    (number : ℕ) × SaysLeft reads shelf folder.now number
+    × (names ≡ map (λ place. InFolder folder place) (range_with_len 0 number))
+
+-- why there are none: a file of the folder is there and wasn't read, or memory ran out
+abbrev pub IsFolderFault : {S : Type 0} → Reading S → S → Bor (List ℕ) → ProgramFault → Type 0
+IsFolderFault reads shelf folder f =
+    ((place : ℕ) × (place < MAX_NODES) × IsFilesFault (left_by reads) (log_name folder.now place ∷ []) shelf f)
+    ⊎ (f ≡ OutOfMemory)
+
+abbrev pub IsLeftNamesFault : {S : Type 0} → Reading S → S → LogSource → ProgramFault → Type 0
+IsLeftNamesFault reads shelf (source.Files words) f = f ≡ OutOfMemory
+IsLeftNamesFault reads shelf (source.Folder folder) f = IsFolderFault reads shelf folder f
+
+-- what is left of the files of these names was taken
+abbrev pub HasLeftFiles : {A : Type 0} {S : Type 0} → Reading S → List (List ℕ) → S → List (RecordedLog A) → Type 0
+HasLeftFiles reads names shelf recorded = (texts : List (List ℕ)) × HasRecorded recorded texts
+    × ReadsFiles (left_by reads) names shelf texts
+
+-- what is left of the files of these names is no log, cut or not, and they aren't all there to be read
+pub record IsLost {S : Type 0} (reads : Reading S) (names : List (List ℕ)) (shelf : S) (f : ProgramFault) : Type 0 where
+  pub texts : List (List ℕ)
+  pub given : ReadsFiles (left_by reads) names shelf texts
+  pub none : (log : Log) → ¬ (RecordsLog texts log)
+  pub why : IsFilesFault reads names shelf f
+
+-- why nothing is taken: a file is there and wasn't read, or memory ran out; or no log is left
+abbrev pub IsLeftFault : {S : Type 0} → Reading S → List (List ℕ) → S → ProgramFault → Type 0
+IsLeftFault reads names shelf f = IsFilesFault (left_by reads) names shelf f ⊎ IsLost reads names shelf f

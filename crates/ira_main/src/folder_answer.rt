@@ -1,0 +1,120 @@
+ghost use Rattle.std.specs.Prelude.{◌≡◌, ◌++◌, ℕ, IfOk, List, OnOk, string_bytes};
+ghost use Rattle.ira_event.specs.Sink.{Wrote};
+ghost use Rattle.ira_main.specs.Each.{IsFolderAnswer, IsFolderAudit, IsFolderObject, IsFolderText, IsTellable, folder_line, unread_name};
+
+use crate::program_fault::ProgramFault;
+use crate::read_files::read_in_turn;
+use crate::source_names::source_names;
+use crate::status::Status;
+use ira_audit::{Answer, RingAudit, write_report};
+use ira_event::{MemorySink, OutOfMemory, Sink, WriteFault, write_bytes};
+use ira_files::{FileName, TextSource};
+use ira_json::{folder_answer_line, unread_line};
+use ira_words::LogSource;
+use std::alloc::{Allocator, Global};
+
+/// What comes of the logs in a folder.
+#[derive(Clone, Copy)]
+pub(crate) enum FolderAnswer<'a> {
+    /// They were judged together.
+    Judged(Answer),
+    /// The file of this name can't be read.
+    Unread(FileName<'a>),
+}
+
+/// The logs in a folder.
+fn audit_folder<'a, A: Allocator + Clone, F: TextSource>(
+    alloc: &A,
+    folder: &'a str,
+    shelf: &F,
+) -> Result<RingAudit<A>, ProgramFault<'a>>
+    ensures { IsFolderAudit F.reads shelf.now folder.entry result }
+{
+    let names = source_names(alloc, &LogSource::Folder(folder), shelf)?;
+    read_in_turn(alloc, &names, shelf)
+}
+
+/// Judges the logs in a folder together.
+pub(crate) fn judge_folder<'a, A: Allocator + Clone, F: TextSource>(
+    alloc: &A,
+    folder: &'a str,
+    shelf: &F,
+) -> Result<FolderAnswer<'a>, OutOfMemory>
+    ensures { IfOk result (IsFolderAnswer F.reads shelf.now folder.entry) }
+{
+    match audit_folder(alloc, folder, shelf) {
+        Ok(audit) => Ok(FolderAnswer::Judged(audit.judge()?.answer())),
+        Err(ProgramFault::CannotRead(name)) => Ok(FolderAnswer::Unread(name)),
+        Err(_) => Err(OutOfMemory),
+    }
+}
+
+impl<'a> FolderAnswer<'a> {
+    /// The file that can't be read, if there is one.
+    pub(crate) fn unread(&self) -> Option<FileName<'a>>
+        ensures { result ≡ unread_name self.now }
+    {
+        match self {
+            FolderAnswer::Judged(_) => None,
+            FolderAnswer::Unread(name) => Some(*name),
+        }
+    }
+
+    /// Writes the line of the folder's answer; nothing where a file can't be read.
+    #[tactic(auto, using(ira_event::proofs::Writing::writes))]
+    fn write<W: Sink>(&self, folder: &str, sink: &mut W) -> Result<(), WriteFault>
+        requires { IsTellable self.now }
+        ensures { Wrote result (folder_line folder.now self.now) (W.state sink.old) (W.state sink.new) }
+    {
+        match self {
+            FolderAnswer::Judged(answer) => {
+                write_bytes(folder.as_bytes(), sink)?;
+                write_bytes(b": ", sink)?;
+                write_report(answer, sink)
+            }
+            FolderAnswer::Unread(_) => Ok(()),
+        }
+    }
+
+    /// The line of JSON of what comes of the folder.
+    fn json(&self, alloc: Global, folder: &str) -> Result<String, OutOfMemory>
+        requires { IsTellable self.now }
+        ensures { IfOk result (λ text. IsFolderObject folder.now self.now (string_bytes text)) }
+    {
+        match self {
+            FolderAnswer::Judged(answer) => {
+                let status = Status::of_answer(answer).number();
+                folder_answer_line(alloc, folder, answer, status)
+            }
+            FolderAnswer::Unread(name) => {
+                let file = name.path(alloc)?;
+                unread_line(alloc, Some(folder), file.as_str(), Status::Refused.number())
+            }
+        }
+    }
+
+    /// Adds what is printed of the folder.
+    pub(crate) fn add_text<A: Allocator>(
+        &self,
+        alloc: Global,
+        is_json: bool,
+        folder: &str,
+        text: &mut MemorySink<A>,
+    ) -> Result<(), OutOfMemory>
+        requires { IsTellable self.now }
+        ensures { OnOk result ((line : List ℕ) × IsFolderText is_json folder.now self.now line
+            × (text.new.bytes ≡ text.old.bytes ++ line)) }
+    {
+        if is_json {
+            let line = self.json(alloc, folder)?;
+            return match write_bytes(line.as_bytes(), text) {
+                Ok(()) => Ok(()),
+                Err(WriteFault) => Err(OutOfMemory),
+            };
+        }
+        match self.write(folder, text) {
+            Ok(()) => Ok(()),
+            Err(WriteFault) => Err(OutOfMemory),
+        }
+    }
+}

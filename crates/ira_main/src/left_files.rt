@@ -1,0 +1,95 @@
+ghost use Rattle.std.specs.Prelude.{◌∷◌, [], IfErr, IfOk, MatchResult, Ok};
+ghost use Rattle.ira_files.specs.FileName.{file_name};
+ghost use Rattle.ira_main.specs.FilesRead.{IsFilesFault, names_of};
+ghost use Rattle.ira_main.specs.LeftFiles.{HasLeftFiles, HasLeftNames, IsFolderFault, IsLeftFault, IsLeftNamesFault, SaysLeft, left_by};
+
+use crate::program_fault::ProgramFault;
+use crate::read_files::read_in_turn;
+use crate::source_names::{given_names, names_in_folder, number_of_logs};
+use ira_event::MAX_NODES;
+use ira_files::{FileName, ShelfFault, TextBuffer, TextSource};
+use ira_mend::RecordedLogs;
+use ira_words::LogSource;
+use std::alloc::Allocator;
+
+/// Reads the text of the file of this name; no bytes where there is no such file.
+fn find_into<'a, A: Allocator + Clone, F: TextSource>(
+    alloc: &A,
+    name: FileName<'a>,
+    text: &mut TextBuffer<A>,
+    shelf: &F,
+) -> Result<(), ProgramFault<'a>>
+    ensures found { IfOk result (λ _. left_by F.reads shelf.now (file_name name.entry) (Ok text.new)) }
+    ensures fault { IfErr result (IsFilesFault (left_by F.reads) (file_name name.entry ∷ []) shelf.now) }
+{
+    let path = name.path(alloc)?;
+    match shelf.read(path.as_str(), text) {
+        Ok(()) => Ok(()),
+        Err(ShelfFault::NotFound) => {
+            text.clear();
+            Ok(())
+        }
+        Err(fault) => Err(ProgramFault::cannot_read(name, fault)),
+    }
+}
+
+/// How many logs a folder has, by the first of them of which a whole head is left; one where there is none.
+fn number_left<'a, A: Allocator + Clone, F: TextSource>(
+    alloc: &A,
+    folder: &'a str,
+    shelf: &F,
+) -> Result<u8, ProgramFault<'a>>
+    ensures { MatchResult result (SaysLeft F.reads shelf.now folder.now)
+        (IsFolderFault F.reads shelf.now folder.entry) }
+{
+    let mut text = TextBuffer::new(alloc.clone()?);
+    for place in 0..MAX_NODES as u8 {
+        find_into(alloc, FileName::Log(folder, place), &mut text, shelf)?;
+        let number = number_of_logs(text.bytes());
+        if number > 1 {
+            return Ok(number);
+        }
+    }
+    Ok(1)
+}
+
+/// The names of the files of which the logs to mend are what is left.
+pub(crate) fn left_names<'a, A: Allocator + Clone, F: TextSource>(
+    alloc: &A,
+    source: &LogSource<'a>,
+    shelf: &F,
+) -> Result<Vec<FileName<'a>, A>, ProgramFault<'a>>
+    ensures { MatchResult result (λ names. HasLeftNames F.reads shelf.now source.now names.items)
+        (IsLeftNamesFault F.reads shelf.now source.now) }
+{
+    match source {
+        LogSource::Files(words) => Ok(given_names(alloc.clone()?, words)?),
+        LogSource::Folder(folder) => {
+            let number = number_left(alloc, folder, shelf)?;
+            Ok(names_in_folder(alloc.clone()?, folder, number)?)
+        }
+    }
+}
+
+/// What is left of the logs in the files of these names, which are read in turn. Where no log is left they are read once
+/// more as those of logs are, so that a file that isn't there is named.
+pub(crate) fn read_left<'a, A: Allocator + Clone, F: TextSource>(
+    alloc: &A,
+    names: &[FileName<'a>],
+    shelf: &F,
+) -> Result<RecordedLogs<A>, ProgramFault<'a>>
+    ensures { MatchResult result
+        (HasLeftFiles F.reads (names_of names.now) shelf.now)
+        (IsLeftFault F.reads (names_of names.now) shelf.now) }
+{
+    let mut recorded = RecordedLogs::new(alloc.clone()?);
+    let mut text = TextBuffer::new(alloc.clone()?);
+    for name in names {
+        find_into(alloc, *name, &mut text, shelf)?;
+        recorded.take(text.bytes())?;
+    }
+    if !recorded.has_log() {
+        read_in_turn(alloc, names, shelf)?;
+    }
+    Ok(recorded)
+}
