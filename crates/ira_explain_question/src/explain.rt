@@ -25,7 +25,7 @@ pub fn explain_found<A: Allocator + Clone>(
     findings: &Findings<A>,
     case: Option<u64>,
 ) -> Result<Explanation<A>, OutOfMemory>
-    requires asked { QuestionFitsLogs (map (λ log. log.text.now) files.entry.logs.now) files.entry.question.now.text.now
+    requires asked { QuestionFitsLogs (map (λ log. log.text.now) files.logs.now) files.question.now.text.now
         asked.now.logs asked.now.question }
     requires found { AreFoundOf asked.now findings.now }
 {
@@ -50,9 +50,9 @@ pub fn explain_not_asked<A: Allocator + Clone>(
     judged: &Judged<A>,
     reason: Reason,
 ) -> Result<Explanation<A>, OutOfMemory>
-    requires judged { IsJudged (map (λ log. log.text.now) files.entry.logs.now) judged.now }
-    requires reason { IsFindingsReason (map (λ log. log.text.now) files.entry.logs.now)
-        files.entry.question.now.text.now reason }
+    requires judged { IsJudged (map (λ log. log.text.now) files.logs.now) judged.now }
+    requires reason { IsFindingsReason (map (λ log. log.text.now) files.logs.now)
+        files.question.now.text.now reason }
 {
     let AskedFiles { logs, question } = files;
     match (judged, reason) {

@@ -34,7 +34,7 @@ pub fn explain_findings<A: Allocator + Clone>(
     judged: &Judged<A>,
     case: Option<u64>,
 ) -> Result<FindingsView<A>, OutOfMemory>
-    requires { IsJudged (texts_of files.entry.logs.now) judged.now }
+    requires { IsJudged (texts_of files.logs.now) judged.now }
     ensures found { IfOk result (λ view.
         AreFindings (texts_of files.entry.logs.now) files.entry.question.now.text.now view.findings) }
     ensures reportable { IfOk result (λ view. AreReportable view.findings) }
@@ -67,7 +67,7 @@ pub fn explain_certified<R, A>(
 where
     R: Threads + Wait + Clock + Sync,
     A: Allocator + Clone + Send + Sync,
-    requires { IsJudged (texts_of files.entry.logs.now) judged.now }
+    requires { IsJudged (texts_of files.logs.now) judged.now }
     ensures answer { IfOk result (λ view. IsCheckAnswer (texts_of files.entry.logs.now)
         files.entry.question.now.text.now certificate.now.text.now view.answer) }
     ensures reportable { IfOk result (λ view. IsReportable view.answer) }
@@ -95,7 +95,7 @@ fn explain_check<R, A>(
 where
     R: Threads + Wait + Clock + Sync,
     A: Allocator + Clone + Send + Sync,
-    requires { QuestionFitsLogs (texts_of files.entry.logs.now) files.entry.question.now.text.now asked.now.logs
+    requires { QuestionFitsLogs (texts_of files.logs.now) files.question.now.text.now asked.now.logs
         asked.now.question }
     ensures answer { IfOk result (λ view. IsCheckAnswer (texts_of files.entry.logs.now)
         files.entry.question.now.text.now certificate.now.text.now view.answer) }
