@@ -61,13 +61,6 @@ impl<A: Allocator> NamedFile<A> {
         })
     }
 
-    /// Its text.
-    pub(crate) fn bytes(&self) -> &[u8]
-        ensures { result.now ≡ self.now }
-    {
-        &self.text
-    }
-
     /// Its text with its name.
     pub(crate) fn named(&self) -> NamedText<'_>
         ensures { result.text.now ≡ self.now }

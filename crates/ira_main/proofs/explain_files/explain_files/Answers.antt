@@ -1,4 +1,5 @@
-use Rattle.std.proofs.Common.{◌≡◌, ◌∙◌, inl, inr, refl, rules, subst}
+use Rattle.std.proofs.Common.{◌≡◌, ◌∙◌, ℕ, List, inl, inr, refl, rules, subst, sym}
+use Rattle.ira_audit.specs.Judged.{IsJudged}
 use Rattle.ira_audit.proofs.TextRuns.{yes_runs}
 use Rattle.ira_audit.specs.RingAnswer.{IsRingAnswer}
 use Rattle.ira_views.specs.Texts.{texts_of}
@@ -8,7 +9,7 @@ use Rattle.ira_main.proofs.explain_files.explain_files.Goals as goal
 pub returns : goal.returns
 returns g c =
     let view = c.in_ok-view.view in
-    let same : texts_of c.deref-3.result.now ≡ c.in_ok-files.files.items = search (rules) in
+    let same : texts_of c.deref-4.result.now ≡ c.in_ok-files.files.items = search (rules) in
     elim c.print_view.ensures [
       | inl told ↦
           inl (
@@ -30,3 +31,9 @@ returns g c =
 pub returns-in_err-files : goal.returns-in_err-files
 returns-in_err-files g c =
     inl (_, c.in_ok-names.ensures, inr (_, rw c.deref.ensures.value at c.in_err-files.ensures, refl, search rules))
+
+pub explain_texts-requires : goal.explain_texts-requires
+explain_texts-requires g c =
+    let first : texts_of c.deref-3.result.now ≡ c.in_ok-files.files.items = search rules in
+    let second : texts_of c.deref-4.result.now ≡ c.in_ok-files.files.items = search rules in
+    subst (λ (texts : List (List ℕ)). IsJudged texts c.in_ok-judged.judged) (first ∙ sym second) c.in_ok-judged.ensures

@@ -1,4 +1,5 @@
-use Rattle.std.proofs.Common.{◌≡◌, ◌∙◌, [], ◌∷◌, inl, inr, refl, rules, Err, ap}
+use Rattle.std.proofs.Common.{◌≡◌, ◌∙◌, ℕ, List, [], ◌∷◌, inl, inr, refl, rules, Err, ap, subst, sym}
+use Rattle.ira_audit.specs.Judged.{IsJudged}
 use Rattle.std.proofs.lemmas.Result.{err_from_is_err_and}
 use Rattle.ira_views.specs.Texts.{texts_of}
 use Rattle.ira_main.proofs.FilesRead.{of_back, of_front}
@@ -9,7 +10,7 @@ use Rattle.ira_main.proofs.explain_question.explain_check_files.Goals as goal
 pub returns : goal.returns
 returns g c =
     let view = c.in_ok-view.view in
-    let same : texts_of c.deref-3.result.now ≡ c.in_ok-files.files.items = search rules in
+    let same : texts_of c.deref-4.result.now ≡ c.in_ok-files.files.items = search rules in
     let asked : c.named-question.result.text.now ≡ c.in_ok-question.question = search rules in
     let certified : c.named-certificate.result.text.now ≡ c.in_ok-certificate.certificate = search rules in
     elim c.print_view.ensures [
@@ -99,4 +100,20 @@ returns-in_err-named g c =
 pub returns-in_err-view : goal.returns-in_err-view
 returns-in_err-view g c =
     let p = err_from_is_err_and c.from_residual-in_err-view.result c.from_residual-in_err-view.ensures.1 in
+    inl (_, c.in_ok-names.ensures, inr (OutOfMemory, inr refl, refl, p.1 ∙ ap (λ f. Err f) p.2))
+
+pub explain_certified-requires : goal.explain_certified-requires
+explain_certified-requires g c =
+    let first : texts_of c.deref-3.result.now ≡ c.in_ok-files.files.items = search rules in
+    let second : texts_of c.deref-4.result.now ≡ c.in_ok-files.files.items = search rules in
+    subst (λ (texts : List (List ℕ)). IsJudged texts c.in_ok-judged.judged) (first ∙ sym second) c.in_ok-judged.ensures
+
+pub returns-in_err-judged : goal.returns-in_err-judged
+returns-in_err-judged g c =
+    let p = err_from_is_err_and c.from_residual-in_err-judged.result c.from_residual-in_err-judged.ensures.1 in
+    inl (_, c.in_ok-names.ensures, inr (OutOfMemory, inr refl, refl, p.1 ∙ ap (λ f. Err f) p.2))
+
+pub returns-in_err-clone-2 : goal.returns-in_err-clone-2
+returns-in_err-clone-2 g c =
+    let p = err_from_is_err_and c.from_residual-in_err-clone-2.result c.from_residual-in_err-clone-2.ensures.1 in
     inl (_, c.in_ok-names.ensures, inr (OutOfMemory, inr refl, refl, p.1 ∙ ap (λ f. Err f) p.2))

@@ -4,14 +4,14 @@ use Rattle.ira_main.proofs.FilesRead.{named_at, of_next, reads_next}
 use Rattle.ira_main.specs.FilesRead.{names_of}
 use Rattle.ira_main.proofs.named_file.read_named.Goals as goal
 
-pub returns-in_err-read : goal.returns-in_err-read
-returns-in_err-read g c =
-    let p = err_from_is_err_and c.from_residual-in_err-read.result c.from_residual-in_err-read.ensures.1 in
+pub returns-in_err-read_by : goal.returns-in_err-read_by
+returns-in_err-read_by g c =
+    let p = err_from_is_err_and c.from_residual-in_err-read_by.result c.from_residual-in_err-read_by.ensures.1 in
     let names = names_of c.args.names.now in
     let i = c.loop-name.name-index in
     let at = named_at c.args.names.now i _ (omega arith) in
     rw (p.1, p.2) (of_next g.F.TextSource.reads names i _ c.args.shelf.now _ _ at c.loop-name.invariant.given
-    c.in_err-read.ensures.fault)
+    c.in_err-read_by.ensures.fault)
 
 pub loop-name-preserved : goal.loop-name-preserved
 loop-name-preserved g c =
@@ -23,5 +23,5 @@ loop-name-preserved g c =
       given =
           rw c.in_ok-push.ensures.items
           (reads_next g.F.TextSource.reads names i _ c.args.shelf.now _ _ at c.loop-name.invariant.given
-          c.in_ok-read.ensures.read);
+          c.in_ok-read_by.ensures.read);
     }
