@@ -76,7 +76,10 @@ fn absences_with_and_without_steps(rt: HostRuntime) {
     assert_uncertified(&rt, &ELECTION, question, lines);
 }
 
-/// Whether the second of two cases is the first that a cut meets, and is so where it is decided alone.
+/// The least cut of the election that meets the second of two cases.
+const MET: &[u32] = &[2, 3];
+
+/// Whether the second of two cases is the first that a cut meets, and is met by it where it is decided alone.
 fn second_is_met(alloc: Global) -> Result<bool, OutOfMemory> {
     let mut audit = RingAudit::new(alloc);
     for text in ELECTION {
@@ -88,7 +91,7 @@ fn second_is_met(alloc: Global) -> Result<bool, OutOfMemory> {
     };
     match (asked.first_present()?, asked.decide_case(1)?) {
         (Some((1, first)), Found::Present(alone)) => {
-            Ok(first.positions() == [2, 3] && alone.positions() == [2, 3])
+            Ok(first.positions() == MET && alone.positions() == MET)
         }
         _ => Ok(false),
     }
