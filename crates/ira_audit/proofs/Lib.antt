@@ -1,3 +1,4 @@
+pub mod Counting
 pub mod Deciding
 pub mod Judging
 pub mod KeptHeads
@@ -18,5 +19,4 @@ pub mod SoundSections
 pub mod Stages
 pub mod TextRuns
 pub mod Upgraded
-pub mod Written
 pub mod Zipped

@@ -1,5 +1,6 @@
 pub mod AskedQuestion
 pub mod CheckAnswer
+pub mod DecidedCases
 pub mod Findings
 pub mod FindingsText
 pub mod GoodLogs
@@ -18,4 +19,3 @@ pub mod RingAnswer
 pub mod RingAudit
 pub mod TextRuns
 pub mod Upgrade
-pub mod WrittenFindings

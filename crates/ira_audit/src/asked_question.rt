@@ -6,17 +6,17 @@ ghost use Rattle.ira_cert.specs.Conjuncts.{HasPlacesOf};
 ghost use Rattle.ira_elim.specs.Found.{IsFound};
 ghost use Rattle.ira_audit.specs.AskedQuestion.{AreFoundOf, IsFirstPresent};
 ghost use Rattle.ira_audit.specs.CheckAnswer.{AreSound};
+ghost use Rattle.ira_audit.specs.DecidedCases.{AreDecided};
 ghost use Rattle.ira_audit.specs.GoodLogs.{AreGood};
 ghost use Rattle.ira_audit.specs.Never.{NoCutMeetsAny};
 ghost use Rattle.ira_audit.specs.Refusal.{IsCertificateRefusal, IsSectionsRefusal, MatchRefusal};
-ghost use Rattle.ira_audit.specs.WrittenFindings.{AreWritten};
 ghost use Rattle.ira_audit.specs.declared.findings.Findings.{Findings};
 
+use crate::cases_draft::CasesDraft;
+use crate::decided_cases::DecidedCases;
 use crate::findings::Findings;
-use crate::findings_draft::FindingsDraft;
 use crate::reason::Reason;
 use crate::refusal::Refusal;
-use crate::written_findings::WrittenFindings;
 use ira_cert::Profiles;
 use ira_cert_text::{Certificate, read_cert};
 use ira_elim::{Cut, Found, decide_profiled};
@@ -45,6 +45,7 @@ impl<'a, A: Allocator> Model for AskedQuestion<'a, A> {
     ghost use Rattle.std.specs.Prelude.{◌≡◌, length};
     ghost use Rattle.ira_pred.specs.FormulaCode.{formula_code};
     ghost use Rattle.ira_audit.specs.AskedQuestion.{AskedQuestion};
+    ghost use Rattle.ira_audit.specs.DecidedCases.{AreDecided};
     ghost use Rattle.ira_audit.specs.GoodLogs.{AreGood};
 
     ghost Value = { AskedQuestion };
@@ -147,18 +148,17 @@ impl<'a, A: Allocator + Clone> AskedQuestion<'a, A> {
         Ok(None)
     }
 
-    /// What `decide` finds, written down case by case: no section is kept, but for the text of the certificate, if it
-    /// is asked for and as long as each case is absent.
-    pub fn decide_in_writing(&self, certify: bool) -> Result<WrittenFindings<A>, OutOfMemory>
-        ensures { IfOk result (λ written. (findings : Findings A) × AreFoundOf self.now findings
-            × AreWritten certify findings written) }
+    /// What `decide` finds, with the steps of sections counted: no section is kept, but for the text of the certificate, if
+    /// it is asked for and as long as each case is absent.
+    pub fn decide_counted(&self, certify: bool) -> Result<DecidedCases<A>, OutOfMemory>
+        ensures { IfOk result (λ decided. (findings : Findings A) × AreFoundOf self.now findings
+            × AreDecided certify findings decided) }
     {
         let cases = self.cases();
         let profiles = Profiles::new(self.alloc.clone()?, self.logs(), cases)?;
-        let mut draft = FindingsDraft::new(self.alloc.clone()?, self.logs().size(), certify)?;
-        for (number, case) in cases.iter().enumerate() {
-            let alloc = self.alloc.clone()?;
-            draft.decide_next(alloc, &profiles, &self.dependencies, number as u64, case)?;
+        let mut draft = CasesDraft::new(self.alloc.clone()?, self.logs().size(), certify)?;
+        for case in cases {
+            draft.decide_next(self.alloc.clone()?, &profiles, &self.dependencies, case)?;
         }
         draft.finish()
     }

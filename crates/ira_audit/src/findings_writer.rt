@@ -1,11 +1,9 @@
 ghost use Rattle.std.specs.Prelude.{codes};
 ghost use Rattle.std.specs.List.{enumerate_from, flat_map};
 ghost use Rattle.ira_event.specs.Sink.{Wrote};
-ghost use Rattle.ira_elim.specs.declared.found.Found.{Found};
-ghost use Rattle.ira_elim.specs.declared.found.Found.TheVariants.{Present};
+ghost use Rattle.ira_elim.specs.declared.decided.Decided.TheVariants.{Present};
 ghost use Rattle.ira_audit.specs.Findings.{AreReportable};
-ghost use Rattle.ira_audit.specs.FindingsText.{absent_words, found_words, case_line, findings_text};
-ghost use Rattle.ira_audit.specs.WrittenFindings.{IsCounted};
+ghost use Rattle.ira_audit.specs.FindingsText.{absent_words, case_line, decided_line, decided_words, findings_text, found_words};
 ghost use Rattle.ira_audit.specs.Report.{numbered};
 
 use crate::answer::Answer;
@@ -44,7 +42,7 @@ fn write_positions<W: Sink>(positions: &[u32], sink: &mut W) -> Result<(), Write
 
 #[tactic(auto, using(ira_event::proofs::Writing::writes))]
 fn write_present<A: Allocator, W: Sink>(cut: &Cut<A>, sink: &mut W) -> Result<(), WriteFault>
-    ensures { Wrote result (found_words {A = A} (Present cut.now)) (W.state sink.old) (W.state sink.new) }
+    ensures { Wrote result (decided_words {A = A} (Present cut.now)) (W.state sink.old) (W.state sink.new) }
 {
     write_bytes(b": present at", sink)?;
     write_positions(cut.positions(), sink)
@@ -72,12 +70,12 @@ fn write_case<A: Allocator, W: Sink>(
     write_bytes(b"\n", sink)
 }
 
-fn write_decided<A: Allocator, W: Sink>(
+/// Writes what is found of a case, with its steps counted.
+fn write_counted<A: Allocator, W: Sink>(
     decided: &Decided<StepCount, A>,
     sink: &mut W,
 ) -> Result<(), WriteFault>
-    ensures { (found : Found A) → IsCounted found decided.now
-        → Wrote result (found_words found) (W.state sink.old) (W.state sink.new) }
+    ensures { Wrote result (decided_words decided.now) (W.state sink.old) (W.state sink.new) }
 {
     match decided {
         Decided::Absent { steps, spent } => write_absent(steps.get(), *spent, sink),
@@ -85,18 +83,31 @@ fn write_decided<A: Allocator, W: Sink>(
     }
 }
 
-/// Writes the line of a case of which the steps were counted.
-pub(crate) fn write_decided_case<A: Allocator, W: Sink>(
+#[tactic(auto, using(ira_event::proofs::Writing::writes))]
+fn write_decided_case<A: Allocator, W: Sink>(
     case: u64,
     decided: &Decided<StepCount, A>,
     sink: &mut W,
 ) -> Result<(), WriteFault>
-    ensures { (found : Found A) → IsCounted found decided.now
-        → Wrote result (case_line (case, found)) (W.state sink.old) (W.state sink.new) }
+    ensures { Wrote result (decided_line (case, decided.now)) (W.state sink.old) (W.state sink.new) }
 {
     write_numbered(b"case ", case, sink)?;
-    write_decided(decided, sink)?;
+    write_counted(decided, sink)?;
     write_bytes(b"\n", sink)
+}
+
+/// Writes a line for each case of which the steps were counted.
+pub(crate) fn write_decided<A: Allocator, W: Sink>(
+    cases: &[Decided<StepCount, A>],
+    sink: &mut W,
+) -> Result<(), WriteFault>
+    ensures { Wrote result (flat_map decided_line (enumerate_from 0 cases.now)) (W.state sink.old)
+        (W.state sink.new) }
+{
+    for (case, decided) in cases.iter().enumerate() {
+        write_decided_case(case as u64, decided, sink)?;
+    }
+    Ok(())
 }
 
 fn write_cases<A: Allocator, W: Sink>(found: &[Found<A>], sink: &mut W) -> Result<(), WriteFault>

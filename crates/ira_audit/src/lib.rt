@@ -5,8 +5,9 @@
 mod answer;
 mod asked_question;
 mod audits;
+mod cases_draft;
+mod decided_cases;
 mod findings;
-mod findings_draft;
 mod findings_writer;
 mod good_logs;
 mod judged;
@@ -19,11 +20,11 @@ mod refused_logs;
 mod replayed_log;
 mod report;
 mod ring_audit;
-mod written_findings;
 
 pub use answer::Answer;
 pub use asked_question::AskedQuestion;
 pub use audits::{audit, audit_logs, audit_one, decide_all};
+pub use decided_cases::DecidedCases;
 pub use findings::Findings;
 pub use findings_writer::write_findings;
 pub use good_logs::GoodLogs;
@@ -38,4 +39,3 @@ pub use refusal::Refusal;
 pub use refused_logs::RefusedLogs;
 pub use report::{reason_line, write_report};
 pub use ring_audit::RingAudit;
-pub use written_findings::WrittenFindings;

@@ -10,7 +10,6 @@ use Rattle.serde_json.specs.declared.value.Value.{Value}
 use Rattle.ira_elim.specs.declared.found.Found.{Found}
 use Rattle.ira_view_page.specs.declared.asked_case.AskedCase.{AskedCase}
 use Rattle.ira_view_page.specs.declared.evidence.Evidence.{Evidence}
-use Rattle.ira_json.specs.AnswerValue.{case_value}
 use Rattle.ira_json.specs.EvidenceValue.{evidence_value}
 use Rattle.ira_json.specs.ExplainedFindings.{explained_case}
 use Rattle.ira_json.specs.ExplainedValue.{with_evidence}
@@ -29,12 +28,6 @@ pub some_evidence : {A : Type 0} (evidence : List (Evidence A)) (members : Membe
     → put (codes "evidence") (array (items_of (map evidence_value evidence))) members ≡ with_evidence evidence members
 some_evidence [] members none = absurd cc
 some_evidence (e ∷ es) members some = refl
-
--- where no case is explained, none has what it asks
-pub none_explained : (A : Type 0) {B : Type 0} (cases : List (ℕ × Found B)) → map (explained_case {A = A} []) cases
-    ≡ map case_value cases
-none_explained A [] = refl
-none_explained A (case ∷ cases) = ap (λ values. case_value case ∷ values) (none_explained A cases)
 
 -- a first value, and those of cases, of other lists that are the same
 pub lists_are : {A B : Type 0} (first d : Data) (explained asked : List (AskedCase A)) (found given : List (Found B))

@@ -1,4 +1,5 @@
 pub mod AnswerWords
+pub mod CasesValues
 pub mod ExplainedLists
 pub mod LineTexts
 pub mod LinesWritten

@@ -1,10 +1,11 @@
 -- What an answer, and what is found for cases, are as JSON.
-use Rattle.std.specs.Prelude.{ℕ, List, [], ◌∷◌, Bool, true, false, codes, length, map}
+use Rattle.std.specs.Prelude.{ℕ, List, [], ◌∷◌, Bool, true, false, codes, map}
 use Rattle.std.specs.List.{enumerate_from, list_any}
 use Rattle.serde_json.specs.Data.{Data, Members, member, no_members, object, string}
+use Rattle.ira_elim.specs.declared.decided.Decided.{Decided}
+use Rattle.ira_elim.specs.declared.decided.Decided.TheVariants.{Absent, Present}
 use Rattle.ira_elim.specs.declared.found.Found.{Found}
-use Rattle.ira_elim.specs.declared.found.Found.TheVariants.{Absent, Present}
-use Rattle.ira_audit.specs.Findings.{is_present}
+use Rattle.ira_audit.specs.DecidedCases.{counted}
 use Rattle.ira_audit.specs.Report.{reason_words}
 use Rattle.ira_audit.specs.declared.answer.Answer.{Answer}
 use Rattle.ira_audit.specs.declared.answer.Answer.TheVariants.{Yes, No}
@@ -63,21 +64,29 @@ present_members case cut =
     (member (codes "found") (string (codes "present"))
     (member (codes "type") (string (codes "case")) no_members)))
 
--- what is found for the case of this number
+-- what is found of the case of this number, with its steps counted
+abbrev pub decided_members : {A : Type 0} → ℕ → Decided ℕ A → Members
+decided_members case (Absent steps spent) = absent_members case steps spent
+decided_members case (Present cut) = present_members case cut
+
 abbrev pub found_members : {A : Type 0} → ℕ → Found A → Members
-found_members case (Absent section) = absent_members case (length section.steps) section.spent
-found_members case (Present cut) = present_members case cut
+found_members case found = decided_members case (counted found)
 
 -- the same of a case with its number
-abbrev pub case_value : {A : Type 0} → ℕ × Found A → Data
-case_value case = object (found_members case.0 case.1)
+abbrev pub case_value : {A : Type 0} → ℕ × Decided ℕ A → Data
+case_value case = object (decided_members case.0 case.1)
+
+-- whether it is present
+abbrev pub is_met : {A : Type 0} → Decided ℕ A → Bool
+is_met (Absent steps spent) = false
+is_met (Present cut) = true
 
 -- what is found for all cases of a question about a ring of so many nodes, and then for each, in order
-abbrev pub cases_values : {A : Type 0} → ℕ → ℕ → List (Found A) → List Data
-cases_values nodes status found =
-    decision_value (decision_word (list_any is_present found)) nodes status ∷ map case_value (enumerate_from 0 found)
+abbrev pub cases_values : {A : Type 0} → ℕ → ℕ → List (Decided ℕ A) → List Data
+cases_values nodes status cases =
+    decision_value (decision_word (list_any is_met cases)) nodes status ∷ map case_value (enumerate_from 0 cases)
 
 -- findings, and the status that goes with them: the answer by a reason, or what is found for the cases
 abbrev pub findings_values : {A : Type 0} → ℕ → Findings A → List Data
 findings_values status (Refused reason) = answer_value status (No reason) ∷ []
-findings_values status (Cases nodes found) = cases_values nodes status found.items
+findings_values status (Cases nodes found) = cases_values nodes status (map counted found.items)

@@ -3,15 +3,17 @@ ghost use Rattle.std.specs.List.{enumerate_from};
 ghost use Rattle.serde_json.specs.View.{view};
 ghost use Rattle.ira_audit.specs.Findings.{AreReportable};
 ghost use Rattle.ira_audit.specs.Report.{IsReportable};
-ghost use Rattle.ira_json.specs.AnswerValue.{answer_value, findings_values};
+ghost use Rattle.ira_json.specs.AnswerValue.{answer_value, cases_values};
 ghost use Rattle.ira_json.specs.ExplainedFindings.{explained_case, explained_findings};
 ghost use Rattle.ira_json.specs.ExplainedValue.{explained_value};
 ghost use Rattle.ira_json.specs.Line.{AreLinesOf, IsLineOf};
 
-use crate::answer_values::{answer_value, cases_value, explained_case, explained_decision};
+use crate::answer_values::{
+    answer_value, case_value, cases_value, explained_case, explained_decision,
+};
 use crate::explained::explained_value;
 use crate::line::line_of;
-use ira_audit::{Answer, Findings};
+use ira_audit::{Answer, DecidedCases, Findings};
 use ira_elim::Found;
 use ira_event::OutOfMemory;
 use ira_view_page::{AskedCase, Explanation};
@@ -53,7 +55,7 @@ fn case_line<A: Allocator, B: Allocator>(
 }
 
 /// The line of a value, and those of cases after it.
-fn cases_lines<A: Allocator, B: Allocator>(
+fn explained_cases_lines<A: Allocator, B: Allocator>(
     alloc: Global,
     first: &Value,
     found: &[Found<B>],
@@ -69,27 +71,29 @@ fn cases_lines<A: Allocator, B: Allocator>(
     Ok(text)
 }
 
-/// The lines of findings, with the status that goes with them: for a refusal that of its answer, else one for the
-/// decision, and one for each case. The reason must not say that memory ran out.
-pub fn findings_lines<A: Allocator>(
+/// The lines of what is found for the cases of a question, with the status that goes with it: one for all of them, and
+/// one for each.
+pub fn cases_lines<A: Allocator>(
     alloc: Global,
-    findings: &Findings<A>,
+    decided: &DecidedCases<A>,
     status: u8,
 ) -> Result<String, OutOfMemory>
-    requires { AreReportable findings.now }
-    ensures { IfOk result (λ text. AreLinesOf (findings_values status findings.now) (string_bytes text)) }
+    ensures { IfOk result (λ text. AreLinesOf
+        (cases_values decided.now.nodes status decided.now.cases.items) (string_bytes text)) }
 {
-    match findings {
-        Findings::Refused(reason) => answer_line(alloc, &Answer::No(*reason), status),
-        Findings::Cases { nodes, found } => {
-            let decision = cases_value(alloc, found, nodes.get(), status)?;
-            let explained: Vec<AskedCase<Global>> = Vec::new(alloc);
-            cases_lines(alloc, &decision, found, &explained)
-        }
+    let cases = decided.cases.as_slice();
+    let first = cases_value(alloc, cases, decided.nodes.get(), status)?;
+    let mut text = line_of(alloc, &first)?;
+    for (case, decided) in cases.iter().enumerate() {
+        let line = line_of(alloc, &case_value(alloc, case as u64, decided)?)?;
+        text.push_str(line.as_str())?;
     }
+    Ok(text)
 }
 
-/// The same with what they rest on: for a refusal its reason, and for a case that is explained what it asks.
+/// The lines of findings with what they rest on, and the status that goes with them: for a refusal that of its answer
+/// with its reason, else one for the decision, and one for each case, with what it asks where it is explained. The
+/// reason must not say that memory ran out.
 pub fn explained_findings_lines<A: Allocator, B: Allocator>(
     alloc: Global,
     findings: &Findings<B>,
@@ -106,7 +110,7 @@ pub fn explained_findings_lines<A: Allocator, B: Allocator>(
         }
         Findings::Cases { found, .. } => {
             let decision = explained_decision(alloc, found, status, explanation)?;
-            cases_lines(alloc, &decision, found, &explanation.cases)
+            explained_cases_lines(alloc, &decision, found, &explanation.cases)
         }
     }
 }

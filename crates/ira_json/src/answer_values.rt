@@ -4,14 +4,14 @@ ghost use Rattle.serde_json.specs.Data.{array, string};
 ghost use Rattle.serde_json.specs.View.{items_of, view};
 ghost use Rattle.ira_audit.specs.Findings.{is_present};
 ghost use Rattle.ira_audit.specs.Report.{IsReportable};
-ghost use Rattle.ira_json.specs.AnswerValue.{absent_members, answer_members, answer_value, answer_words, decision_value, decision_word, found_members, present_members, worded_members};
+ghost use Rattle.ira_json.specs.AnswerValue.{absent_members, answer_members, answer_value, answer_words, case_value, decided_members, decision_value, decision_word, found_members, is_met, present_members, worded_members};
 ghost use Rattle.ira_json.specs.ExplainedFindings.{ask_value, explained_case, explained_decision, with_asks};
 ghost use Rattle.ira_json.specs.Object.{Holds, Puts};
 
 use crate::object::Object;
 use crate::values::numbers_value;
 use ira_audit::{Answer, write_report};
-use ira_elim::Found;
+use ira_elim::{Decided, Found, StepCount};
 use ira_event::{MemorySink, OutOfMemory};
 use ira_view_page::{AskedCase, AskedNode, Explanation};
 use serde_json::Value;
@@ -68,12 +68,21 @@ fn has_present<A: Allocator>(found: &[Found<A>]) -> bool
     found.iter().any(|found| matches!(found, Found::Present(_)))
 }
 
+/// Whether a case is present, of which the steps were counted.
+fn has_met<A: Allocator>(cases: &[Decided<StepCount, A>]) -> bool
+    ensures { result ≡ list_any is_met cases.now }
+{
+    cases
+        .iter()
+        .any(|decided| matches!(decided, Decided::Present(_)))
+}
+
 /// What is found for all cases, and the status that goes with it.
-fn decided<A: Allocator>(alloc: Global, found: &[Found<A>], status: u8) -> Object
-    ensures { Holds (worded_members (decision_word (list_any is_present found.now)) status) result }
+fn decided(alloc: Global, is_present: bool, status: u8) -> Object
+    ensures { Holds (worded_members (decision_word is_present) status) result }
 {
     let mut object = Object::of(alloc, "answer");
-    object.words("answer", decision_word(has_present(found)));
+    object.words("answer", decision_word(is_present));
     object.number("status", status as u64);
     object.number("version", 1);
     object
@@ -82,14 +91,14 @@ fn decided<A: Allocator>(alloc: Global, found: &[Found<A>], status: u8) -> Objec
 /// What is found for the cases of a question about a ring of so many nodes, and the status that goes with it.
 pub(crate) fn cases_value<A: Allocator>(
     alloc: Global,
-    found: &[Found<A>],
+    cases: &[Decided<StepCount, A>],
     nodes: u8,
     status: u8,
 ) -> Result<Value, OutOfMemory>
     ensures { IfOk result (λ value.
-        view value ≡ decision_value (decision_word (list_any is_present found.now)) nodes status) }
+        view value ≡ decision_value (decision_word (list_any is_met cases.now)) nodes status) }
 {
-    let mut object = decided(alloc, found, status);
+    let mut object = decided(alloc, has_met(cases), status);
     object.number("nodes", nodes as u64);
     object.finish()
 }
@@ -103,7 +112,7 @@ pub(crate) fn explained_decision<A: Allocator, B: Allocator>(
 ) -> Result<Value, OutOfMemory>
     ensures { IfOk result (λ value. view value ≡ explained_decision status found.now explanation.now) }
 {
-    let mut object = decided(alloc, found, status);
+    let mut object = decided(alloc, has_present(found), status);
     object.null("reason");
     object.explanation(explanation);
     object.finish()
@@ -139,6 +148,26 @@ fn found_for<A: Allocator>(alloc: Global, case: u64, found: &Found<A>) -> Object
     match found {
         Found::Absent(section) => absent(alloc, case, section.steps.len() as u64, section.spent),
         Found::Present(cut) => present(alloc, case, cut.positions()),
+    }
+}
+
+/// What is found for the case of this number, with its steps counted.
+pub(crate) fn case_value<A: Allocator>(
+    alloc: Global,
+    case: u64,
+    decided: &Decided<StepCount, A>,
+) -> Result<Value, OutOfMemory>
+    ensures { IfOk result (λ value. view value ≡ case_value (case, decided.now)) }
+{
+    decided_for(alloc, case, decided).finish()
+}
+
+fn decided_for<A: Allocator>(alloc: Global, case: u64, decided: &Decided<StepCount, A>) -> Object
+    ensures { Holds (decided_members case decided.now) result }
+{
+    match decided {
+        Decided::Absent { steps, spent } => absent(alloc, case, steps.get(), *spent),
+        Decided::Present(cut) => present(alloc, case, cut.positions()),
     }
 }
 

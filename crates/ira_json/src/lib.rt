@@ -16,7 +16,7 @@ mod ring_lines;
 mod shown_answer;
 mod values;
 
-pub use answer_lines::{answer_line, explained_findings_lines, explained_line, findings_lines};
+pub use answer_lines::{answer_line, cases_lines, explained_findings_lines, explained_line};
 pub use folder_lines::{folder_answer_line, unread_line};
 pub use line::write_line;
 pub use ring_lines::write_ring;

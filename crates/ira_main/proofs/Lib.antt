@@ -1,4 +1,5 @@
 pub mod Asking
+pub mod Deciding
 pub mod FilesRead
 pub mod Folders
 pub mod InputAudits

@@ -73,6 +73,12 @@ PrintsFindings writes is_json name shelf shelf' out out' outcome findings =
     × ((Takes text out out' × KeepsFindings writes findings name shelf shelf' outcome)
     ⊎ (StopsIn text out out' × (shelf' ≡ shelf) × (outcome ≡ Err CannotWriteAnswer)))
 
+-- that text was printed, with the status of the findings
+abbrev pub PrintsFound : {A : Type 0} → Bool → SinkState → SinkState → Outcome → Findings A → Type 0
+PrintsFound is_json out out' outcome findings =
+    (text : List ℕ) × IsFindingsText is_json findings text
+    × (status : Status) × IsFindingsStatus findings status × Prints text status out out' outcome
+
 -- the text that is printed of findings that are explained: as JSON with what they rest on, where that is wanted; or
 -- else their lines, and a page of printable text after them
 abbrev pub IsExplainedText : {A : Type 0} → Bool → Findings A → List ℕ → Type 0

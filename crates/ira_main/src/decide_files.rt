@@ -1,96 +1,93 @@
-ghost use Rattle.std.specs.Prelude.{◌≡◌, ◌⊎◌, false, true, Err};
+ghost use Rattle.std.specs.Prelude.{◌≡◌, ◌⊎◌, Bool, Err};
 ghost use Rattle.std.specs.Option.{is_some};
 ghost use Rattle.ira_audit.specs.AskedQuestion.{AreFoundOf};
-ghost use Rattle.ira_audit.specs.Findings.{AreReportable};
-ghost use Rattle.ira_audit.specs.WrittenFindings.{AreWritten};
+ghost use Rattle.ira_audit.specs.DecidedCases.{AreDecided};
 ghost use Rattle.ira_audit.specs.declared.findings.Findings.{Findings};
 ghost use Rattle.ira_files.specs.Shelf.{WritesFile};
-ghost use Rattle.ira_main.specs.Decide.{KeepsFindings, PrintsFindings};
+ghost use Rattle.ira_main.specs.Decide.{KeepsFindings, PrintsFindings, PrintsFound};
 ghost use Rattle.ira_main.specs.Serve.{DecidesLogs};
 ghost use Rattle.ira_main.specs.declared.program_fault.ProgramFault.TheVariants.{OutOfMemory};
 
-use crate::cert_file::{keep, keep_written};
+use crate::cert_file::keep_written;
 use crate::overwriting::keep_inputs;
 use crate::program_fault::ProgramFault;
 use crate::read_files::{read_file, read_logs};
-use crate::report::{print_text, report};
+use crate::report::{print_text, report_as};
 use crate::source_names::source_names;
 use crate::status::Status;
-use ira_audit::{Answer, AskedQuestion, Findings, Refusal, WrittenFindings};
-use ira_event::{Sink, WriteFault, write_bytes};
+use ira_audit::{Answer, AskedQuestion, DecidedCases, Refusal};
+use ira_event::{MemorySink, Sink};
 use ira_files::{FileName, Shelf};
-use ira_json::findings_lines;
+use ira_json::cases_lines;
 use ira_words::DecideRequest;
 use std::alloc::{Allocator, Global};
 use std::thread::Threads;
 
-// Keeps the certificate of these findings, if there is one, in a new file of this name, if there is one.
-fn keep_findings<'a, A: Allocator, F: Shelf>(
-    written: &WrittenFindings<A>,
+// Keeps the certificate of what was found, if there is one, in a new file of this name, if there is one.
+fn keep_found<'a, A: Allocator, F: Shelf>(
+    decided: &DecidedCases<A>,
     name: Option<&'a str>,
     shelf: &mut F,
 ) -> Result<Status, ProgramFault<'a>>
-    ensures { (findings : Findings A) → AreWritten (is_some name.entry) findings written.now
+    ensures { (findings : Findings A) → AreDecided (is_some name.entry) findings decided.now
         → KeepsFindings (WritesFile F.creates F.closes F.Out.state) findings name.entry shelf.old shelf.new result }
 {
-    if !written.are_absent() {
+    if !decided.are_absent {
         return Ok(Status::No);
     }
     match name {
-        Some(name) => keep_written(written.certificate(), name, shelf),
+        Some(name) => keep_written(decided.certificate_text(), name, shelf),
         None => Ok(Status::Yes),
     }
 }
 
-// Prints the findings as JSON, and then keeps their certificate, which is made before anything is printed.
-fn print_json<'a, A: Allocator + Clone, F: Shelf, W: Sink>(
-    alloc: Global,
-    findings: Findings<A>,
-    name: Option<&'a str>,
-    shelf: &mut F,
+// Prints what was found, with its status: as JSON, where that is wanted, or else its lines, which are put together first,
+// since the output isn't buffered.
+fn print_found<'a, A: Allocator, W: Sink>(
+    global: Global,
+    alloc: A,
+    is_json: bool,
+    decided: &DecidedCases<A>,
     out: &mut W,
 ) -> Result<Status, ProgramFault<'a>>
-    requires { AreReportable findings }
-    ensures { PrintsFindings (WritesFile F.creates F.closes F.Out.state) true name.entry shelf.old shelf.new
-        (W.state out.old) (W.state out.new) result findings
-        ⊎ ((shelf.new ≡ shelf.old) × (W.state out.new ≡ W.state out.old) × (result ≡ Err OutOfMemory)) }
+    ensures { (certify : Bool) (findings : Findings A) → AreDecided certify findings decided.now
+        → PrintsFound is_json (W.state out.old) (W.state out.new) result findings
+        ⊎ ((W.state out.new ≡ W.state out.old) × (result ≡ Err OutOfMemory)) }
 {
-    let status = Status::of_findings(&findings);
-    let text = findings_lines(alloc, &findings, status.number())?;
-    let Some(name) = name else {
+    let status = Status::of_absent(decided.are_absent);
+    if is_json {
+        let text = cases_lines(global, decided, status.number())?;
         return print_text(text.as_bytes(), status, out);
-    };
-    let certificate = findings.into_certificate()?;
-    print_text(text.as_bytes(), status, out)?;
-    match certificate {
-        Some(certificate) => keep(&certificate, name, shelf),
-        None => Ok(status),
     }
+    let mut text = MemorySink::new(alloc);
+    let Ok(()) = decided.write(&mut text) else {
+        return Err(ProgramFault::OutOfMemory);
+    };
+    print_text(text.bytes(), status, out)
 }
 
-// Prints the lines of what is found for the question, and then keeps the certificate, where it is named. The lines are
-// put together first, since the output isn't buffered, and with them the text of the certificate.
-fn print_lines<'a, A: Allocator + Clone, F: Shelf, W: Sink>(
+// Prints what is found for the question, and then keeps its certificate, where a name is given for one.
+fn decide_asked<'a, A: Allocator + Clone, F: Shelf, W: Sink>(
+    global: Global,
+    alloc: A,
     asked: &AskedQuestion<'_, A>,
-    name: Option<&'a str>,
+    decide: &DecideRequest<'a>,
     shelf: &mut F,
     out: &mut W,
 ) -> Result<Status, ProgramFault<'a>>
     ensures { ((findings : Findings A) × AreFoundOf asked.now findings
-        × PrintsFindings (WritesFile F.creates F.closes F.Out.state) false name.entry shelf.old shelf.new
-        (W.state out.old) (W.state out.new) result findings)
+        × PrintsFindings (WritesFile F.creates F.closes F.Out.state) decide.now.is_json decide.now.certificate
+        shelf.old shelf.new (W.state out.old) (W.state out.new) result findings)
         ⊎ ((shelf.new ≡ shelf.old) × (W.state out.new ≡ W.state out.old) × (result ≡ Err OutOfMemory)) }
 {
-    let written = asked.decide_in_writing(name.is_some())?;
-    match write_bytes(written.lines(), out) {
-        Ok(()) => keep_findings(&written, name, shelf),
-        Err(WriteFault) => Err(ProgramFault::CannotWriteAnswer),
-    }
+    let decided = asked.decide_counted(decide.certificate.is_some())?;
+    print_found(global, alloc, decide.is_json, &decided, out)?;
+    keep_found(&decided, decide.certificate, shelf)
 }
 
 /// Reads the question and then the logs, all before one is judged, decides the question, and prints what is found. A
-/// certificate is kept only once that is printed, and never over one of these files. The steps of no case are kept, but
-/// for JSON, where the certificate is made of them.
+/// certificate is kept only once that is printed, and never over one of these files. The steps of no case are kept: they
+/// are counted, or, where a certificate is asked for, written into its text.
 pub(crate) fn decide_files<'a, R, A, F, W>(
     rt: &R,
     alloc: A,
@@ -111,13 +108,11 @@ where
     let question = read_file(&alloc, FileName::Given(decide.question), shelf)?;
     let audit = read_logs(rt, alloc.clone()?, &names, shelf)?;
     let judged = audit.judge_on_threads(rt)?;
-    if decide.is_json {
-        let findings = judged.decide(question.bytes())?;
-        return print_json(rt.alloc(), findings, decide.certificate, shelf, out);
-    }
     match judged.ask(question.bytes()) {
-        Ok(asked) => print_lines(&asked, decide.certificate, shelf, out),
-        Err(Refusal::No(reason)) => report(&Answer::No(reason), out),
+        Ok(asked) => decide_asked(rt.alloc(), alloc, &asked, decide, shelf, out),
+        Err(Refusal::No(reason)) => {
+            report_as(rt.alloc(), decide.is_json, &Answer::No(reason), out)
+        }
         Err(Refusal::OutOfMemory) => Err(ProgramFault::OutOfMemory),
     }
 }

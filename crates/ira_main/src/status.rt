@@ -1,4 +1,4 @@
-ghost use Rattle.std.specs.Prelude.{◌≡◌};
+ghost use Rattle.std.specs.Prelude.{◌≡◌, IsFalse, IsTrue};
 ghost use Rattle.ira_main.specs.Status.{IsElectionStatus, IsFindingsStatus, IsLeadsStatus, answer_status, status_number};
 
 use ira_audit::{Answer, Findings};
@@ -31,11 +31,15 @@ impl Status {
     pub(crate) fn of_findings<A: Allocator + Clone>(findings: &Findings<A>) -> Status
         ensures { IsFindingsStatus findings.now result }
     {
-        if findings.are_absent() {
-            Status::Yes
-        } else {
-            Status::No
-        }
+        Status::of_absent(findings.are_absent())
+    }
+
+    /// Whether each case is absent, where that is known.
+    pub(crate) fn of_absent(are_absent: bool) -> Status
+        ensures yes { IsTrue are_absent → result ≡ Status.Yes }
+        ensures no { IsFalse are_absent → result ≡ Status.No }
+    {
+        if are_absent { Status::Yes } else { Status::No }
     }
 
     /// Whether a node leads.

@@ -20,10 +20,10 @@ pub returns-in_ok-decision-in-Cases : goal.returns-in_ok-decision-in-Cases
 returns-in_ok-decision-in-Cases g c =
     let status = c.args.status in
     let explanation = c.args.explanation.now in
-    let r = c.cases_lines.result in
+    let r = c.explained_cases_lines.result in
     let decision = c.in_ok-decision-in-Cases.ensures
     ∙ ap (λ found. explained_decision status found explanation) c.deref.ensures.value in
     let values = lists_are _ _ _ _ _ _ decision c.deref-in-Cases-2.ensures.value c.deref-in-Cases.ensures.value in
     subst (λ findings. IfOk r (λ text. AreLinesOf (explained_findings status findings explanation) (string_bytes text)))
     (sym c.in-Cases.is)
-    (subst (λ values. IfOk r (λ text. AreLinesOf values (string_bytes text))) values c.cases_lines.ensures)
+    (subst (λ values. IfOk r (λ text. AreLinesOf values (string_bytes text))) values c.explained_cases_lines.ensures)

@@ -3,7 +3,7 @@ use Rattle.ira_json.proofs.Putting.{◌&◌, begun}
 use Rattle.ira_json.proofs.answer_values.decided.Goals as goal
 
 pub returns : goal.returns
-returns g c =
+returns c =
     begun refl
-    (c.of-object.ensures & rw (c.decision_word.ensures, c.has_present.ensures) at c.words.ensures & c.number.ensures
+    (c.of-object.ensures & rw c.decision_word.ensures at c.words.ensures & c.number.ensures
     & c.number-2.ensures)

@@ -1,6 +1,6 @@
 use Rattle.std.proofs.Common.{◌≡◌, refl, sym, ◌∙◌}
-use Rattle.ira_audit.proofs.Written.{added_present, added_uncertified}
-use Rattle.ira_audit.proofs.findings_draft.FindingsDraft.decide_without.Goals as goal
+use Rattle.ira_audit.proofs.Counting.{added_present, added_uncertified}
+use Rattle.ira_audit.proofs.cases_draft.CasesDraft.decide_without.Goals as goal
 
 pub returns-in-Absent-clause-decided : goal.returns-in-Absent-clause-decided
 returns-in-Absent-clause-decided g c = λ nodes certify found certificate none so_far.

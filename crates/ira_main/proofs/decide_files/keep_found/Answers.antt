@@ -5,7 +5,7 @@ use Rattle.ira_cert_text.specs.Certificate.{Certificate}
 use Rattle.ira_cert_text.specs.CertText.{IsCertText, cert_text}
 use Rattle.ira_main.specs.CertFile.{IsTextToKeep}
 use Rattle.ira_main.specs.Decide.KeepsFindings.{absent, certified}
-use Rattle.ira_main.proofs.decide_files.keep_findings.Goals as goal
+use Rattle.ira_main.proofs.decide_files.keep_found.Goals as goal
 
 -- a text that is lent is the one that it is
 to_keep : (text : Option (Bor (List ℕ))) (c : Certificate)
@@ -14,11 +14,17 @@ to_keep : (text : Option (Bor (List ℕ))) (c : Certificate)
 to_keep None c h = h
 to_keep (Some t) c h = h
 
+match_map : {X Y : Type 0} (f : X → Y) (r : Option X) (P : Type 0) (Q : Y → Type 0) → MatchOption r P (λ x. Q (f x))
+    → MatchOption (option_map f r) P Q
+match_map f None P Q h = h
+match_map f (Some x) P Q h = h
+
 pub returns-in-Some : goal.returns-in-Some
 returns-in-Some g c = λ findings is.
     let made = is.certificate (rw c.in-Some.is refl) (search rules) in
     certified made.0 c.in-Some.name made.1 c.in-Some.is
-    (c.keep_written.ensures made.0 (to_keep c.certificate.result made.0 (rw c.certificate.ensures made.2)))
+    (c.keep_written.ensures made.0 (to_keep c.certificate_text.result made.0 (rw c.certificate_text.ensures
+    (match_map (λ t. t.bytes) c.args.decided.now.certificate _ _ made.2))))
 
 pub returns-in-None : goal.returns-in-None
 returns-in-None g c = λ findings is.

@@ -2,8 +2,8 @@ use Rattle.std.proofs.Common.{◌≡◌, List, refl, subst, length, ap, sym, ◌
 use Rattle.ira_cert_text.specs.Certificate.{Section}
 use Rattle.ira_cert_text.specs.declared.cert_step.CertStep.{CertStep}
 use Rattle.ira_elim.specs.Found.{IsAbsence}
-use Rattle.ira_audit.proofs.Written.{added_certified, added_present}
-use Rattle.ira_audit.proofs.findings_draft.FindingsDraft.decide_with.Goals as goal
+use Rattle.ira_audit.proofs.Counting.{added_certified, added_present}
+use Rattle.ira_audit.proofs.cases_draft.CasesDraft.decide_with.Goals as goal
 
 pub returns-in_ok-add-in-Absent-clause-decided : goal.returns-in_ok-add-in-Absent-clause-decided
 returns-in_ok-add-in-Absent-clause-decided g c = λ nodes certify found so_far.

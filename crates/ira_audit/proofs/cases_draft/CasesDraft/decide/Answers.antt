@@ -1,6 +1,6 @@
 use Rattle.std.proofs.Common.{◌≡◌, None, Some, subst, sym, ◌∙◌, rules}
-use Rattle.ira_audit.specs.WrittenFindings.{IsCertifying}
-use Rattle.ira_audit.proofs.findings_draft.FindingsDraft.decide.Goals as goal
+use Rattle.ira_audit.specs.DecidedCases.{IsCertifying}
+use Rattle.ira_audit.proofs.cases_draft.CasesDraft.decide.Goals as goal
 
 pub returns-in-Some-clause-decided : goal.returns-in-Some-clause-decided
 returns-in-Some-clause-decided g c = λ nodes certify found so_far.

@@ -1,38 +1,38 @@
-ghost use Rattle.std.specs.Prelude.{◌≡◌, ◌++◌, ◌∷◌, [], ℕ, Bool, List, Option, Some, None, IfOk, length};
+ghost use Rattle.std.specs.Prelude.{◌≡◌, ◌++◌, ◌∷◌, [], ℕ, Bool, List, Option, Some, None, IfOk};
 ghost use Rattle.ira_cert.specs.Conjuncts.{HasPlacesOf};
 ghost use Rattle.ira_cert_text.specs.declared.cert_draft.CertDraft.{CertDraft};
 ghost use Rattle.ira_elim.specs.Found.{IsFound};
 ghost use Rattle.ira_elim.specs.declared.found.Found.{Found};
-ghost use Rattle.ira_audit.specs.WrittenFindings.{AreDrafted, AreOfCases, AreWritten, IsAdded, IsCertifying};
+ghost use Rattle.ira_audit.specs.DecidedCases.{AreDecided, AreDrafted, AreOfCases, IsAdded, IsCertifying};
 ghost use Rattle.ira_audit.specs.declared.findings.Findings.{Findings};
 
-use crate::findings_writer::write_decided_case;
-use crate::written_findings::WrittenFindings;
+use crate::decided_cases::DecidedCases;
 use ira_cert::Profiles;
 use ira_cert_text::{CertDraft, Section};
 use ira_elim::{Decided, StepCount, decide_into};
-use ira_event::{MemorySink, OutOfMemory, RingSize};
+use ira_event::{OutOfMemory, RingSize};
 use ira_order::HappenedBefore;
 use ira_pred::Case;
 use std::alloc::Allocator;
 
-/// What is found for the first cases of a question, written down while they are decided.
+/// What is found for the first cases of a question, while they are decided.
 #[derive(Drop)]
-pub(crate) struct FindingsDraft<A: Allocator> {
-    lines: MemorySink<A>,
+pub(crate) struct CasesDraft<A: Allocator> {
+    nodes: RingSize,
+    cases: Vec<Decided<StepCount, A>, A>,
     /// Whether each of them is absent.
     are_absent: bool,
     /// The certificate of their sections, where it is asked for and as long as each of them is absent.
     certificate: Option<CertDraft<A>>,
 }
 
-impl<A: Allocator + Clone> FindingsDraft<A> {
+impl<A: Allocator + Clone> CasesDraft<A> {
     /// Before the first case.
     pub(crate) fn new(
         alloc: A,
         nodes: RingSize,
         certify: bool,
-    ) -> Result<FindingsDraft<A>, OutOfMemory>
+    ) -> Result<CasesDraft<A>, OutOfMemory>
         ensures { IfOk result (λ draft. AreDrafted {A = A} nodes certify [] draft) }
     {
         let certificate = if certify {
@@ -40,33 +40,30 @@ impl<A: Allocator + Clone> FindingsDraft<A> {
         } else {
             None
         };
-        Ok(FindingsDraft {
-            lines: MemorySink::new(alloc),
+        Ok(CasesDraft {
+            nodes,
+            cases: Vec::new(alloc),
             are_absent: true,
             certificate,
         })
     }
 
-    /// Decides the case that comes next, of this number, and writes down what is found.
+    /// Decides the case that comes next, and keeps what is found.
     pub(crate) fn decide_next<C: HappenedBefore>(
         &mut self,
         alloc: A,
         profiles: &Profiles<'_, '_, A>,
         ordered: &C,
-        number: u64,
         case: &Case<A>,
     ) -> Result<(), OutOfMemory>
         requires order { (C.logs_of ordered.now) ≡ profiles.now }
         requires places { HasPlacesOf profiles.now case.now }
-        ensures { (nodes : ℕ) (certify : Bool) (found : List (Found A)) → length found ≡ number
-            → AreDrafted nodes certify found self.old
+        ensures { (nodes : ℕ) (certify : Bool) (found : List (Found A)) → AreDrafted nodes certify found self.old
             → IfOk result (λ _. (next : Found A) × IsFound profiles.now case.now next
             × AreDrafted nodes certify (found ++ next ∷ []) self.new) }
     {
         let decided = self.decide(alloc, profiles, ordered, case)?;
-        let Ok(()) = write_decided_case(number, &decided, &mut self.lines) else {
-            return Err(OutOfMemory);
-        };
+        self.cases.push(decided)?;
         Ok(())
     }
 
@@ -80,7 +77,8 @@ impl<A: Allocator + Clone> FindingsDraft<A> {
     ) -> Result<Decided<StepCount, A>, OutOfMemory>
         requires order { (C.logs_of ordered.now) ≡ profiles.now }
         requires places { HasPlacesOf profiles.now case.now }
-        ensures lines { self.new.lines ≡ self.old.lines }
+        ensures nodes { self.new.nodes ≡ self.old.nodes }
+        ensures cases { self.new.cases ≡ self.old.cases }
         ensures decided { (nodes : ℕ) (certify : Bool) (found : List (Found A))
             → IsCertifying nodes certify found self.old.are_absent self.old.certificate
             → IfOk result (λ decided. IsAdded profiles.now case.now nodes certify found decided self.new.are_absent
@@ -103,7 +101,8 @@ impl<A: Allocator + Clone> FindingsDraft<A> {
     ) -> Result<Decided<StepCount, A>, OutOfMemory>
         requires order { (C.logs_of ordered.now) ≡ profiles.now }
         requires places { HasPlacesOf profiles.now case.now }
-        ensures lines { self.new.lines ≡ self.old.lines }
+        ensures nodes { self.new.nodes ≡ self.old.nodes }
+        ensures cases { self.new.cases ≡ self.old.cases }
         ensures decided { (nodes : ℕ) (certify : Bool) (found : List (Found A))
             → IsCertifying nodes certify found self.old.are_absent (Some certificate)
             → IfOk result (λ decided. IsAdded profiles.now case.now nodes certify found decided self.new.are_absent
@@ -135,7 +134,8 @@ impl<A: Allocator + Clone> FindingsDraft<A> {
     ) -> Result<Decided<StepCount, A>, OutOfMemory>
         requires order { (C.logs_of ordered.now) ≡ profiles.now }
         requires places { HasPlacesOf profiles.now case.now }
-        ensures lines { self.new.lines ≡ self.old.lines }
+        ensures nodes { self.new.nodes ≡ self.old.nodes }
+        ensures cases { self.new.cases ≡ self.old.cases }
         ensures decided { (nodes : ℕ) (certify : Bool) (found : List (Found A)) (certificate : Option (CertDraft A))
             → certificate ≡ None → IsCertifying nodes certify found self.old.are_absent certificate
             → IfOk result (λ decided. IsAdded profiles.now case.now nodes certify found decided self.new.are_absent
@@ -150,26 +150,29 @@ impl<A: Allocator + Clone> FindingsDraft<A> {
         }
     }
 
-    /// What was written of all cases.
-    pub(crate) fn finish(self) -> Result<WrittenFindings<A>, OutOfMemory>
+    /// What is kept of all cases.
+    pub(crate) fn finish(self) -> Result<DecidedCases<A>, OutOfMemory>
         ensures { (certify : Bool) (nodes : ℕ) (found : List (Found A)) (findings : Findings A)
             → AreDrafted nodes certify found self → AreOfCases nodes found findings
-            → IfOk result (AreWritten certify findings) }
+            → IfOk result (AreDecided certify findings) }
     {
-        let FindingsDraft {
-            lines,
+        let CasesDraft {
+            nodes,
+            cases,
             are_absent,
             certificate,
         } = self;
         let Some(draft) = certificate else {
-            return Ok(WrittenFindings {
-                lines,
+            return Ok(DecidedCases {
+                nodes,
+                cases,
                 are_absent,
                 certificate: None,
             });
         };
-        Ok(WrittenFindings {
-            lines,
+        Ok(DecidedCases {
+            nodes,
+            cases,
             are_absent,
             certificate: draft.finish()?,
         })

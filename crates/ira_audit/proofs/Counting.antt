@@ -1,12 +1,10 @@
--- Findings that are written down case by case.
+-- What is kept of cases while they are decided, with their steps counted.
 use Rattle.std.proofs.Common.{◌≡◌, ◌↔◌, ◌<◌, ℕ, ◌+◌, ◌^◌, Vec, Bool, true, false, List, [], ◌∷◌, ◌++◌, Option, Some}
-use Rattle.std.proofs.Common.{None, MatchOption, length, map, refl, sym, ap, ◌∙◌, subst, inl, inr, arith, append_assoc}
+use Rattle.std.proofs.Common.{None, MatchOption, length, map, refl, sym, ap, ◌∙◌, subst, inl, inr, arith}
 use denote.RawPtr.{null_ptr}
-use Rattle.std.specs.List.{AllZip, enumerate_from, flat_map}
-use Rattle.std.specs.Option.{option_map}
-use Rattle.std.specs.Prelude.{Contains, IsFalse, IsTrue, IfOk, Result, Ok, Err}
-use Rattle.ira_event.specs.declared.out_of_memory.OutOfMemory.{OutOfMemory}
-use Rattle.std.proofs.lemmas.List.{append-nil}
+use Rattle.std.specs.List.{enumerate_from, flat_map}
+use Rattle.std.specs.Prelude.{Contains, IsFalse, IsTrue}
+use Rattle.std.proofs.lemmas.List.{map-append}
 use Rattle.std.proofs.lemmas.List.Elements.{Contains-append_left, Contains-push, Contains-push_cases}
 use Rattle.ira_event.specs.Log.{Log}
 use Rattle.ira_pred.specs.Case.{Conjunct}
@@ -22,46 +20,33 @@ use Rattle.ira_elim.specs.declared.decided.Decided.TheVariants as decided
 use Rattle.ira_elim.specs.declared.found.Found.{Found}
 use Rattle.ira_elim.specs.declared.found.Found.TheVariants.{Absent, Present}
 use Rattle.ira_audit.specs.Findings.{HasPresent}
-use Rattle.ira_audit.specs.FindingsText.{absent_words, case_line, found_words}
-use Rattle.ira_audit.specs.WrittenFindings.{AreDrafted, AreOfCases, AreWritten, IsAdded}
-use Rattle.ira_audit.specs.WrittenFindings.{IsCertifying, IsCounted, Written}
+use Rattle.ira_audit.specs.DecidedCases.{AreCounted, AreDecided, AreDrafted, AreOfCases, IsAdded, IsCertifying, counted}
+use Rattle.ira_audit.specs.FindingsText.{case_line, decided_line, findings_text}
 use Rattle.ira_audit.specs.declared.findings.Findings.{Findings}
 use Rattle.ira_audit.specs.declared.findings.Findings.TheVariants.{Refused, Cases}
-use Rattle.ira_audit.specs.declared.findings_draft.FindingsDraft.{FindingsDraft}
+use Rattle.ira_audit.specs.declared.cases_draft.CasesDraft.{CasesDraft}
+use Rattle.ira_audit.specs.declared.decided_cases.DecidedCases.{DecidedCases}
 
--- ---- what a line says
+-- ---- what is kept of each case
 
-pub absent_counted : {A : Type 0} (found : Found A) (steps spent : ℕ) → IsCounted found (decided.Absent steps spent)
-    → absent_words steps spent ≡ found_words found
-absent_counted (Absent section) steps spent is =
-    ap (λ (n : ℕ). absent_words n spent) is.0 ∙ ap (λ (n : ℕ). absent_words (length section.steps) n) is.1
-absent_counted (Present cut) steps spent is = absurd is
+-- one case more
+pub cases_more : {A : Type 0} (found : List (Found A)) (next : Found A) (old new : List (Decided ℕ A)) (d : Decided ℕ A)
+    → old ≡ map counted found → d ≡ counted next → new ≡ old ++ d ∷ [] → new ≡ map counted (found ++ next ∷ [])
+cases_more found next old new d so_far is e =
+    e ∙ ap (λ (ds : List (Decided ℕ _)). ds ++ d ∷ []) so_far
+    ∙ ap (λ (x : Decided ℕ _). map counted found ++ x ∷ []) is ∙ sym (map-append counted found (next ∷ []))
 
-pub present_counted : {A : Type 0} (found : Found A) (cut : List ℕ) → IsCounted found (decided.Present cut)
-    → found_words {A = A} (Present cut) ≡ found_words found
-present_counted (Absent section) cut is = absurd is
-present_counted {A} (Present cut') cut is = ap (λ (xs : List ℕ). found_words {A = A} (Present xs)) is
+-- the lines of cases with their steps counted are those of the cases
+lines_from : {A : Type 0} (k : ℕ) (found : List (Found A))
+    → flat_map decided_line (enumerate_from k (map counted found)) ≡ flat_map case_line (enumerate_from k found)
+lines_from k [] = refl
+lines_from k (f ∷ found) = ap (λ (t : List ℕ). case_line (k, f) ++ t) (lines_from (k + 1) found)
 
-line_after : {A : Type 0} (k : ℕ) (found : List (Found A)) (next : Found A)
-    → flat_map case_line (enumerate_from k (found ++ next ∷ [])) ≡ flat_map case_line (enumerate_from k found)
-    ++ case_line (k + length found, next)
-line_after k [] next = append-nil (case_line (k, next)) ∙ ap (λ (n : ℕ). case_line (n, next)) (omega arith)
-line_after k (f ∷ found) next =
-    let number : k + 1 + length found ≡ k + length (f ∷ found) = omega arith in
-    ap (λ (t : List ℕ). case_line (k, f) ++ t) (line_after (k + 1) found next
-    ∙ ap (λ (n : ℕ). flat_map case_line (enumerate_from (k + 1) found) ++ case_line (n, next)) number)
-    ∙ sym (append_assoc (case_line (k, f)) (flat_map case_line (enumerate_from (k + 1) found))
-    (case_line (k + length (f ∷ found), next)))
-
--- one line more
-pub lines_more : {A : Type 0} (found : List (Found A)) (next : Found A) (number : ℕ) (old new : List ℕ)
-    → length found ≡ number → old ≡ flat_map case_line (enumerate_from 0 found)
-    → new ≡ old ++ case_line (number, next) → new ≡ flat_map case_line (enumerate_from 0 (found ++ next ∷ []))
-lines_more found next number old new is so_far e =
-    let first : number ≡ 0 + length found = omega (arith, is) in
-    e ∙ ap (λ (t : List ℕ). t ++ case_line (number, next)) so_far
-    ∙ ap (λ (n : ℕ). flat_map case_line (enumerate_from 0 found) ++ case_line (n, next)) first
-    ∙ sym (line_after 0 found next)
+pub lines_are : {A : Type 0} (findings : Findings A) (nodes : ℕ) (cases : List (Decided ℕ A))
+    → AreCounted findings nodes cases → flat_map decided_line (enumerate_from 0 cases) ≡ findings_text findings
+lines_are (Refused r) nodes cases are = absurd are
+lines_are (Cases n found) nodes cases are =
+    ap (λ (ds : List (Decided ℕ _)). flat_map decided_line (enumerate_from 0 ds)) are.1 ∙ lines_from 0 found.items
 
 -- ---- a certificate that is put together
 
@@ -131,7 +116,7 @@ module _ {A Z : Type 0} (logs : List Log) (case : List Conjunct) (nodes : ℕ) (
       let section : Section = record { steps = is.0; spent = spent } in (
         Absent section,
         is.2,
-        (is.1, refl),
+        ap (λ (n : ℕ). decided.Absent n spent) is.1,
         absent_more nodes certify found are_absent old so_far section new (λ draft sections there drafted.
             absurd (let never : None ≡ Some draft = sym none ∙ there in cc)),
       )
@@ -141,10 +126,10 @@ module _ {A Z : Type 0} (logs : List Log) (case : List Conjunct) (nodes : ℕ) (
       → old ≡ Some before → new ≡ Some draft → IsAbsence logs case steps → count ≡ length steps.steps
       → ((n : ℕ) (sections : List Section) → IsDraft n before sections → IsDraft n draft (sections ++ steps ∷ []))
       → IsAdded logs case nodes certify found (decided.Absent count steps.spent) are_absent new
-  added_certified new before draft section count there now absence counted adds = (
+  added_certified new before draft section count there now absence is_count adds = (
     Absent section,
     absence,
-    (counted, refl),
+    ap (λ (n : ℕ). decided.Absent n section.spent) is_count,
     absent_more nodes certify found are_absent old so_far section new (λ d sections is drafted.
         (let same : before ≡ d = (let e : Some before ≡ Some d = sym there ∙ is in cc) in
         (draft, now, adds nodes sections (subst (λ (x : CertDraft Z). IsDraft nodes x sections) (sym same) drafted)))),
@@ -155,27 +140,27 @@ module _ {A Z : Type 0} (logs : List Log) (case : List Conjunct) (nodes : ℕ) (
   added_present new cut least =
       (Present cut, least, refl, present_more nodes certify found are_absent old so_far cut new)
 
--- ---- what is written at the end
+-- ---- what is kept at the end
 
-pub written_of : {A Z : Type 0} (certify : Bool) (nodes : ℕ) (found : List (Found A)) (findings : Findings A)
-    (draft : FindingsDraft Z) (text : Option (List ℕ)) → AreDrafted nodes certify found draft
-    → AreOfCases nodes found findings
-    → ((d : CertDraft Z) (c : Certificate) → draft.certificate ≡ Some d → IsDraft c.nodes d c.sections
-    → MatchOption text (¬ (IsCertText (cert_text c) c)) (λ t. (t ≡ cert_text c) × IsCertText (cert_text c) c))
-    → AreWritten certify findings (record {
-      lines = draft.lines.bytes;
-      are_absent = draft.are_absent;
-      certificate = text;
-    })
-written_of certify nodes found (Refused r) draft text h of whole = absurd of
-written_of {A} certify nodes found (Cases n list) draft text h of whole = record {
-  lines = h.lines_are ∙ ap (λ (fs : List (Found A)). flat_map case_line (enumerate_from 0 fs)) (sym of.1);
+pub decided_of : {A : Type 0} (certify : Bool) (nodes : ℕ) (found : List (Found A)) (findings : Findings A)
+    (draft : CasesDraft A) (d : DecidedCases A) → AreDrafted nodes certify found draft → AreOfCases nodes found findings
+    → d.nodes ≡ draft.nodes → d.cases.items ≡ draft.cases.items → d.are_absent ≡ draft.are_absent
+    → ((x : CertDraft A) (c : Certificate) → draft.certificate ≡ Some x → IsDraft c.nodes x c.sections
+    → MatchOption d.certificate (¬ (IsCertText (cert_text c) c)) (λ t. (t.bytes ≡ cert_text c)
+    × IsCertText (cert_text c) c))
+    → AreDecided certify findings d
+decided_of certify nodes found (Refused r) draft d h of nodes_are cases_are absent_is whole = absurd of
+decided_of {A} certify nodes found (Cases n list) draft d h of nodes_are cases_are absent_is whole = record {
+  cases = (
+    nodes_are ∙ h.nodes_are ∙ sym of.0,
+    cases_are ∙ h.cases_are ∙ ap (λ (fs : List (Found A)). map counted fs) (sym of.1),
+  );
   absent = (
-    λ some. subst HasPresent (sym of.1) (h.certifying.absent.0 some),
-    λ has. h.certifying.absent.1 (subst HasPresent of.1 has),
+    λ some. subst HasPresent (sym of.1) (h.certifying.absent.0 (subst IsFalse absent_is some)),
+    λ has. subst IsFalse (sym absent_is) (h.certifying.absent.1 (subst HasPresent of.1 has)),
   );
   certificate = λ yes all.
-      let made = h.certifying.sections_are yes all in
+      let made = h.certifying.sections_are yes (subst IsTrue absent_is all) in
       let c : Certificate = record { nodes = nodes; sections = made.1 } in
       (c, (sym of.0, of.1 ∙ made.4), whole made.0 c made.2 made.3);
 }
@@ -194,8 +179,3 @@ list_of alloc xs few = (
   },
   refl,
 )
-
-pub match_map : {X Y : Type 0} (f : X → Y) (r : Option X) (P : Type 0) (Q : Y → Type 0) → MatchOption r P (λ x. Q (f x))
-    → MatchOption (option_map f r) P Q
-match_map f None P Q h = h
-match_map f (Some x) P Q h = h
