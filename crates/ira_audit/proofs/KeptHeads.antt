@@ -1,6 +1,6 @@
 -- Logs of which the heads alone are kept, since there are too many of them for one ring.
-use Rattle.std.proofs.Common.{◌≡◌, ℕ, zero, suc, ◌+◌, ◌<◌, ◌≤◌, inl, inr, List, [], ◌∷◌, ◌++◌, Option, Some, None}
-use Rattle.std.proofs.Common.{length, map, refl, sym, ap, ◌∙◌, subst, arith, length-append}
+use Rattle.std.proofs.Common.{◌≡◌, ℕ, zero, suc, ◌≤◌, inl, inr, List, [], ◌∷◌, ◌++◌, Some}
+use Rattle.std.proofs.Common.{length, map, refl, sym, ap, ◌∙◌, arith, length-append}
 use Rattle.std.specs.Prelude.{Contains, slice_get}
 use Rattle.std.proofs.lemmas.List.{length-map}
 use Rattle.std.proofs.lemmas.List.Elements.{Contains-append_left, Contains-append_right}
@@ -11,7 +11,7 @@ use Rattle.ira_event.specs.Log.{Log}
 use Rattle.ira_event.specs.Logs.{AreLogs, EachLog, HasNumber, HasVersion, HeadFaultOf, IsFirstOther, wrong_number}
 use Rattle.ira_event.specs.Logs.{wrong_size, wrong_place, wrong_version}
 use Rattle.ira_event.specs.LogText.{head_of}
-use Rattle.ira_audit.specs.RingAudit.{AreTooMany, StandFor}
+use Rattle.ira_audit.specs.RingAudit.{StandFor}
 
 -- ---- logs with the same heads
 

@@ -1,9 +1,8 @@
 -- What the first events without a step of a ring's logs say of the logs.
-use Rattle.std.proofs.Common.{◌≡◌, ℕ, zero, suc, ◌<◌, ◌+◌, List, [], ◌∷◌, ◌++◌, Some, None, inl, inr, length, refl, ap}
+use Rattle.std.proofs.Common.{◌≡◌, ℕ, zero, suc, ◌<◌, List, [], ◌∷◌, ◌++◌, Some, None, inl, inr, length, refl, ap}
 use Rattle.std.proofs.Common.{arith}
 use Rattle.std.specs.Prelude.{slice_get}
 use Rattle.ira_event.specs.Log.{Log}
-use Rattle.ira_replay.specs.LocalRun.{IsLocalRun}
 use Rattle.ira_replay.proofs.FirstFaults.{run_or_stop}
 use Rattle.ira_order.specs.declared.faulty_event.FaultyEvent.{FaultyEvent}
 use Rattle.ira_order.specs.FaultyEvent.{AreFirstFaultyEvents}

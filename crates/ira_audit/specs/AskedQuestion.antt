@@ -4,7 +4,6 @@ use Rattle.std.specs.List.{AllZip}
 use Rattle.ira_event.specs.Log.{Log}
 use Rattle.ira_pred.specs.Case.{Conjunct}
 use Rattle.ira_pred.specs.Question.{QuestionCases}
-use Rattle.ira_elim.specs.declared.found.Found.{Found}
 use Rattle.ira_elim.specs.Found.{IsFound}
 use Rattle.ira_elim.specs.LeastCut.{IsLeastCut}
 use Rattle.ira_audit.specs.declared.findings.Findings.{Findings}

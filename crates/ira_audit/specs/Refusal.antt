@@ -15,7 +15,7 @@ use Rattle.ira_cert_text.specs.CertText.{IsCertText}
 use Rattle.ira_cert_text.specs.CertTextFault.{CertTextFault}
 use Rattle.ira_cert.specs.declared.section_fault.SectionFault.{SectionFault}
 use Rattle.ira_audit.specs.declared.reason.Reason.{Reason}
-use Rattle.ira_audit.specs.declared.reason.Reason.TheVariants.{Log, Heads, Match, Circle, Question, QuestionSize}
+use Rattle.ira_audit.specs.declared.reason.Reason.TheVariants.{Log, Heads, Question, QuestionSize}
 use Rattle.ira_audit.specs.declared.reason.Reason.TheVariants.{Certificate, CertificateSize, Section, Sections}
 use Rattle.ira_audit.specs.declared.refusal.Refusal.{Refusal}
 use Rattle.ira_audit.specs.declared.refusal.Refusal.TheVariants.{No, OutOfMemory}

@@ -1,5 +1,5 @@
 -- The line that is written of an answer.
-use Rattle.std.specs.Prelude.{◌≢◌, ℕ, List, [], ◌++◌, codes, decimal, ⊤}
+use Rattle.std.specs.Prelude.{◌≢◌, ℕ, List, ◌++◌, codes, decimal, ⊤}
 use Rattle.ira_event.specs.declared.log_fault.LogFault.TheVariants.{OutOfMemory}
 use Rattle.ira_event.specs.FaultWords.{said_text}
 use Rattle.ira_event.specs.HeadFault.{head_fault_words}

@@ -1,14 +1,12 @@
-use Rattle.std.proofs.Common.{◌≡◌, ◌+◌, ℕ, List, [], ◌∷◌, ◌++◌, Some, ap, arith, length, append_assoc, append-nil, subst}
+use Rattle.std.proofs.Common.{◌≡◌, ◌+◌, List, [], ◌∷◌, ◌++◌, Some, ap, arith, length, append_assoc, append-nil, subst}
 use Rattle.std.proofs.Common.{sym, ◌∙◌, length-append, rules}
 use Rattle.std.specs.Prelude.{slice_get}
 use Rattle.std.specs.Vec.Iter.{into_iter_items}
 use Rattle.std.proofs.lemmas.List.{nil_from_length}
 use Rattle.ira_event.specs.Log.{Log}
-use Rattle.ira_event.specs.Logs.{AreLogs}
 use Rattle.ira_replay.proofs.FirstFaults.{run_or_fault}
 use Rattle.ira_order.proofs.FaultyEvents.{StopsSoFar, no_stops, stop_of, stops_all, stops_more, stops_over}
 use Rattle.ira_order.specs.declared.faulty_event.FaultyEvent.{FaultyEvent}
-use Rattle.ira_order.specs.FaultyEvent.{AreFirstFaultyEvents}
 use Rattle.ira_audit.specs.ReplayedLogs.{IsReplayed}
 use Rattle.ira_audit.proofs.ReplayedLogs.{member_after}
 use Rattle.ira_audit.proofs.replayed_log.split_replayed.Goals as goal

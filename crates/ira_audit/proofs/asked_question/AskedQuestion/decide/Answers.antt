@@ -1,9 +1,6 @@
-use Rattle.std.proofs.Common.{◌≡◌, List, ap, arith, length, refl, subst, ◌∙◌, rules}
-use Rattle.std.specs.List.{AllZip}
-use Rattle.std.proofs.lemmas.List.{take_all}
+use Rattle.std.proofs.Common.{◌≡◌, List, length, refl, subst, ◌∙◌, rules}
 use Rattle.std.proofs.lemmas.Option.{slice_get_read}
 use Rattle.ira_event.specs.Log.{Log}
-use Rattle.ira_pred.specs.Case.{Conjunct}
 use Rattle.ira_elim.specs.Found.{IsFound}
 use Rattle.ira_audit.proofs.LogTexts.{next_taken}
 use Rattle.ira_audit.proofs.Zipped.{zipped_more}

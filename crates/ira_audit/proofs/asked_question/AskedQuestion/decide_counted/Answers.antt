@@ -5,7 +5,6 @@ use Rattle.std.proofs.lemmas.List.{take_all}
 use Rattle.std.proofs.lemmas.Option.{slice_get_read}
 use Rattle.ira_event.specs.Log.{Log}
 use Rattle.ira_pred.specs.Case.{Conjunct}
-use Rattle.ira_pred.specs.Limits.{MAX_CASES}
 use Rattle.ira_elim.specs.Found.{IsFound}
 use Rattle.ira_audit.specs.declared.findings.Findings.TheVariants.{Cases}
 use Rattle.ira_audit.proofs.LogTexts.{next_taken}

@@ -2,7 +2,7 @@ use Rattle.std.proofs.Common.{ℕ, List, refl, subst}
 use Rattle.ira_audit.specs.declared.answer.Answer.TheVariants.{Yes, No}
 use Rattle.ira_audit.specs.Judged.{IsJudged}
 use Rattle.ira_audit.specs.Refusal.{IsLogsReason}
-use Rattle.ira_audit.specs.RingAnswer.{IsRingAnswer, yes}
+use Rattle.ira_audit.specs.RingAnswer.{yes}
 use Rattle.ira_audit.proofs.Judging.{answer_exactly, answer_of_runs, answer_without_run, no_ring_judged, refused_judged}
 use Rattle.ira_audit.proofs.judged.Judged.answer.Goals as goal
 

@@ -1,4 +1,4 @@
-use Rattle.std.proofs.Common.{◌≡◌, [], refl, subst, sym, ap, ◌∙◌}
+use Rattle.std.proofs.Common.{◌≡◌, [], refl, ap, ◌∙◌}
 use Rattle.ira_event.specs.Log.{Log}
 use Rattle.ira_node.specs.NodeState.{first_state}
 use Rattle.ira_replay.specs.LocalRun.{IsLocalRun}

@@ -1,4 +1,4 @@
-use Rattle.std.proofs.Common.{◌≡◌, ◌≤◌, ℕ, List, Some, ap, length, slice_get, subst, sym, ◌∙◌, arith, rules}
+use Rattle.std.proofs.Common.{◌≡◌, ◌≤◌, List, Some, ap, length, slice_get, subst, sym, ◌∙◌, arith, rules}
 use Rattle.std.proofs.lemmas.Bool.Decides.{nat_tests}
 use Rattle.ira_event.specs.Log.{Log}
 use Rattle.ira_audit.specs.RingAudit.{RingAudit}

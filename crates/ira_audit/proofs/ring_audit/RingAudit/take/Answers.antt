@@ -1,4 +1,4 @@
-use Rattle.std.proofs.Common.{◌≡◌, ◌≢◌, ◌≤◌, List, ◌∷◌, ◌++◌, [], Some, ap, inl, inr, length, rules, slice_get, subst}
+use Rattle.std.proofs.Common.{◌≡◌, ◌≢◌, ◌≤◌, ◌∷◌, ◌++◌, [], Some, ap, inl, inr, length, rules, slice_get, subst}
 use Rattle.std.proofs.Common.{sym, ◌∙◌}
 use Rattle.ira_event.specs.Log.{Log}
 use Rattle.ira_event.specs.LogText.{head_of}
