@@ -1,5 +1,7 @@
 ghost use Rattle.std.specs.Prelude.{◌≡◌, IfSome, Some, slice_get};
 ghost use Rattle.std.specs.List.{AllZip};
+ghost use Rattle.ira_audit.specs.GoodLogs.{AreGood};
+ghost use Rattle.ira_cert.specs.Conjuncts.{HasPlacesOf};
 ghost use Rattle.ira_elim.specs.Found.{IsFound};
 
 use crate::asked_files::AskedFiles;
@@ -26,7 +28,8 @@ pub(crate) struct AskedRing<'a, A: Allocator> {
 impl<'a, A: Allocator + Clone> AskedRing<'a, A> {
     /// The logs.
     pub(crate) fn logs(&self) -> &Logs<A>
-        ensures { result.now ≡ self.now.asked.now.logs }
+        ensures value { result.now ≡ self.now.asked.now.logs }
+        ensures good { AreGood result.now }
     {
         self.asked.logs()
     }
@@ -36,6 +39,7 @@ impl<'a, A: Allocator + Clone> AskedRing<'a, A> {
         ensures ring { IfSome result (λ case. case.ring.now.asked.now ≡ self.now.asked.now) }
         ensures case { IfSome result
             (λ case. slice_get self.now.asked.now.question.cases number ≡ Some case.case.now) }
+        ensures places { IfSome result (λ case. HasPlacesOf self.now.asked.now.logs case.case.now) }
     {
         let cases = self.asked.cases();
         let case = cases.get(number)?;
@@ -103,13 +107,16 @@ impl<'a, A: Allocator + Clone> AskedRing<'a, A> {
     ) -> Result<(), OutOfMemory>
         requires { AllZip (IsFound self.now.asked.now.logs) self.now.asked.now.question.cases found.now }
     {
-        if let Some(found) = found.get(number)
-            && let Some(case) = self.case(number)
-        {
-            return case.explain(draft, found);
+        match self.case(number) {
+            Some(case) => match found.get(number) {
+                Some(found) => case.explain(draft, found),
+                None => Ok(()),
+            },
+            None => {
+                self.add_no_case(&mut draft.page, number);
+                Ok(())
+            }
         }
-        self.add_no_case(&mut draft.page, number);
-        Ok(())
     }
 
     /// Adds that there is no case of this number.

@@ -86,7 +86,9 @@ impl<A: Allocator + Clone> ExplainedCase<'_, A> {
         draft: &mut ExplanationDraft<A>,
         file: &str,
         sections: &[Section<A>],
-    ) -> Result<(), OutOfMemory> {
+    ) -> Result<(), OutOfMemory>
+        requires { HasPlacesOf self.now.ring.now.asked.now.logs self.now.case.now }
+    {
         let Some(section) = sections.get(self.number) else {
             return Ok(());
         };
