@@ -228,13 +228,15 @@ def check_events(reader, ring, names, cut):
     _, (answer, *steps) = reader.json('show', '--json', '--events', *words, *names)
     at = cut or [len(events) for events in ring.events]
     assert answer.get('cut') == cut and len(steps) == answer['events']
-    made, step_of = [0] * ring.n, {}
+    made, step_of, placed = [0] * ring.n, {}, Ring(names, cut)
     for number, value in enumerate(steps, 1):
         i, k = value['node'], value['event']
         made[i] += 1
         event = ring.events[i][k - 1]
         assert value['step'] == number and k == made[i] and value['record'] == ' '.join(event), value
         assert value['in_cut'] == (k <= at[i]) and value['line'] == k + 4
+        # The column is that of a picture at the same moment.
+        assert value['column'] == placed.column[i, k], value
         assert_state(value, ring.states[i][k])
         step_of[i, k] = number
         if event[0] == 'recv':

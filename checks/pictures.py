@@ -253,7 +253,7 @@ def check(text, ring, cut=None, first=None, last=None):
             sent, got = load(ring.events[i][s - 1]), load(ring.events[j][g - 1])
             states = ring.states[j]
             dropped = g < len(states) and states[g] == states[g - 1]
-            kind = ('b y', 'B') if sent != got else ('b', 'B') if cz <= ca else ('z', 'Z') if (i, s) in laps else (
+            kind = ('b y', 'B') if sent != got else ('b', 'B') if cz <= ca else ('z', 'Z') if (i, s) in laps and not dropped else (
                 'm x' if sent[0] == 'reset' else 'm y' if sent[3] == 'dirty' else 'm', 'X' if dropped else 'A')
             whole[drawn.rows[i], drawn.marks[i, s], drawn.rows[row], drawn.marks[j, g]] = *kind, (f'{i}.{s}', f'{j}.{g}')
     seen, others = {}, 0

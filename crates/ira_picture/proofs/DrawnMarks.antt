@@ -1,7 +1,7 @@
 -- Marks, event by event.
-use Rattle.std.proofs.Common.{◌≡◌, ℕ, ◌+◌, ◌-◌, ◌<◌, ◌≤◌, inl, inr, List, [], ◌∷◌, ◌++◌, Some, length, refl, sym, ◌∙◌}
+use Rattle.std.proofs.Common.{◌≡◌, ℕ, ◌+◌, ◌-◌, ◌<◌, ◌≤◌, inl, inr, List, [], ◌∷◌, ◌++◌, length, sym, ◌∙◌}
 use Rattle.std.proofs.Common.{ap, subst, arith}
-use Rattle.std.specs.Prelude.{slice_get, slice_index}
+use Rattle.std.specs.Prelude.{slice_index}
 use Rattle.std.proofs.lemmas.Bool.{cases_eq}
 use Rattle.std.proofs.lemmas.Option.{slice_get_within}
 use Rattle.ira_event.specs.Log.{Log}
@@ -9,7 +9,7 @@ use Rattle.ira_order.specs.FaultyEvent.{Rises}
 use Rattle.ira_order.proofs.Pushed.{pushed_cases, pushed_last, pushed_old}
 use Rattle.ira_picture.specs.declared.mark.Mark.{Mark}
 use Rattle.ira_picture.specs.declared.window.Window.{Window}
-use Rattle.ira_picture.specs.Lane.{AreMarks, HasMark, IsMark}
+use Rattle.ira_picture.specs.Lane.{AreMarks, IsMark}
 use Rattle.ira_picture.specs.Window.{IsIn}
 use Rattle.ira_picture.proofs.Rising.{rises_at}
 

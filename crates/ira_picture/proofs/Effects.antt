@@ -1,5 +1,5 @@
 -- What an event does to its node, by the states before and after it.
-use Rattle.std.proofs.Common.{◌≡◌, ℕ, ◌+◌, ◌-◌, List, [], ◌∷◌, ◌++◌, Option, Some, None, refl, sym, ◌∙◌, subst, arith}
+use Rattle.std.proofs.Common.{◌≡◌, ℕ, ◌+◌, ◌-◌, [], ◌∷◌, ◌++◌, Option, Some, None, refl, sym, subst, arith}
 use Rattle.std.proofs.Common.{take}
 use Rattle.std.specs.Prelude.{◌↔◌, Err, IsSome, MatchOption, Ok, Result, slice_get}
 use Rattle.std.specs.Result.{result_ok}
@@ -13,9 +13,9 @@ use Rattle.ira_replay.specs.LocalRun.{LeadsTo}
 use Rattle.ira_replay.proofs.Alike.{leads_split, one_end}
 use Rattle.ira_picture.specs.declared.traffic.Effect.{Effect}
 use Rattle.ira_picture.specs.declared.traffic.Effect.TheVariants.{GoesOn, Leads, Nothing}
-use Rattle.ira_picture.specs.Lane.{Reaches}
+use Rattle.ira_trail.specs.StateTrail.{Reaches}
 use Rattle.ira_picture.specs.Traffic.{ChangesNothing, IsEffect, IsStateAfter}
-use Rattle.ira_picture.proofs.Replays.{reaches_more, take_more}
+use Rattle.ira_trail.proofs.Reached.{reaches_more, take_more}
 
 -- the state that an event leads to comes of its step from the state before
 reaches_back : (log : Log) (n : ℕ) (e : Event) (t : NodeState) → slice_get log.events n ≡ Some e

@@ -9,8 +9,7 @@ mod Known
 mod NodeLanes
 mod NodeTraffic
 mod OnePlace
-mod Placed
 mod Replays
 mod Rising
-mod SliceReads
+mod Rows
 mod Starts

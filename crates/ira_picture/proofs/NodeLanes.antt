@@ -1,5 +1,5 @@
 -- What is drawn of each node, node by node.
-use Rattle.std.proofs.Common.{◌≡◌, ℕ, List, [], ◌∷◌, ◌++◌, Some, length, refl, sym, ◌∙◌, ap, subst, arith}
+use Rattle.std.proofs.Common.{◌≡◌, ℕ, List, [], ◌∷◌, ◌++◌, Some, length, subst}
 use Rattle.std.specs.Prelude.{slice_get, slice_index_or}
 use Rattle.ira_event.specs.Log.{Log}
 use Rattle.ira_order.proofs.Pushed.{each_pushed}

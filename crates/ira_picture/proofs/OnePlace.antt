@@ -1,8 +1,7 @@
 -- The k-th sending and the k-th receipt of a link each have one place.
-use Rattle.std.proofs.Common.{◌≡◌, ℕ, zero, suc, ◌+◌, ◌<◌, ◌≤◌, inl, inr, List, [], ◌∷◌, Option, Some, None, length}
+use Rattle.std.proofs.Common.{◌≡◌, ℕ, zero, suc, ◌+◌, ◌<◌, inl, inr, List, [], Option, Some, None, length}
 use Rattle.std.proofs.Common.{refl}
 use Rattle.std.proofs.Common.{sym, ◌∙◌, ap, arith, take, add-one}
-use Rattle.std.specs.Prelude.{slice_get}
 use Rattle.std.specs.List.{filter_map, cons_option}
 use Rattle.std.specs.Option.{option_map}
 use Rattle.std.proofs.lemmas.Bool.{cases_lt}
@@ -10,7 +9,7 @@ use Rattle.ira_event.specs.declared.event.Event.{Event}
 use Rattle.ira_event.specs.declared.event.Event.TheVariants.{Got, Sent}
 use Rattle.ira_event.specs.declared.load.Load.{Load}
 use Rattle.ira_event.specs.Log.{Log}
-use Rattle.ira_order.specs.Matching.{got, receipt, sending, sent}
+use Rattle.ira_order.specs.Matching.{receipt, sending}
 use Rattle.ira_order.specs.Ring.{log_of, next, numbered}
 use Rattle.ira_order.proofs.Ranks.{rank_mono}
 use Rattle.ira_evidence.specs.declared.exchange.Exchange.{Exchange}

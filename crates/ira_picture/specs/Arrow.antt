@@ -16,7 +16,7 @@ use Rattle.ira_picture.specs.declared.arrow.Passage.TheVariants.{OnLap}
 use Rattle.ira_picture.specs.declared.arrow.Passage.TheVariants.{Taken}
 use Rattle.ira_picture.specs.declared.window.Window.{Window}
 use Rattle.ira_picture.specs.declared.traffic.Effect.{Effect}
-use Rattle.ira_picture.specs.Columns.{column_at}
+use Rattle.ira_trail.specs.Columns.{column_at}
 use Rattle.ira_picture.specs.Traffic.{ChangesNothing, IsEffect}
 use Rattle.ira_picture.specs.Window.{IsIn}
 
@@ -50,7 +50,7 @@ pub record IsPassed (table : List (List ℕ)) (s r : Exchange) : Type 0 where
 abbrev pub IsPassage : List Log → List (List ℕ) → Exchange → Exchange → Passage → Type 0
 IsPassage logs table s r Taken = IsPassed table s r × ¬ (IsDropped logs r)
 IsPassage logs table s r Dropped = IsPassed table s r × IsDropped logs r
-IsPassage logs table s r OnLap = IsPassed table s r
+IsPassage logs table s r OnLap = IsPassed table s r × ¬ (IsDropped logs r)
 IsPassage logs table s r Differs = r.load ≢ s.load
 IsPassage logs table s r Backward = (r.load ≡ s.load) × (column_of table r ≤ column_of table s)
 IsPassage logs table s r NotReceived = ⊥

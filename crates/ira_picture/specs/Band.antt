@@ -1,5 +1,5 @@
 -- What a node is doing, column by column, and when it owes something.
-use Rattle.std.specs.Prelude.{◌≡◌, ℕ, ◌<◌, ◌≤◌, ⊤, List, [], ◌∷◌, Some, None, IsSome, MatchOption, nat_le}
+use Rattle.std.specs.Prelude.{◌≡◌, ℕ, ◌<◌, ◌≤◌, ⊤, List, [], ◌∷◌, Some, IsSome, MatchOption, nat_le}
 use Rattle.std.specs.Prelude.{if◌then◌else◌}
 use Rattle.std.specs.Prelude.{slice_get}
 use Rattle.ira_node.specs.declared.phase.Phase.{Phase}

@@ -3,7 +3,7 @@ use Rattle.std.specs.Prelude.{◌≡◌, ℕ, ◌<◌, ⊤, List, Option}
 use Rattle.ira_event.specs.Log.{Log}
 use Rattle.ira_picture.specs.declared.draw_fault.DrawFault.{DrawFault}
 use Rattle.ira_picture.specs.declared.draw_fault.DrawFault.TheVariants.{OutOfMemory, TooManyEvents}
-use Rattle.ira_picture.specs.Columns.{AreColumns, IsLastColumn}
+use Rattle.ira_trail.specs.Columns.{AreColumnsOf, Columns, IsLastColumn, cut_or_all}
 use Rattle.ira_picture.specs.Window.{asked_window, events_drawn}
 
 -- there are so many events, and these are too many for a picture; or memory ran out
@@ -13,9 +13,10 @@ IsDrawFault OutOfMemory = ⊤
 
 -- at the columns that are asked for the logs have so many events, too many for a picture
 pub record HasTooManyEvents (logs : List Log) (from to : Option ℕ) (events : ℕ) : Type 0 where
-  pub table : List (List ℕ)
-  pub columns : AreColumns logs table
+  pub cut : Option (List ℕ)
+  pub columns : Columns
+  pub columns_are : AreColumnsOf logs (cut_or_all logs cut) columns
   pub last : ℕ
-  pub last_is : IsLastColumn table last
-  pub number : events ≡ events_drawn (asked_window from to last) table
+  pub last_is : IsLastColumn columns.nodes last
+  pub number : events ≡ events_drawn (asked_window from to last) columns.nodes
   pub many : 20000 < events

@@ -1,21 +1,17 @@
 -- What is drawn of a node.
-use Rattle.std.specs.Prelude.{◌≡◌, ℕ, ◌+◌, ◌-◌, ◌<◌, ◌≤◌, List, Option, Some, None, MatchOption, length, slice_get}
-use Rattle.std.specs.Prelude.{◌↔◌, slice_index, take}
+use Rattle.std.specs.Prelude.{◌≡◌, ℕ, ◌+◌, ◌-◌, ◌<◌, ◌≤◌, List, Option, Some, MatchOption, slice_get}
+use Rattle.std.specs.Prelude.{◌↔◌, slice_index}
 use Rattle.ira_event.specs.Log.{Log}
 use Rattle.ira_node.specs.declared.node_state.NodeState.{NodeState}
-use Rattle.ira_node.specs.NodeState.{first_state}
 use Rattle.ira_replay.specs.declared.replay_fault.ReplayFault.{ReplayFault}
-use Rattle.ira_replay.specs.LocalRun.{IsFirstFault, LeadsTo}
+use Rattle.ira_replay.specs.LocalRun.{IsFirstFault}
 use Rattle.ira_order.specs.FaultyEvent.{Rises}
+use Rattle.ira_trail.specs.StateTrail.{Reaches}
 use Rattle.ira_picture.specs.declared.after.After.{After}
 use Rattle.ira_picture.specs.declared.after.After.TheVariants.{NoStep, State, Unknown}
 use Rattle.ira_picture.specs.declared.mark.Mark.{Mark}
 use Rattle.ira_picture.specs.declared.window.Window.{Window}
 use Rattle.ira_picture.specs.Window.{IsIn}
-
--- the first n events of the log lead to the state
-abbrev pub Reaches : Log → ℕ → NodeState → Type 0
-Reaches log n s = LeadsTo log.nodes (first_state log.initiator) (take n log.events) s
 
 -- what is known of the node after n events
 abbrev pub IsKnown : Log → ℕ → After → Type 0

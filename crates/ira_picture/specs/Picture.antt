@@ -1,5 +1,6 @@
 -- What is drawn of the logs of a ring.
 use Rattle.std.specs.Prelude.{◌≡◌, ◌⊎◌, ℕ, ◌<◌, ◌≤◌, Any, List, [], Option, Some, length, slice_get, slice_index_or}
+use Rattle.std.specs.Option.{option_map}
 use Rattle.ira_event.specs.Log.{Log}
 use Rattle.ira_node.specs.declared.node_state.NodeState.{NodeState}
 use Rattle.ira_replay.specs.declared.replay_fault.ReplayFault.{ReplayFault}
@@ -13,7 +14,7 @@ use Rattle.ira_picture.specs.declared.mark.Mark.{Mark}
 use Rattle.ira_picture.specs.declared.window.Window.{Window}
 use Rattle.ira_picture.specs.Arrow.{AreArrows}
 use Rattle.ira_picture.specs.Band.{AreBands, AreDebts}
-use Rattle.ira_picture.specs.Columns.{AreColumns, IsLastColumn}
+use Rattle.ira_trail.specs.Columns.{AreColumnsOf, Columns, IsLastColumn, cut_or_all}
 use Rattle.ira_picture.specs.Lane.{AreMarks, IsReplayed, IsStart}
 use Rattle.ira_picture.specs.Window.{events_drawn}
 
@@ -60,11 +61,14 @@ pub record AreLanes (logs : List Log) (table : List (List ℕ)) (w : Window) (ds
   pub each : (i : ℕ) (log : Log) (d : Drawn) → slice_get logs i ≡ Some log → slice_get ds i ≡ Some d
       → IsDrawnOf log (slice_index_or table i []) w d
 
--- with a column for each event, of which this one is the last, the lanes and arrows are those of the window
-pub record IsShown (logs : List Log) (w : Window) (last : ℕ) (lanes : List Drawn) (arrows : List Arrow) : Type 0 where
-  pub table : List (List ℕ)
-  pub columns : AreColumns logs table
-  pub last_is : IsLastColumn table last
-  pub few : events_drawn w table ≤ 20000
-  pub are_lanes : AreLanes logs table w lanes
-  pub are_arrows : AreArrows logs table w arrows
+-- with the columns of all events, of which this one is the last, and the line of the cut, where there is one, the lanes and
+-- arrows are those of the window
+pub record IsShown (logs : List Log) (cut : Option (List ℕ)) (w : Window) (last : ℕ) (line : Option ℕ)
+    (lanes : List Drawn) (arrows : List Arrow) : Type 0 where
+  pub columns : Columns
+  pub columns_are : AreColumnsOf logs (cut_or_all logs cut) columns
+  pub last_is : IsLastColumn columns.nodes last
+  pub line_is : line ≡ option_map (λ _. columns.line) cut
+  pub few : events_drawn w columns.nodes ≤ 20000
+  pub are_lanes : AreLanes logs columns.nodes w lanes
+  pub are_arrows : AreArrows logs columns.nodes w arrows

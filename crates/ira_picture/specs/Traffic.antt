@@ -1,5 +1,5 @@
 -- What a node sends and receives, by the numbers of its events.
-use Rattle.std.specs.Prelude.{◌≡◌, ℕ, ◌+◌, ◌-◌, ◌<◌, List, Option, Some, None, MatchOption, length, slice_get, take}
+use Rattle.std.specs.Prelude.{◌≡◌, ℕ, ◌+◌, ◌-◌, List, Option, Some, MatchOption, length, slice_get, take}
 use Rattle.ira_event.specs.declared.load.Load.{Load}
 use Rattle.ira_event.specs.Log.{Log}
 use Rattle.ira_node.specs.declared.node_state.NodeState.{NodeState}
@@ -8,7 +8,7 @@ use Rattle.ira_evidence.specs.Exchange.{IsNthGot, IsNthSent}
 use Rattle.ira_picture.specs.declared.traffic.Effect.{Effect}
 use Rattle.ira_picture.specs.declared.traffic.Effect.TheVariants.{GoesOn, Leads, Nothing}
 use Rattle.ira_picture.specs.declared.traffic.Receipt.{Receipt}
-use Rattle.ira_picture.specs.Lane.{Reaches}
+use Rattle.ira_trail.specs.StateTrail.{Reaches}
 
 -- event p of the log, counted from 1, has a step, and the state after it is the one before it
 abbrev pub ChangesNothing : Log → ℕ → Type 0

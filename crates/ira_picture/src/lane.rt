@@ -1,7 +1,7 @@
 ghost use Rattle.std.specs.Prelude.{◌≡◌, ◌↔◌, ◌+◌, ◌<◌, ◌≤◌, ◌^◌, ℕ, Some, Any, IfOk, IsTrue, OnOk, length, slice_get};
 ghost use Rattle.ira_order.specs.FaultyEvent.{Rises};
 ghost use Rattle.ira_picture.specs.Band.{AreBands, AreDebts, Owes};
-ghost use Rattle.ira_picture.specs.Columns.{AreColumnsOf};
+ghost use Rattle.ira_picture.specs.Rows.{IsRow};
 ghost use Rattle.ira_picture.specs.Lane.{AreMarks, IsKnown, IsReplayed, IsStart};
 ghost use Rattle.ira_picture.specs.Picture.{HasTerms};
 ghost use Rattle.ira_picture.specs.declared.mark.Mark.{Mark};
@@ -108,7 +108,7 @@ impl<A: Allocator> Lane<A> {
     ) -> Result<Lane<A>, OutOfMemory>
     where
         A: Clone,
-        requires { AreColumnsOf log.now.events columns.now }
+        requires { IsRow log.now.events columns.now }
         ensures events { IfOk result (λ lane. lane.events ≡ length log.now.events) }
         ensures marks { IfOk result
             (λ lane. AreMarks log.now columns.now window (length log.now.events) lane.marks.items) }

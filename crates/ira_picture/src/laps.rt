@@ -1,8 +1,9 @@
 ghost use Rattle.std.specs.Prelude.{◌≡◌, ◌<◌, IfSome, length};
 
-use crate::ring::{load_at, reader_of, writer_of};
+use crate::ring::load_at;
 use crate::traffic::{Effect, Traffic, traffic_of};
 use ira_event::{Logs, OutOfMemory};
+use ira_order::{predecessor, successor};
 use std::alloc::Allocator;
 
 /// Which sendings of each link are part of a lap by which a node came to lead.
@@ -31,7 +32,7 @@ impl<L: Allocator, A: Allocator + Clone> Exchanges<'_, L, A> {
     fn is_matched(&self, pair: Pair) -> bool
         requires { pair.link < length self.now.logs.now }
     {
-        let reader = reader_of(self.logs.size().get(), pair.link);
+        let reader = successor(self.logs.size().get(), pair.link);
         let sending = traffic_of(self.traffic, pair.link).sending(pair.k);
         let receipt = traffic_of(self.traffic, reader).receipt(pair.k);
         match (sending, receipt) {
@@ -52,7 +53,7 @@ impl<L: Allocator, A: Allocator + Clone> Exchanges<'_, L, A> {
         let sending = node.sending(pair.k)?;
         let k = node.receipt_at(sending.saturating_sub(1))?;
         Some(Pair {
-            link: writer_of(self.logs.size().get(), pair.link),
+            link: predecessor(self.logs.size().get(), pair.link),
             k,
         })
     }
@@ -133,7 +134,7 @@ impl<A: Allocator + Clone> Laps<A> {
     ) -> Result<(), OutOfMemory>
         requires { place < length exchanges.now.logs.now }
     {
-        let link = writer_of(exchanges.logs.size().get(), place);
+        let link = predecessor(exchanges.logs.size().get(), place);
         let node = traffic_of(exchanges.traffic, place);
         for (k, receipt) in node.receipts.iter().enumerate() {
             if receipt.effect == Effect::Leads {

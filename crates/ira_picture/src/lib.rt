@@ -5,7 +5,6 @@ mod after;
 mod arrow;
 mod band;
 mod column_range;
-mod columns;
 mod draw_fault;
 mod lane;
 mod laps;

@@ -7,14 +7,14 @@ ghost use Rattle.ira_picture.specs.Arrow.{IsSending, column_of};
 ghost use Rattle.ira_picture.specs.Traffic.{AreTraffic};
 
 use crate::arrow::{Arrow, Passage};
-use crate::columns::Columns;
 use crate::laps::Laps;
-use crate::ring::{load_at, reader_of};
+use crate::ring::load_at;
 use crate::traffic::{Effect, Traffic, traffic_of};
 use crate::window::Window;
 use ira_event::{Logs, OutOfMemory};
 use ira_evidence::Exchange;
-use ira_order::EventAt;
+use ira_order::{EventAt, successor};
+use ira_trail::Columns;
 use std::alloc::Allocator;
 
 /// What the links of a ring carry.
@@ -51,7 +51,7 @@ impl<L: Allocator, A: Allocator + Clone> Links<'_, L, A> {
         ensures receipt { IsReceipt self.now.logs.now link (k + 1) (option_map (λ r. r.0) result) }
         ensures effect { IfSome result (λ r. IsEffectOf self.now.logs.now r.0 r.1) }
     {
-        let place = reader_of(self.logs.size().get(), link);
+        let place = successor(self.logs.size().get(), link);
         let receipt = traffic_of(self.traffic, place).receipt(k)?;
         let position = receipt.position;
         let load = load_at(self.logs, place, position)?;
@@ -81,10 +81,10 @@ impl<L: Allocator, A: Allocator + Clone> Links<'_, L, A> {
             Passage::Differs
         } else if self.column(receipt) <= self.column(sending) {
             Passage::Backward
-        } else if is_on_lap {
-            Passage::OnLap
         } else if effect == Effect::Nothing {
             Passage::Dropped
+        } else if is_on_lap {
+            Passage::OnLap
         } else {
             Passage::Taken
         }
@@ -135,7 +135,7 @@ impl<L: Allocator, A: Allocator + Clone> Links<'_, L, A> {
         ensures { result ≡ max (length (sent (log_of self.now.logs.now link)))
             (length (got (log_of self.now.logs.now (next (length self.now.logs.now) link)))) }
     {
-        let reader = reader_of(self.logs.size().get(), link);
+        let reader = successor(self.logs.size().get(), link);
         let sendings = traffic_of(self.traffic, link).number_of_sendings();
         let receipts = traffic_of(self.traffic, reader).number_of_receipts();
         sendings.max(receipts)

@@ -1,20 +1,21 @@
 ghost use Rattle.std.specs.Prelude.{◌≡◌, ◌↔◌, ◌<◌, ◌^◌, ℕ, Any, Err, IfErr, IfOk, IsTrue, length, map, sum_by};
-ghost use Rattle.std.specs.Option.{ForSome};
+ghost use Rattle.std.specs.Option.{ForSome, option_map};
+ghost use Rattle.ira_trail.specs.Columns.{AreColumnsOf};
 ghost use Rattle.ira_picture.specs.Arrow.{AreArrows};
-ghost use Rattle.ira_picture.specs.Columns.{AreColumns};
 ghost use Rattle.ira_picture.specs.DrawFault.{HasTooManyEvents, IsDrawFault};
 ghost use Rattle.ira_picture.specs.Picture.{AreLanes, HasTerms, IsShown, drawn_of};
+ghost use Rattle.ira_picture.specs.Rows.{AreRows};
 ghost use Rattle.ira_picture.specs.Traffic.{AreTraffic};
 ghost use Rattle.ira_picture.specs.Window.{asked_window, events_drawn, number_drawn};
 
 use crate::arrow::Arrow;
-use crate::columns::Columns;
 use crate::draw_fault::DrawFault;
 use crate::lane::Lane;
 use crate::links::arrows_of_ring;
 use crate::traffic::Traffic;
 use crate::window::Window;
 use ira_event::{Logs, OutOfMemory};
+use ira_trail::Columns;
 use std::alloc::Allocator;
 
 /// The most events of a picture.
@@ -81,7 +82,7 @@ fn lanes_of_ring<A: Allocator + Clone, L: Allocator>(
     columns: &Columns<A>,
     window: Window,
 ) -> Result<Vec<Lane<A>, A>, OutOfMemory>
-    requires { AreColumns logs.now columns.now.nodes }
+    requires { AreRows logs.now columns.now.nodes }
     ensures { IfOk result
         (λ lanes. AreLanes logs.now columns.now.nodes window (map drawn_of lanes.items)) }
 {
@@ -98,6 +99,16 @@ fn lanes_of_ring<A: Allocator + Clone, L: Allocator>(
         lanes.push(lane)?;
     }
     Ok(lanes)
+}
+
+/// The column of the line of a cut, where there is one.
+fn line_of<A: Allocator>(columns: &Columns<A>, cut: Option<&[u32]>) -> Option<u32>
+    ensures { result ≡ option_map (λ _. columns.now.line) (option_map (λ c. c.now) cut.entry) }
+{
+    match cut {
+        Some(_) => Some(columns.line),
+        None => None,
+    }
 }
 
 impl<A: Allocator> Picture<A> {
@@ -129,11 +140,11 @@ impl<A: Allocator + Clone> Picture<A> {
         ensures fault { IfErr result IsDrawFault }
         ensures events { (events : ℕ) → result ≡ Err (DrawFault.TooManyEvents events)
             → HasTooManyEvents logs.now from to events }
-        ensures shown { IfOk result (λ picture. IsShown logs.now picture.window picture.last
-            (map drawn_of picture.lanes.items) picture.arrows.items) }
+        ensures shown { IfOk result (λ picture. IsShown logs.now (option_map (λ c. c.now) cut.entry)
+            picture.window picture.last picture.line (map drawn_of picture.lanes.items) picture.arrows.items) }
     {
         let traffic = traffic_of_ring(alloc.clone()?, logs)?;
-        let columns = Columns::of(alloc.clone()?, logs, &traffic, cut)?;
+        let columns = Columns::of(alloc.clone()?, logs, cut)?;
         let all = columns.last();
         let window = Window::clamped(from, to, all);
         let events = number_of_marks(&columns, window);
@@ -145,7 +156,7 @@ impl<A: Allocator + Clone> Picture<A> {
         Ok(Picture {
             window,
             last: all,
-            line: columns.line,
+            line: line_of(&columns, cut),
             lanes,
             arrows,
         })

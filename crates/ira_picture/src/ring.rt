@@ -1,28 +1,10 @@
 ghost use Rattle.std.specs.Prelude.{◌≡◌, ◌<◌, length};
 ghost use Rattle.std.specs.Option.{option_and_then};
-ghost use Rattle.ira_order.specs.Ring.{log_of, next, numbered, prev};
+ghost use Rattle.ira_order.specs.Ring.{log_of, numbered};
 ghost use Rattle.ira_picture.specs.Arrow.{load_in};
 
 use ira_event::{Event, Load, Logs};
 use std::alloc::Allocator;
-
-/// The place that a link leads to.
-pub(crate) fn reader_of(nodes: u8, link: u8) -> u8
-    requires { link < nodes }
-    ensures value { result ≡ next nodes link }
-    ensures place { result < nodes }
-{
-    if link + 1 < nodes { link + 1 } else { 0 }
-}
-
-/// The place before.
-pub(crate) fn writer_of(nodes: u8, place: u8) -> u8
-    requires { place < nodes }
-    ensures value { result ≡ prev nodes place }
-    ensures place { result < nodes }
-{
-    if place == 0 { nodes - 1 } else { place - 1 }
-}
 
 /// What an event sends or receives.
 fn load_of(event: Event) -> Option<Load>

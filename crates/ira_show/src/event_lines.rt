@@ -11,23 +11,14 @@ use crate::change::Change;
 use crate::event_line::EventColumns;
 use crate::heading::{print_heading, print_positions};
 use crate::summary::show_summary;
-use ira_event::{Event, Logs, NodeLog, OutOfMemory, Sink};
+use ira_event::{Logs, Sink};
 use ira_moment::{ChosenMoment, Moment, cut_at_end};
-use ira_node::NodeState;
-use ira_trail::Trail;
+use ira_trail::StateTrail;
 use ira_view_page::{Mark, Page, ShowFault};
 use std::alloc::Allocator;
 
 /// When so many bytes of lines are put together they are written.
 const BLOCK: usize = 65_536;
-
-/// Goes on by an event of a log, and gives what it changed: nothing where it has no step.
-fn go_on<L: Allocator>(log: &NodeLog<L>, state: &mut NodeState, event: &Event) -> Change {
-    let before = *state;
-    match state.advance(log.nodes(), event) {
-        Ok(()) | Err(_) => Change::between(before, *state),
-    }
-}
 
 /// Adds the line that stands where the cut ends.
 fn print_line_of_cut<P: Allocator>(page: &mut Page<P>, cut: &[u32])
@@ -75,28 +66,24 @@ fn write_lines<A: Allocator + Clone, W: Sink>(
     heading: Page<A>,
     sink: &mut W,
 ) -> Result<(), ShowFault>
-    requires order { HasOrder logs.now }
-    requires cut { IsConsistentCut logs.now cut.now }
+    requires { IsConsistentCut logs.now cut.now }
     ensures { Showed result (W.state sink.old) (W.state sink.new) }
 {
     let events = logs.number_of_events();
     let columns = EventColumns::of(logs, events);
-    let mut states = NodeState::first_of_each(alloc.clone()?, logs)?;
-    let mut trail = Trail::new(alloc.clone()?, logs, cut)?;
+    let mut trail = StateTrail::new(alloc.clone()?, logs, cut)?;
     let mut page = heading;
     let mut is_line_due = is_asked;
     for number in 0..events {
-        let Some(step) = trail.next()? else {
+        let Some(walked) = trail.next()? else {
             break;
         };
-        if is_line_due && !step.in_cut {
+        if is_line_due && !walked.step.in_cut {
             print_line_of_cut(&mut page, cut);
             is_line_due = false;
         }
-        let log = logs.log(step.place);
-        let event = log.event(step.event);
-        let change = go_on(log, &mut states[usize::from(step.place)], &event);
-        columns.print(&mut page, number + 1, step, event, change);
+        let change = Change::between(walked.before, walked.after);
+        columns.print(&mut page, number + 1, walked.step, walked.event, change);
         page = write_block(&alloc, page, sink)?;
     }
     if is_line_due {

@@ -1,6 +1,9 @@
 pub mod Lines
+pub mod OneColumn
 pub mod OneTrail
+pub mod Orders
 pub mod Pushes
+pub mod Reached
 pub mod Ready
 pub mod Steps
 pub mod Tables

@@ -5,15 +5,16 @@ use Rattle.std.specs.Prelude.{MatchOption, slice_get, slice_index}
 use Rattle.std.proofs.lemmas.Bool.{cases_eq, cases_lt}
 use Rattle.std.proofs.lemmas.Option.{same_Some, slice_get_cases, slice_get_within}
 use Rattle.ira_event.specs.Log.{Log}
-use Rattle.ira_order.specs.Order.{IsPair, StandsAt}
-use Rattle.ira_order.specs.Ring.{log_of, next, numbered}
+use Rattle.ira_order.specs.Order.{IsPair, StandsAt, occurrences}
+use Rattle.ira_order.specs.Ring.{log_of, next}
 use Rattle.ira_trail.specs.declared.trail_step.TrailStep.{TrailStep}
-use Rattle.ira_trail.specs.Columns.{IsEvent}
+use Rattle.ira_trail.specs.Columns.{IsEvent, received}
 use Rattle.ira_trail.specs.Trail.{ComesBefore, IsReceipt, IsSentBy, IsTrail, places_of}
-use Rattle.ira_trail.proofs.Lines.{one_column}
+use Rattle.ira_trail.proofs.Lines.{all_came, one_time}
+use Rattle.ira_trail.proofs.Orders.{earlier_stands}
 use Rattle.ira_trail.proofs.Pushes.{one_link}
 use Rattle.ira_trail.proofs.Turns.{one_sending}
-use Rattle.ira_trail.proofs.Walks.{StepOf, event_of, stands_once, step_of}
+use Rattle.ira_trail.proofs.Walks.{StepOf, event_of, event_stood, stands_once, step_of}
 
 -- lists that have the same member at each place
 same_members : {X : Type 0} (xs ys : List X) → ((t : ℕ) → slice_get xs t ≡ slice_get ys t) → xs ≡ ys
@@ -38,7 +39,12 @@ module _ (logs : List Log) (cut : List ℕ) where
     stand t step at = (trail.each t step at).event
 
     is_event : (t : ℕ) (step : TrailStep) → slice_get steps t ≡ Some step → IsEvent logs step.place step.event
-    is_event t step at = event_of logs (places_of steps) t step.place step.event trail.order (stand t step at)
+    is_event t step at = event_of logs (places_of steps) t step.place step.event trail.places trail.times.within
+        (stand t step at)
+
+    come : (t : ℕ) (step : TrailStep) → slice_get steps t ≡ Some step
+        → step.event ≤ occurrences (places_of steps) step.place
+    come t step at = (event_stood (places_of steps) t step.place step.event (stand t step at)).1
 
     -- a step has one place
     one_place : (s t i a : ℕ) → StandsAt (places_of steps) s i a → StandsAt (places_of steps) t i a → s ≡ t
@@ -54,7 +60,9 @@ module _ (logs : List Log) (cut : List ℕ) where
   module _ (one other : List TrailStep) (a : IsTrail logs cut one) (b : IsTrail logs cut other) (t : ℕ)
       (below : (u : ℕ) → u < t → slice_get one u ≡ slice_get other u) where
     other_step : (r : TrailStep) → slice_get one t ≡ Some r → StepOf other r.place r.event
-    other_step r at = step_of logs other r.place r.event b.order (stand other b) (is_event one a t r at)
+    other_step r at = step_of logs other r.place r.event (stand other b) (is_event one a t r at).first
+        (all_came logs cut (occurrences (places_of one)) (occurrences (places_of other)) a.time b.time a.times b.times
+        r.place r.event (is_event one a t r at) (come one a t r at))
 
     not_sooner : (r : TrailStep) → slice_get one t ≡ Some r → (p : StepOf other r.place r.event) → t ≤ p.number
     not_sooner r at p = elim (cases_lt p.number t) [
@@ -71,19 +79,20 @@ module _ (logs : List Log) (cut : List ℕ) where
         let p = other_step r at in
         omega (arith, past, not_sooner r at p, slice_get_within other p.number p.step p.at)
 
-    -- its column in the other trail
-    column_there : (r : TrailStep) → slice_get one t ≡ Some r → (p : StepOf other r.place r.event)
-        → p.step.column ≡ r.column
-    column_there r at p =
+    -- its time in the other trail
+    time_there : (r : TrailStep) → slice_get one t ≡ Some r → (p : StepOf other r.place r.event)
+        → p.step.time ≡ r.time
+    time_there r at p =
         b.told p.number p.step p.at
-        ∙ ap (λ (x : ℕ). b.column x p.step.event) p.place
-        ∙ ap (b.column r.place) p.event
-        ∙ one_column logs cut b.column a.column r.place r.event b.columns a.columns (is_event one a t r at)
+        ∙ ap (λ (x : ℕ). b.time x p.step.event) p.place
+        ∙ ap (b.time r.place) p.event
+        ∙ sym (one_time logs cut (occurrences (places_of one)) (occurrences (places_of other)) a.time b.time a.times
+        b.times r.place r.event (is_event one a t r at) (come one a t r at))
         ∙ sym (a.told t r at)
 
   -- neither comes before itself
-  apart : (r s p q : TrailStep) → ComesBefore s p → p.column ≡ r.column → p.place ≡ r.place → ComesBefore r q
-      → q.column ≡ s.column → q.place ≡ s.place → ⊥
+  apart : (r s p q : TrailStep) → ComesBefore s p → p.time ≡ r.time → p.place ≡ r.place → ComesBefore r q
+      → q.time ≡ s.time → q.place ≡ s.place → ⊥
   apart r s p q (inl first) pc pp (inl second) qc qp = omega (arith, first, second, pc, qc)
   apart r s p q (inl first) pc pp (inr second) qc qp = omega (arith, first, second.0, pc, qc)
   apart r s p q (inr first) pc pp (inl second) qc qp = omega (arith, first.0, second, pc, qc)
@@ -109,18 +118,19 @@ module _ (logs : List Log) (cut : List ℕ) where
                 (ap (λ (x : TrailStep). x.place) (sym is) ∙ q.place, ap (λ (x : TrailStep). x.event) (sym is) ∙ q.event)
             | inr after ↦ absurd (apart r s p.step q.step
                 (b.sorted t p.number s p.step (omega (arith, later, not_sooner one other a b t below r at_r p)) at_s
-                p.at) (column_there one other a b t below r at_r p) p.place
+                p.at) (time_there one other a b t below r at_r p) p.place
                 (a.sorted t q.number r q.step (omega (arith, after, not_sooner other one b a t above s at_s q)) at_r
-                q.at) (column_there other one b a t above s at_s q) q.place)
+                q.at) (time_there other one b a t above s at_s q) q.place)
           ]
         ]
 
-    same_column : r.column ≡ s.column
-    same_column =
+    same_time : r.time ≡ s.time
+    same_time =
         a.told t r at_r
-        ∙ ap (λ (x : ℕ). a.column x r.event) same_event.0
-        ∙ ap (a.column s.place) same_event.1
-        ∙ one_column logs cut a.column b.column s.place s.event a.columns b.columns (is_event other b t s at_s)
+        ∙ ap (λ (x : ℕ). a.time x r.event) same_event.0
+        ∙ ap (a.time s.place) same_event.1
+        ∙ sym (one_time logs cut (occurrences (places_of other)) (occurrences (places_of one)) b.time a.time b.times
+        a.times s.place s.event (is_event other b t s at_s) (come other b t s at_s))
         ∙ sym (b.told t s at_s)
 
     same_in_cut : r.in_cut ≡ s.in_cut
@@ -134,7 +144,7 @@ module _ (logs : List Log) (cut : List ℕ) where
     receipt_of : (steps : List TrailStep) (x : TrailStep) (k : ℕ) → IsSentBy logs steps x k
         → IsReceipt logs x.place x.event
     receipt_of steps x k by =
-        (by.pair.taken, ap (λ (i : ℕ). numbered (log_of logs i) x.event) (sym by.link) ∙ by.pair.receives)
+        (by.sender.place, by.sender.event, by.link, by.pair)
 
     same_number : (k l : ℕ) → IsSentBy logs one r k → IsSentBy logs other s l → k ≡ l
     same_number k l x y =
@@ -149,11 +159,11 @@ module _ (logs : List Log) (cut : List ℕ) where
         let event : y.sender.event ≡ x.sender.event =
         one_sending (log_of logs x.sender.place) y.sender.event x.sender.event pair.message x.pair.message
         pair.sends x.pair.sends (pair.rank ∙ sym x.pair.rank) in
-        let here : StandsAt (places_of one) t (next (length logs) x.sender.place) r.event =
-        subst (λ (i : ℕ). StandsAt (places_of one) t i r.event) (sym x.link) (stand one a t r at_r) in
+        let less = (a.times.each r.place r.event (is_event one a t r at_r) (come one a t r at_r)).greater x.sender.place
+        x.sender.event (is_event one a x.before x.sender x.at) (received x.link x.pair) in
         let early : x.before < t =
-        a.order.after x.sender.place x.sender.event r.event x.before t x.pair (stand one a x.before x.sender x.at)
-        here in
+        earlier_stands logs cut one a x.before x.sender.place x.sender.event t r.place r.event
+        (stand one a x.before x.sender x.at) (stand one a t r at_r) less.1 in
         let there : StandsAt (places_of other) x.before x.sender.place x.sender.event =
         stand other b x.before x.sender (sym (below x.before early) ∙ x.at) in
         let beside : StandsAt (places_of other) y.before x.sender.place x.sender.event =
@@ -183,11 +193,11 @@ module _ (logs : List Log) (cut : List ℕ) where
     same_step =
         let place : r.place ≡ s.place = same_event.0 in
         let event : r.event ≡ s.event = same_event.1 in
-        let column : r.column ≡ s.column = same_column in
+        let time : r.time ≡ s.time = same_time in
         let sent_by : r.sent_by ≡ s.sent_by =
         same_sent_by r.sent_by s.sent_by (a.each t r at_r).sent_by (b.each t s at_s).sent_by in
         let in_cut : r.in_cut ≡ s.in_cut = same_in_cut in
-        λ i. record { place = place i; event = event i; column = column i; sent_by = sent_by i; in_cut = in_cut i }
+        λ i. record { place = place i; event = event i; time = time i; sent_by = sent_by i; in_cut = in_cut i }
 
   module _ (one other : List TrailStep) (a : IsTrail logs cut one) (b : IsTrail logs cut other) where
     agree_at : (t : ℕ) → ((u : ℕ) → u < t → slice_get one u ≡ slice_get other u) → slice_get one t ≡ slice_get other t

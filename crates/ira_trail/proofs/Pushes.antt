@@ -1,26 +1,27 @@
 -- One step more.
-use Rattle.std.proofs.Common.{◌≡◌, ◌≢◌, ℕ, suc, ◌+◌, ◌<◌, ◌≤◌, ◌⊎◌, ◌↔◌, inl, inr, IsTrue, Option, Some, None, List, []}
+use Rattle.std.proofs.Common.{◌≡◌, ◌≢◌, ℕ, zero, suc, ◌+◌, ◌<◌, ◌≤◌, ◌⊎◌, ◌↔◌, inl, inr, IsTrue, Option, Some, None, List, []}
 use Rattle.std.proofs.Common.{◌∷◌, ◌++◌, length, take, refl, sym, ◌∙◌, ap, subst, arith, get_or}
 use Rattle.std.specs.Prelude.{slice_get, slice_index, MatchOption}
 use Rattle.std.specs.List.{cons_option}
 use Rattle.std.proofs.lemmas.Bool.{cases_eq, eq-eqb, ne_eqb}
 use Rattle.std.proofs.lemmas.List.{get_or_append_left, get_or_push, length_push, map-append, length-map, take-append-le}
 use Rattle.std.proofs.lemmas.List.{take_all}
+use Rattle.std.specs.List.{All}
+use Rattle.std.proofs.lemmas.List.Elements.{All-append, All-from_get_or}
 use Rattle.std.proofs.lemmas.List.Sums.{sum_by_push}
 use Rattle.std.proofs.lemmas.Option.{get_or_from_slice_get, slice_get-get_or, slice_get_cases, slice_get_within}
 use Rattle.ira_event.specs.declared.event.Event.{Event}
 use Rattle.ira_event.specs.declared.event.Event.TheVariants.{Draw, Sent, Got, Yield}
 use Rattle.ira_event.specs.declared.load.Load.{Load}
 use Rattle.ira_event.specs.Log.{Log}
-use Rattle.ira_order.specs.Counts.{IsReady, Covers, IsSchedule}
 use Rattle.ira_order.specs.Matching.{got, sent, receipt, sending}
 use Rattle.ira_order.specs.Order.{StandsAt, occurrences}
-use Rattle.ira_order.specs.Ring.{next}
-use Rattle.ira_order.proofs.OrderPrefixes.{only_link, rank_more, schedule_push}
+use Rattle.ira_order.specs.Ring.{log_of, next}
+use Rattle.ira_order.proofs.OrderPrefixes.{only_link, rank_more}
 use Rattle.ira_order.proofs.Pushed.{found_in_push}
 use Rattle.ira_trail.specs.declared.sending.Sending.{Sending}
 use Rattle.ira_trail.specs.declared.trail_step.TrailStep.{TrailStep}
-use Rattle.ira_trail.specs.Columns.{Follows}
+use Rattle.ira_trail.specs.Columns.{Follows, IsEvent}
 use Rattle.ira_trail.specs.Trail.{AreFirst, AreOnTheirWay, ComesBefore, IsDueFrom, IsReceipt, IsSending, IsSentBy}
 use Rattle.ira_trail.specs.Trail.{TellsEvent, gots, places_of, sents}
 
@@ -41,6 +42,14 @@ count_more places i = sum_by_push _ places i ∙ rw (eq-eqb i i refl)
 
 pub count_same : (places : List ℕ) (i j : ℕ) → i ≢ j → occurrences (places ++ i ∷ []) j ≡ occurrences places j
 count_same places i j ne = sum_by_push _ places i ∙ rw (ne_eqb i j ne) (omega arith)
+
+-- a beginning with one event more has what that sends more
+pub sents_more : (es : List Event) (n : ℕ) (e : Event) → slice_get es n ≡ Some e
+    → length (sent (take (n + 1) es)) ≡ length (sent (take n es)) + length (cons_option (sending e) [])
+sents_more es n e at =
+    rank_more sending es n e (slice_get_within es n e at)
+    ∙ ap (λ (x : Event). length (sent (take n es)) + length (cons_option (sending x) []))
+    (get_or_from_slice_get es n e e at)
 
 -- a beginning with one receipt more ends with it
 pub got_here : (es : List Event) (n : ℕ) → length (got (take n es)) < length (got (take (n + 1) es)) → n < length es
@@ -122,12 +131,6 @@ one_link n k j i here lj lk ej ek = elim (cases_eq i 0) [
   | inr z ↦ (only_link n i j here lj ej).1 z ∙ sym ((only_link n i k here lk ek).1 z)
 ]
 
--- no receipt is ahead of its sending
-pub covered : (logs : List Log) (places : List ℕ) → IsSchedule logs places → Covers logs (occurrences places)
-covered logs places so_far =
-    let whole : take (length places) places ≡ places = take_all (length places) places (omega arith) in
-    λ i l. rw whole at (so_far.kept (length places) (omega arith) i l)
-
 pub many_places : (steps : List TrailStep) → length (places_of steps) ≡ length steps
 many_places steps = length-map steps (λ step. step.place)
 
@@ -196,7 +199,7 @@ module _ (logs : List Log) (cut : List ℕ) (steps : List TrailStep) (r : TrailS
     step = is.step;
     at = kept_in_push steps r is.before is.step is.at;
     place = is.place;
-    column = is.column;
+    time = is.time;
     message = is.message;
     sends = is.sends;
     rank = is.rank;
@@ -208,33 +211,48 @@ module _ (logs : List Log) (cut : List ℕ) (steps : List TrailStep) (r : TrailS
       → sents logs (steps ++ r ∷ []) i ≡ sents logs steps i → AreOnTheirWay logs steps i sendings
       → AreOnTheirWay logs (steps ++ r ∷ []) i sendings
   way_same i sendings g s way = record {
-    number = omega (arith, g, s, way.number);
+    number = rw (g, s) way.number;
     each = λ k x at. rw g (sending_still i (gots logs steps (next (length logs) i) + suc k) x (way.each k x at));
   }
 
   -- one step more, where its event may come
-  module _ (column : ℕ) (are : AreFirst logs cut steps)
+  module _ (time : ℕ) (are : AreFirst logs cut steps)
       (here : r.place < length logs)
-      (ready : IsReady logs (occurrences (places_of steps)) r.place)
+      (room : occurrences (places_of steps) r.place < length (log_of logs r.place))
+      (after : (i a : ℕ) → IsEvent logs i a → Follows logs cut i a r.place r.event
+      → a ≤ occurrences (places_of steps) i)
       (event_is : r.event ≡ suc (occurrences (places_of steps) r.place))
-      (column_is : r.column ≡ column)
+      (time_is : r.time ≡ time)
       (in_cut : IsTrue r.in_cut ↔ (r.event ≤ slice_index cut r.place))
       (sent_by : MatchOption r.sent_by (¬ (IsReceipt logs r.place r.event)) (IsSentBy logs steps r))
       (above : (s : ℕ) (a : TrailStep) → slice_get steps s ≡ Some a → Follows logs cut a.place a.event r.place r.event
-      → a.column < column)
-      (now : (s : ℕ) (a : TrailStep) → slice_get steps s ≡ Some a → (a.column < column)
-      ⊎ ((a.column ≡ column) × (a.place < r.place)))
-      (due : IsDueFrom logs cut steps r.place column)
-      (one : 1 ≤ column) where
-    two : 2 ≤ length logs
-    two = are.logs_are.ring.0
-
+      → a.time < time)
+      (now : (s : ℕ) (a : TrailStep) → slice_get steps s ≡ Some a → (a.time < time)
+      ⊎ ((a.time ≡ time) × (a.place < r.place)))
+      (due : IsDueFrom logs cut steps r.place time)
+      (one : 1 ≤ time) where
     pub first_more : AreFirst logs cut (steps ++ r ∷ [])
     first_more = record {
       logs_are = are.logs_are;
-      order = are.order;
-      consistent = are.consistent;
-      schedule = rw places_push (schedule_push logs (places_of steps) r.place two here are.schedule ready);
+      cut_is = are.cut_is;
+      places = rw places_push (All-append (λ p. p < length logs) (places_of steps) (r.place ∷ []) are.places
+          (All-from_get_or (λ p. p < length logs) (r.place ∷ []) 0 (one_there r.place here)));
+      within = λ i l. elim (cases_eq r.place i) [
+        | inl same ↦ rw (← same) (omega (arith, count_there, room))
+        | inr ne ↦ omega (arith, count_elsewhere i ne, are.within i l)
+      ];
+      closed = λ t b at i a event follows. elim (found_in_push steps r t b at) [
+        | inl old ↦
+            let within : t < length steps = slice_get_within steps t b old in
+            rw (begins_same t (omega (arith, within))) (are.closed t b old i a event follows)
+        | inr new ↦
+            let whole : take t (places_of (steps ++ r ∷ [])) ≡ places_of steps =
+            begins_same t (omega (arith, new.0))
+            ∙ take_all t (places_of steps) (omega (arith, new.0, many_places steps)) in
+            let follows_r : Follows logs cut i a r.place r.event =
+            subst (λ x. Follows logs cut i a x.place x.event) (sym new.1) follows in
+            rw whole (after i a event follows_r)
+      ];
       each = λ t step at. elim (found_in_push steps r t step at) [
         | inl old ↦ tells_still t step (slice_get_within steps t step old) (are.each t step old)
         | inr new ↦ subst (TellsEvent logs cut (steps ++ r ∷ []) t) new.1
@@ -248,16 +266,16 @@ module _ (logs : List Log) (cut : List ℕ) (steps : List TrailStep) (r : TrailS
         | inl old ↦ are.sorted s t a b less (earlier s t a less (omega (arith, slice_get_within steps t b old)) at_a)
             old
         | inr new ↦ subst (ComesBefore a) new.1 (elim (now s a (earlier s t a less (omega (arith, new.0)) at_a)) [
-          | inl before ↦ inl (omega (arith, before, column_is))
-          | inr beside ↦ inr (beside.0 ∙ sym column_is, beside.1)
+          | inl before ↦ inl (omega (arith, before, time_is))
+          | inr beside ↦ inr (beside.0 ∙ sym time_is, beside.1)
         ])
       ];
       greater = λ s t a b less at_a at_b follows. elim (found_in_push steps r t b at_b) [
         | inl old ↦ are.greater s t a b less (earlier s t a less (omega (arith, slice_get_within steps t b old)) at_a)
             old follows
-        | inr new ↦ subst (λ x. a.column < x.column) new.1 (omega (
+        | inr new ↦ subst (λ x. a.time < x.time) new.1 (omega (
           arith,
-          column_is,
+          time_is,
           above s a (earlier s t a less (omega (arith, new.0)) at_a)
               (subst (λ x. Follows logs cut a.place a.event x.place x.event) (sym new.1) follows),
         ))
@@ -267,10 +285,10 @@ module _ (logs : List Log) (cut : List ℕ) (steps : List TrailStep) (r : TrailS
           | inl first ↦ inl first
           | inr more ↦ inr (more.0, more.1, kept_in_push steps r more.0 more.1 more.2, more.3, more.4)
         ]
-        | inr new ↦ subst (λ x. (x.column ≡ 1)
+        | inr new ↦ subst (λ x. (x.time ≡ 1)
             ⊎ ((s : ℕ) × (a : TrailStep) × (slice_get (steps ++ r ∷ []) s ≡ Some a)
-            × Follows logs cut a.place a.event x.place x.event × (x.column ≡ suc a.column))) new.1 (elim due [
-              | inl low ↦ inl (omega (arith, low, one, column_is))
+            × Follows logs cut a.place a.event x.place x.event × (x.time ≡ suc a.time))) new.1 (elim due [
+              | inl low ↦ inl (omega (arith, low, one, time_is))
               | inr from ↦
                   let follows : Follows logs cut from.1.place from.1.event r.place r.event = rw event_is from.3 in
                   inr (
@@ -278,12 +296,16 @@ module _ (logs : List Log) (cut : List ℕ) (steps : List TrailStep) (r : TrailS
                     from.1,
                     kept_in_push steps r from.0 from.1 from.2,
                     follows,
-                    omega (arith, from.4, column_is, above from.0 from.1 from.2 follows),
+                    omega (arith, from.4, time_is, above from.0 from.1 from.2 follows),
                   )
             ])
       ];
     }
       where
+        one_there : (x : ℕ) → x < length logs → (k : ℕ) → k < length (x ∷ []) → get_or (x ∷ []) k 0 < length logs
+        one_there x l zero low = l
+        one_there x l (suc k) low = absurd (omega (arith, low))
+
         earlier : (s t : ℕ) (a : TrailStep) → s < t → t ≤ length steps → slice_get (steps ++ r ∷ []) s ≡ Some a
             → slice_get steps s ≡ Some a
         earlier s t a less l at = elim (found_in_push steps r s a at) [

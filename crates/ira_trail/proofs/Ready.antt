@@ -1,84 +1,154 @@
 -- Which event may come next.
 use Rattle.std.proofs.Common.{◌≡◌, ◌≢◌, ℕ, zero, suc, ◌+◌, ◌<◌, ◌≤◌, ◌⊎◌, inl, inr, List, [], ◌∷◌, ◌++◌, length, take}
-use Rattle.std.proofs.Common.{sym, ◌∙◌, ap, arith, get_or, add-one}
+use Rattle.std.proofs.Common.{Option, Some, None, refl, sym, ◌∙◌, ap, subst, arith, get_or, add-one}
 use Rattle.std.specs.Prelude.{slice_get}
 use Rattle.std.proofs.lemmas.Bool.{cases_eq, cases_lt}
 use Rattle.std.proofs.lemmas.List.{take-take, take_all, length-take-le}
+use Rattle.std.proofs.lemmas.Option.{slice_get-get_or, slice_get_within}
+use Rattle.ira_event.specs.declared.event.Event.{Event}
+use Rattle.ira_event.specs.declared.event.Event.TheVariants.{Draw, Sent, Got, Yield}
+use Rattle.ira_event.specs.declared.load.Load.{Load}
 use Rattle.ira_event.specs.Log.{Log}
-use Rattle.ira_order.specs.Counts.{IsKept, IsReady, IsSchedule}
+use Rattle.ira_order.specs.Counts.{IsKept, IsReady}
 use Rattle.ira_order.specs.Matching.{got, sent, sending}
 use Rattle.ira_order.specs.Order.{IsPair, occurrences}
 use Rattle.ira_order.specs.Ring.{log_of, next, numbered}
-use Rattle.ira_order.proofs.Ranks.{next_other, occurrences_other, occurrences_same, occurrences-take-le, rank_mono}
+use Rattle.ira_order.proofs.Bridge.{SendingOf, sending_of}
+use Rattle.ira_order.proofs.Places.{Ranked, is_sending, ranked}
+use Rattle.ira_order.proofs.Ranks.{next_below, next_other, occurrences_other, occurrences_same, occurrences-take-le}
+use Rattle.ira_order.proofs.Ranks.{rank_mono}
 use Rattle.ira_trail.specs.declared.trail_step.TrailStep.{TrailStep}
-use Rattle.ira_trail.specs.Trail.{places_of}
-use Rattle.ira_trail.proofs.Pushes.{count_elsewhere, count_there, covered, got_here, one_link, sent_here}
+use Rattle.ira_trail.specs.Columns.{IsEvent}
+use Rattle.ira_trail.specs.Trail.{all_sents, places_of}
+use Rattle.ira_trail.proofs.Pushes.{count_elsewhere, count_there}
+
+-- a member of a list that is counted from 1
+numbered_event : (es : List Event) (a : ℕ) (e : Event) → numbered es a ≡ Some e → (1 ≤ a) × (a ≤ length es)
+numbered_event es zero e at = cc
+numbered_event es (suc a) e at = (omega arith, omega (arith, slice_get_within es a e at))
+
+-- a sending and its receipt are events
+pub sending_there : (logs : List Log) (i a b : ℕ) → IsPair logs i a b → IsEvent logs i a
+sending_there logs i a b pair =
+    let is = numbered_event (log_of logs i) a _ pair.sends in
+    record { place = pair.link; first = is.0; within = is.1 }
+
+pub receipt_there : (logs : List Log) (i a b : ℕ) → IsPair logs i a b → IsEvent logs (next (length logs) i) b
+receipt_there logs i a b pair =
+    let is = numbered_event (log_of logs (next (length logs) i)) b _ pair.receives in
+    record { place = next_below (length logs) i pair.link; first = is.0; within = is.1 }
+
+-- what was sent by then has the lesser number
+pub sent_by_then : (es : List Event) (a n : ℕ) (m : Load) → numbered es a ≡ Some (Sent m)
+    → length (sent (take a es)) ≤ length (sent (take n es)) → a ≤ n
+sent_by_then es a n m at few = elim (cases_lt n a) [
+  | inr fine ↦ fine
+  | inl late ↦
+      let s : SendingOf es a = sending_of es a m at in
+      absurd (omega (arith, few, s.rank, rank_mono sending es n s.place (omega (arith, late, s.number))))
+]
+
+-- a receipt that isn't ahead of its link is the receipt of nothing later
+pub ready_sent : (logs : List Log) (at : ℕ → ℕ) (k j a : ℕ) → IsReady logs at k → next (length logs) j ≡ k
+    → IsPair logs j a (suc (at k)) → a ≤ at j
+ready_sent logs at k j a ready link pair =
+    let taken : length (got (take (suc (at k)) (log_of logs (next (length logs) j))))
+    ≡ length (got (take (at k + 1) (log_of logs k))) =
+    ap (λ (x : ℕ). length (got (take (suc (at k)) (log_of logs x)))) link
+    ∙ ap (λ (x : ℕ). length (got (take x (log_of logs k)))) (sym (add-one (at k))) in
+    sent_by_then (log_of logs j) a (at j) pair.message pair.sends
+    (omega (arith, pair.rank, taken, ready.1 j pair.link link))
+
+-- the sending of a rank
+pub sending_of_rank : (logs : List Log) (i k : ℕ) → 1 ≤ k → k ≤ all_sents logs i → (a : ℕ) × (m : Load)
+    × (numbered (log_of logs i) a ≡ Some (Sent m)) × (length (sent (take a (log_of logs i))) ≡ k)
+sending_of_rank logs i zero first few = absurd (omega (arith, first))
+sending_of_rank logs i (suc k) first few =
+    let whole : take (length (log_of logs i)) (log_of logs i) ≡ log_of logs i =
+    take_all (length (log_of logs i)) (log_of logs i) (omega arith) in
+    let low : k < length (sent (take (length (log_of logs i)) (log_of logs i))) = rw whole (omega (arith, few)) in
+    let r : Ranked sending (log_of logs i) (length (log_of logs i)) k (Draw 0) =
+    ranked sending (log_of logs i) (length (log_of logs i)) k (Draw 0) (omega arith) low in (
+      suc r.place,
+      r.message,
+      slice_get-get_or (log_of logs i) r.place (Draw 0) r.below
+          ∙ ap Some (is_sending (get_or (log_of logs i) r.place (Draw 0)) r.message r.is),
+      rw (← add-one r.place) (r.next_rank ∙ add-one k),
+    )
+
+-- whether two events are a sending and its receipt
+pub pair_or_not : (logs : List Log) (i a b : ℕ) → i < length logs
+    → IsPair logs i a b ⊎ (IsPair logs i a b → ⊥)
+pair_or_not logs i a b here =
+    by_events (numbered (log_of logs i) a) (numbered (log_of logs (next (length logs) i)) b) refl refl
+  where
+    by_events : (x y : Option Event) → numbered (log_of logs i) a ≡ x
+        → numbered (log_of logs (next (length logs) i)) b ≡ y → IsPair logs i a b ⊎ (IsPair logs i a b → ⊥)
+    by_events (Some (Sent m)) (Some (Got n)) at_a at_b = elim (cases_eq (length (sent (take a (log_of logs i))))
+        (length (got (take b (log_of logs (next (length logs) i)))))) [
+          | inl same ↦ inl (record {
+            message = m;
+            taken = n;
+            link = here;
+            sends = at_a;
+            receives = at_b;
+            rank = same;
+          })
+          | inr other ↦ inr (λ pair. other pair.rank)
+        ]
+    by_events (Some (Sent m)) (Some (Sent n)) at_a at_b =
+        inr (λ pair. (let z : Some (Sent n) ≡ Some (Got pair.taken) = sym at_b ∙ pair.receives in cc))
+    by_events (Some (Sent m)) (Some (Draw n)) at_a at_b =
+        inr (λ pair. (let z : Some (Draw n) ≡ Some (Got pair.taken) = sym at_b ∙ pair.receives in cc))
+    by_events (Some (Sent m)) (Some Yield) at_a at_b =
+        inr (λ pair. (let z : Some Yield ≡ Some (Got pair.taken) = sym at_b ∙ pair.receives in cc))
+    by_events (Some (Sent m)) None at_a at_b =
+        inr (λ pair. (let z : None ≡ Some (Got pair.taken) = sym at_b ∙ pair.receives in cc))
+    by_events (Some (Got m)) y at_a at_b =
+        inr (λ pair. (let z : Some (Got m) ≡ Some (Sent pair.message) = sym at_a ∙ pair.sends in cc))
+    by_events (Some (Draw m)) y at_a at_b =
+        inr (λ pair. (let z : Some (Draw m) ≡ Some (Sent pair.message) = sym at_a ∙ pair.sends in cc))
+    by_events (Some Yield) y at_a at_b =
+        inr (λ pair. (let z : Some Yield ≡ Some (Sent pair.message) = sym at_a ∙ pair.sends in cc))
+    by_events None y at_a at_b =
+        inr (λ pair. (let z : None ≡ Some (Sent pair.message) = sym at_a ∙ pair.sends in cc))
+
+-- all that the next event of node k receives was sent by then
+abbrev pub IsSentTo : List Log → List TrailStep → ℕ → Type 0
+IsSentTo logs steps k =
+    (j a : ℕ) → next (length logs) j ≡ k → IsPair logs j a (suc (occurrences (places_of steps) k))
+    → a ≤ occurrences (places_of steps) j
 
 -- with one step more the next event of another node can newly come as the receipt of what was sent
-pub ready_or_pair : (logs : List Log) (cut : List ℕ) (steps : List TrailStep) (r : TrailStep) (k : ℕ)
-    → IsSchedule logs (places_of steps) → r.place < length logs → k < length logs → r.place ≢ k
-    → IsReady logs (occurrences (places_of steps)) r.place → r.event ≡ suc (occurrences (places_of steps) r.place)
-    → IsReady logs (occurrences (places_of (steps ++ r ∷ []))) k → IsReady logs (occurrences (places_of steps)) k
+pub sent_or_pair : (logs : List Log) (cut : List ℕ) (steps : List TrailStep) (r : TrailStep) (k : ℕ)
+    → r.place < length logs → r.place ≢ k → r.event ≡ suc (occurrences (places_of steps) r.place)
+    → IsSentTo logs (steps ++ r ∷ []) k → IsSentTo logs steps k
     ⊎ ((next (length logs) r.place ≡ k) × IsPair logs r.place r.event (suc (occurrences (places_of steps) k)))
-ready_or_pair logs cut steps r k so_far here there ne first event_is then =
-    let more : occurrences (places_of steps) k < length (log_of logs k) =
-    rw (count_elsewhere logs cut steps r k ne) at then.0 in
-    elim (cases_eq (next (length logs) r.place) k) [
-      | inr other ↦ inl (
-        more,
-        λ j lj e.
-            let ne_j : r.place ≢ j = λ q. other (ap (next (length logs)) q ∙ e) in
-            let c = rw (
-              count_elsewhere logs cut steps r k ne,
-              count_elsewhere logs cut steps r j ne_j,
-            ) at (then.1 j lj e) in
-            c,
-      )
-      | inl link ↦ elim (cases_lt (length (sent (take (occurrences (places_of steps) r.place) (log_of logs r.place))))
-          (length (got (take (occurrences (places_of steps) k + 1) (log_of logs k))))) [
-            | inr fine ↦ inl (
-              more,
-              λ j lj e.
-                  (let same : j ≡ r.place = one_link (length logs) r.place j k there lj here e link in rw same fine),
-            )
-            | inl short ↦
-                let before : length (got (take (occurrences (places_of steps) k) (log_of logs k)))
-                ≤ length (sent (take (occurrences (places_of steps) r.place) (log_of logs r.place))) =
-                rw link at (covered logs (places_of steps) so_far r.place here) in
-                let after : length (got (take (occurrences (places_of steps) k + 1) (log_of logs k)))
-                ≤ length (sent (take (occurrences (places_of steps) r.place + 1) (log_of logs r.place))) =
-                rw (
-                  count_elsewhere logs cut steps r k ne,
-                  count_there logs cut steps r,
-                ) at (then.1 r.place here link) in
-                let g = got_here (log_of logs k) (occurrences (places_of steps) k) (omega (arith, before, short)) more
-                in
-                let s = sent_here (log_of logs r.place) (occurrences (places_of steps) r.place)
-                (omega (arith, short, after)) first.0 in
-                let number : r.event ≡ occurrences (places_of steps) r.place + 1 =
-                event_is ∙ sym (add-one (occurrences (places_of steps) r.place)) in
-                let sent_is : length (sent (take r.event (log_of logs r.place)))
-                ≡ length (sent (take (occurrences (places_of steps) r.place + 1) (log_of logs r.place))) =
-                ap (λ (x : ℕ). length (sent (take x (log_of logs r.place)))) number in
-                let got_is : length (got (take (suc (occurrences (places_of steps) k))
-                (log_of logs (next (length logs) r.place))))
-                ≡ length (got (take (occurrences (places_of steps) k + 1) (log_of logs k))) =
-                ap (λ (x : ℕ). length (got (take (suc (occurrences (places_of steps) k)) (log_of logs x)))) link
-                ∙ ap (λ (x : ℕ). length (got (take x (log_of logs k))))
-                (sym (add-one (occurrences (places_of steps) k))) in
-                inr (
-                  link,
-                  record {
-                    message = s.0;
-                    taken = g.0;
-                    link = here;
-                    sends = ap (numbered (log_of logs r.place)) event_is ∙ s.1;
-                    receives = ap (λ (x : ℕ). slice_get (log_of logs x) (occurrences (places_of steps) k)) link ∙ g.1;
-                    rank = omega (arith, sent_is, got_is, g.2, s.2, short, before, after);
-                  },
-                )
-          ]
-    ]
+sent_or_pair logs cut steps r k here ne event_is later = elim (cases_eq (next (length logs) r.place) k) [
+  | inr other ↦ inl (λ j a link pair.
+      let apart : r.place ≢ j = λ q. other (ap (next (length logs)) q ∙ link) in
+      omega (arith, upto j a link pair, count_elsewhere logs cut steps r j apart))
+  | inl link ↦ elim (pair_or_not logs r.place r.event (suc (occurrences (places_of steps) k)) here) [
+    | inl pair ↦ inr (link, pair)
+    | inr unpaired ↦ inl (λ j a link_j pair. elim (cases_eq r.place j) [
+      | inr apart ↦ omega (arith, upto j a link_j pair, count_elsewhere logs cut steps r j apart)
+      | inl same ↦ elim (cases_eq a r.event) [
+        | inl newest ↦ absurd (unpaired
+            (subst (λ (x : ℕ). IsPair logs x r.event (suc (occurrences (places_of steps) k))) (sym same)
+            (subst (λ (x : ℕ). IsPair logs j x (suc (occurrences (places_of steps) k))) newest pair)))
+        | inr older ↦
+            let up : a ≤ occurrences (places_of (steps ++ r ∷ [])) r.place =
+            subst (λ (x : ℕ). a ≤ occurrences (places_of (steps ++ r ∷ [])) x) (sym same) (upto j a link_j pair) in
+            subst (λ (x : ℕ). a ≤ occurrences (places_of steps) x) same
+            (omega (arith, up, older, event_is, count_there logs cut steps r))
+      ]
+    ])
+  ]
+]
+  where
+    upto : (j a : ℕ) → next (length logs) j ≡ k → IsPair logs j a (suc (occurrences (places_of steps) k))
+        → a ≤ occurrences (places_of (steps ++ r ∷ [])) j
+    upto j a link pair = later j a link (rw (count_elsewhere logs cut steps r k ne) pair)
 
 -- where no event of a cut may come, and the cut is what a beginning of an order has, all of it have come
 module _ (logs : List Log) (order : List ℕ) (at limit : ℕ → ℕ)

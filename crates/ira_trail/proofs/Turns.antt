@@ -1,13 +1,13 @@
--- The turn of a node: its event comes, or may not come in this column.
-use Rattle.std.proofs.Common.{◌≡◌, ◌≢◌, ℕ, suc, ◌+◌, ◌-◌, ◌*◌, ◌<◌, ◌≤◌, ◌⊎◌, ◌↔◌, inl, inr, true, false, IsTrue}
+-- The turn of a node: its event comes, or may not come in this time.
+use Rattle.std.proofs.Common.{◌≡◌, ◌≢◌, ℕ, zero, suc, Bool, ◌+◌, ◌-◌, ◌*◌, ◌<◌, ◌≤◌, ◌⊎◌, ◌↔◌, inl, inr, true, false, IsTrue}
 use Rattle.std.proofs.Common.{Option, Some, None, List, [], ◌∷◌, ◌++◌, drop, length, length-set, map, take, set, Result}
 use Rattle.std.proofs.Common.{Ok, Err, refl, sym, ◌∙◌, ap, subst, arith, get_or, add-one, get_or-set_same}
-use Rattle.std.proofs.Common.{get_or-set_other}
+use Rattle.std.proofs.Common.{get_or-set_other, min}
 use Rattle.std.specs.Prelude.{OnErr, slice_get, slice_index}
 use Rattle.std.specs.Option.{option_map}
 use Rattle.std.specs.List.{cons_option}
 use Rattle.std.proofs.lemmas.Bool.{cases_eq, cases_lt}
-use Rattle.std.proofs.lemmas.List.{get_or_read, length-drop, length-map, length_push, map-set}
+use Rattle.std.proofs.lemmas.List.{get_or_read, length-drop, length-map, length_push, map-set, take_all}
 use Rattle.std.proofs.lemmas.Option.{get_or_from_slice_get, slice_get-get_or, slice_get-map, slice_get_cases}
 use Rattle.std.proofs.lemmas.Option.{slice_get_read, slice_get_within}
 use Rattle.ira_event.specs.declared.event.Event.{Event}
@@ -15,7 +15,6 @@ use Rattle.ira_event.specs.declared.event.Event.TheVariants.{Draw, Sent, Got, Yi
 use Rattle.ira_event.specs.declared.load.Load.{Load}
 use Rattle.ira_event.specs.Limits.{MAX_NODES, MAX_RECORDS}
 use Rattle.ira_event.specs.Log.{Log}
-use Rattle.ira_order.specs.Counts.{IsReady}
 use Rattle.ira_order.specs.Matching.{got, sent, receipt, sending}
 use Rattle.ira_order.specs.Order.{IsPair, StandsAt, occurrences}
 use Rattle.ira_order.specs.Ring.{events_of, log_of, next, numbered, prev}
@@ -28,10 +27,12 @@ use Rattle.ira_trail.specs.declared.sending.Sending.{Sending}
 use Rattle.ira_trail.specs.declared.trail_step.TrailStep.{TrailStep}
 use Rattle.ira_trail.specs.Columns.{Follows, own_next, received, outside}
 use Rattle.ira_trail.specs.Trail.{AreOnTheirWay, HasGiven, IsDueFrom, IsNextEvent, IsNoneSentBefore, IsReceipt}
-use Rattle.ira_trail.specs.Trail.{IsSending, MayCome, Trail, after_step, gots, places_of, sents, step_now, with_links}
-use Rattle.ira_trail.proofs.Pushes.{count_elsewhere, count_there, covered, found_last, one_link, sending_still}
+use Rattle.ira_trail.specs.Trail.{IsSending, MayCome, Trail, after_step, all_sents, gots, places_of, sents, step_now}
+use Rattle.ira_trail.specs.Trail.{with_links}
+use Rattle.ira_trail.proofs.Pushes.{count_elsewhere, count_there, found_last, one_link, sending_still}
 use Rattle.ira_trail.proofs.Pushes.{way_same}
-use Rattle.ira_trail.proofs.Walks.{false_or_true, few_events, few_steps, given_more, stands_once}
+use Rattle.ira_trail.proofs.Ready.{IsSentTo, sending_of_rank, sending_there}
+use Rattle.ira_trail.proofs.Walks.{false_or_true, few_events, few_steps, given_more, stands, stands_once}
 
 -- a log has one sending of a rank
 pub one_sending : (es : List Event) (a b : ℕ) (m n : Load) → numbered es a ≡ Some (Sent m)
@@ -65,7 +66,7 @@ slice_get_drop [] k x at = cc
 slice_get_drop (y ∷ xs) k x at = at
 
 -- what stands in a list with one replaced
-found_in_set : {X : Type 0} (xs : List X) (i : ℕ) (x : X) (k : ℕ) (y : X) → slice_get (set xs i x) k ≡ Some y
+pub found_in_set : {X : Type 0} (xs : List X) (i : ℕ) (x : X) (k : ℕ) (y : X) → slice_get (set xs i x) k ≡ Some y
     → ((k ≢ i) × (slice_get xs k ≡ Some y)) ⊎ ((k ≡ i) × (x ≡ y))
 found_in_set xs i x k y at =
     let within : k < length xs = omega (arith, slice_get_within (set xs i x) k y at, length-set xs i x) in
@@ -91,13 +92,13 @@ module _ (trail : Trail) (steps : List TrailStep) (given : HasGiven trail steps)
 
   -- how far the node may go
   module _ (limit : ℕ) (of_cut : trail.is_past_cut ≡ false
-      → limit ≡ slice_index trail.cut trail.place) (of_log : trail.is_past_cut ≡ true
+      → limit ≡ min (slice_index trail.cut trail.place) (length (log_of trail.logs trail.place))) (of_log : trail.is_past_cut ≡ true
       → limit ≡ length (log_of trail.logs trail.place)) where
     pub at_limit : slice_index trail.done trail.place ≡ limit
         → MayCome trail.logs trail.cut trail.is_past_cut steps trail.place → ⊥
     at_limit done may = elim (false_or_true trail.is_past_cut) [
-      | inl inside ↦ omega (arith, done, done_there, of_cut inside, may.in_turn inside)
-      | inr past ↦ omega (arith, done, done_there, of_log past, may.ready.0)
+      | inl inside ↦ omega (arith, done, done_there, of_cut inside, may.in_turn inside, may.event)
+      | inr past ↦ omega (arith, done, done_there, of_log past, may.event)
     ]
 
     pub below_limit : slice_index trail.done trail.place ≢ limit
@@ -111,12 +112,19 @@ module _ (trail : Trail) (steps : List TrailStep) (given : HasGiven trail steps)
           done_there,
           of_cut inside,
           given.inside inside trail.place here,
-          given.are_first.consistent.0.within trail.place here,
+          given.are_first.within trail.place here,
         ),
-        λ z. omega (arith, other, done_there, of_cut inside, given.inside inside trail.place here),
+        λ z. omega (
+          arith,
+          other,
+          done_there,
+          of_cut inside,
+          given.inside inside trail.place here,
+          given.are_first.within trail.place here,
+        ),
       )
       | inr past ↦ (
-        omega (arith, other, done_there, of_log past, given.are_first.schedule.within trail.place here),
+        omega (arith, other, done_there, of_log past, given.are_first.within trail.place here),
         λ inside. (let z : true ≡ false = sym past ∙ inside in cc),
       )
     ]
@@ -150,18 +158,6 @@ module _ (trail : Trail) (steps : List TrailStep) (given : HasGiven trail steps)
     sent_then =
         rank_more sending (log_of trail.logs trail.place) (occurrences (places_of steps) trail.place) e within
         ∙ ap (λ (x : Event). sents trail.logs steps trail.place + length (cons_option (sending x) [])) is_e
-
-    -- no event but a receipt waits
-    pub plain_ready : receipt e ≡ None → IsReady trail.logs (occurrences (places_of steps)) trail.place
-    plain_ready none = (
-      within,
-      λ j lj link.
-          let same : length (cons_option (receipt e) []) ≡ 0 =
-          ap (λ (o : Option Load). length (cons_option o [])) none in
-          let cover : gots trail.logs steps trail.place ≤ sents trail.logs steps j =
-          rw link at (covered trail.logs (places_of steps) given.are_first.schedule j lj) in
-          omega (arith, cover, got_then, same),
-    )
 
     -- the step
     module _ (sent_by : Option ℕ) where
@@ -219,17 +215,17 @@ module _ (trail : Trail) (steps : List TrailStep) (given : HasGiven trail steps)
             rw same (omega (arith, gots_there, z)))
       ]
 
-      -- what it comes directly after has come in earlier columns
+      -- what it comes directly after has come in earlier times
       earlier : ((s : ℕ) (a : TrailStep) → slice_get steps s ≡ Some a → next (length trail.logs) a.place ≡ trail.place
-          → IsPair trail.logs a.place a.event (step_now trail sent_by).event → a.column < trail.column)
+          → IsPair trail.logs a.place a.event (step_now trail sent_by).event → a.time < trail.time)
           → (s : ℕ) (a : TrailStep) → slice_get steps s ≡ Some a
           → Follows trail.logs trail.cut a.place a.event trail.place (step_now trail sent_by).event
-          → a.column < trail.column
+          → a.time < trail.time
       earlier paired s a at_a follows =
           by_kind a.place a.event trail.place (step_now trail sent_by).event follows refl refl refl refl
         where
           by_kind : (i x j y : ℕ) → Follows trail.logs trail.cut i x j y → i ≡ a.place → x ≡ a.event → j ≡ trail.place
-              → y ≡ (step_now trail sent_by).event → a.column < trail.column
+              → y ≡ (step_now trail sent_by).event → a.time < trail.time
           by_kind i x j y (own_next same more) i_is x_is j_is y_is = elim (given.now s a at_a) [
             | inl before ↦ before
             | inr beside ↦ absurd (omega (arith, beside.1, sym i_is ∙ same ∙ j_is))
@@ -245,33 +241,79 @@ module _ (trail : Trail) (steps : List TrailStep) (given : HasGiven trail steps)
             | inr past ↦ given.over past s a at_a (omega (arith, low, x_is, ap (slice_index trail.cut) i_is))
           ]
 
-    no_pair : (sent_by : Option ℕ) → receipt e ≡ None → IsReceipt trail.logs trail.place (step_now trail sent_by).event
-        → ⊥
-    no_pair sent_by none is =
-        let z : Some e ≡ Some (Got is.0) = sym (event_at sent_by) ∙ is.1 in
-        let same : e ≡ Got is.0 = cc in
-        let w : None ≡ Some is.0 = sym none ∙ ap receipt same in
+    no_receipt_now : (sent_by : Option ℕ) → ((j a : ℕ) → next (length trail.logs) j ≡ trail.place
+        → IsPair trail.logs j a (suc (occurrences (places_of steps) trail.place)) → ⊥)
+        → IsReceipt trail.logs trail.place (step_now trail sent_by).event → ⊥
+    no_receipt_now sent_by none is =
+        none is.0 is.1 is.2 (subst (IsPair trail.logs is.0 is.1) (number sent_by) is.3)
+
+    -- no event but a receipt receives anything
+    never : receipt e ≡ None → (j a : ℕ) → next (length trail.logs) j ≡ trail.place
+        → IsPair trail.logs j a (suc (occurrences (places_of steps) trail.place)) → ⊥
+    never none j a link pair =
+        let z : Some e ≡ Some (Got pair.taken) =
+        sym at ∙ ap (λ (x : ℕ). slice_get (log_of trail.logs x) (occurrences (places_of steps) trail.place)) (sym link)
+        ∙ pair.receives in
+        let same : e ≡ Got pair.taken = cc in
+        let w : None ≡ Some pair.taken = sym none ∙ ap receipt same in
         cc
+
+    -- nothing is received, so as much is still to be
+    left_same : (sent_by : Option ℕ) → receipt e ≡ None → (i : ℕ) → i < length trail.logs
+        → slice_index trail.unreceived i ≡ all_sents trail.logs i
+        - gots trail.logs (steps ++ step_now trail sent_by ∷ []) (next (length trail.logs) i)
+    left_same sent_by none i l =
+        rw (gots_same sent_by (next (length trail.logs) i) (λ z. none)) (given.left i l)
 
     -- an event that no link sees
     pub plain_step : receipt e ≡ None → sending e ≡ None
         → HasGiven (after_step trail) (steps ++ step_now trail None ∷ [])
     plain_step no_receipt no_sending =
-        given_more trail steps given (step_now trail None) (after_step trail).done trail.links here refl
-        record { ready = plain_ready no_receipt; in_turn = in_turn }
-        (number None) refl (in_cut_told None) (no_pair None no_receipt)
-        (earlier None (λ s a at_a link pair. absurd (no_pair None no_receipt (pair.taken, rw link at pair.receives))))
-        refl given.links
+        given_more trail steps given (step_now trail None) (after_step trail).done trail.links trail.unreceived here refl
+        record { event = within; sent = λ j a link pair. absurd (never no_receipt j a link pair); in_turn = in_turn }
+        (number None) refl (in_cut_told None) (no_receipt_now None (never no_receipt))
+        (earlier None (λ s a at_a link pair.
+        absurd (never no_receipt a.place a.event link (subst (IsPair trail.logs a.place a.event) (number None) pair))))
+        refl given.links given.unreceived (left_same None no_receipt)
         (λ i sendings at_i. way_same trail.logs trail.cut steps (step_now trail None) i sendings
         (gots_same None (next (length trail.logs) i) (λ z. no_receipt)) (sents_same None i (λ z. no_sending))
         (given.on_their_way i sendings at_i))
 
+    -- no more is sent by now than in all
+    few_sent : (i : ℕ) → sents trail.logs steps i ≤ all_sents trail.logs i
+    few_sent i = elim (cases_lt (length (log_of trail.logs i)) (occurrences (places_of steps) i)) [
+      | inl over ↦ rw (take_all (occurrences (places_of steps) i) (log_of trail.logs i) (omega (arith, over)))
+          (omega arith)
+      | inr under ↦
+          let whole : take (length (log_of trail.logs i)) (log_of trail.logs i) ≡ log_of trail.logs i =
+          take_all (length (log_of trail.logs i)) (log_of trail.logs i) (omega arith) in
+          let low : sents trail.logs steps i
+          ≤ length (sent (take (length (log_of trail.logs i)) (log_of trail.logs i))) =
+          rank_mono sending (log_of trail.logs i) (occurrences (places_of steps) i) (length (log_of trail.logs i)) under
+          in
+          rw whole at low
+    ]
+
+    room_sent : (m : Load) → e ≡ Sent m → sents trail.logs steps trail.place + 1 ≤ all_sents trail.logs trail.place
+    room_sent m is =
+        let one : length (cons_option (sending e) []) ≡ 1 =
+        ap (λ (d : Event). length (cons_option (sending d) [])) is in
+        let whole : take (length (log_of trail.logs trail.place)) (log_of trail.logs trail.place)
+        ≡ log_of trail.logs trail.place =
+        take_all (length (log_of trail.logs trail.place)) (log_of trail.logs trail.place) (omega arith) in
+        let low : length (sent (take (occurrences (places_of steps) trail.place + 1) (log_of trail.logs trail.place)))
+        ≤ length (sent (take (length (log_of trail.logs trail.place)) (log_of trail.logs trail.place))) =
+        rank_mono sending (log_of trail.logs trail.place) (occurrences (places_of steps) trail.place + 1)
+        (length (log_of trail.logs trail.place)) (omega (arith, within)) in
+        let low' = rw whole at low in
+        omega (arith, low', sent_then, one)
+
     -- a sending
     pub sent_step : (m : Load) (q : List Sending) (x : Sending) (links : List (List Sending)) → e ≡ Sent m
-        → slice_get trail.links trail.place ≡ Some q → x.step ≡ trail.steps + 1 → x.column ≡ trail.column
+        → slice_get trail.links trail.place ≡ Some q → x.step ≡ trail.steps + 1 → x.time ≡ trail.time
         → links ≡ set trail.links trail.place (q ++ x ∷ [])
-        → HasGiven (after_step (with_links trail links)) (steps ++ step_now trail None ∷ [])
-    sent_step m q x links is at_q step_is column_is links_are =
+        → HasGiven (after_step (with_links trail links trail.unreceived)) (steps ++ step_now trail None ∷ [])
+    sent_step m q x links is at_q step_is time_is links_are =
         let r : TrailStep = step_now trail None in
         let no_receipt : receipt e ≡ None = ap receipt is in
         let one : length (cons_option (sending e) []) ≡ 1 =
@@ -282,7 +324,7 @@ module _ (trail : Trail) (steps : List TrailStep) (given : HasGiven trail steps)
         let g = gots_elsewhere None (next (length trail.logs) trail.place) other in
         let s = sents_there None in
         let pushed : AreOnTheirWay trail.logs (steps ++ step_now trail None ∷ []) trail.place (q ++ x ∷ []) = record {
-          number = omega (arith, g, s, one, way.number, length_push q x);
+          number = rw g (omega (arith, s, one, way.number, length_push q x));
           each = λ k y at_k. elim (found_in_push q x k y at_k) [
             | inl old ↦ rw g (sending_still trail.logs trail.cut steps (step_now trail None) trail.place
                 (gots trail.logs steps (next (length trail.logs) trail.place) + suc k) y (way.each k y old))
@@ -294,7 +336,7 @@ module _ (trail : Trail) (steps : List TrailStep) (given : HasGiven trail steps)
                   step = step_now trail None;
                   at = found_last steps (step_now trail None);
                   place = refl;
-                  column = sym column_is;
+                  time = sym time_is;
                   message = m;
                   sends = event_at None ∙ ap Some is;
                   rank =
@@ -302,16 +344,17 @@ module _ (trail : Trail) (steps : List TrailStep) (given : HasGiven trail steps)
                       ≡ length (sent (take (occurrences (places_of steps) trail.place + 1)
                       (log_of trail.logs trail.place))) =
                       ap (λ (z : ℕ). length (sent (take (z + 1) (log_of trail.logs trail.place)))) done_there in
-                      omega (arith, taken, sent_then, one, way.number, new.0, g);
+                      omega (arith, taken, sent_then, one, way.number, new.0, g, few_sent trail.place, room_sent m is);
                 }
           ];
         } in
-        given_more trail steps given (step_now trail None) (after_step trail).done links here refl
-        record { ready = plain_ready no_receipt; in_turn = in_turn }
-        (number None) refl (in_cut_told None) (no_pair None no_receipt)
-        (earlier None (λ u a at_a link pair. absurd (no_pair None no_receipt (pair.taken, rw link at pair.receives))))
+        given_more trail steps given (step_now trail None) (after_step trail).done links trail.unreceived here refl
+        record { event = within; sent = λ j a link pair. absurd (never no_receipt j a link pair); in_turn = in_turn }
+        (number None) refl (in_cut_told None) (no_receipt_now None (never no_receipt))
+        (earlier None (λ u a at_a link pair.
+        absurd (never no_receipt a.place a.event link (subst (IsPair trail.logs a.place a.event) (number None) pair))))
         refl (ap (λ (ls : List (List Sending)). length ls) links_are ∙ length-set trail.links trail.place (q ++ x ∷ [])
-        ∙ given.links)
+        ∙ given.links) given.unreceived (left_same None no_receipt)
         (λ i sendings at_i.
         elim (found_in_set trail.links trail.place (q ++ x ∷ []) i sendings (rw links_are at at_i)) [
           | inl old ↦ way_same trail.logs trail.cut steps (step_now trail None) i sendings
@@ -322,60 +365,173 @@ module _ (trail : Trail) (steps : List TrailStep) (given : HasGiven trail steps)
         ])
 
     -- a receipt
-    module _ (m : Load) (q : List Sending) (is : e
-        ≡ Got m) (at_q : slice_get trail.links (prev (length trail.logs) trail.place) ≡ Some q) where
+    module _ (m : Load) (is : e ≡ Got m) where
       writer_below : prev (length trail.logs) trail.place < length trail.logs
       writer_below = prev_below (length trail.logs) trail.place here
 
       link_in : next (length trail.logs) (prev (length trail.logs) trail.place) ≡ trail.place
       link_in = next_prev (length trail.logs) trail.place here
 
-      way : AreOnTheirWay trail.logs steps (prev (length trail.logs) trail.place) q
-      way = given.on_their_way (prev (length trail.logs) trail.place) q at_q
-
-      on_way : length q + gots trail.logs steps trail.place
-          ≡ sents trail.logs steps (prev (length trail.logs) trail.place)
-      on_way = rw link_in at way.number
-
       one_receipt : length (cons_option (receipt e) []) ≡ 1
       one_receipt = ap (λ (d : Event). length (cons_option (receipt d) [])) is
 
+      left_in : slice_index trail.unreceived (prev (length trail.logs) trail.place)
+          ≡ all_sents trail.logs (prev (length trail.logs) trail.place) - gots trail.logs steps trail.place
+      left_in = rw link_in at (given.left (prev (length trail.logs) trail.place) writer_below)
+
+      taken_then : length (got (take (suc (occurrences (places_of steps) trail.place))
+          (log_of trail.logs (next (length trail.logs) (prev (length trail.logs) trail.place)))))
+          ≡ gots trail.logs steps trail.place + 1
+      taken_then =
+          ap (λ (z : ℕ). length (got (take (suc (occurrences (places_of steps) trail.place)) (log_of trail.logs z))))
+          link_in
+          ∙ ap (λ (z : ℕ). length (got (take z (log_of trail.logs trail.place))))
+          (sym (add-one (occurrences (places_of steps) trail.place)))
+          ∙ got_then ∙ ap (λ (z : ℕ). gots trail.logs steps trail.place + z) one_receipt
+
+      received_here : slice_get (log_of trail.logs (next (length trail.logs) (prev (length trail.logs) trail.place)))
+          (occurrences (places_of steps) trail.place) ≡ Some (Got m)
+      received_here =
+          ap (λ (z : ℕ). slice_get (log_of trail.logs z) (occurrences (places_of steps) trail.place)) link_in ∙ at
+          ∙ ap Some is
+
+      -- what it receives was sent on the link that leads to it
+      of_writer : (j a : ℕ) → next (length trail.logs) j ≡ trail.place
+          → IsPair trail.logs j a (suc (occurrences (places_of steps) trail.place))
+          → (j ≡ prev (length trail.logs) trail.place) × IsPair trail.logs (prev (length trail.logs) trail.place) a
+          (suc (occurrences (places_of steps) trail.place))
+      of_writer j a link pair =
+          let place : j ≡ prev (length trail.logs) trail.place =
+          one_link (length trail.logs) (prev (length trail.logs) trail.place) j trail.place here pair.link writer_below
+          link link_in in (
+            place,
+            subst (λ (i : ℕ). IsPair trail.logs i a (suc (occurrences (places_of steps) trail.place))) place pair,
+          )
+
+      -- nobody sends it
+      module _ (none : slice_index trail.unreceived (prev (length trail.logs) trail.place) ≡ 0) where
+        nobody : (j a : ℕ) → next (length trail.logs) j ≡ trail.place
+            → IsPair trail.logs j a (suc (occurrences (places_of steps) trail.place)) → ⊥
+        nobody j a link pair =
+            let there = (of_writer j a link pair).1 in
+            let whole : take (length (log_of trail.logs (prev (length trail.logs) trail.place)))
+            (log_of trail.logs (prev (length trail.logs) trail.place))
+            ≡ log_of trail.logs (prev (length trail.logs) trail.place) =
+            take_all (length (log_of trail.logs (prev (length trail.logs) trail.place)))
+            (log_of trail.logs (prev (length trail.logs) trail.place)) (omega arith) in
+            let low : length (sent (take a (log_of trail.logs (prev (length trail.logs) trail.place))))
+            ≤ length (sent (take (length (log_of trail.logs (prev (length trail.logs) trail.place)))
+            (log_of trail.logs (prev (length trail.logs) trail.place)))) =
+            rank_mono sending (log_of trail.logs (prev (length trail.logs) trail.place)) a
+            (length (log_of trail.logs (prev (length trail.logs) trail.place)))
+            (sending_there trail.logs (prev (length trail.logs) trail.place) a
+            (suc (occurrences (places_of steps) trail.place)) there).within in
+            let low' = rw whole at low in
+            omega (arith, low', there.rank, taken_then, left_in, none)
+
+        pub unsent_step : HasGiven (after_step trail) (steps ++ step_now trail None ∷ [])
+        unsent_step =
+            let no_sending : sending e ≡ None = ap sending is in
+            let all_taken : all_sents trail.logs (prev (length trail.logs) trail.place)
+            ≤ gots trail.logs steps trail.place = omega (arith, left_in, none) in
+            let more : gots trail.logs (steps ++ step_now trail None ∷ [])
+            (next (length trail.logs) (prev (length trail.logs) trail.place))
+            ≡ gots trail.logs steps trail.place + 1 =
+            ap (gots trail.logs (steps ++ step_now trail None ∷ [])) link_in ∙ gots_there None
+            ∙ ap (λ (z : ℕ). gots trail.logs steps trail.place + z) one_receipt in
+            given_more trail steps given (step_now trail None) (after_step trail).done trail.links trail.unreceived
+            here refl
+            record { event = within; sent = λ j a link pair. absurd (nobody j a link pair); in_turn = in_turn }
+            (number None) refl (in_cut_told None) (no_receipt_now None nobody)
+            (earlier None (λ u a at_a link pair.
+            absurd (nobody a.place a.event link (subst (IsPair trail.logs a.place a.event) (number None) pair))))
+            refl given.links given.unreceived
+            (λ i l. elim (cases_eq i (prev (length trail.logs) trail.place)) [
+              | inl same ↦ rw same (omega (arith, none, more, all_taken))
+              | inr ne ↦ rw (gots_elsewhere None (next (length trail.logs) i)
+                  (λ link. ne (one_link (length trail.logs) (prev (length trail.logs) trail.place) i trail.place here l
+                  writer_below link link_in))) (given.left i l)
+            ])
+            (λ i sendings at_i. elim (cases_eq i (prev (length trail.logs) trail.place)) [
+              | inl same ↦
+                  let old : AreOnTheirWay trail.logs steps (prev (length trail.logs) trail.place) sendings =
+                  rw same at (given.on_their_way i sendings at_i) in
+                  let old_number = rw link_in at old.number in
+                  let s = sents_same None (prev (length trail.logs) trail.place) (λ z. no_sending) in
+                  rw same record {
+                    number = rw more (omega (arith, old_number, s, all_taken));
+                    each = λ k x at_k. absurd (omega (
+                      arith,
+                      old_number,
+                      all_taken,
+                      few_sent (prev (length trail.logs) trail.place),
+                      slice_get_within sendings k x at_k,
+                    ));
+                  }
+              | inr ne ↦ way_same trail.logs trail.cut steps (step_now trail None) i sendings
+                  (gots_elsewhere None (next (length trail.logs) i)
+                  (λ link. ne (one_link (length trail.logs) (prev (length trail.logs) trail.place) i trail.place here
+                  (omega (arith, slice_get_within trail.links i sendings at_i, given.links)) writer_below link
+                  link_in)))
+                  (sents_same None i (λ z. no_sending)) (given.on_their_way i sendings at_i)
+            ])
+
+    -- a receipt of what somebody sends
+    module _ (m : Load) (q : List Sending) (is : e
+        ≡ Got m) (at_q : slice_get trail.links (prev (length trail.logs) trail.place) ≡ Some q)
+        (some : 1 ≤ slice_index trail.unreceived (prev (length trail.logs) trail.place)) where
+      way : AreOnTheirWay trail.logs steps (prev (length trail.logs) trail.place) q
+      way = given.on_their_way (prev (length trail.logs) trail.place) q at_q
+
+      more_to_take : gots trail.logs steps trail.place + 1
+          ≤ all_sents trail.logs (prev (length trail.logs) trail.place)
+      more_to_take = omega (arith, left_in m is, some)
+
+      on_way : length q + gots trail.logs steps trail.place
+          ≡ sents trail.logs steps (prev (length trail.logs) trail.place)
+      on_way =
+          let number = rw (link_in m is) at way.number in
+          omega (arith, number, more_to_take)
+
       -- nothing has been sent to it
       pub nothing_there : length q ≡ 0 → MayCome trail.logs trail.cut trail.is_past_cut steps trail.place → ⊥
-      nothing_there none may = omega (
-        arith,
-        none,
-        on_way,
-        got_then,
-        one_receipt,
-        may.ready.1 (prev (length trail.logs) trail.place) writer_below link_in,
-      )
+      nothing_there none may =
+          let s = sending_of_rank trail.logs (prev (length trail.logs) trail.place)
+          (gots trail.logs steps trail.place + 1) (omega arith) more_to_take in
+          let pair : IsPair trail.logs (prev (length trail.logs) trail.place) s.0
+          (suc (occurrences (places_of steps) trail.place)) = record {
+            message = s.1;
+            taken = m;
+            link = writer_below m is;
+            sends = s.2;
+            receives = received_here m is;
+            rank = s.3 ∙ sym (taken_then m is);
+          } in
+          omega (
+            arith,
+            none,
+            on_way,
+            s.3,
+            rank_mono sending (log_of trail.logs (prev (length trail.logs) trail.place)) s.0
+                (occurrences (places_of steps) (prev (length trail.logs) trail.place))
+                (may.sent (prev (length trail.logs) trail.place) s.0 (link_in m is) pair),
+          )
 
       -- the first sending on the way
       module _ (x : Sending) (first : slice_get q 0 ≡ Some x) where
         sends : IsSending trail.logs steps (prev (length trail.logs) trail.place)
             (gots trail.logs steps trail.place + 1) x
-        sends = rw link_in at (way.each 0 x first)
+        sends = rw (link_in m is) at (way.each 0 x first)
 
         pair_there : IsPair trail.logs (prev (length trail.logs) trail.place) sends.step.event
             (suc (occurrences (places_of steps) trail.place))
         pair_there = record {
           message = sends.message;
           taken = m;
-          link = writer_below;
+          link = writer_below m is;
           sends = sends.sends;
-          receives = ap (λ (z : ℕ). slice_get (log_of trail.logs z) (occurrences (places_of steps) trail.place)) link_in
-              ∙ at ∙ ap Some is;
-          rank =
-              let taken : length (got (take (suc (occurrences (places_of steps) trail.place))
-              (log_of trail.logs (next (length trail.logs) (prev (length trail.logs) trail.place)))))
-              ≡ length (got (take (occurrences (places_of steps) trail.place + 1) (log_of trail.logs trail.place)))
-              =
-              ap (λ (z : ℕ). length (got
-              (take (suc (occurrences (places_of steps) trail.place)) (log_of trail.logs z)))) link_in
-              ∙ ap (λ (z : ℕ). length (got (take z (log_of trail.logs trail.place))))
-              (sym (add-one (occurrences (places_of steps) trail.place))) in
-              omega (arith, taken, sends.rank, got_then, one_receipt);
+          receives = received_here m is;
+          rank = sends.rank ∙ sym (taken_then m is);
         }
 
         pair_of_step : IsPair trail.logs sends.step.place sends.step.event
@@ -384,13 +540,13 @@ module _ (trail : Trail) (steps : List TrailStep) (given : HasGiven trail steps)
             (suc (occurrences (places_of steps) trail.place))) (sym sends.place) pair_there
 
         link_of_step : next (length trail.logs) sends.step.place ≡ trail.place
-        link_of_step = ap (next (length trail.logs)) sends.place ∙ link_in
+        link_of_step = ap (next (length trail.logs)) sends.place ∙ link_in m is
 
-        -- it was sent in this column
-        pub sent_now : trail.column ≤ x.column → (trail.has_moved ≡ true)
-            × IsDueFrom trail.logs trail.cut steps trail.place (suc trail.column)
+        -- it was sent in this time
+        pub sent_now : trail.time ≤ x.time → (trail.has_moved ≡ true)
+            × IsDueFrom trail.logs trail.cut steps trail.place (suc trail.time)
         sent_now late = elim (given.now sends.before sends.step sends.at) [
-          | inl before ↦ absurd (omega (arith, before, late, sends.column))
+          | inl before ↦ absurd (omega (arith, before, late, sends.time))
           | inr beside ↦ (
             beside.2,
             inr (
@@ -398,37 +554,39 @@ module _ (trail : Trail) (steps : List TrailStep) (given : HasGiven trail steps)
               sends.step,
               sends.at,
               received link_of_step pair_of_step,
-              omega (arith, late, sends.column),
+              omega (arith, late, sends.time),
             ),
           )
         ]
 
-        received_ready : IsReady trail.logs (occurrences (places_of steps)) trail.place
-        received_ready = (
-          within,
-          λ j lj link.
-              let same : j ≡ prev (length trail.logs) trail.place =
-              one_link (length trail.logs) (prev (length trail.logs) trail.place) j trail.place here lj writer_below
-              link link_in in
-              rw same (omega (arith, got_then, one_receipt, on_way, slice_get_within q 0 x first)),
-        )
+        -- it is the receipt of this one alone
+        one_sent : (j a : ℕ) → next (length trail.logs) j ≡ trail.place
+            → IsPair trail.logs j a (suc (occurrences (places_of steps) trail.place))
+            → (j ≡ prev (length trail.logs) trail.place) × (a ≡ sends.step.event)
+        one_sent j a link pair =
+            let there = of_writer m is j a link pair in (
+              there.0,
+              one_sending (log_of trail.logs (prev (length trail.logs) trail.place)) a sends.step.event there.1.message
+                  sends.message there.1.sends sends.sends (there.1.rank ∙ sym pair_there.rank),
+            )
+
+        received_sent : IsSentTo trail.logs steps trail.place
+        received_sent j a link pair =
+            let one = one_sent j a link pair in
+            let low : sends.step.event ≤ occurrences (places_of steps) (prev (length trail.logs) trail.place) =
+            rw sends.place at
+            (stands trail.logs trail.cut steps given.are_first sends.before sends.step sends.at).1 in
+            rw (one.0, one.1) low
 
         -- no other sending is taken by it
-        paired_earlier : x.column < trail.column → (u : ℕ) (a : TrailStep) → slice_get steps u ≡ Some a
+        paired_earlier : x.time < trail.time → (u : ℕ) (a : TrailStep) → slice_get steps u ≡ Some a
             → next (length trail.logs) a.place ≡ trail.place
             → IsPair trail.logs a.place a.event (suc (occurrences (places_of steps) trail.place))
-            → a.column < trail.column
+            → a.time < trail.time
         paired_earlier early u a at_a link pair =
-            let place : a.place ≡ prev (length trail.logs) trail.place =
-            one_link (length trail.logs) (prev (length trail.logs) trail.place) a.place trail.place here pair.link
-            writer_below link link_in in
-            let there : IsPair trail.logs (prev (length trail.logs) trail.place) a.event
-            (suc (occurrences (places_of steps) trail.place)) =
-            subst (λ (i : ℕ). IsPair trail.logs i a.event (suc (occurrences (places_of steps) trail.place))) place
-            pair in
-            let event : a.event ≡ sends.step.event =
-            one_sending (log_of trail.logs (prev (length trail.logs) trail.place)) a.event sends.step.event
-            there.message sends.message there.sends sends.sends (there.rank ∙ sym pair_there.rank) in
+            let one = one_sent a.place a.event link pair in
+            let place : a.place ≡ prev (length trail.logs) trail.place = one.0 in
+            let event : a.event ≡ sends.step.event = one.1 in
             let a_stands : StandsAt (places_of steps) u (prev (length trail.logs) trail.place) sends.step.event =
             rw (← place, ← event) (given.are_first.each u a at_a).event in
             let x_stands : StandsAt (places_of steps) sends.before (prev (length trail.logs) trail.place)
@@ -443,30 +601,32 @@ module _ (trail : Trail) (steps : List TrailStep) (given : HasGiven trail steps)
                     let at_x : slice_get steps sends.before ≡ Some a = rw same at at_a in
                     let z : Some a ≡ Some sends.step = sym at_x ∙ sends.at in
                     let one : a ≡ sends.step = cc in
-                    omega (arith, ap (λ (y : TrailStep). y.column) one, sends.column, early)
+                    omega (arith, ap (λ (y : TrailStep). y.time) one, sends.time, early)
               ]
             ]
 
         -- it was sent before
-        pub received_step : (links : List (List Sending))
-            → links ≡ set trail.links (prev (length trail.logs) trail.place) (drop 1 q) → x.column < trail.column
-            → HasGiven (after_step (with_links trail links)) (steps ++ step_now trail (Some x.step) ∷ [])
-        received_step links links_are early =
+        pub received_step : (links : List (List Sending)) (unreceived : List ℕ)
+            → links ≡ set trail.links (prev (length trail.logs) trail.place) (drop 1 q)
+            → unreceived ≡ set trail.unreceived (prev (length trail.logs) trail.place)
+            (slice_index trail.unreceived (prev (length trail.logs) trail.place) - 1) → x.time < trail.time
+            → HasGiven (after_step (with_links trail links unreceived)) (steps ++ step_now trail (Some x.step) ∷ [])
+        received_step links unreceived links_are unreceived_are early =
             let no_sending : sending e ≡ None = ap sending is in
             let other : prev (length trail.logs) trail.place ≢ trail.place =
-            λ z. next_other (length trail.logs) (prev (length trail.logs) trail.place) two writer_below (link_in
+            λ z. next_other (length trail.logs) (prev (length trail.logs) trail.place) two (writer_below m is) (link_in m is
             ∙ sym z) in
             let g : gots trail.logs (steps ++ step_now trail (Some x.step)
             ∷ []) (next (length trail.logs) (prev (length trail.logs) trail.place))
             ≡ gots trail.logs steps trail.place + 1 =
-            ap (gots trail.logs (steps ++ step_now trail (Some x.step) ∷ [])) link_in ∙ gots_there (Some x.step)
-            ∙ ap (λ (z : ℕ). gots trail.logs steps trail.place + z) one_receipt in
+            ap (gots trail.logs (steps ++ step_now trail (Some x.step) ∷ [])) (link_in m is) ∙ gots_there (Some x.step)
+            ∙ ap (λ (z : ℕ). gots trail.logs steps trail.place + z) (one_receipt m is) in
             let s = sents_elsewhere (Some x.step) (prev (length trail.logs) trail.place) other in
             let popped : AreOnTheirWay trail.logs (steps ++ step_now trail (Some x.step)
             ∷ []) (prev (length trail.logs) trail.place) (drop 1 q) = record {
-              number = omega (arith, g, s, on_way, length-drop 1 q, slice_get_within q 0 x first);
+              number = rw g (omega (arith, s, on_way, more_to_take, length-drop 1 q, slice_get_within q 0 x first));
               each = λ k y at_k.
-                  let old = rw link_in at (way.each (suc k) y (slice_get_drop q k y at_k)) in
+                  let old = rw (link_in m is) at (way.each (suc k) y (slice_get_drop q k y at_k)) in
                   let same : gots trail.logs steps trail.place + suc (suc k)
                   ≡ gots trail.logs (steps ++ step_now trail (Some x.step)
                   ∷ []) (next (length trail.logs) (prev (length trail.logs) trail.place)) + suc k =
@@ -476,8 +636,9 @@ module _ (trail : Trail) (steps : List TrailStep) (given : HasGiven trail steps)
                   (sending_still trail.logs trail.cut steps (step_now trail (Some x.step))
                   (prev (length trail.logs) trail.place) (gots trail.logs steps trail.place + suc (suc k)) y old);
             } in
-            given_more trail steps given (step_now trail (Some x.step)) (after_step trail).done links here refl
-            record { ready = received_ready; in_turn = in_turn }
+            given_more trail steps given (step_now trail (Some x.step)) (after_step trail).done links unreceived here
+            refl
+            record { event = within; sent = received_sent; in_turn = in_turn }
             (number (Some x.step)) refl (in_cut_told (Some x.step))
             record {
               before = sends.before;
@@ -493,13 +654,29 @@ module _ (trail : Trail) (steps : List TrailStep) (given : HasGiven trail steps)
             (subst (IsPair trail.logs a.place a.event) (number (Some x.step)) pair)))
             refl (ap (λ (ls : List (List Sending)). length ls) links_are
             ∙ length-set trail.links (prev (length trail.logs) trail.place) (drop 1 q) ∙ given.links)
+            (rw unreceived_are (length-set trail.unreceived (prev (length trail.logs) trail.place) _
+            ∙ given.unreceived))
+            (λ i l. elim (cases_eq i (prev (length trail.logs) trail.place)) [
+              | inl same ↦ rw (same, unreceived_are, g) (get_or-set_same trail.unreceived
+                  (prev (length trail.logs) trail.place)
+                  (slice_index trail.unreceived (prev (length trail.logs) trail.place) - 1) 0
+                  (omega (arith, writer_below m is, given.unreceived)) ∙ omega (arith, left_in m is))
+              | inr ne ↦ rw (
+                unreceived_are,
+                gots_elsewhere (Some x.step) (next (length trail.logs) i)
+                    (λ link. ne (one_link (length trail.logs) (prev (length trail.logs) trail.place) i trail.place here l
+                    (writer_below m is) link (link_in m is))),
+              )
+                  (get_or-set_other trail.unreceived (prev (length trail.logs) trail.place) i
+                  (slice_index trail.unreceived (prev (length trail.logs) trail.place) - 1) 0 ne ∙ given.left i l)
+            ])
             (λ i sendings at_i. elim (found_in_set trail.links (prev (length trail.logs) trail.place) (drop 1 q) i
             sendings (rw links_are at at_i)) [
               | inl old ↦
                   let apart : next (length trail.logs) i ≢ trail.place =
                   λ link. old.0 (one_link (length trail.logs) (prev (length trail.logs) trail.place) i trail.place
-                  here (omega (arith, slice_get_within trail.links i sendings old.1, given.links)) writer_below link
-                  link_in) in
+                  here (omega (arith, slice_get_within trail.links i sendings old.1, given.links)) (writer_below m is) link
+                  (link_in m is)) in
                   way_same trail.logs trail.cut steps (step_now trail (Some x.step)) i sendings
                   (gots_elsewhere (Some x.step) (next (length trail.logs) i) apart)
                   (sents_same (Some x.step) i (λ z. no_sending)) (given.on_their_way i sendings old.1)
@@ -508,22 +685,26 @@ module _ (trail : Trail) (steps : List TrailStep) (given : HasGiven trail steps)
                   ∷ []) (prev (length trail.logs) trail.place)) new.1 popped)
             ])
 
-        pub received_as : (by : ℕ) (links : List (List Sending)) → x.step ≡ by
-            → links ≡ set trail.links (prev (length trail.logs) trail.place) (drop 1 q) → x.column < trail.column
-            → HasGiven (after_step (with_links trail links)) (steps ++ step_now trail (Some by) ∷ [])
-        received_as by links is_by links_are early =
-            subst (λ (k : ℕ). HasGiven (after_step (with_links trail links)) (steps ++ step_now trail (Some k) ∷ []))
-            is_by (received_step links links_are early)
+        pub received_as : (by : ℕ) (links : List (List Sending)) (unreceived : List ℕ) → x.step ≡ by
+            → links ≡ set trail.links (prev (length trail.logs) trail.place) (drop 1 q)
+            → unreceived ≡ set trail.unreceived (prev (length trail.logs) trail.place)
+            (slice_index trail.unreceived (prev (length trail.logs) trail.place) - 1) → x.time < trail.time
+            → HasGiven (after_step (with_links trail links unreceived)) (steps ++ step_now trail (Some by) ∷ [])
+        received_as by links unreceived is_by links_are unreceived_are early =
+            subst (λ (k : ℕ). HasGiven (after_step (with_links trail links unreceived))
+            (steps ++ step_now trail (Some k) ∷ [])) is_by
+            (received_step links unreceived links_are unreceived_are early)
 
-    -- it waits, or was sent to in this column
-    pub waits : (m : Load) → e ≡ Got m → IsNoneSentBefore trail (prev (length trail.logs) trail.place)
+    -- it waits, or was sent to in this time
+    pub waits : (m : Load) → e ≡ Got m → 1 ≤ slice_index trail.unreceived (prev (length trail.logs) trail.place)
+        → IsNoneSentBefore trail (prev (length trail.logs) trail.place)
         → MayCome trail.logs trail.cut trail.is_past_cut steps trail.place → (trail.has_moved ≡ true)
-        × IsDueFrom trail.logs trail.cut steps trail.place (suc trail.column)
-    waits m is none may = elim (slice_get_cases trail.links (prev (length trail.logs) trail.place)).1 [
+        × IsDueFrom trail.logs trail.cut steps trail.place (suc trail.time)
+    waits m is some none may = elim (slice_get_cases trail.links (prev (length trail.logs) trail.place)).1 [
       | inr past ↦ absurd (omega (arith, past.0, given.links, prev_below (length trail.logs) trail.place here))
       | inl carried ↦ elim (slice_get_cases carried.0 0).1 [
-        | inr empty ↦ absurd (nothing_there m carried.0 is carried.2 (omega (arith, empty.0)) may)
-        | inl first ↦ sent_now m carried.0 is carried.2 first.0 first.2 (none carried.0 first.0 carried.2 first.2)
+        | inr empty ↦ absurd (nothing_there m carried.0 is carried.2 some (omega (arith, empty.0)) may)
+        | inl first ↦ sent_now m carried.0 is carried.2 some first.0 first.2 (none carried.0 first.0 carried.2 first.2)
       ]
     ]
 
@@ -555,7 +736,8 @@ module _ (trail : Trail) (steps : List TrailStep) (given : HasGiven trail steps)
       ap (λ o. slice_get (events_of o) (occurrences (places_of steps) trail.place)) log_is ∙ rw same at at
 
   pub next_read : (log : Log) (node done limit : ℕ) (e : Event)
-      → (trail.is_past_cut ≡ false → limit ≡ slice_index trail.cut trail.place)
+      → (trail.is_past_cut ≡ false
+      → limit ≡ min (slice_index trail.cut trail.place) (length (log_of trail.logs trail.place)))
       → (trail.is_past_cut ≡ true → limit ≡ length (log_of trail.logs trail.place)) → node ≡ trail.place
       → done ≡ get_or trail.done node done → done ≢ limit → slice_get trail.logs trail.place ≡ Some log
       → slice_get log.events (done + 1 - 1) ≡ Some e → IsNextEvent trail steps e
@@ -589,6 +771,11 @@ given_as new state given r s new_is r_is h =
 pub on_err : {T E : Type 0} (r : Result T E) (P : Type 0) → P → OnErr r P
 on_err (Ok v) P p = tt
 on_err (Err e) P p = p
+
+-- a number that isn't 0
+pub some_left : (b : Bool) (n : ℕ) → (IsTrue b ↔ (n ≡ 0)) → b ≡ false → 1 ≤ n
+some_left b zero iff is = (let z : true ≡ false = sym (iff.1 refl) ∙ is in cc)
+some_left b (suc n) iff is = omega arith
 
 -- an event that no link sees
 pub quiet : (e : Event) → ((x : ℕ) × (e ≡ Draw x)) ⊎ (e ≡ Yield) → (receipt e ≡ None) × (sending e ≡ None)

@@ -1,38 +1,32 @@
 -- What a trail has given, step by step.
 use Rattle.std.proofs.Common.{◌≡◌, ◌≢◌, ℕ, zero, suc, ◌+◌, ◌*◌, ◌<◌, ◌≤◌, ◌⊎◌, ◌↔◌, inl, inr, Bool, true, false, IsTrue}
 use Rattle.std.proofs.Common.{Some, List, [], ◌∷◌, ◌++◌, length, length-set, take, set, cond, ◌==◌, replicate, sum}
-use Rattle.std.proofs.Common.{refl, sym, ◌∙◌, ap, subst, arith, get_or, add-one}
+use Rattle.std.proofs.Common.{refl, sym, ◌∙◌, ap, subst, arith, get_or, get_or-set_other, get_or-set_same, add-one}
+use Rattle.std.proofs.Common.{◌-◌}
 use Rattle.std.specs.Prelude.{slice_get, slice_index, MatchOption}
 use Rattle.std.specs.List.{All}
 use Rattle.std.proofs.lemmas.Bool.{cases_eq, cases_lt, eq-eqb, ne_eqb}
 use Rattle.std.proofs.lemmas.List.{ext_get_or, get_or-replicate, length-replicate, length_push, take_all}
 use Rattle.std.proofs.lemmas.List.Elements.{All-from_get_or, All-get_or}
-use Rattle.std.proofs.lemmas.List.Sums.{sum_by-le, sum_by-set}
-use Rattle.std.proofs.lemmas.Option.{get_or_from_slice_get, slice_get_cases, slice_get_within}
+use Rattle.std.proofs.lemmas.List.Sums.{sum_by-cons, sum_by-le, sum_by-set}
+use Rattle.std.proofs.lemmas.Option.{get_or_from_slice_get, slice_get-get_or, slice_get_cases, slice_get_within}
 use Rattle.ira_event.specs.Log.{Log}
 use Rattle.ira_event.specs.Limits.{MAX_NODES, MAX_RECORDS}
 use Rattle.ira_event.specs.Logs.{AreLogs}
-use Rattle.ira_order.specs.Circle.{HasOrder}
-use Rattle.ira_order.specs.Counts.{IsReady}
-use Rattle.ira_order.specs.Cut.{IsConsistentCut}
-use Rattle.ira_order.specs.Order.{IsOrder, StandsAt, occurrences}
+use Rattle.ira_order.specs.Cut.{IsCut}
+use Rattle.ira_order.specs.Order.{IsPair, StandsAt, occurrences}
 use Rattle.ira_order.specs.Ring.{events_of, log_of}
-use Rattle.ira_order.proofs.Acyclic.{place_of}
-use Rattle.ira_order.proofs.Bridge.{kept_order, order_kept, order_schedule}
-use Rattle.ira_order.proofs.Cuts.{cut_moment}
-use Rattle.ira_order.proofs.OrderPrefixes.{raised}
+use Rattle.ira_order.proofs.Places.{stands as occurs}
 use Rattle.ira_order.proofs.Pushed.{found_in_push}
 use Rattle.ira_order.proofs.Ranks.{occurrences-take-le, occurrences_mono, occurrences_same}
-use Rattle.ira_order.proofs.Rounds.{no_places, sum_none}
-use Rattle.ira_order.proofs.Stuck.{all_below}
 use Rattle.ira_trail.specs.declared.sending.Sending.{Sending}
 use Rattle.ira_trail.specs.declared.trail_step.TrailStep.{TrailStep}
-use Rattle.ira_trail.specs.Columns.{AreColumns, Follows, IsEvent, own_next, received, outside}
-use Rattle.ira_trail.specs.Trail.{AreFirst, AreOnTheirWay, BeginsWith, HasGiven, IsTrail, IsDueFrom, IsReceipt}
-use Rattle.ira_trail.specs.Trail.{IsSentBy, MayCome, Trail, passed_over, places_of}
+use Rattle.ira_trail.specs.Columns.{Follows, IsEvent, IsTime, own_next, received, outside}
+use Rattle.ira_trail.specs.Trail.{AreFirst, AreOnTheirWay, HasCut, HasGiven, IsTrail, IsDueFrom, IsReceipt, left_on}
+use Rattle.ira_trail.specs.Trail.{IsSentBy, MayCome, Trail, all_sents, passed_over, places_of}
 use Rattle.ira_trail.proofs.Pushes.{begins_same, count_elsewhere, count_there, first_more, found_last, kept_in_push}
 use Rattle.ira_trail.proofs.Pushes.{many_places}
-use Rattle.ira_trail.proofs.Ready.{all_come, kept_beginning, ready_or_pair}
+use Rattle.ira_trail.proofs.Ready.{receipt_there, sending_there, sent_or_pair}
 
 pub false_or_true : (b : Bool) → (b ≡ false) ⊎ (b ≡ true)
 false_or_true false = inl refl
@@ -51,7 +45,7 @@ place_stood places n t i a all is =
     rw (get_or_from_slice_get places t i 0 is.0) at
     (All-get_or (λ p. p < n) places t 0 (slice_get_within places t i is.0) all)
 
-event_stood : (places : List ℕ) (t i a : ℕ) → StandsAt places t i a → (1 ≤ a) × (a ≤ occurrences places i)
+pub event_stood : (places : List ℕ) (t i a : ℕ) → StandsAt places t i a → (1 ≤ a) × (a ≤ occurrences places i)
 event_stood places t i a is =
     let within : t < length places = slice_get_within places t i is.0 in (
       omega (arith, is.1),
@@ -66,22 +60,23 @@ event_stood places t i a is =
 pub placed : (logs : List Log) (cut : List ℕ) (steps : List TrailStep) → AreFirst logs cut steps
     → (t : ℕ) (step : TrailStep) → slice_get steps t ≡ Some step → step.place < length logs
 placed logs cut steps are t step at =
-    place_stood (places_of steps) (length logs) t step.place step.event are.schedule.places (are.each t step at).event
+    place_stood (places_of steps) (length logs) t step.place step.event are.places (are.each t step at).event
 
 pub stands : (logs : List Log) (cut : List ℕ) (steps : List TrailStep) → AreFirst logs cut steps
     → (t : ℕ) (step : TrailStep) → slice_get steps t ≡ Some step → (1 ≤ step.event)
     × (step.event ≤ occurrences (places_of steps) step.place)
 stands logs cut steps are t step at = event_stood (places_of steps) t step.place step.event (are.each t step at).event
 
--- it is an event, where the places are an order
-pub event_of : (logs : List Log) (order : List ℕ) (t i a : ℕ) → IsOrder logs order → StandsAt order t i a
+-- it is an event
+pub event_of : (logs : List Log) (places : List ℕ) (t i a : ℕ) → All (λ p. p < length logs) places
+    → ((i : ℕ) → i < length logs → occurrences places i ≤ length (log_of logs i)) → StandsAt places t i a
     → IsEvent logs i a
-event_of logs order t i a o is =
-    let place = place_stood order (length logs) t i a o.places is in
+event_of logs places t i a all within is =
+    let place = place_stood places (length logs) t i a all is in
     record {
       place = place;
-      first = (event_stood order t i a is).0;
-      within = omega (arith, (event_stood order t i a is).1, o.whole i place);
+      first = (event_stood places t i a is).0;
+      within = omega (arith, (event_stood places t i a is).1, within i place);
     }
 
 module _ (trail : Trail) (steps : List TrailStep) (given : HasGiven trail steps) where
@@ -94,7 +89,7 @@ module _ (trail : Trail) (steps : List TrailStep) (given : HasGiven trail steps)
       omega (
         arith,
         given.done i here,
-        given.are_first.schedule.within i here,
+        given.are_first.within i here,
         few_events trail.logs i given.are_first.logs_are,
       ))) in
       omega (
@@ -108,11 +103,13 @@ module _ (trail : Trail) (steps : List TrailStep) (given : HasGiven trail steps)
   -- the turn of a node whose event doesn't come
   pub given_passed : trail.place < length trail.logs
       → (MayCome trail.logs trail.cut trail.is_past_cut steps trail.place → (trail.has_moved ≡ true)
-      × IsDueFrom trail.logs trail.cut steps trail.place (suc trail.column)) → HasGiven (passed_over trail) steps
+      × IsDueFrom trail.logs trail.cut steps trail.place (suc trail.time)) → HasGiven (passed_over trail) steps
   given_passed here refused = record {
     are_first = given.are_first;
     nodes = given.nodes;
     links = given.links;
+    unreceived = given.unreceived;
+    left = given.left;
     place = omega (arith, here);
     first = given.first;
     done = given.done;
@@ -138,18 +135,20 @@ module _ (trail : Trail) (steps : List TrailStep) (given : HasGiven trail steps)
     ];
     inside = given.inside;
     outside = given.outside;
+    begins = given.begins;
     over = given.over;
   }
 
-  -- the next column
+  -- the next time
   pub given_next : trail.has_moved ≡ true → trail.place ≡ length trail.logs
       → HasGiven (record {
         logs = trail.logs;
         cut = trail.cut;
         done = trail.done;
         links = trail.links;
+        unreceived = trail.unreceived;
         steps = trail.steps;
-        column = trail.column + 1;
+        time = trail.time + 1;
         place = 0;
         has_moved = false;
         is_past_cut = trail.is_past_cut;
@@ -159,6 +158,8 @@ module _ (trail : Trail) (steps : List TrailStep) (given : HasGiven trail steps)
     are_first = given.are_first;
     nodes = given.nodes;
     links = given.links;
+    unreceived = given.unreceived;
+    left = given.left;
     place = omega arith;
     first = omega arith;
     done = given.done;
@@ -178,44 +179,42 @@ module _ (trail : Trail) (steps : List TrailStep) (given : HasGiven trail steps)
     due_later = λ i l. absurd (omega (arith, l));
     inside = given.inside;
     outside = given.outside;
+    begins = given.begins;
     over = λ past t step at in_cut. omega (arith, given.over past t step at in_cut);
   }
 
-  -- where none of the cut may come, all of it have
-  cut_come : trail.has_moved ≡ false → trail.is_past_cut ≡ false → trail.place ≡ length trail.logs → (i : ℕ)
-      → i < length trail.logs → occurrences (places_of steps) i ≡ slice_index trail.cut i
-  cut_come still inside end i here =
-      let are = given.are_first in
-      let m = cut_moment trail.logs are.order.1 trail.cut are.logs_are.ring.0 are.order.0 are.order.2 are.consistent.0
-      are.consistent.1 in
-      let come = all_come trail.logs (take m.1 m.0) (occurrences (places_of steps)) (slice_index trail.cut)
-      are.logs_are.ring.0
-      (λ j lj. omega (arith, m.4 j lj))
-      are.consistent.0.within
-      (kept_beginning trail.logs m.0 m.1 m.3 (order_kept trail.logs m.0 are.logs_are.ring.0 are.order.0 m.2))
-      (λ j lj ready low. given.waited still j (omega (arith, lj, end)) record { ready = ready; in_turn = λ z. low }) in
-      omega (arith, come i here, m.4 i here, given.inside inside i here)
+  -- where all events of the cut have come, just these have
+  cut_come : HasCut trail → trail.is_past_cut ≡ false → IsCut trail.logs trail.cut → (i : ℕ) → i < length trail.logs
+      → occurrences (places_of steps) i ≡ slice_index trail.cut i
+  cut_come has inside is_cut i here = elim (cases_lt 0 (slice_index trail.cut i)) [
+    | inr none ↦ omega (arith, none, given.inside inside i here)
+    | inl some ↦ omega (
+      arith,
+      has i (slice_index trail.cut i) (record {
+        place = here;
+        first = omega (arith, some);
+        within = is_cut.within i here;
+      }) (omega arith),
+      given.done i here,
+      given.inside inside i here,
+    )
+  ]
 
-  pub given_past_cut : trail.has_moved ≡ false → trail.is_past_cut ≡ false → trail.place ≡ length trail.logs
+  pub given_past_cut : trail.has_moved ≡ false → trail.is_past_cut ≡ false → HasCut trail
       → HasGiven (record {
         logs = trail.logs;
         cut = trail.cut;
         done = trail.done;
         links = trail.links;
+        unreceived = trail.unreceived;
         steps = trail.steps;
-        column = trail.column;
+        time = trail.time;
         place = 0;
         has_moved = trail.has_moved;
         is_past_cut = true;
       }) steps
-  given_past_cut still inside end =
-      let come = cut_come still inside end in
-      let cut_is : trail.cut ≡ trail.done =
-      ext_get_or 0 trail.cut trail.done (given.are_first.consistent.0.places ∙ sym given.nodes) (λ i l. (
-      let here : i < length trail.logs = omega (arith, l, given.are_first.consistent.0.places) in
-      omega (arith, come i here, given.done i here))) in
-      let many : sum trail.cut ≡ length steps = ap sum cut_is ∙ given.total in
-      let earlier : (t : ℕ) (step : TrailStep) → slice_get steps t ≡ Some step → step.column < trail.column =
+  given_past_cut still inside has =
+      let earlier : (t : ℕ) (step : TrailStep) → slice_get steps t ≡ Some step → step.time < trail.time =
       λ t step at. elim (given.now t step at) [
         | inl before ↦ before
         | inr beside ↦ (let z : true ≡ false = sym beside.2 ∙ still in cc)
@@ -224,6 +223,8 @@ module _ (trail : Trail) (steps : List TrailStep) (given : HasGiven trail steps)
         are_first = given.are_first;
         nodes = given.nodes;
         links = given.links;
+        unreceived = given.unreceived;
+        left = given.left;
         place = omega arith;
         first = given.first;
         done = given.done;
@@ -238,54 +239,100 @@ module _ (trail : Trail) (steps : List TrailStep) (given : HasGiven trail steps)
         few_moved = given.few_moved;
         due = λ i l within may. elim given.filled [
           | inl first ↦ inl (omega (arith, first))
-          | inr some ↦ inr (
-            some.0,
-            some.1,
-            some.2,
-            outside (omega (
-              arith,
-              (stands trail.logs trail.cut steps given.are_first some.0 some.1 some.2).1,
-              come some.1.place (placed trail.logs trail.cut steps given.are_first some.0 some.1 some.2),
-            ))
-                (omega (arith, come i within)),
-            some.3,
-          )
+          | inr some ↦
+              let there = placed trail.logs trail.cut steps given.are_first some.0 some.1 some.2 in
+              let last = (stands trail.logs trail.cut steps given.are_first some.0 some.1 some.2).1 in
+              elim (cases_lt (occurrences (places_of steps) i) (slice_index trail.cut i)) [
+                | inl more ↦ absurd (omega (
+                  arith,
+                  more,
+                  given.done i within,
+                  has i (suc (occurrences (places_of steps) i)) (record {
+                    place = within;
+                    first = omega arith;
+                    within = omega (arith, may.event);
+                  }) (omega (arith, more)),
+                ))
+                | inr over ↦ inr (
+                  some.0,
+                  some.1,
+                  some.2,
+                  outside (omega (arith, last, given.inside inside some.1.place there)) (omega (arith, over)),
+                  some.3,
+                )
+              ]
         ];
         due_later = λ i l. absurd (omega (arith, l));
         inside = λ z. (let w : true ≡ false = z in cc);
-        outside = λ z. (
-          omega (arith, many),
-          λ i here. (
-              let whole : take (sum trail.cut) (places_of steps) ≡ places_of steps =
-              take_all (sum trail.cut) (places_of steps) (omega (arith, many, many_places steps)) in
-              rw whole (come i here)),
-        );
+        outside = λ z i a event low. omega (arith, has i a event low, given.done i event.place);
+        begins = λ z is_cut.
+            let come = cut_come has inside is_cut in
+            let cut_is : trail.cut ≡ trail.done =
+            ext_get_or 0 trail.cut trail.done (is_cut.places ∙ sym given.nodes) (λ i l. (
+            let here : i < length trail.logs = omega (arith, l, is_cut.places) in
+            omega (arith, come i here, given.done i here))) in
+            let many : sum trail.cut ≡ length steps = ap sum cut_is ∙ given.total in (
+              omega (arith, many),
+              λ i here. (
+                  let whole : take (sum trail.cut) (places_of steps) ≡ places_of steps =
+                  take_all (sum trail.cut) (places_of steps) (omega (arith, many, many_places steps)) in
+                  rw whole (come i here)),
+            );
         over = λ z t step at in_cut. earlier t step at;
       }
 
   -- a step more
-  module _ (r : TrailStep) (done : List ℕ) (links : List (List Sending))
+  module _ (r : TrailStep) (done : List ℕ) (links : List (List Sending)) (unreceived : List ℕ)
       (here : trail.place < length trail.logs)
       (place_is : r.place ≡ trail.place)
       (may : MayCome trail.logs trail.cut trail.is_past_cut steps r.place)
       (event_is : r.event ≡ suc (occurrences (places_of steps) r.place))
-      (column_is : r.column ≡ trail.column)
+      (time_is : r.time ≡ trail.time)
       (in_cut : IsTrue r.in_cut ↔ (trail.is_past_cut ≡ false))
       (sent_by : MatchOption r.sent_by (¬ (IsReceipt trail.logs r.place r.event)) (IsSentBy trail.logs steps r))
       (above : (s : ℕ) (a : TrailStep) → slice_get steps s ≡ Some a
-      → Follows trail.logs trail.cut a.place a.event r.place r.event → a.column < trail.column)
+      → Follows trail.logs trail.cut a.place a.event r.place r.event → a.time < trail.time)
       (done_is : done ≡ set trail.done r.place (get_or trail.done r.place 0 + 1))
       (links_are : length links ≡ length trail.logs)
+      (unreceived_are : length unreceived ≡ length trail.logs)
+      (left : (i : ℕ) → i < length trail.logs → slice_index unreceived i ≡ left_on trail.logs (steps ++ r ∷ []) i)
       (way : (i : ℕ) (sendings : List Sending) → slice_get links i ≡ Some sendings
       → AreOnTheirWay trail.logs (steps ++ r ∷ []) i sendings) where
     there : r.place < length trail.logs
     there = omega (arith, here, place_is)
 
+    event_there : IsEvent trail.logs r.place r.event
+    event_there = record { place = there; first = omega (arith, event_is); within = omega (arith, event_is, may.event) }
+
     -- it is outside the cut, where that is over
     beyond : trail.is_past_cut ≡ true → slice_index trail.cut r.place < r.event
-    beyond past =
-        let first = given.outside past in
-        omega (arith, event_is, first.1 r.place there, occurrences-take-le (places_of steps) (sum trail.cut) r.place)
+    beyond past = elim (cases_lt (slice_index trail.cut r.place) r.event) [
+      | inl fine ↦ fine
+      | inr low ↦ absurd (omega (arith, event_is, given.outside past r.place r.event event_there low))
+    ]
+
+    -- all that it comes directly after has come
+    after : (i a : ℕ) → IsEvent trail.logs i a → Follows trail.logs trail.cut i a r.place r.event
+        → a ≤ occurrences (places_of steps) i
+    after i a event follows = by_kind i a r.place r.event follows event refl refl
+      where
+        by_kind : (i a j b : ℕ) → Follows trail.logs trail.cut i a j b → IsEvent trail.logs i a → j ≡ r.place
+            → b ≡ r.event → a ≤ occurrences (places_of steps) i
+        by_kind i a j b (own_next same more) event j_is b_is =
+            rw (same ∙ j_is) (omega (arith, more, b_is, event_is))
+        by_kind i a j b (received link pair) event j_is b_is =
+            may.sent i a (link ∙ j_is) (subst (IsPair trail.logs i a) (b_is ∙ event_is) pair)
+        by_kind i a j b (outside low high) event j_is b_is = elim (false_or_true trail.is_past_cut) [
+          | inl inside ↦ absurd (omega (
+            arith,
+            high,
+            b_is,
+            event_is,
+            may.in_turn inside,
+            ap (slice_index trail.cut) j_is,
+          ))
+          | inr past ↦ given.outside past i a event low
+        ]
 
     told_cut : IsTrue r.in_cut ↔ (r.event ≤ slice_index trail.cut r.place)
     told_cut = elim (false_or_true trail.is_past_cut) [
@@ -297,21 +344,28 @@ module _ (trail : Trail) (steps : List TrailStep) (given : HasGiven trail steps)
     ]
 
     now_done : (i : ℕ) → i < length trail.logs → slice_index done i ≡ occurrences (places_of (steps ++ r ∷ [])) i
-    now_done = rw done_is (raised trail.done (occurrences (places_of steps)) (occurrences (places_of (steps ++ r ∷ [])))
-        (length trail.logs) r.place 1 given.nodes there given.done (count_there trail.logs trail.cut steps r) (λ j ne.
-        count_elsewhere trail.logs trail.cut steps r j ne))
+    now_done i here = elim (cases_eq i r.place) [
+      | inl same ↦ rw (done_is, same) (get_or-set_same trail.done r.place (get_or trail.done r.place 0 + 1) 0
+          (omega (arith, there, given.nodes))
+          ∙ omega (arith, given.done r.place there, count_there trail.logs trail.cut steps r))
+      | inr ne ↦ rw done_is (get_or-set_other trail.done r.place i (get_or trail.done r.place 0 + 1) 0 ne
+          ∙ given.done i here ∙ sym (count_elsewhere trail.logs trail.cut steps r i (λ q. ne (sym q))))
+    ]
 
     -- an event that may come now could before, or is the receipt of what was sent
     due_after : (i : ℕ) → i < length trail.logs → r.place ≢ i
-        → MayCome trail.logs trail.cut trail.is_past_cut (steps ++ r ∷ []) i → (column : ℕ) → column ≤ suc trail.column
-        → (MayCome trail.logs trail.cut trail.is_past_cut steps i → IsDueFrom trail.logs trail.cut steps i column)
-        → IsDueFrom trail.logs trail.cut (steps ++ r ∷ []) i column
-    due_after i within ne later column low before =
+        → MayCome trail.logs trail.cut trail.is_past_cut (steps ++ r ∷ []) i → (time : ℕ) → time ≤ suc trail.time
+        → (MayCome trail.logs trail.cut trail.is_past_cut steps i → IsDueFrom trail.logs trail.cut steps i time)
+        → IsDueFrom trail.logs trail.cut (steps ++ r ∷ []) i time
+    due_after i within ne later time low before =
         let same : occurrences (places_of (steps ++ r ∷ [])) i ≡ occurrences (places_of steps) i =
         count_elsewhere trail.logs trail.cut steps r i ne in
-        elim (ready_or_pair trail.logs trail.cut steps r i given.are_first.schedule there within ne may.ready event_is
-        later.ready) [
-          | inl ready ↦ elim (before record { ready = ready; in_turn = λ inside. rw same at (later.in_turn inside) }) [
+        elim (sent_or_pair trail.logs trail.cut steps r i there ne event_is later.sent) [
+          | inl sent ↦ elim (before record {
+            event = rw same at later.event;
+            sent = sent;
+            in_turn = λ inside. rw same at (later.in_turn inside);
+          }) [
             | inl first ↦ inl first
             | inr from ↦ inr (from.0, from.1, kept_in_push steps r from.0 from.1 from.2, rw same from.3, from.4)
           ]
@@ -320,7 +374,7 @@ module _ (trail : Trail) (steps : List TrailStep) (given : HasGiven trail steps)
             r,
             found_last steps r,
             rw same (received pair.0 pair.1),
-            omega (arith, low, column_is),
+            omega (arith, low, time_is),
           )
         ]
 
@@ -329,16 +383,17 @@ module _ (trail : Trail) (steps : List TrailStep) (given : HasGiven trail steps)
       cut = trail.cut;
       done = done;
       links = links;
+      unreceived = unreceived;
       steps = trail.steps + 1;
-      column = trail.column;
+      time = trail.time;
       place = trail.place + 1;
       has_moved = true;
       is_past_cut =
           trail.is_past_cut;
     }) (steps ++ r ∷ [])
     given_more = record {
-      are_first = first_more trail.logs trail.cut steps r trail.column given.are_first there may.ready event_is
-          column_is told_cut sent_by above
+      are_first = first_more trail.logs trail.cut steps r trail.time given.are_first there may.event after event_is
+          time_is told_cut sent_by above
           (λ s a at. elim (given.now s a at) [
             | inl before ↦ inl before
             | inr beside ↦ inr (beside.0, omega (arith, beside.1, place_is))
@@ -347,6 +402,8 @@ module _ (trail : Trail) (steps : List TrailStep) (given : HasGiven trail steps)
           given.first;
       nodes = rw done_is (length-set trail.done r.place _ ∙ given.nodes);
       links = links_are;
+      unreceived = unreceived_are;
+      left = left;
       place = omega (arith, here);
       first = given.first;
       done = now_done;
@@ -364,17 +421,17 @@ module _ (trail : Trail) (steps : List TrailStep) (given : HasGiven trail steps)
           | inl before ↦ inl before
           | inr beside ↦ inr (beside.0, omega (arith, beside.1), refl)
         ]
-        | inr new ↦ subst (λ x. (x.column < trail.column)
-            ⊎ ((x.column ≡ trail.column) × (x.place < trail.place + 1) × (true ≡ true))) new.1
-            (inr (column_is, omega (arith, place_is), refl))
+        | inr new ↦ subst (λ x. (x.time < trail.time)
+            ⊎ ((x.time ≡ trail.time) × (x.place < trail.place + 1) × (true ≡ true))) new.1
+            (inr (time_is, omega (arith, place_is), refl))
       ];
-      moved = λ z. (length steps, r, found_last steps r, column_is);
+      moved = λ z. (length steps, r, found_last steps r, time_is);
       waited = λ z. (let w : true ≡ false = z in cc);
-      filled = inr (length steps, r, found_last steps r, omega (arith, column_is));
+      filled = inr (length steps, r, found_last steps r, omega (arith, time_is));
       few = omega (arith, given.few, length_push steps r);
       few_moved = λ z. omega (arith, given.few, length_push steps r);
       due = λ i l within later.
-          due_after i within (omega (arith, l, place_is)) later trail.column (omega arith)
+          due_after i within (omega (arith, l, place_is)) later trail.time (omega arith)
           (given.due i (omega (arith, l)) within);
       due_later = λ i l later. elim (cases_eq r.place i) [
         | inl same ↦ inr (
@@ -383,9 +440,9 @@ module _ (trail : Trail) (steps : List TrailStep) (given : HasGiven trail steps)
           found_last steps r,
           own_next same (ap suc (event_is ∙ sym (add-one (occurrences (places_of steps) r.place))
               ∙ sym (count_there trail.logs trail.cut steps r) ∙ ap (occurrences (places_of (steps ++ r ∷ []))) same)),
-          omega (arith, column_is),
+          omega (arith, time_is),
         )
-        | inr ne ↦ due_after i (omega (arith, l, here)) ne later (suc trail.column) (omega arith)
+        | inr ne ↦ due_after i (omega (arith, l, here)) ne later (suc trail.time) (omega arith)
             (given.due_later i (omega (arith, l, place_is, ne)))
       ];
       inside = λ inside i within. elim (cases_eq r.place i) [
@@ -394,10 +451,20 @@ module _ (trail : Trail) (steps : List TrailStep) (given : HasGiven trail steps)
             omega (arith, count_there trail.logs trail.cut steps r, may.in_turn inside) in rw (← same) more)
         | inr ne ↦ omega (arith, count_elsewhere trail.logs trail.cut steps r i ne, given.inside inside i within)
       ];
-      outside = λ past. (
-        omega (arith, (given.outside past).0, length_push steps r),
-        λ i within. rw (begins_same trail.logs trail.cut steps r (sum trail.cut) (given.outside past).0)
-            ((given.outside past).1 i within),
+      outside = λ past i a event low. elim (cases_eq r.place i) [
+        | inl same ↦
+            let up : a ≤ occurrences (places_of steps) r.place = rw (← same) at (given.outside past i a event low) in
+            rw (← same) (omega (arith, up, count_there trail.logs trail.cut steps r))
+        | inr ne ↦ omega (
+          arith,
+          given.outside past i a event low,
+          count_elsewhere trail.logs trail.cut steps r i ne,
+        )
+      ];
+      begins = λ past is_cut. (
+        omega (arith, (given.begins past is_cut).0, length_push steps r),
+        λ i within. rw (begins_same trail.logs trail.cut steps r (sum trail.cut) (given.begins past is_cut).0)
+            ((given.begins past is_cut).1 i within),
       );
       over = λ past t step at low. elim (found_in_push steps r t step at) [
         | inl old ↦ given.over past t step old low
@@ -429,46 +496,53 @@ pub record StepOf (steps : List TrailStep) (i a : ℕ) : Type 0 where
   pub place : step.place ≡ i
   pub event : step.event ≡ a
 
-pub step_of : (logs : List Log) (steps : List TrailStep) (i a : ℕ) → IsOrder logs (places_of steps)
+pub step_of : (logs : List Log) (steps : List TrailStep) (i a : ℕ)
     → ((t : ℕ) (step : TrailStep) → slice_get steps t ≡ Some step → StandsAt (places_of steps) t step.place step.event)
-    → IsEvent logs i a → StepOf steps i a
-step_of logs steps i a order stand is =
-    let s = place_of logs (places_of steps) order i a is.place is.first is.within in
-    let within : s.0 < length steps =
-    omega (arith, slice_get_within (places_of steps) s.0 i s.1.0, many_places steps) in
+    → 1 ≤ a → a ≤ occurrences (places_of steps) i → StepOf steps i a
+step_of logs steps i a stand first few =
+    let whole : take (length (places_of steps)) (places_of steps) ≡ places_of steps =
+    take_all (length (places_of steps)) (places_of steps) (omega arith) in
+    let room : a - 1 < occurrences (take (length (places_of steps)) (places_of steps)) i =
+    rw whole (omega (arith, first, few)) in
+    let s = occurs (places_of steps) (length (places_of steps)) i (a - 1) (omega arith) room in
+    let within : s.0 < length steps = omega (arith, s.1, many_places steps) in
+    let there : slice_get (places_of steps) s.0 ≡ Some i =
+    slice_get-get_or (places_of steps) s.0 0 s.1 ∙ ap Some s.2 in
     elim (slice_get_cases steps s.0).1 [
       | inr past ↦ absurd (omega (arith, past.0, within))
       | inl found ↦
           let stands = stand s.0 found.0 found.2 in
-          let place : found.0.place ≡ i = (let z : Some found.0.place ≡ Some i = sym stands.0 ∙ s.1.0 in cc) in
+          let place : found.0.place ≡ i = (let z : Some found.0.place ≡ Some i = sym stands.0 ∙ there in cc) in
+          let rank : occurrences (take s.0 (places_of steps)) found.0.place ≡ a - 1 =
+          ap (λ (x : ℕ). occurrences (take s.0 (places_of steps)) x) place ∙ s.3 in
           record {
             number = s.0;
             step = found.0;
             at = found.2;
             place = place;
-            event = sym stands.1 ∙ ap (λ (x : ℕ). occurrences (take s.0 (places_of steps)) x + 1) place ∙ s.1.1;
+            event = omega (arith, stands.1, rank, first);
           }
     ]
 
--- the column of the first of these steps that is event a of node i
-abbrev pub column_in : List TrailStep → ℕ → ℕ → ℕ
-column_in [] i a = 0
-column_in (s ∷ steps) i a =
-    cond (s.place == i) (cond (s.event == a) s.column (column_in steps i a)) (column_in steps i a)
+-- the time of the first of these steps that is event a of node i
+abbrev pub time_in : List TrailStep → ℕ → ℕ → ℕ
+time_in [] i a = 0
+time_in (s ∷ steps) i a =
+    cond (s.place == i) (cond (s.event == a) s.time (time_in steps i a)) (time_in steps i a)
 
-column_is : (steps : List TrailStep) (t : ℕ) (step : TrailStep) → slice_get steps t ≡ Some step
+time_is : (steps : List TrailStep) (t : ℕ) (step : TrailStep) → slice_get steps t ≡ Some step
     → ((u : ℕ) (x : TrailStep) → u < t → slice_get steps u ≡ Some x → x.place ≡ step.place → x.event ≡ step.event → ⊥)
-    → column_in steps step.place step.event ≡ step.column
-column_is [] t step at first = cc
-column_is (s ∷ steps) zero step at first =
+    → time_in steps step.place step.event ≡ step.time
+time_is [] t step at first = cc
+time_is (s ∷ steps) zero step at first =
     let same : s ≡ step = cc in
     rw (
       eq-eqb s.place step.place (ap (λ x. x.place) same),
       eq-eqb s.event step.event (ap (λ x. x.event) same),
-    ) (ap (λ x. x.column) same)
-column_is (s ∷ steps) (suc t) step at first =
-    let later : column_in steps step.place step.event ≡ step.column =
-    column_is steps t step at (λ u x less at_x. first (suc u) x (omega (arith, less)) at_x) in
+    ) (ap (λ x. x.time) same)
+time_is (s ∷ steps) (suc t) step at first =
+    let later : time_in steps step.place step.event ≡ step.time =
+    time_is steps t step at (λ u x less at_x. first (suc u) x (omega (arith, less)) at_x) in
     elim (cases_eq s.place step.place) [
       | inr other ↦ rw (ne_eqb s.place step.place other) later
       | inl place ↦ elim (cases_eq s.event step.event) [
@@ -477,240 +551,174 @@ column_is (s ∷ steps) (suc t) step at first =
       ]
     ]
 
-module _ (logs : List Log) (cut : List ℕ) (steps : List TrailStep) (are : AreFirst logs cut steps)
-    (whole : (i : ℕ) → i < length logs → occurrences (places_of steps) i ≡ length (log_of logs i))
-    (begins : BeginsWith logs (places_of steps) cut) where
-  is_order : IsOrder logs (places_of steps)
-  is_order = kept_order logs (places_of steps) are.logs_are.ring.0 record {
-    matches = are.order.0;
-    schedule = are.schedule;
-    whole = whole;
-  }
-
+module _ (logs : List Log) (cut : List ℕ) (steps : List TrailStep) (are : AreFirst logs cut steps) where
   step_there : (t : ℕ) (step : TrailStep) → slice_get steps t ≡ Some step → IsEvent logs step.place step.event
-  step_there t step at = event_of logs (places_of steps) t step.place step.event is_order (are.each t step at).event
+  step_there t step at = event_of logs (places_of steps) t step.place step.event are.places are.within
+      (are.each t step at).event
 
   told : (t : ℕ) (step : TrailStep) → slice_get steps t ≡ Some step
-      → step.column ≡ column_in steps step.place step.event
-  told t step at = sym (column_is steps t step at (λ u x less at_x place event. (
+      → step.time ≡ time_in steps step.place step.event
+  told t step at = sym (time_is steps t step at (λ u x less at_x place event. (
       let there : StandsAt (places_of steps) u step.place step.event =
       rw (← place, ← event) (are.each u x at_x).event in
       stands_once (places_of steps) u t step.place step.event less there (are.each t step at).event)))
 
-  -- what an event directly comes after stands before it
-  stands_before : (s t : ℕ) (a b : TrailStep) → slice_get steps s ≡ Some a → slice_get steps t ≡ Some b
-      → Follows logs cut a.place a.event b.place b.event → s < t
-  stands_before s t a b at_a at_b follows =
-      by_kind a.place a.event b.place b.event follows (are.each s a at_a).event (are.each t b at_b).event
-      (step_there s a at_a)
-    where
-      by_kind : (i x j y : ℕ) → Follows logs cut i x j y → StandsAt (places_of steps) s i x
-          → StandsAt (places_of steps) t j y → IsEvent logs i x → s < t
-      by_kind i x j y (own_next same more) here there is = elim (cases_lt s t) [
-        | inl fine ↦ fine
-        | inr late ↦ (let there' = rw (← same) at there in
-            absurd (omega (arith, more, occurrences_mono (places_of steps) t s i late, here.1, there'.1)))
-      ]
-      by_kind i x j y (received link pair) here there is = is_order.after i x y s t pair here (rw link there)
-      by_kind i x j y (outside low high) here there is = elim (cases_lt s (sum cut)) [
-        | inr late ↦ absurd (omega (
-          arith,
-          low,
-          here.1,
-          occurrences_mono (places_of steps) (sum cut) s i late,
-          begins i is.place,
-        ))
-        | inl early ↦ elim (cases_lt t (sum cut)) [
-          | inr after ↦ omega (arith, early, after)
-          | inl before ↦
-              let within : t < length (places_of steps) = slice_get_within (places_of steps) t j there.0 in
-              let at_place : get_or (places_of steps) t 0 ≡ j = get_or_from_slice_get (places_of steps) t j 0 there.0 in
-              let place : j < length logs =
-              rw at_place at (All-get_or (λ p. p < length logs) (places_of steps) t 0 within are.schedule.places) in
-              absurd (omega (
-                arith,
-                high,
-                there.1,
-                occurrences_same (places_of steps) t j within at_place,
-                occurrences_mono (places_of steps) (t + 1) (sum cut) j (omega (arith, before)),
-                begins j place,
-              ))
-        ]
-      ]
+  -- the step of an event that came, and its time
+  found_there : (i a : ℕ) → 1 ≤ a → a ≤ occurrences (places_of steps) i → (s : StepOf steps i a)
+      × (time_in steps i a ≡ s.step.time)
+  found_there i a first few =
+      let s = step_of logs steps i a (λ u x at_x. (are.each u x at_x).event) first few in (
+        s,
+        ap (λ (x : ℕ). time_in steps x a) (sym s.place) ∙ ap (time_in steps s.step.place) (sym s.event)
+            ∙ sym (told s.number s.step s.at),
+      )
 
-  columns_are : AreColumns logs cut (column_in steps)
-  columns_are j b is_b =
-      let t = step_of logs steps j b is_order (λ u x at_x. (are.each u x at_x).event) is_b in
-      let told_t : column_in steps j b ≡ t.step.column =
-      ap (λ x. column_in steps x b) (sym t.place) ∙ ap (column_in steps t.step.place) (sym t.event)
-      ∙ sym (told t.number t.step t.at) in
+  pub is_time : (j b : ℕ) → IsEvent logs j b → b ≤ occurrences (places_of steps) j
+      → IsTime logs cut (occurrences (places_of steps)) (time_in steps) j b
+  is_time j b is_b few =
+      let t = found_there j b is_b.first few in
       record {
-        greater = λ i a is_a follows. (
-            let s = step_of logs steps i a is_order (λ u x at_x. (are.each u x at_x).event) is_a in
-            let told_s : column_in steps i a ≡ s.step.column =
-            ap (λ x. column_in steps x a) (sym s.place) ∙ ap (column_in steps s.step.place) (sym s.event)
-            ∙ sym (told s.number s.step s.at) in
-            let between : Follows logs cut s.step.place s.step.event t.step.place t.step.event =
-            rw (s.place, s.event, t.place, t.event) follows in
-            omega (
-              arith,
-              told_s,
-              told_t,
-              are.greater s.number t.number s.step t.step
-                  (stands_before s.number t.number s.step t.step s.at t.at between) s.at t.at between,
-            ));
-        least = elim (are.least t.number t.step t.at) [
-          | inl first ↦ inl (told_t ∙ first)
+        greater = λ i a is_a follows.
+            let follows_t : Follows logs cut i a t.0.step.place t.0.step.event =
+            subst (λ (x : ℕ). Follows logs cut i a t.0.step.place x) (sym t.0.event)
+            (subst (λ (x : ℕ). Follows logs cut i a x b) (sym t.0.place) follows) in
+            let before = are.closed t.0.number t.0.step t.0.at i a is_a follows_t in
+            let come : a ≤ occurrences (places_of steps) i =
+            omega (arith, before, occurrences-take-le (places_of steps) t.0.number i) in
+            let s = found_there i a is_a.first come in
+            let stands_s : StandsAt (places_of steps) s.0.number i a =
+            subst (λ (x : ℕ). StandsAt (places_of steps) s.0.number x a) s.0.place
+            (subst (λ (x : ℕ). StandsAt (places_of steps) s.0.number s.0.step.place x) s.0.event
+            (are.each s.0.number s.0.step s.0.at).event) in
+            let less : s.0.number < t.0.number = elim (cases_lt s.0.number t.0.number) [
+              | inl fine ↦ fine
+              | inr late ↦ absurd (omega (
+                arith,
+                before,
+                stands_s.1,
+                occurrences_mono (places_of steps) t.0.number s.0.number i late,
+              ))
+            ] in
+            let between : Follows logs cut s.0.step.place s.0.step.event t.0.step.place t.0.step.event =
+            subst (λ (x : ℕ). Follows logs cut s.0.step.place x t.0.step.place t.0.step.event) (sym s.0.event)
+            (subst (λ (x : ℕ). Follows logs cut x a t.0.step.place t.0.step.event) (sym s.0.place) follows_t) in (
+              come,
+              omega (
+                arith,
+                s.1,
+                t.1,
+                are.greater s.0.number t.0.number s.0.step t.0.step less s.0.at t.0.at between,
+              ),
+            );
+        least = elim (are.least t.0.number t.0.step t.0.at) [
+          | inl first ↦ inl (t.1 ∙ first)
           | inr more ↦
-              let follows : Follows logs cut more.1.place more.1.event j b = rw (t.place, t.event) at more.3 in
+              let follows : Follows logs cut more.1.place more.1.event j b =
+              subst (λ (x : ℕ). Follows logs cut more.1.place more.1.event j x) t.0.event
+              (subst (λ (x : ℕ). Follows logs cut more.1.place more.1.event x t.0.step.event) t.0.place more.3) in
               inr (
                 more.1.place,
                 more.1.event,
                 step_there more.0 more.1 more.2,
                 follows,
-                told_t ∙ more.4 ∙ ap suc (told more.0 more.1 more.2),
+                t.1 ∙ more.4 ∙ ap suc (told more.0 more.1 more.2),
               )
         ];
       }
 
-  is_trail : IsTrail logs cut steps
-  is_trail = record {
-    order = is_order;
-    cut_first = begins;
-    each = are.each;
-    sorted = are.sorted;
-    column = column_in steps;
-    columns = columns_are;
-    told = told;
-  }
-
--- where no node can make an event, all have come
+-- where no node can make an event, all have come that do
 pub whole_trail : (trail : Trail) (steps : List TrailStep) → HasGiven trail steps → trail.has_moved ≡ false
-    → trail.is_past_cut ≡ true → trail.place ≡ length trail.logs → IsTrail trail.logs trail.cut steps
-whole_trail trail steps given still past end =
+    → (trail.is_past_cut ≡ false → ¬ (HasCut trail)) → trail.place ≡ length trail.logs
+    → IsTrail trail.logs trail.cut steps
+whole_trail trail steps given still left end =
     let are = given.are_first in
-    let w = order_schedule trail.logs are.order.1 are.logs_are.ring.0 are.order.0 are.order.2 in
-    let stuck : (i : ℕ) → i < length trail.logs → IsReady trail.logs (occurrences (places_of steps)) i → ⊥ =
-    λ i here ready.
-    given.waited still i (omega (arith, here, end)) record {
-      ready = ready;
-      in_turn = λ inside. (let z : true ≡ false = sym past ∙ inside in cc);
-    } in
-    let whole : (i : ℕ) → i < length trail.logs → occurrences (places_of steps) i ≡ length (log_of trail.logs i) =
-    λ i here. omega (
-      arith,
-      all_below trail.logs are.order.1 (occurrences (places_of steps)) are.logs_are.ring.0 w.schedule.places
-          w.schedule.within w.schedule.kept stuck i here,
-      w.whole i here,
-      are.schedule.within i here,
-    ) in
-    is_trail trail.logs trail.cut steps are whole (given.outside past).1
+    record {
+      places = are.places;
+      each = are.each;
+      sorted = are.sorted;
+      time = time_in steps;
+      times = record {
+        within = are.within;
+        each = is_time trail.logs trail.cut steps are;
+        others = λ j next_is all.
+            given.waited still j (omega (arith, next_is.place, end)) record {
+              event = omega (arith, next_is.within);
+              sent = λ i a link pair.
+                  all i a (sending_there trail.logs i a (suc (occurrences (places_of steps) j)) pair)
+                  (received link pair);
+              in_turn = λ inside. elim (cases_lt (occurrences (places_of steps) j) (slice_index trail.cut j)) [
+                | inl fine ↦ fine
+                | inr over ↦ absurd (left inside (λ i a event low.
+                    omega (arith, all i a event (outside low (omega (arith, over))), given.done i event.place)))
+              ];
+            };
+      };
+      told = told trail.logs trail.cut steps are;
+      cut_first = λ is_cut come. elim (false_or_true trail.is_past_cut) [
+        | inr past ↦ (given.begins past is_cut).1
+        | inl inside ↦ absurd (left inside (λ i a event low.
+            omega (arith, low, come i event.place, given.done i event.place)))
+      ];
+    }
 
 -- ---- before the first step
 
-pub none_given : (logs : List Log) (cut : List ℕ) → AreLogs logs → HasOrder logs → IsConsistentCut logs cut
-    → HasGiven (record {
-      logs = logs;
-      cut = cut;
-      done = replicate (length logs) 0;
-      links = replicate (length logs) [];
-      steps = 0;
-      column = 1;
-      place = 0;
-      has_moved = false;
-      is_past_cut = false;
-    }) []
-none_given logs cut are order consistent =
+-- nothing is on the links then, and all is still to be received
+pub none_given : (trail : Trail) → AreLogs trail.logs → length trail.cut ≡ length trail.logs
+    → trail.done ≡ replicate (length trail.logs) 0 → trail.links ≡ replicate (length trail.logs) []
+    → length trail.unreceived ≡ length trail.logs
+    → ((i : ℕ) → i < length trail.logs → slice_index trail.unreceived i ≡ all_sents trail.logs i) → trail.steps ≡ 0
+    → trail.time ≡ 1 → trail.place ≡ 0 → trail.has_moved ≡ false → trail.is_past_cut ≡ false → HasGiven trail []
+none_given trail are cut_is done_is links_are unreceived_are all steps_is starts place_is still inside =
     record {
       are_first = record {
         logs_are = are;
-        order = order;
-        consistent = consistent;
-        schedule = no_places logs;
+        cut_is = cut_is;
+        places = All-from_get_or (λ p. p < length trail.logs) [] 0 (λ i l. absurd (omega (arith, l)));
+        within = λ i l. omega arith;
         each = λ t step at. (let z : ⊥ = cc in absurd z);
+        closed = λ t b at i a event follows. (let z : ⊥ = cc in absurd z);
         sorted = λ s t a b less at_a at_b. (let z : ⊥ = cc in absurd z);
         greater = λ s t a b less at_a at_b follows. (let z : ⊥ = cc in absurd z);
         least = λ t b at. (let z : ⊥ = cc in absurd z);
       };
-      nodes = length-replicate (length logs) 0;
-      links = length-replicate (length logs) [];
-      place = omega arith;
-      first = omega arith;
-      done = λ i l. get_or-replicate (length logs) i 0 0 l;
-      total = sum_none (λ (x : ℕ). x) 0 refl (length logs);
-      number = refl;
+      nodes = rw done_is (length-replicate (length trail.logs) 0);
+      links = rw links_are (length-replicate (length trail.logs) []);
+      unreceived = unreceived_are;
+      left = λ i l. omega (arith, all i l);
+      place = omega (arith, place_is);
+      first = omega (arith, starts);
+      done = λ i l. rw done_is (get_or-replicate (length trail.logs) i 0 0 l);
+      total = rw done_is (sum_zeros (length trail.logs));
+      number = steps_is;
       on_their_way = λ i sendings at. (
-          let within : i < length logs =
+          let at' : slice_get (replicate (length trail.logs) []) i ≡ Some sendings = rw links_are at at in
+          let within : i < length trail.logs =
           omega (
             arith,
-            slice_get_within (replicate (length logs) []) i sendings at,
-            length-replicate {A = List Sending} (length logs) [],
+            slice_get_within (replicate (length trail.logs) []) i sendings at',
+            length-replicate {A = List Sending} (length trail.logs) [],
           ) in
-          let none : [] ≡ sendings = sym (get_or-replicate (length logs) i [] sendings within)
-          ∙ get_or_from_slice_get (replicate (length logs) []) i sendings sendings at in
-          subst (AreOnTheirWay logs [] i) none record {
-            number = refl;
+          let none : [] ≡ sendings = sym (get_or-replicate (length trail.logs) i [] sendings within)
+          ∙ get_or_from_slice_get (replicate (length trail.logs) []) i sendings sendings at' in
+          subst (AreOnTheirWay trail.logs [] i) none record {
+            number = omega arith;
             each = λ r x at_x. (let z : ⊥ = cc in absurd z);
           });
       now = λ t step at. (let z : ⊥ = cc in absurd z);
-      moved = λ z. (let w : false ≡ true = z in cc);
-      waited = λ z i l. absurd (omega (arith, l));
-      filled = inl refl;
-      few = omega arith;
-      few_moved = λ z. (let w : false ≡ true = z in cc);
-      due = λ i l within may. inl (omega arith);
-      due_later = λ i l. absurd (omega (arith, l));
+      moved = λ z. (let w : false ≡ true = sym still ∙ z in cc);
+      waited = λ z i l. absurd (omega (arith, l, place_is));
+      filled = inl starts;
+      few = omega (arith, starts);
+      few_moved = λ z. (let w : false ≡ true = sym still ∙ z in cc);
+      due = λ i l within may. inl (omega (arith, starts));
+      due_later = λ i l. absurd (omega (arith, l, place_is));
       inside = λ z i l. omega arith;
-      outside = λ z. (let w : false ≡ true = z in cc);
+      outside = λ z. (let w : false ≡ true = sym inside ∙ z in cc);
+      begins = λ z. (let w : false ≡ true = sym inside ∙ z in cc);
       over = λ z t step at. (let w : ⊥ = cc in absurd w);
     }
-
-pub none_given_as : (logs : List Log) (same : List ℕ) (done : List ℕ) (links : List (List Sending)) (cut : List ℕ)
-    → AreLogs logs → HasOrder logs → IsConsistentCut logs cut → same ≡ cut → done ≡ replicate (length logs) 0
-    → links ≡ replicate (length logs) []
-    → HasGiven (record {
-      logs = logs;
-      cut = same;
-      done = done;
-      links = links;
-      steps = 0;
-      column = 1;
-      place = 0;
-      has_moved = false;
-      is_past_cut = false;
-    }) []
-none_given_as logs same done links cut are order consistent c d l =
-    subst (λ (x : List ℕ). HasGiven (record {
-      logs = logs;
-      cut = x;
-      done = done;
-      links = links;
-      steps = 0;
-      column = 1;
-      place = 0;
-      has_moved = false;
-      is_past_cut = false;
-    }) []) (sym c)
-    (subst (λ (x : List ℕ). HasGiven (record {
-      logs = logs;
-      cut = cut;
-      done = x;
-      links = links;
-      steps = 0;
-      column = 1;
-      place = 0;
-      has_moved = false;
-      is_past_cut = false;
-    }) []) (sym d)
-    (subst (λ (x : List (List Sending)). HasGiven (record {
-      logs = logs;
-      cut = cut;
-      done = replicate (length logs) 0;
-      links = x;
-      steps = 0;
-      column = 1;
-      place = 0;
-      has_moved = false;
-      is_past_cut = false;
-    }) []) (sym l)
-    (none_given logs cut are order consistent)))
+  where
+    sum_zeros : (n : ℕ) → sum (replicate n 0) ≡ 0
+    sum_zeros zero = refl
+    sum_zeros (suc n) = sum_by-cons (λ (x : ℕ). x) 0 (replicate n 0) ∙ omega (arith, sum_zeros n)

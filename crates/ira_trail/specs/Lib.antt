@@ -1,3 +1,5 @@
 pub mod Columns
+pub mod Filled
 pub mod Laws
+pub mod StateTrail
 pub mod Trail

@@ -3,5 +3,5 @@
 pub(crate) struct Sending {
     /// Its step on the trail, from 1.
     pub(crate) step: u32,
-    pub(crate) column: u32,
+    pub(crate) time: u32,
 }

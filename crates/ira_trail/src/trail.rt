@@ -1,47 +1,51 @@
 ghost use Rattle.ira_event.specs.Limits.{MAX_NODES, MAX_RECORDS};
-ghost use Rattle.std.specs.Prelude.{◌≡◌, ◌*◌, ◌<◌, ◌≤◌, ◌++◌, ◌∷◌, [], false, true, IfNone, IfOk, IfSome, IsTrue, List, MatchOption, OnErr, length, map, replicate, slice_index};
-ghost use Rattle.ira_order.specs.Ring.{log_of, prev};
+ghost use Rattle.std.specs.Prelude.{◌≡◌, ◌↔◌, ◌*◌, ◌<◌, ◌≤◌, ◌++◌, ◌∷◌, [], ℕ, false, true, IfNone, IfOk, IfSome, IsTrue, List, MatchOption, OnErr, length, map, min, replicate, slice_index};
+ghost use Rattle.ira_order.specs.Matching.{sent};
+ghost use Rattle.ira_order.specs.Ring.{log_of};
 ghost use Rattle.ira_trail.specs.declared.sending.Sending.{Sending};
-ghost use Rattle.ira_order.specs.Circle.{HasOrder};
-ghost use Rattle.ira_order.specs.Cut.{IsConsistentCut};
 ghost use Rattle.ira_trail.specs.declared.trail_step.TrailStep.{TrailStep};
-ghost use Rattle.ira_trail.specs.Trail.{IsTrail, HasGiven, HasBegun, HasSameLogs, IsNextEvent, IsNoneSentBefore, IsSentBefore, MayCome, after_step, passed_over, step_now, turns_left};
+ghost use Rattle.ira_trail.specs.Trail.{HasBegun, HasCut, HasGiven, HasSameLogs, IsNextEvent, IsNoneSentBefore, IsSentBefore, IsTrail, MayCome};
+ghost use Rattle.ira_trail.specs.Trail.{after_step, all_sents, passed_over, step_now, turns_left};
 
 use crate::sending::Sending;
 use crate::trail_step::TrailStep;
-use ira_event::{Event, Logs, OutOfMemory};
+use ira_event::{Event, Logs, NodeLog, OutOfMemory};
+use ira_order::predecessor;
 use std::alloc::Allocator;
 use std::collections::VecDeque;
 use std::marker::Model;
 
-/// A walk along all events of a ring's logs, in one order through a consistent cut: the events of the cut first, by
-/// column and then by place, and the others after them, the same way. An event's column is one more than the greatest
-/// of the events that it directly follows: its node's event before it, for a receipt its sending, and for an event
-/// outside the cut those of the cut (Lamport's logical clock: Time, Clocks, and the Ordering of Events in a Distributed
-/// System, 1978). So in each column each node whose next event can come makes just this one.
+/// A walk along the events of a ring's logs, in one order through a cut: the events of the cut first, by time and then
+/// by place, and the others after them, the same way. An event's time is one more than the greatest of the events that
+/// it directly follows: its node's event before it, for a receipt its sending, and for an event outside the cut those of
+/// the cut (Lamport's logical clock: Time, Clocks, and the Ordering of Events in a Distributed System, 1978). So at each
+/// time each node whose next event can come makes just this one. It ends where no event can: of logs that have an order
+/// all have come, of others those wait that are part of a circle, or come after such.
 ///
 /// It keeps some numbers for each node, and two for each message on its way.
 #[derive(Drop)]
-pub struct Trail<'l, A: Allocator> {
-    logs: &'l Logs<A>,
+pub struct Trail<'l, L: Allocator, A: Allocator> {
+    logs: &'l Logs<L>,
     cut: Vec<u32, A>,
     /// How many events each node has made.
     done: Vec<u32, A>,
     /// What each link carries, the next to be received first.
     links: Vec<VecDeque<Sending, A>, A>,
+    /// How many sendings of each node are still to be received, sent by now or not.
+    unreceived: Vec<u32, A>,
     /// How many steps there were.
     steps: u32,
-    /// The column of the events that come now.
-    column: u32,
-    /// The place whose turn it is in this column.
+    /// The time of the events that come now.
+    time: u32,
+    /// The place whose turn it is in this time.
     place: u8,
-    /// Whether some node has made an event in this column.
+    /// Whether some node has made an event in this time.
     has_moved: bool,
     /// Whether all events of the cut have come, and others may.
     is_past_cut: bool,
 }
 
-impl<'l, A: Allocator> Model for Trail<'l, A> {
+impl<'l, L: Allocator, A: Allocator> Model for Trail<'l, L, A> {
     ghost use Rattle.std.specs.Prelude.{map};
     ghost use Rattle.ira_trail.specs.Trail.{Trail};
 
@@ -52,20 +56,13 @@ impl<'l, A: Allocator> Model for Trail<'l, A> {
       cut = a.cut.items;
       done = a.done.items;
       links = map (λ link. link.items) a.links.items;
+      unreceived = a.unreceived.items;
       steps = a.steps;
-      column = a.column;
+      time = a.time;
       place = a.place;
       has_moved = a.has_moved;
       is_past_cut = a.is_past_cut;
     } };
-}
-
-/// The place whose link leads to a place, in a ring of so many nodes.
-fn writer_of(nodes: u8, place: u8) -> u8
-    requires { place < nodes }
-    ensures { result ≡ prev nodes place }
-{
-    if place == 0 { nodes - 1 } else { place - 1 }
 }
 
 /// Links that carry nothing.
@@ -82,13 +79,41 @@ fn empty_links<A: Allocator + Clone>(
     Ok(links)
 }
 
-impl<'l, A: Allocator> Trail<'l, A> {
+/// How many loads a log sends.
+fn number_of_sendings<L: Allocator>(log: &NodeLog<L>) -> u32
+    ensures { result ≡ length (sent log.now.events) }
+{
+    let mut sendings = 0;
+    for done in 0..log.len() {
+        if let Event::Sent(_) = log.event(done as u32 + 1) {
+            sendings += 1;
+        }
+    }
+    sendings
+}
+
+/// How many loads each node sends.
+fn sendings_of_each<L: Allocator, A: Allocator>(
+    alloc: A,
+    logs: &Logs<L>,
+) -> Result<Vec<u32, A>, OutOfMemory>
+    ensures { IfOk result (λ sendings. (length sendings.items ≡ length logs.now)
+        × ((i : ℕ) → i < length logs.now → slice_index sendings.items i ≡ all_sents logs.now i)) }
+{
+    let size = logs.size().get();
+    let mut sendings = Vec::with_capacity(alloc, usize::from(size))?;
+    for place in 0..size {
+        sendings.push(number_of_sendings(logs.log(place)))?;
+    }
+    Ok(sendings)
+}
+
+impl<'l, L: Allocator, A: Allocator> Trail<'l, L, A> {
     /// The trail through the cut, before its first step.
-    pub fn new(alloc: A, logs: &'l Logs<A>, cut: &[u32]) -> Result<Trail<'l, A>, OutOfMemory>
+    pub fn new(alloc: A, logs: &'l Logs<L>, cut: &[u32]) -> Result<Trail<'l, L, A>, OutOfMemory>
     where
         A: Clone,
-        requires order { HasOrder logs.now }
-        requires cut { IsConsistentCut logs.now cut.now }
+        requires { length cut.now ≡ length logs.now }
         ensures logs { IfOk result (λ trail. trail.logs ≡ logs.now) }
         ensures cut { IfOk result (λ trail. trail.cut ≡ cut.now) }
         ensures none_given { IfOk result (λ trail. HasGiven trail []) }
@@ -98,16 +123,17 @@ impl<'l, A: Allocator> Trail<'l, A> {
             logs,
             cut: Vec::from_slice(alloc.clone()?, cut)?,
             done: vec![in alloc.clone()?; 0; usize::from(nodes)]?,
-            links: empty_links(alloc, nodes)?,
+            links: empty_links(alloc.clone()?, nodes)?,
+            unreceived: sendings_of_each(alloc, logs)?,
             steps: 0,
-            column: 1,
+            time: 1,
             place: 0,
             has_moved: false,
             is_past_cut: false,
         })
     }
 
-    /// The next step; none where all events have come. Where memory runs out nothing has happened.
+    /// The next step; none where no event can come. Where memory runs out nothing has happened.
     pub fn next(&mut self) -> Result<Option<TrailStep>, OutOfMemory>
         requires { HasBegun self.old }
         ensures logs { HasSameLogs self.old self.new }
@@ -117,13 +143,13 @@ impl<'l, A: Allocator> Trail<'l, A> {
             → IfOk result (λ next. IfNone next (IsTrail self.old.logs self.old.cut given × HasGiven self.new given)) }
         ensures err { (given : List TrailStep) → HasGiven self.old given → OnErr result (HasGiven self.new given) }
     {
-        'columns: loop {
+        'times: loop {
             'turns: while self.place < self.logs.size().get() {
                 if let Some(step) = self.turn()? {
                     return Ok(Some(step));
                 }
             }
-            if !self.begin_column() {
+            if !self.begin_time() {
                 return Ok(None);
             }
         }
@@ -133,14 +159,30 @@ impl<'l, A: Allocator> Trail<'l, A> {
     fn limit(&self, i: u8) -> u32
         requires begun { HasBegun self.now }
         requires place { i < length self.now.logs }
-        ensures cut { self.now.is_past_cut ≡ false → result ≡ slice_index self.now.cut i }
+        ensures cut { self.now.is_past_cut ≡ false
+            → result ≡ min (slice_index self.now.cut i) (length (log_of self.now.logs i)) }
         ensures end { self.now.is_past_cut ≡ true → result ≡ length (log_of self.now.logs i) }
     {
+        let end = self.logs.log(i).len() as u32;
         if self.is_past_cut {
-            self.logs.log(i).len() as u32
+            end
         } else {
-            self.cut[usize::from(i)]
+            self.cut[usize::from(i)].min(end)
         }
+    }
+
+    /// Whether all events of the cut have come.
+    fn has_cut(&self) -> bool
+        requires begun { HasBegun self.now }
+        requires inside { self.now.is_past_cut ≡ false }
+        ensures { IsTrue result ↔ HasCut self.now }
+    {
+        for place in 0..self.logs.size().get() {
+            if self.done[usize::from(place)] < self.limit(place) {
+                return false;
+            }
+        }
+        true
     }
 
     /// The next event of the node whose turn it is; none where it has made all, or all of the cut before that is over.
@@ -161,19 +203,27 @@ impl<'l, A: Allocator> Trail<'l, A> {
         Some(self.logs.log(place).event(done + 1))
     }
 
-    /// The step of what is next to be received on a link, where it was sent in an earlier column.
+    /// Whether all that is ever sent on a link has been received.
+    fn is_used_up(&self, link: u8) -> bool
+        requires { link < length self.now.unreceived }
+        ensures { IsTrue result ↔ (slice_index self.now.unreceived link ≡ 0) }
+    {
+        self.unreceived[usize::from(link)] == 0
+    }
+
+    /// The step of what is next to be received on a link, where it was sent in an earlier time.
     fn sent_before(&self, link: u8) -> Option<u32>
         requires { link < length self.now.links }
         ensures { MatchOption result (IsNoneSentBefore self.now link) (IsSentBefore self.now link) }
     {
         let sending = self.links[usize::from(link)].front()?;
-        if sending.column >= self.column {
+        if sending.time >= self.time {
             return None;
         }
         Some(sending.step)
     }
 
-    /// The event of the node whose turn it is, if one can come in this column.
+    /// The event of the node whose turn it is, if one can come in this time.
     fn turn(&mut self) -> Result<Option<TrailStep>, OutOfMemory>
         requires begun { HasBegun self.old }
         requires place { self.old.place < length self.old.logs }
@@ -191,18 +241,22 @@ impl<'l, A: Allocator> Trail<'l, A> {
         };
         match event {
             Event::Got(_) => {
-                let link = writer_of(self.logs.size().get(), self.place);
+                let link = predecessor(self.logs.size().get(), self.place);
+                if self.is_used_up(link) {
+                    return Ok(Some(self.step(None)));
+                }
                 let Some(sent_by) = self.sent_before(link) else {
                     self.place += 1;
                     return Ok(None);
                 };
+                self.unreceived[usize::from(link)] -= 1;
                 self.links[usize::from(link)].pop_front();
                 Ok(Some(self.step(Some(sent_by))))
             }
             Event::Sent(_) => {
                 let sending = Sending {
                     step: self.steps + 1,
-                    column: self.column,
+                    time: self.time,
                 };
                 self.links[usize::from(self.place)].push_back(sending)?;
                 Ok(Some(self.step(None)))
@@ -225,7 +279,7 @@ impl<'l, A: Allocator> Trail<'l, A> {
         let step = TrailStep {
             place: self.place,
             event: self.done[node],
-            column: self.column,
+            time: self.time,
             sent_by,
             in_cut: !self.is_past_cut,
         };
@@ -235,23 +289,23 @@ impl<'l, A: Allocator> Trail<'l, A> {
         step
     }
 
-    /// Goes on to the next column. Where no node could make an event in this one, all of the cut have come, or all.
-    fn begin_column(&mut self) -> bool
+    /// Goes on to the next time, or past the cut where no more of its events can come; not where no event can come.
+    fn begin_time(&mut self) -> bool
         requires begun { HasBegun self.old }
         requires place { self.old.place ≡ length self.old.logs }
         ensures more { (given : List TrailStep) → HasGiven self.old given → HasGiven self.new given }
         ensures end { result ≡ false → (given : List TrailStep) → HasGiven self.old given
             → IsTrail self.old.logs self.old.cut given }
-        ensures column { IsTrue result → turns_left self.new < turns_left self.old }
+        ensures time { IsTrue result → turns_left self.new < turns_left self.old }
         ensures logs { HasSameLogs self.old self.new }
     {
         if self.has_moved {
-            self.column += 1;
+            self.time += 1;
             self.has_moved = false;
             self.place = 0;
             return true;
         }
-        if self.is_past_cut {
+        if self.is_past_cut || !self.has_cut() {
             return false;
         }
         self.is_past_cut = true;

@@ -1,9 +1,8 @@
-use Rattle.std.proofs.Common.{◌≡◌, ◌+◌, ◌≤◌, ◌∷◌, ◌++◌, [], None, Some, arith, get_or, refl, take, true}
+use Rattle.std.proofs.Common.{◌≡◌, ◌+◌, ◌≤◌, ◌∷◌, ◌++◌, [], None, Some, get_or, refl, take, true}
 use Rattle.std.specs.Prelude.{slice_get}
 use Rattle.std.proofs.lemmas.List.{take_all, take_more}
 use Rattle.std.proofs.lemmas.Option.{slice_get-get_or}
 use Rattle.ira_picture.specs.declared.mark.Mark.{Mark}
-use Rattle.ira_picture.specs.Band.{Owes}
 use Rattle.ira_picture.proofs.Debts.{AreDebtsBefore, debts_end, debts_more, debts_open, debts_stay}
 use Rattle.ira_picture.proofs.Known.{no_mark, stand_in_turn}
 use Rattle.ira_picture.proofs.lane.debts_of.Goals as goal

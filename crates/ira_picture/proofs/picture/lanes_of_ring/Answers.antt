@@ -6,7 +6,7 @@ use Rattle.std.proofs.lemmas.Option.{get_or_from_slice_get, slice_get-map, slice
 use Rattle.std.proofs.lemmas.List.{length-map, length_push, map-append}
 use Rattle.ira_order.specs.Ring.{events_of, log_of}
 use Rattle.ira_picture.specs.declared.lane.Lane.{Lane}
-use Rattle.ira_picture.specs.Columns.{AreColumnsOf}
+use Rattle.ira_picture.specs.Rows.{IsRow}
 use Rattle.ira_picture.specs.Picture.{Drawn, IsDrawnOf, drawn_of}
 use Rattle.ira_picture.proofs.NodeLanes.{drawn_more}
 use Rattle.ira_picture.proofs.picture.lanes_of_ring.Goals as goal
@@ -27,11 +27,11 @@ of-requires g c =
     let there : slice_get (map items_of c.columns.inside.nodes.items) c.loop-place.place
     ≡ Some c.index.result.now.items = slice_get-map items_of c.columns.inside.nodes.items c.loop-place.place
     ∙ ap (option_map items_of) found in
-    let each : AreColumnsOf (log_of c.args.logs.now c.loop-place.place) c.index.result.now.items =
+    let each : IsRow (log_of c.args.logs.now c.loop-place.place) c.index.result.now.items =
     c.requires.each c.loop-place.place c.index.result.now.items (rw rows there) in
     let events : log_of c.args.logs.now c.loop-place.place ≡ c.log-log.result.now.events =
     ap events_of c.log-log.ensures.value in
-    rw c.deref.ensures.value (subst (λ es. AreColumnsOf es c.index.result.now.items) events each)
+    rw c.deref.ensures.value (subst (λ es. IsRow es c.index.result.now.items) events each)
 
 pub returns : goal.returns
 returns g c = record {

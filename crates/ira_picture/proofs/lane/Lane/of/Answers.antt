@@ -1,6 +1,6 @@
-use Rattle.std.proofs.Common.{◌≡◌, ◌+◌, ◌-◌, Some, arith, length, rules}
-use Rattle.std.specs.Prelude.{slice_get, slice_index}
-use Rattle.ira_picture.specs.Lane.{IsKnown, IsMark}
+use Rattle.std.proofs.Common.{◌≡◌, ◌+◌, ◌-◌, arith, length, rules}
+use Rattle.std.specs.Prelude.{slice_index}
+use Rattle.ira_picture.specs.Lane.{IsMark}
 use Rattle.ira_picture.specs.Window.{IsIn}
 use Rattle.ira_picture.proofs.DrawnMarks.{marks_more, marks_over, marks_rise}
 use Rattle.ira_picture.proofs.Starts.{start_more, start_over}

@@ -2,7 +2,8 @@ use Rattle.std.proofs.Common.{◌≡◌, ◌+◌, ◌-◌, Some, arith, refl}
 use Rattle.std.specs.Prelude.{slice_get}
 use Rattle.ira_node.specs.NodeStep.{NodeStep}
 use Rattle.ira_node.specs.NodeStepFault.{NodeStepFault}
-use Rattle.ira_picture.proofs.Replays.{goes_on, reaches_more, still_going, stops_here}
+use Rattle.ira_trail.proofs.Reached.{reaches_more, stops_here}
+use Rattle.ira_picture.proofs.Replays.{goes_on, still_going}
 use Rattle.ira_picture.proofs.lane.Replay.advance.Goals as goal
 
 pub overflow_add-position : goal.overflow_add-position

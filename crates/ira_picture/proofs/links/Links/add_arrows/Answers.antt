@@ -1,4 +1,4 @@
-use Rattle.std.proofs.Common.{◌≡◌, ◌+◌, ◌∙◌, None, arith, rules, sym}
+use Rattle.std.proofs.Common.{◌≡◌, ◌+◌, None, arith, rules}
 use Rattle.std.specs.Prelude.{true}
 use Rattle.ira_order.specs.Matching.{got, sent}
 use Rattle.ira_order.specs.Ring.{log_of, next, numbered}

@@ -1,5 +1,4 @@
-use Rattle.std.proofs.Common.{◌≡◌, arith, length, subst}
-use Rattle.ira_picture.specs.Arrow.{AreArrowsBefore}
+use Rattle.std.proofs.Common.{◌≡◌, arith, length}
 use Rattle.ira_picture.proofs.DrawnArrows.{all_arrows, no_arrows}
 use Rattle.ira_picture.proofs.links.Links.arrows.Goals as goal
 

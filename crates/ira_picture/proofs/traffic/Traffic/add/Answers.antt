@@ -1,4 +1,4 @@
-use Rattle.std.proofs.Common.{◌≡◌, ◌∙◌, Some, None, inl, inr, ap, rules, subst}
+use Rattle.std.proofs.Common.{◌≡◌, ◌∙◌, Some, inl, inr, ap, rules, subst}
 use Rattle.ira_order.specs.Matching.{receipt, sending}
 use Rattle.ira_picture.specs.Traffic.{IsTraffic, Traffic}
 use Rattle.ira_picture.proofs.NodeTraffic.{got_more, neither_more, sent_more}

@@ -3,14 +3,14 @@ use Rattle.ira_trail.specs.declared.trail_step.TrailStep.{TrailStep}
 use Rattle.ira_trail.specs.Trail.{HasGiven, HasSameLogs, turns_left}
 use Rattle.ira_trail.proofs.trail.Trail.next.Given as goal
 
-abbrev pub invariant-columns : goal.invariant-columns
-invariant-columns g l = record {
+abbrev pub invariant-times : goal.invariant-times
+invariant-times g l = record {
   given : (steps : List TrailStep) → HasGiven l.fn.self steps → HasGiven l.self steps;
   logs : HasSameLogs l.fn.self l.self;
 }
 
-abbrev pub decreases-columns : goal.decreases-columns
-decreases-columns g l = turns_left l.self
+abbrev pub decreases-times : goal.decreases-times
+decreases-times g l = turns_left l.self
 
 abbrev pub invariant-turns : goal.invariant-turns
 invariant-turns g l = record {

@@ -1,8 +1,8 @@
-use Rattle.std.proofs.Common.{◌≡◌, ◌∙◌, ◌<◌, arith, false, length, subst, sym, true}
+use Rattle.std.proofs.Common.{◌≡◌, ◌∙◌, ◌<◌, ap, arith, false, length, min, subst, sym, true}
 use Rattle.std.specs.Prelude.{slice_index}
-use Rattle.ira_order.specs.Ring.{log_of}
+use Rattle.ira_order.specs.Ring.{events_of, log_of}
 use Rattle.ira_trail.specs.Trail.{HasGiven, IsNextEvent, MayCome, Trail}
-use Rattle.ira_trail.proofs.Turns.{at_limit, done_read, next_read}
+use Rattle.ira_trail.proofs.Turns.{at_limit, below_limit, done_read, next_read}
 use Rattle.ira_trail.proofs.Walks.{few_events}
 use Rattle.ira_trail.proofs.trail.Trail.next_event.Goals as goal
 
@@ -11,7 +11,8 @@ returns-then-done-limit g c given h may =
     let h' = subst (λ (v : Trail). HasGiven v given) (sym c.self.view_is) h in
     let here = subst (λ (v : Trail). v.place < length v.logs) (sym c.self.view_is) c.requires.place in
     let cut = subst (λ (v : Trail). v.is_past_cut ≡ false
-    → c.limit.result ≡ slice_index v.cut c.self.inside.place) (sym c.self.view_is) c.limit.ensures.cut in
+    → c.limit.result
+    ≡ min (slice_index v.cut c.self.inside.place) (length (log_of v.logs c.self.inside.place))) (sym c.self.view_is) c.limit.ensures.cut in
     let end = subst (λ (v : Trail). v.is_past_cut ≡ true
     → c.limit.result ≡ length (log_of v.logs c.self.inside.place)) (sym c.self.view_is) c.limit.ensures.end in
     let done = done_read _ given h' here c.from-node.result c.index-done.result.now c.from-node.ensures
@@ -30,7 +31,7 @@ overflow_add-done g c =
       arith,
       done,
       h'.done c.self.inside.place here,
-      h'.are_first.schedule.within c.self.inside.place here,
+      h'.are_first.within c.self.inside.place here,
       few_events c.self.inside.logs.now c.self.inside.place h'.are_first.logs_are,
     )
 
@@ -39,9 +40,27 @@ returns g c given h =
     let h' = subst (λ (v : Trail). HasGiven v given) (sym c.self.view_is) h in
     let here = subst (λ (v : Trail). v.place < length v.logs) (sym c.self.view_is) c.requires.place in
     let cut = subst (λ (v : Trail). v.is_past_cut ≡ false
-    → c.limit.result ≡ slice_index v.cut c.self.inside.place) (sym c.self.view_is) c.limit.ensures.cut in
+    → c.limit.result
+    ≡ min (slice_index v.cut c.self.inside.place) (length (log_of v.logs c.self.inside.place))) (sym c.self.view_is) c.limit.ensures.cut in
     let end = subst (λ (v : Trail). v.is_past_cut ≡ true
     → c.limit.result ≡ length (log_of v.logs c.self.inside.place)) (sym c.self.view_is) c.limit.ensures.end in
     subst (λ (v : Trail). IsNextEvent v given c.event.result) c.self.view_is
     (next_read _ given h' here c.log.result.now c.from-node.result c.index-done.result.now c.limit.result c.event.result
     cut end c.from-node.ensures c.index-done.ensures c.if-done-limit.false c.log.ensures.value c.event.ensures)
+
+pub event-requires : goal.event-requires
+event-requires g c =
+    let given = c.requires.begun.0 in
+    let h' = subst (λ (v : Trail). HasGiven v given) (sym c.self.view_is) c.requires.begun.1 in
+    let here = subst (λ (v : Trail). v.place < length v.logs) (sym c.self.view_is) c.requires.place in
+    let cut = subst (λ (v : Trail). v.is_past_cut ≡ false
+    → c.limit.result
+    ≡ min (slice_index v.cut c.self.inside.place) (length (log_of v.logs c.self.inside.place))) (sym c.self.view_is)
+    c.limit.ensures.cut in
+    let end = subst (λ (v : Trail). v.is_past_cut ≡ true
+    → c.limit.result ≡ length (log_of v.logs c.self.inside.place)) (sym c.self.view_is) c.limit.ensures.end in
+    let done = done_read _ given h' here c.from-node.result c.index-done.result.now c.from-node.ensures
+    c.index-done.ensures in
+    let below = below_limit _ given h' here c.limit.result cut end (λ q. c.if-done-limit.false (done ∙ q)) in
+    let events = ap (λ o. length (events_of o)) c.log.ensures.value in
+    (omega arith, omega (arith, below.0, done, events))
