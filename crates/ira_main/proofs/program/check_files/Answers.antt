@@ -1,4 +1,5 @@
-use Rattle.std.proofs.Common.{Ok, ap, inl, inr, refl, rules, [], ◌∷◌}
+use Rattle.std.proofs.Common.{Err, Ok, ap, inl, inr, refl, rules, [], ◌∷◌, ◌∙◌}
+use Rattle.std.proofs.lemmas.Result.{err_from_is_err_and}
 use Rattle.ira_event.proofs.Unless.{unless_ok}
 use Rattle.ira_main.proofs.FilesRead.{of_back, of_front}
 use Rattle.ira_main.specs.FilesRead.{names_of}
@@ -100,4 +101,6 @@ pub returns-in_err-judged : goal.returns-in_err-judged
 returns-in_err-judged g c = inl (_, c.in_ok-names.ensures, inr (OutOfMemory, inr refl, refl, search rules))
 
 pub returns-in_err-answer : goal.returns-in_err-answer
-returns-in_err-answer g c = inl (_, c.in_ok-names.ensures, inr (OutOfMemory, inr refl, refl, search rules))
+returns-in_err-answer g c =
+    let refused = err_from_is_err_and c.from_residual-in_err-answer.result c.from_residual-in_err-answer.ensures.1 in
+    inl (_, c.in_ok-names.ensures, inr (OutOfMemory, inr refl, refl, refused.1 ∙ ap (λ f. Err f) refused.2))
