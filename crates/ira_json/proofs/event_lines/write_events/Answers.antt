@@ -6,8 +6,8 @@ use Rattle.ira_json.proofs.event_lines.write_events.Goals as goal
 
 pub returns-in_err-trail : goal.returns-in_err-trail
 returns-in_err-trail g c =
-    let is : c.from_residual-in_err-trail.result ≡ Err OutOfMemory = search rules in
-    none_wrote c.from_residual-in_err-trail.result (g.W.Sink.state c.args.sink.now) is
+    let is : c.from_residual.result ≡ Err OutOfMemory = search rules in
+    none_wrote c.from_residual.result (g.W.Sink.state c.args.sink.now) is
 
 pub loop-number-init : goal.loop-number-init
 loop-number-init g c = record {
