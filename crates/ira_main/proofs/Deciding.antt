@@ -20,9 +20,9 @@ use Rattle.ira_main.specs.declared.status.Status.TheVariants.{Yes, No}
 pub status_is : {A : Type 0} (findings : Findings A) (are_absent : Bool) (status : Status)
     → (IsFalse are_absent ↔ MakeNoCertificate findings) → (IsTrue are_absent → status ≡ Yes)
     → (IsFalse are_absent → status ≡ No) → IsFindingsStatus findings status
-status_is findings true status absent yes no =
-    inr (λ none. let never : IsFalse true = absent.1 none in cc, yes refl)
-status_is findings false status absent yes no = inl (absent.0 refl, no refl)
+status_is findings true status absent when_absent when_met =
+    inr (λ none. let never : IsFalse true = absent.1 none in cc, when_absent refl)
+status_is findings false status absent when_absent when_met = inl (absent.0 refl, when_met refl)
 
 -- the answer of a reason is what is printed of a refusal
 pub refused_printed : (A : Type 0) {S : Type 0} (writes : Writing S) (is_json : Bool) (name : Option (Bor (List ℕ)))
