@@ -1,6 +1,7 @@
 -- The first moment that meets a case of a question.
-use Rattle.std.specs.Prelude.{◌≡◌, ℕ, List, [], ◌∷◌, Option, Some, None, slice_get}
+use Rattle.std.specs.Prelude.{◌≡◌, ℕ, ◌<◌, List, [], ◌∷◌, Option, Some, None, length, slice_get}
 use Rattle.ira_event.specs.Log.{Log}
+use Rattle.ira_order.specs.Cut.{IsConsistentCut}
 use Rattle.ira_pred.specs.Case.{Conjunct}
 use Rattle.ira_elim.specs.LeastCut.{IsLeastCut}
 use Rattle.ira_audit.specs.AskedQuestion.{AskedQuestion, IsFirstPresent}
@@ -23,8 +24,9 @@ IsFirstCut logs cases None None = NoCutMeetsAny logs cases
 
 -- ---- Helpers, no definitions.
 
--- that case with its number, and its cut
-abbrev pub IsPresentCase : AskedQuestion → ℕ → Option (ℕ × List ℕ) → Type 0
-IsPresentCase asked number (Some found) =
-    (found.0 ≡ number) × IsCutOfCase asked.logs asked.question.cases number (Some found.1)
-IsPresentCase asked number None = IsCutOfCase asked.logs asked.question.cases number None
+-- that case with its number, and that cut
+abbrev pub IsPresent : AskedQuestion → Option ℕ → Option (ℕ × List ℕ) → Type 0
+IsPresent asked case None = IsFirstCut asked.logs asked.question.cases case None
+IsPresent asked case (Some found) =
+    (found.0 < length asked.question.cases) × IsConsistentCut asked.logs found.1
+    × IsFirstCut asked.logs asked.question.cases case (Some found.1)

@@ -1,11 +1,12 @@
-ghost use Rattle.std.specs.Prelude.{◌≡◌, ◌⊎◌, List, IfErr, IfOk, MatchOption};
+ghost use Rattle.std.specs.Prelude.{◌≡◌, ◌<◌, ◌⊎◌, List, IfErr, IfOk, MatchOption, Some, length};
 ghost use Rattle.ira_event.specs.Log.{Log};
 ghost use Rattle.ira_event.specs.Logs.{AreLogs};
 ghost use Rattle.ira_order.specs.Cut.{IsConsistentCut, IsCut};
+ghost use Rattle.ira_pred.specs.Question.{IsQuestion};
 ghost use Rattle.ira_moment.specs.ChosenMoment.{IsMomentOf, cut_of};
 ghost use Rattle.ira_moment.specs.CutFault.{IsCutFault};
 ghost use Rattle.ira_moment.specs.declared.cut_fault.CutFault.{CutFault};
-ghost use Rattle.ira_views.specs.FirstCut.{IsFirstCut, IsPresentCase};
+ghost use Rattle.ira_views.specs.FirstCut.{IsFirstCut, IsPresent};
 ghost use Rattle.ira_views.specs.declared.ring_fault.RingFault.TheVariants as fault;
 
 use crate::ring_fault::RingFault;
@@ -49,20 +50,36 @@ pub(crate) fn asked_cut<A: Allocator + Clone>(
     Ok(cut)
 }
 
-/// The case of a number and the least cut that meets it, if there is such a case and such a cut. No other case is decided.
+/// The case of a number and the least cut that meets it, if one does. No other case is decided.
 fn present_case<A: Allocator + Clone>(
     asked: &AskedQuestion<'_, A>,
-    number: u64,
+    number: usize,
 ) -> Result<Option<(usize, Cut<A>)>, OutOfMemory>
-    ensures { IfOk result (IsPresentCase asked.now number) }
+    requires valid { IsQuestion asked.now.question }
+    requires within { number < length asked.now.question.cases }
+    ensures { IfOk result (IsPresent asked.now (Some number)) }
 {
-    if number >= asked.cases().len() as u64 {
-        return Ok(None);
-    }
-    match asked.decide_case(number as usize)? {
-        Found::Present(cut) => Ok(Some((number as usize, cut))),
+    match asked.decide_case(number)? {
+        Found::Present(cut) => Ok(Some((number, cut))),
         Found::Absent(_) => Ok(None),
     }
+}
+
+/// The case of a number, if one is asked for, or else the first that any cut meets, and the least cut that meets it, if there
+/// is such a case and such a cut.
+fn first_present<A: Allocator + Clone>(
+    asked: &AskedQuestion<'_, A>,
+    case: Option<u64>,
+) -> Result<Option<(usize, Cut<A>)>, OutOfMemory>
+    ensures { IfOk result (IsPresent asked.now case) }
+{
+    let Some(number) = case else {
+        return asked.first_present();
+    };
+    if number < asked.cases().len() as u64 {
+        return present_case(asked, number as usize);
+    }
+    Ok(None)
 }
 
 /// The first moment that meets a case of a question: the case of a number, or any.
@@ -71,14 +88,11 @@ pub(crate) fn first_moment<A: Allocator + Clone>(
     asked: AskedQuestion<'_, A>,
     case: Option<u64>,
 ) -> Result<ChosenMoment<A>, OutOfMemory>
-    ensures first { IfOk result (λ moment. IsFirstCut asked.logs asked.question.cases case (cut_of asked.logs moment)) }
-    ensures moment { IfOk result (IsMomentOf asked.logs) }
+    ensures first { IfOk result (λ moment.
+        IsFirstCut asked.entry.logs asked.entry.question.cases case (cut_of asked.entry.logs moment)) }
+    ensures moment { IfOk result (IsMomentOf asked.entry.logs) }
 {
-    let present = match case {
-        None => asked.first_present()?,
-        Some(number) => present_case(&asked, number)?,
-    };
-    let Some((number, cut)) = present else {
+    let Some((number, cut)) = first_present(&asked, case)? else {
         return Ok(ChosenMoment::Unmet(case));
     };
     Ok(ChosenMoment::OfCase {

@@ -2,20 +2,20 @@
 //! lines of JSON or as a picture.
 #![tactic(auto)]
 
-mod differences;
 mod explain;
 mod find_moment;
 mod findings_view;
+mod leads;
 mod question;
 mod ring_fault;
 mod shown_ring;
 mod taken;
 mod view;
 
-pub use differences::differences;
 pub use explain::{explain_text, explain_texts};
 pub use findings_view::FindingsView;
 pub use ira_explain_question::AskedFiles;
+pub use leads::differences;
 pub use question::{explain_certified, explain_findings};
 pub use ring_fault::RingFault;
 pub use shown_ring::ShownRing;

@@ -67,7 +67,8 @@ impl<A: Allocator + Clone> ShownRing<A> {
     ) -> Result<ShownRing<A>, RingFault>
         ensures { MatchResult result (IsOfQuestion logs question.now case) (IsNoQuestion logs question.now) }
     {
-        let moment = first_moment(alloc, logs.ask(question)?, case)?;
+        let asked = logs.ask(question)?;
+        let moment = first_moment(alloc, asked, case)?;
         Ok(ShownRing { logs, moment })
     }
 

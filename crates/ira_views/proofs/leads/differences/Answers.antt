@@ -1,6 +1,6 @@
 use Rattle.std.proofs.Common.{ap, arith, length}
 use Rattle.std.specs.Prelude.{option_map}
-use Rattle.ira_views.proofs.differences.differences.Goals as goal
+use Rattle.ira_views.proofs.leads.differences.Goals as goal
 
 pub returns-in_default-2 : goal.returns-in_default-2
 returns-in_default-2 g c =
