@@ -1,18 +1,31 @@
-use Rattle.ira_audit.specs.CheckAnswer.{not_posed}
 use Rattle.std.proofs.Common.{refl}
-use Rattle.ira_audit.proofs.NeverMet.{no_case}
-use Rattle.ira_audit.specs.CheckAnswer.{IsCheckAnswer}
+use Rattle.ira_audit.specs.CheckAnswer.{not_posed}
 use Rattle.ira_views.specs.Texts.{texts_of}
+use Rattle.ira_views.specs.declared.view.View.{View}
+use Rattle.ira_views.proofs.Asked.{never_met}
 use Rattle.ira_views.proofs.question.explain_certified.Goals as goal
 
 pub explain_check-requires : goal.explain_check-requires
-explain_check-requires g c = ?
+explain_check-requires g c = c.in-Ok.ensures (texts_of c.args.files.logs.now) c.requires
 
 pub returns-in-Ok : goal.returns-in-Ok
-returns-in-Ok g c = ?
+returns-in-Ok g c = record {
+  answer = c.explain_check.ensures.answer;
+  reportable = c.explain_check.ensures.reportable;
+  never = never_met (λ (view : View g.row.A.Denot). view.answer) (texts_of c.args.files.logs.now)
+      c.args.files.question.now.text.now c.args.certificate.now.text.now c.explain_check.result
+      c.explain_check.ensures.answer;
+}
 
 pub explain_not_asked-requires-clause-reason : goal.explain_not_asked-requires-clause-reason
-explain_not_asked-requires-clause-reason g c = ?
+explain_not_asked-requires-clause-reason g c =
+    rw c.in-Err-No.field-0-is at (c.in-Err-No.ensures (texts_of c.args.files.logs.now) c.requires)
 
 pub returns-in-Err-No : goal.returns-in-Err-No
-returns-in-Err-No g c = ?
+returns-in-Err-No g c =
+    let why = rw c.in-Err-No.field-0-is at (c.in-Err-No.ensures (texts_of c.args.files.logs.now) c.requires) in
+    record {
+      answer = not_posed c.in-Err-No.reason why.0 refl;
+      reportable = why.1;
+      never = λ e. absurd cc;
+    }
