@@ -40,20 +40,37 @@ pub fn explain_findings<A: Allocator + Clone>(
     ensures reportable { IfOk result (λ view. AreReportable view.findings) }
 {
     match judged.ask(files.question.text) {
-        Ok(asked) => {
-            let findings = asked.decide()?;
-            let explanation = explain_found(alloc, files, &asked, &findings, case)?;
+        Ok(asked) => explain_asked(alloc, files, &asked, case),
+        Err(Refusal::No(reason)) => {
+            let explanation = explain_not_asked(alloc, files, judged, reason)?;
+            let findings = Findings::Refused(reason);
             Ok(FindingsView {
                 findings,
                 explanation,
             })
         }
-        Err(Refusal::No(reason)) => Ok(FindingsView {
-            findings: Findings::Refused(reason),
-            explanation: explain_not_asked(alloc, files, judged, reason)?,
-        }),
         Err(Refusal::OutOfMemory) => Err(OutOfMemory),
     }
+}
+
+/// What is found for a question that is asked of good logs, and why.
+fn explain_asked<A: Allocator + Clone>(
+    alloc: A,
+    files: AskedFiles<'_>,
+    asked: &AskedQuestion<'_, A>,
+    case: Option<u64>,
+) -> Result<FindingsView<A>, OutOfMemory>
+    requires { QuestionFitsLogs (texts_of files.logs.now) files.question.now.text.now asked.now.logs asked.now.question }
+    ensures found { IfOk result (λ view.
+        AreFindings (texts_of files.entry.logs.now) files.entry.question.now.text.now view.findings) }
+    ensures reportable { IfOk result (λ view. AreReportable view.findings) }
+{
+    let findings = asked.decide()?;
+    let explanation = explain_found(alloc, files, asked, &findings, case)?;
+    Ok(FindingsView {
+        findings,
+        explanation,
+    })
 }
 
 /// Judges a certificate for a question about logs that were judged, and says why the answer is as it is.

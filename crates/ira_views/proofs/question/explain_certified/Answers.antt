@@ -1,12 +1,16 @@
-use Rattle.std.proofs.Common.{refl}
+use Rattle.std.proofs.Common.{refl, rules}
 use Rattle.ira_audit.specs.CheckAnswer.{not_posed}
+use Rattle.ira_audit.specs.QuestionFitsLogs.{QuestionFitsLogs}
 use Rattle.ira_views.specs.Texts.{texts_of}
 use Rattle.ira_views.specs.declared.view.View.{View}
 use Rattle.ira_views.proofs.Asked.{never_met}
 use Rattle.ira_views.proofs.question.explain_certified.Goals as goal
 
 pub explain_check-requires : goal.explain_check-requires
-explain_check-requires g c = c.in-Ok.ensures (texts_of c.args.files.logs.now) c.requires
+explain_check-requires g c =
+    let asked : QuestionFitsLogs (texts_of c.args.files.logs.now) c.args.files.question.now.text.now c.in-Ok.asked.logs
+    c.in-Ok.asked.question = c.in-Ok.ensures (texts_of c.args.files.logs.now) c.requires in
+    search rules
 
 pub returns-in-Ok : goal.returns-in-Ok
 returns-in-Ok g c = record {
@@ -21,11 +25,13 @@ pub explain_not_asked-requires-clause-reason : goal.explain_not_asked-requires-c
 explain_not_asked-requires-clause-reason g c =
     rw c.in-Err-No.field-0-is at (c.in-Err-No.ensures (texts_of c.args.files.logs.now) c.requires)
 
-pub returns-in-Err-No : goal.returns-in-Err-No
-returns-in-Err-No g c =
+pub returns-in_ok-explain_not_asked-in-Err-No-clause-answer :
+    goal.returns-in_ok-explain_not_asked-in-Err-No-clause-answer
+returns-in_ok-explain_not_asked-in-Err-No-clause-answer g c =
     let why = rw c.in-Err-No.field-0-is at (c.in-Err-No.ensures (texts_of c.args.files.logs.now) c.requires) in
-    record {
-      answer = not_posed c.in-Err-No.reason why.0 refl;
-      reportable = why.1;
-      never = λ e. absurd cc;
-    }
+    not_posed c.in-Err-No.reason why.0 refl
+
+pub returns-in_ok-explain_not_asked-in-Err-No-clause-reportable :
+    goal.returns-in_ok-explain_not_asked-in-Err-No-clause-reportable
+returns-in_ok-explain_not_asked-in-Err-No-clause-reportable g c =
+    (rw c.in-Err-No.field-0-is at (c.in-Err-No.ensures (texts_of c.args.files.logs.now) c.requires)).1
