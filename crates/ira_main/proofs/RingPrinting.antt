@@ -11,6 +11,7 @@ use Rattle.ira_event.specs.Sink.{SinkState, StopsIn, Takes, Wrote}
 use Rattle.ira_view_page.specs.Printable.{IsPrintable, is_graphic}
 use Rattle.ira_json.specs.ShownAnswer.{IsRingText, OfRingText}
 use Rattle.ira_show.specs.Showed.{OfPrintable}
+use Rattle.ira_views.specs.ShownRing.{IsPageOf, ShownRing}
 use Rattle.ira_main.specs.Outcome.{Outcome}
 use Rattle.ira_main.specs.Show.{PrintsRing, PrintsRingLines, ring_text}
 use Rattle.ira_main.specs.Show.PrintsRing.{no_memory, printed, stopped}
@@ -39,9 +40,9 @@ abbrev pub ring_front : List ℕ → List ℕ
 ring_front differences = report_line audit.Yes ++ differences
 
 -- the sink failed before the events
-pub stopped_before : (d : List ℕ) (has_events : Bool) (s t : SinkState) → IsPrintable d → StopsIn (ring_front d) s t
-    → PrintsRing d has_events s t (Err CannotWriteAnswer)
-stopped_before d has_events s t p stop =
+pub stopped_before : (ring : ShownRing) (d : List ℕ) (has_events : Bool) (s t : SinkState) → IsPrintable d
+    → StopsIn (ring_front d) s t → PrintsRing ring d has_events s t (Err CannotWriteAnswer)
+stopped_before ring d has_events s t p stop =
     let text : ring_front d ++ [] ≡ ring_text d [] = append_assoc (report_line audit.Yes) d [] in
     stopped [] (printable_both d [] p refl)
     (subst (λ w. StopsIn w s t) text (StopsIn-append s t (ring_front d) [] stop)) refl
@@ -53,23 +54,24 @@ taken_after d text s t u front more =
     subst (λ w. Takes w s u) (append_assoc (report_line audit.Yes) d text)
     (Takes-append s t u (ring_front d) text front more)
 
--- all events were printed
-pub printed_after : (d : List ℕ) (has_events : Bool) (s t u : SinkState) (status : Status) → IsPrintable d
-    → IsLeadsStatus d status → Takes (ring_front d) s t → OfPrintable (λ text. Takes text t u)
-    → PrintsRing d has_events s u (Ok status)
-printed_after d has_events s t u status p is front more =
-    printed more.0 status (printable_both d more.0 p more.1) (taken_after d more.0 s t u front more.2) is refl
+-- all events were printed, or the page
+pub printed_after : (ring : ShownRing) (d : List ℕ) (has_events : Bool) (s t u : SinkState) (status : Status)
+    (text : List ℕ) → IsPrintable d → IsLeadsStatus d status → Takes (ring_front d) s t → IsPrintable text
+    → (has_events ≡ true) ⊎ IsPageOf ring text → Takes text t u → PrintsRing ring d has_events s u (Ok status)
+printed_after ring d has_events s t u status text p is front q which more =
+    printed text status (printable_both d text p q) which (taken_after d text s t u front more) is refl
 
 -- memory ran out among them
-pub no_memory_after : (d : List ℕ) (s t u : SinkState) → IsPrintable d → Takes (ring_front d) s t
-    → OfPrintable (λ text. Takes text t u) → PrintsRing d true s u (Err OutOfMemory)
-no_memory_after d s t u p front more =
+pub no_memory_after : (ring : ShownRing) (d : List ℕ) (s t u : SinkState) → IsPrintable d → Takes (ring_front d) s t
+    → OfPrintable (λ text. Takes text t u) → PrintsRing ring d true s u (Err OutOfMemory)
+no_memory_after ring d s t u p front more =
     no_memory more.0 refl (printable_both d more.0 p more.1) (taken_after d more.0 s t u front more.2) refl
 
 -- the sink failed among them
-pub stopped_after : (d : List ℕ) (has_events : Bool) (s t u : SinkState) → IsPrintable d → Takes (ring_front d) s t
-    → OfPrintable (λ text. StopsIn text t u) → PrintsRing d has_events s u (Err CannotWriteAnswer)
-stopped_after d has_events s t u p front more =
+pub stopped_after : (ring : ShownRing) (d : List ℕ) (has_events : Bool) (s t u : SinkState) → IsPrintable d
+    → Takes (ring_front d) s t → OfPrintable (λ text. StopsIn text t u)
+    → PrintsRing ring d has_events s u (Err CannotWriteAnswer)
+stopped_after ring d has_events s t u p front more =
     let text = append_assoc (report_line audit.Yes) d more.0 in
     stopped more.0 (printable_both d more.0 p more.1)
     (subst (λ w. StopsIn w s u) text (Takes-StopsIn s t u (ring_front d) more.0 front more.2)) refl
