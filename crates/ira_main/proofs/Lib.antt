@@ -1,5 +1,6 @@
 pub mod Asking
 pub mod Deciding
+pub mod Drawing
 pub mod FilesRead
 pub mod Folders
 pub mod InputAudits

@@ -1,4 +1,4 @@
-ghost use Rattle.std.specs.Prelude.{◌≡◌, ◌++◌, ◌⊎◌, ℕ, Err, List};
+ghost use Rattle.std.specs.Prelude.{◌≡◌, ◌++◌, ◌⊎◌, ℕ, Err, List, MatchResult};
 ghost use Rattle.ira_audit.specs.GoodLogs.{AreGoodLogs};
 ghost use Rattle.ira_audit.specs.Judged.{IsJudged};
 ghost use Rattle.ira_audit.specs.Report.{IsReportable};
@@ -6,6 +6,7 @@ ghost use Rattle.ira_files.specs.Shelf.{WritesFile};
 ghost use Rattle.ira_files.specs.declared.file_name.FileName.{FileName};
 ghost use Rattle.ira_main.specs.Draw.{DrawsLogs, KeepsPicture, PrintsDrawn, TellsDrawn};
 ghost use Rattle.ira_main.specs.FilesRead.{names_of};
+ghost use Rattle.ira_main.specs.ProgramFault.{draw_fault};
 ghost use Rattle.ira_main.specs.Overwriting.{input_names};
 ghost use Rattle.ira_main.specs.Show.{moment_names};
 ghost use Rattle.ira_main.specs.declared.program_fault.ProgramFault.TheVariants.{OutOfMemory};
@@ -22,7 +23,7 @@ use ira_audit::{Answer, GoodLogs, Judged, write_report};
 use ira_draw::draw_refused;
 use ira_event::{Sink, WriteFault};
 use ira_files::Shelf;
-use ira_picture::ColumnRange;
+use ira_picture::{ColumnRange, DrawFault};
 use ira_view_page::PageText;
 use ira_views::RingFault;
 use ira_words::{AskedMoment, DrawRequest};
@@ -83,6 +84,26 @@ fn print_drawn<'a, A: Allocator, F: Shelf, W: Sink>(
     }
 }
 
+// Prints the line of the answer and keeps the picture, if there is one.
+fn tell_drawn<'a, A: Allocator, F: Shelf, W: Sink>(
+    answer: &Answer,
+    picture: Result<PageText<A>, DrawFault>,
+    name: &'a str,
+    shelf: &mut F,
+    out: &mut W,
+) -> Result<Status, ProgramFault<'a>>
+    requires { IsReportable answer.now }
+    ensures { MatchResult picture
+        (λ page. PrintsDrawn (WritesFile F.creates F.closes F.Out.state) answer.now page name.entry
+        shelf.old shelf.new (W.state out.old) (W.state out.new) result)
+        (λ f. (shelf.new ≡ shelf.old) × (W.state out.new ≡ W.state out.old) × (result ≡ Err (draw_fault f))) }
+{
+    match picture {
+        Ok(picture) => print_drawn(answer, &picture, name, shelf, out),
+        Err(fault) => Err(ProgramFault::undrawn(fault)),
+    }
+}
+
 // Draws good logs at the moment that is asked for; where a question isn't one of their ring, its line is printed alone.
 fn draw_good<'a, A: Allocator + Clone, F: Shelf, W: Sink>(
     alloc: A,
@@ -99,8 +120,8 @@ fn draw_good<'a, A: Allocator + Clone, F: Shelf, W: Sink>(
 {
     match ring_at(alloc.clone()?, logs, &draw.moment, question) {
         Ok(ring) => {
-            let picture = ring.picture(alloc, columns_of(draw))?;
-            print_drawn(&Answer::Yes, &picture, draw.picture, shelf, out)
+            let picture = ring.picture(alloc, columns_of(draw));
+            tell_drawn(&Answer::Yes, picture, draw.picture, shelf, out)
         }
         Err(RingFault::No(reason)) => report(&Answer::No(reason), out),
         Err(RingFault::Cut(fault)) => Err(ProgramFault::NoMoment(fault)),
@@ -126,9 +147,9 @@ fn draw_judged<'a, A: Allocator + Clone, F: Shelf, W: Sink>(
     match judged {
         Judged::Good(logs) => draw_good(alloc, logs, draw, question, shelf, out),
         Judged::Refused(refused) => {
-            let picture = draw_refused(alloc, &refused, columns_of(draw))?;
+            let picture = draw_refused(alloc, &refused, columns_of(draw));
             let answer = Answer::No(refused.reason());
-            print_drawn(&answer, &picture, draw.picture, shelf, out)
+            tell_drawn(&answer, picture, draw.picture, shelf, out)
         }
         Judged::NoRing(reason) => report(&Answer::No(reason), out),
     }

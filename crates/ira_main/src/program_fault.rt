@@ -3,7 +3,7 @@ ghost use Rattle.std.specs.List.{flat_map};
 ghost use Rattle.ira_event.specs.Sink.{Wrote};
 ghost use Rattle.ira_run.specs.RunFault.{run_fault_number};
 ghost use Rattle.ira_files.specs.FileName.{file_name, slash_after};
-ghost use Rattle.ira_main.specs.ProgramFault.{program_fault_text, unread_text, read_fault, write_fault, write_log_fault};
+ghost use Rattle.ira_main.specs.ProgramFault.{draw_fault, program_fault_text, unread_text, read_fault, write_fault, write_log_fault};
 ghost use Rattle.ira_main.specs.Outcome.{ReportsOutcome, outcome_number};
 ghost use Rattle.ira_main.specs.Status.{program_fault_status};
 
@@ -84,6 +84,16 @@ impl<'a> ProgramFault<'a> {
         match fault {
             ShelfFault::Device | ShelfFault::NotFound => ProgramFault::CannotWrite(name),
             ShelfFault::OutOfMemory => ProgramFault::OutOfMemory,
+        }
+    }
+
+    /// There is no picture.
+    pub(crate) fn undrawn(fault: DrawFault) -> ProgramFault<'a>
+        ensures { result ≡ draw_fault fault }
+    {
+        match fault {
+            DrawFault::TooManyEvents { events } => ProgramFault::TooManyEvents(events),
+            DrawFault::OutOfMemory => ProgramFault::OutOfMemory,
         }
     }
 
@@ -262,20 +272,6 @@ impl<'a, T: Drop> From<AllocFailed<T>> for ProgramFault<'a> {
 
     fn from(_refused: AllocFailed<T>) -> ProgramFault<'a> {
         ProgramFault::OutOfMemory
-    }
-}
-
-impl<'a> From<DrawFault> for ProgramFault<'a> {
-    ghost use Rattle.std.specs.Prelude.{◌≡◌};
-    ghost use Rattle.ira_main.specs.ProgramFault.{draw_fault};
-
-    ghost from_gives = { λ f c. c ≡ draw_fault f };
-
-    fn from(fault: DrawFault) -> ProgramFault<'a> {
-        match fault {
-            DrawFault::TooManyEvents { events } => ProgramFault::TooManyEvents(events),
-            DrawFault::OutOfMemory => ProgramFault::OutOfMemory,
-        }
     }
 }
 

@@ -1,11 +1,6 @@
-use Rattle.std.proofs.Common.{◌≡◌, ◌∙◌, ◌++◌, Err, List, ℕ, Some, ap, inl, inr, refl, rules, subst}
-use Rattle.std.proofs.lemmas.Result.{err_from_is_err_and}
-use Rattle.ira_views.specs.Texts.{texts_of}
+use Rattle.std.proofs.Common.{inl, inr, refl, rules}
 use Rattle.ira_main.proofs.FilesRead.{of_back, of_front, reads_both}
-use Rattle.ira_main.specs.Draw.{draw_names}
-use Rattle.ira_main.specs.Draw.TellsDrawn.{drawn, no_moment, too_many}
 use Rattle.ira_main.specs.FilesRead.{names_of}
-use Rattle.ira_main.specs.Overwriting.{KeepsFiles}
 use Rattle.ira_main.specs.Show.{moment_names, moment_texts}
 use Rattle.ira_main.specs.declared.program_fault.ProgramFault.TheVariants.{OutOfMemory}
 use Rattle.ira_main.proofs.draw_files.draw_files.Goals as goal
@@ -42,11 +37,14 @@ returns-in_err-question g c =
       ),
     )
 
-pub returns-in_err-files : goal.returns-in_err-files
-returns-in_err-files g c =
+pub returns-in_err-clone : goal.returns-in_err-clone
+returns-in_err-clone g c = inl (_, c.in_ok-names.ensures, inr (refl, (OutOfMemory, inr (inr refl), refl, search rules)))
+
+pub returns-in_err-audit : goal.returns-in_err-audit
+returns-in_err-audit g c =
     let logs = names_of c.in_ok-names.names.items in
     let asked = moment_names c.args.draw.now.moment in
-    let fault = rw c.deref-2.ensures.value at c.in_err-files.ensures in
+    let fault = rw c.deref-2.ensures.value at c.in_err-audit.ensures in
     inl (
       _,
       c.in_ok-names.ensures,
@@ -61,84 +59,38 @@ returns-in_err-files g c =
       ),
     )
 
-pub returns-in_err-clone : goal.returns-in_err-clone
-returns-in_err-clone g c = inl (_, c.in_ok-names.ensures, inr (refl, (OutOfMemory, inr (inr refl), refl, search rules)))
+pub returns-in_err-judged : goal.returns-in_err-judged
+returns-in_err-judged g c =
+    inl (_, c.in_ok-names.ensures, inr (refl, (OutOfMemory, inr (inr refl), refl, search rules)))
 
-pub returns-in_err-named : goal.returns-in_err-named
-returns-in_err-named g c =
-    let p = err_from_is_err_and c.from_residual-in_err-named.result c.from_residual-in_err-named.ensures.1 in
-    inl (_, c.in_ok-names.ensures, inr (refl, (OutOfMemory, inr (inr refl), refl, p.1 ∙ ap (λ f. Err f) p.2)))
+pub draw_judged-requires : goal.draw_judged-requires
+draw_judged-requires g c =
+    let taken = c.in_ok-audit.ensures in
+    (taken.0, c.in_ok-judged.ensures taken.0 taken.1)
 
-pub returns-in-Ok : goal.returns-in-Ok
-returns-in-Ok g c =
+pub returns : goal.returns
+returns g c =
     let draw = c.args.draw.now in
-    let ring = c.in-Ok.ring in
-    let same : texts_of c.deref-4.result.now ≡ c.in_ok-files.files.items = search rules in
     let logs = names_of c.in_ok-names.names.items in
+    let taken = rw c.deref-2.ensures.value at c.in_ok-audit.ensures in
     let kept = rw (
       c.deref.ensures.value,
       c.asked_name.ensures c.in_ok-names.names.items,
     ) at c.in_ok-keep_inputs.ensures in
-    let read = rw c.deref-2.ensures.value at c.in_ok-files.ensures in
-    inl (
-      _,
-      c.in_ok-names.ensures,
-      inl (record {
-        kept = kept;
-        question = c.in_ok-question.question;
-        texts = c.in_ok-files.files.items;
-        given = reads_both g.F.TextSource.reads (moment_names draw.moment) logs _
-            (moment_texts draw.moment c.in_ok-question.question) _ c.in_ok-question.ensures read;
-        moment = c.shown_moment-moment.result;
-        asked = c.shown_moment-moment.ensures;
-        told = drawn ring.answer ring.picture (rw same at c.in-Ok.ensures.drawn) c.print_drawn.ensures;
-      }),
-    )
-
-pub returns-in-Err-Cut : goal.returns-in-Err-Cut
-returns-in-Err-Cut g c =
-    let draw = c.args.draw.now in
-    let reads = g.F.TextSource.reads in
-    let same : texts_of c.deref-4.result.now ≡ c.in_ok-files.files.items = search rules in
-    let logs = names_of c.in_ok-names.names.items in
-    let names = c.asked_name.ensures c.in_ok-names.names.items in
-    let read = rw c.deref-2.ensures.value at c.in_ok-files.ensures in
-    let why = rw (c.in-Err-Cut.field-0-is, same) at c.in-Err-Cut.ensures.drawn in
-    inl (
-      _,
-      c.in_ok-names.ensures,
-      inl (record {
-        kept = rw (c.deref.ensures.value, names) at c.in_ok-keep_inputs.ensures;
-        question = c.in_ok-question.question;
-        texts = c.in_ok-files.files.items;
-        given = reads_both reads (moment_names draw.moment) logs _
-            (moment_texts draw.moment c.in_ok-question.question) _ c.in_ok-question.ensures read;
-        moment = c.shown_moment-moment.result;
-        asked = c.shown_moment-moment.ensures;
-        told = no_moment why.0 c.in-Err-Cut.fault why.1 why.2 refl refl refl;
-      }),
-    )
-
-pub returns-in-Err-TooManyEvents : goal.returns-in-Err-TooManyEvents
-returns-in-Err-TooManyEvents g c =
-    let draw = c.args.draw.now in
-    let reads = g.F.TextSource.reads in
-    let same : texts_of c.deref-4.result.now ≡ c.in_ok-files.files.items = search rules in
-    let logs = names_of c.in_ok-names.names.items in
-    let names = c.asked_name.ensures c.in_ok-names.names.items in
-    let read = rw c.deref-2.ensures.value at c.in_ok-files.ensures in
-    let why = rw (c.in-Err-TooManyEvents.field-0-is, same) at c.in-Err-TooManyEvents.ensures.drawn in
-    inl (
-      _,
-      c.in_ok-names.ensures,
-      inl (record {
-        kept = rw (c.deref.ensures.value, names) at c.in_ok-keep_inputs.ensures;
-        question = c.in_ok-question.question;
-        texts = c.in_ok-files.files.items;
-        given = reads_both reads (moment_names draw.moment) logs _
-            (moment_texts draw.moment c.in_ok-question.question) _ c.in_ok-question.ensures read;
-        moment = c.shown_moment-moment.result;
-        asked = c.shown_moment-moment.ensures;
-        told = too_many c.in-Err-TooManyEvents.events why refl refl refl;
-      }),
-    )
+    elim (c.draw_judged.ensures taken.0 (c.in_ok-judged.ensures taken.0 taken.1)) [
+      | inl told ↦
+          inl (
+            _,
+            c.in_ok-names.ensures,
+            inl (record {
+              kept = kept;
+              question = c.in_ok-question.question;
+              texts = taken.0;
+              given = reads_both g.F.TextSource.reads (moment_names draw.moment) logs _
+                  (moment_texts draw.moment c.in_ok-question.question) _ c.in_ok-question.ensures taken.2;
+              told = rw c.bytes.ensures at told;
+            }),
+          )
+      | inr full ↦
+          inl (_, c.in_ok-names.ensures, inr (full.0, (OutOfMemory, inr (inr refl), full.1, full.2)))
+    ]

@@ -1,0 +1,30 @@
+use Rattle.std.proofs.Common.{inl, refl}
+use Rattle.ira_main.proofs.Drawing.{good_drawn}
+use Rattle.ira_main.proofs.Showing.{against, no_cut, reportable, ring_of}
+use Rattle.ira_main.specs.Draw.TellsDrawn.{no_moment, no_question}
+use Rattle.ira_main.proofs.draw_files.draw_good.Goals as goal
+
+pub returns-in-Ok : goal.returns-in-Ok
+returns-in-Ok g c = λ texts good.
+    let same = ring_of c.args.logs c.args.draw.now.moment c.args.question.now c.in-Ok.ring c.in-Ok.ensures in
+    good_drawn _ texts c.args.draw.now c.args.question.now _ _ _ _ _ c.args.logs c.in-Ok.ring c.picture-picture.result
+    good c.in-Ok.ensures c.picture-picture.ensures.printable
+    (λ events is. rw (same, c.columns_of.ensures.0, c.columns_of.ensures.1) at c.picture-picture.ensures.events events is)
+    c.tell_drawn.ensures
+
+pub report-requires : goal.report-requires
+report-requires g c =
+    reportable c.args.logs c.args.draw.now.moment c.args.question.now c.in-Err-No.reason
+    (rw c.in-Err-No.field-0-is at c.in-Err-No.ensures)
+
+pub returns-in-Err-No : goal.returns-in-Err-No
+returns-in-Err-No g c = λ texts good.
+    let why = rw c.in-Err-No.field-0-is at c.in-Err-No.ensures in
+    let stands = against texts c.args.logs c.args.draw.now.moment c.args.question.now c.in-Err-No.reason good why in
+    inl (no_question c.args.logs c.in-Err-No.reason good stands refl c.report.ensures)
+
+pub returns-in-Err-Cut : goal.returns-in-Err-Cut
+returns-in-Err-Cut g c = λ texts good.
+    let why = rw c.in-Err-Cut.field-0-is at c.in-Err-Cut.ensures in
+    inl (no_moment c.args.logs c.in-Err-Cut.fault good
+    (no_cut c.args.logs c.args.draw.now.moment c.args.question.now c.in-Err-Cut.fault why) refl refl refl)

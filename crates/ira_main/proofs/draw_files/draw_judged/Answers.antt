@@ -1,0 +1,28 @@
+use Rattle.std.proofs.Common.{inl, refl}
+use Rattle.ira_audit.proofs.Judging.{refused_reason}
+use Rattle.ira_main.proofs.Drawing.{refused_drawn}
+use Rattle.ira_main.specs.Draw.TellsDrawn.{no_ring}
+use Rattle.ira_main.proofs.draw_files.draw_judged.Goals as goal
+
+pub returns-in-Good : goal.returns-in-Good
+returns-in-Good g c = λ texts judged. c.draw_good.ensures texts (rw c.in-Good.is at judged)
+
+pub tell_drawn-requires : goal.tell_drawn-requires
+tell_drawn-requires g c =
+    let judged = rw c.in-Refused.is at c.requires.1 in
+    rw c.reason.ensures.value (refused_reason c.requires.0 c.in-Refused.refused judged.0 judged.1).1
+
+pub returns-in-Refused : goal.returns-in-Refused
+returns-in-Refused g c = λ texts judged.
+    let is = rw c.in-Refused.is at judged in
+    refused_drawn _ texts c.args.draw.now c.args.question.now _ _ _ _ _ c.in-Refused.refused
+    c.draw_refused-picture.result is.0 is.1 c.draw_refused-picture.ensures.printable
+    (λ events e. rw (c.columns_of.ensures.0, c.columns_of.ensures.1) at c.draw_refused-picture.ensures.events events e)
+    (rw c.reason.ensures.value at c.tell_drawn.ensures)
+
+pub report-requires : goal.report-requires
+report-requires g c = (rw c.in-NoRing.is at c.requires.1).2
+
+pub returns-in-NoRing : goal.returns-in-NoRing
+returns-in-NoRing g c = λ texts judged.
+    inl (no_ring c.in-NoRing.reason (rw c.in-NoRing.is at judged) refl c.report.ensures)
